@@ -1,0 +1,132 @@
+-- Worked cases, by computing: loads, quotients, classes and values; a plan's layouts and texts.
+use Rattle.std.proofs.Common.{◌+◌, Some, None, List, length, codes, ◌≡◌, ℕ, [], ◌∷◌, refl}
+use Rattle.std.specs.Fmt.{digits}
+use Rattle.mig_base.specs.declared.inputs.Disk.{Disk}
+use Rattle.mig_base.specs.declared.certs.Class.TheVariants.{Even, General}
+use Rattle.mig_base.specs.declared.certs.Bound.TheVariants.{OfDisk, OfSet}
+use Rattle.mig_base.specs.declared.ids.Shift.{Shift}
+use Rattle.mig_base.specs.declared.ids.Spot.{Spot}
+use Rattle.mig_base.specs.InputLists.{Lists}
+use Rattle.mig_base.specs.Targets.{present, incoming}
+use Rattle.mig_base.specs.Layouts.{At}
+use Rattle.mig_base.specs.Running.{shift_count, round_of}
+use Rattle.mig_base.specs.Texts.{text_of_lines, plan_lines, cert_lines, bound_lines, layout_lines}
+use Rattle.mig_base.specs.Transfers.{moves, transfers, Trip, load, Transfers}
+use Rattle.mig_base.specs.Bounding.{quotient, class_of, set_value}
+
+abbrev disk : ℕ → Disk
+disk n = record { name = 97 ∷ []; limit = n; slots = 9 }
+
+abbrev trip : ℕ → ℕ → Trip
+trip a b = record { leaves = a; reaches = b }
+
+abbrev triangle : ℕ → Transfers
+triangle n = record { disks = disk n ∷ disk n ∷ disk n ∷ []; items = 0 ∷ 1 ∷ 2 ∷ []; trips = trip 0 1 ∷ trip 1 2 ∷ trip 2 0 ∷ [] }
+
+value_of_triangle : set_value (triangle 1) (0 ∷ 1 ∷ 2 ∷ []) ≡ 3
+value_of_triangle = refl
+
+quotient_of_triangle : quotient (triangle 1) ≡ 2
+quotient_of_triangle = refl
+
+quotient_of_even_triangle : quotient (triangle 2) ≡ 1
+quotient_of_even_triangle = refl
+
+abbrev cycle : Transfers
+cycle = record { disks = disk 1 ∷ disk 1 ∷ disk 1 ∷ disk 1 ∷ disk 1 ∷ []; items = []; trips = trip 0 1 ∷ trip 1 2 ∷ trip 2 3 ∷ trip 3 4 ∷ trip 4 0 ∷ [] }
+
+value_of_cycle : set_value cycle (0 ∷ 1 ∷ 2 ∷ 3 ∷ 4 ∷ []) ≡ 3
+value_of_cycle = refl
+
+value_of_triple : set_value cycle (0 ∷ 1 ∷ 2 ∷ []) ≡ 2
+value_of_triple = refl
+
+abbrev star : Transfers
+star = record { disks = disk 4 ∷ disk 1 ∷ disk 1 ∷ disk 1 ∷ disk 7 ∷ []; items = []; trips = trip 0 1 ∷ trip 0 1 ∷ trip 0 1 ∷ trip 0 2 ∷ trip 0 2 ∷ trip 0 2 ∷ trip 0 3 ∷ trip 0 3 ∷ trip 0 3 ∷ [] }
+
+quotient_of_star : quotient star ≡ 3
+quotient_of_star = refl
+
+load_of_centre : load 0 star.trips ≡ 9
+load_of_centre = refl
+
+class_of_triangle : class_of (triangle 1) ≡ General
+class_of_triangle = refl
+
+class_of_even_triangle : class_of (triangle 2) ≡ Even
+class_of_even_triangle = refl
+
+class_of_star : class_of star ≡ General
+class_of_star = refl
+
+-- three items go from a to b, which keep their slots
+
+abbrev name : ℕ → List ℕ
+name c = c ∷ []
+
+abbrev spot : ℕ → ℕ → Spot
+spot d s = record { disk = record { 0 = d }; slot = s }
+
+abbrev two : Lists
+two = record {
+  disks = record { name = name 97; limit = 2; slots = 4 } ∷ record { name = name 98; limit = 2; slots = 4 } ∷ [];
+  items = name 120 ∷ name 121 ∷ name 122 ∷ [];
+  spots = spot 0 0 ∷ spot 0 1 ∷ spot 0 2 ∷ [];
+  next = record { 0 = 1 } ∷ record { 0 = 1 } ∷ record { 0 = 1 } ∷ [];
+}
+
+abbrev move : ℕ → Shift
+move i = record { item = record { 0 = i }; from = spot 0 i; to = spot 1 i }
+
+abbrev two_rounds : List (List Shift)
+two_rounds = (move 0 ∷ move 1 ∷ []) ∷ (move 2 ∷ []) ∷ []
+
+relocated_items : moves two ≡ 0 ∷ 1 ∷ 2 ∷ []
+relocated_items = refl
+
+room_of_b : present two 1 + incoming two 1 ≡ 3
+room_of_b = refl
+
+quotient_of_two : quotient (transfers two) ≡ 2
+quotient_of_two = refl
+
+class_of_two : class_of (transfers two) ≡ Even
+class_of_two = refl
+
+after_one_round : At two two_rounds 1 1 ≡ Some (spot 1 1)
+after_one_round = refl
+
+still_there : At two two_rounds 1 2 ≡ Some (spot 0 2)
+still_there = refl
+
+no_such_item : At two two_rounds 2 3 ≡ None
+no_such_item = refl
+
+shifts_of_x : shift_count two_rounds 0 ≡ 1
+shifts_of_x = refl
+
+round_of_z : round_of two_rounds 2 ≡ 2
+round_of_z = refl
+
+-- the text that tells these two rounds
+text_of_two : text_of_lines (plan_lines two two_rounds)
+    ≡ codes "migration-plan 1\nrounds 2\nround 1 2\nx a 0 b 0\ny a 1 b 1\nround 2 1\nz a 2 b 2\nend\n"
+unfolding digits
+text_of_two = refl
+
+bytes_of_two : length (text_of_lines (plan_lines two two_rounds)) ≡ 80
+unfolding digits
+bytes_of_two = refl
+
+text_of_cert : text_of_lines (cert_lines two (record { rounds = 2; quotient = 2; class = Even; bound = OfDisk (record { 0 = 0 }) 3 2 }))
+    ≡ codes "migration-certificate 1\nrounds 2\nquotient 2\nclass even\nbound disk a 3 2 2\nend\n"
+unfolding digits
+text_of_cert = refl
+
+text_of_set : text_of_lines (bound_lines two (OfSet (record { 0 = 0 } ∷ record { 0 = 1 } ∷ []) 3 3)) ≡ codes "bound set 2 3 3\na\nb\n"
+unfolding digits
+text_of_set = refl
+
+text_of_layout : text_of_lines (layout_lines two (spot 1 0 ∷ spot 1 1 ∷ spot 0 2 ∷ [])) ≡ codes "item,disk,slot\nx,b,0\ny,b,1\nz,a,2\n"
+unfolding digits
+text_of_layout = refl

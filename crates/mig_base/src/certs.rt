@@ -1,0 +1,39 @@
+use crate::ids::DiskId;
+use crate::plans::DiskSet;
+
+/// Whether each disk that takes part has an even limit.
+#[derive(Clone, Copy, Debug, PartialEq, Eq)]
+pub enum Class {
+    /// Each disk that takes part has an even limit.
+    Even,
+    /// Some disk that takes part has an odd limit.
+    General,
+}
+
+/// A number of rounds that every schedule needs, and the disks that show it.
+#[derive(Debug, Drop)]
+pub enum Bound {
+    /// There is no move; the value is 0.
+    Nothing,
+    /// The disk is an end of `load` moves, and needs `value` rounds for them.
+    OfDisk {
+        disk: DiskId,
+        load: u32,
+        value: u32,
+    },
+    /// So many moves have both ends in the set, which needs `value` rounds for them.
+    OfSet {
+        disks: DiskSet,
+        inside: u32,
+        value: u32,
+    },
+}
+
+/// What is printed with a plan: how good it is, and what shows it.
+#[derive(Debug, Drop)]
+pub struct Cert {
+    pub rounds: u32,
+    pub quotient: u32,
+    pub class: Class,
+    pub bound: Bound,
+}
