@@ -1,0 +1,73 @@
+ghost use Rattle.std.specs.Prelude.{◌≡◌, ◌∷◌, ◌++◌, [], Some, Contains, IfOk, MatchOption, OnErr, OnOk, length, slice_get};
+ghost use Rattle.mig_base.specs.InputLists.{AreDifferent};
+
+use indexmap::IndexSet;
+use mig_base::Name;
+use std::alloc::{AllocError, Global};
+use std::marker::Model;
+
+/// Different names in the order in which they came.
+///
+/// A name is found without a search through the names.
+#[derive(Drop)]
+pub struct NameTable {
+    names: IndexSet<Name>,
+}
+
+impl Model for NameTable {
+    ghost use Rattle.std.specs.Prelude.{ℕ, List};
+    ghost use Rattle.mig_base.specs.InputLists.{AreDifferent};
+
+    ghost Value = { List (List ℕ) };
+
+    ghost view = { λ t. t.names.keys };
+
+    ghost invariant = { λ t. AreDifferent t.names.keys };
+}
+
+impl NameTable {
+    /// A table with no name.
+    pub fn new(alloc: Global) -> NameTable
+        ensures { result ≡ [] }
+    {
+        NameTable {
+            names: IndexSet::new(alloc),
+        }
+    }
+
+    /// A table with no name, with room for so many names. An error is want of memory.
+    pub fn with_capacity(alloc: Global, count: usize) -> Result<NameTable, AllocError>
+        ensures { IfOk result (λ names. names ≡ []) }
+    {
+        Ok(NameTable {
+            names: IndexSet::with_capacity(alloc, count)?,
+        })
+    }
+
+    /// How many names there are.
+    pub fn len(&self) -> usize
+        ensures { result ≡ length self.now }
+    {
+        self.names.len()
+    }
+
+    /// The place of a name, counted from 0, where the table has it.
+    pub fn find(&self, name: &Name) -> Option<usize>
+        ensures found { MatchOption result (¬ (Contains self.now name.now)) (λ k. slice_get self.now k ≡ Some name.now) }
+        ensures different { AreDifferent self.now }
+    {
+        self.names.get_index_of(name)
+    }
+
+    /// Adds a new name at the end. An error is want of memory.
+    pub fn push(&mut self, name: Name) -> Result<(), AllocError>
+        requires { ¬ (Contains self.old name) }
+        ensures ok { OnOk result (self.new ≡ self.old ++ name ∷ []) }
+        ensures err { OnErr result (self.new ≡ self.old) }
+    {
+        match self.names.insert(name) {
+            Ok(_) => Ok(()),
+            Err(_) => Err(AllocError),
+        }
+    }
+}

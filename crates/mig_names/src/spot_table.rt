@@ -1,0 +1,63 @@
+ghost use Rattle.std.specs.Prelude.{◌≡◌, ◌∷◌, ◌++◌, ◌↔◌, [], Contains, IfOk, IsTrue, OnErr, OnOk};
+ghost use Rattle.mig_base.specs.declared.ids.Spot.{Spot};
+
+use indexmap::IndexSet;
+use mig_base::Spot;
+use std::alloc::{AllocError, Global};
+use std::marker::Model;
+
+/// Different spots in the order in which they came.
+///
+/// A spot is found without a search through the spots.
+#[derive(Drop)]
+pub struct SpotTable {
+    spots: IndexSet<Spot>,
+}
+
+impl Model for SpotTable {
+    ghost use Rattle.std.specs.Prelude.{List};
+    ghost use Rattle.mig_base.specs.declared.ids.Spot.{Spot};
+
+    ghost Value = { List Spot };
+
+    ghost view = { λ t. t.spots.keys };
+}
+
+impl SpotTable {
+    /// A table with no spot.
+    pub fn new(alloc: Global) -> SpotTable
+        ensures { result ≡ [] }
+    {
+        SpotTable {
+            spots: IndexSet::new(alloc),
+        }
+    }
+
+    /// A table with no spot, with room for so many spots. An error is want of memory.
+    pub fn with_capacity(alloc: Global, count: usize) -> Result<SpotTable, AllocError>
+        ensures { IfOk result (λ spots. spots ≡ []) }
+    {
+        Ok(SpotTable {
+            spots: IndexSet::with_capacity(alloc, count)?,
+        })
+    }
+
+    /// Whether the table has a spot.
+    pub fn contains(&self, spot: &Spot) -> bool
+        ensures { IsTrue result ↔ Contains self.now spot.now }
+    {
+        self.spots.contains(spot)
+    }
+
+    /// Adds a new spot at the end. An error is want of memory.
+    pub fn push(&mut self, spot: Spot) -> Result<(), AllocError>
+        requires { ¬ (Contains self.old spot) }
+        ensures ok { OnOk result (self.new ≡ self.old ++ spot ∷ []) }
+        ensures err { OnErr result (self.new ≡ self.old) }
+    {
+        match self.spots.insert(spot) {
+            Ok(_) => Ok(()),
+            Err(_) => Err(AllocError),
+        }
+    }
+}
