@@ -1,0 +1,10 @@
+pub mod RecordLists
+pub mod Headers
+pub mod DiskRows
+pub mod DiskFiles
+pub mod Whole
+pub mod ItemRows
+pub mod ItemFiles
+pub mod Coming
+pub mod Needs
+pub mod WayRows

@@ -1,0 +1,58 @@
+-- The items that are still to be counted at their disks.
+use Rattle.std.proofs.Common.{◌≡◌, ℕ, ◌+◌, ◌<◌, ◌≤◌, ◌==◌, ◌&&◌, true, false, cond, inl, inr, List, length, count_by, drop, set, get_or, arith, ap, ◌∙◌}
+use Rattle.std.specs.List.{range_with_len}
+use Rattle.std.proofs.lemmas.List.Sums.{count_by-le-length, sum_by-drop_more}
+use Rattle.std.proofs.lemmas.Bool.{cases_eq}
+use Rattle.std.proofs.lemmas.Bool.Decides.{nat_tests}
+use Rattle.std.proofs.lemmas.List.{get_or-set_other, get_or-set_same}
+use Rattle.std.proofs.lemmas.List.FromFn.{length-range_with_len}
+use Rattle.std.proofs.Math.ListN.{drop_of_length-le}
+use Rattle.mig_base.proofs.Counting.{count_by-filter}
+use Rattle.mig_base.specs.InputLists.{Lists, no_spot}
+use Rattle.mig_base.specs.declared.ids.Spot.{Spot}
+use Rattle.mig_base.specs.Transfers.{is_relocated, source, target}
+use Rattle.mig_base.specs.Targets.{incoming, present}
+use Rattle.mig_csv.proofs.Coming.{left_from, left_from-end, left_from-next, left_from-start}
+use Rattle.mig_csv.specs.Lists.{slots_for}
+
+-- of the items from this number on, those that are on the disk, and those that are relocated and come to it
+abbrev pub left_over : Lists → ℕ → ℕ → ℕ
+left_over i v item = count_by (λ (s : Spot). s.disk.0 == v) (drop item i.spots) + left_from i v item
+
+pub left_over-start : (i : Lists) (v : ℕ) → left_over i v 0 ≡ present i v + incoming i v
+left_over-start i v = ap (λ (n : ℕ). present i v + n) (left_from-start i v)
+
+pub left_over-next : (i : Lists) (v item : ℕ) → item < length i.items → length i.spots ≡ length i.items
+    → left_over i v item ≡ slots_for (record { 0 = source i item }) (record { 0 = target i item }) v + left_over i v (item + 1)
+left_over-next i v item lt len =
+    let on = sum_by-drop_more (λ (s : Spot). cond (s.disk.0 == v) 1 0) i.spots item no_spot (omega arith) in
+    let comes = left_from-next i v item lt in
+    omega (arith, on, comes)
+
+pub left_over-end : (i : Lists) (v item : ℕ) → length i.items ≤ item → length i.spots ≡ length i.items → left_over i v item ≡ 0
+left_over-end i v item past len =
+    let on : count_by (λ (s : Spot). s.disk.0 == v) (drop item i.spots) ≡ 0 = ap (λ (ss : List Spot). count_by (λ (s : Spot). s.disk.0 == v) ss) (drop_of_length-le i.spots (omega arith)) in
+    let comes = left_from-end i v item past in
+    omega (arith, on, comes)
+
+-- counting one more at one place of a list
+pub bump : (xs : List ℕ) (k v : ℕ) → k < length xs → get_or (set xs k (get_or xs k 0 + 1)) v 0 ≡ get_or xs v 0 + cond (k == v) 1 0
+bump xs k v lt = elim (cases_eq v k) [
+  | inl same ↦
+      let here : (k == v) ≡ true = grind (arith, nat_tests) in
+      rw (here, same) (get_or-set_same xs k (get_or xs k 0 + 1) 0 lt)
+  | inr other ↦
+      let there : (k == v) ≡ false = grind (arith, nat_tests) in
+      let zero : get_or xs v 0 ≡ get_or xs v 0 + 0 = omega arith in
+      rw there (get_or-set_other xs k v (get_or xs k 0 + 1) 0 other ∙ zero)
+]
+
+-- a disk needs no more than one slot for each item that is on it and one for each that comes to it
+pub present-le : (i : Lists) (v : ℕ) → present i v ≤ length i.spots
+present-le i v = count_by-le-length (λ (s : Spot). s.disk.0 == v) i.spots
+
+pub incoming-le : (i : Lists) (v : ℕ) → incoming i v ≤ length i.items
+incoming-le i v =
+    let items = range_with_len 0 (length i.items) in
+    let within = count_by-le-length (λ (m : ℕ). is_relocated i m && (target i m == v)) items in
+    omega (arith, within, count_by-filter (λ (m : ℕ). target i m == v) (is_relocated i) items, length-range_with_len 0 (length i.items))

@@ -1,0 +1,241 @@
+-- The rows of a next file.
+use Rattle.std.proofs.Common.{◌≡◌, ◌≢◌, ◌⊎◌, ◌≤◌, ◌<◌, ◌+◌, ◌++◌, ◌∷◌, [], ℕ, zero, suc, Option, Some, None, List, Contains, All, get_or, length, map, replicate, slice_get, inl, inr, arith, refl, ap, sym, subst, ◌∙◌, set, append_assoc, Bool, true, false, ◌&&◌, IsTrue, nat_eq}
+use Rattle.std.specs.List.{Any}
+use Rattle.std.specs.Option.{IsSomeAnd}
+use Rattle.std.proofs.lemmas.Bool.{cases_lt, cases_eq, false≢true}
+use Rattle.std.specs.Cmp.Lexicographic.{pointwise, same_text, nat_list_eq_equiv}
+use Rattle.std.proofs.lemmas.List.{append-nil, length-append, length-map, length-set, map-append, get_or-set_same, get_or-set_other}
+use Rattle.std.proofs.lemmas.List.Elements.{All-append}
+use Rattle.std.proofs.lemmas.Option.{get_or_from_slice_get, slice_get-get_or, slice_get_past, slice_get_within}
+use Rattle.mig_base.specs.Naming.{IsName}
+use Rattle.mig_base.specs.InputLists.{AreDifferent}
+use Rattle.mig_base.specs.Refusals.{IsFirstCause, IsFirstFault, NextRowFault, rank_of}
+use Rattle.mig_base.specs.Rows.{Row, first, header_of, records_of, rows_of, second}
+use Rattle.mig_base.specs.declared.faults.FileKind.TheVariants as file
+use Rattle.mig_base.specs.declared.faults.Why.{Why}
+use Rattle.mig_base.specs.declared.faults.Why.TheVariants as why
+use Rattle.mig_base.specs.declared.ids.DiskId.{DiskId}
+use Rattle.mig_base.specs.declared.inputs.Disk.{Disk}
+use Rattle.mig_base.proofs.Listed.{one_place, some_and}
+use Rattle.mig_csv.proofs.DiskFiles.{OfRows, Sound, Sound-nil, Sound-push, first_fault, no_fault}
+use Rattle.mig_csv.proofs.ItemRows.{Contains-at}
+use Rattle.mig_csv.specs.Lists.{AreNextOf, IsNextOf}
+use Rattle.mig_csv.specs.Refusals.{NextFault}
+
+-- no cause before the place n in the order of causes holds of a row of the next file
+pub none_before : (disks : List Disk) (present items : List (List ℕ)) (r : Row) (n : ℕ)
+    → (2 < n → length items < 65536) → (3 < n → length r ≡ 2) → (4 < n → IsName (first r) × IsName (second r)) → (8 < n → ¬ (Contains items (first r)))
+    → (9 < n → Any (λ (d : Disk). d.name ≡ second r) disks) → (12 < n → Contains present (first r))
+    → (w : Why) → rank_of w < n → ¬ (NextRowFault disks present items r w)
+none_before disks present items r n few width names new known here why.TooManyRows lt h = let f = few lt in omega arith
+none_before disks present items r n few width names new known here why.BadWidth lt h = h (width lt)
+none_before disks present items r n few width names new known here why.BadName lt h = h (names lt)
+none_before disks present items r n few width names new known here why.DuplicateItem lt h = new lt h
+none_before disks present items r n few width names new known here why.UnknownDisk lt h = h (known lt)
+none_before disks present items r n few width names new known here why.NotInNow lt h = h (here lt)
+none_before disks present items r n few width names new known here _ lt h = h
+
+-- one place of a list gets another element
+set_here : {X : Type 0} (xs : List X) (k : ℕ) (x : X) → k < length xs → slice_get (set xs k x) k ≡ Some x
+set_here xs k x lt =
+    let within : k < length (set xs k x) = rw length-set lt in
+    slice_get-get_or (set xs k x) k x within ∙ ap (λ y. Some y) (get_or-set_same xs k x x lt)
+
+set_there : {X : Type 0} (xs : List X) (k j : ℕ) (x : X) → j ≢ k → slice_get (set xs k x) j ≡ slice_get xs j
+set_there xs k j x ne = elim (cases_lt j (length xs)) [
+  | inl lt ↦
+      let within : j < length (set xs k x) = rw length-set lt in
+      slice_get-get_or (set xs k x) j x within ∙ ap (λ y. Some y) (get_or-set_other xs k j x x ne) ∙ sym (slice_get-get_or xs j x lt)
+  | inr ge ↦ let past : length (set xs k x) ≤ j = rw length-set ge in slice_get_past (set xs k x) j past ∙ sym (slice_get_past xs j ge)
+]
+
+-- nothing is known before the first row
+abbrev pub unknown : Option DiskId
+unknown = None
+
+none_at : (n k : ℕ) (v : DiskId) → slice_get (replicate n unknown) k ≡ Some (Some v) → ⊥
+none_at n k v e = by (get_or (replicate n unknown) k unknown) (get_or_from_slice_get (replicate n unknown) k (Some v) unknown e) (all_unknown n k)
+  where
+    all_unknown : (n k : ℕ) → get_or (replicate n unknown) k unknown ≡ unknown
+    all_unknown zero k = refl
+    all_unknown (suc n) zero = refl
+    all_unknown (suc n) (suc k) = all_unknown n k
+
+    by : (o : Option DiskId) → o ≡ Some v → o ≡ unknown → ⊥
+    by None a b = cc
+    by (Some w) a b = cc
+
+len_unknown : (n : ℕ) → length (replicate n unknown) ≡ n
+len_unknown zero = refl
+len_unknown (suc n) = ap suc (len_unknown n)
+
+pub AreNextOf-start : (disks : List Disk) (items : List (List ℕ)) → AreNextOf disks items [] (replicate (length items) unknown)
+AreNextOf-start disks items = record {
+  len = len_unknown (length items);
+  named = λ k d lt. absurd (omega (arith, lt));
+  listed = λ k n v at here. absurd (none_at (length items) k v here);
+  missing = λ k n at here c. absurd (omega (arith, c.1));
+  on_disks = λ k v at. absurd (none_at (length items) k v at);
+}
+
+one_all : {X : Type 0} (P : X → Type 0) (x : X) → P x → All P (x ∷ [])
+one_all P x h zero d lt = h
+one_all P x h (suc k) d lt = absurd (omega (arith, lt))
+
+contains_left : {X : Type 0} (xs ys : List X) (x : X) → Contains xs x → Contains (xs ++ ys) x
+contains_left [] ys x c = absurd (omega (arith, c.1))
+contains_left (z ∷ xs) ys x (zero, lt, is) = (0, omega arith, is)
+contains_left (z ∷ xs) ys x (suc k, lt, is) = let r = contains_left xs ys x (k, omega arith, is) in (suc r.0, let l = r.1 in omega arith, r.2)
+
+contains_last : {X : Type 0} (xs : List X) (x : X) → Contains (xs ++ x ∷ []) x
+contains_last [] x = (0, omega arith, refl)
+contains_last (z ∷ xs) x = let r = contains_last xs x in (suc r.0, let l = r.1 in omega arith, r.2)
+
+contains_cases : {X : Type 0} (xs : List X) (y x : X) → Contains (xs ++ y ∷ []) x → Contains xs x ⊎ (y ≡ x)
+contains_cases [] y x (zero, lt, is) = inr is
+contains_cases [] y x (suc k, lt, is) = absurd (omega (arith, lt))
+contains_cases (z ∷ xs) y x (zero, lt, is) = inl (0, omega arith, is)
+contains_cases (z ∷ xs) y x (suc k, lt, is) = elim (contains_cases xs y x (k, omega arith, is)) [ inl c ↦ inl (suc c.0, let l = c.1 in omega arith, c.2) | inr e ↦ inr e ]
+
+-- one more row
+pub AreNextOf-push : (disks : List Disk) (items : List (List ℕ)) (done : List Row) (next : List (Option DiskId)) (r : Row) (k : ℕ) (v : DiskId) → AreNextOf disks items done next → AreDifferent items
+    → slice_get items k ≡ Some (first r) → IsSomeAnd (slice_get disks v.0) (λ d. d.name ≡ second r) → ¬ (Contains (map first done) (first r)) → AreNextOf disks items (done ++ r ∷ []) (set next k (Some v))
+AreNextOf-push disks items done next r k v a ne at is new = record {
+  len = rw length-set a.len;
+  named = All-append (IsNextOf disks items (set next k (Some v))) done (r ∷ []) old (one_all (IsNextOf disks items (set next k (Some v))) r (k, v, at, set_here next k (Some v) within, is));
+  listed = listed;
+  missing = missing;
+  on_disks = on_disks;
+}
+  where
+    within : k < length next
+    within = omega (arith, slice_get_within items k (first r) at, a.len)
+
+    on_disks : (j : ℕ) (w : DiskId) → slice_get (set next k (Some v)) j ≡ Some (Some w) → w.0 < length disks
+    on_disks j w e = elim (cases_eq j k) [
+      | inl same ↦
+          let d = some_and (λ (x : Disk). x.name ≡ second r) (slice_get disks v.0) is in
+          let z : Some (Some v) ≡ Some (Some w) = sym (set_here next k (Some v) within) ∙ ap (slice_get (set next k (Some v))) (sym same) ∙ e in
+          let one : v ≡ w = cc z in
+          subst (λ (x : DiskId). x.0 < length disks) one (slice_get_within disks v.0 d.0 d.1)
+      | inr other ↦ a.on_disks j w (sym (set_there next k j (Some v) other) ∙ e)
+    ]
+
+    rows_of_done : map first (done ++ r ∷ []) ≡ map first done ++ first r ∷ []
+    rows_of_done = map-append first done (r ∷ [])
+
+    old : All (IsNextOf disks items (set next k (Some v))) done
+    old j d lt =
+        let q = get_or done j d in
+        let h = a.named j d lt in
+        let there : Contains (map first done) (first q) = let m : slice_get (map first done) j ≡ Some (first q) = mapped done j d lt in Contains-at (map first done) j (first q) m in
+        let apart : h.0 ≢ k = λ e. new (subst (λ n. Contains (map first done) n) (let z : Some (first q) ≡ Some (first r) = sym h.2 ∙ ap (slice_get items) e ∙ at in cc z) there) in
+        (h.0, h.1, h.2, set_there next k h.0 (Some v) apart ∙ h.3, h.4)
+      where
+        mapped : (rs : List Row) (j : ℕ) (d : Row) → j < length rs → slice_get (map first rs) j ≡ Some (first (get_or rs j d))
+        mapped [] j d lt = absurd (omega (arith, lt))
+        mapped (x ∷ rs) zero d lt = refl
+        mapped (x ∷ rs) (suc j) d lt = mapped rs j d (omega arith)
+
+    listed : (j : ℕ) (n : List ℕ) (w : DiskId) → slice_get items j ≡ Some n → slice_get (set next k (Some v)) j ≡ Some (Some w) → Contains (map first (done ++ r ∷ [])) n
+    listed j n w here e = rw rows_of_done (elim (cases_eq j k) [
+      | inl same ↦ subst (λ m. Contains (map first done ++ first r ∷ []) m) (let z : Some (first r) ≡ Some n = sym at ∙ ap (slice_get items) (sym same) ∙ here in cc z) (contains_last (map first done) (first r))
+      | inr other ↦ contains_left (map first done) (first r ∷ []) n (a.listed j n w here (sym (set_there next k j (Some v) other) ∙ e))
+    ])
+
+    missing : (j : ℕ) (n : List ℕ) → slice_get items j ≡ Some n → slice_get (set next k (Some v)) j ≡ Some None → ¬ (Contains (map first (done ++ r ∷ [])) n)
+    missing j n here e c = elim (cases_eq j k) [
+      | inl same ↦
+          let z : ◌≡◌ {A = Option (Option DiskId)} (Some (Some v)) (Some None) = sym (set_here next k (Some v) within) ∙ ap (slice_get (set next k (Some v))) (sym same) ∙ e in
+          cc z
+      | inr other ↦ elim (contains_cases (map first done) (first r) n (rw rows_of_done at c)) [
+        | inl before ↦ a.missing j n here (sym (set_there next k j (Some v) other) ∙ e) before
+        | inr is_r ↦ other (one_place items j k n ne here (at ∙ ap (λ m. Some m) is_r))
+      ]
+    ]
+
+-- A next file that is read row by row
+
+abbrev pub next_has : List Disk → List (List ℕ) → List Row → Row → Why → Type 0
+next_has disks present before r w = NextRowFault disks present (map first before) r w
+
+next_rows : (disks : List Disk) (present : List (List ℕ)) → OfRows (next_has disks present)
+next_rows disks present = record { long = λ before r h. h; head = λ before r h. h }
+
+-- the records of the file are its header, rows that are done and those that are left
+pub record WaysSoFar (bytes : List ℕ) (disks : List Disk) (present : List (List ℕ)) (left : List Row) (seen : List (List ℕ)) (next : List (Option DiskId)) : Type 0 where
+  pub short : length bytes ≤ 16777216
+  pub done : List Row
+  pub records : records_of bytes ≡ header_of file.Next ∷ (done ++ left)
+  pub sound : Sound (next_has disks present) done
+  pub few : length done ≤ 65536
+  pub named : seen ≡ map first done
+  pub ways : AreNextOf disks present done next
+
+pub WaysSoFar-start : {bytes : List ℕ} {disks : List Disk} {present : List (List ℕ)} (left : List Row) → length bytes ≤ 16777216 → records_of bytes ≡ header_of file.Next ∷ left
+    → WaysSoFar bytes disks present left [] (replicate (length present) unknown)
+WaysSoFar-start {bytes} {disks} {present} left short e = record {
+  short = short;
+  done = [];
+  records = e;
+  sound = Sound-nil (next_has disks present);
+  few = omega arith;
+  named = refl;
+  ways = AreNextOf-start disks present;
+}
+
+pub WaysSoFar-end : {bytes : List ℕ} {disks : List Disk} {present : List (List ℕ)} {left : List Row} {seen : List (List ℕ)} {next : List (Option DiskId)}
+    → WaysSoFar bytes disks present left seen next → left ≡ [] → (n : ℕ) (w : Why) → ¬ (NextFault disks present bytes n w)
+WaysSoFar-end {bytes} {disks} {present} s e = no_fault (next_has disks present) (header_of file.Next) bytes s.done s.short (rw (e, append-nil) at s.records) s.sound
+
+pub WaysSoFar-ways : {bytes : List ℕ} {disks : List Disk} {present : List (List ℕ)} {left : List Row} {seen : List (List ℕ)} {next : List (Option DiskId)}
+    → WaysSoFar bytes disks present left seen next → left ≡ [] → AreNextOf disks present (rows_of bytes) next
+WaysSoFar-ways {bytes} {disks} {present} {left} {seen} {next} s e = let rows : rows_of bytes ≡ s.done = rw (s.records, e, append-nil) refl in subst (λ rs. AreNextOf disks present rs next) (sym rows) s.ways
+
+pub WaysSoFar-push : {bytes : List ℕ} {disks : List Disk} {present : List (List ℕ)} {left : List Row} {seen : List (List ℕ)} {next : List (Option DiskId)}
+    → WaysSoFar bytes disks present left seen next → (r : Row) (rest : List Row) (name : List ℕ) (k : ℕ) (v : DiskId) → left ≡ r ∷ rest → name ≡ first r → AreDifferent present
+    → slice_get present k ≡ Some (first r) → IsSomeAnd (slice_get disks v.0) (λ d. d.name ≡ second r) → ((w : Why) → ¬ (NextRowFault disks present seen r w))
+    → WaysSoFar bytes disks present rest (seen ++ name ∷ []) (set next k (Some v))
+WaysSoFar-push {bytes} {disks} {present} {left} {seen} {next} s r rest name k v e is ne at disk new =
+    let new_here : (w : Why) → ¬ (next_has disks present s.done r w) = rw s.named at new in
+    let room : ¬ (65536 ≤ length seen) = new why.TooManyRows in
+    record {
+      short = s.short;
+      done = s.done ++ r ∷ [];
+      records = rw (append_assoc, ← e) s.records;
+      sound = Sound-push (next_has disks present) s.done r s.sound new_here;
+      few = let n : length seen ≡ length s.done = rw (s.named, length-map) refl in omega (arith, length-append s.done (r ∷ []));
+      named = rw (is, map-append, ← s.named) refl;
+      ways = AreNextOf-push disks present s.done next r k v s.ways ne at disk (new_here why.DuplicateItem);
+    }
+
+pub WaysSoFar-fault : {bytes : List ℕ} {disks : List Disk} {present : List (List ℕ)} {left : List Row} {seen : List (List ℕ)} {next : List (Option DiskId)}
+    → WaysSoFar bytes disks present left seen next → (r : Row) (rest : List Row) (w : Why) → left ≡ r ∷ rest → IsFirstCause (NextRowFault disks present seen r) w
+    → IsFirstFault (NextFault disks present bytes) (length seen + 1) w
+WaysSoFar-fault {bytes} {disks} {present} {left} {seen} s r rest w e f =
+    rw (s.named, length-map) (first_fault (next_has disks present) (header_of file.Next) bytes s.done rest r w (next_rows disks present) s.short (rw e at s.records) s.sound (rw s.named at f))
+
+two_fields : (r : Row) → length r ≡ 2 → r ≡ first r ∷ second r ∷ []
+two_fields [] e = absurd (omega (arith, e))
+two_fields (a ∷ []) e = absurd (omega (arith, e))
+two_fields (a ∷ b ∷ []) e = refl
+two_fields (a ∷ b ∷ c ∷ r) e = absurd (omega (arith, e))
+
+both : (a b : Bool) → IsTrue (a && b) → IsTrue a × IsTrue b
+both true true h = (refl, refl)
+both true false h = absurd (false≢true h)
+both false b h = absurd (false≢true h)
+
+-- tests of two fields tell whether these are the row
+pub is_row_of_two : (r : Row) (x y : List ℕ) → length r ≡ 2
+    → (IsTrue (pointwise nat_eq (first r) x && pointwise nat_eq (second r) y) → r ≡ x ∷ y ∷ [])
+    × (r ≡ x ∷ y ∷ [] → IsTrue (pointwise nat_eq (first r) x && pointwise nat_eq (second r) y))
+is_row_of_two r x y len = (there, back)
+  where
+    there : IsTrue (pointwise nat_eq (first r) x && pointwise nat_eq (second r) y) → r ≡ x ∷ y ∷ []
+    there h =
+        let t = both _ _ h in
+        two_fields r len ∙ rw (← same_text (first r) x (sym t.0), ← same_text (second r) y (sym t.1)) refl
+
+    back : r ≡ x ∷ y ∷ [] → IsTrue (pointwise nat_eq (first r) x && pointwise nat_eq (second r) y)
+    back e = rw (e, nat_list_eq_equiv.refl x, nat_list_eq_equiv.refl y) refl

@@ -1,0 +1,191 @@
+-- What the steps of the reading say of the three files.
+use Rattle.std.proofs.lemmas.Option.{get_or_from_slice_get, slice_get-get_or, slice_get-map, slice_get_within}
+use Rattle.std.proofs.lemmas.List.{length-map}
+use Rattle.std.specs.List.{AllZip, All}
+use Rattle.std.specs.Option.{option_map}
+use Rattle.mig_base.specs.Refusals.{IsNextNamed, IsSpotNamed}
+use Rattle.std.proofs.Common.{◌≡◌, get_or, ◌≤◌, ◌<◌, ◌+◌, [], ℕ, Option, Some, None, List, length, map, slice_get, inl, inr, arith, refl, sym, subst, ◌∙◌}
+use Rattle.mig_base.specs.Refusals.{Accepted, AreListed, Fault, IsNotListed, LacksRoom, PrecedesInFile, Precedes, stage_of}
+use Rattle.mig_base.specs.InputLists.{Lists}
+use Rattle.mig_base.specs.Rows.{Bodies, Row, disk_of, first, rows_of}
+use Rattle.mig_base.specs.declared.faults.FileKind.{FileKind}
+use Rattle.mig_base.specs.declared.faults.FileKind.TheVariants as file
+use Rattle.mig_base.specs.declared.faults.Why.{Why}
+use Rattle.mig_base.specs.declared.faults.Why.TheVariants as why
+use Rattle.mig_base.specs.declared.ids.DiskId.{DiskId}
+use Rattle.mig_base.specs.declared.inputs.Disk.{Disk}
+use Rattle.mig_base.specs.Targets.{IsRoomy, incoming, present}
+use Rattle.mig_base.specs.InputLists.{no_disk}
+use Rattle.mig_csv.specs.Lists.{AreNextOf, RefusesMissing, RefusesRoom}
+use Rattle.mig_csv.specs.Refusals.{DisksFault, IsRefusal, IsRefusalOf, NextFault, NowFault}
+use Rattle.mig_csv.specs.declared.errors.InputError.{InputError}
+use Rattle.mig_csv.specs.declared.errors.InputError.TheVariants as error
+use Rattle.mig_base.proofs.FaultOrder.{Accepted-clean, IsClean, refused_in_file, stage_free}
+use Rattle.mig_base.proofs.Listed.{AreListed-unique}
+
+-- a refusal of each file refuses the three
+pub refusal_of_disks : (fs : Bodies) (e : InputError) → IsRefusalOf file.Disks (DisksFault fs.disks) e → IsRefusal fs e
+refusal_of_disks fs (error.Refused f n w) h = rw h.0 (refused_in_file fs file.Disks n w (λ g m v lt. absurd (omega (arith, lt))) h.1)
+refusal_of_disks fs error.Memory h = tt
+
+pub refusal_of_now : (fs : Bodies) (disks : List Disk) (e : InputError) → disks ≡ map disk_of (rows_of fs.disks) → IsClean fs file.Disks
+    → IsRefusalOf file.Now (NowFault disks fs.now) e → IsRefusal fs e
+refusal_of_now fs disks (error.Refused f n w) at d h =
+    rw h.0 (refused_in_file fs file.Now n w
+    (stage_free fs 1 (λ _. d) (λ lt. absurd (omega (arith, lt))) (λ lt. absurd (omega (arith, lt))) (λ lt. absurd (omega (arith, lt))) (λ lt. absurd (omega (arith, lt))))
+    (rw at at h.1))
+refusal_of_now fs disks error.Memory at d h = tt
+
+pub refusal_of_next : (fs : Bodies) (disks : List Disk) (items : List (List ℕ)) (e : InputError) → disks ≡ map disk_of (rows_of fs.disks) → items ≡ map first (rows_of fs.now)
+    → IsClean fs file.Disks → IsClean fs file.Now → IsRefusalOf file.Next (NextFault disks items fs.next) e → IsRefusal fs e
+refusal_of_next fs disks items (error.Refused f n w) at those d now h =
+    rw h.0 (refused_in_file fs file.Next n w
+    (stage_free fs 2 (λ _. d) (λ _. now) (λ lt. absurd (omega (arith, lt))) (λ lt. absurd (omega (arith, lt))) (λ lt. absurd (omega (arith, lt))))
+    (rw (at, those) at h.1))
+refusal_of_next fs disks items error.Memory at those d now h = tt
+
+pub clean_now : (fs : Bodies) (disks : List Disk) → disks ≡ map disk_of (rows_of fs.disks) → ((n : ℕ) (w : Why) → ¬ (NowFault disks fs.now n w)) → IsClean fs file.Now
+clean_now fs disks at s = rw at at s
+
+pub clean_next : (fs : Bodies) (disks : List Disk) (items : List (List ℕ)) → disks ≡ map disk_of (rows_of fs.disks) → items ≡ map first (rows_of fs.now)
+    → ((n : ℕ) (w : Why) → ¬ (NextFault disks items fs.next n w)) → IsClean fs file.Next
+clean_next fs disks items at those s = rw (at, those) at s
+
+some_of : (ds : List DiskId) (k : ℕ) (v : DiskId) → slice_get (map (λ (d : DiskId). Some d) ds) k ≡ Some (Some v) → slice_get ds k ≡ Some v
+some_of ds k v e = by (slice_get ds k) (sym (slice_get-map (λ (d : DiskId). Some d) ds k) ∙ e)
+  where
+    by : (o : Option DiskId) → option_map (λ (d : DiskId). Some d) o ≡ Some (Some v) → o ≡ Some v
+    by None h = cc h
+    by (Some d) h = cc h
+
+a_disk : DiskId
+a_disk = record { 0 = 0 }
+
+-- each item has a next disk, so some row names it
+pub none_missing : (fs : Bodies) (disks : List Disk) (items : List (List ℕ)) (next : List (Option DiskId)) (ds : List DiskId) → items ≡ map first (rows_of fs.now)
+    → AreNextOf disks items (rows_of fs.next) next → next ≡ map (λ (d : DiskId). Some d) ds → (n : ℕ) → ¬ (IsNotListed fs n)
+none_missing fs disks items next ds those a e n h =
+    let at : slice_get items h.place ≡ Some h.item = rw those h.at in
+    let lt : h.place < length ds = let w = slice_get_within items h.place h.item at in let len = rw (e, length-map) at a.len in omega arith in
+    let here : slice_get next h.place ≡ Some (Some (get_or ds h.place a_disk)) = rw (e, slice_get-map, slice_get-get_or ds h.place a_disk lt) refl in
+    h.missing (a.listed h.place h.item (get_or ds h.place a_disk) at here)
+
+-- the next disks are disks of the input
+pub next_within : {disks : List Disk} {items : List (List ℕ)} {rows : List Row} (next : List (Option DiskId)) (ds : List DiskId) → AreNextOf disks items rows next → next ≡ map (λ (d : DiskId). Some d) ds
+    → All (λ (d : DiskId). d.0 < length disks) ds
+next_within {disks} next ds a e k d lt =
+    let here : slice_get next k ≡ Some (Some (get_or ds k d)) = rw (e, slice_get-map, slice_get-get_or ds k d lt) refl in
+    a.on_disks k (get_or ds k d) here
+
+-- the lists that were made are those that the rows list
+pub listed_of : (fs : Bodies) (i : Lists) (next : List (Option DiskId)) → i.disks ≡ map disk_of (rows_of fs.disks) → i.items ≡ map first (rows_of fs.now)
+    → AllZip (IsSpotNamed i.disks) (rows_of fs.now) i.spots → AreNextOf i.disks i.items (rows_of fs.next) next → next ≡ map (λ (d : DiskId). Some d) i.next → AreListed fs i
+listed_of fs i next at those spots a e = record {
+  disks = at;
+  items = those;
+  spots = spots;
+  next_len = rw (e, length-map) at a.len;
+  next = named;
+}
+  where
+    named : All (IsNextNamed i) (rows_of fs.next)
+    named k d lt =
+        let n = a.named k d lt in
+        let v = some_of i.next n.0 n.1 (rw e at n.3) in
+        (n.0, n.2, rw v n.4)
+
+-- the first item with no next disk is the first fault, where the three files are clean
+pub refusal_of_missing : (fs : Bodies) (disks : List Disk) (items : List (List ℕ)) (next : List (Option DiskId)) (e : InputError) → items ≡ map first (rows_of fs.now)
+    → IsClean fs file.Disks → IsClean fs file.Now → IsClean fs file.Next → AreNextOf disks items (rows_of fs.next) next → RefusesMissing next e → IsRefusal fs e
+refusal_of_missing fs disks items next error.Memory those d n x a h = tt
+refusal_of_missing fs disks items next (error.Refused f row why.NotInNext) those d n x a h =
+    rw h.0 (record { fault = (refl, here); first = first })
+  where
+    k : ℕ
+    k = h.1
+
+    here : IsNotListed fs row
+    here =
+        let w = slice_get_within next h.1 None h.3 in
+        let len = a.len in
+        let at : slice_get items h.1 ≡ Some (get_or items h.1 []) = slice_get-get_or items h.1 [] (omega arith) in
+        record { place = h.1; item = get_or items h.1 []; number = h.2; at = rw (← those) at; missing = a.missing h.1 (get_or items h.1 []) at h.3 }
+
+    at_three : (g : FileKind) (m : ℕ) (v : Why) → stage_of g v ≡ 3 → PrecedesInFile m v row why.NotInNext → ¬ (Fault fs g m v)
+    at_three g m (why.NoRoom p q r) s o y = absurd (omega (arith, s))
+    at_three g m why.NotInNext s o y =
+        let z = y.1 in
+        let number = z.number in
+        let mine = h.2 in
+        elim o [
+          | inl lt ↦
+              let before : z.place < h.1 = omega arith in
+              let there = h.4 z.place before in
+              let at : slice_get items z.place ≡ Some z.item = rw those z.at in
+              z.missing (a.listed z.place z.item there.0 at there.1)
+          | inr eq ↦ let r = eq.1 in absurd (omega arith)
+        ]
+    at_three file.Disks m v s o y = absurd (omega (arith, s))
+    at_three file.Now m v s o y = absurd (omega (arith, s))
+    at_three file.Next m v s o y = absurd (omega (arith, s))
+
+    first : (g : FileKind) (m : ℕ) (v : Why) → Precedes g m v file.Now row why.NotInNext → ¬ (Fault fs g m v)
+    first g m v p y = elim p [
+      | inl lt ↦ stage_free fs 3 (λ _. d) (λ _. n) (λ _. x) (λ lt. absurd (omega (arith, lt))) (λ lt. absurd (omega (arith, lt))) g m v lt y
+      | inr q ↦ at_three g m v q.0 q.1 y
+    ]
+refusal_of_missing fs disks items next (error.Refused f row w) those d n x a h = absurd h
+
+-- the first disk that lacks room is the first fault, where nothing else is wrong
+pub refusal_of_room : (fs : Bodies) (i : Lists) (e : InputError) → IsClean fs file.Disks → IsClean fs file.Now → IsClean fs file.Next → ((n : ℕ) → ¬ (IsNotListed fs n)) → AreListed fs i
+    → RefusesRoom i e → IsRefusal fs e
+refusal_of_room fs i error.Memory d n x l a h = tt
+refusal_of_room fs i (error.Refused f row (why.NoRoom name needs slots)) d n x l a h =
+    rw h.0 (record {
+      fault = (refl, record { lists = i; listed = a; place = h.1; disk = h.2; number = h.3; at = h.4; named = h.5; sum = h.6; kept = h.7; short = h.8 });
+      first = first;
+    })
+  where
+    at_four : (g : FileKind) (m : ℕ) (v : Why) → stage_of g v ≡ 4 → PrecedesInFile m v row (why.NoRoom name needs slots) → ¬ (Fault fs g m v)
+    at_four g m why.NotInNext s o y = absurd (omega (arith, s))
+    at_four g m (why.NoRoom p q r) s o y =
+        let z = y.1 in
+        let number = z.number in
+        let mine = h.3 in
+        elim o [
+          | inl lt ↦
+              let before : z.place < h.1 = omega arith in
+              let same = AreListed-unique fs z.lists i d n x l z.listed a in
+              let at : slice_get i.disks z.place ≡ Some z.disk = subst (λ (j : Lists). slice_get j.disks z.place ≡ Some z.disk) same z.at in
+              let sum : q ≡ present i z.place + incoming i z.place = subst (λ (j : Lists). q ≡ present j z.place + incoming j z.place) same z.sum in
+              let room = subst (λ (d : Disk). present i z.place + incoming i z.place ≤ d.slots) (get_or_from_slice_get i.disks z.place z.disk no_disk at) (h.9 z.place before) in
+              let short = z.short in
+              let kept = z.kept in
+              absurd (omega (arith, room))
+          | inr eq ↦ let r = eq.1 in absurd (omega arith)
+        ]
+    at_four file.Disks m v s o y = absurd (omega (arith, s))
+    at_four file.Now m v s o y = absurd (omega (arith, s))
+    at_four file.Next m v s o y = absurd (omega (arith, s))
+
+    first : (g : FileKind) (m : ℕ) (v : Why) → Precedes g m v file.Disks row (why.NoRoom name needs slots) → ¬ (Fault fs g m v)
+    first g m v p y = elim p [
+      | inl lt ↦ stage_free fs 4 (λ _. d) (λ _. n) (λ _. x) (λ _. l) (λ lt. absurd (omega (arith, lt))) g m v lt y
+      | inr q ↦ at_four g m v q.0 q.1 y
+    ]
+refusal_of_room fs i (error.Refused f row w) d n x l a h = absurd h
+
+-- a roomy input lacks room nowhere
+pub none_lacks : (fs : Bodies) (i : Lists) → IsClean fs file.Disks → IsClean fs file.Now → IsClean fs file.Next → ((n : ℕ) → ¬ (IsNotListed fs n)) → AreListed fs i → IsRoomy i
+    → (n : ℕ) (name : List ℕ) (needs slots : ℕ) → ¬ (LacksRoom fs n name needs slots)
+none_lacks fs i d n x l a roomy m name needs slots z =
+    let same = AreListed-unique fs z.lists i d n x l z.listed a in
+    let at : slice_get i.disks z.place ≡ Some z.disk = subst (λ (j : Lists). slice_get j.disks z.place ≡ Some z.disk) same z.at in
+    let sum : needs ≡ present i z.place + incoming i z.place = subst (λ (j : Lists). needs ≡ present j z.place + incoming j z.place) same z.sum in
+    let room = subst (λ (d : Disk). present i z.place + incoming i z.place ≤ d.slots) (get_or_from_slice_get i.disks z.place z.disk no_disk at) (roomy z.place (slice_get_within i.disks z.place z.disk at)) in
+    let short = z.short in
+    let kept = z.kept in
+    absurd (omega (arith, room))
+
+pub Accepted-roomy : (fs : Bodies) (i : Lists) → IsClean fs file.Disks → IsClean fs file.Now → IsClean fs file.Next → ((n : ℕ) → ¬ (IsNotListed fs n)) → AreListed fs i → IsRoomy i → Accepted fs i
+Accepted-roomy fs i d n x l a roomy = Accepted-clean fs i d n x l (none_lacks fs i d n x l a roomy) a

@@ -1,0 +1,50 @@
+use Rattle.std.proofs.Common.{◌≡◌, arith, refl, rules, false}
+use Rattle.std.specs.Result.{is_err}
+use Rattle.std.proofs.lemmas.Option.{slice_get_within}
+use Rattle.csv.proofs.ReadFacts.{on-ok}
+use Rattle.csv.specs.Records.{fields_of}
+use Rattle.mig_base.specs.Rows.{first}
+use Rattle.mig_base.specs.declared.faults.Why.TheVariants as why
+use Rattle.std.proofs.lemmas.Result.{err_from_is_err_and}
+use Rattle.mig_base.specs.declared.faults.FileKind.TheVariants as file
+use Rattle.mig_csv.proofs.Headers.{refusal_of_header}
+use Rattle.mig_csv.proofs.WayRows.{next_has, WaysSoFar-end, WaysSoFar-fault, WaysSoFar-push, WaysSoFar-start}
+use Rattle.mig_csv.proofs.next.read_next.Goals as goal
+
+pub returns-in_err-records-clause-fault : goal.returns-in_err-records-clause-fault
+returns-in_err-records-clause-fault c =
+    let p = err_from_is_err_and c.from_residual.result c.from_residual.ensures.1 in
+    rw (p.1, p.2) (refusal_of_header file.Next (next_has c.args.disks.now.disks.items c.args.present.now) c.args.bytes.now _ c.in_err-records.ensures.refused)
+
+pub rows-init : goal.rows-init
+rows-init c =
+    rw (c.new-seen.ensures, c.in-Ok.ensures, c.len.ensures) (WaysSoFar-start c.in_ok-records.records c.in_ok-records.ensures.short c.in_ok-records.ensures.rows)
+
+pub returns-clause-sound : goal.returns-clause-sound
+returns-clause-sound c = WaysSoFar-end c.rows.invariant (rw c.if-branch.false at c.in_ok-read.ensures.found)
+
+pub push-requires : goal.push-requires
+push-requires c = rw c.in-Ok-read_way.ensures.name (c.in-Ok-read_way.ensures.sound why.DuplicateItem)
+
+pub index_mut-requires : goal.index_mut-requires
+index_mut-requires c =
+    let within = slice_get_within c.args.present.now c.in-Ok-read_way.way.item (first (fields_of c.read.new.row)) c.in-Ok-read_way.ensures.item in
+    let len = c.rows.invariant.ways.len in
+    let vec = c.rows.next.ok.0 in
+    omega (arith, within, len, vec)
+
+pub rows-preserved : goal.rows-preserved
+rows-preserved c =
+    let one = rw c.if-branch.true at c.in_ok-read.ensures.found in
+    let e = c.in-Ok-read_way.ensures in
+    let way = c.in-Ok-read_way.way in
+    let next = WaysSoFar-push c.rows.invariant (fields_of c.read.new.row) c.read.new.self way.name way.item way.disk one e.name e.different e.item e.disk e.sound in
+    let good : is_err c.push.result ≡ false = search rules in
+    let named = on-ok c.push.result good c.push.ensures.ok in
+    rw named next
+
+pub returns-in-Err-clause-fault : goal.returns-in-Err-clause-fault
+returns-in-Err-clause-fault c =
+    let one = rw c.if-branch.true at c.in_ok-read.ensures.found in
+    let f = WaysSoFar-fault c.rows.invariant (fields_of c.read.new.row) c.read.new.self c.in-Err.why one c.in-Err.ensures.cause in
+    rw (c.refused.ensures, c.len-in-Err.ensures) (refl, f)

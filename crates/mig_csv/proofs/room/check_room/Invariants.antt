@@ -1,0 +1,6 @@
+use Rattle.std.proofs.Common.{ℕ, ◌<◌}
+use Rattle.mig_base.specs.Targets.{HasRoom}
+use Rattle.mig_csv.proofs.room.check_room.Given as goal
+
+abbrev pub invariant-loop-k : goal.invariant-loop-k
+invariant-loop-k l = (j : ℕ) → j < l.k → HasRoom (record { disks = l.disks; items = l.items; spots = l.spots; next = l.next }) j

@@ -1,0 +1,11 @@
+use Rattle.std.proofs.Common.{◌≡◌, ◌+◌, ℕ, length, slice_index_or}
+use Rattle.mig_base.specs.Targets.{incoming, present}
+use Rattle.mig_csv.proofs.Needs.{left_over}
+use Rattle.mig_csv.proofs.room.count_needs.Given as goal
+
+abbrev pub invariant-loop-item : goal.invariant-loop-item
+invariant-loop-item l = record {
+  len : length l.needs.items ≡ length l.disks;
+  each : (v : ℕ) → slice_index_or l.needs.items v 0 + left_over (record { disks = l.disks; items = l.items; spots = l.spots; next = l.next }) v l.item
+      ≡ present (record { disks = l.disks; items = l.items; spots = l.spots; next = l.next }) v + incoming (record { disks = l.disks; items = l.items; spots = l.spots; next = l.next }) v;
+}

@@ -1,0 +1,82 @@
+ghost use Rattle.std.specs.Prelude.{◌≡◌, ◌≤◌, IfErr, IfOk, length, map, ℕ};
+ghost use Rattle.csv.specs.Records.{fields_of};
+ghost use Rattle.mig_base.specs.Refusals.{DisksRowFault, IsFirstCause};
+ghost use Rattle.mig_base.specs.Rows.{disk_of, rows_of};
+ghost use Rattle.mig_base.specs.declared.faults.FileKind.TheVariants as file;
+ghost use Rattle.mig_base.specs.declared.faults.Why.{Why};
+ghost use Rattle.mig_csv.specs.Refusals.{DisksFault, IsRefusalOf};
+
+use crate::errors::{InputError, refused};
+use crate::files::rows_after_header;
+use crate::numbers::read_number;
+use crate::rows::field;
+use csv::ByteRecord;
+use mig_base::{Disk, FileKind, Name, Why};
+use mig_names::NameTable;
+use std::alloc::Global;
+
+// The disks of a disks file, and their names.
+#[derive(Drop)]
+pub(crate) struct DiskList {
+    pub(crate) names: NameTable,
+    pub(crate) disks: Vec<Disk>,
+}
+
+// The disks that a disks file lists, in its order, or the first fault of the file.
+pub(crate) fn read_disks(alloc: Global, bytes: &[u8]) -> Result<DiskList, InputError>
+    ensures value { IfOk result (λ r. r.disks.items ≡ map disk_of (rows_of bytes.now)) }
+    ensures few { IfOk result (λ r. length r.disks.items ≤ 1024) }
+    ensures names { IfOk result (λ r. r.names ≡ map (λ d. d.name) r.disks.items) }
+    ensures sound { IfOk result (λ _. (n : ℕ) (w : Why) → ¬ (DisksFault bytes.now n w)) }
+    ensures fault { IfErr result (IsRefusalOf file.Disks (DisksFault bytes.now)) }
+{
+    let mut row = ByteRecord::new(alloc);
+    let mut records = rows_after_header(alloc, FileKind::Disks, bytes, &mut row)?;
+    let mut names = NameTable::new(alloc);
+    let mut disks = Vec::new(alloc);
+    'rows: while records.read(&mut row)? {
+        match read_disk(&names, &row) {
+            Ok(disk) => {
+                if names.push(disk.name).is_err() || disks.push(disk).is_err() {
+                    return Err(InputError::Memory);
+                }
+            }
+            Err(why) => return Err(refused(FileKind::Disks, names.len() as u32 + 1, why)),
+        }
+    }
+    Ok(DiskList { names, disks })
+}
+
+// The disk that a row lists, or the first cause that holds of it after rows of these names.
+fn read_disk(names: &NameTable, row: &ByteRecord) -> Result<Disk, Why>
+    ensures value { IfOk result (λ d. d ≡ disk_of (fields_of row.now)) }
+    ensures sound { IfOk result (λ _. (w : Why) → ¬ (DisksRowFault names.now (fields_of row.now) w)) }
+    ensures cause { IfErr result (IsFirstCause (DisksRowFault names.now (fields_of row.now))) }
+{
+    if names.len() >= 1024 {
+        return Err(Why::TooManyRows);
+    }
+    if row.len() != 3 {
+        return Err(Why::BadWidth);
+    }
+    let Some(name) = Name::read(field(row, 0)) else {
+        return Err(Why::BadName);
+    };
+    let Some(limit) = read_number(field(row, 1)) else {
+        return Err(Why::BadNumber);
+    };
+    let Some(slots) = read_number(field(row, 2)) else {
+        return Err(Why::BadNumber);
+    };
+    if limit < 1 || limit > 1024 || slots < 1 || slots > 65536 {
+        return Err(Why::OutOfRange);
+    }
+    if names.find(&name).is_some() {
+        return Err(Why::DuplicateDisk);
+    }
+    Ok(Disk {
+        name,
+        limit: limit as u32,
+        slots: slots as u32,
+    })
+}

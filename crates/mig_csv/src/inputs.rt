@@ -1,0 +1,35 @@
+ghost use Rattle.std.specs.Prelude.{◌≡◌, IfErr, IfOk};
+ghost use Rattle.mig_base.specs.Refusals.{Accepted};
+ghost use Rattle.mig_base.specs.Targets.{IsRoomy};
+ghost use Rattle.mig_csv.specs.Refusals.{IsRefusal};
+
+use crate::disks::read_disks;
+use crate::errors::InputError;
+use crate::items::read_now;
+use crate::next::read_next;
+use crate::room::{all_next, check_room};
+use mig_base::Input;
+use std::alloc::Global;
+
+/// Reads the input that three files stand for, given by their bytes.
+///
+/// The disks have the order of the disks file, and the items that of the now file. Each disk has room for the items that
+/// are on it and the relocated items that come to it.
+///
+/// # Errors
+///
+/// `Refused` comes exactly where something is wrong with the files, and names the first fault: in the disks file, the
+/// now file and the next file in this order, in each file the file's length, the header and then the rows in their
+/// order; after them an item that the next file lacks, and then a disk that lacks room. `Memory` is want of memory.
+pub fn read_input(alloc: Global, disks: &[u8], now: &[u8], next: &[u8]) -> Result<Input, InputError>
+    ensures accepted { IfOk result (Accepted (record { disks = disks.now; now = now.now; next = next.now })) }
+    ensures roomy { IfOk result IsRoomy }
+    ensures refused { IfErr result (IsRefusal (record { disks = disks.now; now = now.now; next = next.now })) }
+{
+    let listed = read_disks(alloc, disks)?;
+    let layout = read_now(alloc, now, &listed)?;
+    let places = read_next(alloc, next, &listed, &layout.names)?;
+    let next = all_next(alloc, &places)?;
+    check_room(alloc, &listed.disks, &layout.items, &layout.spots, &next)?;
+    Ok(Input::new(listed.disks, layout.items, layout.spots, next))
+}

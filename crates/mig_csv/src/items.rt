@@ -1,0 +1,124 @@
+ghost use Rattle.std.specs.Prelude.{◌≡◌, ◌≤◌, All, IfErr, IfOk, length, map, ℕ};
+ghost use Rattle.std.specs.List.{AllZip};
+ghost use Rattle.csv.specs.Records.{fields_of};
+ghost use Rattle.mig_base.specs.Refusals.{IsFirstCause, IsSpotNamed, NowRowFault};
+ghost use Rattle.mig_base.specs.InputLists.{IsSpotOf};
+ghost use Rattle.mig_base.specs.Rows.{first, rows_of};
+ghost use Rattle.mig_base.specs.declared.faults.FileKind.TheVariants as file;
+ghost use Rattle.mig_base.specs.declared.faults.Why.{Why};
+ghost use Rattle.mig_csv.specs.Places.{place_in};
+ghost use Rattle.mig_csv.specs.Refusals.{IsRefusalOf, NowFault};
+
+use crate::disks::DiskList;
+use crate::errors::{InputError, refused};
+use crate::files::rows_after_header;
+use crate::numbers::read_number;
+use crate::rows::field;
+use csv::ByteRecord;
+use mig_base::{DiskId, FileKind, Name, Spot, Why};
+use mig_names::{NameTable, SpotTable};
+use std::alloc::Global;
+
+// The items of a now file and their spots.
+#[derive(Drop)]
+pub(crate) struct Layout {
+    pub(crate) names: NameTable,
+    pub(crate) items: Vec<Name>,
+    pub(crate) spots: Vec<Spot>,
+}
+
+// An item and where it is.
+#[derive(Clone, Copy)]
+struct Placed {
+    name: Name,
+    spot: Spot,
+}
+
+// The items that a now file lists, in its order, or the first fault of the file.
+pub(crate) fn read_now(alloc: Global, bytes: &[u8], disks: &DiskList) -> Result<Layout, InputError>
+    requires named { disks.now.names ≡ map (λ d. d.name) disks.now.disks.items }
+    requires few { length disks.now.disks.items ≤ 1024 }
+    ensures items { IfOk result (λ r. r.items.items ≡ map first (rows_of bytes.now)) }
+    ensures few { IfOk result (λ r. length r.items.items ≤ 65536) }
+    ensures names { IfOk result (λ r. r.items.items ≡ r.names) }
+    ensures spots { IfOk result (λ r. AllZip (IsSpotNamed disks.now.disks.items) (rows_of bytes.now) r.spots.items) }
+    ensures on_disks { IfOk result (λ r. All (IsSpotOf disks.now.disks.items) r.spots.items) }
+    ensures sound { IfOk result (λ _. (n : ℕ) (w : Why) → ¬ (NowFault disks.now.disks.items bytes.now n w)) }
+    ensures fault { IfErr result (IsRefusalOf file.Now (NowFault disks.now.disks.items bytes.now)) }
+{
+    let mut row = ByteRecord::new(alloc);
+    let mut records = rows_after_header(alloc, FileKind::Now, bytes, &mut row)?;
+    let mut names = NameTable::new(alloc);
+    let mut taken = SpotTable::new(alloc);
+    let mut items = Vec::new(alloc);
+    let mut spots = Vec::new(alloc);
+    'rows: while records.read(&mut row)? {
+        match read_item(disks, &names, &taken, &row) {
+            Ok(found) => {
+                if names.push(found.name).is_err()
+                    || taken.push(found.spot).is_err()
+                    || items.push(found.name).is_err()
+                    || spots.push(found.spot).is_err()
+                {
+                    return Err(InputError::Memory);
+                }
+            }
+            Err(why) => return Err(refused(FileKind::Now, names.len() as u32 + 1, why)),
+        }
+    }
+    Ok(Layout {
+        names,
+        items,
+        spots,
+    })
+}
+
+// The item that a row lists and its spot, or the first cause that holds of the row after rows of these items and spots.
+fn read_item(
+    disks: &DiskList,
+    items: &NameTable,
+    taken: &SpotTable,
+    row: &ByteRecord,
+) -> Result<Placed, Why>
+    requires named { disks.now.names ≡ map (λ d. d.name) disks.now.disks.items }
+    requires few { length disks.now.disks.items ≤ 1024 }
+    requires on_disks { All (IsSpotOf disks.now.disks.items) taken.now }
+    ensures item { IfOk result (λ p. p.name ≡ first (fields_of row.now)) }
+    ensures spot { IfOk result (λ p. IsSpotNamed disks.now.disks.items (fields_of row.now) p.spot) }
+    ensures on_disk { IfOk result (λ p. IsSpotOf disks.now.disks.items p.spot) }
+    ensures sound { IfOk result (λ _. (w : Why) → ¬ (NowRowFault disks.now.disks.items items.now (map (place_in disks.now.disks.items) taken.now) (fields_of row.now) w)) }
+    ensures cause { IfErr result (IsFirstCause (NowRowFault disks.now.disks.items items.now (map (place_in disks.now.disks.items) taken.now) (fields_of row.now))) }
+{
+    if items.len() >= 65_536 {
+        return Err(Why::TooManyRows);
+    }
+    if row.len() != 3 {
+        return Err(Why::BadWidth);
+    }
+    let Some(name) = Name::read(field(row, 0)) else {
+        return Err(Why::BadName);
+    };
+    let Some(disk) = Name::read(field(row, 1)) else {
+        return Err(Why::BadName);
+    };
+    let Some(slot) = read_number(field(row, 2)) else {
+        return Err(Why::BadNumber);
+    };
+    if items.find(&name).is_some() {
+        return Err(Why::DuplicateItem);
+    }
+    let Some(place) = disks.names.find(&disk) else {
+        return Err(Why::UnknownDisk);
+    };
+    if slot >= u64::from(disks.disks[place].slots) {
+        return Err(Why::SlotTooHigh);
+    }
+    let spot = Spot {
+        disk: DiskId(place as u32),
+        slot: slot as u32,
+    };
+    if taken.contains(&spot) {
+        return Err(Why::SlotTaken);
+    }
+    Ok(Placed { name, spot })
+}

@@ -1,0 +1,20 @@
+//! Reading an input from the three CSV files: the disks, the items where they are now, and the disks where they are to
+//! be next.
+#![tactic(auto)]
+
+mod disks;
+mod errors;
+mod files;
+mod inputs;
+mod items;
+mod next;
+mod numbers;
+mod room;
+mod rows;
+
+pub use errors::InputError;
+pub use inputs::read_input;
+pub use mig_base::{FileKind, Why};
+
+#[cfg(test)]
+mod tests;

@@ -1,0 +1,108 @@
+ghost use Rattle.std.specs.Prelude.{◌≡◌, ◌≤◌, ◌<◌, ◌+◌, All, IfErr, IfOk, ℕ, Some, length, map, slice_index_or};
+ghost use Rattle.mig_base.specs.InputLists.{IsSpotOf};
+ghost use Rattle.mig_base.specs.Targets.{IsRoomy};
+ghost use Rattle.mig_base.specs.declared.faults.FileKind.TheVariants as file;
+ghost use Rattle.mig_base.specs.declared.faults.Why.TheVariants as why;
+ghost use Rattle.mig_csv.specs.Lists.{AreNeeds, RefusesMissing, RefusesRoom, slots_for};
+
+use crate::errors::{InputError, refused};
+use mig_base::{Disk, DiskId, FileKind, Name, Spot, Why};
+use std::alloc::{AllocError, Global};
+
+// The next disks, where each item has one.
+pub(crate) fn all_next(alloc: Global, next: &[Option<DiskId>]) -> Result<Vec<DiskId>, InputError>
+    requires few { length next.now ≤ 65536 }
+    ensures value { IfOk result (λ r. next.now ≡ map (λ d. Some d) r.items) }
+    ensures missing { IfErr result (RefusesMissing next.now) }
+{
+    let mut disks = Vec::new(alloc);
+    for place in next {
+        match place {
+            Some(disk) => {
+                if disks.push(*disk).is_err() {
+                    return Err(InputError::Memory);
+                }
+            }
+            None => return Err(refused(FileKind::Now, disks.len() as u32 + 1, Why::NotInNext)),
+        }
+    }
+    Ok(disks)
+}
+
+// Whether each disk has room for what is on it and what comes to it.
+pub(crate) fn check_room(
+    alloc: Global,
+    disks: &[Disk],
+    items: &[Name],
+    spots: &[Spot],
+    next: &[DiskId],
+) -> Result<(), InputError>
+    requires few_disks { length disks.now ≤ 1024 }
+    requires few { length items.now ≤ 65536 }
+    requires spots_len { length spots.now ≡ length items.now }
+    requires next_len { length next.now ≡ length items.now }
+    requires on_disks { All (IsSpotOf disks.now) spots.now }
+    requires next_disks { All (λ d. d.0 < length disks.now) next.now }
+    ensures roomy { IfOk result (λ _. IsRoomy (record { disks = disks.now; items = items.now; spots = spots.now; next = next.now })) }
+    ensures lacking { IfErr result (RefusesRoom (record { disks = disks.now; items = items.now; spots = spots.now; next = next.now })) }
+{
+    let Ok(needs) = count_needs(alloc, disks, items, spots, next) else {
+        return Err(InputError::Memory);
+    };
+    for (k, disk) in disks.iter().enumerate() {
+        if disk.slots < needs[k] {
+            return Err(no_room(k as u32 + 1, disk, needs[k]));
+        }
+    }
+    Ok(())
+}
+
+// How many slots each disk needs: one for each item that is on it now, and one for each relocated item that comes to it.
+fn count_needs(
+    alloc: Global,
+    disks: &[Disk],
+    items: &[Name],
+    spots: &[Spot],
+    next: &[DiskId],
+) -> Result<Vec<u32>, AllocError>
+    requires few { length items.now ≤ 65536 }
+    requires spots_len { length spots.now ≡ length items.now }
+    requires next_len { length next.now ≡ length items.now }
+    requires on_disks { All (IsSpotOf disks.now) spots.now }
+    requires next_disks { All (λ d. d.0 < length disks.now) next.now }
+    ensures { IfOk result (λ needs. AreNeeds (record { disks = disks.now; items = items.now; spots = spots.now; next = next.now }) needs.items) }
+{
+    let mut needs = vec![in alloc; 0; disks.len()]?;
+    for item in 0..items.len() {
+        add_needs(&mut needs, spots[item].disk, next[item]);
+    }
+    Ok(needs)
+}
+
+// Counts an item that is on one disk and is to go to the other.
+fn add_needs(needs: &mut [u32], on: DiskId, to: DiskId)
+    requires on { on.0 < length needs.old }
+    requires to { to.0 < length needs.old }
+    requires few { (v : ℕ) → slice_index_or needs.old v 0 ≤ 131072 }
+    ensures len { length needs.new ≡ length needs.old }
+    ensures each { (v : ℕ) → slice_index_or needs.new v 0 ≡ slice_index_or needs.old v 0 + slots_for on to v }
+{
+    needs[on.0 as usize] += 1;
+    if to != on {
+        needs[to.0 as usize] += 1;
+    }
+}
+
+fn no_room(row: u32, disk: &Disk, needs: u32) -> InputError
+    ensures { result ≡ InputError.Refused file.Disks row (why.NoRoom disk.now.name needs disk.now.slots) }
+{
+    refused(
+        FileKind::Disks,
+        row,
+        Why::NoRoom {
+            disk: disk.name,
+            needs,
+            slots: disk.slots,
+        },
+    )
+}
