@@ -1,0 +1,8 @@
+use Rattle.std.proofs.Common.{◌≡◌, map, filter}
+use Rattle.std.specs.List.{range_with_len}
+use Rattle.mig_base.specs.Transfers.{is_relocated, trip}
+use Rattle.mig_graph.specs.Edges.{edge_item, edge_trip}
+use Rattle.mig_graph.proofs.edges.edges_of.Given as goal
+
+abbrev pub invariant-loop-item : goal.invariant-loop-item
+invariant-loop-item l = record { items : map edge_item l.edges.items ≡ filter (is_relocated l.input) (range_with_len 0 l.item); trips : map edge_trip l.edges.items ≡ map (trip l.input) (filter (is_relocated l.input) (range_with_len 0 l.item)) }

@@ -1,0 +1,14 @@
+use Rattle.std.proofs.Common.{◌≢◌, ap, sym, subst, arith, length}
+use Rattle.mig_base.specs.Transfers.{Trip, Transfers}
+use Rattle.mig_graph.specs.declared.edges.Edge.{Edge}
+use Rattle.mig_graph.specs.Edges.{edge_trip}
+use Rattle.mig_graph.proofs.Made.{All-unmap}
+use Rattle.std.proofs.lemmas.List.{length-map}
+use Rattle.mig_graph.proofs.graphs.Graph.ends.Goals as goal
+
+pub returns-clause-apart : goal.returns-clause-apart
+returns-clause-apart c =
+    let edges = c.self.inside.edges.items in
+    let there = ap (λ (t : Transfers). length t.trips) c.self.view_is in
+    let apart = All-unmap (λ (t : Trip). t.leaves ≢ t.reaches) edge_trip edges c.self.invariant.graph.apart in
+    subst (λ (e : Edge). e.from.0 ≢ e.to.0) (sym c.index-e.ensures) (apart c.args.edge.0 c.index-e.result.now (omega (arith, c.requires, there, length-map edges edge_trip)))

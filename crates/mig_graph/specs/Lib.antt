@@ -1,0 +1,5 @@
+pub mod Edges
+pub mod Ends
+pub mod Graphs
+pub mod Kept
+pub mod Loads

@@ -1,0 +1,126 @@
+ghost use Rattle.std.specs.Prelude.{◌≡◌, ◌≢◌, ◌<◌, ◌≤◌, ◌↔◌, IsTrue, IfOk, length, slice_index};
+ghost use Rattle.mig_base.specs.Transfers.{load, transfers};
+ghost use Rattle.mig_base.specs.Bounding.{quotient, limit, IsEven};
+
+use crate::edges::{Edge, edges_of};
+use crate::loads::{even_of, loads_of, quotient_of};
+use mig_base::{Disk, DiskId, EdgeId, Input, ItemId};
+use std::alloc::{AllocError, Global};
+use std::marker::Model;
+
+/// The transfer multigraph: a node for each disk and an edge for each item that is to go to another disk.
+///
+/// Two disks may be joined by several edges, and no edge joins a disk to itself. Loads, quotient and evenness are
+/// counted once, when the graph is made.
+#[derive(Drop)]
+pub struct Graph {
+    disks: Vec<Disk>,
+    edges: Vec<Edge>,
+    loads: Vec<u32>,
+    quotient: u32,
+    even: bool,
+}
+
+impl Model for Graph {
+    ghost use Rattle.mig_base.specs.Transfers.{Transfers};
+
+    ghost Value = { Transfers };
+
+    ghost use Rattle.mig_graph.specs.Kept.{transfers_of, IsCounted};
+
+    ghost view = { transfers_of };
+
+    ghost invariant = { IsCounted };
+}
+
+impl Graph {
+    ghost use Rattle.mig_graph.specs.Graphs.{IsGraph};
+    ghost use Rattle.mig_graph.specs.Ends.{IsEdge};
+
+    /// The transfer graph of an input: an edge for each item that is to go to another disk, in item order.
+    ///
+    /// Takes time linear in the disks and items. Errs for want of memory only.
+    pub fn of(alloc: Global, input: &Input) -> Result<Graph, AllocError>
+        ensures { IfOk result (λ g. g ≡ transfers input.now) }
+    {
+        let edges = edges_of(alloc, input)?;
+        let disks = Vec::from_slice(alloc, input.disks())?;
+        let loads = loads_of(alloc, disks.len(), &edges)?;
+        let quotient = quotient_of(&disks, &loads);
+        let even = even_of(&disks, &loads);
+        Ok(Graph {
+            disks,
+            edges,
+            loads,
+            quotient,
+            even,
+        })
+    }
+
+    /// How many edges there are.
+    pub fn edges(&self) -> u32
+        ensures edges { result ≡ length self.now.trips }
+        ensures valid { IsGraph self.now }
+    {
+        self.edges.len() as u32
+    }
+
+    /// How many disks there are.
+    pub fn disks(&self) -> u32
+        ensures disks { result ≡ length self.now.disks }
+        ensures valid { IsGraph self.now }
+    {
+        self.disks.len() as u32
+    }
+
+    /// How many transfers may touch the disk in one round.
+    pub fn limit(&self, disk: DiskId) -> u32
+        requires { disk.0 < length self.now.disks }
+        ensures limit { result ≡ limit self.now disk.0 }
+        ensures least { 1 ≤ result }
+        ensures most { result ≤ 1024 }
+    {
+        self.disks[disk.0 as usize].limit
+    }
+
+    /// The item that the edge moves.
+    pub fn item(&self, edge: EdgeId) -> ItemId
+        requires { edge.0 < length self.now.trips }
+        ensures { result.0 ≡ slice_index self.now.items edge.0 }
+    {
+        self.edges[edge.0 as usize].item
+    }
+
+    /// The disk that the edge leaves, and the disk that it reaches: two different ones.
+    pub fn ends(&self, edge: EdgeId) -> (DiskId, DiskId)
+        requires { edge.0 < length self.now.trips }
+        ensures ends { IsEdge self.now.trips edge.0 result.0.0 result.1.0 }
+        ensures apart { result.0.0 ≢ result.1.0 }
+    {
+        let e = self.edges[edge.0 as usize];
+        (e.from, e.to)
+    }
+
+    /// How many edges have the disk as an end.
+    pub fn load(&self, disk: DiskId) -> u32
+        requires { disk.0 < length self.now.disks }
+        ensures load { result ≡ load disk.0 self.now.trips }
+        ensures most { result ≤ 65536 }
+    {
+        self.loads[disk.0 as usize]
+    }
+
+    /// The greatest number of rounds that a disk needs for its own edges, 0 without edges.
+    pub fn quotient(&self) -> u32
+        ensures { result ≡ quotient self.now }
+    {
+        self.quotient
+    }
+
+    /// Whether each disk with an edge has an even limit.
+    pub fn all_even(&self) -> bool
+        ensures { IsTrue result ↔ IsEven self.now }
+    {
+        self.even
+    }
+}

@@ -1,0 +1,10 @@
+//! The transfer multigraph of a migration: the disks, and an edge for each item that is to go to another disk.
+#![tactic(auto)]
+
+mod edges;
+mod graphs;
+mod loads;
+#[cfg(test)]
+mod tests;
+
+pub use graphs::Graph;
