@@ -1,0 +1,175 @@
+-- How many colours are present at a node, against its degree.
+use Rattle.std.proofs.Common.{◌≡◌, ℕ, ◌<◌, ◌≤◌, ◌+◌, ◌*◌, ◌⊎◌, inl, inr, refl, ap, ◌∙◌, List, [], ◌∷◌, zero, suc, Option, Some, None, arith, Bool, true, false, cond, eqb, eq-eqb, count_by}
+use Rattle.std.specs.Prelude.{slice_get, ◌||◌}
+use Rattle.std.proofs.lemmas.Bool.{false≢true}
+use Rattle.std.proofs.lemmas.Option.{same_Some, none-some}
+use Rattle.std.proofs.lemmas.Bool.Decides.{eqb_tells}
+use Rattle.std.proofs.lemmas.List.Sums.{sum_by-cons}
+use Rattle.mig_base.specs.declared.ids.CopyId.{CopyId}
+use Rattle.mig_base.specs.declared.ids.EdgeId.{EdgeId}
+use Rattle.mig_base.specs.declared.ids.Colour.{Colour}
+use Rattle.mig_board.specs.Colouring.{Colouring, Joins, IsPresent, IsFull, HasNoCommon, degree_of}
+use Rattle.mig_base.specs.Ends.{is_end}
+
+abbrev pub has_hue : ℕ → Option Colour → Bool
+has_hue k None = false
+has_hue k (Some c) = eqb c.0 k
+
+abbrev pub is_plain : Option Colour → Bool
+is_plain None = true
+is_plain (Some c) = false
+
+-- how many edges at v have colour k
+abbrev pub tally : CopyId → ℕ → List (CopyId × CopyId) → List (Option Colour) → ℕ
+tally v k [] cs = 0
+tally v k (p ∷ ps) [] = 0
+tally v k (p ∷ ps) (c ∷ cs) = cond (is_end v p) (cond (has_hue k c) 1 0) 0 + tally v k ps cs
+
+-- how many edges at v have none
+abbrev pub plain_tally : CopyId → List (CopyId × CopyId) → List (Option Colour) → ℕ
+plain_tally v [] cs = 0
+plain_tally v (p ∷ ps) [] = 0
+plain_tally v (p ∷ ps) (c ∷ cs) = cond (is_end v p) (cond (is_plain c) 1 0) 0 + plain_tally v ps cs
+
+-- the sum of f over the numbers below n
+abbrev pub sum_to : (ℕ → ℕ) → ℕ → ℕ
+sum_to f zero = 0
+sum_to f (suc n) = f n + sum_to f n
+
+pub sum_to-add : (f h : ℕ → ℕ) (n : ℕ) → sum_to (λ k. f k + h k) n ≡ sum_to f n + sum_to h n
+sum_to-add f h zero = refl
+sum_to-add f h (suc n) = omega (arith, sum_to-add f h n)
+
+pub sum_to-zero : (n : ℕ) → sum_to (λ k. 0) n ≡ 0
+sum_to-zero zero = refl
+sum_to-zero (suc n) = omega (arith, sum_to-zero n)
+
+abbrev bit : Bool → ℕ
+bit t = cond t 1 0
+
+pub sum_to-one : (c n : ℕ) → (sum_to (λ k. cond (eqb c k) 1 0) n ≤ 1) × (n ≤ c → sum_to (λ k. cond (eqb c k) 1 0) n ≡ 0)
+sum_to-one c zero = (omega arith, λ h. refl)
+sum_to-one c (suc n) =
+    let r = sum_to-one c n in
+    elim (eqb_tells c n) [
+      | inl h ↦
+          (let one : ◌≡◌ {A = ℕ} (cond (eqb c n) 1 0) 1 = ap (λ t. bit t) h.0 in
+          let none = r.1 (omega (arith, h.1)) in
+          (omega (arith, one, none), λ m. absurd (omega (arith, h.1))))
+      | inr h ↦
+          (let none : ◌≡◌ {A = ℕ} (cond (eqb c n) 1 0) 0 = ap (λ t. bit t) h.0 in
+          (omega (arith, none, r.0), λ m. (let rest = r.1 (omega arith) in omega (arith, none, rest))))
+    ]
+
+-- the colours of one edge
+hue_total : (t : Bool) (c : Option Colour) (n : ℕ) → sum_to (λ k. cond t (cond (has_hue k c) 1 0) 0) n + cond t (cond (is_plain c) 1 0) 0 ≤ cond t 1 0
+hue_total true None n = omega (arith, sum_to-zero n)
+hue_total true (Some c) n = omega (arith, (sum_to-one c.0 n).0)
+hue_total false c n = omega (arith, sum_to-zero n)
+
+pub tally_total : (v : CopyId) (ps : List (CopyId × CopyId)) (cs : List (Option Colour)) (n : ℕ) → sum_to (λ k. tally v k ps cs) n + plain_tally v ps cs ≤ count_by (is_end v) ps
+tally_total v [] cs n = omega (arith, sum_to-zero n)
+tally_total v (p ∷ ps) [] n = omega (arith, sum_to-zero n)
+tally_total v (p ∷ ps) (c ∷ cs) n =
+    let e : ◌≡◌ {A = ℕ} (count_by (is_end v) (p ∷ ps)) (cond (is_end v p) 1 0 + count_by (is_end v) ps) = sum_by-cons (λ x. bit (is_end v x)) p ps in
+    omega (arith, sum_to-add (λ k. cond (is_end v p) (cond (has_hue k c) 1 0) 0) (λ k. tally v k ps cs) n, hue_total (is_end v p) c n, tally_total v ps cs n, e)
+
+-- ---- a colour that is present is counted
+
+or_left : (a b : Bool) → a ≡ true → (a || b) ≡ true
+or_left true b h = refl
+or_left false b h = absurd (false≢true h)
+
+or_right : (a b : Bool) → b ≡ true → (a || b) ≡ true
+or_right true b h = refl
+or_right false b h = h
+
+is_end_first : (v w : CopyId) → is_end v (v, w) ≡ true
+is_end_first v w = or_left (eqb v.0 v.0) (eqb w.0 v.0) (eq-eqb v.0 v.0 refl)
+
+is_end_second : (v w : CopyId) → is_end v (w, v) ≡ true
+is_end_second v w = or_right (eqb w.0 v.0) (eqb v.0 v.0) (eq-eqb v.0 v.0 refl)
+
+tally_at : (v : CopyId) (k : ℕ) (ps : List (CopyId × CopyId)) (cs : List (Option Colour)) (i : ℕ) (p : CopyId × CopyId) (c : Option Colour) → slice_get ps i ≡ Some p → slice_get cs i ≡ Some c → is_end v p ≡ true → has_hue k c ≡ true → 1 ≤ tally v k ps cs
+tally_at v k [] cs i p c hp hc he hh = absurd (none-some p hp)
+tally_at v k (q ∷ ps) [] i p c hp hc he hh = absurd (none-some c hc)
+tally_at v k (q ∷ ps) (d ∷ cs) zero p c hp hc he hh =
+    let e : is_end v q ≡ true = ap (is_end v) (same_Some q p hp) ∙ he in
+    let h : has_hue k d ≡ true = ap (has_hue k) (same_Some d c hc) ∙ hh in
+    let one : ◌≡◌ {A = ℕ} (cond (is_end v q) (cond (has_hue k d) 1 0) 0) 1 = ap (λ t. cond {A = ℕ} t (bit (has_hue k d)) 0) e ∙ ap bit h in
+    omega (arith, one)
+tally_at v k (q ∷ ps) (d ∷ cs) (suc i) p c hp hc he hh = omega (arith, tally_at v k ps cs i p c hp hc he hh)
+
+plain_at : (v : CopyId) (ps : List (CopyId × CopyId)) (cs : List (Option Colour)) (i : ℕ) (p : CopyId × CopyId) → slice_get ps i ≡ Some p → slice_get cs i ≡ Some None → is_end v p ≡ true → 1 ≤ plain_tally v ps cs
+plain_at v [] cs i p hp hc he = absurd (none-some p hp)
+plain_at v (q ∷ ps) [] i p hp hc he = absurd (none-some None hc)
+plain_at v (q ∷ ps) (d ∷ cs) zero p hp hc he =
+    let e : is_end v q ≡ true = ap (is_end v) (same_Some q p hp) ∙ he in
+    let h : is_plain d ≡ true = ap is_plain (same_Some d None hc) in
+    let one : ◌≡◌ {A = ℕ} (cond (is_end v q) (cond (is_plain d) 1 0) 0) 1 = ap (λ t. cond {A = ℕ} t (bit (is_plain d)) 0) e ∙ ap bit h in
+    omega (arith, one)
+plain_at v (q ∷ ps) (d ∷ cs) (suc i) p hp hc he = omega (arith, plain_at v ps cs i p hp hc he)
+
+abbrev pub tally_of : Colouring → CopyId → ℕ → ℕ
+tally_of g v k = tally v k g.ends g.painted
+
+pub present_tally : (g : Colouring) (v : CopyId) (k : Colour) → IsPresent g v k → 1 ≤ tally_of g v k.0
+present_tally g v k h =
+    elim h.2.joins [
+      | inl j ↦ tally_at v k.0 g.ends g.painted h.0.0 (v, h.1) (Some k) j h.2.colour (is_end_first v h.1) (eq-eqb k.0 k.0 refl)
+      | inr j ↦ tally_at v k.0 g.ends g.painted h.0.0 (h.1, v) (Some k) j h.2.colour (is_end_second v h.1) (eq-eqb k.0 k.0 refl)
+    ]
+
+pub plain_present : (g : Colouring) (v w : CopyId) (e : EdgeId) → Joins g e v w → slice_get g.painted e.0 ≡ Some None → 1 ≤ plain_tally v g.ends g.painted
+plain_present g v w e j h =
+    elim j [
+      | inl r ↦ plain_at v g.ends g.painted e.0 (v, w) r h (is_end_first v w)
+      | inr r ↦ plain_at v g.ends g.painted e.0 (w, v) r h (is_end_second v w)
+    ]
+
+sum_to-ge_one : (f : ℕ → ℕ) (n : ℕ) → ((k : ℕ) → k < n → 1 ≤ f k) → n ≤ sum_to f n
+sum_to-ge_one f zero h = omega arith
+sum_to-ge_one f (suc n) h = omega (arith, h n (omega arith), sum_to-ge_one f n (λ k m. h k (omega arith)))
+
+sum_to-ge_two : (f : ℕ → ℕ) (n : ℕ) → ((k : ℕ) → k < n → 2 ≤ f k) → 2 * n ≤ sum_to f n
+sum_to-ge_two f zero h = omega arith
+sum_to-ge_two f (suc n) h = omega (arith, h n (omega arith), sum_to-ge_two f n (λ k m. h k (omega arith)))
+
+-- where every colour is present and an edge has none, there are more edges than colours
+pub degree_of_full : (g : Colouring) (v w : CopyId) (e : EdgeId) → Joins g e v w → slice_get g.painted e.0 ≡ Some None → IsFull g v → g.colours < degree_of g v
+degree_of_full g v w e j plain full =
+    omega (
+      arith,
+      tally_total v g.ends g.painted g.colours,
+      plain_present g v w e j plain,
+      sum_to-ge_one (tally_of g v) g.colours (λ k h. present_tally g v (record { 0 = k }) (full (record { 0 = k }) h)),
+    )
+
+-- where each colour is present at two of three nodes, and an edge at the first two has none, the degrees exceed twice the colours
+pub degrees_of_three : (g : Colouring) (u v w : CopyId) (e : EdgeId) → Joins g e u v → slice_get g.painted e.0 ≡ Some None → HasNoCommon g u v → HasNoCommon g u w → HasNoCommon g v w → 2 * g.colours + 2 ≤ degree_of g u + degree_of g v + degree_of g w
+degrees_of_three g u v w e j plain uv uw vw =
+    let total = sum_to-ge_two (λ k. tally_of g u k + (tally_of g v k + tally_of g w k)) g.colours (λ k h. two (record { 0 = k }) (uv (record { 0 = k }) h) (uw (record { 0 = k }) h) (vw (record { 0 = k }) h)) in
+    omega (
+      arith,
+      total,
+      sum_to-add (tally_of g u) (λ k. tally_of g v k + tally_of g w k) g.colours,
+      sum_to-add (tally_of g v) (tally_of g w) g.colours,
+      tally_total u g.ends g.painted g.colours,
+      tally_total v g.ends g.painted g.colours,
+      tally_total w g.ends g.painted g.colours,
+      plain_present g u v e j plain,
+      plain_present g v u e (elim j [ inl r ↦ inr r | inr r ↦ inl r ]) plain,
+    )
+  where
+    two : (k : Colour) → IsPresent g u k ⊎ IsPresent g v k → IsPresent g u k ⊎ IsPresent g w k → IsPresent g v k ⊎ IsPresent g w k → 2 ≤ tally_of g u k.0 + (tally_of g v k.0 + tally_of g w k.0)
+    two k uv uw vw =
+        elim uv [
+          | inl a ↦ elim vw [
+            | inl b ↦ omega (arith, present_tally g u k a, present_tally g v k b)
+            | inr b ↦ omega (arith, present_tally g u k a, present_tally g w k b)
+          ]
+          | inr a ↦ elim uw [
+            | inl b ↦ omega (arith, present_tally g v k a, present_tally g u k b)
+            | inr b ↦ omega (arith, present_tally g v k a, present_tally g w k b)
+          ]
+        ]

@@ -1,0 +1,241 @@
+-- Laws of walks and exchanges for callers.
+use Rattle.std.proofs.Common.{◌≡◌, ◌≢◌, ℕ, ◌<◌, ◌≤◌, ◌+◌, ◌⊎◌, inl, inr, refl, sym, ap, subst, ◌∙◌, List, [], ◌∷◌, Some, None, arith, length, replicate, Option}
+use Rattle.std.specs.Prelude.{slice_get}
+use Rattle.std.proofs.lemmas.List.{length-replicate, get_or-replicate}
+use Rattle.std.proofs.lemmas.Option.{slice_get-get_or, same_Some, none-some, slice_get_within}
+use Rattle.std.proofs.lemmas.Bool.{cases_lt, cases_eq}
+use Rattle.mig_base.specs.declared.ids.CopyId.{CopyId}
+use Rattle.mig_base.specs.declared.ids.EdgeId.{EdgeId}
+use Rattle.mig_base.specs.declared.ids.Colour.{Colour}
+use Rattle.mig_board.specs.Colouring.{Colouring, Joins, HasColour, Leads, IsMissing, IsPresent, IsPainted, IsProper, painted_with, blank}
+use Rattle.mig_board.specs.Growth.{IsBlank, IsPlain, SameGraph, PaintsOne, IsTwoSided}
+use Rattle.mig_board.specs.Walk.{Step, IsWalk, end_of, next_of, backwards, WalksTo, swapped, Exchanges}
+use Rattle.mig_board.proofs.Walks.{IsPath, path_of_walk, path_back, next_pair, missing_differs}
+use Rattle.mig_board.proofs.Tables.{edge_cases, same_edge, slice_get-set_same, slice_get-set_other, painted_cases}
+use Rattle.mig_board.proofs.Exchange.{On_cases, path_edge, swapped_second, swapped_third}
+
+-- an exchange colours no edge and uncolours none
+pub exchanges_painted : (old new : Colouring) (v : CopyId) (a b : Colour) (w : CopyId) → Exchanges old new v a b w → (f : EdgeId) → IsPainted old f → IsPainted new f
+exchanges_painted old new v a b w x f h =
+    elim (On_cases f x.walk.steps) [
+      | inl on ↦ (swapped a b h.0, x.on f h.0 on h.1)
+      | inr off ↦ (h.0, x.off f off ∙ h.1)
+    ]
+
+pub exchanges_plain : (old new : Colouring) (v : CopyId) (a b : Colour) (w : CopyId) → Exchanges old new v a b w → (f : EdgeId) → IsPlain old f → IsPlain new f
+exchanges_plain old new v a b w x f h =
+    elim (On_cases f x.walk.steps) [
+      | inl on ↦
+          (let r = path_edge old v a b x.walk.steps (path_of_walk old v a b x.walk.steps x.walk.law.walk).0 f on in
+          absurd (none-some r.colour (same_Some None (Some r.colour) (sym h ∙ r.leads.colour))))
+      | inr off ↦ x.off f off ∙ h
+    ]
+
+-- painting a plain edge
+pub PaintsOne-painted : (old : Colouring) (e : EdgeId) (k : Colour) → e.0 < length old.painted → PaintsOne old (painted_with old e k) e
+PaintsOne-painted old e k h =
+    record {
+      graph = refl;
+      here = (k, slice_get-set_same old.painted e.0 (Some k) h);
+      kept = λ f p. elim (edge_cases f e) [
+        | inl same ↦ (k, subst (λ (q : EdgeId). slice_get (painted_with old e k).painted q.0 ≡ Some (Some k)) (sym same) (slice_get-set_same old.painted e.0 (Some k) h))
+        | inr other ↦ (p.0, slice_get-set_other old.painted e.0 f.0 (Some k) other ∙ p.1)
+      ];
+      plain = λ f other p. slice_get-set_other old.painted e.0 f.0 (Some k) other ∙ p;
+    }
+
+-- in a two-sided graph a walk that would go on by its first colour has come back to its side
+pub path_sides : (g : Colouring) (left : ℕ) → IsTwoSided g left → (v : CopyId) (a b : Colour) (steps : List Step) → IsPath g v a b steps →
+    ((next_of a b steps ≡ b) × (((v.0 < left) × ((end_of v steps).0 < left)) ⊎ ((left ≤ v.0) × (left ≤ (end_of v steps).0)))) ⊎
+    ((next_of a b steps ≡ a) × (((v.0 < left) × (left ≤ (end_of v steps).0)) ⊎ ((left ≤ v.0) × ((end_of v steps).0 < left))))
+path_sides g left two v a b [] path = inl (refl, elim (cases_lt v.0 left) [ inl h ↦ inl (h, h) | inr h ↦ inr (h, h) ])
+path_sides g left two v a b (s ∷ rest) path =
+    let cross = two s.edge v s.to path.0.joins in
+    elim (path_sides g left two s.to b a rest path.1) [
+      | inl h ↦ inr (
+        h.0,
+        elim cross [
+          | inl x ↦ elim h.1 [ inl y ↦ absurd (omega (arith, x.1, y.0)) | inr y ↦ inl (x.0, y.1) ]
+          | inr x ↦ elim h.1 [ inl y ↦ inr (x.0, y.1) | inr y ↦ absurd (omega (arith, x.1, y.0)) ]
+        ],
+      )
+      | inr h ↦ inl (
+        h.0,
+        elim cross [
+          | inl x ↦ elim h.1 [ inl y ↦ absurd (omega (arith, x.1, y.0)) | inr y ↦ inl (x.0, y.1) ]
+          | inr x ↦ elim h.1 [ inl y ↦ inr (x.0, y.1) | inr y ↦ absurd (omega (arith, x.1, y.0)) ]
+        ],
+      )
+    ]
+
+-- So a walk from one end of an edge that lacks a does not end at the other end where b is missing.
+pub ends_elsewhere : (g : Colouring) (left : ℕ) → IsTwoSided g left → (v : CopyId) (a b : Colour) (w u : CopyId) (e : EdgeId) → IsMissing g v a → IsPresent g v b → WalksTo g v a b w → Joins g e v u → IsMissing g u b → u ≢ w
+ends_elsewhere g left two v a b w u e m h x j mu = λ same.
+    let steps : List Step = x.steps in
+    let r = path_of_walk g v a b x.steps x.law.walk in
+    let here : end_of v x.steps ≡ u = x.end ∙ sym same in
+    let cross = two e v u j in
+    elim (path_sides g left two v a b x.steps r.0) [
+      | inl s ↦ elim s.1 [
+        | inl y ↦ elim cross [ inl c ↦ absurd (omega (arith, y.1, c.1, ap (λ (q : CopyId). q.0) here)) | inr c ↦ absurd (omega (arith, y.0, c.0)) ]
+        | inr y ↦ elim cross [ inl c ↦ absurd (omega (arith, y.0, c.0)) | inr c ↦ absurd (omega (arith, y.1, c.1, ap (λ (q : CopyId). q.0) here)) ]
+      ]
+      | inr s ↦ elim (next_pair a b x.steps) [
+        | inl p ↦ mu.absent x.law.has.0 x.law.has.1 (subst (λ (q : CopyId). Leads g q b x.law.has.0 x.law.has.1) here (subst (λ (q : Colour). Leads g (end_of v x.steps) q x.law.has.0 x.law.has.1) p.1 x.law.has.2))
+        | inr p ↦ missing_differs g v a b m h (sym s.0 ∙ p.0)
+      ]
+    ]
+
+-- painting an edge after an exchange
+pub PaintsOne-exchanged : (old mid : Colouring) (v : CopyId) (a b : Colour) (w : CopyId) → Exchanges old mid v a b w → (e : EdgeId) (k : Colour) → e.0 < length mid.painted → PaintsOne old (painted_with mid e k) e
+PaintsOne-exchanged old mid v a b w x e k h =
+    let r = PaintsOne-painted mid e k h in
+    record {
+      graph = ap (λ (g : Colouring). painted_with g e k) x.frame;
+      here = r.here;
+      kept = λ f p. r.kept f (exchanges_painted old mid v a b w x f p);
+      plain = λ f other p. r.plain f other (exchanges_plain old mid v a b w x f p);
+    }
+
+-- after an exchange the edges still have their ends
+pub exchanges_joins : (old new : Colouring) (v : CopyId) (a b : Colour) (w : CopyId) → Exchanges old new v a b w → (e : EdgeId) (u x : CopyId) → Joins new e u x → Joins old e u x
+exchanges_joins old new v a b w h e u x j = subst (λ (g : Colouring). Joins g e u x) h.frame j
+
+-- what is missing after the exchange at its first node
+pub exchanges_start : (old new : Colouring) (v : CopyId) (a b : Colour) (w : CopyId) → Exchanges old new v a b w → IsMissing old v a → IsMissing new v b
+exchanges_start old new v a b w h m = (h.ends v b (inl refl)).1 (subst (λ (q : Colour). IsMissing old v q) (sym (swapped_second a b)) m)
+
+-- ---- all edges, one after the other
+
+pub record IsPart (first now : Colouring) (n : ℕ) : Type 0 where
+  pub graph : SameGraph first now
+  pub done : (e : EdgeId) → e.0 < n → IsPainted now e
+  pub rest : (e : EdgeId) → n ≤ e.0 → e.0 < length first.ends → IsPlain now e
+
+pub IsPart-start : (g : Colouring) → IsBlank g → IsPart g g 0
+IsPart-start g h = record { graph = refl; done = λ e m. absurd (omega arith); rest = λ e m lt. h e lt }
+
+pub IsPart-more : (first now next : Colouring) (n : ℕ) (e : EdgeId) → e.0 ≡ n → IsPart first now n → PaintsOne now next e → IsPart first next (n + 1)
+IsPart-more first now next n e is p x =
+    record {
+      graph = x.graph ∙ ap (λ (g : Colouring). record g { painted = next.painted }) p.graph;
+      done = λ f m. elim (cases_eq f.0 n) [
+        | inl h ↦ subst (λ (q : EdgeId). IsPainted next q) (sym (same_edge f e (h ∙ sym is))) x.here
+        | inr h ↦ x.kept f (p.done f (omega arith))
+      ];
+      rest = λ f m lt. x.plain f (λ h. absurd (omega (arith, h, is))) (p.rest f (omega arith) lt);
+    }
+
+-- ---- changes after which the same edges have a colour
+
+pub record SameEdges (old new : Colouring) : Type 0 where
+  pub graph : SameGraph old new
+  pub painted : (f : EdgeId) → IsPainted old f → IsPainted new f
+  pub plain : (f : EdgeId) → IsPlain old f → IsPlain new f
+
+pub SameEdges-exchanged : (old new : Colouring) (v : CopyId) (a b : Colour) (w : CopyId) → Exchanges old new v a b w → SameEdges old new
+SameEdges-exchanged old new v a b w x = record { graph = x.frame; painted = exchanges_painted old new v a b w x; plain = exchanges_plain old new v a b w x }
+
+pub SameEdges-repainted : (g : Colouring) (e : EdgeId) (k : Colour) → IsPainted g e → SameEdges g (painted_with g e k)
+SameEdges-repainted g e k h =
+    let within : e.0 < length g.painted = slice_get_within g.painted e.0 (Some h.0) h.1 in
+    let r = PaintsOne-painted g e k within in
+    record {
+      graph = refl;
+      painted = r.kept;
+      plain = λ f p. elim (edge_cases f e) [
+        | inl same ↦ absurd (none-some h.0 (same_Some None (Some h.0) (sym (subst (λ (q : EdgeId). IsPlain g q) same p) ∙ h.1)))
+        | inr other ↦ r.plain f other p
+      ];
+    }
+
+pub SameEdges-trans : (a b c : Colouring) → SameEdges a b → SameEdges b c → SameEdges a c
+SameEdges-trans a b c x y =
+    record {
+      graph = y.graph ∙ ap (λ (g : Colouring). record g { painted = c.painted }) x.graph;
+      painted = λ f h. y.painted f (x.painted f h);
+      plain = λ f h. y.plain f (x.plain f h);
+    }
+
+pub PaintsOne-after : (a b c : Colouring) (e : EdgeId) → SameEdges a b → PaintsOne b c e → PaintsOne a c e
+PaintsOne-after a b c e x y =
+    record {
+      graph = y.graph ∙ ap (λ (g : Colouring). record g { painted = c.painted }) x.graph;
+      here = y.here;
+      kept = λ f h. y.kept f (x.painted f h);
+      plain = λ f other h. y.plain f other (x.plain f h);
+    }
+
+-- ---- after a repaint
+
+-- the old colour is missing at the edge's ends
+pub repainted_old : (g : Colouring) (p : IsProper g) (v : CopyId) (a c : Colour) (e : EdgeId) (w : CopyId) → Leads g v a e w → a ≢ c → IsMissing (painted_with g e c) v a
+repainted_old g p v a c e w l d =
+    record {
+      in_range = p.colours_in_range e a l.colour;
+      absent = λ f x m. elim (painted_cases g e c f a (slice_get_within g.painted e.0 (Some a) l.colour) m.colour) [
+        | inl h ↦ d h.1
+        | inr h ↦ h.0 (ap (λ (q : EdgeId). q.0) (p.apart v a f e x w (record { joins = m.joins; colour = h.1 }) l))
+      ];
+    }
+
+-- another colour that was missing is missing still
+pub repainted_other : (g : Colouring) (v : CopyId) (a c : Colour) (e : EdgeId) → e.0 < length g.painted → IsMissing g v a → a ≢ c → IsMissing (painted_with g e c) v a
+repainted_other g v a c e within m d =
+    record {
+      in_range = m.in_range;
+      absent = λ f x l. elim (painted_cases g e c f a within l.colour) [
+        | inl h ↦ d h.1
+        | inr h ↦ m.absent f x (record { joins = l.joins; colour = h.1 })
+      ];
+    }
+
+-- an exchange leaves an edge of a third colour alone
+pub exchanges_third : (old new : Colouring) (v : CopyId) (a b : Colour) (w : CopyId) → Exchanges old new v a b w → (u : CopyId) (k : Colour) (e : EdgeId) (x : CopyId) → k ≢ a → k ≢ b → Leads old u k e x → Leads new u k e x
+exchanges_third old new v a b w h u k e x na nb l =
+    record {
+      joins = subst (λ (g : Colouring). Joins g e u x) (sym h.frame) l.joins;
+      colour = elim (On_cases e h.walk.steps) [
+        | inl on ↦ subst (λ (q : Colour). HasColour new e q) (swapped_third a b k na nb) (h.on e k on l.colour)
+        | inr off ↦ h.off e off ∙ l.colour
+      ];
+    }
+
+-- ---- walks have one end
+
+pub same_far : (g : Colouring) (v : CopyId) (a b : Colour) (w : CopyId) → WalksTo g v a b w → (steps : List Step) → IsWalk g v a b steps → end_of v steps ≡ w
+same_far g v a b w x steps h = ap (end_of v) (x.law.only steps h) ∙ x.end
+
+-- the walk back from the end of a walk, by the end's own colours
+pub walk_from_end : (g : Colouring) (v : CopyId) (a b : Colour) (w : CopyId) → WalksTo g v a b w → (l h : Colour) → ((l ≡ a) × (h ≡ b)) ⊎ ((l ≡ b) × (h ≡ a)) → IsMissing g w l → IsPresent g w h → (steps : List Step) × IsWalk g w l h steps × (end_of w steps ≡ v)
+walk_from_end g v a b w x l h which m p =
+    let s : List Step = x.steps in
+    let path = (path_of_walk g v a b x.steps x.law.walk).0 in
+    (backwards v x.steps, back (next_pair a b x.steps), subst (λ (q : CopyId). end_of q (backwards v x.steps) ≡ v) x.end (path_back g v a b x.steps path).end)
+  where
+    present : (k : Colour) → next_of b a x.steps ≡ k → IsPresent g w k
+    present k e = (x.law.has.0, x.law.has.1, subst (λ (q : CopyId). Leads g q k x.law.has.0 x.law.has.1) x.end (subst (λ (q : Colour). Leads g (end_of v x.steps) q x.law.has.0 x.law.has.1) e x.law.has.2))
+
+    wrong : next_of b a x.steps ≡ l → ⊥
+    wrong e = (let q = present l e in m.absent q.0 q.1 q.2)
+
+    right : next_of a b x.steps ≡ l → next_of b a x.steps ≡ h → IsWalk g w l h (backwards v x.steps)
+    right e f = subst (λ (q : CopyId). IsWalk g q l h (backwards v x.steps)) x.end
+        (subst (λ (q : Colour). IsWalk g (end_of v x.steps) q h (backwards v x.steps)) e
+        (subst (λ (q : Colour). IsWalk g (end_of v x.steps) (next_of a b x.steps) q (backwards v x.steps)) f x.law.back))
+
+    back : ((next_of a b x.steps ≡ a) × (next_of b a x.steps ≡ b)) ⊎ ((next_of a b x.steps ≡ b) × (next_of b a x.steps ≡ a)) → IsWalk g w l h (backwards v x.steps)
+    back c =
+        elim c [
+          | inl y ↦ elim which [ inl z ↦ right (y.0 ∙ sym z.0) (y.1 ∙ sym z.1) | inr z ↦ absurd (wrong (y.1 ∙ sym z.0)) ]
+          | inr y ↦ elim which [ inl z ↦ absurd (wrong (y.1 ∙ sym z.0)) | inr z ↦ right (y.0 ∙ sym z.0) (y.1 ∙ sym z.1) ]
+        ]
+
+-- ---- at the beginning
+
+-- on a new board nothing is coloured
+pub IsBlank-blank : (nodes colours : ℕ) (ends : List (CopyId × CopyId)) → IsBlank (blank nodes colours ends)
+IsBlank-blank nodes colours ends e h =
+    let n : Option Colour = None in
+    let plain : List (Option Colour) = replicate (length ends) n in
+    slice_get-get_or plain e.0 n (omega (arith, h, length-replicate (length ends) n)) ∙ ap (λ (x : Option Colour). Some x) (get_or-replicate (length ends) e.0 n n h)

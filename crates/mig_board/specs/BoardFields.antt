@@ -1,0 +1,13 @@
+-- What the fields of a board mean.
+use Rattle.std.specs.Prelude.{◌≤◌, ◌*◌, ◌^◌, length}
+use Rattle.mig_board.specs.Colouring.{Colouring, IsProper, IsTableOf}
+use Rattle.mig_board.specs.declared.boards.Board.TheInside.{Inside}
+
+abbrev pub colouring_of : Inside → Colouring
+colouring_of a = record { nodes = a.nodes; colours = a.colours; ends = a.ends.items; painted = a.painted.items }
+
+pub record IsBoard (a : Inside) : Type 0 where
+  pub proper : IsProper (colouring_of a)
+  pub table : IsTableOf (colouring_of a) a.table.items
+  pub few_edges : length a.ends.items ≤ 65536
+  pub few_entries : a.nodes * a.colours ≤ 2 ^ 28

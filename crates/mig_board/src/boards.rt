@@ -1,0 +1,308 @@
+ghost use Rattle.std.specs.Prelude.{◌≡◌, ◌≢◌, ℕ, ◌*◌, ◌<◌, ◌≤◌, ◌^◌, length, vec_len, IfOk, MatchOption, MatchBool, slice_get, All, Some, None};
+ghost use Rattle.mig_base.specs.declared.ids.CopyId.{CopyId};
+ghost use Rattle.mig_board.specs.Colouring.{Joins, Leads, IsPresent, IsMissing, IsProper, IsRow, IsFull, IsFullFrom, IsLeastMissing, IsLeastMissingFrom, HasNoCommon, IsLeastCommon, IsFreeAt, IsPainted, painted_with, cleared, blank};
+ghost use Rattle.mig_board.specs.Walk.{WalksTo, Exchanges};
+
+use crate::entries::{Entry, is_free};
+use crate::places::{other_of, place};
+use mig_base::{Colour, CopyId, EdgeId};
+use std::alloc::{AllocError, Global};
+use std::marker::Model;
+
+/// A multigraph without loops, each of whose edges has a colour or none. No two edges of one colour share a node.
+///
+/// Colours are the numbers below the board's number of colours. A colour is missing at a node where no edge at the
+/// node has it. Only `new` takes memory: four bytes for each node and colour.
+#[derive(Drop)]
+pub struct Board {
+    nodes: u32,
+    colours: u32,
+    ends: Vec<(CopyId, CopyId)>,
+    painted: Vec<Option<Colour>>,
+    table: Vec<Entry>,
+}
+
+impl Model for Board {
+    ghost use Rattle.mig_board.specs.Colouring.{Colouring};
+
+    ghost Value = { Colouring };
+
+    ghost use Rattle.mig_board.specs.BoardFields.{colouring_of, IsBoard};
+
+    ghost view = { colouring_of };
+
+    ghost invariant = { IsBoard };
+}
+
+impl Board {
+    /// A board with these nodes, edges and colours, on which nothing is coloured.
+    ///
+    /// Refuses only for want of memory.
+    pub fn new(
+        alloc: Global,
+        nodes: u32,
+        ends: Vec<(CopyId, CopyId)>,
+        colours: u32,
+    ) -> Result<Board, AllocError>
+        requires in_range { All (λ p. (p.0.0 < nodes) × (p.1.0 < nodes)) ends.items }
+        requires no_loop { All (λ p. p.0 ≢ p.1) ends.items }
+        requires few_edges { vec_len ends ≤ 65536 }
+        requires few_entries { nodes * colours ≤ 2 ^ 28 }
+        ensures made { IfOk result (λ b. b ≡ blank nodes colours ends.items) }
+    {
+        let painted = vec![in alloc; None; ends.len()]?;
+        let table = vec![in alloc; Entry::none(); nodes as usize * colours as usize]?;
+        Ok(Board {
+            nodes,
+            colours,
+            ends,
+            painted,
+            table,
+        })
+    }
+
+    /// The number of nodes.
+    pub fn nodes(&self) -> u32
+        ensures value { result ≡ self.now.nodes }
+        ensures proper { IsProper self.now }
+    {
+        self.nodes
+    }
+
+    /// The number of colours.
+    pub fn colours(&self) -> u32
+        ensures value { result ≡ self.now.colours }
+        ensures proper { IsProper self.now }
+    {
+        self.colours
+    }
+
+    /// The number of edges.
+    pub fn edges(&self) -> u32
+        ensures value { result ≡ length self.now.ends }
+        ensures proper { IsProper self.now }
+    {
+        self.ends.len() as u32
+    }
+
+    /// The two ends of an edge, in the order in which `new` took them.
+    pub fn ends(&self, edge: EdgeId) -> (CopyId, CopyId)
+        requires { edge.0 < length self.now.ends }
+        ensures value { slice_get self.now.ends edge.0 ≡ Some result }
+        ensures proper { IsProper self.now }
+    {
+        self.ends[edge.0 as usize]
+    }
+
+    /// The end of an edge that is not the node, which is its other end.
+    pub fn across(&self, edge: EdgeId, node: CopyId) -> CopyId
+        requires { (w : CopyId) × Joins self.now edge node w }
+        ensures { Joins self.now edge node result }
+    {
+        other_of(self.ends[edge.0 as usize], node)
+    }
+
+    /// The colour of an edge. None comes exactly where the edge has no colour.
+    pub fn colour_of(&self, edge: EdgeId) -> Option<Colour>
+        requires { edge.0 < length self.now.ends }
+        ensures { slice_get self.now.painted edge.0 ≡ Some result }
+    {
+        self.painted[edge.0 as usize]
+    }
+
+    /// The edge of a colour at a node. None comes exactly where the colour is missing at the node.
+    pub fn edge_at(&self, node: CopyId, colour: Colour) -> Option<EdgeId>
+        requires node { node.0 < self.now.nodes }
+        requires colour { colour.0 < self.now.colours }
+        ensures { MatchOption result
+            (IsMissing self.now node colour)
+            (λ e. (w : CopyId) × Leads self.now node colour e w) }
+    {
+        self.table[place(self.colours, node, colour)].edge()
+    }
+
+    /// Whether no edge at the node has the colour.
+    pub fn is_missing(&self, node: CopyId, colour: Colour) -> bool
+        requires node { node.0 < self.now.nodes }
+        requires colour { colour.0 < self.now.colours }
+        ensures { MatchBool result (IsMissing self.now node colour) (IsPresent self.now node colour) }
+    {
+        self.edge_at(node, colour).is_none()
+    }
+
+    /// The entries of a node, one for each colour.
+    fn row(&self, node: CopyId) -> &[Entry]
+        requires { node.0 < self.now.nodes }
+        ensures { IsRow self.now node result.now }
+    {
+        let first = node.0 as usize * self.colours as usize;
+        &self.table[first..first + self.colours as usize]
+    }
+
+    /// The least colour that is missing at the node. None comes exactly where there is none.
+    pub fn missing(&self, node: CopyId) -> Option<Colour>
+        requires { node.0 < self.now.nodes }
+        ensures { MatchOption result (IsFull self.now node) (IsLeastMissing self.now node) }
+    {
+        self.missing_from(node, Colour(0))
+    }
+
+    /// The least colour, from a given one on, that is missing at the node. None comes exactly where there is none.
+    pub fn missing_from(&self, node: CopyId, from: Colour) -> Option<Colour>
+        requires { node.0 < self.now.nodes }
+        ensures { MatchOption result
+            (IsFullFrom self.now node from)
+            (IsLeastMissingFrom self.now node from) }
+    {
+        let row = self.row(node);
+        for colour in from.0..self.colours {
+            if is_free(row, colour) {
+                return Some(Colour(colour));
+            }
+        }
+        None
+    }
+
+    /// The least colour that is missing at both nodes. None comes exactly where there is none.
+    pub fn common(&self, first: CopyId, second: CopyId) -> Option<Colour>
+        requires first { first.0 < self.now.nodes }
+        requires second { second.0 < self.now.nodes }
+        ensures { MatchOption result
+            (HasNoCommon self.now first second)
+            (IsLeastCommon self.now first second) }
+    {
+        let one = self.row(first);
+        let two = self.row(second);
+        for colour in 0..self.colours {
+            if is_free(one, colour) && is_free(two, colour) {
+                return Some(Colour(colour));
+            }
+        }
+        None
+    }
+
+    /// Gives a colour to an edge that has none. The colour has to be missing at both ends.
+    pub fn paint(&mut self, edge: EdgeId, colour: Colour)
+        requires plain { slice_get self.old.painted edge.0 ≡ Some None }
+        requires free { IsFreeAt self.old edge colour }
+        ensures painted { self.new ≡ painted_with self.old edge colour }
+        ensures proper { IsProper self.new }
+    {
+        let (first, second) = self.ends[edge.0 as usize];
+        self.painted[edge.0 as usize] = Some(colour);
+        self.table[place(self.colours, first, colour)] = Entry::of(edge);
+        self.table[place(self.colours, second, colour)] = Entry::of(edge);
+    }
+
+    /// Takes an edge's colour away.
+    fn clear(&mut self, edge: EdgeId)
+        requires { IsPainted self.old edge }
+        ensures { self.new ≡ cleared self.old edge }
+    {
+        let (first, second) = self.ends[edge.0 as usize];
+        if let Some(colour) = self.painted[edge.0 as usize] {
+            self.painted[edge.0 as usize] = None;
+            self.table[place(self.colours, first, colour)] = Entry::none();
+            self.table[place(self.colours, second, colour)] = Entry::none();
+        }
+    }
+
+    /// Gives another colour to an edge that has one. The new colour has to be missing at both ends.
+    pub fn repaint(&mut self, edge: EdgeId, colour: Colour)
+        requires painted { IsPainted self.old edge }
+        requires free { IsFreeAt self.old edge colour }
+        ensures painted { self.new ≡ painted_with self.old edge colour }
+        ensures proper { IsProper self.new }
+    {
+        self.clear(edge);
+        self.paint(edge, colour);
+    }
+
+    /// The end of the walk from a node where the colour `lacks` is missing, along edges of the colours `has` and
+    /// `lacks` in turn, up to the node where the next colour is missing.
+    pub fn far(&self, node: CopyId, lacks: Colour, has: Colour) -> CopyId
+        requires lacks { IsMissing self.now node lacks }
+        requires has { IsPresent self.now node has }
+        ensures { WalksTo self.now node lacks has result }
+    {
+        let mut at = node;
+        let mut next = has;
+        let mut other = lacks;
+        // A walk repeats no node, so it has fewer steps than the board has nodes.
+        for _step in 0..self.nodes {
+            let Some(edge) = self.edge_at(at, next) else {
+                return at;
+            };
+            at = self.across(edge, at);
+            (next, other) = (other, next);
+        }
+        unreachable!()
+    }
+
+    /// Exchanges the two colours on the edges of the walk that `far` follows, and gives its end.
+    ///
+    /// At each node of the walk the two entries change places, so nothing has to be kept aside.
+    pub fn exchange(&mut self, node: CopyId, lacks: Colour, has: Colour) -> CopyId
+        requires lacks { IsMissing self.old node lacks }
+        requires has { IsPresent self.old node has }
+        ensures exchanged { Exchanges self.old self.new node lacks has result }
+        ensures proper { IsProper self.new }
+    {
+        let mut at = node;
+        let mut next = has;
+        let mut other = lacks;
+        // A walk repeats no node, so it has fewer steps than the board has nodes.
+        for _step in 0..self.nodes {
+            let here = place(self.colours, at, next);
+            let there = place(self.colours, at, other);
+            let found = self.table[here].edge();
+            self.table.swap(here, there);
+            let Some(edge) = found else {
+                return at;
+            };
+            self.painted[edge.0 as usize] = Some(other);
+            at = other_of(self.ends[edge.0 as usize], at);
+            (next, other) = (other, next);
+        }
+        unreachable!()
+    }
+}
+
+#[cfg(test)]
+mod tests {
+    use super::Board;
+    use mig_base::{Colour, CopyId, EdgeId};
+    use std::alloc::AllocError;
+    use std::prelude::HostRuntime;
+
+    // A path of four nodes in two colours, and beside its middle edge another one that has no colour.
+    #[test]
+    fn exchanges_a_path(rt: HostRuntime) -> Result<(), AllocError> {
+        let path = [
+            (CopyId(0), CopyId(1)),
+            (CopyId(1), CopyId(2)),
+            (CopyId(2), CopyId(3)),
+            (CopyId(1), CopyId(2)),
+        ];
+        let mut board = Board::new(rt.alloc(), 4, path.to_vec(rt.alloc())?, 2)?;
+        board.paint(EdgeId(0), Colour(0));
+        board.paint(EdgeId(1), Colour(1));
+        board.paint(EdgeId(2), Colour(0));
+        assert_eq!(&rt; board.missing(CopyId(0)), Some(Colour(1)));
+        assert_eq!(&rt; board.missing(CopyId(1)), None);
+        assert_eq!(&rt; board.common(CopyId(0), CopyId(3)), Some(Colour(1)));
+        assert_eq!(&rt; board.common(CopyId(0), CopyId(1)), None);
+        assert_eq!(&rt; board.far(CopyId(0), Colour(1), Colour(0)), CopyId(3));
+        assert_eq!(&rt; board.exchange(CopyId(0), Colour(1), Colour(0)), CopyId(3));
+        for (edge, colour) in [(0, Some(1)), (1, Some(0)), (2, Some(1)), (3, None)] {
+            assert_eq!(&rt;
+                board.colour_of(EdgeId(edge)),
+                colour.map(Colour),
+                "edge {edge}"
+            );
+        }
+        assert_eq!(&rt; board.missing(CopyId(0)), Some(Colour(0)));
+        assert_eq!(&rt; board.edge_at(CopyId(1), Colour(0)), Some(EdgeId(1)));
+        Ok(())
+    }
+}
