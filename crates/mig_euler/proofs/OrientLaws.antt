@@ -1,0 +1,114 @@
+-- All edges directed.
+use Rattle.std.proofs.Common.{◌≡◌, ℕ, ◌<◌, ◌≤◌, ◌+◌, ◌%◌, ◌⊎◌, inl, inr, refl, sym, ap, subst, ◌∙◌, List, [], ◌∷◌, zero, suc, Option, Some, None, arith, Bool, map, length, replicate, get_or, eq-eqb}
+use Rattle.std.proofs.lemmas.Bool.{cases_eq, cases_lt, ne_eqb}
+use Rattle.mig_base.specs.declared.ids.DiskId.{DiskId}
+use Rattle.mig_euler.specs.Balance.{tail_of, head_of, out_of, in_of, Balances, AllPassed, AllInRange}
+use Rattle.mig_euler.specs.Trails.{bit, is, leaves, enters, waits, total, EndsTrail, IsEven, is_forward}
+use Rattle.mig_euler.specs.Ready.{IsReady}
+use Rattle.std.proofs.lemmas.List.{length-replicate}
+use Rattle.mig_euler.proofs.Trail.{IsEven-trail, even_kept, odd_ended, trail_closed, IsEven-none}
+
+-- where no edge waits anywhere, the counts are those of the directions
+out_is : (v : DiskId) (ps : List (DiskId × DiskId)) (ds : List (Option Bool)) → ((w : DiskId) → total (waits w) ps ds ≡ 0) → length ds ≡ length ps → out_of v ps (map is_forward ds) ≡ total (leaves v) ps ds
+out_is v [] ds h len = refl
+out_is v (p ∷ ps) [] h len = refl
+out_is v (p ∷ ps) (Some d ∷ ds) h len = ap (λ n. is v (tail_of p d) + n) (out_is v ps ds (λ w. omega (arith, h w)) (omega arith))
+out_is v (p ∷ ps) (None ∷ ds) h len = absurd (omega (arith, h p.0, itself p.0))
+  where
+    itself : (w : DiskId) → is w w ≡ 1
+    itself w = ap bit (eq-eqb w.0 w.0 refl)
+
+in_is : (v : DiskId) (ps : List (DiskId × DiskId)) (ds : List (Option Bool)) → ((w : DiskId) → total (waits w) ps ds ≡ 0) → length ds ≡ length ps → in_of v ps (map is_forward ds) ≡ total (enters v) ps ds
+in_is v [] ds h len = refl
+in_is v (p ∷ ps) [] h len = refl
+in_is v (p ∷ ps) (Some d ∷ ds) h len = ap (λ n. is v (head_of p d) + n) (in_is v ps ds (λ w. omega (arith, h w)) (omega arith))
+in_is v (p ∷ ps) (None ∷ ds) h len = absurd (omega (arith, h p.0, itself p.0))
+  where
+    itself : (w : DiskId) → is w w ≡ 1
+    itself w = ap bit (eq-eqb w.0 w.0 refl)
+
+pub Balances-settled : (ps : List (DiskId × DiskId)) (ds : List (Option Bool)) → IsEven ps ds → ((w : DiskId) → total (waits w) ps ds ≡ 0) → length ds ≡ length ps → Balances ps (map is_forward ds)
+Balances-settled ps ds e h len =
+    record {
+      out_most = λ v. omega (arith, out_is v ps ds h len, in_is v ps ds h len, e.out_most v);
+      in_most = λ v. omega (arith, out_is v ps ds h len, in_is v ps ds h len, e.in_most v);
+    }
+
+-- no edge waits at a disk that is out of range
+out_of_range : (ps : List (DiskId × DiskId)) (ds : List (Option Bool)) (n : ℕ) → AllInRange ps n → (v : DiskId) → n ≤ v.0 → total (waits v) ps ds ≡ 0
+out_of_range [] ds n h v far = refl
+out_of_range (p ∷ ps) [] n h v far = refl
+out_of_range (p ∷ ps) (Some d ∷ ds) n h v far = omega (arith, out_of_range ps ds n (λ e q r. h (record { 0 = suc e.0 }) q r) v far)
+out_of_range (p ∷ ps) (None ∷ ds) n h v far =
+    let r = h (record { 0 = 0 }) p refl in
+    let one : is v p.0 ≡ 0 = ap bit (ne_eqb p.0.0 v.0 (λ e. absurd (omega (arith, e, far, r.0)))) in
+    let two : is v p.1 ≡ 0 = ap bit (ne_eqb p.1.0 v.0 (λ e. absurd (omega (arith, e, far, r.1)))) in
+    omega (arith, one, two, out_of_range ps ds n (λ e q s. h (record { 0 = suc e.0 }) q s) v far)
+
+-- one trail more
+pub ready_after : (ends : List (DiskId × DiskId)) (old now : List (Option Bool)) (from from' : List ℕ) (s : DiskId) → IsReady ends old from → EndsTrail ends old now s → AllPassed ends now from' → length from' ≡ length from → (total (waits s) ends old % 2 ≡ 1) ⊎ ((v : DiskId) → total (waits v) ends old % 2 ≡ 0) → IsReady ends now from'
+ready_after ends old now from from' s r e passed len which =
+    record {
+      len = e.trail.len ∙ r.len;
+      in_range = subst (λ n. AllInRange ends n) (sym len) r.in_range;
+      passed = passed;
+      even = IsEven-trail ends old now s e.end r.even e.trail e.stuck which;
+    }
+
+same_disk : (v w : DiskId) → v.0 ≡ w.0 → v ≡ w
+same_disk v w h = let make : ℕ → DiskId = λ n. record { 0 = n } in ap make h
+
+pub below_disk : (P : DiskId → Type 0) (i : ℕ) → ((v : DiskId) → v.0 < i → P v) → P (record { 0 = i }) → (v : DiskId) → v.0 < i + 1 → P v
+below_disk P i below here v h =
+    elim (cases_eq v.0 i) [
+      | inl e ↦ subst P (sym (same_disk v (record { 0 = i }) e)) here
+      | inr ne ↦ below v (omega arith)
+    ]
+
+pub even_after : (ends : List (DiskId × DiskId)) (old now : List (Option Bool)) (i : ℕ) → EndsTrail ends old now (record { 0 = i }) → total (waits (record { 0 = i })) ends old % 2 ≡ 1 → ((v : DiskId) → v.0 < i → total (waits v) ends old % 2 ≡ 0) → (v : DiskId) → v.0 < i + 1 → total (waits v) ends now % 2 ≡ 0
+even_after ends old now i e odd below =
+    below_disk (λ (v : DiskId). total (waits v) ends now % 2 ≡ 0) i
+    (λ v h. even_kept ends old now (record { 0 = i }) e.end v e.trail e.stuck (below v h) (inl odd))
+    (odd_ended ends old now (record { 0 = i }) e.end e.trail e.stuck odd)
+
+pub zero_after : (ends : List (DiskId × DiskId)) (old now : List (Option Bool)) (i : ℕ) → EndsTrail ends old now (record { 0 = i }) → ((v : DiskId) → total (waits v) ends old % 2 ≡ 0) → ((v : DiskId) → v.0 < i → total (waits v) ends old ≡ 0) → (v : DiskId) → v.0 < i + 1 → total (waits v) ends now ≡ 0
+zero_after ends old now i e even below =
+    below_disk (λ (v : DiskId). total (waits v) ends now ≡ 0) i
+    (λ v h. omega (arith, e.trail.fewer v, below v h))
+    (trail_closed ends old now (record { 0 = i }) e.end e.trail e.stuck even)
+
+pub still_even : (ends : List (DiskId × DiskId)) (old now : List (Option Bool)) (s : DiskId) → EndsTrail ends old now s → ((v : DiskId) → total (waits v) ends old % 2 ≡ 0) → (v : DiskId) → total (waits v) ends now % 2 ≡ 0
+still_even ends old now s e even v = even_kept ends old now s e.end v e.trail e.stuck (even v) (inr even)
+
+-- from the disks in range to all
+pub everywhere : (ends : List (DiskId × DiskId)) (ds : List (Option Bool)) (n : ℕ) → AllInRange ends n → ((v : DiskId) → v.0 < n → total (waits v) ends ds ≡ 0) → (v : DiskId) → total (waits v) ends ds ≡ 0
+everywhere ends ds n range h v = elim (cases_lt v.0 n) [ inl l ↦ h v l | inr g ↦ out_of_range ends ds n range v g ]
+
+pub even_everywhere : (ends : List (DiskId × DiskId)) (ds : List (Option Bool)) (n : ℕ) → AllInRange ends n → ((v : DiskId) → v.0 < n → total (waits v) ends ds % 2 ≡ 0) → (v : DiskId) → total (waits v) ends ds % 2 ≡ 0
+even_everywhere ends ds n range h v = elim (cases_lt v.0 n) [ inl l ↦ h v l | inr g ↦ omega (arith, out_of_range ends ds n range v g) ]
+
+-- at the beginning
+none_directed : (v : DiskId) (ps : List (DiskId × DiskId)) (n : ℕ) → (total (leaves v) ps (replicate n None) ≡ 0) × (total (enters v) ps (replicate n None) ≡ 0)
+none_directed v [] n = (refl, refl)
+none_directed v (p ∷ ps) zero = (refl, refl)
+none_directed v (p ∷ ps) (suc n) = let r = none_directed v ps n in (omega (arith, r.0), omega (arith, r.1))
+
+zero_at : (n i : ℕ) → ◌≡◌ {A = ℕ} (get_or {A = ℕ} (replicate {A = ℕ} n 0) i 0) 0
+zero_at zero i = refl
+zero_at (suc n) zero = refl
+zero_at (suc n) (suc i) = zero_at n i
+
+pub ready_first : (ends : List (DiskId × DiskId)) (n : ℕ) (first : List ℕ) → n ≡ length ends → AllInRange ends (length first) → AllPassed ends (replicate n None) first → IsReady ends (replicate n None) first
+ready_first ends n first len range passed = record { len = length-replicate n None ∙ len; in_range = range; passed = passed; even = IsEven-none ends (replicate n None) (λ v. none_directed v ends n) }
+
+pub ready_start : (ends : List (DiskId × DiskId)) (disks n : ℕ) → n ≡ length ends → AllInRange ends disks → IsReady ends (replicate n None) (replicate disks 0)
+ready_start ends disks n len range =
+    record {
+      len = length-replicate n None ∙ len;
+      in_range = subst (λ m. AllInRange ends m) (sym (length-replicate disks 0)) range;
+      passed = record { bound = λ v. omega (arith, zero_at disks v.0); passed = λ v e h w. absurd (omega (arith, h, zero_at disks v.0)) };
+      even = IsEven-none ends (replicate n None) (λ v. none_directed v ends n);
+    }
+
+pub settled_balances : (ends : List (DiskId × DiskId)) (ds : List (Option Bool)) (out : List Bool) → IsEven ends ds → ((w : DiskId) → total (waits w) ends ds ≡ 0) → length ds ≡ length ends → out ≡ map is_forward ds → Balances ends out
+settled_balances ends ds out e h len is_out = subst (λ (q : List Bool). Balances ends q) (sym is_out) (Balances-settled ends ds e h len)

@@ -1,0 +1,42 @@
+-- Edges that wait for a direction.
+use Rattle.std.proofs.Common.{◌≡◌, ℕ, ◌<◌, ◌+◌, ◌⊎◌, inl, inr, sym, ap, subst, ◌∙◌, List, Option, Some, None, arith, Bool, length, get_or}
+use Rattle.std.specs.Prelude.{slice_get}
+use Rattle.std.proofs.lemmas.Bool.{cases_eq}
+use Rattle.std.proofs.lemmas.Option.{same_Some, slice_get-get_or, some_pair_parts}
+use Rattle.mig_base.specs.declared.ids.DiskId.{DiskId}
+use Rattle.mig_base.specs.declared.ids.EdgeId.{EdgeId}
+use Rattle.mig_euler.specs.Balance.{IsWaiting, PassedBelow}
+
+pub waits_found : (ends : List (DiskId × DiskId)) (ds : List (Option Bool)) (v : DiskId) (i : ℕ) (p : DiskId × DiskId) (d : Option Bool) → i < length ends → length ds ≡ length ends → ((get_or ds i d ≡ None) × (((get_or ends i p).0 ≡ v) ⊎ ((get_or ends i p).1 ≡ v))) → IsWaiting ends ds v (record { 0 = i })
+waits_found ends ds v i p d h len w =
+    let row : slice_get ends i ≡ Some (get_or ends i p) = slice_get-get_or ends i p h in
+    let way : slice_get ds i ≡ Some (get_or ds i d) = slice_get-get_or ds i d (omega (arith, h, len)) in
+    record {
+      plain = way ∙ ap (λ (q : Option Bool). Some q) w.0;
+      at = elim w.1 [
+        | inl x ↦ ((get_or ends i p).1, inl (row ∙ ap (λ (q : DiskId). Some (q, (get_or ends i p).1)) x))
+        | inr x ↦ ((get_or ends i p).0, inr (row ∙ ap (λ (q : DiskId). Some ((get_or ends i p).0, q)) x))
+      ];
+    }
+
+pub waits_none : (ends : List (DiskId × DiskId)) (ds : List (Option Bool)) (v : DiskId) (i : ℕ) (p : DiskId × DiskId) (d : Option Bool) → i < length ends → length ds ≡ length ends → ((get_or ds i d ≡ None) × (((get_or ends i p).0 ≡ v) ⊎ ((get_or ends i p).1 ≡ v)) → ⊥) → IsWaiting ends ds v (record { 0 = i }) → ⊥
+waits_none ends ds v i p d h len never w =
+    let row : slice_get ends i ≡ Some (get_or ends i p) = slice_get-get_or ends i p h in
+    let way : slice_get ds i ≡ Some (get_or ds i d) = slice_get-get_or ds i d (omega (arith, h, len)) in
+    never (
+      same_Some (get_or ds i d) None (sym way ∙ w.plain),
+      elim w.at.1 [
+        | inl x ↦ inl (some_pair_parts (get_or ends i p).0 v (get_or ends i p).1 w.at.0 (sym row ∙ x)).0
+        | inr x ↦ inr (some_pair_parts (get_or ends i p).0 w.at.0 (get_or ends i p).1 v (sym row ∙ x)).1
+      ],
+    )
+
+same_edge : (v w : EdgeId) → v.0 ≡ w.0 → v ≡ w
+same_edge v w h = let make : ℕ → EdgeId = λ n. record { 0 = n } in ap make h
+
+pub PassedBelow-more : (ends : List (DiskId × DiskId)) (ds : List (Option Bool)) (v : DiskId) (i : ℕ) → PassedBelow ends ds v i → (IsWaiting ends ds v (record { 0 = i }) → ⊥) → PassedBelow ends ds v (i + 1)
+PassedBelow-more ends ds v i below here e h w =
+    elim (cases_eq e.0 i) [
+      | inl s ↦ here (subst (λ (q : EdgeId). IsWaiting ends ds v q) (same_edge e (record { 0 = i }) s) w)
+      | inr n ↦ below e (omega arith) w
+    ]

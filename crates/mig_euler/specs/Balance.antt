@@ -1,0 +1,46 @@
+-- Directions of a multigraph's edges, and how many edges leave and enter a disk by them.
+use Rattle.std.specs.Prelude.{◌≡◌, ℕ, ◌+◌, ◌≤◌, ◌<◌, Bool, true, false, if◌then◌else◌, ◌==◌, ◌⊎◌, List, [], ◌∷◌, Option, Some, None, slice_get, slice_index, length}
+use Rattle.mig_base.specs.declared.ids.EdgeId.{EdgeId}
+use Rattle.mig_base.specs.declared.ids.DiskId.{DiskId}
+
+-- an edge leaves its first end where its direction is true, and its second end where it is false
+abbrev pub tail_of : DiskId × DiskId → Bool → DiskId
+tail_of p true = p.0
+tail_of p false = p.1
+
+abbrev pub head_of : DiskId × DiskId → Bool → DiskId
+head_of p true = p.1
+head_of p false = p.0
+
+-- how many edges leave v, and how many enter it
+abbrev pub out_of : DiskId → List (DiskId × DiskId) → List Bool → ℕ
+out_of v [] ds = 0
+out_of v (p ∷ ps) [] = 0
+out_of v (p ∷ ps) (d ∷ ds) = (if (tail_of p d).0 == v.0 then 1 else 0) + out_of v ps ds
+
+abbrev pub in_of : DiskId → List (DiskId × DiskId) → List Bool → ℕ
+in_of v [] ds = 0
+in_of v (p ∷ ps) [] = 0
+in_of v (p ∷ ps) (d ∷ ds) = (if (head_of p d).0 == v.0 then 1 else 0) + in_of v ps ds
+
+-- at each disk the numbers of leaving and of entering edges differ by at most 1
+pub record Balances (ends : List (DiskId × DiskId)) (directions : List Bool) : Type 0 where
+  pub out_most : (v : DiskId) → out_of v ends directions ≤ in_of v ends directions + 1
+  pub in_most : (v : DiskId) → in_of v ends directions ≤ out_of v ends directions + 1
+
+-- edge e has disk v as an end and has no direction yet
+pub record IsWaiting (ends : List (DiskId × DiskId)) (directions : List (Option Bool)) (v : DiskId) (e : EdgeId) : Type 0 where
+  pub plain : slice_get directions e.0 ≡ Some None
+  pub at : (w : DiskId) × ((slice_get ends e.0 ≡ Some (v, w)) ⊎ (slice_get ends e.0 ≡ Some (w, v)))
+
+-- no edge below the place waits at v
+abbrev pub PassedBelow : List (DiskId × DiskId) → List (Option Bool) → DiskId → ℕ → Type 0
+PassedBelow ends directions v n = (e : EdgeId) → e.0 < n → IsWaiting ends directions v e → ⊥
+
+-- each disk has a place up to which no edge waits at it
+pub record AllPassed (ends : List (DiskId × DiskId)) (directions : List (Option Bool)) (from : List ℕ) : Type 0 where
+  pub bound : (v : DiskId) → slice_index from v.0 ≤ length ends
+  pub passed : (v : DiskId) → PassedBelow ends directions v (slice_index from v.0)
+
+abbrev pub AllInRange : List (DiskId × DiskId) → ℕ → Type 0
+AllInRange ends disks = (e : EdgeId) (p : DiskId × DiskId) → slice_get ends e.0 ≡ Some p → (p.0.0 < disks) × (p.1.0 < disks)

@@ -1,0 +1,15 @@
+-- The ends of a transfer graph's edges as pairs of disks.
+use Rattle.std.specs.Prelude.{◌≡◌, ℕ, ◌<◌, List, length, slice_index_or}
+use Rattle.mig_base.specs.declared.ids.DiskId.{DiskId}
+use Rattle.mig_base.specs.Transfers.{Trip}
+use Rattle.mig_base.specs.Directions.{trip_at}
+
+abbrev pub trip_of : DiskId × DiskId → Trip
+trip_of p = record { leaves = p.0.0; reaches = p.1.0 }
+
+abbrev pub pair_at : List (DiskId × DiskId) → ℕ → DiskId × DiskId
+pair_at ends e = slice_index_or ends e (record { 0 = 0 }, record { 0 = 0 })
+
+pub record ArePairs (trips : List Trip) (ends : List (DiskId × DiskId)) : Type 0 where
+  pub len : length ends ≡ length trips
+  pub known : (e : ℕ) → e < length ends → trip_of (pair_at ends e) ≡ trip_at trips e
