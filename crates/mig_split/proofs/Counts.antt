@@ -1,0 +1,60 @@
+-- Counting the ends of each disk.
+use Rattle.std.proofs.Common.{◌≡◌, ◌≢◌, ℕ, ◌+◌, ◌<◌, ◌≤◌, inl, inr, refl, sym, ap, ◌∙◌, subst, List, true, eqb, length, take, get_or, set, replicate, arith, count_by, eq-eqb}
+use Rattle.std.proofs.lemmas.List.{get_or-set_same, get_or-set_other, length-set, length-replicate, get_or-replicate}
+use Rattle.std.proofs.lemmas.List.Sums.{count_by_more_yes, count_by_more_no, count_by-le-length}
+use Rattle.std.proofs.lemmas.Bool.{cases_eq, ne_eqb}
+use Rattle.mig_base.specs.declared.ids.DiskId.{DiskId}
+use Rattle.mig_split.specs.Dealing.{count_of, disk_at}
+use Rattle.mig_split.specs.Decks.{AreCounts}
+use Rattle.std.proofs.Common.{map, sum, sum_by}
+use Rattle.std.specs.List.{range_with_len}
+use Rattle.std.proofs.lemmas.List.Sums.{sum-map, sum_by-le}
+use Rattle.std.proofs.lemmas.List.FromFn.{get_or-range_with_len, length-range_with_len, fill_by_all}
+use Rattle.std.proofs.lemmas.Bool.Decides.{nat_tests}
+use Rattle.mig_base.proofs.Counting.{sum_by-swap, one}
+use Rattle.mig_base.proofs.Copies.{count_by-le-one}
+
+pub count_of_same : (stops : List DiskId) (i v : ℕ) → i < length stops → disk_at stops i ≡ v → count_of v (take (i + 1) stops) ≡ count_of v (take i stops) + 1
+count_of_same stops i v h e = count_by_more_yes (λ (d : DiskId). eqb d.0 v) stops i (record { 0 = 0 }) h (eq-eqb _ _ e)
+
+pub count_of_other : (stops : List DiskId) (i v : ℕ) → i < length stops → v ≢ disk_at stops i → count_of v (take (i + 1) stops) ≡ count_of v (take i stops)
+count_of_other stops i v h e = count_by_more_no (λ (d : DiskId). eqb d.0 v) stops i (record { 0 = 0 }) h (ne_eqb _ _ (λ x. e (sym x)))
+
+pub AreCounts-start : (disks : ℕ) (stops : List DiskId) → AreCounts disks (take 0 stops) (replicate disks 0)
+AreCounts-start disks stops = record { len = length-replicate disks 0; counted = λ v h. get_or-replicate disks v 0 0 h }
+
+pub AreCounts-more : (disks : ℕ) (stops : List DiskId) (counts : List ℕ) (i n : ℕ) → i < length stops → disk_at stops i < disks → n ≡ get_or counts (disk_at stops i) 0 + 1 → AreCounts disks (take i stops) counts → AreCounts disks (take (i + 1) stops) (set counts (disk_at stops i) n)
+AreCounts-more disks stops counts i n h there is_n a =
+    record {
+      len = length-set counts (disk_at stops i) n ∙ a.len;
+      counted = λ v hv. elim (cases_eq v (disk_at stops i)) [
+        | inl e ↦ subst (λ m. get_or (set counts (disk_at stops i) n) m 0 ≡ count_of m (take (i + 1) stops)) (sym e)
+            (get_or-set_same counts (disk_at stops i) n 0 (omega (arith, there, a.len)) ∙ is_n ∙ omega (arith, a.counted (disk_at stops i) there, count_of_same stops i (disk_at stops i) h refl))
+        | inr ne ↦ get_or-set_other counts (disk_at stops i) v n 0 ne ∙ a.counted v hv ∙ sym (count_of_other stops i v h ne)
+      ];
+    }
+
+pub AreCounts-few : (disks : ℕ) (stops : List DiskId) (counts : List ℕ) (i v : ℕ) → v < disks → AreCounts disks (take i stops) counts → get_or counts v 0 ≤ length (take i stops)
+AreCounts-few disks stops counts i v h a = omega (arith, a.counted v h, count_by-le-length (λ (d : DiskId). eqb d.0 v) (take i stops))
+
+-- all disks together have no more ends than there are
+pub counts_total : (disks : ℕ) (stops : List DiskId) (counts : List ℕ) → AreCounts disks stops counts → sum counts ≤ length stops
+counts_total disks stops counts a =
+    let n = disks in
+    let f : ℕ → DiskId → ℕ = λ v d. one (eqb d.0 v) in
+    let e : counts ≡ map (λ v. count_of v stops) (range_with_len 0 n) = fill_by_all (λ v. count_of v stops) counts n 0 a.len (λ v h. a.counted v h) in
+    let total : sum counts ≡ sum_by (λ v. count_of v stops) (range_with_len 0 n) = ap (λ (xs : List ℕ). sum xs) e ∙ sum-map (λ v. count_of v stops) (range_with_len 0 n) in
+    let turned = sum_by-swap f (range_with_len 0 n) stops in
+    let most = sum_by-le (λ (d : DiskId). sum_by (λ v. f v d) (range_with_len 0 n)) 1 stops (λ k d h. once (get_or stops k d).0 n) in
+    omega (arith, total, turned, most)
+  where
+    at : (n k d : ℕ) → k < n → get_or (range_with_len 0 n) k d ≡ k
+    at n k d h = omega (arith, get_or-range_with_len 0 n k d h)
+
+    both : (w i j : ℕ) → i < j → eqb w i ≡ true → eqb w j ≡ true → ⊥
+    both w i j h e f = absurd (grind (arith, nat_tests))
+
+    once : (w n : ℕ) → count_by (λ v. eqb w v) (range_with_len 0 n) ≤ 1
+    once w n = count_by-le-one (λ v. eqb w v) (range_with_len 0 n) (λ i j d l h p q.
+        let len = length-range_with_len 0 n in
+        both w i j l (subst (λ m. eqb w m ≡ true) (at n i d (omega (arith, l, h, len))) p) (subst (λ m. eqb w m ≡ true) (at n j d (omega (arith, h, len))) q))

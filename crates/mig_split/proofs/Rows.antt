@@ -1,0 +1,108 @@
+-- Decks side by side.
+use Rattle.std.proofs.Common.{◌≡◌, ◌≢◌, ℕ, ◌+◌, ◌-◌, ◌*◌, ◌<◌, ◌≤◌, inl, inr, refl, sym, ap, ◌∙◌, subst, List, [], ◌∷◌, ◌++◌, cond, eqb, length, take, get_or, replicate, arith, eq-eqb}
+use Rattle.std.proofs.lemmas.List.{length-replicate, get_or-replicate, length-append, get_or_append_left, get_or-append_right, get_or_push, length-take-le, get_or-take, get_or_past}
+use Rattle.std.proofs.lemmas.List.Sums.{sum_by-append, sum_by_more}
+use Rattle.std.proofs.lemmas.List.Folds.{sum_by-replicate}
+use Rattle.std.proofs.lemmas.Grind.{div_ceil_times}
+use Rattle.std.proofs.lemmas.Bool.{cases_eq, cases_lt, ne_eqb}
+use Rattle.std.proofs.Math.Nat.{mul-le-mul_left}
+use Rattle.mig_base.specs.declared.ids.DiskId.{DiskId}
+use Rattle.mig_base.specs.Transfers.{div_ceil}
+use Rattle.mig_split.specs.declared.decks.Deck.{Deck}
+use Rattle.mig_split.specs.Dealing.{count_of, disk_at}
+use Rattle.mig_split.specs.Decks.{AreDecks, AreFresh, deck_at, no_deck}
+
+pub AreDecks-start : (q : ℕ) (counts : List ℕ) → AreDecks q (take 0 counts) [] []
+AreDecks-start q counts =
+    record {
+      len = refl;
+      number = λ v h. absurd (omega arith);
+      inside = λ v h. absurd (omega arith);
+      home = λ v j h. absurd (omega arith);
+      deck = λ k h. absurd (omega arith);
+      number_of = λ v h. absurd (omega arith);
+      none_of = λ v h. refl;
+      room = omega arith;
+      few = omega arith;
+    }
+
+-- a list of disks with one more deck's places
+one_of : (v n : ℕ) (homes : List DiskId) → count_of v (homes ++ replicate n (record { 0 = v })) ≡ count_of v homes + n
+one_of v n homes =
+    let D : DiskId = record { 0 = v } in
+    let f : DiskId → ℕ = λ d. cond (eqb d.0 v) 1 0 in
+    let here : f D ≡ 1 = ap (λ b. cond b 1 0) (eq-eqb v v refl) in
+    omega (arith, sum_by-append f homes (replicate n D), sum_by-replicate f n D, ap (λ m. n * m) here)
+
+other_of : (v w n : ℕ) (homes : List DiskId) → v ≢ w → count_of v (homes ++ replicate n (record { 0 = w })) ≡ count_of v homes
+other_of v w n homes ne =
+    let D : DiskId = record { 0 = w } in
+    let f : DiskId → ℕ = λ d. cond (eqb d.0 v) 1 0 in
+    let here : f D ≡ 0 = ap (λ b. cond b 1 0) (ne_eqb w v (λ x. ne (sym x))) in
+    omega (arith, sum_by-append f homes (replicate n D), sum_by-replicate f n D, ap (λ m. n * m) here)
+
+at_old : (homes : List DiskId) (w n k : ℕ) → k < length homes → disk_at (homes ++ replicate n (record { 0 = w })) k ≡ disk_at homes k
+at_old homes w n k h = ap (λ (d : DiskId). d.0) (get_or_append_left homes (replicate n (record { 0 = w })) (record { 0 = 0 }) k h)
+
+at_new : (homes : List DiskId) (w n k : ℕ) → length homes ≤ k → k < length homes + n → disk_at (homes ++ replicate n (record { 0 = w })) k ≡ w
+at_new homes w n k h l =
+    let D : DiskId = record { 0 = w } in
+    ap (λ (d : DiskId). d.0) (get_or-append_right homes (replicate n D) (length homes) k (record { 0 = 0 }) refl h ∙ get_or-replicate n (k - length homes) D (record { 0 = 0 }) (omega arith))
+
+deck_old : (decks : List Deck) (deck : Deck) (v : ℕ) → v < length decks → deck_at (decks ++ deck ∷ []) v ≡ deck_at decks v
+deck_old decks deck v h = get_or_append_left decks (deck ∷ []) no_deck v h
+
+deck_new : (decks : List Deck) (deck : Deck) (v : ℕ) → length decks ≡ v → deck_at (decks ++ deck ∷ []) v ≡ deck
+deck_new decks deck v h = get_or_push decks deck no_deck v h
+
+pub AreDecks-more : (q : ℕ) (counts : List ℕ) (decks : List Deck) (homes : List DiskId) (i : ℕ) (deck : Deck) → 1 ≤ q → i < length counts → deck.first ≡ length homes → deck.count ≡ div_ceil (get_or counts i 0) q → AreDecks q (take i counts) decks homes → AreDecks q (take (i + 1) counts) (decks ++ deck ∷ []) (homes ++ replicate deck.count (record { 0 = i }))
+AreDecks-more q counts decks homes i deck pos h is_first is_count a =
+    let now = length-take-le i counts (omega arith) in
+    let then' = length-take-le (i + 1) counts (omega arith) in
+    let long : length (homes ++ replicate deck.count (record { 0 = i })) ≡ length homes + deck.count = length-append homes (replicate deck.count (record { 0 = i })) ∙ ap (λ m. length homes + m) (length-replicate deck.count (record { 0 = i })) in
+    let D = decks ++ deck ∷ [] in
+    let H = homes ++ replicate deck.count (record { 0 = i }) in
+    let total = sum_by_more (λ (x : ℕ). x) counts i 0 h in
+    let most = (div_ceil_times (get_or counts i 0) q pos).1 in
+    record {
+      len = length-append decks (deck ∷ []) ∙ omega (arith, a.len, now, then');
+      number = λ v hv. elim (cases_eq v i) [
+        | inl e ↦ ap (λ (x : Deck). x.count) (deck_new decks deck v (omega (arith, a.len, now, e))) ∙ is_count ∙ ap (λ m. div_ceil m q) (sym (get_or-take (i + 1) counts v 0 (omega (arith, hv, then')) ∙ ap (λ m. get_or counts m 0) e))
+        | inr ne ↦ ap (λ (x : Deck). x.count) (deck_old decks deck v (omega (arith, a.len, now, hv, then', ne))) ∙ a.number v (omega (arith, now, hv, then', ne)) ∙ ap (λ m. div_ceil m q) (get_or-take i counts v 0 (omega (arith, hv, then', ne)) ∙ sym (get_or-take (i + 1) counts v 0 (omega (arith, hv, then'))))
+      ];
+      inside = λ v hv. elim (cases_eq v i) [
+        | inl e ↦ subst (λ (x : Deck). x.first + x.count ≤ length H) (sym (deck_new decks deck v (omega (arith, a.len, now, e)))) (omega (arith, is_first, long))
+        | inr ne ↦ subst (λ (x : Deck). x.first + x.count ≤ length H) (sym (deck_old decks deck v (omega (arith, a.len, now, hv, then', ne)))) (omega (arith, a.inside v (omega (arith, now, hv, then', ne)), long))
+      ];
+      home = λ v j hv. elim (cases_eq v i) [
+        | inl e ↦ subst (λ (x : Deck). j < x.count → disk_at H (x.first + j) ≡ v) (sym (deck_new decks deck v (omega (arith, a.len, now, e)))) (λ hj. at_new homes i deck.count (deck.first + j) (omega (arith, is_first)) (omega (arith, is_first, hj)) ∙ sym e)
+        | inr ne ↦ subst (λ (x : Deck). j < x.count → disk_at H (x.first + j) ≡ v) (sym (deck_old decks deck v (omega (arith, a.len, now, hv, then', ne)))) (λ hj. at_old homes i deck.count ((deck_at decks v).first + j) (omega (arith, hj, a.inside v (omega (arith, now, hv, then', ne)))) ∙ a.home v j (omega (arith, now, hv, then', ne)) hj)
+      ];
+      deck = λ k hk. elim (cases_lt k (length homes)) [
+        | inl l ↦ (let old = a.deck k l in
+            let w = disk_at homes k in
+            subst (λ u. (u < length (take (i + 1) counts)) × ((deck_at D u).first ≤ k) × (k < (deck_at D u).first + (deck_at D u).count)) (sym (at_old homes i deck.count k l))
+            (omega (arith, old.0, now, then'), subst (λ (x : Deck). x.first ≤ k) (sym (deck_old decks deck w (omega (arith, a.len, old.0)))) old.1, subst (λ (x : Deck). k < x.first + x.count) (sym (deck_old decks deck w (omega (arith, a.len, old.0)))) old.2))
+        | inr l ↦ subst (λ u. (u < length (take (i + 1) counts)) × ((deck_at D u).first ≤ k) × (k < (deck_at D u).first + (deck_at D u).count)) (sym (at_new homes i deck.count k l (omega (arith, hk, long))))
+            (omega (arith, then'), subst (λ (x : Deck). x.first ≤ k) (sym (deck_new decks deck i (omega (arith, a.len, now)))) (omega (arith, is_first, l)), subst (λ (x : Deck). k < x.first + x.count) (sym (deck_new decks deck i (omega (arith, a.len, now)))) (omega (arith, is_first, hk, long)))
+      ];
+      number_of = λ v hv. elim (cases_eq v i) [
+        | inl e ↦ subst (λ m. count_of m H ≡ (deck_at D m).count) (sym e) (one_of i deck.count homes ∙ omega (arith, a.none_of i (omega (arith, now)), ap (λ (x : Deck). x.count) (deck_new decks deck i (omega (arith, a.len, now)))))
+        | inr ne ↦ other_of v i deck.count homes ne ∙ a.number_of v (omega (arith, now, hv, then', ne)) ∙ ap (λ (x : Deck). x.count) (sym (deck_old decks deck v (omega (arith, a.len, now, hv, then', ne))))
+      ];
+      none_of = λ v hv. other_of v i deck.count homes (λ e. absurd (omega (arith, e, hv, then'))) ∙ a.none_of v (omega (arith, now, hv, then'));
+      room = omega (arith, long, total, most, is_count, a.room, now, then', ap (λ m. m * q) long, ap (λ m. m * q) then', ap (λ m. m * q) now, ap (λ m. m * q) is_count);
+      few = omega (arith, long, total, a.few, is_count, ceil_le (get_or counts i 0) q pos);
+    }
+  where
+    ceil_le : (n q : ℕ) → 1 ≤ q → div_ceil n q ≤ n
+    ceil_le n q p = Rattle.mig_base.proofs.Counting.div_ceil-le n q n p (omega (arith, mul-le-mul_left n p))
+
+pub AreFresh-more : (decks : List Deck) (deck : Deck) → deck.next ≡ 0 → AreFresh decks → AreFresh (decks ++ deck ∷ [])
+AreFresh-more decks deck e a v = elim (cases_lt v (length decks)) [
+  | inl l ↦ ap (λ (x : Deck). x.next) (deck_old decks deck v l) ∙ a v
+  | inr l ↦ elim (cases_eq v (length decks)) [
+    | inl s ↦ ap (λ (x : Deck). x.next) (deck_new decks deck v (sym s)) ∙ e
+    | inr ne ↦ ap (λ (x : Deck). x.next) (get_or_past (decks ++ deck ∷ []) v no_deck (omega (arith, l, ne, length-append decks (deck ∷ []))))
+  ]
+]

@@ -1,0 +1,190 @@
+-- Dealing from decks in turn.
+use Rattle.std.proofs.Common.{◌≡◌, ◌≢◌, ℕ, suc, zero, ◌+◌, ◌-◌, ◌*◌, ◌<◌, ◌≤◌, inl, inr, refl, sym, ap, ◌∙◌, subst, List, [], ◌∷◌, ◌++◌, Bool, true, false, cond, eqb, ltb, length, take, set, arith, sum, eq-eqb}
+use Rattle.std.proofs.lemmas.List.{get_or-set_same, get_or-set_other, length-set, length-append, get_or_append_left, get_or_push, get_or_default, take_all}
+use Rattle.std.proofs.lemmas.List.Sums.{sum_by_push, get_or-le-sum_by}
+use Rattle.std.proofs.lemmas.Grind.{div_ceil_times}
+use Rattle.std.proofs.lemmas.Bool.{cases_eq, cases_lt, ne_eqb}
+use Rattle.std.proofs.lemmas.Bool.Decides.{nat_tests}
+use Rattle.std.proofs.Math.Nat.{mul-le-mul_left}
+use Rattle.mig_base.specs.declared.ids.DiskId.{DiskId}
+use Rattle.mig_base.specs.declared.ids.CopyId.{CopyId}
+use Rattle.mig_base.specs.Transfers.{div_ceil}
+use Rattle.mig_split.specs.declared.decks.Deck.{Deck}
+use Rattle.mig_split.specs.Dealing.{count_of, count_at, disk_at, IsDealt}
+use Rattle.mig_split.specs.Decks.{AreCounts, AreDecks, AreFresh, IsTurn, IsDealing, deck_at, no_deck}
+use Rattle.mig_split.proofs.Counts.{count_of_same, count_of_other}
+
+pub record IsNext (deck next : Deck) : Type 0 where
+  pub first : next.first ≡ deck.first
+  pub count : next.count ≡ deck.count
+  pub next_is : next.next ≡ cond (eqb (deck.next + 1) deck.count) 0 (deck.next + 1)
+
+same_deck : (decks : List Deck) (v : ℕ) (next : Deck) → v < length decks → IsNext (deck_at decks v) next → (w : ℕ) → ((deck_at (set decks v next) w).first ≡ (deck_at decks w).first) × ((deck_at (set decks v next) w).count ≡ (deck_at decks w).count)
+same_deck decks v next h n w = elim (cases_eq w v) [
+  | inl e ↦ subst (λ u. ((deck_at (set decks v next) u).first ≡ (deck_at decks u).first) × ((deck_at (set decks v next) u).count ≡ (deck_at decks u).count)) (sym e)
+      (ap (λ (x : Deck). x.first) (get_or-set_same decks v next no_deck h) ∙ n.first, ap (λ (x : Deck). x.count) (get_or-set_same decks v next no_deck h) ∙ n.count)
+  | inr ne ↦ (ap (λ (x : Deck). x.first) (get_or-set_other decks v w next no_deck ne), ap (λ (x : Deck). x.count) (get_or-set_other decks v w next no_deck ne))
+]
+
+pub AreDecks-set : (q : ℕ) (counts : List ℕ) (decks : List Deck) (homes : List DiskId) (v : ℕ) (next : Deck) → v < length decks → IsNext (deck_at decks v) next → AreDecks q counts decks homes → AreDecks q counts (set decks v next) homes
+AreDecks-set q counts decks homes v next h n a =
+    let same = same_deck decks v next h n in
+    record {
+      len = length-set decks v next ∙ a.len;
+      number = λ w hw. (same w).1 ∙ a.number w hw;
+      inside = λ w hw. omega (arith, same w, a.inside w hw);
+      home = λ w j hw hj. ap (λ m. disk_at homes (m + j)) (same w).0 ∙ a.home w j hw (omega (arith, same w, hj));
+      deck = λ k hk. ((a.deck k hk).0, omega (arith, same (disk_at homes k), a.deck k hk), omega (arith, same (disk_at homes k), a.deck k hk));
+      number_of = λ w hw. a.number_of w hw ∙ sym (same w).1;
+      none_of = a.none_of;
+      room = a.room;
+      few = a.few;
+    }
+
+count_push : (copies : List CopyId) (c k : ℕ) → count_at k (copies ++ record { 0 = c } ∷ []) ≡ count_at k copies + cond (eqb c k) 1 0
+count_push copies c k = sum_by_push (λ (x : CopyId). cond (eqb x.0 k) 1 0) copies (record { 0 = c })
+
+last_one : (first next j t : ℕ) → j < next + 1 → (t + cond (ltb j next) 1 0) + cond (eqb (first + next) (first + j)) 1 0 ≡ (t + 1) + cond (ltb j 0) 1 0
+last_one first next j t h = grind (arith, nat_tests)
+
+one_more : (first next j t : ℕ) → (t + cond (ltb j next) 1 0) + cond (eqb (first + next) (first + j)) 1 0 ≡ t + cond (ltb j (next + 1)) 1 0
+one_more first next j t = grind (arith, nat_tests)
+
+next_full : (n c m : ℕ) → n + 1 ≡ c → m ≡ cond (eqb (n + 1) c) 0 (n + 1) → m ≡ 0
+next_full n c m e h = grind (arith, nat_tests)
+
+next_part : (n c m : ℕ) → n + 1 ≢ c → m ≡ cond (eqb (n + 1) c) 0 (n + 1) → m ≡ n + 1
+next_part n c m e h = grind (arith, nat_tests)
+
+IsTurn-more : (deck next : Deck) (dealt more : ℕ) (copies : List CopyId) → 0 < deck.count → IsNext deck next → more ≡ dealt + 1 → IsTurn deck dealt copies → IsTurn next more (copies ++ record { 0 = deck.first + deck.next } ∷ [])
+IsTurn-more deck next dealt more copies pos n is_more t = elim (cases_eq (deck.next + 1) deck.count) [
+  | inl e ↦ (let z = next_full deck.next deck.count next.next e n.next_is in
+      record {
+        turns = t.turns + 1;
+        total = omega (arith, is_more, t.total, z, n.count, e, ap (λ m. (t.turns + 1) * m) n.count);
+        next_in = λ p. omega (arith, z, n.count, pos);
+        ends = λ j hj. ap (λ m. count_at (m + j) (copies ++ record { 0 = deck.first + deck.next } ∷ [])) n.first ∙ count_push copies (deck.first + deck.next) (deck.first + j) ∙ ap (λ m. m + cond (eqb (deck.first + deck.next) (deck.first + j)) 1 0) (t.ends j (omega (arith, hj, n.count))) ∙ last_one deck.first deck.next j t.turns (omega (arith, hj, n.count, e)) ∙ ap (λ m. (t.turns + 1) + cond (ltb j m) 1 0) (sym z);
+      })
+  | inr ne ↦ (let z = next_part deck.next deck.count next.next ne n.next_is in
+      record {
+        turns = t.turns;
+        total = omega (arith, is_more, t.total, z, n.count, ap (λ m. t.turns * m) n.count);
+        next_in = λ p. omega (arith, z, n.count, t.next_in pos, ne);
+        ends = λ j hj. ap (λ m. count_at (m + j) (copies ++ record { 0 = deck.first + deck.next } ∷ [])) n.first ∙ count_push copies (deck.first + deck.next) (deck.first + j) ∙ ap (λ m. m + cond (eqb (deck.first + deck.next) (deck.first + j)) 1 0) (t.ends j (omega (arith, hj, n.count))) ∙ one_more deck.first deck.next j t.turns ∙ ap (λ m. t.turns + cond (ltb j m) 1 0) (sym z);
+      })
+]
+
+IsTurn-same : (deck : Deck) (dealt more : ℕ) (copies : List CopyId) (c : ℕ) → ((j : ℕ) → j < deck.count → c ≢ deck.first + j) → more ≡ dealt → IsTurn deck dealt copies → IsTurn deck more (copies ++ record { 0 = c } ∷ [])
+IsTurn-same deck dealt more copies c apart is_more t =
+    record {
+      turns = t.turns;
+      total = is_more ∙ t.total;
+      next_in = t.next_in;
+      ends = λ j hj. count_push copies c (deck.first + j) ∙ omega (arith, ap {B = ℕ} (λ b. cond b 1 0) (ne_eqb c (deck.first + j) (apart j hj)), t.ends j hj);
+    }
+
+-- a deck with an end to deal has a copy
+pub some_copy : (q : ℕ) (counts : List ℕ) (decks : List Deck) (homes stops : List DiskId) (i : ℕ) → 1 ≤ q → i < length stops → disk_at stops i < length decks → AreCounts (length decks) stops counts → AreDecks q counts decks homes → 0 < (deck_at decks (disk_at stops i)).count
+some_copy q counts decks homes stops i pos h there counted a =
+    let v = disk_at stops i in
+    let some : 1 ≤ count_of v stops = omega (arith, get_or-le-sum_by (λ (d : DiskId). cond (eqb d.0 v) 1 0) stops i (record { 0 = 0 }) h, ap {B = ℕ} (λ b. cond b 1 0) (eq-eqb v v refl)) in
+    not_zero (count_of v stops) q (deck_at decks v).count pos some (a.number v (omega (arith, there, a.len)) ∙ ap (λ n. div_ceil n q) (counted.counted v there))
+  where
+    not_zero : (n q d : ℕ) → 1 ≤ q → 1 ≤ n → d ≡ div_ceil n q → 0 < d
+    not_zero n q zero p h e = absurd (omega (arith, (div_ceil_times n q p).0, ap (λ m. m * q) e))
+    not_zero n q (suc d) p h e = omega arith
+
+pub IsDealing-more : (q : ℕ) (counts : List ℕ) (decks : List Deck) (homes stops : List DiskId) (copies : List CopyId) (i : ℕ) (next : Deck) → length copies ≡ i → i < length stops → disk_at stops i < length decks → 0 < (deck_at decks (disk_at stops i)).count → AreDecks q counts decks homes → IsNext (deck_at decks (disk_at stops i)) next → IsDealing stops homes decks copies →
+    IsDealing stops homes (set decks (disk_at stops i) next) (copies ++ record { 0 = (deck_at decks (disk_at stops i)).first + (deck_at decks (disk_at stops i)).next } ∷ [])
+IsDealing-more q counts decks homes stops copies i next len h within pos a n x =
+    let v = disk_at stops i in
+    let deck = deck_at decks v in
+    let c = deck.first + deck.next in
+    let new = copies ++ record { 0 = c } ∷ [] in
+    let small : deck.next < deck.count = (x.turn v within).next_in pos in
+    let hv : v < length counts = omega (arith, within, a.len) in
+    let long : length new ≡ i + 1 = length-append copies (record { 0 = c } ∷ []) ∙ omega (arith, len) in
+    let here : disk_at homes c ≡ v = a.home v deck.next hv small in
+    record {
+      there = λ k hk. elim (cases_lt k (length copies)) [
+        | inl l ↦ subst (λ m. m < length homes) (sym (ap (λ (y : CopyId). y.0) (get_or_append_left copies (record { 0 = c } ∷ []) (record { 0 = 0 }) k l))) (x.there k l)
+        | inr l ↦ subst (λ m. m < length homes) (sym (ap (λ (y : CopyId). y.0) (get_or_push copies (record { 0 = c }) (record { 0 = 0 }) k (omega (arith, l, hk, long, len))))) (omega (arith, small, a.inside v hv))
+      ];
+      home = λ k hk. elim (cases_lt k (length copies)) [
+        | inl l ↦ ap (λ (y : CopyId). disk_at homes y.0) (get_or_append_left copies (record { 0 = c } ∷ []) (record { 0 = 0 }) k l) ∙ x.home k l
+        | inr l ↦ ap (λ (y : CopyId). disk_at homes y.0) (get_or_push copies (record { 0 = c }) (record { 0 = 0 }) k (omega (arith, l, hk, long, len))) ∙ here ∙ ap (disk_at stops) (omega (arith, l, hk, long, len))
+      ];
+      turn = λ w hw. subst (λ m. IsTurn (deck_at (set decks v next) w) (count_of w (take m stops)) new) (sym long) (elim (cases_eq w v) [
+        | inl e ↦ subst (λ u. IsTurn (deck_at (set decks v next) u) (count_of u (take (i + 1) stops)) new) (sym e)
+            (subst (λ (y : Deck). IsTurn y (count_of v (take (i + 1) stops)) new) (sym (get_or-set_same decks v next no_deck within))
+            (IsTurn-more deck next (count_of v (take i stops)) (count_of v (take (i + 1) stops)) copies pos n (count_of_same stops i v h refl) (subst (λ m. IsTurn deck (count_of v (take m stops)) copies) len (x.turn v within))))
+        | inr ne ↦ subst (λ (y : Deck). IsTurn y (count_of w (take (i + 1) stops)) new) (sym (get_or-set_other decks v w next no_deck ne))
+            (IsTurn-same (deck_at decks w) (count_of w (take i stops)) (count_of w (take (i + 1) stops)) copies c
+            (λ j hj e. ne (sym (a.home w j (omega (arith, hw, a.len, length-set decks v next)) hj) ∙ ap (disk_at homes) (sym e) ∙ here))
+            (count_of_other stops i w h ne) (subst (λ m. IsTurn (deck_at decks w) (count_of w (take m stops)) copies) len (x.turn w (omega (arith, hw, length-set decks v next)))))
+      ]);
+    }
+
+pub IsDealing-start : (stops homes : List DiskId) (decks : List Deck) → AreFresh decks → IsDealing stops homes decks []
+IsDealing-start stops homes decks fresh =
+    record {
+      there = λ i h. absurd (omega arith);
+      home = λ i h. absurd (omega arith);
+      turn = λ v h. record { turns = 0; total = omega (arith, fresh v); next_in = λ p. omega (arith, fresh v, p); ends = λ j hj. none_dealt j (deck_at decks v).next (fresh v) };
+    }
+  where
+    none_dealt : (j n : ℕ) → n ≡ 0 → 0 ≡ 0 + cond (ltb j n) 1 0
+    none_dealt j n e = grind (arith, nat_tests)
+
+-- after all ends, no copy has more than q
+most_turns : (q load count next turns : ℕ) → 0 < count → next < count → load ≡ turns * count + next → load ≤ count * q → (j : ℕ) → turns + cond (ltb j next) 1 0 ≤ q
+most_turns q load count next turns pos small total most j = elim (cases_lt q (turns + cond (ltb j next) 1 0)) [
+  | inr l ↦ l
+  | inl l ↦ elim (cases_lt j next) [
+    | inl a ↦ absurd (omega (arith, total, most, mul-le-mul_left count (up q turns (ltb j next) l), a))
+    | inr a ↦ absurd (omega (arith, total, most, mul-le-mul_left count (past q turns j next a l), pos))
+  ]
+]
+  where
+    up : (q t : ℕ) (b : Bool) → q < t + cond b 1 0 → q ≤ t
+    up q t true h = omega arith
+    up q t false h = omega arith
+
+    past : (q t j next : ℕ) → next ≤ j → q < t + cond (ltb j next) 1 0 → q + 1 ≤ t
+    past q t j next a h = grind (arith, nat_tests)
+
+most_at : (q : ℕ) (deck : Deck) (load : ℕ) (copies : List CopyId) (j k : ℕ) → j < deck.count → deck.first + j ≡ k → load ≤ deck.count * q → IsTurn deck load copies → count_at k copies ≤ q
+most_at q deck load copies j k hj e most t =
+    subst (λ m. count_at m copies ≤ q) e (omega (arith, t.ends j hj, most_turns q load deck.count deck.next t.turns (omega (arith, hj)) (t.next_in (omega (arith, hj))) t.total most j))
+
+pub IsDealt-all : (q : ℕ) (counts : List ℕ) (decks : List Deck) (homes stops : List DiskId) (copies : List CopyId) → 1 ≤ q → length counts ≡ length decks → sum counts ≤ length stops → AreCounts (length decks) stops counts → AreDecks q counts decks homes → IsDealing stops homes decks copies → length copies ≡ length stops → IsDealt q (length decks) stops homes copies
+IsDealt-all q counts decks homes stops copies pos same total counted a x len =
+    record {
+      one_each = len;
+      there = λ k d hk. subst (λ (y : CopyId). y.0 < length homes) (get_or_default copies k (record { 0 = 0 }) d hk) (x.there k hk);
+      home = λ k hk. x.home k (omega (arith, hk, len));
+      number = λ v hv. a.number_of v (omega (arith, hv, same)) ∙ a.number v (omega (arith, hv, same)) ∙ ap (λ n. div_ceil n q) (counted.counted v hv);
+      most = λ k hk.
+          (let at = a.deck k hk in
+          let v = disk_at homes k in
+          let deck = deck_at decks v in
+          let within : v < length decks = omega (arith, at, same) in
+          most_at q deck (count_of v stops) copies (k - deck.first) k (omega (arith, at)) (omega (arith, at))
+          (omega (arith, (div_ceil_times (count_of v stops) q pos).0, ap (λ m. m * q) (a.number v at.0), ap (λ n. div_ceil n q * q) (counted.counted v within)))
+          (subst (λ (ss : List DiskId). IsTurn deck (count_of v ss) copies) (take_all (length copies) stops (omega (arith, len))) (x.turn v within)));
+      homes_there = λ k d hk. subst (λ (y : DiskId). y.0 < length decks) (get_or_default homes k (record { 0 = 0 }) d hk) (omega (arith, a.deck k hk, same));
+      room = omega (arith, a.room, total, ap (λ m. m * q) same);
+      few = omega (arith, a.few, total);
+    }
+
+-- the next copy of an end's disk is there
+pub record IsNextCopy (deck : Deck) (homes : ℕ) : Type 0 where
+  pub small : deck.next < deck.count
+  pub there : deck.first + deck.next < homes
+
+pub next_copy : (q : ℕ) (counts : List ℕ) (decks : List Deck) (homes stops : List DiskId) (copies : List CopyId) (i : ℕ) (deck : Deck) → 1 ≤ q → i < length stops → disk_at stops i < length decks → AreCounts (length decks) stops counts → AreDecks q counts decks homes → IsDealing stops homes decks copies → deck ≡ deck_at decks (disk_at stops i) → IsNextCopy deck (length homes)
+next_copy q counts decks homes stops copies i deck pos h within counted a x is =
+    let v = disk_at stops i in
+    let some = some_copy q counts decks homes stops i pos h within counted a in
+    let small = (x.turn v within).next_in some in
+    subst (λ (d : Deck). IsNextCopy d (length homes)) (sym is) (record { small = small; there = omega (arith, small, a.inside v (omega (arith, within, a.len))) })

@@ -1,0 +1,7 @@
+use Rattle.std.proofs.Common.{◌≡◌, ◌<◌, ◌+◌, ℕ, length}
+use Rattle.mig_split.specs.Dealing.{copy_at}
+use Rattle.mig_split.specs.Copies.{first_of, second_of}
+use Rattle.mig_split.proofs.ends.pair_up.Given as goal
+
+abbrev pub invariant-loop-place : goal.invariant-loop-place
+invariant-loop-place l = record { len : length l.ends.items ≡ l.place; first : (e : ℕ) → e < l.place → first_of l.ends.items e ≡ copy_at l.firsts e; second : (e : ℕ) → e < l.place → second_of l.ends.items e ≡ l.fn.from + copy_at l.seconds e }

@@ -1,0 +1,52 @@
+-- Copies of disks as the nodes of a graph.
+use Rattle.std.specs.Prelude.{◌≡◌, ℕ, ◌+◌, ◌*◌, ◌<◌, ◌≤◌, List, Bool, length, take, drop, slice_index_or}
+use Rattle.mig_base.specs.declared.ids.DiskId.{DiskId}
+use Rattle.mig_base.specs.declared.ids.CopyId.{CopyId}
+use Rattle.mig_base.specs.Transfers.{Trip, div_ceil, load}
+use Rattle.mig_base.specs.Transfers.{Transfers}
+use Rattle.mig_base.specs.Ends.{ends_at}
+use Rattle.mig_base.specs.Directions.{tail_of, head_of, trip_at, is_forward, out_of, in_of}
+use Rattle.mig_split.specs.Dealing.{count_of, disk_at, copy_at}
+
+abbrev pub first_of : List (CopyId × CopyId) → ℕ → ℕ
+first_of ends e = (slice_index_or ends e (record { 0 = 0 }, record { 0 = 0 })).0.0
+
+abbrev pub second_of : List (CopyId × CopyId) → ℕ → ℕ
+second_of ends e = (slice_index_or ends e (record { 0 = 0 }, record { 0 = 0 })).1.0
+
+-- the disks that the edges leave by their directions, and those that they enter
+pub record AreTails (trips : List Trip) (directions : List Bool) (disks : List DiskId) : Type 0 where
+  pub len : length disks ≡ length trips
+  pub known : (k : ℕ) → k < length trips → disk_at disks k ≡ tail_of (trip_at trips k) (is_forward directions k)
+
+pub record AreHeads (trips : List Trip) (directions : List Bool) (disks : List DiskId) : Type 0 where
+  pub len : length disks ≡ length trips
+  pub known : (k : ℕ) → k < length trips → disk_at disks k ≡ head_of (trip_at trips k) (is_forward directions k)
+
+-- Each edge joins a copy of the disk that it leaves with one of the disk that it reaches; a disk has as few copies as q ends for each allow.
+pub record AreCopies (q : ℕ) (graph : Transfers) (ends : List (CopyId × CopyId)) (homes : List DiskId) : Type 0 where
+  pub one_each : length ends ≡ length graph.trips
+  pub there : (e : ℕ) → e < length ends → (first_of ends e < length homes) × (second_of ends e < length homes)
+  pub first : (e : ℕ) → e < length ends → disk_at homes (first_of ends e) ≡ (trip_at graph.trips e).leaves
+  pub second : (e : ℕ) → e < length ends → disk_at homes (second_of ends e) ≡ (trip_at graph.trips e).reaches
+  pub number : (v : ℕ) → v < length graph.disks → count_of v homes ≡ div_ceil (load v graph.trips) q
+  pub most : (k : CopyId) → k.0 < length homes → ends_at k ends ≤ q
+  pub room : length homes * q ≤ 2 * length graph.trips + length graph.disks * q
+  pub few : length homes ≤ 2 * length graph.trips
+
+-- Each edge joins a copy of the disk that it leaves by its direction, below `left`, with one of the disk that it enters, from `left` on.
+pub record AreSides (q : ℕ) (graph : Transfers) (directions : List Bool) (left : ℕ) (ends : List (CopyId × CopyId)) (homes : List DiskId) : Type 0 where
+  pub one_each : length ends ≡ length graph.trips
+  pub there : (e : ℕ) → e < length ends → (first_of ends e < left) × (left ≤ second_of ends e) × (second_of ends e < length homes)
+  pub first : (e : ℕ) → e < length ends → disk_at homes (first_of ends e) ≡ tail_of (trip_at graph.trips e) (is_forward directions e)
+  pub second : (e : ℕ) → e < length ends → disk_at homes (second_of ends e) ≡ head_of (trip_at graph.trips e) (is_forward directions e)
+  pub left_number : (v : ℕ) → v < length graph.disks → count_of v (take left homes) ≡ div_ceil (out_of graph.trips directions v) q
+  pub right_number : (v : ℕ) → v < length graph.disks → count_of v (drop left homes) ≡ div_ceil (in_of graph.trips directions v) q
+  pub most : (k : CopyId) → k.0 < length homes → ends_at k ends ≤ q
+  pub room : length homes * q ≤ 2 * length graph.trips + 2 * (length graph.disks * q)
+  pub few : length homes ≤ 2 * length graph.trips
+
+pub record ArePairs (firsts seconds : List CopyId) (from : ℕ) (ends : List (CopyId × CopyId)) : Type 0 where
+  pub len : length ends ≡ length firsts
+  pub first : (e : ℕ) → e < length firsts → first_of ends e ≡ copy_at firsts e
+  pub second : (e : ℕ) → e < length firsts → second_of ends e ≡ from + copy_at seconds e

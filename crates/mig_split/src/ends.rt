@@ -1,0 +1,61 @@
+//! The ends of edges, by the edges' directions.
+ghost use Rattle.std.specs.Prelude.{◌≡◌, ◌+◌, ◌<◌, ◌^◌, length, All, IfOk};
+ghost use Rattle.mig_split.specs.Copies.{AreTails, AreHeads, ArePairs};
+
+use mig_base::{CopyId, DiskId, EdgeId};
+use mig_graph::Graph;
+use std::alloc::{AllocError, Global};
+
+/// The disk that each edge leaves by its direction.
+pub fn tails_of(
+    alloc: Global,
+    graph: &Graph,
+    directions: &[bool],
+) -> Result<Vec<DiskId>, AllocError>
+    requires { length directions.now ≡ length graph.now.trips }
+    ensures { IfOk result (λ v. AreTails graph.now.trips directions.now v.items) }
+{
+    let mut disks = Vec::with_capacity(alloc, directions.len())?;
+    for edge in 0..graph.edges() {
+        let (source, target) = graph.ends(EdgeId(edge));
+        let forward = directions[edge as usize];
+        disks.push(if forward { source } else { target })?;
+    }
+    Ok(disks)
+}
+
+/// The disk that each edge enters by its direction.
+pub fn heads_of(
+    alloc: Global,
+    graph: &Graph,
+    directions: &[bool],
+) -> Result<Vec<DiskId>, AllocError>
+    requires { length directions.now ≡ length graph.now.trips }
+    ensures { IfOk result (λ v. AreHeads graph.now.trips directions.now v.items) }
+{
+    let mut disks = Vec::with_capacity(alloc, directions.len())?;
+    for edge in 0..graph.edges() {
+        let (source, target) = graph.ends(EdgeId(edge));
+        let forward = directions[edge as usize];
+        disks.push(if forward { target } else { source })?;
+    }
+    Ok(disks)
+}
+
+/// Pairs of copies; the second ones are counted from a first number on.
+pub fn pair_up(
+    alloc: Global,
+    firsts: &[CopyId],
+    seconds: &[CopyId],
+    from: u32,
+) -> Result<Vec<(CopyId, CopyId)>, AllocError>
+    requires same { length firsts.now ≡ length seconds.now }
+    requires fits { All (λ c. from + c.0 < 2 ^ 32) seconds.now }
+    ensures { IfOk result (λ v. ArePairs firsts.now seconds.now from v.items) }
+{
+    let mut ends = Vec::with_capacity(alloc, firsts.len())?;
+    for place in 0..firsts.len() {
+        ends.push((firsts[place], CopyId(from + seconds[place].0)))?;
+    }
+    Ok(ends)
+}

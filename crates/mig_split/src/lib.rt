@@ -1,0 +1,9 @@
+//! Copies of disks, so that no copy has more than a given number of ends.
+#![tactic(auto)]
+
+mod copies;
+mod dealing;
+mod decks;
+mod ends;
+
+pub use copies::{Copies, Sides, split_nodes, split_sides};
