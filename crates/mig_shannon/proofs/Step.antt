@@ -1,0 +1,123 @@
+-- One edge of a board, by a repaint or a walk.
+use Rattle.std.proofs.Common.{◌≡◌, ◌≢◌, ℕ, ◌≤◌, ◌+◌, ◌*◌, inl, inr, refl, sym, ap, subst, ◌∙◌, Some, None, arith}
+use Rattle.std.proofs.lemmas.Option.{slice_get_within}
+use Rattle.mig_base.specs.declared.ids.CopyId.{CopyId}
+use Rattle.mig_base.specs.declared.ids.EdgeId.{EdgeId}
+use Rattle.mig_base.specs.declared.ids.Colour.{Colour}
+use Rattle.mig_board.specs.Colouring.{Colouring, Joins, Leads, IsMissing, IsPresent, IsProper, IsFull, HasNoCommon, IsFreeAt, IsPainted, degree_of, painted_with}
+use Rattle.mig_board.specs.Growth.{IsPlain, PaintsOne}
+use Rattle.mig_board.specs.Walk.{Exchanges, WalksTo, end_of}
+use Rattle.mig_board.proofs.Walks.{end_cases, leads_back, walk_unique}
+use Rattle.mig_board.proofs.Counting.{degree_of_full, degrees_of_three}
+use Rattle.mig_board.proofs.Laws.{exchanges_joins, exchanges_start, exchanges_plain, exchanges_third, repainted_old, repainted_other, same_far, walk_from_end, SameEdges-repainted, PaintsOne-after, PaintsOne-painted}
+use Rattle.mig_shannon.specs.Shift.{CanShift}
+
+pub not_both : (g : Colouring) (v : CopyId) (k : Colour) → IsMissing g v k → IsPresent g v k → ⊥
+not_both g v k m p = m.absent p.0 p.1 p.2
+
+pub hues_differ : (g : Colouring) (v : CopyId) (k l : Colour) → IsPresent g v k → IsMissing g v l → k ≢ l
+hues_differ g v k l p m = λ e. not_both g v l m (subst (λ (q : Colour). IsPresent g v q) e p)
+
+pub other_has : (g : Colouring) (v w : CopyId) (k : Colour) → HasNoCommon g v w → IsMissing g w k → IsPresent g v k
+other_has g v w k none m = elim (none k m.in_range) [ inl h ↦ h | inr h ↦ absurd (not_both g w k m h) ]
+
+pub other_has_too : (g : Colouring) (v w : CopyId) (k : Colour) → HasNoCommon g v w → IsMissing g v k → IsPresent g w k
+other_has_too g v w k none m = elim (none k m.in_range) [ inl h ↦ absurd (not_both g v k m h) | inr h ↦ h ]
+
+pub not_full : (g : Colouring) (v w : CopyId) (e : EdgeId) (most : ℕ) → Joins g e v w → IsPlain g e → degree_of g v ≤ most → most ≤ g.colours → IsFull g v → ⊥
+not_full g v w e most j plain few enough full = absurd (omega (arith, degree_of_full g v w e j plain full))
+
+-- ---- the repaint
+
+pub shift_painted : (g : Colouring) (e f : EdgeId) (a c : Colour) → CanShift g e f a c → IsPainted g f
+shift_painted g e f a c s = (a, s.beside.colour)
+
+pub shift_free : (g : Colouring) (e f : EdgeId) (a c : Colour) → CanShift g e f a c → IsFreeAt g f c
+shift_free g e f a c s = λ v w j.
+    elim (end_cases g f s.second s.third v w s.beside.joins j) [
+      | inl h ↦ subst (λ (q : CopyId). IsMissing g q c) (sym h) s.at_second
+      | inr h ↦ subst (λ (q : CopyId). IsMissing g q c) (sym h) s.at_third
+    ]
+
+shift_differs : (g : Colouring) (e f : EdgeId) (a c : Colour) → CanShift g e f a c → a ≢ c
+shift_differs g e f a c s = hues_differ g s.second a c (f, s.third, s.beside) s.at_second
+
+pub shift_plain : (g : Colouring) (e f : EdgeId) (a c : Colour) → CanShift g e f a c → IsPlain (painted_with g f c) e
+shift_plain g e f a c s = (SameEdges-repainted g f c (a, s.beside.colour)).plain e s.plain
+
+pub shift_free_after : (g : Colouring) (e f : EdgeId) (a c : Colour) → CanShift g e f a c → IsFreeAt (painted_with g f c) e a
+shift_free_after g e f a c s = λ v w j.
+    elim (end_cases g e s.first s.second v w s.joins j) [
+      | inl h ↦ subst (λ (q : CopyId). IsMissing (painted_with g f c) q a) (sym h) (repainted_other g s.first a c f (slice_get_within g.painted f.0 (Some a) s.beside.colour) s.lacks (shift_differs g e f a c s))
+      | inr h ↦ subst (λ (q : CopyId). IsMissing (painted_with g f c) q a) (sym h) (repainted_old g s.proper s.second a c f s.third s.beside (shift_differs g e f a c s))
+    ]
+
+pub shift_done : (g : Colouring) (e f : EdgeId) (a c : Colour) → CanShift g e f a c → PaintsOne g (painted_with (painted_with g f c) e a) e
+shift_done g e f a c s =
+    PaintsOne-after g (painted_with g f c) (painted_with (painted_with g f c) e a) e (SameEdges-repainted g f c (a, s.beside.colour))
+    (PaintsOne-painted (painted_with g f c) e a (slice_get_within (painted_with g f c).painted e.0 None (shift_plain g e f a c s)))
+
+-- ---- the walk
+
+-- edge e has no colour and joins u and v, a is missing at u and b at v, none at both, and edge f of colour a leads from v to w
+pub record IsFan (g : Colouring) (e : EdgeId) (u v : CopyId) (a b : Colour) (f : EdgeId) (w : CopyId) : Type 0 where
+  pub proper : IsProper g
+  pub joins : Joins g e u v
+  pub plain : IsPlain g e
+  pub lacks : IsMissing g u a
+  pub has : IsMissing g v b
+  pub none : HasNoCommon g u v
+  pub beside : Leads g v a f w
+
+fan_first : (g : Colouring) (e : EdgeId) (u v : CopyId) (a b : Colour) (f : EdgeId) (w : CopyId) → IsFan g e u v a b f w → w ≢ u
+fan_first g e u v a b f w x = λ h. x.lacks.absent f v (subst (λ (q : CopyId). Leads g q a f v) h (leads_back x.beside))
+
+fan_second : (g : Colouring) (e : EdgeId) (u v : CopyId) (a b : Colour) (f : EdgeId) (w : CopyId) → IsFan g e u v a b f w → w ≢ v
+fan_second g e u v a b f w x = λ h. x.proper.no_loop f v w x.beside.joins (sym h)
+
+-- some colour is missing at w and also at u, if at none it is at w and at v
+pub fan_common : (g : Colouring) (e : EdgeId) (u v : CopyId) (a b : Colour) (f : EdgeId) (w : CopyId) → IsFan g e u v a b f w → (most : ℕ) → degree_of g u ≤ most → degree_of g v ≤ most → degree_of g w ≤ most → 3 * most ≤ 2 * g.colours + 1 → HasNoCommon g v w → HasNoCommon g u w → ⊥
+fan_common g e u v a b f w x most du dv dw half vw uw =
+    absurd (omega (arith, degrees_of_three g u v w e x.joins x.plain x.none uw vw))
+
+-- ---- the walk from u does not end at v
+
+pub free_by_walk : (g new : Colouring) (e : EdgeId) (u v : CopyId) (a b : Colour) (f : EdgeId) (w : CopyId) → IsFan g e u v a b f w → (c : Colour) (x y : CopyId) → IsMissing g u c → WalksTo g u c b x → x ≢ v → Exchanges g new u c b y → IsFreeAt new e b
+free_by_walk g new e u v a b f w fan c x y mc walk away ex = λ q r j.
+    elim (end_cases g e u v q r fan.joins (exchanges_joins g new u c b y ex e q r j)) [
+      | inl h ↦ subst (λ (z : CopyId). IsMissing new z b) (sym h) (exchanges_start g new u c b y ex mc)
+      | inr h ↦ subst (λ (z : CopyId). IsMissing new z b) (sym h)
+          ((ex.others v b (λ same. fan.proper.no_loop e u v fan.joins (sym same)) (λ same. away (sym (same_far g u c b x walk ex.walk.steps ex.walk.law.walk) ∙ ex.walk.end ∙ sym same))).1 fan.has)
+    ]
+
+-- ---- the walk from u ends at v: the walk from w ends at neither
+
+not_at_first : (g : Colouring) (e : EdgeId) (u v : CopyId) (a b : Colour) (f : EdgeId) (w : CopyId) → IsFan g e u v a b f w → (c : Colour) → IsMissing g u c → WalksTo g u c b v → WalksTo g w c b u → ⊥
+not_at_first g e u v a b f w fan c mc walk back =
+    let r = walk_from_end g w c b u back c b (inl (refl, refl)) mc (other_has g u v b fan.none fan.has) in
+    fan_second g e u v a b f w fan (sym r.2 ∙ same_far g u c b v walk r.0 r.1)
+
+not_at_second : (g : Colouring) (e : EdgeId) (u v : CopyId) (a b : Colour) (f : EdgeId) (w : CopyId) → IsFan g e u v a b f w → (c : Colour) → IsMissing g u c → WalksTo g u c b v → WalksTo g w c b v → ⊥
+not_at_second g e u v a b f w fan c mc walk back =
+    let hc : IsPresent g v c = other_has_too g u v c fan.none mc in
+    let r = walk_from_end g w c b v back b c (inr (refl, refl)) fan.has hc in
+    let s = walk_from_end g u c b v walk b c (inr (refl, refl)) fan.has hc in
+    fan_first g e u v a b f w fan (sym r.2 ∙ ap (end_of v) (walk_unique g fan.proper v b c r.0 s.0 r.1 s.1) ∙ s.2)
+
+pub shift_by_walk : (g new : Colouring) (e : EdgeId) (u v : CopyId) (a b : Colour) (f : EdgeId) (w : CopyId) → IsFan g e u v a b f w → (c : Colour) (x y : CopyId) → IsMissing g u c → IsMissing g w c → WalksTo g u c b x → x ≡ v → Exchanges g new w c b y → IsProper new → CanShift new e f a b
+shift_by_walk g new e u v a b f w fan c x y mc mw walk there ex proper =
+    let to : WalksTo g u c b v = subst (λ (q : CopyId). WalksTo g u c b q) there walk in
+    let not_u : u ≢ y = λ h. not_at_first g e u v a b f w fan c mc to (subst (λ (q : CopyId). WalksTo g w c b q) (sym h) ex.walk) in
+    let not_v : v ≢ y = λ h. not_at_second g e u v a b f w fan c mc to (subst (λ (q : CopyId). WalksTo g w c b q) (sym h) ex.walk) in
+    record {
+      proper = proper;
+      first = u;
+      second = v;
+      third = w;
+      joins = subst (λ (q : Colouring). Joins q e u v) (sym ex.frame) fan.joins;
+      plain = exchanges_plain g new w c b y ex e fan.plain;
+      lacks = (ex.others u a (λ h. fan_first g e u v a b f w fan (sym h)) not_u).1 fan.lacks;
+      beside = exchanges_third g new w c b y ex v a f w (hues_differ g w a c (f, v, leads_back fan.beside) mw) (hues_differ g v a b (f, w, fan.beside) fan.has) fan.beside;
+      at_second = (ex.others v b (λ h. fan_second g e u v a b f w fan (sym h)) not_v).1 fan.has;
+      at_third = exchanges_start g new w c b y ex mw;
+    }
