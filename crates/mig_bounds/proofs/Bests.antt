@@ -1,0 +1,50 @@
+-- The end of the search.
+use Rattle.std.proofs.Common.{◌≡◌, ℕ, ◌<◌, ◌≤◌, true, not, ◌||◌, eqb, eq-eqb, List, [], ◌∷◌, length, get_or, refl, ap, arith, inl}
+use Rattle.std.proofs.lemmas.Bool.Decides.{nat_tests}
+use Rattle.std.proofs.lemmas.List.Sums.{get_or-le-sum_by}
+use Rattle.mig_base.specs.Transfers.{Transfers, Trip, touches, load}
+use Rattle.mig_base.specs.Bounding.{Candidate, ByDisk, ByTriple, ByComponent, place, IsBelow, IsBest}
+use Rattle.mig_base.proofs.Components.{has_true, has_at}
+use Rattle.mig_base.proofs.Counting.{one}
+use Rattle.mig_graph.specs.Graphs.{IsGraph}
+use Rattle.mig_bounds.specs.Labels.{labelled, IsLabelling}
+use Rattle.mig_bounds.specs.Search.{IsBestBelow, NoneTakesPart}
+
+-- every candidate is below the end
+all_below : (c : Candidate) → IsBelow (place c) (3 ∷ [])
+all_below (ByDisk v) = inl (omega arith)
+all_below (ByTriple a b c) = inl (omega arith)
+all_below (ByComponent set) = inl (omega arith)
+
+pub IsBest-whole : (graph : Transfers) (best : Candidate) (rounds : ℕ) → IsBestBelow graph best rounds (3 ∷ []) → IsBest graph best
+IsBest-whole graph best rounds b = record {
+  candidate = b.candidate;
+  greatest = λ c cand. omega (arith, b.greatest c cand (all_below c), b.value_is);
+  first = λ c cand below. omega (arith, b.first c cand below, b.value_is);
+}
+
+-- a label that some disk has is that of a disk
+pub label_there : (graph : Transfers) (labels : List ℕ) (r : ℕ) → IsLabelling graph labels (length graph.trips) → 0 < length (labelled labels r) → r < length labels
+label_there graph labels r is some =
+    let w = get_or (labelled labels r) 0 0 in
+    let found = has_true (λ v. eqb (get_or labels v 0) r) 0 (length labels) w (has_at (labelled labels r) 0 0 some) in
+    omega (arith, found.1, is.least w (omega (arith, found.1)), is_same (get_or labels w 0) r found.2)
+  where
+    is_same : (a b : ℕ) → eqb a b ≡ true → a ≡ b
+    is_same a b h = grind (arith, nat_tests)
+
+-- where no disk takes part, there is no move
+pub no_trips : (graph : Transfers) → IsGraph graph → NoneTakesPart graph (length graph.disks) → graph.trips ≡ []
+no_trips graph valid none = by_list graph.trips refl
+  where
+    loaded : (n : ℕ) → 1 ≤ n → not (eqb n 0) ≡ true
+    loaded n h = grind (arith, nat_tests)
+
+    by_list : (ts : List Trip) → graph.trips ≡ ts → graph.trips ≡ []
+    by_list [] e = e
+    by_list (t ∷ ts) e =
+        let some : 0 < length graph.trips = omega (arith, ap (λ (x : List Trip). length x) e) in
+        let first = get_or graph.trips 0 t in
+        let v = first.leaves in
+        let met : touches v first ≡ true = ap (λ b. b || eqb v first.reaches) (eq-eqb v v refl) in
+        absurd (none v (valid.leaves_there 0 t some) (loaded (load v graph.trips) (omega (arith, get_or-le-sum_by (λ (s : Trip). one (touches v s)) graph.trips 0 t some, ap one met))))

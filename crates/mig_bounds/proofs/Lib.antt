@@ -1,0 +1,10 @@
+pub mod Bests
+pub mod CaseInputs
+pub mod ComponentCounts
+pub mod ComponentSets
+pub mod DiskLists
+pub mod IncreasingLists
+pub mod Labelling
+pub mod PairTables
+pub mod Pruning
+pub mod Steps

@@ -1,0 +1,26 @@
+use Rattle.std.proofs.Common.{◌≡◌, ◌∷◌, [], ℕ, List, sym, ap, ◌∙◌, subst}
+use Rattle.mig_base.specs.DiskNumbers.{numbers}
+use Rattle.mig_base.specs.Transfers.{inside}
+use Rattle.mig_base.specs.Bounding.{ByTriple, set_value}
+use Rattle.mig_bounds.specs.declared.best.SmallSet.{SmallSet}
+use Rattle.mig_bounds.specs.Search.{IsBestBelow, candidate_of}
+use Rattle.mig_bounds.proofs.Bests.{IsBest-whole}
+use Rattle.mig_bounds.proofs.bounds.small_bound.Goals as goal
+
+pub returns-in_ok-vec-in-Triple : goal.returns-in_ok-vec-in-Triple
+returns-in_ok-vec-in-Triple c =
+    let g = c.args.graph.now in
+    let x = c.in-Triple.a.0 in
+    let y = c.in-Triple.b.0 in
+    let z = c.in-Triple.c.0 in
+    let set : List ℕ = x ∷ y ∷ z ∷ [] in
+    let best = subst (λ (s : SmallSet). IsBestBelow g (candidate_of s) c.args.best.value (3 ∷ [])) c.in-Triple.is c.requires.best in
+    let names : numbers c.of.result ≡ set = ap numbers (c.of.ensures ∙ c.in_ok-vec-in-Triple.ensures.items) in (
+      ByTriple x y z,
+      names,
+      IsBest-whole g (ByTriple x y z) c.args.best.value best,
+      record {
+        loads = c.inside_three.ensures.inside ∙ ap (λ (s : List ℕ). inside s g.trips) (sym names);
+        values = best.value_is ∙ ap (λ (s : List ℕ). set_value g s) (sym names);
+      },
+    )

@@ -1,0 +1,6 @@
+use Rattle.std.proofs.Common.{◌∷◌, []}
+use Rattle.mig_bounds.specs.Components.{IsBestOf}
+use Rattle.mig_bounds.proofs.components.best_component.Given as goal
+
+abbrev pub invariant-loop-root : goal.invariant-loop-root
+invariant-loop-root l = IsBestOf l.graph l.components l.best (2 ∷ l.root ∷ [])

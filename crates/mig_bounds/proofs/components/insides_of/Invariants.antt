@@ -1,0 +1,6 @@
+use Rattle.std.proofs.Common.{take}
+use Rattle.mig_bounds.specs.Components.{AreInsides}
+use Rattle.mig_bounds.proofs.components.insides_of.Given as goal
+
+abbrev pub invariant-loop-edge : goal.invariant-loop-edge
+invariant-loop-edge l = AreInsides l.labels (take l.edge l.graph.trips) l.insides.items

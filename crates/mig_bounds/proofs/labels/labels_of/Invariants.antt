@@ -1,0 +1,5 @@
+use Rattle.mig_bounds.specs.Labels.{IsLabelling}
+use Rattle.mig_bounds.proofs.labels.labels_of.Given as goal
+
+abbrev pub invariant-loop-edge : goal.invariant-loop-edge
+invariant-loop-edge l = IsLabelling l.graph l.labels.items l.edge

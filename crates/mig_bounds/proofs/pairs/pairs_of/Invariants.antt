@@ -1,0 +1,6 @@
+use Rattle.std.proofs.Common.{take, length}
+use Rattle.mig_bounds.specs.Pairs.{CountsPairs}
+use Rattle.mig_bounds.proofs.pairs.pairs_of.Given as goal
+
+abbrev pub invariant-loop-edge : goal.invariant-loop-edge
+invariant-loop-edge l = CountsPairs (length l.graph.disks) (take l.edge l.graph.trips) l.pairs.items

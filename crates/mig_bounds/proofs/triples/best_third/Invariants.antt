@@ -1,0 +1,6 @@
+use Rattle.std.proofs.Common.{◌∷◌, []}
+use Rattle.mig_bounds.specs.Search.{IsBestSmall}
+use Rattle.mig_bounds.proofs.triples.best_third.Given as goal
+
+abbrev pub invariant-loop-c : goal.invariant-loop-c
+invariant-loop-c l = IsBestSmall l.graph l.best (1 ∷ l.a ∷ l.b ∷ l.c ∷ [])

@@ -1,0 +1,6 @@
+use Rattle.std.proofs.Common.{◌∷◌, []}
+use Rattle.mig_bounds.specs.Search.{IsBestSmall}
+use Rattle.mig_bounds.proofs.triples.best_triple.Given as goal
+
+abbrev pub invariant-loop-a : goal.invariant-loop-a
+invariant-loop-a l = IsBestSmall l.graph l.best (1 ∷ l.a ∷ [])

@@ -1,0 +1,5 @@
+pub mod Cases
+pub mod Components
+pub mod Labels
+pub mod Pairs
+pub mod Search
