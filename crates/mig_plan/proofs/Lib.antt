@@ -1,0 +1,5 @@
+pub mod Least
+pub mod Limits
+pub mod RowLaws
+pub mod SlotLaws
+pub mod TargetSteps

@@ -1,0 +1,270 @@
+-- From a complete proper colouring of copies to a limited colouring of the transfer graph.
+use Rattle.std.proofs.Common.{◌≡◌, ◌≢◌, ◌⊎◌, ℕ, suc, zero, ◌+◌, ◌-◌, ◌*◌, ◌/◌, ◌%◌, min, ◌<◌, ◌≤◌, Bool, true, false, cond, not, ◌&&◌, ◌||◌, eqb, eq-eqb, List, [], ◌∷◌, ◌++◌, length, map, refl, sym, ap, ◌∙◌, arith, sum_by, count_by, filter, All, get_or, take, drop, inl, inr, subst, Some, None, Option}
+use Rattle.std.specs.Prelude.{slice_get, IsTrue}
+use Rattle.std.specs.List.{range_with_len}
+use Rattle.std.proofs.lemmas.List.Sums.{sum_by-cons, get_or-le-sum_by, sum_by-take-drop}
+use Rattle.std.proofs.lemmas.List.{get_or_default, length-map}
+use Rattle.std.proofs.lemmas.Option.{slice_get-get_or, slice_get_within, same_Some}
+use Rattle.std.proofs.lemmas.Bool.{cases_eq, cases_lt, ne_eqb}
+use Rattle.std.proofs.lemmas.Bool.Decides.{nat_tests}
+use Rattle.std.proofs.lemmas.Grind.{div_ceil_times}
+use Rattle.std.proofs.Math.Nat.{mul_comm, mul-le-mul_left, mul-le-mul_right}
+use Rattle.mig_base.specs.declared.ids.Colour.{Colour}
+use Rattle.mig_base.specs.declared.ids.CopyId.{CopyId}
+use Rattle.mig_base.specs.declared.ids.DiskId.{DiskId}
+use Rattle.mig_base.specs.declared.ids.EdgeId.{EdgeId}
+use Rattle.mig_base.specs.declared.inputs.Disk.{Disk}
+use Rattle.mig_base.specs.Transfers.{Trip, KeepsLimits, load, touches, div_ceil}
+use Rattle.mig_base.specs.Transfers.{Transfers, takes_part}
+use Rattle.mig_base.specs.Bounding.{quotient, limit, IsEven}
+use Rattle.mig_base.specs.InputLists.{no_disk}
+use Rattle.mig_base.specs.Directions.{trip_at, is_forward, tails, heads, tail_of, head_of, out_of, in_of, Balances}
+use Rattle.mig_base.specs.Colourings.{IsLimited, edges_of, colour_at}
+use Rattle.mig_base.proofs.Counting.{one, sum_by-map, count_by-filter}
+use Rattle.mig_base.proofs.Copies.{Copied, StandsForEnds, IsProper as IsProperCopies, meets, in_colour, colour_at_disk, copies_joint, copies_of_sides, load_within_quotient, value_within_quotient}
+use Rattle.mig_board.specs.Colouring.{Colouring, Joins, HasColour, Leads, IsProper}
+use Rattle.mig_split.specs.Dealing.{count_of, disk_at}
+use Rattle.mig_split.specs.Copies.{AreSides, AreCopies, first_of, second_of}
+use Rattle.mig_plan.specs.Coloured.{AreColours}
+
+-- edges between copies whose homes are their disks
+abbrev copied_of : Transfers → List (CopyId × CopyId) → List DiskId → List Colour → Copied
+copied_of graph ends homes colours = record { edges = length graph.trips; homes = map (λ (d : DiskId). d.0) homes; first = first_of ends; second = second_of ends; trip = trip_at graph.trips; colour = colour_at colours }
+
+test_is : (a b : ℕ) → eqb a b ≡ true → a ≡ b
+test_is a b h = grind (arith, nat_tests)
+
+or_cases : (a b k : ℕ) → (eqb a k || eqb b k) ≡ true → (a ≡ k) ⊎ (b ≡ k)
+or_cases a b k h = elim (cases_eq a k) [ inl e ↦ inl e | inr ne ↦ inr (right a b k ne h) ]
+  where
+    right : (a b k : ℕ) → a ≢ k → (eqb a k || eqb b k) ≡ true → b ≡ k
+    right a b k ne h = grind (arith, nat_tests)
+
+same_copy : (c d : CopyId) → c.0 ≡ d.0 → c ≡ d
+same_copy c d h = let make : ℕ → CopyId = λ n. record { 0 = n } in ap make h
+
+-- an edge that meets a copy leads from it
+leads_at : (g : Colouring) (colours : List Colour) (e k : ℕ) → AreColours g colours → e < length g.ends → (eqb (first_of g.ends e) k || eqb (second_of g.ends e) k) ≡ true → (w : CopyId) × Leads g (record { 0 = k }) (record { 0 = colour_at colours e }) (record { 0 = e }) w
+leads_at g colours e k a h met =
+    let p = get_or g.ends e (record { 0 = 0 }, record { 0 = 0 }) in
+    let row : slice_get g.ends e ≡ Some p = slice_get-get_or g.ends e (record { 0 = 0 }, record { 0 = 0 }) h in
+    elim (or_cases (first_of g.ends e) (second_of g.ends e) k met) [
+      | inl s ↦ (p.1, record { joins = inl (row ∙ ap (λ (c : CopyId). Some (c, p.1)) (same_copy p.0 (record { 0 = k }) s)); colour = a.has e h })
+      | inr s ↦ (p.0, record { joins = inr (row ∙ ap (λ (c : CopyId). Some (p.0, c)) (same_copy p.1 (record { 0 = k }) s)); colour = a.has e h })
+    ]
+
+proper_copies : (g : Colouring) (graph : Transfers) (homes : List DiskId) (colours : List Colour) → IsProper g → AreColours g colours → length g.ends ≡ length graph.trips → IsProperCopies (copied_of graph g.ends homes colours)
+proper_copies g graph homes colours proper a len d e k lt h same m n =
+    let x = leads_at g colours d k a (omega (arith, lt, h, len)) m in
+    let y = leads_at g colours e k a (omega (arith, h, len)) n in
+    let turned : Leads g (record { 0 = k }) (record { 0 = colour_at colours e }) (record { 0 = d }) x.0 = subst (λ (c : ℕ). Leads g (record { 0 = k }) (record { 0 = c }) (record { 0 = d }) x.0) same x.1 in
+    let eq = ap (λ (i : EdgeId). i.0) (proper.apart (record { 0 = k }) (record { 0 = colour_at colours e }) (record { 0 = d }) (record { 0 = e }) x.0 y.0 turned y.1) in
+    absurd (omega (arith, eq, lt))
+
+home_is : (homes : List DiskId) (k : ℕ) → get_or (map (λ (d : DiskId). d.0) homes) k 0 ≡ disk_at homes k
+home_is [] k = refl
+home_is (d ∷ ds) zero = refl
+home_is (d ∷ ds) (suc k) = home_is ds k
+
+pub limited_by_copies : (g : Colouring) (graph : Transfers) (homes : List DiskId) (colours : List Colour) → IsProper g → AreColours g colours → length g.ends ≡ length graph.trips → ((e : ℕ) → e < length graph.trips → StandsForEnds (copied_of graph g.ends homes colours) e) → ((v : ℕ) → v < length graph.disks → count_of v homes ≤ limit graph v) → IsLimited graph g.colours colours
+limited_by_copies g graph homes colours proper a len stands most =
+    let x = copied_of graph g.ends homes colours in
+    let m = length graph.trips in
+    record {
+      one_each = a.one_each ∙ len;
+      below = λ e d h. subst (λ (k : Colour). k.0 < g.colours) (get_or_default colours e (record { 0 = 0 }) d h) (proper.colours_in_range (record { 0 = e }) (record { 0 = colour_at colours e }) (a.has e (omega (arith, h, a.one_each))));
+      within = λ c v h.
+          (let law = colour_at_disk x c v stands (proper_copies g graph homes colours proper a len) in
+          let homes_are = sum_by-map (λ n. one (eqb n v)) (λ (d : DiskId). d.0) homes in
+          let counted = sum_by-map (λ (t : Trip). one (touches v t)) (trip_at graph.trips) (edges_of colours c m) in
+          let filtered = count_by-filter (λ e. touches v (trip_at graph.trips e)) (λ e. eqb (colour_at colours e) c) (range_with_len 0 m) in
+          omega (arith, law, homes_are, counted, filtered, most v h));
+    }
+
+-- ---- the quotient
+
+pub greatest_most : (a m : ℕ) (xs : List ℕ) → a ≤ m → All (λ x. x ≤ m) xs → Rattle.std.proofs.Common.fold Rattle.std.proofs.Common.max a xs ≤ m
+greatest_most a m [] h all = h
+greatest_most a m (x ∷ xs) h all = greatest_most (Rattle.std.proofs.Common.max a x) m xs (omega (arith, h, Rattle.std.proofs.lemmas.List.Elements.All-head (λ y. y ≤ m) x xs all)) (Rattle.std.proofs.lemmas.List.Elements.All-tail (λ y. y ≤ m) x xs all)
+
+abbrev pub HasLimits : Transfers → Type 0
+HasLimits graph = (v : ℕ) → v < length graph.disks → 1 ≤ limit graph v
+
+ceil_le : (n q : ℕ) → 1 ≤ q → div_ceil n q ≤ n
+ceil_le n q p = Rattle.mig_base.proofs.Counting.div_ceil-le n q n p (omega (arith, mul-le-mul_left n p))
+
+pub quotient_most : (graph : Transfers) → HasLimits graph → quotient graph ≤ length graph.trips
+quotient_most graph limits =
+    greatest_most 0 (length graph.trips) (map (Rattle.mig_base.specs.Bounding.disk_value graph) (range_with_len 0 (length graph.disks))) (omega arith)
+    (Rattle.std.proofs.lemmas.List.Elements.All-map (λ x. x ≤ length graph.trips) (Rattle.mig_base.specs.Bounding.disk_value graph) (range_with_len 0 (length graph.disks)) (λ k d h.
+    (let n = length graph.disks in
+    let v = get_or (range_with_len 0 n) k d in
+    let is_k : v ≡ k = omega (arith, Rattle.std.proofs.lemmas.List.FromFn.get_or-range_with_len 0 n k d (omega (arith, h, Rattle.std.proofs.lemmas.List.FromFn.length-range_with_len 0 n))) in
+    omega (arith, ceil_le (load v graph.trips) (limit graph v) (limits v (omega (arith, is_k, h, Rattle.std.proofs.lemmas.List.FromFn.length-range_with_len 0 n))), Rattle.std.proofs.lemmas.List.Sums.count_by-le-length (touches v) graph.trips))))
+
+some_load : (t : Trip) (ts : List Trip) → 1 ≤ load t.leaves (t ∷ ts)
+some_load t ts = omega (arith, sum_by-cons (λ (x : Trip). one (touches t.leaves x)) t ts, itself t.leaves t.reaches)
+  where
+    itself : (a b : ℕ) → one (eqb a a || eqb a b) ≡ 1
+    itself a b = grind (arith, nat_tests)
+
+pub quotient_some : (graph : Transfers) → HasLimits graph → All (λ t. t.leaves < length graph.disks) graph.trips → 0 < length graph.trips → 1 ≤ quotient graph
+quotient_some graph limits there some =
+    let t = trip_at graph.trips 0 in
+    let within : t.leaves < length graph.disks = there 0 (record { leaves = 0; reaches = 0 }) some in
+    let l : 1 ≤ load t.leaves graph.trips = loaded graph.trips some in
+    let v = value_within_quotient graph t.leaves within in
+    omega (arith, v, not_zero (load t.leaves graph.trips) (limit graph t.leaves) (div_ceil (load t.leaves graph.trips) (limit graph t.leaves)) (limits t.leaves within) l refl)
+  where
+    loaded : (ts : List Trip) → 0 < length ts → 1 ≤ load (trip_at ts 0).leaves ts
+    loaded [] h = absurd (omega arith)
+    loaded (t ∷ ts) h = some_load t ts
+
+    not_zero : (n q d : ℕ) → 1 ≤ q → 1 ≤ n → d ≡ div_ceil n q → 0 < d
+    not_zero n q zero p h e = absurd (omega (arith, (div_ceil_times n q p).0, ap (λ m. m * q) e))
+    not_zero n q (suc d) p h e = omega arith
+
+-- ---- copies of disks
+
+pub stands_copies : (q : ℕ) (graph : Transfers) (ends : List (CopyId × CopyId)) (homes : List DiskId) (colours : List Colour) → AreCopies q graph ends homes → (e : ℕ) → e < length graph.trips → StandsForEnds (copied_of graph ends homes colours) e
+stands_copies q graph ends homes colours a e h =
+    let l : e < length ends = omega (arith, h, a.one_each) in
+    record {
+      first_there = omega (arith, (a.there e l).0, length-map homes (λ (d : DiskId). d.0));
+      second_there = omega (arith, (a.there e l).1, length-map homes (λ (d : DiskId). d.0));
+      leaves = inl (home_is homes (first_of ends e) ∙ a.first e l);
+      reaches = inr (home_is homes (second_of ends e) ∙ a.second e l);
+    }
+
+pub most_copies : (q : ℕ) (graph : Transfers) (ends : List (CopyId × CopyId)) (homes : List DiskId) → q ≡ quotient graph → 1 ≤ q → HasLimits graph → AreCopies q graph ends homes → (v : ℕ) → v < length graph.disks → count_of v homes ≤ limit graph v
+most_copies q graph ends homes is_q pos limits a v h =
+    omega (arith, a.number v h, copies_joint (load v graph.trips) (limit graph v) q pos (omega (arith, load_within_quotient graph v h (limits v h), ap (λ m. m * limit graph v) is_q)))
+
+pub general_limited : (g : Colouring) (graph : Transfers) (q : ℕ) (ends : List (CopyId × CopyId)) (homes : List DiskId) (colours : List Colour) → q ≡ quotient graph → 1 ≤ q → HasLimits graph → AreCopies q graph ends homes → g.ends ≡ ends → IsProper g → AreColours g colours → IsLimited graph g.colours colours
+general_limited g graph q ends homes colours is_q pos limits a same proper c =
+    limited_by_copies g graph homes colours proper c (ap (λ (x : List (CopyId × CopyId)). length x) same ∙ a.one_each)
+    (subst (λ (x : List (CopyId × CopyId)). (e : ℕ) → e < length graph.trips → StandsForEnds (copied_of graph x homes colours) e) (sym same) (stands_copies q graph ends homes colours a))
+    (most_copies q graph ends homes is_q pos limits a)
+
+-- ends that are in range and differ
+pub copies_in_range : (q : ℕ) (graph : Transfers) (ends : List (CopyId × CopyId)) (homes : List DiskId) (n : ℕ) → n ≡ length homes → AreCopies q graph ends homes → All (λ p. (p.0.0 < n) × (p.1.0 < n)) ends
+copies_in_range q graph ends homes n is_n a k d h = subst (λ (p : CopyId × CopyId). (p.0.0 < n) × (p.1.0 < n)) (get_or_default ends k (record { 0 = 0 }, record { 0 = 0 }) d h) (omega (arith, (a.there k h).0, is_n), omega (arith, (a.there k h).1, is_n))
+
+pub copies_differ : (q : ℕ) (graph : Transfers) (ends : List (CopyId × CopyId)) (homes : List DiskId) → All (λ t. t.leaves ≢ t.reaches) graph.trips → AreCopies q graph ends homes → All (λ p. p.0 ≢ p.1) ends
+copies_differ q graph ends homes apart a k d h = subst (λ (p : CopyId × CopyId). p.0 ≢ p.1) (get_or_default ends k (record { 0 = 0 }, record { 0 = 0 }) d h) (λ e. apart k (record { leaves = 0; reaches = 0 }) (omega (arith, h, a.one_each)) (sym (a.first k h) ∙ ap (λ (c : CopyId). disk_at homes c.0) e ∙ a.second k h))
+
+-- the board's size
+pub few_general : (nodes q c m d : ℕ) → 2 * c ≤ 3 * q → nodes * q ≤ 2 * m + d * q → m ≤ 65536 → d ≤ 1024 → q ≤ 65536 → nodes * c ≤ 268435456
+few_general nodes q c m d hc room hm hd hq =
+    let a = mul-le-mul_left nodes hc in
+    let b = mul-le-mul_right q hd in
+    omega (arith, a, b, room, hm, hq)
+
+pub has_limits : (graph : Transfers) → All Rattle.mig_base.specs.InputLists.IsDiskInRange graph.disks → HasLimits graph
+has_limits graph a v h = (a v no_disk h).0
+
+pub blank_plain : (g : Colouring) (nodes colours : ℕ) (ends : List (CopyId × CopyId)) → g ≡ Rattle.mig_board.specs.Colouring.blank nodes colours ends → (e : EdgeId) → e.0 < length g.ends → slice_get g.painted e.0 ≡ Some None
+blank_plain g nodes colours ends same e h =
+    let n : Option Colour = None in
+    let xs : List (Option Colour) = Rattle.std.proofs.Common.replicate (length ends) n in
+    let there : e.0 < length ends = subst (λ (x : Colouring). e.0 < length x.ends) same h in
+    ap (λ (x : Colouring). slice_get x.painted e.0) same ∙ slice_get-get_or xs e.0 n (omega (arith, there, Rattle.std.proofs.lemmas.List.length-replicate (length ends) n)) ∙ ap (λ (x : Option Colour). Some x) (Rattle.std.proofs.lemmas.List.get_or-replicate (length ends) e.0 n n there)
+
+-- ---- copies on two sides
+
+pub stands_sides : (q : ℕ) (graph : Transfers) (ds : List Bool) (left : ℕ) (ends : List (CopyId × CopyId)) (homes : List DiskId) (colours : List Colour) → AreSides q graph ds left ends homes → (e : ℕ) → e < length graph.trips → StandsForEnds (copied_of graph ends homes colours) e
+stands_sides q graph ds left ends homes colours a e h =
+    let l : e < length ends = omega (arith, h, a.one_each) in
+    let t = trip_at graph.trips e in
+    let x = home_is homes (first_of ends e) ∙ a.first e l in
+    let y = home_is homes (second_of ends e) ∙ a.second e l in
+    record {
+      first_there = omega (arith, a.there e l, length-map homes (λ (d : DiskId). d.0));
+      second_there = omega (arith, a.there e l, length-map homes (λ (d : DiskId). d.0));
+      leaves = leaves_by t (is_forward ds e) (get_or (map (λ (d : DiskId). d.0) homes) (first_of ends e) 0) (get_or (map (λ (d : DiskId). d.0) homes) (second_of ends e) 0) x y;
+      reaches = reaches_by t (is_forward ds e) (get_or (map (λ (d : DiskId). d.0) homes) (first_of ends e) 0) (get_or (map (λ (d : DiskId). d.0) homes) (second_of ends e) 0) x y;
+    }
+  where
+    leaves_by : (t : Trip) (b : Bool) (x y : ℕ) → x ≡ tail_of t b → y ≡ head_of t b → (x ≡ t.leaves) ⊎ (y ≡ t.leaves)
+    leaves_by t true x y e f = inl e
+    leaves_by t false x y e f = inr f
+
+    reaches_by : (t : Trip) (b : Bool) (x y : ℕ) → x ≡ tail_of t b → y ≡ head_of t b → (x ≡ t.reaches) ⊎ (y ≡ t.reaches)
+    reaches_by t true x y e f = inr f
+    reaches_by t false x y e f = inl e
+
+ends_of_one : (v : ℕ) (t : Trip) (d : Bool) → t.leaves ≢ t.reaches → one (eqb (tail_of t d) v) + one (eqb (head_of t d) v) ≡ one (touches v t)
+ends_of_one v t true ne = touch v t.leaves t.reaches ne
+  where
+    touch : (v l r : ℕ) → l ≢ r → one (eqb l v) + one (eqb r v) ≡ one (eqb v l || eqb v r)
+    touch v l r ne = grind (arith, nat_tests)
+ends_of_one v t false ne = touch v t.leaves t.reaches ne
+  where
+    touch : (v l r : ℕ) → l ≢ r → one (eqb r v) + one (eqb l v) ≡ one (eqb v l || eqb v r)
+    touch v l r ne = grind (arith, nat_tests)
+
+out_and_in : (v : ℕ) (ts : List Trip) (ds : List Bool) → length ds ≡ length ts → All (λ t. t.leaves ≢ t.reaches) ts → out_of ts ds v + in_of ts ds v ≡ load v ts
+out_and_in v [] ds len h = refl
+out_and_in v (t ∷ ts) [] len h = absurd (omega arith)
+out_and_in v (t ∷ ts) (d ∷ ds) len h =
+    omega (
+      arith,
+      sum_by-cons (λ n. one (eqb n v)) (tail_of t d) (tails ts ds),
+      sum_by-cons (λ n. one (eqb n v)) (head_of t d) (heads ts ds),
+      sum_by-cons (λ x. one (touches v x)) t ts,
+      ends_of_one v t d (Rattle.std.proofs.lemmas.List.Elements.All-head (λ (x : Trip). x.leaves ≢ x.reaches) t ts h),
+      out_and_in v ts ds (omega arith) (Rattle.std.proofs.lemmas.List.Elements.All-tail (λ (x : Trip). x.leaves ≢ x.reaches) t ts h),
+    )
+
+none_for : (q : ℕ) → 1 ≤ q → div_ceil 0 q ≡ 0
+none_for q p = omega (arith, Rattle.mig_base.proofs.Counting.div_ceil-le 0 q 0 p (omega arith))
+
+most_of_load : (graph : Transfers) (v o i l q : ℕ) → o + i ≡ load v graph.trips → o ≤ i + 1 → i ≤ o + 1 → load v graph.trips ≤ q * limit graph v → 1 ≤ q → IsEven graph → v < length graph.disks → div_ceil o q + div_ceil i q ≤ limit graph v
+most_of_load graph v o i l q total om im within pos even h = elim (cases_eq (load v graph.trips) 0) [
+  | inl e ↦ omega (arith, ap (λ n. div_ceil n q) (zero_left o i (total ∙ e)), ap (λ n. div_ceil n q) (zero_right o i (total ∙ e)), none_for q pos)
+  | inr ne ↦ copies_of_sides o i (limit graph v) q pos (omega (arith, total, within)) (even v h (takes graph v ne)) om im
+]
+  where
+    zero_left : (o i : ℕ) → o + i ≡ 0 → o ≡ 0
+    zero_left o i e = omega arith
+
+    zero_right : (o i : ℕ) → o + i ≡ 0 → i ≡ 0
+    zero_right o i e = omega arith
+
+    takes : (graph : Transfers) (v : ℕ) → load v graph.trips ≢ 0 → not (eqb (load v graph.trips) 0) ≡ true
+    takes graph v ne = ap not (ne_eqb (load v graph.trips) 0 ne)
+
+pub most_sides : (q : ℕ) (graph : Transfers) (ds : List Bool) (left : ℕ) (ends : List (CopyId × CopyId)) (homes : List DiskId) → q ≡ quotient graph → 1 ≤ q → HasLimits graph → IsEven graph → length ds ≡ length graph.trips → All (λ t. t.leaves ≢ t.reaches) graph.trips → Balances graph.trips ds → AreSides q graph ds left ends homes → (v : ℕ) → v < length graph.disks → count_of v homes ≤ limit graph v
+most_sides q graph ds left ends homes is_q pos limits even len apart b a v h =
+    let law = most_of_load graph v (out_of graph.trips ds v) (in_of graph.trips ds v) 0 q (out_and_in v graph.trips ds len apart) (b.out_most v) (b.in_most v)
+    (omega (arith, load_within_quotient graph v h (limits v h), ap (λ m. m * limit graph v) is_q)) pos even h in
+    omega (arith, law, a.left_number v h, a.right_number v h, sum_by-take-drop (λ (d : DiskId). one (eqb d.0 v)) homes left)
+
+pub even_limited : (g : Colouring) (graph : Transfers) (q : ℕ) (ds : List Bool) (left : ℕ) (ends : List (CopyId × CopyId)) (homes : List DiskId) (colours : List Colour) → q ≡ quotient graph → 1 ≤ q → HasLimits graph → IsEven graph → length ds ≡ length graph.trips → All (λ t. t.leaves ≢ t.reaches) graph.trips → Balances graph.trips ds → AreSides q graph ds left ends homes → g.ends ≡ ends → IsProper g → AreColours g colours → IsLimited graph g.colours colours
+even_limited g graph q ds left ends homes colours is_q pos limits even len apart b a same proper c =
+    limited_by_copies g graph homes colours proper c (ap (λ (x : List (CopyId × CopyId)). length x) same ∙ a.one_each)
+    (subst (λ (x : List (CopyId × CopyId)). (e : ℕ) → e < length graph.trips → StandsForEnds (copied_of graph x homes colours) e) (sym same) (stands_sides q graph ds left ends homes colours a))
+    (most_sides q graph ds left ends homes is_q pos limits even len apart b a)
+
+pub sides_in_range : (q : ℕ) (graph : Transfers) (ds : List Bool) (left : ℕ) (ends : List (CopyId × CopyId)) (homes : List DiskId) (n : ℕ) → n ≡ length homes → AreSides q graph ds left ends homes → All (λ p. (p.0.0 < n) × (p.1.0 < n)) ends
+sides_in_range q graph ds left ends homes n is_n a k d h = subst (λ (p : CopyId × CopyId). (p.0.0 < n) × (p.1.0 < n)) (get_or_default ends k (record { 0 = 0 }, record { 0 = 0 }) d h) (omega (arith, a.there k h, is_n), omega (arith, a.there k h, is_n))
+
+pub sides_differ : (q : ℕ) (graph : Transfers) (ds : List Bool) (left : ℕ) (ends : List (CopyId × CopyId)) (homes : List DiskId) → AreSides q graph ds left ends homes → All (λ p. p.0 ≢ p.1) ends
+sides_differ q graph ds left ends homes a k d h = subst (λ (p : CopyId × CopyId). p.0 ≢ p.1) (get_or_default ends k (record { 0 = 0 }, record { 0 = 0 }) d h) (λ e. absurd (omega (arith, a.there k h, ap (λ (c : CopyId). c.0) e)))
+
+pub few_even : (nodes q m d : ℕ) → nodes * q ≤ 2 * m + 2 * (d * q) → m ≤ 65536 → d ≤ 1024 → q ≤ 65536 → nodes * q ≤ 268435456
+few_even nodes q m d room hm hd hq = omega (arith, mul-le-mul_right q hd, room, hm, hq)
+
+side_at : (q : ℕ) (graph : Transfers) (ds : List Bool) (left : ℕ) (ends : List (CopyId × CopyId)) (homes : List DiskId) → AreSides q graph ds left ends homes → (e : EdgeId) (v w : CopyId) → slice_get ends e.0 ≡ Some (v, w) → (v.0 < left) × (left ≤ w.0)
+side_at q graph ds left ends homes a e v w row =
+    let h : e.0 < length ends = slice_get_within ends e.0 (v, w) row in
+    let p = get_or ends e.0 (record { 0 = 0 }, record { 0 = 0 }) in
+    let same : p ≡ (v, w) = same_Some p (v, w) (sym (slice_get-get_or ends e.0 (record { 0 = 0 }, record { 0 = 0 }) h) ∙ row) in
+    (omega (arith, a.there e.0 h, ap (λ (x : CopyId × CopyId). x.0.0) same), omega (arith, a.there e.0 h, ap (λ (x : CopyId × CopyId). x.1.0) same))
+
+pub two_sided : (g : Colouring) (q : ℕ) (graph : Transfers) (ds : List Bool) (left : ℕ) (ends : List (CopyId × CopyId)) (homes : List DiskId) → g.ends ≡ ends → AreSides q graph ds left ends homes → Rattle.mig_board.specs.Growth.IsTwoSided g left
+two_sided g q graph ds left ends homes same a e v w joins =
+    elim joins [
+      | inl row ↦ (let x = side_at q graph ds left ends homes a e v w (subst (λ (y : List (CopyId × CopyId)). slice_get y e.0 ≡ Some (v, w)) same row) in inl (x.0, x.1))
+      | inr row ↦ (let x = side_at q graph ds left ends homes a e w v (subst (λ (y : List (CopyId × CopyId)). slice_get y e.0 ≡ Some (w, v)) same row) in inr (x.1, x.0))
+    ]

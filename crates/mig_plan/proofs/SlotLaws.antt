@@ -1,0 +1,146 @@
+-- Rows of slots: what one spot more takes, and how long the rows are.
+use Rattle.std.proofs.Common.{◌≡◌, ◌≢◌, ◌⊎◌, ℕ, ◌+◌, ◌*◌, ◌<◌, ◌≤◌, ◌^◌, Bool, true, false, eqb, List, [], ◌∷◌, ◌++◌, length, map, refl, sym, ap, ◌∙◌, subst, arith, count_by, filter, All, get_or, take, set, replicate, inl, inr, Vec, Global}
+use Rattle.std.specs.List.{range_with_len, Contains}
+use Rattle.std.proofs.lemmas.List.{take_more, length-set, length-append, length-map, length-replicate, length-take-le, get_or-replicate, get_or-set_same, get_or-set_other, get_or_default, get_or_past, get_or_append_left}
+use Rattle.std.proofs.lemmas.List.Elements.{All-append, All-map, Contains-append_left, Contains-push, Contains-push_cases}
+use Rattle.std.proofs.lemmas.List.Sums.{sum_by-append, count_by-le-length}
+use Rattle.std.proofs.lemmas.List.FromFn.{fill_by_all}
+use Rattle.std.proofs.lemmas.Bool.{cases_eq, cases_lt, false≢true}
+use Rattle.mig_base.specs.declared.ids.DiskId.{DiskId}
+use Rattle.mig_base.specs.declared.ids.Spot.{Spot}
+use Rattle.mig_base.specs.InputLists.{Lists, IsInput}
+use Rattle.mig_base.specs.Transfers.{is_relocated, target}
+use Rattle.mig_base.specs.Targets.{present, incoming}
+use Rattle.mig_base.proofs.Counting.{one, sum_by-map}
+use Rattle.mig_base.proofs.Rounds.{spot_disk}
+use Rattle.mig_base.proofs.Scheduled.{count_by-filter-le}
+use Rattle.mig_split.specs.Dealing.{count_of}
+use Rattle.mig_split.specs.Decks.{AreCounts}
+use Rattle.mig_plan.specs.Cursors.{spot, IsFreeFrom}
+use Rattle.mig_plan.specs.TakenSlots.{is_taken, row_at, IsFirstFree, AreWidths, AreFree, AreTaken, AreTakenSlots}
+
+pub AreTaken-start : (widths : List ℕ) (spots : List Spot) (rows : List (Vec Bool Global)) → AreFree widths rows → AreTaken widths (take 0 spots) rows
+AreTaken-start widths spots rows a = record {
+  len = a.len;
+  width = λ v d h. ap (λ (r : List Bool). length r) (a.row v d h) ∙ length-replicate (get_or widths v 0) false;
+  known = λ v s d h l e. absurd (false≢true (sym (get_or-replicate (get_or widths v 0) s false true l) ∙ ap (λ (r : List Bool). is_taken r s) (sym (a.row v d h)) ∙ e));
+  all = λ v s d h has. absurd (omega (arith, has.1));
+}
+
+-- a row after one slot is taken
+same_slot : (row : List Bool) (slot s : ℕ) → s ≡ slot → is_taken (set row slot true) s ≡ true
+same_slot row slot s e = elim (cases_lt slot (length row)) [
+  | inl lt ↦ ap (is_taken (set row slot true)) e ∙ get_or-set_same row slot true true lt
+  | inr ge ↦ get_or_past (set row slot true) s true (omega (arith, e, ge, length-set row slot true))
+]
+
+other_slot : (row : List Bool) (slot s : ℕ) → s ≢ slot → is_taken (set row slot true) s ≡ is_taken row s
+other_slot row slot s ne = get_or-set_other row slot s true true ne
+
+spot_by : (s t : Spot) → s.disk.0 ≡ t.disk.0 → s.slot ≡ t.slot → s ≡ t
+spot_by s t e f i = record { disk = record { 0 = e i }; slot = f i }
+
+module _ (widths : List ℕ) (spots : List Spot) (i : ℕ) (d : Spot) (rows : List (Vec Bool Global)) (old new : Vec Bool Global) (h : i < length spots) (there : (get_or spots i d).disk.0 < length rows) (was : old ≡ get_or rows (get_or spots i d).disk.0 old) (is : new.items ≡ set old.items (get_or spots i d).slot true) (a : AreTaken widths (take i spots) rows) where
+  abbrev x : Spot
+  x = get_or spots i d
+
+  abbrev v : ℕ
+  v = (get_or spots i d).disk.0
+
+  -- the row of the spot's disk, and the others
+  here : (w : ℕ) (e : Vec Bool Global) → w ≡ (get_or spots i d).disk.0 → row_at (set rows (get_or spots i d).disk.0 new) w e ≡ set (row_at rows w e) (get_or spots i d).slot true
+  here w e same =
+      ap (λ (n : ℕ). row_at (set rows (get_or spots i d).disk.0 new) n e) same ∙ ap (λ (r : Vec Bool Global). r.items) (get_or-set_same rows (get_or spots i d).disk.0 new e there)
+      ∙ is ∙ ap (λ (r : Vec Bool Global). set r.items (get_or spots i d).slot true) (was ∙ get_or_default rows (get_or spots i d).disk.0 old e there)
+      ∙ ap (λ (n : ℕ). set (row_at rows n e) (get_or spots i d).slot true) (sym same)
+
+  other : (w : ℕ) (e : Vec Bool Global) → w ≢ (get_or spots i d).disk.0 → row_at (set rows (get_or spots i d).disk.0 new) w e ≡ row_at rows w e
+  other w e ne = ap (λ (r : Vec Bool Global). r.items) (get_or-set_other rows (get_or spots i d).disk.0 w new e ne)
+
+  list : take (i + 1) spots ≡ take i spots ++ get_or spots i d ∷ []
+  list = take_more spots i d h
+
+  left : (s : Spot) → Contains (take i spots) s → Contains (take (i + 1) spots) s
+  left s has = subst (λ (xs : List Spot). Contains xs s) (sym list) (Contains-append_left (take i spots) (get_or spots i d ∷ []) s has)
+
+  new_width : (w : ℕ) (e : Vec Bool Global) → w < length (set rows (get_or spots i d).disk.0 new) → length (row_at (set rows (get_or spots i d).disk.0 new) w e) ≡ get_or widths w 0
+  new_width w e l =
+      let old_l : w < length rows = omega (arith, l, length-set rows (get_or spots i d).disk.0 new) in
+      elim (cases_eq w (get_or spots i d).disk.0) [
+        | inl same ↦ ap (λ (r : List Bool). length r) (here w e same) ∙ length-set (row_at rows w e) (get_or spots i d).slot true ∙ a.width w e old_l
+        | inr ne ↦ ap (λ (r : List Bool). length r) (other w e ne) ∙ a.width w e old_l
+      ]
+
+  new_known : (w s : ℕ) (e : Vec Bool Global) → w < length (set rows (get_or spots i d).disk.0 new) → s < get_or widths w 0 → is_taken (row_at (set rows (get_or spots i d).disk.0 new) w e) s ≡ true → Contains (take (i + 1) spots) (spot w s)
+  new_known w s e l m t =
+      let old_l : w < length rows = omega (arith, l, length-set rows (get_or spots i d).disk.0 new) in
+      elim (cases_eq w (get_or spots i d).disk.0) [
+        | inl same ↦ elim (cases_eq s (get_or spots i d).slot) [
+          | inl at ↦ subst (λ (xs : List Spot). Contains xs (spot w s)) (sym list) (subst (λ (y : Spot). Contains (take i spots ++ get_or spots i d ∷ []) y) (spot_by (get_or spots i d) (spot w s) (sym same) (sym at)) (Contains-push (take i spots) (get_or spots i d)))
+          | inr off ↦ left (spot w s) (a.known w s e old_l m (sym (other_slot (row_at rows w e) (get_or spots i d).slot s off) ∙ ap (λ (r : List Bool). is_taken r s) (sym (here w e same)) ∙ t))
+        ]
+        | inr ne ↦ left (spot w s) (a.known w s e old_l m (ap (λ (r : List Bool). is_taken r s) (sym (other w e ne)) ∙ t))
+      ]
+
+  new_all : (w s : ℕ) (e : Vec Bool Global) → w < length (set rows (get_or spots i d).disk.0 new) → Contains (take (i + 1) spots) (spot w s) → is_taken (row_at (set rows (get_or spots i d).disk.0 new) w e) s ≡ true
+  new_all w s e l has =
+      let old_l : w < length rows = omega (arith, l, length-set rows (get_or spots i d).disk.0 new) in
+      elim (Contains-push_cases (take i spots) (get_or spots i d) (spot w s) (subst (λ (xs : List Spot). Contains xs (spot w s)) list has)) [
+        | inl before ↦
+            let t = a.all w s e old_l before in
+            elim (cases_eq w (get_or spots i d).disk.0) [
+              | inl same ↦ ap (λ (r : List Bool). is_taken r s) (here w e same) ∙ elim (cases_eq s (get_or spots i d).slot) [
+                | inl at ↦ same_slot (row_at rows w e) (get_or spots i d).slot s at
+                | inr off ↦ other_slot (row_at rows w e) (get_or spots i d).slot s off ∙ t
+              ]
+              | inr ne ↦ ap (λ (r : List Bool). is_taken r s) (other w e ne) ∙ t
+            ]
+        | inr eq ↦ ap (λ (r : List Bool). is_taken r s) (here w e (ap (λ (y : Spot). y.disk.0) (sym eq))) ∙ same_slot (row_at rows w e) (get_or spots i d).slot s (ap (λ (y : Spot). y.slot) (sym eq))
+      ]
+
+  pub AreTaken-more : AreTaken widths (take (i + 1) spots) (set rows (get_or spots i d).disk.0 new)
+  AreTaken-more = record { len = length-set rows (get_or spots i d).disk.0 new ∙ a.len; width = new_width; known = new_known; all = new_all }
+
+-- how long the rows are
+
+count_next : (input : Lists) (v : ℕ) → IsInput input → incoming input v ≤ count_of v input.next
+count_next input v is =
+    let goes : ℕ → Bool = λ item. eqb (target input item) v in
+    let items = range_with_len 0 (length input.items) in
+    let e = fill_by_all (λ item. get_or input.next item (record { 0 = 0 })) input.next (length input.items) (record { 0 = 0 }) is.next_len (λ k h. refl) in
+    omega (arith, count_by-filter-le goes (is_relocated input) items, sum_by-map (λ (d : DiskId). one (eqb d.0 v)) (λ item. get_or input.next item (record { 0 = 0 })) items, ap (λ (xs : List DiskId). count_of v xs) e)
+
+pub widths_are : (input : Lists) (n : ℕ) (stops : List DiskId) (widths : List ℕ) → IsInput input → n ≡ length input.disks → stops ≡ map (λ (s : Spot). s.disk) input.spots ++ input.next → AreCounts n stops widths → AreWidths input widths
+widths_are input n stops widths is disks list a =
+    let on : List DiskId = map (λ (s : Spot). s.disk) input.spots in
+    record {
+      len = a.len ∙ disks;
+      enough = λ v h. omega (arith, a.counted v (omega (arith, h, disks)), ap (λ (xs : List DiskId). count_of v xs) list, sum_by-append (λ (d : DiskId). one (eqb d.0 v)) on input.next, sum_by-map (λ (d : DiskId). one (eqb d.0 v)) (λ (s : Spot). s.disk) input.spots, count_next input v is);
+      few = λ v h. omega (arith, a.counted v (omega (arith, h, disks)), count_by-le-length (λ (d : DiskId). eqb d.0 v) stops, ap (λ (xs : List DiskId). length xs) list, length-append on input.next, length-map input.spots (λ (s : Spot). s.disk), is.spots_len, is.next_len, is.few_items);
+    }
+
+-- each disk of the list is there
+pub stops_there : (input : Lists) (n : ℕ) (stops : List DiskId) → IsInput input → n ≡ length input.disks → stops ≡ map (λ (s : Spot). s.disk) input.spots ++ input.next → All (λ (d : DiskId). d.0 < n) stops
+stops_there input n stops is disks list = subst (λ (xs : List DiskId). All (λ (d : DiskId). d.0 < n) xs) (sym list) (All-append (λ (d : DiskId). d.0 < n) (map (λ (s : Spot). s.disk) input.spots) input.next
+    (All-map (λ (d : DiskId). d.0 < n) (λ (s : Spot). s.disk) input.spots (λ k d h. omega (arith, spot_disk input.disks (get_or input.spots k d) (is.on_disks k d h), disks)))
+    (λ k d h. omega (arith, is.next_disks k d h, disks)))
+
+pub taken_are : (input : Lists) (widths : List ℕ) (spots : List Spot) (rows : List (Vec Bool Global)) → spots ≡ input.spots → AreWidths input widths → AreTaken widths spots rows → AreTakenSlots input rows
+taken_are input widths spots rows same w a =
+    let P : List Spot → Type 0 = λ xs. AreTaken widths xs rows in
+    let t : AreTaken widths input.spots rows = subst P same a in
+    record {
+      len = t.len ∙ w.len;
+      enough = λ v d h. omega (arith, t.width v d h, w.enough v (omega (arith, h, t.len, w.len)));
+      few = λ v d h. omega (arith, t.width v d h, w.few v (omega (arith, h, t.len, w.len)));
+      known = λ v s d h l e. t.known v s d h (omega (arith, l, t.width v d h)) e;
+      all = t.all;
+    }
+
+-- the first slot of a disk's row that isn't taken is a spot that no item has
+pub free_from : (input : Lists) (rows : List (Vec Bool Global)) (v from slot : ℕ) (d : Vec Bool Global) → AreTakenSlots input rows → v < length rows → IsFirstFree (row_at rows v d) from slot → IsFreeFrom input.spots v from slot
+free_from input rows v from slot d a h f = record {
+  from_on = f.from_on;
+  free = λ has. false≢true (sym f.free ∙ a.all v slot d h has);
+  lowest = λ s l m. a.known v s d h (omega (arith, m, f.there)) (f.lower s l m);
+}

@@ -1,0 +1,50 @@
+use Rattle.std.proofs.Common.{arith, ◌≡◌, ◌≤◌, ◌∙◌, ap, sym, subst, length, List, filter, map, ℕ}
+use Rattle.std.proofs.lemmas.List.{length-map}
+use Rattle.std.proofs.lemmas.Result.{IfOk-weaker}
+use Rattle.mig_base.specs.declared.ids.Shift.{Shift}
+use Rattle.mig_base.specs.Transfers.{Transfers, transfers, moves, trip}
+use Rattle.std.specs.Result.{IfOk}
+use Rattle.mig_base.specs.Running.{Runs, Once, PlanFits}
+use Rattle.mig_base.specs.Planned.{IsPartition, IsPlan, GoesToTargets, IsFilled}
+use Rattle.mig_base.specs.Colourings.{IsLimited}
+use Rattle.mig_base.proofs.Planned.{partition_is_plan}
+use Rattle.mig_plan.specs.ColourRows.{is_filled, items_of}
+use Rattle.mig_plan.proofs.RowLaws.{is_partition, few_rounds, rows_are, rows_for}
+use Rattle.mig_plan.proofs.rounds.plan_of.Goals as goal
+
+-- what the call made
+made : (c : goal.After-rounds_of) → filter is_filled (map items_of c.in_ok-rows.rows.items) ≡ filter is_filled (rows_for c.args.input.now c.args.targets.now c.args.colours.now c.args.count (length (moves c.args.input.now)))
+made c =
+    let input = c.args.input.now in
+    let m : length c.args.colours.now ≡ length (moves input) = c.requires.limited.one_each ∙ ap (λ (g : Transfers). length g.trips) c.requires.graph ∙ length-map (moves input) (trip input) in
+    let len : length c.in_ok-rows.rows.items ≡ c.args.count = omega (arith, c.in_ok-rows.ensures.len) in
+    ap (λ (x : List (List Shift)). filter is_filled x) (rows_are input c.args.targets.now c.args.colours.now c.args.count (length c.args.colours.now) c.in_ok-rows.rows.items len c.in_ok-rows.ensures.rows
+    ∙ ap (rows_for input c.args.targets.now c.args.colours.now c.args.count) m)
+
+parts : (c : goal.After-rounds_of) → IsPartition c.args.input.now c.args.targets.now (filter is_filled (rows_for c.args.input.now c.args.targets.now c.args.colours.now c.args.count (length (moves c.args.input.now))))
+parts c = is_partition c.args.input.now c.args.targets.now c.args.colours.now c.args.count c.requires.targets (subst (λ (g : Transfers). IsLimited g c.args.count c.args.colours.now) c.requires.graph c.requires.limited)
+
+planned : (c : goal.After-rounds_of) → IsPlan c.args.input.now (filter is_filled (rows_for c.args.input.now c.args.targets.now c.args.colours.now c.args.count (length (moves c.args.input.now))))
+planned c = partition_is_plan c.args.input.now c.args.targets.now _ c.disks-disks.ensures.valid c.requires.roomy c.requires.targets (parts c)
+
+-- what holds of the rows that are not empty holds of the plan
+pub holds : (c : goal.After-rounds_of) (P : List (List Shift) → Type 0) → P (filter is_filled (rows_for c.args.input.now c.args.targets.now c.args.colours.now c.args.count (length (moves c.args.input.now)))) → IfOk c.rounds_of.result P
+holds c P p = IfOk-weaker c.rounds_of.result (λ (p : List (List Shift)). p ≡ filter is_filled (map items_of c.in_ok-rows.rows.items)) P (λ x e. subst P (sym (e ∙ made c)) p) c.rounds_of.ensures
+
+pub returns-clause-fits : goal.returns-clause-fits
+returns-clause-fits c = holds c (λ (p : List (List Shift)). PlanFits c.args.input.now p) (planned c).fits
+
+pub returns-clause-runs : goal.returns-clause-runs
+returns-clause-runs c = holds c (λ (p : List (List Shift)). Runs c.args.input.now p) (planned c).runs
+
+pub returns-clause-once : goal.returns-clause-once
+returns-clause-once c = holds c (λ (p : List (List Shift)). Once c.args.input.now p) (planned c).once
+
+pub returns-clause-targets : goal.returns-clause-targets
+returns-clause-targets c = holds c (λ (p : List (List Shift)). GoesToTargets c.args.input.now p) (c.args.targets.now, c.requires.targets, (parts c).shifts)
+
+pub returns-clause-filled : goal.returns-clause-filled
+returns-clause-filled c = holds c (λ (p : List (List Shift)). IsFilled p) (parts c).filled
+
+pub returns-clause-few : goal.returns-clause-few
+returns-clause-few c = holds c (λ (p : List (List Shift)). length p ≤ c.args.count) (few_rounds c.args.input.now c.args.targets.now c.args.colours.now c.args.count (length (moves c.args.input.now)))

@@ -1,0 +1,6 @@
+use Rattle.std.proofs.Common.{◌≡◌, length}
+use Rattle.mig_plan.specs.ColourRows.{AreRows}
+use Rattle.mig_plan.proofs.rows.rows_of.Given as goal
+
+abbrev pub invariant-loop-edge : goal.invariant-loop-edge
+invariant-loop-edge l = record { len : length l.rows.items ≡ l.fn.count; rows : AreRows l.input l.targets l.colours l.edge l.rows.items }

@@ -1,0 +1,14 @@
+use Rattle.std.proofs.Common.{arith, ap, length, List, ℕ, ◌≡◌, ◌∙◌, ◌<◌}
+use Rattle.mig_base.specs.declared.ids.Spot.{Spot}
+use Rattle.mig_base.specs.Transfers.{Transfers, moves}
+use Rattle.mig_base.specs.Planned.{move_at}
+use Rattle.mig_base.proofs.Planned.{move_there}
+use Rattle.mig_plan.proofs.rows.shift_of.Goals as goal
+
+pub bounds-now-item : goal.bounds-now-item
+bounds-now-item c =
+    let input = c.args.input.now in
+    let items : c.item-item.result.0 ≡ move_at input c.args.edge = c.item-item.ensures ∙ ap (λ (g : Transfers). Rattle.std.proofs.Common.get_or g.items c.args.edge 0) c.requires.graph in
+    let trips : length c.args.graph.now.trips ≡ length (moves input) = ap (λ (g : Transfers). length g.trips) c.requires.graph ∙ Rattle.std.proofs.lemmas.List.length-map (moves input) (Rattle.mig_base.specs.Transfers.trip input) in
+    let there : move_at input c.args.edge < length input.items = move_there input c.args.edge (omega (arith, c.requires.edge, trips)) in
+    omega (arith, items, there, ap (λ (s : List Spot). length s) c.now.ensures.value, c.now.ensures.valid.spots_len)

@@ -1,0 +1,24 @@
+-- The shifts of the edges of each colour.
+use Rattle.std.specs.Prelude.{◌≡◌, ℕ, ◌<◌, ◌==◌, Bool, not, List, length, map, slice_index_or}
+use Rattle.std.specs.declared.alloc.Global.{Global}
+use Rattle.std.specs.declared.vec.Vec.{Vec}
+use Rattle.mig_base.specs.declared.ids.Colour.{Colour}
+use Rattle.mig_base.specs.declared.ids.Spot.{Spot}
+use Rattle.mig_base.specs.declared.ids.Shift.{Shift}
+use Rattle.mig_base.specs.InputLists.{Lists}
+use Rattle.mig_base.specs.Planned.{move_shift}
+use Rattle.mig_base.specs.Colourings.{edges_of}
+
+-- the shifts of the first n edges of one colour
+abbrev pub row_of : Lists → List Spot → List Colour → ℕ → ℕ → List Shift
+row_of input targets colours c n = map (move_shift input targets) (edges_of colours c n)
+
+-- each row has the shifts of its colour among the first n edges
+pub record AreRows (input : Lists) (targets : List Spot) (colours : List Colour) (n : ℕ) (rows : List (Vec Shift Global)) : Type 0 where
+  pub row : (c : ℕ) (d : Vec Shift Global) → c < length rows → (slice_index_or rows c d).items ≡ row_of input targets colours c n
+
+abbrev pub items_of : Vec Shift Global → List Shift
+items_of row = row.items
+
+abbrev pub is_filled : List Shift → Bool
+is_filled row = not (length row == 0)

@@ -1,0 +1,4 @@
+pub mod ColourRows
+pub mod Coloured
+pub mod Cursors
+pub mod TakenSlots

@@ -1,0 +1,83 @@
+ghost use Rattle.std.specs.Prelude.{◌≡◌, ◌*◌, ◌≤◌, length, IfOk};
+ghost use Rattle.mig_base.specs.Transfers.{transfers};
+ghost use Rattle.mig_base.specs.Targets.{AreTargets, IsRoomy};
+ghost use Rattle.mig_base.specs.Running.{Runs, Once, PlanFits};
+ghost use Rattle.mig_base.specs.Schedules.{Needs};
+ghost use Rattle.mig_base.specs.Bounding.{quotient, IsEven};
+ghost use Rattle.mig_base.specs.Planned.{GoesToTargets, IsFilled};
+
+use crate::colourings::colour_moves;
+use crate::rounds::plan_of;
+use crate::targets::target_spots;
+use mig_base::{Input, Plan, Spot};
+use mig_graph::Graph;
+use std::alloc::{AllocError, Global};
+
+/// A plan of the moves of a transfer graph to the spots that their items are given.
+fn plan_moves(
+    alloc: Global,
+    input: &Input,
+    graph: &Graph,
+    targets: &[Spot],
+    start: u32,
+) -> Result<Plan, AllocError>
+    requires graph { graph.now ≡ transfers input.now }
+    requires roomy { IsRoomy input.now }
+    requires targets { AreTargets input.now targets.now }
+    ensures fits { IfOk result (PlanFits input.now) }
+    ensures runs { IfOk result (Runs input.now) }
+    ensures once { IfOk result (Once input.now) }
+    ensures targets { IfOk result (GoesToTargets input.now) }
+    ensures filled { IfOk result IsFilled }
+    ensures even_rounds { IfOk result (λ p. IsEven (transfers input.now) → length p ≡ quotient (transfers input.now)) }
+    ensures needed { IfOk result (λ p. IsEven (transfers input.now) → Needs input.now (length p)) }
+    ensures few_rounds { IfOk result (λ p. 2 * length p ≤ 3 * quotient (transfers input.now)) }
+{
+    let _disks = input.disks();
+    let (colours, count) = colour_moves(alloc, graph, start)?;
+    plan_of(alloc, input, graph, targets, &colours, count)
+}
+
+/// A plan that moves each item that is to go to another disk, in rounds that can be carried out one after the other.
+///
+/// Each relocated item is shifted once, from its spot to its target spot, and nothing else is shifted. No round is
+/// empty, and in each round each disk is an end of at most its limit of shifts. Where each disk that takes part has an
+/// even limit, the number of rounds is the quotient and no schedule has fewer; else it is at most three halves of the
+/// quotient. Errs for want of memory only.
+pub fn make_plan(alloc: Global, input: &Input) -> Result<Plan, AllocError>
+    requires { IsRoomy input.now }
+    ensures fits { IfOk result (PlanFits input.now) }
+    ensures runs { IfOk result (Runs input.now) }
+    ensures once { IfOk result (Once input.now) }
+    ensures targets { IfOk result (GoesToTargets input.now) }
+    ensures filled { IfOk result IsFilled }
+    ensures even_rounds { IfOk result (λ p. IsEven (transfers input.now) → length p ≡ quotient (transfers input.now)) }
+    ensures needed { IfOk result (λ p. IsEven (transfers input.now) → Needs input.now (length p)) }
+    ensures few_rounds { IfOk result (λ p. 2 * length p ≤ 3 * quotient (transfers input.now)) }
+{
+    let graph = Graph::of(alloc, input)?;
+    make_plan_from(alloc, input, &graph, graph.quotient())
+}
+
+/// The same over a transfer graph that is there already. Where a limit is odd, plans of `start` rounds and then of more
+/// are looked for: a number that every schedule needs is a good start. Errs for want of memory only.
+pub fn make_plan_from(
+    alloc: Global,
+    input: &Input,
+    graph: &Graph,
+    start: u32,
+) -> Result<Plan, AllocError>
+    requires graph { graph.now ≡ transfers input.now }
+    requires roomy { IsRoomy input.now }
+    ensures fits { IfOk result (PlanFits input.now) }
+    ensures runs { IfOk result (Runs input.now) }
+    ensures once { IfOk result (Once input.now) }
+    ensures targets { IfOk result (GoesToTargets input.now) }
+    ensures filled { IfOk result IsFilled }
+    ensures even_rounds { IfOk result (λ p. IsEven (transfers input.now) → length p ≡ quotient (transfers input.now)) }
+    ensures needed { IfOk result (λ p. IsEven (transfers input.now) → Needs input.now (length p)) }
+    ensures few_rounds { IfOk result (λ p. 2 * length p ≤ 3 * quotient (transfers input.now)) }
+{
+    let targets = target_spots(alloc, input)?;
+    plan_moves(alloc, input, graph, &targets, start)
+}
