@@ -1,0 +1,12 @@
+pub mod Cuts
+pub mod Different
+pub mod LineWords
+pub mod Numerals
+pub mod Places
+pub mod PlanLengths
+pub mod PlanPlaces
+pub mod PlanReads
+pub mod ShiftCounts
+pub mod SmallInputs
+pub mod Stops
+pub mod Tables

@@ -1,0 +1,54 @@
+-- A line is read through its words.
+use Rattle.std.proofs.Common.{◌≡◌, ◌≢◌, ◌≤◌, ◌<◌, ◌^◌, ◌∷◌, ◌==◌, ℕ, List, [], Option, Some, None, MatchOption, codes, length, arith, ap, sym, refl, ◌∙◌}
+use Rattle.std.specs.List.{slice_split, AllByRecursion}
+use Rattle.std.specs.Fmt.{decimal}
+use Rattle.mig_base.specs.declared.ids.Shift.{Shift}
+use Rattle.mig_base.specs.InputLists.{Lists, IsInput}
+use Rattle.mig_base.specs.Texts.{disk_name, shift_line, words}
+use Rattle.mig_base.specs.Running.{ShiftFits}
+use Rattle.mig_base.proofs.Separators.{Lacks, Lacks-decimal}
+use Rattle.mig_base.proofs.Spelling.{lacks_test, round_lacks, words_lack}
+use Rattle.mig_text.proofs.Places.{split_words, words_split}
+use Rattle.mig_text.specs.PlanParts.{shift_words}
+use Rattle.mig_text.specs.Reads.{HasNoBlank}
+
+-- the words of a line
+abbrev pub words_of : List ℕ → List (List ℕ)
+words_of line = slice_split (λ b. b == 32) line
+
+-- a line is these words exactly where its words are
+pub line_is : (line : List ℕ) (ws : List (List ℕ)) → words_of line ≡ ws → line ≡ words ws
+line_is line ws e = sym (words_split line) ∙ ap words e
+
+pub words_are : (line w : List ℕ) (ws : List (List ℕ)) → AllByRecursion (Lacks 32) (w ∷ ws) → line ≡ words (w ∷ ws) → words_of line ≡ w ∷ ws
+words_are line w ws lack e = ap words_of e ∙ split_words w ws lack
+
+pub count_lacks : (word : List ℕ) (n : ℕ) → HasNoBlank word → n < 2 ^ 32 → AllByRecursion (Lacks 32) (word ∷ decimal n ∷ [])
+count_lacks word n h small = (lacks_test 32 word h, (Lacks-decimal 32 n (omega arith) (omega arith), tt))
+
+pub count_read : (line word : List ℕ) (most : ℕ) (r : Option ℕ) → HasNoBlank word → most < 2 ^ 32
+    → MatchOption r ((n : ℕ) → n ≤ most → words_of line ≢ word ∷ decimal n ∷ []) (λ n. (n ≤ most) × (words_of line ≡ word ∷ decimal n ∷ []))
+    → MatchOption r ((n : ℕ) → n ≤ most → line ≢ words (word ∷ decimal n ∷ [])) (λ n. (n ≤ most) × (line ≡ words (word ∷ decimal n ∷ [])))
+count_read line word most None h small m = λ n le e. m n le (words_are line word (decimal n ∷ []) (count_lacks word n h (omega arith)) e)
+count_read line word most (Some n) h small m = (m.0, line_is line _ m.1)
+
+pub head_lack : (r n : ℕ) → r < 2 ^ 32 → n < 2 ^ 32 → AllByRecursion (Lacks 32) (codes "round" ∷ decimal r ∷ decimal n ∷ [])
+head_lack r n hr hn = (round_lacks, (Lacks-decimal 32 r (omega arith) (omega arith), (Lacks-decimal 32 n (omega arith) (omega arith), tt)))
+
+pub head_read : (line : List ℕ) (r : ℕ) (o : Option ℕ) → r < 2 ^ 32
+    → MatchOption o ((n : ℕ) → n ≤ 65536 → words_of line ≢ codes "round" ∷ decimal r ∷ decimal n ∷ []) (λ n. (n ≤ 65536) × (words_of line ≡ codes "round" ∷ decimal r ∷ decimal n ∷ []))
+    → MatchOption o ((n : ℕ) → n ≤ 65536 → line ≢ words (codes "round" ∷ decimal r ∷ decimal n ∷ [])) (λ n. (n ≤ 65536) × (line ≡ words (codes "round" ∷ decimal r ∷ decimal n ∷ [])))
+head_read line r None hr m = λ n le e. m n le (words_are line (codes "round") (decimal r ∷ decimal n ∷ []) (head_lack r n hr (omega arith)) e)
+head_read line r (Some n) hr m = (m.0, line_is line _ m.1)
+
+pub shift_read : (input : Lists) (line : List ℕ) (o : Option Shift) → IsInput input
+    → MatchOption o ((s : Shift) → ShiftFits input s → words_of line ≢ shift_words input s) (λ s. ShiftFits input s × (words_of line ≡ shift_words input s))
+    → MatchOption o ((s : Shift) → ShiftFits input s → line ≢ shift_line input s) (λ s. ShiftFits input s × (line ≡ shift_line input s))
+shift_read input line None valid m = λ s fits e. m s fits (words_are line _ _ (words_lack input valid 32 (omega arith) refl s fits) e)
+shift_read input line (Some s) valid m = (m.0, line_is line _ m.1)
+
+-- where the words after the first spot begin with no spot
+pub no_second_spot : (input : Lists) (all : List (List ℕ)) (w : List ℕ) (rest : List (List ℕ)) (a b : List ℕ) (last : List (List ℕ)) → all ≡ w ∷ rest → rest ≡ a ∷ b ∷ last
+    → ((d slot : ℕ) (more : List (List ℕ)) → d < length input.disks → slot < 65536 → last ≢ disk_name input d ∷ decimal slot ∷ more)
+    → (s : Shift) → ShiftFits input s → all ≢ shift_words input s
+no_second_spot input all w rest a b last e f none s fits g = none s.to.disk.0 s.to.slot [] fits.to_disk fits.to_slot cc

@@ -1,0 +1,71 @@
+-- A text whose pieces all fit has no misfit.
+use Rattle.std.proofs.Common.{◌≡◌, ◌≢◌, ◌==◌, eqb, ℕ, ◌+◌, true, false, List, [], ◌∷◌, ◌++◌, length, refl, sym, ap, subst, ◌∙◌, arith, append_assoc, length-append}
+use Rattle.std.specs.List.{AllByRecursion, slice_split}
+use Rattle.std.proofs.lemmas.List.Splits.{slice_split_none, slice_split_at, join_with_byte-slice_split}
+use Rattle.std.proofs.lemmas.List.Elements.{All-from_recursion}
+use Rattle.std.proofs.lemmas.Bool.Decides.{nat_tests}
+use Rattle.mig_base.specs.Texts.{text_of_lines, words}
+use Rattle.mig_base.specs.Misfits.{Leads, Stops, IsMisfit, pieces}
+use Rattle.mig_base.proofs.Separators.{Lacks, after_line}
+
+module _ {P : Type 0} (Next : P → List ℕ → P → Type 0) where
+  pub Leads-append : (a b c : P) (xs ys : List (List ℕ)) → Leads Next a xs b → Leads Next b ys c → Leads Next a (xs ++ ys) c
+  Leads-append a b c [] ys h k = subst (λ z. Leads Next z ys c) h k
+  Leads-append a b c (x ∷ xs) ys h k = (h.0, (h.1.0, Leads-append h.0 b c xs ys h.1.1 k))
+
+  -- where a place and a piece have one place after them, what is left of a text that fits fits
+  pub Leads-rest : ((a : P) (piece : List ℕ) (b c : P) → Next a piece b → Next a piece c → b ≡ c)
+      → (a b c : P) (xs ys : List (List ℕ)) → Leads Next a xs b → Leads Next a (xs ++ ys) c → Leads Next b ys c
+  Leads-rest one a b c [] ys h k = subst (λ z. Leads Next z ys c) (sym h) k
+  Leads-rest one a b c (x ∷ xs) ys h k =
+      let same : k.0 ≡ h.0 = one a x k.0 h.0 k.1.0 h.1.0 in
+      Leads-rest one h.0 b c xs ys h.1.1 (subst (λ z. Leads Next z (xs ++ ys) c) same k.1.1)
+
+  stops_not : (over place : P) (after : List (List ℕ)) → Stops Next over place after → Leads Next place after over → ⊥
+  stops_not over place [] s h = s (sym h)
+  stops_not over place (x ∷ xs) s h = s h.0 h.1.0
+
+  pub no_misfit : ((a : P) (piece : List ℕ) (b c : P) → Next a piece b → Next a piece c → b ≡ c)
+      → (first over : P) (text : List (List ℕ)) (n : ℕ) → Leads Next first text over → IsMisfit Next first over text n → ⊥
+  no_misfit one first over text n fits m =
+      stops_not over m.place m.after m.stops (Leads-rest one first m.place over m.before m.after m.fit (subst (λ t. Leads Next first t over) m.cut fits))
+
+  -- a misfit of the rest is one of the whole
+  pub later_misfit : (first place over : P) (front rest : List (List ℕ)) (n : ℕ) → Leads Next first front place → IsMisfit Next place over rest n
+      → IsMisfit Next first over (front ++ rest) (length front + n)
+  later_misfit first place over front rest n h m = record {
+    before = front ++ m.before;
+    after = m.after;
+    place = m.place;
+    cut = ap (λ t. front ++ t) m.cut ∙ sym (append_assoc front m.before m.after);
+    fit = Leads-append first place m.place front m.before h m.fit;
+    stops = m.stops;
+    number = omega (arith, m.number, length-append front m.before);
+  }
+
+-- no element is the byte
+differs : (c : ℕ) (xs : List ℕ) → Lacks c xs → AllByRecursion (λ x. eqb x c ≡ false) xs
+differs c [] h = tt
+differs c (x ∷ xs) h = (let n : x ≢ c = h.0 in grind (arith, nat_tests), differs c xs h.1)
+
+same_byte : (c : ℕ) → eqb c c ≡ true
+same_byte c = grind (arith, nat_tests)
+
+pub split_last : (c : ℕ) (xs : List ℕ) → Lacks c xs → slice_split (λ b. b == c) xs ≡ xs ∷ []
+split_last c xs h = slice_split_none (λ b. b == c) xs (All-from_recursion (λ x. eqb x c ≡ false) xs (differs c xs h))
+
+pub split_front : (c : ℕ) (xs ys : List ℕ) → Lacks c xs → slice_split (λ b. b == c) (xs ++ c ∷ ys) ≡ xs ∷ slice_split (λ b. b == c) ys
+split_front c xs ys h = slice_split_at (λ b. b == c) xs c ys (All-from_recursion (λ x. eqb x c ≡ false) xs (differs c xs h)) (same_byte c)
+
+-- the pieces of lines are the lines, and an empty piece after them
+pub pieces_of_lines : (ls : List (List ℕ)) → AllByRecursion (Lacks 10) ls → pieces (text_of_lines ls) ≡ ls ++ [] ∷ []
+pieces_of_lines [] h = refl
+pieces_of_lines (l ∷ ls) h = ap pieces (after_line l (text_of_lines ls)) ∙ split_front 10 l (text_of_lines ls) h.0 ∙ ap (λ t. l ∷ t) (pieces_of_lines ls h.1)
+
+-- the words of a line of words are the words
+pub split_words : (w : List ℕ) (ws : List (List ℕ)) → AllByRecursion (Lacks 32) (w ∷ ws) → slice_split (λ b. b == 32) (words (w ∷ ws)) ≡ w ∷ ws
+split_words w [] h = split_last 32 w h.0
+split_words w (v ∷ ws) h = split_front 32 w (words (v ∷ ws)) h.0 ∙ ap (λ t. w ∷ t) (split_words v ws h.1)
+
+pub words_split : (line : List ℕ) → words (slice_split (λ b. b == 32) line) ≡ line
+words_split line = join_with_byte-slice_split 32 line

@@ -1,0 +1,103 @@
+-- The lines of a plan fit their places.
+use Rattle.std.proofs.Common.{◌≡◌, ℕ, suc, ◌+◌, ◌<◌, ◌≤◌, List, [], ◌∷◌, ◌++◌, length, refl, sym, ap, subst, ◌∙◌, arith, map, codes, append_assoc, add-zero, inl, inr}
+use Rattle.std.specs.List.{AllByRecursion}
+use Rattle.std.specs.Fmt.{decimal}
+use Rattle.std.proofs.lemmas.Fmt.{decimal_injective}
+use Rattle.std.proofs.lemmas.Bool.{cases_lt}
+use Rattle.mig_base.specs.declared.ids.Shift.{Shift}
+use Rattle.mig_base.specs.InputLists.{Lists, IsInput}
+use Rattle.mig_base.specs.Texts.{words, shift_line, round_lines, plan_lines, PlanText}
+use Rattle.mig_base.specs.Running.{ShiftFits, PlanFits}
+use Rattle.mig_base.specs.Misfits.{Leads, IsLine, pieces}
+use Rattle.mig_base.specs.PlanLines.{PlanPlace, Title, Total, Head, Move, End, Last, Over, before_rounds, before_shifts, PlanNext}
+use Rattle.mig_base.proofs.Separators.{same_words, Lacks-decimal}
+use Rattle.mig_base.proofs.Spelling.{plan_lacks, are_fitting, rounds_word_lacks}
+use Rattle.mig_text.specs.PlanParts.{head_line}
+use Rattle.mig_text.proofs.Places.{Leads-append, no_misfit, pieces_of_lines}
+
+same_total : (m n : ℕ) → m ≤ 131072 → n ≤ 131072 → words (codes "rounds" ∷ decimal m ∷ []) ≡ words (codes "rounds" ∷ decimal n ∷ []) → m ≡ n
+same_total m n a b e =
+    let w : codes "rounds" ∷ decimal m ∷ [] ≡ codes "rounds" ∷ decimal n ∷ [] = same_words (codes "rounds") (codes "rounds") (decimal m ∷ []) (decimal n ∷ [])
+    (rounds_word_lacks, (Lacks-decimal 32 m (omega arith) (omega arith), tt)) (rounds_word_lacks, (Lacks-decimal 32 n (omega arith) (omega arith), tt)) e in
+    decimal_injective m n (omega arith) (omega arith) cc
+
+-- a byte list that goes on where two fronts are the same
+same_rest : (a x y : List ℕ) → a ++ x ≡ a ++ y → x ≡ y
+same_rest [] x y e = e
+same_rest (c ∷ a) x y e = let t : a ++ x ≡ a ++ y = cc in same_rest a x y t
+
+-- the count of a head's line, whatever the number of the round
+same_head : (r m n : ℕ) → head_line r m ≡ head_line r n → decimal m ≡ decimal n
+same_head r m n e =
+    let f : decimal r ++ 32 ∷ decimal m ≡ decimal r ++ 32 ∷ decimal n = same_rest (codes "round" ++ 32 ∷ []) (decimal r ++ 32 ∷ decimal m) (decimal r ++ 32 ∷ decimal n) e in
+    let g : 32 ∷ decimal m ≡ 32 ∷ decimal n = same_rest (decimal r) (32 ∷ decimal m) (32 ∷ decimal n) f in
+    cc
+
+-- a piece at a place has one place after it
+pub one_next : (input : Lists) (a : PlanPlace) (piece : List ℕ) (b c : PlanPlace) → PlanNext input a piece b → PlanNext input a piece c → b ≡ c
+one_next input Title piece b c h k = h.1 ∙ sym k.1
+one_next input Total piece b c h k = h.1.2 ∙ ap (before_rounds 1) (same_total h.0 k.0 h.1.0 k.1.0 (sym h.1.1 ∙ k.1.1)) ∙ sym k.1.2
+one_next input (Head r left) piece b c h k =
+    let d : decimal h.0 ≡ decimal k.0 = same_head r h.0 k.0 (sym h.1.1 ∙ k.1.1) in
+    h.1.2 ∙ ap (λ n. before_shifts n r left) (decimal_injective h.0 k.0 (omega (arith, h.1.0)) (omega (arith, k.1.0)) d) ∙ sym k.1.2
+one_next input (Move more r left) piece b c h k = h.1.2 ∙ sym k.1.2
+one_next input End piece b c h k = h.1 ∙ sym k.1
+one_next input Last piece b c h k = h.1 ∙ sym k.1
+one_next input Over piece b c h k = absurd h
+
+pub shifts_lead : (input : Lists) (shifts : List Shift) (r left : ℕ) → AllByRecursion (ShiftFits input) shifts
+    → Leads (PlanNext input) (before_shifts (length shifts) r left) (map (shift_line input) shifts) (before_rounds (r + 1) left)
+shifts_lead input [] r left h = refl
+shifts_lead input (s ∷ shifts) r left h = (before_shifts (length shifts) r left, ((s, (h.0, refl, refl)), shifts_lead input shifts r left h.1))
+
+-- a round's lines
+pub round_leads : (input : Lists) (round : List Shift) (r left : ℕ) → length round ≤ 65536 → AllByRecursion (ShiftFits input) round
+    → Leads (PlanNext input) (Head r left) (head_line r (length round) ∷ map (shift_line input) round) (before_rounds (r + 1) left)
+round_leads input round r left few h = (before_shifts (length round) r left, ((length round, (few, refl, refl)), shifts_lead input round r left h))
+
+pub rounds_lead : (input : Lists) (rounds : List (List Shift)) (r more : ℕ) → AllByRecursion (λ round. (length round ≤ 65536) × AllByRecursion (ShiftFits input) round) rounds
+    → Leads (PlanNext input) (before_rounds r (length rounds + more)) (round_lines input r rounds) (before_rounds (r + length rounds) more)
+rounds_lead input [] r more h = let a : r + 0 ≡ r = omega arith in let b : more ≡ 0 + more = omega arith in (λ i. before_rounds (a i) (b i))
+rounds_lead input (round ∷ rounds) r more h =
+    let e : suc (length rounds) + more ≡ suc (length rounds + more) = omega arith in
+    let f : (r + 1) + length rounds ≡ r + suc (length rounds) = omega arith in
+    subst (λ n. Leads (PlanNext input) (before_rounds r n) (round_lines input r (round ∷ rounds)) (before_rounds (r + suc (length rounds)) more)) (sym e)
+    (Leads-append (PlanNext input) (Head r (length rounds + more)) (before_rounds (r + 1) (length rounds + more)) (before_rounds (r + suc (length rounds)) more)
+    (head_line r (length round) ∷ map (shift_line input) round) (round_lines input (r + 1) rounds)
+    (round_leads input round r (length rounds + more) h.0.0 h.0.1)
+    (subst (λ n. Leads (PlanNext input) (before_rounds (r + 1) (length rounds + more)) (round_lines input (r + 1) rounds) (before_rounds n more)) f (rounds_lead input rounds (r + 1) more h.1)))
+
+pub end_leads : (input : Lists) → Leads (PlanNext input) End (codes "end" ∷ [] ∷ []) Over
+end_leads input = (Last, ((refl, refl), (Over, ((refl, refl), refl))))
+
+pub plan_leads : (input : Lists) (plan : List (List Shift)) → IsInput input → PlanFits input plan → Leads (PlanNext input) Title (plan_lines input plan ++ [] ∷ []) Over
+plan_leads input plan valid fits = (
+  Total,
+  (
+    (refl, refl),
+    (
+      before_rounds 1 (length plan),
+      (
+        (length plan, (fits.few_rounds, refl, refl)),
+        subst (λ t. Leads (PlanNext input) (before_rounds 1 (length plan)) t Over) (sym (append_assoc (round_lines input 1 plan) (codes "end" ∷ []) ([] ∷ [])))
+            (Leads-append (PlanNext input) (before_rounds 1 (length plan)) End Over (round_lines input 1 plan) (codes "end" ∷ [] ∷ [])
+            (subst (λ n. Leads (PlanNext input) (before_rounds 1 n) (round_lines input 1 plan) End) (add-zero (length plan)) (rounds_lead input plan 1 0 (are_fitting input valid plan fits)))
+            (end_leads input)),
+      ),
+    ),
+  ),
+)
+
+-- the pieces of a spelling fit
+pub text_leads : (input : Lists) (plan : List (List Shift)) (bytes : List ℕ) → IsInput input → PlanText input plan bytes → Leads (PlanNext input) Title (pieces bytes) Over
+text_leads input plan bytes valid text =
+    subst (λ t. Leads (PlanNext input) Title t Over)
+    (sym (ap pieces text.lines ∙ pieces_of_lines (plan_lines input plan) (plan_lacks input valid plan text.fits.few_rounds (are_fitting input valid plan text.fits))))
+    (plan_leads input plan valid text.fits)
+
+pub line_no_plan : (input : Lists) (bytes : List ℕ) (n : ℕ) → IsInput input → IsLine (PlanNext input) Title Over bytes n → (plan : List (List Shift)) → PlanText input plan bytes → 16777216 < length bytes
+line_no_plan input bytes n valid line plan text =
+    elim (cases_lt 16777216 (length bytes)) [
+      | inl long ↦ long
+      | inr short ↦ absurd (no_misfit (PlanNext input) (one_next input) Title Over (pieces bytes) n (text_leads input plan bytes valid text) (line.short short))
+    ]

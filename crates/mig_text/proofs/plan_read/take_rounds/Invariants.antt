@@ -1,0 +1,5 @@
+use Rattle.mig_text.specs.PlanParts.{AreRoundsRead}
+use Rattle.mig_text.proofs.plan_read.take_rounds.Given as goal
+
+abbrev pub invariant-loop-k : goal.invariant-loop-k
+invariant-loop-k l = AreRoundsRead l.finder l.k l.rounds.items l.fn.lines l.lines
