@@ -1,0 +1,85 @@
+-- The line of a bound is read through its words.
+use Rattle.std.proofs.Common.{◌≡◌, ◌≢◌, ◌<◌, ◌∷◌, ℕ, List, [], Option, Some, None, MatchOption, length, codes, arith, ap, sym, refl, subst, ◌∙◌}
+use Rattle.std.specs.List.{AllByRecursion}
+use Rattle.std.specs.Fmt.{decimal}
+use Rattle.std.proofs.lemmas.Fmt.{decimal_injective}
+use Rattle.mig_base.specs.declared.inputs.Disk.{Disk}
+use Rattle.mig_base.specs.InputLists.{Lists, IsInput, no_disk}
+use Rattle.mig_base.specs.Texts.{disk_name, words, BoundLine, Empty, One, Many, bound_line}
+use Rattle.mig_base.specs.CertLines.{FitsLine}
+use Rattle.mig_base.proofs.Separators.{Lacks, same_words, Lacks-decimal}
+use Rattle.mig_base.proofs.Spelling.{lacks_test, same_place}
+use Rattle.mig_base.proofs.CertSpelling.{nothing_lacks, disk_words_lack}
+use Rattle.mig_text.proofs.LineWords.{words_of, line_is, words_are}
+use Rattle.mig_cert.specs.declared.bounds.Head.{Head}
+use Rattle.mig_cert.specs.BoundParts.{bound_words, head_of, limit_of}
+
+module _ (input : Lists) where
+  pub line_of_words : (b : BoundLine) → words (bound_words input b) ≡ bound_line input b
+  line_of_words Empty = refl
+  line_of_words (One d l v) = refl
+  line_of_words (Many n i v) = refl
+
+  -- the first word, and the others
+  bound_first : (b : BoundLine) → (rest : List (List ℕ)) × (bound_words input b ≡ codes "bound" ∷ rest)
+  bound_first Empty = (codes "nothing" ∷ [], refl)
+  bound_first (One d l v) = (codes "disk" ∷ disk_name input d ∷ decimal l ∷ decimal (limit_of input d) ∷ decimal v ∷ [], refl)
+  bound_first (Many n i v) = (codes "set" ∷ decimal n ∷ decimal i ∷ decimal v ∷ [], refl)
+
+module _ (input : Lists) (valid : IsInput input) where
+  bound_words_lack : (b : BoundLine) → FitsLine input b → AllByRecursion (Lacks 32) (bound_words input b)
+  bound_words_lack Empty fits = nothing_lacks input valid 32 (omega arith)
+  bound_words_lack (One d l v) fits = disk_words_lack input valid 32 (omega arith) refl (record { 0 = d }) l v fits.0 fits.1 fits.2
+  bound_words_lack (Many n i v) fits = (
+    lacks_test 32 (codes "bound") refl,
+    (
+      lacks_test 32 (codes "set") refl,
+      (Lacks-decimal 32 n (omega arith) (omega (arith, fits.0)), (Lacks-decimal 32 i (omega arith) (omega (arith, fits.1)), (Lacks-decimal 32 v (omega arith) (omega (arith, fits.2)), tt))),
+    ),
+  )
+
+  first_lack : (b : BoundLine) → FitsLine input b → AllByRecursion (Lacks 32) (codes "bound" ∷ (bound_first input b).0)
+  first_lack b fits = subst (AllByRecursion (Lacks 32)) (bound_first input b).1 (bound_words_lack b fits)
+
+  bound_words_are : (line : List ℕ) (b : BoundLine) → FitsLine input b → line ≡ bound_line input b → words_of line ≡ bound_words input b
+  bound_words_are line b fits e =
+      let x = bound_first input b in
+      words_are line (codes "bound") x.0 (first_lack b fits) (e ∙ sym (line_of_words input b) ∙ ap words x.1) ∙ sym x.1
+
+  pub bound_read : (line : List ℕ) (o : Option Head) → MatchOption o ((b : BoundLine) → FitsLine input b → words_of line ≢ bound_words input b) (λ h. FitsLine input (head_of h) × (words_of line ≡ bound_words input (head_of h)))
+      → MatchOption o ((b : BoundLine) → FitsLine input b → line ≢ bound_line input b) (λ h. FitsLine input (head_of h) × (line ≡ bound_line input (head_of h)))
+  bound_read line None m = λ b fits e. m b fits (bound_words_are line b fits e)
+  bound_read line (Some h) m = (m.0, line_is line _ m.1 ∙ line_of_words input (head_of h))
+
+  -- a line is that of one bound
+  same_bound_words : (a b : BoundLine) → FitsLine input a → FitsLine input b → bound_line input a ≡ bound_line input b → bound_words input a ≡ bound_words input b
+  same_bound_words a b fa fb e =
+      let x = bound_first input a in
+      let y = bound_first input b in
+      x.1 ∙ same_words (codes "bound") (codes "bound") x.0 y.0 (first_lack a fa) (first_lack b fb)
+      (sym (sym (line_of_words input a) ∙ ap words x.1) ∙ e ∙ (sym (line_of_words input b) ∙ ap words y.1)) ∙ sym y.1
+
+  pub same_disk : (d e : ℕ) → d < length input.disks → e < length input.disks → disk_name input d ≡ disk_name input e → d ≡ e
+  same_disk d e hd he eq = same_place (λ (x : Disk). x.name) input.disks no_disk d e valid.disk_names hd he eq
+
+  same_of_words : (a b : BoundLine) → FitsLine input a → FitsLine input b → bound_words input a ≡ bound_words input b → a ≡ b
+  same_of_words Empty Empty fa fb e = refl
+  same_of_words Empty (One d l v) fa fb e = absurd cc
+  same_of_words Empty (Many n i v) fa fb e = absurd cc
+  same_of_words (One d l v) Empty fa fb e = absurd cc
+  same_of_words (One d l v) (One d' l' v') fa fb e =
+      let x : d ≡ d' = same_disk d d' fa.0 fb.0 cc in
+      let y : l ≡ l' = decimal_injective l l' (omega (arith, fa.1)) (omega (arith, fb.1)) cc in
+      let z : v ≡ v' = decimal_injective v v' (omega (arith, fa.2)) (omega (arith, fb.2)) cc in
+      cc
+  same_of_words (One d l v) (Many n i w) fa fb e = absurd cc
+  same_of_words (Many n i v) Empty fa fb e = absurd cc
+  same_of_words (Many n i v) (One d l w) fa fb e = absurd cc
+  same_of_words (Many n i v) (Many n' i' v') fa fb e =
+      let x : n ≡ n' = decimal_injective n n' (omega (arith, fa.0)) (omega (arith, fb.0)) cc in
+      let y : i ≡ i' = decimal_injective i i' (omega (arith, fa.1)) (omega (arith, fb.1)) cc in
+      let z : v ≡ v' = decimal_injective v v' (omega (arith, fa.2)) (omega (arith, fb.2)) cc in
+      cc
+
+  pub same_bound_line : (a b : BoundLine) → FitsLine input a → FitsLine input b → bound_line input a ≡ bound_line input b → a ≡ b
+  same_bound_line a b fa fb e = same_of_words a b fa fb (same_bound_words a b fa fb e)

@@ -1,0 +1,131 @@
+-- The lines of a certificate fit their places.
+use Rattle.std.proofs.Common.{◌≡◌, ℕ, suc, ◌+◌, ◌^◌, ◌<◌, ◌≤◌, List, [], ◌∷◌, ◌++◌, length, refl, sym, ap, subst, ◌∙◌, arith, codes, All, get_or, append_assoc, inl, inr}
+use Rattle.std.proofs.lemmas.Bool.{cases_lt}
+use Rattle.mig_base.specs.declared.ids.DiskId.{DiskId}
+use Rattle.mig_base.specs.declared.certs.Bound.{Bound}
+use Rattle.mig_base.specs.declared.certs.Bound.TheVariants.{Nothing, OfDisk, OfSet}
+use Rattle.mig_base.specs.declared.certs.Cert.{Cert}
+use Rattle.mig_base.specs.InputLists.{Lists, IsInput}
+use Rattle.mig_base.specs.Transfers.{transfers}
+use Rattle.mig_base.specs.Bounding.{BoundFits, bound_value, stated_load}
+use Rattle.mig_base.specs.Certificates.{CertFits}
+use Rattle.mig_base.specs.DiskNumbers.{IsDiskSet}
+use Rattle.mig_base.specs.Texts.{bound_set, line_of, IsCert, CertText, cert_lines}
+use Rattle.mig_base.specs.Misfits.{Leads, IsLine, pieces}
+use Rattle.mig_base.specs.CertLines.{CertPlace, Title, Rounds, Quotient, Kind, Shown, Member, End, Last, Over, before_members, members_after, FitsLine, CertNext}
+use Rattle.mig_base.proofs.CertSpelling.{cert_lines_lack, spelt}
+use Rattle.mig_text.proofs.Places.{Leads-append, no_misfit, pieces_of_lines}
+use Rattle.mig_cert.specs.Prints.{member_lines}
+use Rattle.mig_cert.proofs.BoundWords.{same_bound_line, same_disk}
+
+-- the ids rise from a number on, and are below another
+abbrev pub Ascends : ℕ → ℕ → List DiskId → Type 0
+Ascends n from [] = Unit {0}
+Ascends n from (d ∷ ds) = (from ≤ d.0) × (d.0 < n) × Ascends n (d.0 + 1) ds
+
+ascends : (n from : ℕ) (ds : List DiskId) → ((k : ℕ) (x : DiskId) → k < length ds → from ≤ (get_or ds k x).0) → IsDiskSet ds → All (λ (d : DiskId). d.0 < n) ds → Ascends n from ds
+ascends n from [] low apart below = tt
+ascends n from (d ∷ ds) low apart below = (
+  low 0 d (omega arith),
+  below 0 d (omega arith),
+  ascends n (d.0 + 1) ds (λ k x h. let lt : d.0 < (get_or ds k x).0 = apart 0 (suc k) x (omega arith) (omega arith) in omega arith) (λ i j x l h. apart (suc i) (suc j) x (omega arith) (omega arith)) (λ k x h. below (suc k) x (omega arith)),
+)
+
+pub ascends_from : (n : ℕ) (ds : List DiskId) → IsDiskSet ds → All (λ (d : DiskId). d.0 < n) ds → Ascends n 0 ds
+ascends_from n ds rising below = ascends n 0 ds (λ k x h. omega arith) rising below
+
+pub ascends_len : (n from : ℕ) (ds : List DiskId) → Ascends n from ds → from ≤ n → from + length ds ≤ n
+ascends_len n from [] h le = omega arith
+ascends_len n from (d ∷ ds) h le = omega (arith, h.0, ascends_len n (d.0 + 1) ds h.2 (omega (arith, h.1)))
+
+pub as_many : (b : Bound) → length (bound_set b) ≡ members_after (line_of b)
+as_many Nothing = refl
+as_many (OfDisk disk load value) = refl
+as_many (OfSet disks inside value) = refl
+
+module _ (input : Lists) (valid : IsInput input) where
+  pub one_next : (a : CertPlace) (piece : List ℕ) (b c : CertPlace) → CertNext input a piece b → CertNext input a piece c → b ≡ c
+  one_next Title piece b c h k = h.1 ∙ sym k.1
+  one_next Rounds piece b c h k = h.1 ∙ sym k.1
+  one_next Quotient piece b c h k = h.1 ∙ sym k.1
+  one_next Kind piece b c h k = h.1.1 ∙ sym k.1.1
+  one_next Shown piece b c h k =
+      let same : h.0 ≡ k.0 = same_bound_line input valid h.0 k.0 h.1.0 k.1.0 (sym h.1.1 ∙ k.1.1) in
+      h.1.2 ∙ ap (λ x. before_members (members_after x) 0) same ∙ sym k.1.2
+  one_next (Member more from) piece b c h k =
+      let same : h.0 ≡ k.0 = same_disk input valid h.0 k.0 h.1.1 k.1.1 (sym h.1.2 ∙ k.1.2) in
+      h.1.3 ∙ ap (λ x. before_members more (x + 1)) same ∙ sym k.1.3
+  one_next End piece b c h k = h.1 ∙ sym k.1
+  one_next Last piece b c h k = h.1 ∙ sym k.1
+  one_next Over piece b c h k = absurd h
+
+  pub members_lead : (from : ℕ) (ds : List DiskId) → Ascends (length input.disks) from ds → Leads (CertNext input) (before_members (length ds) from) (member_lines input ds) End
+  members_lead from [] h = refl
+  members_lead from (d ∷ ds) h = (before_members (length ds) (d.0 + 1), ((d.0, (h.0, h.1, refl, refl)), members_lead (d.0 + 1) ds h.2))
+
+  pub end_leads : Leads (CertNext input) End (codes "end" ∷ [] ∷ []) Over
+  end_leads = (Last, ((refl, refl), (Over, ((refl, refl), refl))))
+
+  pub set_fits : (b : Bound) → BoundFits (transfers input) b → All (λ (d : DiskId). d.0 < length input.disks) (bound_set b)
+  set_fits Nothing fits = λ k d h. absurd (omega arith)
+  set_fits (OfDisk disk load value) fits = λ k d h. absurd (omega arith)
+  set_fits (OfSet disks inside value) fits = fits
+
+  pub set_ascends : (b : Bound) → BoundFits (transfers input) b → IsDiskSet (bound_set b) → Ascends (length input.disks) 0 (bound_set b)
+  set_ascends b fits set = ascends_from (length input.disks) (bound_set b) set (set_fits b fits)
+
+  pub few_in_set : (ds : List DiskId) → IsDiskSet ds → All (λ (d : DiskId). d.0 < length input.disks) ds → length ds ≤ 1024
+  few_in_set ds rising below = omega (arith, ascends_len (length input.disks) 0 ds (ascends_from (length input.disks) ds rising below) (omega arith), valid.few_disks)
+
+  pub line_fits : (b : Bound) → BoundFits (transfers input) b → stated_load b < 2 ^ 32 → bound_value b < 2 ^ 32 → IsDiskSet (bound_set b) → FitsLine input (line_of b)
+  line_fits Nothing fits small low set = tt
+  line_fits (OfDisk disk load value) fits small low set = (fits, small, low)
+  line_fits (OfSet disks inside value) fits small low set = (few_in_set disks set fits, small, low)
+
+  bound_leads : (b : Bound) → BoundFits (transfers input) b → IsDiskSet (bound_set b) → Leads (CertNext input) (before_members (members_after (line_of b)) 0) ((member_lines input (bound_set b) ++ codes "end" ∷ []) ++ [] ∷ []) Over
+  bound_leads b fits set =
+      let names : List (List ℕ) = member_lines input (bound_set b) in
+      let tail : Leads (CertNext input) (before_members (length (bound_set b)) 0) (names ++ codes "end" ∷ [] ∷ []) Over =
+      Leads-append (CertNext input) (before_members (length (bound_set b)) 0) End Over names (codes "end" ∷ [] ∷ []) (members_lead 0 (bound_set b) (set_ascends b fits set)) end_leads in
+      subst (λ t. Leads (CertNext input) (before_members (members_after (line_of b)) 0) t Over) (sym (append_assoc names (codes "end" ∷ []) ([] ∷ [])))
+      (subst (λ n. Leads (CertNext input) (before_members n 0) (names ++ codes "end" ∷ [] ∷ []) Over) (as_many b) tail)
+
+  cert_leads : (cert : Cert) → IsCert cert → CertFits input cert → Leads (CertNext input) Title (cert_lines input cert ++ [] ∷ []) Over
+  cert_leads cert kept fits =
+      let b : Bound = cert.bound in (
+        Rounds,
+        (
+          (refl, refl),
+          (
+            Quotient,
+            (
+              ((cert.rounds, (kept.rounds, refl)), refl),
+              (
+                Kind,
+                (
+                  ((cert.quotient, (kept.quotient, refl)), refl),
+                  (
+                    Shown,
+                    (
+                      (cert.class, (refl, refl)),
+                      (before_members (members_after (line_of b)) 0, ((line_of b, (line_fits b fits kept.load kept.value kept.set, refl, refl)), bound_leads b fits kept.set)),
+                    ),
+                  ),
+                ),
+              ),
+            ),
+          ),
+        ),
+      )
+
+  text_leads : (cert : Cert) (bytes : List ℕ) → CertText input cert bytes → Leads (CertNext input) Title (pieces bytes) Over
+  text_leads cert bytes text =
+      subst (λ t. Leads (CertNext input) Title t Over) (sym (ap pieces text.lines ∙ pieces_of_lines (cert_lines input cert) (cert_lines_lack input valid cert text.kept (spelt input valid cert bytes text))))
+      (cert_leads cert text.kept text.fits)
+
+  pub line_no_cert : (bytes : List ℕ) (n : ℕ) → IsLine (CertNext input) Title Over bytes n → (cert : Cert) → CertText input cert bytes → 16777216 < length bytes
+  line_no_cert bytes n line cert text =
+      elim (cases_lt 16777216 (length bytes)) [
+        | inl long ↦ long
+        | inr short ↦ absurd (no_misfit (CertNext input) one_next Title Over (pieces bytes) n (text_leads cert bytes text) (line.short short))
+      ]

@@ -1,0 +1,72 @@
+-- The reading of a set's disks, one by one.
+use Rattle.std.proofs.Common.{◌≡◌, ◌≤◌, ◌<◌, ◌+◌, ◌-◌, ◌∷◌, ◌++◌, ℕ, suc, List, [], length, map, All, get_or, arith, ap, sym, refl, subst, ◌∙◌, length-append, inl, inr}
+use Rattle.std.proofs.lemmas.Bool.{cases_lt}
+use Rattle.std.proofs.lemmas.List as lists
+use Rattle.std.proofs.lemmas.List.Elements.{All-push}
+use Rattle.std.proofs.Math.ListN.{get_or-append}
+use Rattle.std.proofs.Math.Seq.{get_or-append_seam}
+use Rattle.mig_base.specs.declared.ids.DiskId.{DiskId}
+use Rattle.mig_base.specs.DiskNumbers.{IsDiskSet}
+use Rattle.mig_base.specs.InputLists.{Lists}
+use Rattle.mig_base.specs.Texts.{disk_name}
+use Rattle.mig_base.specs.Misfits.{Leads}
+use Rattle.mig_base.specs.CertLines.{Member, Over, before_members, CertNext}
+use Rattle.mig_text.specs.declared.errors.TextError.{TextError}
+use Rattle.mig_text.specs.Reads.{Left, Took, TookAll, IsMiss, IsStop}
+use Rattle.mig_text.proofs.Places.{Leads-append}
+use Rattle.mig_text.proofs.Stops.{took_none, took_next, miss_stops, later_stops}
+use Rattle.mig_cert.specs.Prints.{member_lines}
+use Rattle.mig_cert.specs.BoundParts.{IsMemberLine}
+use Rattle.mig_cert.specs.MemberParts.{AreMembersPart}
+
+map_push : {X Y : Type 0} (f : X → Y) (xs : List X) (x : X) → map f (xs ++ x ∷ []) ≡ map f xs ++ f x ∷ []
+map_push f xs x = lists.map-append f xs (x ∷ [])
+
+-- a disk with a higher number goes last
+set_push : (ids : List DiskId) (d : DiskId) → IsDiskSet ids → All (λ (x : DiskId). x.0 < d.0) ids → IsDiskSet (ids ++ d ∷ [])
+set_push ids d rising below i j x less within =
+    let len = length-append ids (d ∷ []) in
+    let front : get_or (ids ++ d ∷ []) i x ≡ get_or ids i x = get_or-append ids (d ∷ []) x i (omega (arith, len)) in
+    elim (cases_lt j (length ids)) [
+      | inl inside ↦ rw (front, get_or-append ids (d ∷ []) x j inside) (rising i j x less inside)
+      | inr end ↦
+          let at : j ≡ length ids = omega (arith, len) in
+          let last : get_or (ids ++ d ∷ []) j x ≡ d = ap (λ k. get_or (ids ++ d ∷ []) k x) at ∙ get_or-append_seam ids d [] x in
+          rw (front, last) (below i x (omega arith))
+    ]
+
+module _ (input : Lists) where
+  pub members_none : (old : Left) → AreMembersPart input 0 0 [] old old
+  members_none old = record {
+    read = record { all = refl; below = λ k d h. absurd (omega arith); increasing = λ i j d l h. absurd (omega arith); took = took_none old };
+    before = λ k d h. absurd (omega arith);
+    leads = λ more. let e : more ≡ 0 + more = omega arith in ap (λ n. before_members n 0) e;
+  }
+
+  pub members_more : (count from : ℕ) (ids : List DiskId) (d : DiskId) (old now new : Left) → AreMembersPart input count from ids old now → from ≤ d.0 → d.0 < length input.disks → Took now (disk_name input d.0) new
+      → AreMembersPart input (count + 1) (d.0 + 1) (ids ++ d ∷ []) old new
+  members_more count from ids d old now new part low high t = record {
+    read = record {
+      all = omega (arith, part.read.all, length-append ids (d ∷ []));
+      below = All-push (λ (x : DiskId). x.0 < length input.disks) ids d part.read.below high;
+      increasing = set_push ids d part.read.increasing (λ k x h. omega (arith, part.before k x h));
+      took = subst (λ ls. TookAll old ls new) (sym (map_push (λ (x : DiskId). disk_name input x.0) ids d)) (took_next old now new (member_lines input ids) (disk_name input d.0) part.read.took t);
+    };
+    before = All-push (λ (x : DiskId). x.0 < d.0 + 1) ids d (λ k x h. omega (arith, part.before k x h)) (omega arith);
+    leads = λ more.
+        let e : count + suc more ≡ (count + 1) + more = omega arith in
+        subst (λ ls. Leads (CertNext input) (before_members ((count + 1) + more) 0) ls (before_members more (d.0 + 1))) (sym (map_push (λ (x : DiskId). disk_name input x.0) ids d))
+        (Leads-append (CertNext input) (before_members ((count + 1) + more) 0) (Member more from) (before_members more (d.0 + 1)) (member_lines input ids) (disk_name input d.0 ∷ [])
+        (subst (λ n. Leads (CertNext input) (before_members n 0) (member_lines input ids) (Member more from)) e (part.leads (suc more)))
+        (before_members more (d.0 + 1), ((d.0, (low, high, refl, refl)), refl)));
+  }
+
+  pub member_stops : (count done from : ℕ) (ids : List DiskId) (old now : Left) (e : TextError) → AreMembersPart input done from ids old now → done < count → IsMiss (IsMemberLine input from) now e
+      → IsStop (CertNext input) (before_members count 0) Over old e
+  member_stops count done from ids old now e part less m =
+      let more : ℕ = count - done - 1 in
+      let sum : done + suc more ≡ count = omega arith in
+      later_stops (CertNext input) (before_members count 0) (Member more from) Over old now (member_lines input ids) e
+      (subst (λ n. Leads (CertNext input) (before_members n 0) (member_lines input ids) (Member more from)) sum (part.leads (suc more)))
+      part.read.took
+      (miss_stops (CertNext input) (Member more from) Over (IsMemberLine input from) now e (λ q. absurd cc) (λ piece next k. (k.0, (k.1.0, k.1.1, k.1.2))) m)

@@ -1,0 +1,32 @@
+-- The printed text is the text of the lines.
+use Rattle.std.proofs.Common.{◌≡◌, ◌++◌, ◌∷◌, ℕ, List, [], codes, ap, sym, refl, ◌∙◌, append_assoc, append-nil}
+use Rattle.std.specs.Fmt.{decimal}
+use Rattle.mig_base.specs.declared.certs.Cert.{Cert}
+use Rattle.mig_base.specs.InputLists.{Lists}
+use Rattle.mig_base.specs.Texts.{text_of_lines, words, class_word, bound_lines, cert_lines}
+use Rattle.mig_cert.specs.Prints.{opening_lines, opening_text, bound_text}
+
+text_both : (ls ms : List (List ℕ)) → text_of_lines (ls ++ ms) ≡ text_of_lines ls ++ text_of_lines ms
+text_both [] ms = refl
+text_both (l ∷ ls) ms = ap (λ t. (l ++ 10 ∷ []) ++ t) (text_both ls ms) ∙ sym (append_assoc (l ++ 10 ∷ []) (text_of_lines ls) (text_of_lines ms))
+
+pub printed : (input : Lists) (cert : Cert) (a b c : List ℕ) → a ≡ opening_text cert → b ≡ a ++ bound_text input cert.bound → c ≡ b ++ codes "end\n" → c ≡ text_of_lines (cert_lines input cert)
+printed input cert a b c ha hb hc =
+    let first : List (List ℕ) = opening_lines cert.rounds cert.quotient (class_word cert.class) in
+    let second : List (List ℕ) = bound_lines input cert.bound in
+    let e : text_of_lines (cert_lines input cert) ≡ opening_text cert ++ (bound_text input cert.bound ++ codes "end\n") =
+    text_both first (second ++ codes "end" ∷ []) ∙ ap (λ t. opening_text cert ++ t) (text_both second (codes "end" ∷ [])) in
+    hc ∙ ap (λ t. t ++ codes "end\n") (hb ∙ ap (λ t. t ++ bound_text input cert.bound) ha) ∙ append_assoc (opening_text cert) (bound_text input cert.bound) (codes "end\n") ∙ sym e
+
+four : (o a b c d : List ℕ) → (((o ++ a) ++ b) ++ c) ++ d ≡ o ++ (a ++ (b ++ (c ++ (d ++ []))))
+four o a b c d = simp (append_assoc, append-nil)
+
+pub opening_printed : (cert : Cert) (o a b c d : List ℕ) → a ≡ o ++ codes "migration-certificate 1\n"
+    → b ≡ a ++ (words (codes "rounds" ∷ decimal cert.rounds ∷ []) ++ 10 ∷ [])
+    → c ≡ b ++ (words (codes "quotient" ∷ decimal cert.quotient ∷ []) ++ 10 ∷ [])
+    → d ≡ c ++ (words (codes "class" ∷ class_word cert.class ∷ []) ++ 10 ∷ []) → d ≡ o ++ opening_text cert
+opening_printed cert o a b c d ha hb hc hd =
+    let r : List ℕ = words (codes "rounds" ∷ decimal cert.rounds ∷ []) ++ 10 ∷ [] in
+    let q : List ℕ = words (codes "quotient" ∷ decimal cert.quotient ∷ []) ++ 10 ∷ [] in
+    let k : List ℕ = words (codes "class" ∷ class_word cert.class ∷ []) ++ 10 ∷ [] in
+    hd ∙ ap (λ t. t ++ k) (hc ∙ ap (λ t. t ++ q) (hb ∙ ap (λ t. t ++ r) ha)) ∙ four o (codes "migration-certificate 1\n") r q k

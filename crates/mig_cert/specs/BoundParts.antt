@@ -1,0 +1,31 @@
+-- What the line of a bound says.
+use Rattle.std.specs.Prelude.{◌≡◌, ℕ, ◌≤◌, ◌<◌, List, [], ◌∷◌, length, codes}
+use Rattle.std.specs.Fmt.{decimal}
+use Rattle.mig_base.specs.InputLists.{Lists, disk_at}
+use Rattle.mig_base.specs.Texts.{disk_name, BoundLine, Empty, One, Many, bound_line}
+use Rattle.mig_base.specs.CertLines.{FitsLine}
+use Rattle.mig_cert.specs.declared.bounds.Head.{Head}
+use Rattle.mig_cert.specs.declared.bounds.Head.TheVariants as head
+
+abbrev pub limit_of : Lists → ℕ → ℕ
+limit_of input v = (disk_at input.disks v).limit
+
+-- the words of a bound's line
+abbrev pub bound_words : Lists → BoundLine → List (List ℕ)
+bound_words input Empty = codes "bound" ∷ codes "nothing" ∷ []
+bound_words input (One v load value) = codes "bound" ∷ codes "disk" ∷ disk_name input v ∷ decimal load ∷ decimal (limit_of input v) ∷ decimal value ∷ []
+bound_words input (Many count inside value) = codes "bound" ∷ codes "set" ∷ decimal count ∷ decimal inside ∷ decimal value ∷ []
+
+-- the line that a head stands for
+abbrev pub head_of : Head → BoundLine
+head_of head.Nothing = Empty
+head_of (head.OfDisk disk load value) = One disk.0 load value
+head_of (head.OfSet count inside value) = Many count inside value
+
+-- the piece is the line of a bound that fits the input
+abbrev pub IsBoundLine : Lists → List ℕ → Type 0
+IsBoundLine input piece = (b : BoundLine) × (FitsLine input b × (piece ≡ bound_line input b))
+
+-- the piece is the name of the disk numbered `from` or a later one
+abbrev pub IsMemberLine : Lists → ℕ → List ℕ → Type 0
+IsMemberLine input from piece = (d : ℕ) × ((from ≤ d) × (d < length input.disks) × (piece ≡ disk_name input d))

@@ -1,0 +1,28 @@
+-- What the reading of a certificate's parts says.
+use Rattle.std.specs.Prelude.{◌≡◌, ℕ, ◌<◌, ◌^◌, List, [], ◌∷◌, All, length, codes}
+use Rattle.mig_base.specs.declared.ids.DiskId.{DiskId}
+use Rattle.mig_base.specs.declared.certs.Class.{Class}
+use Rattle.mig_base.specs.declared.certs.Bound.{Bound}
+use Rattle.mig_base.specs.DiskNumbers.{IsDiskSet}
+use Rattle.mig_base.specs.InputLists.{Lists}
+use Rattle.mig_base.specs.Texts.{words, class_word, line_of, bound_set, bound_lines}
+use Rattle.mig_base.specs.CertLines.{FitsLine}
+use Rattle.mig_text.specs.Reads.{Left, TookAll}
+use Rattle.mig_cert.specs.Prints.{opening_lines}
+
+-- the piece is the line of a class
+abbrev pub IsClassLine : List ℕ → Type 0
+IsClassLine piece = (k : Class) × (piece ≡ words (codes "class" ∷ class_word k ∷ []))
+
+-- the first four lines were taken, and say this
+pub record IsOpened (rounds quotient : ℕ) (k : Class) (old new : Left) : Type 0 where
+  pub few : rounds < 2 ^ 32
+  pub small : quotient < 2 ^ 32
+  pub took : TookAll old (opening_lines rounds quotient (class_word k)) new
+
+-- the lines of this bound were taken
+pub record IsBoundRead (input : Lists) (b : Bound) (old new : Left) : Type 0 where
+  pub line : FitsLine input (line_of b)
+  pub members : All (λ (d : DiskId). d.0 < length input.disks) (bound_set b)
+  pub increasing : IsDiskSet (bound_set b)
+  pub took : TookAll old (bound_lines input b) new

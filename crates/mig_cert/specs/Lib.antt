@@ -1,0 +1,5 @@
+pub mod BoundParts
+pub mod CertParts
+pub mod Lengths
+pub mod MemberParts
+pub mod Prints

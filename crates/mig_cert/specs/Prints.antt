@@ -1,0 +1,32 @@
+-- Parts of the text of a certificate.
+use Rattle.std.specs.Prelude.{ℕ, List, [], ◌∷◌, map, codes}
+use Rattle.std.specs.Fmt.{decimal}
+use Rattle.mig_base.specs.declared.ids.DiskId.{DiskId}
+use Rattle.mig_base.specs.declared.certs.Bound.{Bound}
+use Rattle.mig_base.specs.declared.certs.Cert.{Cert}
+use Rattle.mig_base.specs.InputLists.{Lists}
+use Rattle.mig_base.specs.Texts.{disk_name, text_of_lines, words, class_word, bound_lines}
+
+-- a blank and a number
+abbrev pub blank_number : ℕ → List ℕ
+blank_number n = 32 ∷ decimal n
+
+-- the names of disks
+abbrev pub member_lines : Lists → List DiskId → List (List ℕ)
+member_lines input disks = map (λ (d : DiskId). disk_name input d.0) disks
+
+-- the lines of a bound
+abbrev pub bound_text : Lists → Bound → List ℕ
+bound_text input b = text_of_lines (bound_lines input b)
+
+-- the first four lines
+abbrev pub opening_lines : ℕ → ℕ → List ℕ → List (List ℕ)
+opening_lines rounds quotient class =
+    codes "migration-certificate 1"
+    ∷ words (codes "rounds" ∷ decimal rounds ∷ [])
+    ∷ words (codes "quotient" ∷ decimal quotient ∷ [])
+    ∷ words (codes "class" ∷ class ∷ [])
+    ∷ []
+
+abbrev pub opening_text : Cert → List ℕ
+opening_text cert = text_of_lines (opening_lines cert.rounds cert.quotient (class_word cert.class))

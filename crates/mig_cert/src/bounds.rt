@@ -1,0 +1,131 @@
+ghost use Rattle.std.specs.Prelude.{◌≡◌, ◌≢◌, ◌≤◌, ◌<◌, ◌^◌, ◌∷◌, ℕ, List, [], codes, length, IfErr, IfOk, MatchOption};
+ghost use Rattle.std.specs.Fmt.{decimal};
+ghost use Rattle.mig_base.specs.CertLines.{FitsLine};
+ghost use Rattle.mig_base.specs.InputLists.{IsInput};
+ghost use Rattle.mig_base.specs.Texts.{BoundLine, bound_line, disk_name};
+ghost use Rattle.mig_text.specs.Reads.{IsMiss, Took};
+ghost use Rattle.mig_cert.specs.BoundParts.{bound_words, head_of, IsBoundLine, limit_of};
+
+use mig_base::DiskId;
+use mig_text::{Finder, Lines, Parts, TextError, is_number, last_number, read_number};
+
+/// What the line of a bound says: all but the disks of a set.
+#[derive(Clone, Copy)]
+pub(crate) enum Head {
+    Nothing,
+    OfDisk { disk: DiskId, load: u32, value: u32 },
+    OfSet { count: u32, inside: u32, value: u32 },
+}
+
+/// Takes the line of a bound.
+pub(crate) fn take_head(lines: &mut Lines<'_>, finder: &Finder<'_>) -> Result<Head, TextError>
+    ensures ok { IfOk result (λ h. FitsLine finder.now (head_of h) × Took lines.old (bound_line finder.now (head_of h)) lines.new) }
+    ensures err { IfErr result (IsMiss (IsBoundLine finder.now) lines.old) }
+{
+    match read_head(finder, lines.take_line()?) {
+        Some(head) => Ok(head),
+        None => Err(lines.misfit()),
+    }
+}
+
+// What a line of a bound says.
+fn read_head(finder: &Finder<'_>, line: &[u8]) -> Option<Head>
+    ensures { MatchOption result ((b : BoundLine) → FitsLine finder.now b → line.now ≢ bound_line finder.now b)
+        (λ h. FitsLine finder.now (head_of h) × (line.now ≡ bound_line finder.now (head_of h))) }
+{
+    let _input = finder.input();
+    bound_of(finder, Parts::of(line, b' '))
+}
+
+// The same of the line's words.
+fn bound_of(finder: &Finder<'_>, mut parts: Parts<'_>) -> Option<Head>
+    ensures { MatchOption result ((b : BoundLine) → FitsLine finder.now b → parts.entry ≢ bound_words finder.now b)
+        (λ h. FitsLine finder.now (head_of h) × (parts.entry ≡ bound_words finder.now (head_of h))) }
+{
+    if parts.take_part()? != b"bound".as_slice() {
+        return None;
+    }
+    let kind = parts.take_part()?;
+    if kind == b"nothing".as_slice() {
+        return nothing_of(finder, parts);
+    }
+    if kind == b"disk".as_slice() {
+        return disk_of(finder, parts);
+    }
+    if kind == b"set".as_slice() {
+        return set_of(finder, parts);
+    }
+    None
+}
+
+// The same of the words after `bound nothing`.
+fn nothing_of(finder: &Finder<'_>, parts: Parts<'_>) -> Option<Head>
+    ensures { MatchOption result ((b : BoundLine) → FitsLine finder.now b → codes "bound" ∷ codes "nothing" ∷ parts.entry ≢ bound_words finder.now b)
+        (λ h. FitsLine finder.now (head_of h) × (codes "bound" ∷ codes "nothing" ∷ parts.entry ≡ bound_words finder.now (head_of h))) }
+{
+    if parts.is_done() {
+        Some(Head::Nothing)
+    } else {
+        None
+    }
+}
+
+// The same of the words after `bound disk`.
+fn disk_of(finder: &Finder<'_>, parts: Parts<'_>) -> Option<Head>
+    ensures { MatchOption result ((b : BoundLine) → FitsLine finder.now b → codes "bound" ∷ codes "disk" ∷ parts.entry ≢ bound_words finder.now b)
+        (λ h. FitsLine finder.now (head_of h) × (codes "bound" ∷ codes "disk" ∷ parts.entry ≡ bound_words finder.now (head_of h))) }
+{
+    let (disk, load, value) = disk_fields(finder, parts)?;
+    Some(Head::OfDisk { disk, load, value })
+}
+
+// The same of the words after `bound set`.
+fn set_of(finder: &Finder<'_>, parts: Parts<'_>) -> Option<Head>
+    ensures { MatchOption result ((b : BoundLine) → FitsLine finder.now b → codes "bound" ∷ codes "set" ∷ parts.entry ≢ bound_words finder.now b)
+        (λ h. FitsLine finder.now (head_of h) × (codes "bound" ∷ codes "set" ∷ parts.entry ≡ bound_words finder.now (head_of h))) }
+{
+    let (count, inside, value) = set_fields(parts)?;
+    Some(Head::OfSet {
+        count,
+        inside,
+        value,
+    })
+}
+
+// NAME, LOAD and VALUE of `NAME LOAD LIMIT VALUE`.
+fn disk_fields(finder: &Finder<'_>, mut parts: Parts<'_>) -> Option<(DiskId, u32, u32)>
+    ensures { MatchOption result
+        ((d : ℕ) (load : ℕ) (value : ℕ) → d < length finder.now.disks → load < 2 ^ 32 → value < 2 ^ 32
+        → parts.entry ≢ disk_name finder.now d ∷ decimal load ∷ decimal (limit_of finder.now d) ∷ decimal value ∷ [])
+        (λ r. (r.0.0 < length finder.now.disks) × (r.1 < 2 ^ 32) × (r.2 < 2 ^ 32)
+        × (parts.entry ≡ disk_name finder.now r.0.0 ∷ decimal r.1 ∷ decimal (limit_of finder.now r.0.0) ∷ decimal r.2 ∷ [])) }
+{
+    let disk = finder.disk(parts.take_part()?)?;
+    let load = read_number(parts.take_part()?, u32::MAX)?;
+    if !is_number(parts.take_part()?, limit_of(finder, disk)) {
+        return None;
+    }
+    let value = last_number(parts, u32::MAX)?;
+    Some((disk, load, value))
+}
+
+// The limit of a disk.
+fn limit_of(finder: &Finder<'_>, disk: DiskId) -> u32
+    requires { disk.0 < length finder.now.disks }
+    ensures limit { result ≡ limit_of finder.now disk.0 }
+    ensures valid { IsInput finder.now }
+{
+    finder.input().disks()[disk.0 as usize].limit
+}
+
+// COUNT, INSIDE and VALUE.
+fn set_fields(mut parts: Parts<'_>) -> Option<(u32, u32, u32)>
+    ensures { MatchOption result
+        ((count : ℕ) (inside : ℕ) (value : ℕ) → count ≤ 1024 → inside < 2 ^ 32 → value < 2 ^ 32 → parts.entry ≢ decimal count ∷ decimal inside ∷ decimal value ∷ [])
+        (λ r. (r.0 ≤ 1024) × (r.1 < 2 ^ 32) × (r.2 < 2 ^ 32) × (parts.entry ≡ decimal r.0 ∷ decimal r.1 ∷ decimal r.2 ∷ [])) }
+{
+    let count = read_number(parts.take_part()?, 1024)?;
+    let inside = read_number(parts.take_part()?, u32::MAX)?;
+    let value = last_number(parts, u32::MAX)?;
+    Some((count, inside, value))
+}
