@@ -1,0 +1,10 @@
+pub mod BlameCases
+pub mod EndCounts
+pub mod ItemCounts
+pub mod LayoutLists
+pub mod MoveCounts
+pub mod Repeats
+pub mod Rooms
+pub mod SmallInputs
+pub mod SpotOrder
+pub mod TakenSpots

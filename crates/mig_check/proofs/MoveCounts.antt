@@ -1,0 +1,130 @@
+-- Counts over the moves of an input, item by item and disk by disk.
+use Rattle.std.proofs.Common.{◌≡◌, ℕ, suc, zero, ◌+◌, ◌*◌, ◌<◌, ◌≤◌, max, Bool, true, false, cond, not, ◌&&◌, eqb, List, [], ◌∷◌, length, map, take, All, get_or, count_by, ap, sym, refl, ◌∙◌, inl, inr, arith, ◌^◌}
+use Rattle.std.specs.List.{range_with_len}
+use Rattle.std.proofs.lemmas.Bool.{cases_lt}
+use Rattle.std.proofs.lemmas.List.{get_or_default, map-id, map_more}
+use Rattle.std.proofs.lemmas.Bool.Decides.{nat_tests}
+use Rattle.std.specs.Int as Int
+use Rattle.std.specs.Ordering.{ord_max, nat_cmp}
+use Rattle.std.proofs.lemmas.List.FromFn.{length-range_with_len, map-range_with_len_more, sum_by-map-range_with_len_more}
+use Rattle.std.proofs.lemmas.List.Sums.{count_by-le-length, fold-append, sum_by-append, sum_by-cons}
+use Rattle.mig_base.specs.declared.inputs.Disk.{Disk}
+use Rattle.mig_base.specs.declared.ids.DiskId.{DiskId}
+use Rattle.mig_base.specs.declared.ids.Spot.{Spot}
+use Rattle.mig_base.specs.declared.certs.Class.{Class}
+use Rattle.mig_base.specs.declared.certs.Class.TheVariants.{Even, General}
+use Rattle.mig_base.specs.InputLists.{IsInput, Lists, no_disk, no_spot}
+use Rattle.mig_base.specs.DiskNumbers.{IsDiskSet, numbers}
+use Rattle.mig_base.specs.Transfers.{Transfers, Trip, is_inside, is_relocated, load, moves, transfers, trip, trips}
+use Rattle.mig_base.specs.Bounding.{IsEven, class_of, disk_value, greatest, has, is_even, limit, limit_sum}
+use Rattle.mig_base.proofs.Counting.{count_by-filter, one, sum_by-map}
+use Rattle.mig_base.proofs.Rounds.{spot_disk}
+use Rattle.mig_base.proofs.Evenness.{class_is_even}
+use Rattle.mig_check.specs.Counts.{AreLoads, passing}
+use Rattle.mig_check.proofs.Rooms.{either}
+
+-- one item more
+pub passing_more : (input : Lists) (p : Trip → Bool) (n : ℕ) → passing input p (n + 1) ≡ passing input p n + cond (is_relocated input n && p (trip input n)) 1 0
+passing_more input p n =
+    let test : ℕ → ℕ = λ item. one (is_relocated input item && p (trip input item)) in
+    simp map-id at (sum_by-map-range_with_len_more test (λ m. m) 0 n n (omega arith))
+
+pub passing_most : (input : Lists) (p : Trip → Bool) (n : ℕ) → passing input p n ≤ n
+passing_most input p n = omega (arith, count_by-le-length (λ item. is_relocated input item && p (trip input item)) (range_with_len 0 n), length-range_with_len 0 n)
+
+-- over all items it is the count over the moves
+pub passing_all : (input : Lists) (p : Trip → Bool) → passing input p (length input.items) ≡ count_by p (trips input)
+passing_all input p = sym (sum_by-map (λ t. one (p t)) (trip input) (moves input) ∙ count_by-filter (λ item. p (trip input item)) (is_relocated input) (range_with_len 0 (length input.items)))
+
+-- what the code reads of an item
+abbrev pub passes_at : (Trip → Bool) → List Spot → List DiskId → ℕ → Bool
+passes_at p spots next i = not (eqb (get_or spots i no_spot).disk.0 (get_or next i (record { 0 = 0 })).0) && p (record { leaves = (get_or spots i no_spot).disk.0; reaches = (get_or next i (record { 0 = 0 })).0 })
+
+pub counted_more : (input : Lists) (p : Trip → Bool) (spots : List Spot) (next : List DiskId) (i old new : ℕ) → spots ≡ input.spots → next ≡ input.next → new ≡ old + one (passes_at p spots next i) → old ≡ passing input p i → new ≡ passing input p (i + 1)
+counted_more input p spots next i old new is_spots is_next step was =
+    let e : one (passes_at p spots next i) ≡ one (passes_at p input.spots input.next i) = ap (λ (s : List Spot). one (passes_at p s next i)) is_spots ∙ ap (λ (n : List DiskId). one (passes_at p input.spots n i)) is_next in
+    omega (arith, step, was, e, passing_more input p i)
+
+-- the greatest of one number more
+pub greatest_more : (f : ℕ → ℕ) (n : ℕ) → greatest (map f (range_with_len 0 (n + 1))) ≡ max (greatest (map f (range_with_len 0 n))) (f n)
+greatest_more f n = ap greatest (map-range_with_len_more f 0 n n (omega arith)) ∙ fold-append max 0 (map f (range_with_len 0 n)) (f n ∷ [])
+
+-- what the code reads of a set
+pub inside_by_marks : (members : List Bool) (set : List ℕ) (a b : ℕ) (r : Bool) → get_or members a false ≡ has set a → get_or members b false ≡ has set b → r ≡ (not (eqb a b) && (get_or members a false && get_or members b false)) → r ≡ (not (eqb a b) && is_inside set (record { leaves = a; reaches = b }))
+inside_by_marks members set a b r at_a at_b h = h ∙ rw (at_a, at_b) refl
+
+pub one_more : (r p : Bool) (new old : ℕ) → r ≡ p → r ≡ true → new ≡ old + 1 → new ≡ old + one p
+one_more r p new old same yes' step = step ∙ ap (λ (b : Bool). old + one b) (sym yes' ∙ same)
+
+pub no_more : (r p : Bool) (new old : ℕ) → r ≡ p → r ≡ false → new ≡ old → new ≡ old + one p
+no_more r p new old same not' step = let e : one p ≡ 0 = ap one (sym same ∙ not') in omega (arith, step, e)
+
+-- the rounds that a disk needs, as the code counts them
+pub need_is : (input : Lists) (loads : List ℕ) (disks : List Disk) (v need : ℕ) (disk : Disk) → AreLoads input loads → disks ≡ input.disks → v < length disks → disk ≡ get_or disks v disk → need ≡ Int.div_ceil (get_or loads v 0) disk.limit → need ≡ disk_value (transfers input) v
+need_is input loads disks v need disk are same there is h =
+    let within : v < length input.disks = omega (arith, there, ap (λ (d : List Disk). length d) same) in
+    let e : disk.limit ≡ limit (transfers input) v = ap (λ (d : Disk). d.limit) (is ∙ get_or_default disks v disk no_disk there ∙ ap (λ (d : List Disk). get_or d v no_disk) same) in
+    h ∙ ap (λ (n : ℕ). Int.div_ceil n disk.limit) (are.each v (omega (arith, within, are.len))) ∙ ap (λ (n : ℕ). Int.div_ceil (load v (trips input)) n) e
+
+max_is : (a b : ℕ) → ord_max nat_cmp a b ≡ max a b
+max_is a b = grind (arith, nat_tests)
+
+pub quotient_more : (graph : Transfers) (v old need new : ℕ) → old ≡ greatest (map (disk_value graph) (range_with_len 0 v)) → need ≡ disk_value graph v → new ≡ ord_max nat_cmp old need → new ≡ greatest (map (disk_value graph) (range_with_len 0 (v + 1)))
+quotient_more graph v old need new was is h = h ∙ max_is old need ∙ ap (λ (n : ℕ). max n need) was ∙ ap (λ (n : ℕ). max (greatest (map (disk_value graph) (range_with_len 0 v))) n) is ∙ sym (greatest_more (disk_value graph) v)
+
+-- the class, by whether limits are even
+pub even_class : (graph : Transfers) → IsEven graph → ◌≡◌ {A = Class} Even (class_of graph)
+even_class graph even = sym ((class_is_even graph).1 even)
+
+pub general_class : (graph : Transfers) → (IsEven graph → ⊥) → ◌≡◌ {A = Class} General (class_of graph)
+general_class graph odd = elim (either (is_even graph)) [ inl even ↦ absurd (odd ((class_is_even graph).0 (rw even refl))) | inr odd_one ↦ rw odd_one refl ]
+
+-- Sets of disks
+
+at_least : (set : List DiskId) → IsDiskSet set → (k : ℕ) (d : DiskId) → k < length set → k ≤ (get_or set k d).0
+at_least set apart zero d there = omega arith
+at_least set apart (suc k) d there = omega (arith, at_least set apart k d (omega (arith, there)), apart k (suc k) d (omega arith) there)
+
+-- a set has no more disks than there are
+pub short_set : (set : List DiskId) (n : ℕ) → IsDiskSet set → All (λ disk. disk.0 < n) set → length set ≤ n
+short_set set n apart there = elim (cases_lt n (length set)) [
+  | inl long ↦ (let d : DiskId = record { 0 = 0 } in absurd (omega (arith, at_least set apart n d long, there n d long)))
+  | inr short ↦ short
+]
+
+pub limit_sum_more : (graph : Transfers) (set : List DiskId) (i : ℕ) (d : DiskId) → i < length set → limit_sum graph (numbers (take (i + 1) set)) ≡ limit_sum graph (numbers (take i set)) + limit graph (get_or set i d).0
+limit_sum_more graph set i d there =
+    let n = (get_or set i d).0 in
+    ap (limit_sum graph) (map_more (λ (disk : DiskId). disk.0) set i d there) ∙ omega (arith, sum_by-append (limit graph) (numbers (take i set)) (n ∷ []), sum_by-cons (limit graph) n [])
+
+-- the sum of limits goes on by one disk, and stays in range
+pub record SumStep (input : Lists) (items : List DiskId) (i sum : ℕ) : Type 0 where
+  pub fits : sum < 2 ^ 32
+  pub is : sum ≡ limit_sum (transfers input) (numbers (take (i + 1) items))
+  pub most : sum ≤ (i + 1) * 1024
+
+pub sum_step : (input : Lists) (set items : List DiskId) (disks : List Disk) (i old : ℕ) (d : DiskId) (e : Disk) → IsInput input → disks ≡ input.disks → items ≡ set → All (λ disk. disk.0 < length input.disks) set → IsDiskSet set → i < length items → old ≡ limit_sum (transfers input) (numbers (take i items)) → old ≤ i * 1024
+    → SumStep input items i (old + (get_or disks (get_or items i d).0 e).limit)
+sum_step input set items disks i old d e valid same_disks same_items there increasing within is most =
+    let n = (get_or items i d).0 in
+    let lens : length items ≡ length set = ap (λ (x : List DiskId). length x) same_items in
+    let inside : n < length input.disks = omega (arith, there i d (omega (arith, within, lens)), ap (λ (x : List DiskId). (get_or x i d).0) same_items) in
+    let at : (get_or disks n e).limit ≡ limit (transfers input) n = ap (λ (x : Disk). x.limit) (ap (λ (x : List Disk). get_or x n e) same_disks ∙ get_or_default input.disks n e no_disk inside) in
+    let range = valid.disk_ranges n no_disk inside in
+    let few = short_set set (length input.disks) increasing there in
+    record {
+      fits = omega (arith, most, at, range.1, few, valid.few_disks, within, lens);
+      is = omega (arith, is, at, limit_sum_more (transfers input) items i d within);
+      most = omega (arith, most, at, range.1);
+    }
+
+-- the disks that the code reads of an item are there
+pub ends_there : (input : Lists) (spots : List Spot) (next : List DiskId) (i : ℕ) → IsInput input → spots ≡ input.spots → next ≡ input.next → i < length spots → ((get_or spots i no_spot).disk.0 < length input.disks) × ((get_or next i (record { 0 = 0 })).0 < length input.disks)
+ends_there input spots next i valid is_spots is_next within =
+    let d : DiskId = record { 0 = 0 } in
+    let lens : length spots ≡ length input.spots = ap (λ (s : List Spot). length s) is_spots in
+    let from = spot_disk input.disks (get_or input.spots i no_spot) (valid.on_disks i no_spot (omega (arith, within, lens))) in
+    let to = valid.next_disks i d (omega (arith, within, lens, valid.spots_len, valid.next_len)) in (
+      omega (arith, from, ap (λ (s : List Spot). (get_or s i no_spot).disk.0) is_spots),
+      omega (arith, to, ap (λ (n : List DiskId). (get_or n i d).0) is_next),
+    )

@@ -1,0 +1,7 @@
+use Rattle.std.proofs.Common.{◌≡◌, ℕ, ◌<◌, length, take, get_or, false}
+use Rattle.mig_base.specs.Bounding.{has}
+use Rattle.mig_base.specs.DiskNumbers.{numbers}
+use Rattle.mig_check.proofs.counted.mark.Given as goal
+
+abbrev pub invariant-loop-disk : goal.invariant-loop-disk
+invariant-loop-disk l = (v : ℕ) → v < length l.members → get_or l.members v false ≡ has (numbers (take l.disk-index l.ids)) v

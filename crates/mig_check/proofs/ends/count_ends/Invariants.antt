@@ -1,0 +1,7 @@
+use Rattle.std.proofs.Common.{◌≡◌, ℕ, ◌<◌, length, map, take, get_or}
+use Rattle.mig_base.specs.Transfers.{load}
+use Rattle.mig_base.specs.Running.{trip_of}
+use Rattle.mig_check.proofs.ends.count_ends.Given as goal
+
+abbrev pub invariant-loop-s : goal.invariant-loop-s
+invariant-loop-s l = (v : ℕ) → v < length l.counts → get_or l.counts v 0 ≡ load v (map trip_of (take l.s-index l.round))

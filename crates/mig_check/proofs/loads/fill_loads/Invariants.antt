@@ -1,0 +1,7 @@
+use Rattle.std.proofs.Common.{◌≡◌, ℕ, ◌<◌, length, get_or}
+use Rattle.mig_base.specs.Transfers.{touches}
+use Rattle.mig_check.specs.Counts.{passing}
+use Rattle.mig_check.proofs.loads.fill_loads.Given as goal
+
+abbrev pub invariant-loop-i : goal.invariant-loop-i
+invariant-loop-i l = (v : ℕ) → v < length l.loads → get_or l.loads v 0 ≡ passing l.input (touches v) l.i

@@ -1,0 +1,6 @@
+use Rattle.std.proofs.Common.{◌≡◌, ℕ, ◌+◌, ◌<◌, length, take, get_or, count_by}
+use Rattle.mig_base.specs.Running.{is_of}
+use Rattle.mig_check.proofs.moved.count_round.Given as goal
+
+abbrev pub invariant-loop-s : goal.invariant-loop-s
+invariant-loop-s l = (item : ℕ) → item < length l.counts → get_or l.counts item 0 ≡ get_or l.initial.counts item 0 + count_by (is_of item) (take l.s-index l.round)

@@ -1,0 +1,7 @@
+use Rattle.std.proofs.Common.{◌≡◌, ℕ, ◌<◌, get_or, Some}
+use Rattle.mig_base.specs.declared.ids.Shift.{Shift}
+use Rattle.mig_check.specs.Tables.{layout_of}
+use Rattle.mig_check.proofs.shifts.find_elsewhere.Given as goal
+
+abbrev pub invariant-loop-s : goal.invariant-loop-s
+invariant-loop-s l = (k : ℕ) (d : Shift) → k < l.s-index → layout_of l.spots (get_or l.round k d).item.0 ≡ Some (get_or l.round k d).from

@@ -1,0 +1,51 @@
+-- What each part of the checker blames.
+use Rattle.std.specs.Prelude.{◌≡◌, ◌≢◌, List, length}
+use Rattle.mig_base.specs.declared.ids.Shift.{Shift}
+use Rattle.mig_base.specs.declared.certs.Cert.{Cert}
+use Rattle.mig_base.specs.declared.blames.Blame.{Blame}
+use Rattle.mig_base.specs.declared.blames.Blame.TheVariants.{EmptyRound, NotHere, TwiceInRound, SlotNotFree, OverLimit, WrongEnd, MovedTooOften, RoundsDiffer, QuotientDiffers, ClassDiffers, LoadDiffers, ValueDiffers, Memory}
+use Rattle.mig_base.specs.InputLists.{Lists}
+use Rattle.mig_base.specs.Transfers.{transfers}
+use Rattle.mig_base.specs.Bounding.{bound_value, class_of, counted_load, counted_value, quotient, stated_load}
+use Rattle.mig_base.specs.Running.{shift_count}
+use Rattle.mig_base.specs.Judging.{Differ, FirstBlame, IsLeast, IsMovedTooOften}
+use Rattle.mig_check.specs.declared.counted.Shown.{Shown}
+
+-- the blame is the first of the plan, whatever the certificate
+abbrev pub IsFirstOfPlan : Lists → List (List Shift) → Blame → Type 0
+IsFirstOfPlan input plan blame = (cert : Cert) → FirstBlame input plan cert blame
+
+-- what is wrong with the plan itself: the first of these six kinds, or want of memory, which is free
+abbrev pub IsRunBlame : Lists → List (List Shift) → Blame → Type 0
+IsRunBlame input plan (EmptyRound r) = IsFirstOfPlan input plan (EmptyRound r)
+IsRunBlame input plan (NotHere r item) = IsFirstOfPlan input plan (NotHere r item)
+IsRunBlame input plan (TwiceInRound r item) = IsFirstOfPlan input plan (TwiceInRound r item)
+IsRunBlame input plan (SlotNotFree r item) = IsFirstOfPlan input plan (SlotNotFree r item)
+IsRunBlame input plan (OverLimit r disk count) = IsFirstOfPlan input plan (OverLimit r disk count)
+IsRunBlame input plan (WrongEnd item) = IsFirstOfPlan input plan (WrongEnd item)
+IsRunBlame input plan Memory = Unit {0}
+IsRunBlame input plan _ = ⊥
+
+-- what is wrong behind that: an item that is moved too often
+abbrev pub IsOnceBlame : Lists → List (List Shift) → Blame → Type 0
+IsOnceBlame input plan (MovedTooOften item count) = IsLeast (IsMovedTooOften input plan) item.0 × (count ≡ shift_count plan item.0)
+IsOnceBlame input plan Memory = Unit {0}
+IsOnceBlame input plan _ = ⊥
+
+-- what is wrong with a certificate: the first number that isn't the one that is counted
+abbrev pub IsCertBlame : Lists → List (List Shift) → Cert → Blame → Type 0
+IsCertBlame input plan cert (RoundsDiffer kept counted) = Differ cert.rounds (length plan) kept counted
+IsCertBlame input plan cert (QuotientDiffers kept counted) = (cert.rounds ≡ length plan) × Differ cert.quotient (quotient (transfers input)) kept counted
+IsCertBlame input plan cert ClassDiffers = (cert.rounds ≡ length plan) × (cert.quotient ≡ quotient (transfers input)) × (cert.class ≢ class_of (transfers input))
+IsCertBlame input plan cert (LoadDiffers kept counted) = (cert.rounds ≡ length plan) × (cert.quotient ≡ quotient (transfers input)) × (cert.class ≡ class_of (transfers input))
+    × Differ (stated_load cert.bound) (counted_load (transfers input) cert.bound) kept counted
+IsCertBlame input plan cert (ValueDiffers kept counted) = (cert.rounds ≡ length plan) × (cert.quotient ≡ quotient (transfers input)) × (cert.class ≡ class_of (transfers input))
+    × (stated_load cert.bound ≡ counted_load (transfers input) cert.bound) × Differ (bound_value cert.bound) (counted_value (transfers input) cert.bound) kept counted
+IsCertBlame input plan cert Memory = Unit {0}
+IsCertBlame input plan cert _ = ⊥
+
+-- what is wrong with a bound, beside what is counted
+abbrev pub IsShownBlame : Shown → Shown → Blame → Type 0
+IsShownBlame stated counted (LoadDiffers kept count) = Differ stated.load counted.load kept count
+IsShownBlame stated counted (ValueDiffers kept count) = (stated.load ≡ counted.load) × Differ stated.value counted.value kept count
+IsShownBlame stated counted _ = ⊥

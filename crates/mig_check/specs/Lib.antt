@@ -1,0 +1,5 @@
+pub mod Counts
+pub mod Faults
+pub mod SpotSets
+pub mod Start
+pub mod Tables

@@ -1,0 +1,14 @@
+-- The tables before the first round.
+use Rattle.std.specs.Prelude.{◌≡◌, ◌<◌, All, length}
+use Rattle.mig_base.specs.InputLists.{Lists}
+use Rattle.mig_check.specs.declared.rounds.Tables.{Tables}
+use Rattle.mig_check.specs.SpotSets.{has}
+use Rattle.mig_check.specs.Tables.{AreTaken, layout_of}
+
+-- the items' spots are taken, no item was in a round, and nothing is counted
+pub record IsStart (input : Lists) (tables : Tables) : Type 0 where
+  pub taken : AreTaken (has tables.taken) (layout_of input.spots)
+  pub seen_len : length tables.seen.items ≡ length input.items
+  pub seen : All (λ n. n < 1) tables.seen.items
+  pub counts_len : length tables.counts.items ≡ length input.disks
+  pub counts : All (λ n. n ≡ 0) tables.counts.items

@@ -1,0 +1,160 @@
+//! What a certificate states, counted again.
+ghost use Rattle.std.specs.Prelude.{◌≡◌, ◌&&◌, ℕ, ◌+◌, ◌<◌, ◌≤◌, ◌==◌, All, Bool, IfOk, false, length, not, slice_index_or};
+ghost use Rattle.std.specs.List.{list_any};
+ghost use Rattle.mig_base.specs.Bounding.{BoundFits, bound_value, class_of, counted_load, counted_value, disk_value, has, limit_sum, quotient, set_value, stated_load};
+ghost use Rattle.mig_base.specs.DiskNumbers.{IsDiskSet, numbers};
+ghost use Rattle.mig_base.specs.Transfers.{inside, load, transfers, trips};
+ghost use Rattle.mig_check.specs.Counts.{AreLoads};
+
+use crate::loads::{count_loads, find_class, find_quotient};
+use mig_base::{Bound, Class, DiskId, DiskSet, Input};
+use std::alloc::{AllocError, Global};
+
+/// The load or the inside of a bound, and its value.
+#[derive(Clone, Copy)]
+pub struct Shown {
+    pub load: u32,
+    pub value: u32,
+}
+
+/// The numbers of a certificate besides its rounds.
+#[derive(Clone, Copy)]
+pub struct Counted {
+    pub quotient: u32,
+    pub class: Class,
+    pub shown: Shown,
+}
+
+/// What a bound states.
+pub fn stated(bound: &Bound) -> Shown
+    ensures load { result.load ≡ stated_load bound.now }
+    ensures value { result.value ≡ bound_value bound.now }
+{
+    match bound {
+        Bound::Nothing => Shown { load: 0, value: 0 },
+        Bound::OfDisk { load, value, .. } => Shown {
+            load: *load,
+            value: *value,
+        },
+        Bound::OfSet { inside, value, .. } => Shown {
+            load: *inside,
+            value: *value,
+        },
+    }
+}
+
+/// What is counted of the input, and of the disks that the bound names.
+pub fn count_cert(alloc: Global, input: &Input, bound: &Bound) -> Result<Counted, AllocError>
+    requires { BoundFits (transfers input.now) bound.now }
+    ensures quotient { IfOk result (λ c. c.quotient ≡ quotient (transfers input.now)) }
+    ensures class { IfOk result (λ c. c.class ≡ class_of (transfers input.now)) }
+    ensures load { IfOk result (λ c. c.shown.load ≡ counted_load (transfers input.now) bound.now) }
+    ensures value { IfOk result (λ c. c.shown.value ≡ counted_value (transfers input.now) bound.now) }
+{
+    let loads = count_loads(alloc, input)?;
+    let shown = count_bound(alloc, input, &loads, bound)?;
+    Ok(Counted {
+        quotient: find_quotient(input, &loads),
+        class: find_class(input, &loads),
+        shown,
+    })
+}
+
+/// What is counted of the disks that the bound names.
+fn count_bound(
+    alloc: Global,
+    input: &Input,
+    loads: &[u32],
+    bound: &Bound,
+) -> Result<Shown, AllocError>
+    requires fits { BoundFits (transfers input.now) bound.now }
+    requires loads { AreLoads input.now loads.now }
+    ensures load { IfOk result (λ s. s.load ≡ counted_load (transfers input.now) bound.now) }
+    ensures value { IfOk result (λ s. s.value ≡ counted_value (transfers input.now) bound.now) }
+{
+    match bound {
+        Bound::Nothing => Ok(Shown { load: 0, value: 0 }),
+        Bound::OfDisk { disk, .. } => Ok(count_disk(input, loads, *disk)),
+        Bound::OfSet { disks, .. } => count_set(alloc, input, disks),
+    }
+}
+
+/// A disk's load, and the rounds that it needs.
+fn count_disk(input: &Input, loads: &[u32], disk: DiskId) -> Shown
+    requires there { disk.0 < length input.now.disks }
+    requires loads { AreLoads input.now loads.now }
+    ensures load { result.load ≡ load disk.0 (trips input.now) }
+    ensures value { result.value ≡ disk_value (transfers input.now) disk.0 }
+{
+    let load = loads[disk.0 as usize];
+    Shown {
+        load,
+        value: load.div_ceil(input.disks()[disk.0 as usize].limit),
+    }
+}
+
+/// The moves inside a set, and the rounds that they need: a round holds at most half the sum of the
+/// set's limits of them.
+fn count_set(alloc: Global, input: &Input, set: &DiskSet) -> Result<Shown, AllocError>
+    requires { All (λ disk. disk.0 < length input.now.disks) set.now }
+    ensures load { IfOk result (λ s. s.load ≡ inside (numbers set.now) (trips input.now)) }
+    ensures value { IfOk result (λ s. s.value ≡ set_value (transfers input.now) (numbers set.now)) }
+{
+    let mut members = vec![in alloc; false; input.disks().len()]?;
+    mark(&mut members, set.ids());
+    let inside = count_inside(input, &members, set);
+    let half = sum_limits(input, set) / 2;
+    Ok(Shown {
+        load: inside,
+        value: if half == 0 { 0 } else { inside.div_ceil(half) },
+    })
+}
+
+/// Marks the disks of a set, where none is marked yet.
+fn mark(members: &mut [bool], ids: &[DiskId])
+    requires none { All (λ m. m ≡ false) members.old }
+    requires there { All (λ disk. disk.0 < length members.old) ids.now }
+    ensures { (v : ℕ) → v < length members.new → slice_index_or members.new v false ≡ has (numbers ids.now) v }
+{
+    for disk in ids {
+        members[disk.0 as usize] = true;
+    }
+}
+
+/// The moves with both ends in the set.
+fn count_inside(input: &Input, members: &[bool], set: &DiskSet) -> u32
+    requires len { length members.now ≡ length input.now.disks }
+    requires marked { (v : ℕ) → v < length members.now → slice_index_or members.now v false ≡ has (numbers set.now) v }
+    ensures { result ≡ inside (numbers set.now) (trips input.now) }
+{
+    let next = input.next();
+    let mut inside = 0;
+    for (i, spot) in input.now().iter().enumerate() {
+        if moves_inside(members, spot.disk, next[i]) {
+            inside += 1;
+        }
+    }
+    inside
+}
+
+/// Whether an item with these disks moves from one marked disk to another.
+fn moves_inside(members: &[bool], from: DiskId, to: DiskId) -> bool
+    requires from { from.0 < length members.now }
+    requires to { to.0 < length members.now }
+    ensures { result ≡ (not (from.0 == to.0) && (slice_index_or members.now from.0 false && slice_index_or members.now to.0 false)) }
+{
+    from != to && members[from.0 as usize] && members[to.0 as usize]
+}
+
+/// The sum of the limits of the set's disks.
+fn sum_limits(input: &Input, set: &DiskSet) -> u32
+    requires { All (λ disk. disk.0 < length input.now.disks) set.now }
+    ensures { result ≡ limit_sum (transfers input.now) (numbers set.now) }
+{
+    let disks = input.disks();
+    let mut sum = 0;
+    for disk in set.ids() {
+        sum += disks[disk.0 as usize].limit;
+    }
+    sum
+}
