@@ -1,0 +1,12 @@
+pub mod BestFits
+pub mod Cutting
+pub mod EvenBound
+pub mod Exactness
+pub mod Headline
+pub mod LayoutSpots
+pub mod Lists
+pub mod Missing
+pub mod Putting
+pub mod ShownEnds
+pub mod StepEnds
+pub mod TextFiles

@@ -1,0 +1,10 @@
+pub mod Calls
+pub mod Causes
+pub mod Commands
+pub mod Ends
+pub mod Headline
+pub mod Loading
+pub mod Loads
+pub mod Outcomes
+pub mod Planned
+pub mod Words
