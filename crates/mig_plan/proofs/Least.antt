@@ -1,10 +1,9 @@
 -- A plan has at least as many rounds as the quotient.
-use Rattle.std.proofs.Common.{◌≡◌, ℕ, ◌<◌, ◌≤◌, ◌*◌, ◌∙◌, List, [], ◌∷◌, length, map, refl, sym, ap, subst, arith, All, get_or}
+use Rattle.std.proofs.Common.{◌≡◌, ℕ, ◌<◌, ◌≤◌, List, [], length, map, sym, subst, arith, get_or}
 use Rattle.std.specs.List.{range_with_len}
 use Rattle.std.proofs.lemmas.List.Elements.{All-map}
 use Rattle.std.proofs.lemmas.List.FromFn.{get_or-range_with_len, length-range_with_len}
 use Rattle.mig_base.specs.declared.ids.Shift.{Shift}
-use Rattle.mig_base.specs.declared.ids.Colour.{Colour}
 use Rattle.mig_base.specs.InputLists.{Lists, IsInput}
 use Rattle.mig_base.specs.Transfers.{Transfers, transfers, load}
 use Rattle.mig_base.specs.Bounding.{quotient, disk_value, IsEven, limit}

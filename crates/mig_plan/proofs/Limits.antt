@@ -1,27 +1,26 @@
 -- From a complete proper colouring of copies to a limited colouring of the transfer graph.
 use Rattle.std.proofs.Common.{◌≡◌, ◌≢◌, ◌⊎◌, ℕ, suc, zero, ◌+◌, ◌-◌, ◌*◌, ◌/◌, ◌%◌, min, ◌<◌, ◌≤◌, Bool, true, false, cond, not, ◌&&◌, ◌||◌, eqb, eq-eqb, List, [], ◌∷◌, ◌++◌, length, map, refl, sym, ap, ◌∙◌, arith, sum_by, count_by, filter, All, get_or, take, drop, inl, inr, subst, Some, None, Option}
-use Rattle.std.specs.Prelude.{slice_get, IsTrue}
+use Rattle.std.specs.Prelude.{slice_get}
 use Rattle.std.specs.List.{range_with_len}
 use Rattle.std.proofs.lemmas.List.Sums.{sum_by-cons, get_or-le-sum_by, sum_by-take-drop}
 use Rattle.std.proofs.lemmas.List.{get_or_default, length-map}
 use Rattle.std.proofs.lemmas.Option.{slice_get-get_or, slice_get_within, same_Some}
-use Rattle.std.proofs.lemmas.Bool.{cases_eq, cases_lt, ne_eqb}
+use Rattle.std.proofs.lemmas.Bool.{cases_eq, ne_eqb}
 use Rattle.std.proofs.lemmas.Bool.Decides.{nat_tests}
 use Rattle.std.proofs.lemmas.Grind.{div_ceil_times}
-use Rattle.std.proofs.Math.Nat.{mul_comm, mul-le-mul_left, mul-le-mul_right}
+use Rattle.std.proofs.Math.Nat.{mul-le-mul_left, mul-le-mul_right}
 use Rattle.mig_base.specs.declared.ids.Colour.{Colour}
 use Rattle.mig_base.specs.declared.ids.CopyId.{CopyId}
 use Rattle.mig_base.specs.declared.ids.DiskId.{DiskId}
 use Rattle.mig_base.specs.declared.ids.EdgeId.{EdgeId}
-use Rattle.mig_base.specs.declared.inputs.Disk.{Disk}
-use Rattle.mig_base.specs.Transfers.{Trip, KeepsLimits, load, touches, div_ceil}
-use Rattle.mig_base.specs.Transfers.{Transfers, takes_part}
+use Rattle.mig_base.specs.Transfers.{Trip, load, touches, div_ceil}
+use Rattle.mig_base.specs.Transfers.{Transfers}
 use Rattle.mig_base.specs.Bounding.{quotient, limit, IsEven}
 use Rattle.mig_base.specs.InputLists.{no_disk}
 use Rattle.mig_base.specs.Directions.{trip_at, is_forward, tails, heads, tail_of, head_of, out_of, in_of, Balances}
 use Rattle.mig_base.specs.Colourings.{IsLimited, edges_of, colour_at}
 use Rattle.mig_base.proofs.Counting.{one, sum_by-map, count_by-filter}
-use Rattle.mig_base.proofs.Copies.{Copied, StandsForEnds, IsProper as IsProperCopies, meets, in_colour, colour_at_disk, copies_joint, copies_of_sides, load_within_quotient, value_within_quotient}
+use Rattle.mig_base.proofs.Copies.{Copied, StandsForEnds, IsProper as IsProperCopies, colour_at_disk, copies_joint, copies_of_sides, load_within_quotient, value_within_quotient}
 use Rattle.mig_board.specs.Colouring.{Colouring, Joins, HasColour, Leads, IsProper}
 use Rattle.mig_split.specs.Dealing.{count_of, disk_at}
 use Rattle.mig_split.specs.Copies.{AreSides, AreCopies, first_of, second_of}

@@ -1,5 +1,5 @@
 -- From a limited colouring to a partition into rounds.
-use Rattle.std.proofs.Common.{◌≡◌, ◌≢◌, ◌⊎◌, ℕ, suc, zero, ◌+◌, ◌-◌, ◌<◌, ◌≤◌, Bool, true, false, cond, not, ◌&&◌, eqb, eq-eqb, List, [], ◌∷◌, ◌++◌, length, map, refl, sym, ap, ◌∙◌, arith, add-one, sum_by, count_by, filter, All, get_or, take, set, inl, inr, subst, Vec, Global}
+use Rattle.std.proofs.Common.{◌≡◌, ◌≢◌, ℕ, suc, zero, ◌+◌, ◌<◌, ◌≤◌, Bool, true, cond, not, ◌&&◌, eqb, eq-eqb, List, [], ◌∷◌, ◌++◌, length, map, refl, sym, ap, ◌∙◌, arith, sum_by, count_by, filter, All, get_or, set, inl, inr, subst, Vec, Global}
 use Rattle.std.specs.List.{range_with_len}
 use Rattle.std.proofs.lemmas.List.Sums.{sum_by-cons, get_or-le-sum_by, count_by-le-length, length-filter}
 use Rattle.std.proofs.lemmas.List.{get_or-set_same, get_or-set_other, length-set, map-append, map-id, get_or_default, length-map}
@@ -10,16 +10,16 @@ use Rattle.std.proofs.lemmas.Bool.Decides.{nat_tests}
 use Rattle.mig_base.specs.declared.ids.Colour.{Colour}
 use Rattle.mig_base.specs.declared.ids.Spot.{Spot}
 use Rattle.mig_base.specs.declared.ids.Shift.{Shift}
-use Rattle.mig_base.specs.InputLists.{Lists, IsInput}
-use Rattle.mig_base.specs.Transfers.{Trip, KeepsLimits, load, touches}
-use Rattle.mig_base.specs.Transfers.{Transfers, moves, transfers, trip, trips, source, target, is_relocated}
+use Rattle.mig_base.specs.InputLists.{Lists}
+use Rattle.mig_base.specs.Transfers.{Trip, KeepsLimits}
+use Rattle.mig_base.specs.Transfers.{moves, transfers, trip, trips, source, is_relocated}
 use Rattle.mig_base.specs.Directions.{trip_at}
 use Rattle.mig_base.specs.Running.{is_of, shift_count, trip_of}
 use Rattle.mig_base.specs.Targets.{AreTargets}
-use Rattle.mig_base.specs.Planned.{move_at, target_at}
+use Rattle.mig_base.specs.Planned.{move_at}
 use Rattle.mig_base.specs.Planned.{move_shift, IsMoveShift, IsPartition}
 use Rattle.mig_base.specs.Colourings.{IsLimited, edges_of, colour_at}
-use Rattle.mig_base.proofs.Counting.{one, sum_by-filter, sum_by-map, sum_by-same_each, sum_by-swap, sum_by-none, count_by-filter}
+use Rattle.mig_base.proofs.Counting.{one, sum_by-filter, sum_by-map, sum_by-same_each, sum_by-swap, count_by-filter}
 use Rattle.mig_base.proofs.Scheduled.{once_in_range, count_by-filter-le, range_below}
 use Rattle.mig_base.proofs.Room.{lowest_at}
 use Rattle.mig_plan.specs.ColourRows.{row_of, AreRows, is_filled, items_of}

@@ -1,7 +1,7 @@
 -- Rows of slots: what one spot more takes, and how long the rows are.
-use Rattle.std.proofs.Common.{◌≡◌, ◌≢◌, ◌⊎◌, ℕ, ◌+◌, ◌*◌, ◌<◌, ◌≤◌, ◌^◌, Bool, true, false, eqb, List, [], ◌∷◌, ◌++◌, length, map, refl, sym, ap, ◌∙◌, subst, arith, count_by, filter, All, get_or, take, set, replicate, inl, inr, Vec, Global}
+use Rattle.std.proofs.Common.{◌≡◌, ◌≢◌, ℕ, ◌+◌, ◌<◌, ◌≤◌, Bool, true, false, eqb, List, [], ◌∷◌, ◌++◌, length, map, refl, sym, ap, ◌∙◌, subst, arith, All, get_or, take, set, inl, inr, Vec, Global}
 use Rattle.std.specs.List.{range_with_len, Contains}
-use Rattle.std.proofs.lemmas.List.{take_more, length-set, length-append, length-map, length-replicate, length-take-le, get_or-replicate, get_or-set_same, get_or-set_other, get_or_default, get_or_past, get_or_append_left}
+use Rattle.std.proofs.lemmas.List.{take_more, length-set, length-append, length-map, length-replicate, get_or-replicate, get_or-set_same, get_or-set_other, get_or_default, get_or_past}
 use Rattle.std.proofs.lemmas.List.Elements.{All-append, All-map, Contains-append_left, Contains-push, Contains-push_cases}
 use Rattle.std.proofs.lemmas.List.Sums.{sum_by-append, count_by-le-length}
 use Rattle.std.proofs.lemmas.List.FromFn.{fill_by_all}
@@ -10,7 +10,7 @@ use Rattle.mig_base.specs.declared.ids.DiskId.{DiskId}
 use Rattle.mig_base.specs.declared.ids.Spot.{Spot}
 use Rattle.mig_base.specs.InputLists.{Lists, IsInput}
 use Rattle.mig_base.specs.Transfers.{is_relocated, target}
-use Rattle.mig_base.specs.Targets.{present, incoming}
+use Rattle.mig_base.specs.Targets.{incoming}
 use Rattle.mig_base.proofs.Counting.{one, sum_by-map}
 use Rattle.mig_base.proofs.Rounds.{spot_disk}
 use Rattle.mig_base.proofs.Scheduled.{count_by-filter-le}

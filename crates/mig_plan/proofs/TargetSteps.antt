@@ -1,6 +1,5 @@
 -- The spots that relocated items are given, one after the other.
-use Rattle.std.proofs.Common.{◌≡◌, ℕ, ◌+◌, ◌<◌, ◌≤◌, Bool, true, false, cond, List, [], ◌∷◌, ◌++◌, length, refl, sym, ap, ◌∙◌, subst, arith, filter, get_or, take, drop, set, replicate, inl, inr, Some}
-use Rattle.std.specs.Prelude.{slice_get}
+use Rattle.std.proofs.Common.{◌≡◌, ℕ, ◌+◌, ◌<◌, ◌≤◌, Bool, true, false, cond, List, [], ◌∷◌, ◌++◌, length, refl, sym, ap, ◌∙◌, subst, arith, filter, get_or, take, drop, set, replicate, inl, inr}
 use Rattle.std.specs.List.{range_with_len, Contains}
 use Rattle.std.proofs.lemmas.List.{length-append, get_or_append_left, get_or_push, take-append-le, take_all, length-set, get_or-set_same, get_or-set_other, get_or-replicate, map-id, length-replicate, append-nil, get_or_default, take-append-drop}
 use Rattle.std.proofs.lemmas.List.Elements.{filter-append, Contains-append_left, Contains-append_right, Contains-append_cases, Contains-push}
@@ -8,7 +7,7 @@ use Rattle.std.proofs.lemmas.List.FromFn.{map-range_with_len_more, take-map-rang
 use Rattle.std.proofs.lemmas.Bool.{cases_eq, cases_lt}
 use Rattle.std.proofs.lemmas.Option.{slice_get-get_or, slice_get_within, same_Some}
 use Rattle.mig_base.specs.declared.ids.Spot.{Spot}
-use Rattle.mig_base.specs.InputLists.{Lists, no_spot, disk_at}
+use Rattle.mig_base.specs.InputLists.{Lists, no_spot}
 use Rattle.mig_base.specs.Transfers.{is_relocated, moves, target}
 use Rattle.mig_base.specs.Targets.{IsLowestFree, AreTargets, present, incoming}
 use Rattle.mig_base.specs.Planned.{move_at, target_at}

@@ -1,5 +1,5 @@
 -- The colours of a board's edges as a list.
-use Rattle.std.specs.Prelude.{◌≡◌, ℕ, ◌<◌, List, length, slice_get, Some, slice_index_or}
+use Rattle.std.specs.Prelude.{◌≡◌, ℕ, ◌<◌, List, length}
 use Rattle.mig_base.specs.declared.ids.Colour.{Colour}
 use Rattle.mig_base.specs.Colourings.{colour_at}
 use Rattle.mig_board.specs.Colouring.{Colouring, HasColour}

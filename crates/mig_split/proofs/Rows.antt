@@ -98,11 +98,14 @@ AreDecks-more q counts decks homes i deck pos h is_first is_count a =
     ceil_le : (n q : ℕ) → 1 ≤ q → div_ceil n q ≤ n
     ceil_le n q p = Rattle.mig_base.proofs.Counting.div_ceil-le n q n p (omega (arith, mul-le-mul_left n p))
 
-pub AreFresh-more : (decks : List Deck) (deck : Deck) → deck.next ≡ 0 → AreFresh decks → AreFresh (decks ++ deck ∷ [])
+pub AreFresh-more : (decks : List Deck) (deck : Deck) → (deck.start ≡ 0) × (deck.next ≡ 0) → AreFresh decks → AreFresh (decks ++ deck ∷ [])
 AreFresh-more decks deck e a v = elim (cases_lt v (length decks)) [
-  | inl l ↦ ap (λ (x : Deck). x.next) (deck_old decks deck v l) ∙ a v
+  | inl l ↦ fresh_as (deck_at (decks ++ deck ∷ []) v) (deck_at decks v) (deck_old decks deck v l) (a v)
   | inr l ↦ elim (cases_eq v (length decks)) [
-    | inl s ↦ ap (λ (x : Deck). x.next) (deck_new decks deck v (sym s)) ∙ e
-    | inr ne ↦ ap (λ (x : Deck). x.next) (get_or_past (decks ++ deck ∷ []) v no_deck (omega (arith, l, ne, length-append decks (deck ∷ []))))
+    | inl s ↦ fresh_as (deck_at (decks ++ deck ∷ []) v) deck (deck_new decks deck v (sym s)) e
+    | inr ne ↦ fresh_as (deck_at (decks ++ deck ∷ []) v) no_deck (get_or_past (decks ++ deck ∷ []) v no_deck (omega (arith, l, ne, length-append decks (deck ∷ [])))) (refl, refl)
   ]
 ]
+  where
+    fresh_as : (one two : Deck) → one ≡ two → (two.start ≡ 0) × (two.next ≡ 0) → (one.start ≡ 0) × (one.next ≡ 0)
+    fresh_as one two same e = (ap (λ (x : Deck). x.start) same ∙ e.0, ap (λ (x : Deck). x.next) same ∙ e.1)

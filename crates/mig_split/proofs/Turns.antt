@@ -1,5 +1,5 @@
 -- Dealing from decks in turn.
-use Rattle.std.proofs.Common.{◌≡◌, ◌≢◌, ℕ, suc, zero, ◌+◌, ◌-◌, ◌*◌, ◌<◌, ◌≤◌, inl, inr, refl, sym, ap, ◌∙◌, subst, List, [], ◌∷◌, ◌++◌, Bool, true, false, cond, eqb, ltb, length, take, set, arith, sum, eq-eqb}
+use Rattle.std.proofs.Common.{◌≡◌, ◌≢◌, ℕ, suc, zero, ◌+◌, ◌-◌, ◌*◌, ◌<◌, ◌≤◌, inl, inr, refl, sym, ap, ◌∙◌, subst, List, [], ◌∷◌, ◌++◌, Bool, true, false, cond, eqb, length, take, set, arith, sum, eq-eqb}
 use Rattle.std.proofs.lemmas.List.{get_or-set_same, get_or-set_other, length-set, length-append, get_or_append_left, get_or_push, get_or_default, take_all}
 use Rattle.std.proofs.lemmas.List.Sums.{sum_by_push, get_or-le-sum_by}
 use Rattle.std.proofs.lemmas.Grind.{div_ceil_times}
@@ -11,24 +11,19 @@ use Rattle.mig_base.specs.declared.ids.CopyId.{CopyId}
 use Rattle.mig_base.specs.Transfers.{div_ceil}
 use Rattle.mig_split.specs.declared.decks.Deck.{Deck}
 use Rattle.mig_split.specs.Dealing.{count_of, count_at, disk_at, IsDealt}
-use Rattle.mig_split.specs.Decks.{AreCounts, AreDecks, AreFresh, IsTurn, IsDealing, deck_at, no_deck}
+use Rattle.mig_split.specs.Decks.{AreCounts, AreDecks, AreFresh, IsAfter, IsTurn, IsDealing, deck_at, gone, is_gone, no_deck, place_after}
 use Rattle.mig_split.proofs.Counts.{count_of_same, count_of_other}
 
-pub record IsNext (deck next : Deck) : Type 0 where
-  pub first : next.first ≡ deck.first
-  pub count : next.count ≡ deck.count
-  pub next_is : next.next ≡ cond (eqb (deck.next + 1) deck.count) 0 (deck.next + 1)
-
-same_deck : (decks : List Deck) (v : ℕ) (next : Deck) → v < length decks → IsNext (deck_at decks v) next → (w : ℕ) → ((deck_at (set decks v next) w).first ≡ (deck_at decks w).first) × ((deck_at (set decks v next) w).count ≡ (deck_at decks w).count)
-same_deck decks v next h n w = elim (cases_eq w v) [
+same_deck : (decks : List Deck) (v : ℕ) (later : Bool) (next : Deck) → v < length decks → IsAfter (deck_at decks v) later next → (w : ℕ) → ((deck_at (set decks v next) w).first ≡ (deck_at decks w).first) × ((deck_at (set decks v next) w).count ≡ (deck_at decks w).count)
+same_deck decks v later next h n w = elim (cases_eq w v) [
   | inl e ↦ subst (λ u. ((deck_at (set decks v next) u).first ≡ (deck_at decks u).first) × ((deck_at (set decks v next) u).count ≡ (deck_at decks u).count)) (sym e)
       (ap (λ (x : Deck). x.first) (get_or-set_same decks v next no_deck h) ∙ n.first, ap (λ (x : Deck). x.count) (get_or-set_same decks v next no_deck h) ∙ n.count)
   | inr ne ↦ (ap (λ (x : Deck). x.first) (get_or-set_other decks v w next no_deck ne), ap (λ (x : Deck). x.count) (get_or-set_other decks v w next no_deck ne))
 ]
 
-pub AreDecks-set : (q : ℕ) (counts : List ℕ) (decks : List Deck) (homes : List DiskId) (v : ℕ) (next : Deck) → v < length decks → IsNext (deck_at decks v) next → AreDecks q counts decks homes → AreDecks q counts (set decks v next) homes
-AreDecks-set q counts decks homes v next h n a =
-    let same = same_deck decks v next h n in
+pub AreDecks-set : (q : ℕ) (counts : List ℕ) (decks : List Deck) (homes : List DiskId) (v : ℕ) (later : Bool) (next : Deck) → v < length decks → IsAfter (deck_at decks v) later next → AreDecks q counts decks homes → AreDecks q counts (set decks v next) homes
+AreDecks-set q counts decks homes v later next h n a =
+    let same = same_deck decks v later next h n in
     record {
       len = length-set decks v next ∙ a.len;
       number = λ w hw. (same w).1 ∙ a.number w hw;
@@ -44,41 +39,71 @@ AreDecks-set q counts decks homes v next h n a =
 count_push : (copies : List CopyId) (c k : ℕ) → count_at k (copies ++ record { 0 = c } ∷ []) ≡ count_at k copies + cond (eqb c k) 1 0
 count_push copies c k = sum_by_push (λ (x : CopyId). cond (eqb x.0 k) 1 0) copies (record { 0 = c })
 
-last_one : (first next j t : ℕ) → j < next + 1 → (t + cond (ltb j next) 1 0) + cond (eqb (first + next) (first + j)) 1 0 ≡ (t + 1) + cond (ltb j 0) 1 0
-last_one first next j t h = grind (arith, nat_tests)
+-- where the next place is the start, the turn has dealt all copies but one
+last_gone : (start next count : ℕ) → start < count → next < count → cond (eqb (next + 1) count) 0 (next + 1) ≡ start → gone start next count + 1 ≡ count
+last_gone start next count hs hn e = grind (arith, nat_tests)
 
-one_more : (first next j t : ℕ) → (t + cond (ltb j next) 1 0) + cond (eqb (first + next) (first + j)) 1 0 ≡ t + cond (ltb j (next + 1)) 1 0
-one_more first next j t = grind (arith, nat_tests)
+last_one : (start next count j t : ℕ) → start < count → next < count → j < count → cond (eqb (next + 1) count) 0 (next + 1) ≡ start → (t + cond (is_gone start next j) 1 0) + cond (eqb next j) 1 0 ≡ t + 1
+last_one start next count j t hs hn hj e = grind (arith, nat_tests)
 
-next_full : (n c m : ℕ) → n + 1 ≡ c → m ≡ cond (eqb (n + 1) c) 0 (n + 1) → m ≡ 0
-next_full n c m e h = grind (arith, nat_tests)
+one_gone : (start next count : ℕ) → start < count → next < count → cond (eqb (next + 1) count) 0 (next + 1) ≢ start → gone start (cond (eqb (next + 1) count) 0 (next + 1)) count ≡ gone start next count + 1
+one_gone start next count hs hn ne = grind (arith, nat_tests)
 
-next_part : (n c m : ℕ) → n + 1 ≢ c → m ≡ cond (eqb (n + 1) c) 0 (n + 1) → m ≡ n + 1
-next_part n c m e h = grind (arith, nat_tests)
+one_more : (start next count j t : ℕ) → start < count → next < count → j < count → cond (eqb (next + 1) count) 0 (next + 1) ≢ start → (t + cond (is_gone start next j) 1 0) + cond (eqb next j) 1 0 ≡ t + cond (is_gone start (cond (eqb (next + 1) count) 0 (next + 1)) j) 1 0
+one_more start next count j t hs hn hj ne = grind (arith, nat_tests)
 
-IsTurn-more : (deck next : Deck) (dealt more : ℕ) (copies : List CopyId) → 0 < deck.count → IsNext deck next → more ≡ dealt + 1 → IsTurn deck dealt copies → IsTurn next more (copies ++ record { 0 = deck.first + deck.next } ∷ [])
-IsTurn-more deck next dealt more copies pos n is_more t = elim (cases_eq (deck.next + 1) deck.count) [
-  | inl e ↦ (let z = next_full deck.next deck.count next.next e n.next_is in
-      record {
-        turns = t.turns + 1;
-        total = omega (arith, is_more, t.total, z, n.count, e, ap (λ m. (t.turns + 1) * m) n.count);
-        next_in = λ p. omega (arith, z, n.count, pos);
-        ends = λ j hj. ap (λ m. count_at (m + j) (copies ++ record { 0 = deck.first + deck.next } ∷ [])) n.first ∙ count_push copies (deck.first + deck.next) (deck.first + j) ∙ ap (λ m. m + cond (eqb (deck.first + deck.next) (deck.first + j)) 1 0) (t.ends j (omega (arith, hj, n.count))) ∙ last_one deck.first deck.next j t.turns (omega (arith, hj, n.count, e)) ∙ ap (λ m. (t.turns + 1) + cond (ltb j m) 1 0) (sym z);
-      })
-  | inr ne ↦ (let z = next_part deck.next deck.count next.next ne n.next_is in
-      record {
-        turns = t.turns;
-        total = omega (arith, is_more, t.total, z, n.count, ap (λ m. t.turns * m) n.count);
-        next_in = λ p. omega (arith, z, n.count, t.next_in pos, ne);
-        ends = λ j hj. ap (λ m. count_at (m + j) (copies ++ record { 0 = deck.first + deck.next } ∷ [])) n.first ∙ count_push copies (deck.first + deck.next) (deck.first + j) ∙ ap (λ m. m + cond (eqb (deck.first + deck.next) (deck.first + j)) 1 0) (t.ends j (omega (arith, hj, n.count))) ∙ one_more deck.first deck.next j t.turns ∙ ap (λ m. t.turns + cond (ltb j m) 1 0) (sym z);
-      })
-]
+none_gone : (start j : ℕ) → is_gone start start j ≡ false
+none_gone start j = grind (arith, nat_tests)
+
+after_in : (place count : ℕ) → place < count → cond (eqb (place + 1) count) 0 (place + 1) < count
+after_in place count h = grind (arith, nat_tests)
+
+same_end : (first next j : ℕ) → eqb (first + next) (first + j) ≡ eqb next j
+same_end first next j = grind (arith, nat_tests)
+
+new_start_in : (start count place new : ℕ) (ends later : Bool) → start < count → new ≡ cond ends (cond later (place_after start count) start) start → new < count
+new_start_in start count place new true true h e = omega (arith, e, after_in start count h)
+new_start_in start count place new true false h e = omega (arith, e, h)
+new_start_in start count place new false later h e = omega (arith, e, h)
+
+IsTurn-more : (deck : Deck) (later : Bool) (next : Deck) (dealt more : ℕ) (copies : List CopyId) → 0 < deck.count → IsAfter deck later next → more ≡ dealt + 1 → IsTurn deck dealt copies → IsTurn next more (copies ++ record { 0 = deck.first + deck.next } ∷ [])
+IsTurn-more deck later next dealt more copies pos n is_more t =
+    let hs : deck.start < deck.count = t.start_in pos in
+    let hn : deck.next < deck.count = t.next_in pos in
+    let place = place_after deck.next deck.count in
+    let in_ : next.start < deck.count = new_start_in deck.start deck.count place next.start (eqb place deck.start) later hs n.start in
+    let pushed : (j : ℕ) → j < next.count → count_at (next.first + j) (copies ++ record { 0 = deck.first + deck.next } ∷ []) ≡ (t.turns + cond (is_gone deck.start deck.next j) 1 0) + cond (eqb deck.next j) 1 0 =
+    λ j hj. ap (λ m. count_at (m + j) (copies ++ record { 0 = deck.first + deck.next } ∷ [])) n.first ∙ count_push copies (deck.first + deck.next) (deck.first + j) ∙ ap (λ m. m + cond (eqb (deck.first + deck.next) (deck.first + j)) 1 0) (t.ends j (omega (arith, hj, n.count))) ∙ ap (λ (b : Bool). (t.turns + cond (is_gone deck.start deck.next j) 1 0) + cond b 1 0) (same_end deck.first deck.next j) in
+    elim (cases_eq place deck.start) [
+      | inl e ↦ (let z : next.next ≡ next.start = n.next ∙ ap (λ (b : Bool). cond b next.start place) (eq-eqb place deck.start e) in
+          record {
+            turns = t.turns + 1;
+            total = omega (arith, is_more, t.total, last_gone deck.start deck.next deck.count hs hn e, n.count, ap (λ m. (t.turns + 1) * m) n.count, ap (λ m. gone next.start m next.count) z, gone_none next.start next.count);
+            start_in = λ p. omega (arith, in_, n.count);
+            next_in = λ p. omega (arith, z, in_, n.count);
+            ends = λ j hj. pushed j hj ∙ last_one deck.start deck.next deck.count j t.turns hs hn (omega (arith, hj, n.count)) e ∙ sym (ap (λ (b : Bool). (t.turns + 1) + cond b 1 0) (ap (λ m. is_gone next.start m j) z ∙ none_gone next.start j) ∙ omega arith);
+          })
+      | inr ne ↦ (let off : eqb place deck.start ≡ false = ne_eqb place deck.start ne in
+          let z : next.next ≡ place = n.next ∙ ap (λ (b : Bool). cond b next.start place) off in
+          let s : next.start ≡ deck.start = n.start ∙ ap (λ (b : Bool). cond b (cond later (place_after deck.start deck.count) deck.start) deck.start) off in
+          record {
+            turns = t.turns;
+            total = omega (arith, is_more, t.total, one_gone deck.start deck.next deck.count hs hn ne, n.count, ap (λ m. t.turns * m) n.count, ap (λ m. gone m next.next next.count) s, ap (λ m. gone deck.start m next.count) z, ap (λ m. gone deck.start place m) n.count);
+            start_in = λ p. omega (arith, in_, n.count);
+            next_in = λ p. omega (arith, z, after_in deck.next deck.count hn, n.count);
+            ends = λ j hj. pushed j hj ∙ one_more deck.start deck.next deck.count j t.turns hs hn (omega (arith, hj, n.count)) ne ∙ sym (ap (λ m. t.turns + cond (is_gone m next.next j) 1 0) s ∙ ap (λ m. t.turns + cond (is_gone deck.start m j) 1 0) z);
+          })
+    ]
+  where
+    gone_none : (start count : ℕ) → gone start start count ≡ 0
+    gone_none start count = grind (arith, nat_tests)
 
 IsTurn-same : (deck : Deck) (dealt more : ℕ) (copies : List CopyId) (c : ℕ) → ((j : ℕ) → j < deck.count → c ≢ deck.first + j) → more ≡ dealt → IsTurn deck dealt copies → IsTurn deck more (copies ++ record { 0 = c } ∷ [])
 IsTurn-same deck dealt more copies c apart is_more t =
     record {
       turns = t.turns;
       total = is_more ∙ t.total;
+      start_in = t.start_in;
       next_in = t.next_in;
       ends = λ j hj. count_push copies c (deck.first + j) ∙ omega (arith, ap {B = ℕ} (λ b. cond b 1 0) (ne_eqb c (deck.first + j) (apart j hj)), t.ends j hj);
     }
@@ -94,9 +119,9 @@ some_copy q counts decks homes stops i pos h there counted a =
     not_zero n q zero p h e = absurd (omega (arith, (div_ceil_times n q p).0, ap (λ m. m * q) e))
     not_zero n q (suc d) p h e = omega arith
 
-pub IsDealing-more : (q : ℕ) (counts : List ℕ) (decks : List Deck) (homes stops : List DiskId) (copies : List CopyId) (i : ℕ) (next : Deck) → length copies ≡ i → i < length stops → disk_at stops i < length decks → 0 < (deck_at decks (disk_at stops i)).count → AreDecks q counts decks homes → IsNext (deck_at decks (disk_at stops i)) next → IsDealing stops homes decks copies →
+pub IsDealing-more : (q : ℕ) (counts : List ℕ) (decks : List Deck) (homes stops : List DiskId) (copies : List CopyId) (i : ℕ) (later : Bool) (next : Deck) → length copies ≡ i → i < length stops → disk_at stops i < length decks → 0 < (deck_at decks (disk_at stops i)).count → AreDecks q counts decks homes → IsAfter (deck_at decks (disk_at stops i)) later next → IsDealing stops homes decks copies →
     IsDealing stops homes (set decks (disk_at stops i) next) (copies ++ record { 0 = (deck_at decks (disk_at stops i)).first + (deck_at decks (disk_at stops i)).next } ∷ [])
-IsDealing-more q counts decks homes stops copies i next len h within pos a n x =
+IsDealing-more q counts decks homes stops copies i later next len h within pos a n x =
     let v = disk_at stops i in
     let deck = deck_at decks v in
     let c = deck.first + deck.next in
@@ -117,7 +142,7 @@ IsDealing-more q counts decks homes stops copies i next len h within pos a n x =
       turn = λ w hw. subst (λ m. IsTurn (deck_at (set decks v next) w) (count_of w (take m stops)) new) (sym long) (elim (cases_eq w v) [
         | inl e ↦ subst (λ u. IsTurn (deck_at (set decks v next) u) (count_of u (take (i + 1) stops)) new) (sym e)
             (subst (λ (y : Deck). IsTurn y (count_of v (take (i + 1) stops)) new) (sym (get_or-set_same decks v next no_deck within))
-            (IsTurn-more deck next (count_of v (take i stops)) (count_of v (take (i + 1) stops)) copies pos n (count_of_same stops i v h refl) (subst (λ m. IsTurn deck (count_of v (take m stops)) copies) len (x.turn v within))))
+            (IsTurn-more deck later next (count_of v (take i stops)) (count_of v (take (i + 1) stops)) copies pos n (count_of_same stops i v h refl) (subst (λ m. IsTurn deck (count_of v (take m stops)) copies) len (x.turn v within))))
         | inr ne ↦ subst (λ (y : Deck). IsTurn y (count_of w (take (i + 1) stops)) new) (sym (get_or-set_other decks v w next no_deck ne))
             (IsTurn-same (deck_at decks w) (count_of w (take i stops)) (count_of w (take (i + 1) stops)) copies c
             (λ j hj e. ne (sym (a.home w j (omega (arith, hw, a.len, length-set decks v next)) hj) ∙ ap (disk_at homes) (sym e) ∙ here))
@@ -130,32 +155,47 @@ IsDealing-start stops homes decks fresh =
     record {
       there = λ i h. absurd (omega arith);
       home = λ i h. absurd (omega arith);
-      turn = λ v h. record { turns = 0; total = omega (arith, fresh v); next_in = λ p. omega (arith, fresh v, p); ends = λ j hj. none_dealt j (deck_at decks v).next (fresh v) };
+      turn = λ v h. (let f = fresh v in record {
+        turns = 0;
+        total = omega (arith, none (deck_at decks v).start (deck_at decks v).next (deck_at decks v).count f.0 f.1);
+        start_in = λ p. omega (arith, f.0, p);
+        next_in = λ p. omega (arith, f.1, p);
+        ends = λ j hj. none_dealt (deck_at decks v).start (deck_at decks v).next j f.0 f.1;
+      });
     }
   where
-    none_dealt : (j n : ℕ) → n ≡ 0 → 0 ≡ 0 + cond (ltb j n) 1 0
-    none_dealt j n e = grind (arith, nat_tests)
+    none : (start next count : ℕ) → start ≡ 0 → next ≡ 0 → gone start next count ≡ 0
+    none start next count s n = grind (arith, nat_tests)
+
+    none_dealt : (start next j : ℕ) → start ≡ 0 → next ≡ 0 → 0 ≡ 0 + cond (is_gone start next j) 1 0
+    none_dealt start next j s n = grind (arith, nat_tests)
 
 -- after all ends, no copy has more than q
-most_turns : (q load count next turns : ℕ) → 0 < count → next < count → load ≡ turns * count + next → load ≤ count * q → (j : ℕ) → turns + cond (ltb j next) 1 0 ≤ q
-most_turns q load count next turns pos small total most j = elim (cases_lt q (turns + cond (ltb j next) 1 0)) [
+most_turns : (q load count start next turns : ℕ) → start < count → next < count → load ≡ turns * count + gone start next count → load ≤ count * q → (j : ℕ) → j < count → turns + cond (is_gone start next j) 1 0 ≤ q
+most_turns q load count start next turns hs hn total most j hj = elim (cases_lt q (turns + cond (is_gone start next j) 1 0)) [
   | inr l ↦ l
-  | inl l ↦ elim (cases_lt j next) [
-    | inl a ↦ absurd (omega (arith, total, most, mul-le-mul_left count (up q turns (ltb j next) l), a))
-    | inr a ↦ absurd (omega (arith, total, most, mul-le-mul_left count (past q turns j next a l), pos))
+  | inl l ↦ elim (cases_lt turns q) [
+    | inl a ↦ absurd (omega (arith, l, a, at_most (is_gone start next j)))
+    | inr a ↦ elim (cases_lt q turns) [
+      | inl b ↦ absurd (omega (arith, total, most, mul-le-mul_left count b, hs))
+      | inr b ↦ absurd (omega (arith, total, most, ap (λ m. count * m) (same turns q a b), some start next count j hs hn hj (omega (arith, l, same turns q a b))))
+    ]
   ]
 ]
   where
-    up : (q t : ℕ) (b : Bool) → q < t + cond b 1 0 → q ≤ t
-    up q t true h = omega arith
-    up q t false h = omega arith
+    at_most : (b : Bool) → cond b 1 0 ≤ 1
+    at_most true = omega arith
+    at_most false = omega arith
 
-    past : (q t j next : ℕ) → next ≤ j → q < t + cond (ltb j next) 1 0 → q + 1 ≤ t
-    past q t j next a h = grind (arith, nat_tests)
+    same : (t q : ℕ) → q ≤ t → t ≤ q → t ≡ q
+    same t q a b = omega arith
+
+    some : (start next count j : ℕ) → start < count → next < count → j < count → 0 < cond (is_gone start next j) 1 0 → 0 < gone start next count
+    some start next count j hs hn hj h = grind (arith, nat_tests)
 
 most_at : (q : ℕ) (deck : Deck) (load : ℕ) (copies : List CopyId) (j k : ℕ) → j < deck.count → deck.first + j ≡ k → load ≤ deck.count * q → IsTurn deck load copies → count_at k copies ≤ q
 most_at q deck load copies j k hj e most t =
-    subst (λ m. count_at m copies ≤ q) e (omega (arith, t.ends j hj, most_turns q load deck.count deck.next t.turns (omega (arith, hj)) (t.next_in (omega (arith, hj))) t.total most j))
+    subst (λ m. count_at m copies ≤ q) e (omega (arith, t.ends j hj, most_turns q load deck.count deck.start deck.next t.turns (t.start_in (omega (arith, hj))) (t.next_in (omega (arith, hj))) t.total most j hj))
 
 pub IsDealt-all : (q : ℕ) (counts : List ℕ) (decks : List Deck) (homes stops : List DiskId) (copies : List CopyId) → 1 ≤ q → length counts ≡ length decks → sum counts ≤ length stops → AreCounts (length decks) stops counts → AreDecks q counts decks homes → IsDealing stops homes decks copies → length copies ≡ length stops → IsDealt q (length decks) stops homes copies
 IsDealt-all q counts decks homes stops copies pos same total counted a x len =
@@ -179,6 +219,7 @@ IsDealt-all q counts decks homes stops copies pos same total counted a x len =
 
 -- the next copy of an end's disk is there
 pub record IsNextCopy (deck : Deck) (homes : ℕ) : Type 0 where
+  pub start : deck.start < deck.count
   pub small : deck.next < deck.count
   pub there : deck.first + deck.next < homes
 
@@ -187,4 +228,4 @@ next_copy q counts decks homes stops copies i deck pos h within counted a x is =
     let v = disk_at stops i in
     let some = some_copy q counts decks homes stops i pos h within counted a in
     let small = (x.turn v within).next_in some in
-    subst (λ (d : Deck). IsNextCopy d (length homes)) (sym is) (record { small = small; there = omega (arith, small, a.inside v (omega (arith, within, a.len))) })
+    subst (λ (d : Deck). IsNextCopy d (length homes)) (sym is) (record { start = (x.turn v within).start_in some; small = small; there = omega (arith, small, a.inside v (omega (arith, within, a.len))) })

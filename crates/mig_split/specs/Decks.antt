@@ -1,5 +1,5 @@
 -- The copies of each disk, in one row, and which of them is next.
-use Rattle.std.specs.Prelude.{◌≡◌, ℕ, ◌+◌, ◌*◌, ◌<◌, ◌≤◌, List, length, slice_index_or, slice_index, if◌then◌else◌, nat_lt, take, sum}
+use Rattle.std.specs.Prelude.{◌≡◌, ℕ, ◌+◌, ◌-◌, ◌*◌, ◌<◌, ◌≤◌, ◌==◌, List, Bool, true, false, length, slice_index_or, slice_index, if◌then◌else◌, nat_lt, nat_le, take, sum}
 use Rattle.mig_base.specs.declared.ids.DiskId.{DiskId}
 use Rattle.mig_base.specs.declared.ids.CopyId.{CopyId}
 use Rattle.mig_base.specs.Transfers.{div_ceil}
@@ -7,7 +7,7 @@ use Rattle.mig_split.specs.declared.decks.Deck.{Deck}
 use Rattle.mig_split.specs.Dealing.{count_of, count_at, disk_at, copy_at}
 
 abbrev pub no_deck : Deck
-no_deck = record { first = 0; count = 0; next = 0 }
+no_deck = record { first = 0; count = 0; start = 0; next = 0 }
 
 abbrev pub deck_at : List Deck → ℕ → Deck
 deck_at decks v = slice_index_or decks v no_deck
@@ -31,14 +31,33 @@ pub record AreDecks (q : ℕ) (counts : List ℕ) (decks : List Deck) (homes : L
 
 -- no deck has been dealt from
 abbrev pub AreFresh : List Deck → Type 0
-AreFresh decks = (v : ℕ) → (deck_at decks v).next ≡ 0
+AreFresh decks = (v : ℕ) → ((deck_at decks v).start ≡ 0) × ((deck_at decks v).next ≡ 0)
 
--- After so many ends each copy of the deck has `turns` of them, and those before the next one more.
+-- the place after one, and after the last the first
+abbrev pub place_after : ℕ → ℕ → ℕ
+place_after place count = if place + 1 == count then 0 else place + 1
+
+-- The next copy of the deck is the one after; where the turn ends with it, the new turn begins there, or one copy later.
+pub record IsAfter (deck : Deck) (later : Bool) (new : Deck) : Type 0 where
+  pub first : new.first ≡ deck.first
+  pub count : new.count ≡ deck.count
+  pub start : new.start ≡ (if place_after deck.next deck.count == deck.start then (if later then place_after deck.start deck.count else deck.start) else deck.start)
+  pub next : new.next ≡ (if place_after deck.next deck.count == deck.start then new.start else place_after deck.next deck.count)
+
+-- how many copies were dealt in a turn that began at a place, and whether one of them was
+abbrev pub gone : ℕ → ℕ → ℕ → ℕ
+gone start next count = if nat_le start next then next - start else next + count - start
+
+abbrev pub is_gone : ℕ → ℕ → ℕ → Bool
+is_gone start next j = if nat_le start next then (if nat_le start j then nat_lt j next else false) else (if nat_le start j then true else nat_lt j next)
+
+-- After so many ends each copy of the deck has `turns` of them, and those that this turn has dealt have one more.
 pub record IsTurn (deck : Deck) (dealt : ℕ) (copies : List CopyId) : Type 0 where
   pub turns : ℕ
-  pub total : dealt ≡ turns * deck.count + deck.next
+  pub total : dealt ≡ turns * deck.count + gone deck.start deck.next deck.count
+  pub start_in : 0 < deck.count → deck.start < deck.count
   pub next_in : 0 < deck.count → deck.next < deck.count
-  pub ends : (j : ℕ) → j < deck.count → count_at (deck.first + j) copies ≡ turns + (if nat_lt j deck.next then 1 else 0)
+  pub ends : (j : ℕ) → j < deck.count → count_at (deck.first + j) copies ≡ turns + (if is_gone deck.start deck.next j then 1 else 0)
 
 -- the first ends are dealt
 pub record IsDealing (stops homes : List DiskId) (decks : List Deck) (copies : List CopyId) : Type 0 where

@@ -47,8 +47,8 @@ pub fn split_sides(
     let disks = graph.disks();
     let tails = tails_of(alloc, graph, directions)?;
     let heads = heads_of(alloc, graph, directions)?;
-    let out = deal(alloc, disks, &tails, q)?;
-    let enter = deal(alloc, disks, &heads, q)?;
+    let out = deal(alloc, disks, &tails, q, tails.len())?;
+    let enter = deal(alloc, disks, &heads, q, heads.len())?;
     let left = out.homes.len() as u32;
     let ends = pair_up(alloc, &out.copies, &enter.copies, left)?;
     let mut homes = out.homes;
@@ -64,7 +64,9 @@ pub fn split_sides(
 /// Splits disks into copies, so that no copy has more than q ends.
 ///
 /// The two copies of an edge are copies of its two ends, in order. A disk has as many copies as its edges over q,
-/// rounded up; it deals them its ends in turn. The time is linear in the edges and disks. Errs for want of memory only.
+/// rounded up; it deals them its ends in turn. The turns of the ends by which edges come in begin with one copy after
+/// the other, so that edges between two disks join all their copies. The time is linear in the edges and disks. Errs for
+/// want of memory only.
 pub fn split_nodes(alloc: Global, graph: &Graph, q: u32) -> Result<Copies, AllocError>
     requires { 1 ≤ q }
     ensures nodes { IfOk result (λ s. s.nodes ≡ vec_len s.homes) }
@@ -75,7 +77,7 @@ pub fn split_nodes(alloc: Global, graph: &Graph, q: u32) -> Result<Copies, Alloc
     let mut stops = tails_of(alloc, graph, &forward)?;
     let targets = heads_of(alloc, graph, &forward)?;
     stops.extend_from_slice(&targets)?;
-    let dealt = deal(alloc, graph.disks(), &stops, q)?;
+    let dealt = deal(alloc, graph.disks(), &stops, q, edges)?;
     let (firsts, seconds) = dealt.copies.split_at(edges);
     let ends = pair_up(alloc, firsts, seconds, 0)?;
     let homes = dealt.homes;

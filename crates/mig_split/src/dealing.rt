@@ -14,7 +14,16 @@ pub struct Dealt {
 }
 
 /// Deals each end a copy of its disk, the disk's copies in turn, so that no copy has more than q ends.
-pub fn deal(alloc: Global, disks: u32, stops: &[DiskId], q: u32) -> Result<Dealt, AllocError>
+///
+/// The turns that end with one of the first `level` ends begin with the disk's first copy. From then on each turn begins
+/// one copy later than the one before it.
+pub fn deal(
+    alloc: Global,
+    disks: u32,
+    stops: &[DiskId],
+    q: u32,
+    level: usize,
+) -> Result<Dealt, AllocError>
     requires q { 1 ≤ q }
     requires disks { disks ≤ 1024 }
     requires there { All (λ d. d.0 < disks) stops.now }
@@ -26,8 +35,9 @@ pub fn deal(alloc: Global, disks: u32, stops: &[DiskId], q: u32) -> Result<Dealt
     let mut copies = Vec::with_capacity(alloc, stops.len())?;
     for stop in stops {
         let deck = decks[stop.0 as usize];
+        let is_later = level <= copies.len();
         copies.push(CopyId(deck.first + deck.next))?;
-        decks[stop.0 as usize] = after(deck);
+        decks[stop.0 as usize] = after(deck, is_later);
     }
     Ok(Dealt { homes, copies })
 }

@@ -1,15 +1,19 @@
 //! The copies of each disk, in one row.
-ghost use Rattle.std.specs.Prelude.{◌==◌, if◌then◌else◌, ◌≡◌, ◌+◌, ◌<◌, ◌≤◌, ◌^◌, length, All, IfOk, sum};
-ghost use Rattle.mig_split.specs.Decks.{AreCounts, AreDecks, AreFresh};
+ghost use Rattle.std.specs.Prelude.{◌≡◌, ◌<◌, ◌≤◌, ◌^◌, length, All, IfOk, sum};
+ghost use Rattle.mig_split.specs.Decks.{AreCounts, AreDecks, AreFresh, IsAfter, place_after};
 
 use mig_base::DiskId;
 use std::alloc::{AllocError, Global};
 
-/// A disk's copies: the first, how many there are, and how far the next one to deal is from the first.
+/// A disk's copies, dealt in turns, in each of which each copy is dealt once.
+///
+/// `first` is the first copy and `count` how many there are. How far from the first one are the copy with which this
+/// turn began, `start`, and the one to deal next.
 #[derive(Clone, Copy)]
 pub struct Deck {
     pub first: u32,
     pub count: u32,
+    pub start: u32,
     pub next: u32,
 }
 
@@ -46,6 +50,7 @@ pub fn make_decks(
         decks.push(Deck {
             first: first as u32,
             count,
+            start: 0,
             next: 0,
         })?;
         homes.resize(first + count as usize, DiskId(disk as u32))?;
@@ -53,17 +58,33 @@ pub fn make_decks(
     Ok((decks, homes))
 }
 
-/// The deck after one end is dealt from it: the next copy is the one after, and after the last the first.
-pub fn after(deck: Deck) -> Deck
-    requires { deck.next < deck.count }
-    ensures first { result.first ≡ deck.first }
-    ensures count { result.count ≡ deck.count }
-    ensures next { result.next ≡ (if deck.next + 1 == deck.count then 0 else deck.next + 1) }
+/// The place after one, and after the last the first.
+fn following(place: u32, count: u32) -> u32
+    requires { place < count }
+    ensures { result ≡ place_after place count }
 {
-    let next = deck.next + 1;
+    if place + 1 == count { 0 } else { place + 1 }
+}
+
+/// The deck after one copy is dealt: the one after it is next. Where that ends a turn, the next turn begins with the
+/// copy with which this one began, or with the one after that.
+pub fn after(deck: Deck, later: bool) -> Deck
+    requires start { deck.start < deck.count }
+    requires next { deck.next < deck.count }
+    ensures { IsAfter deck later result }
+{
+    let next = following(deck.next, deck.count);
+    if next != deck.start {
+        return Deck { next, ..deck };
+    }
+    let start = if later {
+        following(next, deck.count)
+    } else {
+        next
+    };
     Deck {
-        first: deck.first,
-        count: deck.count,
-        next: if next == deck.count { 0 } else { next },
+        start,
+        next: start,
+        ..deck
     }
 }

@@ -1,15 +1,13 @@
-use Rattle.std.proofs.Common.{arith, ◌≡◌, ◌≤◌, ◌<◌, ◌*◌, ◌/◌, ◌∙◌, ap, sym, subst, length, List, ℕ, Vec, Global, Bool}
+use Rattle.std.proofs.Common.{arith, ◌≡◌, ◌≤◌, ◌<◌, ◌*◌, ◌∙◌, ap, sym, subst, length, List, Vec, Global, Bool}
 use Rattle.std.proofs.lemmas.Result.{IfOk-weaker}
 use Rattle.mig_base.specs.declared.ids.Colour.{Colour}
 use Rattle.mig_base.specs.declared.ids.CopyId.{CopyId}
 use Rattle.mig_base.specs.Bounding.{quotient}
-use Rattle.mig_base.specs.InputLists.{no_disk}
 use Rattle.mig_base.specs.Directions.{Balances}
 use Rattle.mig_base.specs.Colourings.{IsLimited}
-use Rattle.mig_board.specs.Colouring.{Colouring, blank, degree_of}
+use Rattle.mig_board.specs.Colouring.{Colouring, degree_of}
 use Rattle.mig_plan.specs.Coloured.{AreColours}
-use Rattle.mig_split.specs.Copies.{AreSides}
-use Rattle.mig_plan.proofs.Limits.{HasLimits, has_limits, quotient_most, quotient_some, even_limited, sides_in_range, sides_differ, few_even, two_sided, blank_plain}
+use Rattle.mig_plan.proofs.Limits.{has_limits, quotient_most, quotient_some, even_limited, sides_in_range, sides_differ, few_even, two_sided, blank_plain}
 use Rattle.mig_plan.proofs.colourings.colour_even.Goals as goal
 
 pub split_sides-requires-clause-q : goal.split_sides-requires-clause-q

@@ -1,18 +1,12 @@
-use Rattle.std.proofs.Common.{arith, ◌≡◌, ◌≤◌, ◌<◌, ◌*◌, ◌/◌, ◌∙◌, ap, sym, subst, length, List, ℕ, Vec, Global, Some, None, Option, replicate}
+use Rattle.std.proofs.Common.{arith, ◌≡◌, ◌≤◌, ◌<◌, ◌*◌, ◌/◌, ◌∙◌, ap, sym, subst, length, Vec, Global}
 use Rattle.std.proofs.lemmas.Result.{IfOk-weaker}
-use Rattle.std.proofs.lemmas.Option.{slice_get-get_or}
-use Rattle.std.proofs.lemmas.List.{get_or-replicate, length-replicate}
-use Rattle.std.specs.Prelude.{slice_get}
 use Rattle.mig_base.specs.declared.ids.Colour.{Colour}
 use Rattle.mig_base.specs.declared.ids.CopyId.{CopyId}
 use Rattle.mig_base.specs.Bounding.{quotient}
-use Rattle.mig_base.specs.InputLists.{no_disk}
 use Rattle.mig_base.specs.Colourings.{IsLimited}
-use Rattle.mig_graph.specs.Graphs.{IsGraph}
-use Rattle.mig_base.specs.Transfers.{Transfers}
-use Rattle.mig_board.specs.Colouring.{Colouring, blank, degree_of}
+use Rattle.mig_board.specs.Colouring.{Colouring, degree_of}
 use Rattle.mig_plan.specs.Coloured.{AreColours}
-use Rattle.mig_plan.proofs.Limits.{HasLimits, has_limits, quotient_most, quotient_some, general_limited, copies_in_range, copies_differ, few_general, blank_plain}
+use Rattle.mig_plan.proofs.Limits.{has_limits, quotient_most, quotient_some, general_limited, copies_in_range, copies_differ, few_general, blank_plain}
 use Rattle.mig_plan.proofs.colourings.colour_general.Goals as goal
 
 pub split_nodes-requires : goal.split_nodes-requires

@@ -1,7 +1,6 @@
-use Rattle.std.proofs.Common.{arith, ◌≡◌, ◌∙◌, sym, Some, None, Option, ◌<◌, length}
+use Rattle.std.proofs.Common.{arith, ◌≡◌, ◌∙◌, sym, Some, None, Option}
 use Rattle.std.proofs.lemmas.Option.{same_Some, none-some}
 use Rattle.mig_base.specs.declared.ids.Colour.{Colour}
-use Rattle.mig_plan.proofs.Limits.{limited_by_copies}
 use Rattle.mig_plan.proofs.colourings.colours_of.Goals as goal
 
 clash : (k : Colour) (a : Option (Option Colour)) → a ≡ Some None → a ≡ Some (Some k) → ⊥

@@ -1,4 +1,4 @@
-use Rattle.std.proofs.Common.{arith, ◌≡◌, ◌≤◌, ℕ, List, length, Ok, Err, sym, subst}
+use Rattle.std.proofs.Common.{◌≡◌, ◌≤◌, ℕ, List, length, Ok, Err, sym, subst}
 use Rattle.std.specs.Result.{IfOk}
 use Rattle.std.specs.Prelude.{Result}
 use Rattle.mig_base.specs.declared.ids.Shift.{Shift}

@@ -1,8 +1,8 @@
-use Rattle.std.proofs.Common.{arith, ◌≡◌, ◌≤◌, ◌∙◌, ap, sym, subst, length, List, filter, map, ℕ}
+use Rattle.std.proofs.Common.{arith, ◌≡◌, ◌≤◌, ◌∙◌, ap, sym, subst, length, List, filter, map}
 use Rattle.std.proofs.lemmas.List.{length-map}
 use Rattle.std.proofs.lemmas.Result.{IfOk-weaker}
 use Rattle.mig_base.specs.declared.ids.Shift.{Shift}
-use Rattle.mig_base.specs.Transfers.{Transfers, transfers, moves, trip}
+use Rattle.mig_base.specs.Transfers.{Transfers, moves, trip}
 use Rattle.std.specs.Result.{IfOk}
 use Rattle.mig_base.specs.Running.{Runs, Once, PlanFits}
 use Rattle.mig_base.specs.Planned.{IsPartition, IsPlan, GoesToTargets, IsFilled}

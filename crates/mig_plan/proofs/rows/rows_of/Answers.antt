@@ -1,9 +1,8 @@
-use Rattle.std.proofs.Common.{arith, ◌≡◌, ◌∙◌, ap, sym, subst, length, List, ◌<◌, ◌++◌, ◌∷◌, []}
+use Rattle.std.proofs.Common.{arith, ◌∙◌, ap, length, ◌<◌, ◌++◌, ◌∷◌, []}
 use Rattle.std.proofs.lemmas.List.{length-set}
 use Rattle.mig_base.specs.declared.ids.Shift.{Shift}
 use Rattle.mig_base.specs.Colourings.{colour_at}
-use Rattle.mig_base.specs.Planned.{move_shift}
-use Rattle.mig_plan.proofs.RowLaws.{AreRows-more, is_partition, few_rounds}
+use Rattle.mig_plan.proofs.RowLaws.{AreRows-more}
 use Rattle.mig_plan.proofs.rows.rows_of.Goals as goal
 
 pub loop-edge-preserved : goal.loop-edge-preserved

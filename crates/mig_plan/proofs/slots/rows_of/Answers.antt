@@ -1,4 +1,4 @@
-use Rattle.std.proofs.Common.{arith, rules, ◌<◌, ◌≡◌, ◌∙◌, ap, Bool, List, true, length, get_or, set}
+use Rattle.std.proofs.Common.{arith, rules, ◌<◌, ◌∙◌, ap, Bool, List, true, length, get_or, set}
 use Rattle.std.specs.Vec.{with_items}
 use Rattle.std.proofs.lemmas.List.{with_items_is, places}
 use Rattle.mig_base.specs.InputLists.{no_spot}

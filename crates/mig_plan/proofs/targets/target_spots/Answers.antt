@@ -1,4 +1,4 @@
-use Rattle.std.proofs.Common.{arith, ◌≡◌, ◌<◌, ◌+◌, ◌++◌, ◌∷◌, [], ◌∙◌, ap, sym, subst, Bool, List, ℕ, length, get_or, set, true, Vec, Global}
+use Rattle.std.proofs.Common.{arith, ◌≡◌, ◌<◌, ◌+◌, ◌∙◌, ap, sym, subst, Bool, List, ℕ, length, get_or, set, Vec, Global}
 use Rattle.std.proofs.lemmas.List.{get_or_default}
 use Rattle.mig_base.specs.declared.ids.Spot.{Spot}
 use Rattle.mig_base.specs.declared.ids.DiskId.{DiskId}

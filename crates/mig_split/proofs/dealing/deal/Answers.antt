@@ -1,12 +1,12 @@
-use Rattle.std.proofs.Common.{arith, ◌≡◌, ◌∙◌, ap, sym, subst, List, ℕ, length, sum, ◌≤◌, ◌<◌, ◌+◌, ◌++◌, ◌∷◌, [], set, get_or, All}
+use Rattle.std.proofs.Common.{arith, nat_le, ◌≡◌, ◌∙◌, ap, sym, subst, List, ℕ, length, sum, ◌≤◌, ◌<◌, ◌+◌, ◌++◌, ◌∷◌, [], set, get_or, All}
 use Rattle.std.proofs.lemmas.List.{get_or_default}
 use Rattle.mig_base.specs.declared.ids.CopyId.{CopyId}
 use Rattle.mig_base.specs.declared.ids.DiskId.{DiskId}
 use Rattle.mig_split.specs.declared.decks.Deck.{Deck}
 use Rattle.mig_split.specs.Dealing.{IsDealt, disk_at}
-use Rattle.mig_split.specs.Decks.{AreCounts, AreDecks, IsDealing, deck_at, no_deck}
+use Rattle.mig_split.specs.Decks.{AreCounts, AreDecks, IsAfter, IsDealing, deck_at, no_deck}
 use Rattle.mig_split.proofs.Counts.{counts_total}
-use Rattle.mig_split.proofs.Turns.{IsDealt-all, IsDealing-more, AreDecks-set, some_copy, next_copy, IsNext, IsNextCopy}
+use Rattle.mig_split.proofs.Turns.{IsDealt-all, IsDealing-more, AreDecks-set, some_copy, next_copy, IsNextCopy}
 use Rattle.mig_split.proofs.dealing.deal.Goals as goal
 
 pub make_decks-requires-clause-few : goal.make_decks-requires-clause-few
@@ -35,8 +35,11 @@ overflow_add-deck c =
     let counts = c.in_ok-counts.counts.items in
     omega (arith, (ready c.args.q c.args.disks c.args.stops.now c.in_ok-decks.homes.items c.in_ok-counts.counts.items c.loop-stop.decks.items c.loop-stop.copies.items c.loop-stop.stop-index c.index-deck.result.now c.requires.q c.requires.there c.loop-stop-test.true c.in_ok-counts.ensures c.loop-stop.invariant.decks c.loop-stop.invariant.dealing c.index-deck.ensures).next.there, c.loop-stop.invariant.decks.few, counts_total c.args.disks c.args.stops.now counts c.in_ok-counts.ensures, c.requires.few)
 
-pub after-requires : goal.after-requires
-after-requires c = (ready c.args.q c.args.disks c.args.stops.now c.in_ok-decks.homes.items c.in_ok-counts.counts.items c.loop-stop.decks.items c.loop-stop.copies.items c.loop-stop.stop-index c.index-deck.result.now c.requires.q c.requires.there c.loop-stop-test.true c.in_ok-counts.ensures c.loop-stop.invariant.decks c.loop-stop.invariant.dealing c.index-deck.ensures).next.small
+pub after-requires-clause-start : goal.after-requires-clause-start
+after-requires-clause-start c = (ready c.args.q c.args.disks c.args.stops.now c.in_ok-decks.homes.items c.in_ok-counts.counts.items c.loop-stop.decks.items c.loop-stop.copies.items c.loop-stop.stop-index c.index-deck.result.now c.requires.q c.requires.there c.loop-stop-test.true c.in_ok-counts.ensures c.loop-stop.invariant.decks c.loop-stop.invariant.dealing c.index-deck.ensures).next.start
+
+pub after-requires-clause-next : goal.after-requires-clause-next
+after-requires-clause-next c = (ready c.args.q c.args.disks c.args.stops.now c.in_ok-decks.homes.items c.in_ok-counts.counts.items c.loop-stop.decks.items c.loop-stop.copies.items c.loop-stop.stop-index c.index-deck.result.now c.requires.q c.requires.there c.loop-stop-test.true c.in_ok-counts.ensures c.loop-stop.invariant.decks c.loop-stop.invariant.dealing c.index-deck.ensures).next.small
 
 pub loop-stop-preserved : goal.loop-stop-preserved
 loop-stop-preserved c =
@@ -48,15 +51,16 @@ loop-stop-preserved c =
     let x = c.loop-stop.invariant in
     let r = ready c.args.q c.args.disks c.args.stops.now c.in_ok-decks.homes.items c.in_ok-counts.counts.items c.loop-stop.decks.items c.loop-stop.copies.items c.loop-stop.stop-index c.index-deck.result.now c.requires.q c.requires.there c.loop-stop-test.true c.in_ok-counts.ensures c.loop-stop.invariant.decks c.loop-stop.invariant.dealing c.index-deck.ensures in
     let deck = c.index-deck.result.now in
-    let next : IsNext (deck_at decks v) c.after.result = subst (λ (d : Deck). IsNext d c.after.result) r.is (record { first = c.after.ensures.first; count = c.after.ensures.count; next_is = c.after.ensures.next }) in
+    let later = nat_le c.args.level c.len.result in
+    let next : IsAfter (deck_at decks v) later c.after.result = subst (λ (d : Deck). IsAfter d later c.after.result) r.is c.after.ensures in
     let pos = some_copy c.args.q counts decks homes c.args.stops.now i c.requires.q c.loop-stop-test.true r.within r.counted x.decks in
     let pushed : c.push.new.self.items ≡ c.loop-stop.copies.items ++ record { 0 = (deck_at decks v).first + (deck_at decks v).next } ∷ [] =
     c.in_ok-push.ensures.items ∙ ap (λ (d : Deck). let k : CopyId = record { 0 = d.first + d.next } in c.loop-stop.copies.items ++ k ∷ []) r.is in
     record {
       len = omega (arith, c.in_ok-push.ensures.len, x.len);
-      decks = AreDecks-set c.args.q counts decks homes v c.after.result r.within next x.decks;
+      decks = AreDecks-set c.args.q counts decks homes v later c.after.result r.within next x.decks;
       dealing = subst (λ (ks : List CopyId). IsDealing c.args.stops.now homes (set decks v c.after.result) ks) (sym pushed)
-          (IsDealing-more c.args.q counts decks homes c.args.stops.now c.loop-stop.copies.items i c.after.result x.len c.loop-stop-test.true r.within pos x.decks next x.dealing);
+          (IsDealing-more c.args.q counts decks homes c.args.stops.now c.loop-stop.copies.items i later c.after.result x.len c.loop-stop-test.true r.within pos x.decks next x.dealing);
     }
 
 pub returns : goal.returns
