@@ -1,7 +1,6 @@
-use Rattle.std.proofs.Common.{◌≡◌, ◌+◌, ◌∷◌, ◌++◌, [], List, length, ap, ◌∙◌, arith, rules, subst, sym}
-use Rattle.mig_base.specs.InputLists.{no_disk}
+use Rattle.std.proofs.Common.{◌≡◌, ◌+◌, ◌∷◌, ◌++◌, [], List, rules, subst, sym}
 use Rattle.mig_base.specs.declared.inputs.Disk.{Disk}
-use Rattle.mig_bounds.specs.Cases.{IsCaseDisk, AreCaseDisks}
+use Rattle.mig_bounds.specs.Cases.{AreCaseDisks}
 use Rattle.mig_bounds.proofs.CaseInputs.{AreCaseDisks-push}
 use Rattle.mig_bounds.proofs.cases.disks_of.Goals as goal
 

@@ -1,4 +1,4 @@
-use Rattle.std.proofs.Common.{arith, length}
+use Rattle.std.proofs.Common.{length}
 use Rattle.mig_bounds.proofs.CaseInputs.{is_case}
 use Rattle.mig_bounds.proofs.cases.input_of.Goals as goal
 

@@ -1,4 +1,4 @@
-use Rattle.std.proofs.Common.{◌≡◌, ◌+◌, ◌∷◌, ◌++◌, [], List, length, ap, ◌∙◌, arith, rules, subst, sym}
+use Rattle.std.proofs.Common.{◌≡◌, ◌+◌, ◌∷◌, ◌++◌, [], List, rules, subst, sym}
 use Rattle.mig_base.specs.declared.names.Name.{Name}
 use Rattle.mig_bounds.specs.Cases.{AreCaseItems}
 use Rattle.mig_bounds.proofs.CaseInputs.{AreCaseItems-push}
