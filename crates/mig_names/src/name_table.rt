@@ -1,4 +1,4 @@
-ghost use Rattle.std.specs.Prelude.{◌≡◌, ◌∷◌, ◌++◌, [], Some, Contains, IfOk, MatchOption, OnErr, OnOk, length, slice_get};
+ghost use Rattle.std.specs.Prelude.{◌≡◌, ◌∷◌, ◌++◌, [], Some, Contains, MatchOption, OnErr, OnOk, length, slice_get};
 ghost use Rattle.mig_base.specs.InputLists.{AreDifferent};
 
 use indexmap::IndexSet;
@@ -33,15 +33,6 @@ impl NameTable {
         NameTable {
             names: IndexSet::new(alloc),
         }
-    }
-
-    /// A table with no name, with room for so many names. An error is want of memory.
-    pub fn with_capacity(alloc: Global, count: usize) -> Result<NameTable, AllocError>
-        ensures { IfOk result (λ names. names ≡ []) }
-    {
-        Ok(NameTable {
-            names: IndexSet::with_capacity(alloc, count)?,
-        })
     }
 
     /// How many names there are.

@@ -1,4 +1,4 @@
-ghost use Rattle.std.specs.Prelude.{◌≡◌, ◌∷◌, ◌++◌, ◌↔◌, [], Contains, IfOk, IsTrue, OnErr, OnOk};
+ghost use Rattle.std.specs.Prelude.{◌≡◌, ◌∷◌, ◌++◌, ◌↔◌, [], Contains, IsTrue, OnErr, OnOk};
 ghost use Rattle.mig_base.specs.declared.ids.Spot.{Spot};
 
 use indexmap::IndexSet;
@@ -31,15 +31,6 @@ impl SpotTable {
         SpotTable {
             spots: IndexSet::new(alloc),
         }
-    }
-
-    /// A table with no spot, with room for so many spots. An error is want of memory.
-    pub fn with_capacity(alloc: Global, count: usize) -> Result<SpotTable, AllocError>
-        ensures { IfOk result (λ spots. spots ≡ []) }
-    {
-        Ok(SpotTable {
-            spots: IndexSet::with_capacity(alloc, count)?,
-        })
     }
 
     /// Whether the table has a spot.

@@ -22,18 +22,12 @@ fn names_keep_their_places(rt: HostRuntime) {
     assert!(rt; place(alloc, b"x2") == Some(1));
     assert!(rt; place(alloc, b"x1.b") == Some(2));
     assert!(rt; place(alloc, b"X1").is_none());
-    match NameTable::with_capacity(alloc, 65_536) {
-        Ok(table) => assert!(rt; table.len() == 0),
-        Err(_) => assert!(rt; false),
-    }
+    assert!(rt; NameTable::new(alloc).len() == 0);
 }
 
 // Whether the spot stands among slot 0 of disk 0 and slot 7 of disk 3.
 fn is_taken(alloc: Global, disk: u32, slot: u32) -> Option<bool> {
-    let mut table = match SpotTable::with_capacity(alloc, 2) {
-        Ok(table) => table,
-        Err(_) => return None,
-    };
+    let mut table = SpotTable::new(alloc);
     for (of, at) in [(0, 0), (3, 7)] {
         let spot = Spot {
             disk: DiskId(of),
