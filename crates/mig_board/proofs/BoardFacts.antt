@@ -5,7 +5,7 @@ use Rattle.std.specs.Prelude.{slice_get}
 use Rattle.mig_base.specs.declared.ids.CopyId.{CopyId}
 use Rattle.mig_base.specs.declared.ids.EdgeId.{EdgeId}
 use Rattle.mig_base.specs.declared.ids.Colour.{Colour}
-use Rattle.mig_board.specs.Colouring.{Colouring, Joins, HasColour, IsPainted, IsFreeAt, painted_with, cleared, IsRow}
+use Rattle.mig_board.specs.Colouring.{Colouring, Joins, HasColour, IsPainted, IsFreeAt, IsProper, painted_with, cleared, IsRow}
 use Rattle.mig_board.specs.BoardFields.{colouring_of, IsBoard}
 use Rattle.mig_board.specs.declared.boards.Board.TheInside.{Inside}
 use Rattle.mig_board.proofs.Tables.{same_hue, IsTabled, IsTabled-painted, CanPaint, CanPaint-read, IsTabled-blank, IsTabled-cleared, place_within}
@@ -16,6 +16,21 @@ use Rattle.std.proofs.lemmas.Bool.{cases_eq}
 
 pub tabled_of : (a : Inside) → IsBoard a → IsTabled (colouring_of a) a.table.items
 tabled_of a b = record { proper = b.proper; table = b.table }
+
+-- the ends of an edge as they are read
+pub ends_read : (a : Inside) (g : Colouring) → colouring_of a ≡ g → (e : EdgeId) → e.0 < length g.ends → (x : CopyId × CopyId) → x ≡ get_or a.ends.items e.0 x → slice_get g.ends e.0 ≡ Some x
+ends_read a g view e h x read = slice_get_read g.ends (length g.ends) e.0 x refl h (read ∙ ap (λ (q : Colouring). get_or q.ends e.0 x) view)
+
+-- both are nodes
+pub ends_in_range : (a : Inside) → IsBoard a → (g : Colouring) → colouring_of a ≡ g → (e : EdgeId) → e.0 < length g.ends → (x : CopyId × CopyId) → x ≡ get_or a.ends.items e.0 x → (x.0.0 < g.nodes) × (x.1.0 < g.nodes)
+ends_in_range a b g view e h x read =
+    let proper : IsProper g = subst IsProper view b.proper in
+    let row = ends_read a g view e h x read in
+    (proper.nodes_in_range e x.0 x.1 (inl row), proper.nodes_in_range e x.1 x.0 (inr row))
+
+-- an edge that joins two nodes is there
+pub joins_within : (g : Colouring) (e : EdgeId) (v w : CopyId) → Joins g e v w → e.0 < length g.ends
+joins_within g e v w j = elim j [ inl h ↦ slice_get_within g.ends e.0 (v, w) h | inr h ↦ slice_get_within g.ends e.0 (w, v) h ]
 
 pub can_paint : (a : Inside) → IsBoard a → (g : Colouring) → colouring_of a ≡ g → (e : EdgeId) (k : Colour) (x : CopyId × CopyId) → slice_get g.painted e.0 ≡ Some None → IsFreeAt g e k → x ≡ get_or a.ends.items e.0 x → CanPaint (colouring_of a) e x.0 x.1 k
 can_paint a b g view e k x plain free read =
@@ -69,15 +84,15 @@ can_clear a b g view e has x read y read2 k is =
       colour = slice_get_read a.painted.items (length a.painted.items) e.0 y refl within read2 ∙ ap (λ (q : Option Colour). Some q) is;
     }
 
-pub clear_first : (a : Inside) (b : IsBoard a) (e : EdgeId) (x : CopyId × CopyId) (k : Colour) → IsCleared a e x k → (i : ℕ) → i ≡ x.0.0 * a.colours + k.0 → i < vec_len a.table
-clear_first a b e x k c i hi =
-    subst (λ q. q < vec_len a.table) (sym hi) (subst (λ q. x.0.0 * a.colours + k.0 < q) (sym (a.table.ok.0 ∙ b.table.len))
-    (place_within (colouring_of a) x.0 k (b.proper.nodes_in_range e x.0 x.1 c.joins) (b.proper.colours_in_range e k c.colour)))
-
-pub clear_second : (a : Inside) (b : IsBoard a) (e : EdgeId) (x : CopyId × CopyId) (k : Colour) → IsCleared a e x k → (i : ℕ) → i ≡ x.1.0 * a.colours + k.0 → i < vec_len a.table
-clear_second a b e x k c i hi =
-    subst (λ q. q < vec_len a.table) (sym hi) (subst (λ q. x.1.0 * a.colours + k.0 < q) (sym (a.table.ok.0 ∙ b.table.len))
-    (place_within (colouring_of a) x.1 k (b.proper.nodes_in_range e x.1 x.0 (joins_back (colouring_of a) e x.0 x.1 c.joins)) (b.proper.colours_in_range e k c.colour)))
+-- the two places of the edge in the table
+pub clear_places : (a : Inside) (b : IsBoard a) (e : EdgeId) (x : CopyId × CopyId) (k : Colour) → IsCleared a e x k → (x.0.0 * a.colours + k.0 < vec_len a.table) × (x.1.0 * a.colours + k.0 < vec_len a.table)
+clear_places a b e x k c = (
+  within x.0 (b.proper.nodes_in_range e x.0 x.1 c.joins),
+  within x.1 (b.proper.nodes_in_range e x.1 x.0 (joins_back (colouring_of a) e x.0 x.1 c.joins)),
+)
+  where
+    within : (v : CopyId) → v.0 < a.nodes → v.0 * a.colours + k.0 < vec_len a.table
+    within v h = subst (λ q. v.0 * a.colours + k.0 < q) (sym (a.table.ok.0 ∙ b.table.len)) (place_within (colouring_of a) v k h (b.proper.colours_in_range e k c.colour))
 
 pub tabled_cleared : (a : Inside) → IsBoard a → (e : EdgeId) (x : CopyId × CopyId) (k : Colour) → IsCleared a e x k → (i j : ℕ) → i ≡ x.0.0 * a.colours + k.0 → j ≡ x.1.0 * a.colours + k.0 → (o p : Option EdgeId) → o ≡ None → p ≡ None → IsTabled (cleared (colouring_of a) e) (set (set a.table.items i o) j p)
 tabled_cleared a b e x k c i j hi hj o p ho hp =

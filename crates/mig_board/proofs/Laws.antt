@@ -7,12 +7,31 @@ use Rattle.std.proofs.lemmas.Bool.{cases_lt, cases_eq}
 use Rattle.mig_base.specs.declared.ids.CopyId.{CopyId}
 use Rattle.mig_base.specs.declared.ids.EdgeId.{EdgeId}
 use Rattle.mig_base.specs.declared.ids.Colour.{Colour}
-use Rattle.mig_board.specs.Colouring.{Colouring, Joins, HasColour, Leads, IsMissing, IsPresent, IsPainted, IsProper, painted_with, blank}
+use Rattle.mig_board.specs.Colouring.{Colouring, Joins, HasColour, Leads, IsMissing, IsPresent, IsFull, HasNoCommon, IsPainted, IsProper, degree_of, painted_with, blank}
 use Rattle.mig_board.specs.Growth.{IsBlank, IsPlain, SameGraph, PaintsOne, IsTwoSided}
 use Rattle.mig_board.specs.Walk.{Step, IsWalk, end_of, next_of, backwards, WalksTo, swapped, Exchanges}
 use Rattle.mig_board.proofs.Walks.{IsPath, path_of_walk, path_back, next_pair, missing_differs}
+use Rattle.mig_board.proofs.Counting.{degree_of_full}
 use Rattle.mig_board.proofs.Tables.{edge_cases, same_edge, slice_get-set_same, slice_get-set_other, painted_cases}
 use Rattle.mig_board.proofs.Exchange.{On_cases, path_edge, swapped_second, swapped_third}
+
+-- ---- what is missing and what is there
+
+pub not_both : (g : Colouring) (v : CopyId) (k : Colour) → IsMissing g v k → IsPresent g v k → ⊥
+not_both g v k m p = m.absent p.0 p.1 p.2
+
+-- a colour that is missing at one node is present at the other, where they lack none together
+pub present_at_first : (g : Colouring) (v w : CopyId) (k : Colour) → HasNoCommon g v w → IsMissing g w k → IsPresent g v k
+present_at_first g v w k none m = elim (none k m.in_range) [ inl h ↦ h | inr h ↦ absurd (not_both g w k m h) ]
+
+pub present_at_second : (g : Colouring) (v w : CopyId) (k : Colour) → HasNoCommon g v w → IsMissing g v k → IsPresent g w k
+present_at_second g v w k none m = elim (none k m.in_range) [ inl h ↦ absurd (not_both g v k m h) | inr h ↦ h ]
+
+-- an end of an edge without a colour lacks some colour, where it has no more edges than there are colours
+pub not_full : (g : Colouring) (v w : CopyId) (e : EdgeId) → Joins g e v w → IsPlain g e → degree_of g v ≤ g.colours → IsFull g v → ⊥
+not_full g v w e j plain few full = absurd (omega (arith, degree_of_full g v w e j plain full))
+
+-- ---- exchanges and paintings
 
 -- an exchange colours no edge and uncolours none
 pub exchanges_painted : (old new : Colouring) (v : CopyId) (a b : Colour) (w : CopyId) → Exchanges old new v a b w → (f : EdgeId) → IsPainted old f → IsPainted new f

@@ -3,7 +3,7 @@ ghost use Rattle.mig_base.specs.declared.ids.CopyId.{CopyId};
 ghost use Rattle.mig_board.specs.Colouring.{Joins, Leads, IsPresent, IsMissing, IsProper, IsRow, IsFull, IsFullFrom, IsLeastMissing, IsLeastMissingFrom, HasNoCommon, IsLeastCommon, IsFreeAt, IsPainted, painted_with, cleared, blank};
 ghost use Rattle.mig_board.specs.Walk.{WalksTo, Exchanges};
 
-use crate::entries::{Entry, is_free};
+use crate::entries::{Entry, is_free, swap_entries};
 use crate::places::{other_of, place};
 use mig_base::{Colour, CopyId, EdgeId};
 use std::alloc::{AllocError, Global};
@@ -89,6 +89,8 @@ impl Board {
     pub fn ends(&self, edge: EdgeId) -> (CopyId, CopyId)
         requires { edge.0 < length self.now.ends }
         ensures value { slice_get self.now.ends edge.0 ≡ Some result }
+        ensures first { result.0.0 < self.now.nodes }
+        ensures second { result.1.0 < self.now.nodes }
         ensures proper { IsProper self.now }
     {
         self.ends[edge.0 as usize]
@@ -97,7 +99,8 @@ impl Board {
     /// The end of an edge that is not the node, which is its other end.
     pub fn across(&self, edge: EdgeId, node: CopyId) -> CopyId
         requires { (w : CopyId) × Joins self.now edge node w }
-        ensures { Joins self.now edge node result }
+        ensures joins { Joins self.now edge node result }
+        ensures node { result.0 < self.now.nodes }
     {
         other_of(self.ends[edge.0 as usize], node)
     }
@@ -251,18 +254,20 @@ impl Board {
         let mut at = node;
         let mut next = has;
         let mut other = lacks;
+        let here = place(self.colours, at, next);
+        let there = place(self.colours, at, other);
+        let mut found = swap_entries(&mut self.table, here, there);
         // A walk repeats no node, so it has fewer steps than the board has nodes.
         for _step in 0..self.nodes {
-            let here = place(self.colours, at, next);
-            let there = place(self.colours, at, other);
-            let found = self.table[here].edge();
-            self.table.swap(here, there);
             let Some(edge) = found else {
                 return at;
             };
-            self.painted[edge.0 as usize] = Some(other);
             at = other_of(self.ends[edge.0 as usize], at);
             (next, other) = (other, next);
+            let here = place(self.colours, at, next);
+            let there = place(self.colours, at, other);
+            found = swap_entries(&mut self.table, here, there);
+            self.painted[edge.0 as usize] = Some(next);
         }
         unreachable!()
     }

@@ -20,9 +20,6 @@ first_in g now e u v o same = subst (λ (x : Colouring). u.0 < x.nodes) (sym sam
 pub second_in : (g now : Colouring) (e : EdgeId) (u v : CopyId) → IsOpen g e u v → now ≡ g → v.0 < now.nodes
 second_in g now e u v o same = subst (λ (x : Colouring). v.0 < x.nodes) (sym same) (o.proper.nodes_in_range e v u (joins_back g e u v o.joins))
 
-pub across_in : (g now : Colouring) (e f : EdgeId) (u v w : CopyId) → IsOpen g e u v → now ≡ g → Joins now f v w → w.0 < now.nodes
-across_in g now e f u v w o same j = (subst (λ (x : Colouring). IsProper x) (sym same) o.proper).nodes_in_range f w v (joins_back now f v w j)
-
 pub walk_free : (g new : Colouring) (e : EdgeId) (u v : CopyId) (a b : Colour) → CanWalk g e u v a b → (x y : CopyId) → WalksTo g u a b x → x ≢ v → Exchanges g new u a b y → IsFreeAt new e b
 walk_free g new e u v a b w x y walk away ex = λ q r j.
     elim (end_cases g e u v q r w.at.joins (exchanges_joins g new u a b y ex e q r j)) [

@@ -4,28 +4,16 @@ use Rattle.std.proofs.lemmas.Option.{slice_get_within}
 use Rattle.mig_base.specs.declared.ids.CopyId.{CopyId}
 use Rattle.mig_base.specs.declared.ids.EdgeId.{EdgeId}
 use Rattle.mig_base.specs.declared.ids.Colour.{Colour}
-use Rattle.mig_board.specs.Colouring.{Colouring, Joins, Leads, IsMissing, IsPresent, IsProper, IsFull, HasNoCommon, IsFreeAt, IsPainted, degree_of, painted_with}
+use Rattle.mig_board.specs.Colouring.{Colouring, Joins, Leads, IsMissing, IsPresent, IsProper, HasNoCommon, IsFreeAt, IsPainted, degree_of, painted_with}
 use Rattle.mig_board.specs.Growth.{IsPlain, PaintsOne}
 use Rattle.mig_board.specs.Walk.{Exchanges, WalksTo, end_of}
 use Rattle.mig_board.proofs.Walks.{end_cases, leads_back, walk_unique}
-use Rattle.mig_board.proofs.Counting.{degree_of_full, degrees_of_three}
-use Rattle.mig_board.proofs.Laws.{exchanges_joins, exchanges_start, exchanges_plain, exchanges_third, repainted_old, repainted_other, same_far, walk_from_end, SameEdges-repainted, PaintsOne-after, PaintsOne-painted}
+use Rattle.mig_board.proofs.Counting.{degrees_of_three}
+use Rattle.mig_board.proofs.Laws.{not_both, present_at_first, present_at_second, exchanges_joins, exchanges_start, exchanges_plain, exchanges_third, repainted_old, repainted_other, same_far, walk_from_end, SameEdges-repainted, PaintsOne-after, PaintsOne-painted}
 use Rattle.mig_shannon.specs.Shift.{CanShift}
-
-pub not_both : (g : Colouring) (v : CopyId) (k : Colour) → IsMissing g v k → IsPresent g v k → ⊥
-not_both g v k m p = m.absent p.0 p.1 p.2
 
 pub hues_differ : (g : Colouring) (v : CopyId) (k l : Colour) → IsPresent g v k → IsMissing g v l → k ≢ l
 hues_differ g v k l p m = λ e. not_both g v l m (subst (λ (q : Colour). IsPresent g v q) e p)
-
-pub other_has : (g : Colouring) (v w : CopyId) (k : Colour) → HasNoCommon g v w → IsMissing g w k → IsPresent g v k
-other_has g v w k none m = elim (none k m.in_range) [ inl h ↦ h | inr h ↦ absurd (not_both g w k m h) ]
-
-pub other_has_too : (g : Colouring) (v w : CopyId) (k : Colour) → HasNoCommon g v w → IsMissing g v k → IsPresent g w k
-other_has_too g v w k none m = elim (none k m.in_range) [ inl h ↦ absurd (not_both g v k m h) | inr h ↦ h ]
-
-pub not_full : (g : Colouring) (v w : CopyId) (e : EdgeId) (most : ℕ) → Joins g e v w → IsPlain g e → degree_of g v ≤ most → most ≤ g.colours → IsFull g v → ⊥
-not_full g v w e most j plain few enough full = absurd (omega (arith, degree_of_full g v w e j plain full))
 
 -- ---- the repaint
 
@@ -94,12 +82,12 @@ free_by_walk g new e u v a b f w fan c x y mc walk away ex = λ q r j.
 
 not_at_first : (g : Colouring) (e : EdgeId) (u v : CopyId) (a b : Colour) (f : EdgeId) (w : CopyId) → IsFan g e u v a b f w → (c : Colour) → IsMissing g u c → WalksTo g u c b v → WalksTo g w c b u → ⊥
 not_at_first g e u v a b f w fan c mc walk back =
-    let r = walk_from_end g w c b u back c b (inl (refl, refl)) mc (other_has g u v b fan.none fan.has) in
+    let r = walk_from_end g w c b u back c b (inl (refl, refl)) mc (present_at_first g u v b fan.none fan.has) in
     fan_second g e u v a b f w fan (sym r.2 ∙ same_far g u c b v walk r.0 r.1)
 
 not_at_second : (g : Colouring) (e : EdgeId) (u v : CopyId) (a b : Colour) (f : EdgeId) (w : CopyId) → IsFan g e u v a b f w → (c : Colour) → IsMissing g u c → WalksTo g u c b v → WalksTo g w c b v → ⊥
 not_at_second g e u v a b f w fan c mc walk back =
-    let hc : IsPresent g v c = other_has_too g u v c fan.none mc in
+    let hc : IsPresent g v c = present_at_second g u v c fan.none mc in
     let r = walk_from_end g w c b v back b c (inr (refl, refl)) fan.has hc in
     let s = walk_from_end g u c b v walk b c (inr (refl, refl)) fan.has hc in
     fan_first g e u v a b f w fan (sym r.2 ∙ ap (end_of v) (walk_unique g fan.proper v b c r.0 s.0 r.1 s.1) ∙ s.2)

@@ -1,40 +1,32 @@
-use Rattle.std.proofs.Common.{inl, inr, sym, subst}
+use Rattle.std.proofs.Common.{rules, inl, inr, sym, subst}
 use Rattle.std.proofs.lemmas.Option.{slice_get_within}
 use Rattle.mig_board.specs.Colouring.{Colouring}
 use Rattle.mig_board.specs.Growth.{PaintsOne}
-use Rattle.mig_board.proofs.Laws.{PaintsOne-painted, PaintsOne-exchanged, exchanges_plain}
-use Rattle.mig_koenig.proofs.Step.{not_full, present_at_first, free_after}
+use Rattle.mig_board.proofs.Laws.{not_full, present_at_first, present_at_second, PaintsOne-painted, PaintsOne-exchanged, exchanges_plain}
+use Rattle.mig_koenig.proofs.Step.{free_after}
 use Rattle.mig_koenig.proofs.sides.colour_edge.Goals as goal
-
-pub common-requires-clause-first : goal.common-requires-clause-first
-common-requires-clause-first c = c.ends.ensures.proper.nodes_in_range c.args.edge c.ends.result.0 c.ends.result.1 (inl c.ends.ensures.value)
-
-pub common-requires-clause-second : goal.common-requires-clause-second
-common-requires-clause-second c = c.ends.ensures.proper.nodes_in_range c.args.edge c.ends.result.1 c.ends.result.0 (inr c.ends.ensures.value)
 
 pub returns-in-Some : goal.returns-in-Some
 returns-in-Some c =
     subst (λ (g : Colouring). PaintsOne c.args.board.now g c.args.edge) (sym c.paint.ensures.painted)
     (PaintsOne-painted c.args.board.now c.args.edge c.in-Some.colour (slice_get_within _ _ _ c.requires.plain))
 
-pub missing-requires : goal.missing-requires
-missing-requires c = c.ends.ensures.proper.nodes_in_range c.args.edge c.ends.result.0 c.ends.result.1 (inl c.ends.ensures.value)
-
 pub unreachable-requires : goal.unreachable-requires
 unreachable-requires c =
     not_full c.args.board.now c.ends.result.0 c.ends.result.1 c.args.edge (inl c.ends.ensures.value) c.requires.plain
-    (c.requires.few c.ends.result.0 (c.ends.ensures.proper.nodes_in_range c.args.edge c.ends.result.0 c.ends.result.1 (inl c.ends.ensures.value))) c.in_default-missing.ensures
-
-pub missing-requires-2 : goal.missing-requires-2
-missing-requires-2 c = c.ends.ensures.proper.nodes_in_range c.args.edge c.ends.result.1 c.ends.result.0 (inr c.ends.ensures.value)
+    (c.requires.few c.ends.result.0 c.ends.ensures.first) c.in_default-missing.ensures
 
 pub unreachable-requires-in_default-missing-2 : goal.unreachable-requires-in_default-missing-2
 unreachable-requires-in_default-missing-2 c =
     not_full c.args.board.now c.ends.result.1 c.ends.result.0 c.args.edge (inr c.ends.ensures.value) c.requires.plain
-    (c.requires.few c.ends.result.1 (c.ends.ensures.proper.nodes_in_range c.args.edge c.ends.result.1 c.ends.result.0 (inr c.ends.ensures.value))) c.in_default-missing-2.ensures
+    (c.requires.few c.ends.result.1 c.ends.ensures.second) c.in_default-missing-2.ensures
 
+-- what one end lacks is present at the other
 pub exchange-requires-clause-has : goal.exchange-requires-clause-has
-exchange-requires-clause-has c = present_at_first c.args.board.now c.ends.result.0 c.ends.result.1 c.in-Some-missing-2.has c.in_default.ensures c.in-Some-missing-2.ensures.missing
+exchange-requires-clause-has c =
+    let at_first = present_at_first c.args.board.now c.ends.result.0 c.ends.result.1 c.in-Some-missing-2.has c.in_default.ensures c.in-Some-missing-2.ensures.missing in
+    let at_second = present_at_second c.args.board.now c.ends.result.0 c.ends.result.1 c.in-Some-missing.lacks c.in_default.ensures c.in-Some-missing.ensures.missing in
+    search (rules, at_first, at_second)
 
 pub paint-requires-2-clause-plain : goal.paint-requires-2-clause-plain
 paint-requires-2-clause-plain c = exchanges_plain c.args.board.now c.exchange.new.self _ _ _ _ c.exchange.ensures.exchanged c.args.edge c.requires.plain

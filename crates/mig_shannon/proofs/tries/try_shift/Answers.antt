@@ -1,5 +1,5 @@
 use Rattle.std.proofs.Common.{refl}
-use Rattle.mig_shannon.proofs.Open.{second_in, across_in}
+use Rattle.mig_shannon.proofs.Open.{second_in}
 use Rattle.mig_shannon.proofs.tries.try_shift.Goals as goal
 
 pub edge_at-requires-clause-node : goal.edge_at-requires-clause-node
@@ -7,6 +7,3 @@ edge_at-requires-clause-node c = second_in c.args.board.now c.args.board.now c.a
 
 pub common-requires-clause-first : goal.common-requires-clause-first
 common-requires-clause-first c = second_in c.args.board.now c.args.board.now c.args.edge c.args.first c.args.second c.requires.open refl
-
-pub common-requires-clause-second : goal.common-requires-clause-second
-common-requires-clause-second c = across_in c.args.board.now c.args.board.now c.args.edge c.in-Some.beside c.args.first c.args.second c.across-third.result c.requires.open refl c.across-third.ensures

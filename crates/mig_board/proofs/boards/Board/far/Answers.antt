@@ -15,7 +15,7 @@ loop-step-init c = underway_start _ _ _ _
 pub loop-step-preserved : goal.loop-step-preserved
 loop-step-preserved c =
     underway_more _ _ _ _ _ _ _ _ c.loop-step.invariant c.in-Some.edge c.across-at.result
-    (record { joins = c.across-at.ensures; colour = c.in-Some.ensures.1.colour })
+    (record { joins = c.across-at.ensures.joins; colour = c.in-Some.ensures.1.colour })
 
 pub returns-in_default : goal.returns-in_default
 returns-in_default c =

@@ -6,16 +6,16 @@ use Rattle.mig_board.proofs.boards.Board.paint.Goals as goal
 pub index_mut-requires-2 : goal.index_mut-requires-2
 index_mut-requires-2 c =
     let can = can_paint c.self.inside c.self.invariant _ c.self.view_is _ _ _ c.requires.plain c.requires.free c.index.ensures in
-    let h = (place_in_table _ _ (tabled_of c.self.inside c.self.invariant) _ _ _ _ can).0 in
+    let h = place_in_table _ _ (tabled_of c.self.inside c.self.invariant) _ _ _ _ can in
     let ok = c.self.inside.table.ok in
-    omega (arith, h, c.place.ensures, ok)
+    omega (arith, h.0, h.1, c.place.ensures, ok)
 
 pub index_mut-requires-3 : goal.index_mut-requires-3
 index_mut-requires-3 c =
     let can = can_paint c.self.inside c.self.invariant _ c.self.view_is _ _ _ c.requires.plain c.requires.free c.index.ensures in
-    let h = (place_in_table _ _ (tabled_of c.self.inside c.self.invariant) _ _ _ _ can).1 in
+    let h = place_in_table _ _ (tabled_of c.self.inside c.self.invariant) _ _ _ _ can in
     let ok = c.self.inside.table.ok in
-    omega (arith, h, c.place-2.ensures, ok)
+    omega (arith, h.0, h.1, c.place-2.ensures, ok)
 
 pub invariant_of-self : goal.invariant_of-self
 invariant_of-self c =
