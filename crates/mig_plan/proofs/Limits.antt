@@ -153,7 +153,7 @@ pub copies_differ : (q : ℕ) (graph : Transfers) (ends : List (CopyId × CopyId
 copies_differ q graph ends homes apart a k d h = subst (λ (p : CopyId × CopyId). p.0 ≢ p.1) (get_or_default ends k (record { 0 = 0 }, record { 0 = 0 }) d h) (λ e. apart k (record { leaves = 0; reaches = 0 }) (omega (arith, h, a.one_each)) (sym (a.first k h) ∙ ap (λ (c : CopyId). disk_at homes c.0) e ∙ a.second k h))
 
 -- the board's size
-pub few_general : (nodes q c m d : ℕ) → 2 * c ≤ 3 * q → nodes * q ≤ 2 * m + d * q → m ≤ 65536 → d ≤ 1024 → q ≤ 65536 → nodes * c ≤ 268435456
+pub few_general : (nodes q c m d : ℕ) → c ≤ 3 * q → nodes * q ≤ 2 * m + d * q → m ≤ 65536 → d ≤ 1024 → q ≤ 65536 → nodes * c ≤ 268435456
 few_general nodes q c m d hc room hm hd hq =
     let a = mul-le-mul_left nodes hc in
     let b = mul-le-mul_right q hd in

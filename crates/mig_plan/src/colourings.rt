@@ -1,5 +1,5 @@
 //! Colourings of a transfer graph, so that the edges of one colour keep each disk's limit.
-ghost use Rattle.std.specs.Prelude.{◌≡◌, ◌<◌, ◌≤◌, ◌*◌, ◌/◌, length, IfOk};
+ghost use Rattle.std.specs.Prelude.{◌≡◌, ◌<◌, ◌≤◌, ◌+◌, ◌*◌, length, IfOk};
 ghost use Rattle.mig_base.specs.Bounding.{quotient, IsEven};
 ghost use Rattle.mig_base.specs.Colourings.{IsLimited};
 ghost use Rattle.mig_board.specs.Growth.{IsComplete};
@@ -49,18 +49,26 @@ fn colour_even(alloc: Global, graph: &Graph) -> Result<Vec<Colour>, AllocError>
     colours_of(alloc, &board)
 }
 
-/// Colours the edges by three halves of the quotient, whatever the limits are (Shannon 1949).
+/// Colours the edges by so many colours, whatever the limits are: three halves of the quotient, rounded down, are enough
+/// (Shannon 1949).
 ///
 /// Fewer colours are tried first, from `start` on, and more are taken only where these don't do.
-fn colour_general(alloc: Global, graph: &Graph, start: u32) -> Result<Vec<Colour>, AllocError>
+fn colour_general(
+    alloc: Global,
+    graph: &Graph,
+    colours: u32,
+    start: u32,
+) -> Result<Vec<Colour>, AllocError>
     requires some { 0 < length graph.now.trips }
-    requires start { 2 * start ≤ 3 * quotient graph.now }
-    ensures { IfOk result (λ v. IsLimited graph.now (3 * quotient graph.now / 2) v.items) }
+    requires enough { 3 * quotient graph.now ≤ 2 * colours + 1 }
+    requires room { colours ≤ 3 * quotient graph.now }
+    requires start { start ≤ colours }
+    ensures { IfOk result (λ v. IsLimited graph.now colours v.items) }
 {
     let _edges = graph.edges();
     let q = graph.quotient();
     let copies = split_nodes(alloc, graph, q)?;
-    let mut board = Board::new(alloc, copies.nodes, copies.ends, 3 * q / 2)?;
+    let mut board = Board::new(alloc, copies.nodes, copies.ends, colours)?;
     colour_few(&mut board, q, start);
     colours_of(alloc, &board)
 }
@@ -84,6 +92,6 @@ pub fn colour_moves(
         Ok((colour_even(alloc, graph)?, q))
     } else {
         let most = 3 * q / 2;
-        Ok((colour_general(alloc, graph, start.min(most))?, most))
+        Ok((colour_general(alloc, graph, most, start.min(most))?, most))
     }
 }
