@@ -20,6 +20,10 @@ use Rattle.mig_board.proofs.Exchange.{On_cases, path_edge, swapped_second, swapp
 pub not_both : (g : Colouring) (v : CopyId) (k : Colour) → IsMissing g v k → IsPresent g v k → ⊥
 not_both g v k m p = m.absent p.0 p.1 p.2
 
+-- a colour that is present differs from one that is missing
+pub present_differs : (g : Colouring) (v : CopyId) (k l : Colour) → IsPresent g v k → IsMissing g v l → k ≢ l
+present_differs g v k l p m = λ e. missing_differs g v l k m p (sym e)
+
 -- a colour that is missing at one node is present at the other, where they lack none together
 pub present_at_first : (g : Colouring) (v w : CopyId) (k : Colour) → HasNoCommon g v w → IsMissing g w k → IsPresent g v k
 present_at_first g v w k none m = elim (none k m.in_range) [ inl h ↦ h | inr h ↦ absurd (not_both g w k m h) ]

@@ -3,16 +3,11 @@ use Rattle.std.proofs.Common.{◌≡◌, ◌≢◌, ◌<◌, inl, inr, sym, subs
 use Rattle.mig_base.specs.declared.ids.CopyId.{CopyId}
 use Rattle.mig_base.specs.declared.ids.EdgeId.{EdgeId}
 use Rattle.mig_base.specs.declared.ids.Colour.{Colour}
-use Rattle.mig_board.specs.Colouring.{Colouring, Joins, IsMissing, IsProper, IsFreeAt}
+use Rattle.mig_board.specs.Colouring.{Colouring, Joins, Leads, IsMissing, IsProper, IsFreeAt}
 use Rattle.mig_board.specs.Walk.{WalksTo, Exchanges}
-use Rattle.mig_board.proofs.Walks.{joins_back}
-use Rattle.mig_board.proofs.Laws.{exchanges_start, exchanges_joins, same_far}
+use Rattle.mig_board.proofs.Walks.{joins_back, leads_back, end_cases}
+use Rattle.mig_board.proofs.Laws.{present_differs, exchanges_start, exchanges_joins, exchanges_third, exchanges_plain, same_far}
 use Rattle.mig_shannon.specs.Shift.{IsOpen, CanWalk, IsBeside, CanPass, CanShift}
-use Rattle.mig_shannon.proofs.Step.{hues_differ}
-use Rattle.mig_board.proofs.Walks.{leads_back}
-use Rattle.mig_board.specs.Colouring.{Leads}
-use Rattle.mig_board.proofs.Laws.{exchanges_third, exchanges_plain}
-use Rattle.mig_board.proofs.Walks.{end_cases}
 
 pub first_in : (g now : Colouring) (e : EdgeId) (u v : CopyId) → IsOpen g e u v → now ≡ g → u.0 < now.nodes
 first_in g now e u v o same = subst (λ (x : Colouring). u.0 < x.nodes) (sym same) (o.proper.nodes_in_range e u v o.joins)
@@ -20,6 +15,7 @@ first_in g now e u v o same = subst (λ (x : Colouring). u.0 < x.nodes) (sym sam
 pub second_in : (g now : Colouring) (e : EdgeId) (u v : CopyId) → IsOpen g e u v → now ≡ g → v.0 < now.nodes
 second_in g now e u v o same = subst (λ (x : Colouring). v.0 < x.nodes) (sym same) (o.proper.nodes_in_range e v u (joins_back g e u v o.joins))
 
+-- an exchange along a walk from u that ends elsewhere than at v frees the edge for a colour
 pub walk_free : (g new : Colouring) (e : EdgeId) (u v : CopyId) (a b : Colour) → CanWalk g e u v a b → (x y : CopyId) → WalksTo g u a b x → x ≢ v → Exchanges g new u a b y → IsFreeAt new e b
 walk_free g new e u v a b w x y walk away ex = λ q r j.
     elim (end_cases g e u v q r w.at.joins (exchanges_joins g new u a b y ex e q r j)) [
@@ -41,7 +37,7 @@ pass_shift g new e u v f w a c b p x y walk not_u not_v ex proper =
       joins = subst (λ (q : Colouring). Joins q e u v) (sym ex.frame) fan.at.joins;
       plain = exchanges_plain g new w c b y ex e fan.at.plain;
       lacks = (ex.others u a (λ h. fan.lacks.absent f v (subst (λ (q : CopyId). Leads g q a f v) (sym h) (leads_back fan.beside))) (λ h. not_u (same ∙ sym h))).1 fan.lacks;
-      beside = exchanges_third g new w c b y ex v a f w (hues_differ g w a c (f, v, leads_back fan.beside) p.lacks) (hues_differ g v a b (f, w, fan.beside) p.has) fan.beside;
+      beside = exchanges_third g new w c b y ex v a f w (present_differs g w a c (f, v, leads_back fan.beside) p.lacks) (present_differs g v a b (f, w, fan.beside) p.has) fan.beside;
       at_second = (ex.others v b (λ h. fan.at.proper.no_loop f v w fan.beside.joins h) (λ h. not_v (same ∙ sym h))).1 p.has;
       at_third = exchanges_start g new w c b y ex p.lacks;
     }

@@ -9,11 +9,9 @@ use Rattle.mig_board.specs.Growth.{IsPlain, PaintsOne}
 use Rattle.mig_board.specs.Walk.{Exchanges, WalksTo, end_of}
 use Rattle.mig_board.proofs.Walks.{end_cases, leads_back, walk_unique}
 use Rattle.mig_board.proofs.Counting.{degrees_of_three}
-use Rattle.mig_board.proofs.Laws.{not_both, present_at_first, present_at_second, exchanges_joins, exchanges_start, exchanges_plain, exchanges_third, repainted_old, repainted_other, same_far, walk_from_end, SameEdges-repainted, PaintsOne-after, PaintsOne-painted}
+use Rattle.mig_board.proofs.Laws.{present_differs, present_at_first, present_at_second, repainted_old, repainted_other, same_far, walk_from_end, SameEdges-repainted, PaintsOne-after, PaintsOne-painted}
 use Rattle.mig_shannon.specs.Shift.{CanShift}
-
-pub hues_differ : (g : Colouring) (v : CopyId) (k l : Colour) → IsPresent g v k → IsMissing g v l → k ≢ l
-hues_differ g v k l p m = λ e. not_both g v l m (subst (λ (q : Colour). IsPresent g v q) e p)
+use Rattle.mig_shannon.proofs.Open.{walk_free, pass_shift}
 
 -- ---- the repaint
 
@@ -28,7 +26,7 @@ shift_free g e f a c s = λ v w j.
     ]
 
 shift_differs : (g : Colouring) (e f : EdgeId) (a c : Colour) → CanShift g e f a c → a ≢ c
-shift_differs g e f a c s = hues_differ g s.second a c (f, s.third, s.beside) s.at_second
+shift_differs g e f a c s = present_differs g s.second a c (f, s.third, s.beside) s.at_second
 
 pub shift_plain : (g : Colouring) (e f : EdgeId) (a c : Colour) → CanShift g e f a c → IsPlain (painted_with g f c) e
 shift_plain g e f a c s = (SameEdges-repainted g f c (a, s.beside.colour)).plain e s.plain
@@ -71,12 +69,8 @@ fan_common g e u v a b f w x most du dv dw half vw uw =
 -- ---- the walk from u does not end at v
 
 pub free_by_walk : (g new : Colouring) (e : EdgeId) (u v : CopyId) (a b : Colour) (f : EdgeId) (w : CopyId) → IsFan g e u v a b f w → (c : Colour) (x y : CopyId) → IsMissing g u c → WalksTo g u c b x → x ≢ v → Exchanges g new u c b y → IsFreeAt new e b
-free_by_walk g new e u v a b f w fan c x y mc walk away ex = λ q r j.
-    elim (end_cases g e u v q r fan.joins (exchanges_joins g new u c b y ex e q r j)) [
-      | inl h ↦ subst (λ (z : CopyId). IsMissing new z b) (sym h) (exchanges_start g new u c b y ex mc)
-      | inr h ↦ subst (λ (z : CopyId). IsMissing new z b) (sym h)
-          ((ex.others v b (λ same. fan.proper.no_loop e u v fan.joins (sym same)) (λ same. away (sym (same_far g u c b x walk ex.walk.steps ex.walk.law.walk) ∙ ex.walk.end ∙ sym same))).1 fan.has)
-    ]
+free_by_walk g new e u v a b f w fan c x y mc walk away ex =
+    walk_free g new e u v c b (record { at = record { proper = fan.proper; joins = fan.joins; plain = fan.plain }; lacks = mc; has = fan.has }) x y walk away ex
 
 -- ---- the walk from u ends at v: the walk from w ends at neither
 
@@ -95,17 +89,6 @@ not_at_second g e u v a b f w fan c mc walk back =
 pub shift_by_walk : (g new : Colouring) (e : EdgeId) (u v : CopyId) (a b : Colour) (f : EdgeId) (w : CopyId) → IsFan g e u v a b f w → (c : Colour) (x y : CopyId) → IsMissing g u c → IsMissing g w c → WalksTo g u c b x → x ≡ v → Exchanges g new w c b y → IsProper new → CanShift new e f a b
 shift_by_walk g new e u v a b f w fan c x y mc mw walk there ex proper =
     let to : WalksTo g u c b v = subst (λ (q : CopyId). WalksTo g u c b q) there walk in
-    let not_u : u ≢ y = λ h. not_at_first g e u v a b f w fan c mc to (subst (λ (q : CopyId). WalksTo g w c b q) (sym h) ex.walk) in
-    let not_v : v ≢ y = λ h. not_at_second g e u v a b f w fan c mc to (subst (λ (q : CopyId). WalksTo g w c b q) (sym h) ex.walk) in
-    record {
-      proper = proper;
-      first = u;
-      second = v;
-      third = w;
-      joins = subst (λ (q : Colouring). Joins q e u v) (sym ex.frame) fan.joins;
-      plain = exchanges_plain g new w c b y ex e fan.plain;
-      lacks = (ex.others u a (λ h. fan_first g e u v a b f w fan (sym h)) not_u).1 fan.lacks;
-      beside = exchanges_third g new w c b y ex v a f w (hues_differ g w a c (f, v, leads_back fan.beside) mw) (hues_differ g v a b (f, w, fan.beside) fan.has) fan.beside;
-      at_second = (ex.others v b (λ h. fan_second g e u v a b f w fan (sym h)) not_v).1 fan.has;
-      at_third = exchanges_start g new w c b y ex mw;
-    }
+    let not_u : y ≢ u = λ h. not_at_first g e u v a b f w fan c mc to (subst (λ (q : CopyId). WalksTo g w c b q) h ex.walk) in
+    let not_v : y ≢ v = λ h. not_at_second g e u v a b f w fan c mc to (subst (λ (q : CopyId). WalksTo g w c b q) h ex.walk) in
+    pass_shift g new e u v f w a c b (record { fan = record { at = record { proper = fan.proper; joins = fan.joins; plain = fan.plain }; lacks = fan.lacks; beside = fan.beside }; lacks = mw; has = fan.has }) y y ex.walk not_u not_v ex proper
