@@ -1,35 +1,13 @@
 -- From pairs of disks to the transfer graph.
-use Rattle.std.proofs.Common.{◌≡◌, ◌≢◌, ℕ, suc, zero, ◌<◌, Bool, true, false, cond, eqb, List, [], ◌∷◌, length, map, refl, sym, ap, ◌∙◌, subst, arith, All, get_or}
+use Rattle.std.proofs.Common.{◌≡◌, ◌≢◌, ℕ, suc, zero, ◌<◌, Bool, List, [], ◌∷◌, length, map, refl, sym, ap, ◌∙◌, subst, arith, All, get_or}
 use Rattle.std.specs.Prelude.{slice_get, Some}
 use Rattle.std.proofs.lemmas.List.{get_or_default, same_lists, length-map}
-use Rattle.std.proofs.lemmas.List.Sums.{sum_by-cons}
 use Rattle.std.proofs.lemmas.Option.{same_Some, slice_get-get_or, slice_get_within}
 use Rattle.mig_base.specs.declared.ids.DiskId.{DiskId}
 use Rattle.mig_base.specs.Transfers.{Trip}
-use Rattle.mig_base.specs.Directions as base
-use Rattle.mig_base.specs.Directions.{trip_at}
-use Rattle.mig_euler.specs.Balance.{out_of, in_of, Balances, AllInRange, tail_of, head_of}
+use Rattle.mig_base.specs.Directions.{trip_at, Balances}
+use Rattle.mig_euler.specs.Balance.{AllInRange}
 use Rattle.mig_euler.specs.Pairs.{ArePairs, trip_of, pair_at}
-
-same_end : (p : DiskId × DiskId) (d : Bool) → base.tail_of (trip_of p) d ≡ (tail_of p d).0
-same_end p true = refl
-same_end p false = refl
-
-same_head : (p : DiskId × DiskId) (d : Bool) → base.head_of (trip_of p) d ≡ (head_of p d).0
-same_head p true = refl
-same_head p false = refl
-
-out_is : (v : DiskId) (ps : List (DiskId × DiskId)) (ds : List Bool) → base.out_of (map trip_of ps) ds v.0 ≡ out_of v ps ds
-out_is v [] ds = refl
-out_is v (p ∷ ps) [] = refl
-out_is v (p ∷ ps) (d ∷ ds) =
-    omega (arith, sum_by-cons (λ n. cond (eqb n v.0) 1 0) (base.tail_of (trip_of p) d) (base.tails (map trip_of ps) ds), ap {B = ℕ} (λ n. cond (eqb n v.0) 1 0) (same_end p d), out_is v ps ds)
-
-in_is : (v : DiskId) (ps : List (DiskId × DiskId)) (ds : List Bool) → base.in_of (map trip_of ps) ds v.0 ≡ in_of v ps ds
-in_is v [] ds = refl
-in_is v (p ∷ ps) [] = refl
-in_is v (p ∷ ps) (d ∷ ds) =
-    omega (arith, sum_by-cons (λ n. cond (eqb n v.0) 1 0) (base.head_of (trip_of p) d) (base.heads (map trip_of ps) ds), ap {B = ℕ} (λ n. cond (eqb n v.0) 1 0) (same_head p d), in_is v ps ds)
 
 map_get : (ps : List (DiskId × DiskId)) (k : ℕ) (t : Trip) → k < length ps → get_or (map trip_of ps) k t ≡ trip_of (pair_at ps k)
 map_get [] k t h = absurd (omega arith)
@@ -40,13 +18,8 @@ trips_are : (trips : List Trip) (ps : List (DiskId × DiskId)) → ArePairs trip
 trips_are trips ps a = same_lists (map trip_of ps) trips (length-map ps trip_of ∙ a.len)
     (λ k t h. (let l : k < length ps = omega (arith, h, length-map ps trip_of) in map_get ps k t l ∙ a.known k l ∙ get_or_default trips k (record { leaves = 0; reaches = 0 }) t (omega (arith, l, a.len))))
 
-pub balanced : (trips : List Trip) (ps : List (DiskId × DiskId)) (ds : List Bool) → ArePairs trips ps → Balances ps ds → base.Balances trips ds
-balanced trips ps ds a b =
-    subst (λ (ts : List Trip). base.Balances ts ds) (trips_are trips ps a)
-    (record {
-      out_most = λ v. (let d : DiskId = record { 0 = v } in omega (arith, out_is d ps ds, in_is d ps ds, b.out_most d));
-      in_most = λ v. (let d : DiskId = record { 0 = v } in omega (arith, out_is d ps ds, in_is d ps ds, b.in_most d));
-    })
+pub balanced : (trips : List Trip) (ps : List (DiskId × DiskId)) (ds : List Bool) → ArePairs trips ps → Balances (map trip_of ps) ds → Balances trips ds
+balanced trips ps ds a b = subst (λ (ts : List Trip). Balances ts ds) (trips_are trips ps a) b
 
 pair_known : (ps : List (DiskId × DiskId)) (k : ℕ) (p : DiskId × DiskId) → slice_get ps k ≡ Some p → p ≡ pair_at ps k
 pair_known ps k p e = sym (same_Some (pair_at ps k) p (sym (slice_get-get_or ps k (record { 0 = 0 }, record { 0 = 0 }) (slice_get_within ps k p e)) ∙ e))

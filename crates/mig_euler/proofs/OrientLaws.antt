@@ -1,37 +1,58 @@
 -- All edges directed.
-use Rattle.std.proofs.Common.{◌≡◌, ℕ, ◌<◌, ◌≤◌, ◌+◌, ◌%◌, ◌⊎◌, inl, inr, refl, sym, ap, subst, ◌∙◌, List, [], ◌∷◌, zero, suc, Option, Some, None, arith, Bool, map, length, replicate, get_or, eq-eqb}
+use Rattle.std.proofs.Common.{◌≡◌, ℕ, ◌<◌, ◌≤◌, ◌+◌, ◌%◌, ◌⊎◌, inl, inr, refl, sym, ap, subst, ◌∙◌, List, [], ◌∷◌, zero, suc, Option, Some, None, arith, Bool, true, false, cond, eqb, map, length, replicate, get_or, eq-eqb}
+use Rattle.std.proofs.lemmas.List.Sums.{sum_by-cons}
 use Rattle.std.proofs.lemmas.Bool.{cases_eq, cases_lt, ne_eqb}
 use Rattle.mig_base.specs.declared.ids.DiskId.{DiskId}
-use Rattle.mig_euler.specs.Balance.{tail_of, head_of, out_of, in_of, Balances, AllPassed, AllInRange}
+use Rattle.mig_base.specs.Directions as base
+use Rattle.mig_euler.specs.Balance.{tail_of, head_of, AllPassed, AllInRange}
+use Rattle.mig_euler.specs.Pairs.{trip_of}
 use Rattle.mig_euler.specs.Trails.{bit, is, leaves, enters, waits, total, EndsTrail, IsEven, is_forward}
 use Rattle.mig_euler.specs.Ready.{IsReady}
 use Rattle.std.proofs.lemmas.List.{length-replicate}
 use Rattle.mig_euler.proofs.Trail.{IsEven-trail, even_kept, odd_ended, trail_closed, IsEven-none}
 
--- where no edge waits anywhere, the counts are those of the directions
-out_is : (v : DiskId) (ps : List (DiskId × DiskId)) (ds : List (Option Bool)) → ((w : DiskId) → total (waits w) ps ds ≡ 0) → length ds ≡ length ps → out_of v ps (map is_forward ds) ≡ total (leaves v) ps ds
+-- ---- where no edge waits anywhere, the counts are those of the directions
+
+same_tail : (p : DiskId × DiskId) (d : Bool) → base.tail_of (trip_of p) d ≡ (tail_of p d).0
+same_tail p true = refl
+same_tail p false = refl
+
+same_head : (p : DiskId × DiskId) (d : Bool) → base.head_of (trip_of p) d ≡ (head_of p d).0
+same_head p true = refl
+same_head p false = refl
+
+itself : (w : DiskId) → is w w ≡ 1
+itself w = ap bit (eq-eqb w.0 w.0 refl)
+
+out_is : (v : DiskId) (ps : List (DiskId × DiskId)) (ds : List (Option Bool)) → ((w : DiskId) → total (waits w) ps ds ≡ 0) → length ds ≡ length ps → base.out_of (map trip_of ps) (map is_forward ds) v.0 ≡ total (leaves v) ps ds
 out_is v [] ds h len = refl
 out_is v (p ∷ ps) [] h len = refl
-out_is v (p ∷ ps) (Some d ∷ ds) h len = ap (λ n. is v (tail_of p d) + n) (out_is v ps ds (λ w. omega (arith, h w)) (omega arith))
+out_is v (p ∷ ps) (Some d ∷ ds) h len =
+    omega (
+      arith,
+      sum_by-cons (λ n. cond (eqb n v.0) 1 0) (base.tail_of (trip_of p) d) (base.tails (map trip_of ps) (map is_forward ds)),
+      ap {B = ℕ} (λ n. cond (eqb n v.0) 1 0) (same_tail p d),
+      out_is v ps ds (λ w. omega (arith, h w)) (omega arith),
+    )
 out_is v (p ∷ ps) (None ∷ ds) h len = absurd (omega (arith, h p.0, itself p.0))
-  where
-    itself : (w : DiskId) → is w w ≡ 1
-    itself w = ap bit (eq-eqb w.0 w.0 refl)
 
-in_is : (v : DiskId) (ps : List (DiskId × DiskId)) (ds : List (Option Bool)) → ((w : DiskId) → total (waits w) ps ds ≡ 0) → length ds ≡ length ps → in_of v ps (map is_forward ds) ≡ total (enters v) ps ds
+in_is : (v : DiskId) (ps : List (DiskId × DiskId)) (ds : List (Option Bool)) → ((w : DiskId) → total (waits w) ps ds ≡ 0) → length ds ≡ length ps → base.in_of (map trip_of ps) (map is_forward ds) v.0 ≡ total (enters v) ps ds
 in_is v [] ds h len = refl
 in_is v (p ∷ ps) [] h len = refl
-in_is v (p ∷ ps) (Some d ∷ ds) h len = ap (λ n. is v (head_of p d) + n) (in_is v ps ds (λ w. omega (arith, h w)) (omega arith))
+in_is v (p ∷ ps) (Some d ∷ ds) h len =
+    omega (
+      arith,
+      sum_by-cons (λ n. cond (eqb n v.0) 1 0) (base.head_of (trip_of p) d) (base.heads (map trip_of ps) (map is_forward ds)),
+      ap {B = ℕ} (λ n. cond (eqb n v.0) 1 0) (same_head p d),
+      in_is v ps ds (λ w. omega (arith, h w)) (omega arith),
+    )
 in_is v (p ∷ ps) (None ∷ ds) h len = absurd (omega (arith, h p.0, itself p.0))
-  where
-    itself : (w : DiskId) → is w w ≡ 1
-    itself w = ap bit (eq-eqb w.0 w.0 refl)
 
-pub Balances-settled : (ps : List (DiskId × DiskId)) (ds : List (Option Bool)) → IsEven ps ds → ((w : DiskId) → total (waits w) ps ds ≡ 0) → length ds ≡ length ps → Balances ps (map is_forward ds)
+Balances-settled : (ps : List (DiskId × DiskId)) (ds : List (Option Bool)) → IsEven ps ds → ((w : DiskId) → total (waits w) ps ds ≡ 0) → length ds ≡ length ps → base.Balances (map trip_of ps) (map is_forward ds)
 Balances-settled ps ds e h len =
     record {
-      out_most = λ v. omega (arith, out_is v ps ds h len, in_is v ps ds h len, e.out_most v);
-      in_most = λ v. omega (arith, out_is v ps ds h len, in_is v ps ds h len, e.in_most v);
+      out_most = λ v. (let d : DiskId = record { 0 = v } in omega (arith, out_is d ps ds h len, in_is d ps ds h len, e.out_most d));
+      in_most = λ v. (let d : DiskId = record { 0 = v } in omega (arith, out_is d ps ds h len, in_is d ps ds h len, e.in_most d));
     }
 
 -- no edge waits at a disk that is out of range
@@ -110,5 +131,5 @@ ready_start ends disks n len range =
       even = IsEven-none ends (replicate n None) (λ v. none_directed v ends n);
     }
 
-pub settled_balances : (ends : List (DiskId × DiskId)) (ds : List (Option Bool)) (out : List Bool) → IsEven ends ds → ((w : DiskId) → total (waits w) ends ds ≡ 0) → length ds ≡ length ends → out ≡ map is_forward ds → Balances ends out
-settled_balances ends ds out e h len is_out = subst (λ (q : List Bool). Balances ends q) (sym is_out) (Balances-settled ends ds e h len)
+pub settled_balances : (ends : List (DiskId × DiskId)) (ds : List (Option Bool)) (out : List Bool) → IsEven ends ds → ((w : DiskId) → total (waits w) ends ds ≡ 0) → length ds ≡ length ends → out ≡ map is_forward ds → base.Balances (map trip_of ends) out
+settled_balances ends ds out e h len is_out = subst (λ (q : List Bool). base.Balances (map trip_of ends) q) (sym is_out) (Balances-settled ends ds e h len)

@@ -1,5 +1,5 @@
--- Directions of a multigraph's edges, and how many edges leave and enter a disk by them.
-use Rattle.std.specs.Prelude.{◌≡◌, ℕ, ◌+◌, ◌≤◌, ◌<◌, Bool, true, false, if◌then◌else◌, ◌==◌, ◌⊎◌, List, [], ◌∷◌, Option, Some, None, slice_get, slice_index, length}
+-- Directions of a multigraph's edges, some of which have none yet.
+use Rattle.std.specs.Prelude.{◌≡◌, ℕ, ◌≤◌, ◌<◌, Bool, true, false, ◌⊎◌, List, Option, Some, None, slice_get, slice_index, length}
 use Rattle.mig_base.specs.declared.ids.EdgeId.{EdgeId}
 use Rattle.mig_base.specs.declared.ids.DiskId.{DiskId}
 
@@ -11,22 +11,6 @@ tail_of p false = p.1
 abbrev pub head_of : DiskId × DiskId → Bool → DiskId
 head_of p true = p.1
 head_of p false = p.0
-
--- how many edges leave v, and how many enter it
-abbrev pub out_of : DiskId → List (DiskId × DiskId) → List Bool → ℕ
-out_of v [] ds = 0
-out_of v (p ∷ ps) [] = 0
-out_of v (p ∷ ps) (d ∷ ds) = (if (tail_of p d).0 == v.0 then 1 else 0) + out_of v ps ds
-
-abbrev pub in_of : DiskId → List (DiskId × DiskId) → List Bool → ℕ
-in_of v [] ds = 0
-in_of v (p ∷ ps) [] = 0
-in_of v (p ∷ ps) (d ∷ ds) = (if (head_of p d).0 == v.0 then 1 else 0) + in_of v ps ds
-
--- at each disk the numbers of leaving and of entering edges differ by at most 1
-pub record Balances (ends : List (DiskId × DiskId)) (directions : List Bool) : Type 0 where
-  pub out_most : (v : DiskId) → out_of v ends directions ≤ in_of v ends directions + 1
-  pub in_most : (v : DiskId) → in_of v ends directions ≤ out_of v ends directions + 1
 
 -- edge e has disk v as an end and has no direction yet
 pub record IsWaiting (ends : List (DiskId × DiskId)) (directions : List (Option Bool)) (v : DiskId) (e : EdgeId) : Type 0 where

@@ -1,8 +1,8 @@
 //! The directions of all edges of a transfer graph.
 ghost use Rattle.std.specs.Prelude.{◌≡◌, ◌≢◌, length, vec_len, map, All, IfOk};
-ghost use Rattle.mig_base.specs.Directions.{Balances as IsBalanced};
-ghost use Rattle.mig_euler.specs.Balance.{Balances, AllInRange};
-ghost use Rattle.mig_euler.specs.Pairs.{ArePairs};
+ghost use Rattle.mig_base.specs.Directions.{Balances};
+ghost use Rattle.mig_euler.specs.Balance.{AllInRange};
+ghost use Rattle.mig_euler.specs.Pairs.{ArePairs, trip_of};
 ghost use Rattle.mig_euler.specs.Trails.{is_forward};
 
 use crate::links::link_ends;
@@ -27,7 +27,7 @@ fn orient_ends(
     requires in_range { AllInRange ends.now disks }
     requires no_loop { All (λ p. p.0 ≢ p.1) ends.now }
     ensures one_each { IfOk result (λ d. vec_len d ≡ length ends.now) }
-    ensures balance { IfOk result (λ d. Balances ends.now d.items) }
+    ensures balance { IfOk result (λ d. Balances (map trip_of ends.now) d.items) }
 {
     let mut directions = vec![in alloc; None; ends.len()]?;
     let mut from = vec![in alloc; ends.len(); disks as usize]?;
@@ -56,7 +56,7 @@ fn ends_of(alloc: Global, graph: &Graph) -> Result<Vec<(DiskId, DiskId)>, AllocE
 /// for want of memory only.
 pub fn orient(alloc: Global, graph: &Graph) -> Result<Vec<bool>, AllocError>
     ensures one_each { IfOk result (λ d. vec_len d ≡ length graph.now.trips) }
-    ensures balance { IfOk result (λ d. IsBalanced graph.now.trips d.items) }
+    ensures balance { IfOk result (λ d. Balances graph.now.trips d.items) }
 {
     let _edges = graph.edges();
     let ends = ends_of(alloc, graph)?;

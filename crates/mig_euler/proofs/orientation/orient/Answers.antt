@@ -1,9 +1,9 @@
-use Rattle.std.proofs.Common.{◌≡◌, ◌∙◌, sym, subst, length, List, Bool, Vec, Global}
+use Rattle.std.proofs.Common.{◌≡◌, ◌∙◌, sym, subst, length, map, List, Bool, Vec, Global}
 use Rattle.std.proofs.lemmas.Result.{IfOk-weaker}
 use Rattle.mig_base.specs.declared.ids.DiskId.{DiskId}
-use Rattle.mig_base.specs.Directions as base
-use Rattle.mig_euler.specs.Balance.{Balances, AllInRange}
-use Rattle.mig_euler.specs.Pairs.{ArePairs}
+use Rattle.mig_base.specs.Directions.{Balances}
+use Rattle.mig_euler.specs.Balance.{AllInRange}
+use Rattle.mig_euler.specs.Pairs.{ArePairs, trip_of}
 use Rattle.mig_euler.proofs.Graphs.{balanced, in_range, no_loop}
 use Rattle.mig_euler.proofs.orientation.orient.Goals as goal
 
@@ -21,7 +21,7 @@ pub returns-clause-balance : goal.returns-clause-balance
 returns-clause-balance c =
     let trips = c.args.graph.now.trips in
     let pairs : ArePairs trips c.deref.result.now = subst (λ (x : List (DiskId × DiskId)). ArePairs trips x) (sym c.deref.ensures.value) c.in_ok-ends.ensures in
-    IfOk-weaker c.orient_ends.result (λ (d : Vec Bool Global). Balances c.deref.result.now d.items) (λ (d : Vec Bool Global). base.Balances trips d.items)
+    IfOk-weaker c.orient_ends.result (λ (d : Vec Bool Global). Balances (map trip_of c.deref.result.now) d.items) (λ (d : Vec Bool Global). Balances trips d.items)
     (λ d h. balanced trips c.deref.result.now d.items pairs h) c.orient_ends.ensures.balance
 
 pub returns-clause-one_each : goal.returns-clause-one_each

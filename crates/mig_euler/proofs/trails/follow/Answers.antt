@@ -19,7 +19,7 @@ step_from-step-requires c =
 pub loop-at-smaller : goal.loop-at-smaller
 loop-at-smaller c =
     let h : c.waiting_edge-edge.result < length c.args.ends.now = omega (arith, c.waiting_edge-edge.ensures.bound, c.if-edge-ends.false) in
-    follow_falls c.args.ends.now c.loop-at.directions c.loop-at.at c.waiting_edge-edge.result (record { 0 = 0 }, record { 0 = 0 }) c.step_from-step.result.0 h (c.waiting_edge-edge.ensures.found h)
+    follow_falls c.args.ends.now c.loop-at.directions c.loop-at.at c.waiting_edge-edge.result (record { 0 = 0 }, record { 0 = 0 }) _ h (c.waiting_edge-edge.ensures.found h)
 
 pub loop-at-preserved : goal.loop-at-preserved
 loop-at-preserved c =
