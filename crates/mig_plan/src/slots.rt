@@ -1,23 +1,10 @@
 //! Which slots items have now.
 ghost use Rattle.std.specs.Prelude.{◌≡◌, ℕ, ◌<◌, ◌≤◌, ◌^◌, true, length, map, slice_index_or, slice_set, All, IfOk, MatchOption};
-ghost use Rattle.mig_split.specs.Decks.{AreCounts};
 ghost use Rattle.mig_plan.specs.TakenSlots.{AreFree, AreTaken, AreTakenSlots, AreWidths, IsFirstFree};
 
 use mig_base::{DiskId, Input, Spot};
+use mig_split::count_disks;
 use std::alloc::{AllocError, Global};
-
-/// How often each disk stands in a list.
-fn count_disks(alloc: Global, disks: usize, stops: &[DiskId]) -> Result<Vec<u32>, AllocError>
-    requires there { All (λ d. d.0 < disks) stops.now }
-    requires few { length stops.now ≤ 2 ^ 17 }
-    ensures { IfOk result (λ v. AreCounts disks stops.now v.items) }
-{
-    let mut counts = vec![in alloc; 0; disks]?;
-    for stop in stops {
-        counts[stop.0 as usize] += 1;
-    }
-    Ok(counts)
-}
 
 /// The disks of these spots.
 fn disks_of(alloc: Global, spots: &[Spot]) -> Result<Vec<DiskId>, AllocError>

@@ -2,7 +2,7 @@
 ghost use Rattle.std.specs.Prelude.{◌≡◌, ◌<◌, ◌≤◌, ◌^◌, length, All, IfOk};
 ghost use Rattle.mig_split.specs.Dealing.{IsDealt};
 
-use crate::decks::{after, count_stops, make_decks};
+use crate::decks::{after, count_disks, make_decks};
 use mig_base::{CopyId, DiskId};
 use std::alloc::{AllocError, Global};
 
@@ -30,7 +30,7 @@ pub fn deal(
     requires few { length stops.now ≤ 2 ^ 17 }
     ensures { IfOk result (λ r. IsDealt q disks stops.now r.homes.items r.copies.items) }
 {
-    let counts = count_stops(alloc, disks, stops)?;
+    let counts = count_disks(alloc, disks as usize, stops)?;
     let (mut decks, homes) = make_decks(alloc, &counts, q)?;
     let mut copies = Vec::with_capacity(alloc, stops.len())?;
     for stop in stops {

@@ -17,13 +17,13 @@ pub struct Deck {
     pub next: u32,
 }
 
-/// How many ends each disk has.
-pub fn count_stops(alloc: Global, disks: u32, stops: &[DiskId]) -> Result<Vec<u32>, AllocError>
+/// How often each of so many disks stands in a list. Errs for want of memory only.
+pub fn count_disks(alloc: Global, disks: usize, stops: &[DiskId]) -> Result<Vec<u32>, AllocError>
     requires there { All (λ d. d.0 < disks) stops.now }
     requires few { length stops.now ≤ 2 ^ 17 }
     ensures { IfOk result (λ v. AreCounts disks stops.now v.items) }
 {
-    let mut counts = vec![in alloc; 0; disks as usize]?;
+    let mut counts = vec![in alloc; 0; disks]?;
     for stop in stops {
         counts[stop.0 as usize] += 1;
     }

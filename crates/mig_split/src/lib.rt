@@ -7,3 +7,4 @@ mod decks;
 mod ends;
 
 pub use copies::{Copies, Sides, split_nodes, split_sides};
+pub use decks::count_disks;
