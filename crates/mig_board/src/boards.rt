@@ -244,7 +244,8 @@ impl Board {
 
     /// Exchanges the two colours on the edges of the walk that `far` follows, and gives its end.
     ///
-    /// At each node of the walk the two entries change places, so nothing has to be kept aside.
+    /// At each node of the walk the two entries change places as soon as it is reached, and tell the edge that leads
+    /// on. So nothing has to be kept aside.
     pub fn exchange(&mut self, node: CopyId, lacks: Colour, has: Colour) -> CopyId
         requires lacks { IsMissing self.old node lacks }
         requires has { IsPresent self.old node has }
