@@ -1,4 +1,4 @@
-ghost use Rattle.std.specs.Prelude.{◌≡◌, ◌-◌, ◌<◌, ◌≤◌, ◌↔◌, IsTrue};
+ghost use Rattle.std.specs.Prelude.{◌≡◌, ◌+◌, ◌-◌, ◌*◌, ◌/◌, ◌<◌, ◌≤◌, ◌↔◌, IsTrue, min, max};
 
 /// How many more looks at the table the tries of one run may take than it takes to paint each edge once.
 const LOOKS: u64 = 1 << 29;
@@ -25,7 +25,9 @@ pub struct Palette {
 impl Palette {
     /// A palette of the first colours, for a board of so many nodes, of which one colour serves two with each edge.
     pub fn new(size: u32, nodes: u32) -> Palette
-        ensures { result.size ≡ size }
+        ensures size { result.size ≡ size }
+        ensures fresh { result.step ≡ 0 }
+        ensures each { result.each ≡ max (nodes / 2) 1 }
     {
         Palette {
             size,
@@ -37,7 +39,9 @@ impl Palette {
 
     /// Grows by half as many colours as the edges that a pass left seem to need.
     pub fn grow(&mut self, left: u32)
-        ensures { self.old.size < u32.MAX → self.old.size < self.new.size }
+        ensures left { self.new.left ≡ left }
+        ensures step { 0 < self.new.step }
+        ensures size { self.new.size ≡ min (self.old.size + self.new.step) u32.MAX }
     {
         if self.step > 0 {
             self.each = (self.left.saturating_sub(left) / self.step).max(1);
@@ -60,7 +64,9 @@ pub struct Effort {
 impl Effort {
     /// The effort for so many edges and a palette of this size.
     pub fn new(edges: u32, size: u32) -> Effort
-        ensures { result.tries ≡ FEW_TRIES }
+        ensures tries { result.tries ≡ FEW_TRIES }
+        ensures looks { result.looks ≡ LOOKS }
+        ensures scans { result.scans ≡ min (SCANS + edges * size) u64.MAX }
     {
         Effort {
             tries: FEW_TRIES,
@@ -73,6 +79,8 @@ impl Effort {
     pub fn can_try(&mut self, looks: u32) -> bool
         ensures enough { IsTrue result ↔ (looks ≤ self.old.looks) }
         ensures spent { self.new.looks ≡ self.old.looks - looks }
+        ensures tries { self.new.tries ≡ self.old.tries }
+        ensures scans { self.new.scans ≡ self.old.scans }
     {
         let enough = looks as u64 <= self.looks;
         self.looks = self.looks.saturating_sub(looks as u64);
@@ -83,6 +91,8 @@ impl Effort {
     pub fn can_scan(&mut self, looks: u32) -> bool
         ensures enough { IsTrue result ↔ (looks ≤ self.old.scans) }
         ensures spent { self.new.scans ≡ self.old.scans - looks }
+        ensures tries { self.new.tries ≡ self.old.tries }
+        ensures looks { self.new.looks ≡ self.old.looks }
     {
         let enough = looks as u64 <= self.scans;
         self.scans = self.scans.saturating_sub(looks as u64);
@@ -98,7 +108,9 @@ impl Effort {
 
     /// Tries twice as many ways in the next pass.
     pub fn deepen(&mut self)
-        ensures { self.new.tries ≤ MOST_TRIES }
+        ensures tries { self.new.tries ≡ min (2 * self.old.tries) MOST_TRIES }
+        ensures looks { self.new.looks ≡ self.old.looks }
+        ensures scans { self.new.scans ≡ self.old.scans }
     {
         self.tries = self.tries.saturating_mul(2).min(MOST_TRIES);
     }
