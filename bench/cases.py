@@ -43,6 +43,22 @@ def write_random(folder, disks, items, limits, seed):
     write_items(folder, now, next_)
 
 
+def write_moves(folder, limits, moves):
+    """As above, with these limits and a relocated item for each of these moves from disk to disk."""
+    arriving = [0] * len(limits)
+    used = [0] * len(limits)
+    now, next_ = ["item,disk,slot\n"], ["item,disk\n"]
+    for item, (source, target) in enumerate(moves):
+        now.append(f"i{item},d{source},{used[source]}\n")
+        next_.append(f"i{item},d{target}\n")
+        used[source] += 1
+        arriving[target] += 1
+    with open(os.path.join(folder, "disks.csv"), "w") as f:
+        f.write("disk,limit,slots\n")
+        f.writelines(f"d{v},{limit},{max(1, used[v] + arriving[v])}\n" for v, limit in enumerate(limits))
+    write_items(folder, now, next_)
+
+
 def write_items(folder, now, next_):
     for name, lines in (("now.csv", now), ("next.csv", next_)):
         with open(os.path.join(folder, name), "w") as f:

@@ -10,6 +10,7 @@ use Rattle.std.proofs.lemmas.Bool.{cases_lt, cases_eq, false≢true, ne_eqb}
 use Rattle.std.proofs.lemmas.Bool.Decides.{nat_tests}
 use Rattle.std.proofs.lemmas.List.FromFn.{get_or-range_with_len, length-range_with_len}
 use Rattle.std.proofs.lemmas.Option.{slice_get-get_or}
+use Rattle.mig_base.specs.declared.limits.TheConstants.{MAX_SLOTS}
 use Rattle.mig_base.specs.declared.inputs.Disk.{Disk}
 use Rattle.mig_base.specs.declared.ids.DiskId.{DiskId}
 use Rattle.mig_base.specs.declared.ids.Spot.{Spot}
@@ -20,17 +21,12 @@ use Rattle.mig_base.specs.Transfers.{moves, is_relocated, source, target}
 use Rattle.mig_base.specs.Targets.{AreTargets, IsLowestFree, IsRoomy}
 use Rattle.mig_base.specs.Layouts.{round_at, At, last_target, after_shifts, IsTaken}
 use Rattle.mig_base.specs.Running.{Runs, IsLegal, IsFree, IsArrivedAt, Once, is_of, shift_count, ShiftFits, PlanFits}
+use Rattle.mig_base.specs.Judging.{no_shift, shift_at}
 use Rattle.mig_base.specs.Planned.{move_at, target_at, move_shift, IsMoveShift, IsPartition, IsPlan, PartitionIsPlan}
 use Rattle.mig_base.proofs.Counting.{one, sum_by-none, sum_by-le_each, sum_by-swap}
 use Rattle.mig_base.proofs.Rounds.{moved_cases, in_some, spot_disk, contains_any}
 use Rattle.mig_base.proofs.Scheduled.{IsShiftedAt, shifted_at, shifted_first, shifted_round, spot_before, spot_later, moves_there}
 use Rattle.mig_base.proofs.Room.{lowest_at, target_on_disk}
-
-abbrev no_shift : Shift
-no_shift = record { item = record { 0 = 0 }; from = no_spot; to = no_spot }
-
-abbrev shift_at : List Shift → ℕ → Shift
-shift_at round k = get_or round k no_shift
 
 -- Moves and their items
 
@@ -292,10 +288,10 @@ module _ (input : Lists) (targets : List Spot) (plan : List (List Shift)) (p : I
       shifts = λ r d h k s l. shift_fits (get_or (get_or plan r d) k s) (p.shifts r d h k s l);
     }
       where
-        few_slots : (s : Spot) → IsSpotOf input.disks s → s.slot < 65536
+        few_slots : (s : Spot) → IsSpotOf input.disks s → s.slot < MAX_SLOTS
         few_slots s on = slots_at input.disks s.disk.0 is.disk_ranges on
           where
-            slots_at : (ds : List Disk) (k : ℕ) → All IsDiskInRange ds → IsSomeAnd (slice_get ds k) (λ (d : Disk). s.slot < d.slots) → s.slot < 65536
+            slots_at : (ds : List Disk) (k : ℕ) → All IsDiskInRange ds → IsSomeAnd (slice_get ds k) (λ (d : Disk). s.slot < d.slots) → s.slot < MAX_SLOTS
             slots_at [] k all has = absurd has
             slots_at (d ∷ ds) zero all has = omega (arith, has, (All-head IsDiskInRange d ds all).3)
             slots_at (d ∷ ds) (suc k) all has = slots_at ds k (All-tail IsDiskInRange d ds all) has

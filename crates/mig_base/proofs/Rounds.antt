@@ -10,7 +10,7 @@ use Rattle.mig_base.specs.declared.inputs.Disk.{Disk}
 use Rattle.mig_base.specs.declared.ids.Spot.{Spot}
 use Rattle.mig_base.specs.declared.ids.Shift.{Shift}
 use Rattle.mig_base.specs.InputLists.{Lists, IsSpotOf}
-use Rattle.mig_base.specs.Layouts.{Layout, last_target, after_shifts}
+use Rattle.mig_base.specs.Layouts.{Layout, IsLayout, last_target, after_shifts}
 use Rattle.mig_base.specs.Running.{IsLegal, IsFree}
 
 pub here : {X : Type 0} (x : X) (xs : List X) → Contains (x ∷ xs) x
@@ -82,11 +82,6 @@ moved_cases layout shifts item = ⊎_elim
     (λ last. inl (last.0, last.1, last.2, ap (λ (o : Option Spot). option_or o (layout item)) last.3))
     (λ none. inr (none.0, ap (λ (o : Option Spot). option_or o (layout item)) none.1))
     (last_cases shifts item)
-
--- the spots that items have are on disks, and each item has its own
-pub record IsLayout (input : Lists) (layout : Layout) : Type 0 where
-  pub on_disks : (item : ℕ) (spot : Spot) → layout item ≡ Some spot → spot.disk.0 < length input.disks
-  pub apart : (i j : ℕ) (spot : Spot) → layout i ≡ Some spot → layout j ≡ Some spot → i ≡ j
 
 module _ (input : Lists) (layout : Layout) (shifts : List Shift) (legal : IsLegal input layout shifts) where
   pub one_shift : (s t : Shift) → Contains shifts s → Contains shifts t → s.item.0 ≡ t.item.0 → s ≡ t

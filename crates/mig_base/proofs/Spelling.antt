@@ -7,6 +7,7 @@ use Rattle.std.proofs.lemmas.Bool.Decides.{nat_tests}
 use Rattle.std.proofs.lemmas.List.{length-map}
 use Rattle.std.proofs.lemmas.Fmt.{decimal_injective}
 use Rattle.std.proofs.lemmas.List.Elements.{recursion_from_All}
+use Rattle.mig_base.specs.declared.limits.TheConstants.{MAX_ROUNDS, MAX_SHIFTS}
 use Rattle.mig_base.specs.Naming.{IsName, is_name_byte}
 use Rattle.mig_base.specs.declared.inputs.Disk.{Disk}
 use Rattle.mig_base.specs.declared.ids.Shift.{Shift}
@@ -91,7 +92,7 @@ module _ (input : Lists) (valid : IsInput input) where
 
   -- the rounds of a plan that fits
   abbrev AreFitting : List (List Shift) → Type 0
-  AreFitting rounds = AllByRecursion (λ round. (length round ≤ 65536) × AllByRecursion (ShiftFits input) round) rounds
+  AreFitting rounds = AllByRecursion (λ round. (length round ≤ MAX_SHIFTS) × AllByRecursion (ShiftFits input) round) rounds
 
   pub same_rounds : (r : ℕ) (xs ys : List (List Shift)) → r + length xs ≤ 2 ^ 32 → length xs ≡ length ys → AreFitting xs → AreFitting ys
       → (u v : List (List ℕ)) → round_lines input r xs ++ u ≡ round_lines input r ys ++ v → xs ≡ ys
@@ -131,7 +132,7 @@ module _ (input : Lists) (valid : IsInput input) where
     lines_append (map (shift_line input) x) (round_lines input (r + 1) xs) (shifts_lack x h.0.1) (rounds_lack (r + 1) xs (omega arith) h.1),
   )
 
-  pub plan_lacks : (xs : List (List Shift)) → length xs ≤ 131072 → AreFitting xs → AllByRecursion (Lacks 10) (plan_lines input xs)
+  pub plan_lacks : (xs : List (List Shift)) → length xs ≤ MAX_ROUNDS → AreFitting xs → AllByRecursion (Lacks 10) (plan_lines input xs)
   plan_lacks xs few h = (
     head_lacks,
     (
@@ -147,8 +148,8 @@ module _ (input : Lists) (valid : IsInput input) where
   same_plan xs ys bytes hx hy =
       let fx : AreFitting xs = are_fitting xs hx.fits in
       let fy : AreFitting ys = are_fitting ys hy.fits in
-      let fewx : length xs ≤ 131072 = hx.fits.few_rounds in
-      let fewy : length ys ≤ 131072 = hy.fits.few_rounds in
+      let fewx : length xs ≤ MAX_ROUNDS = hx.fits.few_rounds in
+      let fewy : length ys ≤ MAX_ROUNDS = hy.fits.few_rounds in
       let lines : plan_lines input xs ≡ plan_lines input ys = same_lines _ _ (plan_lacks xs fewx fx) (plan_lacks ys fewy fy) (sym hx.lines ∙ hy.lines) in
       let second : words (codes "rounds" ∷ decimal (length xs) ∷ []) ≡ words (codes "rounds" ∷ decimal (length ys) ∷ []) = cc in
       let w : codes "rounds" ∷ decimal (length xs) ∷ [] ≡ codes "rounds" ∷ decimal (length ys) ∷ [] =

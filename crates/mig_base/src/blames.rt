@@ -1,3 +1,5 @@
+//! What a check says of a plan and its certificate.
+
 use crate::ids::{DiskId, ItemId};
 
 /// What a certificate says of a plan that is right.

@@ -1,3 +1,5 @@
+//! Certificates: how good a plan is, and what shows it.
+
 use crate::ids::DiskId;
 use crate::plans::DiskSet;
 

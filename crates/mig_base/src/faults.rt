@@ -1,3 +1,5 @@
+//! Why a file is refused.
+
 use crate::names::Name;
 
 /// One of the three files that an input is read from.

@@ -1,3 +1,5 @@
+//! Places in lists, spots and shifts.
+
 /// A disk, by its place in the list of disks.
 #[derive(Clone, Copy, Debug, PartialEq, Eq, PartialOrd, Ord, Hash)]
 pub struct DiskId(pub u32);

@@ -1,3 +1,4 @@
+//! The input of a migration.
 ghost use Rattle.std.specs.Prelude.{◌≡◌, ◌<◌, length};
 
 use crate::ids::{DiskId, ItemId, Spot};
@@ -48,6 +49,13 @@ impl Input {
             spots: now,
             next,
         }
+    }
+
+    /// The input keeps the rules of every input. The call does nothing; it is made where a proof needs them.
+    pub fn keeps_rules(&self)
+        ensures { IsInput self.now }
+    {
+        let _disks = self.disks();
     }
 
     /// The disks.

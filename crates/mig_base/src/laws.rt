@@ -36,7 +36,7 @@ pub fn plan_is_schedule(input: &Input, plan: &Plan)
     ensures schedule { IsSchedule input.now (length plan.now) (round_of plan.now) }
     ensures obeys { Obeys input.now (length plan.now) (round_of plan.now) }
 {
-    let _disks = input.disks();
+    input.keeps_rules();
 }
 
 /// The moves' shifts, each in one round, are a plan where the rounds keep the limits and each disk has room.
@@ -60,7 +60,7 @@ pub fn bound_is_needed(input: &Input, bound: &Bound)
     requires holds { BoundHolds (transfers input.now) bound.now }
     ensures { Needs input.now (bound_value bound.now) }
 {
-    let _disks = input.disks();
+    input.keeps_rules();
 }
 
 /// What is right is blamed for nothing.

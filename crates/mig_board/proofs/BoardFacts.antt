@@ -2,6 +2,7 @@
 use Rattle.std.proofs.Common.{inl, inr, ◌≡◌, ℕ, ◌<◌, ◌*◌, ◌+◌, ◌≢◌, ◌≤◌, ◌^◌, sym, ◌∙◌, subst, ap, length, set, get_or, replicate, vec_len, Vec, Global, Some, None, List, Option, arith, refl, take, drop}
 use Rattle.std.specs.List.{All}
 use Rattle.std.specs.Prelude.{slice_get}
+use Rattle.mig_base.specs.declared.limits.TheConstants.{MAX_ITEMS}
 use Rattle.mig_base.specs.declared.ids.CopyId.{CopyId}
 use Rattle.mig_base.specs.declared.ids.EdgeId.{EdgeId}
 use Rattle.mig_base.specs.declared.ids.Colour.{Colour}
@@ -52,14 +53,14 @@ tabled_painted a b e k x can i j hi hj o p ho hp =
 -- the fields that `new` makes
 pub new_board : (nodes colours : ℕ) (ends : Vec (CopyId × CopyId) Global) (painted : Vec (Option Colour) Global) (table : Vec (Option EdgeId) Global) (n : ℕ) →
     painted.items ≡ replicate n None → table.items ≡ replicate (nodes * colours) None → n ≡ vec_len ends →
-    All (λ p. (p.0.0 < nodes) × (p.1.0 < nodes)) ends.items → All (λ p. p.0 ≢ p.1) ends.items → vec_len ends ≤ 65536 → nodes * colours ≤ 2 ^ 28 →
+    All (λ p. (p.0.0 < nodes) × (p.1.0 < nodes)) ends.items → All (λ p. p.0 ≢ p.1) ends.items → vec_len ends ≤ MAX_ITEMS → nodes * colours ≤ 2 ^ 28 →
     IsBoard (record { nodes = nodes; colours = colours; ends = ends; painted = painted; table = table })
 new_board nodes colours ends painted table n hp ht hn range loops few entries =
     let here : n ≡ length ends.items = hn ∙ ends.ok.0 in
     let b = IsTabled-blank nodes colours ends.items range loops in
     let b2 = subst (λ (p : List (Option Colour)). IsTabled (record { nodes = nodes; colours = colours; ends = ends.items; painted = p }) (replicate (nodes * colours) None)) (sym (hp ∙ ap (λ (m : ℕ). replicate m None) here)) b in
     let b3 = subst (λ (t : List (Option EdgeId)). IsTabled (record { nodes = nodes; colours = colours; ends = ends.items; painted = painted.items }) t) (sym ht) b2 in
-    record { proper = b3.proper; table = b3.table; few_edges = subst (λ m. m ≤ 65536) ends.ok.0 few; few_entries = entries }
+    record { proper = b3.proper; table = b3.table; few_edges = subst (λ m. m ≤ MAX_ITEMS) ends.ok.0 few; few_entries = entries }
 
 -- what holds of each colour below i, and of i, holds of each below i + 1
 pub below_colour : (P : Colour → Type 0) (i : ℕ) → ((k : Colour) → k.0 < i → P k) → P (record { 0 = i }) → (k : Colour) → k.0 < i + 1 → P k

@@ -10,9 +10,9 @@ use Rattle.mig_base.specs.declared.ids.CopyId.{CopyId}
 use Rattle.mig_base.specs.declared.ids.EdgeId.{EdgeId}
 use Rattle.mig_base.specs.declared.ids.Colour.{Colour}
 use Rattle.mig_board.specs.Colouring.{Colouring, Joins, HasColour, Leads, IsMissing, IsPresent, IsProper, IsTableOf}
-use Rattle.mig_board.specs.Walk.{Step, IsWalk, end_of, next_of, At, On, swapped, Exchanges}
+use Rattle.mig_board.specs.Walk.{Step, IsWalk, end_of, next_of, IsNodeOf, IsEdgeOf, swapped, Exchanges}
 use Rattle.mig_board.proofs.Walks
-use Rattle.mig_board.proofs.Walks.{IsPath, NoRepeat, IsUnderway, edge_on, last_edge, fresh, path_of_walk, path_no_repeat, missing_differs, underway_more, underway_end, underway_at, underway_next, next_cases, next_differs, leads_back, joins_back, end_cases, same_colour, At-push_cases, At-push, On-push_cases, On-push, At-end_of, At-start, step_of, next_pair, underway_pair, underway_start}
+use Rattle.mig_board.proofs.Walks.{IsPath, NoRepeat, IsUnderway, edge_on, last_edge, fresh, path_of_walk, path_no_repeat, missing_differs, underway_more, underway_end, underway_at, underway_next, next_cases, next_differs, leads_back, joins_back, end_cases, same_colour, IsNodeOf-push_cases, IsNodeOf-push, IsEdgeOf-push_cases, IsEdgeOf-push, IsNodeOf-end_of, IsNodeOf-start, step_of, next_pair, underway_pair, underway_start}
 use Rattle.mig_board.proofs.Tables.{slice_get-set_same, slice_get-set_other, same_copy, same_edge, same_hue, place_of, place_within, place_cases, edge_cases, IsTabled, apart_by_table}
 
 -- ---- two elements change places
@@ -96,20 +96,20 @@ swapped_in_range a b k n ha hb hk =
 pub copy_cases : (v w : CopyId) → (v ≡ w) ⊎ (v ≢ w)
 copy_cases v w = elim (cases_eq v.0 w.0) [ inl h ↦ inl (same_copy v w h) | inr n ↦ inr (λ e. n (ap (λ (q : CopyId). q.0) e)) ]
 
-pub At_cases : (u v : CopyId) (steps : List Step) → At u v steps ⊎ (At u v steps → ⊥)
-At_cases u v [] = copy_cases v u
-At_cases u v (s ∷ rest) =
+pub path_node_cases : (u v : CopyId) (steps : List Step) → IsNodeOf u v steps ⊎ (IsNodeOf u v steps → ⊥)
+path_node_cases u v [] = copy_cases v u
+path_node_cases u v (s ∷ rest) =
     elim (copy_cases v u) [
       | inl h ↦ inl (inl h)
-      | inr n ↦ elim (At_cases u s.to rest) [ inl h ↦ inl (inr h) | inr m ↦ inr (λ (h : (v ≡ u) ⊎ At u s.to rest). elim h [ inl x ↦ n x | inr x ↦ m x ]) ]
+      | inr n ↦ elim (path_node_cases u s.to rest) [ inl h ↦ inl (inr h) | inr m ↦ inr (λ (h : (v ≡ u) ⊎ IsNodeOf u s.to rest). elim h [ inl x ↦ n x | inr x ↦ m x ]) ]
     ]
 
-pub On_cases : (e : EdgeId) (steps : List Step) → On e steps ⊎ (On e steps → ⊥)
-On_cases e [] = inr (λ h. h)
-On_cases e (s ∷ rest) =
+pub path_edge_cases : (e : EdgeId) (steps : List Step) → IsEdgeOf e steps ⊎ (IsEdgeOf e steps → ⊥)
+path_edge_cases e [] = inr (λ h. h)
+path_edge_cases e (s ∷ rest) =
     elim (edge_cases s.edge e) [
       | inl h ↦ inl (inl h)
-      | inr n ↦ elim (On_cases e rest) [ inl h ↦ inl (inr h) | inr m ↦ inr (λ (h : (s.edge ≡ e) ⊎ On e rest). elim h [ inl x ↦ n (ap (λ (q : EdgeId). q.0) x) | inr x ↦ m x ]) ]
+      | inr n ↦ elim (path_edge_cases e rest) [ inl h ↦ inl (inr h) | inr m ↦ inr (λ (h : (s.edge ≡ e) ⊎ IsEdgeOf e rest). elim h [ inl x ↦ n (ap (λ (q : EdgeId). q.0) x) | inr x ↦ m x ]) ]
     ]
 
 -- ---- edges of a path
@@ -120,35 +120,35 @@ pub record IsPathEdge (g : Colouring) (v : CopyId) (a b : Colour) (steps : List 
   pub to : CopyId
   pub colour : Colour
   pub leads : Leads g from colour e to
-  pub from_at : At from v steps
-  pub to_at : At to v steps
+  pub from_at : IsNodeOf from v steps
+  pub to_at : IsNodeOf to v steps
   pub of_two : (colour ≡ a) ⊎ (colour ≡ b)
 
-pub path_edge : (g : Colouring) (v : CopyId) (a b : Colour) (steps : List Step) → IsPath g v a b steps → (e : EdgeId) → On e steps → IsPathEdge g v a b steps e
+pub path_edge : (g : Colouring) (v : CopyId) (a b : Colour) (steps : List Step) → IsPath g v a b steps → (e : EdgeId) → IsEdgeOf e steps → IsPathEdge g v a b steps e
 path_edge g v a b [] path e on = absurd on
 path_edge g v a b (s ∷ rest) path e on =
     elim on [
-      | inl h ↦ record { from = v; to = s.to; colour = b; leads = subst (λ (q : EdgeId). Leads g v b q s.to) h path.0; from_at = inl refl; to_at = inr (At-start s.to rest); of_two = inr refl }
+      | inl h ↦ record { from = v; to = s.to; colour = b; leads = subst (λ (q : EdgeId). Leads g v b q s.to) h path.0; from_at = inl refl; to_at = inr (IsNodeOf-start s.to rest); of_two = inr refl }
       | inr h ↦
           let r = path_edge g s.to b a rest path.1 e h in
           record { from = r.from; to = r.to; colour = r.colour; leads = r.leads; from_at = inr r.from_at; to_at = inr r.to_at; of_two = elim r.of_two [ inl x ↦ inr x | inr x ↦ inl x ] }
     ]
 
 -- a node of an edge of a path is on the path
-pub end_on_path : (g : Colouring) (v : CopyId) (a b : Colour) (steps : List Step) → IsPath g v a b steps → (e : EdgeId) → On e steps → (u x : CopyId) → Joins g e u x → At u v steps
+pub end_on_path : (g : Colouring) (v : CopyId) (a b : Colour) (steps : List Step) → IsPath g v a b steps → (e : EdgeId) → IsEdgeOf e steps → (u x : CopyId) → Joins g e u x → IsNodeOf u v steps
 end_on_path g v a b steps path e on u x j =
     let r = path_edge g v a b steps path e on in
     elim (end_cases g e r.from r.to u x r.leads.joins j) [
-      | inl h ↦ subst (λ (q : CopyId). At q v steps) (sym h) r.from_at
-      | inr h ↦ subst (λ (q : CopyId). At q v steps) (sym h) r.to_at
+      | inl h ↦ subst (λ (q : CopyId). IsNodeOf q v steps) (sym h) r.from_at
+      | inr h ↦ subst (λ (q : CopyId). IsNodeOf q v steps) (sym h) r.to_at
     ]
 
 -- the edge that comes next is a new one
-pub fresh_edge : (g : Colouring) (p : IsProper g) (v : CopyId) (a b : Colour) (steps : List Step) → a ≢ b → IsPath g v a b steps → NoRepeat v steps → (e : EdgeId) (w : CopyId) → Leads g (end_of v steps) (next_of a b steps) e w → On e steps → ⊥
+pub fresh_edge : (g : Colouring) (p : IsProper g) (v : CopyId) (a b : Colour) (steps : List Step) → a ≢ b → IsPath g v a b steps → NoRepeat v steps → (e : EdgeId) (w : CopyId) → Leads g (end_of v steps) (next_of a b steps) e w → IsEdgeOf e steps → ⊥
 fresh_edge g p v a b steps d path n e w l on = next_differs a b steps d (last_edge g p v a b steps path n (next_of a b steps) e w on l)
 
 -- at a node of a walk each edge of the two colours is an edge of the walk
-pub walk_closed : (g : Colouring) (p : IsProper g) (v : CopyId) (a b : Colour) → IsMissing g v a → (steps : List Step) → IsWalk g v a b steps → (u : CopyId) → At u v steps → (k : Colour) (e : EdgeId) (x : CopyId) → Leads g u k e x → (k ≡ a) ⊎ (k ≡ b) → On e steps
+pub walk_closed : (g : Colouring) (p : IsProper g) (v : CopyId) (a b : Colour) → IsMissing g v a → (steps : List Step) → IsWalk g v a b steps → (u : CopyId) → IsNodeOf u v steps → (k : Colour) (e : EdgeId) (x : CopyId) → Leads g u k e x → (k ≡ a) ⊎ (k ≡ b) → IsEdgeOf e steps
 walk_closed g p v a b m steps w u at k e x l ab =
     let r = path_of_walk g v a b steps w in
     elim (edge_on g p v a b steps r.0 u at k e x l ab) [
@@ -169,10 +169,10 @@ pub record IsExchanging (g : Colouring) (t : List (Option EdgeId)) (painted : Li
   pub underway : IsUnderway g v a b at next other n
   pub painted_len : length painted ≡ length g.painted
   pub table_len : length table ≡ g.nodes * g.colours
-  pub on : (e : EdgeId) (k : Colour) → On e underway.steps → HasColour g e k → slice_get painted e.0 ≡ Some (Some (swapped a b k))
-  pub off : (e : EdgeId) → (On e underway.steps → ⊥) → slice_get painted e.0 ≡ slice_get g.painted e.0
-  pub passed : (u : CopyId) (k : Colour) → k.0 < g.colours → At u v underway.steps → u ≢ at → slice_get table (place_of g u k) ≡ slice_get t (place_of g u (swapped a b k))
-  pub kept : (u : CopyId) (k : Colour) → k.0 < g.colours → (At u v underway.steps → ⊥) ⊎ (u ≡ at) → slice_get table (place_of g u k) ≡ slice_get t (place_of g u k)
+  pub on : (e : EdgeId) (k : Colour) → IsEdgeOf e underway.steps → HasColour g e k → slice_get painted e.0 ≡ Some (Some (swapped a b k))
+  pub off : (e : EdgeId) → (IsEdgeOf e underway.steps → ⊥) → slice_get painted e.0 ≡ slice_get g.painted e.0
+  pub passed : (u : CopyId) (k : Colour) → k.0 < g.colours → IsNodeOf u v underway.steps → u ≢ at → slice_get table (place_of g u k) ≡ slice_get t (place_of g u (swapped a b k))
+  pub kept : (u : CopyId) (k : Colour) → k.0 < g.colours → (IsNodeOf u v underway.steps → ⊥) ⊎ (u ≡ at) → slice_get table (place_of g u k) ≡ slice_get t (place_of g u k)
 
 -- the two entries at one node have changed places
 pub record IsTurned (g : Colouring) (a b : Colour) (at : CopyId) (old new : List (Option EdgeId)) : Type 0 where
@@ -269,9 +269,9 @@ exchanging_more g t v a b can painted table table' at next other n x turned e w 
       underway = underway_more g v a b at next other n x.underway e w l;
       painted_len = length-set painted e.0 (Some other) ∙ x.painted_len;
       table_len = turned.len ∙ x.table_len;
-      on = λ f k on h. on_more f k (On-push_cases f x.underway.steps (step_of e w) on) h;
-      off = λ f n. slice_get-set_other painted e.0 f.0 (Some other) (λ m. n (On-push f x.underway.steps (step_of e w) (inr (sym (same_edge f e m))))) ∙ x.off f (λ (m : On f x.underway.steps). n (On-push f x.underway.steps (step_of e w) (inl m)));
-      passed = λ u k hk on ne. passed_more u k hk (At-push_cases u v x.underway.steps (step_of e w) on) ne (copy_cases u at);
+      on = λ f k on h. on_more f k (IsEdgeOf-push_cases f x.underway.steps (step_of e w) on) h;
+      off = λ f n. slice_get-set_other painted e.0 f.0 (Some other) (λ m. n (IsEdgeOf-push f x.underway.steps (step_of e w) (inr (sym (same_edge f e m))))) ∙ x.off f (λ (m : IsEdgeOf f x.underway.steps). n (IsEdgeOf-push f x.underway.steps (step_of e w) (inl m)));
+      passed = λ u k hk on ne. passed_more u k hk (IsNodeOf-push_cases u v x.underway.steps (step_of e w) on) ne (copy_cases u at);
       kept = λ u k hk c. kept_more u k hk c;
     }
   where
@@ -281,10 +281,10 @@ exchanging_more g t v a b can painted table table' at next other n x turned e w 
     leads : Leads g (end_of v x.underway.steps) (next_of a b x.underway.steps) e w
     leads = subst (λ (q : CopyId). Leads g q (next_of a b x.underway.steps) e w) (sym x.underway.at_is) (subst (λ (q : Colour). Leads g at q e w) (sym x.underway.next_is) l)
 
-    new_edge : On e x.underway.steps → ⊥
+    new_edge : IsEdgeOf e x.underway.steps → ⊥
     new_edge on = fresh_edge g can.tabled.proper v a b x.underway.steps (differs_of g t v a b can) x.underway.path alone e w leads on
 
-    new_node : At w v x.underway.steps → ⊥
+    new_node : IsNodeOf w v x.underway.steps → ⊥
     new_node on = fresh g can.tabled.proper v a b x.underway.steps can.lacks (differs_of g t v a b can) x.underway.path alone e w leads on
 
     within : e.0 < length painted
@@ -297,17 +297,17 @@ exchanging_more g t v a b can painted table table' at next other n x turned e w 
       | inr h ↦ ap (swapped a b) h.0 ∙ swapped_second a b ∙ sym h.1
     ]
 
-    on_more : (f : EdgeId) (k : Colour) → On f x.underway.steps ⊎ (e ≡ f) → HasColour g f k → slice_get (set painted e.0 (Some other)) f.0 ≡ Some (Some (swapped a b k))
+    on_more : (f : EdgeId) (k : Colour) → IsEdgeOf f x.underway.steps ⊎ (e ≡ f) → HasColour g f k → slice_get (set painted e.0 (Some other)) f.0 ≡ Some (Some (swapped a b k))
     on_more f k c h =
         elim c [
-          | inl on ↦ slice_get-set_other painted e.0 f.0 (Some other) (λ m. new_edge (subst (λ (q : EdgeId). On q x.underway.steps) (same_edge f e m) on)) ∙ x.on f k on h
+          | inl on ↦ slice_get-set_other painted e.0 f.0 (Some other) (λ m. new_edge (subst (λ (q : EdgeId). IsEdgeOf q x.underway.steps) (same_edge f e m) on)) ∙ x.on f k on h
           | inr here ↦
               (let same : k ≡ next = same_colour g f k next h (subst (λ (q : EdgeId). HasColour g q next) here l.colour) in
               subst (λ (q : EdgeId). slice_get (set painted e.0 (Some other)) q.0 ≡ Some (Some (swapped a b k))) here
               (slice_get-set_same painted e.0 (Some other) within ∙ ap (λ (q : Colour). Some (Some q)) (sym (ap (swapped a b) same ∙ other_is))))
         ]
 
-    passed_more : (u : CopyId) (k : Colour) → k.0 < g.colours → At u v x.underway.steps ⊎ (w ≡ u) → u ≢ w → (u ≡ at) ⊎ (u ≢ at) → slice_get table' (place_of g u k) ≡ slice_get t (place_of g u (swapped a b k))
+    passed_more : (u : CopyId) (k : Colour) → k.0 < g.colours → IsNodeOf u v x.underway.steps ⊎ (w ≡ u) → u ≢ w → (u ≡ at) ⊎ (u ≢ at) → slice_get table' (place_of g u k) ≡ slice_get t (place_of g u (swapped a b k))
     passed_more u k hk c ne d =
         elim c [
           | inr h ↦ absurd (ne (sym h))
@@ -318,15 +318,15 @@ exchanging_more g t v a b can painted table table' at next other n x turned e w 
           ]
         ]
 
-    kept_more : (u : CopyId) (k : Colour) → k.0 < g.colours → (At u v (x.underway.steps ++ step_of e w ∷ []) → ⊥) ⊎ (u ≡ w) → slice_get table' (place_of g u k) ≡ slice_get t (place_of g u k)
+    kept_more : (u : CopyId) (k : Colour) → k.0 < g.colours → (IsNodeOf u v (x.underway.steps ++ step_of e w ∷ []) → ⊥) ⊎ (u ≡ w) → slice_get table' (place_of g u k) ≡ slice_get t (place_of g u k)
     kept_more u k hk c =
         elim c [
-          | inl n ↦ (let off : At u v x.underway.steps → ⊥ = λ m. n (At-push u v x.underway.steps (step_of e w) (inl m)) in turned.there u k hk (not_at u off) ∙ x.kept u k hk (inl off))
-          | inr h ↦ (let off : At u v x.underway.steps → ⊥ = λ m. new_node (subst (λ (q : CopyId). At q v x.underway.steps) h m) in turned.there u k hk (not_at u off) ∙ x.kept u k hk (inl off))
+          | inl n ↦ (let off : IsNodeOf u v x.underway.steps → ⊥ = λ m. n (IsNodeOf-push u v x.underway.steps (step_of e w) (inl m)) in turned.there u k hk (not_at u off) ∙ x.kept u k hk (inl off))
+          | inr h ↦ (let off : IsNodeOf u v x.underway.steps → ⊥ = λ m. new_node (subst (λ (q : CopyId). IsNodeOf q v x.underway.steps) h m) in turned.there u k hk (not_at u off) ∙ x.kept u k hk (inl off))
         ]
       where
-        not_at : (u : CopyId) → (At u v x.underway.steps → ⊥) → u ≢ at
-        not_at u off = λ m. off (subst (λ (q : CopyId). At q v x.underway.steps) (x.underway.at_is ∙ sym m) (At-end_of v x.underway.steps))
+        not_at : (u : CopyId) → (IsNodeOf u v x.underway.steps → ⊥) → u ≢ at
+        not_at u off = λ m. off (subst (λ (q : CopyId). IsNodeOf q v x.underway.steps) (x.underway.at_is ∙ sym m) (IsNodeOf-end_of v x.underway.steps))
 
 -- ---- the exchange done
 
@@ -335,10 +335,10 @@ pub record IsExchanged (g : Colouring) (t : List (Option EdgeId)) (painted : Lis
   pub walk : IsWalk g v a b steps
   pub painted_len : length painted ≡ length g.painted
   pub table_len : length table ≡ g.nodes * g.colours
-  pub on : (e : EdgeId) (k : Colour) → On e steps → HasColour g e k → slice_get painted e.0 ≡ Some (Some (swapped a b k))
-  pub off : (e : EdgeId) → (On e steps → ⊥) → slice_get painted e.0 ≡ slice_get g.painted e.0
-  pub turned : (u : CopyId) (k : Colour) → k.0 < g.colours → At u v steps → slice_get table (place_of g u k) ≡ slice_get t (place_of g u (swapped a b k))
-  pub kept : (u : CopyId) (k : Colour) → k.0 < g.colours → (At u v steps → ⊥) → slice_get table (place_of g u k) ≡ slice_get t (place_of g u k)
+  pub on : (e : EdgeId) (k : Colour) → IsEdgeOf e steps → HasColour g e k → slice_get painted e.0 ≡ Some (Some (swapped a b k))
+  pub off : (e : EdgeId) → (IsEdgeOf e steps → ⊥) → slice_get painted e.0 ≡ slice_get g.painted e.0
+  pub turned : (u : CopyId) (k : Colour) → k.0 < g.colours → IsNodeOf u v steps → slice_get table (place_of g u k) ≡ slice_get t (place_of g u (swapped a b k))
+  pub kept : (u : CopyId) (k : Colour) → k.0 < g.colours → (IsNodeOf u v steps → ⊥) → slice_get table (place_of g u k) ≡ slice_get t (place_of g u k)
 
 pub exchanging_end : (g : Colouring) (t : List (Option EdgeId)) (v : CopyId) (a b : Colour) → CanExchange g t v a b → (painted : List (Option Colour)) (table table' : List (Option EdgeId)) (at : CopyId) (next other : Colour) (n : ℕ) →
     (x : IsExchanging g t painted table v a b at next other n) → IsTurned g a b at table table' → IsMissing g at next → IsExchanged g t painted table' v a b x.underway.steps
@@ -354,14 +354,14 @@ exchanging_end g t v a b can painted table table' at next other n x turned last 
             (turned.here k hk ∙ x.kept at (swapped a b k) (swapped_in_range a b k g.colours can.lacks.in_range (has_in_range g t v a b can) hk) (inr refl))
         | inr h ↦ turned.there u k hk h ∙ x.passed u k hk on h
       ];
-      kept = λ u k hk off. turned.there u k hk (λ m. off (subst (λ (q : CopyId). At q v x.underway.steps) (x.underway.at_is ∙ sym m) (At-end_of v x.underway.steps))) ∙ x.kept u k hk (inl off);
+      kept = λ u k hk off. turned.there u k hk (λ m. off (subst (λ (q : CopyId). IsNodeOf q v x.underway.steps) (x.underway.at_is ∙ sym m) (IsNodeOf-end_of v x.underway.steps))) ∙ x.kept u k hk (inl off);
     }
 
 abbrev pub recoloured : Colouring → List (Option Colour) → Colouring
 recoloured g painted = record g { painted = painted }
 
 -- the colour of an edge, before and after
-pub on_after : (g : Colouring) (t : List (Option EdgeId)) (painted : List (Option Colour)) (table : List (Option EdgeId)) (v : CopyId) (a b : Colour) (steps : List Step) → IsExchanged g t painted table v a b steps → (e : EdgeId) (k : Colour) → On e steps → HasColour (recoloured g painted) e k → HasColour g e (swapped a b k)
+pub on_after : (g : Colouring) (t : List (Option EdgeId)) (painted : List (Option Colour)) (table : List (Option EdgeId)) (v : CopyId) (a b : Colour) (steps : List Step) → IsExchanged g t painted table v a b steps → (e : EdgeId) (k : Colour) → IsEdgeOf e steps → HasColour (recoloured g painted) e k → HasColour g e (swapped a b k)
 on_after g t painted table v a b steps x e k on h =
     let r = path_edge g v a b steps (path_of_walk g v a b steps x.walk).0 e on in
     let now : k ≡ swapped a b r.colour = same_Some k (swapped a b r.colour) (same_Some (Some k) (Some (swapped a b r.colour)) (sym h ∙ x.on e r.colour on r.leads.colour)) in
@@ -369,9 +369,9 @@ on_after g t painted table v a b steps x e k on h =
 
 -- an edge at a node of the walk, before and after
 pub leads_before : (g : Colouring) (t : List (Option EdgeId)) (painted : List (Option Colour)) (table : List (Option EdgeId)) (v : CopyId) (a b : Colour) → CanExchange g t v a b → (steps : List Step) → IsExchanged g t painted table v a b steps →
-    (u : CopyId) → At u v steps → (k : Colour) (e : EdgeId) (w : CopyId) → Leads (recoloured g painted) u k e w → Leads g u (swapped a b k) e w
+    (u : CopyId) → IsNodeOf u v steps → (k : Colour) (e : EdgeId) (w : CopyId) → Leads (recoloured g painted) u k e w → Leads g u (swapped a b k) e w
 leads_before g t painted table v a b can steps x u at k e w l =
-    elim (On_cases e steps) [
+    elim (path_edge_cases e steps) [
       | inl on ↦ record { joins = l.joins; colour = on_after g t painted table v a b steps x e k on l.colour }
       | inr off ↦
           (let old : Leads g u k e w = record { joins = l.joins; colour = sym (x.off e off) ∙ l.colour } in
@@ -383,9 +383,9 @@ leads_before g t painted table v a b can steps x u at k e w l =
     ]
 
 pub leads_after : (g : Colouring) (t : List (Option EdgeId)) (painted : List (Option Colour)) (table : List (Option EdgeId)) (v : CopyId) (a b : Colour) → CanExchange g t v a b → (steps : List Step) → IsExchanged g t painted table v a b steps →
-    (u : CopyId) → At u v steps → (k : Colour) (e : EdgeId) (w : CopyId) → Leads g u k e w → Leads (recoloured g painted) u (swapped a b k) e w
+    (u : CopyId) → IsNodeOf u v steps → (k : Colour) (e : EdgeId) (w : CopyId) → Leads g u k e w → Leads (recoloured g painted) u (swapped a b k) e w
 leads_after g t painted table v a b can steps x u at k e w l =
-    elim (On_cases e steps) [
+    elim (path_edge_cases e steps) [
       | inl on ↦ record { joins = l.joins; colour = x.on e k on l.colour }
       | inr off ↦
           elim (turn_cases a b k) [
@@ -397,9 +397,9 @@ leads_after g t painted table v a b can steps x u at k e w l =
 
 -- an edge elsewhere keeps its colour
 pub colour_elsewhere : (g : Colouring) (t : List (Option EdgeId)) (painted : List (Option Colour)) (table : List (Option EdgeId)) (v : CopyId) (a b : Colour) (steps : List Step) → IsExchanged g t painted table v a b steps →
-    (u : CopyId) → (At u v steps → ⊥) → (e : EdgeId) (w : CopyId) → Joins g e u w → slice_get painted e.0 ≡ slice_get g.painted e.0
+    (u : CopyId) → (IsNodeOf u v steps → ⊥) → (e : EdgeId) (w : CopyId) → Joins g e u w → slice_get painted e.0 ≡ slice_get g.painted e.0
 colour_elsewhere g t painted table v a b steps x u off e w j =
-    x.off e (λ (on : On e steps). off (end_on_path g v a b steps (path_of_walk g v a b steps x.walk).0 e on u w j))
+    x.off e (λ (on : IsEdgeOf e steps). off (end_on_path g v a b steps (path_of_walk g v a b steps x.walk).0 e on u w j))
 
 -- the table stays right
 pub IsTabled-exchanged : (g : Colouring) (t : List (Option EdgeId)) (painted : List (Option Colour)) (table : List (Option EdgeId)) (v : CopyId) (a b : Colour) → CanExchange g t v a b → (steps : List Step) → IsExchanged g t painted table v a b steps → IsTabled (recoloured g painted) table
@@ -420,14 +420,14 @@ IsTabled-exchanged g t painted table v a b can steps x =
 
     colours : (e : EdgeId) (k : Colour) → HasColour (recoloured g painted) e k → k.0 < g.colours
     colours e k h =
-        elim (On_cases e steps) [
+        elim (path_edge_cases e steps) [
           | inl on ↦ subst (λ (q : Colour). q.0 < g.colours) (swapped_twice a b k) (turn_in (swapped a b k) (can.tabled.proper.colours_in_range e (swapped a b k) (on_after g t painted table v a b steps x e k on h)))
           | inr off ↦ can.tabled.proper.colours_in_range e k (sym (x.off e off) ∙ h)
         ]
 
     entry : (u : CopyId) (k : Colour) (e : EdgeId) → u.0 < g.nodes → k.0 < g.colours → (slice_get table (place_of g u k) ≡ Some (Some e)) ↔ ((w : CopyId) × Leads (recoloured g painted) u k e w)
     entry u k e hu hk =
-        elim (At_cases u v steps) [
+        elim (path_node_cases u v steps) [
           | inl at ↦ (
             (λ (h : slice_get table (place_of g u k) ≡ Some (Some e)).
                 let r = (can.tabled.table.entry u (swapped a b k) e hu (turn_in k hk)).0 (sym (x.turned u k hk at) ∙ h) in
@@ -450,7 +450,7 @@ IsTabled-exchanged g t painted table v a b can steps x =
 -- ---- the contract
 
 missing_at : (g : Colouring) (t : List (Option EdgeId)) (painted : List (Option Colour)) (table : List (Option EdgeId)) (v : CopyId) (a b : Colour) → CanExchange g t v a b → (steps : List Step) → IsExchanged g t painted table v a b steps →
-    (u : CopyId) → At u v steps → (k : Colour) → IsMissing (recoloured g painted) u k ↔ IsMissing g u (swapped a b k)
+    (u : CopyId) → IsNodeOf u v steps → (k : Colour) → IsMissing (recoloured g painted) u k ↔ IsMissing g u (swapped a b k)
 missing_at g t painted table v a b can steps x u at k = (
   (λ (m : IsMissing (recoloured g painted) u k). record {
     in_range = turn_in k m.in_range;
@@ -466,7 +466,7 @@ missing_at g t painted table v a b can steps x u at k = (
     turn_in k h = swapped_in_range a b k g.colours can.lacks.in_range (has_in_range g t v a b can) h
 
 missing_off : (g : Colouring) (t : List (Option EdgeId)) (painted : List (Option Colour)) (table : List (Option EdgeId)) (v : CopyId) (a b : Colour) (steps : List Step) → IsExchanged g t painted table v a b steps →
-    (u : CopyId) → (At u v steps → ⊥) → (k : Colour) → IsMissing (recoloured g painted) u k ↔ IsMissing g u k
+    (u : CopyId) → (IsNodeOf u v steps → ⊥) → (k : Colour) → IsMissing (recoloured g painted) u k ↔ IsMissing g u k
 missing_off g t painted table v a b steps x u off k = (
   (λ (m : IsMissing (recoloured g painted) u k). record {
     in_range = m.in_range;
@@ -479,7 +479,7 @@ missing_off g t painted table v a b steps x u off k = (
 )
 
 -- an inner node of a walk has both colours
-inner_has : (g : Colouring) (v : CopyId) (a b : Colour) (steps : List Step) → IsPath g v a b steps → (u : CopyId) → At u v steps → u ≢ v → u ≢ end_of v steps → IsPresent g u a × IsPresent g u b
+inner_has : (g : Colouring) (v : CopyId) (a b : Colour) (steps : List Step) → IsPath g v a b steps → (u : CopyId) → IsNodeOf u v steps → u ≢ v → u ≢ end_of v steps → IsPresent g u a × IsPresent g u b
 inner_has g v a b [] path u at nv ne = absurd (nv (sym at))
 inner_has g v a b (s ∷ rest) path u at nv ne =
     elim at [
@@ -504,8 +504,8 @@ Exchanges-from g t painted table v a b can steps x =
       frame = refl;
       on = x.on;
       off = x.off;
-      ends = λ u k c. missing_at g t painted table v a b can steps x u (elim c [ inl h ↦ subst (λ (q : CopyId). At q v steps) (sym h) (At-start v steps) | inr h ↦ subst (λ (q : CopyId). At q v steps) (sym h) (At-end_of v steps) ]) k;
-      others = λ u k nv ne. elim (At_cases u v steps) [
+      ends = λ u k c. missing_at g t painted table v a b can steps x u (elim c [ inl h ↦ subst (λ (q : CopyId). IsNodeOf q v steps) (sym h) (IsNodeOf-start v steps) | inr h ↦ subst (λ (q : CopyId). IsNodeOf q v steps) (sym h) (IsNodeOf-end_of v steps) ]) k;
+      others = λ u k nv ne. elim (path_node_cases u v steps) [
         | inr off ↦ missing_off g t painted table v a b steps x u off k
         | inl at ↦ inner u k at (inner_has g v a b steps (path_of_walk g v a b steps x.walk).0 u at nv ne)
       ];
@@ -514,7 +514,7 @@ Exchanges-from g t painted table v a b can steps x =
     lost : (u : CopyId) (k l : Colour) → k ≡ l → IsPresent g u l → IsMissing g u k → ⊥
     lost u k l h p m = m.absent p.0 p.1 (subst (λ (q : Colour). Leads g u q p.0 p.1) (sym h) p.2)
 
-    inner : (u : CopyId) (k : Colour) → At u v steps → IsPresent g u a × IsPresent g u b → IsMissing (recoloured g painted) u k ↔ IsMissing g u k
+    inner : (u : CopyId) (k : Colour) → IsNodeOf u v steps → IsPresent g u a × IsPresent g u b → IsMissing (recoloured g painted) u k ↔ IsMissing g u k
     inner u k at p =
         let both = missing_at g t painted table v a b can steps x u at k in
         elim (turn_cases a b k) [

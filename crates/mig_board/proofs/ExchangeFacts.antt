@@ -1,6 +1,7 @@
 -- What `exchange` knows of a board's fields.
 use Rattle.std.proofs.Common.{◌⊎◌, inl, inr, Vec, Global, ◌^◌, ◌≡◌, ℕ, ◌<◌, ◌≤◌, ◌+◌, ◌*◌, sym, ap, subst, ◌∙◌, refl, length, set, get_or, vec_len, List, Option, Some, None}
 use Rattle.std.specs.Prelude.{slice_get}
+use Rattle.mig_base.specs.declared.limits.TheConstants.{MAX_ITEMS}
 use Rattle.mig_base.specs.declared.ids.CopyId.{CopyId}
 use Rattle.mig_base.specs.declared.ids.EdgeId.{EdgeId}
 use Rattle.mig_base.specs.declared.ids.Colour.{Colour}
@@ -66,7 +67,7 @@ pub record IsMidway (g : Colouring) (now : Inside) (v : CopyId) (a b : Colour) (
   pub nodes : now.nodes ≡ g.nodes
   pub colours : now.colours ≡ g.colours
   pub ends : now.ends.items ≡ g.ends
-  pub few_edges : length now.ends.items ≤ 65536
+  pub few_edges : length now.ends.items ≤ MAX_ITEMS
   pub few_entries : now.nodes * now.colours ≤ 2 ^ 28
   -- the table at the beginning
   pub first : List (Option EdgeId)

@@ -7,13 +7,13 @@ use Rattle.std.proofs.lemmas.Bool.{cases_lt, cases_eq}
 use Rattle.mig_base.specs.declared.ids.CopyId.{CopyId}
 use Rattle.mig_base.specs.declared.ids.EdgeId.{EdgeId}
 use Rattle.mig_base.specs.declared.ids.Colour.{Colour}
-use Rattle.mig_board.specs.Colouring.{Colouring, Joins, HasColour, Leads, IsMissing, IsPresent, IsFull, HasNoCommon, IsPainted, IsProper, degree_of, painted_with, blank}
-use Rattle.mig_board.specs.Growth.{IsBlank, IsPlain, SameGraph, PaintsOne, IsTwoSided}
+use Rattle.mig_board.specs.Colouring.{Colouring, Joins, HasColour, Leads, IsMissing, IsPresent, IsFull, HasNoCommon, IsPainted, IsProper, IsFreeAt, degree_of, painted_with, blank}
+use Rattle.mig_board.specs.Growth.{IsBlank, IsPlain, SameGraph, PaintsOne, Recolours, IsTwoSided}
 use Rattle.mig_board.specs.Walk.{Step, IsWalk, end_of, next_of, backwards, WalksTo, swapped, Exchanges}
-use Rattle.mig_board.proofs.Walks.{IsPath, path_of_walk, path_back, next_pair, missing_differs}
+use Rattle.mig_board.proofs.Walks.{IsPath, path_of_walk, path_back, next_pair, missing_differs, end_cases}
 use Rattle.mig_board.proofs.Counting.{degree_of_full}
 use Rattle.mig_board.proofs.Tables.{edge_cases, same_edge, slice_get-set_same, slice_get-set_other, painted_cases}
-use Rattle.mig_board.proofs.Exchange.{On_cases, path_edge, swapped_second, swapped_third}
+use Rattle.mig_board.proofs.Exchange.{path_edge_cases, path_edge, swapped_second, swapped_third}
 
 -- ---- what is missing and what is there
 
@@ -37,17 +37,25 @@ not_full g v w e j plain few full = absurd (omega (arith, degree_of_full g v w e
 
 -- ---- exchanges and paintings
 
+-- a colour that is missing at both ends is free
+pub both_free : (g : Colouring) (e : EdgeId) (u v : CopyId) (k : Colour) → Joins g e u v → IsMissing g u k → IsMissing g v k → IsFreeAt g e k
+both_free g e u v k j first second = λ q r jq.
+    elim (end_cases g e u v q r j jq) [
+      | inl h ↦ subst (λ (x : CopyId). IsMissing g x k) (sym h) first
+      | inr h ↦ subst (λ (x : CopyId). IsMissing g x k) (sym h) second
+    ]
+
 -- an exchange colours no edge and uncolours none
 pub exchanges_painted : (old new : Colouring) (v : CopyId) (a b : Colour) (w : CopyId) → Exchanges old new v a b w → (f : EdgeId) → IsPainted old f → IsPainted new f
 exchanges_painted old new v a b w x f h =
-    elim (On_cases f x.walk.steps) [
+    elim (path_edge_cases f x.walk.steps) [
       | inl on ↦ (swapped a b h.0, x.on f h.0 on h.1)
       | inr off ↦ (h.0, x.off f off ∙ h.1)
     ]
 
 pub exchanges_plain : (old new : Colouring) (v : CopyId) (a b : Colour) (w : CopyId) → Exchanges old new v a b w → (f : EdgeId) → IsPlain old f → IsPlain new f
 exchanges_plain old new v a b w x f h =
-    elim (On_cases f x.walk.steps) [
+    elim (path_edge_cases f x.walk.steps) [
       | inl on ↦
           (let r = path_edge old v a b x.walk.steps (path_of_walk old v a b x.walk.steps x.walk.law.walk).0 f on in
           absurd (none-some r.colour (same_Some None (Some r.colour) (sym h ∙ r.leads.colour))))
@@ -151,41 +159,39 @@ IsPart-more first now next n e is p x =
 
 -- ---- changes after which the same edges have a colour
 
-pub record SameEdges (old new : Colouring) : Type 0 where
-  pub graph : SameGraph old new
-  pub painted : (f : EdgeId) → IsPainted old f → IsPainted new f
-  pub plain : (f : EdgeId) → IsPlain old f → IsPlain new f
+pub Recolours-exchanged : (old new : Colouring) (v : CopyId) (a b : Colour) (w : CopyId) → Exchanges old new v a b w → Recolours old new
+Recolours-exchanged old new v a b w x = record { graph = x.frame; kept = exchanges_painted old new v a b w x; plain = exchanges_plain old new v a b w x }
 
-pub SameEdges-exchanged : (old new : Colouring) (v : CopyId) (a b : Colour) (w : CopyId) → Exchanges old new v a b w → SameEdges old new
-SameEdges-exchanged old new v a b w x = record { graph = x.frame; painted = exchanges_painted old new v a b w x; plain = exchanges_plain old new v a b w x }
-
-pub SameEdges-repainted : (g : Colouring) (e : EdgeId) (k : Colour) → IsPainted g e → SameEdges g (painted_with g e k)
-SameEdges-repainted g e k h =
+pub Recolours-repainted : (g : Colouring) (e : EdgeId) (k : Colour) → IsPainted g e → Recolours g (painted_with g e k)
+Recolours-repainted g e k h =
     let within : e.0 < length g.painted = slice_get_within g.painted e.0 (Some h.0) h.1 in
     let r = PaintsOne-painted g e k within in
     record {
       graph = refl;
-      painted = r.kept;
+      kept = r.kept;
       plain = λ f p. elim (edge_cases f e) [
         | inl same ↦ absurd (none-some h.0 (same_Some None (Some h.0) (sym (subst (λ (q : EdgeId). IsPlain g q) same p) ∙ h.1)))
         | inr other ↦ r.plain f other p
       ];
     }
 
-pub SameEdges-trans : (a b c : Colouring) → SameEdges a b → SameEdges b c → SameEdges a c
-SameEdges-trans a b c x y =
+pub Recolours-same : (g h : Colouring) → h ≡ g → Recolours g h
+Recolours-same g h same = subst (λ (q : Colouring). Recolours g q) (sym same) (record { graph = refl; kept = λ f p. p; plain = λ f p. p })
+
+pub Recolours-trans : (a b c : Colouring) → Recolours a b → Recolours b c → Recolours a c
+Recolours-trans a b c x y =
     record {
       graph = y.graph ∙ ap (λ (g : Colouring). record g { painted = c.painted }) x.graph;
-      painted = λ f h. y.painted f (x.painted f h);
+      kept = λ f h. y.kept f (x.kept f h);
       plain = λ f h. y.plain f (x.plain f h);
     }
 
-pub PaintsOne-after : (a b c : Colouring) (e : EdgeId) → SameEdges a b → PaintsOne b c e → PaintsOne a c e
+pub PaintsOne-after : (a b c : Colouring) (e : EdgeId) → Recolours a b → PaintsOne b c e → PaintsOne a c e
 PaintsOne-after a b c e x y =
     record {
       graph = y.graph ∙ ap (λ (g : Colouring). record g { painted = c.painted }) x.graph;
       here = y.here;
-      kept = λ f h. y.kept f (x.painted f h);
+      kept = λ f h. y.kept f (x.kept f h);
       plain = λ f other h. y.plain f other (x.plain f h);
     }
 
@@ -218,7 +224,7 @@ pub exchanges_third : (old new : Colouring) (v : CopyId) (a b : Colour) (w : Cop
 exchanges_third old new v a b w h u k e x na nb l =
     record {
       joins = subst (λ (g : Colouring). Joins g e u x) (sym h.frame) l.joins;
-      colour = elim (On_cases e h.walk.steps) [
+      colour = elim (path_edge_cases e h.walk.steps) [
         | inl on ↦ subst (λ (q : Colour). HasColour new e q) (swapped_third a b k na nb) (h.on e k on l.colour)
         | inr off ↦ h.off e off ∙ l.colour
       ];

@@ -5,7 +5,7 @@ use Rattle.mig_base.specs.declared.ids.CopyId.{CopyId}
 use Rattle.mig_base.specs.declared.ids.EdgeId.{EdgeId}
 use Rattle.mig_base.specs.declared.ids.Colour.{Colour}
 use Rattle.mig_board.specs.Colouring.{Colouring, Joins, HasColour, Leads, IsMissing, IsPresent, IsProper}
-use Rattle.mig_board.specs.Walk.{Step, IsWalk, end_of, next_of, backwards, At, On, WalkLaw, WalksTo, nodes_of}
+use Rattle.mig_board.specs.Walk.{Step, IsWalk, end_of, next_of, backwards, IsNodeOf, IsEdgeOf, WalkLaw, WalksTo, nodes_of}
 use Rattle.std.specs.List.{AllPairs, All, IsDistinct}
 use Rattle.std.proofs.lemmas.Map.Steps.{length-le_from_distinct_below}
 use Rattle.std.proofs.lemmas.Map.Keys.{IsDistinct-cons}
@@ -21,7 +21,7 @@ IsPath g v a b (s ∷ rest) = Leads g v b s.edge s.to × IsPath g s.to b a rest
 
 abbrev pub NoRepeat : CopyId → List Step → Type 0
 NoRepeat v [] = Unit {0}
-NoRepeat v (s ∷ rest) = (At v s.to rest → ⊥) × NoRepeat s.to rest
+NoRepeat v (s ∷ rest) = (IsNodeOf v s.to rest → ⊥) × NoRepeat s.to rest
 
 pub joins_back : (g : Colouring) (e : EdgeId) (v w : CopyId) → Joins g e v w → Joins g e w v
 joins_back g e v w j = elim j [ inl h ↦ inr h | inr h ↦ inl h ]
@@ -85,13 +85,13 @@ walk_unique g p v a b (s ∷ xs) (t ∷ ys) w x =
     cc
 
 -- the last node is a node
-pub At-end_of : (v : CopyId) (steps : List Step) → At (end_of v steps) v steps
-At-end_of v [] = refl
-At-end_of v (s ∷ rest) = inr (At-end_of s.to rest)
+pub IsNodeOf-end_of : (v : CopyId) (steps : List Step) → IsNodeOf (end_of v steps) v steps
+IsNodeOf-end_of v [] = refl
+IsNodeOf-end_of v (s ∷ rest) = inr (IsNodeOf-end_of s.to rest)
 
-pub At-start : (v : CopyId) (steps : List Step) → At v v steps
-At-start v [] = refl
-At-start v (s ∷ rest) = inl refl
+pub IsNodeOf-start : (v : CopyId) (steps : List Step) → IsNodeOf v v steps
+IsNodeOf-start v [] = refl
+IsNodeOf-start v (s ∷ rest) = inl refl
 
 pub next_cases : (a b : Colour) (steps : List Step) → (next_of a b steps ≡ a) ⊎ (next_of a b steps ≡ b)
 next_cases a b [] = inr refl
@@ -102,7 +102,7 @@ next_differs a b [] d = λ h. d (sym h)
 next_differs a b (s ∷ rest) d = λ h. next_differs a b rest d (sym h)
 
 -- at a node of a path the edges of the two colours are edges of the path, but for the colour before its start and the colour after its end
-pub edge_on : (g : Colouring) (p : IsProper g) (v : CopyId) (a b : Colour) (steps : List Step) → IsPath g v a b steps → (u : CopyId) → At u v steps → (k : Colour) (e : EdgeId) (x : CopyId) → Leads g u k e x → (k ≡ a) ⊎ (k ≡ b) → On e steps ⊎ (((u ≡ v) × (k ≡ a)) ⊎ ((u ≡ end_of v steps) × (k ≡ next_of a b steps)))
+pub edge_on : (g : Colouring) (p : IsProper g) (v : CopyId) (a b : Colour) (steps : List Step) → IsPath g v a b steps → (u : CopyId) → IsNodeOf u v steps → (k : Colour) (e : EdgeId) (x : CopyId) → Leads g u k e x → (k ≡ a) ⊎ (k ≡ b) → IsEdgeOf e steps ⊎ (((u ≡ v) × (k ≡ a)) ⊎ ((u ≡ end_of v steps) × (k ≡ next_of a b steps)))
 edge_on g p v a b [] path u at k e x l ab = elim ab [ inl h ↦ inr (inl (sym at, h)) | inr h ↦ inr (inr (sym at, h)) ]
 edge_on g p v a b (s ∷ rest) path u at k e x l ab =
     elim at [
@@ -126,12 +126,12 @@ edge_on g p v a b (s ∷ rest) path u at k e x l ab =
     swapped h = elim h [ inl m ↦ inr m | inr m ↦ inl m ]
 
 -- the only edge of the path at its last node is the last one
-pub last_edge : (g : Colouring) (p : IsProper g) (v : CopyId) (a b : Colour) (steps : List Step) → IsPath g v a b steps → NoRepeat v steps → (k : Colour) (f : EdgeId) (x : CopyId) → On f steps → Leads g (end_of v steps) k f x → k ≡ next_of b a steps
+pub last_edge : (g : Colouring) (p : IsProper g) (v : CopyId) (a b : Colour) (steps : List Step) → IsPath g v a b steps → NoRepeat v steps → (k : Colour) (f : EdgeId) (x : CopyId) → IsEdgeOf f steps → Leads g (end_of v steps) k f x → k ≡ next_of b a steps
 last_edge g p v a b [] path n k f x on l = absurd on
 last_edge g p v a b (s ∷ rest) path n k f x on l =
     elim on [
       | inl h ↦ elim (end_cases g s.edge v s.to (end_of s.to rest) x path.0.joins (subst (λ (q : EdgeId). Joins g q (end_of s.to rest) x) (sym h) l.joins)) [
-        | inl back ↦ absurd (n.0 (subst (λ (q : CopyId). At q s.to rest) back (At-end_of s.to rest)))
+        | inl back ↦ absurd (n.0 (subst (λ (q : CopyId). IsNodeOf q s.to rest) back (IsNodeOf-end_of s.to rest)))
         | inr here ↦ last_here rest n.1 here (same_colour g f k b l.colour (subst (λ (q : EdgeId). HasColour g q b) h path.0.colour))
       ]
       | inr h ↦ last_edge g p s.to b a rest path.1 n.1 k f x h l
@@ -139,10 +139,10 @@ last_edge g p v a b (s ∷ rest) path n k f x on l =
   where
     last_here : (rest : List Step) → NoRepeat s.to rest → end_of s.to rest ≡ s.to → k ≡ b → k ≡ next_of a b rest
     last_here [] n here c = c
-    last_here (t ∷ more) n here c = absurd (n.0 (subst (λ (q : CopyId). At q t.to more) here (At-end_of t.to more)))
+    last_here (t ∷ more) n here c = absurd (n.0 (subst (λ (q : CopyId). IsNodeOf q t.to more) here (IsNodeOf-end_of t.to more)))
 
 -- the next node of a path is a new one
-pub fresh : (g : Colouring) (p : IsProper g) (v : CopyId) (a b : Colour) (steps : List Step) → IsMissing g v a → a ≢ b → IsPath g v a b steps → NoRepeat v steps → (e : EdgeId) (w : CopyId) → Leads g (end_of v steps) (next_of a b steps) e w → At w v steps → ⊥
+pub fresh : (g : Colouring) (p : IsProper g) (v : CopyId) (a b : Colour) (steps : List Step) → IsMissing g v a → a ≢ b → IsPath g v a b steps → NoRepeat v steps → (e : EdgeId) (w : CopyId) → Leads g (end_of v steps) (next_of a b steps) e w → IsNodeOf w v steps → ⊥
 fresh g p v a b steps m d path n e w l at =
     elim (edge_on g p v a b steps path w at (next_of a b steps) e (end_of v steps) (leads_back l) (next_cases a b steps)) [
       | inl on ↦ next_differs a b steps d (last_edge g p v a b steps path n (next_of a b steps) e w on l)
@@ -165,43 +165,43 @@ pub next_of-push : (a b : Colour) (steps : List Step) (s : Step) → next_of a b
 next_of-push a b [] s = refl
 next_of-push a b (t ∷ rest) s = next_of-push b a rest s
 
-pub At-push_cases : (u v : CopyId) (steps : List Step) (s : Step) → At u v (steps ++ s ∷ []) → At u v steps ⊎ (s.to ≡ u)
-At-push_cases u v [] s at = at
-At-push_cases u v (t ∷ rest) s at =
+pub IsNodeOf-push_cases : (u v : CopyId) (steps : List Step) (s : Step) → IsNodeOf u v (steps ++ s ∷ []) → IsNodeOf u v steps ⊎ (s.to ≡ u)
+IsNodeOf-push_cases u v [] s at = at
+IsNodeOf-push_cases u v (t ∷ rest) s at =
     elim at [
       | inl h ↦ inl (inl h)
-      | inr h ↦ elim (At-push_cases u t.to rest s h) [ inl m ↦ inl (inr m) | inr m ↦ inr m ]
+      | inr h ↦ elim (IsNodeOf-push_cases u t.to rest s h) [ inl m ↦ inl (inr m) | inr m ↦ inr m ]
     ]
 
-pub At-push : (u v : CopyId) (steps : List Step) (s : Step) → At u v steps ⊎ (s.to ≡ u) → At u v (steps ++ s ∷ [])
-At-push u v [] s at = at
-At-push u v (t ∷ rest) s at =
+pub IsNodeOf-push : (u v : CopyId) (steps : List Step) (s : Step) → IsNodeOf u v steps ⊎ (s.to ≡ u) → IsNodeOf u v (steps ++ s ∷ [])
+IsNodeOf-push u v [] s at = at
+IsNodeOf-push u v (t ∷ rest) s at =
     elim at [
-      | inl h ↦ elim h [ inl m ↦ inl m | inr m ↦ inr (At-push u t.to rest s (inl m)) ]
-      | inr h ↦ inr (At-push u t.to rest s (inr h))
+      | inl h ↦ elim h [ inl m ↦ inl m | inr m ↦ inr (IsNodeOf-push u t.to rest s (inl m)) ]
+      | inr h ↦ inr (IsNodeOf-push u t.to rest s (inr h))
     ]
 
-pub On-push_cases : (e : EdgeId) (steps : List Step) (s : Step) → On e (steps ++ s ∷ []) → On e steps ⊎ (s.edge ≡ e)
-On-push_cases e [] s on = elim on [ inl h ↦ inr h | inr h ↦ absurd h ]
-On-push_cases e (t ∷ rest) s on =
+pub IsEdgeOf-push_cases : (e : EdgeId) (steps : List Step) (s : Step) → IsEdgeOf e (steps ++ s ∷ []) → IsEdgeOf e steps ⊎ (s.edge ≡ e)
+IsEdgeOf-push_cases e [] s on = elim on [ inl h ↦ inr h | inr h ↦ absurd h ]
+IsEdgeOf-push_cases e (t ∷ rest) s on =
     elim on [
       | inl h ↦ inl (inl h)
-      | inr h ↦ elim (On-push_cases e rest s h) [ inl m ↦ inl (inr m) | inr m ↦ inr m ]
+      | inr h ↦ elim (IsEdgeOf-push_cases e rest s h) [ inl m ↦ inl (inr m) | inr m ↦ inr m ]
     ]
 
-pub On-push : (e : EdgeId) (steps : List Step) (s : Step) → On e steps ⊎ (s.edge ≡ e) → On e (steps ++ s ∷ [])
-On-push e [] s on = elim on [ inl h ↦ absurd h | inr h ↦ inl h ]
-On-push e (t ∷ rest) s on =
+pub IsEdgeOf-push : (e : EdgeId) (steps : List Step) (s : Step) → IsEdgeOf e steps ⊎ (s.edge ≡ e) → IsEdgeOf e (steps ++ s ∷ [])
+IsEdgeOf-push e [] s on = elim on [ inl h ↦ absurd h | inr h ↦ inl h ]
+IsEdgeOf-push e (t ∷ rest) s on =
     elim on [
-      | inl h ↦ elim h [ inl m ↦ inl m | inr m ↦ inr (On-push e rest s (inl m)) ]
-      | inr h ↦ inr (On-push e rest s (inr h))
+      | inl h ↦ elim h [ inl m ↦ inl m | inr m ↦ inr (IsEdgeOf-push e rest s (inl m)) ]
+      | inr h ↦ inr (IsEdgeOf-push e rest s (inr h))
     ]
 
-pub NoRepeat-push : (v : CopyId) (steps : List Step) (s : Step) → NoRepeat v steps → (At s.to v steps → ⊥) → NoRepeat v (steps ++ s ∷ [])
+pub NoRepeat-push : (v : CopyId) (steps : List Step) (s : Step) → NoRepeat v steps → (IsNodeOf s.to v steps → ⊥) → NoRepeat v (steps ++ s ∷ [])
 NoRepeat-push v [] s n new = ((λ (h : s.to ≡ v). new (sym h)), tt)
 NoRepeat-push v (t ∷ rest) s n new = (
-  (λ (h : At v t.to (rest ++ s ∷ [])). elim (At-push_cases v t.to rest s h) [ inl m ↦ n.0 m | inr m ↦ new (inl (sym m)) ]),
-  NoRepeat-push t.to rest s n.1 (λ (h : At s.to t.to rest). new (inr h)),
+  (λ (h : IsNodeOf v t.to (rest ++ s ∷ [])). elim (IsNodeOf-push_cases v t.to rest s h) [ inl m ↦ n.0 m | inr m ↦ new (inl (sym m)) ]),
+  NoRepeat-push t.to rest s n.1 (λ (h : IsNodeOf s.to t.to rest). new (inr h)),
 )
 
 -- a path in the other direction
@@ -244,7 +244,7 @@ NoRepeat-append g p v a b m d steps (s ∷ more) path n on =
     subst (λ (q : List Step). NoRepeat v q) (append_assoc steps (s ∷ []) more)
     (NoRepeat-append g p v a b m d next more
     (IsPath-push g v a b steps s.edge s.to path on.0)
-    (NoRepeat-push v steps s n (λ (h : At s.to v steps). fresh g p v a b steps m d path n s.edge s.to on.0 h))
+    (NoRepeat-push v steps s n (λ (h : IsNodeOf s.to v steps). fresh g p v a b steps m d path n s.edge s.to on.0 h))
     (subst (λ (q : CopyId). IsPath g q (next_of b a next) (next_of a b next) more) (sym last)
     (subst (λ (q : Colour). IsPath g s.to q (next_of a b next) more) (sym here)
     (subst (λ (q : Colour). IsPath g s.to (next_of a b steps) q more) (sym there) on.1))))
@@ -271,10 +271,10 @@ length-places v (s ∷ rest) = omega (arith, length-places s.to rest)
 copy_same : (v w : CopyId) → v.0 ≡ w.0 → v ≡ w
 copy_same v w h = let make : ℕ → CopyId = λ n. record { 0 = n } in ap make h
 
-absent_places : (u v : CopyId) (steps : List Step) → (At u v steps → ⊥) → All (λ n. eqb u.0 n ≡ false) (places v steps)
+absent_places : (u v : CopyId) (steps : List Step) → (IsNodeOf u v steps → ⊥) → All (λ n. eqb u.0 n ≡ false) (places v steps)
 absent_places u v [] h = All-cons (λ n. eqb u.0 n ≡ false) v.0 [] (ne_eqb u.0 v.0 (λ e. h (sym (copy_same u v e)))) (All-nil (λ n. eqb u.0 n ≡ false))
 absent_places u v (s ∷ rest) h =
-    All-cons (λ n. eqb u.0 n ≡ false) v.0 (places s.to rest) (ne_eqb u.0 v.0 (λ e. h (inl (sym (copy_same u v e))))) (absent_places u s.to rest (λ (m : At u s.to rest). h (inr m)))
+    All-cons (λ n. eqb u.0 n ≡ false) v.0 (places s.to rest) (ne_eqb u.0 v.0 (λ e. h (inl (sym (copy_same u v e))))) (absent_places u s.to rest (λ (m : IsNodeOf u s.to rest). h (inr m)))
 
 IsDistinct-places : (v : CopyId) (steps : List Step) → NoRepeat v steps → IsDistinct eqb (places v steps)
 unfolding IsDistinct
@@ -299,17 +299,17 @@ path_is_short g p v a b steps h path n =
 
 -- ---- what holds of a walk
 
-At-get_or : (v : CopyId) (steps : List Step) (j : ℕ) (d : CopyId) → j < length (nodes_of v steps) → At (get_or (nodes_of v steps) j d) v steps
-At-get_or v [] zero d h = refl
-At-get_or v [] (suc j) d h = absurd (omega arith)
-At-get_or v (s ∷ rest) zero d h = inl refl
-At-get_or v (s ∷ rest) (suc j) d h = inr (At-get_or s.to rest j d (omega arith))
+IsNodeOf-get_or : (v : CopyId) (steps : List Step) (j : ℕ) (d : CopyId) → j < length (nodes_of v steps) → IsNodeOf (get_or (nodes_of v steps) j d) v steps
+IsNodeOf-get_or v [] zero d h = refl
+IsNodeOf-get_or v [] (suc j) d h = absurd (omega arith)
+IsNodeOf-get_or v (s ∷ rest) zero d h = inl refl
+IsNodeOf-get_or v (s ∷ rest) (suc j) d h = inr (IsNodeOf-get_or s.to rest j d (omega arith))
 
 pub AllPairs-nodes_of : (v : CopyId) (steps : List Step) → NoRepeat v steps → AllPairs (λ u w. u ≢ w) (nodes_of v steps)
 AllPairs-nodes_of v [] n i zero d lt within = absurd (omega arith)
 AllPairs-nodes_of v [] n i (suc j) d lt within = absurd (omega arith)
 AllPairs-nodes_of v (s ∷ rest) n i zero d lt within = absurd (omega arith)
-AllPairs-nodes_of v (s ∷ rest) n zero (suc j) d lt within = λ e. n.0 (subst (λ (u : CopyId). At u s.to rest) (sym e) (At-get_or s.to rest j d (omega arith)))
+AllPairs-nodes_of v (s ∷ rest) n zero (suc j) d lt within = λ e. n.0 (subst (λ (u : CopyId). IsNodeOf u s.to rest) (sym e) (IsNodeOf-get_or s.to rest j d (omega arith)))
 AllPairs-nodes_of v (s ∷ rest) n (suc i) (suc j) d lt within = AllPairs-nodes_of s.to rest n.1 i j d (omega arith) (omega arith)
 
 pub missing_differs : (g : Colouring) (v : CopyId) (a b : Colour) → IsMissing g v a → IsPresent g v b → a ≢ b

@@ -1,5 +1,6 @@
 -- What the fields of a board mean.
 use Rattle.std.specs.Prelude.{◌≤◌, ◌*◌, ◌^◌, length}
+use Rattle.mig_base.specs.declared.limits.TheConstants.{MAX_ITEMS}
 use Rattle.mig_board.specs.Colouring.{Colouring, IsProper, IsTableOf}
 use Rattle.mig_board.specs.declared.boards.Board.TheInside.{Inside}
 
@@ -9,5 +10,5 @@ colouring_of a = record { nodes = a.nodes; colours = a.colours; ends = a.ends.it
 pub record IsBoard (a : Inside) : Type 0 where
   pub proper : IsProper (colouring_of a)
   pub table : IsTableOf (colouring_of a) a.table.items
-  pub few_edges : length a.ends.items ≤ 65536
+  pub few_edges : length a.ends.items ≤ MAX_ITEMS
   pub few_entries : a.nodes * a.colours ≤ 2 ^ 28

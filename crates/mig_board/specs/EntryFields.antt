@@ -8,17 +8,17 @@ use Rattle.std.proofs.lemmas.Bool.Decides.{eqb_tells}
 abbrev pub entry_of : ℕ → Option EdgeId
 entry_of n = if n == 4294967295 then None else Some (record { 0 = n })
 
-abbrev pub number_of : Option EdgeId → ℕ
-number_of None = 4294967295
-number_of (Some e) = e.0
+abbrev pub entry_number : Option EdgeId → ℕ
+entry_number None = 4294967295
+entry_number (Some e) = e.0
 
 -- the number of an entry
-pub number_of-entry_of : (n : ℕ) → number_of (entry_of n) ≡ n
-number_of-entry_of n =
+pub entry_number-entry_of : (n : ℕ) → entry_number (entry_of n) ≡ n
+entry_number-entry_of n =
     elim (eqb_tells n 4294967295) [
-      | inl h ↦ ap (λ (t : Bool). number_of (cond t None (Some (record { 0 = n })))) h.0 ∙ sym h.1
-      | inr h ↦ ap (λ (t : Bool). number_of (cond t None (Some (record { 0 = n })))) h.0
+      | inl h ↦ ap (λ (t : Bool). entry_number (cond t None (Some (record { 0 = n })))) h.0 ∙ sym h.1
+      | inr h ↦ ap (λ (t : Bool). entry_number (cond t None (Some (record { 0 = n })))) h.0
     ]
 
-pub fields_of : (a : Inside) → ◌≡◌ {A = Inside} (record { number = number_of (entry_of a.number) }) a
-fields_of a = let made : ℕ → Inside = λ n. record { number = n } in ap made (number_of-entry_of a.number)
+pub fields_of : (a : Inside) → ◌≡◌ {A = Inside} (record { number = entry_number (entry_of a.number) }) a
+fields_of a = let made : ℕ → Inside = λ n. record { number = n } in ap made (entry_number-entry_of a.number)

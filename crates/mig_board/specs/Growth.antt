@@ -19,6 +19,12 @@ IsComplete g = (e : EdgeId) → e.0 < length g.ends → IsPainted g e
 abbrev pub SameGraph : Colouring → Colouring → Type 0
 SameGraph old new = new ≡ record old { painted = new.painted }
 
+-- colours change, but an edge that had one has one still, and an edge that had none has none
+pub record Recolours (old new : Colouring) : Type 0 where
+  pub graph : SameGraph old new
+  pub kept : (f : EdgeId) → IsPainted old f → IsPainted new f
+  pub plain : (f : EdgeId) → IsPlain old f → IsPlain new f
+
 -- edge e gets a colour, each edge that had one has one still, and no other gets one
 pub record PaintsOne (old new : Colouring) (e : EdgeId) : Type 0 where
   pub graph : SameGraph old new

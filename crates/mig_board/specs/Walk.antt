@@ -35,14 +35,14 @@ abbrev pub nodes_of : CopyId → List Step → List CopyId
 nodes_of v steps = v ∷ map (λ s. s.to) steps
 
 -- u is a node of the path from v
-abbrev pub At : CopyId → CopyId → List Step → Type 0
-At u v [] = v ≡ u
-At u v (s ∷ rest) = (v ≡ u) ⊎ At u s.to rest
+abbrev pub IsNodeOf : CopyId → CopyId → List Step → Type 0
+IsNodeOf u v [] = v ≡ u
+IsNodeOf u v (s ∷ rest) = (v ≡ u) ⊎ IsNodeOf u s.to rest
 
 -- e is an edge of the path
-abbrev pub On : EdgeId → List Step → Type 0
-On e [] = ⊥
-On e (s ∷ rest) = (s.edge ≡ e) ⊎ On e rest
+abbrev pub IsEdgeOf : EdgeId → List Step → Type 0
+IsEdgeOf e [] = ⊥
+IsEdgeOf e (s ∷ rest) = (s.edge ≡ e) ⊎ IsEdgeOf e rest
 
 -- What holds of the walk from v, where a is missing and b is not.
 pub record WalkLaw (g : Colouring) (v : CopyId) (a b : Colour) (steps : List Step) : Type 0 where
@@ -72,8 +72,8 @@ swapped a b k = if k.0 == a.0 then b else (if k.0 == b.0 then a else k)
 pub record Exchanges (old new : Colouring) (v : CopyId) (a b : Colour) (w : CopyId) : Type 0 where
   pub walk : WalksTo old v a b w
   pub frame : new ≡ record old { painted = new.painted }
-  pub on : (e : EdgeId) (k : Colour) → On e walk.steps → HasColour old e k → HasColour new e (swapped a b k)
-  pub off : (e : EdgeId) → (On e walk.steps → ⊥) → slice_get new.painted e.0 ≡ slice_get old.painted e.0
+  pub on : (e : EdgeId) (k : Colour) → IsEdgeOf e walk.steps → HasColour old e k → HasColour new e (swapped a b k)
+  pub off : (e : EdgeId) → (IsEdgeOf e walk.steps → ⊥) → slice_get new.painted e.0 ≡ slice_get old.painted e.0
   -- at the two ends the two colours change places among the missing ones, and elsewhere nothing changes
   pub ends : (u : CopyId) (k : Colour) → (u ≡ v) ⊎ (u ≡ w) → IsMissing new u k ↔ IsMissing old u (swapped a b k)
   pub others : (u : CopyId) (k : Colour) → u ≢ v → u ≢ w → IsMissing new u k ↔ IsMissing old u k

@@ -1,3 +1,4 @@
+//! A board and its three changes.
 ghost use Rattle.std.specs.Prelude.{◌≡◌, ◌≢◌, ℕ, ◌*◌, ◌<◌, ◌≤◌, ◌^◌, length, vec_len, IfOk, MatchOption, MatchBool, slice_get, All, Some, None};
 ghost use Rattle.mig_base.specs.declared.ids.CopyId.{CopyId};
 ghost use Rattle.mig_board.specs.Colouring.{Joins, Leads, IsPresent, IsMissing, IsProper, IsRow, IsFull, IsFullFrom, IsLeastMissing, IsLeastMissingFrom, HasNoCommon, IsLeastCommon, IsFreeAt, IsPainted, painted_with, cleared, blank};
@@ -5,7 +6,7 @@ ghost use Rattle.mig_board.specs.Walk.{WalksTo, Exchanges};
 
 use crate::entries::{Entry, is_free, swap_entries};
 use crate::places::{other_of, place};
-use mig_base::{Colour, CopyId, EdgeId};
+use mig_base::{Colour, CopyId, EdgeId, MAX_ITEMS};
 use std::alloc::{AllocError, Global};
 use std::marker::Model;
 
@@ -46,7 +47,7 @@ impl Board {
     ) -> Result<Board, AllocError>
         requires in_range { All (λ p. (p.0.0 < nodes) × (p.1.0 < nodes)) ends.items }
         requires no_loop { All (λ p. p.0 ≢ p.1) ends.items }
-        requires few_edges { vec_len ends ≤ 65536 }
+        requires few_edges { vec_len ends ≤ MAX_ITEMS }
         requires few_entries { nodes * colours ≤ 2 ^ 28 }
         ensures made { IfOk result (λ b. b ≡ blank nodes colours ends.items) }
     {
@@ -281,7 +282,7 @@ mod tests {
     use std::alloc::AllocError;
     use std::prelude::HostRuntime;
 
-    // A path of four nodes in two colours, and beside its middle edge another one that has no colour.
+    /// A path of four nodes in two colours, and beside its middle edge another one that has no colour.
     #[test]
     fn exchanges_a_path(rt: HostRuntime) -> Result<(), AllocError> {
         let path = [

@@ -1,3 +1,4 @@
+//! Entries of the table of a board.
 ghost use Rattle.std.specs.Prelude.{◌≡◌, ◌<◌, MatchBool, Option, Some, None, length, slice_get};
 ghost use Rattle.std.specs.List.{swap};
 ghost use Rattle.mig_base.specs.declared.ids.EdgeId.{EdgeId};
@@ -17,11 +18,11 @@ impl Model for Entry {
 
     ghost Value = { Option EdgeId };
 
-    ghost use Rattle.mig_board.specs.EntryFields.{entry_of, number_of, fields_of};
+    ghost use Rattle.mig_board.specs.EntryFields.{entry_of, entry_number, fields_of};
 
     ghost view = { λ a. entry_of a.number };
 
-    ghost inverse = { λ o. record { number = number_of o } };
+    ghost inverse = { λ o. record { number = entry_number o } };
 
     ghost inverse_ok = { λ a h. fields_of a };
 }

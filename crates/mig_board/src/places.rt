@@ -1,3 +1,4 @@
+//! Places in the table, and ends of edges.
 ghost use Rattle.std.specs.Prelude.{◌≡◌, ◌⊎◌, ◌+◌, ◌*◌};
 
 use mig_base::{Colour, CopyId};

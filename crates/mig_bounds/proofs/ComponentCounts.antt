@@ -6,6 +6,7 @@ use Rattle.std.proofs.lemmas.List.{length-set, get_or-set_same, get_or-set_other
 use Rattle.std.proofs.lemmas.List.FromFn.{map-range_with_len_more}
 use Rattle.std.proofs.lemmas.List.Sums.{sum_by_push, count_by-le-length}
 use Rattle.std.proofs.lemmas.Option.{slice_get_within, get_or_from_slice_get}
+use Rattle.mig_base.specs.declared.limits.TheConstants.{MAX_LIMIT}
 use Rattle.mig_base.specs.Transfers.{Transfers, Trip}
 use Rattle.mig_base.specs.Bounding.{limit, limit_sum}
 use Rattle.mig_base.proofs.Counting.{one, sum_by-filter}
@@ -26,12 +27,12 @@ limit_sum-more graph p n =
     let f : ℕ → ℕ = λ v. cond (p v) (limit graph v) 0 in
     sum_by-filter (limit graph) p (range_with_len 0 (n + 1)) ∙ ap (λ (xs : List ℕ). sum_by f xs) (range_more n) ∙ sum_by_push f (range_with_len 0 n) n ∙ ap (λ s. s + f n) (sym (sum_by-filter (limit graph) p (range_with_len 0 n)))
 
-added_most : (b : Bool) (w : ℕ) → w ≤ 1024 → cond b w 0 ≤ 1024
+added_most : (b : Bool) (w : ℕ) → w ≤ MAX_LIMIT → cond b w 0 ≤ MAX_LIMIT
 added_most true w h = h
 added_most false w h = omega arith
 
 -- one more disk
-pub AreLimitSums-more : (graph : Transfers) (labels sums : List ℕ) (i n : ℕ) → get_or labels i 0 < length labels → limit graph i ≤ 1024 → n ≡ get_or sums (get_or labels i 0) 0 + limit graph i → AreLimitSums graph labels i sums → AreLimitSums graph labels (i + 1) (set sums (get_or labels i 0) n)
+pub AreLimitSums-more : (graph : Transfers) (labels sums : List ℕ) (i n : ℕ) → get_or labels i 0 < length labels → limit graph i ≤ MAX_LIMIT → n ≡ get_or sums (get_or labels i 0) 0 + limit graph i → AreLimitSums graph labels i sums → AreLimitSums graph labels (i + 1) (set sums (get_or labels i 0) n)
 AreLimitSums-more graph labels sums i n there most is before = record {
   len = length-set sums (get_or labels i 0) n ∙ before.len;
   sum = λ r h. omega (arith, added r, before.sum r h, limit_sum-more graph (λ v. eqb (get_or labels v 0) r) i);

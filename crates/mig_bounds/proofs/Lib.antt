@@ -1,5 +1,4 @@
 pub mod Bests
-pub mod CaseInputs
 pub mod ComponentCounts
 pub mod ComponentSets
 pub mod DiskLists

@@ -1,6 +1,7 @@
 -- The components of a transfer graph by labels, and what is counted in each.
 use Rattle.std.specs.Prelude.{◌≡◌, ℕ, ◌<◌, ◌≤◌, ◌*◌, ◌==◌, List, length, filter, count_by, slice_index}
 use Rattle.std.specs.List.{range_with_len}
+use Rattle.mig_base.specs.declared.limits.TheConstants.{MAX_ITEMS, MAX_LIMIT}
 use Rattle.mig_base.specs.Transfers.{Transfers, Trip, inside}
 use Rattle.mig_base.specs.Bounding.{Candidate, ByComponent, limit_sum}
 use Rattle.mig_bounds.specs.declared.best.BestWitness.{BestWitness}
@@ -14,7 +15,7 @@ use Rattle.mig_bounds.specs.Search.{candidate_of, IsBestBelow}
 pub record AreLimitSums (graph : Transfers) (labels : List ℕ) (disks : ℕ) (sums : List ℕ) : Type 0 where
   pub len : length sums ≡ length labels
   pub sum : (r : ℕ) → r < length labels → slice_index sums r ≡ limit_sum graph (filter (λ v. slice_index labels v == r) (range_with_len 0 disks))
-  pub most : (r : ℕ) → r < length labels → slice_index sums r ≤ 1024 * disks
+  pub most : (r : ℕ) → r < length labels → slice_index sums r ≤ MAX_LIMIT * disks
 
 -- for each label, how many of the trips leave a disk that has it
 pub record AreInsides (labels : List ℕ) (trips : List Trip) (insides : List ℕ) : Type 0 where
@@ -28,7 +29,7 @@ pub record AreComponents (graph : Transfers) (components : Components) : Type 0 
   pub sum : (r : ℕ) → r < length graph.disks → slice_index components.sums.items r ≡ limit_sum graph (labelled components.labels.items r)
   pub insides_len : length components.insides.items ≡ length graph.disks
   pub inside : (r : ℕ) → r < length graph.disks → slice_index components.insides.items r ≡ inside (labelled components.labels.items r) graph.trips
-  pub inside_most : (r : ℕ) → r < length graph.disks → slice_index components.insides.items r ≤ 65536
+  pub inside_most : (r : ℕ) → r < length graph.disks → slice_index components.insides.items r ≤ MAX_ITEMS
 
 -- the candidate of a disk, of a triple or of a label
 abbrev pub candidate_by : List ℕ → Witness → Candidate

@@ -1,4 +1,3 @@
-pub mod Cases
 pub mod Components
 pub mod Labels
 pub mod Pairs

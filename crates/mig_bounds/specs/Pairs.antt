@@ -1,5 +1,6 @@
 -- How many trips join each two disks.
 use Rattle.std.specs.Prelude.{◌≡◌, ◌⊎◌, ℕ, ◌+◌, ◌*◌, ◌/◌, ◌<◌, ◌≤◌, ◌==◌, ◌&&◌, ◌||◌, Bool, List, length, count_by, slice_index}
+use Rattle.mig_base.specs.declared.limits.TheConstants.{MAX_ITEMS}
 use Rattle.mig_base.specs.Transfers.{Transfers, Trip}
 use Rattle.mig_base.specs.Bounding.{limit}
 
@@ -22,7 +23,7 @@ IsPairTable graph pairs = CountsPairs (length graph.disks) graph.trips pairs
 pub record AreTops (graph : Transfers) (tops : List ℕ) : Type 0 where
   pub len : length tops ≡ length graph.disks
   pub above : (a b : ℕ) → a < length graph.disks → b < length graph.disks → between a b graph.trips ≤ slice_index tops a
-  pub most : (a : ℕ) → a < length graph.disks → slice_index tops a ≤ 65536
+  pub most : (a : ℕ) → a < length graph.disks → slice_index tops a ≤ MAX_ITEMS
 
 -- two disks aren't joined, or too little for a triple of greater value: no other two of it have more moves than the
 -- top of their first, and its third disk has a limit of at least 1

@@ -1,3 +1,5 @@
+//! The best candidate so far.
+
 use mig_base::DiskId;
 
 /// A disk or a triple of disks.

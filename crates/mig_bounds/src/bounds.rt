@@ -1,3 +1,4 @@
+//! The best bound.
 ghost use Rattle.std.specs.Prelude.{◌≡◌, ◌<◌, ◌∷◌, [], length, map, IfOk};
 ghost use Rattle.mig_base.specs.Bounding.{Best};
 ghost use Rattle.mig_base.specs.DiskNumbers.{IsDiskSet, numbers};

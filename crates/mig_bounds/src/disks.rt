@@ -1,3 +1,4 @@
+//! The best disk.
 ghost use Rattle.std.specs.Prelude.{◌+◌, ◌<◌, length};
 ghost use Rattle.mig_graph.specs.Graphs.{IsGraph};
 ghost use Rattle.mig_bounds.specs.Search.{IsBestDisk};

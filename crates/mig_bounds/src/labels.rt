@@ -1,3 +1,4 @@
+//! Labels of disks, by components.
 ghost use Rattle.std.specs.Prelude.{◌≡◌, ◌+◌, ◌<◌, length, IfOk};
 ghost use Rattle.mig_graph.specs.Graphs.{IsGraph};
 ghost use Rattle.mig_bounds.specs.Labels.{IsLabelling, Relabels};

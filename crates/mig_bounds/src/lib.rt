@@ -3,14 +3,10 @@
 
 mod best;
 mod bounds;
-#[cfg(test)]
-mod cases;
 mod components;
 mod disks;
 mod labels;
 mod pairs;
-#[cfg(test)]
-mod tests;
 mod triples;
 
 pub use bounds::best_bound;

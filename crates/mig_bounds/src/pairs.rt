@@ -1,8 +1,9 @@
+//! How many moves join two disks.
 ghost use Rattle.std.specs.Prelude.{◌≡◌, ◌<◌, ◌≤◌, ◌↔◌, ℕ, length, IfOk, IsTrue};
 ghost use Rattle.mig_graph.specs.Graphs.{IsGraph};
 ghost use Rattle.mig_bounds.specs.Pairs.{between, IsPairTable, AreTops, IsTooLittle};
 
-use mig_base::{DiskId, EdgeId};
+use mig_base::{DiskId, EdgeId, MAX_ITEMS};
 use mig_graph::Graph;
 use std::alloc::{AllocError, Global};
 
@@ -26,7 +27,7 @@ pub fn pair(graph: &Graph, pairs: &[u32], a: u32, b: u32) -> u32
     requires a_there { a < length graph.now.disks }
     requires b_there { b < length graph.now.disks }
     ensures count { result ≡ between a b graph.now.trips }
-    ensures most { result ≤ 65536 }
+    ensures most { result ≤ MAX_ITEMS }
     ensures valid { IsGraph graph.now }
 {
     let count = graph.disks() as usize;
@@ -50,7 +51,7 @@ fn top_of(graph: &Graph, pairs: &[u32], a: u32) -> u32
     requires table { IsPairTable graph.now pairs.now }
     requires there { a < length graph.now.disks }
     ensures above { (b : ℕ) → b < length graph.now.disks → between a b graph.now.trips ≤ result }
-    ensures most { result ≤ 65536 }
+    ensures most { result ≤ MAX_ITEMS }
 {
     let mut top = 0;
     for b in 0..graph.disks() {

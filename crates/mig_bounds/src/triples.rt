@@ -1,4 +1,5 @@
-ghost use Rattle.std.specs.Prelude.{◌≡◌, ◌+◌, ◌<◌, ◌≤◌, ◌∷◌, [], length, IsTrue, ◌↔◌};
+//! The best triple.
+ghost use Rattle.std.specs.Prelude.{◌≡◌, ◌+◌, ◌*◌, ◌<◌, ◌≤◌, ◌∷◌, [], length, IsTrue, ◌↔◌};
 ghost use Rattle.mig_base.specs.Transfers.{inside, takes_part};
 ghost use Rattle.mig_base.specs.Bounding.{limit_sum};
 ghost use Rattle.mig_bounds.specs.Pairs.{IsPairTable, AreTops};
@@ -6,7 +7,7 @@ ghost use Rattle.mig_bounds.specs.Search.{IsBestSmall};
 
 use crate::best::{BestSmall, SmallSet};
 use crate::pairs::{is_too_little, pair};
-use mig_base::DiskId;
+use mig_base::{DiskId, MAX_ITEMS, MAX_LIMIT};
 use mig_graph::Graph;
 
 /// The first best triple, if it is better.
@@ -95,7 +96,7 @@ fn sum_of_three(graph: &Graph, a: u32, b: u32, c: u32) -> u32
     requires c_there { c < length graph.now.disks }
     ensures sum { result ≡ limit_sum graph.now (a ∷ b ∷ c ∷ []) }
     ensures least { 3 ≤ result }
-    ensures most { result ≤ 3072 }
+    ensures most { result ≤ 3 * MAX_LIMIT }
 {
     graph.limit(DiskId(a)) + graph.limit(DiskId(b)) + graph.limit(DiskId(c))
 }
@@ -107,7 +108,7 @@ pub fn inside_three(graph: &Graph, pairs: &[u32], a: u32, b: u32, c: u32) -> u32
     requires order_bc { b < c }
     requires there { c < length graph.now.disks }
     ensures inside { result ≡ inside (a ∷ b ∷ c ∷ []) graph.now.trips }
-    ensures most { result ≤ 65536 }
+    ensures most { result ≤ MAX_ITEMS }
 {
     pair(graph, pairs, a, b) + pair(graph, pairs, a, c) + pair(graph, pairs, b, c)
 }

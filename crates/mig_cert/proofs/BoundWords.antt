@@ -12,7 +12,7 @@ use Rattle.mig_base.proofs.Spelling.{lacks_test, same_place}
 use Rattle.mig_base.proofs.CertSpelling.{nothing_lacks, disk_words_lack}
 use Rattle.mig_text.proofs.LineWords.{words_of, line_is, words_are}
 use Rattle.mig_cert.specs.declared.bounds.Head.{Head}
-use Rattle.mig_cert.specs.BoundParts.{bound_words, head_of, limit_of}
+use Rattle.mig_cert.specs.BoundParts.{bound_words, line_of_head, limit_of}
 
 module _ (input : Lists) where
   pub line_of_words : (b : BoundLine) → words (bound_words input b) ≡ bound_line input b
@@ -46,10 +46,10 @@ module _ (input : Lists) (valid : IsInput input) where
       let x = bound_first input b in
       words_are line (codes "bound") x.0 (first_lack b fits) (e ∙ sym (line_of_words input b) ∙ ap words x.1) ∙ sym x.1
 
-  pub bound_read : (line : List ℕ) (o : Option Head) → MatchOption o ((b : BoundLine) → FitsLine input b → words_of line ≢ bound_words input b) (λ h. FitsLine input (head_of h) × (words_of line ≡ bound_words input (head_of h)))
-      → MatchOption o ((b : BoundLine) → FitsLine input b → line ≢ bound_line input b) (λ h. FitsLine input (head_of h) × (line ≡ bound_line input (head_of h)))
+  pub bound_read : (line : List ℕ) (o : Option Head) → MatchOption o ((b : BoundLine) → FitsLine input b → words_of line ≢ bound_words input b) (λ h. FitsLine input (line_of_head h) × (words_of line ≡ bound_words input (line_of_head h)))
+      → MatchOption o ((b : BoundLine) → FitsLine input b → line ≢ bound_line input b) (λ h. FitsLine input (line_of_head h) × (line ≡ bound_line input (line_of_head h)))
   bound_read line None m = λ b fits e. m b fits (bound_words_are line b fits e)
-  bound_read line (Some h) m = (m.0, line_is line _ m.1 ∙ line_of_words input (head_of h))
+  bound_read line (Some h) m = (m.0, line_is line _ m.1 ∙ line_of_words input (line_of_head h))
 
   -- a line is that of one bound
   same_bound_words : (a b : BoundLine) → FitsLine input a → FitsLine input b → bound_line input a ≡ bound_line input b → bound_words input a ≡ bound_words input b

@@ -2,6 +2,7 @@
 use Rattle.std.proofs.Common.{◌≤◌, ◌<◌, ◌^◌, ◌+◌, ◌*◌, ℕ, List, [], ◌∷◌, ◌++◌, length, codes, ap, arith}
 use Rattle.std.specs.Fmt.{decimal}
 use Rattle.std.proofs.lemmas.Fmt.{length-decimal-le}
+use Rattle.mig_base.specs.declared.limits.TheConstants.{MAX_FILE_BYTES}
 use Rattle.mig_base.specs.declared.ids.DiskId.{DiskId}
 use Rattle.mig_base.specs.declared.certs.Class.{Class}
 use Rattle.mig_base.specs.declared.certs.Class.TheVariants as class
@@ -84,5 +85,5 @@ module _ (input : Lists) (valid : IsInput input) where
         valid.few_disks,
       )
 
-pub short_text : (input : Lists) (cert : Cert) (bytes : List ℕ) → IsInput input → CertText input cert bytes → length bytes ≤ 16777216
+pub short_text : (input : Lists) (cert : Cert) (bytes : List ℕ) → IsInput input → CertText input cert bytes → length bytes ≤ MAX_FILE_BYTES
 short_text input cert bytes valid text = omega (arith, cert_length input valid cert bytes text)

@@ -1,6 +1,7 @@
 -- The lines of a certificate fit their places.
 use Rattle.std.proofs.Common.{◌≡◌, ℕ, suc, ◌+◌, ◌^◌, ◌<◌, ◌≤◌, List, [], ◌∷◌, ◌++◌, length, refl, sym, ap, subst, ◌∙◌, arith, codes, All, get_or, append_assoc, inl, inr}
 use Rattle.std.proofs.lemmas.Bool.{cases_lt}
+use Rattle.mig_base.specs.declared.limits.TheConstants.{MAX_DISKS, MAX_FILE_BYTES}
 use Rattle.mig_base.specs.declared.ids.DiskId.{DiskId}
 use Rattle.mig_base.specs.declared.certs.Bound.{Bound}
 use Rattle.mig_base.specs.declared.certs.Bound.TheVariants.{Nothing, OfDisk, OfSet}
@@ -74,7 +75,7 @@ module _ (input : Lists) (valid : IsInput input) where
   pub set_ascends : (b : Bound) → BoundFits (transfers input) b → IsDiskSet (bound_set b) → Ascends (length input.disks) 0 (bound_set b)
   set_ascends b fits set = ascends_from (length input.disks) (bound_set b) set (set_fits b fits)
 
-  pub few_in_set : (ds : List DiskId) → IsDiskSet ds → All (λ (d : DiskId). d.0 < length input.disks) ds → length ds ≤ 1024
+  pub few_in_set : (ds : List DiskId) → IsDiskSet ds → All (λ (d : DiskId). d.0 < length input.disks) ds → length ds ≤ MAX_DISKS
   few_in_set ds rising below = omega (arith, ascends_len (length input.disks) 0 ds (ascends_from (length input.disks) ds rising below) (omega arith), valid.few_disks)
 
   pub line_fits : (b : Bound) → BoundFits (transfers input) b → stated_load b < 2 ^ 32 → bound_value b < 2 ^ 32 → IsDiskSet (bound_set b) → FitsLine input (line_of b)
@@ -123,9 +124,9 @@ module _ (input : Lists) (valid : IsInput input) where
       subst (λ t. Leads (CertNext input) Title t Over) (sym (ap pieces text.lines ∙ pieces_of_lines (cert_lines input cert) (cert_lines_lack input valid cert text.kept (spelt input valid cert bytes text))))
       (cert_leads cert text.kept text.fits)
 
-  pub line_no_cert : (bytes : List ℕ) (n : ℕ) → IsLine (CertNext input) Title Over bytes n → (cert : Cert) → CertText input cert bytes → 16777216 < length bytes
+  pub line_no_cert : (bytes : List ℕ) (n : ℕ) → IsLine (CertNext input) Title Over bytes n → (cert : Cert) → CertText input cert bytes → MAX_FILE_BYTES < length bytes
   line_no_cert bytes n line cert text =
-      elim (cases_lt 16777216 (length bytes)) [
+      elim (cases_lt MAX_FILE_BYTES (length bytes)) [
         | inl long ↦ long
         | inr short ↦ absurd (no_misfit (CertNext input) one_next Title Over (pieces bytes) n (text_leads cert bytes text) (line.short short))
       ]

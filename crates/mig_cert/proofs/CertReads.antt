@@ -1,6 +1,7 @@
 -- The reading of a certificate, part by part.
 use Rattle.std.proofs.Common.{◌≡◌, ◌≢◌, ◌≤◌, ◌<◌, ◌^◌, ◌∷◌, ◌++◌, ℕ, List, [], length, codes, arith, ap, sym, refl, subst, ◌∙◌, Result, Ok, Err, IfOk, inl, inr}
 use Rattle.std.specs.Fmt.{decimal}
+use Rattle.mig_base.specs.declared.limits.TheConstants.{MAX_FILE_BYTES}
 use Rattle.mig_base.specs.declared.certs.Class.{Class}
 use Rattle.mig_base.specs.declared.certs.Bound.{Bound}
 use Rattle.mig_base.specs.declared.certs.Cert.{Cert}
@@ -16,7 +17,7 @@ use Rattle.mig_text.proofs.Stops.{took_one, took_next, miss_stops, later_stops}
 use Rattle.mig_text.proofs.PlanReads.{text_from_pieces}
 use Rattle.mig_cert.specs.Prints.{member_lines, opening_lines}
 use Rattle.mig_cert.specs.BoundParts.{IsBoundLine}
-use Rattle.mig_cert.specs.CertParts.{IsClassLine, IsOpened, IsBoundRead}
+use Rattle.mig_cert.specs.CertParts.{IsClassLine, IsCertOpened, IsBoundRead}
 use Rattle.mig_cert.proofs.CertPlaces.{ascends_from, members_lead, as_many, line_no_cert}
 
 abbrev title : List ℕ
@@ -60,7 +61,7 @@ module _ (input : Lists) where
   members_stop b old a e fits t s =
       later_stops (CertNext input) Shown (before_members (members_after b) 0) Over old a (bound_line input b ∷ []) e (before_members (members_after b) 0, ((b, (fits, refl, refl)), refl)) (took_one old a _ t) s
 
-  pub shown_stops : (r q : ℕ) (k : Class) (old a : Left) (e : TextError) → IsOpened r q k old a → IsStop (CertNext input) Shown Over a e → IsStop (CertNext input) Title Over old e
+  pub shown_stops : (r q : ℕ) (k : Class) (old a : Left) (e : TextError) → IsCertOpened r q k old a → IsStop (CertNext input) Shown Over a e → IsStop (CertNext input) Title Over old e
   shown_stops r q k old a e opened s = later_stops (CertNext input) Title Shown Over old a _ e (opening_leads r q k opened.few opened.small) opened.took s
 
   over_misses : (pieces : List (List ℕ)) → pieces ≢ [] → Stops (CertNext input) Over Over pieces
@@ -76,7 +77,7 @@ module _ (input : Lists) where
       later_stops (CertNext input) End Over Over old s.1.0 (codes "end" ∷ [] ∷ []) e (Last, ((refl, refl), (Over, ((refl, refl), refl)))) (took_next old s.0 s.1.0 (codes "end" ∷ []) [] (took_one old s.0 _ s.1.1.0) s.1.1.1)
       (subst (IsStop (CertNext input) Over Over s.1.0) (sym s.1.1.2) (1, (refl, record { before = []; after = s.1.0.pieces; place = Over; cut = refl; fit = refl; stops = over_misses s.1.0.pieces s.1.1.3; number = omega arith })))
 
-  pub closing_stops : (valid : IsInput input) (r q : ℕ) (k : Class) (bound : Bound) (old a b : Left) (e : TextError) → IsOpened r q k old a → IsBoundRead input bound a b → EndsWrong b e → IsStop (CertNext input) Title Over old e
+  pub closing_stops : (valid : IsInput input) (r q : ℕ) (k : Class) (bound : Bound) (old a b : Left) (e : TextError) → IsCertOpened r q k old a → IsBoundRead input bound a b → EndsWrong b e → IsStop (CertNext input) Title Over old e
   closing_stops valid r q k bound old a b e opened read wrong =
       let names : List (List ℕ) = member_lines input (bound_set bound) in
       let lead : Leads (CertNext input) (before_members (members_after (line_of bound)) 0) names End =
@@ -87,7 +88,7 @@ module _ (input : Lists) where
       (before_members (members_after (line_of bound)) 0, ((line_of bound, (read.line, refl, refl)), lead)) read.took (end_wrong_stops b e wrong))
 
 -- what a stop says of the whole text
-pub cert_line : (input : Lists) (bytes : List ℕ) (e : TextError) → IsInput input → length bytes ≤ 16777216 → IsStop (CertNext input) Title Over (record { taken = 0; pieces = pieces bytes }) e → IfLine (CertLine input bytes) e
+pub cert_line : (input : Lists) (bytes : List ℕ) (e : TextError) → IsInput input → length bytes ≤ MAX_FILE_BYTES → IsStop (CertNext input) Title Over (record { taken = 0; pieces = pieces bytes }) e → IfLine (CertLine input bytes) e
 cert_line input bytes text_error.Memory valid short s = tt
 cert_line input bytes (text_error.Line n) valid short s =
     let same : s.0 ≡ n = omega (arith, s.1.0) in

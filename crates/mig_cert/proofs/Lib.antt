@@ -4,4 +4,3 @@ pub mod CertPlaces
 pub mod CertReads
 pub mod MemberLists
 pub mod Printed
-pub mod SmallInputs

@@ -17,10 +17,10 @@ bound_words input (One v load value) = codes "bound" ∷ codes "disk" ∷ disk_n
 bound_words input (Many count inside value) = codes "bound" ∷ codes "set" ∷ decimal count ∷ decimal inside ∷ decimal value ∷ []
 
 -- the line that a head stands for
-abbrev pub head_of : Head → BoundLine
-head_of head.Nothing = Empty
-head_of (head.OfDisk disk load value) = One disk.0 load value
-head_of (head.OfSet count inside value) = Many count inside value
+abbrev pub line_of_head : Head → BoundLine
+line_of_head head.Nothing = Empty
+line_of_head (head.OfDisk disk load value) = One disk.0 load value
+line_of_head (head.OfSet count inside value) = Many count inside value
 
 -- the piece is the line of a bound that fits the input
 abbrev pub IsBoundLine : Lists → List ℕ → Type 0

@@ -15,7 +15,7 @@ abbrev pub IsClassLine : List ℕ → Type 0
 IsClassLine piece = (k : Class) × (piece ≡ words (codes "class" ∷ class_word k ∷ []))
 
 -- the first four lines were taken, and say this
-pub record IsOpened (rounds quotient : ℕ) (k : Class) (old new : Left) : Type 0 where
+pub record IsCertOpened (rounds quotient : ℕ) (k : Class) (old new : Left) : Type 0 where
   pub few : rounds < 2 ^ 32
   pub small : quotient < 2 ^ 32
   pub took : TookAll old (opening_lines rounds quotient (class_word k)) new

@@ -1,9 +1,10 @@
 -- How long the text of a certificate is.
 use Rattle.std.specs.Prelude.{ℕ, ◌≤◌, List, length}
+use Rattle.mig_base.specs.declared.limits.TheConstants.{MAX_FILE_BYTES}
 use Rattle.mig_base.specs.declared.certs.Cert.{Cert}
 use Rattle.mig_base.specs.InputLists.{Lists, IsInput}
 use Rattle.mig_base.specs.Texts.{CertText}
 
 -- the text of a certificate isn't too long to be read back
 abbrev pub CertTextsAreShort : Type 0
-CertTextsAreShort = (input : Lists) (cert : Cert) (bytes : List ℕ) → IsInput input → CertText input cert bytes → length bytes ≤ 16777216
+CertTextsAreShort = (input : Lists) (cert : Cert) (bytes : List ℕ) → IsInput input → CertText input cert bytes → length bytes ≤ MAX_FILE_BYTES

@@ -1,12 +1,13 @@
+//! The line of a bound.
 ghost use Rattle.std.specs.Prelude.{◌≡◌, ◌≢◌, ◌≤◌, ◌<◌, ◌^◌, ◌∷◌, ℕ, List, [], codes, length, IfErr, IfOk, MatchOption};
 ghost use Rattle.std.specs.Fmt.{decimal};
 ghost use Rattle.mig_base.specs.CertLines.{FitsLine};
 ghost use Rattle.mig_base.specs.InputLists.{IsInput};
 ghost use Rattle.mig_base.specs.Texts.{BoundLine, bound_line, disk_name};
 ghost use Rattle.mig_text.specs.Reads.{IsMiss, Took};
-ghost use Rattle.mig_cert.specs.BoundParts.{bound_words, head_of, IsBoundLine, limit_of};
+ghost use Rattle.mig_cert.specs.BoundParts.{bound_words, line_of_head, IsBoundLine, limit_of};
 
-use mig_base::DiskId;
+use mig_base::{DiskId, MAX_DISKS};
 use mig_text::{Finder, Lines, Parts, TextError, is_number, last_number, read_number};
 
 /// What the line of a bound says: all but the disks of a set.
@@ -19,7 +20,7 @@ pub(crate) enum Head {
 
 /// Takes the line of a bound.
 pub(crate) fn take_head(lines: &mut Lines<'_>, finder: &Finder<'_>) -> Result<Head, TextError>
-    ensures ok { IfOk result (λ h. FitsLine finder.now (head_of h) × Took lines.old (bound_line finder.now (head_of h)) lines.new) }
+    ensures ok { IfOk result (λ h. FitsLine finder.now (line_of_head h) × Took lines.old (bound_line finder.now (line_of_head h)) lines.new) }
     ensures err { IfErr result (IsMiss (IsBoundLine finder.now) lines.old) }
 {
     match read_head(finder, lines.take_line()?) {
@@ -28,19 +29,19 @@ pub(crate) fn take_head(lines: &mut Lines<'_>, finder: &Finder<'_>) -> Result<He
     }
 }
 
-// What a line of a bound says.
+/// What a line of a bound says.
 fn read_head(finder: &Finder<'_>, line: &[u8]) -> Option<Head>
     ensures { MatchOption result ((b : BoundLine) → FitsLine finder.now b → line.now ≢ bound_line finder.now b)
-        (λ h. FitsLine finder.now (head_of h) × (line.now ≡ bound_line finder.now (head_of h))) }
+        (λ h. FitsLine finder.now (line_of_head h) × (line.now ≡ bound_line finder.now (line_of_head h))) }
 {
-    let _input = finder.input();
+    finder.keeps_rules();
     bound_of(finder, Parts::of(line, b' '))
 }
 
-// The same of the line's words.
+/// The same of the line's words.
 fn bound_of(finder: &Finder<'_>, mut parts: Parts<'_>) -> Option<Head>
     ensures { MatchOption result ((b : BoundLine) → FitsLine finder.now b → parts.entry ≢ bound_words finder.now b)
-        (λ h. FitsLine finder.now (head_of h) × (parts.entry ≡ bound_words finder.now (head_of h))) }
+        (λ h. FitsLine finder.now (line_of_head h) × (parts.entry ≡ bound_words finder.now (line_of_head h))) }
 {
     if parts.take_part()? != b"bound".as_slice() {
         return None;
@@ -58,10 +59,10 @@ fn bound_of(finder: &Finder<'_>, mut parts: Parts<'_>) -> Option<Head>
     None
 }
 
-// The same of the words after `bound nothing`.
+/// The same of the words after `bound nothing`.
 fn nothing_of(finder: &Finder<'_>, parts: Parts<'_>) -> Option<Head>
     ensures { MatchOption result ((b : BoundLine) → FitsLine finder.now b → codes "bound" ∷ codes "nothing" ∷ parts.entry ≢ bound_words finder.now b)
-        (λ h. FitsLine finder.now (head_of h) × (codes "bound" ∷ codes "nothing" ∷ parts.entry ≡ bound_words finder.now (head_of h))) }
+        (λ h. FitsLine finder.now (line_of_head h) × (codes "bound" ∷ codes "nothing" ∷ parts.entry ≡ bound_words finder.now (line_of_head h))) }
 {
     if parts.is_done() {
         Some(Head::Nothing)
@@ -70,19 +71,19 @@ fn nothing_of(finder: &Finder<'_>, parts: Parts<'_>) -> Option<Head>
     }
 }
 
-// The same of the words after `bound disk`.
+/// The same of the words after `bound disk`.
 fn disk_of(finder: &Finder<'_>, parts: Parts<'_>) -> Option<Head>
     ensures { MatchOption result ((b : BoundLine) → FitsLine finder.now b → codes "bound" ∷ codes "disk" ∷ parts.entry ≢ bound_words finder.now b)
-        (λ h. FitsLine finder.now (head_of h) × (codes "bound" ∷ codes "disk" ∷ parts.entry ≡ bound_words finder.now (head_of h))) }
+        (λ h. FitsLine finder.now (line_of_head h) × (codes "bound" ∷ codes "disk" ∷ parts.entry ≡ bound_words finder.now (line_of_head h))) }
 {
     let (disk, load, value) = disk_fields(finder, parts)?;
     Some(Head::OfDisk { disk, load, value })
 }
 
-// The same of the words after `bound set`.
+/// The same of the words after `bound set`.
 fn set_of(finder: &Finder<'_>, parts: Parts<'_>) -> Option<Head>
     ensures { MatchOption result ((b : BoundLine) → FitsLine finder.now b → codes "bound" ∷ codes "set" ∷ parts.entry ≢ bound_words finder.now b)
-        (λ h. FitsLine finder.now (head_of h) × (codes "bound" ∷ codes "set" ∷ parts.entry ≡ bound_words finder.now (head_of h))) }
+        (λ h. FitsLine finder.now (line_of_head h) × (codes "bound" ∷ codes "set" ∷ parts.entry ≡ bound_words finder.now (line_of_head h))) }
 {
     let (count, inside, value) = set_fields(parts)?;
     Some(Head::OfSet {
@@ -92,7 +93,7 @@ fn set_of(finder: &Finder<'_>, parts: Parts<'_>) -> Option<Head>
     })
 }
 
-// NAME, LOAD and VALUE of `NAME LOAD LIMIT VALUE`.
+/// NAME, LOAD and VALUE of `NAME LOAD LIMIT VALUE`.
 fn disk_fields(finder: &Finder<'_>, mut parts: Parts<'_>) -> Option<(DiskId, u32, u32)>
     ensures { MatchOption result
         ((d : ℕ) (load : ℕ) (value : ℕ) → d < length finder.now.disks → load < 2 ^ 32 → value < 2 ^ 32
@@ -109,7 +110,7 @@ fn disk_fields(finder: &Finder<'_>, mut parts: Parts<'_>) -> Option<(DiskId, u32
     Some((disk, load, value))
 }
 
-// The limit of a disk.
+/// The limit of a disk.
 fn limit_of(finder: &Finder<'_>, disk: DiskId) -> u32
     requires { disk.0 < length finder.now.disks }
     ensures limit { result ≡ limit_of finder.now disk.0 }
@@ -118,13 +119,13 @@ fn limit_of(finder: &Finder<'_>, disk: DiskId) -> u32
     finder.input().disks()[disk.0 as usize].limit
 }
 
-// COUNT, INSIDE and VALUE.
+/// COUNT, INSIDE and VALUE.
 fn set_fields(mut parts: Parts<'_>) -> Option<(u32, u32, u32)>
     ensures { MatchOption result
-        ((count : ℕ) (inside : ℕ) (value : ℕ) → count ≤ 1024 → inside < 2 ^ 32 → value < 2 ^ 32 → parts.entry ≢ decimal count ∷ decimal inside ∷ decimal value ∷ [])
-        (λ r. (r.0 ≤ 1024) × (r.1 < 2 ^ 32) × (r.2 < 2 ^ 32) × (parts.entry ≡ decimal r.0 ∷ decimal r.1 ∷ decimal r.2 ∷ [])) }
+        ((count : ℕ) (inside : ℕ) (value : ℕ) → count ≤ MAX_DISKS → inside < 2 ^ 32 → value < 2 ^ 32 → parts.entry ≢ decimal count ∷ decimal inside ∷ decimal value ∷ [])
+        (λ r. (r.0 ≤ MAX_DISKS) × (r.1 < 2 ^ 32) × (r.2 < 2 ^ 32) × (parts.entry ≡ decimal r.0 ∷ decimal r.1 ∷ decimal r.2 ∷ [])) }
 {
-    let count = read_number(parts.take_part()?, 1024)?;
+    let count = read_number(parts.take_part()?, MAX_DISKS as u32)?;
     let inside = read_number(parts.take_part()?, u32::MAX)?;
     let value = last_number(parts, u32::MAX)?;
     Some((count, inside, value))

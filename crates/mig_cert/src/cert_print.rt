@@ -1,3 +1,4 @@
+//! The text of a certificate.
 ghost use Rattle.std.specs.Prelude.{◌≡◌, ◌<◌, ◌^◌, ◌++◌, ◌∷◌, [], All, length, codes, IfOk, OnOk};
 ghost use Rattle.mig_base.specs.declared.ids.DiskId.{DiskId};
 ghost use Rattle.mig_base.specs.Bounding.{BoundFits, bound_value, stated_load};
@@ -24,7 +25,7 @@ pub fn print_cert(alloc: Global, input: &Input, cert: &Cert) -> Result<Vec<u8>, 
     Ok(out)
 }
 
-// Adds the first four lines.
+/// Adds the first four lines.
 fn push_opening(out: &mut Vec<u8>, cert: &Cert) -> Result<(), AllocError>
     ensures text { OnOk result (out.new.items ≡ out.old.items ++ opening_text cert.now) }
     ensures rounds { cert.now.rounds < 2 ^ 32 }
@@ -39,7 +40,7 @@ fn push_opening(out: &mut Vec<u8>, cert: &Cert) -> Result<(), AllocError>
     Ok(())
 }
 
-// Adds the line of a class.
+/// Adds the line of a class.
 fn push_class(out: &mut Vec<u8>, class: Class) -> Result<(), AllocError>
     ensures { OnOk result (out.new.items ≡ out.old.items ++ (words (codes "class" ∷ class_word class ∷ []) ++ 10 ∷ [])) }
 {
@@ -49,7 +50,7 @@ fn push_class(out: &mut Vec<u8>, class: Class) -> Result<(), AllocError>
     }
 }
 
-// Adds the lines of a bound.
+/// Adds the lines of a bound.
 fn push_bound(out: &mut Vec<u8>, input: &Input, bound: &Bound) -> Result<(), AllocError>
     requires { BoundFits (transfers input.now) bound.now }
     ensures text { OnOk result (out.new.items ≡ out.old.items ++ bound_text input.now bound.now) }
@@ -65,7 +66,7 @@ fn push_bound(out: &mut Vec<u8>, input: &Input, bound: &Bound) -> Result<(), All
             inside,
             value,
         } => {
-            let _disks = input.disks();
+            input.keeps_rules();
             let ids = disks.ids();
             push_set_line(out, ids.len() as u32, *inside, *value)?;
             push_members(out, input, ids)
@@ -73,7 +74,7 @@ fn push_bound(out: &mut Vec<u8>, input: &Input, bound: &Bound) -> Result<(), All
     }
 }
 
-// Adds `bound disk NAME LOAD LIMIT VALUE`.
+/// Adds `bound disk NAME LOAD LIMIT VALUE`.
 fn push_disk_line(
     out: &mut Vec<u8>,
     input: &Input,
@@ -92,7 +93,7 @@ fn push_disk_line(
     push_last_number(out, value)
 }
 
-// Adds `bound set COUNT INSIDE VALUE`.
+/// Adds `bound set COUNT INSIDE VALUE`.
 fn push_set_line(out: &mut Vec<u8>, count: u32, inside: u32, value: u32) -> Result<(), AllocError>
     ensures { OnOk result (out.new.items ≡ out.old.items ++ (codes "bound set" ++ (blank_number count ++ (blank_number inside ++ (blank_number value ++ 10 ∷ []))))) }
 {
@@ -102,7 +103,7 @@ fn push_set_line(out: &mut Vec<u8>, count: u32, inside: u32, value: u32) -> Resu
     push_last_number(out, value)
 }
 
-// Adds a blank and a number.
+/// Adds a blank and a number.
 fn push_blank_number(out: &mut Vec<u8>, number: u32) -> Result<(), AllocError>
     ensures { OnOk result (out.new.items ≡ out.old.items ++ blank_number number) }
 {
@@ -110,7 +111,7 @@ fn push_blank_number(out: &mut Vec<u8>, number: u32) -> Result<(), AllocError>
     push_number(out, number)
 }
 
-// The same at the end of a line.
+/// The same at the end of a line.
 fn push_last_number(out: &mut Vec<u8>, number: u32) -> Result<(), AllocError>
     ensures { OnOk result (out.new.items ≡ out.old.items ++ (blank_number number ++ 10 ∷ [])) }
 {
@@ -119,7 +120,7 @@ fn push_last_number(out: &mut Vec<u8>, number: u32) -> Result<(), AllocError>
     Ok(())
 }
 
-// Adds a line for each disk of a set.
+/// Adds a line for each disk of a set.
 fn push_members(out: &mut Vec<u8>, input: &Input, disks: &[DiskId]) -> Result<(), AllocError>
     requires { All (λ (d : DiskId). d.0 < length input.now.disks) disks.now }
     ensures { OnOk result (out.new.items ≡ out.old.items ++ text_of_lines (member_lines input.now disks.now)) }

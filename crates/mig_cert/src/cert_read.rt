@@ -1,3 +1,4 @@
+//! Reading the text of a certificate.
 ghost use Rattle.std.specs.Prelude.{◌≡◌, ◌≢◌, ◌≤◌, ◌++◌, ◌∷◌, [], codes, length, IfErr, IfOk, MatchOption};
 ghost use Rattle.mig_base.specs.declared.certs.Class.{Class};
 ghost use Rattle.mig_base.specs.Certificates.{CertFits};
@@ -5,11 +6,11 @@ ghost use Rattle.mig_base.specs.CertLines.{before_members, CertLine, CertNext, O
 ghost use Rattle.mig_base.specs.InputLists.{Lists};
 ghost use Rattle.mig_base.specs.Texts.{cert_lines, CertText, class_word, IsCert, words};
 ghost use Rattle.mig_text.specs.Reads.{IfLine, IsMiss, IsStop, Took};
-ghost use Rattle.mig_cert.specs.CertParts.{IsBoundRead, IsClassLine, IsOpened};
+ghost use Rattle.mig_cert.specs.CertParts.{IsBoundRead, IsClassLine, IsCertOpened};
 
 use crate::bounds::{Head, take_head};
 use crate::members::take_members;
-use mig_base::{Bound, Cert, Class, DiskSet, Input};
+use mig_base::{Bound, Cert, Class, DiskSet, Input, MAX_FILE_BYTES};
 use mig_text::{Finder, Lines, TextError};
 use std::alloc::Global;
 
@@ -19,24 +20,24 @@ use std::alloc::Global;
 /// number of the first line that doesn't fit, or 0 where they are too many.
 pub fn read_cert(alloc: Global, input: &Input, bytes: &[u8]) -> Result<Cert, TextError>
     ensures cert { IfOk result (λ cert. CertText input.now cert bytes.now) }
-    ensures short { IfOk result (λ _. length bytes.now ≤ 16777216) }
+    ensures short { IfOk result (λ _. length bytes.now ≤ MAX_FILE_BYTES) }
     ensures line { IfErr result (IfLine (CertLine input.now bytes.now)) }
 {
-    if bytes.len() > 16_777_216 {
+    if bytes.len() > MAX_FILE_BYTES {
         return Err(TextError::Line { number: 0 });
     }
     let finder = Finder::of(alloc, input)?;
     read_lines(alloc, &finder, Lines::of(bytes))
 }
 
-// The certificate whose lines these are.
+/// The certificate whose lines these are.
 fn read_lines(alloc: Global, finder: &Finder<'_>, mut lines: Lines<'_>) -> Result<Cert, TextError>
     ensures kept { IfOk result IsCert }
     ensures fits { IfOk result (CertFits finder.now) }
     ensures lines { IfOk result (λ cert. lines.entry.pieces ≡ cert_lines finder.now cert ++ [] ∷ []) }
     ensures line { IfErr result (IsStop (CertNext finder.now) Title Over lines.entry) }
 {
-    let _input = finder.input();
+    finder.keeps_rules();
     let opening = take_opening(&mut lines)?;
     let bound = take_bound(alloc, &mut lines, finder)?;
     lines.take_closing()?;
@@ -48,7 +49,7 @@ fn read_lines(alloc: Global, finder: &Finder<'_>, mut lines: Lines<'_>) -> Resul
     })
 }
 
-// What the first four lines say.
+/// What the first four lines say.
 #[derive(Clone, Copy)]
 struct Opening {
     rounds: u32,
@@ -56,8 +57,9 @@ struct Opening {
     class: Class,
 }
 
+/// Takes the first four lines.
 fn take_opening(lines: &mut Lines<'_>) -> Result<Opening, TextError>
-    ensures ok { IfOk result (λ o. IsOpened o.rounds o.quotient o.class lines.old lines.new) }
+    ensures ok { IfOk result (λ o. IsCertOpened o.rounds o.quotient o.class lines.old lines.new) }
     ensures line { IfErr result (λ e. (input : Lists) → IsStop (CertNext input) Title Over lines.old e) }
 {
     lines.take_fixed(b"migration-certificate 1")?;
@@ -71,7 +73,7 @@ fn take_opening(lines: &mut Lines<'_>) -> Result<Opening, TextError>
     })
 }
 
-// Takes the line of a class.
+/// Takes the line of a class.
 fn take_class(lines: &mut Lines<'_>) -> Result<Class, TextError>
     ensures ok { IfOk result (λ k. Took lines.old (words (codes "class" ∷ class_word k ∷ [])) lines.new) }
     ensures err { IfErr result (IsMiss IsClassLine lines.old) }
@@ -82,6 +84,7 @@ fn take_class(lines: &mut Lines<'_>) -> Result<Class, TextError>
     }
 }
 
+/// The class that a line spells.
 fn read_class(line: &[u8]) -> Option<Class>
     ensures { MatchOption result ((k : Class) → line.now ≢ words (codes "class" ∷ class_word k ∷ []))
         (λ k. line.now ≡ words (codes "class" ∷ class_word k ∷ [])) }
@@ -95,7 +98,7 @@ fn read_class(line: &[u8]) -> Option<Class>
     None
 }
 
-// Takes the line of a bound and the names of its set's disks.
+/// Takes the line of a bound and the names of its set's disks.
 fn take_bound(alloc: Global, lines: &mut Lines<'_>, finder: &Finder<'_>) -> Result<Bound, TextError>
     ensures ok { IfOk result (λ bound. IsBoundRead finder.now bound lines.old lines.new) }
     ensures line { IfErr result (IsStop (CertNext finder.now) Shown Over lines.old) }

@@ -10,6 +10,3 @@ mod members;
 pub use cert_print::print_cert;
 pub use cert_read::read_cert;
 pub use laws::cert_texts_are_short;
-
-#[cfg(test)]
-mod tests;

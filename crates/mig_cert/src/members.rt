@@ -1,3 +1,4 @@
+//! The disks of a bound's set.
 ghost use Rattle.std.specs.Prelude.{◌≡◌, ◌≢◌, ◌≤◌, ◌<◌, ℕ, length, IfErr, IfOk, MatchOption};
 ghost use Rattle.mig_base.specs.CertLines.{before_members, CertNext, Over};
 ghost use Rattle.mig_base.specs.Texts.{disk_name};
@@ -5,7 +6,7 @@ ghost use Rattle.mig_text.specs.Reads.{IsMiss, IsStop, Took};
 ghost use Rattle.mig_cert.specs.BoundParts.{IsMemberLine};
 ghost use Rattle.mig_cert.specs.MemberParts.{AreMembersRead};
 
-use mig_base::DiskId;
+use mig_base::{DiskId, MAX_DISKS};
 use mig_text::{Finder, Lines, TextError};
 use std::alloc::Global;
 
@@ -31,20 +32,20 @@ pub(crate) fn take_members(
     Ok(ids)
 }
 
-// Takes the name of the disk numbered `from` or a later one.
+/// Takes the name of the disk numbered `from` or a later one.
 fn take_member(lines: &mut Lines<'_>, finder: &Finder<'_>, from: u32) -> Result<DiskId, TextError>
     ensures ok { IfOk result (λ d. (from ≤ d.0) × (d.0 < length finder.now.disks) × Took lines.old (disk_name finder.now d.0) lines.new) }
     ensures err { IfErr result (IsMiss (IsMemberLine finder.now from) lines.old) }
-    ensures few { length finder.now.disks ≤ 1024 }
+    ensures few { length finder.now.disks ≤ MAX_DISKS }
 {
-    let _disks = finder.input().disks();
+    finder.keeps_rules();
     match member_of(finder, lines.take_line()?, from) {
         Some(disk) => Ok(disk),
         None => Err(lines.misfit()),
     }
 }
 
-// The disk numbered `from` or a later one with this name.
+/// The disk numbered `from` or a later one with this name.
 fn member_of(finder: &Finder<'_>, line: &[u8], from: u32) -> Option<DiskId>
     ensures { MatchOption result ((d : ℕ) → from ≤ d → d < length finder.now.disks → line.now ≢ disk_name finder.now d)
         (λ d. (from ≤ d.0) × (d.0 < length finder.now.disks) × (line.now ≡ disk_name finder.now d.0)) }

@@ -15,10 +15,10 @@ use Rattle.mig_base.specs.Transfers.{is_relocated, transfers}
 use Rattle.mig_base.specs.Bounding.{quotient, class_of, stated_load, counted_load}
 use Rattle.mig_base.specs.Layouts.{Layout, At, IsListOf, round_at}
 use Rattle.mig_base.specs.Running.{IsArrivedAt, IsLegal, Once, Runs, shift_count}
-use Rattle.mig_base.specs.Judging.{IsLeast, IsSo, order, FirstBlame, IsMovedTooOften}
+use Rattle.mig_base.specs.Judging.{IsLeast, IsSo, order, FirstBlame, IsFirstOfPlan, IsMovedTooOften, IsRunBlame}
 use Rattle.mig_base.specs.Checks.{IsClear, RoundBlame}
 use Rattle.mig_base.proofs.BlameOrder.{later, clear_from_rounds}
-use Rattle.mig_check.specs.Faults.{IsCertBlame, IsFirstOfPlan, IsOnceBlame, IsRunBlame}
+use Rattle.mig_check.specs.Faults.{IsCertBlame, IsOnceBlame}
 use Rattle.mig_check.specs.Tables.{layout_of}
 
 -- each round can be carried out, and what has a number below n is right

@@ -5,6 +5,5 @@ pub mod LayoutLists
 pub mod MoveCounts
 pub mod Repeats
 pub mod Rooms
-pub mod SmallInputs
 pub mod SpotOrder
 pub mod TakenSpots

@@ -8,6 +8,7 @@ use Rattle.std.specs.Int as Int
 use Rattle.std.specs.Ordering.{ord_max, nat_cmp}
 use Rattle.std.proofs.lemmas.List.FromFn.{length-range_with_len, map-range_with_len_more, sum_by-map-range_with_len_more}
 use Rattle.std.proofs.lemmas.List.Sums.{count_by-le-length, fold-append, sum_by-append, sum_by-cons}
+use Rattle.mig_base.specs.declared.limits.TheConstants.{MAX_LIMIT}
 use Rattle.mig_base.specs.declared.inputs.Disk.{Disk}
 use Rattle.mig_base.specs.declared.ids.DiskId.{DiskId}
 use Rattle.mig_base.specs.declared.ids.Spot.{Spot}
@@ -20,7 +21,7 @@ use Rattle.mig_base.specs.Bounding.{IsEven, class_of, disk_value, greatest, has,
 use Rattle.mig_base.proofs.Counting.{count_by-filter, one, sum_by-map}
 use Rattle.mig_base.proofs.Rounds.{spot_disk}
 use Rattle.mig_base.proofs.Evenness.{class_is_even}
-use Rattle.mig_check.specs.Counts.{AreLoads, passing}
+use Rattle.mig_check.specs.Counts.{AreLoadsOf, passing}
 use Rattle.mig_check.proofs.Rooms.{either}
 
 -- one item more
@@ -60,7 +61,7 @@ pub no_more : (r p : Bool) (new old : ℕ) → r ≡ p → r ≡ false → new �
 no_more r p new old same not' step = let e : one p ≡ 0 = ap one (sym same ∙ not') in omega (arith, step, e)
 
 -- the rounds that a disk needs, as the code counts them
-pub need_is : (input : Lists) (loads : List ℕ) (disks : List Disk) (v need : ℕ) (disk : Disk) → AreLoads input loads → disks ≡ input.disks → v < length disks → disk ≡ get_or disks v disk → need ≡ Int.div_ceil (get_or loads v 0) disk.limit → need ≡ disk_value (transfers input) v
+pub need_is : (input : Lists) (loads : List ℕ) (disks : List Disk) (v need : ℕ) (disk : Disk) → AreLoadsOf input loads → disks ≡ input.disks → v < length disks → disk ≡ get_or disks v disk → need ≡ Int.div_ceil (get_or loads v 0) disk.limit → need ≡ disk_value (transfers input) v
 need_is input loads disks v need disk are same there is h =
     let within : v < length input.disks = omega (arith, there, ap (λ (d : List Disk). length d) same) in
     let e : disk.limit ≡ limit (transfers input) v = ap (λ (d : Disk). d.limit) (is ∙ get_or_default disks v disk no_disk there ∙ ap (λ (d : List Disk). get_or d v no_disk) same) in
@@ -101,9 +102,9 @@ limit_sum_more graph set i d there =
 pub record SumStep (input : Lists) (items : List DiskId) (i sum : ℕ) : Type 0 where
   pub fits : sum < 2 ^ 32
   pub is : sum ≡ limit_sum (transfers input) (numbers (take (i + 1) items))
-  pub most : sum ≤ (i + 1) * 1024
+  pub most : sum ≤ (i + 1) * MAX_LIMIT
 
-pub sum_step : (input : Lists) (set items : List DiskId) (disks : List Disk) (i old : ℕ) (d : DiskId) (e : Disk) → IsInput input → disks ≡ input.disks → items ≡ set → All (λ disk. disk.0 < length input.disks) set → IsDiskSet set → i < length items → old ≡ limit_sum (transfers input) (numbers (take i items)) → old ≤ i * 1024
+pub sum_step : (input : Lists) (set items : List DiskId) (disks : List Disk) (i old : ℕ) (d : DiskId) (e : Disk) → IsInput input → disks ≡ input.disks → items ≡ set → All (λ disk. disk.0 < length input.disks) set → IsDiskSet set → i < length items → old ≡ limit_sum (transfers input) (numbers (take i items)) → old ≤ i * MAX_LIMIT
     → SumStep input items i (old + (get_or disks (get_or items i d).0 e).limit)
 sum_step input set items disks i old d e valid same_disks same_items there increasing within is most =
     let n = (get_or items i d).0 in

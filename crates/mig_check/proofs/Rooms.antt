@@ -7,7 +7,7 @@ use Rattle.std.proofs.lemmas.Bool.Decides.{nat_tests}
 use Rattle.mig_base.specs.declared.ids.Spot.{Spot}
 use Rattle.mig_base.specs.declared.inputs.Disk.{Disk}
 use Rattle.mig_base.specs.declared.ids.Shift.{Shift}
-use Rattle.mig_check.specs.Tables.{SpotSet, same_spot, LacksRoom, HaveRoom}
+use Rattle.mig_check.specs.Tables.{SpotSet, same_spot, LacksSlotIn, HaveRoom}
 
 spot_by : (s t : Spot) → s.disk.0 ≡ t.disk.0 → s.slot ≡ t.slot → s ≡ t
 spot_by s t e f = ap (λ (n : ℕ). let x : Spot = record { disk = record { 0 = n }; slot = s.slot } in x) e ∙ ap (λ (n : ℕ). let x : Spot = record { disk = t.disk; slot = n } in x) f
@@ -68,11 +68,11 @@ HaveRoom-more disks taken round i now after slot free adds r =
       ];
     }
 
-FirstShift-here : (disks : List Disk) (taken now : SpotSet) (round : List Shift) (i : ℕ) → i < length round → LacksRoom disks taken round i → HaveRoom disks taken round i now → IsFirstShift round (LacksRoom disks taken round) (shift_at round i).item.0
+FirstShift-here : (disks : List Disk) (taken now : SpotSet) (round : List Shift) (i : ℕ) → i < length round → LacksSlotIn disks taken round i → HaveRoom disks taken round i now → IsFirstShift round (LacksSlotIn disks taken round) (shift_at round i).item.0
 FirstShift-here disks taken now round i within lacks r = (i, within, record { holds = lacks; least = λ k l bad. elim bad [ inl none ↦ none (r.slots k l) | inr rest ↦ elim rest [ inl t ↦ not_both (taken (shift_at round k).to) t (r.free k l) | inr w ↦ r.apart w.0 k w.1 l w.2 ] ] }, refl)
 
-pub FirstShift-no_slot : (disks : List Disk) (taken now : SpotSet) (round : List Shift) (i : ℕ) → i < length round → ¬ IsSpotOf disks (shift_at round i).to → HaveRoom disks taken round i now → IsFirstShift round (LacksRoom disks taken round) (shift_at round i).item.0
+pub FirstShift-no_slot : (disks : List Disk) (taken now : SpotSet) (round : List Shift) (i : ℕ) → i < length round → ¬ IsSpotOf disks (shift_at round i).to → HaveRoom disks taken round i now → IsFirstShift round (LacksSlotIn disks taken round) (shift_at round i).item.0
 FirstShift-no_slot disks taken now round i within none r = FirstShift-here disks taken now round i within (inl none) r
 
-pub FirstShift-taken : (disks : List Disk) (taken now : SpotSet) (round : List Shift) (i : ℕ) → i < length round → now (shift_at round i).to ≡ true → HaveRoom disks taken round i now → IsFirstShift round (LacksRoom disks taken round) (shift_at round i).item.0
+pub FirstShift-taken : (disks : List Disk) (taken now : SpotSet) (round : List Shift) (i : ℕ) → i < length round → now (shift_at round i).to ≡ true → HaveRoom disks taken round i now → IsFirstShift round (LacksSlotIn disks taken round) (shift_at round i).item.0
 FirstShift-taken disks taken now round i within was r = FirstShift-here disks taken now round i within (elim (r.only (shift_at round i).to was) [ inl t ↦ inr (inl t) | inr w ↦ inr (inr w) ]) r

@@ -9,16 +9,16 @@ use Rattle.std.proofs.lemmas.Option.{slice_get-get_or, slice_get_within, get_or_
 use Rattle.mig_base.specs.declared.ids.Spot.{Spot}
 use Rattle.mig_base.specs.declared.ids.Shift.{Shift}
 use Rattle.mig_base.specs.InputLists.{Lists}
-use Rattle.mig_base.specs.Layouts.{Layout, IsTaken, after_shifts}
+use Rattle.mig_base.specs.Layouts.{IsLayout, Layout, IsTaken, after_shifts}
 use Rattle.mig_base.specs.Running.{IsLegal, IsFree}
 use Rattle.mig_base.specs.Judging.{IsFirstShift, LacksSlot, no_shift, shift_at}
 use Rattle.mig_base.specs.Checks.{Passes, Free}
-use Rattle.mig_base.proofs.Rounds.{IsLayout, in_some, moved_cases, leaves, at_target, target_free}
-use Rattle.mig_check.specs.Tables.{SpotSet, AreTaken, HaveRoom, LacksRoom, is_source, layout_of, same_spot}
+use Rattle.mig_base.proofs.Rounds.{in_some, moved_cases, leaves, at_target, target_free}
+use Rattle.mig_check.specs.Tables.{SpotSet, IsTakenSet, HaveRoom, LacksSlotIn, is_source, layout_of, same_spot}
 use Rattle.mig_check.proofs.Rooms.{either, not_both, spot_is, spot_itself}
 
 -- all spots of a list
-pub list_taken : (taken : SpotSet) (spots : List Spot) (i : ℕ) → i ≡ length spots → ((t : Spot) → taken t ≡ list_any (λ s. same_spot s t) (take i spots)) → AreTaken taken (layout_of spots)
+pub list_taken : (taken : SpotSet) (spots : List Spot) (i : ℕ) → i ≡ length spots → ((t : Spot) → taken t ≡ list_any (λ s. same_spot s t) (take i spots)) → IsTakenSet taken (layout_of spots)
 list_taken taken spots i whole has t = (known, held)
   where
     is : taken t ≡ list_any (λ s. same_spot s t) spots
@@ -31,14 +31,14 @@ list_taken taken spots i whole has t = (known, held)
     held : IsTaken (layout_of spots) t → taken t ≡ true
     held w = is ∙ list_any-from_Any (λ s. same_spot s t) spots (w.0, t, slice_get_within spots w.0 t w.1, get_or_from_slice_get spots w.0 t t w.1, spot_itself t)
 
-module _ (input : Lists) (layout : Layout) (taken : SpotSet) (round : List Shift) (are : AreTaken taken layout) where
-  up : (k : ℕ) → LacksRoom input.disks taken round k → LacksSlot input layout round k
+module _ (input : Lists) (layout : Layout) (taken : SpotSet) (round : List Shift) (are : IsTakenSet taken layout) where
+  up : (k : ℕ) → LacksSlotIn input.disks taken round k → LacksSlot input layout round k
   up k h = elim h [ inl none ↦ inl none | inr rest ↦ elim rest [ inl t ↦ inr (inl ((are (shift_at round k).to).0 t)) | inr w ↦ inr (inr w) ] ]
 
-  down : (k : ℕ) → LacksSlot input layout round k → LacksRoom input.disks taken round k
+  down : (k : ℕ) → LacksSlot input layout round k → LacksSlotIn input.disks taken round k
   down k h = elim h [ inl none ↦ inl none | inr rest ↦ elim rest [ inl t ↦ inr (inl ((are (shift_at round k).to).1 t)) | inr w ↦ inr (inr w) ] ]
 
-  pub room_blame : (item : ℕ) → IsFirstShift round (LacksRoom input.disks taken round) item → IsFirstShift round (LacksSlot input layout round) item
+  pub room_blame : (item : ℕ) → IsFirstShift round (LacksSlotIn input.disks taken round) item → IsFirstShift round (LacksSlot input layout round) item
   room_blame item f = (f.0, f.1, record { holds = up f.0 f.2.holds; least = λ k l bad. f.2.least k l (down k bad) }, f.3)
 
   pub room_free : (filled : SpotSet) → HaveRoom input.disks taken round (length round) filled → Passes input layout round Free
@@ -60,7 +60,7 @@ both_true : (b c : Bool) → (not b && c) ≡ true → (b ≡ false) × (c ≡ t
 both_true true c h = absurd (false≢true h)
 both_true false c h = (refl, h)
 
-module _ (input : Lists) (layout : Layout) (round : List Shift) (legal : IsLegal input layout round) (is : IsLayout input layout) (taken filled freed : SpotSet) (are : AreTaken taken layout) (room : HaveRoom input.disks taken round (length round) filled) (after : (t : Spot) → freed t ≡ (not (is_source round t) && filled t)) where
+module _ (input : Lists) (layout : Layout) (round : List Shift) (legal : IsLegal input layout round) (is : IsLayout input layout) (taken filled freed : SpotSet) (are : IsTakenSet taken layout) (room : HaveRoom input.disks taken round (length round) filled) (after : (t : Spot) → freed t ≡ (not (is_source round t) && filled t)) where
   place_of : (k : ℕ) → k < length round → Contains round (shift_at round k)
   place_of k h = (k, h, get_or_default round k (shift_at round k) no_shift h)
 
@@ -91,7 +91,7 @@ module _ (input : Lists) (layout : Layout) (round : List Shift) (legal : IsLegal
       kept t (room.old t ((are t).1 (w.0, was))) (λ s has e. none.0 s has (is.apart s.item.0 w.0 t (leaves input layout round legal s has ∙ ap (λ (p : Spot). Some p) e) was)))
       (moved_cases layout round w.0)
 
-  pub taken_after : AreTaken freed (after_shifts layout round)
+  pub taken_after : IsTakenSet freed (after_shifts layout round)
   taken_after t = (λ h. let b = both_true (is_source round t) (filled t) (sym (after t) ∙ h) in known t b.0 b.1, held t)
 
 pub none_mapped : {X E : Type 0} (r : Result (Option X) E) (P Q : Type 0) → (P → Q) → IfOk r (λ o. IfNone o P) → IfOk r (λ o. IfNone o Q)

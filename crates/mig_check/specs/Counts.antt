@@ -9,7 +9,7 @@ abbrev pub IsTooOften : Lists → List ℕ → ℕ → Type 0
 IsTooOften input counts item = (item < length input.items) × ((1 < slice_index counts item) ⊎ ((0 < slice_index counts item) × ¬ IsTrue (is_relocated input item)))
 
 -- the list has the load of each disk
-pub record AreLoads (input : Lists) (loads : List ℕ) : Type 0 where
+pub record AreLoadsOf (input : Lists) (loads : List ℕ) : Type 0 where
   pub len : length loads ≡ length input.disks
   pub each : (v : ℕ) → v < length loads → slice_index loads v ≡ load v (trips input)
 

@@ -11,21 +11,6 @@ use Rattle.mig_base.specs.Running.{shift_count}
 use Rattle.mig_base.specs.Judging.{Differ, FirstBlame, IsLeast, IsMovedTooOften}
 use Rattle.mig_check.specs.declared.counted.Shown.{Shown}
 
--- the blame is the first of the plan, whatever the certificate
-abbrev pub IsFirstOfPlan : Lists → List (List Shift) → Blame → Type 0
-IsFirstOfPlan input plan blame = (cert : Cert) → FirstBlame input plan cert blame
-
--- what is wrong with the plan itself: the first of these six kinds, or want of memory, which is free
-abbrev pub IsRunBlame : Lists → List (List Shift) → Blame → Type 0
-IsRunBlame input plan (EmptyRound r) = IsFirstOfPlan input plan (EmptyRound r)
-IsRunBlame input plan (NotHere r item) = IsFirstOfPlan input plan (NotHere r item)
-IsRunBlame input plan (TwiceInRound r item) = IsFirstOfPlan input plan (TwiceInRound r item)
-IsRunBlame input plan (SlotNotFree r item) = IsFirstOfPlan input plan (SlotNotFree r item)
-IsRunBlame input plan (OverLimit r disk count) = IsFirstOfPlan input plan (OverLimit r disk count)
-IsRunBlame input plan (WrongEnd item) = IsFirstOfPlan input plan (WrongEnd item)
-IsRunBlame input plan Memory = Unit {0}
-IsRunBlame input plan _ = ⊥
-
 -- what is wrong behind that: an item that is moved too often
 abbrev pub IsOnceBlame : Lists → List (List Shift) → Blame → Type 0
 IsOnceBlame input plan (MovedTooOften item count) = IsLeast (IsMovedTooOften input plan) item.0 × (count ≡ shift_count plan item.0)

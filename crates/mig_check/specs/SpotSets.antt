@@ -6,5 +6,5 @@ use Rattle.mig_check.specs.declared.taken.Taken.{Taken}
 use Rattle.mig_check.specs.Tables.{same_spot}
 
 -- the spot is taken
-abbrev pub has : Taken → Spot → Bool
-has taken t = list_any (same_spot t) taken.spots.keys
+abbrev pub has_spot : Taken → Spot → Bool
+has_spot taken t = list_any (same_spot t) taken.spots.keys

@@ -30,16 +30,16 @@ abbrev pub same_spot : Spot → Spot → Bool
 same_spot s t = (s.disk.0 == t.disk.0) && (s.slot == t.slot)
 
 -- the set has exactly the spots of the items
-abbrev pub AreTaken : SpotSet → Layout → Type 0
-AreTaken taken layout = (t : Spot) → (taken t ≡ true) ↔ IsTaken layout t
+abbrev pub IsTakenSet : SpotSet → Layout → Type 0
+IsTakenSet taken layout = (t : Spot) → (taken t ≡ true) ↔ IsTaken layout t
 
 -- a shift of the round leaves the spot
 abbrev pub is_source : List Shift → Spot → Bool
 is_source round t = list_any (λ s. same_spot s.from t) round
 
 -- the target of the shift at this place is no slot of its disk, or is in the set, or is that of an earlier shift
-abbrev pub LacksRoom : List Disk → SpotSet → List Shift → ℕ → Type 0
-LacksRoom disks taken round k = (¬ IsSpotOf disks (shift_at round k).to) ⊎ (taken (shift_at round k).to ≡ true) ⊎ ((j : ℕ) × (j < k) × ((shift_at round j).to ≡ (shift_at round k).to))
+abbrev pub LacksSlotIn : List Disk → SpotSet → List Shift → ℕ → Type 0
+LacksSlotIn disks taken round k = (¬ IsSpotOf disks (shift_at round k).to) ⊎ (taken (shift_at round k).to ≡ true) ⊎ ((j : ℕ) × (j < k) × ((shift_at round j).to ≡ (shift_at round k).to))
 
 -- the targets of the first i shifts are slots that were free, no two the same, and are taken besides what was
 pub record HaveRoom (disks : List Disk) (taken : SpotSet) (round : List Shift) (i : ℕ) (after : SpotSet) : Type 0 where

@@ -4,7 +4,7 @@ ghost use Rattle.std.specs.List.{list_any};
 ghost use Rattle.mig_base.specs.Bounding.{BoundFits, bound_value, class_of, counted_load, counted_value, disk_value, has, limit_sum, quotient, set_value, stated_load};
 ghost use Rattle.mig_base.specs.DiskNumbers.{IsDiskSet, numbers};
 ghost use Rattle.mig_base.specs.Transfers.{inside, load, transfers, trips};
-ghost use Rattle.mig_check.specs.Counts.{AreLoads};
+ghost use Rattle.mig_check.specs.Counts.{AreLoadsOf};
 
 use crate::loads::{count_loads, find_class, find_quotient};
 use mig_base::{Bound, Class, DiskId, DiskSet, Input};
@@ -68,7 +68,7 @@ fn count_bound(
     bound: &Bound,
 ) -> Result<Shown, AllocError>
     requires fits { BoundFits (transfers input.now) bound.now }
-    requires loads { AreLoads input.now loads.now }
+    requires loads { AreLoadsOf input.now loads.now }
     ensures load { IfOk result (λ s. s.load ≡ counted_load (transfers input.now) bound.now) }
     ensures value { IfOk result (λ s. s.value ≡ counted_value (transfers input.now) bound.now) }
 {
@@ -82,7 +82,7 @@ fn count_bound(
 /// A disk's load, and the rounds that it needs.
 fn count_disk(input: &Input, loads: &[u32], disk: DiskId) -> Shown
     requires there { disk.0 < length input.now.disks }
-    requires loads { AreLoads input.now loads.now }
+    requires loads { AreLoadsOf input.now loads.now }
     ensures load { result.load ≡ load disk.0 (trips input.now) }
     ensures value { result.value ≡ disk_value (transfers input.now) disk.0 }
 {

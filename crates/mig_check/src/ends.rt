@@ -6,7 +6,7 @@ ghost use Rattle.mig_base.specs.Judging.{IsOver};
 ghost use Rattle.mig_base.specs.Running.{ShiftFits, trip_of};
 ghost use Rattle.mig_check.specs.Tables.{IsCovered, IsFoundOver, Keeps};
 
-use mig_base::{Disk, DiskId, Input, Shift};
+use mig_base::{Disk, DiskId, Input, MAX_SHIFTS, Shift};
 
 /// Counts a shift at its two disks, or at its one.
 fn count_shift(counts: &mut [u32], s: &Shift)
@@ -27,7 +27,7 @@ fn count_shift(counts: &mut [u32], s: &Shift)
 /// Counts the shifts that have each disk as an end, where nothing is counted yet.
 fn count_ends(counts: &mut [u32], round: &[Shift])
     requires zero { All (λ n. n ≡ 0) counts.old }
-    requires few { length round.now ≤ 65536 }
+    requires few { length round.now ≤ MAX_SHIFTS }
     requires disks { All (λ s. (s.from.disk.0 < length counts.old) × (s.to.disk.0 < length counts.old)) round.now }
     ensures { (v : ℕ) → v < length counts.new → slice_index counts.new v ≡ load v (map trip_of round.now) }
 {
@@ -91,7 +91,7 @@ fn find_over(disks: &[Disk], counts: &[u32], round: &[Shift]) -> Option<DiskId>
 /// 0 again.
 pub fn check_limits(input: &Input, counts: &mut [u32], round: &[Shift]) -> Option<(DiskId, u32)>
     requires fits { All (ShiftFits input.now) round.now }
-    requires few { length round.now ≤ 65536 }
+    requires few { length round.now ≤ MAX_SHIFTS }
     requires len { length counts.old ≡ length input.now.disks }
     requires zero { All (λ n. n ≡ 0) counts.old }
     ensures none { IfNone result (KeepsLimits input.now.disks (map trip_of round.now)) }

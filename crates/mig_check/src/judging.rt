@@ -35,7 +35,7 @@ pub fn judge(alloc: Global, input: &Input, plan: &Plan, cert: &Cert) -> Result<V
     ensures blameless { Runs input.now plan.now → Once input.now plan.now → CertHolds input.now plan.now cert.now
         → IfErr result (λ blame. blame ≡ Memory) }
 {
-    let _disks = input.disks();
+    input.keeps_rules();
     if let Err(blame) = runs(alloc, input, plan) {
         return Err(blame);
     }

@@ -15,6 +15,3 @@ mod taken;
 pub use judging::judge;
 pub use mig_base::{Blame, Verdict};
 pub use running::{layout_after, runs};
-
-#[cfg(test)]
-mod tests;

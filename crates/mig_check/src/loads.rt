@@ -2,14 +2,14 @@
 ghost use Rattle.std.specs.Prelude.{◌≡◌, ◌↔◌, ◌&&◌, ℕ, ◌+◌, ◌-◌, ◌^◌, ◌<◌, ◌≤◌, All, IfOk, IsTrue, if◌then◌else◌, length, not, slice_index, ◌==◌};
 ghost use Rattle.mig_base.specs.Bounding.{IsEven, class_of, quotient};
 ghost use Rattle.mig_base.specs.Transfers.{load, touches, transfers, trips};
-ghost use Rattle.mig_check.specs.Counts.{AreLoads};
+ghost use Rattle.mig_check.specs.Counts.{AreLoadsOf};
 
 use mig_base::{Class, DiskId, Input};
 use std::alloc::{AllocError, Global};
 
 /// The load of each disk: the number of moves with the disk as an end.
 pub fn count_loads(alloc: Global, input: &Input) -> Result<Vec<u32>, AllocError>
-    ensures { IfOk result (λ loads. AreLoads input.now loads.items) }
+    ensures { IfOk result (λ loads. AreLoadsOf input.now loads.items) }
 {
     let mut loads = vec![in alloc; 0; input.disks().len()]?;
     fill_loads(input, &mut loads);
@@ -20,10 +20,10 @@ pub fn count_loads(alloc: Global, input: &Input) -> Result<Vec<u32>, AllocError>
 fn fill_loads(input: &Input, loads: &mut [u32])
     requires len { length loads.old ≡ length input.now.disks }
     requires zero { All (λ n. n ≡ 0) loads.old }
-    ensures { AreLoads input.now loads.new }
+    ensures { AreLoadsOf input.now loads.new }
 {
     let next = input.next();
-    let _disks = input.disks();
+    input.keeps_rules();
     for (i, spot) in input.now().iter().enumerate() {
         count_move(loads, spot.disk, next[i]);
     }
@@ -45,7 +45,7 @@ fn count_move(loads: &mut [u32], from: DiskId, to: DiskId)
 
 /// The greatest number of rounds that a disk needs for its own moves, and 0 without moves.
 pub fn find_quotient(input: &Input, loads: &[u32]) -> u32
-    requires { AreLoads input.now loads.now }
+    requires { AreLoadsOf input.now loads.now }
     ensures { result ≡ quotient (transfers input.now) }
 {
     let mut greatest = 0;
@@ -57,7 +57,7 @@ pub fn find_quotient(input: &Input, loads: &[u32]) -> u32
 
 /// Whether each disk that takes part has an even limit.
 fn all_even(input: &Input, loads: &[u32]) -> bool
-    requires { AreLoads input.now loads.now }
+    requires { AreLoadsOf input.now loads.now }
     ensures { IsTrue result ↔ IsEven (transfers input.now) }
 {
     for (v, disk) in input.disks().iter().enumerate() {
@@ -70,7 +70,7 @@ fn all_even(input: &Input, loads: &[u32]) -> bool
 
 /// The class of the input.
 pub fn find_class(input: &Input, loads: &[u32]) -> Class
-    requires { AreLoads input.now loads.now }
+    requires { AreLoadsOf input.now loads.now }
     ensures { result ≡ class_of (transfers input.now) }
 {
     if all_even(input, loads) {

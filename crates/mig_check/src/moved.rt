@@ -5,7 +5,7 @@ ghost use Rattle.mig_base.specs.Running.{Once, PlanFits, Runs, is_of, shift_coun
 ghost use Rattle.mig_check.specs.Faults.{IsOnceBlame};
 ghost use Rattle.mig_check.specs.Counts.{IsTooOften};
 
-use mig_base::{Blame, Input, ItemId, Plan, Round, Shift};
+use mig_base::{Blame, Input, ItemId, MAX_ROUNDS, MAX_SHIFTS, Plan, Round, Shift};
 use std::alloc::Global;
 
 /// Whether a plan that runs moves each relocated item once and no other item.
@@ -30,7 +30,7 @@ fn check_counts(input: &Input, counts: &mut [u32], rounds: &[Round]) -> Result<(
     ensures once { OnOk result (Once input.now rounds.now) }
     ensures blame { IfErr result (IsOnceBlame input.now rounds.now) }
 {
-    let _items = input.items();
+    input.keeps_rules();
     count_rounds(input, counts, rounds);
     match find_moved(input, counts) {
         Some((item, count)) => Err(Blame::MovedTooOften { item, count }),
@@ -54,8 +54,8 @@ fn count_rounds(input: &Input, counts: &mut [u32], rounds: &[Round])
 /// Counts the shifts of each item in a round.
 fn count_round(counts: &mut [u32], round: &[Shift])
     requires items { All (λ s. s.item.0 < length counts.old) round.now }
-    requires few { length round.now ≤ 65536 }
-    requires most { All (λ n. n ≤ 131072) counts.old }
+    requires few { length round.now ≤ MAX_SHIFTS }
+    requires most { All (λ n. n ≤ MAX_ROUNDS) counts.old }
     ensures { (item : ℕ) → item < length counts.new
         → slice_index counts.new item ≡ slice_index counts.old item + count_by (is_of item) round.now }
 {
@@ -71,7 +71,7 @@ fn find_moved(input: &Input, counts: &[u32]) -> Option<(ItemId, u32)>
     ensures some { IfSome result (λ r. IsLeast (IsTooOften input.now counts.now) r.0.0) }
     ensures count { IfSome result (λ r. r.1 ≡ slice_index counts.now r.0.0) }
 {
-    let _items = input.items();
+    input.keeps_rules();
     for (i, count) in counts.iter().enumerate() {
         let item = ItemId(i as u32);
         if *count > 1 || *count > 0 && !input.relocated(item) {

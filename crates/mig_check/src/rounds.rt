@@ -1,18 +1,17 @@
 //! The rounds of a plan, one after another.
 ghost use Rattle.std.specs.Prelude.{◌≡◌, ℕ, ◌+◌, ◌<◌, ◌≤◌, suc, All, IfErr, IfOk, OnOk, length};
 ghost use Rattle.mig_base.specs.Checks.{RoundBlame};
-ghost use Rattle.mig_base.specs.Layouts.{At, IsListOf, round_at};
+ghost use Rattle.mig_base.specs.Judging.{IsRunBlame};
+ghost use Rattle.mig_base.specs.Layouts.{At, IsLayout, IsListOf, round_at};
 ghost use Rattle.mig_base.specs.Running.{IsLegal, PlanFits, ShiftFits};
-ghost use Rattle.mig_base.proofs.Rounds.{IsLayout};
-ghost use Rattle.mig_check.specs.Faults.{IsRunBlame};
-ghost use Rattle.mig_check.specs.SpotSets.{has};
+ghost use Rattle.mig_check.specs.SpotSets.{has_spot};
 ghost use Rattle.mig_check.specs.Start.{IsStart};
-ghost use Rattle.mig_check.specs.Tables.{AreTaken, HaveRoom, after_round, layout_of};
+ghost use Rattle.mig_check.specs.Tables.{IsTakenSet, HaveRoom, after_round, layout_of};
 
 use crate::ends::check_limits;
 use crate::shifts::{check_room, find_elsewhere, find_repeat, free_sources, move_items};
 use crate::taken::{Taken, take_all};
-use mig_base::{Blame, Input, Round, Shift, Spot};
+use mig_base::{Blame, Input, MAX_SHIFTS, Round, Shift, Spot};
 use std::alloc::{AllocError, Global};
 
 /// What a check keeps from round to round, besides the layout: the spots that are taken, for each
@@ -46,15 +45,15 @@ fn check_round(
     round: &[Shift],
 ) -> Result<(), Blame>
     requires fits { All (ShiftFits input.now) round.now }
-    requires few { length round.now ≤ 65536 }
+    requires few { length round.now ≤ MAX_SHIFTS }
     requires spots { length spots.now ≡ length input.now.items }
-    requires taken { AreTaken (has tables.old.taken) (layout_of spots.now) }
+    requires taken { IsTakenSet (has_spot tables.old.taken) (layout_of spots.now) }
     requires seen_len { length tables.old.seen.items ≡ length input.now.items }
     requires seen { All (λ n. n < number) tables.old.seen.items }
     requires counts_len { length tables.old.counts.items ≡ length input.now.disks }
     requires counts { All (λ n. n ≡ 0) tables.old.counts.items }
     ensures ok { OnOk result (IsLegal input.now (layout_of spots.now) round.now) }
-    ensures room { OnOk result (HaveRoom input.now.disks (has tables.old.taken) round.now (length round.now) (has tables.new.taken)) }
+    ensures room { OnOk result (HaveRoom input.now.disks (has_spot tables.old.taken) round.now (length round.now) (has_spot tables.new.taken)) }
     ensures blame { IfErr result (RoundBlame input.now (layout_of spots.now) round.now number) }
     ensures seen_after { OnOk result (All (λ n. n ≤ number) tables.new.seen.items) }
     ensures counts_after { OnOk result (All (λ n. n ≡ 0) tables.new.counts.items) }
@@ -105,10 +104,10 @@ fn step(
     round: &[Shift],
 ) -> Result<(), Blame>
     requires fits { All (ShiftFits input.now) round.now }
-    requires few { length round.now ≤ 65536 }
+    requires few { length round.now ≤ MAX_SHIFTS }
     requires spots { length spots.old ≡ length input.now.items }
     requires layout { IsLayout input.now (layout_of spots.old) }
-    requires taken { AreTaken (has tables.old.taken) (layout_of spots.old) }
+    requires taken { IsTakenSet (has_spot tables.old.taken) (layout_of spots.old) }
     requires seen_len { length tables.old.seen.items ≡ length input.now.items }
     requires seen { All (λ n. n < number) tables.old.seen.items }
     requires counts_len { length tables.old.counts.items ≡ length input.now.disks }
@@ -116,7 +115,7 @@ fn step(
     ensures ok { OnOk result (IsLegal input.now (layout_of spots.old) round.now) }
     ensures after { OnOk result (spots.new ≡ after_round spots.old round.now) }
     ensures layout_after { OnOk result (IsLayout input.now (layout_of spots.new)) }
-    ensures taken_after { OnOk result (AreTaken (has tables.new.taken) (layout_of spots.new)) }
+    ensures taken_after { OnOk result (IsTakenSet (has_spot tables.new.taken) (layout_of spots.new)) }
     ensures blame { IfErr result (RoundBlame input.now (layout_of spots.old) round.now number) }
     ensures seen_after { OnOk result (All (λ n. n ≤ number) tables.new.seen.items) }
     ensures counts_after { OnOk result (All (λ n. n ≡ 0) tables.new.counts.items) }
@@ -145,7 +144,7 @@ pub fn check_rounds(
     ensures len { OnOk result (length spots.new ≡ length input.now.items) }
     ensures blame { IfErr result (IsRunBlame input.now rounds.now) }
 {
-    let _disks = input.disks();
+    input.keeps_rules();
     for (k, round) in rounds.iter().enumerate() {
         if let Err(blame) = step(input, spots, tables, k as u32 + 1, round.shifts()) {
             return Err(blame);

@@ -1,10 +1,9 @@
 //! Whether a plan runs, and the layouts that it goes through.
 ghost use Rattle.std.specs.Prelude.{◌≡◌, ℕ, ◌<◌, ◌≤◌, IfErr, IfNone, IfOk, IfSome, OnOk, length};
 ghost use Rattle.mig_base.specs.declared.blames.Blame.TheVariants.{Memory};
-ghost use Rattle.mig_base.specs.Judging.{IsLeast};
+ghost use Rattle.mig_base.specs.Judging.{IsLeast, IsRunBlame};
 ghost use Rattle.mig_base.specs.Layouts.{At, IsListOf};
 ghost use Rattle.mig_base.specs.Running.{IsArrivedAt, PlanFits, Runs};
-ghost use Rattle.mig_check.specs.Faults.{IsRunBlame};
 ghost use Rattle.mig_check.specs.Start.{IsStart};
 ghost use Rattle.mig_check.specs.Tables.{layout_of};
 

@@ -4,8 +4,8 @@ ghost use Rattle.mig_base.specs.declared.ids.Spot.{Spot};
 ghost use Rattle.mig_base.specs.Checks.{Free, Leaves, Passes, Single};
 ghost use Rattle.mig_base.specs.Judging.{IsFirstShift, LacksSlot, LeavesElsewhere, RepeatsItem};
 ghost use Rattle.mig_base.specs.Running.{ShiftFits};
-ghost use Rattle.mig_check.specs.SpotSets.{has};
-ghost use Rattle.mig_check.specs.Tables.{AreTaken, HaveRoom, LacksRoom, after_round, is_source, layout_of};
+ghost use Rattle.mig_check.specs.SpotSets.{has_spot};
+ghost use Rattle.mig_check.specs.Tables.{IsTakenSet, HaveRoom, LacksSlotIn, after_round, is_source, layout_of};
 
 use crate::taken::Taken;
 use mig_base::{Disk, Input, ItemId, Shift, Spot};
@@ -50,9 +50,9 @@ fn find_no_room(
     round: &[Shift],
 ) -> Result<Option<ItemId>, AllocError>
     requires { All (λ s. s.to.disk.0 < length disks.now) round.now }
-    ensures none { IfOk result (λ r. IfNone r (HaveRoom disks.now (has taken.old) round.now (length round.now) (has taken.new))) }
+    ensures none { IfOk result (λ r. IfNone r (HaveRoom disks.now (has_spot taken.old) round.now (length round.now) (has_spot taken.new))) }
     ensures some { IfOk result (λ r. IfSome r
-        (λ item. IsFirstShift round.now (LacksRoom disks.now (has taken.old) round.now) item.0)) }
+        (λ item. IsFirstShift round.now (LacksSlotIn disks.now (has_spot taken.old) round.now) item.0)) }
 {
     for s in round {
         if s.to.slot >= disks[s.to.disk.0 as usize].slots {
@@ -74,8 +74,8 @@ pub fn check_room(
     round: &[Shift],
 ) -> Result<Option<ItemId>, AllocError>
     requires fits { All (ShiftFits input.now) round.now }
-    requires are { AreTaken (has taken.old) (layout_of spots.now) }
-    ensures room { IfOk result (λ r. IfNone r (HaveRoom input.now.disks (has taken.old) round.now (length round.now) (has taken.new))) }
+    requires are { IsTakenSet (has_spot taken.old) (layout_of spots.now) }
+    ensures room { IfOk result (λ r. IfNone r (HaveRoom input.now.disks (has_spot taken.old) round.now (length round.now) (has_spot taken.new))) }
     ensures none { IfOk result (λ r. IfNone r (Passes input.now (layout_of spots.now) round.now Free)) }
     ensures some { IfOk result (λ r. IfSome r
         (λ item. IsFirstShift round.now (LacksSlot input.now (layout_of spots.now) round.now) item.0)) }
@@ -95,7 +95,7 @@ pub fn move_items(spots: &mut [Spot], round: &[Shift])
 
 /// Frees the spots that a round leaves.
 pub fn free_sources(taken: &mut Taken, round: &[Shift])
-    ensures { (t : Spot) → has taken.new t ≡ (not (is_source round.now t) && has taken.old t) }
+    ensures { (t : Spot) → has_spot taken.new t ≡ (not (is_source round.now t) && has_spot taken.old t) }
 {
     for s in round {
         taken.remove(s.from);

@@ -2,8 +2,8 @@
 ghost use Rattle.std.specs.Prelude.{◌≡◌, ◌↔◌, ◌<◌, ◌&&◌, ◌||◌, IfOk, OnOk, false, length, not, true};
 ghost use Rattle.mig_base.specs.declared.ids.Spot.{Spot};
 ghost use Rattle.mig_base.specs.Layouts.{IsTaken};
-ghost use Rattle.mig_check.specs.Tables.{AreTaken, layout_of, same_spot};
-ghost use Rattle.mig_check.specs.SpotSets.{has};
+ghost use Rattle.mig_check.specs.Tables.{IsTakenSet, layout_of, same_spot};
+ghost use Rattle.mig_check.specs.SpotSets.{has_spot};
 
 use mig_base::Spot;
 use std::alloc::{AllocError, Global};
@@ -18,7 +18,7 @@ pub struct Taken {
 impl Taken {
     /// No spot is taken.
     pub fn new(alloc: Global) -> Taken
-        ensures { (t : Spot) → has result t ≡ false }
+        ensures { (t : Spot) → has_spot result t ≡ false }
     {
         Taken {
             spots: BTreeSet::new(alloc),
@@ -27,15 +27,15 @@ impl Taken {
 
     /// Takes the spot, and says whether it was free.
     pub fn insert(&mut self, spot: Spot) -> Result<bool, AllocError>
-        ensures was { IfOk result (λ free. free ≡ not (has self.old spot)) }
-        ensures after { OnOk result ((t : Spot) → has self.new t ≡ (same_spot spot t || has self.old t)) }
+        ensures was { IfOk result (λ free. free ≡ not (has_spot self.old spot)) }
+        ensures after { OnOk result ((t : Spot) → has_spot self.new t ≡ (same_spot spot t || has_spot self.old t)) }
     {
         Ok(self.spots.insert(spot)?)
     }
 
     /// Frees the spot.
     pub fn remove(&mut self, spot: Spot)
-        ensures { (t : Spot) → has self.new t ≡ (not (same_spot spot t) && has self.old t) }
+        ensures { (t : Spot) → has_spot self.new t ≡ (not (same_spot spot t) && has_spot self.old t) }
     {
         self.spots.remove(&spot);
     }
@@ -43,7 +43,7 @@ impl Taken {
 
 /// The set of these spots.
 pub fn take_all(alloc: Global, spots: &[Spot]) -> Result<Taken, AllocError>
-    ensures { IfOk result (λ taken. AreTaken (has taken) (layout_of spots.now)) }
+    ensures { IfOk result (λ taken. IsTakenSet (has_spot taken) (layout_of spots.now)) }
 {
     let mut taken = Taken::new(alloc);
     for spot in spots {

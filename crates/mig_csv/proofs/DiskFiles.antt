@@ -4,6 +4,7 @@ use Rattle.std.proofs.lemmas.List.{append-nil, length-append, length-map, take-a
 use Rattle.std.proofs.lemmas.Bool.{cases_lt}
 use Rattle.std.proofs.lemmas.Option.{slice_get_within}
 use Rattle.std.proofs.Math.Seq.{take-append_seam}
+use Rattle.mig_base.specs.declared.limits.TheConstants.{MAX_DISKS, MAX_FILE_BYTES}
 use Rattle.mig_base.specs.Refusals.{DisksRowFault, FileFault, IsFirstCause, IsFirstFault, IsRowFault, PrecedesInFile}
 use Rattle.mig_base.specs.Rows.{Row, disk_of, first, header_of, records_of, rows_of}
 use Rattle.mig_base.specs.declared.faults.FileKind.TheVariants as file
@@ -52,7 +53,7 @@ rows : (header : Row) (bytes : List ℕ) (done : List Row) → records_of bytes 
 rows header bytes done e = rw e refl
 
 -- a file whose rows are all sound has no fault
-pub no_fault : (has : List Row → Row → Why → Type 0) (header : Row) (bytes : List ℕ) (done : List Row) → length bytes ≤ 16777216
+pub no_fault : (has : List Row → Row → Why → Type 0) (header : Row) (bytes : List ℕ) (done : List Row) → length bytes ≤ MAX_FILE_BYTES
     → records_of bytes ≡ header ∷ done → Sound has done → (n : ℕ) (w : Why) → ¬ (FileFault has header bytes n w)
 no_fault has header bytes done short e s n why.TooLong h = let p = h.1 in omega arith
 no_fault has header bytes done short e s n why.BadHeader h = h.1 (rw e refl)
@@ -91,7 +92,7 @@ none_earlier has done left r w s f m v p h =
     ]
 
 -- the first fault of a file is that of the row after the sound rows
-pub first_fault : (has : List Row → Row → Why → Type 0) (header : Row) (bytes : List ℕ) (done left : List Row) (r : Row) (w : Why) → OfRows has → length bytes ≤ 16777216
+pub first_fault : (has : List Row → Row → Why → Type 0) (header : Row) (bytes : List ℕ) (done left : List Row) (r : Row) (w : Why) → OfRows has → length bytes ≤ MAX_FILE_BYTES
     → records_of bytes ≡ header ∷ (done ++ r ∷ left) → Sound has done → IsFirstCause (has done r) w → IsFirstFault (FileFault has header bytes) (length done + 1) w
 first_fault has header bytes done left r w o short e s f = record { holds = row_fault has header bytes o (length done + 1) w here; first = first }
   where
@@ -111,11 +112,11 @@ first_fault has header bytes done left r w o short e s f = record { holds = row_
 
 -- the records of the file are its header, rows that are done and those that are left; the disks are those of the rows that are done
 pub record ReadSoFar (bytes : List ℕ) (left : List Row) (names : List (List ℕ)) (disks : List Disk) : Type 0 where
-  pub short : length bytes ≤ 16777216
+  pub short : length bytes ≤ MAX_FILE_BYTES
   pub done : List Row
   pub records : records_of bytes ≡ header_of file.Disks ∷ (done ++ left)
   pub sound : Sound (λ before. DisksRowFault (map first before)) done
-  pub few : length done ≤ 1024
+  pub few : length done ≤ MAX_DISKS
   pub named : names ≡ map first done
   pub listed : disks ≡ map disk_of done
 
@@ -134,7 +135,7 @@ pub ReadSoFar-push : {bytes : List ℕ} {left : List Row} {names : List (List �
     → left ≡ r ∷ rest → d ≡ disk_of r → ((w : Why) → ¬ (DisksRowFault names r w)) → ReadSoFar bytes rest (names ++ d.name ∷ []) (disks ++ d ∷ [])
 ReadSoFar-push {bytes} {left} {names} s r rest d e listed new =
     let new_here : (w : Why) → ¬ (has_fault s.done r w) = rw s.named at new in
-    let room : ¬ (1024 ≤ length names) = new why.TooManyRows in
+    let room : ¬ (MAX_DISKS ≤ length names) = new why.TooManyRows in
     record {
       short = s.short;
       done = s.done ++ r ∷ [];
@@ -152,7 +153,7 @@ ReadSoFar-fault {bytes} {left} {names} s r rest w e f =
     rw (s.named, length-map) (first_fault has_fault (header_of file.Disks) bytes s.done rest r w of_rows s.short (rw e at s.records) s.sound (rw s.named at f))
 
 -- a file whose header was read
-pub ReadSoFar-start : {bytes : List ℕ} (left : List Row) → length bytes ≤ 16777216 → records_of bytes ≡ header_of file.Disks ∷ left → ReadSoFar bytes left [] []
+pub ReadSoFar-start : {bytes : List ℕ} (left : List Row) → length bytes ≤ MAX_FILE_BYTES → records_of bytes ≡ header_of file.Disks ∷ left → ReadSoFar bytes left [] []
 ReadSoFar-start {bytes} left short e = record {
   short = short;
   done = [];

@@ -3,16 +3,18 @@ use Rattle.std.proofs.lemmas.Bool.{false≢true}
 use Rattle.std.proofs.lemmas.Option.{get_or_from_slice_get, slice_get_within}
 use Rattle.std.specs.Cmp.Lexicographic.{pointwise, same_text, nat_list_eq_equiv}
 use Rattle.csv.specs.Records.{field_at}
+use Rattle.mig_base.specs.declared.limits.TheConstants.{MAX_DISKS}
 use Rattle.mig_base.specs.Refusals.{DisksRowFault, rank_of}
 use Rattle.mig_base.specs.InputLists.{IsDiskInRange}
 use Rattle.mig_base.specs.Naming.{IsName}
-use Rattle.mig_base.specs.Rows.{IsNumber, Row, disk_of, first, second, third}
+use Rattle.mig_base.specs.Digits.{IsNumber}
+use Rattle.mig_base.specs.Rows.{Row, disk_of, first, second, third}
 use Rattle.mig_base.specs.declared.faults.Why.{Why}
 use Rattle.mig_base.specs.declared.faults.Why.TheVariants as why
 
 -- no cause before the place n in the order of causes holds of a row of the disks file
 pub none_before : (names : List (List ℕ)) (r : Row) (n : ℕ)
-    → (2 < n → length names < 1024) → (3 < n → length r ≡ 3) → (4 < n → IsName (first r)) → (5 < n → IsNumber (second r) × IsNumber (third r))
+    → (2 < n → length names < MAX_DISKS) → (3 < n → length r ≡ 3) → (4 < n → IsName (first r)) → (5 < n → IsNumber (second r) × IsNumber (third r))
     → (6 < n → IsDiskInRange (disk_of r)) → (7 < n → ¬ (Contains names (first r)))
     → (w : Why) → rank_of w < n → ¬ (DisksRowFault names r w)
 none_before names r n few width name numbers range new why.TooManyRows lt h = let f = few lt in omega arith
@@ -34,33 +36,6 @@ field_at-slice_get (f ∷ fs) (suc i) = field_at-slice_get fs i
 pub Contains-found : (names : List (List ℕ)) (n : List ℕ) (o : Option ℕ) → MatchOption o (¬ (Contains names n)) (λ k. slice_get names k ≡ Some n) → is_some o ≡ true → Contains names n
 Contains-found names n None m e = absurd (false≢true e)
 Contains-found names n (Some k) m e = (k, slice_get_within names k n m, get_or_from_slice_get names k n n m)
-
-three_fields : (r : Row) → length r ≡ 3 → r ≡ first r ∷ second r ∷ third r ∷ []
-three_fields [] e = absurd (omega (arith, e))
-three_fields (a ∷ []) e = absurd (omega (arith, e))
-three_fields (a ∷ b ∷ []) e = absurd (omega (arith, e))
-three_fields (a ∷ b ∷ c ∷ []) e = refl
-three_fields (a ∷ b ∷ c ∷ d ∷ r) e = absurd (omega (arith, e))
-
-all_three : (a b c : Bool) → IsTrue (a && b && c) → IsTrue a × IsTrue b × IsTrue c
-all_three true true true h = (refl, refl, refl)
-all_three true true false h = absurd (false≢true h)
-all_three true false c h = absurd (false≢true h)
-all_three false b c h = absurd (false≢true h)
-
--- tests of three fields tell whether these are the row
-pub is_row_of_three : (r : Row) (x y z : List ℕ) → length r ≡ 3
-    → (IsTrue (pointwise nat_eq (first r) x && pointwise nat_eq (second r) y && pointwise nat_eq (third r) z) → r ≡ x ∷ y ∷ z ∷ [])
-    × (r ≡ x ∷ y ∷ z ∷ [] → IsTrue (pointwise nat_eq (first r) x && pointwise nat_eq (second r) y && pointwise nat_eq (third r) z))
-is_row_of_three r x y z len = (there, back)
-  where
-    there : IsTrue (pointwise nat_eq (first r) x && pointwise nat_eq (second r) y && pointwise nat_eq (third r) z) → r ≡ x ∷ y ∷ z ∷ []
-    there h =
-        let t = all_three _ _ _ h in
-        three_fields r len ∙ rw (← same_text (first r) x (sym t.0), ← same_text (second r) y (sym t.1), ← same_text (third r) z (sym t.2)) refl
-
-    back : r ≡ x ∷ y ∷ z ∷ [] → IsTrue (pointwise nat_eq (first r) x && pointwise nat_eq (second r) y && pointwise nat_eq (third r) z)
-    back e = rw (e, nat_list_eq_equiv.refl x, nat_list_eq_equiv.refl y, nat_list_eq_equiv.refl z) refl
 
 -- a name that was not found is not among the names
 pub not_found : (names : List (List ℕ)) (n : List ℕ) (o : Option ℕ) → MatchOption o (¬ (Contains names n)) (λ k. slice_get names k ≡ Some n) → is_some o ≡ false → ¬ (Contains names n)

@@ -4,6 +4,7 @@ use Rattle.std.specs.List.{AllZip}
 use Rattle.std.proofs.lemmas.List.{append-nil, length-append, length-map, map-append}
 use Rattle.std.proofs.lemmas.List.Elements.{All-append}
 use Rattle.std.proofs.lemmas.Slice.Zip.{all_zipped_more}
+use Rattle.mig_base.specs.declared.limits.TheConstants.{MAX_FILE_BYTES, MAX_ITEMS}
 use Rattle.mig_base.specs.Refusals.{IsFirstCause, IsFirstFault, IsSpotNamed, NowRowFault}
 use Rattle.mig_base.specs.InputLists.{IsSpotOf}
 use Rattle.mig_base.specs.Rows.{Row, first, header_of, place_of, records_of, rows_of, second}
@@ -44,18 +45,18 @@ one_all P x h (suc k) d lt = absurd (omega (arith, lt))
 
 -- the records of the file are its header, rows that are done and those that are left; the items and the spots are those of the rows that are done
 pub record ItemsSoFar (bytes : List ℕ) (disks : List Disk) (left : List Row) (names : List (List ℕ)) (taken : List Spot) (items : List (List ℕ)) (spots : List Spot) : Type 0 where
-  pub short : length bytes ≤ 16777216
+  pub short : length bytes ≤ MAX_FILE_BYTES
   pub done : List Row
   pub records : records_of bytes ≡ header_of file.Now ∷ (done ++ left)
   pub sound : Sound (now_has disks) done
-  pub few : length done ≤ 65536
+  pub few : length done ≤ MAX_ITEMS
   pub named : names ≡ map first done
   pub items_are : items ≡ names
   pub spots_are : spots ≡ taken
   pub spotted : AllZip (IsSpotNamed disks) done taken
   pub valid : All (IsSpotOf disks) taken
 
-pub ItemsSoFar-start : {bytes : List ℕ} {disks : List Disk} (left : List Row) → length bytes ≤ 16777216 → records_of bytes ≡ header_of file.Now ∷ left → ItemsSoFar bytes disks left [] [] [] []
+pub ItemsSoFar-start : {bytes : List ℕ} {disks : List Disk} (left : List Row) → length bytes ≤ MAX_FILE_BYTES → records_of bytes ≡ header_of file.Now ∷ left → ItemsSoFar bytes disks left [] [] [] []
 ItemsSoFar-start {bytes} {disks} left short e = record {
   short = short;
   done = [];
@@ -90,7 +91,7 @@ pub ItemsSoFar-push : {bytes : List ℕ} {disks : List Disk} {left : List Row} {
     → ((w : Why) → ¬ (NowRowFault disks names (map (place_in disks) taken) r w)) → ItemsSoFar bytes disks rest (names ++ name ∷ []) (taken ++ spot ∷ []) (items ++ name ∷ []) (spots ++ spot ∷ [])
 ItemsSoFar-push {bytes} {disks} {left} {names} {taken} s r rest name spot e is spotted valid new =
     let new_here : (w : Why) → ¬ (now_has disks s.done r w) = rw (s.named, named_places disks s.done taken s.spotted) at new in
-    let room : ¬ (65536 ≤ length names) = new why.TooManyRows in
+    let room : ¬ (MAX_ITEMS ≤ length names) = new why.TooManyRows in
     record {
       short = s.short;
       done = s.done ++ r ∷ [];
@@ -118,7 +119,7 @@ not_taken disks taken r s named new c =
     new (Contains-at (map (place_in disks) taken) k (place_of r) (at_map (place_in disks) taken k s at ∙ ap Some (named_place disks r s named)))
 
 pub ItemsSoFar-few : {bytes : List ℕ} {disks : List Disk} {left : List Row} {names : List (List ℕ)} {taken : List Spot} {items : List (List ℕ)} {spots : List Spot}
-    → ItemsSoFar bytes disks left names taken items spots → length items ≤ 65536
+    → ItemsSoFar bytes disks left names taken items spots → length items ≤ MAX_ITEMS
 ItemsSoFar-few {items = items} s = let n : length items ≡ length s.done = rw (s.items_are, s.named, length-map) refl in omega (arith, s.few)
 
 -- the spots are slots of the disks

@@ -1,8 +1,10 @@
 use Rattle.std.proofs.Common.{◌≡◌, ◌<◌, ℕ, List, Contains, All, Some, length, map, slice_get, refl, ap, sym, subst, ◌∙◌, arith}
 use Rattle.std.specs.List.{Any}
 use Rattle.std.proofs.lemmas.Option.{get_or_from_slice_get, slice_get-get_or, slice_get_within}
+use Rattle.mig_base.specs.declared.limits.TheConstants.{MAX_ITEMS}
 use Rattle.mig_base.specs.InputLists.{AreDifferent, IsSpotOf}
-use Rattle.mig_base.specs.Rows.{IsNumber, Row, first, number_of, place_of, second, third}
+use Rattle.mig_base.specs.Digits.{IsNumber, number_of}
+use Rattle.mig_base.specs.Rows.{Row, first, place_of, second, third}
 use Rattle.mig_base.specs.Naming.{IsName}
 use Rattle.mig_base.specs.Refusals.{NowRowFault, rank_of}
 use Rattle.mig_base.specs.declared.faults.Why.{Why}
@@ -46,7 +48,7 @@ spot_taken disks spots s d ne valid e c =
 
 -- no cause before the place n in the order of causes holds of a row of the now file
 pub none_before : (disks : List Disk) (items : List (List ℕ)) (places : List (List ℕ × ℕ)) (r : Row) (n : ℕ)
-    → (2 < n → length items < 65536) → (3 < n → length r ≡ 3) → (4 < n → IsName (first r) × IsName (second r)) → (5 < n → IsNumber (third r))
+    → (2 < n → length items < MAX_ITEMS) → (3 < n → length r ≡ 3) → (4 < n → IsName (first r) × IsName (second r)) → (5 < n → IsNumber (third r))
     → (8 < n → ¬ (Contains items (first r))) → (9 < n → Any (λ d. d.name ≡ second r) disks)
     → (10 < n → ¬ (Any (λ d. (d.name ≡ second r) × (d.slots ≤ number_of (third r))) disks)) → (11 < n → ¬ (Contains places (place_of r)))
     → (w : Why) → rank_of w < n → ¬ (NowRowFault disks items places r w)

@@ -8,3 +8,4 @@ pub mod ItemFiles
 pub mod Coming
 pub mod Needs
 pub mod WayRows
+pub mod Fields

@@ -7,6 +7,7 @@ use Rattle.std.specs.Cmp.Lexicographic.{pointwise, same_text, nat_list_eq_equiv}
 use Rattle.std.proofs.lemmas.List.{append-nil, length-append, length-map, length-set, map-append, get_or-set_same, get_or-set_other}
 use Rattle.std.proofs.lemmas.List.Elements.{All-append}
 use Rattle.std.proofs.lemmas.Option.{get_or_from_slice_get, slice_get-get_or, slice_get_past, slice_get_within}
+use Rattle.mig_base.specs.declared.limits.TheConstants.{MAX_FILE_BYTES, MAX_ITEMS}
 use Rattle.mig_base.specs.Naming.{IsName}
 use Rattle.mig_base.specs.InputLists.{AreDifferent}
 use Rattle.mig_base.specs.Refusals.{IsFirstCause, IsFirstFault, NextRowFault, rank_of}
@@ -24,7 +25,7 @@ use Rattle.mig_csv.specs.Refusals.{NextFault}
 
 -- no cause before the place n in the order of causes holds of a row of the next file
 pub none_before : (disks : List Disk) (present items : List (List ℕ)) (r : Row) (n : ℕ)
-    → (2 < n → length items < 65536) → (3 < n → length r ≡ 2) → (4 < n → IsName (first r) × IsName (second r)) → (8 < n → ¬ (Contains items (first r)))
+    → (2 < n → length items < MAX_ITEMS) → (3 < n → length r ≡ 2) → (4 < n → IsName (first r) × IsName (second r)) → (8 < n → ¬ (Contains items (first r)))
     → (9 < n → Any (λ (d : Disk). d.name ≡ second r) disks) → (12 < n → Contains present (first r))
     → (w : Why) → rank_of w < n → ¬ (NextRowFault disks present items r w)
 none_before disks present items r n few width names new known here why.TooManyRows lt h = let f = few lt in omega arith
@@ -164,15 +165,15 @@ next_rows disks present = record { long = λ before r h. h; head = λ before r h
 
 -- the records of the file are its header, rows that are done and those that are left
 pub record WaysSoFar (bytes : List ℕ) (disks : List Disk) (present : List (List ℕ)) (left : List Row) (seen : List (List ℕ)) (next : List (Option DiskId)) : Type 0 where
-  pub short : length bytes ≤ 16777216
+  pub short : length bytes ≤ MAX_FILE_BYTES
   pub done : List Row
   pub records : records_of bytes ≡ header_of file.Next ∷ (done ++ left)
   pub sound : Sound (next_has disks present) done
-  pub few : length done ≤ 65536
+  pub few : length done ≤ MAX_ITEMS
   pub named : seen ≡ map first done
   pub ways : AreNextOf disks present done next
 
-pub WaysSoFar-start : {bytes : List ℕ} {disks : List Disk} {present : List (List ℕ)} (left : List Row) → length bytes ≤ 16777216 → records_of bytes ≡ header_of file.Next ∷ left
+pub WaysSoFar-start : {bytes : List ℕ} {disks : List Disk} {present : List (List ℕ)} (left : List Row) → length bytes ≤ MAX_FILE_BYTES → records_of bytes ≡ header_of file.Next ∷ left
     → WaysSoFar bytes disks present left [] (replicate (length present) unknown)
 WaysSoFar-start {bytes} {disks} {present} left short e = record {
   short = short;
@@ -198,7 +199,7 @@ pub WaysSoFar-push : {bytes : List ℕ} {disks : List Disk} {present : List (Lis
     → WaysSoFar bytes disks present rest (seen ++ name ∷ []) (set next k (Some v))
 WaysSoFar-push {bytes} {disks} {present} {left} {seen} {next} s r rest name k v e is ne at disk new =
     let new_here : (w : Why) → ¬ (next_has disks present s.done r w) = rw s.named at new in
-    let room : ¬ (65536 ≤ length seen) = new why.TooManyRows in
+    let room : ¬ (MAX_ITEMS ≤ length seen) = new why.TooManyRows in
     record {
       short = s.short;
       done = s.done ++ r ∷ [];
@@ -214,28 +215,3 @@ pub WaysSoFar-fault : {bytes : List ℕ} {disks : List Disk} {present : List (Li
     → IsFirstFault (NextFault disks present bytes) (length seen + 1) w
 WaysSoFar-fault {bytes} {disks} {present} {left} {seen} s r rest w e f =
     rw (s.named, length-map) (first_fault (next_has disks present) (header_of file.Next) bytes s.done rest r w (next_rows disks present) s.short (rw e at s.records) s.sound (rw s.named at f))
-
-two_fields : (r : Row) → length r ≡ 2 → r ≡ first r ∷ second r ∷ []
-two_fields [] e = absurd (omega (arith, e))
-two_fields (a ∷ []) e = absurd (omega (arith, e))
-two_fields (a ∷ b ∷ []) e = refl
-two_fields (a ∷ b ∷ c ∷ r) e = absurd (omega (arith, e))
-
-both : (a b : Bool) → IsTrue (a && b) → IsTrue a × IsTrue b
-both true true h = (refl, refl)
-both true false h = absurd (false≢true h)
-both false b h = absurd (false≢true h)
-
--- tests of two fields tell whether these are the row
-pub is_row_of_two : (r : Row) (x y : List ℕ) → length r ≡ 2
-    → (IsTrue (pointwise nat_eq (first r) x && pointwise nat_eq (second r) y) → r ≡ x ∷ y ∷ [])
-    × (r ≡ x ∷ y ∷ [] → IsTrue (pointwise nat_eq (first r) x && pointwise nat_eq (second r) y))
-is_row_of_two r x y len = (there, back)
-  where
-    there : IsTrue (pointwise nat_eq (first r) x && pointwise nat_eq (second r) y) → r ≡ x ∷ y ∷ []
-    there h =
-        let t = both _ _ h in
-        two_fields r len ∙ rw (← same_text (first r) x (sym t.0), ← same_text (second r) y (sym t.1)) refl
-
-    back : r ≡ x ∷ y ∷ [] → IsTrue (pointwise nat_eq (first r) x && pointwise nat_eq (second r) y)
-    back e = rw (e, nat_list_eq_equiv.refl x, nat_list_eq_equiv.refl y) refl

@@ -1,5 +1,6 @@
 -- What a refusal says.
 use Rattle.std.specs.Prelude.{◌≡◌, ◌≢◌, ◌≤◌, ◌<◌, ⊤, ℕ, List, Some, length, map, slice_get}
+use Rattle.mig_base.specs.declared.limits.TheConstants.{MAX_FILE_BYTES}
 use Rattle.mig_base.specs.Refusals.{DisksRowFault, FileFault, IsFirstFault, NextRowFault, NowRowFault, RefusedAs}
 use Rattle.mig_base.specs.Rows.{Bodies, first, header_of, place_of, records_of}
 use Rattle.mig_base.specs.declared.faults.FileKind.{FileKind}
@@ -29,8 +30,8 @@ IsRefusalOf f has Memory = ⊤
 
 -- a file is refused for its length or its header
 abbrev pub RefusesHeader : FileKind → List ℕ → InputError → Type 0
-RefusesHeader f bytes (Refused g n why.TooLong) = (g ≡ f) × (n ≡ 0) × (16777216 < length bytes)
-RefusesHeader f bytes (Refused g n why.BadHeader) = (g ≡ f) × (n ≡ 0) × (length bytes ≤ 16777216) × (slice_get (records_of bytes) 0 ≢ Some (header_of f))
+RefusesHeader f bytes (Refused g n why.TooLong) = (g ≡ f) × (n ≡ 0) × (MAX_FILE_BYTES < length bytes)
+RefusesHeader f bytes (Refused g n why.BadHeader) = (g ≡ f) × (n ≡ 0) × (length bytes ≤ MAX_FILE_BYTES) × (slice_get (records_of bytes) 0 ≢ Some (header_of f))
 RefusesHeader f bytes (Refused g n w) = ⊥
 RefusesHeader f bytes Memory = ⊤
 

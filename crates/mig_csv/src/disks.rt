@@ -1,3 +1,4 @@
+//! The disks file.
 ghost use Rattle.std.specs.Prelude.{◌≡◌, ◌≤◌, IfErr, IfOk, length, map, ℕ};
 ghost use Rattle.csv.specs.Records.{fields_of};
 ghost use Rattle.mig_base.specs.Refusals.{DisksRowFault, IsFirstCause};
@@ -8,24 +9,23 @@ ghost use Rattle.mig_csv.specs.Refusals.{DisksFault, IsRefusalOf};
 
 use crate::errors::{InputError, refused};
 use crate::files::rows_after_header;
-use crate::numbers::read_number;
 use crate::rows::field;
 use csv::ByteRecord;
-use mig_base::{Disk, FileKind, Name, Why};
+use mig_base::{Disk, FileKind, MAX_DISKS, MAX_LIMIT, MAX_SLOTS, Name, Why, read_digits};
 use mig_names::NameTable;
 use std::alloc::Global;
 
-// The disks of a disks file, and their names.
+/// The disks of a disks file, and their names.
 #[derive(Drop)]
 pub(crate) struct DiskList {
     pub(crate) names: NameTable,
     pub(crate) disks: Vec<Disk>,
 }
 
-// The disks that a disks file lists, in its order, or the first fault of the file.
+/// The disks that a disks file lists, in its order, or the first fault of the file.
 pub(crate) fn read_disks(alloc: Global, bytes: &[u8]) -> Result<DiskList, InputError>
     ensures value { IfOk result (λ r. r.disks.items ≡ map disk_of (rows_of bytes.now)) }
-    ensures few { IfOk result (λ r. length r.disks.items ≤ 1024) }
+    ensures few { IfOk result (λ r. length r.disks.items ≤ MAX_DISKS) }
     ensures names { IfOk result (λ r. r.names ≡ map (λ d. d.name) r.disks.items) }
     ensures sound { IfOk result (λ _. (n : ℕ) (w : Why) → ¬ (DisksFault bytes.now n w)) }
     ensures fault { IfErr result (IsRefusalOf file.Disks (DisksFault bytes.now)) }
@@ -47,13 +47,13 @@ pub(crate) fn read_disks(alloc: Global, bytes: &[u8]) -> Result<DiskList, InputE
     Ok(DiskList { names, disks })
 }
 
-// The disk that a row lists, or the first cause that holds of it after rows of these names.
+/// The disk that a row lists, or the first cause that holds of it after rows of these names.
 fn read_disk(names: &NameTable, row: &ByteRecord) -> Result<Disk, Why>
     ensures value { IfOk result (λ d. d ≡ disk_of (fields_of row.now)) }
     ensures sound { IfOk result (λ _. (w : Why) → ¬ (DisksRowFault names.now (fields_of row.now) w)) }
     ensures cause { IfErr result (IsFirstCause (DisksRowFault names.now (fields_of row.now))) }
 {
-    if names.len() >= 1024 {
+    if names.len() >= MAX_DISKS {
         return Err(Why::TooManyRows);
     }
     if row.len() != 3 {
@@ -62,13 +62,13 @@ fn read_disk(names: &NameTable, row: &ByteRecord) -> Result<Disk, Why>
     let Some(name) = Name::read(field(row, 0)) else {
         return Err(Why::BadName);
     };
-    let Some(limit) = read_number(field(row, 1)) else {
+    let Some(limit) = read_digits(field(row, 1)) else {
         return Err(Why::BadNumber);
     };
-    let Some(slots) = read_number(field(row, 2)) else {
+    let Some(slots) = read_digits(field(row, 2)) else {
         return Err(Why::BadNumber);
     };
-    if limit < 1 || limit > 1024 || slots < 1 || slots > 65536 {
+    if limit < 1 || limit > u64::from(MAX_LIMIT) || slots < 1 || slots > u64::from(MAX_SLOTS) {
         return Err(Why::OutOfRange);
     }
     if names.find(&name).is_some() {

@@ -1,3 +1,4 @@
+//! Why no input is read.
 ghost use Rattle.std.specs.Prelude.{◌≡◌};
 
 use mig_base::{FileKind, Why};
@@ -16,6 +17,7 @@ pub enum InputError {
     Memory,
 }
 
+/// The refusal of a file at this row, with this cause.
 pub(crate) fn refused(file: FileKind, row: u32, why: Why) -> InputError
     ensures { result ≡ InputError.Refused file row why }
 {

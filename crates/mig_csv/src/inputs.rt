@@ -1,3 +1,4 @@
+//! The input that three files stand for.
 ghost use Rattle.std.specs.Prelude.{◌≡◌, IfErr, IfOk};
 ghost use Rattle.mig_base.specs.Refusals.{Accepted};
 ghost use Rattle.mig_base.specs.Targets.{IsRoomy};

@@ -1,3 +1,4 @@
+//! The now file: the items and where they are.
 ghost use Rattle.std.specs.Prelude.{◌≡◌, ◌≤◌, All, IfErr, IfOk, length, map, ℕ};
 ghost use Rattle.std.specs.List.{AllZip};
 ghost use Rattle.csv.specs.Records.{fields_of};
@@ -12,14 +13,13 @@ ghost use Rattle.mig_csv.specs.Refusals.{IsRefusalOf, NowFault};
 use crate::disks::DiskList;
 use crate::errors::{InputError, refused};
 use crate::files::rows_after_header;
-use crate::numbers::read_number;
 use crate::rows::field;
 use csv::ByteRecord;
-use mig_base::{DiskId, FileKind, Name, Spot, Why};
+use mig_base::{DiskId, FileKind, MAX_DISKS, MAX_ITEMS, Name, Spot, Why, read_digits};
 use mig_names::{NameTable, SpotTable};
 use std::alloc::Global;
 
-// The items of a now file and their spots.
+/// The items of a now file and their spots.
 #[derive(Drop)]
 pub(crate) struct Layout {
     pub(crate) names: NameTable,
@@ -27,19 +27,19 @@ pub(crate) struct Layout {
     pub(crate) spots: Vec<Spot>,
 }
 
-// An item and where it is.
+/// An item and where it is.
 #[derive(Clone, Copy)]
 struct Placed {
     name: Name,
     spot: Spot,
 }
 
-// The items that a now file lists, in its order, or the first fault of the file.
+/// The items that a now file lists, in its order, or the first fault of the file.
 pub(crate) fn read_now(alloc: Global, bytes: &[u8], disks: &DiskList) -> Result<Layout, InputError>
     requires named { disks.now.names ≡ map (λ d. d.name) disks.now.disks.items }
-    requires few { length disks.now.disks.items ≤ 1024 }
+    requires few { length disks.now.disks.items ≤ MAX_DISKS }
     ensures items { IfOk result (λ r. r.items.items ≡ map first (rows_of bytes.now)) }
-    ensures few { IfOk result (λ r. length r.items.items ≤ 65536) }
+    ensures few { IfOk result (λ r. length r.items.items ≤ MAX_ITEMS) }
     ensures names { IfOk result (λ r. r.items.items ≡ r.names) }
     ensures spots { IfOk result (λ r. AllZip (IsSpotNamed disks.now.disks.items) (rows_of bytes.now) r.spots.items) }
     ensures on_disks { IfOk result (λ r. All (IsSpotOf disks.now.disks.items) r.spots.items) }
@@ -73,7 +73,7 @@ pub(crate) fn read_now(alloc: Global, bytes: &[u8], disks: &DiskList) -> Result<
     })
 }
 
-// The item that a row lists and its spot, or the first cause that holds of the row after rows of these items and spots.
+/// The item that a row lists and its spot, or the first cause that holds of the row after rows of these items and spots.
 fn read_item(
     disks: &DiskList,
     items: &NameTable,
@@ -81,7 +81,7 @@ fn read_item(
     row: &ByteRecord,
 ) -> Result<Placed, Why>
     requires named { disks.now.names ≡ map (λ d. d.name) disks.now.disks.items }
-    requires few { length disks.now.disks.items ≤ 1024 }
+    requires few { length disks.now.disks.items ≤ MAX_DISKS }
     requires on_disks { All (IsSpotOf disks.now.disks.items) taken.now }
     ensures item { IfOk result (λ p. p.name ≡ first (fields_of row.now)) }
     ensures spot { IfOk result (λ p. IsSpotNamed disks.now.disks.items (fields_of row.now) p.spot) }
@@ -89,7 +89,7 @@ fn read_item(
     ensures sound { IfOk result (λ _. (w : Why) → ¬ (NowRowFault disks.now.disks.items items.now (map (place_in disks.now.disks.items) taken.now) (fields_of row.now) w)) }
     ensures cause { IfErr result (IsFirstCause (NowRowFault disks.now.disks.items items.now (map (place_in disks.now.disks.items) taken.now) (fields_of row.now))) }
 {
-    if items.len() >= 65_536 {
+    if items.len() >= MAX_ITEMS {
         return Err(Why::TooManyRows);
     }
     if row.len() != 3 {
@@ -101,7 +101,7 @@ fn read_item(
     let Some(disk) = Name::read(field(row, 1)) else {
         return Err(Why::BadName);
     };
-    let Some(slot) = read_number(field(row, 2)) else {
+    let Some(slot) = read_digits(field(row, 2)) else {
         return Err(Why::BadNumber);
     };
     if items.find(&name).is_some() {

@@ -8,7 +8,6 @@ mod files;
 mod inputs;
 mod items;
 mod next;
-mod numbers;
 mod room;
 mod rows;
 

@@ -1,4 +1,5 @@
-ghost use Rattle.std.specs.Prelude.{◌≡◌, ◌≤◌, Some, None, IfErr, IfOk, length, map, replicate, slice_get, ℕ};
+//! The next file: the disks that the items are to go to.
+ghost use Rattle.std.specs.Prelude.{◌≡◌, ◌≤◌, Some, IfErr, IfOk, length, map, slice_get, ℕ};
 ghost use Rattle.std.specs.Option.{IsSomeAnd};
 ghost use Rattle.csv.specs.Records.{fields_of};
 ghost use Rattle.mig_base.specs.Refusals.{IsFirstCause, NextRowFault};
@@ -14,11 +15,11 @@ use crate::errors::{InputError, refused};
 use crate::files::rows_after_header;
 use crate::rows::field;
 use csv::ByteRecord;
-use mig_base::{DiskId, FileKind, Name, Why};
+use mig_base::{DiskId, FileKind, MAX_DISKS, MAX_ITEMS, Name, Why};
 use mig_names::NameTable;
-use std::alloc::{AllocError, Global};
+use std::alloc::Global;
 
-// An item, its place among the items, and the disk that it is to go to.
+/// An item, its place among the items, and the disk that it is to go to.
 #[derive(Clone, Copy)]
 pub(crate) struct Way {
     pub(crate) name: Name,
@@ -26,7 +27,7 @@ pub(crate) struct Way {
     pub(crate) disk: DiskId,
 }
 
-// The next disks that a next file gives, or its first fault.
+/// The next disks that a next file gives, or its first fault.
 pub(crate) fn read_next(
     alloc: Global,
     bytes: &[u8],
@@ -34,7 +35,7 @@ pub(crate) fn read_next(
     present: &NameTable,
 ) -> Result<Vec<Option<DiskId>>, InputError>
     requires named { disks.now.names ≡ map (λ d. d.name) disks.now.disks.items }
-    requires few { length disks.now.disks.items ≤ 1024 }
+    requires few { length disks.now.disks.items ≤ MAX_DISKS }
     ensures value { IfOk result (λ r. AreNextOf disks.now.disks.items present.now (rows_of bytes.now) r.items) }
     ensures sound { IfOk result (λ _. (n : ℕ) (w : Why) → ¬ (NextFault disks.now.disks.items present.now bytes.now n w)) }
     ensures fault { IfErr result (IsRefusalOf file.Next (NextFault disks.now.disks.items present.now bytes.now)) }
@@ -42,7 +43,7 @@ pub(crate) fn read_next(
     let mut row = ByteRecord::new(alloc);
     let mut records = rows_after_header(alloc, FileKind::Next, bytes, &mut row)?;
     let mut seen = NameTable::new(alloc);
-    let Ok(mut next) = none_known(alloc, present.len()) else {
+    let Ok(mut next) = vec![in alloc; None; present.len()] else {
         return Err(InputError::Memory);
     };
     'rows: while records.read(&mut row)? {
@@ -59,7 +60,7 @@ pub(crate) fn read_next(
     Ok(next)
 }
 
-// What a row of a next file lists, or the first cause that holds of the row after rows of the items that were seen.
+/// What a row of a next file lists, or the first cause that holds of the row after rows of the items that were seen.
 fn read_way(
     disks: &DiskList,
     present: &NameTable,
@@ -67,7 +68,7 @@ fn read_way(
     row: &ByteRecord,
 ) -> Result<Way, Why>
     requires named { disks.now.names ≡ map (λ d. d.name) disks.now.disks.items }
-    requires few { length disks.now.disks.items ≤ 1024 }
+    requires few { length disks.now.disks.items ≤ MAX_DISKS }
     ensures name { IfOk result (λ way. way.name ≡ first (fields_of row.now)) }
     ensures item { IfOk result (λ way. slice_get present.now way.item ≡ Some (first (fields_of row.now))) }
     ensures disk { IfOk result (λ way. IsSomeAnd (slice_get disks.now.disks.items way.disk.0) (λ d. d.name ≡ second (fields_of row.now))) }
@@ -75,7 +76,7 @@ fn read_way(
     ensures sound { IfOk result (λ _. (w : Why) → ¬ (NextRowFault disks.now.disks.items present.now seen.now (fields_of row.now) w)) }
     ensures cause { IfErr result (IsFirstCause (NextRowFault disks.now.disks.items present.now seen.now (fields_of row.now))) }
 {
-    if seen.len() >= 65_536 {
+    if seen.len() >= MAX_ITEMS {
         return Err(Why::TooManyRows);
     }
     if row.len() != 2 {
@@ -101,16 +102,4 @@ fn read_way(
         item,
         disk: DiskId(place as u32),
     })
-}
-
-// No next disk yet for any of so many items.
-fn none_known(alloc: Global, count: usize) -> Result<Vec<Option<DiskId>>, AllocError>
-    ensures { IfOk result (λ next. next.items ≡ replicate count None) }
-{
-    let mut next = Vec::new(alloc);
-    for known in 0..count {
-        let _known = known;
-        next.push(None)?;
-    }
-    Ok(next)
 }

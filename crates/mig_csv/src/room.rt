@@ -1,4 +1,5 @@
-ghost use Rattle.std.specs.Prelude.{◌≡◌, ◌≤◌, ◌<◌, ◌+◌, All, IfErr, IfOk, ℕ, Some, length, map, slice_index_or};
+//! Whether every item has a next disk, and every disk room.
+ghost use Rattle.std.specs.Prelude.{◌≡◌, ◌≤◌, ◌<◌, ◌+◌, ◌*◌, All, IfErr, IfOk, ℕ, Some, length, map, slice_index_or};
 ghost use Rattle.mig_base.specs.InputLists.{IsSpotOf};
 ghost use Rattle.mig_base.specs.Targets.{IsRoomy};
 ghost use Rattle.mig_base.specs.declared.faults.FileKind.TheVariants as file;
@@ -6,12 +7,12 @@ ghost use Rattle.mig_base.specs.declared.faults.Why.TheVariants as why;
 ghost use Rattle.mig_csv.specs.Lists.{AreNeeds, RefusesMissing, RefusesRoom, slots_for};
 
 use crate::errors::{InputError, refused};
-use mig_base::{Disk, DiskId, FileKind, Name, Spot, Why};
+use mig_base::{Disk, DiskId, FileKind, MAX_DISKS, MAX_ITEMS, Name, Spot, Why};
 use std::alloc::{AllocError, Global};
 
-// The next disks, where each item has one.
+/// The next disks, where each item has one.
 pub(crate) fn all_next(alloc: Global, next: &[Option<DiskId>]) -> Result<Vec<DiskId>, InputError>
-    requires few { length next.now ≤ 65536 }
+    requires few { length next.now ≤ MAX_ITEMS }
     ensures value { IfOk result (λ r. next.now ≡ map (λ d. Some d) r.items) }
     ensures missing { IfErr result (RefusesMissing next.now) }
 {
@@ -29,7 +30,7 @@ pub(crate) fn all_next(alloc: Global, next: &[Option<DiskId>]) -> Result<Vec<Dis
     Ok(disks)
 }
 
-// Whether each disk has room for what is on it and what comes to it.
+/// Whether each disk has room for what is on it and what comes to it.
 pub(crate) fn check_room(
     alloc: Global,
     disks: &[Disk],
@@ -37,8 +38,8 @@ pub(crate) fn check_room(
     spots: &[Spot],
     next: &[DiskId],
 ) -> Result<(), InputError>
-    requires few_disks { length disks.now ≤ 1024 }
-    requires few { length items.now ≤ 65536 }
+    requires few_disks { length disks.now ≤ MAX_DISKS }
+    requires few { length items.now ≤ MAX_ITEMS }
     requires spots_len { length spots.now ≡ length items.now }
     requires next_len { length next.now ≡ length items.now }
     requires on_disks { All (IsSpotOf disks.now) spots.now }
@@ -57,7 +58,7 @@ pub(crate) fn check_room(
     Ok(())
 }
 
-// How many slots each disk needs: one for each item that is on it now, and one for each relocated item that comes to it.
+/// How many slots each disk needs: one for each item that is on it now, and one for each relocated item that comes to it.
 fn count_needs(
     alloc: Global,
     disks: &[Disk],
@@ -65,7 +66,7 @@ fn count_needs(
     spots: &[Spot],
     next: &[DiskId],
 ) -> Result<Vec<u32>, AllocError>
-    requires few { length items.now ≤ 65536 }
+    requires few { length items.now ≤ MAX_ITEMS }
     requires spots_len { length spots.now ≡ length items.now }
     requires next_len { length next.now ≡ length items.now }
     requires on_disks { All (IsSpotOf disks.now) spots.now }
@@ -79,11 +80,11 @@ fn count_needs(
     Ok(needs)
 }
 
-// Counts an item that is on one disk and is to go to the other.
+/// Counts an item that is on one disk and is to go to the other.
 fn add_needs(needs: &mut [u32], on: DiskId, to: DiskId)
     requires on { on.0 < length needs.old }
     requires to { to.0 < length needs.old }
-    requires few { (v : ℕ) → slice_index_or needs.old v 0 ≤ 131072 }
+    requires few { (v : ℕ) → slice_index_or needs.old v 0 ≤ 2 * MAX_ITEMS }
     ensures len { length needs.new ≡ length needs.old }
     ensures each { (v : ℕ) → slice_index_or needs.new v 0 ≡ slice_index_or needs.old v 0 + slots_for on to v }
 {
@@ -93,6 +94,7 @@ fn add_needs(needs: &mut [u32], on: DiskId, to: DiskId)
     }
 }
 
+/// The refusal of a disk that lacks room.
 fn no_room(row: u32, disk: &Disk, needs: u32) -> InputError
     ensures { result ≡ InputError.Refused file.Disks row (why.NoRoom disk.now.name needs disk.now.slots) }
 {

@@ -1,3 +1,4 @@
+//! The records of a file and their fields.
 ghost use Rattle.std.specs.Prelude.{◌≡◌, ◌∷◌, [], IfErr, IfOk, MatchBool, slice_get, unwrap_or};
 ghost use Rattle.csv.specs.Records.{fields_of};
 ghost use Rattle.mig_base.specs.Rows.{records_of};
@@ -7,7 +8,7 @@ use csv::{ByteRecord, Reader, ReaderBuilder};
 use std::alloc::Global;
 use std::marker::Model;
 
-// The records of a text that are still to be read.
+/// The records of a text that are still to be read.
 #[derive(Drop)]
 pub(crate) struct Records<'a> {
     rdr: Reader<&'a [u8]>,
@@ -26,7 +27,7 @@ impl<'a> Model for Records<'a> {
 }
 
 impl<'a> Records<'a> {
-    // Every record of a text, which may begin with a byte order mark.
+    /// Every record of a text, which may begin with a byte order mark.
     pub(crate) fn of(alloc: Global, text: &'a [u8]) -> Records<'a>
         ensures { result ≡ records_of text.now }
     {
@@ -38,7 +39,7 @@ impl<'a> Records<'a> {
         }
     }
 
-    // The next record into `row`, and whether there was one. After an error nothing is known of the records.
+    /// The next record into `row`, and whether there was one. After an error nothing is known of the records.
     pub(crate) fn read(&mut self, row: &mut ByteRecord) -> Result<bool, InputError>
         ensures found { IfOk result (λ found. MatchBool found (self.old ≡ fields_of row.new ∷ self.new) (self.old ≡ [])) }
         ensures memory { IfErr result (λ e. e ≡ InputError.Memory) }
@@ -50,7 +51,7 @@ impl<'a> Records<'a> {
     }
 }
 
-// The field at a place, or no bytes where the row has none there.
+/// The field at a place, or no bytes where the row has none there.
 pub(crate) fn field(row: &ByteRecord, i: usize) -> &[u8]
     ensures { result.now ≡ unwrap_or (slice_get (fields_of row.now) i) [] }
 {

@@ -6,7 +6,7 @@ use Rattle.std.proofs.lemmas.Option.{same_Some, none-some, slice_get-get_or, sli
 use Rattle.std.proofs.lemmas.List.{get_or-set_same, get_or-set_other}
 use Rattle.mig_base.specs.declared.ids.DiskId.{DiskId}
 use Rattle.mig_base.specs.declared.ids.EdgeId.{EdgeId}
-use Rattle.mig_euler.specs.Balance.{IsWaiting, PassedBelow, AllPassed, AllInRange, tail_of, head_of}
+use Rattle.mig_euler.specs.Balance.{IsWaiting, PassedBelow, AllPassed, AllInRange, pair_tail, pair_head}
 use Rattle.mig_euler.specs.Trails.{IsTrail, total, waits, is, bit}
 use Rattle.mig_euler.proofs.Trail.{IsTrail-more, total-set}
 
@@ -97,11 +97,11 @@ waits_end ends ds v i p h w =
       | inr x ↦ inr (some_pair_parts (get_or ends i p).0 w.at.0 (get_or ends i p).1 v (sym row ∙ x)).1
     ]
 
-head_in_range : (ends : List (DiskId × DiskId)) (n : ℕ) → AllInRange ends n → (i : ℕ) (p : DiskId × DiskId) (d : Bool) (w : DiskId) → slice_get ends i ≡ Some p → head_of p d ≡ w → w.0 < n
+head_in_range : (ends : List (DiskId × DiskId)) (n : ℕ) → AllInRange ends n → (i : ℕ) (p : DiskId × DiskId) (d : Bool) (w : DiskId) → slice_get ends i ≡ Some p → pair_head p d ≡ w → w.0 < n
 head_in_range ends n h i p true w row is_w = subst (λ (q : DiskId). q.0 < n) is_w (h (record { 0 = i }) p row).1
 head_in_range ends n h i p false w row is_w = subst (λ (q : DiskId). q.0 < n) is_w (h (record { 0 = i }) p row).0
 
-pub following_more : (ends : List (DiskId × DiskId)) (old now : List (Option Bool)) (from : List ℕ) (s at w : DiskId) → AllInRange ends (length from) → IsFollowing ends old now from s at → (i : ℕ) (p : DiskId × DiskId) (d : Bool) → i < length ends → PassedBelow ends now at i → IsWaiting ends now at (record { 0 = i }) → tail_of (get_or ends i p) d ≡ at → head_of (get_or ends i p) d ≡ w →
+pub following_more : (ends : List (DiskId × DiskId)) (old now : List (Option Bool)) (from : List ℕ) (s at w : DiskId) → AllInRange ends (length from) → IsFollowing ends old now from s at → (i : ℕ) (p : DiskId × DiskId) (d : Bool) → i < length ends → PassedBelow ends now at i → IsWaiting ends now at (record { 0 = i }) → pair_tail (get_or ends i p) d ≡ at → pair_head (get_or ends i p) d ≡ w →
     IsFollowing ends old (set now i (Some d)) (set from at.0 i) s w
 following_more ends old now from s at w range x i p d h passed waits ht hw =
     let row : slice_get ends i ≡ Some (get_or ends i p) = slice_get-get_or ends i p h in

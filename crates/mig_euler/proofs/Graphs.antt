@@ -7,18 +7,18 @@ use Rattle.mig_base.specs.declared.ids.DiskId.{DiskId}
 use Rattle.mig_base.specs.Transfers.{Trip}
 use Rattle.mig_base.specs.Directions.{trip_at, Balances}
 use Rattle.mig_euler.specs.Balance.{AllInRange}
-use Rattle.mig_euler.specs.Pairs.{ArePairs, trip_of, pair_at}
+use Rattle.mig_euler.specs.Pairs.{ArePairs, pair_trip, pair_at}
 
-map_get : (ps : List (DiskId × DiskId)) (k : ℕ) (t : Trip) → k < length ps → get_or (map trip_of ps) k t ≡ trip_of (pair_at ps k)
+map_get : (ps : List (DiskId × DiskId)) (k : ℕ) (t : Trip) → k < length ps → get_or (map pair_trip ps) k t ≡ pair_trip (pair_at ps k)
 map_get [] k t h = absurd (omega arith)
 map_get (p ∷ ps) zero t h = refl
 map_get (p ∷ ps) (suc k) t h = map_get ps k t (omega arith)
 
-trips_are : (trips : List Trip) (ps : List (DiskId × DiskId)) → ArePairs trips ps → map trip_of ps ≡ trips
-trips_are trips ps a = same_lists (map trip_of ps) trips (length-map ps trip_of ∙ a.len)
-    (λ k t h. (let l : k < length ps = omega (arith, h, length-map ps trip_of) in map_get ps k t l ∙ a.known k l ∙ get_or_default trips k (record { leaves = 0; reaches = 0 }) t (omega (arith, l, a.len))))
+trips_are : (trips : List Trip) (ps : List (DiskId × DiskId)) → ArePairs trips ps → map pair_trip ps ≡ trips
+trips_are trips ps a = same_lists (map pair_trip ps) trips (length-map ps pair_trip ∙ a.len)
+    (λ k t h. (let l : k < length ps = omega (arith, h, length-map ps pair_trip) in map_get ps k t l ∙ a.known k l ∙ get_or_default trips k (record { leaves = 0; reaches = 0 }) t (omega (arith, l, a.len))))
 
-pub balanced : (trips : List Trip) (ps : List (DiskId × DiskId)) (ds : List Bool) → ArePairs trips ps → Balances (map trip_of ps) ds → Balances trips ds
+pub balanced : (trips : List Trip) (ps : List (DiskId × DiskId)) (ds : List Bool) → ArePairs trips ps → Balances (map pair_trip ps) ds → Balances trips ds
 balanced trips ps ds a b = subst (λ (ts : List Trip). Balances ts ds) (trips_are trips ps a) b
 
 pair_known : (ps : List (DiskId × DiskId)) (k : ℕ) (p : DiskId × DiskId) → slice_get ps k ≡ Some p → p ≡ pair_at ps k
@@ -27,7 +27,7 @@ pair_known ps k p e = sym (same_Some (pair_at ps k) p (sym (slice_get-get_or ps 
 pub in_range : (trips : List Trip) (ps : List (DiskId × DiskId)) (n : ℕ) → ArePairs trips ps → All (λ t. t.leaves < n) trips → All (λ t. t.reaches < n) trips → AllInRange ps n
 in_range trips ps n a l r e p row =
     let h : e.0 < length ps = slice_get_within ps e.0 p row in
-    let same : trip_of p ≡ trip_at trips e.0 = ap trip_of (pair_known ps e.0 p row) ∙ a.known e.0 h in
+    let same : pair_trip p ≡ trip_at trips e.0 = ap pair_trip (pair_known ps e.0 p row) ∙ a.known e.0 h in
     (omega (arith, ap (λ (t : Trip). t.leaves) same, l e.0 (record { leaves = 0; reaches = 0 }) (omega (arith, h, a.len))), omega (arith, ap (λ (t : Trip). t.reaches) same, r e.0 (record { leaves = 0; reaches = 0 }) (omega (arith, h, a.len))))
 
 pub no_loop : (trips : List Trip) (ps : List (DiskId × DiskId)) → ArePairs trips ps → All (λ t. t.leaves ≢ t.reaches) trips → All (λ p. p.0 ≢ p.1) ps

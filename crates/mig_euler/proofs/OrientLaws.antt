@@ -4,51 +4,51 @@ use Rattle.std.proofs.lemmas.List.Sums.{sum_by-cons}
 use Rattle.std.proofs.lemmas.Bool.{cases_eq, cases_lt, ne_eqb}
 use Rattle.mig_base.specs.declared.ids.DiskId.{DiskId}
 use Rattle.mig_base.specs.Directions as base
-use Rattle.mig_euler.specs.Balance.{tail_of, head_of, AllPassed, AllInRange}
-use Rattle.mig_euler.specs.Pairs.{trip_of}
-use Rattle.mig_euler.specs.Trails.{bit, is, leaves, enters, waits, total, EndsTrail, IsEven, is_forward}
+use Rattle.mig_euler.specs.Balance.{pair_tail, pair_head, AllPassed, AllInRange}
+use Rattle.mig_euler.specs.Pairs.{pair_trip}
+use Rattle.mig_euler.specs.Trails.{bit, is, leaves, enters, waits, total, EndsTrail, IsBalanced, points_forward}
 use Rattle.mig_euler.specs.Ready.{IsReady}
 use Rattle.std.proofs.lemmas.List.{length-replicate}
-use Rattle.mig_euler.proofs.Trail.{IsEven-trail, even_kept, odd_ended, trail_closed, IsEven-none}
+use Rattle.mig_euler.proofs.Trail.{IsBalanced-trail, even_kept, odd_ended, trail_closed, IsBalanced-none}
 
 -- ---- where no edge waits anywhere, the counts are those of the directions
 
-same_tail : (p : DiskId × DiskId) (d : Bool) → base.tail_of (trip_of p) d ≡ (tail_of p d).0
+same_tail : (p : DiskId × DiskId) (d : Bool) → base.tail_of (pair_trip p) d ≡ (pair_tail p d).0
 same_tail p true = refl
 same_tail p false = refl
 
-same_head : (p : DiskId × DiskId) (d : Bool) → base.head_of (trip_of p) d ≡ (head_of p d).0
+same_head : (p : DiskId × DiskId) (d : Bool) → base.head_of (pair_trip p) d ≡ (pair_head p d).0
 same_head p true = refl
 same_head p false = refl
 
 itself : (w : DiskId) → is w w ≡ 1
 itself w = ap bit (eq-eqb w.0 w.0 refl)
 
-out_is : (v : DiskId) (ps : List (DiskId × DiskId)) (ds : List (Option Bool)) → ((w : DiskId) → total (waits w) ps ds ≡ 0) → length ds ≡ length ps → base.out_of (map trip_of ps) (map is_forward ds) v.0 ≡ total (leaves v) ps ds
+out_is : (v : DiskId) (ps : List (DiskId × DiskId)) (ds : List (Option Bool)) → ((w : DiskId) → total (waits w) ps ds ≡ 0) → length ds ≡ length ps → base.out_of (map pair_trip ps) (map points_forward ds) v.0 ≡ total (leaves v) ps ds
 out_is v [] ds h len = refl
 out_is v (p ∷ ps) [] h len = refl
 out_is v (p ∷ ps) (Some d ∷ ds) h len =
     omega (
       arith,
-      sum_by-cons (λ n. cond (eqb n v.0) 1 0) (base.tail_of (trip_of p) d) (base.tails (map trip_of ps) (map is_forward ds)),
+      sum_by-cons (λ n. cond (eqb n v.0) 1 0) (base.tail_of (pair_trip p) d) (base.tails (map pair_trip ps) (map points_forward ds)),
       ap {B = ℕ} (λ n. cond (eqb n v.0) 1 0) (same_tail p d),
       out_is v ps ds (λ w. omega (arith, h w)) (omega arith),
     )
 out_is v (p ∷ ps) (None ∷ ds) h len = absurd (omega (arith, h p.0, itself p.0))
 
-in_is : (v : DiskId) (ps : List (DiskId × DiskId)) (ds : List (Option Bool)) → ((w : DiskId) → total (waits w) ps ds ≡ 0) → length ds ≡ length ps → base.in_of (map trip_of ps) (map is_forward ds) v.0 ≡ total (enters v) ps ds
+in_is : (v : DiskId) (ps : List (DiskId × DiskId)) (ds : List (Option Bool)) → ((w : DiskId) → total (waits w) ps ds ≡ 0) → length ds ≡ length ps → base.in_of (map pair_trip ps) (map points_forward ds) v.0 ≡ total (enters v) ps ds
 in_is v [] ds h len = refl
 in_is v (p ∷ ps) [] h len = refl
 in_is v (p ∷ ps) (Some d ∷ ds) h len =
     omega (
       arith,
-      sum_by-cons (λ n. cond (eqb n v.0) 1 0) (base.head_of (trip_of p) d) (base.heads (map trip_of ps) (map is_forward ds)),
+      sum_by-cons (λ n. cond (eqb n v.0) 1 0) (base.head_of (pair_trip p) d) (base.heads (map pair_trip ps) (map points_forward ds)),
       ap {B = ℕ} (λ n. cond (eqb n v.0) 1 0) (same_head p d),
       in_is v ps ds (λ w. omega (arith, h w)) (omega arith),
     )
 in_is v (p ∷ ps) (None ∷ ds) h len = absurd (omega (arith, h p.0, itself p.0))
 
-Balances-settled : (ps : List (DiskId × DiskId)) (ds : List (Option Bool)) → IsEven ps ds → ((w : DiskId) → total (waits w) ps ds ≡ 0) → length ds ≡ length ps → base.Balances (map trip_of ps) (map is_forward ds)
+Balances-settled : (ps : List (DiskId × DiskId)) (ds : List (Option Bool)) → IsBalanced ps ds → ((w : DiskId) → total (waits w) ps ds ≡ 0) → length ds ≡ length ps → base.Balances (map pair_trip ps) (map points_forward ds)
 Balances-settled ps ds e h len =
     record {
       out_most = λ v. (let d : DiskId = record { 0 = v } in omega (arith, out_is d ps ds h len, in_is d ps ds h len, e.out_most d));
@@ -73,7 +73,7 @@ ready_after ends old now from from' s r e passed len which =
       len = e.trail.len ∙ r.len;
       in_range = subst (λ n. AllInRange ends n) (sym len) r.in_range;
       passed = passed;
-      even = IsEven-trail ends old now s e.end r.even e.trail e.stuck which;
+      even = IsBalanced-trail ends old now s e.end r.even e.trail e.stuck which;
     }
 
 same_disk : (v w : DiskId) → v.0 ≡ w.0 → v ≡ w
@@ -120,7 +120,7 @@ zero_at (suc n) zero = refl
 zero_at (suc n) (suc i) = zero_at n i
 
 pub ready_first : (ends : List (DiskId × DiskId)) (n : ℕ) (first : List ℕ) → n ≡ length ends → AllInRange ends (length first) → AllPassed ends (replicate n None) first → IsReady ends (replicate n None) first
-ready_first ends n first len range passed = record { len = length-replicate n None ∙ len; in_range = range; passed = passed; even = IsEven-none ends (replicate n None) (λ v. none_directed v ends n) }
+ready_first ends n first len range passed = record { len = length-replicate n None ∙ len; in_range = range; passed = passed; even = IsBalanced-none ends (replicate n None) (λ v. none_directed v ends n) }
 
 pub ready_start : (ends : List (DiskId × DiskId)) (disks n : ℕ) → n ≡ length ends → AllInRange ends disks → IsReady ends (replicate n None) (replicate disks 0)
 ready_start ends disks n len range =
@@ -128,8 +128,8 @@ ready_start ends disks n len range =
       len = length-replicate n None ∙ len;
       in_range = subst (λ m. AllInRange ends m) (sym (length-replicate disks 0)) range;
       passed = record { bound = λ v. omega (arith, zero_at disks v.0); passed = λ v e h w. absurd (omega (arith, h, zero_at disks v.0)) };
-      even = IsEven-none ends (replicate n None) (λ v. none_directed v ends n);
+      even = IsBalanced-none ends (replicate n None) (λ v. none_directed v ends n);
     }
 
-pub settled_balances : (ends : List (DiskId × DiskId)) (ds : List (Option Bool)) (out : List Bool) → IsEven ends ds → ((w : DiskId) → total (waits w) ends ds ≡ 0) → length ds ≡ length ends → out ≡ map is_forward ds → base.Balances (map trip_of ends) out
-settled_balances ends ds out e h len is_out = subst (λ (q : List Bool). base.Balances (map trip_of ends) q) (sym is_out) (Balances-settled ends ds e h len)
+pub settled_balances : (ends : List (DiskId × DiskId)) (ds : List (Option Bool)) (out : List Bool) → IsBalanced ends ds → ((w : DiskId) → total (waits w) ends ds ≡ 0) → length ds ≡ length ends → out ≡ map points_forward ds → base.Balances (map pair_trip ends) out
+settled_balances ends ds out e h len is_out = subst (λ (q : List Bool). base.Balances (map pair_trip ends) q) (sym is_out) (Balances-settled ends ds e h len)

@@ -4,8 +4,8 @@ use Rattle.std.specs.Prelude.{slice_get}
 use Rattle.std.proofs.lemmas.Bool.{cases_eq, ne_eqb}
 use Rattle.std.proofs.lemmas.Option.{same_Some, none-some}
 use Rattle.mig_base.specs.declared.ids.DiskId.{DiskId}
-use Rattle.mig_euler.specs.Balance.{tail_of, head_of}
-use Rattle.mig_euler.specs.Trails.{bit, is, leaves, enters, waits, total, IsTrail, IsEven}
+use Rattle.mig_euler.specs.Balance.{pair_tail, pair_head}
+use Rattle.mig_euler.specs.Trails.{bit, is, leaves, enters, waits, total, IsTrail, IsBalanced}
 
 -- a total after one direction is set
 pub total-set : (f : DiskId × DiskId → Option Bool → ℕ) (ps : List (DiskId × DiskId)) (ds : List (Option Bool)) (i : ℕ) (p : DiskId × DiskId) (d e : Option Bool) → slice_get ps i ≡ Some p → slice_get ds i ≡ Some d → total f ps (set ds i e) + f p d ≡ total f ps ds + f p e
@@ -21,25 +21,25 @@ pub IsTrail-start : (ps : List (DiskId × DiskId)) (ds : List (Option Bool)) (s 
 IsTrail-start ps ds s = record { len = refl; flow = λ v. omega arith; parity = λ v. omega arith; fewer = λ v. omega arith }
 
 -- the edge at i leads from t to w
-pub IsTrail-more : (ps : List (DiskId × DiskId)) (old now : List (Option Bool)) (s t w : DiskId) → IsTrail ps old now s t → (i : ℕ) (p : DiskId × DiskId) (d : Bool) → slice_get ps i ≡ Some p → slice_get now i ≡ Some None → tail_of p d ≡ t → head_of p d ≡ w → IsTrail ps old (set now i (Some d)) s w
+pub IsTrail-more : (ps : List (DiskId × DiskId)) (old now : List (Option Bool)) (s t w : DiskId) → IsTrail ps old now s t → (i : ℕ) (p : DiskId × DiskId) (d : Bool) → slice_get ps i ≡ Some p → slice_get now i ≡ Some None → pair_tail p d ≡ t → pair_head p d ≡ w → IsTrail ps old (set now i (Some d)) s w
 IsTrail-more ps old now s t w x i p d hp hd ht hw =
     record {
       len = length-set now i (Some d) ∙ x.len;
       flow = λ v. (
           let a = total-set (leaves v) ps now i p None (Some d) hp hd in
           let b = total-set (enters v) ps now i p None (Some d) hp hd in
-          let c : is v (tail_of p d) ≡ is v t = ap (is v) ht in
-          let e : is v (head_of p d) ≡ is v w = ap (is v) hw in
+          let c : is v (pair_tail p d) ≡ is v t = ap (is v) ht in
+          let e : is v (pair_head p d) ≡ is v w = ap (is v) hw in
           omega (arith, a, b, c, e, x.flow v));
       parity = λ v. (
           let a = total-set (waits v) ps now i p None (Some d) hp hd in
-          let c : is v (tail_of p d) ≡ is v t = ap (is v) ht in
-          let e : is v (head_of p d) ≡ is v w = ap (is v) hw in
+          let c : is v (pair_tail p d) ≡ is v t = ap (is v) ht in
+          let e : is v (pair_head p d) ≡ is v w = ap (is v) hw in
           omega (arith, a, c, e, both v p d, x.parity v));
       fewer = λ v. (let a = total-set (waits v) ps now i p None (Some d) hp hd in omega (arith, a, x.fewer v));
     }
   where
-    both : (v : DiskId) (p : DiskId × DiskId) (d : Bool) → is v p.0 + is v p.1 ≡ is v (tail_of p d) + is v (head_of p d)
+    both : (v : DiskId) (p : DiskId × DiskId) (d : Bool) → is v p.0 + is v p.1 ≡ is v (pair_tail p d) + is v (pair_head p d)
     both v p true = refl
     both v p false = omega arith
 
@@ -61,7 +61,7 @@ pub record IsEvenAt (ps : List (DiskId × DiskId)) (ds : List (Option Bool)) (v 
   pub in_most : total (enters v) ps ds ≤ total (leaves v) ps ds + 1
   pub odd : total (waits v) ps ds % 2 ≡ 1 → total (leaves v) ps ds ≡ total (enters v) ps ds
 
-even_at : (ps : List (DiskId × DiskId)) (old now : List (Option Bool)) (s t v : DiskId) → IsEven ps old → IsTrail ps old now s t → total (waits t) ps now ≡ 0 → (total (waits s) ps old % 2 ≡ 1) ⊎ ((v : DiskId) → total (waits v) ps old % 2 ≡ 0) → IsEvenAt ps now v
+even_at : (ps : List (DiskId × DiskId)) (old now : List (Option Bool)) (s t v : DiskId) → IsBalanced ps old → IsTrail ps old now s t → total (waits t) ps now ≡ 0 → (total (waits s) ps old % 2 ≡ 1) ⊎ ((v : DiskId) → total (waits v) ps old % 2 ≡ 0) → IsEvenAt ps now v
 even_at ps old now s t v e x stuck which =
     elim (is_cases s t) [
       | inl same ↦
@@ -106,8 +106,8 @@ even_at ps old now s t v e x stuck which =
     ]
 
 -- a trail that ends where no edge waits keeps this, if it began at a disk where an odd number waits, or there is none
-pub IsEven-trail : (ps : List (DiskId × DiskId)) (old now : List (Option Bool)) (s t : DiskId) → IsEven ps old → IsTrail ps old now s t → total (waits t) ps now ≡ 0 → (total (waits s) ps old % 2 ≡ 1) ⊎ ((v : DiskId) → total (waits v) ps old % 2 ≡ 0) → IsEven ps now
-IsEven-trail ps old now s t e x stuck which =
+pub IsBalanced-trail : (ps : List (DiskId × DiskId)) (old now : List (Option Bool)) (s t : DiskId) → IsBalanced ps old → IsTrail ps old now s t → total (waits t) ps now ≡ 0 → (total (waits s) ps old % 2 ≡ 1) ⊎ ((v : DiskId) → total (waits v) ps old % 2 ≡ 0) → IsBalanced ps now
+IsBalanced-trail ps old now s t e x stuck which =
     record {
       out_most = λ v. (even_at ps old now s t v e x stuck which).out_most;
       in_most = λ v. (even_at ps old now s t v e x stuck which).in_most;
@@ -142,8 +142,8 @@ odd_ended ps old now s t x stuck odd =
 
 -- ---- before and after
 
-pub IsEven-none : (ps : List (DiskId × DiskId)) (ds : List (Option Bool)) → ((v : DiskId) → (total (leaves v) ps ds ≡ 0) × (total (enters v) ps ds ≡ 0)) → IsEven ps ds
-IsEven-none ps ds h = record { out_most = λ v. omega (arith, (h v).0); in_most = λ v. omega (arith, (h v).1); odd = λ v m. (h v).0 ∙ sym (h v).1 }
+pub IsBalanced-none : (ps : List (DiskId × DiskId)) (ds : List (Option Bool)) → ((v : DiskId) → (total (leaves v) ps ds ≡ 0) × (total (enters v) ps ds ≡ 0)) → IsBalanced ps ds
+IsBalanced-none ps ds h = record { out_most = λ v. omega (arith, (h v).0); in_most = λ v. omega (arith, (h v).1); odd = λ v m. (h v).0 ∙ sym (h v).1 }
 
 -- where everywhere an even number waits, the trail comes back
 pub trail_closed : (ps : List (DiskId × DiskId)) (old now : List (Option Bool)) (s t : DiskId) → IsTrail ps old now s t → total (waits t) ps now ≡ 0 → ((v : DiskId) → total (waits v) ps old % 2 ≡ 0) → total (waits s) ps now ≡ 0

@@ -4,13 +4,13 @@ use Rattle.mig_base.specs.declared.ids.EdgeId.{EdgeId}
 use Rattle.mig_base.specs.declared.ids.DiskId.{DiskId}
 
 -- an edge leaves its first end where its direction is true, and its second end where it is false
-abbrev pub tail_of : DiskId × DiskId → Bool → DiskId
-tail_of p true = p.0
-tail_of p false = p.1
+abbrev pub pair_tail : DiskId × DiskId → Bool → DiskId
+pair_tail p true = p.0
+pair_tail p false = p.1
 
-abbrev pub head_of : DiskId × DiskId → Bool → DiskId
-head_of p true = p.1
-head_of p false = p.0
+abbrev pub pair_head : DiskId × DiskId → Bool → DiskId
+pair_head p true = p.1
+pair_head p false = p.0
 
 -- edge e has disk v as an end and has no direction yet
 pub record IsWaiting (ends : List (DiskId × DiskId)) (directions : List (Option Bool)) (v : DiskId) (e : EdgeId) : Type 0 where

@@ -4,12 +4,12 @@ use Rattle.mig_base.specs.declared.ids.DiskId.{DiskId}
 use Rattle.mig_base.specs.Transfers.{Trip}
 use Rattle.mig_base.specs.Directions.{trip_at}
 
-abbrev pub trip_of : DiskId × DiskId → Trip
-trip_of p = record { leaves = p.0.0; reaches = p.1.0 }
+abbrev pub pair_trip : DiskId × DiskId → Trip
+pair_trip p = record { leaves = p.0.0; reaches = p.1.0 }
 
 abbrev pub pair_at : List (DiskId × DiskId) → ℕ → DiskId × DiskId
 pair_at ends e = slice_index_or ends e (record { 0 = 0 }, record { 0 = 0 })
 
 pub record ArePairs (trips : List Trip) (ends : List (DiskId × DiskId)) : Type 0 where
   pub len : length ends ≡ length trips
-  pub known : (e : ℕ) → e < length ends → trip_of (pair_at ends e) ≡ trip_at trips e
+  pub known : (e : ℕ) → e < length ends → pair_trip (pair_at ends e) ≡ trip_at trips e

@@ -2,7 +2,7 @@
 use Rattle.std.specs.Prelude.{◌≡◌, ℕ, ◌+◌, ◌%◌, ◌≤◌, Bool, false, List, [], ◌∷◌, Option, Some, None, length}
 use Rattle.std.proofs.Common.{cond, eqb}
 use Rattle.mig_base.specs.declared.ids.DiskId.{DiskId}
-use Rattle.mig_euler.specs.Balance.{tail_of, head_of}
+use Rattle.mig_euler.specs.Balance.{pair_tail, pair_head}
 
 abbrev pub bit : Bool → ℕ
 bit t = cond t 1 0
@@ -13,11 +13,11 @@ is v w = bit (eqb w.0 v.0)
 -- leaving, entering and undirected edges at v, where some edges have no direction yet
 abbrev pub leaves : DiskId → DiskId × DiskId → Option Bool → ℕ
 leaves v p None = 0
-leaves v p (Some d) = is v (tail_of p d)
+leaves v p (Some d) = is v (pair_tail p d)
 
 abbrev pub enters : DiskId → DiskId × DiskId → Option Bool → ℕ
 enters v p None = 0
-enters v p (Some d) = is v (head_of p d)
+enters v p (Some d) = is v (pair_head p d)
 
 abbrev pub waits : DiskId → DiskId × DiskId → Option Bool → ℕ
 waits v p None = is v p.0 + is v p.1
@@ -44,11 +44,11 @@ pub record EndsTrail (ps : List (DiskId × DiskId)) (old now : List (Option Bool
   pub stuck : total (waits end) ps now ≡ 0
 
 -- the counts differ by at most 1, and not where an odd number of edges waits
-pub record IsEven (ps : List (DiskId × DiskId)) (ds : List (Option Bool)) : Type 0 where
+pub record IsBalanced (ps : List (DiskId × DiskId)) (ds : List (Option Bool)) : Type 0 where
   pub out_most : (v : DiskId) → total (leaves v) ps ds ≤ total (enters v) ps ds + 1
   pub in_most : (v : DiskId) → total (enters v) ps ds ≤ total (leaves v) ps ds + 1
   pub odd : (v : DiskId) → total (waits v) ps ds % 2 ≡ 1 → total (leaves v) ps ds ≡ total (enters v) ps ds
 
-abbrev pub is_forward : Option Bool → Bool
-is_forward None = false
-is_forward (Some d) = d
+abbrev pub points_forward : Option Bool → Bool
+points_forward None = false
+points_forward (Some d) = d

@@ -2,8 +2,8 @@
 ghost use Rattle.std.specs.Prelude.{◌≡◌, ◌≢◌, length, vec_len, map, All, IfOk};
 ghost use Rattle.mig_base.specs.Directions.{Balances};
 ghost use Rattle.mig_euler.specs.Balance.{AllInRange};
-ghost use Rattle.mig_euler.specs.Pairs.{ArePairs, trip_of};
-ghost use Rattle.mig_euler.specs.Trails.{is_forward};
+ghost use Rattle.mig_euler.specs.Pairs.{ArePairs, pair_trip};
+ghost use Rattle.mig_euler.specs.Trails.{points_forward};
 
 use crate::links::link_ends;
 use crate::trails::{follow_odd, follow_rest};
@@ -13,7 +13,7 @@ use std::alloc::{AllocError, Global};
 
 /// The directions of edges that all have one.
 fn settled(alloc: Global, directions: &[Option<bool>]) -> Result<Vec<bool>, AllocError>
-    ensures { IfOk result (λ v. v.items ≡ map is_forward directions.now) }
+    ensures { IfOk result (λ v. v.items ≡ map points_forward directions.now) }
 {
     directions.iter().map(|d| *d == Some(true)).collect(alloc)
 }
@@ -27,7 +27,7 @@ fn orient_ends(
     requires in_range { AllInRange ends.now disks }
     requires no_loop { All (λ p. p.0 ≢ p.1) ends.now }
     ensures one_each { IfOk result (λ d. vec_len d ≡ length ends.now) }
-    ensures balance { IfOk result (λ d. Balances (map trip_of ends.now) d.items) }
+    ensures balance { IfOk result (λ d. Balances (map pair_trip ends.now) d.items) }
 {
     let mut directions = vec![in alloc; None; ends.len()]?;
     let mut from = vec![in alloc; ends.len(); disks as usize]?;
@@ -58,7 +58,7 @@ pub fn orient(alloc: Global, graph: &Graph) -> Result<Vec<bool>, AllocError>
     ensures one_each { IfOk result (λ d. vec_len d ≡ length graph.now.trips) }
     ensures balance { IfOk result (λ d. Balances graph.now.trips d.items) }
 {
-    let _edges = graph.edges();
+    graph.keeps_rules();
     let ends = ends_of(alloc, graph)?;
     orient_ends(alloc, graph.disks(), &ends)
 }

@@ -1,7 +1,7 @@
 //! Trails of edges, each directed away from the disk that the trail has come to.
 ghost use Rattle.std.specs.Prelude.{◌≡◌, ◌≢◌, ◌⊎◌, ◌<◌, ◌≤◌, ◌%◌, ◌^◌, length, All, MatchBool};
 ghost use Rattle.mig_base.specs.declared.ids.DiskId.{DiskId};
-ghost use Rattle.mig_euler.specs.Balance.{tail_of, head_of, PassedBelow, AllPassed, AllInRange};
+ghost use Rattle.mig_euler.specs.Balance.{pair_tail, pair_head, PassedBelow, AllPassed, AllInRange};
 ghost use Rattle.mig_euler.specs.Links.{AreLinks};
 ghost use Rattle.mig_euler.specs.Ready.{IsReady};
 ghost use Rattle.mig_euler.specs.Trails.{EndsTrail, total, waits};
@@ -12,8 +12,8 @@ use mig_base::DiskId;
 /// The direction in which an edge leaves a disk, and the disk that it enters.
 fn step_from(ends: (DiskId, DiskId), disk: DiskId) -> (bool, DiskId)
     requires { (ends.0 ≡ disk) ⊎ (ends.1 ≡ disk) }
-    ensures tail { tail_of ends result.0 ≡ disk }
-    ensures head { head_of ends result.0 ≡ result.1 }
+    ensures tail { pair_tail ends result.0 ≡ disk }
+    ensures head { pair_head ends result.0 ≡ result.1 }
 {
     let (first, second) = ends;
     if first == disk {

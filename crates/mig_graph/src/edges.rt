@@ -1,3 +1,4 @@
+//! The moves of an input as edges.
 ghost use Rattle.std.specs.Prelude.{◌≡◌, IfOk, map};
 ghost use Rattle.mig_base.specs.Transfers.{moves, trips};
 ghost use Rattle.mig_graph.specs.Edges.{edge_item, edge_trip};

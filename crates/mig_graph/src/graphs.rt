@@ -1,10 +1,11 @@
+//! The transfer graph and what is counted of it.
 ghost use Rattle.std.specs.Prelude.{◌≡◌, ◌≢◌, ◌<◌, ◌≤◌, ◌↔◌, IsTrue, IfOk, length, slice_index};
 ghost use Rattle.mig_base.specs.Transfers.{load, transfers};
 ghost use Rattle.mig_base.specs.Bounding.{quotient, limit, IsEven};
 
 use crate::edges::{Edge, edges_of};
 use crate::loads::{even_of, loads_of, quotient_of};
-use mig_base::{Disk, DiskId, EdgeId, Input, ItemId};
+use mig_base::{Disk, DiskId, EdgeId, Input, ItemId, MAX_ITEMS, MAX_LIMIT};
 use std::alloc::{AllocError, Global};
 use std::marker::Model;
 
@@ -57,6 +58,13 @@ impl Graph {
         })
     }
 
+    /// The graph keeps the rules of every transfer graph. The call does nothing; it is made where a proof needs them.
+    pub fn keeps_rules(&self)
+        ensures { IsGraph self.now }
+    {
+        let _edges = self.edges();
+    }
+
     /// How many edges there are.
     pub fn edges(&self) -> u32
         ensures edges { result ≡ length self.now.trips }
@@ -78,7 +86,7 @@ impl Graph {
         requires { disk.0 < length self.now.disks }
         ensures limit { result ≡ limit self.now disk.0 }
         ensures least { 1 ≤ result }
-        ensures most { result ≤ 1024 }
+        ensures most { result ≤ MAX_LIMIT }
     {
         self.disks[disk.0 as usize].limit
     }
@@ -105,7 +113,7 @@ impl Graph {
     pub fn load(&self, disk: DiskId) -> u32
         requires { disk.0 < length self.now.disks }
         ensures load { result ≡ load disk.0 self.now.trips }
-        ensures most { result ≤ 65536 }
+        ensures most { result ≤ MAX_ITEMS }
     {
         self.loads[disk.0 as usize]
     }

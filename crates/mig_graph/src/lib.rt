@@ -4,7 +4,5 @@
 mod edges;
 mod graphs;
 mod loads;
-#[cfg(test)]
-mod tests;
 
 pub use graphs::Graph;

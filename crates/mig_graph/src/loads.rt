@@ -1,15 +1,16 @@
+//! Loads in a list, and what follows from them.
 ghost use Rattle.std.specs.Prelude.{◌≡◌, ◌≢◌, ◌<◌, ◌≤◌, IfOk, MatchBool, length, map, All};
 ghost use Rattle.mig_base.specs.InputLists.{IsDiskInRange};
 ghost use Rattle.mig_graph.specs.Edges.{edge_trip};
 ghost use Rattle.mig_graph.specs.Loads.{AreLoads, quotient_by, EvenBy};
 
 use crate::edges::Edge;
-use mig_base::Disk;
+use mig_base::{Disk, MAX_ITEMS};
 use std::alloc::{AllocError, Global};
 
 /// How many edges have each disk as an end.
 pub fn loads_of(alloc: Global, disks: usize, edges: &[Edge]) -> Result<Vec<u32>, AllocError>
-    requires few { length edges.now ≤ 65536 }
+    requires few { length edges.now ≤ MAX_ITEMS }
     requires from { All (λ e. e.from.0 < disks) edges.now }
     requires to { All (λ e. e.to.0 < disks) edges.now }
     requires apart { All (λ e. e.from.0 ≢ e.to.0) edges.now }

@@ -3,3 +3,4 @@ pub mod Files
 pub mod Held
 pub mod Memory
 pub mod Places
+pub mod Streams

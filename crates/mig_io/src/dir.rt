@@ -1,36 +1,51 @@
-ghost use Rattle.std.specs.Prelude.{◌≡◌, ◌≤◌, ◌-◌, ℕ, vec_len, None, IfOk, OnErr, IsErrOf, length};
+//! The working folder of the process.
+ghost use Rattle.std.specs.Prelude.{◌≡◌, ◌≢◌, ◌≤◌, ◌↔◌, vec_len, None, IfOk};
+ghost use Rattle.std.specs.IoError.{error_kind};
 
-use crate::writing::write_whole;
+use crate::reading::read_first;
+use crate::replacing::{Node, node_of, save_over};
 use crate::{Folder, LoadFault, SaveFailed};
 use std::alloc::Global;
-use std::fs;
-use std::io::{self, ErrorKind, Read};
+use std::fs::{self, File};
+use std::io::{self, ErrorKind};
 use std::rt::Files;
 
-const PIECE: usize = 4096;
-
-/// The working folder. A name is a path of the operating system, and two spellings of one file are two names. Of what files hold nothing is told.
-pub struct DirFolder<'a, R: Files> {
+/// The working folder. A name is a path of the operating system, and two spellings of one file are two names. Of what files hold nothing is told. A file that was loaded is never saved over, whatever its spelling. What failed, and why, is said on standard error.
+pub struct DirFolder<'a, R: Files<File = File> + Eprint> {
     rt: &'a R,
+    loaded: Vec<Node>,
     faults: u64,
 }
 
-impl<'a, R: Files> Drop for DirFolder<'a, R> {
+impl<'a, R: Files<File = File> + Eprint> Drop for DirFolder<'a, R> {
     fn drop(self) {
-        let DirFolder { rt: _, faults: _ } = self;
+        let DirFolder {
+            rt: _,
+            loaded,
+            faults: _,
+        } = self;
+        drop(loaded);
     }
 }
 
-impl<'a, R: Files> DirFolder<'a, R> {
+impl<'a, R: Files<File = File> + Eprint> DirFolder<'a, R> {
     /// The folder over this runtime's files, without a fault so far.
-    pub fn new(rt: &'a R) -> Self
+    pub fn new(rt: &'a R, alloc: Global) -> Self
         ensures { result.faults ≡ 0 }
     {
-        DirFolder { rt, faults: 0 }
+        DirFolder {
+            rt,
+            loaded: Vec::new(alloc),
+            faults: 0,
+        }
     }
 }
 
-fn fault_of(error: &io::Error) -> LoadFault {
+/// What a file that can't be opened means.
+fn fault_of(error: &io::Error) -> LoadFault
+    ensures missing { result ≡ LoadFault.Missing ↔ error_kind error.now ≡ ErrorKind.NotFound }
+    ensures memory { result ≡ LoadFault.Memory ↔ error_kind error.now ≡ ErrorKind.OutOfMemory }
+{
     match error.kind() {
         ErrorKind::NotFound => LoadFault::Missing,
         ErrorKind::OutOfMemory => LoadFault::Memory,
@@ -38,53 +53,58 @@ fn fault_of(error: &io::Error) -> LoadFault {
     }
 }
 
-/// Reads up to `most` bytes, at least one in each turn.
-fn read_first<F: Read>(alloc: Global, file: &mut F, most: usize) -> Result<Vec<u8>, LoadFault>
-    ensures most { IfOk result (λ bytes. vec_len bytes ≤ most) }
-    ensures found { IsErrOf result LoadFault.Missing → ⊥ }
+/// What a file that was opened and can't be read means: it is there.
+fn read_fault_of(error: &io::Error) -> LoadFault
+    ensures there { result ≢ LoadFault.Missing }
+    ensures memory { result ≡ LoadFault.Memory ↔ error_kind error.now ≡ ErrorKind.OutOfMemory }
 {
-    let mut bytes = Vec::new(alloc);
-    let mut piece = [0u8; PIECE];
-    while bytes.len() < most {
-        let room = PIECE.min(most - bytes.len());
-        let count = match file.read(&mut piece[..room]) {
-            Ok(count) => count,
-            Err(_) => return Err(LoadFault::Failed),
-        };
-        if count == 0 {
-            break;
-        }
-        if bytes.extend_from_slice(&piece[..count]).is_err() {
-            return Err(LoadFault::Memory);
-        }
+    if error.kind() == ErrorKind::OutOfMemory {
+        LoadFault::Memory
+    } else {
+        LoadFault::Failed
     }
-    Ok(bytes)
 }
 
-impl<'a, R: Files> Folder for DirFolder<'a, R> {
-    ghost files = { λ _. None };
+/// Reads a file, and notes which one it is.
+fn read_noted(
+    alloc: Global,
+    file: &mut File,
+    most: usize,
+    loaded: &mut Vec<Node>,
+) -> io::Result<Vec<u8>>
+    ensures most { IfOk result (λ bytes. vec_len bytes ≤ most) }
+{
+    if let Some(node) = node_of(&file.metadata()?) {
+        loaded.push(node)?;
+    }
+    read_first(alloc, file, most)
+}
 
-    ghost faults = { λ s. s.faults };
+impl<'a, R: Files<File = File> + Eprint> Folder for DirFolder<'a, R> {
+    ghost state = { λ s. record { files = None; faults = s.faults } };
 
     fn load(&mut self, alloc: Global, name: &str, most: usize) -> Result<Vec<u8>, LoadFault> {
-        let loaded = match fs::open(self.rt, name) {
-            Ok(mut file) => read_first(alloc, &mut file, most),
-            Err(error) => Err(fault_of(&error)),
+        let (error, fault) = match fs::open(self.rt, name) {
+            Ok(mut file) => match read_noted(alloc, &mut file, most, &mut self.loaded) {
+                Ok(bytes) => return Ok(bytes),
+                Err(error) => (error, read_fault_of(&error)),
+            },
+            Err(error) => (error, fault_of(&error)),
         };
-        if matches!(&loaded, Err(LoadFault::Failed)) {
+        if fault != LoadFault::Missing {
+            let _ = eprintln!(self.rt; "migrate: cannot load {name}: {error}");
+        }
+        if fault == LoadFault::Failed {
             self.faults = self.faults.saturating_add(1);
         }
-        loaded
+        Err(fault)
     }
 
     fn save(&mut self, name: &str, bytes: &[u8]) -> Result<(), SaveFailed> {
-        let saved = match fs::create(self.rt, name) {
-            Ok(mut file) => write_whole(&mut file, bytes),
-            Err(_) => false,
-        };
-        if saved {
+        let Err(unsaved) = save_over(self.rt, &self.loaded, name, bytes) else {
             return Ok(());
-        }
+        };
+        let _ = eprintln!(self.rt; "migrate: cannot save {name}: {unsaved}");
         self.faults = self.faults.saturating_add(1);
         Err(SaveFailed)
     }

@@ -7,6 +7,8 @@ mod mem_sink;
 mod memory;
 mod place;
 mod places;
+mod reading;
+mod replacing;
 mod sink;
 mod std_sink;
 mod writing;

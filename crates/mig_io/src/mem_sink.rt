@@ -74,9 +74,7 @@ impl Sink for MemSink {
     ghost use Rattle.mig_io.specs.Counts.{next_count};
     ghost use Rattle.mig_io.specs.Held.{PutsAll, after_put};
 
-    ghost held = { λ s. Some s.bytes };
-
-    ghost faults = { λ s. s.faults };
+    ghost state = { λ s. record { held = Some s.bytes; faults = s.faults } };
 
     /// Fails exactly at the numbers that were given, which add nothing, and where the piece is longer than the room that is left, which is then filled.
     fn put(&mut self, bytes: &[u8]) -> Result<(), SinkFailed>

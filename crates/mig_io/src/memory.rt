@@ -97,9 +97,7 @@ impl Folder for MemFolder {
     ghost use Rattle.mig_io.specs.Counts.{next_count};
     ghost use Rattle.mig_io.specs.Memory.{fails, after_call, SavesAll};
 
-    ghost files = { λ s. Some s.files };
-
-    ghost faults = { λ s. s.faults };
+    ghost state = { λ s. record { files = Some s.files; faults = s.faults } };
 
     /// Fails exactly at the numbers that were given.
     fn load(&mut self, alloc: Global, name: &str, most: usize) -> Result<Vec<u8>, LoadFault>

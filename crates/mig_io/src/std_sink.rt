@@ -1,22 +1,23 @@
+//! Standard output.
 ghost use Rattle.std.specs.Prelude.{◌≡◌, None, ℕ};
 
 use crate::writing::write_whole;
 use crate::{Sink, SinkFailed};
 use std::io;
 
-/// Standard output. Of what reaches it nothing is told.
-pub struct StdSink<'a, R: Print> {
+/// Standard output. Of what reaches it nothing is told. What failed, and why, is said on standard error.
+pub struct StdSink<'a, R: Print + Eprint> {
     rt: &'a R,
     faults: u64,
 }
 
-impl<'a, R: Print> Drop for StdSink<'a, R> {
+impl<'a, R: Print + Eprint> Drop for StdSink<'a, R> {
     fn drop(self) {
         let StdSink { rt: _, faults: _ } = self;
     }
 }
 
-impl<'a, R: Print> StdSink<'a, R> {
+impl<'a, R: Print + Eprint> StdSink<'a, R> {
     /// The sink over this runtime's standard output, without a fault so far.
     pub fn new(rt: &'a R) -> Self
         ensures { result.faults ≡ 0 }
@@ -25,16 +26,15 @@ impl<'a, R: Print> StdSink<'a, R> {
     }
 }
 
-impl<'a, R: Print> Sink for StdSink<'a, R> {
-    ghost held = { λ _. None };
-
-    ghost faults = { λ s. s.faults };
+impl<'a, R: Print + Eprint> Sink for StdSink<'a, R> {
+    ghost state = { λ s. record { held = None; faults = s.faults } };
 
     fn put(&mut self, bytes: &[u8]) -> Result<(), SinkFailed> {
         let mut out = io::writer(self.rt);
-        if write_whole(&mut out, bytes) {
+        let Err(error) = write_whole(&mut out, bytes) else {
             return Ok(());
-        }
+        };
+        let _ = eprintln!(self.rt; "migrate: cannot write to standard output: {error}");
         self.faults = self.faults.saturating_add(1);
         Err(SinkFailed)
     }

@@ -1,3 +1,4 @@
+//! Tables of names.
 ghost use Rattle.std.specs.Prelude.{◌≡◌, ◌∷◌, ◌++◌, [], Some, Contains, MatchOption, OnErr, OnOk, length, slice_get};
 ghost use Rattle.mig_base.specs.InputLists.{AreDifferent};
 

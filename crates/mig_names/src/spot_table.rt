@@ -1,3 +1,4 @@
+//! Tables of spots.
 ghost use Rattle.std.specs.Prelude.{◌≡◌, ◌∷◌, ◌++◌, ◌↔◌, [], Contains, IsTrue, OnErr, OnOk};
 ghost use Rattle.mig_base.specs.declared.ids.Spot.{Spot};
 

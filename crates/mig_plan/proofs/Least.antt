@@ -1,5 +1,5 @@
 -- A plan has at least as many rounds as the quotient.
-use Rattle.std.proofs.Common.{◌≡◌, ℕ, ◌<◌, ◌≤◌, List, [], length, map, sym, subst, arith, get_or}
+use Rattle.std.proofs.Common.{◌≡◌, ℕ, ◌*◌, ◌<◌, ◌≤◌, List, [], length, map, sym, subst, arith, get_or}
 use Rattle.std.specs.List.{range_with_len}
 use Rattle.std.proofs.lemmas.List.Elements.{All-map}
 use Rattle.std.proofs.lemmas.List.FromFn.{get_or-range_with_len, length-range_with_len}
@@ -7,7 +7,9 @@ use Rattle.mig_base.specs.declared.ids.Shift.{Shift}
 use Rattle.mig_base.specs.InputLists.{Lists, IsInput}
 use Rattle.mig_base.specs.Transfers.{Transfers, transfers, load}
 use Rattle.mig_base.specs.Bounding.{quotient, disk_value, IsEven, limit}
-use Rattle.mig_base.specs.Running.{Runs, Once, round_of}
+use Rattle.mig_base.specs.Running.{Runs, Once, PlanFits, round_of}
+use Rattle.mig_base.specs.Planned.{GoesToTargets, IsFilled}
+use Rattle.mig_base.specs.MadePlans.{IsPlanOf}
 use Rattle.mig_base.specs.Colourings.{IsLimited, edges_of}
 use Rattle.mig_base.specs.Directions.{trip_at}
 use Rattle.mig_base.specs.Schedules.{Needs}
@@ -31,6 +33,20 @@ rounds_even input graph plan n is same runs once few most even =
     let up : n ≤ quotient (transfers input) = subst (λ (g : Transfers). IsEven g → n ≤ quotient g) same most even in
     let least : quotient (transfers input) ≤ length plan = needs_quotient input is (length plan) (round_of plan) (scheduled input plan once) (obeys input plan is runs once) in
     omega (arith, least, few, up)
+
+pub plan_made : (input : Lists) (graph : Transfers) (plan : List (List Shift)) (n : ℕ) → IsInput input → graph ≡ transfers input → PlanFits input plan → Runs input plan → Once input plan → GoesToTargets input plan → IsFilled plan → length plan ≤ n → (IsEven graph → n ≤ quotient graph) → 2 * n ≤ 3 * quotient graph → IsPlanOf input plan
+plan_made input graph plan n is same fits runs once targets filled few even most =
+    let rounds : IsEven (transfers input) → length plan ≡ quotient (transfers input) = rounds_even input graph plan n is same runs once few even in
+    record {
+      fits = fits;
+      runs = runs;
+      once = once;
+      targets = targets;
+      filled = filled;
+      even_rounds = rounds;
+      needed = λ h. subst (λ (k : ℕ). Needs input k) (sym (rounds h)) (needs_quotient input is);
+      few_rounds = omega (arith, few, subst (λ (g : Transfers). 2 * n ≤ 3 * quotient g) same most);
+    }
 
 pub limited_none : (graph : Transfers) → length graph.trips ≡ 0 → IsLimited graph 0 []
 limited_none graph none = record {

@@ -9,6 +9,7 @@ use Rattle.std.proofs.lemmas.Bool.{cases_eq, ne_eqb}
 use Rattle.std.proofs.lemmas.Bool.Decides.{nat_tests}
 use Rattle.std.proofs.lemmas.Grind.{div_ceil_times}
 use Rattle.std.proofs.Math.Nat.{mul-le-mul_left, mul-le-mul_right}
+use Rattle.mig_base.specs.declared.limits.TheConstants.{MAX_DISKS, MAX_ITEMS}
 use Rattle.mig_base.specs.declared.ids.Colour.{Colour}
 use Rattle.mig_base.specs.declared.ids.CopyId.{CopyId}
 use Rattle.mig_base.specs.declared.ids.DiskId.{DiskId}
@@ -20,11 +21,12 @@ use Rattle.mig_base.specs.InputLists.{no_disk}
 use Rattle.mig_base.specs.Directions.{trip_at, is_forward, tails, heads, tail_of, head_of, out_of, in_of, Balances}
 use Rattle.mig_base.specs.Colourings.{IsLimited, edges_of, colour_at}
 use Rattle.mig_base.proofs.Counting.{one, sum_by-map, count_by-filter}
-use Rattle.mig_base.proofs.Copies.{Copied, StandsForEnds, IsProper as IsProperCopies, colour_at_disk, copies_joint, copies_of_sides, load_within_quotient, value_within_quotient}
+use Rattle.mig_base.proofs.Copies.{Copied, StandsForEnds, IsProper as IsProperCopies, colour_at_disk, copies_of_sides, load_within_quotient, value_within_quotient}
 use Rattle.mig_board.specs.Colouring.{Colouring, Joins, HasColour, Leads, IsProper}
 use Rattle.mig_split.specs.Dealing.{count_of, disk_at}
-use Rattle.mig_split.specs.Copies.{AreSides, AreCopies, first_of, second_of}
-use Rattle.mig_plan.specs.Coloured.{AreColours}
+use Rattle.mig_board.specs.Growth.{SameGraph}
+use Rattle.mig_split.specs.Copies.{AreSides, AreShares, first_of, second_of}
+use Rattle.mig_plan.specs.Coloured.{AreColours, IsDealtBoard}
 
 -- edges between copies whose homes are their disks
 abbrev copied_of : Transfers → List (CopyId × CopyId) → List DiskId → List Colour → Copied
@@ -125,39 +127,70 @@ quotient_some graph limits there some =
 
 -- ---- copies of disks
 
-pub stands_copies : (q : ℕ) (graph : Transfers) (ends : List (CopyId × CopyId)) (homes : List DiskId) (colours : List Colour) → AreCopies q graph ends homes → (e : ℕ) → e < length graph.trips → StandsForEnds (copied_of graph ends homes colours) e
-stands_copies q graph ends homes colours a e h =
+-- the ends of a trip by its direction are its ends
+leaves_by : (t : Trip) (b : Bool) (x y : ℕ) → x ≡ tail_of t b → y ≡ head_of t b → (x ≡ t.leaves) ⊎ (y ≡ t.leaves)
+leaves_by t true x y e f = inl e
+leaves_by t false x y e f = inr f
+
+reaches_by : (t : Trip) (b : Bool) (x y : ℕ) → x ≡ tail_of t b → y ≡ head_of t b → (x ≡ t.reaches) ⊎ (y ≡ t.reaches)
+reaches_by t true x y e f = inr f
+reaches_by t false x y e f = inl e
+
+stands_shares : (graph : Transfers) (ds : List Bool) (share : ℕ) (ends : List (CopyId × CopyId)) (homes : List DiskId) (colours : List Colour) → AreShares graph ds share ends homes → (e : ℕ) → e < length graph.trips → StandsForEnds (copied_of graph ends homes colours) e
+stands_shares graph ds share ends homes colours a e h =
     let l : e < length ends = omega (arith, h, a.one_each) in
+    let t = trip_at graph.trips e in
+    let x = home_is homes (first_of ends e) ∙ a.first e l in
+    let y = home_is homes (second_of ends e) ∙ a.second e l in
     record {
       first_there = omega (arith, (a.there e l).0, length-map homes (λ (d : DiskId). d.0));
       second_there = omega (arith, (a.there e l).1, length-map homes (λ (d : DiskId). d.0));
-      leaves = inl (home_is homes (first_of ends e) ∙ a.first e l);
-      reaches = inr (home_is homes (second_of ends e) ∙ a.second e l);
+      leaves = leaves_by t (is_forward ds e) (get_or (map (λ (d : DiskId). d.0) homes) (first_of ends e) 0) (get_or (map (λ (d : DiskId). d.0) homes) (second_of ends e) 0) x y;
+      reaches = reaches_by t (is_forward ds e) (get_or (map (λ (d : DiskId). d.0) homes) (first_of ends e) 0) (get_or (map (λ (d : DiskId). d.0) homes) (second_of ends e) 0) x y;
     }
 
-pub most_copies : (q : ℕ) (graph : Transfers) (ends : List (CopyId × CopyId)) (homes : List DiskId) → q ≡ quotient graph → 1 ≤ q → HasLimits graph → AreCopies q graph ends homes → (v : ℕ) → v < length graph.disks → count_of v homes ≤ limit graph v
-most_copies q graph ends homes is_q pos limits a v h =
-    omega (arith, a.number v h, copies_joint (load v graph.trips) (limit graph v) q pos (omega (arith, load_within_quotient graph v h (limits v h), ap (λ m. m * limit graph v) is_q)))
+min_left : (a b n : ℕ) → n ≡ min a b → n ≤ a
+min_left a b n h = omega (arith, h)
 
-pub general_limited : (g : Colouring) (graph : Transfers) (q : ℕ) (ends : List (CopyId × CopyId)) (homes : List DiskId) (colours : List Colour) → q ≡ quotient graph → 1 ≤ q → HasLimits graph → AreCopies q graph ends homes → g.ends ≡ ends → IsProper g → AreColours g colours → IsLimited graph g.colours colours
-general_limited g graph q ends homes colours is_q pos limits a same proper c =
-    limited_by_copies g graph homes colours proper c (ap (λ (x : List (CopyId × CopyId)). length x) same ∙ a.one_each)
-    (subst (λ (x : List (CopyId × CopyId)). (e : ℕ) → e < length graph.trips → StandsForEnds (copied_of graph x homes colours) e) (sym same) (stands_copies q graph ends homes colours a))
-    (most_copies q graph ends homes is_q pos limits a)
+-- a colouring of a dealt board on which each edge has a colour
+pub dealt_limited : (graph : Transfers) (n : ℕ) (old new : Colouring) (colours : List Colour) → IsDealtBoard graph n old → SameGraph old new → IsProper new → AreColours new colours → IsLimited graph n colours
+dealt_limited graph n old new colours b same proper c =
+    let ends : new.ends ≡ old.ends = ap (λ (g : Colouring). g.ends) same in
+    let count : new.colours ≡ n = ap (λ (g : Colouring). g.colours) same ∙ ap (λ (g : Colouring). g.colours) b.made in
+    subst (λ k. IsLimited graph k colours) count
+    (limited_by_copies new graph b.homes colours proper c (ap (λ (x : List (CopyId × CopyId)). length x) ends ∙ b.copies.one_each)
+    (subst (λ (x : List (CopyId × CopyId)). (e : ℕ) → e < length graph.trips → StandsForEnds (copied_of graph x b.homes colours) e) (sym ends) (stands_shares graph b.directions b.share old.ends b.homes colours b.copies))
+    (λ v h. min_left (limit graph v) (div_ceil (load v graph.trips) b.share) (count_of v b.homes) (b.copies.number v h)))
 
 -- ends that are in range and differ
-pub copies_in_range : (q : ℕ) (graph : Transfers) (ends : List (CopyId × CopyId)) (homes : List DiskId) (n : ℕ) → n ≡ length homes → AreCopies q graph ends homes → All (λ p. (p.0.0 < n) × (p.1.0 < n)) ends
-copies_in_range q graph ends homes n is_n a k d h = subst (λ (p : CopyId × CopyId). (p.0.0 < n) × (p.1.0 < n)) (get_or_default ends k (record { 0 = 0 }, record { 0 = 0 }) d h) (omega (arith, (a.there k h).0, is_n), omega (arith, (a.there k h).1, is_n))
+pub shares_in_range : (graph : Transfers) (ds : List Bool) (share : ℕ) (ends : List (CopyId × CopyId)) (homes : List DiskId) (n : ℕ) → n ≡ length homes → AreShares graph ds share ends homes → All (λ p. (p.0.0 < n) × (p.1.0 < n)) ends
+shares_in_range graph ds share ends homes n is_n a k d h = subst (λ (p : CopyId × CopyId). (p.0.0 < n) × (p.1.0 < n)) (get_or_default ends k (record { 0 = 0 }, record { 0 = 0 }) d h) (omega (arith, (a.there k h).0, is_n), omega (arith, (a.there k h).1, is_n))
 
-pub copies_differ : (q : ℕ) (graph : Transfers) (ends : List (CopyId × CopyId)) (homes : List DiskId) → All (λ t. t.leaves ≢ t.reaches) graph.trips → AreCopies q graph ends homes → All (λ p. p.0 ≢ p.1) ends
-copies_differ q graph ends homes apart a k d h = subst (λ (p : CopyId × CopyId). p.0 ≢ p.1) (get_or_default ends k (record { 0 = 0 }, record { 0 = 0 }) d h) (λ e. apart k (record { leaves = 0; reaches = 0 }) (omega (arith, h, a.one_each)) (sym (a.first k h) ∙ ap (λ (c : CopyId). disk_at homes c.0) e ∙ a.second k h))
+ends_differ : (t : Trip) (b : Bool) (x y : ℕ) → t.leaves ≢ t.reaches → x ≡ tail_of t b → y ≡ head_of t b → x ≢ y
+ends_differ t true x y ne e f h = ne (sym e ∙ h ∙ f)
+ends_differ t false x y ne e f h = ne (sym f ∙ sym h ∙ e)
+
+pub shares_differ : (graph : Transfers) (ds : List Bool) (share : ℕ) (ends : List (CopyId × CopyId)) (homes : List DiskId) → All (λ t. t.leaves ≢ t.reaches) graph.trips → AreShares graph ds share ends homes → All (λ p. p.0 ≢ p.1) ends
+shares_differ graph ds share ends homes apart a k d h = subst (λ (p : CopyId × CopyId). p.0 ≢ p.1) (get_or_default ends k (record { 0 = 0 }, record { 0 = 0 }) d h)
+    (λ e. ends_differ (trip_at graph.trips k) (is_forward ds k) (disk_at homes (first_of ends k)) (disk_at homes (second_of ends k)) (apart k (record { leaves = 0; reaches = 0 }) (omega (arith, h, a.one_each))) (a.first k h) (a.second k h) (ap (λ (c : CopyId). disk_at homes c.0) e))
+
+-- a share is a sixteenth of the quotient, rounded up
+pub share_some : (q : ℕ) → 1 ≤ q → 1 ≤ div_ceil q 16
+share_some q h = omega (arith, h, (div_ceil_times q 16 (omega arith)).0)
+
+pub share_most : (q : ℕ) → div_ceil q 16 ≤ q
+share_most q = ceil_le q 16 (omega arith)
 
 -- the board's size
-pub few_general : (nodes q c m d : ℕ) → c ≤ 3 * q → nodes * q ≤ 2 * m + d * q → m ≤ 65536 → d ≤ 1024 → q ≤ 65536 → nodes * c ≤ 268435456
-few_general nodes q c m d hc room hm hd hq =
+pub few_general : (nodes q s c m d : ℕ) → 2 * c ≤ 3 * q → s ≡ div_ceil q 16 → nodes * s ≤ 2 * m + d * s → m ≤ MAX_ITEMS → d ≤ MAX_DISKS → q ≤ MAX_ITEMS → nodes * c ≤ 268435456
+few_general nodes q s c m d hc is_s room hm hd hq =
+    let t = div_ceil_times q 16 (omega arith) in
+    let up : q ≤ 16 * s = omega (arith, t.0, is_s) in
+    let down : 16 * s ≤ q + 16 = omega (arith, t.1, is_s) in
     let a = mul-le-mul_left nodes hc in
-    let b = mul-le-mul_right q hd in
-    omega (arith, a, b, room, hm, hq)
+    let b = mul-le-mul_left nodes up in
+    let e = mul-le-mul_right s hd in
+    omega (arith, a, b, e, room, hm, hq, down)
 
 pub has_limits : (graph : Transfers) → All Rattle.mig_base.specs.InputLists.IsDiskInRange graph.disks → HasLimits graph
 has_limits graph a v h = (a v no_disk h).0
@@ -183,14 +216,6 @@ stands_sides q graph ds left ends homes colours a e h =
       leaves = leaves_by t (is_forward ds e) (get_or (map (λ (d : DiskId). d.0) homes) (first_of ends e) 0) (get_or (map (λ (d : DiskId). d.0) homes) (second_of ends e) 0) x y;
       reaches = reaches_by t (is_forward ds e) (get_or (map (λ (d : DiskId). d.0) homes) (first_of ends e) 0) (get_or (map (λ (d : DiskId). d.0) homes) (second_of ends e) 0) x y;
     }
-  where
-    leaves_by : (t : Trip) (b : Bool) (x y : ℕ) → x ≡ tail_of t b → y ≡ head_of t b → (x ≡ t.leaves) ⊎ (y ≡ t.leaves)
-    leaves_by t true x y e f = inl e
-    leaves_by t false x y e f = inr f
-
-    reaches_by : (t : Trip) (b : Bool) (x y : ℕ) → x ≡ tail_of t b → y ≡ head_of t b → (x ≡ t.reaches) ⊎ (y ≡ t.reaches)
-    reaches_by t true x y e f = inr f
-    reaches_by t false x y e f = inl e
 
 ends_of_one : (v : ℕ) (t : Trip) (d : Bool) → t.leaves ≢ t.reaches → one (eqb (tail_of t d) v) + one (eqb (head_of t d) v) ≡ one (touches v t)
 ends_of_one v t true ne = touch v t.leaves t.reaches ne
@@ -251,7 +276,7 @@ sides_in_range q graph ds left ends homes n is_n a k d h = subst (λ (p : CopyId
 pub sides_differ : (q : ℕ) (graph : Transfers) (ds : List Bool) (left : ℕ) (ends : List (CopyId × CopyId)) (homes : List DiskId) → AreSides q graph ds left ends homes → All (λ p. p.0 ≢ p.1) ends
 sides_differ q graph ds left ends homes a k d h = subst (λ (p : CopyId × CopyId). p.0 ≢ p.1) (get_or_default ends k (record { 0 = 0 }, record { 0 = 0 }) d h) (λ e. absurd (omega (arith, a.there k h, ap (λ (c : CopyId). c.0) e)))
 
-pub few_even : (nodes q m d : ℕ) → nodes * q ≤ 2 * m + 2 * (d * q) → m ≤ 65536 → d ≤ 1024 → q ≤ 65536 → nodes * q ≤ 268435456
+pub few_even : (nodes q m d : ℕ) → nodes * q ≤ 2 * m + 2 * (d * q) → m ≤ MAX_ITEMS → d ≤ MAX_DISKS → q ≤ MAX_ITEMS → nodes * q ≤ 268435456
 few_even nodes q m d room hm hd hq = omega (arith, mul-le-mul_right q hd, room, hm, hq)
 
 side_at : (q : ℕ) (graph : Transfers) (ds : List Bool) (left : ℕ) (ends : List (CopyId × CopyId)) (homes : List DiskId) → AreSides q graph ds left ends homes → (e : EdgeId) (v w : CopyId) → slice_get ends e.0 ≡ Some (v, w) → (v.0 < left) × (left ≤ w.0)

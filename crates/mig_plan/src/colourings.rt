@@ -1,18 +1,29 @@
 //! Colourings of a transfer graph, so that the edges of one colour keep each disk's limit.
-ghost use Rattle.std.specs.Prelude.{◌≡◌, ◌<◌, ◌≤◌, ◌+◌, ◌*◌, length, IfOk};
+ghost use Rattle.std.specs.Prelude.{◌≡◌, ◌<◌, ◌≤◌, ◌+◌, ◌*◌, length, vec_len, IfOk, IfSome};
 ghost use Rattle.mig_base.specs.Bounding.{quotient, IsEven};
 ghost use Rattle.mig_base.specs.Colourings.{IsLimited};
 ghost use Rattle.mig_board.specs.Growth.{IsComplete};
-ghost use Rattle.mig_plan.specs.Coloured.{AreColours};
+ghost use Rattle.mig_plan.specs.Coloured.{AreColours, IsDealtBoard};
 
 use mig_base::{Colour, EdgeId};
 use mig_board::Board;
 use mig_euler::orient;
 use mig_graph::Graph;
 use mig_koenig::colour_sides;
-use mig_shannon::colour_few;
-use mig_split::{split_nodes, split_sides};
+use mig_shannon::{colour_few, colour_within};
+use mig_split::{split_limits, split_sides};
 use std::alloc::{AllocError, Global};
+
+/// A disk below its limit has so many copies, or nearly, for each one that it needs.
+const SHARES: u32 = 16;
+
+/// Up to so many rounds other dealings are tried too, so many in all.
+const FEW_ROUNDS: u32 = 4;
+
+const DEALINGS: u32 = 8;
+
+/// The first board has one more colour for so many of its first ones.
+const MORE: u32 = 32;
 
 /// The colour of each edge of a board on which all are coloured.
 fn colours_of(alloc: Global, board: &Board) -> Result<Vec<Colour>, AllocError>
@@ -39,7 +50,7 @@ fn colour_even(alloc: Global, graph: &Graph) -> Result<Vec<Colour>, AllocError>
     requires even { IsEven graph.now }
     ensures { IfOk result (λ v. IsLimited graph.now (quotient graph.now) v.items) }
 {
-    let _edges = graph.edges();
+    graph.keeps_rules();
     let q = graph.quotient();
     let directions = orient(alloc, graph)?;
     let sides = split_sides(alloc, graph, &directions, q)?;
@@ -49,11 +60,60 @@ fn colour_even(alloc: Global, graph: &Graph) -> Result<Vec<Colour>, AllocError>
     colours_of(alloc, &board)
 }
 
-/// Colours the edges by so many colours, whatever the limits are: three halves of the quotient, rounded down, are enough
-/// (Shannon 1949).
-///
-/// Fewer colours are tried first, from `start` on, and more are taken only where these don't do.
-fn colour_general(
+/// Directions of so many edges for a dealing: those of the transfers for the first one, and others for each other
+/// dealing, the same ones each time.
+fn directions_of(alloc: Global, edges: u32, dealing: u32) -> Result<Vec<bool>, AllocError>
+    ensures { IfOk result (λ v. vec_len v ≡ edges) }
+{
+    let mut directions = Vec::with_capacity(alloc, edges as usize)?;
+    let mut state = dealing;
+    for _edge in 0..edges {
+        state = state.wrapping_mul(1664525).wrapping_add(1013904223);
+        directions.push(dealing == 0 || state < 1 << 31)?;
+    }
+    Ok(directions)
+}
+
+/// A board of so many colours on which nothing is coloured: its nodes are the copies of disks in a dealing.
+fn dealt_board(
+    alloc: Global,
+    graph: &Graph,
+    dealing: u32,
+    colours: u32,
+) -> Result<Board, AllocError>
+    requires some { 0 < length graph.now.trips }
+    requires room { 2 * colours ≤ 3 * quotient graph.now }
+    ensures { IfOk result (IsDealtBoard graph.now colours) }
+{
+    let directions = directions_of(alloc, graph.edges(), dealing)?;
+    let share = graph.quotient().div_ceil(SHARES);
+    let copies = split_limits(alloc, graph, &directions, share)?;
+    Board::new(alloc, copies.nodes, copies.ends, colours)
+}
+
+/// Colours the edges by so many colours, from `start` on, in a dealing. None comes where walks leave an edge without a
+/// colour.
+fn colour_within_few(
+    alloc: Global,
+    graph: &Graph,
+    dealing: u32,
+    colours: u32,
+    start: u32,
+) -> Result<Option<Vec<Colour>>, AllocError>
+    requires some { 0 < length graph.now.trips }
+    requires room { 2 * colours ≤ 3 * quotient graph.now }
+    ensures { IfOk result (λ o. IfSome o (λ v. IsLimited graph.now colours v.items)) }
+{
+    let mut board = dealt_board(alloc, graph, dealing, colours)?;
+    if !colour_within(&mut board, start) {
+        return Ok(None);
+    }
+    Ok(Some(colours_of(alloc, &board)?))
+}
+
+/// Colours the edges by so many colours, from `start` on, whatever the limits are: three halves of the quotient, rounded
+/// down, are enough (Shannon 1949).
+fn colour_surely(
     alloc: Global,
     graph: &Graph,
     colours: u32,
@@ -61,20 +121,52 @@ fn colour_general(
 ) -> Result<Vec<Colour>, AllocError>
     requires some { 0 < length graph.now.trips }
     requires enough { 3 * quotient graph.now ≤ 2 * colours + 1 }
-    requires room { colours ≤ 3 * quotient graph.now }
+    requires room { 2 * colours ≤ 3 * quotient graph.now }
     requires start { start ≤ colours }
     ensures { IfOk result (λ v. IsLimited graph.now colours v.items) }
 {
-    let _edges = graph.edges();
     let q = graph.quotient();
-    let copies = split_nodes(alloc, graph, q)?;
-    let mut board = Board::new(alloc, copies.nodes, copies.ends, colours)?;
+    let mut board = dealt_board(alloc, graph, 0, colours)?;
     colour_few(&mut board, q, start);
     colours_of(alloc, &board)
 }
 
+/// Colours the edges by `most` colours at most, which are three halves of the quotient, and gives the number of colours.
+///
+/// Colours from `start` on are tried first, on a board with few more: so its table is no greater than it has to be. Where
+/// few rounds are needed, how ends are dealt to copies decides whether one more is left over, and other dealings are
+/// tried too.
+fn colour_general(
+    alloc: Global,
+    graph: &Graph,
+    most: u32,
+    start: u32,
+) -> Result<(Vec<Colour>, u32), AllocError>
+    requires some { 0 < length graph.now.trips }
+    requires enough { 3 * quotient graph.now ≤ 2 * most + 1 }
+    requires room { 2 * most ≤ 3 * quotient graph.now }
+    requires start { start ≤ most }
+    ensures limited { IfOk result (λ r. IsLimited graph.now r.1 r.0.items) }
+    ensures most { IfOk result (λ r. r.1 ≤ most) }
+{
+    let is_small = start <= FEW_ROUNDS;
+    let few = if is_small {
+        start
+    } else {
+        most.min(start.saturating_add(start / MORE + 1))
+    };
+    let dealings = if is_small { DEALINGS } else { 1 };
+    for dealing in 0..dealings {
+        if let Some(colours) = colour_within_few(alloc, graph, dealing, few, start)? {
+            return Ok((colours, few));
+        }
+    }
+    Ok((colour_surely(alloc, graph, most, few)?, most))
+}
+
 /// Colours the edges so that those of one colour keep each disk's limit, and gives the number of colours too: the
-/// quotient where limits are even, and else three halves of it. There fewer colours are tried first, from `start` on.
+/// quotient where limits are even, and else three halves of it at most. There fewer colours are tried first, from
+/// `start` on.
 pub fn colour_moves(
     alloc: Global,
     graph: &Graph,
@@ -89,9 +181,8 @@ pub fn colour_moves(
     }
     let q = graph.quotient();
     if graph.all_even() {
-        Ok((colour_even(alloc, graph)?, q))
-    } else {
-        let most = 3 * q / 2;
-        Ok((colour_general(alloc, graph, most, start.min(most))?, most))
+        return Ok((colour_even(alloc, graph)?, q));
     }
+    let most = 3 * q / 2;
+    colour_general(alloc, graph, most, start.max(q).min(most))
 }

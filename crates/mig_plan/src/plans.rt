@@ -1,10 +1,7 @@
-ghost use Rattle.std.specs.Prelude.{◌≡◌, ◌*◌, ◌≤◌, length, IfOk};
+ghost use Rattle.std.specs.Prelude.{◌≡◌, IfOk};
 ghost use Rattle.mig_base.specs.Transfers.{transfers};
 ghost use Rattle.mig_base.specs.Targets.{AreTargets, IsRoomy};
-ghost use Rattle.mig_base.specs.Running.{Runs, Once, PlanFits};
-ghost use Rattle.mig_base.specs.Schedules.{Needs};
-ghost use Rattle.mig_base.specs.Bounding.{quotient, IsEven};
-ghost use Rattle.mig_base.specs.Planned.{GoesToTargets, IsFilled};
+ghost use Rattle.mig_base.specs.MadePlans.{IsPlanOf};
 
 use crate::colourings::colour_moves;
 use crate::rounds::plan_of;
@@ -24,16 +21,9 @@ fn plan_moves(
     requires graph { graph.now ≡ transfers input.now }
     requires roomy { IsRoomy input.now }
     requires targets { AreTargets input.now targets.now }
-    ensures fits { IfOk result (PlanFits input.now) }
-    ensures runs { IfOk result (Runs input.now) }
-    ensures once { IfOk result (Once input.now) }
-    ensures targets { IfOk result (GoesToTargets input.now) }
-    ensures filled { IfOk result IsFilled }
-    ensures even_rounds { IfOk result (λ p. IsEven (transfers input.now) → length p ≡ quotient (transfers input.now)) }
-    ensures needed { IfOk result (λ p. IsEven (transfers input.now) → Needs input.now (length p)) }
-    ensures few_rounds { IfOk result (λ p. 2 * length p ≤ 3 * quotient (transfers input.now)) }
+    ensures planned { IfOk result (IsPlanOf input.now) }
 {
-    let _disks = input.disks();
+    input.keeps_rules();
     let (colours, count) = colour_moves(alloc, graph, start)?;
     plan_of(alloc, input, graph, targets, &colours, count)
 }
@@ -46,14 +36,7 @@ fn plan_moves(
 /// quotient. Errs for want of memory only.
 pub fn make_plan(alloc: Global, input: &Input) -> Result<Plan, AllocError>
     requires { IsRoomy input.now }
-    ensures fits { IfOk result (PlanFits input.now) }
-    ensures runs { IfOk result (Runs input.now) }
-    ensures once { IfOk result (Once input.now) }
-    ensures targets { IfOk result (GoesToTargets input.now) }
-    ensures filled { IfOk result IsFilled }
-    ensures even_rounds { IfOk result (λ p. IsEven (transfers input.now) → length p ≡ quotient (transfers input.now)) }
-    ensures needed { IfOk result (λ p. IsEven (transfers input.now) → Needs input.now (length p)) }
-    ensures few_rounds { IfOk result (λ p. 2 * length p ≤ 3 * quotient (transfers input.now)) }
+    ensures planned { IfOk result (IsPlanOf input.now) }
 {
     let graph = Graph::of(alloc, input)?;
     make_plan_from(alloc, input, &graph, graph.quotient())
@@ -69,14 +52,7 @@ pub fn make_plan_from(
 ) -> Result<Plan, AllocError>
     requires graph { graph.now ≡ transfers input.now }
     requires roomy { IsRoomy input.now }
-    ensures fits { IfOk result (PlanFits input.now) }
-    ensures runs { IfOk result (Runs input.now) }
-    ensures once { IfOk result (Once input.now) }
-    ensures targets { IfOk result (GoesToTargets input.now) }
-    ensures filled { IfOk result IsFilled }
-    ensures even_rounds { IfOk result (λ p. IsEven (transfers input.now) → length p ≡ quotient (transfers input.now)) }
-    ensures needed { IfOk result (λ p. IsEven (transfers input.now) → Needs input.now (length p)) }
-    ensures few_rounds { IfOk result (λ p. 2 * length p ≤ 3 * quotient (transfers input.now)) }
+    ensures planned { IfOk result (IsPlanOf input.now) }
 {
     let targets = target_spots(alloc, input)?;
     plan_moves(alloc, input, graph, &targets, start)

@@ -46,7 +46,7 @@ pub fn plan_of(
     ensures filled { IfOk result IsFilled }
     ensures few { IfOk result (λ p. length p ≤ count) }
 {
-    let _disks = input.disks();
+    input.keeps_rules();
     let rows = rows_of(alloc, input, graph, targets, colours, count)?;
     rounds_of(alloc, rows)
 }

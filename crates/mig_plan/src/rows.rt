@@ -4,7 +4,7 @@ ghost use Rattle.mig_base.specs.Transfers.{transfers};
 ghost use Rattle.mig_base.specs.Planned.{move_shift};
 ghost use Rattle.mig_plan.specs.ColourRows.{AreRows};
 
-use mig_base::{Colour, EdgeId, Input, Shift, Spot};
+use mig_base::{Colour, EdgeId, Input, MAX_ITEMS, Shift, Spot};
 use mig_graph::Graph;
 use std::alloc::{AllocError, Global};
 
@@ -25,7 +25,7 @@ fn shift_of(input: &Input, graph: &Graph, targets: &[Spot], edge: u32) -> Shift
 
 /// How many edges each colour has.
 fn sizes_of(alloc: Global, colours: &[Colour], count: u32) -> Result<Vec<u32>, AllocError>
-    requires few { length colours.now ≤ 65536 }
+    requires few { length colours.now ≤ MAX_ITEMS }
     requires below { All (λ c. c.0 < count) colours.now }
     ensures { IfOk result (λ v. vec_len v ≡ count) }
 {

@@ -1,13 +1,13 @@
 -- Colourings in which more and more edges have a colour.
 use Rattle.std.proofs.Common.{◌≡◌, ℕ, ◌<◌, ◌+◌, inl, inr, refl, sym, ap, subst, ◌∙◌, Option, Some, None, arith}
-use Rattle.std.specs.Prelude.{slice_get, is_some, true}
+use Rattle.std.specs.Prelude.{slice_get, is_some, true, false}
 use Rattle.std.proofs.lemmas.Bool.{cases_eq}
 use Rattle.mig_base.specs.declared.ids.EdgeId.{EdgeId}
 use Rattle.mig_base.specs.declared.ids.Colour.{Colour}
 use Rattle.mig_board.specs.Colouring.{Colouring, IsPainted}
-use Rattle.mig_board.specs.Growth.{SameGraph, PaintsOne}
+use Rattle.mig_board.specs.Growth.{IsPlain, SameGraph, PaintsOne}
 use Rattle.mig_board.proofs.Tables.{same_edge}
-use Rattle.mig_shannon.specs.Shift.{Grows}
+use Rattle.mig_shannon.specs.Ways.{Grows}
 
 pub Grows-same : (g h : Colouring) → h ≡ g → Grows g h
 Grows-same g h same = subst (λ (q : Colouring). Grows g q) (sym same) (record { graph = refl; kept = λ e p. p })
@@ -58,3 +58,8 @@ IsColoured-is first now next n x same = subst (λ (g : Colouring). IsColoured fi
 pub painted_some : (g : Colouring) (e : EdgeId) (o : Option Colour) → slice_get g.painted e.0 ≡ Some o → is_some o ≡ true → IsPainted g e
 painted_some g e None h is = cc
 painted_some g e (Some k) h is = (k, h)
+
+-- and one whose colour isn't there has none
+pub plain_none : (g : Colouring) (e : EdgeId) (o : Option Colour) → slice_get g.painted e.0 ≡ Some o → is_some o ≡ false → IsPlain g e
+plain_none g e (Some k) h is = cc
+plain_none g e None h is = h

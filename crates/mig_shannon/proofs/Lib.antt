@@ -1,3 +1,4 @@
 pub mod Growing
+pub mod Left
 pub mod Open
 pub mod Step

@@ -9,39 +9,39 @@ use Rattle.mig_board.specs.Growth.{IsPlain, PaintsOne}
 use Rattle.mig_board.specs.Walk.{Exchanges, WalksTo, end_of}
 use Rattle.mig_board.proofs.Walks.{end_cases, leads_back, walk_unique}
 use Rattle.mig_board.proofs.Counting.{degrees_of_three}
-use Rattle.mig_board.proofs.Laws.{present_differs, present_at_first, present_at_second, repainted_old, repainted_other, same_far, walk_from_end, SameEdges-repainted, PaintsOne-after, PaintsOne-painted}
-use Rattle.mig_shannon.specs.Shift.{CanShift}
-use Rattle.mig_shannon.proofs.Open.{walk_free, pass_shift}
+use Rattle.mig_board.proofs.Laws.{exchanges_plain, exchanges_start, exchanges_third, present_differs, present_at_first, present_at_second, repainted_old, repainted_other, same_far, walk_from_end, Recolours-repainted, PaintsOne-after, PaintsOne-painted}
+use Rattle.mig_shannon.specs.Ways.{CanRepaint}
+use Rattle.mig_shannon.proofs.Open.{walk_free}
 
 -- ---- the repaint
 
-pub shift_painted : (g : Colouring) (e f : EdgeId) (a c : Colour) → CanShift g e f a c → IsPainted g f
-shift_painted g e f a c s = (a, s.beside.colour)
+pub beside_painted : (g : Colouring) (e f : EdgeId) (a c : Colour) → CanRepaint g e f a c → IsPainted g f
+beside_painted g e f a c s = (a, s.beside.colour)
 
-pub shift_free : (g : Colouring) (e f : EdgeId) (a c : Colour) → CanShift g e f a c → IsFreeAt g f c
-shift_free g e f a c s = λ v w j.
+pub beside_free : (g : Colouring) (e f : EdgeId) (a c : Colour) → CanRepaint g e f a c → IsFreeAt g f c
+beside_free g e f a c s = λ v w j.
     elim (end_cases g f s.second s.third v w s.beside.joins j) [
       | inl h ↦ subst (λ (q : CopyId). IsMissing g q c) (sym h) s.at_second
       | inr h ↦ subst (λ (q : CopyId). IsMissing g q c) (sym h) s.at_third
     ]
 
-shift_differs : (g : Colouring) (e f : EdgeId) (a c : Colour) → CanShift g e f a c → a ≢ c
-shift_differs g e f a c s = present_differs g s.second a c (f, s.third, s.beside) s.at_second
+colours_differ : (g : Colouring) (e f : EdgeId) (a c : Colour) → CanRepaint g e f a c → a ≢ c
+colours_differ g e f a c s = present_differs g s.second a c (f, s.third, s.beside) s.at_second
 
-pub shift_plain : (g : Colouring) (e f : EdgeId) (a c : Colour) → CanShift g e f a c → IsPlain (painted_with g f c) e
-shift_plain g e f a c s = (SameEdges-repainted g f c (a, s.beside.colour)).plain e s.plain
+pub beside_plain : (g : Colouring) (e f : EdgeId) (a c : Colour) → CanRepaint g e f a c → IsPlain (painted_with g f c) e
+beside_plain g e f a c s = (Recolours-repainted g f c (a, s.beside.colour)).plain e s.plain
 
-pub shift_free_after : (g : Colouring) (e f : EdgeId) (a c : Colour) → CanShift g e f a c → IsFreeAt (painted_with g f c) e a
-shift_free_after g e f a c s = λ v w j.
+pub beside_free_after : (g : Colouring) (e f : EdgeId) (a c : Colour) → CanRepaint g e f a c → IsFreeAt (painted_with g f c) e a
+beside_free_after g e f a c s = λ v w j.
     elim (end_cases g e s.first s.second v w s.joins j) [
-      | inl h ↦ subst (λ (q : CopyId). IsMissing (painted_with g f c) q a) (sym h) (repainted_other g s.first a c f (slice_get_within g.painted f.0 (Some a) s.beside.colour) s.lacks (shift_differs g e f a c s))
-      | inr h ↦ subst (λ (q : CopyId). IsMissing (painted_with g f c) q a) (sym h) (repainted_old g s.proper s.second a c f s.third s.beside (shift_differs g e f a c s))
+      | inl h ↦ subst (λ (q : CopyId). IsMissing (painted_with g f c) q a) (sym h) (repainted_other g s.first a c f (slice_get_within g.painted f.0 (Some a) s.beside.colour) s.lacks (colours_differ g e f a c s))
+      | inr h ↦ subst (λ (q : CopyId). IsMissing (painted_with g f c) q a) (sym h) (repainted_old g s.proper s.second a c f s.third s.beside (colours_differ g e f a c s))
     ]
 
-pub shift_done : (g : Colouring) (e f : EdgeId) (a c : Colour) → CanShift g e f a c → PaintsOne g (painted_with (painted_with g f c) e a) e
-shift_done g e f a c s =
-    PaintsOne-after g (painted_with g f c) (painted_with (painted_with g f c) e a) e (SameEdges-repainted g f c (a, s.beside.colour))
-    (PaintsOne-painted (painted_with g f c) e a (slice_get_within (painted_with g f c).painted e.0 None (shift_plain g e f a c s)))
+pub beside_done : (g : Colouring) (e f : EdgeId) (a c : Colour) → CanRepaint g e f a c → PaintsOne g (painted_with (painted_with g f c) e a) e
+beside_done g e f a c s =
+    PaintsOne-after g (painted_with g f c) (painted_with (painted_with g f c) e a) e (Recolours-repainted g f c (a, s.beside.colour))
+    (PaintsOne-painted (painted_with g f c) e a (slice_get_within (painted_with g f c).painted e.0 None (beside_plain g e f a c s)))
 
 -- ---- the walk
 
@@ -70,7 +70,8 @@ fan_common g e u v a b f w x most du dv dw half vw uw =
 
 pub free_by_walk : (g new : Colouring) (e : EdgeId) (u v : CopyId) (a b : Colour) (f : EdgeId) (w : CopyId) → IsFan g e u v a b f w → (c : Colour) (x y : CopyId) → IsMissing g u c → WalksTo g u c b x → x ≢ v → Exchanges g new u c b y → IsFreeAt new e b
 free_by_walk g new e u v a b f w fan c x y mc walk away ex =
-    walk_free g new e u v c b (record { at = record { proper = fan.proper; joins = fan.joins; plain = fan.plain }; lacks = mc; has = fan.has }) x y walk away ex
+    let same : y ≡ x = sym ex.walk.end ∙ same_far g u c b x walk ex.walk.steps ex.walk.law.walk in
+    walk_free g new e u v c b (record { at = record { proper = fan.proper; joins = fan.joins; plain = fan.plain }; lacks = mc; has = fan.has }) y (λ h. away (sym same ∙ h)) ex
 
 -- ---- the walk from u ends at v: the walk from w ends at neither
 
@@ -86,9 +87,20 @@ not_at_second g e u v a b f w fan c mc walk back =
     let s = walk_from_end g u c b v walk b c (inr (refl, refl)) fan.has hc in
     fan_first g e u v a b f w fan (sym r.2 ∙ ap (end_of v) (walk_unique g fan.proper v b c r.0 s.0 r.1 s.1) ∙ s.2)
 
-pub shift_by_walk : (g new : Colouring) (e : EdgeId) (u v : CopyId) (a b : Colour) (f : EdgeId) (w : CopyId) → IsFan g e u v a b f w → (c : Colour) (x y : CopyId) → IsMissing g u c → IsMissing g w c → WalksTo g u c b x → x ≡ v → Exchanges g new w c b y → IsProper new → CanShift new e f a b
-shift_by_walk g new e u v a b f w fan c x y mc mw walk there ex proper =
+pub beside_by_walk : (g new : Colouring) (e : EdgeId) (u v : CopyId) (a b : Colour) (f : EdgeId) (w : CopyId) → IsFan g e u v a b f w → (c : Colour) (x y : CopyId) → IsMissing g u c → IsMissing g w c → WalksTo g u c b x → x ≡ v → Exchanges g new w c b y → IsProper new → CanRepaint new e f a b
+beside_by_walk g new e u v a b f w fan c x y mc mw walk there ex proper =
     let to : WalksTo g u c b v = subst (λ (q : CopyId). WalksTo g u c b q) there walk in
     let not_u : y ≢ u = λ h. not_at_first g e u v a b f w fan c mc to (subst (λ (q : CopyId). WalksTo g w c b q) h ex.walk) in
     let not_v : y ≢ v = λ h. not_at_second g e u v a b f w fan c mc to (subst (λ (q : CopyId). WalksTo g w c b q) h ex.walk) in
-    pass_shift g new e u v f w a c b (record { fan = record { at = record { proper = fan.proper; joins = fan.joins; plain = fan.plain }; lacks = fan.lacks; beside = fan.beside }; lacks = mw; has = fan.has }) y y ex.walk not_u not_v ex proper
+    record {
+      proper = proper;
+      first = u;
+      second = v;
+      third = w;
+      joins = subst (λ (q : Colouring). Joins q e u v) (sym ex.frame) fan.joins;
+      plain = exchanges_plain g new w c b y ex e fan.plain;
+      lacks = (ex.others u a (λ h. fan_first g e u v a b f w fan (sym h)) (λ h. not_u (sym h))).1 fan.lacks;
+      beside = exchanges_third g new w c b y ex v a f w (present_differs g w a c (f, v, leads_back fan.beside) mw) (present_differs g v a b (f, w, fan.beside) fan.has) fan.beside;
+      at_second = (ex.others v b (λ h. fan_second g e u v a b f w fan (sym h)) (λ h. not_v (sym h))).1 fan.has;
+      at_third = exchanges_start g new w c b y ex mw;
+    }

@@ -1,103 +1,92 @@
-ghost use Rattle.std.specs.Prelude.{◌≡◌, ◌+◌, ◌*◌, ◌<◌, ◌≤◌, length, MatchBool};
+ghost use Rattle.std.specs.Prelude.{◌≡◌, ◌+◌, ◌*◌, ◌/◌, ◌<◌, ◌≤◌, ◌↔◌, IsTrue, false, true, length};
 ghost use Rattle.mig_base.specs.declared.ids.CopyId.{CopyId};
 ghost use Rattle.mig_board.specs.Colouring.{IsProper, degree_of};
-ghost use Rattle.mig_board.specs.Growth.{IsPlain, IsBlank, IsComplete, SameGraph, PaintsOne};
-ghost use Rattle.mig_shannon.specs.Shift.{Grows};
+ghost use Rattle.mig_board.specs.Growth.{IsBlank, IsComplete, SameGraph};
+ghost use Rattle.mig_shannon.specs.Left.{edges_left};
+ghost use Rattle.mig_shannon.specs.Ways.{Grows};
 
 use crate::palettes::{Effort, Palette};
 use crate::steps::colour_rest;
-use crate::tries::{try_shifts, try_walks};
+use crate::walks::try_edge;
 use mig_base::EdgeId;
 use mig_board::Board;
 
-/// Edges that lie this far apart are tried one after the other, since edges that lie together often join the same nodes.
-const STRIDE: u32 = 1024;
+/// How often all edges are tried at most.
+const PASSES: u32 = 1 << 16;
 
-/// How often all edges are tried.
-const PASSES: u32 = 64;
-
-/// Tries to colour an edge that has no colour within the palette.
-fn try_edge(board: &mut Board, edge: EdgeId, size: u32, effort: &mut Effort) -> bool
-    requires in_range { edge.0 < length board.old.ends }
-    requires plain { IsPlain board.old edge }
-    ensures { MatchBool result (PaintsOne board.old board.new edge) (board.new ≡ board.old) }
-{
-    if !effort.can_scan(size) {
-        return false;
-    }
-    let (first, second) = board.ends(edge);
-    if let Some(colour) = board.common(first, second) {
-        if colour.0 < size {
-            board.paint(edge, colour);
-            return true;
-        }
-    }
-    try_walks(board, edge, first, second, size, effort)
-        || try_shifts(board, edge, first, second, size, effort)
-        || try_shifts(board, edge, second, first, size, effort)
-}
-
-/// Whether an edge stays without a colour, after it was tried.
-fn is_left(board: &mut Board, edge: EdgeId, size: u32, effort: &mut Effort) -> bool
-    requires { edge.0 < length board.old.ends }
-    ensures { Grows board.old board.new }
-{
-    if board.colour_of(edge).is_some() {
-        return false;
-    }
-    !try_edge(board, edge, size, effort)
-}
-
-/// Tries the edges that lie a stride apart, from an edge on, and counts those that stay without a colour.
-fn try_row(board: &mut Board, first: u32, size: u32, effort: &mut Effort) -> u32
-    ensures { Grows board.old board.new }
-{
-    let edges = board.edges();
-    let mut left: u32 = 0;
-    for row in 0..edges / STRIDE + 1 {
-        let edge = row as u64 * STRIDE as u64 + first as u64;
-        if edge < edges as u64 && is_left(board, EdgeId(edge as u32), size, effort) {
-            left = left.saturating_add(1);
-        }
-    }
-    left
-}
-
-/// Tries all edges, and counts those that stay without a colour.
+/// Tries each edge that has no colour, and counts those that stay without one.
 fn try_all(board: &mut Board, size: u32, effort: &mut Effort) -> u32
-    ensures { Grows board.old board.new }
+    ensures left { result ≡ edges_left board.new }
+    ensures grows { Grows board.old board.new }
+    ensures proper { IsProper board.new }
 {
-    let mut left: u32 = 0;
-    for first in 0..STRIDE {
-        left = left.saturating_add(try_row(board, first, size, effort));
+    let mut left = 0;
+    for edge in 0..board.edges() {
+        let edge = EdgeId(edge);
+        if board.colour_of(edge).is_none() && !try_edge(board, edge, size, effort) {
+            left += 1;
+        }
     }
+    let _edges = board.edges();
     left
 }
 
-/// Colours edges in passes over all of them, within a palette that grows after each pass.
-fn colour_most(board: &mut Board, start: u32)
-    ensures { Grows board.old board.new }
+/// Whether another pass is worth its time after one that left so many edges. Where many walks have brought nothing, the
+/// palette has to grow for it, up to the board's colours.
+fn can_go_on(palette: &mut Palette, effort: &mut Effort, left: u32, colours: u32) -> bool
+    ensures spent { effort.old.left ≡ 0 → result ≡ false }
+    ensures room { 0 < effort.old.left → palette.old.size < colours → result ≡ true }
+    ensures better { 0 < effort.old.left → left + left / 16 < effort.old.least → result ≡ true }
+    ensures kept { left + left / 16 < effort.old.least → palette.new ≡ palette.old }
 {
-    let mut palette = Palette::new(start, board.nodes());
-    let mut effort = Effort::new(board.edges(), start);
-    for _pass in 0..PASSES {
-        let left = try_all(board, palette.size, &mut effort);
-        if left == 0 || effort.is_spent() {
-            return;
-        }
-        palette.grow(left);
-        effort.deepen();
+    if effort.is_spent() {
+        return false;
     }
+    if effort.is_better(left) {
+        effort.begin(left);
+        return true;
+    }
+    if !effort.is_stuck(left) {
+        effort.deepen();
+        return true;
+    }
+    let has_room = palette.size < colours;
+    palette.grow(left, colours);
+    effort.begin(left);
+    has_room
+}
+
+/// Colours edges by walks alone, within a palette that begins with the first `start` colours and grows, up to the
+/// board's colours, where many walks bring nothing. Tells whether each edge has a colour then.
+///
+/// Takes no memory and refuses nothing. Walks are tried a bounded number of times, by numbers that are the same each
+/// time.
+pub fn colour_within(board: &mut Board, start: u32) -> bool
+    ensures tells { IsTrue result ↔ IsComplete board.new }
+    ensures grows { Grows board.old board.new }
+    ensures proper { IsProper board.new }
+{
+    let colours = board.colours();
+    let mut palette = Palette::new(start, board.nodes());
+    let mut effort = Effort::new(board.nodes());
+    let mut left = try_all(board, palette.size, &mut effort);
+    for _pass in 1..PASSES {
+        if left == 0 || !can_go_on(&mut palette, &mut effort, left, colours) {
+            break;
+        }
+        left = try_all(board, palette.size, &mut effort);
+    }
+    left == 0
 }
 
 /// Colours each edge of a board on which nothing is coloured, with few colours in practice.
 ///
-/// The palette begins with the first `start` colours, and grows where no way is found to colour an edge within it: a
-/// bound on the number of colours that every colouring needs is a good start. No node may be an end of more than
+/// The palette of `colour_within` begins with the first `start` colours: a bound on the number of colours that every
+/// colouring needs is a good start. What walks leave, Shannon's steps colour. No node may be an end of more than
 /// `degree` edges, there have to be at least `degree` colours, and twice the colours have to be at least three times
 /// the degree, less one. What is promised is only that the board's colours are enough.
 ///
-/// Takes no memory and refuses nothing. All ways to colour an edge are tried a bounded number of times.
+/// Takes no memory and refuses nothing.
 pub fn colour_few(board: &mut Board, degree: u32, start: u32)
     requires blank { IsBlank board.old }
     requires few { (v : CopyId) → v.0 < board.old.nodes → degree_of board.old v ≤ degree }
@@ -108,7 +97,7 @@ pub fn colour_few(board: &mut Board, degree: u32, start: u32)
     ensures graph { SameGraph board.old board.new }
     ensures proper { IsProper board.new }
 {
-    colour_most(board, start);
+    colour_within(board, start);
     colour_rest(board, degree);
     let _edges = board.edges();
 }
@@ -119,7 +108,7 @@ pub fn colour_few(board: &mut Board, degree: u32, start: u32)
 /// colours have to be at least three times the degree, less one. Takes no memory and refuses nothing.
 ///
 /// Shannon (1949) showed that so many colours are enough for a multigraph without loops, and his steps colour each
-/// edge for which the growing palette of `colour_few` has no colour.
+/// edge that walks leave.
 pub fn colour_all(board: &mut Board, degree: u32)
     requires blank { IsBlank board.old }
     requires few { (v : CopyId) → v.0 < board.old.nodes → degree_of board.old v ≤ degree }

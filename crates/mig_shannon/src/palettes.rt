@@ -1,116 +1,143 @@
-ghost use Rattle.std.specs.Prelude.{◌≡◌, ◌+◌, ◌-◌, ◌*◌, ◌/◌, ◌<◌, ◌≤◌, ◌↔◌, IsTrue, min, max};
+//! The colours in use, and what walks may cost.
+ghost use Rattle.std.specs.Prelude.{◌≡◌, ◌+◌, ◌-◌, ◌*◌, ◌/◌, ◌%◌, ◌^◌, ◌<◌, ◌≤◌, ◌↔◌, IsTrue, min, max};
+ghost use Rattle.mig_shannon.specs.Palettes.{step_after};
 
-/// How many more looks at the table the tries of one run may take than it takes to paint each edge once.
-const LOOKS: u64 = 1 << 29;
+/// How many walks are tried for an edge in one pass, at first and at most.
+const FEW_TRIES: u32 = 16;
 
-/// How many looks the later passes of one run may take.
-const SCANS: u64 = 1 << 30;
+const MOST_TRIES: u32 = 1024;
 
-/// How many ways are tried for an edge at first, and at most.
-const FEW_TRIES: u32 = 8;
+/// What walks that fail may cost between two improvements, and in a whole run, in steps of walks.
+const PATIENCE: u64 = 1 << 22;
 
-const MOST_TRIES: u32 = 32;
+const BUDGET: u64 = 1 << 26;
 
-/// The colours in use, those below the palette's size, and how the palette grows from pass to pass.
+/// The colours in use, those below the palette's size.
 #[derive(Drop)]
 pub struct Palette {
     pub size: u32,
     /// By how many colours it grew last, and how many edges were left before that.
     step: u32,
-    left: u32,
-    /// How many edges one more colour serves.
-    each: u32,
+    before: u32,
+    nodes: u32,
 }
 
 impl Palette {
-    /// A palette of the first colours, for a board of so many nodes, of which one colour serves two with each edge.
+    /// A palette of the first colours, for a board of so many nodes.
     pub fn new(size: u32, nodes: u32) -> Palette
-        ensures size { result.size ≡ size }
-        ensures fresh { result.step ≡ 0 }
-        ensures each { result.each ≡ max (nodes / 2) 1 }
+        ensures { result ≡ record { size = size; step = 0; before = 0; nodes = nodes } }
     {
         Palette {
             size,
             step: 0,
-            left: 0,
-            each: (nodes / 2).max(1),
+            before: 0,
+            nodes,
         }
     }
 
-    /// Grows by half as many colours as the edges that a pass left seem to need.
-    pub fn grow(&mut self, left: u32)
-        ensures left { self.new.left ≡ left }
-        ensures step { 0 < self.new.step }
-        ensures size { self.new.size ≡ min (self.old.size + self.new.step) u32.MAX }
+    /// Grows, to `most` colours at most, where so many edges are left.
+    ///
+    /// The step is half of the colours that these edges seem to need, judged by what the last step brought. It is at
+    /// most twice the last step, or half of the fewest colours that can do.
+    pub fn grow(&mut self, left: u32, most: u32)
+        ensures step { self.new.step ≡ step_after self.old.step self.old.before left self.old.nodes }
+        ensures size { self.new.size ≡ min (self.old.size + self.new.step) (min most u32.MAX) }
+        ensures before { self.new.before ≡ left }
+        ensures nodes { self.new.nodes ≡ self.old.nodes }
     {
-        if self.step > 0 {
-            self.each = (self.left.saturating_sub(left) / self.step).max(1);
-        }
-        self.step = (left / self.each.max(1) / 2).max(1);
-        self.left = left;
-        self.size = self.size.saturating_add(self.step);
+        let twice = self.step.saturating_mul(2).max(left / self.nodes.max(1));
+        let fewer = self.before.saturating_sub(left);
+        let step = if fewer == 0 {
+            twice
+        } else {
+            let need = left as u64 * self.step as u64 / fewer as u64 / 2;
+            need.min(twice as u64) as u32
+        };
+        self.step = step.max(1);
+        self.before = left;
+        self.size = self.size.saturating_add(self.step).min(most);
     }
 }
 
-/// What a run may still spend.
+/// What a run may still spend on walks, and the numbers that it draws, the same ones in each run.
 #[derive(Drop)]
 pub struct Effort {
-    /// How many ways are tried for an edge.
+    /// How many walks are tried for an edge in one pass.
     pub tries: u32,
-    looks: u64,
-    scans: u64,
+    /// What one walk that fails costs, what was spent since the last improvement, and what is left.
+    cost: u64,
+    spent: u64,
+    left: u64,
+    /// The fewest edges that a pass left, as of the last improvement.
+    least: u32,
+    state: u32,
 }
 
 impl Effort {
-    /// The effort for so many edges and a palette of this size.
-    pub fn new(edges: u32, size: u32) -> Effort
-        ensures tries { result.tries ≡ FEW_TRIES }
-        ensures looks { result.looks ≡ LOOKS }
-        ensures scans { result.scans ≡ min (SCANS + edges * size) u64.MAX }
+    /// The effort for a board of so many nodes.
+    pub fn new(nodes: u32) -> Effort
+        ensures { result ≡ record { tries = FEW_TRIES; cost = 16 + nodes / 4; spent = 0; left = BUDGET; least = u32.MAX; state = 1 } }
     {
         Effort {
             tries: FEW_TRIES,
-            looks: LOOKS,
-            scans: SCANS.saturating_add(edges as u64 * size as u64),
+            cost: 16 + nodes as u64 / 4,
+            spent: 0,
+            left: BUDGET,
+            least: u32::MAX,
+            state: 1,
         }
     }
 
-    /// Whether so many looks are left for a try, which are spent then.
-    pub fn can_try(&mut self, looks: u32) -> bool
-        ensures enough { IsTrue result ↔ (looks ≤ self.old.looks) }
-        ensures spent { self.new.looks ≡ self.old.looks - looks }
-        ensures tries { self.new.tries ≡ self.old.tries }
-        ensures scans { self.new.scans ≡ self.old.scans }
+    /// A number below n, or 0 where n is 0, and another one each time.
+    pub fn draw(&mut self, n: u32) -> u32
+        ensures value { result ≡ self.new.state / 256 % max n 1 }
+        ensures others { self.new ≡ record self.old { state = (self.old.state * 1664525 + 1013904223) % 2 ^ 32 } }
     {
-        let enough = looks as u64 <= self.looks;
-        self.looks = self.looks.saturating_sub(looks as u64);
-        enough
+        self.state = ((self.state as u64 * 1664525 + 1013904223) % (1 << 32)) as u32;
+        self.state / 256 % n.max(1)
     }
 
-    /// Whether so many looks are left for a scan, which are spent then.
-    pub fn can_scan(&mut self, looks: u32) -> bool
-        ensures enough { IsTrue result ↔ (looks ≤ self.old.scans) }
-        ensures spent { self.new.scans ≡ self.old.scans - looks }
-        ensures tries { self.new.tries ≡ self.old.tries }
-        ensures looks { self.new.looks ≡ self.old.looks }
+    /// Pays for a walk that failed.
+    pub fn pay(&mut self)
+        ensures { self.new ≡ record self.old { spent = min (self.old.spent + self.old.cost) u64.MAX; left = self.old.left - self.old.cost } }
     {
-        let enough = looks as u64 <= self.scans;
-        self.scans = self.scans.saturating_sub(looks as u64);
-        enough
+        self.spent = self.spent.saturating_add(self.cost);
+        self.left = self.left.saturating_sub(self.cost);
     }
 
-    /// Whether another pass is worth its time.
+    /// Whether nothing is left.
     pub fn is_spent(&self) -> bool
-        ensures { IsTrue result ↔ (self.now.scans ≡ 0) }
+        ensures { IsTrue result ↔ (self.now.left ≡ 0) }
     {
-        self.scans == 0
+        self.left == 0
     }
 
-    /// Tries twice as many ways in the next pass.
+    /// Whether a pass that left so many edges is an improvement: it left fewer than before by one in sixteen or more.
+    pub fn is_better(&self, edges: u32) -> bool
+        ensures { IsTrue result ↔ (edges + edges / 16 < self.now.least) }
+    {
+        edges as u64 + edges as u64 / 16 < self.least as u64
+    }
+
+    /// Whether walks have brought nothing for long, where so many edges are left: the fewer, the longer.
+    pub fn is_stuck(&self, edges: u32) -> bool
+        ensures { IsTrue result ↔ (PATIENCE ≤ self.now.spent * min edges 16) }
+    {
+        self.spent.saturating_mul(edges.min(16) as u64) >= PATIENCE
+    }
+
+    /// Begins anew after a pass that left so many edges.
+    pub fn begin(&mut self, edges: u32)
+        ensures { self.new ≡ record self.old { tries = FEW_TRIES; spent = 0; least = edges } }
+    {
+        self.tries = FEW_TRIES;
+        self.spent = 0;
+        self.least = edges;
+    }
+
+    /// Tries twice as many walks in the next pass.
     pub fn deepen(&mut self)
-        ensures tries { self.new.tries ≡ min (2 * self.old.tries) MOST_TRIES }
-        ensures looks { self.new.looks ≡ self.old.looks }
-        ensures scans { self.new.scans ≡ self.old.scans }
+        ensures { self.new ≡ record self.old { tries = min (2 * self.old.tries) MOST_TRIES } }
     {
         self.tries = self.tries.saturating_mul(2).min(MOST_TRIES);
     }

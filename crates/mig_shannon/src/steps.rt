@@ -2,14 +2,20 @@ ghost use Rattle.std.specs.Prelude.{◌+◌, ◌*◌, ◌<◌, ◌≤◌, length
 ghost use Rattle.mig_base.specs.declared.ids.CopyId.{CopyId};
 ghost use Rattle.mig_board.specs.Colouring.{degree_of};
 ghost use Rattle.mig_board.specs.Growth.{IsPlain, IsComplete, SameGraph, PaintsOne};
-ghost use Rattle.mig_shannon.specs.Shift.{CanShift};
+ghost use Rattle.mig_shannon.specs.Ways.{CanRepaint};
 
 use mig_base::{Colour, EdgeId};
 use mig_board::Board;
 
 /// Repaints an edge, and gives its old colour to another one.
-pub fn shift(board: &mut Board, edge: EdgeId, beside: EdgeId, lacks: Colour, colour: Colour)
-    requires { CanShift board.old edge beside lacks colour }
+pub fn repaint_beside(
+    board: &mut Board,
+    edge: EdgeId,
+    beside: EdgeId,
+    lacks: Colour,
+    colour: Colour,
+)
+    requires { CanRepaint board.old edge beside lacks colour }
     ensures { PaintsOne board.old board.new edge }
 {
     board.repaint(beside, colour);
@@ -46,7 +52,7 @@ pub fn colour_edge(board: &mut Board, edge: EdgeId, degree: u32)
     };
     let third = board.across(beside, second);
     if let Some(colour) = board.common(second, third) {
-        shift(board, edge, beside, lacks, colour);
+        repaint_beside(board, edge, beside, lacks, colour);
         return;
     }
     let Some(colour) = board.common(first, third) else {
@@ -54,7 +60,7 @@ pub fn colour_edge(board: &mut Board, edge: EdgeId, degree: u32)
     };
     if board.far(first, colour, has) == second {
         board.exchange(third, colour, has);
-        shift(board, edge, beside, lacks, has);
+        repaint_beside(board, edge, beside, lacks, has);
     } else {
         board.exchange(first, colour, has);
         board.paint(edge, has);

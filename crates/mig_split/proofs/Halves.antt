@@ -1,5 +1,5 @@
 -- From dealt ends to the copies of edges.
-use Rattle.std.proofs.Common.{◌≡◌, ◌≢◌, ℕ, suc, zero, ◌+◌, ◌-◌, ◌*◌, ◌<◌, ◌≤◌, inl, inr, refl, sym, ap, ◌∙◌, subst, List, [], ◌∷◌, ◌++◌, Bool, true, false, eqb, length, take, drop, get_or, arith, count_by, All, ◌||◌}
+use Rattle.std.proofs.Common.{◌≡◌, ◌≢◌, ℕ, suc, zero, ◌+◌, ◌-◌, ◌*◌, ◌<◌, ◌≤◌, inl, inr, refl, sym, ap, ◌∙◌, subst, List, [], ◌∷◌, ◌++◌, Bool, true, false, eqb, length, take, drop, get_or, min, sum, arith, count_by, All, ◌||◌}
 use Rattle.std.proofs.lemmas.List.{length-append, get_or_append_left, get_or-append-add, get_or_default, take_at, drop_at, get_or-take, get_or-drop, length-take-le, length-drop}
 use Rattle.std.proofs.lemmas.List.Sums.{sum_by-cons, sum_by-append, sum_by-take-drop}
 use Rattle.std.proofs.lemmas.List.Elements.{All-head, All-tail}
@@ -12,8 +12,13 @@ use Rattle.mig_base.specs.Transfers.{Transfers}
 use Rattle.mig_base.specs.Ends.{is_end, ends_at}
 use Rattle.mig_base.specs.Directions.{tails, heads, tail_of, head_of, trip_at, is_forward, out_of, in_of}
 use Rattle.mig_base.proofs.Counting.{one}
-use Rattle.mig_split.specs.Dealing.{count_of, count_at, disk_at, copy_at, IsDealt}
-use Rattle.mig_split.specs.Copies.{AreTails, AreHeads, ArePairs, AreSides, AreCopies, first_of, second_of}
+use Rattle.std.proofs.Math.Nat.{mul-le-mul_left, mul-le-mul_right}
+use Rattle.mig_base.specs.Bounding.{limit, quotient}
+use Rattle.mig_split.specs.Dealing.{count_of, count_at, disk_at, copy_at, AreFew, IsDealt, IsDealtBy, IsEnough}
+use Rattle.mig_base.specs.InputLists.{IsDiskInRange, no_disk}
+use Rattle.mig_base.proofs.Copies.{load_within_quotient}
+use Rattle.mig_split.specs.Copies.{AreTails, AreHeads, ArePairs, AreSides, AreStops, AreJoined, AreShared, AreShares, AreCopies, first_of, second_of}
+use Rattle.mig_split.proofs.Numbers.{numbers_room, numbers_few, ceil_most, ceil_within, ceil_enough}
 
 -- two lists that pass alike at each place
 pub count_same : {X Y : Type 0} (p : X → Bool) (q : Y → Bool) (d : X) (e : Y) (xs : List X) (ys : List Y) → length xs ≡ length ys → ((k : ℕ) → k < length xs → p (get_or xs k d) ≡ q (get_or ys k e)) → count_by p xs ≡ count_by q ys
@@ -114,43 +119,146 @@ AreSides-all q graph ds ts hs oh ih oc ic ends len at ah o i p =
       few = omega (arith, long, o.few, i.few, at.len, ah.len);
     }
 
--- ---- without directions
-
-leaves_are : (ts : List Trip) (ds : List Bool) (disks : List DiskId) (v : ℕ) → ((k : ℕ) → k < length ts → is_forward ds k ≡ true) → AreTails ts ds disks → count_of v disks ≡ count_by (λ t. eqb t.leaves v) ts
-leaves_are ts ds disks v forward a = count_same (λ (d : DiskId). eqb d.0 v) (λ (t : Trip). eqb t.leaves v) (record { 0 = 0 }) (record { leaves = 0; reaches = 0 }) disks ts a.len (λ k h. ap (λ n. eqb n v) (a.known k (omega (arith, h, a.len)) ∙ ap (tail_of (trip_at ts k)) (forward k (omega (arith, h, a.len)))))
-
-reaches_are : (ts : List Trip) (ds : List Bool) (disks : List DiskId) (v : ℕ) → ((k : ℕ) → k < length ts → is_forward ds k ≡ true) → AreHeads ts ds disks → count_of v disks ≡ count_by (λ t. eqb t.reaches v) ts
-reaches_are ts ds disks v forward a = count_same (λ (d : DiskId). eqb d.0 v) (λ (t : Trip). eqb t.reaches v) (record { 0 = 0 }) (record { leaves = 0; reaches = 0 }) disks ts a.len (λ k h. ap (λ n. eqb n v) (a.known k (omega (arith, h, a.len)) ∙ ap (head_of (trip_at ts k)) (forward k (omega (arith, h, a.len)))))
+-- ---- edges between the copies of any number
 
 one_touch : (v l r : ℕ) → l ≢ r → one (eqb l v) + one (eqb r v) ≡ one (eqb v l || eqb v r)
 one_touch v l r ne = grind (arith, nat_tests)
 
-load_is : (v : ℕ) (ts : List Trip) → All (λ t. t.leaves ≢ t.reaches) ts → count_by (λ t. eqb t.leaves v) ts + count_by (λ t. eqb t.reaches v) ts ≡ load v ts
-load_is v [] h = refl
-load_is v (t ∷ ts) h =
-    omega (arith, sum_by-cons (λ (x : Trip). one (eqb x.leaves v)) t ts, sum_by-cons (λ (x : Trip). one (eqb x.reaches v)) t ts, sum_by-cons (λ (x : Trip). one (touches v x)) t ts, one_touch v t.leaves t.reaches (All-head (λ (x : Trip). x.leaves ≢ x.reaches) t ts h), load_is v ts (All-tail (λ (x : Trip). x.leaves ≢ x.reaches) t ts h))
+one_end : (v : ℕ) (t : Trip) (forward : Bool) → t.leaves ≢ t.reaches → one (eqb (tail_of t forward) v) + one (eqb (head_of t forward) v) ≡ one (touches v t)
+one_end v t true ne = one_touch v t.leaves t.reaches ne
+one_end v t false ne = omega (arith, one_touch v t.leaves t.reaches ne)
+
+-- an edge leaves one of its disks and enters the other, whatever its direction
+out_in : (ts : List Trip) (ds : List Bool) (v : ℕ) → length ds ≡ length ts → All (λ t. t.leaves ≢ t.reaches) ts → out_of ts ds v + in_of ts ds v ≡ load v ts
+out_in [] ds v len h = refl
+out_in (t ∷ ts) [] v len h = absurd (omega arith)
+out_in (t ∷ ts) (d ∷ ds) v len h =
+    omega (
+      arith,
+      sum_by-cons (λ (n : ℕ). one (eqb n v)) (tail_of t d) (tails ts ds),
+      sum_by-cons (λ (n : ℕ). one (eqb n v)) (head_of t d) (heads ts ds),
+      sum_by-cons (λ (x : Trip). one (touches v x)) t ts,
+      one_end v t d (All-head (λ (x : Trip). x.leaves ≢ x.reaches) t ts h),
+      out_in ts ds v (omega (arith, len)) (All-tail (λ (x : Trip). x.leaves ≢ x.reaches) t ts h),
+    )
+
+pub stops_load : (ts : List Trip) (ds : List Bool) (stops : List DiskId) (v : ℕ) → length ds ≡ length ts → All (λ t. t.leaves ≢ t.reaches) ts → AreStops ts ds stops → count_of v stops ≡ load v ts
+stops_load ts ds stops v len apart a =
+    omega (arith, ap (count_of v) a.is, sum_by-append (λ (d : DiskId). one (eqb d.0 v)) a.tails a.heads, out_is ts ds a.tails v len a.tails_are, in_is ts ds a.heads v len a.heads_are, out_in ts ds v len apart)
+
+pub stops_len : (ts : List Trip) (ds : List Bool) (stops : List DiskId) → AreStops ts ds stops → length stops ≡ length ts + length ts
+stops_len ts ds stops a = omega (arith, ap (λ (xs : List DiskId). length xs) a.is, length-append a.tails a.heads, a.tails_are.len, a.heads_are.len)
+
+-- the first stops, and the others
+stop_left : (ts : List Trip) (ds : List Bool) (stops : List DiskId) (e : ℕ) → AreStops ts ds stops → e < length ts → disk_at stops e ≡ tail_of (trip_at ts e) (is_forward ds e)
+stop_left ts ds stops e a h = ap (λ (xs : List DiskId). disk_at xs e) a.is ∙ disk_left a.tails a.heads e (omega (arith, h, a.tails_are.len)) ∙ a.tails_are.known e h
+
+stop_right : (ts : List Trip) (ds : List Bool) (stops : List DiskId) (e m : ℕ) → AreStops ts ds stops → m ≡ length ts → e < length ts → disk_at stops (m + e) ≡ head_of (trip_at ts e) (is_forward ds e)
+stop_right ts ds stops e m a is_m h =
+    ap (λ (xs : List DiskId). disk_at xs (m + e)) a.is ∙ ap (λ k. disk_at (a.tails ++ a.heads) (k + e)) (omega (arith, is_m, a.tails_are.len)) ∙ disk_right a.tails a.heads e ∙ a.heads_are.known e h
+
+end_there : (t : Trip) (forward : Bool) (n : ℕ) → t.leaves < n → t.reaches < n → (tail_of t forward < n) × (head_of t forward < n)
+end_there t true n l r = (l, r)
+end_there t false n l r = (r, l)
+
+pub stops_there : (ts : List Trip) (ds : List Bool) (stops : List DiskId) (n : ℕ) → AreStops ts ds stops → All (λ t. t.leaves < n) ts → All (λ t. t.reaches < n) ts → All (λ d. d.0 < n) stops
+stops_there ts ds stops n a leaves reaches k d h =
+    subst (λ (x : DiskId). x.0 < n) (get_or_default stops k (record { 0 = 0 }) d h)
+    (elim (cases_lt k (length ts)) [
+      | inl l ↦ omega (arith, stop_left ts ds stops k a l, (there k l).0)
+      | inr l ↦ (let e = k - length ts in
+          let low : e < length ts = omega (arith, h, l, stops_len ts ds stops a) in
+          omega (arith, ap (disk_at stops) (split k (length ts) l), stop_right ts ds stops e (length ts) a refl low, (there e low).1))
+    ])
+  where
+    there : (e : ℕ) → e < length ts → (tail_of (trip_at ts e) (is_forward ds e) < n) × (head_of (trip_at ts e) (is_forward ds e) < n)
+    there e l = end_there (trip_at ts e) (is_forward ds e) n (leaves e (record { leaves = 0; reaches = 0 }) l) (reaches e (record { leaves = 0; reaches = 0 }) l)
+
+    split : (k m : ℕ) → m ≤ k → k ≡ m + (k - m)
+    split k m h = omega arith
 
 from_none : (k : ℕ) (copies : List CopyId) → count_at (k - 0) copies ≡ count_at k copies
 from_none k copies = ap (λ n. count_at n copies) (omega arith)
 
-pub AreCopies-all : (q : ℕ) (graph : Transfers) (ds : List Bool) (ts hs homes : List DiskId) (copies : List CopyId) (ends : List (CopyId × CopyId)) (m : ℕ) → All (λ t. t.leaves ≢ t.reaches) graph.trips → ((k : ℕ) → k < length graph.trips → is_forward ds k ≡ true) → AreTails graph.trips ds ts → AreHeads graph.trips ds hs → IsDealt q (length graph.disks) (ts ++ hs) homes copies → m ≡ length graph.trips → ArePairs (take m copies) (drop m copies) 0 ends → AreCopies q graph ends homes
-AreCopies-all q graph ds ts hs homes copies ends m apart forward at ah o is_m p =
-    let D = length graph.disks in
-    let S = ts ++ hs in
-    let long : length S ≡ m + m = length-append ts hs ∙ omega (arith, at.len, ah.len, is_m) in
+pub AreJoined-all : (q m : ℕ) (numbers : List ℕ) (stops homes : List DiskId) (copies : List CopyId) (ends : List (CopyId × CopyId)) → IsDealtBy q numbers stops homes copies → length stops ≡ m + m → ArePairs (take m copies) (drop m copies) 0 ends → AreJoined q m numbers stops ends homes
+AreJoined-all q m numbers stops homes copies ends o long p =
     let half : length (take m copies) ≡ m = length-take-le m copies (omega (arith, o.one_each, long)) in
     let rest : length (drop m copies) ≡ m = length-drop m copies ∙ omega (arith, o.one_each, long) in
-    let n : (e : ℕ) → e < length ends → e < m = λ e h. omega (arith, h, p.len, half) in
-    let fst : (e : ℕ) → e < length ends → first_of ends e ≡ copy_at copies e = λ e h. p.first e (omega (arith, n e h, half)) ∙ ap (λ (c : CopyId). c.0) (get_or-take m copies e (record { 0 = 0 }) (n e h)) in
-    let snd : (e : ℕ) → e < length ends → second_of ends e ≡ copy_at copies (m + e) = λ e h. p.second e (omega (arith, n e h, half)) ∙ omega (arith, ap (λ (c : CopyId). c.0) (get_or-drop m copies e (record { 0 = 0 }))) in
-    let total : (v : ℕ) → count_of v S ≡ load v graph.trips = λ v. omega (arith, sum_by-append (λ (d : DiskId). one (eqb d.0 v)) ts hs, leaves_are graph.trips ds ts v forward at, reaches_are graph.trips ds hs v forward ah, load_is v graph.trips apart) in
+    let there : (i : ℕ) → i < length stops → copy_at copies i < length homes = λ i h. o.there i (record { 0 = 0 }) (omega (arith, h, o.one_each)) in
+    let fst : (e : ℕ) → e < m → first_of ends e ≡ copy_at copies e = λ e h. p.first e (omega (arith, h, half)) ∙ ap (λ (c : CopyId). c.0) (get_or-take m copies e (record { 0 = 0 }) h) in
+    let snd : (e : ℕ) → e < m → second_of ends e ≡ copy_at copies (m + e) = λ e h. p.second e (omega (arith, h, half)) ∙ omega (arith, ap (λ (c : CopyId). c.0) (get_or-drop m copies e (record { 0 = 0 }))) in
     record {
-      one_each = p.len ∙ half ∙ is_m;
-      there = λ e h. (omega (arith, fst e h, copy_there q D S homes copies o e (omega (arith, n e h, long))), omega (arith, snd e h, copy_there q D S homes copies o (m + e) (omega (arith, n e h, long))));
-      first = λ e h. ap (disk_at homes) (fst e h) ∙ o.home e (omega (arith, n e h, long)) ∙ disk_left ts hs e (omega (arith, n e h, at.len, is_m)) ∙ at.known e (omega (arith, n e h, is_m)) ∙ ap (tail_of (trip_at graph.trips e)) (forward e (omega (arith, n e h, is_m)));
-      second = λ e h. ap (disk_at homes) (snd e h) ∙ o.home (m + e) (omega (arith, n e h, long)) ∙ ap (λ k. disk_at S (k + e)) (is_m ∙ sym at.len) ∙ disk_right ts hs e ∙ ah.known e (omega (arith, n e h, is_m)) ∙ ap (head_of (trip_at graph.trips e)) (forward e (omega (arith, n e h, is_m)));
-      number = λ v h. o.number v h ∙ ap (λ k. div_ceil k q) (total v);
+      one_each = p.len ∙ half;
+      there = λ e h. (omega (arith, fst e h, there e (omega (arith, h, long))), omega (arith, snd e h, there (m + e) (omega (arith, h, long))));
+      first = λ e h. ap (disk_at homes) (fst e h) ∙ o.home e (omega (arith, h, long));
+      second = λ e h. ap (disk_at homes) (snd e h) ∙ o.home (m + e) (omega (arith, h, long));
+      number = o.number;
       most = λ k h. omega (arith, ends_most k ends, firsts_are k (take m copies) (drop m copies) 0 ends p, seconds_are k (take m copies) (drop m copies) 0 ends (omega (arith, half, rest)) (omega arith) p, sum_by-take-drop (λ (c : CopyId). one (eqb c.0 k.0)) copies m, from_none k.0 (drop m copies), o.most k.0 h);
-      room = omega (arith, o.room, long, is_m);
-      few = omega (arith, o.few, long, is_m);
+      total = o.total;
+    }
+
+pub AreCopies-all : (q : ℕ) (graph : Transfers) (ds : List Bool) (stops homes : List DiskId) (numbers : List ℕ) (ends : List (CopyId × CopyId)) (m : ℕ) → m ≡ length graph.trips → length ds ≡ length graph.trips → All (λ t. t.leaves ≢ t.reaches) graph.trips → ((k : ℕ) → k < length graph.trips → is_forward ds k ≡ true) → AreStops graph.trips ds stops → AreFew q (length graph.disks) stops numbers → AreJoined q m numbers stops ends homes → AreCopies q graph ends homes
+AreCopies-all q graph ds stops homes numbers ends m is_m len apart forward a f j =
+    let n : (e : ℕ) → e < length ends → e < m = λ e h. omega (arith, h, j.one_each) in
+    let n' : (e : ℕ) → e < length ends → e < length graph.trips = λ e h. omega (arith, n e h, is_m) in
+    let long = stops_len graph.trips ds stops a in
+    record {
+      one_each = j.one_each ∙ is_m;
+      there = λ e h. j.there e (n e h);
+      first = λ e h. j.first e (n e h) ∙ stop_left graph.trips ds stops e a (n' e h) ∙ ap (tail_of (trip_at graph.trips e)) (forward e (n' e h));
+      second = λ e h. j.second e (n e h) ∙ stop_right graph.trips ds stops e m a is_m (n' e h) ∙ ap (head_of (trip_at graph.trips e)) (forward e (n' e h));
+      number = λ v h. j.number v (omega (arith, h, f.len)) ∙ f.each v h ∙ ap (λ k. div_ceil k q) (stops_load graph.trips ds stops v len apart a);
+      most = j.most;
+      room = omega (arith, f.room, ap (λ k. k * q) j.total, long);
+      few = omega (arith, f.few, j.total, long);
+    }
+
+-- ---- as many copies as the limit
+
+-- the limit's copies can have all edges, and so can as many as there are shares
+pub shared_enough : (q s l n : ℕ) → 1 ≤ s → s ≤ q → n ≤ q * l → n ≤ min l (div_ceil n s) * q
+shared_enough q s l n some most all = elim (cases_lt (div_ceil n s) l) [
+  | inl h ↦ omega (arith, ceil_enough n s some, mul-le-mul_left (div_ceil n s) most, ap (λ k. k * q) (low l (div_ceil n s) h))
+  | inr h ↦ omega (arith, all, ap (λ k. k * q) (high l (div_ceil n s) h))
+]
+  where
+    low : (a b : ℕ) → b < a → min a b ≡ b
+    low a b h = omega arith
+
+    high : (a b : ℕ) → a ≤ b → min a b ≡ a
+    high a b h = omega arith
+
+shared_below : (l c s n : ℕ) → c * s ≤ n → min l c * s ≤ n
+shared_below l c s n h = omega (arith, h, mul-le-mul_right s (low l c))
+  where
+    low : (a b : ℕ) → min a b ≤ b
+    low a b = omega arith
+
+pub shared_sum : (graph : Transfers) (ds : List Bool) (share : ℕ) (stops : List DiskId) (numbers : List ℕ) → 1 ≤ share → length ds ≡ length graph.trips → All (λ t. t.leaves ≢ t.reaches) graph.trips → AreStops graph.trips ds stops → AreShared graph share numbers → sum numbers ≤ length stops
+shared_sum graph ds share stops numbers some len apart a f =
+    numbers_few (length graph.disks) stops numbers f.len (λ v h. omega (arith, ceil_within (load v graph.trips) share some, f.each v h, stops_load graph.trips ds stops v len apart a))
+
+pub shared_all : (graph : Transfers) (ds : List Bool) (share q : ℕ) (stops : List DiskId) (numbers : List ℕ) → q ≡ quotient graph → 1 ≤ share → share ≤ q → All IsDiskInRange graph.disks → length ds ≡ length graph.trips → All (λ t. t.leaves ≢ t.reaches) graph.trips → AreStops graph.trips ds stops → AreShared graph share numbers → IsEnough q stops numbers
+shared_all graph ds share q stops numbers is_q some most valid len apart a f v h =
+    let there : v < length graph.disks = omega (arith, h, f.len) in
+    let all = load_within_quotient graph v there (valid v no_disk there).0 in
+    omega (arith, stops_load graph.trips ds stops v len apart a, shared_enough q share (limit graph v) (load v graph.trips) some most (omega (arith, all, ap (λ n. n * limit graph v) is_q)), ap (λ n. n * q) (f.each v there))
+
+pub AreShares-all : (graph : Transfers) (ds : List Bool) (share q m : ℕ) (stops homes : List DiskId) (numbers : List ℕ) (ends : List (CopyId × CopyId)) → q ≡ quotient graph → m ≡ length graph.trips → 1 ≤ share → length ds ≡ length graph.trips → All (λ t. t.leaves ≢ t.reaches) graph.trips → AreStops graph.trips ds stops → AreShared graph share numbers → AreJoined q m numbers stops ends homes → AreShares graph ds share ends homes
+AreShares-all graph ds share q m stops homes numbers ends is_q is_m some len apart a f j =
+    let n : (e : ℕ) → e < length ends → e < m = λ e h. omega (arith, h, j.one_each) in
+    let n' : (e : ℕ) → e < length ends → e < length graph.trips = λ e h. omega (arith, n e h, is_m) in
+    let long = stops_len graph.trips ds stops a in
+    let count : (v : ℕ) → count_of v stops ≡ load v graph.trips = λ v. stops_load graph.trips ds stops v len apart a in
+    let room = numbers_room share (length graph.disks) stops numbers f.len (λ v h. omega (arith, shared_below (limit graph v) (div_ceil (load v graph.trips) share) share (load v graph.trips + share) (ceil_most (load v graph.trips) share some), ap (λ k. k * share) (f.each v h), count v)) in
+    let few = shared_sum graph ds share stops numbers some len apart a f in
+    record {
+      one_each = j.one_each ∙ is_m;
+      there = λ e h. j.there e (n e h);
+      first = λ e h. j.first e (n e h) ∙ stop_left graph.trips ds stops e a (n' e h);
+      second = λ e h. j.second e (n e h) ∙ stop_right graph.trips ds stops e m a is_m (n' e h);
+      number = λ v h. j.number v (omega (arith, h, f.len)) ∙ f.each v h;
+      most = λ k h. omega (arith, j.most k h, is_q);
+      room = omega (arith, room, ap (λ k. k * share) j.total, long);
+      few = omega (arith, few, j.total, long);
     }

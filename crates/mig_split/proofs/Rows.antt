@@ -3,17 +3,14 @@ use Rattle.std.proofs.Common.{◌≡◌, ◌≢◌, ℕ, ◌+◌, ◌-◌, ◌*�
 use Rattle.std.proofs.lemmas.List.{length-replicate, get_or-replicate, length-append, get_or_append_left, get_or-append_right, get_or_push, length-take-le, get_or-take, get_or_past}
 use Rattle.std.proofs.lemmas.List.Sums.{sum_by-append, sum_by_more}
 use Rattle.std.proofs.lemmas.List.Folds.{sum_by-replicate}
-use Rattle.std.proofs.lemmas.Grind.{div_ceil_times}
 use Rattle.std.proofs.lemmas.Bool.{cases_eq, cases_lt, ne_eqb}
-use Rattle.std.proofs.Math.Nat.{mul-le-mul_left}
 use Rattle.mig_base.specs.declared.ids.DiskId.{DiskId}
-use Rattle.mig_base.specs.Transfers.{div_ceil}
 use Rattle.mig_split.specs.declared.decks.Deck.{Deck}
 use Rattle.mig_split.specs.Dealing.{count_of, disk_at}
 use Rattle.mig_split.specs.Decks.{AreDecks, AreFresh, deck_at, no_deck}
 
-pub AreDecks-start : (q : ℕ) (counts : List ℕ) → AreDecks q (take 0 counts) [] []
-AreDecks-start q counts =
+pub AreDecks-start : (numbers : List ℕ) → AreDecks (take 0 numbers) [] []
+AreDecks-start numbers =
     record {
       len = refl;
       number = λ v h. absurd (omega arith);
@@ -22,8 +19,7 @@ AreDecks-start q counts =
       deck = λ k h. absurd (omega arith);
       number_of = λ v h. absurd (omega arith);
       none_of = λ v h. refl;
-      room = omega arith;
-      few = omega arith;
+      total = refl;
     }
 
 -- a list of disks with one more deck's places
@@ -55,20 +51,19 @@ deck_old decks deck v h = get_or_append_left decks (deck ∷ []) no_deck v h
 deck_new : (decks : List Deck) (deck : Deck) (v : ℕ) → length decks ≡ v → deck_at (decks ++ deck ∷ []) v ≡ deck
 deck_new decks deck v h = get_or_push decks deck no_deck v h
 
-pub AreDecks-more : (q : ℕ) (counts : List ℕ) (decks : List Deck) (homes : List DiskId) (i : ℕ) (deck : Deck) → 1 ≤ q → i < length counts → deck.first ≡ length homes → deck.count ≡ div_ceil (get_or counts i 0) q → AreDecks q (take i counts) decks homes → AreDecks q (take (i + 1) counts) (decks ++ deck ∷ []) (homes ++ replicate deck.count (record { 0 = i }))
-AreDecks-more q counts decks homes i deck pos h is_first is_count a =
-    let now = length-take-le i counts (omega arith) in
-    let then' = length-take-le (i + 1) counts (omega arith) in
+pub AreDecks-more : (numbers : List ℕ) (decks : List Deck) (homes : List DiskId) (i : ℕ) (deck : Deck) → i < length numbers → deck.first ≡ length homes → deck.count ≡ get_or numbers i 0 → AreDecks (take i numbers) decks homes → AreDecks (take (i + 1) numbers) (decks ++ deck ∷ []) (homes ++ replicate deck.count (record { 0 = i }))
+AreDecks-more numbers decks homes i deck h is_first is_count a =
+    let now = length-take-le i numbers (omega arith) in
+    let then' = length-take-le (i + 1) numbers (omega arith) in
     let long : length (homes ++ replicate deck.count (record { 0 = i })) ≡ length homes + deck.count = length-append homes (replicate deck.count (record { 0 = i })) ∙ ap (λ m. length homes + m) (length-replicate deck.count (record { 0 = i })) in
     let D = decks ++ deck ∷ [] in
     let H = homes ++ replicate deck.count (record { 0 = i }) in
-    let total = sum_by_more (λ (x : ℕ). x) counts i 0 h in
-    let most = (div_ceil_times (get_or counts i 0) q pos).1 in
+    let total = sum_by_more (λ (x : ℕ). x) numbers i 0 h in
     record {
       len = length-append decks (deck ∷ []) ∙ omega (arith, a.len, now, then');
       number = λ v hv. elim (cases_eq v i) [
-        | inl e ↦ ap (λ (x : Deck). x.count) (deck_new decks deck v (omega (arith, a.len, now, e))) ∙ is_count ∙ ap (λ m. div_ceil m q) (sym (get_or-take (i + 1) counts v 0 (omega (arith, hv, then')) ∙ ap (λ m. get_or counts m 0) e))
-        | inr ne ↦ ap (λ (x : Deck). x.count) (deck_old decks deck v (omega (arith, a.len, now, hv, then', ne))) ∙ a.number v (omega (arith, now, hv, then', ne)) ∙ ap (λ m. div_ceil m q) (get_or-take i counts v 0 (omega (arith, hv, then', ne)) ∙ sym (get_or-take (i + 1) counts v 0 (omega (arith, hv, then'))))
+        | inl e ↦ ap (λ (x : Deck). x.count) (deck_new decks deck v (omega (arith, a.len, now, e))) ∙ is_count ∙ sym (get_or-take (i + 1) numbers v 0 (omega (arith, hv, then')) ∙ ap (λ m. get_or numbers m 0) e)
+        | inr ne ↦ ap (λ (x : Deck). x.count) (deck_old decks deck v (omega (arith, a.len, now, hv, then', ne))) ∙ a.number v (omega (arith, now, hv, then', ne)) ∙ get_or-take i numbers v 0 (omega (arith, hv, then', ne)) ∙ sym (get_or-take (i + 1) numbers v 0 (omega (arith, hv, then')))
       ];
       inside = λ v hv. elim (cases_eq v i) [
         | inl e ↦ subst (λ (x : Deck). x.first + x.count ≤ length H) (sym (deck_new decks deck v (omega (arith, a.len, now, e)))) (omega (arith, is_first, long))
@@ -81,9 +76,9 @@ AreDecks-more q counts decks homes i deck pos h is_first is_count a =
       deck = λ k hk. elim (cases_lt k (length homes)) [
         | inl l ↦ (let old = a.deck k l in
             let w = disk_at homes k in
-            subst (λ u. (u < length (take (i + 1) counts)) × ((deck_at D u).first ≤ k) × (k < (deck_at D u).first + (deck_at D u).count)) (sym (at_old homes i deck.count k l))
+            subst (λ u. (u < length (take (i + 1) numbers)) × ((deck_at D u).first ≤ k) × (k < (deck_at D u).first + (deck_at D u).count)) (sym (at_old homes i deck.count k l))
             (omega (arith, old.0, now, then'), subst (λ (x : Deck). x.first ≤ k) (sym (deck_old decks deck w (omega (arith, a.len, old.0)))) old.1, subst (λ (x : Deck). k < x.first + x.count) (sym (deck_old decks deck w (omega (arith, a.len, old.0)))) old.2))
-        | inr l ↦ subst (λ u. (u < length (take (i + 1) counts)) × ((deck_at D u).first ≤ k) × (k < (deck_at D u).first + (deck_at D u).count)) (sym (at_new homes i deck.count k l (omega (arith, hk, long))))
+        | inr l ↦ subst (λ u. (u < length (take (i + 1) numbers)) × ((deck_at D u).first ≤ k) × (k < (deck_at D u).first + (deck_at D u).count)) (sym (at_new homes i deck.count k l (omega (arith, hk, long))))
             (omega (arith, then'), subst (λ (x : Deck). x.first ≤ k) (sym (deck_new decks deck i (omega (arith, a.len, now)))) (omega (arith, is_first, l)), subst (λ (x : Deck). k < x.first + x.count) (sym (deck_new decks deck i (omega (arith, a.len, now)))) (omega (arith, is_first, hk, long)))
       ];
       number_of = λ v hv. elim (cases_eq v i) [
@@ -91,12 +86,8 @@ AreDecks-more q counts decks homes i deck pos h is_first is_count a =
         | inr ne ↦ other_of v i deck.count homes ne ∙ a.number_of v (omega (arith, now, hv, then', ne)) ∙ ap (λ (x : Deck). x.count) (sym (deck_old decks deck v (omega (arith, a.len, now, hv, then', ne))))
       ];
       none_of = λ v hv. other_of v i deck.count homes (λ e. absurd (omega (arith, e, hv, then'))) ∙ a.none_of v (omega (arith, now, hv, then'));
-      room = omega (arith, long, total, most, is_count, a.room, now, then', ap (λ m. m * q) long, ap (λ m. m * q) then', ap (λ m. m * q) now, ap (λ m. m * q) is_count);
-      few = omega (arith, long, total, a.few, is_count, ceil_le (get_or counts i 0) q pos);
+      total = omega (arith, long, total, is_count, a.total);
     }
-  where
-    ceil_le : (n q : ℕ) → 1 ≤ q → div_ceil n q ≤ n
-    ceil_le n q p = Rattle.mig_base.proofs.Counting.div_ceil-le n q n p (omega (arith, mul-le-mul_left n p))
 
 pub AreFresh-more : (decks : List Deck) (deck : Deck) → (deck.start ≡ 0) × (deck.next ≡ 0) → AreFresh decks → AreFresh (decks ++ deck ∷ [])
 AreFresh-more decks deck e a v = elim (cases_lt v (length decks)) [

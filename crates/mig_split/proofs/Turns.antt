@@ -1,17 +1,15 @@
 -- Dealing from decks in turn.
-use Rattle.std.proofs.Common.{◌≡◌, ◌≢◌, ℕ, suc, zero, ◌+◌, ◌-◌, ◌*◌, ◌<◌, ◌≤◌, inl, inr, refl, sym, ap, ◌∙◌, subst, List, [], ◌∷◌, ◌++◌, Bool, true, false, cond, eqb, length, take, set, arith, sum, eq-eqb}
+use Rattle.std.proofs.Common.{◌≡◌, ◌≢◌, ℕ, suc, zero, ◌+◌, ◌-◌, ◌*◌, ◌<◌, ◌≤◌, inl, inr, refl, sym, ap, ◌∙◌, subst, List, [], ◌∷◌, ◌++◌, Bool, true, false, cond, eqb, length, take, set, arith, eq-eqb}
 use Rattle.std.proofs.lemmas.List.{get_or-set_same, get_or-set_other, length-set, length-append, get_or_append_left, get_or_push, get_or_default, take_all}
 use Rattle.std.proofs.lemmas.List.Sums.{sum_by_push, get_or-le-sum_by}
-use Rattle.std.proofs.lemmas.Grind.{div_ceil_times}
 use Rattle.std.proofs.lemmas.Bool.{cases_eq, cases_lt, ne_eqb}
 use Rattle.std.proofs.lemmas.Bool.Decides.{nat_tests}
 use Rattle.std.proofs.Math.Nat.{mul-le-mul_left}
 use Rattle.mig_base.specs.declared.ids.DiskId.{DiskId}
 use Rattle.mig_base.specs.declared.ids.CopyId.{CopyId}
-use Rattle.mig_base.specs.Transfers.{div_ceil}
 use Rattle.mig_split.specs.declared.decks.Deck.{Deck}
-use Rattle.mig_split.specs.Dealing.{count_of, count_at, disk_at, IsDealt}
-use Rattle.mig_split.specs.Decks.{AreCounts, AreDecks, AreFresh, IsAfter, IsTurn, IsDealing, deck_at, gone, is_gone, no_deck, place_after}
+use Rattle.mig_split.specs.Dealing.{count_of, count_at, disk_at, IsDealtBy, IsEnough}
+use Rattle.mig_split.specs.Decks.{AreDecks, AreFresh, IsAfter, IsTurn, IsDealing, deck_at, gone, is_gone, no_deck, place_after}
 use Rattle.mig_split.proofs.Counts.{count_of_same, count_of_other}
 
 same_deck : (decks : List Deck) (v : ℕ) (later : Bool) (next : Deck) → v < length decks → IsAfter (deck_at decks v) later next → (w : ℕ) → ((deck_at (set decks v next) w).first ≡ (deck_at decks w).first) × ((deck_at (set decks v next) w).count ≡ (deck_at decks w).count)
@@ -21,8 +19,8 @@ same_deck decks v later next h n w = elim (cases_eq w v) [
   | inr ne ↦ (ap (λ (x : Deck). x.first) (get_or-set_other decks v w next no_deck ne), ap (λ (x : Deck). x.count) (get_or-set_other decks v w next no_deck ne))
 ]
 
-pub AreDecks-set : (q : ℕ) (counts : List ℕ) (decks : List Deck) (homes : List DiskId) (v : ℕ) (later : Bool) (next : Deck) → v < length decks → IsAfter (deck_at decks v) later next → AreDecks q counts decks homes → AreDecks q counts (set decks v next) homes
-AreDecks-set q counts decks homes v later next h n a =
+pub AreDecks-set : (numbers : List ℕ) (decks : List Deck) (homes : List DiskId) (v : ℕ) (later : Bool) (next : Deck) → v < length decks → IsAfter (deck_at decks v) later next → AreDecks numbers decks homes → AreDecks numbers (set decks v next) homes
+AreDecks-set numbers decks homes v later next h n a =
     let same = same_deck decks v later next h n in
     record {
       len = length-set decks v next ∙ a.len;
@@ -32,8 +30,7 @@ AreDecks-set q counts decks homes v later next h n a =
       deck = λ k hk. ((a.deck k hk).0, omega (arith, same (disk_at homes k), a.deck k hk), omega (arith, same (disk_at homes k), a.deck k hk));
       number_of = λ w hw. a.number_of w hw ∙ sym (same w).1;
       none_of = a.none_of;
-      room = a.room;
-      few = a.few;
+      total = a.total;
     }
 
 count_push : (copies : List CopyId) (c k : ℕ) → count_at k (copies ++ record { 0 = c } ∷ []) ≡ count_at k copies + cond (eqb c k) 1 0
@@ -109,25 +106,25 @@ IsTurn-same deck dealt more copies c apart is_more t =
     }
 
 -- a deck with an end to deal has a copy
-pub some_copy : (q : ℕ) (counts : List ℕ) (decks : List Deck) (homes stops : List DiskId) (i : ℕ) → 1 ≤ q → i < length stops → disk_at stops i < length decks → AreCounts (length decks) stops counts → AreDecks q counts decks homes → 0 < (deck_at decks (disk_at stops i)).count
-some_copy q counts decks homes stops i pos h there counted a =
+pub some_copy : (q : ℕ) (numbers : List ℕ) (decks : List Deck) (homes stops : List DiskId) (i : ℕ) → i < length stops → disk_at stops i < length numbers → IsEnough q stops numbers → AreDecks numbers decks homes → 0 < (deck_at decks (disk_at stops i)).count
+some_copy q numbers decks homes stops i h there enough a =
     let v = disk_at stops i in
     let some : 1 ≤ count_of v stops = omega (arith, get_or-le-sum_by (λ (d : DiskId). cond (eqb d.0 v) 1 0) stops i (record { 0 = 0 }) h, ap {B = ℕ} (λ b. cond b 1 0) (eq-eqb v v refl)) in
-    not_zero (count_of v stops) q (deck_at decks v).count pos some (a.number v (omega (arith, there, a.len)) ∙ ap (λ n. div_ceil n q) (counted.counted v there))
+    not_zero (deck_at decks v).count q (omega (arith, some, enough v there, ap (λ m. m * q) (a.number v there)))
   where
-    not_zero : (n q d : ℕ) → 1 ≤ q → 1 ≤ n → d ≡ div_ceil n q → 0 < d
-    not_zero n q zero p h e = absurd (omega (arith, (div_ceil_times n q p).0, ap (λ m. m * q) e))
-    not_zero n q (suc d) p h e = omega arith
+    not_zero : (n q : ℕ) → 1 ≤ n * q → 0 < n
+    not_zero zero q h = absurd (omega (arith, h))
+    not_zero (suc n) q h = omega arith
 
-pub IsDealing-more : (q : ℕ) (counts : List ℕ) (decks : List Deck) (homes stops : List DiskId) (copies : List CopyId) (i : ℕ) (later : Bool) (next : Deck) → length copies ≡ i → i < length stops → disk_at stops i < length decks → 0 < (deck_at decks (disk_at stops i)).count → AreDecks q counts decks homes → IsAfter (deck_at decks (disk_at stops i)) later next → IsDealing stops homes decks copies →
+pub IsDealing-more : (numbers : List ℕ) (decks : List Deck) (homes stops : List DiskId) (copies : List CopyId) (i : ℕ) (later : Bool) (next : Deck) → length copies ≡ i → i < length stops → disk_at stops i < length decks → 0 < (deck_at decks (disk_at stops i)).count → AreDecks numbers decks homes → IsAfter (deck_at decks (disk_at stops i)) later next → IsDealing stops homes decks copies →
     IsDealing stops homes (set decks (disk_at stops i) next) (copies ++ record { 0 = (deck_at decks (disk_at stops i)).first + (deck_at decks (disk_at stops i)).next } ∷ [])
-IsDealing-more q counts decks homes stops copies i later next len h within pos a n x =
+IsDealing-more numbers decks homes stops copies i later next len h within pos a n x =
     let v = disk_at stops i in
     let deck = deck_at decks v in
     let c = deck.first + deck.next in
     let new = copies ++ record { 0 = c } ∷ [] in
     let small : deck.next < deck.count = (x.turn v within).next_in pos in
-    let hv : v < length counts = omega (arith, within, a.len) in
+    let hv : v < length numbers = omega (arith, within, a.len) in
     let long : length new ≡ i + 1 = length-append copies (record { 0 = c } ∷ []) ∙ omega (arith, len) in
     let here : disk_at homes c ≡ v = a.home v deck.next hv small in
     record {
@@ -197,24 +194,22 @@ most_at : (q : ℕ) (deck : Deck) (load : ℕ) (copies : List CopyId) (j k : ℕ
 most_at q deck load copies j k hj e most t =
     subst (λ m. count_at m copies ≤ q) e (omega (arith, t.ends j hj, most_turns q load deck.count deck.start deck.next t.turns (t.start_in (omega (arith, hj))) (t.next_in (omega (arith, hj))) t.total most j hj))
 
-pub IsDealt-all : (q : ℕ) (counts : List ℕ) (decks : List Deck) (homes stops : List DiskId) (copies : List CopyId) → 1 ≤ q → length counts ≡ length decks → sum counts ≤ length stops → AreCounts (length decks) stops counts → AreDecks q counts decks homes → IsDealing stops homes decks copies → length copies ≡ length stops → IsDealt q (length decks) stops homes copies
-IsDealt-all q counts decks homes stops copies pos same total counted a x len =
+pub IsDealtBy-all : (q : ℕ) (numbers : List ℕ) (decks : List Deck) (homes stops : List DiskId) (copies : List CopyId) → IsEnough q stops numbers → AreDecks numbers decks homes → IsDealing stops homes decks copies → length copies ≡ length stops → IsDealtBy q numbers stops homes copies
+IsDealtBy-all q numbers decks homes stops copies enough a x len =
     record {
       one_each = len;
       there = λ k d hk. subst (λ (y : CopyId). y.0 < length homes) (get_or_default copies k (record { 0 = 0 }) d hk) (x.there k hk);
       home = λ k hk. x.home k (omega (arith, hk, len));
-      number = λ v hv. a.number_of v (omega (arith, hv, same)) ∙ a.number v (omega (arith, hv, same)) ∙ ap (λ n. div_ceil n q) (counted.counted v hv);
+      number = λ v hv. a.number_of v hv ∙ a.number v hv;
       most = λ k hk.
           (let at = a.deck k hk in
           let v = disk_at homes k in
           let deck = deck_at decks v in
-          let within : v < length decks = omega (arith, at, same) in
           most_at q deck (count_of v stops) copies (k - deck.first) k (omega (arith, at)) (omega (arith, at))
-          (omega (arith, (div_ceil_times (count_of v stops) q pos).0, ap (λ m. m * q) (a.number v at.0), ap (λ n. div_ceil n q * q) (counted.counted v within)))
-          (subst (λ (ss : List DiskId). IsTurn deck (count_of v ss) copies) (take_all (length copies) stops (omega (arith, len))) (x.turn v within)));
-      homes_there = λ k d hk. subst (λ (y : DiskId). y.0 < length decks) (get_or_default homes k (record { 0 = 0 }) d hk) (omega (arith, a.deck k hk, same));
-      room = omega (arith, a.room, total, ap (λ m. m * q) same);
-      few = omega (arith, a.few, total);
+          (omega (arith, enough v at.0, ap (λ m. m * q) (a.number v at.0)))
+          (subst (λ (ss : List DiskId). IsTurn deck (count_of v ss) copies) (take_all (length copies) stops (omega (arith, len))) (x.turn v (omega (arith, at.0, a.len)))));
+      homes_there = λ k d hk. subst (λ (y : DiskId). y.0 < length numbers) (get_or_default homes k (record { 0 = 0 }) d hk) (a.deck k hk).0;
+      total = a.total;
     }
 
 -- the next copy of an end's disk is there
@@ -223,9 +218,10 @@ pub record IsNextCopy (deck : Deck) (homes : ℕ) : Type 0 where
   pub small : deck.next < deck.count
   pub there : deck.first + deck.next < homes
 
-pub next_copy : (q : ℕ) (counts : List ℕ) (decks : List Deck) (homes stops : List DiskId) (copies : List CopyId) (i : ℕ) (deck : Deck) → 1 ≤ q → i < length stops → disk_at stops i < length decks → AreCounts (length decks) stops counts → AreDecks q counts decks homes → IsDealing stops homes decks copies → deck ≡ deck_at decks (disk_at stops i) → IsNextCopy deck (length homes)
-next_copy q counts decks homes stops copies i deck pos h within counted a x is =
+pub next_copy : (q : ℕ) (numbers : List ℕ) (decks : List Deck) (homes stops : List DiskId) (copies : List CopyId) (i : ℕ) (deck : Deck) → i < length stops → disk_at stops i < length numbers → IsEnough q stops numbers → AreDecks numbers decks homes → IsDealing stops homes decks copies → deck ≡ deck_at decks (disk_at stops i) → IsNextCopy deck (length homes)
+next_copy q numbers decks homes stops copies i deck h within enough a x is =
     let v = disk_at stops i in
-    let some = some_copy q counts decks homes stops i pos h within counted a in
-    let small = (x.turn v within).next_in some in
-    subst (λ (d : Deck). IsNextCopy d (length homes)) (sym is) (record { start = (x.turn v within).start_in some; small = small; there = omega (arith, small, a.inside v (omega (arith, within, a.len))) })
+    let there : v < length decks = omega (arith, within, a.len) in
+    let some = some_copy q numbers decks homes stops i h within enough a in
+    let small = (x.turn v there).next_in some in
+    subst (λ (d : Deck). IsNextCopy d (length homes)) (sym is) (record { start = (x.turn v there).start_in some; small = small; there = omega (arith, small, a.inside v within) })

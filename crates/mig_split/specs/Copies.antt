@@ -1,9 +1,10 @@
 -- Copies of disks as the nodes of a graph.
-use Rattle.std.specs.Prelude.{◌≡◌, ℕ, ◌+◌, ◌*◌, ◌<◌, ◌≤◌, List, Bool, length, take, drop, slice_index_or}
+use Rattle.std.specs.Prelude.{◌≡◌, ℕ, ◌+◌, ◌*◌, ◌<◌, ◌≤◌, List, Bool, ◌++◌, length, min, sum, take, drop, slice_index, slice_index_or}
 use Rattle.mig_base.specs.declared.ids.DiskId.{DiskId}
 use Rattle.mig_base.specs.declared.ids.CopyId.{CopyId}
 use Rattle.mig_base.specs.Transfers.{Trip, div_ceil, load}
 use Rattle.mig_base.specs.Transfers.{Transfers}
+use Rattle.mig_base.specs.Bounding.{limit, quotient}
 use Rattle.mig_base.specs.Ends.{ends_at}
 use Rattle.mig_base.specs.Directions.{tail_of, head_of, trip_at, is_forward, out_of, in_of}
 use Rattle.mig_split.specs.Dealing.{count_of, disk_at, copy_at}
@@ -22,6 +23,43 @@ pub record AreTails (trips : List Trip) (directions : List Bool) (disks : List D
 pub record AreHeads (trips : List Trip) (directions : List Bool) (disks : List DiskId) : Type 0 where
   pub len : length disks ≡ length trips
   pub known : (k : ℕ) → k < length trips → disk_at disks k ≡ head_of (trip_at trips k) (is_forward directions k)
+
+-- the disks at which edges end: those that they leave by their directions, and then those that they enter
+pub record AreStops (trips : List Trip) (directions : List Bool) (stops : List DiskId) : Type 0 where
+  pub tails : List DiskId
+  pub heads : List DiskId
+  pub tails_are : AreTails trips directions tails
+  pub heads_are : AreHeads trips directions heads
+  pub is : stops ≡ tails ++ heads
+
+-- Each edge joins a copy of the disk at one of the first stops with one at the same place of the others; each disk has so many copies.
+pub record AreJoined (q edges : ℕ) (numbers : List ℕ) (stops : List DiskId) (ends : List (CopyId × CopyId)) (homes : List DiskId) : Type 0 where
+  pub one_each : length ends ≡ edges
+  pub there : (e : ℕ) → e < edges → (first_of ends e < length homes) × (second_of ends e < length homes)
+  pub first : (e : ℕ) → e < edges → disk_at homes (first_of ends e) ≡ disk_at stops e
+  pub second : (e : ℕ) → e < edges → disk_at homes (second_of ends e) ≡ disk_at stops (edges + e)
+  pub number : (v : ℕ) → v < length numbers → count_of v homes ≡ slice_index numbers v
+  pub most : (k : CopyId) → k.0 < length homes → ends_at k ends ≤ q
+  pub total : length homes ≡ sum numbers
+
+-- how many copies a disk has whose edges are shared out: as many as its limit, but none for less than a share of edges
+abbrev pub shared : Transfers → ℕ → ℕ → ℕ
+shared graph share v = min (limit graph v) (div_ceil (load v graph.trips) share)
+
+pub record AreShared (graph : Transfers) (share : ℕ) (numbers : List ℕ) : Type 0 where
+  pub len : length numbers ≡ length graph.disks
+  pub each : (v : ℕ) → v < length graph.disks → slice_index numbers v ≡ shared graph share v
+
+-- Each edge joins a copy of the disk that it leaves by its direction with one of the disk that it enters; a disk has at most its limit of copies, and no copy more ends than the quotient.
+pub record AreShares (graph : Transfers) (directions : List Bool) (share : ℕ) (ends : List (CopyId × CopyId)) (homes : List DiskId) : Type 0 where
+  pub one_each : length ends ≡ length graph.trips
+  pub there : (e : ℕ) → e < length ends → (first_of ends e < length homes) × (second_of ends e < length homes)
+  pub first : (e : ℕ) → e < length ends → disk_at homes (first_of ends e) ≡ tail_of (trip_at graph.trips e) (is_forward directions e)
+  pub second : (e : ℕ) → e < length ends → disk_at homes (second_of ends e) ≡ head_of (trip_at graph.trips e) (is_forward directions e)
+  pub number : (v : ℕ) → v < length graph.disks → count_of v homes ≡ shared graph share v
+  pub most : (k : CopyId) → k.0 < length homes → ends_at k ends ≤ quotient graph
+  pub room : length homes * share ≤ 2 * length graph.trips + length graph.disks * share
+  pub few : length homes ≤ 2 * length graph.trips
 
 -- Each edge joins a copy of the disk that it leaves with one of the disk that it reaches; a disk has as few copies as q ends for each allow.
 pub record AreCopies (q : ℕ) (graph : Transfers) (ends : List (CopyId × CopyId)) (homes : List DiskId) : Type 0 where

@@ -2,7 +2,6 @@
 use Rattle.std.specs.Prelude.{◌≡◌, ℕ, ◌+◌, ◌-◌, ◌*◌, ◌<◌, ◌≤◌, ◌==◌, List, Bool, true, false, length, slice_index_or, slice_index, if◌then◌else◌, nat_lt, nat_le, take, sum}
 use Rattle.mig_base.specs.declared.ids.DiskId.{DiskId}
 use Rattle.mig_base.specs.declared.ids.CopyId.{CopyId}
-use Rattle.mig_base.specs.Transfers.{div_ceil}
 use Rattle.mig_split.specs.declared.decks.Deck.{Deck}
 use Rattle.mig_split.specs.Dealing.{count_of, count_at, disk_at, copy_at}
 
@@ -17,17 +16,16 @@ pub record AreCounts (disks : ℕ) (stops : List DiskId) (counts : List ℕ) : T
   pub len : length counts ≡ disks
   pub counted : (v : ℕ) → v < disks → slice_index counts v ≡ count_of v stops
 
--- the decks' places lie side by side in the homes
-pub record AreDecks (q : ℕ) (counts : List ℕ) (decks : List Deck) (homes : List DiskId) : Type 0 where
-  pub len : length decks ≡ length counts
-  pub number : (v : ℕ) → v < length counts → (deck_at decks v).count ≡ div_ceil (slice_index counts v) q
-  pub inside : (v : ℕ) → v < length counts → (deck_at decks v).first + (deck_at decks v).count ≤ length homes
-  pub home : (v j : ℕ) → v < length counts → j < (deck_at decks v).count → disk_at homes ((deck_at decks v).first + j) ≡ v
-  pub deck : (k : ℕ) → k < length homes → (disk_at homes k < length counts) × ((deck_at decks (disk_at homes k)).first ≤ k) × (k < (deck_at decks (disk_at homes k)).first + (deck_at decks (disk_at homes k)).count)
-  pub number_of : (v : ℕ) → v < length counts → count_of v homes ≡ (deck_at decks v).count
-  pub none_of : (v : ℕ) → length counts ≤ v → count_of v homes ≡ 0
-  pub room : length homes * q ≤ sum counts + length counts * q
-  pub few : length homes ≤ sum counts
+-- so many copies of each disk, whose places lie side by side in the homes
+pub record AreDecks (numbers : List ℕ) (decks : List Deck) (homes : List DiskId) : Type 0 where
+  pub len : length decks ≡ length numbers
+  pub number : (v : ℕ) → v < length numbers → (deck_at decks v).count ≡ slice_index numbers v
+  pub inside : (v : ℕ) → v < length numbers → (deck_at decks v).first + (deck_at decks v).count ≤ length homes
+  pub home : (v j : ℕ) → v < length numbers → j < (deck_at decks v).count → disk_at homes ((deck_at decks v).first + j) ≡ v
+  pub deck : (k : ℕ) → k < length homes → (disk_at homes k < length numbers) × ((deck_at decks (disk_at homes k)).first ≤ k) × (k < (deck_at decks (disk_at homes k)).first + (deck_at decks (disk_at homes k)).count)
+  pub number_of : (v : ℕ) → v < length numbers → count_of v homes ≡ (deck_at decks v).count
+  pub none_of : (v : ℕ) → length numbers ≤ v → count_of v homes ≡ 0
+  pub total : length homes ≡ sum numbers
 
 -- no deck has been dealt from
 abbrev pub AreFresh : List Deck → Type 0

@@ -1,9 +1,11 @@
-ghost use Rattle.std.specs.Prelude.{◌≡◌, ◌≤◌, length, vec_len, IfOk};
-ghost use Rattle.mig_split.specs.Copies.{AreCopies, AreSides};
+ghost use Rattle.std.specs.Prelude.{◌≡◌, ◌+◌, ◌<◌, ◌≤◌, ◌^◌, length, sum, vec_len, All, IfOk};
+ghost use Rattle.mig_base.specs.Bounding.{quotient};
+ghost use Rattle.mig_split.specs.Copies.{AreCopies, AreJoined, AreShared, AreShares, AreSides};
+ghost use Rattle.mig_split.specs.Dealing.{IsEnough};
 
-use crate::dealing::deal;
-use crate::ends::{heads_of, pair_up, tails_of};
-use mig_base::{CopyId, DiskId};
+use crate::dealing::{deal, deal_by, few_numbers};
+use crate::ends::{heads_of, pair_up, stops_of, tails_of};
+use mig_base::{CopyId, DiskId, MAX_DISKS};
 use mig_graph::Graph;
 use std::alloc::{AllocError, Global};
 
@@ -61,6 +63,34 @@ pub fn split_sides(
     })
 }
 
+/// Joins the copies that stops are dealt: an edge for each of the first stops and the one at its place of the others.
+/// Each disk has so many copies, and no copy has more than q ends.
+fn join(
+    alloc: Global,
+    numbers: &[u32],
+    stops: &[DiskId],
+    q: u32,
+    edges: usize,
+) -> Result<Copies, AllocError>
+    requires disks { length numbers.now ≤ MAX_DISKS }
+    requires few { sum numbers.now ≤ 2 ^ 17 }
+    requires there { All (λ d. d.0 < length numbers.now) stops.now }
+    requires enough { IsEnough q stops.now numbers.now }
+    requires halves { length stops.now ≡ edges + edges }
+    ensures nodes { IfOk result (λ s. s.nodes ≡ vec_len s.homes) }
+    ensures joined { IfOk result (λ s. AreJoined q edges numbers.now stops.now s.ends.items s.homes.items) }
+{
+    let dealt = deal_by(alloc, numbers, stops, q, edges)?;
+    let (firsts, seconds) = dealt.copies.split_at(edges);
+    let ends = pair_up(alloc, firsts, seconds, 0)?;
+    let homes = dealt.homes;
+    Ok(Copies {
+        nodes: homes.len() as u32,
+        ends,
+        homes,
+    })
+}
+
 /// Splits disks into copies, so that no copy has more than q ends.
 ///
 /// The two copies of an edge are copies of its two ends, in order. A disk has as many copies as its edges over q,
@@ -74,16 +104,45 @@ pub fn split_nodes(alloc: Global, graph: &Graph, q: u32) -> Result<Copies, Alloc
 {
     let edges = graph.edges() as usize;
     let forward = vec![in alloc; true; edges]?;
-    let mut stops = tails_of(alloc, graph, &forward)?;
-    let targets = heads_of(alloc, graph, &forward)?;
-    stops.extend_from_slice(&targets)?;
-    let dealt = deal(alloc, graph.disks(), &stops, q, edges)?;
-    let (firsts, seconds) = dealt.copies.split_at(edges);
-    let ends = pair_up(alloc, firsts, seconds, 0)?;
-    let homes = dealt.homes;
-    Ok(Copies {
-        nodes: homes.len() as u32,
-        ends,
-        homes,
-    })
+    let stops = stops_of(alloc, graph, &forward)?;
+    let numbers = few_numbers(alloc, graph.disks(), &stops, q)?;
+    join(alloc, &numbers, &stops, q, edges)
+}
+
+/// For each disk as many copies as its limit, but no more than its edges over a share, rounded up.
+fn shared_numbers(alloc: Global, graph: &Graph, share: u32) -> Result<Vec<u32>, AllocError>
+    requires { 1 ≤ share }
+    ensures { IfOk result (λ v. AreShared graph.now share v.items) }
+{
+    let mut numbers = Vec::with_capacity(alloc, graph.disks() as usize)?;
+    for disk in 0..graph.disks() {
+        let copies = graph.load(DiskId(disk)).div_ceil(share);
+        numbers.push(graph.limit(DiskId(disk)).min(copies))?;
+    }
+    Ok(numbers)
+}
+
+/// Splits disks into at most as many copies as their limits, so that no copy has more ends than the quotient.
+///
+/// A disk has as many copies as its limit, but no more than its edges over a share, rounded up: the less the share, the
+/// freer its edges are, and the more copies there are. An edge's first copy is one of the disk that it leaves by its
+/// direction, the second one of the disk that it enters; the ends are dealt in turn, as `split_nodes` deals them. So
+/// other directions give other copies to the same edges. The time is linear in the edges and disks. Errs for want of
+/// memory only.
+pub fn split_limits(
+    alloc: Global,
+    graph: &Graph,
+    directions: &[bool],
+    share: u32,
+) -> Result<Copies, AllocError>
+    requires directions { length directions.now ≡ length graph.now.trips }
+    requires some { 1 ≤ share }
+    requires most { share ≤ quotient graph.now }
+    ensures nodes { IfOk result (λ s. s.nodes ≡ vec_len s.homes) }
+    ensures copies { IfOk result (λ s. AreShares graph.now directions.now share s.ends.items s.homes.items) }
+{
+    let edges = graph.edges() as usize;
+    let stops = stops_of(alloc, graph, directions)?;
+    let numbers = shared_numbers(alloc, graph, share)?;
+    join(alloc, &numbers, &stops, graph.quotient(), edges)
 }

@@ -2,7 +2,7 @@
 ghost use Rattle.std.specs.Prelude.{◌≡◌, ◌<◌, ◌≤◌, ◌^◌, length, All, IfOk, sum};
 ghost use Rattle.mig_split.specs.Decks.{AreCounts, AreDecks, AreFresh, IsAfter, place_after};
 
-use mig_base::DiskId;
+use mig_base::{DiskId, MAX_DISKS};
 use std::alloc::{AllocError, Global};
 
 /// A disk's copies, dealt in turns, in each of which each copy is dealt once.
@@ -30,23 +30,18 @@ pub fn count_disks(alloc: Global, disks: usize, stops: &[DiskId]) -> Result<Vec<
     Ok(counts)
 }
 
-/// The decks of the disks, of so many copies that each has at most q ends, and the disk of each copy.
-pub fn make_decks(
-    alloc: Global,
-    counts: &[u32],
-    q: u32,
-) -> Result<(Vec<Deck>, Vec<DiskId>), AllocError>
-    requires q { 1 ≤ q }
-    requires few { sum counts.now ≤ 2 ^ 17 }
-    requires disks { length counts.now ≤ 1024 }
-    ensures decks { IfOk result (λ r. AreDecks q counts.now r.0.items r.1.items) }
+/// The decks of the disks, of so many copies each, and the disk of each copy.
+pub fn make_decks(alloc: Global, numbers: &[u32]) -> Result<(Vec<Deck>, Vec<DiskId>), AllocError>
+    requires few { sum numbers.now ≤ 2 ^ 17 }
+    requires disks { length numbers.now ≤ MAX_DISKS }
+    ensures decks { IfOk result (λ r. AreDecks numbers.now r.0.items r.1.items) }
     ensures fresh { IfOk result (λ r. AreFresh r.0.items) }
 {
     let mut decks = Vec::new(alloc);
     let mut homes = Vec::new(alloc);
-    for disk in 0..counts.len() {
+    for disk in 0..numbers.len() {
         let first = homes.len();
-        let count = counts[disk].div_ceil(q);
+        let count = numbers[disk];
         decks.push(Deck {
             first: first as u32,
             count,

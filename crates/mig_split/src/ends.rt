@@ -1,6 +1,6 @@
 //! The ends of edges, by the edges' directions.
 ghost use Rattle.std.specs.Prelude.{◌≡◌, ◌+◌, ◌<◌, ◌^◌, length, All, IfOk};
-ghost use Rattle.mig_split.specs.Copies.{AreTails, AreHeads, ArePairs};
+ghost use Rattle.mig_split.specs.Copies.{AreTails, AreHeads, ArePairs, AreStops};
 
 use mig_base::{CopyId, DiskId, EdgeId};
 use mig_graph::Graph;
@@ -40,6 +40,21 @@ pub fn heads_of(
         disks.push(if forward { target } else { source })?;
     }
     Ok(disks)
+}
+
+/// The disks at which the edges end: those that they leave by their directions, and then those that they enter.
+pub fn stops_of(
+    alloc: Global,
+    graph: &Graph,
+    directions: &[bool],
+) -> Result<Vec<DiskId>, AllocError>
+    requires { length directions.now ≡ length graph.now.trips }
+    ensures { IfOk result (λ v. AreStops graph.now.trips directions.now v.items) }
+{
+    let mut stops = tails_of(alloc, graph, directions)?;
+    let heads = heads_of(alloc, graph, directions)?;
+    stops.extend_from_slice(&heads)?;
+    Ok(stops)
 }
 
 /// Pairs of copies; the second ones are counted from a first number on.

@@ -6,5 +6,5 @@ mod dealing;
 mod decks;
 mod ends;
 
-pub use copies::{Copies, Sides, split_nodes, split_sides};
+pub use copies::{Copies, Sides, split_limits, split_nodes, split_sides};
 pub use decks::count_disks;

@@ -7,6 +7,5 @@ pub mod PlanLengths
 pub mod PlanPlaces
 pub mod PlanReads
 pub mod ShiftCounts
-pub mod SmallInputs
 pub mod Stops
 pub mod Tables

@@ -2,6 +2,7 @@
 use Rattle.std.proofs.Common.{◌≡◌, ◌≢◌, ◌≤◌, ◌<◌, ◌^◌, ◌∷◌, ◌==◌, ℕ, List, [], Option, Some, None, MatchOption, codes, length, arith, ap, sym, refl, ◌∙◌}
 use Rattle.std.specs.List.{slice_split, AllByRecursion}
 use Rattle.std.specs.Fmt.{decimal}
+use Rattle.mig_base.specs.declared.limits.TheConstants.{MAX_SHIFTS, MAX_SLOTS}
 use Rattle.mig_base.specs.declared.ids.Shift.{Shift}
 use Rattle.mig_base.specs.InputLists.{Lists, IsInput}
 use Rattle.mig_base.specs.Texts.{disk_name, shift_line, words}
@@ -36,8 +37,8 @@ pub head_lack : (r n : ℕ) → r < 2 ^ 32 → n < 2 ^ 32 → AllByRecursion (La
 head_lack r n hr hn = (round_lacks, (Lacks-decimal 32 r (omega arith) (omega arith), (Lacks-decimal 32 n (omega arith) (omega arith), tt)))
 
 pub head_read : (line : List ℕ) (r : ℕ) (o : Option ℕ) → r < 2 ^ 32
-    → MatchOption o ((n : ℕ) → n ≤ 65536 → words_of line ≢ codes "round" ∷ decimal r ∷ decimal n ∷ []) (λ n. (n ≤ 65536) × (words_of line ≡ codes "round" ∷ decimal r ∷ decimal n ∷ []))
-    → MatchOption o ((n : ℕ) → n ≤ 65536 → line ≢ words (codes "round" ∷ decimal r ∷ decimal n ∷ [])) (λ n. (n ≤ 65536) × (line ≡ words (codes "round" ∷ decimal r ∷ decimal n ∷ [])))
+    → MatchOption o ((n : ℕ) → n ≤ MAX_SHIFTS → words_of line ≢ codes "round" ∷ decimal r ∷ decimal n ∷ []) (λ n. (n ≤ MAX_SHIFTS) × (words_of line ≡ codes "round" ∷ decimal r ∷ decimal n ∷ []))
+    → MatchOption o ((n : ℕ) → n ≤ MAX_SHIFTS → line ≢ words (codes "round" ∷ decimal r ∷ decimal n ∷ [])) (λ n. (n ≤ MAX_SHIFTS) × (line ≡ words (codes "round" ∷ decimal r ∷ decimal n ∷ [])))
 head_read line r None hr m = λ n le e. m n le (words_are line (codes "round") (decimal r ∷ decimal n ∷ []) (head_lack r n hr (omega arith)) e)
 head_read line r (Some n) hr m = (m.0, line_is line _ m.1)
 
@@ -49,6 +50,6 @@ shift_read input line (Some s) valid m = (m.0, line_is line _ m.1)
 
 -- where the words after the first spot begin with no spot
 pub no_second_spot : (input : Lists) (all : List (List ℕ)) (w : List ℕ) (rest : List (List ℕ)) (a b : List ℕ) (last : List (List ℕ)) → all ≡ w ∷ rest → rest ≡ a ∷ b ∷ last
-    → ((d slot : ℕ) (more : List (List ℕ)) → d < length input.disks → slot < 65536 → last ≢ disk_name input d ∷ decimal slot ∷ more)
+    → ((d slot : ℕ) (more : List (List ℕ)) → d < length input.disks → slot < MAX_SLOTS → last ≢ disk_name input d ∷ decimal slot ∷ more)
     → (s : Shift) → ShiftFits input s → all ≢ shift_words input s
 no_second_spot input all w rest a b last e f none s fits g = none s.to.disk.0 s.to.slot [] fits.to_disk fits.to_slot cc

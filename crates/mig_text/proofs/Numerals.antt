@@ -1,12 +1,17 @@
 -- The words of numbers.
-use Rattle.std.proofs.Common.{◌≡◌, ◌≢◌, ◌≤◌, ◌<◌, ◌^◌, ◌*◌, ◌+◌, ◌-◌, ℕ, zero, suc, List, [], ◌∷◌, length, get_or, arith, ap, refl, sym, ◌∙◌, ◌++◌, ◌/◌, ◌%◌, append_assoc, fold, IsTrue, subst}
+use Rattle.std.proofs.Common.{◌≡◌, ◌≢◌, ◌≤◌, ◌<◌, ◌^◌, ◌*◌, ◌+◌, ◌-◌, ℕ, zero, suc, List, [], ◌∷◌, length, get_or, arith, ap, refl, sym, ◌∙◌, ◌++◌, ◌/◌, ◌%◌, append_assoc, fold, IsTrue, subst, All, inl, inr}
 use Rattle.std.specs.Char.{is_ascii_digit}
 use Rattle.std.specs.Fmt.{decimal}
 use Rattle.std.specs.Int.{IsInRange}
+use Rattle.std.proofs.lemmas.Bool.{cases_lt}
 use Rattle.std.proofs.lemmas.Bool.Decides.{nat_tests}
 use Rattle.std.proofs.lemmas.Str.Parse.{IsDigitsTest, FoldsDigits, IsNumeralModel, numerals_by_fold}
 use Rattle.std.proofs.lemmas.Fmt.{decimal_step, decimal-digits_value, digits_value-decimal, digits_decimal, decimal_nonempty, length-decimal-le, first_decimal, decimal_digit}
-use Rattle.mig_text.specs.Digits.{AreDigits, number_of, IsNumeralWord}
+use Rattle.mig_base.specs.Digits.{IsNumber, number_of}
+use Rattle.mig_text.specs.Digits.{IsNumeralWord}
+
+abbrev AreDigits : List ℕ → Type 0
+AreDigits word = All (λ c. IsTrue (is_ascii_digit c)) word
 
 in_range : (c : ℕ) → IsTrue (is_ascii_digit c) → IsInRange 48 57 c
 in_range c h = (grind (arith, nat_tests), grind (arith, nat_tests))
@@ -44,17 +49,22 @@ lead_of (suc n) small e = let f : 48 < get_or (decimal (suc n)) 0 0 = first_deci
 -- a number is spelled by a numeral, which has its value
 pub numeral_of : (n : ℕ) → n < 2 ^ 32 → IsNumeralWord (decimal n)
 numeral_of n small = record {
-  digits = digits_decimal own n (omega arith);
-  some = decimal_nonempty n (omega arith);
-  short = length-decimal-le 10 n (omega arith) (omega arith) (omega arith);
-  lead = lead_of n small;
+  number = record {
+    digits = digits_decimal own n (omega arith);
+    some = decimal_nonempty n (omega arith);
+    short = length-decimal-le 10 n (omega arith) (omega arith) (omega arith);
+  };
+  lead = λ zero. let one = lead_of n small zero.1 in absurd (omega (arith, zero.0, one));
 }
 
 pub value_of_decimal : (n : ℕ) → n < 2 ^ 32 → number_of (decimal n) ≡ n
 value_of_decimal n small = digits_value-decimal own n (omega arith)
 
 pub spells_value : (word : List ℕ) → IsNumeralWord word → number_of word < 2 ^ 64 → word ≡ decimal (number_of word)
-spells_value word h small = sym (decimal-digits_value own word h.digits h.some h.lead small)
+spells_value word h small = sym (decimal-digits_value own word h.number.digits h.number.some alone small)
+  where
+    alone : get_or word 0 0 ≡ 48 → length word ≡ 1
+    alone nought = elim (cases_lt 1 (length word)) [ inl more ↦ absurd (h.lead (more, nought)) | inr few ↦ omega (arith, few, h.number.some) ]
 
 -- a word of another form spells no number, and one of this form none but its value
 pub no_number : (word : List ℕ) → (IsNumeralWord word → ⊥) → (n : ℕ) → n < 2 ^ 32 → word ≢ decimal n

@@ -4,6 +4,7 @@ use Rattle.std.specs.List.{AllByRecursion}
 use Rattle.std.specs.Fmt.{decimal}
 use Rattle.std.proofs.lemmas.Fmt.{length-decimal-le}
 use Rattle.std.proofs.lemmas.List.Elements.{recursion_from_All}
+use Rattle.mig_base.specs.declared.limits.TheConstants.{MAX_ROUNDS}
 use Rattle.mig_base.specs.declared.ids.Shift.{Shift}
 use Rattle.mig_base.specs.InputLists.{Lists, IsInput, no_disk}
 use Rattle.mig_base.specs.Running.{ShiftFits}
@@ -66,7 +67,7 @@ module _ (input : Lists) (valid : IsInput input) where
       → length bytes ≤ 35 + (14 + c) * length plan + 111 * shifts_in plan
   plan_length c plan bytes short text =
       let total : List ℕ = words (codes "rounds" ∷ decimal (length plan) ∷ []) in
-      let few : length plan ≤ 131072 = text.fits.few_rounds in
+      let few : length plan ≤ MAX_ROUNDS = text.fits.few_rounds in
       let rounds = rounds_length c 1 plan (omega arith) (recursion_from_All _ plan (λ k d h. (short k d h, recursion_from_All (ShiftFits input) _ (text.fits.shifts k d h)))) in
       omega (
         arith,

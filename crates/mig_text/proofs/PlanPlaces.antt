@@ -4,6 +4,7 @@ use Rattle.std.specs.List.{AllByRecursion}
 use Rattle.std.specs.Fmt.{decimal}
 use Rattle.std.proofs.lemmas.Fmt.{decimal_injective}
 use Rattle.std.proofs.lemmas.Bool.{cases_lt}
+use Rattle.mig_base.specs.declared.limits.TheConstants.{MAX_FILE_BYTES, MAX_ROUNDS, MAX_SHIFTS}
 use Rattle.mig_base.specs.declared.ids.Shift.{Shift}
 use Rattle.mig_base.specs.InputLists.{Lists, IsInput}
 use Rattle.mig_base.specs.Texts.{words, shift_line, round_lines, plan_lines, PlanText}
@@ -15,7 +16,7 @@ use Rattle.mig_base.proofs.Spelling.{plan_lacks, are_fitting, rounds_word_lacks}
 use Rattle.mig_text.specs.PlanParts.{head_line}
 use Rattle.mig_text.proofs.Places.{Leads-append, no_misfit, pieces_of_lines}
 
-same_total : (m n : ℕ) → m ≤ 131072 → n ≤ 131072 → words (codes "rounds" ∷ decimal m ∷ []) ≡ words (codes "rounds" ∷ decimal n ∷ []) → m ≡ n
+same_total : (m n : ℕ) → m ≤ MAX_ROUNDS → n ≤ MAX_ROUNDS → words (codes "rounds" ∷ decimal m ∷ []) ≡ words (codes "rounds" ∷ decimal n ∷ []) → m ≡ n
 same_total m n a b e =
     let w : codes "rounds" ∷ decimal m ∷ [] ≡ codes "rounds" ∷ decimal n ∷ [] = same_words (codes "rounds") (codes "rounds") (decimal m ∷ []) (decimal n ∷ [])
     (rounds_word_lacks, (Lacks-decimal 32 m (omega arith) (omega arith), tt)) (rounds_word_lacks, (Lacks-decimal 32 n (omega arith) (omega arith), tt)) e in
@@ -51,11 +52,11 @@ shifts_lead input [] r left h = refl
 shifts_lead input (s ∷ shifts) r left h = (before_shifts (length shifts) r left, ((s, (h.0, refl, refl)), shifts_lead input shifts r left h.1))
 
 -- a round's lines
-pub round_leads : (input : Lists) (round : List Shift) (r left : ℕ) → length round ≤ 65536 → AllByRecursion (ShiftFits input) round
+pub round_leads : (input : Lists) (round : List Shift) (r left : ℕ) → length round ≤ MAX_SHIFTS → AllByRecursion (ShiftFits input) round
     → Leads (PlanNext input) (Head r left) (head_line r (length round) ∷ map (shift_line input) round) (before_rounds (r + 1) left)
 round_leads input round r left few h = (before_shifts (length round) r left, ((length round, (few, refl, refl)), shifts_lead input round r left h))
 
-pub rounds_lead : (input : Lists) (rounds : List (List Shift)) (r more : ℕ) → AllByRecursion (λ round. (length round ≤ 65536) × AllByRecursion (ShiftFits input) round) rounds
+pub rounds_lead : (input : Lists) (rounds : List (List Shift)) (r more : ℕ) → AllByRecursion (λ round. (length round ≤ MAX_SHIFTS) × AllByRecursion (ShiftFits input) round) rounds
     → Leads (PlanNext input) (before_rounds r (length rounds + more)) (round_lines input r rounds) (before_rounds (r + length rounds) more)
 rounds_lead input [] r more h = let a : r + 0 ≡ r = omega arith in let b : more ≡ 0 + more = omega arith in (λ i. before_rounds (a i) (b i))
 rounds_lead input (round ∷ rounds) r more h =
@@ -95,9 +96,9 @@ text_leads input plan bytes valid text =
     (sym (ap pieces text.lines ∙ pieces_of_lines (plan_lines input plan) (plan_lacks input valid plan text.fits.few_rounds (are_fitting input valid plan text.fits))))
     (plan_leads input plan valid text.fits)
 
-pub line_no_plan : (input : Lists) (bytes : List ℕ) (n : ℕ) → IsInput input → IsLine (PlanNext input) Title Over bytes n → (plan : List (List Shift)) → PlanText input plan bytes → 16777216 < length bytes
+pub line_no_plan : (input : Lists) (bytes : List ℕ) (n : ℕ) → IsInput input → IsLine (PlanNext input) Title Over bytes n → (plan : List (List Shift)) → PlanText input plan bytes → MAX_FILE_BYTES < length bytes
 line_no_plan input bytes n valid line plan text =
-    elim (cases_lt 16777216 (length bytes)) [
+    elim (cases_lt MAX_FILE_BYTES (length bytes)) [
       | inl long ↦ long
       | inr short ↦ absurd (no_misfit (PlanNext input) (one_next input) Title Over (pieces bytes) n (text_leads input plan bytes valid text) (line.short short))
     ]

@@ -5,6 +5,7 @@ use Rattle.std.specs.Fmt.{decimal}
 use Rattle.std.proofs.lemmas.List.Elements.{All-push, recursion_from_All}
 use Rattle.std.proofs.lemmas.List.Splits.{join_with_byte-slice_split}
 use Rattle.std.proofs.lemmas.List.{map-append}
+use Rattle.mig_base.specs.declared.limits.TheConstants.{MAX_FILE_BYTES, MAX_ROUNDS, MAX_SHIFTS}
 use Rattle.mig_base.specs.declared.ids.Shift.{Shift}
 use Rattle.mig_base.specs.InputLists.{Lists, IsInput}
 use Rattle.mig_base.specs.Texts.{PlanText, shift_line, words, round_lines, plan_lines, text_of_lines}
@@ -16,17 +17,17 @@ use Rattle.mig_text.proofs.PlanPlaces.{rounds_lead, line_no_plan}
 use Rattle.mig_text.specs.declared.errors.TextError.{TextError}
 use Rattle.mig_text.specs.declared.errors.TextError.TheVariants as text_error
 use Rattle.mig_text.specs.Reads.{Left, Took, TookAll, IsMiss, IsStop, IsCountUpTo, IfLine, EndsWrong}
-use Rattle.mig_text.specs.PlanParts.{head_line, IsHeadLine, IsShiftLine, IsOpened, IsRoundRead, IsRoundPart, AreRoundsRead}
+use Rattle.mig_text.specs.PlanParts.{head_line, IsHeadLine, IsShiftLine, IsPlanOpened, IsRoundRead, IsRoundPart, AreRoundsRead}
 use Rattle.mig_text.proofs.Stops.{took_none, took_one, took_both, took_next, miss_stops, later_stops}
 
 module _ (input : Lists) where
   pub title_stops : (old : Left) (e : TextError) → IsMiss (λ piece. piece ≡ codes "migration-plan 1") old e → IsStop (PlanNext input) Title Over old e
   title_stops old e m = miss_stops (PlanNext input) Title Over (λ piece. piece ≡ codes "migration-plan 1") old e (λ q. absurd cc) (λ piece next n. n.0) m
 
-  pub total_stops : (old now : Left) (e : TextError) → Took old (codes "migration-plan 1") now → IsMiss (IsCountUpTo (codes "rounds") 131072) now e → IsStop (PlanNext input) Title Over old e
+  pub total_stops : (old now : Left) (e : TextError) → Took old (codes "migration-plan 1") now → IsMiss (IsCountUpTo (codes "rounds") MAX_ROUNDS) now e → IsStop (PlanNext input) Title Over old e
   total_stops old now e t m =
       later_stops (PlanNext input) Title Total Over old now (codes "migration-plan 1" ∷ []) e (Total, ((refl, refl), refl)) (took_one old now _ t)
-      (miss_stops (PlanNext input) Total Over (IsCountUpTo (codes "rounds") 131072) now e (λ q. absurd cc) (λ piece next n. (n.0, (n.1.0, n.1.1))) m)
+      (miss_stops (PlanNext input) Total Over (IsCountUpTo (codes "rounds") MAX_ROUNDS) now e (λ q. absurd cc) (λ piece next n. (n.0, (n.1.0, n.1.1))) m)
 
   pub end_stops : (old : Left) (e : TextError) → IsMiss (λ piece. piece ≡ codes "end") old e → IsStop (PlanNext input) End Over old e
   end_stops old e m = miss_stops (PlanNext input) End Over (λ piece. piece ≡ codes "end") old e (λ q. absurd cc) (λ piece next n. n.0) m
@@ -62,7 +63,7 @@ module _ (input : Lists) where
       subst (λ n. Leads (PlanNext input) (before_shifts n r left) (map (shift_line input) (s ∷ shifts)) (Move more r left)) e
       (before_shifts (length shifts + suc more) r left, ((s, (h.0, refl, refl)), shifts_lead_on shifts more r left h.1))
 
-  part_leads : (r n more left : ℕ) (shifts : List Shift) → n ≤ 65536 → n ≡ length shifts + suc more → All (ShiftFits input) shifts
+  part_leads : (r n more left : ℕ) (shifts : List Shift) → n ≤ MAX_SHIFTS → n ≡ length shifts + suc more → All (ShiftFits input) shifts
       → Leads (PlanNext input) (Head r left) (head_line r n ∷ map (shift_line input) shifts) (Move more r left)
   part_leads r n more left shifts few e h = (
     before_shifts n r left,
@@ -72,7 +73,7 @@ module _ (input : Lists) where
     ),
   )
 
-  pub shift_stops : (r n done : ℕ) (shifts : List Shift) (old now : Left) (e : TextError) → IsRoundPart input r n done shifts old now → done < n → n ≤ 65536 → IsMiss (IsShiftLine input) now e
+  pub shift_stops : (r n done : ℕ) (shifts : List Shift) (old now : Left) (e : TextError) → IsRoundPart input r n done shifts old now → done < n → n ≤ MAX_SHIFTS → IsMiss (IsShiftLine input) now e
       → (left : ℕ) → IsStop (PlanNext input) (Head r left) Over old e
   shift_stops r n done shifts old now e part less few m left =
       let more : ℕ = n - done - 1 in
@@ -92,7 +93,7 @@ module _ (input : Lists) where
         (took_next old now new (head_line r n ∷ map (shift_line input) shifts) (shift_line input s) part.took t);
   }
 
-  pub part_done : (r n done : ℕ) (shifts : List Shift) (old now : Left) → IsRoundPart input r n done shifts old now → done ≡ n → n ≤ 65536 → IsRoundRead input r shifts old now
+  pub part_done : (r n done : ℕ) (shifts : List Shift) (old now : Left) → IsRoundPart input r n done shifts old now → done ≡ n → n ≤ MAX_SHIFTS → IsRoundRead input r shifts old now
   part_done r n done shifts old now part all few =
       let same : n ≡ length shifts = sym (part.count ∙ all) in
       record {
@@ -119,7 +120,7 @@ module _ (input : Lists) where
       let e : k + 1 ≡ 1 + length rounds = omega (arith, so_far.count) in
       record {
         count = omega (arith, so_far.count, length-append rounds (round ∷ []));
-        few_shifts = All-push (λ (r : List Shift). length r ≤ 65536) rounds round so_far.few_shifts one.few;
+        few_shifts = All-push (λ (r : List Shift). length r ≤ MAX_SHIFTS) rounds round so_far.few_shifts one.few;
         fitting = All-push (All (ShiftFits input)) rounds round so_far.fitting one.fitting;
         took = subst (λ ls. TookAll old ls new) (sym (round_lines_push 1 rounds round))
             (took_both old now new (round_lines input 1 rounds) (head_line (1 + length rounds) (length round) ∷ map (shift_line input) round) so_far.took
@@ -127,9 +128,9 @@ module _ (input : Lists) where
       }
 
   abbrev AreFitting : List (List Shift) → Type 0
-  AreFitting rounds = AllByRecursion (λ (round : List Shift). (length round ≤ 65536) × AllByRecursion (ShiftFits input) round) rounds
+  AreFitting rounds = AllByRecursion (λ (round : List Shift). (length round ≤ MAX_SHIFTS) × AllByRecursion (ShiftFits input) round) rounds
 
-  are_fitting : (rounds : List (List Shift)) → All (λ (round : List Shift). length round ≤ 65536) rounds → All (All (ShiftFits input)) rounds → AreFitting rounds
+  are_fitting : (rounds : List (List Shift)) → All (λ (round : List Shift). length round ≤ MAX_SHIFTS) rounds → All (All (ShiftFits input)) rounds → AreFitting rounds
   are_fitting rounds few fits = recursion_from_All _ rounds (λ k d h. (few k d h, recursion_from_All (ShiftFits input) _ (fits k d h)))
 
   pub round_stops : (k total : ℕ) (rounds : List (List Shift)) (old now : Left) (e : TextError) → AreRoundsRead input k rounds old now → k < total
@@ -144,13 +145,13 @@ module _ (input : Lists) where
       (rounds_lead input rounds 1 (suc left) (are_fitting rounds so_far.few_shifts so_far.fitting))))
       so_far.took (s left)
 
-  opening_leads : (total : ℕ) → total ≤ 131072 → Leads (PlanNext input) Title (codes "migration-plan 1" ∷ words (codes "rounds" ∷ decimal total ∷ []) ∷ []) (before_rounds 1 total)
+  opening_leads : (total : ℕ) → total ≤ MAX_ROUNDS → Leads (PlanNext input) Title (codes "migration-plan 1" ∷ words (codes "rounds" ∷ decimal total ∷ []) ∷ []) (before_rounds 1 total)
   opening_leads total few = (Total, ((refl, refl), (before_rounds 1 total, ((total, (few, refl, refl)), refl))))
 
-  pub rounds_stop : (total : ℕ) (old now : Left) (e : TextError) → IsOpened total old now → IsStop (PlanNext input) (before_rounds 1 total) Over now e → IsStop (PlanNext input) Title Over old e
+  pub rounds_stop : (total : ℕ) (old now : Left) (e : TextError) → IsPlanOpened total old now → IsStop (PlanNext input) (before_rounds 1 total) Over now e → IsStop (PlanNext input) Title Over old e
   rounds_stop total old now e opened s = later_stops (PlanNext input) Title (before_rounds 1 total) Over old now _ e (opening_leads total opened.few) opened.took s
 
-  pub closing_stops : (total : ℕ) (rounds : List (List Shift)) (old a b : Left) (e : TextError) → IsOpened total old a → AreRoundsRead input total rounds a b → IsStop (PlanNext input) End Over b e
+  pub closing_stops : (total : ℕ) (rounds : List (List Shift)) (old a b : Left) (e : TextError) → IsPlanOpened total old a → AreRoundsRead input total rounds a b → IsStop (PlanNext input) End Over b e
       → IsStop (PlanNext input) Title Over old e
   closing_stops total rounds old a b e opened read s =
       let sum : length rounds + 0 ≡ total = omega (arith, read.count) in
@@ -169,14 +170,14 @@ pub text_from_pieces : (bytes : List ℕ) (ls : List (List ℕ)) → pieces byte
 text_from_pieces bytes ls e = sym (join_with_byte-slice_split 10 bytes) ∙ ap (join_with_byte 10) e ∙ joined ls
 
 -- what a stop says of the whole text
-pub plan_line : (input : Lists) (bytes : List ℕ) (e : TextError) → IsInput input → length bytes ≤ 16777216 → IsStop (PlanNext input) Title Over (record { taken = 0; pieces = pieces bytes }) e → IfLine (PlanLine input bytes) e
+pub plan_line : (input : Lists) (bytes : List ℕ) (e : TextError) → IsInput input → length bytes ≤ MAX_FILE_BYTES → IsStop (PlanNext input) Title Over (record { taken = 0; pieces = pieces bytes }) e → IfLine (PlanLine input bytes) e
 plan_line input bytes text_error.Memory valid short s = tt
 plan_line input bytes (text_error.Line n) valid short s =
     let same : s.0 ≡ n = omega (arith, s.1.0) in
     let line : IsLine (PlanNext input) Title Over bytes n = record { long = λ l. absurd (omega arith); short = λ _. subst (IsMisfit (PlanNext input) Title Over (pieces bytes)) same s.1.1 } in
     record { no_plan = line_no_plan input bytes n valid line; line = line }
 
-pub too_long : (input : Lists) (bytes : List ℕ) → 16777216 < length bytes → PlanLine input bytes 0
+pub too_long : (input : Lists) (bytes : List ℕ) → MAX_FILE_BYTES < length bytes → PlanLine input bytes 0
 too_long input bytes long = record { no_plan = λ plan text. long; line = record { long = λ _. refl; short = λ s. absurd (omega arith) } }
 
 -- the value of a text whose lines were read

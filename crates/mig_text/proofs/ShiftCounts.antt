@@ -8,6 +8,7 @@ use Rattle.std.proofs.lemmas.Fmt.{length-decimal-le}
 use Rattle.std.proofs.lemmas.List.Elements.{recursion_from_All}
 use Rattle.std.proofs.lemmas.Bool.{cases_lt}
 use Rattle.std.proofs.lemmas.Bool.Decides.{nat_tests}
+use Rattle.mig_base.specs.declared.limits.TheConstants.{MAX_FILE_BYTES}
 use Rattle.mig_base.specs.declared.ids.Shift.{Shift}
 use Rattle.mig_base.specs.InputLists.{Lists, IsInput}
 use Rattle.mig_base.specs.Transfers.{is_relocated}
@@ -70,7 +71,7 @@ few_rounds [] h = omega arith
 few_rounds (round ∷ plan) h = omega (arith, h.0, few_rounds plan h.1)
 
 -- the text of such a plan is short
-pub short_text : (input : Lists) (plan : List (List Shift)) (bytes : List ℕ) → IsInput input → Runs input plan → Once input plan → PlanText input plan bytes → length bytes ≤ 16777216
+pub short_text : (input : Lists) (plan : List (List Shift)) (bytes : List ℕ) → IsInput input → Runs input plan → Once input plan → PlanText input plan bytes → length bytes ≤ MAX_FILE_BYTES
 short_text input plan bytes valid runs once text =
     let some : AllByRecursion (λ (round : List Shift). 0 < length round) plan = recursion_from_All _ plan (λ k d h. subst (λ (r : List Shift). 0 < length r) (get_or_default plan k [] d h) (runs.rounds k h).some) in
     let long = plan_length input valid 5 plan bytes (λ k d h. let few = text.fits.few_shifts k d h in length-decimal-le 5 (length (get_or plan k d)) (omega arith) (omega (arith, few)) (omega (arith, few))) text in

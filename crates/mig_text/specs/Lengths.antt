@@ -1,5 +1,6 @@
 -- How long the text of a plan is that a planner makes.
 use Rattle.std.specs.Prelude.{ℕ, ◌≤◌, List, length}
+use Rattle.mig_base.specs.declared.limits.TheConstants.{MAX_FILE_BYTES}
 use Rattle.mig_base.specs.declared.ids.Shift.{Shift}
 use Rattle.mig_base.specs.InputLists.{Lists, IsInput}
 use Rattle.mig_base.specs.Running.{Runs, Once}
@@ -7,4 +8,4 @@ use Rattle.mig_base.specs.Texts.{PlanText}
 
 -- the text of a plan that can be carried out and moves each relocated item once isn't too long to be read back
 abbrev pub PlanTextsAreShort : Type 0
-PlanTextsAreShort = (input : Lists) (plan : List (List Shift)) (bytes : List ℕ) → IsInput input → Runs input plan → Once input plan → PlanText input plan bytes → length bytes ≤ 16777216
+PlanTextsAreShort = (input : Lists) (plan : List (List Shift)) (bytes : List ℕ) → IsInput input → Runs input plan → Once input plan → PlanText input plan bytes → length bytes ≤ MAX_FILE_BYTES

@@ -1,6 +1,7 @@
 -- What the reading of a plan's parts says.
 use Rattle.std.specs.Prelude.{◌≡◌, ℕ, ◌≤◌, List, [], ◌∷◌, length, map, codes, All}
 use Rattle.std.specs.Fmt.{decimal}
+use Rattle.mig_base.specs.declared.limits.TheConstants.{MAX_ROUNDS, MAX_SHIFTS}
 use Rattle.mig_base.specs.declared.ids.Shift.{Shift}
 use Rattle.mig_base.specs.InputLists.{Lists}
 use Rattle.mig_base.specs.Running.{ShiftFits}
@@ -21,16 +22,16 @@ IsShiftLine input piece = (s : Shift) × (ShiftFits input s × (piece ≡ shift_
 
 -- the piece is `round r C`
 abbrev pub IsHeadLine : ℕ → List ℕ → Type 0
-IsHeadLine r piece = (n : ℕ) × ((n ≤ 65536) × (piece ≡ head_line r n))
+IsHeadLine r piece = (n : ℕ) × ((n ≤ MAX_SHIFTS) × (piece ≡ head_line r n))
 
 -- the first lines were taken, and announce this number of rounds
-pub record IsOpened (total : ℕ) (old new : Left) : Type 0 where
-  pub few : total ≤ 131072
+pub record IsPlanOpened (total : ℕ) (old new : Left) : Type 0 where
+  pub few : total ≤ MAX_ROUNDS
   pub took : TookAll old (codes "migration-plan 1" ∷ words (codes "rounds" ∷ decimal total ∷ []) ∷ []) new
 
 -- this round was taken, as round r
 pub record IsRoundRead (input : Lists) (r : ℕ) (round : List Shift) (old new : Left) : Type 0 where
-  pub few : length round ≤ 65536
+  pub few : length round ≤ MAX_SHIFTS
   pub fitting : All (ShiftFits input) round
   pub took : TookAll old (head_line r (length round) ∷ map (shift_line input) round) new
 
@@ -43,6 +44,6 @@ pub record IsRoundPart (input : Lists) (r n done : ℕ) (shifts : List Shift) (o
 -- these rounds were taken, from round 1 on
 pub record AreRoundsRead (input : Lists) (total : ℕ) (rounds : List (List Shift)) (old new : Left) : Type 0 where
   pub count : length rounds ≡ total
-  pub few_shifts : All (λ (round : List Shift). length round ≤ 65536) rounds
+  pub few_shifts : All (λ (round : List Shift). length round ≤ MAX_SHIFTS) rounds
   pub fitting : All (All (ShiftFits input)) rounds
   pub took : TookAll old (round_lines input 1 rounds) new

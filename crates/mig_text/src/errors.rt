@@ -1,3 +1,5 @@
+//! Why a text is not read.
+
 use std::alloc::AllocError;
 use thiserror::Error;
 

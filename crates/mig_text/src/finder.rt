@@ -1,3 +1,4 @@
+//! Disks and items by name.
 ghost use Rattle.std.specs.Prelude.{◌≡◌, ◌≢◌, ◌<◌, ℕ, ◌∷◌, ◌++◌, [], Some, All, Contains, length, slice_get, IfOk, MatchOption, OnOk};
 ghost use Rattle.mig_base.specs.InputLists.{AreDifferent, IsInput};
 ghost use Rattle.mig_base.specs.Naming.{IsName};
@@ -49,6 +50,13 @@ impl<'a> Finder<'a> {
         self.input
     }
 
+    /// The input keeps the rules of every input. The call does nothing; it is made where a proof needs them.
+    pub fn keeps_rules(&self)
+        ensures { IsInput self.now }
+    {
+        self.input.keeps_rules();
+    }
+
     /// The disk with this name.
     pub fn disk(&self, word: &[u8]) -> Option<DiskId>
         ensures found { MatchOption result ((d : ℕ) → d < length self.now.disks → word.now ≢ disk_name self.now d)
@@ -70,7 +78,7 @@ impl<'a> Finder<'a> {
     }
 }
 
-// The place of the name with these bytes.
+/// The place of the name with these bytes.
 fn place(table: &NameTable, word: &[u8]) -> Option<usize>
     requires { All IsName table.now }
     ensures { MatchOption result (¬ (Contains table.now word.now)) (λ k. slice_get table.now k ≡ Some word.now) }
@@ -79,7 +87,7 @@ fn place(table: &NameTable, word: &[u8]) -> Option<usize>
     table.find(&name)
 }
 
-// The names of disks.
+/// The names of disks.
 fn disk_names(alloc: Global, disks: &[Disk]) -> Result<NameTable, AllocError>
     requires { AreDifferent (names_of disks.now) }
     ensures { IfOk result (λ t. t ≡ names_of disks.now) }
@@ -91,7 +99,7 @@ fn disk_names(alloc: Global, disks: &[Disk]) -> Result<NameTable, AllocError>
     Ok(table)
 }
 
-// The names of items.
+/// The names of items.
 fn item_names(alloc: Global, items: &[Name]) -> Result<NameTable, AllocError>
     requires { AreDifferent items.now }
     ensures { IfOk result (λ t. t ≡ items.now) }

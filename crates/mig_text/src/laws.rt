@@ -1,3 +1,4 @@
+//! How long the text of a plan is.
 ghost use Rattle.mig_text.specs.Lengths.{PlanTextsAreShort};
 
 /// The text of a plan that can be carried out and moves each relocated item once isn't too long to

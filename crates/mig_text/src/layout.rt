@@ -1,3 +1,4 @@
+//! The text of a layout.
 ghost use Rattle.std.specs.Prelude.{◌≡◌, ◌<◌, ◌++◌, ◌∷◌, [], All, length, map, IfOk, OnOk};
 ghost use Rattle.std.specs.List.{zip};
 ghost use Rattle.mig_base.specs.declared.ids.Spot.{Spot};
@@ -20,7 +21,7 @@ pub fn print_layout(alloc: Global, input: &Input, spots: &[Spot]) -> Result<Vec<
     Ok(out)
 }
 
-// Adds a line for each item.
+/// Adds a line for each item.
 fn push_spots(out: &mut Vec<u8>, input: &Input, spots: &[Spot]) -> Result<(), AllocError>
     requires each { length spots.now ≡ length input.now.items }
     requires on_disks { All (λ (spot : Spot). spot.disk.0 < length input.now.disks) spots.now }
@@ -33,7 +34,7 @@ fn push_spots(out: &mut Vec<u8>, input: &Input, spots: &[Spot]) -> Result<(), Al
     Ok(())
 }
 
-// Adds an item's line.
+/// Adds an item's line.
 fn push_item(out: &mut Vec<u8>, input: &Input, item: &Name, spot: Spot) -> Result<(), AllocError>
     requires { spot.disk.0 < length input.now.disks }
     ensures { OnOk result (out.new.items ≡ out.old.items ++ (spot_line input.now (item.now, spot) ++ 10 ∷ [])) }

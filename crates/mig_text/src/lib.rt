@@ -25,6 +25,3 @@ pub use plan_print::print_plan;
 pub use plan_read::read_plan;
 pub use printing::{push_count, push_disk, push_number};
 pub use words::{is_number, last_number};
-
-#[cfg(test)]
-mod tests;

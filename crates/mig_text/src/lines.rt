@@ -1,3 +1,4 @@
+//! The lines of a text, one after another.
 ghost use Rattle.std.specs.Prelude.{◌≡◌, ◌+◌, ◌≤◌, ◌∷◌, [], length, codes, IfOk, IfErr, OnOk};
 ghost use Rattle.std.specs.Fmt.{decimal};
 ghost use Rattle.mig_base.specs.Misfits.{pieces};
@@ -7,6 +8,7 @@ ghost use Rattle.mig_text.specs.declared.errors.TextError.TheVariants as text_er
 
 use crate::words::read_count;
 use crate::{Parts, TextError};
+use mig_base::MAX_FILE_BYTES;
 use std::marker::Model;
 
 /// The pieces of a text that are left, and how many were taken. A piece is what stands between two
@@ -31,7 +33,7 @@ impl<'a> Model for Lines<'a> {
 impl<'a> Lines<'a> {
     /// The lines of a text.
     pub fn of(text: &'a [u8]) -> Lines<'a>
-        requires { length text.now ≤ 16777216 }
+        requires { length text.now ≤ MAX_FILE_BYTES }
         ensures { result ≡ record { taken = 0; pieces = pieces text.now } }
     {
         Lines {
@@ -97,7 +99,7 @@ impl<'a> Lines<'a> {
         self.take_end()
     }
 
-    // What is said where the next line doesn't fit, or isn't there.
+    /// What is said where the next line doesn't fit, or isn't there.
     fn next_misfit(&self) -> TextError
         ensures { result ≡ text_error.Line (self.now.taken + 1) }
     {
@@ -106,7 +108,7 @@ impl<'a> Lines<'a> {
         }
     }
 
-    // Takes the end of the text, after its last line.
+    /// Takes the end of the text, after its last line.
     fn take_end(mut self) -> Result<(), TextError>
         ensures ok { OnOk result (self.entry.pieces ≡ []) }
         ensures err { IfErr result (λ e. (e ≡ text_error.Line (self.entry.taken + 1)) × ((self.entry.pieces ≡ []) → ⊥)) }

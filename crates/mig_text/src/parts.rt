@@ -1,3 +1,4 @@
+//! Cutting a text at a byte.
 ghost use Rattle.std.specs.Prelude.{◌≡◌, ◌∷◌, ◌==◌, [], length, MatchOption, Option, position};
 ghost use Rattle.std.specs.Option.{option_map_or};
 ghost use Rattle.std.specs.List.{slice_split};
@@ -52,14 +53,14 @@ impl<'a> Parts<'a> {
     }
 }
 
-// The place of the first such byte.
+/// The place of the first such byte.
 fn find(text: &[u8], at: u8) -> Option<usize>
     ensures { result ≡ position (λ b. b == at) text.now }
 {
     text.iter().position(|b| *b == at)
 }
 
-// What stands before the first such byte, and what stands after it if there is one.
+/// What stands before the first such byte, and what stands after it if there is one.
 fn cut(text: &[u8], at: u8) -> (&[u8], Option<&[u8]>)
     ensures { slice_split (λ b. b == at) text.now ≡ result.0.now ∷ option_map_or (λ rest. slice_split (λ b. b == at) rest.now) result.1 [] }
 {

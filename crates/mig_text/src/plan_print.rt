@@ -1,10 +1,11 @@
+//! The text of a plan.
 ghost use Rattle.std.specs.Prelude.{◌≡◌, ◌<◌, ◌≤◌, ◌++◌, ◌∷◌, [], All, length, map, OnOk, IfOk};
 ghost use Rattle.mig_base.specs.Running.{PlanFits, ShiftFits};
 ghost use Rattle.mig_base.specs.Texts.{PlanText, round_lines, shift_line, text_of_lines};
 ghost use Rattle.mig_text.specs.PlanParts.{head_line};
 
 use crate::printing::{push_count, push_number, push_spot};
-use mig_base::{Input, Plan, Round, Shift};
+use mig_base::{Input, MAX_ROUNDS, MAX_SHIFTS, Plan, Round, Shift};
 use std::alloc::{AllocError, Global};
 
 /// The spelling of a plan that fits the input. An error is want of memory.
@@ -21,10 +22,10 @@ pub fn print_plan(alloc: Global, input: &Input, plan: &Plan) -> Result<Vec<u8>, 
     Ok(out)
 }
 
-// Adds the lines of rounds.
+/// Adds the lines of rounds.
 fn push_rounds(out: &mut Vec<u8>, input: &Input, rounds: &[Round]) -> Result<(), AllocError>
-    requires few { length rounds.now ≤ 131072 }
-    requires few_shifts { All (λ round. length round ≤ 65536) rounds.now }
+    requires few { length rounds.now ≤ MAX_ROUNDS }
+    requires few_shifts { All (λ round. length round ≤ MAX_SHIFTS) rounds.now }
     requires fitting { All (All (ShiftFits input.now)) rounds.now }
     ensures { OnOk result (out.new.items ≡ out.old.items ++ text_of_lines (round_lines input.now 1 rounds.now)) }
 {
@@ -36,14 +37,14 @@ fn push_rounds(out: &mut Vec<u8>, input: &Input, rounds: &[Round]) -> Result<(),
     Ok(())
 }
 
-// Adds the lines of a round.
+/// Adds the lines of a round.
 fn push_round(
     out: &mut Vec<u8>,
     input: &Input,
     number: u32,
     round: &Round,
 ) -> Result<(), AllocError>
-    requires few { length round.now ≤ 65536 }
+    requires few { length round.now ≤ MAX_SHIFTS }
     requires fitting { All (ShiftFits input.now) round.now }
     ensures { OnOk result (out.new.items ≡ out.old.items ++ text_of_lines (head_line number (length round.now) ∷ map (shift_line input.now) round.now)) }
 {
@@ -56,7 +57,7 @@ fn push_round(
     push_shifts(out, input, shifts)
 }
 
-// Adds the lines of shifts.
+/// Adds the lines of shifts.
 fn push_shifts(out: &mut Vec<u8>, input: &Input, shifts: &[Shift]) -> Result<(), AllocError>
     requires { All (ShiftFits input.now) shifts.now }
     ensures { OnOk result (out.new.items ≡ out.old.items ++ text_of_lines (map (shift_line input.now) shifts.now)) }
@@ -67,7 +68,7 @@ fn push_shifts(out: &mut Vec<u8>, input: &Input, shifts: &[Shift]) -> Result<(),
     Ok(())
 }
 
-// Adds the line of a shift.
+/// Adds the line of a shift.
 fn push_shift(out: &mut Vec<u8>, input: &Input, shift: &Shift) -> Result<(), AllocError>
     requires { ShiftFits input.now shift.now }
     ensures { OnOk result (out.new.items ≡ out.old.items ++ (shift_line input.now shift.now ++ 10 ∷ [])) }

@@ -1,15 +1,16 @@
+//! Reading the text of a plan.
 ghost use Rattle.std.specs.Prelude.{◌≡◌, ◌++◌, ◌∷◌, ◌≤◌, ◌<◌, ℕ, List, [], length, IfErr, IfOk};
 ghost use Rattle.mig_base.specs.InputLists.{Lists};
 ghost use Rattle.mig_base.specs.Misfits.{pieces};
 ghost use Rattle.mig_base.specs.PlanLines.{before_rounds, Head, Over, PlanLine, PlanNext, Title};
 ghost use Rattle.mig_base.specs.Running.{PlanFits};
 ghost use Rattle.mig_base.specs.Texts.{PlanText, plan_lines};
-ghost use Rattle.mig_text.specs.PlanParts.{AreRoundsRead, IsOpened, IsRoundRead};
+ghost use Rattle.mig_text.specs.PlanParts.{AreRoundsRead, IsPlanOpened, IsRoundRead};
 ghost use Rattle.mig_text.specs.Reads.{IfLine, IsStop, Left};
 
 use crate::shifts::{take_head, take_shift};
 use crate::{Finder, Lines, TextError};
-use mig_base::{Input, Plan, Round};
+use mig_base::{Input, MAX_FILE_BYTES, MAX_ROUNDS, Plan, Round};
 use std::alloc::Global;
 
 /// The plan whose spelling the bytes are. It fits the input.
@@ -18,17 +19,17 @@ use std::alloc::Global;
 /// number of the first line that doesn't fit, or 0 where they are too many.
 pub fn read_plan(alloc: Global, input: &Input, bytes: &[u8]) -> Result<Plan, TextError>
     ensures plan { IfOk result (λ plan. PlanText input.now plan bytes.now) }
-    ensures short { IfOk result (λ _. length bytes.now ≤ 16777216) }
+    ensures short { IfOk result (λ _. length bytes.now ≤ MAX_FILE_BYTES) }
     ensures line { IfErr result (IfLine (PlanLine input.now bytes.now)) }
 {
-    if bytes.len() > 16_777_216 {
+    if bytes.len() > MAX_FILE_BYTES {
         return Err(TextError::Line { number: 0 });
     }
     let finder = Finder::of(alloc, input)?;
     read_lines(alloc, &finder, Lines::of(bytes))
 }
 
-// The plan whose lines these are.
+/// The plan whose lines these are.
 fn read_lines(alloc: Global, finder: &Finder<'_>, mut lines: Lines<'_>) -> Result<Plan, TextError>
     ensures fits { IfOk result (PlanFits finder.now) }
     ensures lines { IfOk result (λ plan. lines.entry.pieces ≡ plan_lines finder.now plan ++ [] ∷ []) }
@@ -40,23 +41,23 @@ fn read_lines(alloc: Global, finder: &Finder<'_>, mut lines: Lines<'_>) -> Resul
     Ok(Plan::of(rounds))
 }
 
-// The number of rounds, from the first two lines.
+/// The number of rounds, from the first two lines.
 fn take_opening(lines: &mut Lines<'_>) -> Result<u32, TextError>
-    ensures ok { IfOk result (λ total. IsOpened total lines.old lines.new) }
+    ensures ok { IfOk result (λ total. IsPlanOpened total lines.old lines.new) }
     ensures line { IfErr result (λ e. (input : Lists) → IsStop (PlanNext input) Title Over lines.old e) }
 {
     lines.take_fixed(b"migration-plan 1")?;
-    lines.take_count(b"rounds", 131_072)
+    lines.take_count(b"rounds", MAX_ROUNDS as u32)
 }
 
-// The rounds of the next lines.
+/// The rounds of the next lines.
 fn take_rounds(
     alloc: Global,
     lines: &mut Lines<'_>,
     finder: &Finder<'_>,
     total: u32,
 ) -> Result<Vec<Round>, TextError>
-    requires { total ≤ 131072 }
+    requires { total ≤ MAX_ROUNDS }
     ensures ok { IfOk result (λ rounds. AreRoundsRead finder.now total rounds.items lines.old lines.new) }
     ensures line { IfErr result (IsStop (PlanNext finder.now) (before_rounds 1 total) Over lines.old) }
 {
@@ -70,7 +71,7 @@ fn take_rounds(
     Ok(rounds)
 }
 
-// The round of this number, of the next lines.
+/// The round of this number, of the next lines.
 fn take_round(
     alloc: Global,
     lines: &mut Lines<'_>,

@@ -1,3 +1,4 @@
+//! Words that are numbers.
 ghost use Rattle.std.specs.Prelude.{◌≡◌, ◌≢◌, ◌≤◌, ◌<◌, ◌∷◌, ◌↔◌, ◌==◌, ℕ, [], length, codes, IsTrue, MatchOption};
 ghost use Rattle.std.specs.Fmt.{decimal};
 ghost use Rattle.mig_base.specs.Texts.{words};
@@ -14,7 +15,7 @@ pub(crate) fn read_count(line: &[u8], word: &[u8], most: u32) -> Option<u32>
     count_of(Parts::of(line, b' '), word, most)
 }
 
-// The same of the line's words.
+/// The same of the line's words.
 fn count_of(mut parts: Parts<'_>, word: &[u8], most: u32) -> Option<u32>
     ensures { MatchOption result ((n : ℕ) → n ≤ most → parts.entry ≢ word.now ∷ decimal n ∷ [])
         (λ n. (n ≤ most) × (parts.entry ≡ word.now ∷ decimal n ∷ [])) }

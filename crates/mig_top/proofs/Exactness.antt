@@ -1,18 +1,15 @@
--- The causes of a command's outcomes exclude one another, so what the cause of an outcome holds for comes.
-use Rattle.std.proofs.Common.{◌≡◌, ◌⊎◌, inl, inr, ℕ, List, [], ◌∷◌, Option, Some, None, length, refl, sym, ◌∙◌, ap, subst, arith, is_none, if◌then◌else◌}
-use Rattle.std.specs.Option.{IsSome, IfSome}
+-- Each step of a command is exact, so what the cause of an outcome holds for comes.
+use Rattle.std.proofs.Common.{◌≡◌, ◌⊎◌, inl, inr, ℕ, List, [], ◌∷◌, Option, Some, None, length, refl, sym, ◌∙◌, ap, subst, arith, is_none, if◌then◌else◌, codes}
+use Rattle.std.specs.Prelude.{bytes_eq}
+use Rattle.std.specs.Option.{IfSome}
 use Rattle.mig_base.specs.InputLists.{Lists, IsInput}
 use Rattle.mig_base.specs.Rows.{Bodies}
 use Rattle.mig_base.specs.Refusals.{Accepted}
 use Rattle.mig_base.specs.Texts.{PlanText, CertText}
-use Rattle.mig_base.specs.PlanLines.{PlanLine}
-use Rattle.mig_base.specs.CertLines.{CertLine}
 use Rattle.mig_base.specs.declared.certs.Cert.{Cert}
 use Rattle.mig_base.specs.declared.faults.FileKind.{FileKind}
 use Rattle.mig_base.specs.declared.faults.Why.{Why}
 use Rattle.mig_base.specs.declared.ids.Shift.{Shift}
-use Rattle.mig_base.specs.Running.{Runs, Once}
-use Rattle.mig_base.specs.Certificates.{CertHolds}
 use Rattle.mig_base.proofs.Listed.{one_input, Accepted-IsInput}
 use Rattle.mig_base.proofs.Spelling.{same_plan}
 use Rattle.mig_base.proofs.CertSpelling.{same_cert}
@@ -20,24 +17,16 @@ use Rattle.mig_base.proofs.BlameOrder.{right_is_blameless}
 use Rattle.mig_check.proofs.BlameCases.{runs_blameless}
 use Rattle.mig_io.specs.Files.{Files, file}
 use Rattle.mig_top.specs.declared.endings.TextFile.TheVariants as text_file
-use Rattle.mig_top.specs.Outcomes.{Outcome, Done, Blamed, Unlisted, Refused, FolderFault, SinkFault, Memory, NotSpelled, NoFile, code}
-use Rattle.mig_top.specs.Calls.{Call, FolderFailed, SinkRose}
-use Rattle.mig_top.specs.Causes.{IsThere, IsNoPlan, IsNoCert, PlanCause, CheckCause, AfterCause, FormCause, IsRight, IsBlamed, IsLayoutAfter, DoesNotRun}
+use Rattle.mig_top.specs.Outcomes.{Outcome, Blamed, Unlisted, Refused, FolderFault, SinkFault, Memory, NotSpelled, NoFile, code}
+use Rattle.mig_top.specs.Calls.{Call, FolderFailed, SinkFailed}
+use Rattle.mig_top.specs.Causes.{FormCause, LoadedCause, IsMissing, IsRefusal, IsNoPlan, IsNoCert, DoesNotRun, IsWrong, loads, reads_input, reads_plan, reads_cert, runs, judges}
 use Rattle.mig_top.specs.Ends.{Ends, EndsAs, IsKnown, FormEnds, ComesExactly}
-use Rattle.mig_top.specs.Loads.{AreRefused, HasPlan, HasCert, Stands, first_missing, AreThere}
-use Rattle.mig_top.specs.Words.{Form, Plan, Check, After, IsListed, words_of}
+use Rattle.mig_top.specs.Loads.{AreRefused, HasPlan, HasCert, HasNoPlan, HasNoCert, Stands, first_missing, AreThere}
+use Rattle.mig_top.specs.Words.{Form, Plan, Check, After, IsListed, loaded, words_of}
+use Rattle.mig_top.proofs.Steps.{IsExact, HaveOneStatus, by_status, then_one, done_one}
 
--- files that are there aren't missing
-
-one_there : (files : Files) (name body : List ℕ) (more : List (List ℕ)) → file files name ≡ Some body → first_missing files (name ∷ more) ≡ first_missing files more
+pub one_there : (files : Files) (name body : List ℕ) (more : List (List ℕ)) → file files name ≡ Some body → first_missing files (name ∷ more) ≡ first_missing files more
 one_there files name body more at = ap (λ (o : Option (List ℕ)). if is_none o then Some name else first_missing files more) at
-
-some_there : (files : Files) (name : List ℕ) (more : List (List ℕ)) → IsThere files name → first_missing files (name ∷ more) ≡ first_missing files more
-some_there files name more is = by_file (file files name) refl is
-  where
-    by_file : (o : Option (List ℕ)) → file files name ≡ o → IsSome o → first_missing files (name ∷ more) ≡ first_missing files more
-    by_file None at is = absurd (let e = is in cc)
-    by_file (Some body) at is = one_there files name body more at
 
 module _ (files : Files) (disks now next : List ℕ) where
   -- the three files are there
@@ -76,257 +65,125 @@ pub one_cert : (files : Files) (name : List ℕ) (input : Lists) (a b : Cert) �
 one_cert files name input a b valid h k = same_cert input valid a b k.bytes (subst (λ (t : List ℕ). CertText input a t) (same_bytes files name h.bytes k.bytes h.there k.there) h.spelled) k.spelled
 
 -- a spelling that is short enough to be read has no line number
-no_line : (files : Files) (name : List ℕ) (input : Lists) (rounds : List (List Shift)) (bytes : List ℕ) (n : ℕ) → file files name ≡ Some bytes → PlanLine input bytes n → HasPlan files name input rounds → ⊥
-no_line files name input rounds bytes n at line has =
-    let long = line.no_plan rounds (subst (λ (t : List ℕ). PlanText input rounds t) (same_bytes files name has.bytes bytes has.there at) has.spelled) in
-    let same = ap length (same_bytes files name has.bytes bytes has.there at) in
-    omega (arith, long, has.short, same)
+no_line : (files : Files) (name : List ℕ) (input : Lists) (rounds : List (List Shift)) (n : ℕ) → HasPlan files name input rounds → HasNoPlan files name input n → ⊥
+no_line files name input rounds n has lacks =
+    let same = same_bytes files name has.bytes lacks.bytes has.there lacks.there in
+    let long = lacks.misfit.no_plan rounds (subst (PlanText input rounds) same has.spelled) in
+    omega (arith, long, has.short, ap length same)
 
-no_cert_line : (files : Files) (name : List ℕ) (input : Lists) (cert : Cert) (bytes : List ℕ) (n : ℕ) → file files name ≡ Some bytes → CertLine input bytes n → HasCert files name input cert → ⊥
-no_cert_line files name input cert bytes n at line has =
-    let long = line.no_cert cert (subst (λ (t : List ℕ). CertText input cert t) (same_bytes files name has.bytes bytes has.there at) has.spelled) in
-    let same = ap length (same_bytes files name has.bytes bytes has.there at) in
-    omega (arith, long, has.short, same)
+no_cert_line : (files : Files) (name : List ℕ) (input : Lists) (cert : Cert) (n : ℕ) → HasCert files name input cert → HasNoCert files name input n → ⊥
+no_cert_line files name input cert n has lacks =
+    let same = same_bytes files name has.bytes lacks.bytes has.there lacks.there in
+    let long = lacks.misfit.no_cert cert (subst (CertText input cert) same has.spelled) in
+    omega (arith, long, has.short, ap length same)
 
--- a file that is there isn't the missing one
+-- none is missing, so not this one
 pub gone : (missing : Option (List ℕ)) (word : List ℕ) → missing ≡ None → missing ≡ Some word → ⊥
 gone missing word h k = let e : ◌≡◌ {A = Option (List ℕ)} None (Some word) = sym h ∙ k in cc
 
-bytes_there : (files : Files) (name bytes : List ℕ) → file files name ≡ Some bytes → IsThere files name
-bytes_there files name bytes at = subst IsSome (sym at) refl
+-- The steps are exact
 
--- The causes of `plan`
+module _ (files : Files) where
+  pub loads_exact : (names : List (List ℕ)) → IsExact (loads files names)
+  loads_exact names = record { one_found = λ a b h k. refl; not_both = apart; one_stop = by_status (IsMissing files names) 16 status }
+    where
+      apart : (u : Unit {0}) (o : Outcome) → first_missing files names ≡ None → IsMissing files names o → ⊥
+      apart u (NoFile word) h k = gone (first_missing files names) word h k
+      apart u _ h k = k
 
-module _ (files : Files) (disks now next : List ℕ) where
-  pub plan_there : (input : Lists) → Stands files disks now next input → first_missing files (disks ∷ now ∷ next ∷ []) ≡ None
-  plan_there input h = three_there files disks now next h.bodies [] h.there
+      status : (o : Outcome) → IsMissing files names o → code o ≡ 16
+      status (NoFile word) h = refl
+      status _ h = absurd h
 
-  pub plan_apart : (o p : Outcome) → PlanCause files disks now next o → PlanCause files disks now next p → code o ≡ code p
-  plan_apart (Done t) (Done u) h k = refl
-  plan_apart (Done t) (Refused f n w) h k = absurd (not_refused files disks now next h.0 f n w h.1 k)
-  plan_apart (Done t) (NoFile word) h k = absurd (gone _ word (plan_there h.0 h.1) k)
-  plan_apart (Refused f n w) (Done u) h k = absurd (not_refused files disks now next k.0 f n w k.1 h)
-  plan_apart (Refused f n w) (Refused g m v) h k = refl
-  plan_apart (Refused f n w) (NoFile word) h k = absurd (gone _ word (three_there files disks now next h.bodies [] h.there) k)
-  plan_apart (NoFile word) (Done u) h k = absurd (gone _ word (plan_there k.0 k.1) h)
-  plan_apart (NoFile word) (Refused f n w) h k = absurd (gone _ word (three_there files disks now next k.bodies [] k.there) h)
-  plan_apart (NoFile word) (NoFile other) h k = refl
-  plan_apart (Blamed a0 a1) p h k = absurd h
-  plan_apart Unlisted p h k = absurd h
-  plan_apart FolderFault p h k = absurd h
-  plan_apart SinkFault p h k = absurd h
-  plan_apart Memory p h k = absurd h
-  plan_apart (NotSpelled text_file.Plan a0) p h k = absurd h
-  plan_apart (NotSpelled text_file.Cert a0) p h k = absurd h
-  plan_apart (Done a0) (Blamed b0 b1) h k = absurd k
-  plan_apart (Done a0) Unlisted h k = absurd k
-  plan_apart (Done a0) FolderFault h k = absurd k
-  plan_apart (Done a0) SinkFault h k = absurd k
-  plan_apart (Done a0) Memory h k = absurd k
-  plan_apart (Done a0) (NotSpelled text_file.Plan b0) h k = absurd k
-  plan_apart (Done a0) (NotSpelled text_file.Cert b0) h k = absurd k
-  plan_apart (Refused a0 a1 a2) (Blamed b0 b1) h k = absurd k
-  plan_apart (Refused a0 a1 a2) Unlisted h k = absurd k
-  plan_apart (Refused a0 a1 a2) FolderFault h k = absurd k
-  plan_apart (Refused a0 a1 a2) SinkFault h k = absurd k
-  plan_apart (Refused a0 a1 a2) Memory h k = absurd k
-  plan_apart (Refused a0 a1 a2) (NotSpelled text_file.Plan b0) h k = absurd k
-  plan_apart (Refused a0 a1 a2) (NotSpelled text_file.Cert b0) h k = absurd k
-  plan_apart (NoFile a0) (Blamed b0 b1) h k = absurd k
-  plan_apart (NoFile a0) Unlisted h k = absurd k
-  plan_apart (NoFile a0) FolderFault h k = absurd k
-  plan_apart (NoFile a0) SinkFault h k = absurd k
-  plan_apart (NoFile a0) Memory h k = absurd k
-  plan_apart (NoFile a0) (NotSpelled text_file.Plan b0) h k = absurd k
-  plan_apart (NoFile a0) (NotSpelled text_file.Cert b0) h k = absurd k
+  pub input_exact : (disks now next : List ℕ) → IsExact (reads_input files disks now next)
+  input_exact disks now next = record { one_found = stands_for_one files disks now next; not_both = apart; one_stop = by_status (IsRefusal files disks now next) 3 status }
+    where
+      apart : (input : Lists) (o : Outcome) → Stands files disks now next input → IsRefusal files disks now next o → ⊥
+      apart input (Refused f n w) h k = not_refused files disks now next input f n w h k
+      apart input _ h k = k
 
--- The causes of `after`
+      status : (o : Outcome) → IsRefusal files disks now next o → code o ≡ 3
+      status (Refused f n w) h = refl
+      status _ h = absurd h
 
-module _ (files : Files) (disks now next plan : List ℕ) where
-  abbrev after_cause : Outcome → Type 0
-  after_cause o = AfterCause files disks now next plan o
+  module _ (name : List ℕ) (input : Lists) (valid : IsInput input) where
+    pub plan_exact : IsExact (reads_plan files name input)
+    plan_exact = record { one_found = λ a b. one_plan files name input a b valid; not_both = apart; one_stop = by_status (IsNoPlan files name input) 10 status }
+      where
+        apart : (rounds : List (List Shift)) (o : Outcome) → HasPlan files name input rounds → IsNoPlan files name input o → ⊥
+        apart rounds (NotSpelled text_file.Plan line) h k = no_line files name input rounds line h k
+        apart rounds _ h k = k
 
-  after_there : (input : Lists) → Stands files disks now next input → IsThere files plan → first_missing files (disks ∷ now ∷ next ∷ plan ∷ []) ≡ None
-  after_there input h p = three_there files disks now next h.bodies (plan ∷ []) h.there ∙ some_there files plan [] p
+        status : (o : Outcome) → IsNoPlan files name input o → code o ≡ 10
+        status (NotSpelled text_file.Plan line) h = refl
+        status _ h = absurd h
 
-  -- the plan that is read is one
-  pub reads_one : (i j : Lists) (a b : List (List Shift)) → Stands files disks now next i → Stands files disks now next j → HasPlan files plan i a → HasPlan files plan j b → (i ≡ j) × (a ≡ b)
-  reads_one i j a b h k p q =
-      let same = stands_for_one files disks now next i j h k in
-      (same, one_plan files plan j a b (is_input files disks now next j k) (subst (λ (l : Lists). HasPlan files plan l a) same p) q)
+    pub cert_exact : IsExact (reads_cert files name input)
+    cert_exact = record { one_found = λ a b. one_cert files name input a b valid; not_both = apart; one_stop = by_status (IsNoCert files name input) 10 status }
+      where
+        apart : (cert : Cert) (o : Outcome) → HasCert files name input cert → IsNoCert files name input o → ⊥
+        apart cert (NotSpelled text_file.Cert line) h k = no_cert_line files name input cert line h k
+        apart cert _ h k = k
 
-  no_spelling : (line : ℕ) (j : Lists) (rounds : List (List Shift)) → IsNoPlan files disks now next plan line → Stands files disks now next j → HasPlan files plan j rounds → ⊥
-  no_spelling line j rounds h k has =
-      no_line files plan j rounds h.bytes line h.there (subst (λ (l : Lists). PlanLine l h.bytes line) (stands_for_one files disks now next h.input j h.stands k) h.misfit) has
+        status : (o : Outcome) → IsNoCert files name input o → code o ≡ 10
+        status (NotSpelled text_file.Cert line) h = refl
+        status _ h = absurd h
 
-  runs_or_not : (t : List ℕ) (b : _) (name : List ℕ) → IsLayoutAfter files disks now next plan t → DoesNotRun files disks now next plan b name → ⊥
-  runs_or_not t b name h k =
-      let one = reads_one h.input k.input h.rounds k.rounds h.stands k.stands h.has_plan k.has_plan in
-      let runs : Runs k.input k.rounds = subst (λ (l : Lists). Runs l k.rounds) one.0 (subst (λ (r : List (List Shift)). Runs h.input r) one.1 h.runs) in
-      k.known (runs_blameless k.input k.rounds runs b k.first)
+pub runs_exact : (input : Lists) (rounds : List (List Shift)) → IsExact (runs input rounds)
+runs_exact input rounds = record { one_found = λ a b h k. refl; not_both = apart; one_stop = by_status (DoesNotRun input rounds) 1 status }
+  where
+    apart : (u : Unit {0}) (o : Outcome) → (runs input rounds).Passes u → DoesNotRun input rounds o → ⊥
+    apart u (Blamed b name) h k = k.1 (runs_blameless input rounds h b k.0)
+    apart u _ h k = k
 
-  pub after_apart : (o p : Outcome) → after_cause o → after_cause p → code o ≡ code p
-  after_apart (Done t) (Done u) h k = refl
-  after_apart (Done t) (Blamed c other) h k = absurd (runs_or_not t c other h k)
-  after_apart (Done t) (Refused g m v) h k = absurd (not_refused files disks now next h.input g m v h.stands k.0)
-  after_apart (Done t) (NotSpelled text_file.Plan at) h k = absurd (no_spelling at h.input h.rounds k h.stands h.has_plan)
-  after_apart (Done t) (NoFile gone_word) h k = absurd (gone _ gone_word (after_there h.input h.stands (bytes_there files plan h.has_plan.bytes h.has_plan.there)) k)
-  after_apart (Blamed b name) (Done u) h k = absurd (runs_or_not u b name k h)
-  after_apart (Blamed b name) (Blamed c other) h k = refl
-  after_apart (Blamed b name) (Refused g m v) h k = absurd (not_refused files disks now next h.input g m v h.stands k.0)
-  after_apart (Blamed b name) (NotSpelled text_file.Plan at) h k = absurd (no_spelling at h.input h.rounds k h.stands h.has_plan)
-  after_apart (Blamed b name) (NoFile gone_word) h k = absurd (gone _ gone_word (after_there h.input h.stands (bytes_there files plan h.has_plan.bytes h.has_plan.there)) k)
-  after_apart (Refused f n w) (Done u) h k = absurd (not_refused files disks now next k.input f n w k.stands h.0)
-  after_apart (Refused f n w) (Blamed c other) h k = absurd (not_refused files disks now next k.input f n w k.stands h.0)
-  after_apart (Refused f n w) (Refused g m v) h k = refl
-  after_apart (Refused f n w) (NotSpelled text_file.Plan at) h k = absurd (not_refused files disks now next k.input f n w k.stands h.0)
-  after_apart (Refused f n w) (NoFile gone_word) h k = absurd (gone _ gone_word (three_there files disks now next h.0.bodies (plan ∷ []) h.0.there ∙ some_there files plan [] h.1) k)
-  after_apart (NotSpelled text_file.Plan line) (Done u) h k = absurd (no_spelling line k.input k.rounds h k.stands k.has_plan)
-  after_apart (NotSpelled text_file.Plan line) (Blamed c other) h k = absurd (no_spelling line k.input k.rounds h k.stands k.has_plan)
-  after_apart (NotSpelled text_file.Plan line) (Refused g m v) h k = absurd (not_refused files disks now next h.input g m v h.stands k.0)
-  after_apart (NotSpelled text_file.Plan line) (NotSpelled text_file.Plan at) h k = refl
-  after_apart (NotSpelled text_file.Plan line) (NoFile gone_word) h k = absurd (gone _ gone_word (after_there h.input h.stands (bytes_there files plan h.bytes h.there)) k)
-  after_apart (NoFile word) (Done u) h k = absurd (gone _ word (after_there k.input k.stands (bytes_there files plan k.has_plan.bytes k.has_plan.there)) h)
-  after_apart (NoFile word) (Blamed c other) h k = absurd (gone _ word (after_there k.input k.stands (bytes_there files plan k.has_plan.bytes k.has_plan.there)) h)
-  after_apart (NoFile word) (Refused g m v) h k = absurd (gone _ word (three_there files disks now next k.0.bodies (plan ∷ []) k.0.there ∙ some_there files plan [] k.1) h)
-  after_apart (NoFile word) (NotSpelled text_file.Plan at) h k = absurd (gone _ word (after_there k.input k.stands (bytes_there files plan k.bytes k.there)) h)
-  after_apart (NoFile word) (NoFile gone_word) h k = refl
-  after_apart Unlisted p h k = absurd h
-  after_apart FolderFault p h k = absurd h
-  after_apart SinkFault p h k = absurd h
-  after_apart Memory p h k = absurd h
-  after_apart (NotSpelled text_file.Cert a0) p h k = absurd h
-  after_apart (Done a0) Unlisted h k = absurd k
-  after_apart (Done a0) FolderFault h k = absurd k
-  after_apart (Done a0) SinkFault h k = absurd k
-  after_apart (Done a0) Memory h k = absurd k
-  after_apart (Done a0) (NotSpelled text_file.Cert b0) h k = absurd k
-  after_apart (Blamed a0 a1) Unlisted h k = absurd k
-  after_apart (Blamed a0 a1) FolderFault h k = absurd k
-  after_apart (Blamed a0 a1) SinkFault h k = absurd k
-  after_apart (Blamed a0 a1) Memory h k = absurd k
-  after_apart (Blamed a0 a1) (NotSpelled text_file.Cert b0) h k = absurd k
-  after_apart (Refused a0 a1 a2) Unlisted h k = absurd k
-  after_apart (Refused a0 a1 a2) FolderFault h k = absurd k
-  after_apart (Refused a0 a1 a2) SinkFault h k = absurd k
-  after_apart (Refused a0 a1 a2) Memory h k = absurd k
-  after_apart (Refused a0 a1 a2) (NotSpelled text_file.Cert b0) h k = absurd k
-  after_apart (NotSpelled text_file.Plan a0) Unlisted h k = absurd k
-  after_apart (NotSpelled text_file.Plan a0) FolderFault h k = absurd k
-  after_apart (NotSpelled text_file.Plan a0) SinkFault h k = absurd k
-  after_apart (NotSpelled text_file.Plan a0) Memory h k = absurd k
-  after_apart (NotSpelled text_file.Plan a0) (NotSpelled text_file.Cert b0) h k = absurd k
-  after_apart (NoFile a0) Unlisted h k = absurd k
-  after_apart (NoFile a0) FolderFault h k = absurd k
-  after_apart (NoFile a0) SinkFault h k = absurd k
-  after_apart (NoFile a0) Memory h k = absurd k
-  after_apart (NoFile a0) (NotSpelled text_file.Cert b0) h k = absurd k
+    status : (o : Outcome) → DoesNotRun input rounds o → code o ≡ 1
+    status (Blamed b name) h = refl
+    status _ h = absurd h
 
--- The causes of `check`
+pub judges_exact : (input : Lists) (rounds : List (List Shift)) (cert : Cert) → IsExact (judges input rounds cert)
+judges_exact input rounds cert = record { one_found = λ a b h k. refl; not_both = apart; one_stop = by_status (IsWrong input rounds cert) 1 status }
+  where
+    apart : (u : Unit {0}) (o : Outcome) → (judges input rounds cert).Passes u → IsWrong input rounds cert o → ⊥
+    apart u (Blamed b name) h k = right_is_blameless input rounds cert h.runs h.once h.holds b k.0.so
+    apart u _ h k = k
 
-module _ (files : Files) (disks now next plan cert : List ℕ) where
-  abbrev check_cause : Outcome → Type 0
-  check_cause o = CheckCause files disks now next plan cert o
+    status : (o : Outcome) → IsWrong input rounds cert o → code o ≡ 1
+    status (Blamed b name) h = refl
+    status _ h = absurd h
 
-  check_there : (input : Lists) → Stands files disks now next input → IsThere files plan → IsThere files cert → first_missing files (disks ∷ now ∷ next ∷ plan ∷ cert ∷ []) ≡ None
-  check_there input h p c = three_there files disks now next h.bodies (plan ∷ cert ∷ []) h.there ∙ some_there files plan (cert ∷ []) p ∙ some_there files cert [] c
+-- each command ends in one way
+loaded_exact : (files : Files) (form : Form) → HaveOneStatus (LoadedCause files form)
+loaded_exact files (Plan disks now next plan cert) =
+    then_one _ (input_exact files disks now next) _ (λ input _.
+    done_one _)
+loaded_exact files (Check disks now next plan cert) =
+    then_one _ (input_exact files disks now next) _ (λ input stands. let valid = is_input files disks now next input stands in
+    then_one _ (plan_exact files plan input valid) _ (λ rounds _.
+    then_one _ (cert_exact files cert input valid) _ (λ certificate _.
+    then_one _ (judges_exact input rounds certificate) _ (λ _ _.
+    done_one _))))
+loaded_exact files (After disks now next plan) =
+    then_one _ (input_exact files disks now next) _ (λ input stands. let valid = is_input files disks now next input stands in
+    then_one _ (plan_exact files plan input valid) _ (λ rounds _.
+    then_one _ (runs_exact input rounds) _ (λ _ _.
+    done_one _)))
 
-  no_cert_spelling : (line : ℕ) (j : Lists) (c : Cert) → IsNoCert files disks now next plan cert line → Stands files disks now next j → HasCert files cert j c → ⊥
-  no_cert_spelling line j c h k has =
-      no_cert_line files cert j c h.bytes line h.there (subst (λ (l : Lists). CertLine l h.bytes line) (stands_for_one files disks now next h.input j h.stands k) h.misfit) has
-
-  right_or_not : (t : List ℕ) (b : _) (name : List ℕ) → IsRight files disks now next plan cert t → IsBlamed files disks now next plan cert b name → ⊥
-  right_or_not t b name h k =
-      let one = reads_one files disks now next plan h.input k.input h.rounds k.rounds h.stands k.stands h.has_plan k.has_plan in
-      let same : h.certificate ≡ k.certificate = one_cert files cert k.input h.certificate k.certificate (is_input files disks now next k.input k.stands) (subst (λ (l : Lists). HasCert files cert l h.certificate) one.0 h.has_cert) k.has_cert in
-      let runs : Runs k.input k.rounds = subst (λ (l : Lists). Runs l k.rounds) one.0 (subst (λ (r : List (List Shift)). Runs h.input r) one.1 h.runs) in
-      let once : Once k.input k.rounds = subst (λ (l : Lists). Once l k.rounds) one.0 (subst (λ (r : List (List Shift)). Once h.input r) one.1 h.once) in
-      let holds : CertHolds k.input k.rounds k.certificate = subst (λ (l : Lists). CertHolds l k.rounds k.certificate) one.0 (subst (λ (r : List (List Shift)). CertHolds h.input r k.certificate) one.1 (subst (λ (c : Cert). CertHolds h.input h.rounds c) same h.holds)) in
-      right_is_blameless k.input k.rounds k.certificate runs once holds b k.first.so
-
-  pub check_apart : (o p : Outcome) → check_cause o → check_cause p → code o ≡ code p
-  check_apart (Done t) (Done u) h k = refl
-  check_apart (Done t) (Blamed c other) h k = absurd (right_or_not t c other h k)
-  check_apart (Done t) (Refused g m v) h k = absurd (not_refused files disks now next h.input g m v h.stands k.0)
-  check_apart (Done t) (NotSpelled text_file.Plan at) h k = absurd (no_spelling files disks now next plan at h.input h.rounds k.0 h.stands h.has_plan)
-  check_apart (Done t) (NotSpelled text_file.Cert at) h k = absurd (no_cert_spelling at h.input h.certificate k h.stands h.has_cert)
-  check_apart (Done t) (NoFile gone_word) h k = absurd (gone _ gone_word (check_there h.input h.stands (bytes_there files plan h.has_plan.bytes h.has_plan.there) (bytes_there files cert h.has_cert.bytes h.has_cert.there)) k)
-  check_apart (Blamed b name) (Done u) h k = absurd (right_or_not u b name k h)
-  check_apart (Blamed b name) (Blamed c other) h k = refl
-  check_apart (Blamed b name) (Refused g m v) h k = absurd (not_refused files disks now next h.input g m v h.stands k.0)
-  check_apart (Blamed b name) (NotSpelled text_file.Plan at) h k = absurd (no_spelling files disks now next plan at h.input h.rounds k.0 h.stands h.has_plan)
-  check_apart (Blamed b name) (NotSpelled text_file.Cert at) h k = absurd (no_cert_spelling at h.input h.certificate k h.stands h.has_cert)
-  check_apart (Blamed b name) (NoFile gone_word) h k = absurd (gone _ gone_word (check_there h.input h.stands (bytes_there files plan h.has_plan.bytes h.has_plan.there) (bytes_there files cert h.has_cert.bytes h.has_cert.there)) k)
-  check_apart (Refused f n w) (Done u) h k = absurd (not_refused files disks now next k.input f n w k.stands h.0)
-  check_apart (Refused f n w) (Blamed c other) h k = absurd (not_refused files disks now next k.input f n w k.stands h.0)
-  check_apart (Refused f n w) (Refused g m v) h k = refl
-  check_apart (Refused f n w) (NotSpelled text_file.Plan at) h k = absurd (not_refused files disks now next k.0.input f n w k.0.stands h.0)
-  check_apart (Refused f n w) (NotSpelled text_file.Cert at) h k = absurd (not_refused files disks now next k.input f n w k.stands h.0)
-  check_apart (Refused f n w) (NoFile gone_word) h k = absurd (gone _ gone_word (three_there files disks now next h.0.bodies (plan ∷ cert ∷ []) h.0.there ∙ some_there files plan (cert ∷ []) h.1 ∙ some_there files cert [] h.2) k)
-  check_apart (NotSpelled text_file.Plan line) (Done u) h k = absurd (no_spelling files disks now next plan line k.input k.rounds h.0 k.stands k.has_plan)
-  check_apart (NotSpelled text_file.Plan line) (Blamed c other) h k = absurd (no_spelling files disks now next plan line k.input k.rounds h.0 k.stands k.has_plan)
-  check_apart (NotSpelled text_file.Plan line) (Refused g m v) h k = absurd (not_refused files disks now next h.0.input g m v h.0.stands k.0)
-  check_apart (NotSpelled text_file.Plan line) (NotSpelled text_file.Plan at) h k = refl
-  check_apart (NotSpelled text_file.Plan line) (NotSpelled text_file.Cert at) h k = refl
-  check_apart (NotSpelled text_file.Plan line) (NoFile gone_word) h k = absurd (gone _ gone_word (check_there h.0.input h.0.stands (bytes_there files plan h.0.bytes h.0.there) h.1) k)
-  check_apart (NotSpelled text_file.Cert line) (Done u) h k = absurd (no_cert_spelling line k.input k.certificate h k.stands k.has_cert)
-  check_apart (NotSpelled text_file.Cert line) (Blamed c other) h k = absurd (no_cert_spelling line k.input k.certificate h k.stands k.has_cert)
-  check_apart (NotSpelled text_file.Cert line) (Refused g m v) h k = absurd (not_refused files disks now next h.input g m v h.stands k.0)
-  check_apart (NotSpelled text_file.Cert line) (NotSpelled text_file.Plan at) h k = refl
-  check_apart (NotSpelled text_file.Cert line) (NotSpelled text_file.Cert at) h k = refl
-  check_apart (NotSpelled text_file.Cert line) (NoFile gone_word) h k = absurd (gone _ gone_word (check_there h.input h.stands (bytes_there files plan h.has_plan.bytes h.has_plan.there) (bytes_there files cert h.bytes h.there)) k)
-  check_apart (NoFile word) (Done u) h k = absurd (gone _ word (check_there k.input k.stands (bytes_there files plan k.has_plan.bytes k.has_plan.there) (bytes_there files cert k.has_cert.bytes k.has_cert.there)) h)
-  check_apart (NoFile word) (Blamed c other) h k = absurd (gone _ word (check_there k.input k.stands (bytes_there files plan k.has_plan.bytes k.has_plan.there) (bytes_there files cert k.has_cert.bytes k.has_cert.there)) h)
-  check_apart (NoFile word) (Refused g m v) h k = absurd (gone _ word (three_there files disks now next k.0.bodies (plan ∷ cert ∷ []) k.0.there ∙ some_there files plan (cert ∷ []) k.1 ∙ some_there files cert [] k.2) h)
-  check_apart (NoFile word) (NotSpelled text_file.Plan at) h k = absurd (gone _ word (check_there k.0.input k.0.stands (bytes_there files plan k.0.bytes k.0.there) k.1) h)
-  check_apart (NoFile word) (NotSpelled text_file.Cert at) h k = absurd (gone _ word (check_there k.input k.stands (bytes_there files plan k.has_plan.bytes k.has_plan.there) (bytes_there files cert k.bytes k.there)) h)
-  check_apart (NoFile word) (NoFile gone_word) h k = refl
-  check_apart Unlisted p h k = absurd h
-  check_apart FolderFault p h k = absurd h
-  check_apart SinkFault p h k = absurd h
-  check_apart Memory p h k = absurd h
-  check_apart (Done a0) Unlisted h k = absurd k
-  check_apart (Done a0) FolderFault h k = absurd k
-  check_apart (Done a0) SinkFault h k = absurd k
-  check_apart (Done a0) Memory h k = absurd k
-  check_apart (Blamed a0 a1) Unlisted h k = absurd k
-  check_apart (Blamed a0 a1) FolderFault h k = absurd k
-  check_apart (Blamed a0 a1) SinkFault h k = absurd k
-  check_apart (Blamed a0 a1) Memory h k = absurd k
-  check_apart (Refused a0 a1 a2) Unlisted h k = absurd k
-  check_apart (Refused a0 a1 a2) FolderFault h k = absurd k
-  check_apart (Refused a0 a1 a2) SinkFault h k = absurd k
-  check_apart (Refused a0 a1 a2) Memory h k = absurd k
-  check_apart (NotSpelled text_file.Plan a0) Unlisted h k = absurd k
-  check_apart (NotSpelled text_file.Plan a0) FolderFault h k = absurd k
-  check_apart (NotSpelled text_file.Plan a0) SinkFault h k = absurd k
-  check_apart (NotSpelled text_file.Plan a0) Memory h k = absurd k
-  check_apart (NotSpelled text_file.Cert a0) Unlisted h k = absurd k
-  check_apart (NotSpelled text_file.Cert a0) FolderFault h k = absurd k
-  check_apart (NotSpelled text_file.Cert a0) SinkFault h k = absurd k
-  check_apart (NotSpelled text_file.Cert a0) Memory h k = absurd k
-  check_apart (NoFile a0) Unlisted h k = absurd k
-  check_apart (NoFile a0) FolderFault h k = absurd k
-  check_apart (NoFile a0) SinkFault h k = absurd k
-  check_apart (NoFile a0) Memory h k = absurd k
-
--- each command
-pub forms_apart : (files : Files) (form : Form) (o p : Outcome) → FormCause files form o → FormCause files form p → code o ≡ code p
-forms_apart files (Plan disks now next plan cert) o p h k = plan_apart files disks now next o p h k
-forms_apart files (Check disks now next plan cert) o p h k = check_apart files disks now next plan cert o p h k
-forms_apart files (After disks now next plan) o p h k = after_apart files disks now next plan o p h k
+pub forms_exact : (files : Files) (form : Form) → HaveOneStatus (FormCause files form)
+forms_exact files form = then_one _ (loads_exact files (loaded form)) _ (λ _ _. loaded_exact files form)
 
 -- words are those of one command
+abbrev form_by : List (List ℕ) → Option Form
+form_by (word ∷ a ∷ b ∷ c ∷ d ∷ []) = if bytes_eq word (codes "after") then Some (After a b c d) else None
+form_by (word ∷ a ∷ b ∷ c ∷ d ∷ e ∷ []) = if bytes_eq word (codes "plan") then Some (Plan a b c d e) else if bytes_eq word (codes "check") then Some (Check a b c d e) else None
+form_by _ = None
+
+by_words : (form : Form) → form_by (words_of form) ≡ Some form
+by_words (Plan d n x p c) = refl
+by_words (Check d n x p c) = refl
+by_words (After d n x p) = refl
+
 one_form : (a b : Form) → words_of a ≡ words_of b → a ≡ b
-one_form (Plan d n x p c) (Plan e m y q f) h = cc
-one_form (Check d n x p c) (Check e m y q f) h = cc
-one_form (After d n x p) (After e m y q) h = cc
-one_form (Plan d n x p c) (Check e m y q f) h = absurd cc
-one_form (Check d n x p c) (Plan e m y q f) h = absurd cc
-one_form (Plan d n x p c) (After e m y q) h = absurd cc
-one_form (After d n x p) (Plan e m y q f) h = absurd cc
-one_form (Check d n x p c) (After e m y q) h = absurd cc
-one_form (After d n x p) (Check e m y q f) h = absurd cc
+one_form a b h = let e : Some a ≡ Some b = sym (by_words a) ∙ ap form_by h ∙ by_words b in cc
 
 pub known_form : (k : Call) (words : List (List ℕ)) (form : Form) (o : Outcome) → IsListed words form → IsKnown k words o → FormEnds k form o
 known_form k words form o l h = subst (λ f. FormEnds k f o) (one_form h.form form (sym h.listed.spelled ∙ l.spelled)) h.ends
@@ -335,19 +192,19 @@ pub told : (P : Files → Type 0) (before : Option Files) (files : Files) → be
 told P None files e h = absurd cc
 told P (Some f) files e h = let g : f ≡ files = cc in subst P g h
 
-module _ (k : Call) (words : List (List ℕ)) (files : Files) (form : Form) (is : k.folder.before ≡ Some files) (l : IsListed words form) where
-  comes : (o : Outcome) → Ends k words o → (p : Outcome) → FormCause files form p → (FolderFailed k.folder → ⊥) → (SinkRose k.sink → ⊥) → (code o ≡ code p) ⊎ (code o ≡ 7)
-  comes Unlisted h p cause fine quiet = absurd (h.unlisted form l)
-  comes FolderFault h p cause fine quiet = absurd (fine (known_form k words form FolderFault l h).cause)
-  comes SinkFault h p cause fine quiet = absurd (quiet (known_form k words form SinkFault l h).0)
-  comes Memory h p cause fine quiet = inr refl
-  comes (Done t) h p cause fine quiet = inl (forms_apart files form (Done t) p (told (λ f. FormCause f form (Done t)) k.folder.before files is (known_form k words form (Done t) l h).cause) cause)
-  comes (Blamed b name) h p cause fine quiet = inl (forms_apart files form (Blamed b name) p (told (λ f. FormCause f form (Blamed b name)) k.folder.before files is (known_form k words form (Blamed b name) l h).cause) cause)
-  comes (Refused f n w) h p cause fine quiet = inl (forms_apart files form (Refused f n w) p (told (λ g. FormCause g form (Refused f n w)) k.folder.before files is (known_form k words form (Refused f n w) l h).cause) cause)
-  comes (NotSpelled t line) h p cause fine quiet = inl (forms_apart files form (NotSpelled t line) p (told (λ f. FormCause f form (NotSpelled t line)) k.folder.before files is (known_form k words form (NotSpelled t line) l h).cause) cause)
-  comes (NoFile word) h p cause fine quiet = inl (forms_apart files form (NoFile word) p (told (λ f. FormCause f form (NoFile word)) k.folder.before files is (known_form k words form (NoFile word) l h).cause) cause)
+module _ (k : Call) (words : List (List ℕ)) (files : Files) (form : Form) (is : k.before.folder.files ≡ Some files) (l : IsListed words form) where
+  comes : (o : Outcome) → Ends k words o → (p : Outcome) → FormCause files form p → (FolderFailed k → ⊥) → (SinkFailed k → ⊥) → (code o ≡ code p) ⊎ (code o ≡ 7)
+  comes o (inl unknown) p cause fine quiet = absurd (unknown.1.unlisted form l)
+  comes o (inr known) p cause fine quiet = by o (known_form k words form o l known)
+    where
+      by : (o : Outcome) → FormEnds k form o → (code o ≡ code p) ⊎ (code o ≡ 7)
+      by Unlisted h = absurd h.cause
+      by FolderFault h = absurd (fine h.cause)
+      by (SinkFault text) h = absurd (quiet h.0)
+      by Memory h = inr refl
+      by o h = inl (forms_exact files form o p (told (λ f. FormCause f form o) k.before.folder.files files is h.cause) cause)
 
 -- as a clause of the top call
-pub comes_exactly : (k : Call) (words : List (List ℕ)) (status : ℕ) → EndsAs k words status → (files : Files) (form : Form) → k.folder.before ≡ Some files → IsListed words form → ComesExactly k files form status
+pub comes_exactly : (k : Call) (words : List (List ℕ)) (status : ℕ) → EndsAs k words status → (files : Files) (form : Form) → k.before.folder.files ≡ Some files → IsListed words form → ComesExactly k files form status
 comes_exactly k words status (o, is, ends, says) files form e l p cause fine quiet =
     subst (λ n. (n ≡ code p) ⊎ (n ≡ 7)) (sym is) (comes k words files form e l o ends p cause fine quiet)

@@ -6,7 +6,9 @@ pub mod Headline
 pub mod LayoutSpots
 pub mod Lists
 pub mod Missing
-pub mod Putting
+pub mod OnBytes
+pub mod PutTexts
 pub mod ShownEnds
 pub mod StepEnds
+pub mod Steps
 pub mod TextFiles

@@ -1,10 +1,13 @@
 pub mod Calls
 pub mod Causes
 pub mod Commands
+pub mod Endings
 pub mod Ends
 pub mod Headline
 pub mod Loading
 pub mod Loads
 pub mod Outcomes
 pub mod Planned
+pub mod Puts
+pub mod Steps
 pub mod Words

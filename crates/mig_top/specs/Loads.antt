@@ -1,10 +1,13 @@
 -- What the files of a command stand for.
 use Rattle.std.specs.Prelude.{◌≡◌, ℕ, ◌≤◌, List, [], ◌∷◌, Option, Some, None, if◌then◌else◌, is_none, length}
+use Rattle.mig_base.specs.declared.limits.TheConstants.{MAX_FILE_BYTES}
 use Rattle.mig_io.specs.Files.{Files, file}
 use Rattle.mig_base.specs.InputLists.{Lists}
 use Rattle.mig_base.specs.Rows.{Bodies}
 use Rattle.mig_base.specs.Refusals.{Accepted, RefusedAs}
 use Rattle.mig_base.specs.Texts.{PlanText, CertText}
+use Rattle.mig_base.specs.PlanLines.{PlanLine}
+use Rattle.mig_base.specs.CertLines.{CertLine}
 use Rattle.mig_base.specs.declared.certs.Cert.{Cert}
 use Rattle.mig_base.specs.declared.faults.FileKind.{FileKind}
 use Rattle.mig_base.specs.declared.faults.Why.{Why}
@@ -44,12 +47,23 @@ pub record StandsForNone (files : Files) (disks now next : List ℕ) : Type 0 wh
 pub record HasPlan (files : Files) (name : List ℕ) (input : Lists) (rounds : List (List Shift)) : Type 0 where
   pub bytes : List ℕ
   pub there : file files name ≡ Some bytes
-  pub short : length bytes ≤ 16777216
+  pub short : length bytes ≤ MAX_FILE_BYTES
   pub spelled : PlanText input rounds bytes
 
 -- the same of a certificate
 pub record HasCert (files : Files) (name : List ℕ) (input : Lists) (cert : Cert) : Type 0 where
   pub bytes : List ℕ
   pub there : file files name ≡ Some bytes
-  pub short : length bytes ≤ 16777216
+  pub short : length bytes ≤ MAX_FILE_BYTES
   pub spelled : CertText input cert bytes
+
+-- the file of this name is no spelling, and this is the number of the line
+pub record HasNoPlan (files : Files) (name : List ℕ) (input : Lists) (line : ℕ) : Type 0 where
+  pub bytes : List ℕ
+  pub there : file files name ≡ Some bytes
+  pub misfit : PlanLine input bytes line
+
+pub record HasNoCert (files : Files) (name : List ℕ) (input : Lists) (line : ℕ) : Type 0 where
+  pub bytes : List ℕ
+  pub there : file files name ≡ Some bytes
+  pub misfit : CertLine input bytes line

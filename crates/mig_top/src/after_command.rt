@@ -1,46 +1,48 @@
-ghost use Rattle.std.specs.Prelude.{◌≡◌, length, IfErr, IfOk, List, MatchResult, OnOk};
-ghost use Rattle.mig_base.specs.Layouts.{At, IsListOf};
+//! `after`: prints the layout in which a plan ends.
+ghost use Rattle.std.specs.Prelude.{◌≡◌, length, IfErr, IfOk, MatchResult, OnOk};
 ghost use Rattle.mig_base.specs.Running.{PlanFits, Runs};
-ghost use Rattle.mig_base.specs.Texts.{LayoutText};
-ghost use Rattle.mig_base.specs.declared.ids.Spot.{Spot};
-ghost use Rattle.mig_top.specs.Calls.{visit_of};
+ghost use Rattle.mig_top.specs.Causes.{DoesNotRun, IsLastLayout};
 ghost use Rattle.mig_top.specs.Ends.{FolderEnds};
-ghost use Rattle.mig_top.specs.Loading.{RunEnds};
+ghost use Rattle.mig_top.specs.Loading.{AfterOn, EndsWithin};
 ghost use Rattle.mig_top.specs.Outcomes.{Done, outcome_of};
 ghost use Rattle.mig_top.specs.Words.{After, loaded};
 
 use crate::endings::Ending;
-use crate::loads::load_plan;
-use crate::reads::{check_runs, read_loaded, read_plan_text};
+use crate::judging::check_runs;
+use crate::loads::load_all;
+use crate::reads::{read_files, read_plan_text};
 use mig_base::{Input, Plan};
 use mig_check::layout_after;
 use mig_io::Folder;
 use mig_text::print_layout;
 use std::alloc::{AllocError, Global};
 
-// The text of the layout after the last round.
+/// The text of the layout after the last round.
 fn last_layout(alloc: Global, input: &Input, plan: &Plan) -> Result<Vec<u8>, AllocError>
     requires fits { PlanFits input.now plan.now }
     requires runs { Runs input.now plan.now }
-    ensures { IfOk result (λ text. (spots : List Spot) × IsListOf (At input.now plan.now (length plan.now)) spots × LayoutText input.now spots text.items) }
+    ensures { IfOk result (λ text. IsLastLayout input.now plan.now text.items) }
 {
-    let _disks = input.disks();
+    input.keeps_rules();
     let spots = layout_after(alloc, input, plan, plan.rounds().len() as u32)?;
     print_layout(alloc, input, &spots)
 }
 
-// The text of the layout in which a plan ends, if it runs.
-fn layout_text(alloc: Global, input: &Input, plan: &Plan) -> Result<Vec<u8>, Ending>
-    requires { PlanFits input.now plan.now }
-    ensures runs { OnOk result (Runs input.now plan.now) }
-    ensures layout { IfOk result (λ text. (spots : List Spot) × IsListOf (At input.now plan.now (length plan.now)) spots × LayoutText input.now spots text.items) }
-    ensures failed { IfErr result (RunEnds input.now plan.now) }
+/// The text of the layout in which the plan ends that these bytes spell.
+fn layout(
+    alloc: Global,
+    disks: &[u8],
+    now: &[u8],
+    next: &[u8],
+    plan: &[u8],
+) -> Result<Vec<u8>, Ending>
+    ensures done { IfOk result (λ text. AfterOn disks.now now.now next.now plan.now (Done text.items)) }
+    ensures failed { IfErr result (EndsWithin (AfterOn disks.now now.now next.now plan.now)) }
 {
-    check_runs(alloc, input, plan)?;
-    match last_layout(alloc, input, plan) {
-        Ok(text) => Ok(text),
-        Err(AllocError) => Err(Ending::Memory),
-    }
+    let input = read_files(alloc, disks, now, next)?;
+    let plan = read_plan_text(alloc, &input, plan)?;
+    check_runs(alloc, &input, &plan)?;
+    Ok(last_layout(alloc, &input, &plan)?)
 }
 
 /// The text of the layout in which a plan ends.
@@ -53,14 +55,9 @@ pub fn after<F: Folder>(
     plan: &str,
 ) -> Result<Vec<u8>, Ending>
     ensures { MatchResult result
-        (λ text. FolderEnds (visit_of F.files F.faults folder.old folder.new) (After disks.now now.now next.now plan.now) (Done text.items))
-        (λ e. FolderEnds (visit_of F.files F.faults folder.old folder.new) (After disks.now now.now next.now plan.now) (outcome_of (loaded (After disks.now now.now next.now plan.now)) e)) }
+        (λ text. FolderEnds (F.state folder.old) (F.state folder.new) (After disks.now now.now next.now plan.now) (Done text.items))
+        (λ e. FolderEnds (F.state folder.old) (F.state folder.new) (After disks.now now.now next.now plan.now) (outcome_of (loaded (After disks.now now.now next.now plan.now)) e)) }
 {
-    let loaded = load_plan(alloc, folder, disks, now, next, plan)?;
-    let input = read_loaded(alloc, &loaded.input)?;
-    let plan = read_plan_text(alloc, &input, &loaded.plan)?;
-    match layout_text(alloc, &input, &plan) {
-        Ok(text) => Ok(text),
-        Err(ending) => Err(ending),
-    }
+    let files = load_all(alloc, folder, &[disks, now, next, plan])?;
+    layout(alloc, &files[0], &files[1], &files[2], &files[3])
 }

@@ -1,28 +1,27 @@
-ghost use Rattle.std.specs.Prelude.{List, ℕ, ◌≡◌, ◌≤◌, ◌∷◌, [], IfOk, IfErr};
+//! Loads the files of a command.
+ghost use Rattle.std.specs.Prelude.{◌≡◌, ◌≤◌, IfOk, IfErr, length, map, vec_len};
 ghost use Rattle.std.specs.Option.{IfSome};
-ghost use Rattle.mig_base.specs.Targets.{IsRoomy};
-ghost use Rattle.mig_top.specs.Loading.{HoldFirst, HoldsFirst, LoadEnds, LoadsEnd, ReadEnds, ReadsAs};
+ghost use Rattle.mig_top.specs.Loading.{HoldFirst, HoldsFirst, LoadEnds, LoadsEnd};
 
 use crate::endings::Ending;
-use mig_base::Input;
-use mig_csv::{InputError, read_input};
+use mig_base::MAX_FILE_BYTES;
 use mig_io::{Folder, LoadFault};
 use std::alloc::Global;
 
 // One more byte than a file may have, so that a file that is too long is seen.
-const MOST: usize = 16_777_217;
+const MOST: usize = MAX_FILE_BYTES + 1;
 
-/// Loads a file, whose word has this place among those that the command loads.
-pub fn load_file<F: Folder>(
+/// Loads the first bytes of a file, whose word has this place among those that the command loads.
+fn load_file<F: Folder>(
     alloc: Global,
     folder: &mut F,
     name: &str,
     place: usize,
 ) -> Result<Vec<u8>, Ending>
-    ensures loaded { IfOk result (λ bytes. IfSome (F.files folder.old) (λ files. HoldsFirst files name.now bytes.items)) }
-    ensures failed { IfErr result (LoadEnds (F.files folder.old) name.now place (F.faults folder.old) (F.faults folder.new)) }
-    ensures same { F.files folder.new ≡ F.files folder.old }
-    ensures later { F.faults folder.old ≤ F.faults folder.new }
+    ensures loaded { IfOk result (λ bytes. IfSome (F.state folder.old).files (λ files. HoldsFirst files name.now bytes.items)) }
+    ensures failed { IfErr result (LoadEnds name.now place (F.state folder.old) (F.state folder.new)) }
+    ensures same { (F.state folder.new).files ≡ (F.state folder.old).files }
+    ensures later { (F.state folder.old).faults ≤ (F.state folder.new).faults }
 {
     match folder.load(alloc, name, MOST) {
         Ok(bytes) => Ok(bytes),
@@ -32,92 +31,24 @@ pub fn load_file<F: Folder>(
     }
 }
 
-/// The bytes of the three files that an input is read from.
-#[derive(Drop)]
-pub struct Loaded {
-    pub disks: Vec<u8>,
-    pub now_file: Vec<u8>,
-    pub next: Vec<u8>,
-}
-
-/// Loads the three files.
-pub fn load_inputs<F: Folder>(
+/// Loads the files that the words name, in their order, up to the first that isn't there. Of each come the first
+/// bytes: all of a file that isn't too long, and one more than the most of one that is.
+pub fn load_all<F: Folder>(
     alloc: Global,
     folder: &mut F,
-    disks: &str,
-    now: &str,
-    next: &str,
-) -> Result<Loaded, Ending>
-    ensures loaded { IfOk result (λ loaded. IfSome (F.files folder.old) (λ files.
-        HoldFirst files (disks.now ∷ now.now ∷ next.now ∷ []) (loaded.disks.items ∷ loaded.now_file.items ∷ loaded.next.items ∷ []))) }
-    ensures failed { IfErr result (LoadsEnd (F.files folder.old) (disks.now ∷ now.now ∷ next.now ∷ []) (F.faults folder.old) (F.faults folder.new)) }
-    ensures same { F.files folder.new ≡ F.files folder.old }
-    ensures later { F.faults folder.old ≤ F.faults folder.new }
+    names: &[&str],
+) -> Result<Vec<Vec<u8>>, Ending>
+    ensures loaded { IfOk result (λ loaded. IfSome (F.state folder.old).files (λ files.
+        HoldFirst files (map (λ n. n.now) names.now) (map (λ bytes. bytes.items) loaded.items))) }
+    ensures count { IfOk result (λ loaded. vec_len loaded ≡ length names.now) }
+    ensures failed { IfErr result (LoadsEnd (map (λ n. n.now) names.now) (F.state folder.old) (F.state folder.new)) }
+    ensures same { (F.state folder.new).files ≡ (F.state folder.old).files }
+    ensures later { (F.state folder.old).faults ≤ (F.state folder.new).faults }
 {
-    let disks = load_file(alloc, folder, disks, 0)?;
-    let now_file = load_file(alloc, folder, now, 1)?;
-    let next = load_file(alloc, folder, next, 2)?;
-    Ok(Loaded {
-        disks,
-        now_file,
-        next,
-    })
-}
-
-/// The bytes of the three files and of a plan.
-#[derive(Drop)]
-pub struct LoadedPlan {
-    pub input: Loaded,
-    pub plan: Vec<u8>,
-}
-
-/// Loads the three files and a plan.
-pub fn load_plan<F: Folder>(
-    alloc: Global,
-    folder: &mut F,
-    disks: &str,
-    now: &str,
-    next: &str,
-    plan: &str,
-) -> Result<LoadedPlan, Ending>
-    ensures inputs { IfOk result (λ loaded. IfSome (F.files folder.old) (λ files.
-        HoldFirst files (disks.now ∷ now.now ∷ next.now ∷ []) (loaded.input.disks.items ∷ loaded.input.now_file.items ∷ loaded.input.next.items ∷ []))) }
-    ensures plan { IfOk result (λ loaded. IfSome (F.files folder.old) (λ files. HoldsFirst files plan.now loaded.plan.items)) }
-    ensures failed { IfErr result (LoadsEnd (F.files folder.old) (disks.now ∷ now.now ∷ next.now ∷ plan.now ∷ []) (F.faults folder.old) (F.faults folder.new)) }
-    ensures same { F.files folder.new ≡ F.files folder.old }
-    ensures later { F.faults folder.old ≤ F.faults folder.new }
-{
-    let input = load_inputs(alloc, folder, disks, now, next)?;
-    let plan = load_file(alloc, folder, plan, 3)?;
-    Ok(LoadedPlan { input, plan })
-}
-
-/// The bytes of the three files, a plan and its certificate.
-#[derive(Drop)]
-pub struct LoadedCert {
-    pub plan: LoadedPlan,
-    pub cert: Vec<u8>,
-}
-
-/// Loads the three files, a plan and its certificate.
-pub fn load_cert<F: Folder>(
-    alloc: Global,
-    folder: &mut F,
-    disks: &str,
-    now: &str,
-    next: &str,
-    plan: &str,
-    cert: &str,
-) -> Result<LoadedCert, Ending>
-    ensures inputs { IfOk result (λ loaded. IfSome (F.files folder.old) (λ files.
-        HoldFirst files (disks.now ∷ now.now ∷ next.now ∷ []) (loaded.plan.input.disks.items ∷ loaded.plan.input.now_file.items ∷ loaded.plan.input.next.items ∷ []))) }
-    ensures plan { IfOk result (λ loaded. IfSome (F.files folder.old) (λ files. HoldsFirst files plan.now loaded.plan.plan.items)) }
-    ensures cert { IfOk result (λ loaded. IfSome (F.files folder.old) (λ files. HoldsFirst files cert.now loaded.cert.items)) }
-    ensures failed { IfErr result (LoadsEnd (F.files folder.old) (disks.now ∷ now.now ∷ next.now ∷ plan.now ∷ cert.now ∷ []) (F.faults folder.old) (F.faults folder.new)) }
-    ensures same { F.files folder.new ≡ F.files folder.old }
-    ensures later { F.faults folder.old ≤ F.faults folder.new }
-{
-    let plan = load_plan(alloc, folder, disks, now, next, plan)?;
-    let cert = load_file(alloc, folder, cert, 4)?;
-    Ok(LoadedCert { plan, cert })
+    let mut loaded = Vec::new(alloc);
+    for name in names {
+        let bytes = load_file(alloc, folder, name, loaded.len())?;
+        loaded.push(bytes)?;
+    }
+    Ok(loaded)
 }

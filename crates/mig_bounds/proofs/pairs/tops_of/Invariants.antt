@@ -1,4 +1,5 @@
 use Rattle.std.proofs.Common.{◌≡◌, ℕ, ◌<◌, ◌≤◌, length, get_or}
+use Rattle.mig_base.specs.declared.limits.TheConstants.{MAX_ITEMS}
 use Rattle.mig_bounds.specs.Pairs.{between}
 use Rattle.mig_bounds.proofs.pairs.tops_of.Given as goal
 
@@ -6,5 +7,5 @@ abbrev pub invariant-loop-a : goal.invariant-loop-a
 invariant-loop-a l = record {
   len : length l.tops.items ≡ l.a;
   above : (a b : ℕ) → a < l.a → b < length l.graph.disks → between a b l.graph.trips ≤ get_or l.tops.items a 0;
-  most : (a : ℕ) → a < l.a → get_or l.tops.items a 0 ≤ 65536;
+  most : (a : ℕ) → a < l.a → get_or l.tops.items a 0 ≤ MAX_ITEMS;
 }

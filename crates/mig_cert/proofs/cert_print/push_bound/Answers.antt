@@ -4,5 +4,5 @@ use Rattle.mig_cert.proofs.cert_print.push_bound.Goals as goal
 
 pub overflow_cast-ids : goal.overflow_cast-ids
 overflow_cast-ids c =
-    let few = few_in_set c.args.input.now c.disks-disks.ensures.valid c.in-OfSet.disks c.ids-ids.ensures.increasing (rw c.in-OfSet.is at c.requires) in
+    let few = few_in_set c.args.input.now c.keeps_rules.ensures c.in-OfSet.disks c.ids-ids.ensures.increasing (rw c.in-OfSet.is at c.requires) in
     rw c.ids-ids.ensures.value (omega (arith, few))

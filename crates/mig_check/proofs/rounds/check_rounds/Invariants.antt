@@ -1,9 +1,8 @@
 use Rattle.std.proofs.Common.{◌≡◌, ℕ, suc, ◌<◌, ◌≤◌, length, All}
-use Rattle.mig_base.specs.Layouts.{At, IsListOf, round_at}
+use Rattle.mig_base.specs.Layouts.{At, IsLayout, IsListOf, round_at}
 use Rattle.mig_base.specs.Running.{IsLegal}
-use Rattle.mig_base.proofs.Rounds.{IsLayout}
-use Rattle.mig_check.specs.SpotSets.{has}
-use Rattle.mig_check.specs.Tables.{AreTaken, layout_of}
+use Rattle.mig_check.specs.SpotSets.{has_spot}
+use Rattle.mig_check.specs.Tables.{IsTakenSet, layout_of}
 use Rattle.mig_check.proofs.rounds.check_rounds.Given as goal
 
 abbrev pub invariant-loop-k : goal.invariant-loop-k
@@ -12,7 +11,7 @@ invariant-loop-k l = record {
   list : IsListOf (At l.input l.rounds l.k) l.spots;
   len : length l.spots ≡ length l.input.items;
   layout : IsLayout l.input (layout_of l.spots);
-  taken : AreTaken (has l.tables.taken) (layout_of l.spots);
+  taken : IsTakenSet (has_spot l.tables.taken) (layout_of l.spots);
   seen_len : length l.tables.seen.items ≡ length l.input.items;
   seen : All (λ n. n ≤ l.k) l.tables.seen.items;
   counts_len : length l.tables.counts.items ≡ length l.input.disks;

@@ -1,9 +1,9 @@
 use Rattle.std.proofs.Common.{◌≡◌, List, ap, sym, ◌∙◌, subst}
 use Rattle.mig_base.specs.declared.ids.Spot.{Spot}
-use Rattle.mig_base.specs.Layouts.{Layout, after_shifts}
-use Rattle.mig_base.proofs.Rounds.{IsLayout, layout_kept}
-use Rattle.mig_check.specs.SpotSets.{has}
-use Rattle.mig_check.specs.Tables.{AreTaken, layout_of}
+use Rattle.mig_base.specs.Layouts.{IsLayout, Layout, after_shifts}
+use Rattle.mig_base.proofs.Rounds.{layout_kept}
+use Rattle.mig_check.specs.SpotSets.{has_spot}
+use Rattle.mig_check.specs.Tables.{IsTakenSet, layout_of}
 use Rattle.mig_check.proofs.LayoutLists.{items_there, layout_after_round}
 use Rattle.mig_check.proofs.TakenSpots.{taken_after}
 use Rattle.mig_check.proofs.rounds.step.Goals as goal
@@ -19,6 +19,6 @@ returns-clause-layout_after c =
 
 pub returns-clause-taken_after : goal.returns-clause-taken_after
 returns-clause-taken_after c =
-    let freed = has c.free_sources.new.taken in
-    subst (λ (l : Layout). AreTaken freed l) (sym (next c)) (taken_after c.args.input.now (layout_of c.args.spots.now) c.args.round.now c.in_ok-check_round.ensures.ok c.requires.layout
-    (has c.args.tables.now.taken) (has c.check_round.new.tables.taken) freed c.requires.taken c.in_ok-check_round.ensures.room c.free_sources.ensures)
+    let freed = has_spot c.free_sources.new.taken in
+    subst (λ (l : Layout). IsTakenSet freed l) (sym (next c)) (taken_after c.args.input.now (layout_of c.args.spots.now) c.args.round.now c.in_ok-check_round.ensures.ok c.requires.layout
+    (has_spot c.args.tables.now.taken) (has_spot c.check_round.new.tables.taken) freed c.requires.taken c.in_ok-check_round.ensures.room c.free_sources.ensures)

@@ -1,6 +1,6 @@
-use Rattle.mig_check.specs.SpotSets.{has}
+use Rattle.mig_check.specs.SpotSets.{has_spot}
 use Rattle.mig_check.specs.Tables.{HaveRoom}
 use Rattle.mig_check.proofs.shifts.find_no_room.Given as goal
 
 abbrev pub invariant-loop-s : goal.invariant-loop-s
-invariant-loop-s l = HaveRoom l.disks (has l.initial.taken) l.round l.s-index (has l.taken)
+invariant-loop-s l = HaveRoom l.disks (has_spot l.initial.taken) l.round l.s-index (has_spot l.taken)

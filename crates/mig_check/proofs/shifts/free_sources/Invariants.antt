@@ -1,8 +1,8 @@
 use Rattle.std.proofs.Common.{◌≡◌, take, not, ◌&&◌}
 use Rattle.mig_base.specs.declared.ids.Spot.{Spot}
-use Rattle.mig_check.specs.SpotSets.{has}
+use Rattle.mig_check.specs.SpotSets.{has_spot}
 use Rattle.mig_check.specs.Tables.{is_source}
 use Rattle.mig_check.proofs.shifts.free_sources.Given as goal
 
 abbrev pub invariant-loop-s : goal.invariant-loop-s
-invariant-loop-s l = (t : Spot) → has l.taken t ≡ (not (is_source (take l.s-index l.round) t) && has l.initial.taken t)
+invariant-loop-s l = (t : Spot) → has_spot l.taken t ≡ (not (is_source (take l.s-index l.round) t) && has_spot l.initial.taken t)

@@ -1,7 +1,8 @@
 use Rattle.std.proofs.Common.{◌≡◌, ◌≤◌, ◌<◌, ◌∙◌, Contains, ap, arith, map, refl, subst, sym}
 use Rattle.std.proofs.lemmas.Option.{get_or_from_slice_get, slice_get_within}
 use Rattle.csv.specs.Records.{fields_of}
-use Rattle.mig_base.specs.Rows.{first, number_of, second, third}
+use Rattle.mig_base.specs.Digits.{number_of}
+use Rattle.mig_base.specs.Rows.{first, second, third}
 use Rattle.mig_base.specs.declared.ids.Spot.{Spot}
 use Rattle.mig_base.specs.declared.inputs.Disk.{Disk}
 use Rattle.mig_csv.specs.Places.{place_in}
@@ -15,10 +16,10 @@ returns-clause-spot c =
     let r = fields_of c.args.row.now in
     let name = c.in-Some.ensures in
     let named = c.in-Some-read.ensures in
-    let slot = c.in-Some-read_number.ensures in
+    let slot = c.in-Some-read_digits.ensures in
     let f = found_disk disks c.args.disks.now.names c.in-Some-find.place c.in-Some-read.disk c.requires.named c.in-Some-find.ensures.found in
     let second_is : second r ≡ f.0.name = sym c.field-2.ensures ∙ sym named.value ∙ f.2 in
-    let slot_is : number_of (third r) ≡ c.in-Some-read_number.slot = sym (slot.value ∙ ap number_of c.field-3.ensures) in
+    let slot_is : number_of (third r) ≡ c.in-Some-read_digits.slot = sym (slot.value ∙ ap number_of c.field-3.ensures) in
     (rw f.1 (sym second_is), sym slot_is)
 
 pub index-requires : goal.index-requires
@@ -43,7 +44,7 @@ returns-in_default-find-clause-cause c =
     let r = fields_of c.args.row.now in
     let name = c.in-Some.ensures in
     let named = c.in-Some-read.ensures in
-    let slot = c.in-Some-read_number.ensures in
+    let slot = c.in-Some-read_digits.ensures in
     let new : ¬ (Contains c.args.items.now (first r)) = rw (← c.field.ensures, ← name.value) (not_found c.args.items.now c.in-Some.name c.find.result c.find.ensures.found (sym c.is_some.ensures ∙ c.if-is_some.false)) in
     record {
       holds = rw (← c.field-2.ensures, ← named.value) (no_disk disks c.args.disks.now.names c.in-Some-read.disk c.requires.named c.in_default-find.ensures.found);
@@ -64,15 +65,15 @@ returns-then-slot-from-clause-cause c =
     let r = fields_of c.args.row.now in
     let name = c.in-Some.ensures in
     let named = c.in-Some-read.ensures in
-    let slot = c.in-Some-read_number.ensures in
+    let slot = c.in-Some-read_digits.ensures in
     let new : ¬ (Contains c.args.items.now (first r)) = rw (← c.field.ensures, ← name.value) (not_found c.args.items.now c.in-Some.name c.find.result c.find.ensures.found (sym c.is_some.ensures ∙ c.if-is_some.false)) in
     let f = found_disk disks c.args.disks.now.names c.in-Some-find.place c.in-Some-read.disk c.requires.named c.in-Some-find.ensures.found in
     let second_is : second r ≡ f.0.name = sym c.field-2.ensures ∙ sym named.value ∙ f.2 in
-    let slot_is : number_of (third r) ≡ c.in-Some-read_number.slot = sym (slot.value ∙ ap number_of c.field-3.ensures) in
+    let slot_is : number_of (third r) ≡ c.in-Some-read_digits.slot = sym (slot.value ∙ ap number_of c.field-3.ensures) in
     let ne = rw c.requires.named at c.in-Some-find.ensures.different in
     let index_is : c.index.result.now ≡ f.0 = c.index.ensures ∙ get_or_from_slice_get disks c.in-Some-find.place f.0 c.index.result.now f.1 in
     record {
-      holds = rw (second_is, slot_is) (too_high disks c.in-Some-find.place c.in-Some-read_number.slot f.0 f.1 (subst (λ (d : Disk). d.slots ≤ c.in-Some-read_number.slot) index_is (rw c.from.ensures at c.if-slot-from.true)));
+      holds = rw (second_is, slot_is) (too_high disks c.in-Some-find.place c.in-Some-read_digits.slot f.0 f.1 (subst (λ (d : Disk). d.slots ≤ c.in-Some-read_digits.slot) index_is (rw c.from.ensures at c.if-slot-from.true)));
       first = none_before disks c.args.items.now (map (place_in disks) c.args.taken.now) r 10
           (λ _. omega arith)
           (λ _. sym c.len-2.ensures ∙ c.if-len-ne3.false)
@@ -90,15 +91,15 @@ returns-then-contains-clause-cause c =
     let r = fields_of c.args.row.now in
     let name = c.in-Some.ensures in
     let named = c.in-Some-read.ensures in
-    let slot = c.in-Some-read_number.ensures in
+    let slot = c.in-Some-read_digits.ensures in
     let new : ¬ (Contains c.args.items.now (first r)) = rw (← c.field.ensures, ← name.value) (not_found c.args.items.now c.in-Some.name c.find.result c.find.ensures.found (sym c.is_some.ensures ∙ c.if-is_some.false)) in
     let f = found_disk disks c.args.disks.now.names c.in-Some-find.place c.in-Some-read.disk c.requires.named c.in-Some-find.ensures.found in
     let second_is : second r ≡ f.0.name = sym c.field-2.ensures ∙ sym named.value ∙ f.2 in
-    let slot_is : number_of (third r) ≡ c.in-Some-read_number.slot = sym (slot.value ∙ ap number_of c.field-3.ensures) in
+    let slot_is : number_of (third r) ≡ c.in-Some-read_digits.slot = sym (slot.value ∙ ap number_of c.field-3.ensures) in
     let ne = rw c.requires.named at c.in-Some-find.ensures.different in
     let index_is : c.index.result.now ≡ f.0 = c.index.ensures ∙ get_or_from_slice_get disks c.in-Some-find.place f.0 c.index.result.now f.1 in
-    let below : c.in-Some-read_number.slot < f.0.slots = subst (λ (d : Disk). c.in-Some-read_number.slot < d.slots) index_is (rw c.from.ensures at c.if-slot-from.false) in
-    let spot : Spot = record { disk = record { 0 = c.in-Some-find.place }; slot = c.in-Some-read_number.slot } in
+    let below : c.in-Some-read_digits.slot < f.0.slots = subst (λ (d : Disk). c.in-Some-read_digits.slot < d.slots) index_is (rw c.from.ensures at c.if-slot-from.false) in
+    let spot : Spot = record { disk = record { 0 = c.in-Some-find.place }; slot = c.in-Some-read_digits.slot } in
     record {
       holds = rw (second_is, slot_is) (place_taken disks c.args.taken.now spot f.0 f.1 (c.contains.ensures.0 c.if-contains.true));
       first = none_before disks c.args.items.now (map (place_in disks) c.args.taken.now) r 11
@@ -108,7 +109,7 @@ returns-then-contains-clause-cause c =
           (λ _. rw c.field-3.ensures at (slot.valid.0 refl))
           (λ _. new)
           (λ _. rw second_is (c.in-Some-find.place, f.0, slice_get_within disks c.in-Some-find.place f.0 f.1, get_or_from_slice_get disks c.in-Some-find.place f.0 f.0 f.1, refl))
-          (λ _. rw (second_is, slot_is) (not_too_high disks c.in-Some-find.place c.in-Some-read_number.slot f.0 ne f.1 below))
+          (λ _. rw (second_is, slot_is) (not_too_high disks c.in-Some-find.place c.in-Some-read_digits.slot f.0 ne f.1 below))
           (λ lt. absurd (omega (arith, lt)));
     }
 
@@ -118,15 +119,15 @@ returns-clause-sound c w =
     let r = fields_of c.args.row.now in
     let name = c.in-Some.ensures in
     let named = c.in-Some-read.ensures in
-    let slot = c.in-Some-read_number.ensures in
+    let slot = c.in-Some-read_digits.ensures in
     let new : ¬ (Contains c.args.items.now (first r)) = rw (← c.field.ensures, ← name.value) (not_found c.args.items.now c.in-Some.name c.find.result c.find.ensures.found (sym c.is_some.ensures ∙ c.if-is_some.false)) in
     let f = found_disk disks c.args.disks.now.names c.in-Some-find.place c.in-Some-read.disk c.requires.named c.in-Some-find.ensures.found in
     let second_is : second r ≡ f.0.name = sym c.field-2.ensures ∙ sym named.value ∙ f.2 in
-    let slot_is : number_of (third r) ≡ c.in-Some-read_number.slot = sym (slot.value ∙ ap number_of c.field-3.ensures) in
+    let slot_is : number_of (third r) ≡ c.in-Some-read_digits.slot = sym (slot.value ∙ ap number_of c.field-3.ensures) in
     let ne = rw c.requires.named at c.in-Some-find.ensures.different in
     let index_is : c.index.result.now ≡ f.0 = c.index.ensures ∙ get_or_from_slice_get disks c.in-Some-find.place f.0 c.index.result.now f.1 in
-    let below : c.in-Some-read_number.slot < f.0.slots = subst (λ (d : Disk). c.in-Some-read_number.slot < d.slots) index_is (rw c.from.ensures at c.if-slot-from.false) in
-    let spot : Spot = record { disk = record { 0 = c.in-Some-find.place }; slot = c.in-Some-read_number.slot } in
+    let below : c.in-Some-read_digits.slot < f.0.slots = subst (λ (d : Disk). c.in-Some-read_digits.slot < d.slots) index_is (rw c.from.ensures at c.if-slot-from.false) in
+    let spot : Spot = record { disk = record { 0 = c.in-Some-find.place }; slot = c.in-Some-read_digits.slot } in
     none_before disks c.args.items.now (map (place_in disks) c.args.taken.now) r 15
     (λ _. omega arith)
     (λ _. sym c.len-2.ensures ∙ c.if-len-ne3.false)
@@ -134,7 +135,7 @@ returns-clause-sound c w =
     (λ _. rw c.field-3.ensures at (slot.valid.0 refl))
     (λ _. new)
     (λ _. rw second_is (c.in-Some-find.place, f.0, slice_get_within disks c.in-Some-find.place f.0 f.1, get_or_from_slice_get disks c.in-Some-find.place f.0 f.0 f.1, refl))
-    (λ _. rw (second_is, slot_is) (not_too_high disks c.in-Some-find.place c.in-Some-read_number.slot f.0 ne f.1 below))
+    (λ _. rw (second_is, slot_is) (not_too_high disks c.in-Some-find.place c.in-Some-read_digits.slot f.0 ne f.1 below))
     (λ _ taken. let t = spot_taken disks c.args.taken.now spot f.0 ne c.requires.on_disks f.1 (rw (second_is, slot_is) at taken) in cc (c.contains.ensures.1 t, c.if-contains.false))
     w
     (rank_small w)
@@ -145,12 +146,12 @@ returns-clause-on_disk c =
     let r = fields_of c.args.row.now in
     let name = c.in-Some.ensures in
     let named = c.in-Some-read.ensures in
-    let slot = c.in-Some-read_number.ensures in
+    let slot = c.in-Some-read_digits.ensures in
     let f = found_disk disks c.args.disks.now.names c.in-Some-find.place c.in-Some-read.disk c.requires.named c.in-Some-find.ensures.found in
     let second_is : second r ≡ f.0.name = sym c.field-2.ensures ∙ sym named.value ∙ f.2 in
-    let slot_is : number_of (third r) ≡ c.in-Some-read_number.slot = sym (slot.value ∙ ap number_of c.field-3.ensures) in
+    let slot_is : number_of (third r) ≡ c.in-Some-read_digits.slot = sym (slot.value ∙ ap number_of c.field-3.ensures) in
     let ne = rw c.requires.named at c.in-Some-find.ensures.different in
     let index_is : c.index.result.now ≡ f.0 = c.index.ensures ∙ get_or_from_slice_get disks c.in-Some-find.place f.0 c.index.result.now f.1 in
-    let below : c.in-Some-read_number.slot < f.0.slots = subst (λ (d : Disk). c.in-Some-read_number.slot < d.slots) index_is (rw c.from.ensures at c.if-slot-from.false) in
-    let spot : Spot = record { disk = record { 0 = c.in-Some-find.place }; slot = c.in-Some-read_number.slot } in
+    let below : c.in-Some-read_digits.slot < f.0.slots = subst (λ (d : Disk). c.in-Some-read_digits.slot < d.slots) index_is (rw c.from.ensures at c.if-slot-from.false) in
+    let spot : Spot = record { disk = record { 0 = c.in-Some-find.place }; slot = c.in-Some-read_digits.slot } in
     rw f.1 below

@@ -1,4 +1,4 @@
-use Rattle.std.proofs.Common.{◌≡◌, arith, refl, rules, false}
+use Rattle.std.proofs.Common.{◌≡◌, None, arith, refl, replicate, rules, false}
 use Rattle.std.specs.Result.{is_err}
 use Rattle.std.proofs.lemmas.Option.{slice_get_within}
 use Rattle.csv.proofs.ReadFacts.{on-ok}
@@ -18,7 +18,8 @@ returns-in_err-records-clause-fault c =
 
 pub rows-init : goal.rows-init
 rows-init c =
-    rw (c.new-seen.ensures, c.in-Ok.ensures, c.len.ensures) (WaysSoFar-start c.in_ok-records.records c.in_ok-records.ensures.short c.in_ok-records.ensures.rows)
+    let none : c.in-Ok.next.items ≡ replicate c.len.result None = search rules in
+    rw (c.new-seen.ensures, none, c.len.ensures) (WaysSoFar-start c.in_ok-records.records c.in_ok-records.ensures.short c.in_ok-records.ensures.rows)
 
 pub returns-clause-sound : goal.returns-clause-sound
 returns-clause-sound c = WaysSoFar-end c.rows.invariant (rw c.if-branch.false at c.in_ok-read.ensures.found)

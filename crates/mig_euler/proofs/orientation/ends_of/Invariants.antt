@@ -1,7 +1,7 @@
 use Rattle.std.proofs.Common.{◌≡◌, ◌<◌, ℕ, length}
 use Rattle.mig_base.specs.Directions.{trip_at}
-use Rattle.mig_euler.specs.Pairs.{trip_of, pair_at}
+use Rattle.mig_euler.specs.Pairs.{pair_trip, pair_at}
 use Rattle.mig_euler.proofs.orientation.ends_of.Given as goal
 
 abbrev pub invariant-loop-edge : goal.invariant-loop-edge
-invariant-loop-edge l = record { len : length l.ends.items ≡ l.edge; known : (e : ℕ) → e < l.edge → trip_of (pair_at l.ends.items e) ≡ trip_at l.graph.trips e }
+invariant-loop-edge l = record { len : length l.ends.items ≡ l.edge; known : (e : ℕ) → e < l.edge → pair_trip (pair_at l.ends.items e) ≡ trip_at l.graph.trips e }

@@ -3,14 +3,14 @@ use Rattle.std.proofs.lemmas.Result.{IfOk-weaker}
 use Rattle.mig_base.specs.declared.ids.DiskId.{DiskId}
 use Rattle.mig_base.specs.Directions.{Balances}
 use Rattle.mig_euler.specs.Balance.{AllInRange}
-use Rattle.mig_euler.specs.Pairs.{ArePairs, trip_of}
+use Rattle.mig_euler.specs.Pairs.{ArePairs, pair_trip}
 use Rattle.mig_euler.proofs.Graphs.{balanced, in_range, no_loop}
 use Rattle.mig_euler.proofs.orientation.orient.Goals as goal
 
 pub orient_ends-requires : goal.orient_ends-requires
 orient_ends-requires c =
     let trips = c.args.graph.now.trips in
-    let valid = c.edges-edges.ensures.valid in
+    let valid = c.keeps_rules.ensures in
     let pairs : ArePairs trips c.deref.result.now = subst (λ (x : List (DiskId × DiskId)). ArePairs trips x) (sym c.deref.ensures.value) c.in_ok-ends.ensures in
     record {
       in_range = subst (λ n. AllInRange c.deref.result.now n) (sym c.disks.ensures.disks) (in_range trips c.deref.result.now (length c.args.graph.now.disks) pairs valid.leaves_there valid.reaches_there);
@@ -21,7 +21,7 @@ pub returns-clause-balance : goal.returns-clause-balance
 returns-clause-balance c =
     let trips = c.args.graph.now.trips in
     let pairs : ArePairs trips c.deref.result.now = subst (λ (x : List (DiskId × DiskId)). ArePairs trips x) (sym c.deref.ensures.value) c.in_ok-ends.ensures in
-    IfOk-weaker c.orient_ends.result (λ (d : Vec Bool Global). Balances (map trip_of c.deref.result.now) d.items) (λ (d : Vec Bool Global). Balances trips d.items)
+    IfOk-weaker c.orient_ends.result (λ (d : Vec Bool Global). Balances (map pair_trip c.deref.result.now) d.items) (λ (d : Vec Bool Global). Balances trips d.items)
     (λ d h. balanced trips c.deref.result.now d.items pairs h) c.orient_ends.ensures.balance
 
 pub returns-clause-one_each : goal.returns-clause-one_each

@@ -1,8 +1,8 @@
 use Rattle.std.proofs.Common.{◌≡◌, arith, length, sym, subst, ◌∙◌, rules, replicate, None, List, Option, Bool, ℕ, refl, ap, Vec, Global, map}
 use Rattle.mig_base.specs.Directions.{Balances}
 use Rattle.mig_euler.specs.Balance.{AllInRange}
-use Rattle.mig_euler.specs.Pairs.{trip_of}
-use Rattle.mig_euler.specs.Trails.{is_forward}
+use Rattle.mig_euler.specs.Pairs.{pair_trip}
+use Rattle.mig_euler.specs.Trails.{points_forward}
 use Rattle.mig_euler.specs.Ready.{IsReady}
 use Rattle.mig_euler.proofs.OrientLaws.{ready_first, settled_balances}
 use Rattle.mig_euler.proofs.LinkLaws.{passed_first}
@@ -26,6 +26,6 @@ follow_odd-requires-clause-ready c =
 pub returns-clause-balance : goal.returns-clause-balance
 returns-clause-balance c =
     let same : c.deref-3.result.now ≡ c.follow_rest.new.directions = c.deref-3.ensures.value ∙ take_at c.follow_rest.new.directions _ _ (c.follow_rest.ensures.ready.len ∙ sym c.in_ok-directions.ensures.len) in
-    IfOk-weaker c.settled.result (λ (v : Vec Bool Global). v.items ≡ map is_forward c.deref-3.result.now) (λ (v : Vec Bool Global). Balances (map trip_of c.args.ends.now) v.items)
-    (λ v h. settled_balances c.args.ends.now c.follow_rest.new.directions v.items c.follow_rest.ensures.ready.even c.follow_rest.ensures.none c.follow_rest.ensures.ready.len (h ∙ ap (λ (d : List (Option Bool)). map is_forward d) same))
+    IfOk-weaker c.settled.result (λ (v : Vec Bool Global). v.items ≡ map points_forward c.deref-3.result.now) (λ (v : Vec Bool Global). Balances (map pair_trip c.args.ends.now) v.items)
+    (λ v h. settled_balances c.args.ends.now c.follow_rest.new.directions v.items c.follow_rest.ensures.ready.even c.follow_rest.ensures.none c.follow_rest.ensures.ready.len (h ∙ ap (λ (d : List (Option Bool)). map points_forward d) same))
     c.settled.ensures

@@ -12,7 +12,7 @@ use Rattle.mig_plan.proofs.colourings.colour_even.Goals as goal
 
 pub split_sides-requires-clause-q : goal.split_sides-requires-clause-q
 split_sides-requires-clause-q c =
-    let valid = c.edges-edges.ensures.valid in
+    let valid = c.keeps_rules.ensures in
     omega (arith, quotient_some c.args.graph.now (has_limits c.args.graph.now valid.disks_valid) valid.leaves_there c.requires.some, c.quotient-q.ensures)
 
 pub new-requires-clause-in_range : goal.new-requires-clause-in_range
@@ -27,7 +27,7 @@ new-requires-clause-no_loop c =
 
 pub new-requires-clause-few_entries : goal.new-requires-clause-few_entries
 new-requires-clause-few_entries c =
-    let valid = c.edges-edges.ensures.valid in
+    let valid = c.keeps_rules.ensures in
     let q = c.quotient-q.result in
     let s = c.in_ok-sides.sides in
     let is_n : s.nodes ≡ length s.homes.items = omega (arith, c.in_ok-sides.ensures.nodes) in
@@ -54,7 +54,7 @@ colour_sides-requires-clause-few c =
 pub returns : goal.returns
 returns c =
     let graph = c.args.graph.now in
-    let valid = c.edges-edges.ensures.valid in
+    let valid = c.keeps_rules.ensures in
     let limits = has_limits graph valid.disks_valid in
     let q = c.quotient-q.result in
     let s = c.in_ok-sides.sides in

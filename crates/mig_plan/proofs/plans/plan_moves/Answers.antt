@@ -1,29 +1,25 @@
-use Rattle.std.proofs.Common.{◌≡◌, ◌≤◌, ℕ, List, length, Ok, Err, sym, subst}
+use Rattle.std.proofs.Common.{ℕ, ◌≤◌, List, length, Ok, Err}
 use Rattle.std.specs.Result.{IfOk}
 use Rattle.std.specs.Prelude.{Result}
 use Rattle.mig_base.specs.declared.ids.Shift.{Shift}
-use Rattle.mig_base.specs.Transfers.{transfers}
-use Rattle.mig_base.specs.Bounding.{quotient, IsEven}
-use Rattle.mig_base.specs.Running.{Runs, Once}
-use Rattle.mig_base.specs.Schedules.{Needs}
-use Rattle.std.proofs.lemmas.Result.{IfOk-weaker}
-use Rattle.mig_plan.proofs.Least.{rounds_even, needs_quotient}
+use Rattle.mig_base.specs.InputLists.{Lists}
+use Rattle.mig_base.specs.Running.{Runs, Once, PlanFits}
+use Rattle.mig_base.specs.Planned.{GoesToTargets, IsFilled}
+use Rattle.mig_base.specs.MadePlans.{IsPlanOf}
+use Rattle.mig_plan.proofs.Least.{plan_made}
 use Rattle.mig_plan.proofs.plans.plan_moves.Goals as goal
 
-from_three : {T E : Type 0} (P Q R S : T → Type 0) (r : Result T E) → ((x : T) → P x → Q x → R x → S x) → IfOk r P → IfOk r Q → IfOk r R → IfOk r S
-from_three P Q R S (Ok x) f p q t = f x p q t
-from_three P Q R S (Err e) f p q t = tt
+-- what holds of a plan if there is one, together
+if_made : {E : Type 0} (input : Lists) (n : ℕ) (r : Result (List (List Shift)) E) → ((p : List (List Shift)) → PlanFits input p → Runs input p → Once input p → GoesToTargets input p → IsFilled p → length p ≤ n → IsPlanOf input p) → IfOk r (PlanFits input) → IfOk r (Runs input) → IfOk r (Once input) → IfOk r (GoesToTargets input) → IfOk r IsFilled → IfOk r (λ p. length p ≤ n) → IfOk r (IsPlanOf input)
+if_made input n (Ok p) f a b d e g h = f p a b d e g h
+if_made input n (Err x) f a b d e g h = tt
 
-pub returns-clause-even_rounds : goal.returns-clause-even_rounds
-returns-clause-even_rounds c =
+pub returns : goal.returns
+returns c =
     let input = c.args.input.now in
-    from_three (λ (p : List (List Shift)). Runs input p) (λ (p : List (List Shift)). Once input p) (λ (p : List (List Shift)). length p ≤ c.in_ok-colours.count)
-    (λ (p : List (List Shift)). IsEven (transfers input) → length p ≡ quotient (transfers input)) c.plan_of.result
-    (λ p runs once few. rounds_even input c.args.graph.now p c.in_ok-colours.count c.disks-disks.ensures.valid c.requires.graph runs once few c.in_ok-colours.ensures.even)
-    c.plan_of.ensures.runs c.plan_of.ensures.once c.plan_of.ensures.few
-
-pub returns-clause-needed : goal.returns-clause-needed
-returns-clause-needed c =
-    let input = c.args.input.now in
-    IfOk-weaker c.plan_of.result (λ (p : List (List Shift)). IsEven (transfers input) → length p ≡ quotient (transfers input)) (λ (p : List (List Shift)). IsEven (transfers input) → Needs input (length p))
-    (λ p h even. subst (λ (n : ℕ). Needs input n) (sym (h even)) (needs_quotient input c.disks-disks.ensures.valid)) (returns-clause-even_rounds c)
+    let e = c.plan_of.ensures in
+    record {
+      planned = if_made input c.in_ok-colours.count c.plan_of.result
+          (λ p fits runs once targets filled few. plan_made input c.args.graph.now p c.in_ok-colours.count c.keeps_rules.ensures c.requires.graph fits runs once targets filled few c.in_ok-colours.ensures.even c.in_ok-colours.ensures.most)
+          e.fits e.runs e.once e.targets e.filled e.few;
+    }

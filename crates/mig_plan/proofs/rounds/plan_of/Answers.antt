@@ -25,7 +25,7 @@ parts : (c : goal.After-rounds_of) → IsPartition c.args.input.now c.args.targe
 parts c = is_partition c.args.input.now c.args.targets.now c.args.colours.now c.args.count c.requires.targets (subst (λ (g : Transfers). IsLimited g c.args.count c.args.colours.now) c.requires.graph c.requires.limited)
 
 planned : (c : goal.After-rounds_of) → IsPlan c.args.input.now (filter is_filled (rows_for c.args.input.now c.args.targets.now c.args.colours.now c.args.count (length (moves c.args.input.now))))
-planned c = partition_is_plan c.args.input.now c.args.targets.now _ c.disks-disks.ensures.valid c.requires.roomy c.requires.targets (parts c)
+planned c = partition_is_plan c.args.input.now c.args.targets.now _ c.keeps_rules.ensures c.requires.roomy c.requires.targets (parts c)
 
 -- what holds of the rows that are not empty holds of the plan
 pub holds : (c : goal.After-rounds_of) (P : List (List Shift) → Type 0) → P (filter is_filled (rows_for c.args.input.now c.args.targets.now c.args.colours.now c.args.count (length (moves c.args.input.now)))) → IfOk c.rounds_of.result P

@@ -1,5 +1,5 @@
-use Rattle.mig_shannon.specs.Shift.{Grows}
+use Rattle.mig_shannon.proofs.Left.{AreTried}
 use Rattle.mig_shannon.proofs.colourings.try_all.Given as goal
 
-abbrev pub invariant-loop-first : goal.invariant-loop-first
-invariant-loop-first l = Grows l.fn.board l.board
+abbrev pub invariant-loop-edge : goal.invariant-loop-edge
+invariant-loop-edge l = AreTried l.fn.board l.board l.edge l.left

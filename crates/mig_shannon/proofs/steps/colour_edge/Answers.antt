@@ -5,8 +5,8 @@ use Rattle.mig_board.proofs.Tables.{same_copy}
 use Rattle.mig_base.specs.declared.ids.CopyId.{CopyId}
 use Rattle.std.proofs.lemmas.Bool.{eqb-true, eqb-false}
 use Rattle.mig_board.specs.Growth.{PaintsOne}
-use Rattle.mig_board.proofs.Laws.{not_full, not_both, present_at_first, present_at_second, PaintsOne-painted, PaintsOne-exchanged, PaintsOne-after, SameEdges-exchanged, exchanges_plain}
-use Rattle.mig_shannon.proofs.Step.{IsFan, fan_common, free_by_walk, shift_by_walk}
+use Rattle.mig_board.proofs.Laws.{not_full, not_both, present_at_first, present_at_second, PaintsOne-painted, PaintsOne-exchanged, PaintsOne-after, Recolours-exchanged, exchanges_plain}
+use Rattle.mig_shannon.proofs.Step.{IsFan, fan_common, free_by_walk, beside_by_walk}
 use Rattle.mig_shannon.proofs.steps.colour_edge.Goals as goal
 
 pub returns-in-Some : goal.returns-in-Some
@@ -50,12 +50,12 @@ exchange-requires-clause-has c =
     let at_third = present_at_second c.args.board.now c.ends.result.1 c.across-third.result c.in-Some-missing-2.has c.in_default-common.ensures c.in-Some-missing-2.ensures.missing in
     search (rules, at_first, at_third)
 
-pub shift-requires-then-eq : goal.shift-requires-then-eq
-shift-requires-then-eq c =
+pub repaint_beside-requires-then-eq : goal.repaint_beside-requires-then-eq
+repaint_beside-requires-then-eq c =
     let g : Colouring = c.args.board.now in
     let fan : IsFan g c.args.edge c.ends.result.0 c.ends.result.1 c.in-Some-missing.lacks c.in-Some-missing-2.has c.in-Some-edge_at.beside c.across-third.result =
     record { proper = c.ends.ensures.proper; joins = inl c.ends.ensures.value; plain = c.requires.plain; lacks = c.in-Some-missing.ensures.missing; has = c.in-Some-missing-2.ensures.missing; none = c.in_default.ensures; beside = record { joins = c.across-third.ensures.joins; colour = c.in-Some-edge_at.ensures.1.colour } } in
-    shift_by_walk g c.exchange.new.self c.args.edge c.ends.result.0 c.ends.result.1 _ _ _ _ fan c.in-Some-common-2.colour c.far.result c.exchange.result
+    beside_by_walk g c.exchange.new.self c.args.edge c.ends.result.0 c.ends.result.1 _ _ _ _ fan c.in-Some-common-2.colour c.far.result c.exchange.result
     c.in-Some-common-2.ensures.first c.in-Some-common-2.ensures.second c.far.ensures (same_copy _ _ (eqb-true _ _ (sym c.if-eq.ensures))) c.exchange.ensures.exchanged c.exchange.ensures.proper
 
 pub exchange-requires-else-eq-clause-has : goal.exchange-requires-else-eq-clause-has
@@ -76,7 +76,7 @@ paint-requires-else-eq-clause-free c =
     c.in-Some-common-2.ensures.first c.far.ensures (λ h. eqb-false _ _ (sym c.if-eq.ensures) (ap (λ (q : CopyId). q.0) h)) c.exchange-else-eq.ensures.exchanged
 
 pub returns-then-eq : goal.returns-then-eq
-returns-then-eq c = PaintsOne-after _ _ _ _ (SameEdges-exchanged _ _ _ _ _ _ c.exchange.ensures.exchanged) c.shift-then-eq.ensures
+returns-then-eq c = PaintsOne-after _ _ _ _ (Recolours-exchanged _ _ _ _ _ _ c.exchange.ensures.exchanged) c.repaint_beside-then-eq.ensures
 
 pub returns-else-eq : goal.returns-else-eq
 returns-else-eq c =

@@ -1,10 +1,11 @@
-use Rattle.std.proofs.Common.{arith, ◌≡◌, ◌∙◌, ap, sym, subst, List, ℕ, length, ◌++◌, Bool, true, false, replicate, ◌<◌, take, drop, rules}
-use Rattle.mig_base.specs.declared.ids.DiskId.{DiskId}
-use Rattle.mig_base.specs.declared.ids.CopyId.{CopyId}
-use Rattle.mig_base.specs.Directions.{is_forward}
+use Rattle.std.proofs.Common.{arith, ◌≡◌, ◌<◌, ◌∙◌, ap, subst, List, ℕ, length, Bool, true, false, replicate, rules}
 use Rattle.std.proofs.lemmas.List.{get_or-replicate}
-use Rattle.mig_split.specs.Dealing.{IsDealt}
-use Rattle.mig_split.specs.Copies.{AreHeads, ArePairs}
+use Rattle.std.proofs.lemmas.Result.{IfOk-weaker}
+use Rattle.mig_base.specs.declared.ids.DiskId.{DiskId}
+use Rattle.mig_base.specs.Directions.{is_forward}
+use Rattle.mig_split.specs.declared.copies.Copies.{Copies}
+use Rattle.mig_split.specs.Dealing.{AreFew}
+use Rattle.mig_split.specs.Copies.{AreCopies, AreJoined}
 use Rattle.mig_split.proofs.Halves.{AreCopies-all}
 use Rattle.mig_split.proofs.copies.split_nodes.Goals as goal
 
@@ -14,20 +15,14 @@ returns-clause-copies c =
     let g = c.args.graph.now in
     let m = c.edges-edges.result in
     let ds = c.deref.result.now in
-    let o = c.in_ok-dealt.dealt in
+    let stops = c.in_ok-stops.stops.items in
+    let numbers = c.in_ok-numbers.numbers.items in
     let is_m : m ≡ length g.trips = c.edges-edges.ensures.edges in
-    let ts = c.in_ok-stops.stops.items in
-    let hs = c.in_ok-targets.targets.items in
     let all_true : ds ≡ replicate m true = c.deref.ensures.value ∙ search rules in
     let forward : (k : ℕ) → k < length g.trips → is_forward ds k ≡ true = λ k h. ap (λ (xs : List Bool). is_forward xs k) all_true ∙ get_or-replicate m k true false (omega (arith, h, is_m)) in
-    let second : AreHeads g.trips ds hs = subst (λ (x : List Bool). AreHeads g.trips x hs) (c.deref-2.ensures.value ∙ sym c.deref.ensures.value) c.in_ok-targets.ensures in
-    let stops : c.deref-4.result.now ≡ ts ++ hs = c.deref-4.ensures.value ∙ c.in_ok-extend_from_slice.ensures.items ∙ ap (λ (x : List DiskId). ts ++ x) c.deref-3.ensures.value in
-    let copies : c.deref-5.result.now ≡ o.copies.items = c.deref-5.ensures.value in
-    let n : c.disks.result ≡ length g.disks = c.disks.ensures.disks in
-    let dealt : IsDealt q (length g.disks) (ts ++ hs) o.homes.items o.copies.items =
-    subst (λ k. IsDealt q k (ts ++ hs) o.homes.items o.copies.items) n (subst (λ (x : List DiskId). IsDealt q c.disks.result x o.homes.items o.copies.items) stops c.in_ok-dealt.ensures) in
-    let front : c.split_at.result.0.now ≡ take m o.copies.items = c.split_at.ensures.front ∙ ap (λ (x : List CopyId). take m x) copies in
-    let back : c.split_at.result.1.now ≡ drop m o.copies.items = c.split_at.ensures.back ∙ ap (λ (x : List CopyId). drop m x) copies in
-    let pairs : ArePairs (take m o.copies.items) (drop m o.copies.items) 0 c.in_ok-ends.ends.items =
-    subst (λ (x : List CopyId). ArePairs x (drop m o.copies.items) 0 c.in_ok-ends.ends.items) front (subst (λ (x : List CopyId). ArePairs c.split_at.result.0.now x 0 c.in_ok-ends.ends.items) back c.in_ok-ends.ensures) in
-    AreCopies-all q g ds ts hs o.homes.items o.copies.items c.in_ok-ends.ends.items m c.edges-edges.ensures.valid.apart forward c.in_ok-stops.ensures second dealt is_m pairs
+    let few : AreFew q (length g.disks) stops numbers =
+    subst (λ n. AreFew q n stops numbers) c.disks.ensures.disks (subst (λ (xs : List DiskId). AreFew q c.disks.result xs numbers) c.deref-2.ensures.value c.in_ok-numbers.ensures) in
+    IfOk-weaker c.join.result (λ (s : Copies). AreJoined q m c.deref-3.result.now c.deref-4.result.now s.ends.items s.homes.items) (λ (s : Copies). AreCopies q g s.ends.items s.homes.items)
+    (λ s h. AreCopies-all q g ds stops s.homes.items numbers s.ends.items m is_m (search rules) c.edges-edges.ensures.valid.apart forward c.in_ok-stops.ensures few
+    (subst (λ (xs : List ℕ). AreJoined q m xs stops s.ends.items s.homes.items) c.deref-3.ensures.value (subst (λ (xs : List DiskId). AreJoined q m c.deref-3.result.now xs s.ends.items s.homes.items) c.deref-4.ensures.value h)))
+    c.join.ensures.joined

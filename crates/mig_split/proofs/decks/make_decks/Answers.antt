@@ -1,4 +1,4 @@
-use Rattle.std.proofs.Common.{arith, ◌≡◌, ◌∙◌, ◌++◌, ◌+◌, ◌-◌, ap, sym, subst, refl, List, ℕ, replicate, take, length, [], ◌∷◌}
+use Rattle.std.proofs.Common.{arith, ◌≡◌, ◌∙◌, ◌++◌, ◌+◌, ◌-◌, ap, sym, subst, refl, List, ℕ, replicate, take, length, get_or, [], ◌∷◌}
 use Rattle.std.proofs.lemmas.List.{take_all}
 use Rattle.mig_base.specs.declared.ids.DiskId.{DiskId}
 use Rattle.mig_split.specs.declared.decks.Deck.{Deck}
@@ -13,11 +13,12 @@ resized homes new n m count v h same e =
 pub loop-disk-preserved : goal.loop-disk-preserved
 loop-disk-preserved c =
     let i = c.loop-disk.disk in
-    let deck : Deck = record { first = c.len-first.result; count = c.div_ceil-count.result; start = 0; next = 0 } in
-    let row : c.resize.new.self.items ≡ c.loop-disk.homes.items ++ replicate c.div_ceil-count.result (record { 0 = i }) = resized c.loop-disk.homes.items c.resize.new.self.items c.len-first.result c.loop-disk.homes.len c.div_ceil-count.result i (omega arith) (omega arith) c.in_ok-resize.ensures.items in
-    let more = AreDecks-more c.args.q c.args.counts.now c.loop-disk.decks.items c.loop-disk.homes.items i deck c.requires.q c.loop-disk-test.true (omega arith) (omega arith) c.loop-disk.invariant.decks in
+    let n = get_or c.args.numbers.now i 0 in
+    let deck : Deck = record { first = c.len-first.result; count = n; start = 0; next = 0 } in
+    let row : c.resize.new.self.items ≡ c.loop-disk.homes.items ++ replicate n (record { 0 = i }) = resized c.loop-disk.homes.items c.resize.new.self.items c.len-first.result c.loop-disk.homes.len n i (omega arith) (omega arith) c.in_ok-resize.ensures.items in
+    let more = AreDecks-more c.args.numbers.now c.loop-disk.decks.items c.loop-disk.homes.items i deck c.loop-disk-test.true (omega arith) refl c.loop-disk.invariant.decks in
     record {
-      decks = subst (λ (ds : List Deck). AreDecks c.args.q (take (i + 1) c.args.counts.now) ds c.resize.new.self.items) (sym c.in_ok-push.ensures.items)
-          (subst (λ (hs : List DiskId). AreDecks c.args.q (take (i + 1) c.args.counts.now) (c.loop-disk.decks.items ++ deck ∷ []) hs) (sym row) more);
+      decks = subst (λ (ds : List Deck). AreDecks (take (i + 1) c.args.numbers.now) ds c.resize.new.self.items) (sym c.in_ok-push.ensures.items)
+          (subst (λ (hs : List DiskId). AreDecks (take (i + 1) c.args.numbers.now) (c.loop-disk.decks.items ++ deck ∷ []) hs) (sym row) more);
       fresh = subst (λ (ds : List Deck). AreFresh ds) (sym c.in_ok-push.ensures.items) (AreFresh-more c.loop-disk.decks.items deck (refl, refl) c.loop-disk.invariant.fresh);
     }

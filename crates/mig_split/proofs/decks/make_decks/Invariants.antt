@@ -3,4 +3,4 @@ use Rattle.mig_split.specs.Decks.{AreDecks, AreFresh}
 use Rattle.mig_split.proofs.decks.make_decks.Given as goal
 
 abbrev pub invariant-loop-disk : goal.invariant-loop-disk
-invariant-loop-disk l = record { decks : AreDecks l.fn.q (take l.disk l.counts) l.decks.items l.homes.items; fresh : AreFresh l.decks.items }
+invariant-loop-disk l = record { decks : AreDecks (take l.disk l.numbers) l.decks.items l.homes.items; fresh : AreFresh l.decks.items }

@@ -1,0 +1,6 @@
+use Rattle.std.specs.Io.KnownBytes.{Keeps}
+use Rattle.mig_io.proofs.writing.write_some.Given as goal
+
+-- a write that was interrupted wrote nothing
+abbrev pub invariant-loop : goal.invariant-loop
+invariant-loop g l = Keeps (g.W.Write.contents l.initial.out) (g.W.Write.contents l.out)

@@ -1,0 +1,10 @@
+use Rattle.std.proofs.Common.{◌≡◌, ◌∙◌, eq-eqb}
+use Rattle.std.proofs.lemmas.Bool.{eqb-true}
+use Rattle.mig_shannon.proofs.Left.{complete_left, left_complete}
+use Rattle.mig_shannon.proofs.colourings.colour_within.Goals as goal
+
+pub returns-clause-tells : goal.returns-clause-tells
+returns-clause-tells c =
+    let a = c.loop-pass.invariant in
+    let g = c.loop-pass.board in
+    (λ h. complete_left g a.proper (Rattle.std.proofs.Common.sym a.left ∙ eqb-true _ _ h), λ h. eq-eqb _ _ (a.left ∙ left_complete g a.proper h))

@@ -1,0 +1,8 @@
+use Rattle.std.proofs.Common.{◌≡◌}
+use Rattle.mig_board.specs.Colouring.{IsProper}
+use Rattle.mig_shannon.specs.Left.{edges_left}
+use Rattle.mig_shannon.specs.Ways.{Grows}
+use Rattle.mig_shannon.proofs.colourings.colour_within.Given as goal
+
+abbrev pub invariant-loop-pass : goal.invariant-loop-pass
+invariant-loop-pass l = record { grows : Grows l.fn.board l.board; proper : IsProper l.board; left : l.left ≡ edges_left l.board }

@@ -1,0 +1,6 @@
+use Rattle.std.proofs.Common.{◌≡◌, ◌<◌, ℕ, length, get_or}
+use Rattle.mig_split.specs.Copies.{shared}
+use Rattle.mig_split.proofs.copies.shared_numbers.Given as goal
+
+abbrev pub invariant-loop-disk : goal.invariant-loop-disk
+invariant-loop-disk l = record { len : length l.numbers.items ≡ l.disk; each : (v : ℕ) → v < l.disk → get_or l.numbers.items v 0 ≡ shared l.graph l.share v }

@@ -1,0 +1,20 @@
+-- The outcomes of commands, in all files that begin with some bytes.
+use Rattle.std.proofs.Common.{inr, ℕ, List, [], ◌∷◌}
+use Rattle.mig_io.specs.Files.{Files}
+use Rattle.mig_top.specs.Causes.{LoadedCause}
+use Rattle.mig_top.specs.Loading.{HoldFirst, HoldsFirst, PlanOn, CheckOn, AfterOn}
+use Rattle.mig_top.specs.Outcomes.{Outcome}
+use Rattle.mig_top.specs.Words.{Plan, Check, After, loaded}
+use Rattle.mig_top.proofs.Missing.{none_missing}
+
+module _ (d n x : List ℕ) where
+  pub plan_on : (o : Outcome) → ((files : Files) (disks now next plan cert : List ℕ) → HoldFirst files (disks ∷ now ∷ next ∷ []) (d ∷ n ∷ x ∷ []) → LoadedCause files (Plan disks now next plan cert) o) → PlanOn d n x o
+  plan_on o h disks now next plan cert files held = inr (tt, none_missing files (loaded (Plan disks now next plan cert)) (d ∷ n ∷ x ∷ []) held, h files disks now next plan cert held)
+
+  pub after_on : (p : List ℕ) (o : Outcome) → ((files : Files) (disks now next plan : List ℕ) → HoldFirst files (disks ∷ now ∷ next ∷ []) (d ∷ n ∷ x ∷ []) → HoldsFirst files plan p → LoadedCause files (After disks now next plan) o) → AfterOn d n x p o
+  after_on p o h disks now next plan files held =
+      inr (tt, none_missing files (loaded (After disks now next plan)) (d ∷ n ∷ x ∷ p ∷ []) held, h files disks now next plan (held.0, (held.1.0, (held.1.1.0, tt))) held.1.1.1.0)
+
+  pub check_on : (p c : List ℕ) (o : Outcome) → ((files : Files) (disks now next plan cert : List ℕ) → HoldFirst files (disks ∷ now ∷ next ∷ []) (d ∷ n ∷ x ∷ []) → HoldsFirst files plan p → HoldsFirst files cert c → LoadedCause files (Check disks now next plan cert) o) → CheckOn d n x p c o
+  check_on p c o h disks now next plan cert files held =
+      inr (tt, none_missing files (loaded (Check disks now next plan cert)) (d ∷ n ∷ x ∷ p ∷ c ∷ []) held, h files disks now next plan cert (held.0, (held.1.0, (held.1.1.0, tt))) held.1.1.1.0 held.1.1.1.1.0)

@@ -1,0 +1,96 @@
+//! Folders, sinks and memory that fail at one call.
+
+use crate::clusters::{THREE_ITEMS, TWO_NEEDED, TWO_ROUNDS};
+use crate::running::{AFTER, CHECK, PLAN, expect, folder_of, holds, planned, status_of};
+use crate::scarce_folder::ScarceFolder;
+use mig_io::MemSink;
+use std::test::Fail;
+
+#[test]
+fn faults_of_the_folder(rt: HostRuntime) -> Result<(), Fail> {
+    let alloc = rt.alloc();
+    let text = "folder fault\n";
+    for call in 0..5u64 {
+        let mut folder = folder_of(alloc, &THREE_ITEMS, vec![in alloc; call]?)?;
+        expect(&rt, alloc, &mut folder, PLAN, 4, text)?;
+        // the first save leaves nothing where it fails, and the plan stands where the second fails
+        assert_eq!(rt; folder.file("P").is_some(), call == 4);
+        assert!(rt; holds(&folder, "C", None));
+        let failing = vec![in alloc; call]?;
+        let mut folder = planned(alloc, &THREE_ITEMS, TWO_ROUNDS, TWO_NEEDED, failing)?;
+        expect(&rt, alloc, &mut folder, CHECK, 4, text)?;
+        assert!(rt; holds(&folder, "P", Some(TWO_ROUNDS)));
+        assert!(rt; holds(&folder, "C", Some(TWO_NEEDED)));
+    }
+    Ok(())
+}
+
+/// Lines, their statuses and what is put, over a folder whose every call fails.
+static UNLOADED: [(&str, u8, &str); 5] = [
+    ("", 2, "words not understood\n"),
+    ("plan D N X P", 2, "words not understood\n"),
+    ("plan D N X P P", 2, "words not understood\n"),
+    ("audit D a.disk", 2, "words not understood\n"),
+    ("plan D N X P C", 4, "folder fault\n"),
+];
+
+#[test]
+fn no_file_is_loaded_before_the_words_are_read(rt: HostRuntime) -> Result<(), Fail> {
+    let alloc = rt.alloc();
+    for (line, status, text) in &UNLOADED {
+        let failing = vec![in alloc; 0, 1, 2, 3, 4, 5]?;
+        let mut folder = folder_of(alloc, &THREE_ITEMS, failing)?;
+        expect(&rt, alloc, &mut folder, line, *status, text)?;
+    }
+    Ok(())
+}
+
+#[test]
+fn memory_is_refused_at_each_load(rt: HostRuntime) -> Result<(), Fail> {
+    let alloc = rt.alloc();
+    for (line, loads) in [(PLAN, 3), (CHECK, 5), (AFTER, 4)] {
+        for refused in 0..loads {
+            let none = Vec::new(alloc);
+            let within = planned(alloc, &THREE_ITEMS, "some plan", TWO_NEEDED, none)?;
+            let mut folder = ScarceFolder {
+                within,
+                refused,
+                loads: 0,
+            };
+            expect(&rt, alloc, &mut folder, line, 7, "no memory\n")?;
+            assert!(rt; holds(&folder.within, "P", Some("some plan")));
+            assert!(rt; holds(&folder.within, "C", Some(TWO_NEEDED)));
+            assert!(rt; holds(&folder.within, "D", Some(THREE_ITEMS.disks)));
+        }
+    }
+    Ok(())
+}
+
+/// Lines, the room of the sink and its put that fails, counted from 0, the statuses, and what the sink then holds.
+static SINK_FAULTS: [(&str, usize, u64, u8, &str); 9] = [
+    (PLAN, 4096, 0, 6, ""),
+    (PLAN, 9, 9, 6, "migration"),
+    (CHECK, 4096, 0, 6, ""),
+    (CHECK, 5, 9, 6, "optim"),
+    (AFTER, 4096, 0, 6, ""),
+    (AFTER, 4, 9, 6, "item"),
+    ("plan D N Q P C", 4096, 0, 16, ""),
+    ("plan", 4096, 0, 2, ""),
+    ("plan", 5, 9, 2, "words"),
+];
+
+// The first line saves a plan and its certificate, and both stand from then on.
+#[test]
+fn faults_of_the_sink(rt: HostRuntime) -> Result<(), Fail> {
+    let alloc = rt.alloc();
+    let mut folder = folder_of(alloc, &THREE_ITEMS, Vec::new(alloc))?;
+    for (line, room, failing, status, text) in &SINK_FAULTS {
+        let mut out = MemSink::new(alloc, *room, vec![in alloc; *failing]?)?;
+        let ended = status_of(alloc, &mut folder, line, &mut out)?;
+        assert_eq!(rt; ended, *status, "status of {line}");
+        assert_eq!(rt; out.held(), text.as_bytes(), "text of {line}");
+        assert!(rt; holds(&folder, "C", Some(TWO_NEEDED)));
+        assert!(rt; folder.file("P").is_some());
+    }
+    Ok(())
+}

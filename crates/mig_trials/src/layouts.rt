@@ -1,0 +1,43 @@
+//! The layouts between the rounds of a plan.
+
+use crate::clusters::{Cluster, THREE_ITEMS, TWO_ROUNDS};
+use mig_base::{DiskId, Spot};
+use mig_check::{layout_after, runs};
+use mig_csv::read_input;
+use mig_text::read_plan;
+use std::alloc::Global;
+use std::test::Fail;
+
+/// The spots of the items after the first rounds, where the plan runs.
+fn layout_at(alloc: Global, cluster: &Cluster<'_>, plan: &str, rounds: u32) -> Option<Vec<Spot>> {
+    let disks = cluster.disks.as_bytes();
+    let now = cluster.now.as_bytes();
+    let input = read_input(alloc, disks, now, cluster.next.as_bytes()).ok()?;
+    let plan = read_plan(alloc, &input, plan.as_bytes()).ok()?;
+    if rounds as usize > plan.rounds().len() || runs(alloc, &input, &plan).is_err() {
+        return None;
+    }
+    layout_after(alloc, &input, &plan, rounds).ok()
+}
+
+/// The spot on a disk of this number.
+fn spot(disk: u32, slot: u32) -> Spot {
+    Spot {
+        disk: DiskId(disk),
+        slot,
+    }
+}
+
+#[test]
+fn layouts_follow_the_rounds(rt: HostRuntime) -> Result<(), Fail> {
+    let alloc = rt.alloc();
+    for (rounds, wanted) in [
+        (0, [spot(0, 0), spot(0, 1), spot(0, 2)]),
+        (1, [spot(1, 0), spot(1, 1), spot(0, 2)]),
+        (2, [spot(1, 0), spot(1, 1), spot(1, 2)]),
+    ] {
+        let spots = layout_at(alloc, &THREE_ITEMS, TWO_ROUNDS, rounds).ok_or("no layout")?;
+        assert!(rt; spots.as_slice() == wanted.as_slice());
+    }
+    Ok(())
+}

@@ -1,0 +1,235 @@
+//! Words that are no command, files that are not there, and files that stand for no input.
+
+use crate::clusters::{Cluster, ONE_STAYS, THREE_ITEMS, TRIANGLE, TWO_NEEDED, TWO_ROUNDS};
+use crate::running::{AFTER, CHECK, PLAN, expect, folder_of, holds, planned};
+use std::alloc::{AllocError, Global};
+use std::process::Abort;
+use std::test::Fail;
+
+/// Lines, their statuses and what is put.
+static LINES: [(&str, u8, &str); 18] = [
+    ("", 2, "words not understood\n"),
+    ("plan D N X P", 2, "words not understood\n"),
+    ("plan D N X P P", 2, "words not understood\n"),
+    ("plan D N X D C", 2, "words not understood\n"),
+    ("plan D N X P C C", 2, "words not understood\n"),
+    ("audit D a.disk", 2, "words not understood\n"),
+    ("after D N X a.disk", 2, "words not understood\n"),
+    ("check D N X P b.mig", 2, "words not understood\n"),
+    ("plan D N Q P C", 16, "no file Q\n"),
+    ("plan R N Q P C", 16, "no file R\n"),
+    ("check D N X P C", 16, "no file P\n"),
+    ("check D N X Q R", 16, "no file Q\n"),
+    ("check D N X X R", 16, "no file R\n"),
+    ("after D N X P", 16, "no file P\n"),
+    ("plan EMPTY N Q P C", 16, "no file Q\n"),
+    ("plan EMPTY N X P C", 3, "refused disks row 0: bad header\n"),
+    (
+        "check EMPTY EMPTY X D N",
+        3,
+        "refused disks row 0: bad header\n",
+    ),
+    ("after EMPTY X N D", 3, "refused disks row 0: bad header\n"),
+];
+
+#[test]
+fn tells_of_words_and_files(rt: HostRuntime) -> Result<(), Fail> {
+    let alloc = rt.alloc();
+    let mut folder = folder_of(alloc, &THREE_ITEMS, Vec::new(alloc))?;
+    folder.keep("EMPTY", b"")?;
+    for (line, status, text) in &LINES {
+        expect(&rt, alloc, &mut folder, line, *status, text)?;
+    }
+    assert!(rt; holds(&folder, "P", None));
+    assert!(rt; holds(&folder, "C", None));
+    Ok(())
+}
+
+/// Files that stand for no input, and what is put.
+static REFUSED: [(Cluster<'static>, &str); 18] = [
+    (
+        Cluster {
+            disks: "",
+            ..THREE_ITEMS
+        },
+        "refused disks row 0: bad header\n",
+    ),
+    (
+        Cluster {
+            disks: "disk,limit,slots\na,1\nb,2,4\n",
+            ..THREE_ITEMS
+        },
+        "refused disks row 1: bad width\n",
+    ),
+    (
+        Cluster {
+            disks: "disk,limit,slots\na b,1,4\nb,2,4\n",
+            ..THREE_ITEMS
+        },
+        "refused disks row 1: bad name\n",
+    ),
+    (
+        Cluster {
+            disks: "disk,limit,slots\na,12345678901,4\nb,2,4\n",
+            ..THREE_ITEMS
+        },
+        "refused disks row 1: bad number\n",
+    ),
+    (
+        Cluster {
+            disks: "disk,limit,slots\na,,4\nb,2,4\n",
+            ..THREE_ITEMS
+        },
+        "refused disks row 1: bad number\n",
+    ),
+    (
+        Cluster {
+            disks: "disk,limit,slots\na,0,4\nb,2,4\n",
+            ..THREE_ITEMS
+        },
+        "refused disks row 1: out of range\n",
+    ),
+    (
+        Cluster {
+            disks: "disk,limit,slots\na,1025,4\nb,2,4\n",
+            ..THREE_ITEMS
+        },
+        "refused disks row 1: out of range\n",
+    ),
+    (
+        Cluster {
+            disks: "disk,limit,slots\na,2,4\na,2,4\n",
+            ..THREE_ITEMS
+        },
+        "refused disks row 2: disk listed twice\n",
+    ),
+    (
+        Cluster {
+            now: "item,disk,slot\nx,a,0\nx,a,1\n",
+            ..THREE_ITEMS
+        },
+        "refused now row 2: item listed twice\n",
+    ),
+    (
+        Cluster {
+            now: "item,disk,slot\nx,q,0\n",
+            ..THREE_ITEMS
+        },
+        "refused now row 1: unknown disk\n",
+    ),
+    (
+        Cluster {
+            now: "item,disk,slot\nx,a,4\n",
+            ..THREE_ITEMS
+        },
+        "refused now row 1: slot too high\n",
+    ),
+    (
+        Cluster {
+            now: "item,disk,slot\nx,a,0\ny,a,0\n",
+            ..THREE_ITEMS
+        },
+        "refused now row 2: slot taken\n",
+    ),
+    (
+        Cluster {
+            next: "item,disk\ny,a\n",
+            ..ONE_STAYS
+        },
+        "refused next row 1: item not in now\n",
+    ),
+    (
+        Cluster {
+            next: "item,disk\n",
+            ..ONE_STAYS
+        },
+        "refused now row 1: item not in next\n",
+    ),
+    (
+        Cluster {
+            disks: "disk,limit,slots\na,1,2\nb,1,2\n",
+            now: "item,disk,slot\nx,a,0\ny,b,0\nw,a,1\n",
+            next: "item,disk\nx,b\ny,b\nw,b\n",
+        },
+        "refused disks row 2: no room on b, needs 3, has 2\n",
+    ),
+    // a fault in each file, and in the last two: the earliest file's is told
+    (
+        Cluster {
+            disks: "disk,limit,slots\na,0,4\n",
+            now: "item,disk,slot\nx,q,0\n",
+            next: "item,disk,slot\n",
+        },
+        "refused disks row 1: out of range\n",
+    ),
+    (
+        Cluster {
+            now: "item,disk,slot\nx,q,0\n",
+            next: "item,disk,slot\n",
+            ..TRIANGLE
+        },
+        "refused now row 1: unknown disk\n",
+    ),
+    (
+        Cluster {
+            next: "item,disk,slot\n",
+            ..TRIANGLE
+        },
+        "refused next row 0: bad header\n",
+    ),
+];
+
+/// Each command refuses the files of a cluster with this text, and changes nothing.
+fn expect_refused(
+    rt: &impl Abort,
+    alloc: Global,
+    cluster: &Cluster<'_>,
+    text: &str,
+) -> Result<(), AllocError> {
+    let mut folder = planned(alloc, cluster, TWO_ROUNDS, TWO_NEEDED, Vec::new(alloc))?;
+    for line in [PLAN, CHECK, AFTER] {
+        expect(rt, alloc, &mut folder, line, 3, text)?;
+    }
+    assert!(rt; holds(&folder, "P", Some(TWO_ROUNDS)));
+    assert!(rt; holds(&folder, "C", Some(TWO_NEEDED)));
+    Ok(())
+}
+
+/// A disks file with so many rows.
+fn disk_rows(alloc: Global, count: u32) -> Result<String, AllocError> {
+    let mut text = String::from_str(alloc, "disk,limit,slots\n")?;
+    for number in 1..=count {
+        write!(text, "d{number},1,1\n")?;
+    }
+    Ok(text)
+}
+
+/// A disks file of so many bytes, most of them empty lines.
+fn long_disks(alloc: Global, len: usize) -> Result<String, AllocError> {
+    let mut text = String::from_str(alloc, "disk,limit,slots\na,2,4\nb,2,4\n")?;
+    for _ in text.len()..len {
+        text.push('\n')?;
+    }
+    Ok(text)
+}
+
+#[test]
+fn refuses_files_with_each_cause(rt: HostRuntime) -> Result<(), Fail> {
+    let alloc = rt.alloc();
+    for (cluster, text) in &REFUSED {
+        expect_refused(&rt, alloc, cluster, text)?;
+    }
+    let many = disk_rows(alloc, 1025)?;
+    let long = long_disks(alloc, 16_777_217)?;
+    for (disks, text) in [
+        (&many, "refused disks row 1025: too many rows\n"),
+        (&long, "refused disks row 0: file too long\n"),
+    ] {
+        let cluster = Cluster {
+            disks: disks.as_str(),
+            ..THREE_ITEMS
+        };
+        expect_refused(&rt, alloc, &cluster, text)?;
+    }
+    Ok(())
+}

@@ -1,0 +1,98 @@
+//! Commands carried out over a folder and a sink in memory.
+
+use crate::clusters::Cluster;
+use mig_io::{Folder, MemFolder, MemSink, Sink};
+use mig_top::run;
+use std::alloc::{AllocError, Global};
+use std::process::Abort;
+
+/// The line that plans, over the files of a folder that `folder_of` gives.
+pub const PLAN: &str = "plan D N X P C";
+
+/// The line that checks what stands as P and C.
+pub const CHECK: &str = "check D N X P C";
+
+/// The line that prints the last layout of the plan that stands as P.
+pub const AFTER: &str = "after D N X P";
+
+/// The room for a plan, for a certificate and for what is printed, in bytes.
+const ROOM: usize = 131_072;
+
+/// A folder with the files of a cluster as D, N and X, and room for P and C. Its calls with these numbers fail.
+pub fn folder_of(
+    alloc: Global,
+    cluster: &Cluster<'_>,
+    failing: Vec<u64>,
+) -> Result<MemFolder, AllocError> {
+    let mut folder = MemFolder::new(alloc, failing);
+    folder.keep("D", cluster.disks.as_bytes())?;
+    folder.keep("N", cluster.now.as_bytes())?;
+    folder.keep("X", cluster.next.as_bytes())?;
+    folder.grant("P", ROOM)?;
+    folder.grant("C", ROOM)?;
+    Ok(folder)
+}
+
+/// The folder of a cluster, with a plan and a certificate as P and C. Its calls with these numbers fail.
+pub fn planned(
+    alloc: Global,
+    cluster: &Cluster<'_>,
+    plan: &str,
+    cert: &str,
+    failing: Vec<u64>,
+) -> Result<MemFolder, AllocError> {
+    let mut folder = folder_of(alloc, cluster, failing)?;
+    folder.keep("P", plan.as_bytes())?;
+    folder.keep("C", cert.as_bytes())?;
+    Ok(folder)
+}
+
+/// The file holds this text, or is not there where there is none.
+pub fn holds(folder: &MemFolder, name: &str, text: Option<&str>) -> bool {
+    match (folder.file(name), text) {
+        (Some(bytes), Some(text)) => bytes == text.as_bytes(),
+        (None, None) => true,
+        _ => false,
+    }
+}
+
+/// The words of a line.
+fn words_of(alloc: Global, line: &str) -> Result<Vec<String>, AllocError> {
+    let mut words = Vec::new(alloc);
+    for word in line.split_whitespace() {
+        words.push(String::from_str(alloc, word)?)?;
+    }
+    Ok(words)
+}
+
+/// Carries out a line, and gives the status.
+pub fn status_of<F: Folder, K: Sink>(
+    alloc: Global,
+    folder: &mut F,
+    line: &str,
+    out: &mut K,
+) -> Result<u8, AllocError> {
+    let words = words_of(alloc, line)?;
+    Ok(run(alloc, &words, folder, out))
+}
+
+/// A sink with room for a text, whose puts with these numbers fail.
+pub fn sink_of(alloc: Global, failing: Vec<u64>) -> Result<MemSink, AllocError> {
+    MemSink::new(alloc, ROOM, failing)
+}
+
+/// Carries out a line, and asserts its status and all that it puts.
+pub fn expect<F: Folder>(
+    rt: &impl Abort,
+    alloc: Global,
+    folder: &mut F,
+    line: &str,
+    status: u8,
+    text: &str,
+) -> Result<(), AllocError> {
+    let mut out = sink_of(alloc, Vec::new(alloc))?;
+    let ended = status_of(alloc, folder, line, &mut out)?;
+    assert_eq!(rt; ended, status, "status of {line}");
+    assert_eq!(rt; out.held(), text.as_bytes(), "text of {line}");
+    Ok(())
+}
