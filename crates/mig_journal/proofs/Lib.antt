@@ -1,0 +1,4 @@
+mod ArmingLaws
+mod MarksRead
+mod OneByte
+pub mod Steps

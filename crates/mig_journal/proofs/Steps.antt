@@ -1,0 +1,44 @@
+-- The steps of calls on a store with no copy in flight.
+use Rattle.std.proofs.Common.{◌≡◌, ◌≤◌, ℕ, List, [], Option, IfSome, OnOk, Result, Ok, Err, sym, ◌∙◌, subst, ap}
+use Rattle.mig_base.specs.declared.cells.Cell.{Cell}
+use Rattle.mig_base.specs.declared.cells.Flight.{Flight}
+use Rattle.mig_base.specs.Flights.{IsTargetOf}
+use Rattle.mig_base.specs.Images.{Image, NoCell}
+use Rattle.mig_base.specs.Stores.{State, flights, IsMoving, Changes, ChangesOnly, Looks, Ends}
+use Rattle.mig_base.proofs.Landing.{flights_same, ends_are_quiet, no_target}
+use Rattle.mig_base.proofs.StoreSteps.{changes_then, changes_wider, same_image}
+
+module _ (P : Cell → Type 0) (old mid : State) where
+  -- one step more
+  pub then_step : (Q : Cell → Type 0) (new : State) → ((cell : Cell) → Q cell → P cell) → ChangesOnly P old mid → ChangesOnly Q mid new → ChangesOnly P old new
+  then_step Q new within first second = changes_then P P [] [] old mid new first (changes_wider P P Q Q within within [] mid new second)
+
+  pub then_quiet : (new : State) → ChangesOnly P old mid → ChangesOnly NoCell mid new → ChangesOnly P old new
+  then_quiet new first second = then_step NoCell new (λ cell none. absurd none) first second
+
+  -- a sync more
+  pub then_sync : (new : State) → flights old ≡ [] → ChangesOnly P old mid → (these : List Flight) → Ends these mid new → ChangesOnly P old new
+  then_sync new none first these ends = then_quiet new first (ends_are_quiet mid new (flights_same old mid first.events ∙ none) these ends)
+
+  pub still_none : flights old ≡ [] → ChangesOnly P old mid → flights mid ≡ []
+  still_none none change = flights_same old mid change.events ∙ none
+
+-- a look changes nothing where no copy is in flight
+pub look_quiet : (old new : State) → flights old ≡ [] → Looks old new → ChangesOnly NoCell old new
+look_quiet old new none look = changes_wider NoCell NoCell (IsMoving old) NoCell (λ cell moving. no_target (flights old) cell none moving.1) (λ cell out. absurd out) [] old new look
+
+-- what reads give is the same where nothing changes
+pub quiet_same : (old new : State) → ChangesOnly NoCell old new → old.reads ≡ new.reads
+quiet_same old new quiet = same_image old.reads new.reads quiet.told
+
+pub sync_same : (mid new : State) → flights mid ≡ [] → (these : List Flight) → Ends these mid new → mid.reads ≡ new.reads
+sync_same mid new none these ends = quiet_same mid new (ends_are_quiet mid new none these ends)
+
+pub on_ok_is : {T E : Type 0} {P : Type 0} (r : Result T E) → P → OnOk r P
+on_ok_is (Ok x) p = p
+on_ok_is (Err e) p = tt
+
+-- two looks are one
+pub looks_then : (old mid new : State) → Looks old mid → Looks mid new → Looks old new
+looks_then old mid new first second = changes_then (IsMoving old) NoCell [] [] old mid new first
+    (changes_wider (IsMoving old) NoCell (IsMoving mid) NoCell (λ cell moving. (moving.0, subst (λ (fs : List Flight). IsTargetOf fs cell) (flights_same old mid first.events) moving.1)) (λ cell out. out) [] mid new second)

@@ -1,0 +1,12 @@
+use Rattle.std.proofs.Common.{◌≤◌}
+use Rattle.mig_base.specs.JobCells.{IsMark}
+use Rattle.mig_base.specs.Stores.{State, ChangesOnly}
+use Rattle.mig_journal.specs.FreshJournals.{AreUnmarked}
+use Rattle.mig_journal.proofs.arming.clear_marks.Given as goal
+
+abbrev pub invariant-loop-n : goal.invariant-loop-n
+invariant-loop-n g l = record {
+  cleared : AreUnmarked l.n (g.S.Store.state l.store).reads;
+  change : ChangesOnly (IsMark l.rounds) (g.S.Store.state l.initial.store) (g.S.Store.state l.store);
+  later : (g.S.Store.state l.initial.store).faults ≤ (g.S.Store.state l.store).faults;
+}

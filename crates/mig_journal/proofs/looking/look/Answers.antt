@@ -1,0 +1,9 @@
+use Rattle.mig_base.specs.Stores.{State}
+use Rattle.mig_journal.proofs.Steps.{looks_then}
+use Rattle.mig_journal.proofs.looking.look.Goals as goal
+
+pub returns-in_err-read-2-clause-change : goal.returns-in_err-read-2-clause-change
+returns-in_err-read-2-clause-change g c = looks_then (g.S.Store.state c.args.store.now) (g.S.Store.state c.read.new.self) (g.S.Store.state c.read-2.new.self) c.in_ok-read.ensures.change c.read-2.ensures.change
+
+pub returns-clause-change : goal.returns-clause-change
+returns-clause-change g c = looks_then (g.S.Store.state c.args.store.now) (g.S.Store.state c.read.new.self) (g.S.Store.state c.read-2.new.self) c.in_ok-read.ensures.change c.read-2.ensures.change

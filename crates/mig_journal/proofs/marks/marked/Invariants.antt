@@ -1,0 +1,13 @@
+use Rattle.std.proofs.Common.{◌≡◌, ◌≤◌, ◌+◌, ℕ, true}
+use Rattle.mig_base.specs.JobCells.{IsMark, Tells}
+use Rattle.mig_base.specs.Journals.{is_marked}
+use Rattle.mig_base.specs.Images.{NoCell}
+use Rattle.mig_base.specs.Stores.{State, ChangesOnly}
+use Rattle.mig_journal.proofs.marks.marked.Given as goal
+
+abbrev pub invariant-loop-n : goal.invariant-loop-n
+invariant-loop-n g l = record {
+  change : ChangesOnly NoCell (g.S.Store.state l.initial.store) (g.S.Store.state l.store);
+  later : (g.S.Store.state l.initial.store).faults ≤ (g.S.Store.state l.store).faults;
+  ones : Tells (IsMark l.rounds) (g.S.Store.state l.initial.store).reads → (m : ℕ) → 1 ≤ m → m ≤ l.n → is_marked (g.S.Store.state l.initial.store).reads m ≡ true;
+}

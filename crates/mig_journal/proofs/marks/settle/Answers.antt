@@ -1,0 +1,16 @@
+use Rattle.std.proofs.Common.{◌≡◌, [], IfSome, subst}
+use Rattle.mig_base.specs.Images.{Image}
+use Rattle.mig_base.specs.Stores.{State, flights, Changes}
+use Rattle.mig_journal.proofs.Steps.{on_ok_is, then_sync, still_none, sync_same}
+use Rattle.mig_journal.proofs.marks.settle.Goals as goal
+
+pub returns-clause-written : goal.returns-clause-written
+returns-clause-written g c =
+    let old = g.S.Store.state c.args.store.now in
+    let mid = g.S.Store.state c.write.new.self in
+    let new = g.S.Store.state c.sync.new.self in
+    on_ok_is c.sync.result (subst (λ (image : Image). IfSome (image c.args.cell.now) (λ told. told ≡ c.args.bytes.now))
+    (sync_same mid new (still_none (λ k. k ≡ c.args.cell.now) old mid c.requires.none c.write.ensures.change) c.sync.ensures.ends.0 c.sync.ensures.ends.1) c.in_ok-write.ensures.written)
+
+pub returns-clause-change : goal.returns-clause-change
+returns-clause-change g c = then_sync (λ k. k ≡ c.args.cell.now) (g.S.Store.state c.args.store.now) (g.S.Store.state c.write.new.self) (g.S.Store.state c.sync.new.self) c.requires.none c.write.ensures.change c.sync.ensures.ends.0 c.sync.ensures.ends.1

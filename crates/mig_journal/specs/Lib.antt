@@ -1,0 +1,2 @@
+pub mod FreshJournals
+pub mod SeenJournals

@@ -1,0 +1,199 @@
+-- One round, by the laws of safe images.
+use Rattle.std.proofs.Common.{◌≡◌, ◌⊎◌, inl, inr, ⊎_elim, Bool, true, false, ℕ, zero, suc, ◌<◌, ◌≤◌, ◌+◌, ◌++◌, List, [], ◌∷◌, length, get_or, Option, Some, None, IfSome, IsSome, refl, sym, ◌∙◌, ap, subst, arith}
+use Rattle.std.specs.Option.{option_map}
+use Rattle.std.specs.List.{Contains, All, Any}
+use Rattle.std.proofs.lemmas.Bool.{cases_Bool}
+use Rattle.std.proofs.lemmas.List.Elements.{All-contains, Contains-get_or}
+use Rattle.mig_base.specs.declared.ids.Spot.{Spot}
+use Rattle.mig_base.specs.declared.ids.Shift.{Shift}
+use Rattle.mig_base.specs.declared.cells.Cell.{Cell}
+use Rattle.mig_base.specs.declared.cells.Cell.TheVariants.{Head, Gate, Mark}
+use Rattle.mig_base.specs.declared.cells.Event.{Event}
+use Rattle.mig_base.specs.declared.cells.Flight.{Flight}
+use Rattle.mig_base.specs.InputLists.{Lists}
+use Rattle.mig_base.specs.Layouts.{round_at, At, IsTaken, IsSource, IsTarget}
+use Rattle.mig_base.specs.Running.{IsLegal}
+use Rattle.mig_base.specs.Images.{Image, NoCell, SameBut, IsCopy}
+use Rattle.mig_base.specs.Flights.{IsTargetOf}
+use Rattle.mig_base.specs.Stores.{State, Changes, ChangesOnly, LeavesOnly, IsSettled, SettledBut}
+use Rattle.mig_base.specs.Journals.{is_one, is_marked}
+use Rattle.mig_base.specs.Slots.{slot_of, zeros}
+use Rattle.mig_base.specs.Safety.{Contents, IsSound, IsSoundAfter}
+use Rattle.mig_base.specs.JobCells.{IsMark, IsJobCell, IsWorkCell, Tells}
+use Rattle.mig_base.specs.RoundStates.{IsSourceSlot, IsTargetSlot, IsInUse, IsCopied, HasDone}
+use Rattle.mig_base.proofs.Rounds.{contains_any, at_target, leaves}
+use Rattle.mig_base.proofs.SafetyLaws.{slot_apart, other_bytes, marking, unmarked, sound_after}
+use Rattle.mig_base.proofs.StoreSteps.{same_wider, same_then, same_image, told_kept, leaves_then, changes_leave, changes_then, changes_wider, settled_change}
+use Rattle.mig_mover.specs.Erasures.{AreZeros}
+use Rattle.mig_mover.specs.Tasks.{Task, IsTask}
+use Rattle.mig_mover.proofs.JobRounds.{on_disks}
+use Rattle.mig_lanes.specs.LaneSteps.{copies_of}
+use Rattle.mig_lanes.proofs.RoundCopies.{of_shifts, target_slot}
+
+from_same : (P : Cell → Type 0) (a b c : Image) → SameBut NoCell a b → SameBut P b c → SameBut P a c
+from_same P a b c first second = subst (λ (image : Image). SameBut P image c) (sym (same_image a b first)) second
+
+told_is : (cell : Option (List ℕ)) (bytes : List ℕ) → IsSome cell → IfSome cell (λ told. told ≡ bytes) → cell ≡ Some bytes
+told_is None bytes some is = cc
+told_is (Some told) bytes some is = ap Some is
+
+-- cells that are told go on being told
+tells_kept : (P Q : Cell → Type 0) (old new : Image) → SameBut P old new → Tells Q old → Tells Q new
+tells_kept P Q old new same tells cell of = told_kept P old new same cell (tells cell of)
+
+module _ (task : Task) (is : IsTask task) (k : ℕ) (lt : k < length task.plan) where
+  legal : IsLegal task.input (At task.input task.plan k) (round_at task.plan (suc k))
+  legal = is.runs.rounds k lt
+
+  from_here : (s : Shift) → Contains (round_at task.plan (suc k)) s → At task.input task.plan k s.item.0 ≡ Some s.from
+  from_here = leaves task.input (At task.input task.plan k) (round_at task.plan (suc k)) legal
+
+  -- a slot that a round goes to or leaves is one of the job's cells
+  target_job : (s : Shift) → Contains (round_at task.plan (suc k)) s → IsJobCell task.input task.plan (slot_of task.input s.to)
+  target_job s has = inr (s.to, (suc k, inr (has.0, s, has.1, has.2, refl)), refl)
+
+  source_job : (s : Shift) → Contains (round_at task.plan (suc k)) s → IsJobCell task.input task.plan (slot_of task.input s.from)
+  source_job s has = inr (s.from, (suc k, inl (has.0, s, has.1, has.2, refl)), refl)
+
+  mark_job : IsJobCell task.input task.plan (Mark (suc k))
+  mark_job = inl (inr (inr (suc k, omega arith, omega arith, refl)))
+
+  -- the source of a shift of a round is on a disk
+  left_on_disk : (r : ℕ) → r ≤ length task.plan → (s : Shift) → Contains (round_at task.plan r) s → s.from.disk.0 < length task.input.disks
+  left_on_disk zero le s has = absurd (let none = has.1 in omega arith)
+  left_on_disk (suc r) le s has = (on_disks task is (suc r) (omega arith) le s has).0
+
+  module _ (asked : Bool) (contents : Contents) (old : State) (done : HasDone asked task.input task.plan task.digest contents old k) (round : ℕ) (next : round ≡ suc k) where
+    abbrev pub Sound : Image → Type 0
+    Sound = IsSound asked task.input task.plan task.digest contents
+
+    to_slot : (cell : Cell) → IsTargetOf (copies_of task round) cell → IsTargetSlot task.input task.plan (suc k) cell
+    to_slot cell any = subst (λ (n : ℕ). IsTargetSlot task.input task.plan n cell) next (target_slot task round cell any)
+
+    from_slot : (cell : Cell) → IsSourceSlot task.input task.plan round cell → IsSourceSlot task.input task.plan (suc k) cell
+    from_slot cell of = subst (λ (n : ℕ). IsSourceSlot task.input task.plan n cell) next of
+
+    -- while the copies are made
+    copying : (before image : Image) → old.may_leave before → SameBut (IsTargetOf (copies_of task round)) before image → IsSoundAfter asked task.input task.plan task.digest contents image k
+    copying before image left same = other_bytes task.input is.valid task.plan is.runs task.digest contents k (omega arith) asked old.reads image
+        (same_then (IsInUse task.input task.plan k) old.reads before image
+        (same_wider (IsSourceSlot task.input task.plan k) (IsInUse task.input task.plan k) (λ cell of. inl of) old.reads before (done.settled before left))
+        (same_wider (IsTargetOf (copies_of task round)) (IsInUse task.input task.plan k) (λ cell of. inr (to_slot cell of)) before image same))
+        done.sound
+
+    pub exit_copy : (added : List Event) (copied : State) → Changes (IsTargetOf (copies_of task round)) (IsTargetOf (copies_of task round)) added old copied → LeavesOnly Sound old copied
+    exit_copy added copied copy = changes_leave Sound (IsTargetOf (copies_of task round)) (IsTargetOf (copies_of task round)) added old copied copy
+        (λ before image left same. sound_after task.input is.valid task.plan is.runs task.digest contents k (omega arith) asked image (copying before image left same))
+
+    -- once the copies are settled
+    module _ (added : List Event) (synced : State) (copy : Changes (IsTargetOf (copies_of task round)) (IsTargetOf (copies_of task round)) added old synced) (settled : IsSettled synced)
+        (copies : All (λ c. IsCopy (old.reads c.from) (synced.reads c.to)) (copies_of task round)) where
+      tells_synced : Tells (IsJobCell task.input task.plan) synced.reads
+      tells_synced = tells_kept (IsTargetOf (copies_of task round)) (IsJobCell task.input task.plan) old.reads synced.reads copy.told done.tells
+
+      copied_sound : IsSoundAfter asked task.input task.plan task.digest contents synced.reads k
+      copied_sound = other_bytes task.input is.valid task.plan is.runs task.digest contents k (omega arith) asked old.reads synced.reads
+          (same_wider (IsTargetOf (copies_of task round)) (IsInUse task.input task.plan k) (λ cell of. inr (to_slot cell of)) old.reads synced.reads copy.told) done.sound
+
+      copied_shifts : All (λ s. IsCopy (old.reads (slot_of task.input s.from)) (synced.reads (slot_of task.input s.to))) (round_at task.plan (suc k))
+      copied_shifts = subst (λ (n : ℕ). All (λ s. IsCopy (old.reads (slot_of task.input s.from)) (synced.reads (slot_of task.input s.to))) (round_at task.plan n)) next
+          (of_shifts task.input (λ c. IsCopy (old.reads c.from) (synced.reads c.to)) (round_at task.plan round) copies)
+
+      is_copied : IsCopied task.input task.plan contents synced.reads k
+      is_copied = record {
+        targets = λ j d in_range. target (get_or (round_at task.plan (suc k)) j d) (Contains-get_or (round_at task.plan (suc k)) j d in_range) (copied_shifts j d in_range);
+        sources = λ j d in_range free. source (get_or (round_at task.plan k) j d) (done.erased j d in_range) free (left_on_disk k (omega arith) (get_or (round_at task.plan k) j d) (Contains-get_or (round_at task.plan k) j d in_range));
+      }
+        where
+          target : (s : Shift) → Contains (round_at task.plan (suc k)) s → IsCopy (old.reads (slot_of task.input s.from)) (synced.reads (slot_of task.input s.to)) → synced.reads (slot_of task.input s.to) ≡ Some (contents s.item.0)
+          target s has copied =
+              told_is _ _ (tells_synced (slot_of task.input s.to) (target_job s has))
+              (subst (λ (o : Option (List ℕ)). IsCopy o (synced.reads (slot_of task.input s.to))) (done.sound.after.safe.stand s.item.0 s.from (from_here s has)) copied)
+
+          source : (s : Shift) → old.reads (slot_of task.input s.from) ≡ Some zeros → (IsTaken (At task.input task.plan (suc k)) s.from → ⊥) → s.from.disk.0 < length task.input.disks → synced.reads (slot_of task.input s.from) ≡ Some zeros
+          source s was free disk = copy.told.same (slot_of task.input s.from) (λ any. not_target (to_slot (slot_of task.input s.from) any)) ∙ was
+            where
+              not_target : IsTargetSlot task.input task.plan (suc k) (slot_of task.input s.from) → ⊥
+              not_target (spot, to, same) =
+                  let has = contains_any (λ (t : Shift). t.to ≡ spot) (round_at task.plan (suc k)) to in
+                  let there = subst (λ (p : Spot). p.disk.0 < length task.input.disks) to.4 (on_disks task is (suc k) (omega arith) (omega arith) to.1 has).1 in
+                  let at = slot_apart task.input is.valid spot s.from there disk same in
+                  free (to.1.item.0, at_target task.input (At task.input task.plan k) (round_at task.plan (suc k)) legal to.1 has ∙ ap Some (to.4 ∙ at))
+
+      -- while the mark is set
+      mark_maybe : (image : Image) → SameBut (λ c. c ≡ Mark (suc k)) synced.reads image → IsSound asked task.input task.plan task.digest contents image
+      mark_maybe image same = ⊎_elim
+          (λ set. sound_after task.input is.valid task.plan is.runs task.digest contents (suc k) lt asked image
+          (marking task.input is.valid task.plan is.runs task.digest contents k (omega arith) lt synced.reads image same asked set copied_sound is_copied))
+          (λ unset. sound_after task.input is.valid task.plan is.runs task.digest contents k (omega arith) asked image
+          (unmarked task.input is.valid task.plan is.runs task.digest contents k (omega arith) lt synced.reads image same asked unset copied_sound))
+          (cases_Bool (is_marked image (suc k)))
+
+      at_mark : (cell : Cell) → cell ≡ Mark round → cell ≡ Mark (suc k)
+      at_mark cell this = this ∙ ap Mark next
+
+      module _ (set : State) (mark : ChangesOnly (λ c. c ≡ Mark round) synced set) where
+        pub exit_mark : LeavesOnly Sound old set
+        exit_mark = leaves_then Sound old synced set (exit_copy added synced copy)
+            (changes_leave Sound (λ c. c ≡ Mark round) (λ c. c ≡ Mark round) [] synced set mark
+            (λ before image left same. mark_maybe image (from_same (λ c. c ≡ Mark (suc k)) synced.reads before image (settled before left) (same_wider (λ c. c ≡ Mark round) (λ c. c ≡ Mark (suc k)) at_mark before image same))))
+
+        module _ (marked : IfSome (set.reads (Mark round)) (λ bytes. bytes ≡ 1 ∷ [])) (settled_set : IsSettled set) (erased : State) (erase : ChangesOnly (IsSourceSlot task.input task.plan round) set erased) where
+          tells_set : Tells (IsJobCell task.input task.plan) set.reads
+          tells_set = tells_kept (λ c. c ≡ Mark round) (IsJobCell task.input task.plan) synced.reads set.reads mark.told tells_synced
+
+          is_set : set.reads (Mark (suc k)) ≡ Some (1 ∷ [])
+          is_set = told_is (set.reads (Mark (suc k))) (1 ∷ []) (tells_set (Mark (suc k)) mark_job) (subst (λ (n : ℕ). IfSome (set.reads (Mark n)) (λ bytes. bytes ≡ 1 ∷ [])) next marked)
+
+          reads_set : IsSoundAfter asked task.input task.plan task.digest contents set.reads (suc k)
+          reads_set = marking task.input is.valid task.plan is.runs task.digest contents k (omega arith) lt synced.reads set.reads (same_wider (λ c. c ≡ Mark round) (λ c. c ≡ Mark (suc k)) at_mark synced.reads set.reads mark.told)
+              asked (ap is_one is_set) copied_sound is_copied
+
+          erasing : (image : Image) → SameBut (IsSourceSlot task.input task.plan round) set.reads image → IsSoundAfter asked task.input task.plan task.digest contents image (suc k)
+          erasing image same = other_bytes task.input is.valid task.plan is.runs task.digest contents (suc k) lt asked set.reads image
+              (same_wider (IsSourceSlot task.input task.plan round) (IsInUse task.input task.plan (suc k)) (λ cell of. inl (from_slot cell of)) set.reads image same) reads_set
+
+          pub exit_erase : LeavesOnly Sound old erased
+          exit_erase = leaves_then Sound old set erased exit_mark
+              (changes_leave Sound (IsSourceSlot task.input task.plan round) (IsSourceSlot task.input task.plan round) [] set erased erase
+              (λ before image left same. sound_after task.input is.valid task.plan is.runs task.digest contents (suc k) lt asked image (erasing image (from_same (IsSourceSlot task.input task.plan round) set.reads before image (settled_set before left) same))))
+
+          -- the state after the round
+          pub done_next : All (λ s. AreZeros (erased.reads (slot_of task.input s.from))) (round_at task.plan round) → HasDone asked task.input task.plan task.digest contents erased round
+          done_next zeros_there = subst (HasDone asked task.input task.plan task.digest contents erased) (sym next) (record {
+            sound = erasing erased.reads erase.told;
+            erased = λ j d in_range. told_is _ _ (tells (slot_of task.input (get_or (round_at task.plan (suc k)) j d).from) (source_job (get_or (round_at task.plan (suc k)) j d) (Contains-get_or (round_at task.plan (suc k)) j d in_range))) (zeros_next j d in_range);
+            settled = λ image left. same_wider (IsSourceSlot task.input task.plan round) (IsSourceSlot task.input task.plan (suc k)) from_slot erased.reads image
+                (settled_change (IsSourceSlot task.input task.plan round) [] set erased erase (λ before was. same_wider NoCell (IsSourceSlot task.input task.plan round) (λ cell none. absurd none) set.reads before (settled_set before was)) image left);
+            tells = tells;
+          })
+            where
+              tells : Tells (IsJobCell task.input task.plan) erased.reads
+              tells = tells_kept (IsSourceSlot task.input task.plan round) (IsJobCell task.input task.plan) set.reads erased.reads erase.told tells_set
+
+              zeros_next : All (λ s. AreZeros (erased.reads (slot_of task.input s.from))) (round_at task.plan (suc k))
+              zeros_next = subst (λ (n : ℕ). All (λ s. AreZeros (erased.reads (slot_of task.input s.from))) (round_at task.plan n)) next zeros_there
+
+-- The cells that a round changes
+
+module _ (task : Task) (round : ℕ) (low : 1 ≤ round) (high : round ≤ length task.plan) (old copied : State) (added : List Event) (copy : Changes (IsTargetOf (copies_of task round)) (IsTargetOf (copies_of task round)) added old copied) where
+  to_work : (cell : Cell) → IsTargetOf (copies_of task round) cell → IsWorkCell task.input task.plan cell
+  to_work cell any = let at = target_slot task round cell any in inr (at.0, (round, inr at.1), at.2)
+
+  mark_work : (cell : Cell) → cell ≡ Mark round → IsWorkCell task.input task.plan cell
+  mark_work cell this = inl (round, low, high, this)
+
+  from_work : (cell : Cell) → IsSourceSlot task.input task.plan round cell → IsWorkCell task.input task.plan cell
+  from_work cell at = inr (at.0, (round, inl at.1), at.2)
+
+  pub copy_work : Changes (IsWorkCell task.input task.plan) (IsWorkCell task.input task.plan) added old copied
+  copy_work = changes_wider (IsWorkCell task.input task.plan) (IsWorkCell task.input task.plan) (IsTargetOf (copies_of task round)) (IsTargetOf (copies_of task round)) to_work to_work added old copied copy
+
+  module _ (set : State) (mark : ChangesOnly (λ c. c ≡ Mark round) copied set) where
+    pub set_work : Changes (IsWorkCell task.input task.plan) (IsWorkCell task.input task.plan) (added ++ []) old set
+    set_work = changes_then (IsWorkCell task.input task.plan) (IsWorkCell task.input task.plan) added [] old copied set copy_work
+        (changes_wider (IsWorkCell task.input task.plan) (IsWorkCell task.input task.plan) (λ c. c ≡ Mark round) (λ c. c ≡ Mark round) mark_work mark_work [] copied set mark)
+
+    pub erased_work : (erased : State) → ChangesOnly (IsSourceSlot task.input task.plan round) set erased → Changes (IsWorkCell task.input task.plan) (IsWorkCell task.input task.plan) ((added ++ []) ++ []) old erased
+    erased_work erased erase = changes_then (IsWorkCell task.input task.plan) (IsWorkCell task.input task.plan) (added ++ []) [] old set erased set_work
+        (changes_wider (IsWorkCell task.input task.plan) (IsWorkCell task.input task.plan) (IsSourceSlot task.input task.plan round) (IsSourceSlot task.input task.plan round) from_work from_work [] set erased erase)

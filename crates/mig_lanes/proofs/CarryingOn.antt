@@ -1,0 +1,49 @@
+-- The loop over rounds, and the sync after it.
+use Rattle.std.proofs.Common.{◌≡◌, ◌≤◌, ◌++◌, ◌-◌, ◌+◌, Bool, ℕ, List, [], map, length, get_or, refl, sym, ◌∙◌, subst, ap, arith}
+use Rattle.std.specs.List.{range_with_len}
+use Rattle.mig_base.specs.declared.cells.Cell.{Cell}
+use Rattle.mig_base.specs.declared.cells.Event.{Event}
+use Rattle.mig_base.specs.declared.ids.Shift.{Shift}
+use Rattle.mig_base.specs.declared.cells.Flight.{Flight}
+use Rattle.mig_base.specs.Images.{Image, NoCell}
+use Rattle.mig_base.specs.InputLists.{Lists}
+use Rattle.mig_base.specs.Layouts.{round_at}
+use Rattle.mig_base.specs.JobCells.{IsWorkCell, IsJobCell, Tells}
+use Rattle.mig_base.specs.RoundEvents.{AreRounds, Adds}
+use Rattle.mig_base.specs.RoundStates.{IsSourceSlot, HasDone}
+use Rattle.mig_base.specs.Safety.{Contents, IsSound, IsSoundAfter}
+use Rattle.mig_base.specs.Slots.{slot_of, zeros}
+use Rattle.mig_base.specs.Stores.{State, IsState, flights, Changes, Ends, LeavesOnly, IsSettled}
+use Rattle.mig_base.proofs.Landing.{ends_are_quiet}
+use Rattle.mig_base.proofs.StoreSteps.{same_wider, changes_none, changes_then, changes_wider, leaves_none, leaves_then, quiet_leaves, same_image}
+use Rattle.mig_mover.specs.Tasks.{Task}
+use Rattle.mig_lanes.specs.LaneSteps.{copies_of}
+use Rattle.mig_lanes.proofs.EventSteps.{adds_none}
+
+-- changes of some cells, with events
+abbrev pub SomeChange : (Cell → Type 0) → State → State → Type 0
+SomeChange P old new = (added : List Event) × Changes P P added old new
+
+module _ (P : Cell → Type 0) where
+  pub change_none : (s : State) → SomeChange P s s
+  change_none s = ([], changes_none P P s)
+
+  pub change_then : (old mid new : State) → SomeChange P old mid → SomeChange P mid new → SomeChange P old new
+  change_then old mid new first second = (first.0 ++ second.0, changes_then P P first.0 second.0 old mid new first.1 second.1)
+
+  pub change_quiet : (old mid new : State) → SomeChange P old mid → Changes NoCell NoCell [] mid new → SomeChange P old new
+  change_quiet old mid new first quiet = change_then old mid new first ([], changes_wider P P NoCell NoCell (λ cell out. absurd out) (λ cell out. absurd out) [] mid new quiet)
+
+-- no round yet
+pub none_yet : (task : Task) (k : ℕ) (s : State) → Adds (AreRounds (map (copies_of task) (range_with_len (k + 1) (k - k)))) s s
+none_yet task k s = adds_none (AreRounds (map (copies_of task) (range_with_len (k + 1) (k - k)))) s s (subst (λ (n : ℕ). AreRounds (map (copies_of task) (range_with_len (k + 1) n)) []) (let e : 0 ≡ k - k = omega arith in e) refl) (changes_none NoCell NoCell s).events
+
+-- what was done is done after a sync
+module _ (asked : Bool) (task : Task) (contents : Contents) (k : ℕ) (mid new : State) (same : mid.reads ≡ new.reads) (settled : IsSettled new) where
+  pub done_synced : HasDone asked task.input task.plan task.digest contents mid k → HasDone asked task.input task.plan task.digest contents new k
+  done_synced done = record {
+    sound = subst (λ (image : Image). IsSoundAfter asked task.input task.plan task.digest contents image k) same done.sound;
+    erased = λ j d lt. ap (λ (image : Image). image (slot_of task.input (get_or (round_at task.plan k) j d).from)) (sym same) ∙ done.erased j d lt;
+    settled = λ image left. same_wider NoCell (IsSourceSlot task.input task.plan k) (λ cell out. absurd out) new.reads image (settled image left);
+    tells = subst (λ (image : Image). Tells (IsJobCell task.input task.plan) image) same done.tells;
+  }

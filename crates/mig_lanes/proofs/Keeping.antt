@@ -1,0 +1,46 @@
+-- The copies of a round keep the limits that its shifts keep.
+use Rattle.std.proofs.Common.{◌≡◌, ◌≢◌, ℕ, zero, suc, ◌<◌, ◌≤◌, Bool, true, false, List, [], ◌∷◌, length, get_or, map, refl, sym, ◌∙◌, ap, subst, arith}
+use Rattle.std.specs.List.{All, AllPairs, position_or_len}
+use Rattle.std.specs.Str.{bytes_eq}
+use Rattle.std.specs.Cmp.Lexicographic.{same_text}
+use Rattle.std.proofs.lemmas.Bool.{and_parts, false_from_ne_true}
+use Rattle.std.proofs.lemmas.List.{get_or_default}
+use Rattle.std.proofs.lemmas.List.Sums.{position_or_len_is}  -- the first place that passes
+use Rattle.mig_base.specs.declared.cells.Cell.TheVariants.{Slot}
+use Rattle.mig_base.specs.declared.ids.Shift.{Shift}
+use Rattle.mig_base.specs.declared.ids.Spot.{Spot}
+use Rattle.mig_base.specs.declared.inputs.Disk.{Disk}
+use Rattle.mig_base.specs.InputLists.{Lists, no_disk}
+use Rattle.mig_base.specs.Transfers.{Trip, KeepsLimits}
+use Rattle.mig_base.specs.Running.{trip_of}
+use Rattle.mig_base.specs.Flights.{disk_of_cell, trip_of_flight, AreWithinLimits}
+use Rattle.mig_base.proofs.CellTests.{is_cell-same}
+use Rattle.mig_base.specs.Slots.{slot_of}
+use Rattle.mig_base.specs.RoundEvents.{flight_of, flights_of}
+
+-- each end of each shift is on a disk of the input
+abbrev pub AreOnDisks : Lists → List Shift → Type 0
+AreOnDisks input shifts = All (λ s. (s.from.disk.0 < length input.disks) × (s.to.disk.0 < length input.disks)) shifts
+
+same_name : (d : List ℕ) → bytes_eq d d ≡ true
+same_name d = (and_parts _ _ (is_cell-same (Slot d 0) (Slot d 0) refl)).0
+
+module _ (input : Lists) (names : AllPairs (λ a b. a.name ≢ b.name) input.disks) where
+  -- a slot's disk is found by its name
+  pub disk_found : (spot : Spot) → spot.disk.0 < length input.disks → disk_of_cell input.disks (slot_of input spot) ≡ spot.disk.0
+  disk_found spot lt = position_or_len_is (λ disk. bytes_eq (get_or input.disks spot.disk.0 no_disk).name disk.name) input.disks spot.disk.0 no_disk (omega arith)
+      (λ k less. false_from_ne_true _ (λ is. names k spot.disk.0 no_disk less lt (sym (same_text (get_or input.disks spot.disk.0 no_disk).name (get_or input.disks k no_disk).name (sym is)))))
+      (λ within. same_name (get_or input.disks spot.disk.0 no_disk).name)
+
+  same_trips : (shifts : List Shift) → AreOnDisks input shifts → map (trip_of_flight input.disks) (flights_of input shifts) ≡ map trip_of shifts
+  same_trips [] on = refl
+  same_trips (s ∷ ss) on =
+      let here = on 0 s (omega arith) in
+      let from = disk_found s.from here.0 in
+      let to = disk_found s.to here.1 in
+      let rest = same_trips ss (λ k d lt. on (suc k) d (omega arith)) in
+      λ i. record { leaves = from i; reaches = to i } ∷ rest i
+
+  -- what the round keeps is kept by its copies
+  pub copies_within : (shifts : List Shift) → AreOnDisks input shifts → KeepsLimits input.disks (map trip_of shifts) → AreWithinLimits input.disks (flights_of input shifts)
+  copies_within shifts on keeps = subst (λ (trips : List Trip). KeepsLimits input.disks trips) (sym (same_trips shifts on)) keeps

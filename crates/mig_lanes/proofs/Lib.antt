@@ -1,0 +1,11 @@
+mod Beginning
+mod Carrying
+mod CarryingOn
+mod EventSteps
+mod Keeping
+mod Limiting
+mod RoundCopies
+mod RoundLists
+mod Rounding
+mod RunLaws
+mod RunLimits

@@ -1,0 +1,100 @@
+-- The events of rounds, one after the other.
+use Rattle.std.proofs.Common.{◌≡◌, ◌⊎◌, inl, inr, ⊎_elim, ℕ, zero, suc, ◌<◌, ◌≤◌, ◌+◌, ◌-◌, ◌++◌, List, [], ◌∷◌, length, take, drop, map, refl, sym, ◌∙◌, ap, subst, arith, append-nil, append_assoc}
+use Rattle.std.specs.List.{range_with_len}
+use Rattle.std.specs.List.Sorted.{IsPermutation}
+use Rattle.std.proofs.lemmas.List.{map-append, take_all, take-append-drop}
+use Rattle.std.proofs.lemmas.List.Sorted.{IsPermutation-refl}
+use Rattle.mig_base.specs.declared.cells.Event.{Event}
+use Rattle.mig_base.specs.declared.cells.Flight.{Flight}
+use Rattle.mig_base.specs.Flights.{began, ended}
+use Rattle.mig_base.specs.RoundEvents.{IsRound, AreRounds}
+use Rattle.mig_mover.specs.Tasks.{Task}
+use Rattle.mig_lanes.specs.LaneSteps.{copies_of, later_rounds, BeginsRound, BeginsRounds}
+
+-- part of a round's events is a prefix of a whole round's
+part_is_prefix : (round : List Flight) (added : List Event) → BeginsRound round added → (more : List Event) × IsRound round (added ++ more)
+part_is_prefix round added part = ⊎_elim early late part.all_first
+  where
+    early : part.done ≡ [] → (more : List Event) × IsRound round (added ++ more)
+    early none = (
+      map began (drop part.begun round) ++ map ended part.left,
+      record {
+        order = part.left;
+        each_once = subst (λ (l : List Flight). IsPermutation round (l ++ part.left)) none part.each_once;
+        is = ap (λ (l : List Event). l ++ (map began (drop part.begun round) ++ map ended part.left)) (part.is ∙ ap (λ (l : List Flight). map began (take part.begun round) ++ map ended l) none ∙ append-nil (map began (take part.begun round)))
+            ∙ sym (append_assoc (map began (take part.begun round)) (map began (drop part.begun round)) (map ended part.left))
+            ∙ ap (λ (l : List Event). l ++ map ended part.left) (sym (map-append began (take part.begun round) (drop part.begun round)) ∙ ap (map began) (take-append-drop part.begun round));
+      },
+    )
+
+    late : length round ≤ part.begun → (more : List Event) × IsRound round (added ++ more)
+    late all = (
+      map ended part.left,
+      record {
+        order = part.done ++ part.left;
+        each_once = part.each_once;
+        is = ap (λ (l : List Event). l ++ map ended part.left) (part.is ∙ ap (λ (l : List Flight). map began l ++ map ended part.done) (take_all part.begun round all))
+            ∙ append_assoc (map began round) (map ended part.done) (map ended part.left)
+            ∙ ap (λ (l : List Event). map began round ++ l) (sym (map-append ended part.done part.left));
+      },
+    )
+
+-- rounds have events
+pub some_rounds : (rounds : List (List Flight)) → (added : List Event) × AreRounds rounds added
+some_rounds [] = ([], refl)
+some_rounds (round ∷ rounds) =
+    let rest = some_rounds rounds in
+    let first : List Event = map began round ++ map ended round in
+    (first ++ rest.0, (first, rest.0, refl, record { order = round; each_once = IsPermutation-refl round; is = refl }, rest.1))
+
+-- the events of some rounds, and then of others
+pub rounds_append : (xs ys : List (List Flight)) (a b : List Event) → AreRounds xs a → AreRounds ys b → AreRounds (xs ++ ys) (a ++ b)
+rounds_append [] ys a b none more = subst (AreRounds ys) (sym (ap (λ (l : List Event). l ++ b) none)) more
+rounds_append (x ∷ xs) ys a b are more =
+    (are.0, are.1 ++ b, ap (λ (l : List Event). l ++ b) are.2 ∙ append_assoc are.0 are.1 b, are.3, rounds_append xs ys are.1 b are.4 more)
+
+one_round : (round : List Flight) (added : List Event) → IsRound round added → AreRounds (round ∷ []) added
+one_round round added is = (added, [], sym (append-nil added), is, refl)
+
+-- of rounds, the first ones, and then part of one
+part_append : (xs ys : List (List Flight)) (round : List Flight) (a b : List Event) → AreRounds xs a → BeginsRound round b → BeginsRounds (xs ++ round ∷ ys) (a ++ b)
+part_append xs ys round a b are part =
+    let whole = part_is_prefix round b part in
+    let rest = some_rounds ys in (
+      whole.0 ++ rest.0,
+      subst (AreRounds (xs ++ round ∷ ys)) (ap (λ (l : List Event). a ++ l) (append_assoc b whole.0 rest.0) ∙ sym (append_assoc a b (whole.0 ++ rest.0)))
+          (rounds_append xs (round ∷ ys) a ((b ++ whole.0) ++ rest.0) are (b ++ whole.0, rest.0, refl, whole.1, rest.1)),
+    )
+
+-- whole rounds are a beginning
+rounds_begin : (xs ys : List (List Flight)) (a : List Event) → AreRounds xs a → BeginsRounds (xs ++ ys) a
+rounds_begin xs ys a are = let rest = some_rounds ys in (rest.0, rounds_append xs ys a rest.0 are rest.1)
+
+range_split : {X : Type 0} (f : ℕ → X) (a m n : ℕ) → map f (range_with_len a (m + n)) ≡ map f (range_with_len a m) ++ map f (range_with_len (a + m) n)
+range_split f a zero n = λ i. map f (range_with_len (let e : a ≡ a + zero = omega arith in e i) (let e : zero + n ≡ n = omega arith in e i))
+range_split f a (suc m) n =
+    ap (λ (j : ℕ). map f (range_with_len a j)) (let e : suc m + n ≡ suc (m + n) = omega arith in e)
+    ∙ ap (λ (l : List _). f a ∷ l) (range_split f (a + 1) m n ∙ ap (λ (j : ℕ). map f (range_with_len (a + 1) m) ++ map f (range_with_len j n)) (let e : a + 1 + m ≡ a + suc m = omega arith in e))
+
+module _ (task : Task) (k n : ℕ) (low : k ≤ n) where
+  -- the rounds k + 1 to n
+  abbrev pub rounds_to : List (List Flight)
+  rounds_to = map (copies_of task) (range_with_len (k + 1) (n - k))
+
+  pub rounds_next : (a b : List Event) → AreRounds (map (copies_of task) (range_with_len (k + 1) (n - k))) a → IsRound (copies_of task (n + 1)) b → AreRounds (map (copies_of task) (range_with_len (k + 1) (n + 1 - k))) (a ++ b)
+  rounds_next a b are is = subst (λ (l : List (List Flight)). AreRounds l (a ++ b)) (sym next) (rounds_append rounds_to (copies_of task (n + 1) ∷ []) a b are (one_round (copies_of task (n + 1)) b is))
+    where
+      next : map (copies_of task) (range_with_len (k + 1) (n + 1 - k)) ≡ map (copies_of task) (range_with_len (k + 1) (n - k)) ++ copies_of task (n + 1) ∷ []
+      next = ap (λ (j : ℕ). map (copies_of task) (range_with_len (k + 1) j)) (let e : n + 1 - k ≡ (n - k) + 1 = omega arith in e) ∙ range_split (copies_of task) (k + 1) (n - k) 1
+          ∙ ap (λ (j : ℕ). map (copies_of task) (range_with_len (k + 1) (n - k)) ++ copies_of task j ∷ []) (let e : k + 1 + (n - k) ≡ n + 1 = omega arith in e)
+
+  pub rounds_part : n < length task.plan → (a b : List Event) → AreRounds (map (copies_of task) (range_with_len (k + 1) (n - k))) a → BeginsRound (copies_of task (n + 1)) b → BeginsRounds (later_rounds task k) (a ++ b)
+  rounds_part lt a b are part = subst (λ (l : List (List Flight)). BeginsRounds l (a ++ b)) (sym split) (part_append rounds_to (map (copies_of task) (range_with_len (n + 1 + 1) (length task.plan - n - 1))) (copies_of task (n + 1)) a b are part)
+    where
+      split : later_rounds task k ≡ map (copies_of task) (range_with_len (k + 1) (n - k)) ++ copies_of task (n + 1) ∷ map (copies_of task) (range_with_len (n + 1 + 1) (length task.plan - n - 1))
+      split = ap (λ (j : ℕ). map (copies_of task) (range_with_len (k + 1) j)) (let e : length task.plan - k ≡ (n - k) + suc (length task.plan - n - 1) = omega arith in e)
+          ∙ range_split (copies_of task) (k + 1) (n - k) (suc (length task.plan - n - 1))
+          ∙ ap (λ (j : ℕ). map (copies_of task) (range_with_len (k + 1) (n - k)) ++ copies_of task j ∷ map (copies_of task) (range_with_len (j + 1) (length task.plan - n - 1))) (let e : k + 1 + (n - k) ≡ n + 1 = omega arith in e)
+
+pub all_begin : (task : Task) (k : ℕ) (a : List Event) → AreRounds (later_rounds task k) a → BeginsRounds (later_rounds task k) a
+all_begin task k a are = ([], subst (AreRounds (later_rounds task k)) (sym (append-nil a)) are)

@@ -1,0 +1,107 @@
+-- A plan that is entered, and whose rounds are then carried out.
+use Rattle.std.proofs.Common.{◌≡◌, ◌⊎◌, inl, inr, Bool, true, false, ℕ, ◌≤◌, ◌++◌, List, [], length, map, Option, IsSome, refl, sym, ◌∙◌, ap, subst, arith, append-nil, append_assoc}
+use Rattle.std.proofs.lemmas.Bool.{false≢true}
+use Rattle.mig_base.specs.declared.cells.Cell.{Cell}
+use Rattle.mig_base.specs.declared.cells.Cell.TheVariants.{Gate}
+use Rattle.mig_base.specs.declared.cells.Event.{Event}
+use Rattle.mig_base.specs.declared.cells.Flight.{Flight}
+use Rattle.mig_base.specs.Arrivals.{IsArrived, IsReached}
+use Rattle.mig_base.specs.Flights.{ended, IsTargetOf, AreWithinLimits}
+use Rattle.mig_base.specs.Images.{Image, SameBut}
+use Rattle.mig_base.specs.Journals.{is_one, is_armed}
+use Rattle.mig_base.specs.JobCells.{IsMark, IsPlanSlot, IsWorkCell, IsJobCell, Tells, SettlesTo}
+use Rattle.mig_base.specs.RoundEvents.{AreRounds, IsRun, BeginsRun, Adds, StayWithinLimits}
+use Rattle.mig_base.specs.RoundStates.{HasDone}
+use Rattle.mig_base.specs.Safety.{Contents, IsSafe, IsSound}
+use Rattle.mig_base.specs.Stores.{State, flights, Changes, LeavesOnly, IsSettled}
+use Rattle.mig_base.proofs.ArrivalLaws.{reached}
+use Rattle.mig_base.proofs.StoreSteps.{leaves_then, changes_leave, changes_then, changes_wider}
+use Rattle.mig_mover.specs.Moves.{IsReadyIdle, Keeps, Enters}
+use Rattle.mig_mover.specs.Tasks.{Task, IsTask}
+use Rattle.mig_lanes.specs.LaneSteps.{later_rounds, BeginsRounds}
+use Rattle.mig_lanes.specs.Runs.{Finishes, IsPart}
+use Rattle.mig_lanes.proofs.EventSteps.{adds_then, adds_wider}
+use Rattle.mig_lanes.proofs.RoundLists.{some_rounds, all_begin}
+use Rattle.mig_lanes.proofs.RunLimits.{job_within}
+
+settles_wider : (P Q : Image → Type 0) (s : State) → ((image : Image) → P image → Q image) → SettlesTo P s → SettlesTo Q s
+settles_wider P Q s gives (inl now) = inl (gives s.reads now.0, now.1)
+settles_wider P Q s gives (inr told) = inr (λ image left. gives image (told.0 image left), told.1)
+
+safe_sound : (task : Task) (contents : Contents) (image : Image) → IsSafe task.input task.plan task.digest contents image → IsSound false task.input task.plan task.digest contents image
+safe_sound task contents image safe = record { safe = safe; clean = λ asked. absurd (false≢true asked) }
+
+work_job : (task : Task) (cell : Cell) → IsWorkCell task.input task.plan cell → IsJobCell task.input task.plan cell
+work_job task cell (inl mark) = inl (inr (inr mark))
+work_job task cell (inr slot) = inr slot
+
+gate_no_work : (task : Task) → IsWorkCell task.input task.plan Gate → ⊥
+gate_no_work task (inl mark) = let e = mark.3 in cc
+gate_no_work task (inr slot) = let e = slot.2 in cc
+
+gate_job : (task : Task) → IsJobCell task.input task.plan Gate
+gate_job task = inl (inr (inl refl))
+
+module _ (task : Task) (is : IsTask task) (old mid new : State) (keeps : Keeps task old mid) (k : ℕ) (enters : Enters task old mid k) where
+  module _ (moment : (asked : Bool) (contents : Contents) → HasDone asked task.input task.plan task.digest contents mid k → LeavesOnly (IsSound asked task.input task.plan task.digest contents) mid new)
+      (change : (added : List Event) × Changes (IsWorkCell task.input task.plan) (IsWorkCell task.input task.plan) added mid new) (later : mid.faults ≤ new.faults) where
+    pub run_keeps : Keeps task old new
+    run_keeps = record {
+      sound = λ asked contents tells before. leaves_then (IsSound asked task.input task.plan task.digest contents) old mid new (keeps.sound asked contents tells before) (moment asked contents (enters.done asked contents tells before));
+      ready = λ tells before. leaves_then (IsReadyIdle task) old mid new (keeps.ready tells before)
+          (changes_leave (IsReadyIdle task) (IsWorkCell task.input task.plan) (IsWorkCell task.input task.plan) change.0 mid new change.1
+          (λ from image left same idle. absurd (false≢true (sym idle ∙ ap is_one (same.same Gate (gate_no_work task)) ∙ enters.armed (tells Gate (gate_job task)) from left))));
+      change = (
+        keeps.change.0 ++ change.0,
+        changes_then (λ cell. IsTargetOf (flights old) cell ⊎ IsJobCell task.input task.plan cell) (IsJobCell task.input task.plan) keeps.change.0 change.0 old mid new keeps.change.1
+            (changes_wider (λ cell. IsTargetOf (flights old) cell ⊎ IsJobCell task.input task.plan cell) (IsJobCell task.input task.plan) (IsWorkCell task.input task.plan) (IsWorkCell task.input task.plan) (λ cell of. inr (work_job task cell of)) (work_job task) change.0 mid new change.1),
+      );
+      later = omega (arith, keeps.later, later);
+    }
+
+  pub run_finishes : ((asked : Bool) (contents : Contents) → HasDone asked task.input task.plan task.digest contents mid k → HasDone asked task.input task.plan task.digest contents new (length task.plan)) → IsSettled new → flights new ≡ [] → Finishes task old new k
+  run_finishes done settled landed = record {
+    reached = λ contents tells before. let d = done true contents (enters.done true contents tells before) in reached task.input is.valid task.plan is.runs task.digest contents new.reads d.sound d.erased;
+    arrived = λ contents tells before. (done false contents (enters.done false contents tells
+        (settles_wider (IsSafe task.input task.plan task.digest contents) (IsSound false task.input task.plan task.digest contents) old (safe_sound task contents) before))).sound.after;
+    settled = settled;
+    landed = landed;
+    most = enters.most;
+    found = enters.found;
+    ready = enters.ready;
+  }
+
+-- Events
+
+run_then : (before : List Flight) (rounds : List (List Flight)) (a b : List Event) → IsRun before [] a → AreRounds rounds b → IsRun before rounds (a ++ b)
+run_then before rounds a b first are = record {
+  order = first.order;
+  rest = b;
+  each_once = first.each_once;
+  is = ap (λ (l : List Event). l ++ b) (first.is ∙ ap (λ (l : List Event). map ended first.order ++ l) first.then_rounds ∙ append-nil (map ended first.order));
+  then_rounds = are;
+}
+
+begins_then : (before : List Flight) (rounds : List (List Flight)) (a b : List Event) → IsRun before [] a → BeginsRounds rounds b → BeginsRun before rounds (a ++ b)
+begins_then before rounds a b first begins = (begins.0, subst (IsRun before rounds) (sym (append_assoc a b begins.0)) (run_then before rounds a (b ++ begins.0) first begins.1))
+
+begins_only : (before : List Flight) (rounds : List (List Flight)) (a : List Event) → BeginsRun before [] a → BeginsRun before rounds a
+begins_only before rounds a begins =
+    let more = some_rounds rounds in
+    (begins.0 ++ more.0, subst (IsRun before rounds) (append_assoc a begins.0 more.0) (run_then before rounds (a ++ begins.0) more.0 begins.1 more.1))
+
+module _ (task : Task) (is : IsTask task) (k : ℕ) (most : k ≤ length task.plan) (old mid : State) where
+  part : (added : List Event) → BeginsRun (flights old) (later_rounds task k) added → IsPart task old k added
+  part added begins = record { begins = begins; within = job_within task is (flights old) k most added begins }
+
+  pub enter_part : Adds (BeginsRun (flights old) []) old mid → Adds (IsPart task old k) old mid
+  enter_part = adds_wider (BeginsRun (flights old) []) (IsPart task old k) old mid (λ added begins. part added (begins_only (flights old) (later_rounds task k) added begins))
+
+  module _ (new : State) (ended_all : Adds (IsRun (flights old) []) old mid) where
+    pub run_part : Adds (BeginsRounds (later_rounds task k)) mid new → Adds (IsPart task old k) old new
+    run_part = adds_then (IsRun (flights old) []) old mid new (BeginsRounds (later_rounds task k)) (IsPart task old k)
+        (λ a b first begins. part (a ++ b) (begins_then (flights old) (later_rounds task k) a b first begins)) ended_all
+
+    pub run_events : Adds (AreRounds (later_rounds task k)) mid new → Adds (IsRun (flights old) (later_rounds task k)) old new
+    run_events = adds_then (IsRun (flights old) []) old mid new (AreRounds (later_rounds task k)) (IsRun (flights old) (later_rounds task k))
+        (run_then (flights old) (later_rounds task k)) ended_all

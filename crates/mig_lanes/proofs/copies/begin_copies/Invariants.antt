@@ -1,0 +1,14 @@
+use Rattle.std.proofs.Common.{◌≤◌, take, map}
+use Rattle.std.specs.List.{AllWithin}
+use Rattle.mig_base.specs.Images.{IsCopy}
+use Rattle.mig_base.specs.Flights.{began, IsTargetOf}
+use Rattle.mig_base.specs.Stores.{State, flights, Changes}
+use Rattle.mig_lanes.specs.LaneSteps.{copies_of}
+use Rattle.mig_lanes.proofs.copies.begin_copies.Given as goal
+
+abbrev pub invariant-loop-place : goal.invariant-loop-place
+invariant-loop-place g l = record {
+  change : Changes (IsTargetOf (copies_of l.job l.round)) (IsTargetOf (copies_of l.job l.round)) (map began (take l.place (copies_of l.job l.round))) (g.S.Store.state l.initial.store) (g.S.Store.state l.store);
+  landed : AllWithin (λ c. ¬ IsTargetOf (flights (g.S.Store.state l.store)) c.to → IsCopy ((g.S.Store.state l.initial.store).reads c.from) ((g.S.Store.state l.store).reads c.to)) (copies_of l.job l.round) 0 l.place;
+  later : (g.S.Store.state l.initial.store).faults ≤ (g.S.Store.state l.store).faults;
+}

@@ -1,0 +1,110 @@
+use Rattle.std.proofs.Common.{◌≡◌, ◌+◌, ◌-◌, ◌++◌, Bool, [], ℕ, List, map, length, sym, subst, arith}
+use Rattle.std.specs.List.{range_with_len}
+use Rattle.std.proofs.lemmas.Result.{on_ok_weaker}
+use Rattle.mig_base.specs.declared.cells.Event.{Event}
+use Rattle.mig_base.specs.JobCells.{IsWorkCell}
+use Rattle.mig_base.specs.Images.{NoCell}
+use Rattle.mig_base.specs.RoundEvents.{IsRound, AreRounds, Adds}
+use Rattle.mig_base.specs.RoundStates.{HasDone}
+use Rattle.mig_base.specs.Safety.{Contents, IsSound}
+use Rattle.mig_base.specs.Stores.{State, flights, Changes, LeavesOnly}
+use Rattle.mig_base.proofs.Landing.{ends_are_quiet}
+use Rattle.mig_base.proofs.StoreSteps.{leaves_none, leaves_then, quiet_leaves, same_image}
+use Rattle.mig_journal.proofs.Steps.{on_ok_is}
+use Rattle.mig_lanes.specs.LaneSteps.{copies_of, later_rounds, BeginsRound, BeginsRounds}
+use Rattle.mig_lanes.proofs.CarryingOn.{change_none, change_then, change_quiet, none_yet, done_synced}
+use Rattle.mig_lanes.proofs.EventSteps.{adds_then, adds_kept, adds_wider}
+use Rattle.mig_lanes.proofs.RoundLists.{rounds_next, rounds_part, all_begin}
+use Rattle.mig_lanes.proofs.rounds.carry_on.Goals as goal
+
+pub loop-done-init : goal.loop-done-init
+loop-done-init g c =
+    let old = g.S.Store.state c.args.store.now in
+    record {
+      low = omega arith;
+      any_moment = λ asked contents done. leaves_none (IsSound asked c.args.job.now.input c.args.job.now.plan c.args.job.now.digest contents) old;
+      done = λ asked contents done. done;
+      landed = c.requires.none;
+      rounds = none_yet c.args.job.now c.args.k old;
+      change = change_none (IsWorkCell c.args.job.now.input c.args.job.now.plan) old;
+      later = omega arith;
+    }
+
+pub returns-in_err-carry_out-clause-any_moment : goal.returns-in_err-carry_out-clause-any_moment
+returns-in_err-carry_out-clause-any_moment g c = λ asked contents done.
+    leaves_then (IsSound asked c.args.job.now.input c.args.job.now.plan c.args.job.now.digest contents) (g.S.Store.state c.args.store.now) (g.S.Store.state c.loop-done.store) (g.S.Store.state c.carry_out.new.store)
+    (c.loop-done.invariant.any_moment asked contents done) (c.carry_out.ensures.any_moment asked contents (c.loop-done.invariant.done asked contents done))
+
+pub returns-in_err-carry_out-clause-part : goal.returns-in_err-carry_out-clause-part
+returns-in_err-carry_out-clause-part g c =
+    adds_then (AreRounds (map (copies_of c.args.job.now) (range_with_len (c.args.k + 1) (c.loop-done.done - c.args.k)))) (g.S.Store.state c.args.store.now) (g.S.Store.state c.loop-done.store) (g.S.Store.state c.carry_out.new.store)
+    (BeginsRound (copies_of c.args.job.now (c.loop-done.done + 1))) (BeginsRounds (later_rounds c.args.job.now c.args.k))
+    (rounds_part c.args.job.now c.args.k c.loop-done.done c.loop-done.invariant.low (omega (arith, c.loop-done-test.true, c.rounds-done-end.ensures.count)))
+    c.loop-done.invariant.rounds c.carry_out.ensures.part
+
+pub returns-in_err-carry_out-clause-change : goal.returns-in_err-carry_out-clause-change
+returns-in_err-carry_out-clause-change g c =
+    change_then (IsWorkCell c.args.job.now.input c.args.job.now.plan) (g.S.Store.state c.args.store.now) (g.S.Store.state c.loop-done.store) (g.S.Store.state c.carry_out.new.store) c.loop-done.invariant.change c.carry_out.ensures.change
+
+pub loop-done-preserved : goal.loop-done-preserved
+loop-done-preserved g c =
+    let old = g.S.Store.state c.args.store.now in
+    let mid = g.S.Store.state c.loop-done.store in
+    let new = g.S.Store.state c.carry_out.new.store in
+    record {
+      low = omega (arith, c.loop-done.invariant.low);
+      any_moment = λ asked contents done. leaves_then (IsSound asked c.args.job.now.input c.args.job.now.plan c.args.job.now.digest contents) old mid new
+          (c.loop-done.invariant.any_moment asked contents done) (c.carry_out.ensures.any_moment asked contents (c.loop-done.invariant.done asked contents done));
+      done = λ asked contents done. c.in_ok-carry_out.ensures.done asked contents (c.loop-done.invariant.done asked contents done);
+      landed = c.in_ok-carry_out.ensures.landed;
+      rounds = adds_then (AreRounds (map (copies_of c.args.job.now) (range_with_len (c.args.k + 1) (c.loop-done.done - c.args.k)))) old mid new
+          (IsRound (copies_of c.args.job.now (c.loop-done.done + 1))) (AreRounds (map (copies_of c.args.job.now) (range_with_len (c.args.k + 1) (c.loop-done.done + 1 - c.args.k))))
+          (rounds_next c.args.job.now c.args.k c.loop-done.done c.loop-done.invariant.low) c.loop-done.invariant.rounds c.in_ok-carry_out.ensures.round;
+      change = change_then (IsWorkCell c.args.job.now.input c.args.job.now.plan) old mid new c.loop-done.invariant.change c.carry_out.ensures.change;
+      later = omega (arith, c.loop-done.invariant.later, c.carry_out.ensures.cause.later);
+    }
+
+pub returns-clause-any_moment : goal.returns-clause-any_moment
+returns-clause-any_moment g c = λ asked contents done.
+    let mid = g.S.Store.state c.loop-done.store in
+    let new = g.S.Store.state c.sync.new.self in
+    let sound = IsSound asked c.args.job.now.input c.args.job.now.plan c.args.job.now.digest contents in
+    leaves_then sound (g.S.Store.state c.args.store.now) mid new (c.loop-done.invariant.any_moment asked contents done)
+    (quiet_leaves sound NoCell [] mid new (g.met.S.Store.is_state c.loop-done.store) (ends_are_quiet mid new c.loop-done.invariant.landed c.sync.ensures.ends.0 c.sync.ensures.ends.1))
+
+pub returns-clause-done : goal.returns-clause-done
+returns-clause-done g c =
+    let mid = g.S.Store.state c.loop-done.store in
+    let new = g.S.Store.state c.sync.new.self in
+    let quiet = ends_are_quiet mid new c.loop-done.invariant.landed c.sync.ensures.ends.0 c.sync.ensures.ends.1 in
+    let end : c.loop-done.done ≡ length c.args.job.now.plan = omega (arith, c.loop-done-test.false, c.loop-done.auto.done-end, c.rounds-done-end.ensures.count, c.loop-done.invariant.low, c.requires.most) in
+    on_ok_weaker c.sync.result (λ settled asked contents done.
+    subst (HasDone asked c.args.job.now.input c.args.job.now.plan c.args.job.now.digest contents new) end
+    (done_synced asked c.args.job.now contents c.loop-done.done mid new (same_image mid.reads new.reads quiet.told) settled (c.loop-done.invariant.done asked contents done))) c.sync.ensures.settled
+
+pub returns-clause-rounds : goal.returns-clause-rounds
+returns-clause-rounds g c =
+    let mid = g.S.Store.state c.loop-done.store in
+    let new = g.S.Store.state c.sync.new.self in
+    let quiet = ends_are_quiet mid new c.loop-done.invariant.landed c.sync.ensures.ends.0 c.sync.ensures.ends.1 in
+    let end : c.loop-done.done ≡ length c.args.job.now.plan = omega (arith, c.loop-done-test.false, c.loop-done.auto.done-end, c.rounds-done-end.ensures.count, c.loop-done.invariant.low, c.requires.most) in
+    on_ok_is c.sync.result (adds_kept (AreRounds (later_rounds c.args.job.now c.args.k)) (g.S.Store.state c.args.store.now) mid new
+    (subst (λ (n : ℕ). Adds (AreRounds (map (copies_of c.args.job.now) (range_with_len (c.args.k + 1) (n - c.args.k)))) (g.S.Store.state c.args.store.now) mid) end c.loop-done.invariant.rounds) quiet.events)
+
+pub returns-clause-part : goal.returns-clause-part
+returns-clause-part g c =
+    let old = g.S.Store.state c.args.store.now in
+    let mid = g.S.Store.state c.loop-done.store in
+    let new = g.S.Store.state c.sync.new.self in
+    let quiet = ends_are_quiet mid new c.loop-done.invariant.landed c.sync.ensures.ends.0 c.sync.ensures.ends.1 in
+    let end : c.loop-done.done ≡ length c.args.job.now.plan = omega (arith, c.loop-done-test.false, c.loop-done.auto.done-end, c.rounds-done-end.ensures.count, c.loop-done.invariant.low, c.requires.most) in
+    adds_wider (AreRounds (later_rounds c.args.job.now c.args.k)) (BeginsRounds (later_rounds c.args.job.now c.args.k)) old new (all_begin c.args.job.now c.args.k)
+    (adds_kept (AreRounds (later_rounds c.args.job.now c.args.k)) old mid new
+    (subst (λ (n : ℕ). Adds (AreRounds (map (copies_of c.args.job.now) (range_with_len (c.args.k + 1) (n - c.args.k)))) old mid) end c.loop-done.invariant.rounds) quiet.events)
+
+pub returns-clause-change : goal.returns-clause-change
+returns-clause-change g c =
+    let mid = g.S.Store.state c.loop-done.store in
+    let new = g.S.Store.state c.sync.new.self in
+    change_quiet (IsWorkCell c.args.job.now.input c.args.job.now.plan) (g.S.Store.state c.args.store.now) mid new c.loop-done.invariant.change
+    (ends_are_quiet mid new c.loop-done.invariant.landed c.sync.ensures.ends.0 c.sync.ensures.ends.1)

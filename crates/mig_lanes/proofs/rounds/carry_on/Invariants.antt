@@ -1,0 +1,21 @@
+use Rattle.std.proofs.Common.{◌≡◌, ◌≤◌, ◌+◌, ◌-◌, Bool, List, [], map}
+use Rattle.std.specs.List.{range_with_len}
+use Rattle.mig_base.specs.declared.cells.Event.{Event}
+use Rattle.mig_base.specs.JobCells.{IsWorkCell}
+use Rattle.mig_base.specs.RoundEvents.{AreRounds, Adds}
+use Rattle.mig_base.specs.RoundStates.{HasDone}
+use Rattle.mig_base.specs.Safety.{Contents, IsSound}
+use Rattle.mig_base.specs.Stores.{State, flights, Changes, LeavesOnly}
+use Rattle.mig_lanes.specs.LaneSteps.{copies_of}
+use Rattle.mig_lanes.proofs.rounds.carry_on.Given as goal
+
+abbrev pub invariant-loop-done : goal.invariant-loop-done
+invariant-loop-done g l = record {
+  low : l.k ≤ l.done;
+  any_moment : (asked : Bool) (contents : Contents) → HasDone asked l.job.input l.job.plan l.job.digest contents (g.S.Store.state l.initial.store) l.k → LeavesOnly (IsSound asked l.job.input l.job.plan l.job.digest contents) (g.S.Store.state l.initial.store) (g.S.Store.state l.store);
+  done : (asked : Bool) (contents : Contents) → HasDone asked l.job.input l.job.plan l.job.digest contents (g.S.Store.state l.initial.store) l.k → HasDone asked l.job.input l.job.plan l.job.digest contents (g.S.Store.state l.store) l.done;
+  landed : flights (g.S.Store.state l.store) ≡ [];
+  rounds : Adds (AreRounds (map (copies_of l.job) (range_with_len (l.k + 1) (l.done - l.k)))) (g.S.Store.state l.initial.store) (g.S.Store.state l.store);
+  change : (added : List Event) × Changes (IsWorkCell l.job.input l.job.plan) (IsWorkCell l.job.input l.job.plan) added (g.S.Store.state l.initial.store) (g.S.Store.state l.store);
+  later : (g.S.Store.state l.initial.store).faults ≤ (g.S.Store.state l.store).faults;
+}

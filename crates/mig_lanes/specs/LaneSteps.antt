@@ -1,0 +1,38 @@
+-- What the steps of a round's copies give.
+use Rattle.std.specs.Prelude.{◌≡◌, ◌⊎◌, ◌+◌, ◌-◌, ◌≤◌, ◌++◌, ℕ, List, [], All, length, take, map}
+use Rattle.std.specs.List.{range_with_len}
+use Rattle.std.specs.List.Sorted.{IsPermutation}
+use Rattle.mig_base.specs.declared.cells.Event.{Event}
+use Rattle.mig_base.specs.declared.cells.Flight.{Flight}
+use Rattle.mig_base.specs.declared.ids.Shift.{Shift}
+use Rattle.mig_base.specs.Flights.{began, ended, IsTargetOf}
+use Rattle.mig_base.specs.Images.{Image, IsCopy}
+use Rattle.mig_base.specs.Layouts.{round_at}
+use Rattle.mig_base.specs.RoundEvents.{flights_of, AreRounds}
+use Rattle.mig_base.specs.Stores.{State, flights}
+use Rattle.mig_mover.specs.Tasks.{Task}
+
+-- the copies of a job's round
+abbrev pub copies_of : Task → ℕ → List Flight
+copies_of task round = flights_of task.input (round_at task.plan round)
+
+-- the copies of the rounds after the first k, round by round
+abbrev pub later_rounds : Task → ℕ → List (List Flight)
+later_rounds task k = map (copies_of task) (range_with_len (k + 1) (length task.plan - k))
+
+-- the first events of these rounds
+abbrev pub BeginsRounds : List (List Flight) → List Event → Type 0
+BeginsRounds rounds added = (more : List Event) × AreRounds rounds (added ++ more)
+
+-- the first events of a round: no copy ends before each has begun
+pub record BeginsRound (round : List Flight) (added : List Event) : Type 0 where
+  pub begun : ℕ
+  pub done : List Flight
+  pub left : List Flight
+  pub is : added ≡ map began (take begun round) ++ map ended done
+  pub all_first : (done ≡ []) ⊎ (length round ≤ begun)
+  pub each_once : IsPermutation round (done ++ left)
+
+-- the copies of the round that aren't in flight have been made
+abbrev pub HaveLanded : List Flight → Image → State → Type 0
+HaveLanded round first s = All (λ c. ¬ IsTargetOf (flights s) c.to → IsCopy (first c.from) (s.reads c.to)) round

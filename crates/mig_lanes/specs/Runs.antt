@@ -1,0 +1,31 @@
+-- What carrying out a plan gives.
+use Rattle.std.specs.Prelude.{◌≡◌, ◌≤◌, true, false, ℕ, List, [], IsSome, length}
+use Rattle.mig_base.specs.declared.cells.Cell.TheVariants.{Gate}
+use Rattle.mig_base.specs.declared.cells.Event.{Event}
+use Rattle.mig_base.specs.Arrivals.{IsArrived, IsReached}
+use Rattle.mig_base.specs.Flights.{AreFlights, AreWithinLimits}
+use Rattle.mig_base.specs.Journals.{is_armed, count_of}
+use Rattle.mig_base.specs.JobCells.{IsJobCell, Tells, SettlesTo}
+use Rattle.mig_base.specs.Readiness.{IsReady}
+use Rattle.mig_base.specs.RoundEvents.{BeginsRun, StayWithinLimits}
+use Rattle.mig_base.specs.Safety.{Contents, IsSafe, IsSound}
+use Rattle.mig_base.specs.Stores.{State, flights, IsSettled}
+use Rattle.mig_mover.specs.Tasks.{Task}
+use Rattle.mig_lanes.specs.LaneSteps.{later_rounds}
+
+-- the target is reached, after k rounds that were marked before
+pub record Finishes (task : Task) (old new : State) (k : ℕ) : Type 0 where
+  pub reached : (contents : Contents) → Tells (IsJobCell task.input task.plan) old.reads → SettlesTo (IsSound true task.input task.plan task.digest contents) old → IsReached task.input task.plan task.digest contents new.reads
+  -- also where slots that were left aren't zeros
+  pub arrived : (contents : Contents) → Tells (IsJobCell task.input task.plan) old.reads → SettlesTo (IsSafe task.input task.plan task.digest contents) old → IsArrived task.input task.plan task.digest contents new.reads
+  pub settled : IsSettled new
+  pub landed : flights new ≡ []
+  pub most : k ≤ length task.plan
+  pub found : Tells (IsJobCell task.input task.plan) old.reads → AreFlights (flights old) → k ≡ count_of (length task.plan) old.reads
+  -- where the gate wasn't 1, the store was ready
+  pub ready : flights old ≡ [] → is_armed old.reads ≡ false → IsSome (old.reads Gate) → IsReady task.input task.plan old.reads
+
+-- The events are the first of those that carrying out the rounds after the first k adds, and keep limits.
+pub record IsPart (task : Task) (old : State) (k : ℕ) (added : List Event) : Type 0 where
+  pub begins : BeginsRun (flights old) (later_rounds task k) added
+  pub within : AreWithinLimits task.input.disks (flights old) → StayWithinLimits task.input.disks (flights old) added

@@ -1,0 +1,53 @@
+-- The steps of a loop over a round that erases what its shifts leave.
+use Rattle.std.proofs.Common.{◌≡◌, ◌⊎◌, inl, inr, ℕ, ◌<◌, ◌≤◌, ◌+◌, List, [], length, get_or, Option, Some, map, refl, sym, ◌∙◌, ap, subst, arith}
+use Rattle.std.specs.Prelude.{IsTrue, slice_get}
+use Rattle.std.specs.List.{AllWithin}
+use Rattle.std.proofs.lemmas.Bool.{cases_eq}
+use Rattle.std.proofs.lemmas.List.{get_or_default}
+use Rattle.std.proofs.lemmas.Option.{slice_get-get_or}
+use Rattle.mig_base.specs.declared.cells.Cell.{Cell}
+use Rattle.mig_base.specs.declared.cells.Flight.{Flight}
+use Rattle.mig_base.specs.declared.ids.Shift.{Shift}
+use Rattle.mig_base.specs.Cells.{is_slot}
+use Rattle.mig_base.specs.Images.{Image, SameBut}
+use Rattle.mig_base.specs.InputLists.{Lists}
+use Rattle.mig_base.specs.Layouts.{round_at, IsSource}
+use Rattle.mig_base.specs.RoundEvents.{flight_of, flights_of}
+use Rattle.mig_base.specs.RoundStates.{IsSourceSlot}
+use Rattle.mig_base.specs.Slots.{slot_of}
+use Rattle.mig_base.proofs.CellTests.{cases_cell}
+use Rattle.mig_base.proofs.Listed.{at_map}
+use Rattle.mig_mover.specs.Erasures.{AreZeros}
+
+in_some : (f g : Flight) → Some f ≡ Some g → f ≡ g
+in_some f g e = cc
+
+-- the copy at a place is that of the shift there
+pub copy_of : (input : Lists) (shifts : List Shift) (place : ℕ) (f : Flight) (d : Shift) → place < length shifts → slice_get (flights_of input shifts) place ≡ Some f → f ≡ flight_of input (get_or shifts place d)
+copy_of input shifts place f d lt at =
+    in_some f (flight_of input (get_or shifts place d)) (sym at ∙ at_map (flight_of input) shifts place (get_or shifts place d) (slice_get-get_or shifts place d lt))
+
+module _ (input : Lists) (plan : List (List Shift)) (round place : ℕ) (lt : place < length (round_at plan round)) (f : Flight) (d : Shift) (at : slice_get (flights_of input (round_at plan round)) place ≡ Some f) where
+  from_is : f.from ≡ slot_of input (get_or (round_at plan round) place d).from
+  from_is = ap (λ (h : Flight). h.from) (copy_of input (round_at plan round) place f d lt at)
+
+  pub from_slot : IsTrue (is_slot f.from)
+  from_slot = ap is_slot from_is
+
+  pub from_source : (cell : Cell) → cell ≡ f.from → IsSourceSlot input plan round cell
+  from_source cell is = let s = get_or (round_at plan round) place d in (s.from, (place, s, lt, get_or_default (round_at plan round) place s d lt, refl), sym (is ∙ from_is))
+
+  -- one slot more is erased
+  pub erased_more : (old new : Image) → SameBut (λ c. c ≡ f.from) old new → AllWithin (λ s. AreZeros (old (slot_of input s.from))) (round_at plan round) 0 place → AreZeros (new f.from)
+      → AllWithin (λ s. AreZeros (new (slot_of input s.from))) (round_at plan round) 0 (place + 1)
+  erased_more old new step sofar erased k e low high = which (cases_eq k place)
+    where
+      kept : (cell : Cell) → AreZeros (old cell) → (cell ≡ f.from) ⊎ (cell ≡ f.from → ⊥) → AreZeros (new cell)
+      kept cell was (inl is) = subst (λ (c : Cell). AreZeros (new c)) (sym is) erased
+      kept cell was (inr not) = subst AreZeros (sym (step.same cell not)) was
+
+      which : (k ≡ place) ⊎ (k ≡ place → ⊥) → AreZeros (new (slot_of input (get_or (round_at plan round) k e).from))
+      which (inl last) =
+          let same : get_or (round_at plan round) k e ≡ get_or (round_at plan round) place d = ap (λ (n : ℕ). get_or (round_at plan round) n e) last ∙ get_or_default (round_at plan round) place e d lt in
+          subst (λ (c : Cell). AreZeros (new c)) (from_is ∙ ap (λ (s : Shift). slot_of input s.from) (sym same)) erased
+      which (inr other) = kept _ (sofar k e low (omega arith)) (cases_cell _ _)

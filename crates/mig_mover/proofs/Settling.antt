@@ -1,0 +1,242 @@
+-- What the first sync of a call gives.
+use Rattle.std.proofs.Common.{◌≡◌, ◌⊎◌, inl, inr, ⊎_elim, Bool, true, false, ℕ, suc, ◌≤◌, ◌++◌, List, [], length, map, Option, Some, None, Result, Ok, Err, IfOk, IfErr, IfSome, IsSome, refl, sym, ◌∙◌, ap, subst, arith, append-nil}
+use Rattle.std.specs.List.Sorted.{IsPermutation}
+use Rattle.std.proofs.lemmas.List.{map-append}
+use Rattle.std.proofs.lemmas.List.Sorted.{IsPermutation-sym}
+use Rattle.std.proofs.lemmas.Bool.{cases_Bool, false≢true}
+use Rattle.mig_base.specs.declared.cells.Cell.{Cell}
+use Rattle.mig_base.specs.declared.cells.Cell.TheVariants.{Head, Gate, Mark}
+use Rattle.mig_base.specs.declared.cells.Event.{Event}
+use Rattle.mig_base.specs.declared.cells.Flight.{Flight}
+use Rattle.mig_base.specs.Cells.{is_slot}
+use Rattle.mig_base.specs.FaultCounts.{Rose}
+use Rattle.mig_base.specs.Flights.{ended, IsTargetOf, AreFlights}
+use Rattle.mig_base.specs.Images.{Image, NoCell, SameBut}
+use Rattle.mig_base.specs.Journals.{is_one, is_armed, is_marked, count_of}
+use Rattle.mig_base.specs.JobCells.{IsJobCell, Tells, SettlesTo}
+use Rattle.mig_base.specs.Readiness.{IsReady}
+use Rattle.mig_base.specs.RoundEvents.{IsRun, BeginsRun, Adds}
+use Rattle.mig_base.specs.Safety.{Contents, IsSound}
+use Rattle.mig_base.specs.Stores.{State, IsState, flights, Changes, ChangesOnly, LeavesOnly, Ends, IsSettled}
+use Rattle.mig_base.proofs.Landing.{target_permuted, target_left, no_target, flights_same}
+use Rattle.mig_base.proofs.MarkCounts.{AreMarked, counted, count_is, count_idle}
+use Rattle.mig_base.proofs.StoreSteps.{same_image, same_wider, told_kept, leaves_then, changes_then, changes_wider, quiet_leaves, settled_change, events_none}
+use Rattle.mig_mover.specs.Moves.{Lands, Settles, IsRunning, IsRefusal, IsPlanFault, IsFault, IsReadyIdle, Keeps, Enters, KeepsOn, EntersOn, IsFaultOn}
+use Rattle.mig_mover.specs.Tasks.{Task}
+use Rattle.mig_mover.specs.declared.faults.MoveFault.{MoveFault}
+use Rattle.mig_mover.specs.declared.faults.MoveFault.TheVariants.{Store, Started, OtherPlan, NotStarted, NotThere, Occupied}
+
+module _ (these : List Flight) (old new : State) (ends : Ends these old new) where
+  within : (cell : Cell) → IsTargetOf these cell → IsTargetOf (flights old) cell
+  within cell any = target_permuted (these ++ flights new) (flights old) cell (IsPermutation-sym _ _ ends.others) (target_left these (flights new) cell any)
+
+  landing : Changes (IsTargetOf (flights old)) NoCell (map ended these) old new
+  landing = changes_wider (IsTargetOf (flights old)) NoCell (IsTargetOf these) NoCell within (λ cell out. out) (map ended these) old new ends.change
+
+  pub ends_land : Lands old new
+  ends_land = record {
+    added = map ended these;
+    part = (
+      map ended (flights new),
+      record {
+        order = these ++ flights new;
+        rest = [];
+        each_once = ends.others;
+        is = sym (map-append ended these (flights new)) ∙ sym (append-nil (map ended (these ++ flights new)));
+        then_rounds = refl;
+      },
+    );
+    change = landing;
+  }
+
+  pub ends_settle : flights new ≡ [] → IsSettled new → Settles old new
+  ends_settle none settled = record {
+    added = map ended these;
+    ended = record {
+      order = these;
+      rest = [];
+      each_once = subst (IsPermutation (flights old)) (ap (λ (l : List Flight). these ++ l) none ∙ append-nil these) ends.others;
+      is = sym (append-nil (map ended these));
+      then_rounds = refl;
+    };
+    change = landing;
+    landed = none;
+    settled = settled;
+  }
+
+run_begins : (before : List Flight) (added : List Event) → IsRun before [] added → BeginsRun before [] added
+run_begins before added is = ([], subst (IsRun before []) (sym (append-nil added)) is)
+
+-- Where no copy is in flight, or images are told
+
+module _ (old mid : State) (settles : Settles old mid) where
+  pub settles_land : Lands old mid
+  settles_land = record { added = settles.added; part = run_begins (flights old) settles.added settles.ended; change = settles.change }
+
+  -- what would hold of the settled store holds of it
+  pub settled_reads : (P : Image → Type 0) → SettlesTo P old → P mid.reads
+  settled_reads P (inl now) = subst P (same_image old.reads mid.reads (same_wider (IsTargetOf (flights old)) NoCell (λ cell any. no_target (flights old) cell now.1 any) old.reads mid.reads settles.change.told)) now.0
+  settled_reads P (inr told) =
+      let from = settles.change.crash mid.reads (settles.change.images told.1) in
+      subst P (same_image from.0 mid.reads from.2) (told.0 from.0 from.1)
+
+  pub settles_more : (P : Image → Type 0) → SettlesTo P old → SettlesTo P mid
+  settles_more P before = inl (settled_reads P before, settles.landed)
+
+  pub tells_more : (P : Cell → Type 0) → Tells P old.reads → Tells P mid.reads
+  tells_more P tells cell of = told_kept (IsTargetOf (flights old)) old.reads mid.reads settles.change.told cell (tells cell of)
+
+  -- a cell that is no slot is as it was
+  pub journal_kept : AreFlights (flights old) → (cell : Cell) → is_slot cell ≡ false → mid.reads cell ≡ old.reads cell
+  journal_kept are cell none = settles.change.told.same cell (λ any.
+      let slot : is_slot any.1.to ≡ true = (subst (λ (f : Flight). (is_slot f.from ≡ true) × (is_slot f.to ≡ true)) any.3 (are.slots any.0 any.1 any.2)).1 in
+      false≢true (sym none ∙ ap is_slot (sym any.4) ∙ slot))
+
+  pub gate_kept : AreFlights (flights old) → is_armed mid.reads ≡ is_armed old.reads
+  gate_kept are = ap is_one (journal_kept are Gate refl)
+
+  pub count_kept : AreFlights (flights old) → (rounds : ℕ) → count_of rounds mid.reads ≡ count_of rounds old.reads
+  count_kept are rounds = at (cases_Bool (is_armed old.reads))
+    where
+      mark : (n : ℕ) → is_marked mid.reads n ≡ is_marked old.reads n
+      mark n = ap is_one (journal_kept are (Mark n) refl)
+
+      at : (is_armed old.reads ≡ true) ⊎ (is_armed old.reads ≡ false) → count_of rounds mid.reads ≡ count_of rounds old.reads
+      at (inl armed) =
+          let was = counted rounds old.reads armed in
+          count_is rounds mid.reads (gate_kept are ∙ armed) (count_of rounds old.reads) (record {
+            most = was.most;
+            each = λ n low high. mark n ∙ was.each n low high;
+            next = λ lt. mark (suc (count_of rounds old.reads)) ∙ was.next lt;
+          })
+      at (inr idle) = count_idle rounds mid.reads (gate_kept are ∙ idle) ∙ sym (count_idle rounds old.reads idle)
+
+  -- without a copy in flight nothing changes
+  pub reads_kept : flights old ≡ [] → old.reads ≡ mid.reads
+  reads_kept none = same_image old.reads mid.reads (same_wider (IsTargetOf (flights old)) NoCell (λ cell any. no_target (flights old) cell none any) old.reads mid.reads settles.change.told)
+
+  pub settles_quiet : (new : State) → ChangesOnly NoCell mid new → Settles old new
+  settles_quiet new quiet = record {
+    added = settles.added;
+    ended = settles.ended;
+    change = subst (λ (l : List Event). Changes (IsTargetOf (flights old)) NoCell l old new) (append-nil settles.added)
+        (changes_then (IsTargetOf (flights old)) NoCell settles.added [] old mid new settles.change
+        (changes_wider (IsTargetOf (flights old)) NoCell NoCell NoCell (λ cell out. absurd out) (λ cell out. out) [] mid new quiet));
+    landed = flights_same mid new quiet.events ∙ settles.landed;
+    settled = settled_change NoCell [] mid new quiet settles.settled;
+  }
+
+  pub ended_added : (P : Cell → Type 0) (new : State) → ChangesOnly P mid new → Adds (IsRun (flights old) []) old new
+  ended_added P new change told = (settles.added, settles.ended, change.events ∙ sym (events_none mid.events) ∙ settles.change.events)
+
+-- what ended so far is added
+pub landed_added : (old new : State) → Lands old new → Adds (BeginsRun (flights old) []) old new
+landed_added old new lands told = (lands.added, lands.part, lands.change.events)
+
+pub run_part : (old new : State) → Adds (IsRun (flights old) []) old new → Adds (BeginsRun (flights old) []) old new
+run_part old new adds told = let a = adds told in (a.0, run_begins (flights old) a.0 a.1, a.2)
+
+module _ (task : Task) (old : State) (law : IsState old) where
+  pub keeps_lands : (new : State) → Lands old new → old.faults ≤ new.faults → Keeps task old new
+  keeps_lands new lands later = record {
+    sound = λ asked contents tells sound. quiet_leaves (IsSound asked task.input task.plan task.digest contents) (IsTargetOf (flights old)) lands.added old new law lands.change;
+    ready = λ tells ready. quiet_leaves (IsReadyIdle task) (IsTargetOf (flights old)) lands.added old new law lands.change;
+    change = (lands.added, changes_wider (λ cell. IsTargetOf (flights old) cell ⊎ IsJobCell task.input task.plan cell) (IsJobCell task.input task.plan) (IsTargetOf (flights old)) NoCell (λ cell any. inl any) (λ cell out. absurd out) lands.added old new lands.change);
+    later = later;
+  }
+
+  module _ (mid : State) (settles : Settles old mid) (later : old.faults ≤ mid.faults) (new : State) where
+    pub keeps_from : KeepsOn task mid new → Keeps task old new
+    keeps_from keeps = record {
+      sound = λ asked contents tells sound. leaves_then (IsSound asked task.input task.plan task.digest contents) old mid new
+          (quiet_leaves (IsSound asked task.input task.plan task.digest contents) (IsTargetOf (flights old)) settles.added old mid law settles.change)
+          (keeps.sound asked contents (tells_more old mid settles (IsJobCell task.input task.plan) tells) (settled_reads old mid settles (IsSound asked task.input task.plan task.digest contents) sound));
+      ready = λ tells ready. leaves_then (IsReadyIdle task) old mid new
+          (quiet_leaves (IsReadyIdle task) (IsTargetOf (flights old)) settles.added old mid law settles.change)
+          (keeps.ready (tells_more old mid settles (IsJobCell task.input task.plan) tells) (settled_reads old mid settles (IsReadyIdle task) ready));
+      change = (
+        settles.added ++ [],
+        changes_then (λ cell. IsTargetOf (flights old) cell ⊎ IsJobCell task.input task.plan cell) (IsJobCell task.input task.plan) settles.added [] old mid new
+            (changes_wider (λ cell. IsTargetOf (flights old) cell ⊎ IsJobCell task.input task.plan cell) (IsJobCell task.input task.plan) (IsTargetOf (flights old)) NoCell (λ cell any. inl any) (λ cell out. absurd out) settles.added old mid settles.change)
+            (changes_wider (λ cell. IsTargetOf (flights old) cell ⊎ IsJobCell task.input task.plan cell) (IsJobCell task.input task.plan) (IsJobCell task.input task.plan) (IsJobCell task.input task.plan) (λ cell of. inr of) (λ cell of. of) [] mid new keeps.change),
+      );
+      later = omega (arith, later, keeps.later);
+    }
+
+    pub enters_from : (k : ℕ) → EntersOn task mid new k → Enters task old new k
+    enters_from k enters = record {
+      done = λ asked contents tells sound. enters.done asked contents (tells_more old mid settles (IsJobCell task.input task.plan) tells) (settled_reads old mid settles (IsSound asked task.input task.plan task.digest contents) sound);
+      landed = enters.landed;
+      most = enters.most;
+      found = λ tells are. enters.found (tells_more old mid settles (IsJobCell task.input task.plan) tells) ∙ count_kept old mid settles are (length task.plan);
+      armed = λ told. enters.armed (told_kept (IsTargetOf (flights old)) old.reads mid.reads settles.change.told Gate told);
+      ready = λ none idle told. subst (IsReady task.input task.plan) (sym (reads_kept old mid settles none))
+          (enters.ready (subst (λ (image : Image). is_armed image ≡ false) (reads_kept old mid settles none) idle) (subst (λ (image : Image). IsSome (image Gate)) (reads_kept old mid settles none) told));
+    }
+
+    refused : (fault : MoveFault) → ChangesOnly NoCell mid new × IsRefusal task mid.reads fault → Settles old new × IsRefusal task new.reads fault
+    refused fault was = (settles_quiet old mid settles new was.0, subst (λ (image : Image). IsRefusal task image fault) (same_image mid.reads new.reads was.0.told) was.1)
+
+    pub fault_from : (fault : MoveFault) → IsFaultOn task mid new fault → IsFault task old new fault
+    fault_from Store was = omega (arith, later, was)
+    fault_from Started was = refused Started was
+    fault_from (OtherPlan kept ours) was = refused (OtherPlan kept ours) was
+    fault_from NotStarted was = refused NotStarted was
+    fault_from (NotThere item) was = refused (NotThere item) was
+    fault_from (Occupied disk slot) was = refused (Occupied disk slot) was
+
+pub if_ok_is : {T E : Type 0} {P : Type 0} (r : Result T E) → P → IfOk r (λ x. P)
+if_ok_is (Ok x) p = p
+if_ok_is (Err e) p = tt
+
+pub if_ok : {T E : Type 0} {P Q : T → Type 0} (r : Result T E) → ((x : T) → P x → Q x) → IfOk r P → IfOk r Q
+if_ok (Ok x) gives p = gives x p
+if_ok (Err e) gives p = tt
+
+pub if_err : {T E : Type 0} {P Q : E → Type 0} (r : Result T E) → ((e : E) → P e → Q e) → IfErr r P → IfErr r Q
+if_err (Ok x) gives p = tt
+if_err (Err e) gives p = gives e p
+
+-- Refusals
+
+-- a store whose journal names a plan is refused by it
+module _ (task : Task) (image : Image) (running : IsRunning image) (kept : List ℕ) (head : IfSome (image Head) (λ bytes. kept ≡ bytes)) where
+  head_is : (Q : List ℕ → Type 0) → Q kept → IfSome (image Head) Q
+  head_is Q q = at (image Head) head
+    where
+      at : (cell : Option (List ℕ)) → IfSome cell (λ bytes. kept ≡ bytes) → IfSome cell Q
+      at None is = is
+      at (Some bytes) is = subst Q is q
+
+  pub plan_refusal : (fault : MoveFault) → IsPlanFault task kept fault → IsRefusal task image fault
+  plan_refusal Store is = absurd is
+  plan_refusal Started is = (running, head_is (λ bytes. bytes ≡ task.digest) is)
+  plan_refusal (OtherPlan theirs ours) is = (running, head_is (λ bytes. theirs ≡ bytes) is.0, subst (λ (bytes : List ℕ). bytes ≡ task.digest → ⊥) (sym is.0) is.1, is.2)
+  plan_refusal NotStarted is = absurd is
+  plan_refusal (NotThere item) is = absurd is
+  plan_refusal (Occupied disk slot) is = absurd is
+
+  -- on a settled store, and once it is settled
+  pub plan_fault_on : (old new : State) → old.reads ≡ image → ChangesOnly NoCell old new → (fault : MoveFault) → IsPlanFault task kept fault → IsFaultOn task old new fault
+  plan_fault_on old new same quiet Store is = absurd is
+  plan_fault_on old new same quiet Started is = (quiet, subst (λ (im : Image). IsRefusal task im Started) (sym same) (plan_refusal Started is))
+  plan_fault_on old new same quiet (OtherPlan theirs ours) is = (quiet, subst (λ (im : Image). IsRefusal task im (OtherPlan theirs ours)) (sym same) (plan_refusal (OtherPlan theirs ours) is))
+  plan_fault_on old new same quiet NotStarted is = absurd is
+  plan_fault_on old new same quiet (NotThere item) is = absurd is
+  plan_fault_on old new same quiet (Occupied disk slot) is = absurd is
+
+  pub plan_fault : (old new : State) → new.reads ≡ image → Settles old new → (fault : MoveFault) → IsPlanFault task kept fault → IsFault task old new fault
+  plan_fault old new same settles Store is = absurd is
+  plan_fault old new same settles Started is = (settles, subst (λ (im : Image). IsRefusal task im Started) (sym same) (plan_refusal Started is))
+  plan_fault old new same settles (OtherPlan theirs ours) is = (settles, subst (λ (im : Image). IsRefusal task im (OtherPlan theirs ours)) (sym same) (plan_refusal (OtherPlan theirs ours) is))
+  plan_fault old new same settles NotStarted is = absurd is
+  plan_fault old new same settles (NotThere item) is = absurd is
+  plan_fault old new same settles (Occupied disk slot) is = absurd is
+
+-- what a look says of the gate
+pub seen_idle : (image : Image) → (IsSome (image Gate) → false ≡ is_armed image) → is_armed image ≡ false
+seen_idle image said = at (image Gate) refl
+  where
+    at : (cell : Option (List ℕ)) → cell ≡ image Gate → is_armed image ≡ false
+    at None none = ap is_one (sym none)
+    at (Some bytes) some = sym (said (subst IsSome some refl))

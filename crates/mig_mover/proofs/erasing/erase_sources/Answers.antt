@@ -1,0 +1,35 @@
+use Rattle.std.proofs.Common.{◌≡◌, arith}
+use Rattle.mig_base.specs.declared.cells.Flight.{Flight}
+use Rattle.mig_base.specs.Stores.{State}
+use Rattle.mig_base.specs.RoundStates.{IsSourceSlot}
+use Rattle.mig_journal.proofs.Steps.{then_step}
+use Rattle.mig_mover.proofs.EraseSteps.{from_slot, from_source, erased_more}
+use Rattle.mig_mover.proofs.JobRounds.{no_shift}
+use Rattle.mig_mover.proofs.erasing.erase_sources.Goals as goal
+
+pub erase-requires-clause-slot : goal.erase-requires-clause-slot
+erase-requires-clause-slot g c =
+    let f : Flight = record { from = c.copy-from.result.0; to = c.copy-from.result.1 } in
+    from_slot c.args.job.now.input c.args.job.now.plan c.args.round c.loop-place.place (omega (arith, c.loop-place-test.true, c.round_len-place-end.ensures.count)) f no_shift c.copy-from.ensures
+
+pub returns-in_err-erase-clause-change : goal.returns-in_err-erase-clause-change
+returns-in_err-erase-clause-change g c =
+    let f : Flight = record { from = c.copy-from.result.0; to = c.copy-from.result.1 } in
+    then_step (IsSourceSlot c.args.job.now.input c.args.job.now.plan c.args.round) (g.S.Store.state c.args.store.now) (g.S.Store.state c.loop-place.store) (λ k. k ≡ c.copy-from.result.0) (g.S.Store.state c.erase.new.store)
+    (from_source c.args.job.now.input c.args.job.now.plan c.args.round c.loop-place.place (omega (arith, c.loop-place-test.true, c.round_len-place-end.ensures.count)) f no_shift c.copy-from.ensures)
+    c.loop-place.invariant.change c.erase.ensures.change
+
+pub loop-place-preserved : goal.loop-place-preserved
+loop-place-preserved g c =
+    let f : Flight = record { from = c.copy-from.result.0; to = c.copy-from.result.1 } in
+    let first = g.S.Store.state c.args.store.now in
+    let mid = g.S.Store.state c.loop-place.store in
+    let new = g.S.Store.state c.erase.new.store in
+    record {
+      erased = erased_more c.args.job.now.input c.args.job.now.plan c.args.round c.loop-place.place (omega (arith, c.loop-place-test.true, c.round_len-place-end.ensures.count)) f no_shift c.copy-from.ensures
+          mid.reads new.reads c.erase.ensures.change.told c.loop-place.invariant.erased c.in_ok-erase.ensures.erased;
+      change = then_step (IsSourceSlot c.args.job.now.input c.args.job.now.plan c.args.round) first mid (λ k. k ≡ c.copy-from.result.0) new
+          (from_source c.args.job.now.input c.args.job.now.plan c.args.round c.loop-place.place (omega (arith, c.loop-place-test.true, c.round_len-place-end.ensures.count)) f no_shift c.copy-from.ensures)
+          c.loop-place.invariant.change c.erase.ensures.change;
+      later = omega (arith, c.loop-place.invariant.later, c.erase.ensures.cause.later);
+    }

@@ -1,0 +1,15 @@
+use Rattle.std.proofs.Common.{◌≤◌}
+use Rattle.std.specs.List.{AllWithin}
+use Rattle.mig_base.specs.Layouts.{round_at}
+use Rattle.mig_base.specs.RoundStates.{IsSourceSlot}
+use Rattle.mig_base.specs.Slots.{slot_of}
+use Rattle.mig_base.specs.Stores.{State, ChangesOnly}
+use Rattle.mig_mover.specs.Erasures.{AreZeros}
+use Rattle.mig_mover.proofs.erasing.erase_sources.Given as goal
+
+abbrev pub invariant-loop-place : goal.invariant-loop-place
+invariant-loop-place g l = record {
+  erased : AllWithin (λ s. AreZeros ((g.S.Store.state l.store).reads (slot_of l.job.input s.from))) (round_at l.job.plan l.round) 0 l.place;
+  change : ChangesOnly (IsSourceSlot l.job.input l.job.plan l.round) (g.S.Store.state l.initial.store) (g.S.Store.state l.store);
+  later : (g.S.Store.state l.initial.store).faults ≤ (g.S.Store.state l.store).faults;
+}

@@ -1,0 +1,9 @@
+use Rattle.std.proofs.Common.{◌≡◌, ◌∙◌, ap, List}
+use Rattle.mig_base.specs.declared.ids.Shift.{Shift}
+use Rattle.mig_mover.specs.Tasks.{Task}
+use Rattle.mig_mover.proofs.JobRounds.{round_here}
+use Rattle.mig_mover.proofs.jobs.Job.round.Goals as goal
+
+pub returns-clause-shifts : goal.returns-clause-shifts
+returns-clause-shifts c = c.shifts.ensures ∙ round_here c.args.self.now.plan c.args.round c.requires.from c.requires.to c.rounds.result.now c.index-rounds-round.result
+    (c.rounds.ensures ∙ ap (λ (t : Task). t.plan) c.self.view_is) c.index-rounds-round.is

@@ -1,0 +1,6 @@
+use Rattle.std.proofs.Common.{◌≡◌, take, length}
+use Rattle.mig_base.specs.Readiness.{shifts_of}
+use Rattle.mig_mover.proofs.jobs.count_shifts.Given as goal
+
+abbrev pub invariant-loop-round : goal.invariant-loop-round
+invariant-loop-round l = l.count ≡ length (shifts_of (take l.round-index l.round-items))

@@ -1,0 +1,6 @@
+use Rattle.std.proofs.Common.{◌≡◌, ◌++◌, take}
+use Rattle.mig_mover.specs.JobTables.{free_targets}
+use Rattle.mig_mover.proofs.tables.add_targets.Given as goal
+
+abbrev pub invariant-loop-s : goal.invariant-loop-s
+invariant-loop-s l = l.targets.items ≡ l.initial.targets.items ++ free_targets l.table (take l.s-index l.shifts)

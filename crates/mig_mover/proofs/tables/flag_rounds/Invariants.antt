@@ -1,0 +1,8 @@
+use Rattle.std.proofs.Common.{◌≡◌, ◌<◌, ℕ, false, length, get_or, take}
+use Rattle.std.specs.List.{list_any}
+use Rattle.mig_base.specs.Readiness.{shifts_of}
+use Rattle.mig_base.specs.Running.{is_of}
+use Rattle.mig_mover.proofs.tables.flag_rounds.Given as goal
+
+abbrev pub invariant-loop-round : goal.invariant-loop-round
+invariant-loop-round l = (item : ℕ) → item < length l.flags → get_or l.flags item false ≡ list_any (is_of item) (shifts_of (take l.round-index l.rounds))

@@ -1,0 +1,7 @@
+use Rattle.std.proofs.Common.{◌≡◌, ◌<◌, ◌||◌, ℕ, false, length, get_or, take}
+use Rattle.std.specs.List.{list_any}
+use Rattle.mig_base.specs.Running.{is_of}
+use Rattle.mig_mover.proofs.tables.flag_shifts.Given as goal
+
+abbrev pub invariant-loop-s : goal.invariant-loop-s
+invariant-loop-s l = (item : ℕ) → item < length l.flags → get_or l.flags item false ≡ (get_or l.initial.flags item false || list_any (is_of item) (take l.s-index l.shifts))

@@ -1,0 +1,7 @@
+use Rattle.std.proofs.Common.{◌≡◌, take}
+use Rattle.mig_base.specs.Readiness.{shifts_of}
+use Rattle.mig_mover.specs.JobTables.{free_targets}
+use Rattle.mig_mover.proofs.tables.targets_of.Given as goal
+
+abbrev pub invariant-loop-round : goal.invariant-loop-round
+invariant-loop-round l = l.targets.items ≡ free_targets l.input.spots (shifts_of (take l.round-index l.round-items))

@@ -1,0 +1,4 @@
+pub mod Erasures
+pub mod JobTables
+pub mod Moves
+pub mod Tasks

@@ -1,0 +1,162 @@
+//! How a plan's migration is entered: started, or resumed.
+ghost use Rattle.std.specs.Prelude.{◌≡◌, ◌≢◌, ◌≤◌, [], All, true, false, IfErr, IfOk, IfSome, IsSome, OnErr, OnOk, length};
+ghost use Rattle.mig_base.specs.declared.cells.Cell.TheVariants.{Gate, Head};
+ghost use Rattle.mig_base.specs.Flights.{AreFlights};
+ghost use Rattle.mig_base.specs.Journals.{is_armed};
+ghost use Rattle.mig_base.specs.Layouts.{round_at};
+ghost use Rattle.mig_base.specs.Readiness.{IsReady};
+ghost use Rattle.mig_base.specs.RoundEvents.{IsRun, BeginsRun, Adds};
+ghost use Rattle.mig_base.specs.RoundStates.{IsSourceSlot};
+ghost use Rattle.mig_base.specs.Slots.{slot_of};
+ghost use Rattle.mig_base.specs.Stores.{State, flights, ChangesOnly, IsSettled, HasCause};
+ghost use Rattle.mig_journal.specs.SeenJournals.{is_running, HasHead};
+ghost use Rattle.mig_mover.specs.Erasures.{AreZeros};
+ghost use Rattle.mig_mover.specs.Moves.{Lands, Settles, IsRunning, IsPlanFault, IsFault, Keeps, Enters, KeepsOn, EntersOn, IsFaultOn};
+ghost use Rattle.mig_mover.specs.Tasks.{Task};
+
+use crate::erasing::erase_sources;
+use crate::faults::MoveFault;
+use crate::jobs::Job;
+use crate::ready::check_ready;
+use mig_journal::{Seen, arm, look, marked};
+use mig_store::{Store, StoreFailed};
+
+/// Syncs, and looks at the journal.
+pub(crate) fn settle_and_look<S: Store>(store: &mut S) -> Result<Seen, StoreFailed>
+    ensures settles { IfOk result (λ seen. Settles (S.state store.old) (S.state store.new)) }
+    ensures gate { IfOk result (λ seen. IsSome ((S.state store.new).reads Gate) → is_running seen ≡ is_armed (S.state store.new).reads) }
+    ensures head { IfOk result (λ seen. HasHead seen ((S.state store.new).reads Head)) }
+    ensures lands { Lands (S.state store.old) (S.state store.new) }
+    ensures cause { HasCause (S.state store.old) (S.state store.new) result }
+{
+    store.sync()?;
+    look(store)
+}
+
+/// Refuses another plan than the job's.
+pub(crate) fn check_plan(job: &Job, kept: &[u8; 32]) -> Result<(), MoveFault>
+    ensures ours { OnOk result (kept.now ≡ job.now.digest) }
+    ensures other { IfErr result (IsPlanFault job.now kept.now) }
+{
+    if *kept != *job.digest() {
+        return Err(MoveFault::OtherPlan {
+            kept: *kept,
+            ours: *job.digest(),
+        });
+    }
+    Ok(())
+}
+
+// Refuses to start where a plan was started before.
+fn refuse_start(job: &Job, kept: &[u8; 32]) -> Result<(), MoveFault>
+    ensures never { OnOk result ⊥ }
+    ensures fault { IfErr result (IsPlanFault job.now kept.now) }
+{
+    check_plan(job, kept)?;
+    Err(MoveFault::Started)
+}
+
+// Arms the journal of a store whose gate isn't 1, where the store is ready.
+fn enter_idle<S: Store>(job: &Job, store: &mut S) -> Result<(), MoveFault>
+    requires settled { IsSettled (S.state store.old) }
+    requires none { flights (S.state store.old) ≡ [] }
+    requires idle { is_armed (S.state store.old).reads ≡ false }
+    ensures keeps { KeepsOn job.now (S.state store.old) (S.state store.new) }
+    ensures enters { OnOk result (EntersOn job.now (S.state store.old) (S.state store.new) 0) }
+    ensures fault { IfErr result (IsFaultOn job.now (S.state store.old) (S.state store.new)) }
+{
+    check_ready(job, store)?;
+    arm(store, job.digest(), job.rounds())?;
+    Ok(())
+}
+
+// The same, where the plan is resumed: no round is marked.
+fn resume_idle<S: Store>(job: &Job, store: &mut S) -> Result<u32, MoveFault>
+    requires settled { IsSettled (S.state store.old) }
+    requires none { flights (S.state store.old) ≡ [] }
+    requires idle { is_armed (S.state store.old).reads ≡ false }
+    ensures keeps { KeepsOn job.now (S.state store.old) (S.state store.new) }
+    ensures enters { IfOk result (EntersOn job.now (S.state store.old) (S.state store.new)) }
+    ensures fault { IfErr result (IsFaultOn job.now (S.state store.old) (S.state store.new)) }
+{
+    match enter_idle(job, store) {
+        Ok(()) => Ok(0),
+        Err(fault) => Err(fault),
+    }
+}
+
+// Erases again what the last marked round left, if there is one.
+fn erase_last<S: Store>(job: &Job, store: &mut S, k: u32) -> Result<(), StoreFailed>
+    requires most { k ≤ length job.now.plan }
+    requires none { flights (S.state store.old) ≡ [] }
+    ensures erased { OnOk result (All (λ s. AreZeros ((S.state store.new).reads (slot_of job.now.input s.from))) (round_at job.now.plan k)) }
+    ensures change { ChangesOnly (IsSourceSlot job.now.input job.now.plan k) (S.state store.old) (S.state store.new) }
+    ensures cause { HasCause (S.state store.old) (S.state store.new) result }
+{
+    if k == 0 {
+        return Ok(());
+    }
+    erase_sources(job, store, k)
+}
+
+// Goes on after the marked rounds of a store whose journal names the job's plan.
+fn enter_running<S: Store>(job: &Job, store: &mut S) -> Result<u32, StoreFailed>
+    requires settled { IsSettled (S.state store.old) }
+    requires none { flights (S.state store.old) ≡ [] }
+    requires running { IsRunning (S.state store.old).reads }
+    ensures keeps { KeepsOn job.now (S.state store.old) (S.state store.new) }
+    ensures enters { IfOk result (EntersOn job.now (S.state store.old) (S.state store.new)) }
+    ensures cause { HasCause (S.state store.old) (S.state store.new) result }
+{
+    let k = marked(store, job.rounds())?;
+    erase_last(job, store, k)?;
+    Ok(k)
+}
+
+// Goes on with the plan that the journal names, where it is the job's.
+fn resume_running<S: Store>(job: &Job, store: &mut S, kept: &[u8; 32]) -> Result<u32, MoveFault>
+    requires settled { IsSettled (S.state store.old) }
+    requires none { flights (S.state store.old) ≡ [] }
+    requires running { IsRunning (S.state store.old).reads }
+    requires head { IfSome ((S.state store.old).reads Head) (λ bytes. kept.now ≡ bytes) }
+    ensures keeps { KeepsOn job.now (S.state store.old) (S.state store.new) }
+    ensures enters { IfOk result (EntersOn job.now (S.state store.old) (S.state store.new)) }
+    ensures ours { IfOk result (λ k. kept.now ≡ job.now.digest) }
+    ensures fault { IfErr result (IsFaultOn job.now (S.state store.old) (S.state store.new)) }
+{
+    check_plan(job, kept)?;
+    Ok(enter_running(job, store)?)
+}
+
+/// Starts a plan: syncs, refuses a store that is armed or isn't ready, and arms the journal.
+pub fn enter_start<S: Store>(job: &Job, store: &mut S) -> Result<(), MoveFault>
+    ensures keeps { Keeps job.now (S.state store.old) (S.state store.new) }
+    ensures enters { OnOk result (Enters job.now (S.state store.old) (S.state store.new) 0) }
+    ensures idle { OnOk result (AreFlights (flights (S.state store.old)) → IsSome ((S.state store.old).reads Gate) → is_armed (S.state store.old).reads ≡ false) }
+    // Each copy that was in flight ends, and no event comes besides.
+    ensures ended { OnOk result (Adds (IsRun (flights (S.state store.old)) []) (S.state store.old) (S.state store.new)) }
+    ensures part { Adds (BeginsRun (flights (S.state store.old)) []) (S.state store.old) (S.state store.new) }
+    ensures fault { IfErr result (IsFault job.now (S.state store.old) (S.state store.new)) }
+{
+    match settle_and_look(store)? {
+        Seen::Idle => enter_idle(job, store),
+        Seen::Running { digest } => refuse_start(job, &digest),
+    }
+}
+
+/// Resumes a plan: syncs, starts it where the gate isn't 1, and otherwise erases again what the last marked round
+/// left. It answers how many rounds are marked.
+pub fn enter_resume<S: Store>(job: &Job, store: &mut S) -> Result<u32, MoveFault>
+    ensures keeps { Keeps job.now (S.state store.old) (S.state store.new) }
+    ensures enters { IfOk result (Enters job.now (S.state store.old) (S.state store.new)) }
+    ensures ours { IfOk result (λ k. AreFlights (flights (S.state store.old)) → IsSome ((S.state store.old).reads Gate) → is_armed (S.state store.old).reads ≡ true → IfSome ((S.state store.old).reads Head) (λ kept. kept ≡ job.now.digest)) }
+    // Each copy that was in flight ends, and no event comes besides.
+    ensures ended { IfOk result (λ k. Adds (IsRun (flights (S.state store.old)) []) (S.state store.old) (S.state store.new)) }
+    ensures part { Adds (BeginsRun (flights (S.state store.old)) []) (S.state store.old) (S.state store.new) }
+    ensures fault { IfErr result (IsFault job.now (S.state store.old) (S.state store.new)) }
+{
+    match settle_and_look(store)? {
+        Seen::Idle => resume_idle(job, store),
+        Seen::Running { digest } => resume_running(job, store, &digest),
+    }
+}

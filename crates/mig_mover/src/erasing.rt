@@ -1,0 +1,47 @@
+//! Erasures.
+ghost use Rattle.std.specs.Prelude.{◌≡◌, ◌≤◌, [], All, IfSome, OnOk, IsTrue, length};
+ghost use Rattle.mig_base.specs.Layouts.{round_at};
+ghost use Rattle.mig_base.specs.Slots.{slot_of, zeros};
+ghost use Rattle.mig_base.specs.Cells.{is_slot};
+ghost use Rattle.mig_base.specs.Stores.{State, flights, ChangesOnly, HasCause};
+ghost use Rattle.mig_base.specs.RoundStates.{IsSourceSlot};
+ghost use Rattle.mig_mover.specs.Tasks.{Task};
+ghost use Rattle.mig_mover.specs.Erasures.{AreZeros};
+
+use crate::jobs::Job;
+use mig_base::Cell;
+use mig_store::{Store, StoreFailed};
+
+// An erased slot.
+fn zero_slot() -> [u8; 4096]
+    ensures { result ≡ zeros }
+{
+    [0; 4096]
+}
+
+// Erases a slot.
+fn erase<S: Store>(store: &mut S, slot: &Cell) -> Result<(), StoreFailed>
+    requires slot { IsTrue (is_slot slot.now) }
+    requires none { flights (S.state store.old) ≡ [] }
+    ensures erased { OnOk result (AreZeros ((S.state store.new).reads slot.now)) }
+    ensures change { ChangesOnly (λ c. c ≡ slot.now) (S.state store.old) (S.state store.new) }
+    ensures cause { HasCause (S.state store.old) (S.state store.new) result }
+{
+    store.write(slot, &zero_slot())
+}
+
+/// Writes zeros where a round's shifts leave. Rounds count from 1.
+pub fn erase_sources<S: Store>(job: &Job, store: &mut S, round: u32) -> Result<(), StoreFailed>
+    requires from { 1 ≤ round }
+    requires to { round ≤ length job.now.plan }
+    requires none { flights (S.state store.old) ≡ [] }
+    ensures erased { OnOk result (All (λ s. AreZeros ((S.state store.new).reads (slot_of job.now.input s.from))) (round_at job.now.plan round)) }
+    ensures change { ChangesOnly (IsSourceSlot job.now.input job.now.plan round) (S.state store.old) (S.state store.new) }
+    ensures cause { HasCause (S.state store.old) (S.state store.new) result }
+{
+    for place in 0..job.round_len(round) {
+        let (from, _) = job.copy(round, place);
+        erase(store, &from)?;
+    }
+    Ok(())
+}

@@ -1,0 +1,69 @@
+//! What slots show of the items in them.
+ghost use Rattle.std.specs.Prelude.{◌≡◌, ◌-◌, ◌<◌, ◌≤◌, ◌++◌, [], All, IfOk, MatchBool, length, replicate};
+ghost use Rattle.mig_base.specs.Images.{NoCell};
+ghost use Rattle.mig_base.specs.Slots.{HasHeader, IsThere, IsLost, IsUsed, IsUnused};
+ghost use Rattle.mig_base.specs.Stores.{State, flights, ChangesOnly, HasCause};
+
+use crate::jobs::spot_cell;
+use mig_base::{Input, Name, Spot};
+use mig_store::{Store, StoreFailed};
+
+// The name, followed by zeros.
+fn padded(name: &Name) -> [u8; 32]
+    ensures padded { result ≡ name.now ++ replicate (32 - length name.now) 0 }
+    ensures short { length name.now ≤ 32 }
+{
+    let bytes = name.bytes();
+    let mut cell = [0; 32];
+    cell[..bytes.len()].copy_from_slice(bytes);
+    cell
+}
+
+/// Whether a slot's header names an item.
+pub(crate) fn has_header(slot: &[u8], name: &Name) -> bool
+    requires { length slot.now ≡ 4096 }
+    ensures { MatchBool result (HasHeader name.now slot.now) (¬ HasHeader name.now slot.now) }
+{
+    if slot[0] != 1 {
+        return false;
+    }
+    if slot[1] as usize != name.bytes().len() {
+        return false;
+    }
+    slot[2..34] == padded(name)[..]
+}
+
+/// Whether the header at an item's spot of now names it.
+pub(crate) fn is_there<S: Store>(
+    input: &Input,
+    store: &mut S,
+    item: usize,
+) -> Result<bool, StoreFailed>
+    requires item { item < length input.now.items }
+    requires none { flights (S.state store.old) ≡ [] }
+    ensures answer { IfOk result (λ yes. MatchBool yes (IsThere input.now (S.state store.old).reads item) (IsLost input.now (S.state store.old).reads item)) }
+    ensures change { ChangesOnly NoCell (S.state store.old) (S.state store.new) }
+    ensures cause { HasCause (S.state store.old) (S.state store.new) result }
+{
+    input.keeps_rules();
+    let mut slot = [0u8; 4096];
+    store.read(&spot_cell(input, input.now()[item]), &mut slot)?;
+    Ok(has_header(&slot, &input.items()[item]))
+}
+
+/// Whether the slot of a spot is used.
+pub(crate) fn is_used<S: Store>(
+    input: &Input,
+    store: &mut S,
+    spot: Spot,
+) -> Result<bool, StoreFailed>
+    requires disk { spot.disk.0 < length input.now.disks }
+    requires none { flights (S.state store.old) ≡ [] }
+    ensures answer { IfOk result (λ yes. MatchBool yes (IsUsed input.now (S.state store.old).reads spot) (IsUnused input.now (S.state store.old).reads spot)) }
+    ensures change { ChangesOnly NoCell (S.state store.old) (S.state store.new) }
+    ensures cause { HasCause (S.state store.old) (S.state store.new) result }
+{
+    let mut slot = [0u8; 4096];
+    store.read(&spot_cell(input, spot), &mut slot)?;
+    Ok(slot[0] == 1)
+}

@@ -1,0 +1,83 @@
+//! Whether a store is ready for a plan.
+ghost use Rattle.std.specs.Prelude.{◌≡◌, ◌<◌, ◌≤◌, [], ℕ, All, false, IfErr, IfNone, IfOk, IfSome, MatchBool, OnOk, length};
+ghost use Rattle.mig_base.specs.Images.{NoCell};
+ghost use Rattle.mig_base.specs.Journals.{is_armed};
+ghost use Rattle.mig_base.specs.Readiness.{shifts_of, IsShifted, CanTake, IsReady, IsFirstLost, IsFirstUsed};
+ghost use Rattle.mig_base.specs.Slots.{IsThere, IsLost};
+ghost use Rattle.mig_base.specs.Stores.{State, flights, ChangesOnly, HasCause};
+ghost use Rattle.mig_mover.specs.Moves.{IsFaultOn};
+ghost use Rattle.mig_mover.specs.Tasks.{Task};
+
+use crate::faults::MoveFault;
+use crate::headers::{is_there, is_used};
+use crate::jobs::Job;
+use mig_base::{ItemId, Spot};
+use mig_store::{Store, StoreFailed};
+
+// Whether the plan shifts an item, and the header at its spot of now doesn't name it.
+fn is_lost<S: Store>(job: &Job, store: &mut S, item: usize) -> Result<bool, StoreFailed>
+    requires item { item < length job.now.input.items }
+    requires none { flights (S.state store.old) ≡ [] }
+    ensures answer { IfOk result (λ yes. MatchBool yes (IsShifted job.now.plan item × IsLost job.now.input (S.state store.old).reads item) (IsShifted job.now.plan item → IsThere job.now.input (S.state store.old).reads item)) }
+    ensures change { ChangesOnly NoCell (S.state store.old) (S.state store.new) }
+    ensures cause { HasCause (S.state store.old) (S.state store.new) result }
+{
+    if !job.is_shifted(item) {
+        return Ok(false);
+    }
+    Ok(!is_there(job.input(), store, item)?)
+}
+
+// The first item that the plan shifts and that isn't at its spot of now.
+fn find_lost<S: Store>(job: &Job, store: &mut S) -> Result<Option<ItemId>, StoreFailed>
+    requires none { flights (S.state store.old) ≡ [] }
+    ensures lost { IfOk result (λ found. IfSome found (λ item. IsFirstLost job.now.input job.now.plan (S.state store.old).reads item.0)) }
+    ensures there { IfOk result (λ found. IfNone found ((item : ℕ) → item < length job.now.input.items → IsShifted job.now.plan item → IsThere job.now.input (S.state store.old).reads item)) }
+    ensures change { ChangesOnly NoCell (S.state store.old) (S.state store.new) }
+    ensures cause { HasCause (S.state store.old) (S.state store.new) result }
+{
+    job.input().keeps_rules();
+    for item in 0..job.input().items().len() {
+        if is_lost(job, store, item)? {
+            return Ok(Some(ItemId(item as u32)));
+        }
+    }
+    Ok(None)
+}
+
+// The first target that is free now and used.
+fn find_used<S: Store>(job: &Job, store: &mut S) -> Result<Option<Spot>, StoreFailed>
+    requires none { flights (S.state store.old) ≡ [] }
+    ensures used { IfOk result (λ found. IfSome found (IsFirstUsed job.now.input job.now.plan (S.state store.old).reads)) }
+    ensures free { IfOk result (λ found. IfNone found (All (CanTake job.now.input (S.state store.old).reads) (shifts_of job.now.plan))) }
+    ensures change { ChangesOnly NoCell (S.state store.old) (S.state store.new) }
+    ensures cause { HasCause (S.state store.old) (S.state store.new) result }
+{
+    for spot in job.targets() {
+        if is_used(job.input(), store, *spot)? {
+            return Ok(Some(*spot));
+        }
+    }
+    Ok(None)
+}
+
+/// Refuses a store that isn't ready for the plan. The gate isn't 1.
+pub(crate) fn check_ready<S: Store>(job: &Job, store: &mut S) -> Result<(), MoveFault>
+    requires idle { is_armed (S.state store.old).reads ≡ false }
+    requires none { flights (S.state store.old) ≡ [] }
+    ensures ready { OnOk result (IsReady job.now.input job.now.plan (S.state store.old).reads) }
+    ensures change { ChangesOnly NoCell (S.state store.old) (S.state store.new) }
+    ensures fault { IfErr result (IsFaultOn job.now (S.state store.old) (S.state store.new)) }
+    ensures later { (S.state store.old).faults ≤ (S.state store.new).faults }
+{
+    if let Some(item) = find_lost(job, store)? {
+        return Err(MoveFault::NotThere { item });
+    }
+    if let Some(spot) = find_used(job, store)? {
+        return Err(MoveFault::Occupied {
+            disk: spot.disk,
+            slot: spot.slot,
+        });
+    }
+    Ok(())
+}

@@ -1,0 +1,66 @@
+-- A loop that ends the copies in flight.
+use Rattle.std.proofs.Common.{◌≡◌, ◌+◌, ◌++◌, ◌∷◌, [], ℕ, suc, List, Some, length, refl, sym, ◌∙◌, ap, arith, length-append}
+use Rattle.std.proofs.lemmas.List.Sorted.{length_permutation}
+use Rattle.mig_base.specs.declared.cells.Flight.{Flight}
+use Rattle.mig_base.specs.Flights.{AreFlights}
+use Rattle.mig_base.specs.Stores.{Ends}
+use Rattle.mig_base.proofs.Landing.{ends_none, ends_then}
+use Rattle.mig_store.specs.declared.calls.Call.TheVariants.{Lands}
+use Rattle.mig_store.specs.Ledgers.{Log, state_at, flying, moment_of}
+use Rattle.mig_store.specs.declared.ends.Landing.{Landing}
+use Rattle.mig_store.specs.declared.trouble.Trouble.{Trouble}
+use Rattle.mig_store.specs.Orders.{after_end}
+use Rattle.mig_store.specs.Memories.{Memory, pushed, landed, next_flight, land_many}
+
+-- so many copies ended
+pub record HaveLanded (old new : Log) (i : ℕ) : Type 0 where
+  pub these : List Flight
+  pub ends : (a b : ℕ) → Ends these (state_at old.first old.calls a) (state_at new.first new.calls b)
+  pub calls : length new.calls ≡ length old.calls + i
+  pub left : length (flying (moment_of new)) + i ≡ length (flying (moment_of old))
+  pub first : new.first ≡ old.first
+  pub room : new.room ≡ old.room
+
+module _ (old : Log) where
+  none_ends : (a b : ℕ) → Ends [] (state_at old.first old.calls a) (state_at old.first old.calls b)
+  none_ends a b =
+      let none = ends_none (state_at old.first old.calls a) in record {
+        change = record {
+          told = none.change.told;
+          crash = none.change.crash;
+          time = record { later = omega arith; since = none.change.time.since };
+          keeps = none.change.keeps;
+          images = none.change.images;
+          events = none.change.events;
+        };
+        copied = none.copied;
+        gone = none.gone;
+        others = none.others;
+      }
+
+  pub landed_none : HaveLanded old old 0
+  landed_none = record { these = []; ends = none_ends; calls = omega arith; left = omega arith; first = refl; room = refl }
+
+  pub landed_more : (mid new : Log) (i : ℕ) (f : Flight) → AreFlights (flying (moment_of old)) → HaveLanded old mid i → new ≡ pushed mid (Lands f.from f.to)
+      → ((a b : ℕ) → Ends (f ∷ []) (state_at mid.first mid.calls a) (state_at new.first new.calls b)) → HaveLanded old new (i + 1)
+  landed_more mid new i f are sofar value one = record {
+    these = sofar.these ++ f ∷ [];
+    ends = λ a b. ends_then sofar.these (f ∷ []) (state_at old.first old.calls a) (state_at mid.first mid.calls a) (state_at new.first new.calls b) are (sofar.ends a a) (one a b);
+    calls = omega (arith, ap (λ (l : Log). length l.calls) value, length-append mid.calls (Lands f.from f.to ∷ []), sofar.calls);
+    left = omega (arith, sofar.left, length_permutation (flying (moment_of mid)) (f ∷ flying (moment_of new)) (one 0 0).others);
+    first = ap (λ (l : Log). l.first) value ∙ sofar.first;
+    room = ap (λ (l : Log). l.room) value ∙ sofar.room;
+  }
+
+pub none_left : {X : Type 0} (xs : List X) → length xs ≡ 0 → xs ≡ []
+none_left [] e = refl
+none_left (x ∷ xs) e = absurd (omega arith)
+
+-- one copy more
+pub landed_next : (old new : Log) (before after : Landing) (t : Trouble) (f : Flight) → new ≡ pushed old (Lands f.from f.to) → after ≡ after_end before → next_flight (record { log = old; landing = before; trouble = t }) ≡ Some f
+    → (n : ℕ) (m : Memory) → record { log = old; landing = before; trouble = t } ≡ land_many n m → record { log = new; landing = after; trouble = t } ≡ land_many (n + 1) m
+landed_next old new before after t f log landing next n m sofar =
+    (λ i. record { log = log i; landing = landing i; trouble = t })
+    ∙ sym (ap (landed (record { log = old; landing = before; trouble = t })) next)
+    ∙ ap (λ (k : Memory). landed k (next_flight k)) sofar
+    ∙ ap (λ (k : ℕ). land_many k m) (let e : suc n ≡ n + 1 = omega arith in e)

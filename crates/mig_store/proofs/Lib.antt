@@ -1,0 +1,10 @@
+pub mod CellLists
+pub mod CellTables
+pub mod Crashes
+pub mod EntryLists
+pub mod Landings
+pub mod Logs
+pub mod Moments
+pub mod Serving
+pub mod Steps
+pub mod SureSteps

@@ -1,0 +1,6 @@
+use Rattle.std.proofs.Common.{◌≡◌, take, map}
+use Rattle.mig_store.specs.Entries.{zero_entry}
+use Rattle.mig_store.proofs.contents.zero_entries.Given as goal
+
+abbrev pub invariant-loop-cell : goal.invariant-loop-cell
+invariant-loop-cell l = l.held.items ≡ map zero_entry (take l.cell-index l.cells)

@@ -1,0 +1,11 @@
+use Rattle.std.proofs.Common.{ℕ, List, map, sym, ◌∙◌, ap, subst}
+use Rattle.mig_store.specs.declared.held.Held.{Held}
+use Rattle.mig_store.specs.HeldCells.{HasLengths, cell_of}
+use Rattle.mig_store.proofs.CellLists.{zero-lengths, cells_of-zero}
+use Rattle.mig_store.proofs.sure.SureStore.new.Goals as goal
+
+pub invariant_of-result : goal.invariant_of-result
+invariant_of-result c = (
+  c.in_ok-of.ensures ∙ sym (cells_of-zero c.args.cells.now) ∙ sym (ap (λ (l : List (Held (List ℕ))). map cell_of l) c.in_ok-zero_cells.ensures),
+  subst HasLengths (sym c.in_ok-zero_cells.ensures) (zero-lengths c.args.cells.now),
+)

@@ -1,0 +1,21 @@
+use Rattle.std.proofs.Common.{◌≡◌, ℕ, [], List, length, IfSome, sym, ◌∙◌, ap, subst}
+use Rattle.mig_base.specs.Stores.{Changes}
+use Rattle.mig_store.specs.declared.held.Held.{Held}
+use Rattle.mig_store.specs.HeldCells.{held_at}
+use Rattle.mig_store.specs.Sure.{sure_state}
+use Rattle.mig_store.proofs.SureSteps.{sure-lengths, sure-changes, sure-written}
+use Rattle.mig_store.proofs.sure.SureStoreStore.write.Goals as goal
+
+pub invariant_of-self : goal.invariant_of-self
+invariant_of-self c = (
+  c.self.invariant.0 ∙ sym c.put.ensures.cells,
+  sure-lengths c.self.inside.held.items c.put.new.held.items c.args.cell.now c.of.result (ap (λ (l : List ℕ). length l) c.of.ensures ∙ c.requires.length) c.self.invariant.1 c.put.ensures.held,
+)
+
+pub returns-clause-written : goal.returns-clause-written
+returns-clause-written c = subst (λ (b : List ℕ). IfSome (held_at c.put.new.held.items c.args.cell.now) (λ told. told ≡ b)) c.of.ensures
+    (sure-written c.self.inside.held.items c.put.new.held.items c.args.cell.now c.of.result (ap (λ (l : List ℕ). length l) c.of.ensures ∙ c.requires.length) c.self.invariant.1 c.put.ensures.held)
+
+pub returns-clause-change : goal.returns-clause-change
+returns-clause-change c = subst (λ (l : List (Held (List ℕ))). Changes (λ k. k ≡ c.args.cell.now) (λ k. k ≡ c.args.cell.now) [] (sure_state l) (sure_state c.put.new.held.items)) c.self.view_is
+    (sure-changes c.self.inside.held.items c.put.new.held.items c.args.cell.now c.of.result (ap (λ (l : List ℕ). length l) c.of.ensures ∙ c.requires.length) c.self.invariant.1 c.put.ensures.held [])

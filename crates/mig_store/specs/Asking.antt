@@ -1,0 +1,47 @@
+-- What a store in memory tells of a cell, and what calls do to it.
+use Rattle.std.specs.Prelude.{◌/◌, ◌==◌, Bool, true, false, ℕ, List, length, take, replicate, if◌then◌else◌}
+use Rattle.mig_store.specs.Bytes.{overwritten}
+use Rattle.mig_store.specs.declared.contents.Entry.{Entry}
+use Rattle.mig_store.specs.declared.contents.Pick.{Pick}
+use Rattle.mig_store.specs.declared.contents.Pick.TheVariants.{Old, New, Half, Ones}
+
+-- its bytes at the last sync, those that a read gives, those last asked to be written, and whether that was since the last sync
+pub record Contents : Type 0 where
+  pub kept : List ℕ
+  pub shown : List ℕ
+  pub asked : List ℕ
+  pub unsettled : Bool
+
+-- a cell that is settled
+abbrev pub fresh : List ℕ → Contents
+fresh bytes = record { kept = bytes; shown = bytes; asked = bytes; unsettled = false }
+
+-- these bytes are asked to be written, and are written if the write succeeds
+abbrev pub ask : List ℕ → Bool → Contents → Contents
+ask bytes done c = record { kept = c.kept; shown = if done then bytes else c.shown; asked = bytes; unsettled = true }
+
+-- a copy to the cell ends
+abbrev pub land : Contents → Contents
+land c = record { kept = c.kept; shown = c.asked; asked = c.asked; unsettled = c.unsettled }
+
+-- a sync succeeds
+abbrev pub settle : Contents → Contents
+settle c = fresh c.shown
+
+-- the bytes that a pick takes, from those at the last sync and those last asked to be written
+abbrev pub bytes_of : Pick → List ℕ → List ℕ → List ℕ
+bytes_of Old kept asked = kept
+bytes_of New kept asked = asked
+bytes_of Half kept asked = overwritten (take (length kept / 2) asked) kept
+bytes_of Ones kept asked = replicate (length kept) 1
+
+-- what the cell holds after a crash
+abbrev pub picked : Pick → Contents → List ℕ
+picked pick c = if c.unsettled then bytes_of pick c.kept c.asked else c.shown
+
+abbrev pub crash : Pick → Contents → Contents
+crash pick c = fresh (picked pick c)
+
+-- what an entry says of its cell in this period
+abbrev pub seen : ℕ → Entry → Contents
+seen period e = if e.period == period then record { kept = e.kept; shown = e.shown; asked = e.asked; unsettled = true } else fresh e.shown

@@ -1,0 +1,9 @@
+pub mod Asking
+pub mod Bytes
+pub mod Entries
+pub mod HeldCells
+pub mod Ledgers
+pub mod Memories
+pub mod Orders
+pub mod Sure
+pub mod Troubles

@@ -1,0 +1,65 @@
+//! A store of cells: what its reads give, which copies are in flight, and what a crash may leave.
+ghost use Rattle.std.specs.Prelude.{◌≡◌, ◌≢◌, ◌≤◌, ℕ, List, [], ◌∷◌, IsTrue, IfOk, OnOk, IfSome, IfNone, length, take};
+ghost use Rattle.mig_base.specs.Cells.{cell_len, is_slot};
+ghost use Rattle.mig_base.specs.Images.{NoCell, IsCopy};
+ghost use Rattle.mig_base.specs.declared.cells.Flight.{Flight};
+ghost use Rattle.mig_base.specs.Flights.{began, IsTargetOf, IsSourceOf};
+ghost use Rattle.mig_base.specs.Stores.{State, IsState, flights, IsMoving, Changes, ChangesOnly, Looks, Ends, named, IsSettled, HasCause};
+
+use mig_base::Cell;
+
+/// A fault of the store itself.
+#[derive(Clone, Copy, Debug, PartialEq, Eq)]
+pub struct StoreFailed;
+
+/// The cells of disks and of a journal.
+///
+/// Each call fails only where the store's count of faults rose in this call.
+pub trait Store {
+    /// What the store tells of itself.
+    ghost state: { Self → State };
+
+    /// Reads a cell. The target of a copy in flight may give any bytes.
+    fn read(&mut self, cell: &Cell, into: &mut [u8]) -> Result<(), StoreFailed>
+        requires { length into.old ≡ cell_len cell.now }
+        ensures bytes { OnOk result (¬ IsMoving (state self.old) cell.now → IfSome ((state self.old).reads cell.now) (λ bytes. into.new ≡ bytes)) }
+        ensures change { Looks (state self.old) (state self.new) }
+        ensures cause { HasCause (state self.old) (state self.new) result };
+
+    /// Writes a cell. Until a sync succeeds a crash may leave any bytes in the cell, also where the write failed.
+    fn write(&mut self, cell: &Cell, bytes: &[u8]) -> Result<(), StoreFailed>
+        requires length { length bytes.now ≡ cell_len cell.now }
+        requires not_target { ¬ IsTargetOf (flights (state self.old)) cell.now }
+        requires not_source { ¬ IsSourceOf (flights (state self.old)) cell.now }
+        ensures written { OnOk result (IfSome ((state self.new).reads cell.now) (λ told. told ≡ bytes.now)) }
+        ensures change { ChangesOnly (λ c. c ≡ cell.now) (state self.old) (state self.new) }
+        ensures cause { HasCause (state self.old) (state self.new) result };
+
+    /// Begins to copy a slot to another, which may hold any bytes until the copy ends.
+    /// A store that doesn't tell its events has copied at once.
+    fn begin(&mut self, from: &Cell, to: &Cell) -> Result<(), StoreFailed>
+        requires slots { IsTrue (is_slot from.now) × IsTrue (is_slot to.now) }
+        requires apart { from.now ≢ to.now }
+        requires from_still { ¬ IsTargetOf (flights (state self.old)) from.now }
+        requires not_target { ¬ IsTargetOf (flights (state self.old)) to.now }
+        requires not_source { ¬ IsSourceOf (flights (state self.old)) to.now }
+        ensures begun { OnOk result (Changes (λ c. c ≡ to.now) (λ c. c ≡ to.now) (began (record { from = from.now; to = to.now }) ∷ []) (state self.old) (state self.new)) }
+        ensures copied { OnOk result (¬ IsMoving (state self.new) to.now → IsCopy ((state self.old).reads from.now) ((state self.new).reads to.now)) }
+        ensures change { (n : ℕ) × Changes (λ c. c ≡ to.now) (λ c. c ≡ to.now) (take n (began (record { from = from.now; to = to.now }) ∷ [])) (state self.old) (state self.new) }
+        ensures cause { HasCause (state self.old) (state self.new) result };
+
+    /// Ends a copy in flight and names it; None where none is in flight.
+    fn ended(&mut self) -> Result<Option<(Cell, Cell)>, StoreFailed>
+        ensures ends { Ends (named (state self.old) result) (state self.old) (state self.new) }
+        ensures none { IfOk result (λ answer. IfNone answer (flights (state self.old) ≡ [])) }
+        ensures cause { HasCause (state self.old) (state self.new) result };
+
+    /// Ends each copy in flight; after it a crash leaves what reads give. Where it fails it may have ended some copies.
+    fn sync(&mut self) -> Result<(), StoreFailed>
+        ensures ends { (these : List Flight) × Ends these (state self.old) (state self.new) }
+        ensures settled { OnOk result (IsSettled (state self.new)) }
+        ensures landed { OnOk result (flights (state self.new) ≡ []) }
+        ensures cause { HasCause (state self.old) (state self.new) result };
+
+    ghost is_state: { (store : Self) → IsState (state store) };
+}

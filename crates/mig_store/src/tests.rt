@@ -1,0 +1,185 @@
+ghost use Rattle.std.specs.Prelude.{◌≡◌, ◌≢◌, ◌++◌, ◌∷◌, [], IfSome, IsTrue};
+ghost use Rattle.mig_base.specs.declared.cells.Cell.TheVariants.{Slot};
+ghost use Rattle.mig_base.specs.Cells.{is_slot};
+ghost use Rattle.mig_base.specs.Flights.{IsTargetOf, IsSourceOf};
+ghost use Rattle.mig_store.specs.Memories.{aloft};
+
+use crate::{EndOrder, MemStore, Pick, Store, SureStore};
+use mig_base::{Cell, Event, Name};
+use std::alloc::Global;
+use std::panic::Expect;
+
+// A store of the gate, the head and a mark.
+fn journal(alloc: Global, room: u32, failing: &[u64]) -> Option<MemStore>
+    ensures { IfSome result (λ store. aloft store ≡ []) }
+{
+    let failing = Vec::from_slice(alloc, failing).ok()?;
+    let cells = [Cell::Gate, Cell::Head, Cell::Mark { n: 1 }];
+    MemStore::new(alloc, &cells, room, failing).ok()
+}
+
+// Writes this byte over the whole cell, and tells whether that succeeded.
+fn put(store: &mut MemStore, cell: &Cell, byte: u8) -> bool
+    requires { aloft store.old ≡ [] }
+    ensures { aloft store.new ≡ [] }
+{
+    store.write(cell, &[byte; 4096][..cell.len()]).is_ok()
+}
+
+// Syncs, and tells whether that succeeded.
+fn settle(store: &mut MemStore) -> bool
+    requires { aloft store.old ≡ [] }
+    ensures { aloft store.new ≡ [] }
+{
+    store.sync().is_ok()
+}
+
+// Reads the gate, and tells whether that succeeded.
+fn reads(store: &mut MemStore) -> bool {
+    store.read(&Cell::Gate, &mut [0; 1]).is_ok()
+}
+
+// Whether the head holds 16 times this byte and then 16 times that.
+fn head_is(store: &MemStore, front: u8, back: u8) -> bool {
+    let mut head = [back; 32];
+    head[..16].copy_from_slice(&[front; 16]);
+    store.cell(&Cell::Head) == Some(head.as_slice())
+}
+
+// The store whose head held 5 at the last sync and was then asked to hold 7, after a crash.
+fn crashed(alloc: Global, pick: Pick, failing: &[u64]) -> Option<MemStore> {
+    let mut store = journal(alloc, 4, failing)?;
+    if !put(&mut store, &Cell::Head, 5) || !settle(&mut store) {
+        return None;
+    }
+    put(&mut store, &Cell::Head, 7);
+    Some(store.crash(pick))
+}
+
+#[test]
+fn a_crash_leaves_what_is_picked(rt: HostRuntime) {
+    let alloc = rt.alloc();
+    // The third call, the second write, succeeds, and then fails: what was asked is the same.
+    for failing in [[].as_slice(), [2].as_slice()] {
+        let picks = [
+            (Pick::Old, 5, 5),
+            (Pick::New, 7, 7),
+            (Pick::Half, 7, 5),
+            (Pick::Ones, 1, 1),
+        ];
+        for (pick, front, back) in picks {
+            let left = crashed(alloc, pick, failing);
+            assert!(rt;
+                left.is_some_and(|store| head_is(&store, front, back) && store.syncs() == 0)
+            );
+        }
+    }
+}
+
+// The answers of two writes, a sync and a read, and whether the head then shows the first write.
+fn answers(mut store: MemStore) -> ([bool; 4], bool)
+    requires { aloft store ≡ [] }
+{
+    let first = put(&mut store, &Cell::Head, 5);
+    let second = put(&mut store, &Cell::Head, 7);
+    let synced = settle(&mut store);
+    let read = reads(&mut store);
+    ([first, second, synced, read], head_is(&store, 5, 5))
+}
+
+#[test]
+fn calls_fail_where_they_are_told_to(rt: HostRuntime) {
+    let alloc = rt.alloc();
+    let all = journal(alloc, 3, &[]).map(answers);
+    assert!(rt; all == Some(([true, true, true, true], false)));
+    let second = journal(alloc, 3, &[1]).map(answers);
+    assert!(rt; second == Some(([true, false, true, true], true)));
+    let full = journal(alloc, 1, &[]).map(answers);
+    assert!(rt; full == Some(([true, false, false, true], true)));
+    let mut fused = journal(alloc, 3, &[]).expect(&rt, "ample memory");
+    fused.fuse(1);
+    assert!(rt; answers(fused) == ([true, false, false, false], true));
+}
+
+// A slot of this disk.
+fn slot(disk: Name, slot: u32) -> Cell
+    ensures { result ≡ Slot disk slot }
+{
+    Cell::Slot { disk, slot }
+}
+
+// Begins a copy, and tells whether that succeeded.
+fn copy(store: &mut MemStore, from: &Cell, to: &Cell) -> bool
+    requires slots { IsTrue (is_slot from.now) × IsTrue (is_slot to.now) }
+    requires apart { from.now ≢ to.now }
+    requires from_still { ¬ IsTargetOf (aloft store.old) from.now }
+    requires not_target { ¬ IsTargetOf (aloft store.old) to.now }
+    requires not_source { ¬ IsSourceOf (aloft store.old) to.now }
+    ensures { IsTrue result → aloft store.new ≡ aloft store.old ++ record { from = from.now; to = to.now } ∷ [] }
+{
+    store.begin(from, to).is_ok()
+}
+
+// A store of four slots of a disk. Slot 0 is copied to slot 2, and slot 1 to slot 3; then the copy that ends next is ended, and then all are.
+fn copied(alloc: Global, disk: Name, order: EndOrder) -> Option<MemStore> {
+    let [a, b, c, d] = [slot(disk, 0), slot(disk, 1), slot(disk, 2), slot(disk, 3)];
+    let mut store = MemStore::new(alloc, &[a, b, c, d], 7, Vec::new(alloc)).ok()?;
+    store.order(order);
+    put(&mut store, &b, 9);
+    if !copy(&mut store, &a, &c) || !copy(&mut store, &b, &d) {
+        return None;
+    }
+    store.ended().ok()?;
+    store.sync().ok()?;
+    Some(store)
+}
+
+// Whether the event is a beginning, and the slot that is copied to.
+fn told(event: &Event) -> (bool, u32) {
+    match event {
+        Event::Began {
+            to: Cell::Slot { slot, .. },
+            ..
+        } => (true, *slot),
+        Event::Ended {
+            to: Cell::Slot { slot, .. },
+            ..
+        } => (false, *slot),
+        _ => (false, 9),
+    }
+}
+
+#[test]
+fn copies_end_in_order(rt: HostRuntime) {
+    let alloc = rt.alloc();
+    let disk = Name::read(b"a").expect(&rt, "a name");
+    for (order, first, last) in [
+        (EndOrder::First, 2, 3),
+        (EndOrder::Last, 3, 2),
+        (EndOrder::Turns, 3, 2),
+    ] {
+        let store = copied(alloc, disk, order).expect(&rt, "ample memory");
+        let ends = [(true, 2), (true, 3), (false, first), (false, last)];
+        assert!(rt; store.events().iter().map(told).eq(ends));
+        assert!(rt; store.syncs() == 1);
+        assert!(rt; store.cell(&slot(disk, 3)) == Some([9; 4096].as_slice()));
+        assert!(rt; store.cell(&slot(disk, 2)) == Some([0; 4096].as_slice()));
+    }
+}
+
+// What a sure store of two slots shows of both, after a write of the first and a copy to the second.
+fn sure(alloc: Global, disk: Name) -> Option<bool> {
+    let cells = [slot(disk, 0), slot(disk, 1)];
+    let mut store = SureStore::new(alloc, &cells).ok()?;
+    let zeros = store.cell(&cells[1]) == Some([0; 4096].as_slice());
+    store.write(&cells[0], &[9; 4096]).ok()?;
+    store.begin(&cells[0], &cells[1]).ok()?;
+    let copied = store.cell(&cells[1]) == Some([9; 4096].as_slice());
+    Some(zeros && copied && store.ended().ok()?.is_none() && store.cell(&Cell::Gate).is_none())
+}
+
+#[test]
+fn a_sure_store_copies_at_once(rt: HostRuntime) {
+    let disk = Name::read(b"a").expect(&rt, "a name");
+    assert!(rt; sure(rt.alloc(), disk) == Some(true));
+}
