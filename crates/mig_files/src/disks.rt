@@ -13,6 +13,9 @@ use std::rt::Files;
 /// How many files are kept open. Most systems allow 1,024 for a process.
 pub const MOST_OPEN: usize = 900;
 
+/// How many fewer are kept open than the system allows, where it allows less: the journal, the folder and the streams need some.
+const SPARE: usize = 8;
+
 /// The system's error where a process may open no more files (EMFILE).
 const TOO_MANY_OPEN: i32 = 24;
 
@@ -20,6 +23,8 @@ const TOO_MANY_OPEN: i32 = 24;
 #[derive(Drop)]
 pub struct Disks {
     open: LruCache<Name, Kept>,
+    /// How many may be open.
+    most: usize,
     /// For each disk whose file was opened, whether the device may lack some of its bytes: written by this process, or by an earlier one that ended without a sync.
     unsynced: IndexMap<Name, bool>,
     /// A file was made since the folder was synced.
@@ -37,6 +42,7 @@ impl Disks {
         match LruCache::new(alloc, most) {
             Ok(open) => Ok(Disks {
                 open,
+                most: MOST_OPEN,
                 unsynced: IndexMap::new(alloc),
                 made: false,
                 lost: false,
@@ -94,13 +100,27 @@ impl Disks {
                 continue;
             };
             let name = *name;
-            sync_disk(&mut self.open, rt, alloc, name).map_err(|error| Failure::new(
-                Place::Disk(name),
-                error,
-            ))?;
+            self.sync_disk(rt, alloc, name)?;
             self.note(name, false)?;
         }
         Ok(())
+    }
+
+    fn sync_disk<R: Files<File = File>>(
+        &mut self,
+        rt: &R,
+        alloc: Global,
+        name: Name,
+    ) -> Result<(), Failure> {
+        if !self.open.contains(&name) && !self.open_for_reading(rt, alloc, name)? {
+            return Ok(());
+        }
+        match self.open.peek_mut(&name) {
+            Some(kept) => kept
+                .sync()
+                .map_err(|error| Failure::new(Place::Disk(name), error)),
+            None => Err(Failure::memory(Place::Disk(name))),
+        }
     }
 
     fn is_writable(&self, name: Name) -> bool {
@@ -116,7 +136,7 @@ impl Disks {
     ) -> Result<bool, Failure> {
         let mut opened = open_to_read(rt, alloc, Place::Disk(name));
         if self.is_full(&opened) {
-            self.close_oldest()?;
+            self.keep_fewer()?;
             opened = open_to_read(rt, alloc, Place::Disk(name));
         }
         match opened {
@@ -138,7 +158,7 @@ impl Disks {
     ) -> Result<(), Failure> {
         let mut opened = open_to_write(rt, alloc, Place::Disk(name));
         if self.is_full(&opened) {
-            self.close_oldest()?;
+            self.keep_fewer()?;
             opened = open_to_write(rt, alloc, Place::Disk(name));
         }
         match opened {
@@ -158,9 +178,18 @@ impl Disks {
         }
     }
 
+    /// Closes some files, and keeps fewer open from now on.
+    fn keep_fewer(&mut self) -> Result<(), Failure> {
+        self.most = self.open.len().saturating_sub(SPARE);
+        for _ in 0..SPARE {
+            self.close_oldest()?;
+        }
+        Ok(())
+    }
+
     /// Keeps a file open, in place of the least recently used one where there are too many.
     fn keep(&mut self, name: Name, kept: Kept) -> Result<(), Failure> {
-        if self.open.len() >= MOST_OPEN {
+        if self.open.len() >= self.most {
             self.close_oldest()?;
         }
         if !self.unsynced.contains_key(&name) {
@@ -193,21 +222,5 @@ impl Disks {
             return Err(Failure::new(Place::Disk(name), error));
         }
         self.note(name, false)
-    }
-}
-
-/// Syncs a disk's file, which is opened for it where it isn't open.
-fn sync_disk<R: Files<File = File>>(
-    open: &mut LruCache<Name, Kept>,
-    rt: &R,
-    alloc: Global,
-    name: Name,
-) -> io::Result<()> {
-    if let Some(kept) = open.peek_mut(&name) {
-        return kept.sync();
-    }
-    match open_to_read(rt, alloc, Place::Disk(name))? {
-        Some(mut kept) => kept.sync(),
-        None => Ok(()),
     }
 }
