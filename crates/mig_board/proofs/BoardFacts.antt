@@ -1,21 +1,26 @@
 -- What the methods of a board know of its fields.
-use Rattle.std.proofs.Common.{inl, inr, ◌≡◌, ℕ, ◌<◌, ◌*◌, ◌+◌, ◌≢◌, ◌≤◌, ◌^◌, sym, ◌∙◌, subst, ap, length, set, get_or, replicate, vec_len, Vec, Global, Some, None, List, Option, arith, refl, take, drop}
+use Rattle.std.proofs.Common.{◌⊎◌, ◌↔◌, inl, inr, ◌≡◌, ℕ, ◌<◌, ◌*◌, ◌/◌, ◌%◌, ◌+◌, ◌≢◌, ◌≤◌, ◌^◌, sym, ◌∙◌, subst, ap, length, set, get_or, replicate, vec_len, Vec, Global, Some, None, List, Option, arith, refl, MatchOption}
 use Rattle.std.specs.List.{All}
+use Rattle.std.specs.Int.{bit_at}
 use Rattle.std.specs.Prelude.{slice_get}
 use Rattle.mig_base.specs.declared.limits.TheConstants.{MAX_ITEMS}
 use Rattle.mig_base.specs.declared.ids.CopyId.{CopyId}
 use Rattle.mig_base.specs.declared.ids.EdgeId.{EdgeId}
 use Rattle.mig_base.specs.declared.ids.Colour.{Colour}
-use Rattle.mig_board.specs.Colouring.{Colouring, Joins, HasColour, IsPainted, IsFreeAt, IsProper, painted_with, cleared, IsRow}
+use Rattle.mig_board.specs.Colouring.{Colouring, Joins, HasColour, Leads, IsMissing, IsPresent, IsFullFrom, IsLeastMissingFrom, HasNoCommon, IsLeastCommon, IsPainted, IsFreeAt, IsProper, AreFreeWords}
+use Rattle.mig_board.specs.Entries.{Entries, with_entry, IsFreeEntry, IsFreeSet}
+use Rattle.mig_board.specs.Words.{words_for, HasBit, HasNoBitFrom, IsFirstBit, HasNoCommonBit, IsFirstCommonBit}
 use Rattle.mig_board.specs.BoardFields.{colouring_of, IsBoard}
 use Rattle.mig_board.specs.declared.boards.Board.TheInside.{Inside}
-use Rattle.mig_board.proofs.Tables.{same_hue, IsTabled, IsTabled-painted, CanPaint, CanPaint-read, IsTabled-blank, IsTabled-cleared, place_within}
-use Rattle.mig_board.proofs.Rows.{row_of_table}
+use Rattle.mig_board.proofs.Exchange.{recoloured}
+use Rattle.mig_board.proofs.Tables.{IsTabled, IsTabled-painted, CanPaint, CanPaint-read, IsTabled-blank, IsTabled-cleared, entries_set, place_within}
 use Rattle.mig_board.proofs.Walks.{joins_back}
-use Rattle.std.proofs.lemmas.Option.{slice_get_within, slice_get_read}
+use Rattle.std.proofs.lemmas.Grind.{div_ceil_times}
+use Rattle.std.proofs.lemmas.Nat.{mul-le}
+use Rattle.std.proofs.lemmas.Option.{same_Some, none-some, slice_get_within, slice_get_read, slice_get-get_or}
 use Rattle.std.proofs.lemmas.Bool.{cases_eq}
 
-pub tabled_of : (a : Inside) → IsBoard a → IsTabled (colouring_of a) a.table.items
+pub tabled_of : (a : Inside) → IsBoard a → IsTabled (colouring_of a) a.table.entries
 tabled_of a b = record { proper = b.proper; table = b.table }
 
 -- the ends of an edge as they are read
@@ -40,35 +45,47 @@ can_paint a b g view e k x plain free read =
     (subst (λ (g : Colouring). IsFreeAt g e k) (sym view) free)
     read
 
--- two writes, with the places and the entries as they were computed
-written : (t : List (Option EdgeId)) (i j : ℕ) (o p q : Option EdgeId) → {m n : ℕ} → i ≡ m → j ≡ n → o ≡ q → p ≡ q → set (set t m q) n q ≡ set (set t i o) j p
-written t i j o p q hi hj ho hp = cc
+-- ---- what is written
 
--- the fields after `paint`, with the places and the entries as they were computed
-pub tabled_painted : (a : Inside) → IsBoard a → (e : EdgeId) (k : Colour) (x : CopyId × CopyId) → CanPaint (colouring_of a) e x.0 x.1 k → (i j : ℕ) → i ≡ x.0.0 * a.colours + k.0 → j ≡ x.1.0 * a.colours + k.0 → (o p : Option EdgeId) → o ≡ Some e → p ≡ Some e → IsTabled (painted_with (colouring_of a) e k) (set (set a.table.items i o) j p)
-tabled_painted a b e k x can i j hi hj o p ho hp =
-    subst (λ (t : List (Option EdgeId)). IsTabled (painted_with (colouring_of a) e k) t) (written a.table.items i j o p (Some e) hi hj ho hp)
-    (IsTabled-painted (colouring_of a) a.table.items (tabled_of a b) e x.0 x.1 k can)
+-- the table after two entries of a colour were written
+pub put_twice : (t t1 t2 : Entries) (v w : CopyId) (k : Colour) (o p q : Option EdgeId) → t1 ≡ with_entry t v k o → t2 ≡ with_entry t1 w k p → o ≡ q → p ≡ q → t2 ≡ with_entry (with_entry t v k q) w k q
+put_twice t t1 t2 v w k o p q h1 h2 ho hp =
+    h2 ∙ ap (λ (s : Entries). with_entry s w k p) h1 ∙ ap (λ (r : Option EdgeId). with_entry (with_entry t v k r) w k p) ho ∙ ap (λ (r : Option EdgeId). with_entry (with_entry t v k q) w k r) hp
+
+-- the colouring with other colours, as the fields have it after a write
+abbrev pub repainted : Inside → Entries → List (Option Colour) → Colouring
+repainted a t painted = record { nodes = t.nodes; colours = t.colours; ends = a.ends.items; painted = painted }
+
+-- a board whose entries at the two ends of an edge and whose colour of the edge were written
+pub record IsWritten (a : Inside) (e : EdgeId) (x : CopyId × CopyId) (k : Colour) (t : Entries) (hue : Option Colour) (o : Option EdgeId) : Type 0 where
+  pub tabled : IsTabled (repainted a t (set a.painted.items e.0 hue)) t.entries
+  pub few_entries : t.nodes * t.colours ≤ 2 ^ 28
+  pub view : repainted a t (set a.painted.items e.0 hue) ≡ recoloured (colouring_of a) (set a.painted.items e.0 hue)
+
+IsWritten-from : (a : Inside) → IsBoard a → (e : EdgeId) (x : CopyId × CopyId) (k : Colour) (t : Entries) (hue : Option Colour) (o : Option EdgeId) → IsTabled (recoloured (colouring_of a) (set a.painted.items e.0 hue)) (entries_set (colouring_of a) a.table.entries x.0 x.1 k o) → t ≡ with_entry (with_entry a.table x.0 k o) x.1 k o → IsWritten a e x k t hue o
+IsWritten-from a b e x k t hue o tabled is =
+    subst (λ (s : Entries). IsWritten a e x k s hue o) (sym is) (record { tabled = tabled; few_entries = b.few_entries; view = refl })
+
+-- the fields after `paint`
+pub written_painted : (a : Inside) → IsBoard a → (e : EdgeId) (k : Colour) (x : CopyId × CopyId) → CanPaint (colouring_of a) e x.0 x.1 k → (t1 t2 : Entries) (o p : Option EdgeId) → t1 ≡ with_entry a.table x.0 k o → t2 ≡ with_entry t1 x.1 k p → o ≡ Some e → p ≡ Some e → IsWritten a e x k t2 (Some k) (Some e)
+written_painted a b e k x can t1 t2 o p h1 h2 ho hp =
+    IsWritten-from a b e x k t2 (Some k) (Some e) (IsTabled-painted (colouring_of a) a.table.entries (tabled_of a b) e x.0 x.1 k can) (put_twice a.table t1 t2 x.0 x.1 k o p (Some e) h1 h2 ho hp)
+
+-- the ends of an edge that can be painted are nodes
+pub paint_nodes : (a : Inside) → IsBoard a → (e : EdgeId) (k : Colour) (x : CopyId × CopyId) → CanPaint (colouring_of a) e x.0 x.1 k → (x.0.0 < a.table.nodes) × (x.1.0 < a.table.nodes)
+paint_nodes a b e k x can = (b.proper.nodes_in_range e x.0 x.1 can.joins, b.proper.nodes_in_range e x.1 x.0 (joins_back (colouring_of a) e x.0 x.1 can.joins))
 
 -- the fields that `new` makes
-pub new_board : (nodes colours : ℕ) (ends : Vec (CopyId × CopyId) Global) (painted : Vec (Option Colour) Global) (table : Vec (Option EdgeId) Global) (n : ℕ) →
-    painted.items ≡ replicate n None → table.items ≡ replicate (nodes * colours) None → n ≡ vec_len ends →
+pub new_board : (nodes colours : ℕ) (ends : Vec (CopyId × CopyId) Global) (painted : Vec (Option Colour) Global) (table : Entries) (n : ℕ) →
+    painted.items ≡ replicate n None → table ≡ record { nodes = nodes; colours = colours; entries = replicate (nodes * colours) None } → n ≡ vec_len ends →
     All (λ p. (p.0.0 < nodes) × (p.1.0 < nodes)) ends.items → All (λ p. p.0 ≢ p.1) ends.items → vec_len ends ≤ MAX_ITEMS → nodes * colours ≤ 2 ^ 28 →
-    IsBoard (record { nodes = nodes; colours = colours; ends = ends; painted = painted; table = table })
+    IsBoard (record { ends = ends; painted = painted; table = table })
 new_board nodes colours ends painted table n hp ht hn range loops few entries =
     let here : n ≡ length ends.items = hn ∙ ends.ok.0 in
     let b = IsTabled-blank nodes colours ends.items range loops in
     let b2 = subst (λ (p : List (Option Colour)). IsTabled (record { nodes = nodes; colours = colours; ends = ends.items; painted = p }) (replicate (nodes * colours) None)) (sym (hp ∙ ap (λ (m : ℕ). replicate m None) here)) b in
-    let b3 = subst (λ (t : List (Option EdgeId)). IsTabled (record { nodes = nodes; colours = colours; ends = ends.items; painted = painted.items }) t) (sym ht) b2 in
-    record { proper = b3.proper; table = b3.table; few_edges = subst (λ m. m ≤ MAX_ITEMS) ends.ok.0 few; few_entries = entries }
-
--- what holds of each colour below i, and of i, holds of each below i + 1
-pub below_colour : (P : Colour → Type 0) (i : ℕ) → ((k : Colour) → k.0 < i → P k) → P (record { 0 = i }) → (k : Colour) → k.0 < i + 1 → P k
-below_colour P i below here k h =
-    elim (cases_eq k.0 i) [
-      | inl e ↦ subst P (sym (same_hue k (record { 0 = i }) e)) here
-      | inr ne ↦ below k (omega arith)
-    ]
+    let b3 = subst (λ (t : Entries). IsTabled (record { nodes = t.nodes; colours = t.colours; ends = ends.items; painted = painted.items }) t.entries) (sym ht) b2 in
+    record { proper = b3.proper; table = b3.table; few_edges = subst (λ m. m ≤ MAX_ITEMS) ends.ok.0 few; few_entries = subst (λ (t : Entries). t.nodes * t.colours ≤ 2 ^ 28) (sym ht) entries }
 
 -- ---- what `clear` knows
 
@@ -85,29 +102,111 @@ can_clear a b g view e has x read y read2 k is =
       colour = slice_get_read a.painted.items (length a.painted.items) e.0 y refl within read2 ∙ ap (λ (q : Option Colour). Some q) is;
     }
 
--- the two places of the edge in the table
-pub clear_places : (a : Inside) (b : IsBoard a) (e : EdgeId) (x : CopyId × CopyId) (k : Colour) → IsCleared a e x k → (x.0.0 * a.colours + k.0 < vec_len a.table) × (x.1.0 * a.colours + k.0 < vec_len a.table)
-clear_places a b e x k c = (
-  within x.0 (b.proper.nodes_in_range e x.0 x.1 c.joins),
-  within x.1 (b.proper.nodes_in_range e x.1 x.0 (joins_back (colouring_of a) e x.0 x.1 c.joins)),
+-- the ends of the edge are nodes, and its colour is a colour
+pub clear_within : (a : Inside) (b : IsBoard a) (e : EdgeId) (x : CopyId × CopyId) (k : Colour) → IsCleared a e x k → (x.0.0 < a.table.nodes) × (x.1.0 < a.table.nodes) × (k.0 < a.table.colours)
+clear_within a b e x k c = (b.proper.nodes_in_range e x.0 x.1 c.joins, b.proper.nodes_in_range e x.1 x.0 (joins_back (colouring_of a) e x.0 x.1 c.joins), b.proper.colours_in_range e k c.colour)
+
+-- the fields after `clear`
+pub written_cleared : (a : Inside) → IsBoard a → (e : EdgeId) (x : CopyId × CopyId) (k : Colour) → IsCleared a e x k → (t1 t2 : Entries) (o p : Option EdgeId) → t1 ≡ with_entry a.table x.0 k o → t2 ≡ with_entry t1 x.1 k p → o ≡ None → p ≡ None → IsWritten a e x k t2 None None
+written_cleared a b e x k c t1 t2 o p h1 h2 ho hp =
+    IsWritten-from a b e x k t2 None None (IsTabled-cleared (colouring_of a) a.table.entries (tabled_of a b) e x.0 x.1 k c.joins c.colour) (put_twice a.table t1 t2 x.0 x.1 k o p None h1 h2 ho hp)
+
+-- ---- what is free
+
+-- the entry of a missing colour is none
+missing_free : (a : Inside) → IsBoard a → (v : CopyId) (k : Colour) → v.0 < a.table.nodes → IsMissing (colouring_of a) v k ↔ IsFreeEntry a.table v.0 k.0
+missing_free a b v k h = (
+  (λ (m : IsMissing (colouring_of a) v k). record { in_range = m.in_range; none = empty m (slice_get a.table.entries (v.0 * a.table.colours + k.0)) refl }),
+  (λ (m : IsFreeEntry a.table v.0 k.0). record {
+    in_range = m.in_range;
+    absent = λ e w l. none-some e (same_Some None (Some e) (sym m.none ∙ (b.table.entry v k e h m.in_range).1 (w, l)));
+  }),
 )
   where
-    within : (v : CopyId) → v.0 < a.nodes → v.0 * a.colours + k.0 < vec_len a.table
-    within v h = subst (λ q. v.0 * a.colours + k.0 < q) (sym (a.table.ok.0 ∙ b.table.len)) (place_within (colouring_of a) v k h (b.proper.colours_in_range e k c.colour))
+    empty : IsMissing (colouring_of a) v k → (o : Option (Option EdgeId)) → slice_get a.table.entries (v.0 * a.table.colours + k.0) ≡ o → slice_get a.table.entries (v.0 * a.table.colours + k.0) ≡ Some None
+    empty m None read = absurd (none-some (get_or a.table.entries (v.0 * a.table.colours + k.0) None) (sym read ∙ slice_get-get_or a.table.entries (v.0 * a.table.colours + k.0) None (subst (λ n. v.0 * a.table.colours + k.0 < n) (sym b.table.len) (place_within (colouring_of a) v k h m.in_range))))
+    empty m (Some None) read = read
+    empty m (Some (Some e)) read = (let r = (b.table.entry v k e h m.in_range).0 read in absurd (m.absent e r.0 r.1))
 
-pub tabled_cleared : (a : Inside) → IsBoard a → (e : EdgeId) (x : CopyId × CopyId) (k : Colour) → IsCleared a e x k → (i j : ℕ) → i ≡ x.0.0 * a.colours + k.0 → j ≡ x.1.0 * a.colours + k.0 → (o p : Option EdgeId) → o ≡ None → p ≡ None → IsTabled (cleared (colouring_of a) e) (set (set a.table.items i o) j p)
-tabled_cleared a b e x k c i j hi hj o p ho hp =
-    subst (λ (t : List (Option EdgeId)). IsTabled (cleared (colouring_of a) e) t) (written a.table.items i j o p None hi hj ho hp)
-    (IsTabled-cleared (colouring_of a) a.table.items (tabled_of a b) e x.0 x.1 k c.joins c.colour)
+-- what the words of a node tell of each colour
+pub record TellsFree (g : Colouring) (v : CopyId) (words : List ℕ) : Type 0 where
+  pub len : length words ≡ words_for g.colours
+  pub short : length words ≤ 2 ^ 26
+  pub missing : (k : Colour) → HasBit words k.0 ↔ IsMissing g v k
+  pub present : (k : Colour) → k.0 < g.colours → (HasBit words k.0 → ⊥) → IsPresent g v k
 
--- ---- what `row` knows
+pub tells_free : (a : Inside) → IsBoard a → (g : Colouring) → colouring_of a ≡ g → (v : CopyId) → v.0 < g.nodes → (words : List ℕ) → IsFreeSet a.table v words → TellsFree g v words
+tells_free a b g view v h words set =
+    subst (λ (q : Colouring). TellsFree q v words) view (record { len = set.len; short = short; missing = missing; present = λ k hk none. there k hk none (slice_get a.table.entries (v.0 * a.table.colours + k.0)) refl })
+  where
+    node : v.0 < a.table.nodes
+    node = subst (λ (q : Colouring). v.0 < q.nodes) (sym view) h
 
-pub row_of_board : (a : Inside) → IsBoard a → (g : Colouring) → colouring_of a ≡ g → (v : CopyId) → v.0 < g.nodes → (t : List (Option EdgeId)) → t ≡ a.table.items → (m : ℕ) → m ≡ a.colours → IsRow g v (take m (drop (v.0 * a.colours) t))
-row_of_board a b g view v h t same m e =
-    let inside : v.0 < a.nodes = subst (λ (q : Colouring). v.0 < q.nodes) (sym view) h in
-    subst (λ (q : List (Option EdgeId)). IsRow g v (take m (drop (v.0 * a.colours) q))) (sym same)
-    (subst (λ (q : Colouring). IsRow q v (take m (drop (v.0 * a.colours) a.table.items))) view
-    (row_of_table (colouring_of a) a.table.items b.table v inside m e))
+    short : length words ≤ 2 ^ 26
+    short =
+        let few : 1 * a.table.colours ≤ a.table.nodes * a.table.colours = mul-le 1 a.table.colours a.table.nodes a.table.colours (omega (arith, node)) (omega arith) in
+        omega (arith, set.len, few, b.few_entries, (div_ceil_times a.table.colours 64 (omega arith)).1)
 
-pub colour_in_range : (a : Inside) (g : Colouring) → colouring_of a ≡ g → (i : ℕ) → i < a.colours → i < g.colours
-colour_in_range a g view i h = subst (λ (q : Colouring). i < q.colours) view h
+    missing : (k : Colour) → HasBit words k.0 ↔ IsMissing (colouring_of a) v k
+    missing k =
+        let r = missing_free a b v k node in
+        let s = set.bit k.0 in
+        (λ (m : HasBit words k.0). r.1 (s.0 m), λ (m : IsMissing (colouring_of a) v k). s.1 (r.0 m))
+
+    there : (k : Colour) → k.0 < a.table.colours → (HasBit words k.0 → ⊥) → (o : Option (Option EdgeId)) → slice_get a.table.entries (v.0 * a.table.colours + k.0) ≡ o → IsPresent (colouring_of a) v k
+    there k hk none None read = absurd (none-some (get_or a.table.entries (v.0 * a.table.colours + k.0) None) (sym read ∙ slice_get-get_or a.table.entries (v.0 * a.table.colours + k.0) None (subst (λ n. v.0 * a.table.colours + k.0 < n) (sym b.table.len) (place_within (colouring_of a) v k node hk))))
+    there k hk none (Some None) read = absurd (none ((set.bit k.0).1 (record { in_range = hk; none = read })))
+    there k hk none (Some (Some e)) read = (let r = (b.table.entry v k e node hk).0 read in (e, r.0, r.1))
+
+-- the same, bit by bit
+pub free_words_of : (g : Colouring) (v : CopyId) (words : List ℕ) → TellsFree g v words → AreFreeWords g v words
+free_words_of g v words t =
+    record {
+      len = t.len;
+      bit = λ w i hw hi.
+          (let r = t.missing (record { 0 = 64 * w + i }) in
+          let place : (64 * w + i) / 64 ≡ w = omega (arith, hi) in
+          let bit : (64 * w + i) % 64 ≡ i = omega (arith, hi) in
+          let same : bit_at (get_or words ((64 * w + i) / 64) 0) ((64 * w + i) % 64) ≡ bit_at (get_or words w 0) i = ap (λ q. bit_at (get_or words q 0) ((64 * w + i) % 64)) place ∙ ap (λ q. bit_at (get_or words w 0) q) bit in
+          (λ (h : bit_at (get_or words w 0) i ≡ 1). r.0 (same ∙ h), λ (h : IsMissing g v (record { 0 = 64 * w + i })). sym same ∙ r.1 h));
+    }
+
+-- the first of them
+pub least_missing_from : (g : Colouring) (v : CopyId) (words : List ℕ) → TellsFree g v words → (from k : ℕ) → IsFirstBit words from k → IsLeastMissingFrom g v (record { 0 = from }) (record { 0 = k })
+least_missing_from g v words t from k first =
+    let m = (t.missing (record { 0 = k })).0 first.has in
+    record { missing = m; from_on = first.from_on; least = λ l h less. t.present l (omega (arith, less, m.in_range)) (first.least l.0 h less) }
+
+pub full_from : (g : Colouring) (v : CopyId) (words : List ℕ) → TellsFree g v words → (from : Colour) → HasNoBitFrom words from.0 → IsFullFrom g v from
+full_from g v words t from none = λ l h hl. t.present l hl (none l.0 h)
+
+pub one_present : (g : Colouring) (v w : CopyId) (one two : List ℕ) → TellsFree g v one → TellsFree g w two → (l : Colour) → l.0 < g.colours → (HasBit one l.0 → HasBit two l.0 → ⊥) → IsPresent g v l ⊎ IsPresent g w l
+one_present g v w one two s t l h none =
+    elim (cases_eq (bit_at (get_or one (l.0 / 64) 0) (l.0 % 64)) 1) [
+      | inl has ↦ inr (t.present l h (none has))
+      | inr lacks ↦ inl (s.present l h lacks)
+    ]
+
+-- and the first that is missing at two nodes
+pub least_common : (g : Colouring) (v w : CopyId) (one two : List ℕ) → TellsFree g v one → TellsFree g w two → (k : ℕ) → IsFirstCommonBit one two k → IsLeastCommon g v w (record { 0 = k })
+least_common g v w one two s t k first =
+    let m = (s.missing (record { 0 = k })).0 first.first in
+    record {
+      first = m;
+      second = (t.missing (record { 0 = k })).0 first.second;
+      least = λ l less. one_present g v w one two s t l (omega (arith, less, m.in_range)) (first.least l.0 less);
+    }
+
+pub no_common_free : (g : Colouring) (v w : CopyId) (one two : List ℕ) → TellsFree g v one → TellsFree g w two → HasNoCommonBit one two → HasNoCommon g v w
+no_common_free g v w one two s t none = λ l h. one_present g v w one two s t l h (none l.0)
+
+-- ---- one entry
+
+pub edge_found : (a : Inside) → IsBoard a → (g : Colouring) → colouring_of a ≡ g → (v : CopyId) (k : Colour) → v.0 < g.nodes → k.0 < g.colours → (o : Option EdgeId) → slice_get a.table.entries (v.0 * a.table.colours + k.0) ≡ Some o → MatchOption o (IsMissing g v k) (λ e. (w : CopyId) × Leads g v k e w)
+edge_found a b g view v k hv hk o read =
+    subst (λ (q : Colouring). MatchOption o (IsMissing q v k) (λ e. (w : CopyId) × Leads q v k e w)) view
+    (by_entry o (subst (λ (q : Colouring). v.0 < q.nodes) (sym view) hv) (subst (λ (q : Colouring). k.0 < q.colours) (sym view) hk) read)
+  where
+    by_entry : (o : Option EdgeId) → v.0 < a.table.nodes → k.0 < a.table.colours → slice_get a.table.entries (v.0 * a.table.colours + k.0) ≡ Some o → MatchOption o (IsMissing (colouring_of a) v k) (λ e. (w : CopyId) × Leads (colouring_of a) v k e w)
+    by_entry None hv hk read = (missing_free a b v k hv).1 (record { in_range = hk; none = read })
+    by_entry (Some e) hv hk read = (b.table.entry v k e hv hk).0 read

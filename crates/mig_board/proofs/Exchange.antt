@@ -13,7 +13,8 @@ use Rattle.mig_board.specs.Colouring.{Colouring, Joins, HasColour, Leads, IsMiss
 use Rattle.mig_board.specs.Walk.{Step, IsWalk, end_of, next_of, IsNodeOf, IsEdgeOf, swapped, Exchanges}
 use Rattle.mig_board.proofs.Walks
 use Rattle.mig_board.proofs.Walks.{IsPath, NoRepeat, IsUnderway, edge_on, last_edge, fresh, path_of_walk, path_no_repeat, missing_differs, underway_more, underway_end, underway_at, underway_next, next_cases, next_differs, leads_back, joins_back, end_cases, same_colour, IsNodeOf-push_cases, IsNodeOf-push, IsEdgeOf-push_cases, IsEdgeOf-push, IsNodeOf-end_of, IsNodeOf-start, step_of, next_pair, underway_pair, underway_start}
-use Rattle.mig_board.proofs.Tables.{slice_get-set_same, slice_get-set_other, same_copy, same_edge, same_hue, place_of, place_within, place_cases, edge_cases, IsTabled, apart_by_table}
+use Rattle.mig_board.proofs.Elements.{slice_get-set_same, slice_get-set_other}
+use Rattle.mig_board.proofs.Tables.{same_copy, same_edge, same_hue, place_of, place_within, place_cases, edge_cases, IsTabled, apart_by_table}
 
 -- ---- two elements change places
 

@@ -1,20 +1,18 @@
 -- What `exchange` knows of a board's fields.
-use Rattle.std.proofs.Common.{◌⊎◌, inl, inr, Vec, Global, ◌^◌, ◌≡◌, ℕ, ◌<◌, ◌≤◌, ◌+◌, ◌*◌, sym, ap, subst, ◌∙◌, refl, length, set, get_or, vec_len, List, Option, Some, None}
+use Rattle.std.proofs.Common.{◌⊎◌, inl, inr, ◌^◌, ◌≡◌, ℕ, ◌<◌, ◌≤◌, ◌+◌, ◌*◌, sym, ap, subst, ◌∙◌, refl, length, set, get_or, vec_len, List, Option, Some, None}
 use Rattle.std.specs.Prelude.{slice_get}
 use Rattle.mig_base.specs.declared.limits.TheConstants.{MAX_ITEMS}
 use Rattle.mig_base.specs.declared.ids.CopyId.{CopyId}
 use Rattle.mig_base.specs.declared.ids.EdgeId.{EdgeId}
 use Rattle.mig_base.specs.declared.ids.Colour.{Colour}
+use Rattle.mig_board.specs.Entries.{Entries}
 use Rattle.mig_board.specs.Colouring.{Colouring, Leads, IsMissing, IsPresent}
 use Rattle.mig_board.specs.BoardFields.{colouring_of, IsBoard}
 use Rattle.mig_board.specs.declared.boards.Board.TheInside.{Inside}
 use Rattle.mig_board.proofs.BoardFacts.{tabled_of}
 use Rattle.std.specs.List.{swap}
-use Rattle.std.specs.Vec.{with_items}
-use Rattle.std.proofs.lemmas.List.{with_items_is}
-use Rattle.std.proofs.lemmas.List.Edits.{length-swap}
 use Rattle.std.proofs.lemmas.Option.{same_Some, none-some, slice_get_read, slice_get_within}
-use Rattle.mig_board.proofs.Tables.{place_of, place_within, IsTabled}
+use Rattle.mig_board.proofs.Tables.{place_of, IsTabled}
 use Rattle.mig_board.specs.Walk.{Exchanges}
 use Rattle.mig_board.proofs.Walks.{underway_at, underway_next, underway_pair, same_pair}
 use Rattle.mig_board.proofs.Exchange.{CanExchange, IsExchanging, IsTurned, exchanging_start, exchanging_more, exchanging_read, turned_by_swap, has_in_range, IsExchanged, exchanging_end, recoloured, IsTabled-exchanged, Exchanges-from}
@@ -24,16 +22,12 @@ use Rattle.mig_board.proofs.Exchange.{CanExchange, IsExchanging, IsTurned, excha
 abbrev pub Reached : Colouring → List (Option EdgeId) → List (Option Colour) → List (Option EdgeId) → CopyId → Colour → Colour → CopyId → Colour → Colour → ℕ → Type 0
 Reached g t painted table v a b at next other n = CanExchange g t v a b × IsExchanging g t painted table v a b at next other n
 
-entry_in_table : (g : Colouring) (t : List (Option EdgeId)) (painted : List (Option Colour)) (table : List (Option EdgeId)) (v : CopyId) (a b : Colour) (at : CopyId) (next other : Colour) (n : ℕ) → Reached g t painted table v a b at next other n → (k : Colour) → k.0 < g.colours → (colours : ℕ) → colours ≡ g.colours → (i : ℕ) → i ≡ at.0 * colours + k.0 → i < length table
-entry_in_table g t painted table v a b at next other n m k hk colours hc i hi =
-    let hat : at.0 < g.nodes = underway_at g m.0.tabled.proper v a b m.0.has at next other n m.1.underway in
-    subst (λ q. q < length table) (sym (hi ∙ ap (λ q. at.0 * q + k.0) hc)) (subst (λ q. place_of g at k < q) (sym m.1.table_len) (place_within g at k hat hk))
+-- it is a node, and the two colours are colours
+pub reached_at : (g : Colouring) (t : List (Option EdgeId)) (painted : List (Option Colour)) (table : List (Option EdgeId)) (v : CopyId) (a b : Colour) (at : CopyId) (next other : Colour) (n : ℕ) → Reached g t painted table v a b at next other n → at.0 < g.nodes
+reached_at g t painted table v a b at next other n m = underway_at g m.0.tabled.proper v a b m.0.has at next other n m.1.underway
 
-pub next_in_table : (g : Colouring) (t : List (Option EdgeId)) (painted : List (Option Colour)) (table : List (Option EdgeId)) (v : CopyId) (a b : Colour) (at : CopyId) (next other : Colour) (n : ℕ) → Reached g t painted table v a b at next other n → (colours : ℕ) → colours ≡ g.colours → (i : ℕ) → i ≡ at.0 * colours + next.0 → i < length table
-next_in_table g t painted table v a b at next other n m = entry_in_table g t painted table v a b at next other n m next (underway_next g m.0.tabled.proper v a b m.0.lacks m.0.has at next other n m.1.underway).0
-
-pub other_in_table : (g : Colouring) (t : List (Option EdgeId)) (painted : List (Option Colour)) (table : List (Option EdgeId)) (v : CopyId) (a b : Colour) (at : CopyId) (next other : Colour) (n : ℕ) → Reached g t painted table v a b at next other n → (colours : ℕ) → colours ≡ g.colours → (i : ℕ) → i ≡ at.0 * colours + other.0 → i < length table
-other_in_table g t painted table v a b at next other n m = entry_in_table g t painted table v a b at next other n m other (underway_next g m.0.tabled.proper v a b m.0.lacks m.0.has at next other n m.1.underway).1
+pub reached_colours : (g : Colouring) (t : List (Option EdgeId)) (painted : List (Option Colour)) (table : List (Option EdgeId)) (v : CopyId) (a b : Colour) (at : CopyId) (next other : Colour) (n : ℕ) → Reached g t painted table v a b at next other n → (next.0 < g.colours) × (other.0 < g.colours)
+reached_colours g t painted table v a b at next other n m = underway_next g m.0.tabled.proper v a b m.0.lacks m.0.has at next other n m.1.underway
 
 -- the entry that is read is the old one
 pub found_old : (g : Colouring) (t : List (Option EdgeId)) (painted : List (Option Colour)) (table : List (Option EdgeId)) (v : CopyId) (a b : Colour) (at : CopyId) (next other : Colour) (n : ℕ) → Reached g t painted table v a b at next other n → (colours : ℕ) → colours ≡ g.colours → (i : ℕ) → i ≡ at.0 * colours + next.0 → (x : Option EdgeId) → slice_get table i ≡ Some x → slice_get t (place_of g at next) ≡ Some x
@@ -49,32 +43,27 @@ turned_old g t painted table v a b at next other n m colours hc i j hi hj table'
     (subst (λ q. IsTurned g a b at table (swap table (place_of g at next) q)) there
     (turned_by_swap g a b at table m.1.table_len (underway_at g m.0.tabled.proper v a b m.0.has at next other n m.1.underway) m.0.lacks.in_range (has_in_range g t v a b m.0) next other (underway_pair g v a b at next other n m.1.underway))))
 
--- the table after two of its entries changed places
-pub swapped_items : (v : Vec (Option EdgeId) Global) (read table' : List (Option EdgeId)) (i j : ℕ) → read ≡ v.items → table' ≡ swap read i j → (with_items v table').items ≡ swap v.items i j
-swapped_items v read table' i j same is =
-    with_items_is v table' (ap (λ (q : List (Option EdgeId)). length q) is ∙ length-swap read i j ∙ ap (λ (q : List (Option EdgeId)). length q) same ∙ sym v.ok.0) ∙ is ∙ ap (λ (q : List (Option EdgeId)). swap q i j) same
-
 -- before the loop
-pub reached_start : (i : Inside) → IsBoard i → (g : Colouring) → colouring_of i ≡ g → (v : CopyId) (l h : Colour) → IsMissing g v l → IsPresent g v h → Reached g i.table.items i.painted.items i.table.items v l h v h l 0
+pub reached_start : (i : Inside) → IsBoard i → (g : Colouring) → colouring_of i ≡ g → (v : CopyId) (l h : Colour) → IsMissing g v l → IsPresent g v h → Reached g i.table.entries i.painted.items i.table.entries v l h v h l 0
 reached_start i b g view v l h m p =
-    let can : CanExchange g i.table.items v l h = record { tabled = subst (λ (q : Colouring). IsTabled q i.table.items) view (tabled_of i b); lacks = m; has = p } in
-    (can, subst (λ (q : List (Option Colour)). IsExchanging g i.table.items q i.table.items v l h v h l 0) (sym (ap (λ (q : Colouring). q.painted) view)) (exchanging_start g i.table.items v l h can))
+    let can : CanExchange g i.table.entries v l h = record { tabled = subst (λ (q : Colouring). IsTabled q i.table.entries) view (tabled_of i b); lacks = m; has = p } in
+    (can, subst (λ (q : List (Option Colour)). IsExchanging g i.table.entries q i.table.entries v l h v h l 0) (sym (ap (λ (q : Colouring). q.painted) view)) (exchanging_start g i.table.entries v l h can))
 
 -- ---- in the loop: the entries of the node that is reached have changed places too
 
 -- the fields in the loop, beside the board at the beginning
 pub record IsMidway (g : Colouring) (now : Inside) (v : CopyId) (a b : Colour) (at : CopyId) (next other : Colour) (found : Option EdgeId) (n : ℕ) : Type 0 where
-  pub nodes : now.nodes ≡ g.nodes
-  pub colours : now.colours ≡ g.colours
+  pub nodes : now.table.nodes ≡ g.nodes
+  pub colours : now.table.colours ≡ g.colours
   pub ends : now.ends.items ≡ g.ends
   pub few_edges : length now.ends.items ≤ MAX_ITEMS
-  pub few_entries : now.nodes * now.colours ≤ 2 ^ 28
+  pub few_entries : now.table.nodes * now.table.colours ≤ 2 ^ 28
   -- the table at the beginning
   pub first : List (Option EdgeId)
   -- the table before the entries of this node changed places
   pub before : List (Option EdgeId)
   pub reached : Reached g first now.painted.items before v a b at next other n
-  pub turned : IsTurned g a b at before now.table.items
+  pub turned : IsTurned g a b at before now.table.entries
   pub found_is : slice_get first (place_of g at next) ≡ Some found
 
 at_in_range : (g : Colouring) (now : Inside) (v : CopyId) (a b : Colour) (at : CopyId) (next other : Colour) (found : Option EdgeId) (n : ℕ) → IsMidway g now v a b at next other found n → at.0 < g.nodes
@@ -123,31 +112,35 @@ end_is_at g now v a b at next other found n m e w l x read =
     ]
 
 -- the node to which it leads is reached
-pub reached_next : (g : Colouring) (now : Inside) (v : CopyId) (a b : Colour) (at : CopyId) (next other : Colour) (found : Option EdgeId) (n : ℕ) → (m : IsMidway g now v a b at next other found n) → (e : EdgeId) (w : CopyId) → Leads g at next e w → (x : CopyId × CopyId) → x ≡ get_or now.ends.items e.0 x → (y : CopyId) → (x ≡ (at, y)) ⊎ (x ≡ (y, at)) → Reached g m.first (set now.painted.items e.0 (Some other)) now.table.items v a b y other next (n + 1)
+pub reached_next : (g : Colouring) (now : Inside) (v : CopyId) (a b : Colour) (at : CopyId) (next other : Colour) (found : Option EdgeId) (n : ℕ) → (m : IsMidway g now v a b at next other found n) → (e : EdgeId) (w : CopyId) → Leads g at next e w → (x : CopyId × CopyId) → x ≡ get_or now.ends.items e.0 x → (y : CopyId) → (x ≡ (at, y)) ⊎ (x ≡ (y, at)) → Reached g m.first (set now.painted.items e.0 (Some other)) now.table.entries v a b y other next (n + 1)
 reached_next g now v a b at next other found n m e w l x read y c =
     let row = ends_read g now v a b at next other found n m e w l x read in
     let on : Leads g at next e y = record {
       joins = elim c [ inl h ↦ inl (row ∙ ap (λ (q : CopyId × CopyId). Some q) h) | inr h ↦ inr (row ∙ ap (λ (q : CopyId × CopyId). Some q) h) ];
       colour = l.colour;
     } in
-    (m.reached.0, exchanging_more g m.first v a b m.reached.0 now.painted.items m.before now.table.items at next other n m.reached.1 m.turned e y on)
+    (m.reached.0, exchanging_more g m.first v a b m.reached.0 now.painted.items m.before now.table.entries at next other n m.reached.1 m.turned e y on)
+
+-- there are as few entries as before
+pub few_kept : (t t' : Entries) (entries : List (Option EdgeId)) → t' ≡ record t { entries = entries } → t.nodes * t.colours ≤ 2 ^ 28 → t'.nodes * t'.colours ≤ 2 ^ 28
+few_kept t t' entries is few = subst (λ (q : Entries). q.nodes * q.colours ≤ 2 ^ 28) (sym is) few
 
 -- ---- at the end
 
 -- the colouring in the loop, by the one at its beginning
-view_now : (g : Colouring) (now : Inside) → now.nodes ≡ g.nodes → now.colours ≡ g.colours → now.ends.items ≡ g.ends → (painted : List (Option Colour)) → recoloured (colouring_of now) painted ≡ recoloured g painted
+view_now : (g : Colouring) (now : Inside) → now.table.nodes ≡ g.nodes → now.table.colours ≡ g.colours → now.ends.items ≡ g.ends → (painted : List (Option Colour)) → recoloured (colouring_of now) painted ≡ recoloured g painted
 view_now g now hn hc he painted =
     let made : ℕ → ℕ → List (CopyId × CopyId) → Colouring = λ n c e. record { nodes = n; colours = c; ends = e; painted = painted } in
-    ap (λ q. made q now.colours now.ends.items) hn ∙ ap (λ q. made g.nodes q now.ends.items) hc ∙ ap (λ (q : List (CopyId × CopyId)). made g.nodes g.colours q) he
+    ap (λ q. made q now.table.colours now.ends.items) hn ∙ ap (λ q. made g.nodes q now.ends.items) hc ∙ ap (λ (q : List (CopyId × CopyId)). made g.nodes g.colours q) he
 
-exchanged_now : (g : Colouring) (now : Inside) (v : CopyId) (a b : Colour) (at : CopyId) (next other : Colour) (found : Option EdgeId) (n : ℕ) → (m : IsMidway g now v a b at next other found n) → found ≡ None → IsExchanged g m.first now.painted.items now.table.items v a b m.reached.1.underway.steps
+exchanged_now : (g : Colouring) (now : Inside) (v : CopyId) (a b : Colour) (at : CopyId) (next other : Colour) (found : Option EdgeId) (n : ℕ) → (m : IsMidway g now v a b at next other found n) → found ≡ None → IsExchanged g m.first now.painted.items now.table.entries v a b m.reached.1.underway.steps
 exchanged_now g now v a b at next other found n m is =
-    exchanging_end g m.first v a b m.reached.0 now.painted.items m.before now.table.items at next other n m.reached.1 m.turned (found_missing g now v a b at next other found n m is)
+    exchanging_end g m.first v a b m.reached.0 now.painted.items m.before now.table.entries at next other n m.reached.1 m.turned (found_missing g now v a b at next other found n m is)
 
-tabled_now : (g : Colouring) (now : Inside) (v : CopyId) (a b : Colour) (at : CopyId) (next other : Colour) (found : Option EdgeId) (n : ℕ) → IsMidway g now v a b at next other found n → found ≡ None → IsTabled (colouring_of now) now.table.items
+tabled_now : (g : Colouring) (now : Inside) (v : CopyId) (a b : Colour) (at : CopyId) (next other : Colour) (found : Option EdgeId) (n : ℕ) → IsMidway g now v a b at next other found n → found ≡ None → IsTabled (colouring_of now) now.table.entries
 tabled_now g now v a b at next other found n m is =
-    subst (λ (q : Colouring). IsTabled q now.table.items) (sym (view_now g now m.nodes m.colours m.ends now.painted.items))
-    (IsTabled-exchanged g m.first now.painted.items now.table.items v a b m.reached.0 m.reached.1.underway.steps (exchanged_now g now v a b at next other found n m is))
+    subst (λ (q : Colouring). IsTabled q now.table.entries) (sym (view_now g now m.nodes m.colours m.ends now.painted.items))
+    (IsTabled-exchanged g m.first now.painted.items now.table.entries v a b m.reached.0 m.reached.1.underway.steps (exchanged_now g now v a b at next other found n m is))
 
 pub board_now : (g : Colouring) (now : Inside) (v : CopyId) (a b : Colour) (at : CopyId) (next other : Colour) (found : Option EdgeId) (n : ℕ) → IsMidway g now v a b at next other found n → found ≡ None → IsBoard now
 board_now g now v a b at next other found n m is =
@@ -158,4 +151,4 @@ pub exchanges_now : (g : Colouring) (now : Inside) (v : CopyId) (a b : Colour) (
 exchanges_now g now v a b at next other found n m is =
     subst (λ (q : Colouring). Exchanges g q v a b at) (sym (view_now g now m.nodes m.colours m.ends now.painted.items))
     (subst (λ (q : CopyId). Exchanges g (recoloured g now.painted.items) v a b q) m.reached.1.underway.at_is
-    (Exchanges-from g m.first now.painted.items now.table.items v a b m.reached.0 m.reached.1.underway.steps (exchanged_now g now v a b at next other found n m is)))
+    (Exchanges-from g m.first now.painted.items now.table.entries v a b m.reached.0 m.reached.1.underway.steps (exchanged_now g now v a b at next other found n m is)))

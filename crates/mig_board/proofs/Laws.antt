@@ -12,7 +12,8 @@ use Rattle.mig_board.specs.Growth.{IsBlank, IsPlain, SameGraph, PaintsOne, Recol
 use Rattle.mig_board.specs.Walk.{Step, IsWalk, end_of, next_of, backwards, WalksTo, swapped, Exchanges}
 use Rattle.mig_board.proofs.Walks.{IsPath, path_of_walk, path_back, next_pair, missing_differs, end_cases}
 use Rattle.mig_board.proofs.Counting.{degree_of_full}
-use Rattle.mig_board.proofs.Tables.{edge_cases, same_edge, slice_get-set_same, slice_get-set_other, painted_cases}
+use Rattle.mig_board.proofs.Elements.{slice_get-set_same, slice_get-set_other}
+use Rattle.mig_board.proofs.Tables.{edge_cases, same_edge, painted_cases}
 use Rattle.mig_board.proofs.Exchange.{path_edge_cases, path_edge, swapped_second, swapped_third}
 
 -- ---- what is missing and what is there

@@ -1,8 +1,12 @@
 pub mod Walks
 pub mod Tables
-pub mod Rows
 pub mod BoardFacts
 pub mod Exchange
 pub mod ExchangeFacts
 pub mod Counting
 pub mod Laws
+pub mod Bits
+pub mod Elements
+pub mod FreeSets
+pub mod TableFacts
+pub mod FullSets

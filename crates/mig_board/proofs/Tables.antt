@@ -1,5 +1,5 @@
 -- The table of a colouring through a change of one edge's colour.
-use Rattle.std.proofs.Common.{◌≡◌, ◌≢◌, ℕ, ◌<◌, ◌+◌, ◌*◌, ◌⊎◌, ◌↔◌, inl, inr, refl, sym, ap, subst, ◌∙◌, List, [], ◌∷◌, zero, suc, length, set, get_or, Option, Some, None, arith, length-set, replicate}
+use Rattle.std.proofs.Common.{◌≡◌, ◌≢◌, ℕ, ◌<◌, ◌+◌, ◌*◌, ◌⊎◌, ◌↔◌, inl, inr, refl, sym, ap, subst, ◌∙◌, List, length, set, get_or, Option, Some, None, arith, length-set, replicate}
 use Rattle.std.proofs.lemmas.List.{length-replicate, get_or-replicate, set-set}
 use Rattle.std.specs.Prelude.{slice_get}
 use Rattle.std.proofs.lemmas.Bool.{cases_eq}
@@ -12,20 +12,8 @@ use Rattle.mig_base.specs.declared.ids.CopyId.{CopyId}
 use Rattle.mig_base.specs.declared.ids.EdgeId.{EdgeId}
 use Rattle.mig_base.specs.declared.ids.Colour.{Colour}
 use Rattle.mig_board.specs.Colouring.{Colouring, Joins, HasColour, Leads, IsMissing, IsProper, IsTableOf, IsFreeAt, painted_with, cleared, blank}
+use Rattle.mig_board.proofs.Elements.{slice_get-set_same, slice_get-set_other}
 use Rattle.mig_board.proofs.Walks.{end_cases, same_colour, joins_back}
-
--- one element after a write
-pub slice_get-set_same : {A : Type 0} (xs : List A) (i : ℕ) (y : A) → i < length xs → slice_get (set xs i y) i ≡ Some y
-slice_get-set_same [] i y h = absurd (omega arith)
-slice_get-set_same (x ∷ xs) zero y h = refl
-slice_get-set_same (x ∷ xs) (suc i) y h = slice_get-set_same xs i y (omega arith)
-
-pub slice_get-set_other : {A : Type 0} (xs : List A) (i j : ℕ) (y : A) → j ≢ i → slice_get (set xs i y) j ≡ slice_get xs j
-slice_get-set_other [] i j y h = refl
-slice_get-set_other (x ∷ xs) zero zero y h = absurd (h refl)
-slice_get-set_other (x ∷ xs) zero (suc j) y h = refl
-slice_get-set_other (x ∷ xs) (suc i) zero y h = refl
-slice_get-set_other (x ∷ xs) (suc i) (suc j) y h = slice_get-set_other xs i j y (λ e. h (ap suc e))
 
 pub same_copy : (v w : CopyId) → v.0 ≡ w.0 → v ≡ w
 same_copy v w h = let make : ℕ → CopyId = λ n. record { 0 = n } in ap make h

@@ -5,10 +5,10 @@ use Rattle.mig_board.specs.Colouring.{Colouring, IsProper, IsTableOf}
 use Rattle.mig_board.specs.declared.boards.Board.TheInside.{Inside}
 
 abbrev pub colouring_of : Inside → Colouring
-colouring_of a = record { nodes = a.nodes; colours = a.colours; ends = a.ends.items; painted = a.painted.items }
+colouring_of a = record { nodes = a.table.nodes; colours = a.table.colours; ends = a.ends.items; painted = a.painted.items }
 
 pub record IsBoard (a : Inside) : Type 0 where
   pub proper : IsProper (colouring_of a)
-  pub table : IsTableOf (colouring_of a) a.table.items
+  pub table : IsTableOf (colouring_of a) a.table.entries
   pub few_edges : length a.ends.items ≤ MAX_ITEMS
-  pub few_entries : a.nodes * a.colours ≤ 2 ^ 28
+  pub few_entries : a.table.nodes * a.table.colours ≤ 2 ^ 28

@@ -1,5 +1,6 @@
 -- A multigraph without loops whose edges carry colours or none.
-use Rattle.std.specs.Prelude.{◌≡◌, ◌≢◌, ℕ, ◌<◌, ◌≤◌, ◌+◌, ◌*◌, ◌↔◌, ◌⊎◌, List, Option, Some, None, length, slice_get, slice_set as set, replicate}
+use Rattle.std.specs.Prelude.{◌≡◌, ◌≢◌, ℕ, ◌<◌, ◌≤◌, ◌+◌, ◌*◌, ◌↔◌, ◌⊎◌, List, Option, Some, None, length, slice_get, slice_index, slice_set as set, replicate}
+use Rattle.std.specs.Int.{bit_at, div_ceil}
 use Rattle.mig_base.specs.declared.ids.CopyId.{CopyId}
 use Rattle.mig_base.specs.declared.ids.EdgeId.{EdgeId}
 use Rattle.mig_base.specs.declared.ids.Colour.{Colour}
@@ -95,10 +96,10 @@ pub record IsProper (g : Colouring) : Type 0 where
 abbrev pub blank : ℕ → ℕ → List (CopyId × CopyId) → Colouring
 blank nodes colours ends = record { nodes = nodes; colours = colours; ends = ends; painted = replicate (length ends) None }
 
--- the row has, for each colour, the edge at v that has the colour
-pub record IsRow (g : Colouring) (v : CopyId) (row : List (Option EdgeId)) : Type 0 where
-  pub len : length row ≡ g.colours
-  pub entry : (k : Colour) (e : EdgeId) → k.0 < g.colours → (slice_get row k.0 ≡ Some (Some e)) ↔ ((w : CopyId) × Leads g v k e w)
+-- the words are the set of the colours that are missing at v: bit i of word w is for colour 64 w + i
+pub record AreFreeWords (g : Colouring) (v : CopyId) (words : List ℕ) : Type 0 where
+  pub len : length words ≡ div_ceil g.colours 64
+  pub bit : (w i : ℕ) → w < length words → i < 64 → (bit_at (slice_index words w) i ≡ 1) ↔ IsMissing g v (record { 0 = 64 * w + i })
 
 -- the table has, for each node and colour, the edge at the node that has the colour
 pub record IsTableOf (g : Colouring) (table : List (Option EdgeId)) : Type 0 where

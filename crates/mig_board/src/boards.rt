@@ -1,11 +1,13 @@
 //! A board and its three changes.
 ghost use Rattle.std.specs.Prelude.{◌≡◌, ◌≢◌, ℕ, ◌*◌, ◌<◌, ◌≤◌, ◌^◌, length, vec_len, IfOk, MatchOption, MatchBool, slice_get, All, Some, None};
 ghost use Rattle.mig_base.specs.declared.ids.CopyId.{CopyId};
-ghost use Rattle.mig_board.specs.Colouring.{Joins, Leads, IsPresent, IsMissing, IsProper, IsRow, IsFull, IsFullFrom, IsLeastMissing, IsLeastMissingFrom, HasNoCommon, IsLeastCommon, IsFreeAt, IsPainted, painted_with, cleared, blank};
+ghost use Rattle.mig_board.specs.Colouring.{Joins, Leads, IsPresent, IsMissing, IsProper, IsFull, IsFullFrom, IsLeastMissing, IsLeastMissingFrom, HasNoCommon, IsLeastCommon, IsFreeAt, IsPainted, AreFreeWords, painted_with, cleared, blank};
 ghost use Rattle.mig_board.specs.Walk.{WalksTo, Exchanges};
 
-use crate::entries::{Entry, is_free, swap_entries};
-use crate::places::{other_of, place};
+use crate::entries::Entry;
+use crate::places::other_of;
+use crate::table::Table;
+use crate::words::{first_bit, first_common_bit};
 use mig_base::{Colour, CopyId, EdgeId, MAX_ITEMS};
 use std::alloc::{AllocError, Global};
 use std::marker::Model;
@@ -13,14 +15,12 @@ use std::marker::Model;
 /// A multigraph without loops, each of whose edges has a colour or none. No two edges of one colour share a node.
 ///
 /// Colours are the numbers below the board's number of colours. A colour is missing at a node where no edge at the
-/// node has it. Only `new` takes memory: four bytes for each node and colour.
+/// node has it. Only `new` takes memory: four bytes and a bit for each node and colour.
 #[derive(Drop)]
 pub struct Board {
-    nodes: u32,
-    colours: u32,
     ends: Vec<(CopyId, CopyId)>,
     painted: Vec<Option<Colour>>,
-    table: Vec<Entry>,
+    table: Table,
 }
 
 impl Model for Board {
@@ -52,10 +52,8 @@ impl Board {
         ensures made { IfOk result (λ b. b ≡ blank nodes colours ends.items) }
     {
         let painted = vec![in alloc; None; ends.len()]?;
-        let table = vec![in alloc; Entry::none(); nodes as usize * colours as usize]?;
+        let table = Table::new(alloc, nodes, colours)?;
         Ok(Board {
-            nodes,
-            colours,
             ends,
             painted,
             table,
@@ -67,7 +65,7 @@ impl Board {
         ensures value { result ≡ self.now.nodes }
         ensures proper { IsProper self.now }
     {
-        self.nodes
+        self.table.nodes()
     }
 
     /// The number of colours.
@@ -75,7 +73,7 @@ impl Board {
         ensures value { result ≡ self.now.colours }
         ensures proper { IsProper self.now }
     {
-        self.colours
+        self.table.colours()
     }
 
     /// The number of edges.
@@ -122,7 +120,7 @@ impl Board {
             (IsMissing self.now node colour)
             (λ e. (w : CopyId) × Leads self.now node colour e w) }
     {
-        self.table[place(self.colours, node, colour)].edge()
+        self.table.edge_at(node, colour)
     }
 
     /// Whether no edge at the node has the colour.
@@ -134,13 +132,13 @@ impl Board {
         self.edge_at(node, colour).is_none()
     }
 
-    /// The entries of a node, one for each colour.
-    fn row(&self, node: CopyId) -> &[Entry]
+    /// The colours that are missing at a node, 64 to a word: bit i of word w is 1 exactly where 64 w + i is the number
+    /// of one.
+    pub fn free_words(&self, node: CopyId) -> &[u64]
         requires { node.0 < self.now.nodes }
-        ensures { IsRow self.now node result.now }
+        ensures { AreFreeWords self.now node result.now }
     {
-        let first = node.0 as usize * self.colours as usize;
-        &self.table[first..first + self.colours as usize]
+        self.table.free_words(node)
     }
 
     /// The least colour that is missing at the node. None comes exactly where there is none.
@@ -158,13 +156,8 @@ impl Board {
             (IsFullFrom self.now node from)
             (IsLeastMissingFrom self.now node from) }
     {
-        let row = self.row(node);
-        for colour in from.0..self.colours {
-            if is_free(row, colour) {
-                return Some(Colour(colour));
-            }
-        }
-        None
+        let colour = first_bit(self.table.free_words(node), from.0)?;
+        Some(Colour(colour))
     }
 
     /// The least colour that is missing at both nodes. None comes exactly where there is none.
@@ -175,14 +168,10 @@ impl Board {
             (HasNoCommon self.now first second)
             (IsLeastCommon self.now first second) }
     {
-        let one = self.row(first);
-        let two = self.row(second);
-        for colour in 0..self.colours {
-            if is_free(one, colour) && is_free(two, colour) {
-                return Some(Colour(colour));
-            }
-        }
-        None
+        let one = self.table.free_words(first);
+        let two = self.table.free_words(second);
+        let colour = first_common_bit(one, two)?;
+        Some(Colour(colour))
     }
 
     /// Gives a colour to an edge that has none. The colour has to be missing at both ends.
@@ -194,8 +183,8 @@ impl Board {
     {
         let (first, second) = self.ends[edge.0 as usize];
         self.painted[edge.0 as usize] = Some(colour);
-        self.table[place(self.colours, first, colour)] = Entry::of(edge);
-        self.table[place(self.colours, second, colour)] = Entry::of(edge);
+        self.table.put(first, colour, Entry::of(edge));
+        self.table.put(second, colour, Entry::of(edge));
     }
 
     /// Takes an edge's colour away.
@@ -206,8 +195,8 @@ impl Board {
         let (first, second) = self.ends[edge.0 as usize];
         if let Some(colour) = self.painted[edge.0 as usize] {
             self.painted[edge.0 as usize] = None;
-            self.table[place(self.colours, first, colour)] = Entry::none();
-            self.table[place(self.colours, second, colour)] = Entry::none();
+            self.table.put(first, colour, Entry::none());
+            self.table.put(second, colour, Entry::none());
         }
     }
 
@@ -233,7 +222,7 @@ impl Board {
         let mut next = has;
         let mut other = lacks;
         // A walk repeats no node, so it has fewer steps than the board has nodes.
-        for _step in 0..self.nodes {
+        for _step in 0..self.table.nodes() {
             let Some(edge) = self.edge_at(at, next) else {
                 return at;
             };
@@ -256,19 +245,15 @@ impl Board {
         let mut at = node;
         let mut next = has;
         let mut other = lacks;
-        let here = place(self.colours, at, next);
-        let there = place(self.colours, at, other);
-        let mut found = swap_entries(&mut self.table, here, there);
+        let mut found = self.table.swap(at, next, other);
         // A walk repeats no node, so it has fewer steps than the board has nodes.
-        for _step in 0..self.nodes {
+        for _step in 0..self.table.nodes() {
             let Some(edge) = found else {
                 return at;
             };
             at = other_of(self.ends[edge.0 as usize], at);
             (next, other) = (other, next);
-            let here = place(self.colours, at, next);
-            let there = place(self.colours, at, other);
-            found = swap_entries(&mut self.table, here, there);
+            found = self.table.swap(at, next, other);
             self.painted[edge.0 as usize] = Some(next);
         }
         unreachable!()
@@ -310,6 +295,18 @@ mod tests {
         }
         assert_eq!(&rt; board.missing(CopyId(0)), Some(Colour(0)));
         assert_eq!(&rt; board.edge_at(CopyId(1), Colour(0)), Some(EdgeId(1)));
+        Ok(())
+    }
+
+    /// An edge of a colour of the second word.
+    #[test]
+    fn tells_what_is_free_in_two_words(rt: HostRuntime) -> Result<(), AllocError> {
+        let one = [(CopyId(0), CopyId(1))];
+        let mut board = Board::new(rt.alloc(), 2, one.to_vec(rt.alloc())?, 70)?;
+        board.paint(EdgeId(0), Colour(65));
+        let words: [u64; 2] = [18446744073709551615, 61];
+        assert_eq!(&rt; board.free_words(CopyId(0)), &words[..]);
+        assert_eq!(&rt; board.missing(CopyId(0)), Some(Colour(0)));
         Ok(())
     }
 }

@@ -1,6 +1,5 @@
 //! Entries of the table of a board.
-ghost use Rattle.std.specs.Prelude.{◌≡◌, ◌<◌, MatchBool, Option, Some, None, length, slice_get};
-ghost use Rattle.std.specs.List.{swap};
+ghost use Rattle.std.specs.Prelude.{◌≡◌, ◌<◌, MatchBool, Some, None};
 ghost use Rattle.mig_base.specs.declared.ids.EdgeId.{EdgeId};
 
 use mig_base::EdgeId;
@@ -53,26 +52,11 @@ impl Entry {
             Some(EdgeId(self.number))
         }
     }
-}
 
-/// Whether the entry at a place of a row has no edge.
-pub fn is_free(row: &[Entry], place: u32) -> bool
-    requires { place < length row.now }
-    ensures { MatchBool result
-        (slice_get row.now place ≡ Some None)
-        ((e : EdgeId) × (slice_get row.now place ≡ Some (Some e))) }
-{
-    row[place as usize].edge().is_none()
-}
-
-/// Exchanges two entries, and gives the edge that the first of them had.
-pub fn swap_entries(table: &mut [Entry], here: usize, there: usize) -> Option<EdgeId>
-    requires here { here < length table.old }
-    requires there { there < length table.old }
-    ensures found { slice_get table.old here ≡ Some result }
-    ensures swapped { table.new ≡ swap table.old here there }
-{
-    let found = table[here].edge();
-    table.swap(here, there);
-    found
+    /// Whether it is none.
+    pub fn is_none(self) -> bool
+        ensures { MatchBool result (self ≡ None) ((e : EdgeId) × (self ≡ Some e)) }
+    {
+        self.edge().is_none()
+    }
 }

@@ -7,5 +7,7 @@
 mod boards;
 mod entries;
 mod places;
+mod table;
+mod words;
 
 pub use boards::Board;

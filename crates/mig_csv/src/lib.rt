@@ -7,12 +7,14 @@ mod errors;
 mod files;
 mod inputs;
 mod items;
+mod layouts;
 mod next;
 mod room;
 mod rows;
 
 pub use errors::InputError;
 pub use inputs::read_input;
+pub use layouts::read_layout;
 pub use mig_base::{FileKind, Why};
 
 #[cfg(test)]

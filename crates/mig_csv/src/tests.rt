@@ -1,4 +1,4 @@
-use crate::{FileKind, InputError, Why, read_input};
+use crate::{FileKind, InputError, Why, read_input, read_layout};
 use mig_base::{DiskId, Name, Spot};
 use std::alloc::{AllocError, Global};
 
@@ -290,4 +290,24 @@ fn as_long_as_a_file_may_be(rt: HostRuntime) -> Result<(), AllocError> {
     let want = Some((FileKind::Now, 1, Why::UnknownDisk));
     assert!(rt; refusal(alloc, ONE_DISK, b"item,disk,slot\nx,q,0\n", &more) == want);
     Ok(())
+}
+
+// The place of each item's next disk as a layout is read, or the refusal.
+fn stays(alloc: Global, now: &[u8]) -> Option<Result<[u32; 2], (FileKind, u32, Why)>> {
+    match read_layout(alloc, TWO_DISKS, now) {
+        Ok(input) => match input.next() {
+            [a, b] => Some(Ok([a.0, b.0])),
+            _ => None,
+        },
+        Err(InputError::Refused { file, row, why }) => Some(Err((file, row, why))),
+        Err(InputError::Memory) => None,
+    }
+}
+
+#[test]
+fn items_of_a_layout_stay(rt: HostRuntime) {
+    let now = b"item,disk,slot\nx1,b,1\nx2,a,1\n";
+    assert!(rt; stays(rt.alloc(), now) == Some(Ok([1, 0])));
+    let taken = b"item,disk,slot\nx1,b,1\nx2,b,1\n";
+    assert!(rt; stays(rt.alloc(), taken) == Some(Err((FileKind::Now, 2, Why::SlotTaken))));
 }

@@ -3,17 +3,18 @@ ghost use Rattle.std.specs.Prelude.{◌≡◌, ◌≢◌, ◌≤◌, ◌↔◌, 
 ghost use Rattle.std.specs.IoError.{error_kind};
 
 use crate::reading::read_first;
-use crate::replacing::{Node, node_of, save_over};
+use crate::replacing::{Node, Used, node_of, save_over};
 use crate::{Folder, LoadFault, SaveFailed};
 use std::alloc::Global;
 use std::fs::{self, File};
 use std::io::{self, ErrorKind};
 use std::rt::Files;
 
-/// The working folder. A name is a path of the operating system, and two spellings of one file are two names. Of what files hold nothing is told. A file that was loaded is never saved over, whatever its spelling. What failed, and why, is said on standard error.
+/// The working folder. A name is a path of the operating system, and two spellings of one file are two names. Of what files hold nothing is told. A file that was loaded, and the one that was saved last, is never saved over, whatever its spelling: a folder serves one run. What failed, and why, is said on standard error.
 pub struct DirFolder<'a, R: Files<File = File> + Eprint> {
     rt: &'a R,
     loaded: Vec<Node>,
+    saved: Option<Node>,
     faults: u64,
 }
 
@@ -22,6 +23,7 @@ impl<'a, R: Files<File = File> + Eprint> Drop for DirFolder<'a, R> {
         let DirFolder {
             rt: _,
             loaded,
+            saved: _,
             faults: _,
         } = self;
         drop(loaded);
@@ -36,6 +38,7 @@ impl<'a, R: Files<File = File> + Eprint> DirFolder<'a, R> {
         DirFolder {
             rt,
             loaded: Vec::new(alloc),
+            saved: None,
             faults: 0,
         }
     }
@@ -101,11 +104,20 @@ impl<'a, R: Files<File = File> + Eprint> Folder for DirFolder<'a, R> {
     }
 
     fn save(&mut self, name: &str, bytes: &[u8]) -> Result<(), SaveFailed> {
-        let Err(unsaved) = save_over(self.rt, &self.loaded, name, bytes) else {
-            return Ok(());
+        let used = Used {
+            loaded: &self.loaded,
+            saved: self.saved,
         };
-        let _ = eprintln!(self.rt; "migrate: cannot save {name}: {unsaved}");
-        self.faults = self.faults.saturating_add(1);
-        Err(SaveFailed)
+        match save_over(self.rt, &used, name, bytes) {
+            Ok(saved) => {
+                self.saved = saved;
+                Ok(())
+            }
+            Err(unsaved) => {
+                let _ = eprintln!(self.rt; "migrate: cannot save {name}: {unsaved}");
+                self.faults = self.faults.saturating_add(1);
+                Err(SaveFailed)
+            }
+        }
     }
 }

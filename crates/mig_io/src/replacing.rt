@@ -25,6 +25,26 @@ pub fn node_of(found: &Metadata) -> Option<Node> {
     })
 }
 
+/// The files that a run has used: none of them is saved over.
+#[derive(Clone, Copy)]
+pub struct Used<'a> {
+    pub loaded: &'a [Node],
+    pub saved: Option<Node>,
+}
+
+impl<'a> Used<'a> {
+    /// Why a file is not to be saved over.
+    fn refusal(&self, node: Node) -> Option<&'static str> {
+        if self.loaded.contains(&node) {
+            Some("it was loaded in this run")
+        } else if self.saved == Some(node) {
+            Some("it was saved in this run")
+        } else {
+            None
+        }
+    }
+}
+
 /// Why a file was not saved, and what stands under its name.
 #[derive(Clone, Copy)]
 pub enum Unsaved {
@@ -65,38 +85,37 @@ enum Target {
     InPlace(File),
 }
 
-/// Makes the file hold these bytes, unless it was loaded. A plain file is replaced whole; a device, a pipe, or what a link leads to is written in place.
+/// Makes the file hold these bytes, unless it was used, and answers which one it is. A plain file is replaced whole; a device, a pipe, or what a link leads to is written in place.
 pub fn save_over<R: Files<File = File>>(
     rt: &R,
-    loaded: &[Node],
+    used: &Used,
     name: &str,
     bytes: &[u8],
-) -> Result<(), Unsaved> {
-    match target_of(rt, loaded, name) {
+) -> Result<Option<Node>, Unsaved> {
+    let made = match target_of(rt, used, name) {
         Ok(Target::Plain(mode)) => {
-            replace(rt, loaded, name, bytes, Some(mode)).map_err(Unsaved::OldStands)?
+            replace(rt, used, name, bytes, Some(mode)).map_err(Unsaved::OldStands)?
         }
-        Ok(Target::Missing) => {
-            replace(rt, loaded, name, bytes, None).map_err(Unsaved::Unchanged)?
-        }
+        Ok(Target::Missing) => replace(rt, used, name, bytes, None).map_err(Unsaved::Unchanged)?,
         Ok(Target::InPlace(file)) => {
             return write_in_place(file, bytes).map_err(Unsaved::InPart);
         }
         Err(error) => return Err(Unsaved::Unchanged(error)),
-    }
-    sync_folder_of(rt, name).map_err(Unsaved::NewStands)
+    };
+    sync_folder_of(rt, name).map_err(Unsaved::NewStands)?;
+    Ok(made)
 }
 
-/// Finds what a name leads to; an error where that was loaded, or can't be written. Nothing is changed.
-fn target_of<R: Files<File = File>>(rt: &R, loaded: &[Node], name: &str) -> io::Result<Target> {
+/// Finds what a name leads to; an error where that was used, or can't be written. Nothing is changed.
+fn target_of<R: Files<File = File>>(rt: &R, used: &Used, name: &str) -> io::Result<Target> {
     let file = match OpenOptions::new().write(true).open(rt, name) {
         Ok(file) => file,
         Err(error) if error.kind() == ErrorKind::NotFound => return free_target_of(rt, name),
         Err(error) => return Err(error),
     };
     let found = file.metadata()?;
-    if node_of(&found).is_some_and(|node| loaded.contains(&node)) {
-        return Err(Error::other("it was loaded in this run"));
+    if let Some(refusal) = node_of(&found).and_then(|node| used.refusal(node)) {
+        return Err(Error::other(refusal));
     }
     if found.is_file() && !fs::symlink_metadata(rt, name)?.is_symlink() {
         return Ok(Target::Plain(found.mode()));
@@ -150,13 +169,13 @@ fn new_path<'b>(name: &str, room: &'b mut [u8; PATH_MAX]) -> io::Result<&'b str>
 }
 
 /// Makes the new file. One that a run left which was cut off is removed first.
-fn make_new<R: Files<File = File>>(rt: &R, loaded: &[Node], path: &str) -> io::Result<File> {
+fn make_new<R: Files<File = File>>(rt: &R, used: &Used, path: &str) -> io::Result<File> {
     let mut options = OpenOptions::new();
     options.write(true).create_new(true);
     match options.open(rt, path) {
         Err(error) if error.kind() == ErrorKind::AlreadyExists => {
             let left = node_of(&fs::symlink_metadata(rt, path)?);
-            if left.is_none_or(|node| loaded.contains(&node)) {
+            if left.is_none_or(|node| used.refusal(node).is_some()) {
                 return Err(Error::other("what stands at its name and .new.mig is in the way"));
             }
             fs::remove_file(rt, path)?;
@@ -169,14 +188,14 @@ fn make_new<R: Files<File = File>>(rt: &R, loaded: &[Node], path: &str) -> io::R
 /// Writes a new file beside the name, and gives it the name once it is whole. The new file is removed where that fails.
 fn replace<R: Files<File = File>>(
     rt: &R,
-    loaded: &[Node],
+    used: &Used,
     name: &str,
     bytes: &[u8],
     mode: Option<u32>,
-) -> io::Result<()> {
+) -> io::Result<Option<Node>> {
     let mut room = [0u8; PATH_MAX];
     let path = new_path(name, &mut room)?;
-    let file = make_new(rt, loaded, path)?;
+    let file = make_new(rt, used, path)?;
     let done = fill_and_rename(rt, file, path, name, bytes, mode);
     if done.is_err() {
         let _ = fs::remove_file(rt, path);
@@ -191,7 +210,7 @@ fn fill_and_rename<R: Files<File = File>>(
     name: &str,
     bytes: &[u8],
     mode: Option<u32>,
-) -> io::Result<()> {
+) -> io::Result<Option<Node>> {
     if let Some(mode) = mode {
         file.set_permissions(Permissions::from_mode(mode & 0o777))?;
     }
@@ -200,15 +219,18 @@ fn fill_and_rename<R: Files<File = File>>(
     if node_of(&fs::symlink_metadata(rt, path)?) != made {
         return Err(Error::other("another process saves it at this moment"));
     }
-    fs::rename(rt, path, name)
+    fs::rename(rt, path, name)?;
+    Ok(made)
 }
 
 /// Writes into what is there. A plain file, which a link leads to, is emptied first.
-fn write_in_place(file: File, bytes: &[u8]) -> io::Result<()> {
-    if file.metadata()?.is_file() {
+fn write_in_place(file: File, bytes: &[u8]) -> io::Result<Option<Node>> {
+    let node = node_of(&file.metadata()?);
+    if node.is_some() {
         file.set_len(0)?;
     }
-    write_out(file, bytes)
+    write_out(file, bytes)?;
+    Ok(node)
 }
 
 /// Writes all bytes, syncs what can be synced, and closes. What a file system tells only at the close is lost, but after a sync that succeeded there is none of it.

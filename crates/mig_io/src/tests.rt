@@ -237,11 +237,16 @@ fn files_are_loaded_back(rt: HostRuntime) -> Result<(), Fail> {
 fn files_are_saved_whole(rt: HostRuntime) -> Result<(), Fail> {
     enter(&rt, "saved_whole")?;
     let alloc = rt.alloc();
+    assert!(rt;
+        DirFolder::new(&rt, alloc)
+            .save("saved", b"some bytes")
+            .is_ok()
+    );
     let mut folder = DirFolder::new(&rt, alloc);
-    assert!(rt; folder.save("saved", b"some bytes").is_ok());
     assert!(rt; fs::set_permissions(&rt, "saved", Permissions::from_mode(0o600)).is_ok());
     assert!(rt; fs::write(&rt, "saved.new.mig", b"left by a crash").is_ok());
     assert!(rt; folder.save("saved", b"fewer").is_ok());
+    assert!(rt; folder.save("./saved", b"over").is_err());
     assert!(rt; fs::metadata(&rt, "saved").is_ok_and(|found| found.mode() & 0o777 == 0o600));
     assert!(rt; fs::exists(&rt, "saved.new.mig").is_ok_and(|is| !is));
     assert!(rt; holds(&mut folder, alloc, "saved", b"fewer"));

@@ -2,9 +2,14 @@
 #![tactic(auto)]
 
 mod arming;
+mod digests;
 mod looking;
 mod marks;
 
 pub use arming::{arm, disarm};
+pub use digests::digest_of;
 pub use looking::{Seen, look};
 pub use marks::{mark, marked};
+
+#[cfg(test)]
+mod tests;

@@ -1,4 +1,4 @@
--- One round, by the laws of safe images.
+-- The copies of a round, by the laws of safe images.
 use Rattle.std.proofs.Common.{◌≡◌, ◌⊎◌, inl, inr, ⊎_elim, Bool, true, false, ℕ, zero, suc, ◌<◌, ◌≤◌, ◌+◌, ◌++◌, List, [], ◌∷◌, length, get_or, Option, Some, None, IfSome, IsSome, refl, sym, ◌∙◌, ap, subst, arith}
 use Rattle.std.specs.Option.{option_map}
 use Rattle.std.specs.List.{Contains, All, Any}
@@ -27,7 +27,7 @@ use Rattle.mig_base.proofs.StoreSteps.{same_wider, same_then, same_image, told_k
 use Rattle.mig_mover.specs.Erasures.{AreZeros}
 use Rattle.mig_mover.specs.Tasks.{Task, IsTask}
 use Rattle.mig_mover.proofs.JobRounds.{on_disks}
-use Rattle.mig_lanes.specs.LaneSteps.{copies_of}
+use Rattle.mig_lanes.specs.LaneSteps.{copies_of, HasCopied}
 use Rattle.mig_lanes.proofs.RoundCopies.{of_shifts, target_slot}
 
 from_same : (P : Cell → Type 0) (a b c : Image) → SameBut NoCell a b → SameBut P b c → SameBut P a c
@@ -48,15 +48,9 @@ module _ (task : Task) (is : IsTask task) (k : ℕ) (lt : k < length task.plan) 
   from_here : (s : Shift) → Contains (round_at task.plan (suc k)) s → At task.input task.plan k s.item.0 ≡ Some s.from
   from_here = leaves task.input (At task.input task.plan k) (round_at task.plan (suc k)) legal
 
-  -- a slot that a round goes to or leaves is one of the job's cells
+  -- a slot that a round goes to is one of the job's cells
   target_job : (s : Shift) → Contains (round_at task.plan (suc k)) s → IsJobCell task.input task.plan (slot_of task.input s.to)
   target_job s has = inr (s.to, (suc k, inr (has.0, s, has.1, has.2, refl)), refl)
-
-  source_job : (s : Shift) → Contains (round_at task.plan (suc k)) s → IsJobCell task.input task.plan (slot_of task.input s.from)
-  source_job s has = inr (s.from, (suc k, inl (has.0, s, has.1, has.2, refl)), refl)
-
-  mark_job : IsJobCell task.input task.plan (Mark (suc k))
-  mark_job = inl (inr (inr (suc k, omega arith, omega arith, refl)))
 
   -- the source of a shift of a round is on a disk
   left_on_disk : (r : ℕ) → r ≤ length task.plan → (s : Shift) → Contains (round_at task.plan r) s → s.from.disk.0 < length task.input.disks
@@ -69,9 +63,6 @@ module _ (task : Task) (is : IsTask task) (k : ℕ) (lt : k < length task.plan) 
 
     to_slot : (cell : Cell) → IsTargetOf (copies_of task round) cell → IsTargetSlot task.input task.plan (suc k) cell
     to_slot cell any = subst (λ (n : ℕ). IsTargetSlot task.input task.plan n cell) next (target_slot task round cell any)
-
-    from_slot : (cell : Cell) → IsSourceSlot task.input task.plan round cell → IsSourceSlot task.input task.plan (suc k) cell
-    from_slot cell of = subst (λ (n : ℕ). IsSourceSlot task.input task.plan n cell) next of
 
     -- while the copies are made
     copying : (before image : Image) → old.may_leave before → SameBut (IsTargetOf (copies_of task round)) before image → IsSoundAfter asked task.input task.plan task.digest contents image k
@@ -120,80 +111,18 @@ module _ (task : Task) (is : IsTask task) (k : ℕ) (lt : k < length task.plan) 
                   let at = slot_apart task.input is.valid spot s.from there disk same in
                   free (to.1.item.0, at_target task.input (At task.input task.plan k) (round_at task.plan (suc k)) legal to.1 has ∙ ap Some (to.4 ∙ at))
 
-      -- while the mark is set
-      mark_maybe : (image : Image) → SameBut (λ c. c ≡ Mark (suc k)) synced.reads image → IsSound asked task.input task.plan task.digest contents image
-      mark_maybe image same = ⊎_elim
-          (λ set. sound_after task.input is.valid task.plan is.runs task.digest contents (suc k) lt asked image
-          (marking task.input is.valid task.plan is.runs task.digest contents k (omega arith) lt synced.reads image same asked set copied_sound is_copied))
-          (λ unset. sound_after task.input is.valid task.plan is.runs task.digest contents k (omega arith) asked image
-          (unmarked task.input is.valid task.plan is.runs task.digest contents k (omega arith) lt synced.reads image same asked unset copied_sound))
-          (cases_Bool (is_marked image (suc k)))
+      pub has_copied : HasCopied asked task contents synced k
+      has_copied = record { sound = copied_sound; copied = is_copied; settled = settled; tells = tells_synced }
 
-      at_mark : (cell : Cell) → cell ≡ Mark round → cell ≡ Mark (suc k)
-      at_mark cell this = this ∙ ap Mark next
-
-      module _ (set : State) (mark : ChangesOnly (λ c. c ≡ Mark round) synced set) where
-        pub exit_mark : LeavesOnly Sound old set
-        exit_mark = leaves_then Sound old synced set (exit_copy added synced copy)
-            (changes_leave Sound (λ c. c ≡ Mark round) (λ c. c ≡ Mark round) [] synced set mark
-            (λ before image left same. mark_maybe image (from_same (λ c. c ≡ Mark (suc k)) synced.reads before image (settled before left) (same_wider (λ c. c ≡ Mark round) (λ c. c ≡ Mark (suc k)) at_mark before image same))))
-
-        module _ (marked : IfSome (set.reads (Mark round)) (λ bytes. bytes ≡ 1 ∷ [])) (settled_set : IsSettled set) (erased : State) (erase : ChangesOnly (IsSourceSlot task.input task.plan round) set erased) where
-          tells_set : Tells (IsJobCell task.input task.plan) set.reads
-          tells_set = tells_kept (λ c. c ≡ Mark round) (IsJobCell task.input task.plan) synced.reads set.reads mark.told tells_synced
-
-          is_set : set.reads (Mark (suc k)) ≡ Some (1 ∷ [])
-          is_set = told_is (set.reads (Mark (suc k))) (1 ∷ []) (tells_set (Mark (suc k)) mark_job) (subst (λ (n : ℕ). IfSome (set.reads (Mark n)) (λ bytes. bytes ≡ 1 ∷ [])) next marked)
-
-          reads_set : IsSoundAfter asked task.input task.plan task.digest contents set.reads (suc k)
-          reads_set = marking task.input is.valid task.plan is.runs task.digest contents k (omega arith) lt synced.reads set.reads (same_wider (λ c. c ≡ Mark round) (λ c. c ≡ Mark (suc k)) at_mark synced.reads set.reads mark.told)
-              asked (ap is_one is_set) copied_sound is_copied
-
-          erasing : (image : Image) → SameBut (IsSourceSlot task.input task.plan round) set.reads image → IsSoundAfter asked task.input task.plan task.digest contents image (suc k)
-          erasing image same = other_bytes task.input is.valid task.plan is.runs task.digest contents (suc k) lt asked set.reads image
-              (same_wider (IsSourceSlot task.input task.plan round) (IsInUse task.input task.plan (suc k)) (λ cell of. inl (from_slot cell of)) set.reads image same) reads_set
-
-          pub exit_erase : LeavesOnly Sound old erased
-          exit_erase = leaves_then Sound old set erased exit_mark
-              (changes_leave Sound (IsSourceSlot task.input task.plan round) (IsSourceSlot task.input task.plan round) [] set erased erase
-              (λ before image left same. sound_after task.input is.valid task.plan is.runs task.digest contents (suc k) lt asked image (erasing image (from_same (IsSourceSlot task.input task.plan round) set.reads before image (settled_set before left) same))))
-
-          -- the state after the round
-          pub done_next : All (λ s. AreZeros (erased.reads (slot_of task.input s.from))) (round_at task.plan round) → HasDone asked task.input task.plan task.digest contents erased round
-          done_next zeros_there = subst (HasDone asked task.input task.plan task.digest contents erased) (sym next) (record {
-            sound = erasing erased.reads erase.told;
-            erased = λ j d in_range. told_is _ _ (tells (slot_of task.input (get_or (round_at task.plan (suc k)) j d).from) (source_job (get_or (round_at task.plan (suc k)) j d) (Contains-get_or (round_at task.plan (suc k)) j d in_range))) (zeros_next j d in_range);
-            settled = λ image left. same_wider (IsSourceSlot task.input task.plan round) (IsSourceSlot task.input task.plan (suc k)) from_slot erased.reads image
-                (settled_change (IsSourceSlot task.input task.plan round) [] set erased erase (λ before was. same_wider NoCell (IsSourceSlot task.input task.plan round) (λ cell none. absurd none) set.reads before (settled_set before was)) image left);
-            tells = tells;
-          })
-            where
-              tells : Tells (IsJobCell task.input task.plan) erased.reads
-              tells = tells_kept (IsSourceSlot task.input task.plan round) (IsJobCell task.input task.plan) set.reads erased.reads erase.told tells_set
-
-              zeros_next : All (λ s. AreZeros (erased.reads (slot_of task.input s.from))) (round_at task.plan (suc k))
-              zeros_next = subst (λ (n : ℕ). All (λ s. AreZeros (erased.reads (slot_of task.input s.from))) (round_at task.plan n)) next zeros_there
-
--- The cells that a round changes
+-- The cells that the copies change
 
 module _ (task : Task) (round : ℕ) (low : 1 ≤ round) (high : round ≤ length task.plan) (old copied : State) (added : List Event) (copy : Changes (IsTargetOf (copies_of task round)) (IsTargetOf (copies_of task round)) added old copied) where
   to_work : (cell : Cell) → IsTargetOf (copies_of task round) cell → IsWorkCell task.input task.plan cell
   to_work cell any = let at = target_slot task round cell any in inr (at.0, (round, inr at.1), at.2)
 
-  mark_work : (cell : Cell) → cell ≡ Mark round → IsWorkCell task.input task.plan cell
-  mark_work cell this = inl (round, low, high, this)
-
-  from_work : (cell : Cell) → IsSourceSlot task.input task.plan round cell → IsWorkCell task.input task.plan cell
-  from_work cell at = inr (at.0, (round, inl at.1), at.2)
-
   pub copy_work : Changes (IsWorkCell task.input task.plan) (IsWorkCell task.input task.plan) added old copied
   copy_work = changes_wider (IsWorkCell task.input task.plan) (IsWorkCell task.input task.plan) (IsTargetOf (copies_of task round)) (IsTargetOf (copies_of task round)) to_work to_work added old copied copy
 
-  module _ (set : State) (mark : ChangesOnly (λ c. c ≡ Mark round) copied set) where
-    pub set_work : Changes (IsWorkCell task.input task.plan) (IsWorkCell task.input task.plan) (added ++ []) old set
-    set_work = changes_then (IsWorkCell task.input task.plan) (IsWorkCell task.input task.plan) added [] old copied set copy_work
-        (changes_wider (IsWorkCell task.input task.plan) (IsWorkCell task.input task.plan) (λ c. c ≡ Mark round) (λ c. c ≡ Mark round) mark_work mark_work [] copied set mark)
-
-    pub erased_work : (erased : State) → ChangesOnly (IsSourceSlot task.input task.plan round) set erased → Changes (IsWorkCell task.input task.plan) (IsWorkCell task.input task.plan) ((added ++ []) ++ []) old erased
-    erased_work erased erase = changes_then (IsWorkCell task.input task.plan) (IsWorkCell task.input task.plan) (added ++ []) [] old set erased set_work
-        (changes_wider (IsWorkCell task.input task.plan) (IsWorkCell task.input task.plan) (IsSourceSlot task.input task.plan round) (IsSourceSlot task.input task.plan round) from_work from_work [] set erased erase)
+  -- and what changes after them
+  pub closed_work : (new : State) → ChangesOnly (IsWorkCell task.input task.plan) copied new → Changes (IsWorkCell task.input task.plan) (IsWorkCell task.input task.plan) (added ++ []) old new
+  closed_work new close = changes_then (IsWorkCell task.input task.plan) (IsWorkCell task.input task.plan) added [] old copied new copy_work close

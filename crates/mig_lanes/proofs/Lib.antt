@@ -1,6 +1,8 @@
+mod Answering
 mod Beginning
 mod Carrying
 mod CarryingOn
+mod Closing
 mod EventSteps
 mod Keeping
 mod Limiting

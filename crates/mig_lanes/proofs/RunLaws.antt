@@ -1,5 +1,5 @@
 -- A plan that is entered, and whose rounds are then carried out.
-use Rattle.std.proofs.Common.{◌≡◌, ◌⊎◌, inl, inr, Bool, true, false, ℕ, ◌≤◌, ◌++◌, List, [], length, map, Option, IsSome, refl, sym, ◌∙◌, ap, subst, arith, append-nil, append_assoc}
+use Rattle.std.proofs.Common.{◌≡◌, ◌⊎◌, inl, inr, Bool, true, false, ℕ, ◌≤◌, ◌++◌, List, [], length, map, Option, Some, None, IsSome, refl, sym, ◌∙◌, ap, subst, arith, append-nil, append_assoc}
 use Rattle.std.proofs.lemmas.Bool.{false≢true}
 use Rattle.mig_base.specs.declared.cells.Cell.{Cell}
 use Rattle.mig_base.specs.declared.cells.Cell.TheVariants.{Gate}
@@ -14,9 +14,10 @@ use Rattle.mig_base.specs.RoundEvents.{AreRounds, IsRun, BeginsRun, Adds, StayWi
 use Rattle.mig_base.specs.RoundStates.{HasDone}
 use Rattle.mig_base.specs.Safety.{Contents, IsSafe, IsSound}
 use Rattle.mig_base.specs.Stores.{State, flights, Changes, LeavesOnly, IsSettled}
-use Rattle.mig_base.proofs.ArrivalLaws.{reached}
-use Rattle.mig_base.proofs.StoreSteps.{leaves_then, changes_leave, changes_then, changes_wider}
-use Rattle.mig_mover.specs.Moves.{IsReadyIdle, Keeps, Enters}
+use Rattle.mig_base.proofs.ArrivalLaws.{reached, reached_sound}
+use Rattle.mig_base.proofs.SafetyLaws.{sound_after}
+use Rattle.mig_base.proofs.StoreSteps.{leaves_then, leaves_wider, changes_leave, changes_then, changes_wider}
+use Rattle.mig_mover.specs.Moves.{IsReadyIdle, StaysArmed, Keeps, Enters}
 use Rattle.mig_mover.specs.Tasks.{Task, IsTask}
 use Rattle.mig_lanes.specs.LaneSteps.{later_rounds, BeginsRounds}
 use Rattle.mig_lanes.specs.Runs.{Finishes, IsPart}
@@ -34,6 +35,18 @@ safe_sound task contents image safe = record { safe = safe; clean = λ asked. ab
 work_job : (task : Task) (cell : Cell) → IsWorkCell task.input task.plan cell → IsJobCell task.input task.plan cell
 work_job task cell (inl mark) = inl (inr (inr mark))
 work_job task cell (inr slot) = inr slot
+
+-- what holds once the store is settled holds of what reads give now
+settles_now : (P : Image → Type 0) (s : State) → SettlesTo P s → P s.reads
+settles_now P s (inl now) = now.0
+settles_now P s (inr told) = told.0 s.reads told.1
+
+pub armed_told : (image : Image) → is_armed image ≡ true → IsSome (image Gate)
+armed_told image armed = at (image Gate) armed
+  where
+    at : (cell : Option (List ℕ)) → is_one cell ≡ true → IsSome cell
+    at None one = absurd (false≢true one)
+    at (Some bytes) one = refl
 
 gate_no_work : (task : Task) → IsWorkCell task.input task.plan Gate → ⊥
 gate_no_work task (inl mark) = let e = mark.3 in cc
@@ -59,6 +72,17 @@ module _ (task : Task) (is : IsTask task) (old mid new : State) (keeps : Keeps t
       later = omega (arith, keeps.later, later);
     }
 
+    -- a gate that is 1 stays 1
+    pub run_armed : StaysArmed old mid → StaysArmed old new
+    run_armed stays before = leaves_then (λ image. is_armed image ≡ true) old mid new (stays before)
+        (changes_leave (λ image. is_armed image ≡ true) (IsWorkCell task.input task.plan) (IsWorkCell task.input task.plan) change.0 mid new change.1
+        (λ from image left same. ap is_one (same.same Gate (gate_no_work task)) ∙ enters.armed (armed_told old.reads (settles_now (λ image. is_armed image ≡ true) old before)) from left))
+
+    -- where closing the plan early was stopped
+    pub run_halting : (contents : Contents) → LeavesOnly (IsSafe task.input task.plan task.digest contents) old mid → HasDone false task.input task.plan task.digest contents mid k → LeavesOnly (IsSafe task.input task.plan task.digest contents) old new
+    run_halting contents sofar done = leaves_then (IsSafe task.input task.plan task.digest contents) old mid new sofar
+        (leaves_wider (IsSafe task.input task.plan task.digest contents) (IsSound false task.input task.plan task.digest contents) mid new (λ image sound. sound.safe) (moment false contents done))
+
   pub run_finishes : ((asked : Bool) (contents : Contents) → HasDone asked task.input task.plan task.digest contents mid k → HasDone asked task.input task.plan task.digest contents new (length task.plan)) → IsSettled new → flights new ≡ [] → Finishes task old new k
   run_finishes done settled landed = record {
     reached = λ contents tells before. let d = done true contents (enters.done true contents tells before) in reached task.input is.valid task.plan is.runs task.digest contents new.reads d.sound d.erased;
@@ -70,6 +94,13 @@ module _ (task : Task) (is : IsTask task) (old mid new : State) (keeps : Keeps t
     found = enters.found;
     ready = enters.ready;
   }
+
+-- once the target is reached it stays so
+pub still_reached : (task : Task) → IsTask task → (old new : State) (k : ℕ) → Finishes task old new k → (contents : Contents) → Tells (IsJobCell task.input task.plan) old.reads → SettlesTo (IsReached task.input task.plan task.digest contents) old
+    → IsReached task.input task.plan task.digest contents new.reads
+still_reached task is old new k finishes contents tells before = finishes.reached contents tells
+    (settles_wider (IsReached task.input task.plan task.digest contents) (IsSound true task.input task.plan task.digest contents) old
+    (λ image reached. sound_after task.input is.valid task.plan is.runs task.digest contents (length task.plan) (omega arith) true image (reached_sound task.input is.valid task.plan is.runs task.digest contents image reached)) before)
 
 -- Events
 

@@ -1,5 +1,5 @@
 -- What the steps of a round's copies give.
-use Rattle.std.specs.Prelude.{◌≡◌, ◌⊎◌, ◌+◌, ◌-◌, ◌≤◌, ◌++◌, ℕ, List, [], All, length, take, map}
+use Rattle.std.specs.Prelude.{◌≡◌, ◌⊎◌, ◌+◌, ◌-◌, ◌≤◌, ◌++◌, Bool, ℕ, List, [], All, length, take, map}
 use Rattle.std.specs.List.{range_with_len}
 use Rattle.std.specs.List.Sorted.{IsPermutation}
 use Rattle.mig_base.specs.declared.cells.Event.{Event}
@@ -7,9 +7,12 @@ use Rattle.mig_base.specs.declared.cells.Flight.{Flight}
 use Rattle.mig_base.specs.declared.ids.Shift.{Shift}
 use Rattle.mig_base.specs.Flights.{began, ended, IsTargetOf}
 use Rattle.mig_base.specs.Images.{Image, IsCopy}
+use Rattle.mig_base.specs.JobCells.{IsJobCell, Tells}
 use Rattle.mig_base.specs.Layouts.{round_at}
 use Rattle.mig_base.specs.RoundEvents.{flights_of, AreRounds}
-use Rattle.mig_base.specs.Stores.{State, flights}
+use Rattle.mig_base.specs.RoundStates.{IsCopied}
+use Rattle.mig_base.specs.Safety.{Contents, IsSoundAfter}
+use Rattle.mig_base.specs.Stores.{State, flights, IsSettled}
 use Rattle.mig_mover.specs.Tasks.{Task}
 
 -- the copies of a job's round
@@ -36,3 +39,10 @@ pub record BeginsRound (round : List Flight) (added : List Event) : Type 0 where
 -- the copies of the round that aren't in flight have been made
 abbrev pub HaveLanded : List Flight → Image → State → Type 0
 HaveLanded round first s = All (λ c. ¬ IsTargetOf (flights s) c.to → IsCopy (first c.from) (s.reads c.to)) round
+
+-- Round k + 1 is copied: what reads give is sound after k rounds, each item that the round shifts stands at its target too, and nothing is unsettled.
+pub record HasCopied (asked : Bool) (task : Task) (contents : Contents) (s : State) (k : ℕ) : Type 0 where
+  pub sound : IsSoundAfter asked task.input task.plan task.digest contents s.reads k
+  pub copied : IsCopied task.input task.plan contents s.reads k
+  pub settled : IsSettled s
+  pub tells : Tells (IsJobCell task.input task.plan) s.reads

@@ -11,6 +11,8 @@ use Rattle.mig_base.specs.RoundEvents.{BeginsRun, StayWithinLimits}
 use Rattle.mig_base.specs.Safety.{Contents, IsSafe, IsSound}
 use Rattle.mig_base.specs.Stores.{State, flights, IsSettled}
 use Rattle.mig_mover.specs.Tasks.{Task}
+use Rattle.mig_mover.specs.declared.faults.MoveFault.{MoveFault}
+use Rattle.mig_mover.specs.declared.faults.MoveFault.TheVariants.{NotThere, Occupied}
 use Rattle.mig_lanes.specs.LaneSteps.{later_rounds}
 
 -- the target is reached, after k rounds that were marked before
@@ -29,3 +31,9 @@ pub record Finishes (task : Task) (old new : State) (k : ℕ) : Type 0 where
 pub record IsPart (task : Task) (old : State) (k : ℕ) (added : List Event) : Type 0 where
   pub begins : BeginsRun (flights old) (later_rounds task k) added
   pub within : AreWithinLimits task.input.disks (flights old) → StayWithinLimits task.input.disks (flights old) added
+
+-- the fault is the store's, or what the journal shows
+abbrev pub IsJournalFault : MoveFault → Type 0
+IsJournalFault (NotThere item) = ⊥
+IsJournalFault (Occupied disk slot) = ⊥
+IsJournalFault fault = Unit {0}

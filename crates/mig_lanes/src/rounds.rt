@@ -4,15 +4,31 @@ ghost use Rattle.mig_base.specs.JobCells.{IsWorkCell};
 ghost use Rattle.mig_base.specs.RoundEvents.{IsRound, AreRounds, Adds};
 ghost use Rattle.mig_base.specs.RoundStates.{HasDone};
 ghost use Rattle.mig_base.specs.Safety.{Contents, IsSound};
-ghost use Rattle.mig_base.specs.Stores.{State, flights, Changes, LeavesOnly, IsSettled, HasCause};
+ghost use Rattle.mig_base.specs.Stores.{State, flights, Changes, ChangesOnly, LeavesOnly, IsSettled, HasCause};
 ghost use Rattle.mig_base.specs.declared.cells.Event.{Event};
 ghost use Rattle.mig_mover.specs.Tasks.{Task};
-ghost use Rattle.mig_lanes.specs.LaneSteps.{copies_of, later_rounds, BeginsRound, BeginsRounds};
+ghost use Rattle.mig_lanes.specs.LaneSteps.{copies_of, later_rounds, BeginsRound, BeginsRounds, HasCopied};
 
 use crate::copies::run_copies;
 use mig_journal::mark;
 use mig_mover::{Job, erase_sources};
 use mig_store::{Store, StoreFailed};
+
+// Sets the mark of the round after the first k, whose copies are settled, and then erases what the round left.
+fn close_round<S: Store>(job: &Job, store: &mut S, k: u32) -> Result<(), StoreFailed>
+    requires more { k < length job.now.plan }
+    requires none { flights (S.state store.old) ≡ [] }
+    ensures any_moment { (asked : Bool) (contents : Contents) → HasCopied asked job.now contents (S.state store.old) k →
+        LeavesOnly (IsSound asked job.now.input job.now.plan job.now.digest contents) (S.state store.old) (S.state store.new) }
+    ensures done { OnOk result ((asked : Bool) (contents : Contents) → HasCopied asked job.now contents (S.state store.old) k →
+        HasDone asked job.now.input job.now.plan job.now.digest contents (S.state store.new) (k + 1)) }
+    ensures change { ChangesOnly (IsWorkCell job.now.input job.now.plan) (S.state store.old) (S.state store.new) }
+    ensures cause { HasCause (S.state store.old) (S.state store.new) result }
+{
+    job.keeps_rules();
+    mark(store, k + 1)?;
+    erase_sources(job, store, k + 1)
+}
 
 // Carries out the round after the first k.
 fn carry_out<S: Store>(job: &Job, store: &mut S, k: u32) -> Result<(), StoreFailed>
@@ -29,10 +45,9 @@ fn carry_out<S: Store>(job: &Job, store: &mut S, k: u32) -> Result<(), StoreFail
     ensures change { (added : List Event) × Changes (IsWorkCell job.now.input job.now.plan) (IsWorkCell job.now.input job.now.plan) added (S.state store.old) (S.state store.new) }
     ensures cause { HasCause (S.state store.old) (S.state store.new) result }
 {
-    let _rounds = job.rounds();
+    job.keeps_rules();
     run_copies(job, store, k + 1)?;
-    mark(store, k + 1)?;
-    erase_sources(job, store, k + 1)
+    close_round(job, store, k)
 }
 
 /// Carries out the rounds after the first k, and syncs.

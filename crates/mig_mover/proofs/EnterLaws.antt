@@ -200,6 +200,11 @@ module _ (task : Task) where
       later = later;
     }
 
+    -- the gate stays 1
+    pub armed_erased : is_armed old.reads ≡ true → LeavesOnly (λ image. is_armed image ≡ true) old new
+    armed_erased armed = changes_leave (λ image. is_armed image ≡ true) (IsSourceSlot task.input task.plan k) (IsSourceSlot task.input task.plan k) [] old new work
+        (λ before image left same. ap is_one ((from_settled before image left same).same Gate no_gate) ∙ armed)
+
     pub enters_erased : flights old ≡ [] → All (λ s. AreZeros (new.reads (slot_of task.input s.from))) (round_at task.plan k) → EntersOn task old new k
     enters_erased none zeros_there = record {
       done = λ asked contents tells sound.

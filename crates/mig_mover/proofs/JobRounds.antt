@@ -9,6 +9,7 @@ use Rattle.mig_base.specs.declared.cells.Cell.{Cell}
 use Rattle.mig_base.specs.declared.cells.Flight.{Flight}
 use Rattle.mig_base.specs.declared.ids.Spot.{Spot}
 use Rattle.mig_base.specs.declared.ids.Shift.{Shift}
+use Rattle.mig_base.specs.declared.limits.TheConstants.{MAX_FILE_BYTES}
 use Rattle.mig_base.specs.InputLists.{Lists, IsInput, no_spot}
 use Rattle.mig_base.specs.Layouts.{round_at, At}
 use Rattle.mig_base.specs.Readiness.{shifts_of}
@@ -32,7 +33,7 @@ round_is plan zero d low high = absurd (omega arith)
 round_is plan (suc k) d low high = get_or_default plan k [] d (omega arith) ∙ ap (λ (j : ℕ). get_or plan j d) (let e : k ≡ suc k - 1 = omega arith in e)
 
 module _ (task : Task) (is : IsTask task) (round : ℕ) (low : 1 ≤ round) (high : round ≤ length task.plan) where
-  pub round_short : length (round_at task.plan round) ≤ 16777216
+  pub round_short : length (round_at task.plan round) ≤ MAX_FILE_BYTES
   round_short =
       let e = round_is task.plan round [] low high in
       let n = ap (λ (l : List Shift). length l) e in

@@ -1,6 +1,13 @@
 mod EnterLaws
 pub mod EraseSteps
+mod FillSteps
+mod HaltLaws
+mod HaltSteps
 pub mod JobRounds
-mod Settling
+mod MadeSlots
+pub mod Settling
+mod StandLaws
 mod TableSteps
-mod TargetLaws
+pub mod TargetLaws
+mod VacancyLaws
+mod VacancySteps

@@ -10,18 +10,22 @@ use Rattle.mig_base.specs.declared.cells.Event.{Event}
 use Rattle.mig_base.specs.declared.cells.Flight.{Flight}
 use Rattle.mig_base.specs.Cells.{is_slot}
 use Rattle.mig_base.specs.FaultCounts.{Rose}
+use Rattle.mig_base.specs.Arrivals.{IsHaltSafe}
 use Rattle.mig_base.specs.Flights.{ended, IsTargetOf, AreFlights}
 use Rattle.mig_base.specs.Images.{Image, NoCell, SameBut}
 use Rattle.mig_base.specs.Journals.{is_one, is_armed, is_marked, count_of}
 use Rattle.mig_base.specs.JobCells.{IsJobCell, Tells, SettlesTo}
 use Rattle.mig_base.specs.Readiness.{IsReady}
 use Rattle.mig_base.specs.RoundEvents.{IsRun, BeginsRun, Adds}
-use Rattle.mig_base.specs.Safety.{Contents, IsSound}
+use Rattle.mig_base.specs.Safety.{Contents, IsSafeAt, IsSound}
 use Rattle.mig_base.specs.Stores.{State, IsState, flights, Changes, ChangesOnly, LeavesOnly, Ends, IsSettled}
 use Rattle.mig_base.proofs.Landing.{target_permuted, target_left, no_target, flights_same}
 use Rattle.mig_base.proofs.MarkCounts.{AreMarked, counted, count_is, count_idle}
 use Rattle.mig_base.proofs.StoreSteps.{same_image, same_wider, told_kept, leaves_then, changes_then, changes_wider, quiet_leaves, settled_change, events_none}
-use Rattle.mig_mover.specs.Moves.{Lands, Settles, IsRunning, IsRefusal, IsPlanFault, IsFault, IsReadyIdle, Keeps, Enters, KeepsOn, EntersOn, IsFaultOn}
+use Rattle.mig_journal.specs.SeenJournals.{is_running}
+use Rattle.mig_journal.specs.declared.looking.Seen.{Seen}
+use Rattle.mig_journal.specs.declared.looking.Seen.TheVariants.{Idle}
+use Rattle.mig_mover.specs.Moves.{Lands, Settles, IsRunning, IsRefusal, IsPlanFault, IsFault, IsReadyIdle, MayBeHalting, Keeps, Enters, KeepsOn, EntersOn, IsFaultOn}
 use Rattle.mig_mover.specs.Tasks.{Task}
 use Rattle.mig_mover.specs.declared.faults.MoveFault.{MoveFault}
 use Rattle.mig_mover.specs.declared.faults.MoveFault.TheVariants.{Store, Started, OtherPlan, NotStarted, NotThere, Occupied}
@@ -197,11 +201,43 @@ pub if_err : {T E : Type 0} {P Q : E → Type 0} (r : Result T E) → ((e : E) �
 if_err (Ok x) gives p = tt
 if_err (Err e) gives p = gives e p
 
+-- Where the gate is 1
+
+armed_told : (image : Image) → is_armed image ≡ true → IsSome (image Gate)
+armed_told image armed = at (image Gate) armed
+  where
+    at : (cell : Option (List ℕ)) → is_one cell ≡ true → IsSome cell
+    at None one = absurd (false≢true one)
+    at (Some bytes) one = refl
+
+-- a look at such a journal sees that a plan is being carried out
+pub never_idle : (image : Image) (seen : Seen) → (IsSome (image Gate) → is_running seen ≡ is_armed image) → seen ≡ Idle → is_armed image ≡ true → ⊥
+never_idle image seen gate is armed = false≢true (sym (ap is_running is) ∙ gate (armed_told image armed) ∙ armed)
+
+module _ (old : State) (law : IsState old) (P : Image → Type 0) where
+  pub lands_leave : (new : State) → Lands old new → LeavesOnly P old new
+  lands_leave new lands = quiet_leaves P (IsTargetOf (flights old)) lands.added old new law lands.change
+
+  pub settles_leave : (mid : State) → Settles old mid → (new : State) → LeavesOnly P mid new → LeavesOnly P old new
+  settles_leave mid settles new = leaves_then P old mid new (quiet_leaves P (IsTargetOf (flights old)) settles.added old mid law settles.change)
+
+-- where closing the plan early was stopped, what reads give once the store is settled is safe
+module _ (task : Task) (contents : Contents) (old mid : State) (settles : Settles old mid) (n : ℕ) (may : MayBeHalting task contents old n) where
+  pub halting_armed : is_armed mid.reads ≡ true
+  halting_armed = gate_kept old mid settles may.slots ∙ may.armed
+
+  pub halting_sound : IsSound false task.input task.plan task.digest contents mid.reads
+  halting_sound = at (settled_reads old mid settles (λ image. IsHaltSafe task.input task.plan task.digest contents image n) may.images)
+    where
+      at : IsHaltSafe task.input task.plan task.digest contents mid.reads n → IsSound false task.input task.plan task.digest contents mid.reads
+      at (inl after) = record { safe = subst (IsSafeAt task.input task.plan task.digest contents mid.reads) (sym after.count) after.safe; clean = λ asked. absurd (false≢true asked) }
+      at (inr halted) = absurd (false≢true (sym halted.idle ∙ halting_armed))
+
 -- Refusals
 
 -- a store whose journal names a plan is refused by it
 module _ (task : Task) (image : Image) (running : IsRunning image) (kept : List ℕ) (head : IfSome (image Head) (λ bytes. kept ≡ bytes)) where
-  head_is : (Q : List ℕ → Type 0) → Q kept → IfSome (image Head) Q
+  pub head_is : (Q : List ℕ → Type 0) → Q kept → IfSome (image Head) Q
   head_is Q q = at (image Head) head
     where
       at : (cell : Option (List ℕ)) → IfSome cell (λ bytes. kept ≡ bytes) → IfSome cell Q

@@ -30,14 +30,14 @@ shifted_item input plan runs i lt s has = At-item input plan i s.item.0 s.from r
 
 -- Spots
 
-spot_is : (p q : Spot) → same_spot p q ≡ true → p ≡ q
+pub spot_is : (p q : Spot) → same_spot p q ≡ true → p ≡ q
 spot_is p q same =
     let parts = and_parts (p.disk.0 == q.disk.0) (p.slot == q.slot) same in
     let disks : p.disk.0 ≡ q.disk.0 = eqb-true p.disk.0 q.disk.0 parts.0 in
     let slots : p.slot ≡ q.slot = eqb-true p.slot q.slot parts.1 in
     λ i. record { disk = record { 0 = disks i }; slot = slots i }
 
-spot_same : (p : Spot) → same_spot p p ≡ true
+pub spot_same : (p : Spot) → same_spot p p ≡ true
 spot_same p = ap (λ (b : Bool). b && (p.slot == p.slot)) (eq-eqb p.disk.0 p.disk.0 refl) ∙ eq-eqb p.slot p.slot refl
 
 -- a list has the spot exactly where the test says so

@@ -1,4 +1,9 @@
 pub mod Erasures
+pub mod Fillings
+pub mod Halts
 pub mod JobTables
+pub mod MoveLaws
 pub mod Moves
+pub mod Stands
 pub mod Tasks
+pub mod Vacancies

@@ -3,6 +3,7 @@ use Rattle.std.specs.Prelude.{◌≡◌, ◌≢◌, ◌⊎◌, ◌<◌, ◌≤�
 use Rattle.mig_base.specs.declared.cells.Cell.{Cell}
 use Rattle.mig_base.specs.declared.cells.Cell.TheVariants.{Head, Gate}
 use Rattle.mig_base.specs.declared.cells.Event.{Event}
+use Rattle.mig_base.specs.Arrivals.{IsHaltSafe}
 use Rattle.mig_base.specs.FaultCounts.{Rose}
 use Rattle.mig_base.specs.Flights.{IsTargetOf, AreFlights}
 use Rattle.mig_base.specs.Images.{Image, NoCell}
@@ -60,11 +61,32 @@ abbrev pub IsFault : Task → State → State → MoveFault → Type 0
 IsFault task old new Store = Rose old.faults new.faults
 IsFault task old new fault = Settles old new × IsRefusal task new.reads fault
 
+-- the faults that starting a plan may have
+abbrev pub IsStartFault : MoveFault → Type 0
+IsStartFault NotStarted = ⊥
+IsStartFault fault = Unit {0}
+
+-- the faults that resuming a plan may have
+abbrev pub IsResumeFault : MoveFault → Type 0
+IsResumeFault Started = ⊥
+IsResumeFault NotStarted = ⊥
+IsResumeFault fault = Unit {0}
+
 -- Promises
 
 -- while the gate isn't 1, the image is ready
 abbrev pub IsReadyIdle : Task → Image → Type 0
 IsReadyIdle task image = is_armed image ≡ false → IsReady task.input task.plan image
+
+-- where the gate is 1 once the store is settled, it stays 1
+abbrev pub StaysArmed : State → State → Type 0
+StaysArmed old new = SettlesTo (λ image. is_armed image ≡ true) old → LeavesOnly (λ image. is_armed image ≡ true) old new
+
+-- Closing the plan after n rounds may have been stopped: the gate is still 1, and a crash leaves n rounds that count, or a journal that is closed there.
+pub record MayBeHalting (task : Task) (contents : Contents) (s : State) (n : ℕ) : Type 0 where
+  pub armed : is_armed s.reads ≡ true
+  pub slots : AreFlights (flights s)
+  pub images : SettlesTo (λ image. IsHaltSafe task.input task.plan task.digest contents image n) s
 
 -- what every call of a mover keeps
 pub record Keeps (task : Task) (old new : State) : Type 0 where

@@ -1,6 +1,7 @@
 -- What contracts see of a job, and what every job keeps.
 use Rattle.std.specs.Prelude.{◌≤◌, ℕ, List, length}
 use Rattle.mig_base.specs.declared.ids.Shift.{Shift}
+use Rattle.mig_base.specs.declared.limits.TheConstants.{MAX_FILE_BYTES, MAX_ROUNDS}
 use Rattle.mig_base.specs.InputLists.{Lists, IsInput}
 use Rattle.mig_base.specs.Running.{Runs}
 use Rattle.mig_base.specs.Readiness.{shifts_of}
@@ -15,5 +16,5 @@ pub record Task : Type 0 where
 pub record IsTask (task : Task) : Type 0 where
   pub valid : IsInput task.input
   pub runs : Runs task.input task.plan
-  pub few_rounds : length task.plan ≤ 131072
-  pub few_shifts : length (shifts_of task.plan) ≤ 16777216
+  pub few_rounds : length task.plan ≤ MAX_ROUNDS
+  pub few_shifts : length (shifts_of task.plan) ≤ MAX_FILE_BYTES

@@ -1,17 +1,19 @@
 //! How a plan's migration is entered: started, or resumed.
-ghost use Rattle.std.specs.Prelude.{◌≡◌, ◌≢◌, ◌≤◌, [], All, true, false, IfErr, IfOk, IfSome, IsSome, OnErr, OnOk, length};
+ghost use Rattle.std.specs.Prelude.{◌≡◌, ◌≢◌, ◌≤◌, ℕ, [], All, true, false, IfErr, IfOk, IfSome, IsSome, OnErr, OnOk, length};
 ghost use Rattle.mig_base.specs.declared.cells.Cell.TheVariants.{Gate, Head};
 ghost use Rattle.mig_base.specs.Flights.{AreFlights};
+ghost use Rattle.mig_base.specs.JobCells.{IsJobCell, Tells};
 ghost use Rattle.mig_base.specs.Journals.{is_armed};
 ghost use Rattle.mig_base.specs.Layouts.{round_at};
 ghost use Rattle.mig_base.specs.Readiness.{IsReady};
 ghost use Rattle.mig_base.specs.RoundEvents.{IsRun, BeginsRun, Adds};
-ghost use Rattle.mig_base.specs.RoundStates.{IsSourceSlot};
+ghost use Rattle.mig_base.specs.RoundStates.{IsSourceSlot, HasDone};
+ghost use Rattle.mig_base.specs.Safety.{Contents, IsSafe};
 ghost use Rattle.mig_base.specs.Slots.{slot_of};
-ghost use Rattle.mig_base.specs.Stores.{State, flights, ChangesOnly, IsSettled, HasCause};
+ghost use Rattle.mig_base.specs.Stores.{State, flights, ChangesOnly, LeavesOnly, IsSettled, HasCause};
 ghost use Rattle.mig_journal.specs.SeenJournals.{is_running, HasHead};
 ghost use Rattle.mig_mover.specs.Erasures.{AreZeros};
-ghost use Rattle.mig_mover.specs.Moves.{Lands, Settles, IsRunning, IsPlanFault, IsFault, Keeps, Enters, KeepsOn, EntersOn, IsFaultOn};
+ghost use Rattle.mig_mover.specs.Moves.{Lands, Settles, IsRunning, IsPlanFault, IsFault, IsStartFault, IsResumeFault, StaysArmed, MayBeHalting, Keeps, Enters, KeepsOn, EntersOn, IsFaultOn};
 ghost use Rattle.mig_mover.specs.Tasks.{Task};
 
 use crate::erasing::erase_sources;
@@ -37,6 +39,7 @@ pub(crate) fn settle_and_look<S: Store>(store: &mut S) -> Result<Seen, StoreFail
 pub(crate) fn check_plan(job: &Job, kept: &[u8; 32]) -> Result<(), MoveFault>
     ensures ours { OnOk result (kept.now ≡ job.now.digest) }
     ensures other { IfErr result (IsPlanFault job.now kept.now) }
+    ensures kind { IfErr result IsResumeFault }
 {
     if *kept != *job.digest() {
         return Err(MoveFault::OtherPlan {
@@ -51,6 +54,7 @@ pub(crate) fn check_plan(job: &Job, kept: &[u8; 32]) -> Result<(), MoveFault>
 fn refuse_start(job: &Job, kept: &[u8; 32]) -> Result<(), MoveFault>
     ensures never { OnOk result ⊥ }
     ensures fault { IfErr result (IsPlanFault job.now kept.now) }
+    ensures kind { IfErr result IsStartFault }
 {
     check_plan(job, kept)?;
     Err(MoveFault::Started)
@@ -64,6 +68,7 @@ fn enter_idle<S: Store>(job: &Job, store: &mut S) -> Result<(), MoveFault>
     ensures keeps { KeepsOn job.now (S.state store.old) (S.state store.new) }
     ensures enters { OnOk result (EntersOn job.now (S.state store.old) (S.state store.new) 0) }
     ensures fault { IfErr result (IsFaultOn job.now (S.state store.old) (S.state store.new)) }
+    ensures kind { IfErr result IsResumeFault }
 {
     check_ready(job, store)?;
     arm(store, job.digest(), job.rounds())?;
@@ -78,6 +83,7 @@ fn resume_idle<S: Store>(job: &Job, store: &mut S) -> Result<u32, MoveFault>
     ensures keeps { KeepsOn job.now (S.state store.old) (S.state store.new) }
     ensures enters { IfOk result (EntersOn job.now (S.state store.old) (S.state store.new)) }
     ensures fault { IfErr result (IsFaultOn job.now (S.state store.old) (S.state store.new)) }
+    ensures kind { IfErr result IsResumeFault }
 {
     match enter_idle(job, store) {
         Ok(()) => Ok(0),
@@ -106,6 +112,7 @@ fn enter_running<S: Store>(job: &Job, store: &mut S) -> Result<u32, StoreFailed>
     requires running { IsRunning (S.state store.old).reads }
     ensures keeps { KeepsOn job.now (S.state store.old) (S.state store.new) }
     ensures enters { IfOk result (EntersOn job.now (S.state store.old) (S.state store.new)) }
+    ensures armed { is_armed (S.state store.old).reads ≡ true → LeavesOnly (λ image. is_armed image ≡ true) (S.state store.old) (S.state store.new) }
     ensures cause { HasCause (S.state store.old) (S.state store.new) result }
 {
     let k = marked(store, job.rounds())?;
@@ -121,8 +128,10 @@ fn resume_running<S: Store>(job: &Job, store: &mut S, kept: &[u8; 32]) -> Result
     requires head { IfSome ((S.state store.old).reads Head) (λ bytes. kept.now ≡ bytes) }
     ensures keeps { KeepsOn job.now (S.state store.old) (S.state store.new) }
     ensures enters { IfOk result (EntersOn job.now (S.state store.old) (S.state store.new)) }
+    ensures armed { is_armed (S.state store.old).reads ≡ true → LeavesOnly (λ image. is_armed image ≡ true) (S.state store.old) (S.state store.new) }
     ensures ours { IfOk result (λ k. kept.now ≡ job.now.digest) }
     ensures fault { IfErr result (IsFaultOn job.now (S.state store.old) (S.state store.new)) }
+    ensures kind { IfErr result IsResumeFault }
 {
     check_plan(job, kept)?;
     Ok(enter_running(job, store)?)
@@ -136,7 +145,9 @@ pub fn enter_start<S: Store>(job: &Job, store: &mut S) -> Result<(), MoveFault>
     // Each copy that was in flight ends, and no event comes besides.
     ensures ended { OnOk result (Adds (IsRun (flights (S.state store.old)) []) (S.state store.old) (S.state store.new)) }
     ensures part { Adds (BeginsRun (flights (S.state store.old)) []) (S.state store.old) (S.state store.new) }
+    ensures armed { StaysArmed (S.state store.old) (S.state store.new) }
     ensures fault { IfErr result (IsFault job.now (S.state store.old) (S.state store.new)) }
+    ensures kind { IfErr result IsStartFault }
 {
     match settle_and_look(store)? {
         Seen::Idle => enter_idle(job, store),
@@ -153,7 +164,14 @@ pub fn enter_resume<S: Store>(job: &Job, store: &mut S) -> Result<u32, MoveFault
     // Each copy that was in flight ends, and no event comes besides.
     ensures ended { IfOk result (λ k. Adds (IsRun (flights (S.state store.old)) []) (S.state store.old) (S.state store.new)) }
     ensures part { Adds (BeginsRun (flights (S.state store.old)) []) (S.state store.old) (S.state store.new) }
+    ensures armed { StaysArmed (S.state store.old) (S.state store.new) }
+    // The same where closing the plan early was stopped.
+    ensures halting { (contents : Contents) (n : ℕ) → Tells (IsJobCell job.now.input job.now.plan) (S.state store.old).reads → MayBeHalting job.now contents (S.state store.old) n →
+        LeavesOnly (IsSafe job.now.input job.now.plan job.now.digest contents) (S.state store.old) (S.state store.new) }
+    ensures halted { IfOk result (λ k. (contents : Contents) (n : ℕ) → Tells (IsJobCell job.now.input job.now.plan) (S.state store.old).reads → MayBeHalting job.now contents (S.state store.old) n →
+        HasDone false job.now.input job.now.plan job.now.digest contents (S.state store.new) k) }
     ensures fault { IfErr result (IsFault job.now (S.state store.old) (S.state store.new)) }
+    ensures kind { IfErr result IsResumeFault }
 {
     match settle_and_look(store)? {
         Seen::Idle => resume_idle(job, store),

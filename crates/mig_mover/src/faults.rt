@@ -11,7 +11,7 @@ pub enum MoveFault {
     /// The store failed.
     #[error("the store failed")]
     Store,
-    /// The journal says that this plan is being carried out, or was.
+    /// The journal says that this plan is being carried out, or was; where a store is to be filled, any plan.
     #[error("the plan was started before")]
     Started,
     /// The journal says that another plan is being carried out, or was: `kept` is its digest, `ours` that of this plan.
@@ -23,7 +23,7 @@ pub enum MoveFault {
     /// The slot where the item is listed doesn't name it.
     #[error("an item isn't at its spot")]
     NotThere { item: ItemId },
-    /// A target that is listed as free is used.
+    /// A target that is listed as free is used; where a store is to be filled, a slot where an item is listed.
     #[error("a target is used")]
     Occupied { disk: DiskId, slot: u32 },
 }

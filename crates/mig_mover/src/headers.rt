@@ -9,7 +9,7 @@ use mig_base::{Input, Name, Spot};
 use mig_store::{Store, StoreFailed};
 
 // The name, followed by zeros.
-fn padded(name: &Name) -> [u8; 32]
+pub(crate) fn padded(name: &Name) -> [u8; 32]
     ensures padded { result ≡ name.now ++ replicate (32 - length name.now) 0 }
     ensures short { length name.now ≤ 32 }
 {

@@ -10,10 +10,12 @@ ghost use Rattle.mig_base.specs.Running.{Runs, is_of};
 ghost use Rattle.mig_base.specs.Slots.{slot_of};
 ghost use Rattle.mig_mover.specs.JobTables.{free_targets};
 ghost use Rattle.mig_mover.specs.Tasks.{Task, IsTask};
+ghost use Rattle.mig_mover.specs.Vacancies.{AreVacancies};
 ghost use Rattle.sha2.specs.Sha256.{sha256};
 
 use crate::tables::{shift_flags, targets_of};
-use mig_base::{Cell, Input, Plan, Round, Shift, Spot};
+use crate::vacancies::{Vacancy, vacancies_of};
+use mig_base::{Cell, Input, MAX_FILE_BYTES, MAX_ROUNDS, Plan, Round, Shift, Spot};
 use sha2::{Digest, Sha256};
 use std::alloc::{AllocError, Global};
 use std::marker::Model;
@@ -30,6 +32,8 @@ pub struct Job {
     shifted: Vec<bool>,
     // The targets that are free now, in the plan's order.
     targets: Vec<Spot>,
+    // When the spots of now and of the plan are free.
+    vacancies: Vec<Vacancy>,
 }
 
 impl Model for Job {
@@ -37,13 +41,15 @@ impl Model for Job {
     ghost use Rattle.mig_base.specs.Readiness.{shifts_of};
     ghost use Rattle.mig_mover.specs.JobTables.{AreShiftFlags, free_targets};
     ghost use Rattle.mig_mover.specs.Tasks.{Task, IsTask};
+    ghost use Rattle.mig_mover.specs.Vacancies.{vacancies_in};
 
     ghost Value = { Task };
 
     ghost view = { λ j. record { input = j.input; plan = j.plan; digest = j.digest } };
 
     ghost invariant = { λ j. IsTask (record { input = j.input; plan = j.plan; digest = j.digest }) × (j.shifts ≡ length (shifts_of j.plan))
-        × AreShiftFlags j.input j.plan j.shifted.items × (j.targets.items ≡ free_targets j.input.spots (shifts_of j.plan)) };
+        × AreShiftFlags j.input j.plan j.shifted.items × (j.targets.items ≡ free_targets j.input.spots (shifts_of j.plan))
+        × (j.vacancies.items ≡ vacancies_in j.plan) };
 }
 
 // The same input in memory of its own.
@@ -71,7 +77,7 @@ fn copy_plan(alloc: Global, plan: &Plan) -> Result<Plan, AllocError>
 
 // How many shifts the plan has.
 fn count_shifts(plan: &Plan) -> u32
-    requires { length (shifts_of plan.now) ≤ 16777216 }
+    requires { length (shifts_of plan.now) ≤ MAX_FILE_BYTES }
     ensures { result ≡ length (shifts_of plan.now) }
 {
     let mut count = 0;
@@ -81,7 +87,12 @@ fn count_shifts(plan: &Plan) -> u32
     count
 }
 
-/// Takes all memory that carrying out the plan needs. The plan runs on the input, and the bytes are its text.
+/// Takes all memory that carrying out the plan needs. The plan runs on the input and has no more shifts than a file has
+/// bytes; the bytes are the plan's text, of which the job keeps the digest.
+///
+/// # Errors
+///
+/// `AllocError` is want of memory.
 pub fn prepare(
     alloc: Global,
     input: &Input,
@@ -89,11 +100,11 @@ pub fn prepare(
     plan_bytes: &[u8],
 ) -> Result<Job, AllocError>
     requires runs { Runs input.now plan.now }
-    requires few_rounds { length plan.now ≤ 131072 }
-    requires few_shifts { length (shifts_of plan.now) ≤ 16777216 }
+    requires few_rounds { length plan.now ≤ MAX_ROUNDS }
+    requires few_shifts { length (shifts_of plan.now) ≤ MAX_FILE_BYTES }
     ensures { IfOk result (λ job. job ≡ record { input = input.now; plan = plan.now; digest = sha256 plan_bytes.now }) }
 {
-    let _valid = input.disks();
+    input.keeps_rules();
     Ok(Job {
         input: copy_input(alloc, input)?,
         plan: copy_plan(alloc, plan)?,
@@ -101,6 +112,7 @@ pub fn prepare(
         shifts: count_shifts(plan),
         shifted: shift_flags(alloc, input, plan)?,
         targets: targets_of(alloc, input, plan)?,
+        vacancies: vacancies_of(alloc, plan)?,
     })
 }
 
@@ -116,6 +128,13 @@ pub(crate) fn spot_cell(input: &Input, spot: Spot) -> Cell
 }
 
 impl Job {
+    /// The job keeps the rules of every job. The call does nothing; it is made where a proof needs them.
+    pub fn keeps_rules(&self)
+        ensures { IsTask self.now }
+    {
+        let _rounds = self.rounds();
+    }
+
     /// The input.
     pub fn input(&self) -> &Input
         ensures value { result.now ≡ self.now.input }
@@ -175,6 +194,14 @@ impl Job {
         ensures valid { IsTask self.now }
     {
         self.targets.as_slice()
+    }
+
+    // When the spots of now and of the plan are free.
+    pub(crate) fn vacancies(&self) -> &[Vacancy]
+        ensures vacancies { AreVacancies self.now.input self.now.plan result.now }
+        ensures valid { IsTask self.now }
+    {
+        self.vacancies.as_slice()
     }
 
     // The shifts of a round.

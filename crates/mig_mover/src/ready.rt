@@ -5,7 +5,7 @@ ghost use Rattle.mig_base.specs.Journals.{is_armed};
 ghost use Rattle.mig_base.specs.Readiness.{shifts_of, IsShifted, CanTake, IsReady, IsFirstLost, IsFirstUsed};
 ghost use Rattle.mig_base.specs.Slots.{IsThere, IsLost};
 ghost use Rattle.mig_base.specs.Stores.{State, flights, ChangesOnly, HasCause};
-ghost use Rattle.mig_mover.specs.Moves.{IsFaultOn};
+ghost use Rattle.mig_mover.specs.Moves.{IsFaultOn, IsResumeFault};
 ghost use Rattle.mig_mover.specs.Tasks.{Task};
 
 use crate::faults::MoveFault;
@@ -68,6 +68,7 @@ pub(crate) fn check_ready<S: Store>(job: &Job, store: &mut S) -> Result<(), Move
     ensures ready { OnOk result (IsReady job.now.input job.now.plan (S.state store.old).reads) }
     ensures change { ChangesOnly NoCell (S.state store.old) (S.state store.new) }
     ensures fault { IfErr result (IsFaultOn job.now (S.state store.old) (S.state store.new)) }
+    ensures kind { IfErr result IsResumeFault }
     ensures later { (S.state store.old).faults ≤ (S.state store.new).faults }
 {
     if let Some(item) = find_lost(job, store)? {

@@ -7,5 +7,6 @@ pub mod PlanLengths
 pub mod PlanPlaces
 pub mod PlanReads
 pub mod ShiftCounts
+pub mod ShiftLines
 pub mod Stops
 pub mod Tables

@@ -3,6 +3,7 @@ ghost use Rattle.std.specs.Prelude.{◌≡◌, ◌++◌, ◌∷◌, ◌≤◌, �
 ghost use Rattle.mig_base.specs.InputLists.{Lists};
 ghost use Rattle.mig_base.specs.Misfits.{pieces};
 ghost use Rattle.mig_base.specs.PlanLines.{before_rounds, Head, Over, PlanLine, PlanNext, Title};
+ghost use Rattle.mig_base.specs.Readiness.{shifts_of};
 ghost use Rattle.mig_base.specs.Running.{PlanFits};
 ghost use Rattle.mig_base.specs.Texts.{PlanText, plan_lines};
 ghost use Rattle.mig_text.specs.PlanParts.{AreRoundsRead, IsPlanOpened, IsRoundRead};
@@ -20,6 +21,8 @@ use std::alloc::Global;
 pub fn read_plan(alloc: Global, input: &Input, bytes: &[u8]) -> Result<Plan, TextError>
     ensures plan { IfOk result (λ plan. PlanText input.now plan bytes.now) }
     ensures short { IfOk result (λ _. length bytes.now ≤ MAX_FILE_BYTES) }
+    // Each shift has a line of its own.
+    ensures shifts { IfOk result (λ plan. length (shifts_of plan) ≤ length bytes.now) }
     ensures line { IfErr result (IfLine (PlanLine input.now bytes.now)) }
 {
     if bytes.len() > MAX_FILE_BYTES {

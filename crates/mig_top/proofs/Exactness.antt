@@ -17,12 +17,16 @@ use Rattle.mig_base.proofs.BlameOrder.{right_is_blameless}
 use Rattle.mig_check.proofs.BlameCases.{runs_blameless}
 use Rattle.mig_io.specs.Files.{Files, file}
 use Rattle.mig_top.specs.declared.endings.TextFile.TheVariants as text_file
-use Rattle.mig_top.specs.Outcomes.{Outcome, Blamed, Unlisted, Refused, FolderFault, SinkFault, Memory, NotSpelled, NoFile, code}
-use Rattle.mig_top.specs.Calls.{Call, FolderFailed, SinkFailed}
-use Rattle.mig_top.specs.Causes.{FormCause, LoadedCause, IsMissing, IsRefusal, IsNoPlan, IsNoCert, DoesNotRun, IsWrong, loads, reads_input, reads_plan, reads_cert, runs, judges}
-use Rattle.mig_top.specs.Ends.{Ends, EndsAs, IsKnown, FormEnds, ComesExactly}
-use Rattle.mig_top.specs.Loads.{AreRefused, HasPlan, HasCert, HasNoPlan, HasNoCert, Stands, first_missing, AreThere}
-use Rattle.mig_top.specs.Words.{Form, Plan, Check, After, IsListed, loaded, words_of}
+use Rattle.mig_top.specs.Outcomes.{Outcome, Blamed, Unlisted, Refused, FolderFault, StoreFault, SinkFault, Memory, NotSpelled, NoFile, code}
+use Rattle.mig_top.specs.Calls.{Call, FolderFailed, SinkFailed, StoreFailed}
+use Rattle.mig_top.specs.Causes.{FilesCause, FormCause, LoadedCause, IsMissing, IsRefusal, IsLayoutRefusal, IsNoPlan, IsNoCert, DoesNotRun, IsWrong, loads, reads_input, reads_layout, reads_plan, reads_cert, runs, judges}
+use Rattle.mig_top.specs.Ends.{Ends, EndsAs, IsBegun, IsKnown, FormEnds, ComesExactly, Serves}
+use Rattle.mig_top.specs.Loads.{AreRefused, HasPlan, HasCert, HasNoPlan, HasNoCert, HoldsLayout, Stands, first_missing, AreThere}
+use Rattle.mig_top.specs.Words.{Form, Plan, Check, After, Fill, Audit, Rehearse, IsListed, loaded, words_of, Move, Resume}
+use Rattle.mig_top.specs.MoveLooks.{IsTaskOf, task_of}
+use Rattle.mig_top.proofs.Layouts.{layout_not_refused, one_layout}
+use Rattle.mig_top.proofs.MoveExact.{resumes_exact, starts_exact}
+use Rattle.mig_top.proofs.StoreExact.{fills_exact}
 use Rattle.mig_top.proofs.Steps.{IsExact, HaveOneStatus, by_status, then_one, done_one}
 
 pub one_there : (files : Files) (name body : List ℕ) (more : List (List ℕ)) → file files name ≡ Some body → first_missing files (name ∷ more) ≡ first_missing files more
@@ -47,18 +51,18 @@ module _ (files : Files) (disks now next : List ℕ) where
       same.sound f n w b.refused.fault
 
   -- they stand for one input, which is as every input is
-  stands_for_one : (a b : Lists) → Stands files disks now next a → Stands files disks now next b → a ≡ b
+  pub stands_for_one : (a b : Lists) → Stands files disks now next a → Stands files disks now next b → a ≡ b
   stands_for_one a b h k = one_input k.bodies a b (subst (λ (v : Bodies). Accepted v a) (one_content h.bodies k.bodies h.there k.there) h.accepted) k.accepted
 
   pub is_input : (input : Lists) → Stands files disks now next input → IsInput input
   is_input input h = Accepted-IsInput h.bodies input h.accepted
 
 -- a file has one content
-same_bytes : (files : Files) (name a b : List ℕ) → file files name ≡ Some a → file files name ≡ Some b → a ≡ b
+pub same_bytes : (files : Files) (name a b : List ℕ) → file files name ≡ Some a → file files name ≡ Some b → a ≡ b
 same_bytes files name a b h k = let e : Some a ≡ Some b = sym h ∙ k in cc
 
 -- it is the spelling of one plan, or of none
-one_plan : (files : Files) (name : List ℕ) (input : Lists) (a b : List (List Shift)) → IsInput input → HasPlan files name input a → HasPlan files name input b → a ≡ b
+pub one_plan : (files : Files) (name : List ℕ) (input : Lists) (a b : List (List Shift)) → IsInput input → HasPlan files name input a → HasPlan files name input b → a ≡ b
 one_plan files name input a b valid h k = same_plan input valid a b k.bytes (subst (λ (t : List ℕ). PlanText input a t) (same_bytes files name h.bytes k.bytes h.there k.there) h.spelled) k.spelled
 
 pub one_cert : (files : Files) (name : List ℕ) (input : Lists) (a b : Cert) → IsInput input → HasCert files name input a → HasCert files name input b → a ≡ b
@@ -103,6 +107,17 @@ module _ (files : Files) where
       apart input _ h k = k
 
       status : (o : Outcome) → IsRefusal files disks now next o → code o ≡ 3
+      status (Refused f n w) h = refl
+      status _ h = absurd h
+
+  pub layout_exact : (disks now : List ℕ) → IsExact (reads_layout files disks now)
+  layout_exact disks now = record { one_found = one_layout files disks now; not_both = apart; one_stop = by_status (IsLayoutRefusal files disks now) 3 status }
+    where
+      apart : (input : Lists) (o : Outcome) → HoldsLayout files disks now input → IsLayoutRefusal files disks now o → ⊥
+      apart input (Refused f n w) h k = layout_not_refused files disks now input f n w h k
+      apart input _ h k = k
+
+      status : (o : Outcome) → IsLayoutRefusal files disks now o → code o ≡ 3
       status (Refused f n w) h = refl
       status _ h = absurd h
 
@@ -167,13 +182,51 @@ loaded_exact files (After disks now next plan) =
     then_one _ (plan_exact files plan input valid) _ (λ rounds _.
     then_one _ (runs_exact input rounds) _ (λ _ _.
     done_one _)))
+loaded_exact files _ = λ o p h k. absurd h
 
-pub forms_exact : (files : Files) (form : Form) → HaveOneStatus (FormCause files form)
-forms_exact files form = then_one _ (loads_exact files (loaded form)) _ (λ _ _. loaded_exact files form)
+files_exact : (files : Files) (form : Form) → HaveOneStatus (FilesCause files form)
+files_exact files form = then_one _ (loads_exact files (loaded form)) _ (λ _ _. loaded_exact files form)
+
+pub forms_exact : (k : Call) (files : Files) (form : Form) → Serves k files form → HaveOneStatus (FormCause files k.before.store form)
+forms_exact k files (Fill disks now) serves =
+    then_one _ (loads_exact files (disks ∷ now ∷ [])) _ (λ _ _.
+    then_one _ (layout_exact files disks now) _ (λ input holds.
+    then_one _ (fills_exact input k.before.store (serves.1 input holds)) _ (λ _ _.
+    done_one _)))
+forms_exact k files (Audit disks now) serves =
+    then_one _ (loads_exact files (disks ∷ now ∷ [])) _ (λ _ _.
+    then_one _ (layout_exact files disks now) _ (λ input holds.
+    done_one _))
+forms_exact k files (Rehearse disks per_pair limit) serves = done_one _
+forms_exact k files (Move disks now next plan) serves =
+    then_one _ (loads_exact files (disks ∷ now ∷ next ∷ plan ∷ [])) _ (λ _ _.
+    then_one _ (input_exact files disks now next) _ (λ input stands. let valid = is_input files disks now next input stands in
+    then_one _ (plan_exact files plan input valid) _ (λ rounds has.
+    then_one _ (runs_exact input rounds) _ (λ _ ran. let task : IsTaskOf files disks now next plan (task_of files plan input rounds) = record { stands = stands; has_plan = has; runs = ran; digest = refl } in
+    then_one _ (starts_exact (task_of files plan input rounds) k.before.store valid ran (serves.1 (task_of files plan input rounds) task)) _ (λ _ _.
+    done_one _)))))
+forms_exact k files (Resume disks now next plan) serves =
+    then_one _ (loads_exact files (disks ∷ now ∷ next ∷ plan ∷ [])) _ (λ _ _.
+    then_one _ (input_exact files disks now next) _ (λ input stands. let valid = is_input files disks now next input stands in
+    then_one _ (plan_exact files plan input valid) _ (λ rounds has.
+    then_one _ (runs_exact input rounds) _ (λ _ ran. let task : IsTaskOf files disks now next plan (task_of files plan input rounds) = record { stands = stands; has_plan = has; runs = ran; digest = refl } in
+    then_one _ (resumes_exact (task_of files plan input rounds) k.before.store valid ran (serves.1 (task_of files plan input rounds) task)) _ (λ _ _.
+    done_one _)))))
+forms_exact k files form serves = files_exact files form
+
+-- a store that serves a command doesn't fail in it
+served : (k : Call) (files : Files) (form : Form) (before : List ℕ) → Serves k files form → StoreFailed k × IsBegun k form before → ⊥
+served k files (Fill disks now) before serves h = serves.0 h.0
+served k files (Audit disks now) before serves h = serves h.0
+served k files (Move disks now next plan) before serves h = serves.0 h.0
+served k files (Resume disks now next plan) before serves h = serves.0 h.0
+served k files _ before serves h = h.1
 
 -- words are those of one command
 abbrev form_by : List (List ℕ) → Option Form
-form_by (word ∷ a ∷ b ∷ c ∷ d ∷ []) = if bytes_eq word (codes "after") then Some (After a b c d) else None
+form_by (word ∷ a ∷ b ∷ []) = if bytes_eq word (codes "fill") then Some (Fill a b) else if bytes_eq word (codes "audit") then Some (Audit a b) else None
+form_by (word ∷ a ∷ b ∷ c ∷ []) = if bytes_eq word (codes "rehearse") then Some (Rehearse a b c) else None
+form_by (word ∷ a ∷ b ∷ c ∷ d ∷ []) = if bytes_eq word (codes "after") then Some (After a b c d) else if bytes_eq word (codes "move") then Some (Move a b c d) else if bytes_eq word (codes "resume") then Some (Resume a b c d) else None
 form_by (word ∷ a ∷ b ∷ c ∷ d ∷ e ∷ []) = if bytes_eq word (codes "plan") then Some (Plan a b c d e) else if bytes_eq word (codes "check") then Some (Check a b c d e) else None
 form_by _ = None
 
@@ -181,8 +234,13 @@ by_words : (form : Form) → form_by (words_of form) ≡ Some form
 by_words (Plan d n x p c) = refl
 by_words (Check d n x p c) = refl
 by_words (After d n x p) = refl
+by_words (Fill d n) = refl
+by_words (Audit d n) = refl
+by_words (Rehearse d p l) = refl
+by_words (Move d n x p) = refl
+by_words (Resume d n x p) = refl
 
-one_form : (a b : Form) → words_of a ≡ words_of b → a ≡ b
+pub one_form : (a b : Form) → words_of a ≡ words_of b → a ≡ b
 one_form a b h = let e : Some a ≡ Some b = sym (by_words a) ∙ ap form_by h ∙ by_words b in cc
 
 pub known_form : (k : Call) (words : List (List ℕ)) (form : Form) (o : Outcome) → IsListed words form → IsKnown k words o → FormEnds k form o
@@ -193,18 +251,19 @@ told P None files e h = absurd cc
 told P (Some f) files e h = let g : f ≡ files = cc in subst P g h
 
 module _ (k : Call) (words : List (List ℕ)) (files : Files) (form : Form) (is : k.before.folder.files ≡ Some files) (l : IsListed words form) where
-  comes : (o : Outcome) → Ends k words o → (p : Outcome) → FormCause files form p → (FolderFailed k → ⊥) → (SinkFailed k → ⊥) → (code o ≡ code p) ⊎ (code o ≡ 7)
-  comes o (inl unknown) p cause fine quiet = absurd (unknown.1.unlisted form l)
-  comes o (inr known) p cause fine quiet = by o (known_form k words form o l known)
+  comes : (o : Outcome) → Ends k words o → (p : Outcome) → FormCause files k.before.store form p → (FolderFailed k → ⊥) → (SinkFailed k → ⊥) → Serves k files form → (code o ≡ code p) ⊎ (code o ≡ 7)
+  comes o (inl unknown) p cause fine quiet serves = absurd (unknown.1.unlisted form l)
+  comes o (inr known) p cause fine quiet serves = by o (known_form k words form o l known)
     where
       by : (o : Outcome) → FormEnds k form o → (code o ≡ code p) ⊎ (code o ≡ 7)
       by Unlisted h = absurd h.cause
       by FolderFault h = absurd (fine h.cause)
+      by (StoreFault before) h = absurd (served k files form before serves h.cause)
       by (SinkFault text) h = absurd (quiet h.0)
       by Memory h = inr refl
-      by o h = inl (forms_exact files form o p (told (λ f. FormCause f form o) k.before.folder.files files is h.cause) cause)
+      by o h = inl (forms_exact k files form serves o p (told (λ f. FormCause f k.before.store form o) k.before.folder.files files is h.cause) cause)
 
 -- as a clause of the top call
 pub comes_exactly : (k : Call) (words : List (List ℕ)) (status : ℕ) → EndsAs k words status → (files : Files) (form : Form) → k.before.folder.files ≡ Some files → IsListed words form → ComesExactly k files form status
-comes_exactly k words status (o, is, ends, says) files form e l p cause fine quiet =
-    subst (λ n. (n ≡ code p) ⊎ (n ≡ 7)) (sym is) (comes k words files form e l o ends p cause fine quiet)
+comes_exactly k words status (o, is, ends, says) files form e l p cause fine quiet serves =
+    subst (λ n. (n ≡ code p) ⊎ (n ≡ 7)) (sym is) (comes k words files form e l o ends p cause fine quiet serves)

@@ -13,9 +13,9 @@ use Rattle.mig_text.proofs.ShiftCounts as plans
 use Rattle.mig_cert.proofs.CertLengths as certs
 use Rattle.mig_io.specs.Files.{Files, file}
 use Rattle.mig_io.specs.Held.{Extends}
-use Rattle.mig_top.specs.Outcomes.{Outcome, Done, Unlisted, Refused, FolderFault, SinkFault, Memory, NoFile, code}
+use Rattle.mig_top.specs.Outcomes.{Outcome, Done, Unlisted, Refused, FolderFault, StoreFault, SinkFault, Memory, NoFile, code}
 use Rattle.mig_top.specs.Calls.{Call}
-use Rattle.mig_top.specs.Causes.{FormCause, IsMissing, IsRefusal, IsRight, verdict_text}
+use Rattle.mig_top.specs.Causes.{FilesCause, IsMissing, IsRefusal, IsRight, verdict_text}
 use Rattle.mig_top.specs.Ends.{AreSaved, Ends, EndsAs, FormEnds, IsPlanSaved, Says}
 use Rattle.mig_top.specs.Headline.{HasPlanned, PlansWell, ChecksSaved}
 use Rattle.mig_top.specs.Planned.{IsDiskBound}
@@ -45,7 +45,7 @@ module _ (k : Call) (disks now next plan cert : List ℕ) where
     Means (NoFile word) = first_missing files (disks ∷ now ∷ next ∷ []) ≡ Some word
     Means _ = ⊥
 
-    means : (o : Outcome) → FormCause files form o → Means o
+    means : (o : Outcome) → FilesCause files form o → Means o
     means o (inl h) = at o h
       where
         at : (o : Outcome) → IsMissing files (disks ∷ now ∷ next ∷ []) o → Means o
@@ -62,10 +62,10 @@ module _ (k : Call) (disks now next plan cert : List ℕ) where
         at (Done text) h = (input, stands)
         at _ h = absurd h
 
-    told_cause : (o : Outcome) → IfSome k.before.folder.files (λ f. FormCause f form o) → Means o
-    told_cause o h = means o (told (λ f. FormCause f form o) k.before.folder.files files is h)
+    told_cause : (o : Outcome) → IfSome k.before.folder.files (λ f. FilesCause f form o) → Means o
+    told_cause o h = means o (told (λ f. FilesCause f form o) k.before.folder.files files is h)
 
-    well : (o : Outcome) → FormEnds k form o → Says k o → PlansWell k files disks now next plan cert (code o)
+    well : (o : Outcome) → FormEnds k form o → Says k.before.sink k.after.sink o → PlansWell k files disks now next plan cert (code o)
     well (Done text) h says = record {
       ends = λ there fine quiet. inl refl;
       refused = λ e. absurd (omega arith);
@@ -103,10 +103,11 @@ module _ (k : Call) (disks now next plan cert : List ℕ) where
       refuses = λ none fine. absurd (gone _ word (three_there files disks now next none.bodies [] none.there) (told_cause (NoFile word) h.cause));
       planned = λ e. absurd (omega arith);
     }
+    well (StoreFault before) h says = absurd h.cause.1
     well Unlisted h says = absurd h.cause
     well o h says = absurd (told_cause o h.cause)
 
-    well_ended : (words : List (List ℕ)) → IsListed words form → (o : Outcome) → Ends k words o → Says k o → PlansWell k files disks now next plan cert (code o)
+    well_ended : (words : List (List ℕ)) → IsListed words form → (o : Outcome) → Ends k words o → Says k.before.sink k.after.sink o → PlansWell k files disks now next plan cert (code o)
     well_ended words l o (inl unknown) says = absurd (unknown.1.unlisted form l)
     well_ended words l o (inr known) says = well o (known_form k words form o l known) says
 
@@ -142,7 +143,7 @@ module _ (disks now next plan cert text : List ℕ) (old files : Files) (apart :
   saved_plan = record {
     bytes = saved.plan_text;
     there = saved.saved;
-    short = plans.short_text saved.input saved.texts.rounds saved.plan_text (is_input old disks now next saved.input saved.stands) saved.texts.planned.runs saved.texts.planned.once saved.texts.plan_spelled;
+    short = plans.short_text saved.input saved.texts.rounds saved.plan_text (is_input old disks now next saved.input saved.stands) saved.texts.made.planned.runs saved.texts.made.planned.once saved.texts.plan_spelled;
     spelled = saved.texts.plan_spelled;
   }
 
@@ -161,16 +162,16 @@ module _ (disks now next plan cert text : List ℕ) (old files : Files) (apart :
   all_there = three_there files disks now next still_stands.bodies (plan ∷ cert ∷ []) still_stands.there ∙ one_there files plan saved.plan_text (cert ∷ []) saved.saved ∙ one_there files cert text [] cert_saved
 
   is_right : IsRight saved.input saved.texts.rounds saved.texts.certificate
-  is_right = record { runs = saved.texts.planned.runs; once = saved.texts.planned.once; holds = saved.texts.holds }
+  is_right = record { runs = saved.texts.made.planned.runs; once = saved.texts.made.planned.once; holds = saved.texts.made.holds }
 
-  is_done : FormCause files check_form (Done (verdict_text saved.texts.rounds saved.texts.certificate))
+  is_done : FilesCause files check_form (Done (verdict_text saved.texts.rounds saved.texts.certificate))
   is_done = inr (tt, all_there, inr (saved.input, still_stands, inr (saved.texts.rounds, saved_plan, inr (saved.texts.certificate, saved_cert, inr (tt, is_right, refl)))))
 
   -- `check` puts the verdict on what was saved
-  is_verdict : (o : Outcome) → FormCause files check_form o → IsDone (λ t. t ≡ verdict_text saved.texts.rounds saved.texts.certificate) o
+  is_verdict : (o : Outcome) → FilesCause files check_form o → IsDone (λ t. t ≡ verdict_text saved.texts.rounds saved.texts.certificate) o
   is_verdict =
       let valid = is_input files disks now next saved.input still_stands in
-      let all : (o : Outcome) → FormCause files check_form o → FormCause files check_form o = λ o h. h in
+      let all : (o : Outcome) → FilesCause files check_form o → FilesCause files check_form o = λ o h. h in
       let loaded = follow _ (loads_exact files (disks ∷ now ∷ next ∷ plan ∷ cert ∷ [])) _ all tt all_there in
       let read = follow _ (input_exact files disks now next) _ loaded saved.input still_stands in
       let planned = follow _ (plan_exact files plan saved.input valid) _ read saved.texts.rounds saved_plan in
@@ -183,20 +184,20 @@ module _ (disks now next plan cert text : List ℕ) (old files : Files) (apart :
   disk_value_is (OfDisk disk l x) q h = h
   disk_value_is (OfSet set i x) q h = absurd h
 
-  told_optimal : IsEven (transfers saved.input) → (t : List ℕ) → FormCause files check_form (Done t) → t ≡ codes "optimal\n"
+  told_optimal : IsEven (transfers saved.input) → (t : List ℕ) → FilesCause files check_form (Done t) → t ≡ codes "optimal\n"
   told_optimal even t h =
-      let value = disk_value_is saved.texts.certificate.bound (quotient (transfers saved.input)) (saved.texts.shown even) in
-      is_verdict (Done t) h ∙ ap (λ b. if b then codes "optimal\n" else codes "bounded\n") (eq-eqb _ _ (saved.texts.planned.even_rounds even ∙ sym value))
+      let value = disk_value_is saved.texts.certificate.bound (quotient (transfers saved.input)) (saved.texts.made.shown even) in
+      is_verdict (Done t) h ∙ ap (λ b. if b then codes "optimal\n" else codes "bounded\n") (eq-eqb _ _ (saved.texts.made.planned.even_rounds even ∙ sym value))
 
   module _ (k : Call) (words : List (List ℕ)) (status : ℕ) (ends : EndsAs k words status) (is : k.before.folder.files ≡ Some files) (l : IsListed words (Check disks now next plan cert)) where
-    optimal_by : (o : Outcome) → status ≡ code o → status ≡ 0 → Ends k words o → Says k o → IsEven (transfers saved.input) → Extends (codes "optimal\n") k.before.sink k.after.sink
+    optimal_by : (o : Outcome) → status ≡ code o → status ≡ 0 → Ends k words o → Says k.before.sink k.after.sink o → IsEven (transfers saved.input) → Extends (codes "optimal\n") k.before.sink k.after.sink
     optimal_by o is_code zero (inl unknown) says even = absurd (unknown.1.unlisted check_form l)
     optimal_by (Done t) is_code zero (inr known) says even =
-        subst (λ (text : List ℕ). Extends text k.before.sink k.after.sink) (told_optimal even t (told (λ f. FormCause f check_form (Done t)) k.before.folder.files files is (known_form k words check_form (Done t) l known).cause)) (says.done refl)
+        subst (λ (text : List ℕ). Extends text k.before.sink k.after.sink) (told_optimal even t (told (λ f. FilesCause f check_form (Done t)) k.before.folder.files files is (known_form k words check_form (Done t) l known).cause)) (says.done refl)
     optimal_by o is_code zero (inr known) says even = absurd (omega (arith, is_code, zero))
 
     pub checks_saved : ChecksSaved k saved.input status
     checks_saved = record {
-      right = λ fine quiet. comes_exactly k words status ends files (Check disks now next plan cert) is l (Done (verdict_text saved.texts.rounds saved.texts.certificate)) is_done fine quiet;
+      right = λ fine quiet. comes_exactly k words status ends files (Check disks now next plan cert) is l (Done (verdict_text saved.texts.rounds saved.texts.certificate)) is_done fine quiet tt;
       optimal = λ zero even. optimal_by ends.0 ends.1 zero ends.2 ends.3 even;
     }

@@ -19,7 +19,7 @@ begins a x y h = by x.held h
     by (Some held) h = (length a, omega arith, h ∙ ap (λ (t : List ℕ). Some (held ++ t)) (sym (take-length a)))
 
 -- a beginning of a text is one of a longer text
-begins_more : (a b : List ℕ) (x y : SinkState) → ExtendsInPart a x y → ExtendsInPart (a ++ b) x y
+pub begins_more : (a b : List ℕ) (x y : SinkState) → ExtendsInPart a x y → ExtendsInPart (a ++ b) x y
 begins_more a b x y h = by x.held h
   where
     by : (o : Option (List ℕ)) → IfSome o (λ held. ExtendsByPrefix a held y.held) → IfSome o (λ held. ExtendsByPrefix (a ++ b) held y.held)
@@ -27,7 +27,7 @@ begins_more a b x y h = by x.held h
     by (Some held) (n, le, e) = (n, omega (arith, le, length-append a b), e ∙ ap (λ (t : List ℕ). Some (held ++ t)) (sym (take-append-le n a b le)))
 
 -- one text and then a beginning of another
-then_begins : (a b : List ℕ) (x y z : SinkState) → Extends a x y → ExtendsInPart b y z → ExtendsInPart (a ++ b) x z
+pub then_begins : (a b : List ℕ) (x y z : SinkState) → Extends a x y → ExtendsInPart b y z → ExtendsInPart (a ++ b) x z
 then_begins a b x y z h k = by x.held h
   where
     at : (held : List ℕ) → ExtendsByPrefix b (held ++ a) z.held → ExtendsByPrefix (a ++ b) held z.held
@@ -39,7 +39,7 @@ then_begins a b x y z h k = by x.held h
     by (Some held) h = at held (subst (λ (o : Option (List ℕ)). IfSome o (λ held. ExtendsByPrefix b held z.held)) h k)
 
 -- or the whole of another
-then_extends : (a b : List ℕ) (x y z : SinkState) → Extends a x y → Extends b y z → Extends (a ++ b) x z
+pub then_extends : (a b : List ℕ) (x y z : SinkState) → Extends a x y → Extends b y z → Extends (a ++ b) x z
 then_extends a b x y z h k = by x.held h
   where
     by : (o : Option (List ℕ)) → IfSome o (λ held. y.held ≡ Some (held ++ a)) → IfSome o (λ held. z.held ≡ Some (held ++ (a ++ b)))

@@ -1,32 +1,92 @@
 -- From the end of a command's work and the putting of its text to the end of the command.
 use Rattle.std.proofs.Common.{◌≡◌, ◌≢◌, ◌⊎◌, inl, inr, ℕ, List, [], ◌∷◌, Option, Some, None, subst, ◌∙◌, arith}
 use Rattle.std.specs.Option.{IfSome, IsSomeAnd}
-use Rattle.mig_io.specs.Files.{Files, OthersStay, Saves}
-use Rattle.mig_io.specs.Held.{Extends, ExtendsInPart}
+use Rattle.mig_base.specs.FaultCounts.{Rose}
+use Rattle.mig_io.specs.Files.{Files, FolderState, OthersStay, Saves}
+use Rattle.mig_io.specs.Held.{SinkState, Extends, ExtendsInPart}
 use Rattle.mig_top.specs.declared.endings.Ending.{Ending}
 use Rattle.mig_top.specs.declared.endings.Ending.TheVariants as ending
 use Rattle.mig_top.specs.Calls.{Call, SinkFailed}
-use Rattle.mig_top.specs.Ends.{AreSaved, EndsAs, FolderEnds, FormEndsAs, IsPlanSaved}
+use Rattle.mig_top.specs.Ends.{AreSaved, CauseOf, EndsAs, FilesCauseOf, FilesEndAs, FilesEnds, FolderEnds, FormEnds, FormEndsAs, IsPlanSaved, StoreLeaves, WorldEnds}
 use Rattle.mig_top.specs.Loading.{HoldFirst, PlansOn}
-use Rattle.mig_top.specs.Outcomes.{Done, SinkFault, code, outcome_of, text_of}
-use Rattle.mig_top.specs.Words.{Form, IsListed}
+use Rattle.mig_top.specs.Outcomes.{Outcome, Done, SinkFault, StoreFault, code, outcome_of, text_of}
+use Rattle.mig_top.specs.StoreLeaves.{IsUntouched}
+use Rattle.mig_top.specs.Words.{Form, Plan, Check, After, Fill, Audit, Rehearse, IsListed, Move, Resume}
 
-module _ (k : Call) (form : Form) (status : ℕ) where
+-- Commands over files alone
+
+module _ (old new : FolderState) (out_old out_new : SinkState) (form : Form) (status : ℕ) where
   -- a command that isn't done, and its text
-  pub told_ends : (names : List (List ℕ)) (e : Ending) → status ≡ code (outcome_of names e) → FolderEnds k.before.folder k.after.folder form (outcome_of names e)
-      → ExtendsInPart (text_of (outcome_of names e)) k.before.sink k.after.sink → ((SinkFailed k → ⊥) → Extends (text_of (outcome_of names e)) k.before.sink k.after.sink) → FormEndsAs k form status
+  pub told_ends : (names : List (List ℕ)) (e : Ending) → status ≡ code (outcome_of names e) → FolderEnds old new form (outcome_of names e)
+      → ExtendsInPart (text_of (outcome_of names e)) out_old out_new → ((Rose out_old.faults out_new.faults → ⊥) → Extends (text_of (outcome_of names e)) out_old out_new) → FilesEndAs old new out_old out_new form status
   told_ends names ending.Unlisted is h begun whole = absurd h.cause
   told_ends names e is h begun whole = (outcome_of names e, is, h, record { begun = begun; whole = whole; done = λ zero. absurd (omega (arith, zero)) })
 
   -- a command that is done, and its text
-  pub shown_ends : (text : List ℕ) → FolderEnds k.before.folder k.after.folder form (Done text) → (status ≡ 0) ⊎ ((status ≡ 6) × SinkFailed k)
-      → ExtendsInPart text k.before.sink k.after.sink → (status ≡ 0 → Extends text k.before.sink k.after.sink) → FormEndsAs k form status
+  pub shown_ends : (text : List ℕ) → FolderEnds old new form (Done text) → (status ≡ 0) ⊎ ((status ≡ 6) × Rose out_old.faults out_new.faults)
+      → ExtendsInPart text out_old out_new → (status ≡ 0 → Extends text out_old out_new) → FilesEndAs old new out_old out_new form status
   shown_ends text h (inl is) begun done = (Done text, is, h, record { begun = begun; whole = λ fine. done is; done = λ zero. done is })
   shown_ends text h (inr (is, failed)) begun done = (SinkFault text, is, (failed, h), record { begun = begun; whole = λ fine. absurd (fine failed); done = λ zero. absurd (omega (arith, zero)) })
+
+-- Commands over a store
+
+module _ (k : Call) (form : Form) (status : ℕ) where
+  pub world_told : (names : List (List ℕ)) (e : Ending) → status ≡ code (outcome_of names e) → WorldEnds k form (outcome_of names e)
+      → ExtendsInPart (text_of (outcome_of names e)) k.before.sink k.after.sink → ((SinkFailed k → ⊥) → Extends (text_of (outcome_of names e)) k.before.sink k.after.sink) → FormEndsAs k form status
+  world_told names ending.Unlisted is h begun whole = absurd h.cause
+  world_told names e is h begun whole = (outcome_of names e, is, h, record { begun = begun; whole = whole; done = λ zero. absurd (omega (arith, zero)) })
+
+  pub world_shown : (text : List ℕ) → WorldEnds k form (Done text) → (status ≡ 0) ⊎ ((status ≡ 6) × SinkFailed k)
+      → ExtendsInPart text k.before.sink k.after.sink → (status ≡ 0 → Extends text k.before.sink k.after.sink) → FormEndsAs k form status
+  world_shown text h (inl is) begun done = (Done text, is, h, record { begun = begun; whole = λ fine. done is; done = λ zero. done is })
+  world_shown text h (inr (is, failed)) begun done = (SinkFault text, is, (failed, h), record { begun = begun; whole = λ fine. absurd (fine failed); done = λ zero. absurd (omega (arith, zero)) })
 
 -- the words are the command
 pub words_end : (k : Call) (words : List (List ℕ)) (form : Form) (status : ℕ) → IsListed words form → FormEndsAs k form status → EndsAs k words status
 words_end k words form status l (o, is, h, says) = (o, is, inr (record { form = form; listed = l; ends = h }), says)
+
+-- the command has files and no store
+abbrev pub IsOverFiles : Form → Type 0
+IsOverFiles (Fill d n) = ⊥
+IsOverFiles (Audit d n) = ⊥
+IsOverFiles (Rehearse d p l) = ⊥
+IsOverFiles (Move d n x p) = ⊥
+IsOverFiles (Resume d n x p) = ⊥
+IsOverFiles form = Unit {0}
+
+module _ (k : Call) where
+  files_cause : (form : Form) (o : Outcome) → IsOverFiles form → FilesCauseOf k.before.folder k.after.folder form o → CauseOf k form o
+  files_cause (Fill d n) o over h = absurd over
+  files_cause (Audit d n) o over h = absurd over
+  files_cause (Rehearse d p l) o over h = absurd over
+  files_cause (Move d n x p) o over h = absurd over
+  files_cause (Resume d n x p) o over h = absurd over
+  files_cause (Plan d n x p c) (StoreFault b) over h = absurd h
+  files_cause (Plan d n x p c) o over h = h
+  files_cause (Check d n x p c) (StoreFault b) over h = absurd h
+  files_cause (Check d n x p c) o over h = h
+  files_cause (After d n x p) (StoreFault b) over h = absurd h
+  files_cause (After d n x p) o over h = h
+
+  store_kept : (form : Form) (o : Outcome) → IsOverFiles form → IsUntouched k.before.store k.after.store → StoreLeaves k form o
+  store_kept (Fill d n) o over kept = absurd over
+  store_kept (Audit d n) o over kept = absurd over
+  store_kept (Rehearse d p l) o over kept = absurd over
+  store_kept (Move d n x p) o over kept = absurd over
+  store_kept (Resume d n x p) o over kept = absurd over
+  store_kept _ o over kept = kept
+
+  -- a command that has no store leaves it as it was
+  pub files_end : (words : List (List ℕ)) (form : Form) (status : ℕ) → IsOverFiles form → IsListed words form → IsUntouched k.before.store k.after.store
+      → FilesEndAs k.before.folder k.after.folder k.before.sink k.after.sink form status → EndsAs k words status
+  files_end words form status over l kept (o, is, h, says) = (o, is, inr (record { form = form; listed = l; ends = by o h }), says)
+    where
+      ends : (o : Outcome) → FolderEnds k.before.folder k.after.folder form o → WorldEnds k form o
+      ends o h = record { cause = files_cause form o over h.cause; leaves = h.leaves; store = store_kept form o over kept }
+
+      by : (o : Outcome) → FilesEnds k.before.folder k.after.folder k.before.sink k.after.sink form o → FormEnds k form o
+      by (SinkFault text) h = (h.0, ends (Done text) h.1)
+      by o h = ends o h
 
 -- The two saves of `plan`
 

@@ -7,11 +7,11 @@ use Rattle.mig_io.specs.Files.{Files, FolderState, OthersStay}
 use Rattle.mig_top.specs.declared.endings.Ending.{Ending}
 use Rattle.mig_top.specs.declared.endings.Ending.TheVariants.{Blamed, Refused, FolderFault, Memory, NotSpelled, NoFile}
 use Rattle.mig_top.specs.Calls.{Changes, Untouched}
-use Rattle.mig_top.specs.Causes.{FormCause}
-use Rattle.mig_top.specs.Ends.{FolderEnds, Leaves}
+use Rattle.mig_top.specs.Causes.{FilesCause}
+use Rattle.mig_top.specs.Ends.{FolderEnds, FolderLeaves}
 use Rattle.mig_top.specs.Loading.{EndsWithin, HoldFirst, LoadsEnd, On}
 use Rattle.mig_top.specs.Outcomes.{Outcome, Done, outcome_of}
-use Rattle.mig_top.specs.Words.{Form, Plan, Check, After, loaded}
+use Rattle.mig_top.specs.Words.{Form, Plan, loaded}
 
 pub if_map : {X : Type 0} {P Q : X → Type 0} (o : Option X) → ((x : X) → P x → Q x) → IfSome o P → IfSome o Q
 if_map None f h = tt
@@ -29,8 +29,16 @@ pub err_within : {T : Type 0} (result : Result T Ending) (P Q : Outcome → Type
 err_within (Ok x) P Q to h = tt
 err_within (Err e) P Q to h = within P Q to e h
 
+pub err_map : {T E : Type 0} (result : Result T E) (P Q : E → Type 0) → ((e : E) → P e → Q e) → IfErr result P → IfErr result Q
+err_map (Ok x) P Q to h = tt
+err_map (Err e) P Q to h = to e h
+
+pub ok_map : {T E : Type 0} (result : Result T E) (P Q : T → Type 0) → ((x : T) → P x → Q x) → IfOk result P → IfOk result Q
+ok_map (Ok x) P Q to h = to x h
+ok_map (Err e) P Q to h = tt
+
 -- the error that a `?` hands on
-pub handed_on : {T : Type 0} (result : Result T Ending) (e : Ending) (P : Ending → Type 0) → IsErrAnd result (λ x. x ≡ e) → P e → IfErr result P
+pub handed_on : {T E : Type 0} (result : Result T E) (e : E) (P : E → Type 0) → IsErrAnd result (λ x. x ≡ e) → P e → IfErr result P
 handed_on (Ok x) e P is h = absurd is
 handed_on (Err x) e P is h = subst P (sym is) h
 
@@ -47,11 +55,10 @@ one_changed old new name same = subst (λ (after : Option Files). IfSome old.fil
     at (Some files) = λ other differs. refl
 
 -- a command that changed nothing may end with each ending
-leaves : (old new : FolderState) (form : Form) (names : List (List ℕ)) (e : Ending) → Untouched old new → Leaves old new form (outcome_of names e)
+leaves : (old new : FolderState) (form : Form) (names : List (List ℕ)) (e : Ending) → Untouched old new → FolderLeaves old new form (outcome_of names e)
 leaves old new (Plan d n x p c) names FolderFault same = inl (one_changed old new p same)
 leaves old new (Plan d n x p c) names _ same = same
-leaves old new (Check d n x p c) names e same = same
-leaves old new (After d n x p) names e same = same
+leaves old new _ names e same = same
 
 module _ (old new : FolderState) (form : Form) (same : Untouched old new) where
   -- the files weren't loaded
@@ -63,7 +70,7 @@ module _ (old new : FolderState) (form : Form) (same : Untouched old new) where
 
   module _ (bytes : List (List ℕ)) (held : IfSome old.files (λ files. HoldFirst files (loaded form) bytes)) where
     -- the cause of what these bytes lead to stands in the files
-    pub cause : (o : Outcome) → On bytes form o → IfSome old.files (λ files. FormCause files form o)
+    pub cause : (o : Outcome) → On bytes form o → IfSome old.files (λ files. FilesCause files form o)
     cause o on = if_map old.files on held
 
     -- the files were loaded, and the command ended in memory
@@ -75,7 +82,7 @@ module _ (old new : FolderState) (form : Form) (same : Untouched old new) where
     memory_ends _ h = absurd h
 
     -- the same of the whole answer, and where the command is done
-    pub answer_ends : {T : Type 0} (result : Result T Ending) (text : T → List ℕ) (Found : Outcome → Type 0) → ((o : Outcome) → Found o → On bytes form o) → ((t : T) → Leaves old new form (Done (text t)))
+    pub answer_ends : {T : Type 0} (result : Result T Ending) (text : T → List ℕ) (Found : Outcome → Type 0) → ((o : Outcome) → Found o → On bytes form o) → ((t : T) → FolderLeaves old new form (Done (text t)))
         → IfOk result (λ t. Found (Done (text t))) → IfErr result (EndsWithin Found) → MatchResult result (λ t. FolderEnds old new form (Done (text t))) (λ e. FolderEnds old new form (outcome_of (loaded form) e))
     answer_ends (Ok t) text Found to left done failed = record { cause = cause (Done (text t)) (to (Done (text t)) done); leaves = left t }
     answer_ends (Err e) text Found to left done failed = memory_ends e (within Found (On bytes form) to e failed)

@@ -1,5 +1,5 @@
 -- Why a command ends as it does: its steps over the files that it finds.
-use Rattle.std.specs.Prelude.{◌≡◌, ◌≢◌, ℕ, ◌==◌, List, None, Some, codes, if◌then◌else◌, length}
+use Rattle.std.specs.Prelude.{◌≡◌, ◌≢◌, ℕ, ◌==◌, List, [], ◌∷◌, None, Some, codes, if◌then◌else◌, length}
 use Rattle.mig_base.specs.InputLists.{Lists}
 use Rattle.mig_base.specs.Running.{Runs, Once}
 use Rattle.mig_base.specs.Layouts.{At, IsListOf}
@@ -11,12 +11,17 @@ use Rattle.mig_base.specs.declared.blames.Blame.TheVariants as blame
 use Rattle.mig_base.specs.declared.certs.Cert.{Cert}
 use Rattle.mig_base.specs.declared.ids.Shift.{Shift}
 use Rattle.mig_base.specs.declared.ids.Spot.{Spot}
+use Rattle.mig_base.specs.Stores.{State}
 use Rattle.mig_io.specs.Files.{Files}
 use Rattle.mig_top.specs.declared.endings.TextFile.TheVariants as text_file
-use Rattle.mig_top.specs.Loads.{AreRefused, HasPlan, HasCert, HasNoPlan, HasNoCert, Stands, first_missing}
+use Rattle.mig_top.specs.Loads.{AreRefused, HasPlan, HasCert, HasNoPlan, HasNoCert, HoldsLayout, IsLayoutRefused, Stands, first_missing}
+use Rattle.mig_top.specs.MoveLooks.{done_text, resumes, starts, task_of}
 use Rattle.mig_top.specs.Outcomes.{Outcome, Blamed, Refused, NotSpelled, NoFile, named}
+use Rattle.mig_top.specs.Rehearsed.{IsRehearsed, case_in}
+use Rattle.mig_top.specs.Sights.{IsAudit}
 use Rattle.mig_top.specs.Steps.{Step, Then, IsDone}
-use Rattle.mig_top.specs.Words.{Form, Plan, Check, After, loaded}
+use Rattle.mig_top.specs.StoreLooks.{fills, filled_text}
+use Rattle.mig_top.specs.Words.{Form, Plan, Check, After, Fill, Audit, Rehearse, loaded, Move, Resume}
 
 -- What ends each step
 
@@ -27,6 +32,10 @@ IsMissing files names _ = ⊥
 abbrev pub IsRefusal : Files → List ℕ → List ℕ → List ℕ → Outcome → Type 0
 IsRefusal files disks now next (Refused f n w) = AreRefused files disks now next f n w
 IsRefusal files disks now next _ = ⊥
+
+abbrev pub IsLayoutRefusal : Files → List ℕ → List ℕ → Outcome → Type 0
+IsLayoutRefusal files disks now (Refused f n w) = IsLayoutRefused files disks now f n w
+IsLayoutRefusal files disks now _ = ⊥
 
 abbrev pub IsNoPlan : Files → List ℕ → Lists → Outcome → Type 0
 IsNoPlan files plan input (NotSpelled text_file.Plan line) = HasNoPlan files plan input line
@@ -61,6 +70,9 @@ module _ (files : Files) where
   abbrev pub reads_input : List ℕ → List ℕ → List ℕ → Step Lists
   reads_input disks now next = record { Passes = Stands files disks now next; Stops = IsRefusal files disks now next }
 
+  abbrev pub reads_layout : List ℕ → List ℕ → Step Lists
+  reads_layout disks now = record { Passes = HoldsLayout files disks now; Stops = IsLayoutRefusal files disks now }
+
   abbrev pub reads_plan : List ℕ → Lists → Step (List (List Shift))
   reads_plan plan input = record { Passes = HasPlan files plan input; Stops = IsNoPlan files plan input }
 
@@ -84,7 +96,7 @@ IsLastLayout input rounds text = (spots : List Spot) × IsListOf (At input round
 
 -- The commands
 
--- what ends a command whose files are loaded
+-- what ends a command over files alone, once they are loaded
 abbrev pub LoadedCause : Files → Form → Outcome → Type 0
 LoadedCause files (Plan disks now next plan cert) =
     Then (reads_input files disks now next) (λ input.
@@ -100,6 +112,35 @@ LoadedCause files (After disks now next plan) =
     Then (reads_plan files plan input) (λ rounds.
     Then (runs input rounds) (λ _.
     IsDone (IsLastLayout input rounds))))
+LoadedCause files form = λ o. ⊥
 
-abbrev pub FormCause : Files → Form → Outcome → Type 0
-FormCause files form = Then (loads files (loaded form)) (λ _. LoadedCause files form)
+abbrev pub FilesCause : Files → Form → Outcome → Type 0
+FilesCause files form = Then (loads files (loaded form)) (λ _. LoadedCause files form)
+
+-- what ends any command, over the files and the store that it finds
+abbrev pub FormCause : Files → State → Form → Outcome → Type 0
+FormCause files store (Fill disks now) =
+    Then (loads files (disks ∷ now ∷ [])) (λ _.
+    Then (reads_layout files disks now) (λ input.
+    Then (fills input store) (λ _.
+    IsDone (λ text. text ≡ filled_text input))))
+FormCause files store (Audit disks now) =
+    Then (loads files (disks ∷ now ∷ [])) (λ _.
+    Then (reads_layout files disks now) (λ input.
+    IsDone (IsAudit input store)))
+FormCause files store (Rehearse disks per_pair limit) = IsDone (IsRehearsed (case_in disks per_pair limit))
+FormCause files store (Move disks now next plan) =
+    Then (loads files (disks ∷ now ∷ next ∷ plan ∷ [])) (λ _.
+    Then (reads_input files disks now next) (λ input.
+    Then (reads_plan files plan input) (λ rounds.
+    Then (runs input rounds) (λ _.
+    Then (starts (task_of files plan input rounds) store) (λ _.
+    IsDone (λ text. text ≡ done_text rounds 0))))))
+FormCause files store (Resume disks now next plan) =
+    Then (loads files (disks ∷ now ∷ next ∷ plan ∷ [])) (λ _.
+    Then (reads_input files disks now next) (λ input.
+    Then (reads_plan files plan input) (λ rounds.
+    Then (runs input rounds) (λ _.
+    Then (resumes (task_of files plan input rounds) store) (λ found.
+    IsDone (λ text. text ≡ done_text rounds found))))))
+FormCause files store form = FilesCause files form

@@ -1,3 +1,4 @@
+pub mod Audits
 pub mod Calls
 pub mod Causes
 pub mod Commands
@@ -6,8 +7,14 @@ pub mod Ends
 pub mod Headline
 pub mod Loading
 pub mod Loads
+pub mod MoveLeaves
+pub mod MoveLooks
 pub mod Outcomes
 pub mod Planned
 pub mod Puts
+pub mod Sights
+pub mod Rehearsed
 pub mod Steps
+pub mod StoreLeaves
+pub mod StoreLooks
 pub mod Words

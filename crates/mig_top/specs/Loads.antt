@@ -12,6 +12,7 @@ use Rattle.mig_base.specs.declared.certs.Cert.{Cert}
 use Rattle.mig_base.specs.declared.faults.FileKind.{FileKind}
 use Rattle.mig_base.specs.declared.faults.Why.{Why}
 use Rattle.mig_base.specs.declared.ids.Shift.{Shift}
+use Rattle.mig_csv.specs.Listings.{IsListing, ListingRefusedAs}
 
 -- each of these names has a file, with these bytes
 abbrev pub AreThere : Files → List (List ℕ) → List (List ℕ) → Type 0
@@ -42,6 +43,20 @@ pub record StandsForNone (files : Files) (disks now next : List ℕ) : Type 0 wh
   pub bodies : Bodies
   pub there : AreThere files (disks ∷ now ∷ next ∷ []) (bodies.disks ∷ bodies.now ∷ bodies.next ∷ [])
   pub none : (input : Lists) → Accepted bodies input → ⊥
+
+-- the two files stand for this layout; each item is to stay on its disk
+pub record HoldsLayout (files : Files) (disks now : List ℕ) (input : Lists) : Type 0 where
+  pub disks_body : List ℕ
+  pub now_body : List ℕ
+  pub there : AreThere files (disks ∷ now ∷ []) (disks_body ∷ now_body ∷ [])
+  pub listing : IsListing disks_body now_body input
+
+-- the two files are there, and this is the first thing that is wrong with them
+pub record IsLayoutRefused (files : Files) (disks now : List ℕ) (f : FileKind) (n : ℕ) (w : Why) : Type 0 where
+  pub disks_body : List ℕ
+  pub now_body : List ℕ
+  pub there : AreThere files (disks ∷ now ∷ []) (disks_body ∷ now_body ∷ [])
+  pub refused : ListingRefusedAs disks_body now_body f n w
 
 -- the file of this name is the spelling of the plan, and short enough to be read
 pub record HasPlan (files : Files) (name : List ℕ) (input : Lists) (rounds : List (List Shift)) : Type 0 where

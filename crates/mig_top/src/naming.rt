@@ -1,9 +1,11 @@
 //! The names of items and disks.
-ghost use Rattle.std.specs.Prelude.{◌≡◌, [], unwrap_or};
+ghost use Rattle.std.specs.Prelude.{◌≡◌, [], ℕ, List, unwrap_or};
 ghost use Rattle.mig_base.specs.Texts.{disk_name, item_name};
-ghost use Rattle.mig_top.specs.Outcomes.{named};
+ghost use Rattle.mig_top.specs.Outcomes.{fault_outcome, named, outcome_of};
 
+use crate::endings::Ending;
 use mig_base::{Blame, DiskId, Input, ItemId, Name};
+use mig_mover::MoveFault;
 
 /// An item's name.
 fn item_in(input: &Input, item: ItemId) -> Option<Name>
@@ -38,5 +40,24 @@ pub fn name_in(input: &Input, blame: &Blame) -> Option<Name>
         Blame::WrongEnd { item } => item_in(input, *item),
         Blame::MovedTooOften { item, count: _ } => item_in(input, *item),
         _ => None,
+    }
+}
+
+/// The ending that a mover's fault is, with the names that its text shows.
+pub fn fault_ending(input: &Input, fault: MoveFault) -> Ending
+    ensures { (names : List (List ℕ)) → outcome_of names result ≡ fault_outcome input.now fault }
+{
+    match fault {
+        MoveFault::Store => Ending::StoreFault,
+        MoveFault::Started => Ending::Started,
+        MoveFault::OtherPlan { kept, ours } => Ending::OtherPlan { kept, ours },
+        MoveFault::NotStarted => Ending::NotStarted,
+        MoveFault::NotThere { item } => Ending::NotThere {
+            item: item_in(input, item),
+        },
+        MoveFault::Occupied { disk, slot } => Ending::Occupied {
+            disk: disk_in(input, disk),
+            slot,
+        },
     }
 }

@@ -1,8 +1,10 @@
 //! Texts that are put part by part.
-ghost use Rattle.std.specs.Prelude.{map};
+ghost use Rattle.std.specs.Prelude.{◌≡◌, map};
+ghost use Rattle.hex.specs.Hex.{encode_lower};
 ghost use Rattle.mig_top.specs.Outcomes.{joined};
 ghost use Rattle.mig_top.specs.Puts.{Puts, part_text};
 
+use hex::encode_to_slice;
 use itoa::Buffer;
 use mig_io::{Sink, SinkFailed};
 
@@ -12,6 +14,19 @@ pub enum Part<'a> {
     Text(&'a [u8]),
     /// In decimal.
     Number(u32),
+    /// A digest, in hexadecimal.
+    Hex(&'a [u8; 32]),
+}
+
+/// A digest in hexadecimal.
+fn hex_text(digest: &[u8; 32]) -> [u8; 64]
+    ensures { result ≡ encode_lower digest.now }
+{
+    let mut text = [0; 64];
+    if encode_to_slice(digest.as_slice(), &mut text).is_err() {
+        unreachable!();
+    }
+    text
 }
 
 /// Puts a part.
@@ -24,6 +39,7 @@ fn put_part<K: Sink>(out: &mut K, part: &Part<'_>) -> Result<(), SinkFailed>
             let mut buffer = Buffer::new();
             out.put(buffer.format(*number).as_bytes())
         }
+        Part::Hex(digest) => out.put(&hex_text(digest)),
     }
 }
 

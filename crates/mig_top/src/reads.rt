@@ -1,5 +1,7 @@
 //! Reads the bytes of files: the input, a plan and a certificate.
-ghost use Rattle.std.specs.Prelude.{IfErr, IfOk};
+ghost use Rattle.std.specs.Prelude.{◌≤◌, IfErr, IfOk, length};
+ghost use Rattle.mig_base.specs.declared.limits.TheConstants.{MAX_FILE_BYTES};
+ghost use Rattle.mig_base.specs.Readiness.{shifts_of};
 ghost use Rattle.mig_base.specs.Certificates.{CertFits};
 ghost use Rattle.mig_base.specs.Running.{PlanFits};
 ghost use Rattle.mig_base.specs.Targets.{IsRoomy};
@@ -25,6 +27,7 @@ pub fn read_files(alloc: Global, disks: &[u8], now: &[u8], next: &[u8]) -> Resul
 pub fn read_plan_text(alloc: Global, input: &Input, bytes: &[u8]) -> Result<Plan, Ending>
     ensures reads { IfOk result (ReadsAsPlan input.now bytes.now) }
     ensures fits { IfOk result (PlanFits input.now) }
+    ensures few { IfOk result (λ plan. length (shifts_of plan) ≤ MAX_FILE_BYTES) }
     ensures failed { IfErr result (EndsWithin (UnreadAsPlan input.now bytes.now)) }
 {
     match read_plan(alloc, input, bytes) {

@@ -13,12 +13,20 @@ mod layouts;
 #[cfg(test)]
 mod many_items;
 #[cfg(test)]
+mod moving;
+#[cfg(test)]
 mod planning;
 #[cfg(test)]
 mod refusing;
+#[cfg(test)]
+mod rehearsing;
 #[cfg(test)]
 mod rounds;
 #[cfg(test)]
 mod running;
 #[cfg(test)]
 mod scarce_folder;
+#[cfg(test)]
+mod stores;
+#[cfg(test)]
+mod storing;

@@ -1,7 +1,8 @@
-//! Commands carried out over a folder and a sink in memory.
+//! Commands carried out over a folder, a sink and a store in memory.
 
 use crate::clusters::Cluster;
 use mig_io::{Folder, MemFolder, MemSink, Sink};
+use mig_store::{Store, SureStore};
 use mig_top::run;
 use std::alloc::{AllocError, Global};
 use std::process::Abort;
@@ -65,15 +66,27 @@ fn words_of(alloc: Global, line: &str) -> Result<Vec<String>, AllocError> {
     Ok(words)
 }
 
-/// Carries out a line, and gives the status.
+/// Carries out a line over a store, and gives the status.
+pub fn status_over<F: Folder, K: Sink, S: Store>(
+    alloc: Global,
+    folder: &mut F,
+    line: &str,
+    out: &mut K,
+    store: &mut S,
+) -> Result<u8, AllocError> {
+    let words = words_of(alloc, line)?;
+    Ok(run(alloc, &words, folder, out, store))
+}
+
+/// The same over a store without cells.
 pub fn status_of<F: Folder, K: Sink>(
     alloc: Global,
     folder: &mut F,
     line: &str,
     out: &mut K,
 ) -> Result<u8, AllocError> {
-    let words = words_of(alloc, line)?;
-    Ok(run(alloc, &words, folder, out))
+    let mut store = SureStore::new(alloc, &[])?;
+    status_over(alloc, folder, line, out, &mut store)
 }
 
 /// A sink with room for a text, whose puts with these numbers fail.
@@ -92,6 +105,23 @@ pub fn expect<F: Folder>(
 ) -> Result<(), AllocError> {
     let mut out = sink_of(alloc, Vec::new(alloc))?;
     let ended = status_of(alloc, folder, line, &mut out)?;
+    assert_eq!(rt; ended, status, "status of {line}");
+    assert_eq!(rt; out.held(), text.as_bytes(), "text of {line}");
+    Ok(())
+}
+
+/// The same over a store.
+pub fn expect_over<F: Folder, S: Store>(
+    rt: &impl Abort,
+    alloc: Global,
+    folder: &mut F,
+    store: &mut S,
+    line: &str,
+    status: u8,
+    text: &str,
+) -> Result<(), AllocError> {
+    let mut out = sink_of(alloc, Vec::new(alloc))?;
+    let ended = status_over(alloc, folder, line, &mut out, store)?;
     assert_eq!(rt; ended, status, "status of {line}");
     assert_eq!(rt; out.held(), text.as_bytes(), "text of {line}");
     Ok(())

@@ -1,6 +1,7 @@
-//! Plans the migration of items between storage disks.
+//! Plans the migration of items between storage disks, and carries it out.
 #![tactic(auto)]
 
+use mig_files::FileStore;
 use mig_io::{DirFolder, StdSink};
 use mig_top::run;
 use std::env;
@@ -21,13 +22,20 @@ migrate: the words are no command. The commands:
   migrate plan DISKS NOW NEXT PLAN CERT    plan the moves from NOW to NEXT, and save PLAN and CERT
   migrate check DISKS NOW NEXT PLAN CERT   judge a plan and its certificate
   migrate after DISKS NOW NEXT PLAN        print where the items are once the plan is carried out
+  migrate fill DISKS NOW                   write a made item to each spot of NOW
+  migrate audit DISKS NOW                  say of each item whether it is at its spot of NOW
+  migrate move DISKS NOW NEXT PLAN         carry the plan out
+  migrate resume DISKS NOW NEXT PLAN       carry out what a stopped move left
+  migrate rehearse N PERPAIR LIMIT         plan a case of N disks with this limit and PERPAIR items from each to each other
 DISKS, NOW and NEXT are CSV files; PLAN is a plan and CERT its certificate.
 Each command has just these words, in this order, and no options. Often:
   PLAN and CERT must differ, from each other and from the other files
   a file's name has 1 to 255 bytes
-  a file's name ends neither in .disk nor in .mig";
+  a file's name ends neither in .disk nor in .mig
+  N is 2 to 1024, N times N - 1 times PERPAIR 1 to 65536, LIMIT 1 to 1024";
 
-/// Carries out the command of the process's words over the working folder and standard output, and answers the status.
+/// Carries out the command of the process's words over the working folder, standard output and the disks and the journal
+/// in the working folder, and answers the status.
 fn carry_out(rt: &(impl AllocGlobal + Env + Files<File = File> + Print + Eprint)) -> u8 {
     let args = match env::args(rt) {
         Ok(args) => args,
@@ -45,7 +53,8 @@ fn carry_out(rt: &(impl AllocGlobal + Env + Files<File = File> + Print + Eprint)
     }
     let mut folder = DirFolder::new(rt, rt.alloc());
     let mut out = StdSink::new(rt);
-    run(rt.alloc(), &words, &mut folder, &mut out)
+    let mut store = FileStore::new(rt, rt.alloc());
+    run(rt.alloc(), &words, &mut folder, &mut out, &mut store)
 }
 
 fn main(rt: HostRuntime) -> ExitCode {

@@ -1,28 +1,83 @@
-use Rattle.std.proofs.Common.{[], ◌≤◌, ℕ, length, arith}
+use Rattle.std.proofs.Common.{◌≡◌, [], ◌≤◌, ℕ, length, Err, refl, sym, ◌∙◌, ap, arith}
+use Rattle.std.proofs.lemmas.Bool.{false≢true}
+use Rattle.std.proofs.lemmas.Result.{err_from_is_err_and}
 use Rattle.mig_base.specs.Stores.{State, flights}
-use Rattle.mig_lanes.proofs.RunLaws.{run_keeps, run_finishes, enter_part, run_part, run_events}
+use Rattle.mig_lanes.proofs.Answering.{started_of, other_of, unrefused_of, no_fault}
+use Rattle.mig_lanes.proofs.RunLaws.{armed_told, run_keeps, run_armed, run_finishes, enter_part, run_part, run_events}
 use Rattle.mig_lanes.proofs.lanes.start_lanes.Goals as goal
 
 pub returns-in_err-enter_start-clause-part : goal.returns-in_err-enter_start-clause-part
-returns-in_err-enter_start-clause-part g c = enter_part c.args.job.now c.rounds-rounds.ensures.valid 0 (omega arith) (g.S.Store.state c.args.store.now) (g.S.Store.state c.enter_start.new.store) c.enter_start.ensures.part
+returns-in_err-enter_start-clause-part g c = enter_part c.args.job.now c.keeps_rules.ensures 0 (omega arith) (g.S.Store.state c.args.store.now) (g.S.Store.state c.enter_start.new.store) c.enter_start.ensures.part
 
 pub returns-in_err-carry_on-clause-keeps : goal.returns-in_err-carry_on-clause-keeps
-returns-in_err-carry_on-clause-keeps g c = run_keeps c.args.job.now c.rounds-rounds.ensures.valid (g.S.Store.state c.args.store.now) (g.S.Store.state c.enter_start.new.store) (g.S.Store.state c.carry_on.new.store) c.enter_start.ensures.keeps 0 c.in_ok-enter_start.ensures.enters
+returns-in_err-carry_on-clause-keeps g c = run_keeps c.args.job.now c.keeps_rules.ensures (g.S.Store.state c.args.store.now) (g.S.Store.state c.enter_start.new.store) (g.S.Store.state c.carry_on.new.store) c.enter_start.ensures.keeps 0 c.in_ok-enter_start.ensures.enters
     c.carry_on.ensures.any_moment c.carry_on.ensures.change c.carry_on.ensures.cause.later
 
 pub returns-in_err-carry_on-clause-part : goal.returns-in_err-carry_on-clause-part
-returns-in_err-carry_on-clause-part g c = run_part c.args.job.now c.rounds-rounds.ensures.valid 0 (omega arith) (g.S.Store.state c.args.store.now) (g.S.Store.state c.enter_start.new.store) (g.S.Store.state c.carry_on.new.store) c.in_ok-enter_start.ensures.ended c.carry_on.ensures.part
+returns-in_err-carry_on-clause-part g c = run_part c.args.job.now c.keeps_rules.ensures 0 (omega arith) (g.S.Store.state c.args.store.now) (g.S.Store.state c.enter_start.new.store) (g.S.Store.state c.carry_on.new.store) c.in_ok-enter_start.ensures.ended c.carry_on.ensures.part
 
 pub returns-clause-keeps : goal.returns-clause-keeps
-returns-clause-keeps g c = run_keeps c.args.job.now c.rounds-rounds.ensures.valid (g.S.Store.state c.args.store.now) (g.S.Store.state c.enter_start.new.store) (g.S.Store.state c.carry_on.new.store) c.enter_start.ensures.keeps 0 c.in_ok-enter_start.ensures.enters
+returns-clause-keeps g c = run_keeps c.args.job.now c.keeps_rules.ensures (g.S.Store.state c.args.store.now) (g.S.Store.state c.enter_start.new.store) (g.S.Store.state c.carry_on.new.store) c.enter_start.ensures.keeps 0 c.in_ok-enter_start.ensures.enters
     c.carry_on.ensures.any_moment c.carry_on.ensures.change c.carry_on.ensures.cause.later
 
 pub returns-clause-finishes : goal.returns-clause-finishes
-returns-clause-finishes g c = run_finishes c.args.job.now c.rounds-rounds.ensures.valid (g.S.Store.state c.args.store.now) (g.S.Store.state c.enter_start.new.store) (g.S.Store.state c.carry_on.new.store) c.enter_start.ensures.keeps 0 c.in_ok-enter_start.ensures.enters
+returns-clause-finishes g c = run_finishes c.args.job.now c.keeps_rules.ensures (g.S.Store.state c.args.store.now) (g.S.Store.state c.enter_start.new.store) (g.S.Store.state c.carry_on.new.store) c.enter_start.ensures.keeps 0 c.in_ok-enter_start.ensures.enters
     c.in_ok-carry_on.ensures.done c.in_ok-carry_on.ensures.settled c.in_ok-carry_on.ensures.landed
 
 pub returns-clause-events : goal.returns-clause-events
-returns-clause-events g c = run_events c.args.job.now c.rounds-rounds.ensures.valid 0 (omega arith) (g.S.Store.state c.args.store.now) (g.S.Store.state c.enter_start.new.store) (g.S.Store.state c.carry_on.new.store) c.in_ok-enter_start.ensures.ended c.in_ok-carry_on.ensures.rounds
+returns-clause-events g c = run_events c.args.job.now c.keeps_rules.ensures 0 (omega arith) (g.S.Store.state c.args.store.now) (g.S.Store.state c.enter_start.new.store) (g.S.Store.state c.carry_on.new.store) c.in_ok-enter_start.ensures.ended c.in_ok-carry_on.ensures.rounds
 
 pub returns-clause-part : goal.returns-clause-part
-returns-clause-part g c = run_part c.args.job.now c.rounds-rounds.ensures.valid 0 (omega arith) (g.S.Store.state c.args.store.now) (g.S.Store.state c.enter_start.new.store) (g.S.Store.state c.carry_on.new.store) c.in_ok-enter_start.ensures.ended c.carry_on.ensures.part
+returns-clause-part g c = run_part c.args.job.now c.keeps_rules.ensures 0 (omega arith) (g.S.Store.state c.args.store.now) (g.S.Store.state c.enter_start.new.store) (g.S.Store.state c.carry_on.new.store) c.in_ok-enter_start.ensures.ended c.carry_on.ensures.part
+
+pub returns-in_err-carry_on-clause-armed : goal.returns-in_err-carry_on-clause-armed
+returns-in_err-carry_on-clause-armed g c = run_armed c.args.job.now c.keeps_rules.ensures (g.S.Store.state c.args.store.now) (g.S.Store.state c.enter_start.new.store) (g.S.Store.state c.carry_on.new.store) c.enter_start.ensures.keeps 0 c.in_ok-enter_start.ensures.enters
+    c.carry_on.ensures.any_moment c.carry_on.ensures.change c.carry_on.ensures.cause.later c.enter_start.ensures.armed
+
+pub returns-clause-armed : goal.returns-clause-armed
+returns-clause-armed g c = run_armed c.args.job.now c.keeps_rules.ensures (g.S.Store.state c.args.store.now) (g.S.Store.state c.enter_start.new.store) (g.S.Store.state c.carry_on.new.store) c.enter_start.ensures.keeps 0 c.in_ok-enter_start.ensures.enters
+    c.carry_on.ensures.any_moment c.carry_on.ensures.change c.carry_on.ensures.cause.later c.enter_start.ensures.armed
+
+pub returns-in_err-enter_start-clause-started : goal.returns-in_err-enter_start-clause-started
+returns-in_err-enter_start-clause-started g c = λ are armed head calm.
+    let p = err_from_is_err_and c.from_residual.result c.from_residual.ensures.1 in
+    p.1 ∙ ap Err (p.2 ∙ started_of c.args.job.now (g.S.Store.state c.args.store.now) (g.S.Store.state c.enter_start.new.store) are armed calm c.args.job.now.digest head refl c.in_err-enter_start.field-0.0 c.in_err-enter_start.ensures.kind c.in_err-enter_start.ensures.fault)
+
+pub returns-in_err-enter_start-clause-other : goal.returns-in_err-enter_start-clause-other
+returns-in_err-enter_start-clause-other g c = λ are armed kept head theirs calm.
+    let p = err_from_is_err_and c.from_residual.result c.from_residual.ensures.1 in
+    p.1 ∙ ap Err (p.2 ∙ other_of c.args.job.now (g.S.Store.state c.args.store.now) (g.S.Store.state c.enter_start.new.store) are armed calm kept head theirs c.in_err-enter_start.field-0.0 c.in_err-enter_start.ensures.fault c.in_err-enter_start.ensures.kind)
+
+pub returns-in_err-enter_start-clause-reached : goal.returns-in_err-enter_start-clause-reached
+returns-in_err-enter_start-clause-reached g c = λ contents are reached calm.
+    let p = err_from_is_err_and c.from_residual.result c.from_residual.ensures.1 in
+    p.1 ∙ ap Err (p.2 ∙ started_of c.args.job.now (g.S.Store.state c.args.store.now) (g.S.Store.state c.enter_start.new.store) are reached.arrived.armed calm c.args.job.now.digest (reached.arrived.safe.head reached.arrived.armed) refl c.in_err-enter_start.field-0.0 c.in_err-enter_start.ensures.kind c.in_err-enter_start.ensures.fault)
+
+pub returns-in_err-carry_on-clause-started : goal.returns-in_err-carry_on-clause-started
+returns-in_err-carry_on-clause-started g c = λ are armed head calm. absurd (calm (omega (arith, c.enter_start.ensures.keeps.later, c.in_err-carry_on.ensures.cause.failed)))
+
+pub returns-in_err-carry_on-clause-other : goal.returns-in_err-carry_on-clause-other
+returns-in_err-carry_on-clause-other g c = λ are armed kept head theirs calm. absurd (calm (omega (arith, c.enter_start.ensures.keeps.later, c.in_err-carry_on.ensures.cause.failed)))
+
+pub returns-in_err-carry_on-clause-reached : goal.returns-in_err-carry_on-clause-reached
+returns-in_err-carry_on-clause-reached g c = λ contents are reached calm. absurd (calm (omega (arith, c.enter_start.ensures.keeps.later, c.in_err-carry_on.ensures.cause.failed)))
+
+pub returns-clause-started : goal.returns-clause-started
+returns-clause-started g c = λ are armed head calm. absurd (false≢true (sym (c.in_ok-enter_start.ensures.idle are (armed_told (g.S.Store.state c.args.store.now).reads armed)) ∙ armed))
+
+pub returns-clause-other : goal.returns-clause-other
+returns-clause-other g c = λ are armed kept head theirs calm. absurd (false≢true (sym (c.in_ok-enter_start.ensures.idle are (armed_told (g.S.Store.state c.args.store.now).reads armed)) ∙ armed))
+
+pub returns-clause-reached : goal.returns-clause-reached
+returns-clause-reached g c = λ contents are reached calm. absurd (false≢true (sym (c.in_ok-enter_start.ensures.idle are (armed_told (g.S.Store.state c.args.store.now).reads reached.arrived.armed)) ∙ reached.arrived.armed))
+
+pub returns-in_err-enter_start-clause-unrefused : goal.returns-in_err-enter_start-clause-unrefused
+returns-in_err-enter_start-clause-unrefused g c = λ tells before.
+    let p = err_from_is_err_and c.from_residual.result c.from_residual.ensures.1 in
+    rw (p.1, p.2) (unrefused_of c.args.job.now c.keeps_rules.ensures (g.S.Store.state c.args.store.now) (g.S.Store.state c.enter_start.new.store) tells before c.in_err-enter_start.field-0.0 c.in_err-enter_start.ensures.fault)
+
+pub returns-in_err-enter_start-clause-ready : goal.returns-in_err-enter_start-clause-ready
+returns-in_err-enter_start-clause-ready g c = λ tells before calm. absurd (no_fault c.args.job.now c.keeps_rules.ensures (g.S.Store.state c.args.store.now) (g.S.Store.state c.enter_start.new.store) tells before calm c.in_err-enter_start.field-0.0 c.in_err-enter_start.ensures.kind c.in_err-enter_start.ensures.fault)
+
+pub returns-in_err-carry_on-clause-ready : goal.returns-in_err-carry_on-clause-ready
+returns-in_err-carry_on-clause-ready g c = λ tells before calm. absurd (calm (omega (arith, c.enter_start.ensures.keeps.later, c.in_err-carry_on.ensures.cause.failed)))

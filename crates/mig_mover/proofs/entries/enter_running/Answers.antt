@@ -1,9 +1,11 @@
-use Rattle.std.proofs.Common.{◌≡◌, ◌≤◌, ℕ, length, subst, arith}
+use Rattle.std.proofs.Common.{◌≡◌, ◌≤◌, ℕ, [], true, length, subst, arith}
 use Rattle.std.specs.List.{prefix_len, range_with_len}
 use Rattle.mig_base.specs.JobCells.{IsMark, Tells}
-use Rattle.mig_base.specs.Journals.{is_marked}
+use Rattle.mig_base.specs.Images.{NoCell}
+use Rattle.mig_base.specs.Journals.{is_armed, is_marked}
 use Rattle.mig_base.specs.Stores.{State}
-use Rattle.mig_mover.proofs.EnterLaws.{on_quiet, keeps_erased, enters_erased}
+use Rattle.mig_base.proofs.StoreSteps.{quiet_leaves}
+use Rattle.mig_mover.proofs.EnterLaws.{on_quiet, keeps_erased, armed_erased, enters_erased}
 use Rattle.mig_mover.proofs.entries.enter_running.Goals as goal
 
 pub returns-in_err-k-clause-keeps : goal.returns-in_err-k-clause-keeps
@@ -32,3 +34,22 @@ returns-clause-enters g c =
     let count = subst (λ (n : ℕ). Tells (IsMark n) old.reads → c.in_ok-k.k ≡ prefix_len (is_marked old.reads) (range_with_len 1 n)) c.rounds.ensures.count c.in_ok-k.ensures.count in
     enters_erased c.args.job.now c.rounds.ensures.valid old (g.S.Store.state c.marked.new.store) (g.S.Store.state c.erase_last.new.store) (g.met.S.Store.is_state c.args.store.now) c.requires.settled c.requires.running c.marked.ensures.change
     (omega (arith, c.marked.ensures.cause.later, c.erase_last.ensures.cause.later)) c.in_ok-k.k most count c.erase_last.ensures.change c.requires.none c.in_ok-erase_last.ensures.erased
+
+pub returns-in_err-k-clause-armed : goal.returns-in_err-k-clause-armed
+returns-in_err-k-clause-armed g c = λ armed. quiet_leaves (λ image. is_armed image ≡ true) NoCell [] (g.S.Store.state c.args.store.now) (g.S.Store.state c.marked.new.store) (g.met.S.Store.is_state c.args.store.now) c.marked.ensures.change
+
+pub returns-in_err-erase_last-clause-armed : goal.returns-in_err-erase_last-clause-armed
+returns-in_err-erase_last-clause-armed g c =
+    let old = g.S.Store.state c.args.store.now in
+    let most : c.in_ok-k.k ≤ length c.args.job.now.plan = subst (λ (n : ℕ). c.in_ok-k.k ≤ n) c.rounds.ensures.count c.in_ok-k.ensures.most in
+    let count = subst (λ (n : ℕ). Tells (IsMark n) old.reads → c.in_ok-k.k ≡ prefix_len (is_marked old.reads) (range_with_len 1 n)) c.rounds.ensures.count c.in_ok-k.ensures.count in
+    armed_erased c.args.job.now c.rounds.ensures.valid old (g.S.Store.state c.marked.new.store) (g.S.Store.state c.erase_last.new.store) (g.met.S.Store.is_state c.args.store.now) c.requires.settled c.requires.running c.marked.ensures.change
+    (omega (arith, c.marked.ensures.cause.later, c.erase_last.ensures.cause.later)) c.in_ok-k.k most count c.erase_last.ensures.change
+
+pub returns-clause-armed : goal.returns-clause-armed
+returns-clause-armed g c =
+    let old = g.S.Store.state c.args.store.now in
+    let most : c.in_ok-k.k ≤ length c.args.job.now.plan = subst (λ (n : ℕ). c.in_ok-k.k ≤ n) c.rounds.ensures.count c.in_ok-k.ensures.most in
+    let count = subst (λ (n : ℕ). Tells (IsMark n) old.reads → c.in_ok-k.k ≡ prefix_len (is_marked old.reads) (range_with_len 1 n)) c.rounds.ensures.count c.in_ok-k.ensures.count in
+    armed_erased c.args.job.now c.rounds.ensures.valid old (g.S.Store.state c.marked.new.store) (g.S.Store.state c.erase_last.new.store) (g.met.S.Store.is_state c.args.store.now) c.requires.settled c.requires.running c.marked.ensures.change
+    (omega (arith, c.marked.ensures.cause.later, c.erase_last.ensures.cause.later)) c.in_ok-k.k most count c.erase_last.ensures.change

@@ -25,4 +25,4 @@ pub unreachable-requires : goal.unreachable-requires
 unreachable-requires c =
     let short = underway_short _ (subst IsProper c.self.view_is c.self.invariant.proper) _ _ _ c.requires.lacks c.requires.has _ _ _ _ c.loop-step.invariant in
     let nodes = ap (λ (g : Colouring). g.nodes) c.self.view_is in
-    omega (arith, short, nodes, c.loop-step-test.false)
+    omega (arith, short, nodes, c.nodes-step-end.ensures, c.loop-step-test.false)

@@ -1,0 +1,288 @@
+/* What `migrate fill`, `audit` and `move` do with files, written plainly and without their checks, to be measured beside them:
+   the same reads, writes and syncs in the same order. Disks are named d0, d1 and so on, and items i0, i1 and so on, as in the
+   cases that `store` makes.
+
+       plain_store fill DISKS NOW        plain_store audit DISKS NOW        plain_store move DISKS NOW NEXT PLAN */
+#define _GNU_SOURCE
+#include <fcntl.h>
+#include <stdint.h>
+#include <stdio.h>
+#include <stdlib.h>
+#include <string.h>
+#include <sys/file.h>
+#include <unistd.h>
+
+enum { DISKS = 1024, ITEMS = 65536, SLOT = 4096, SECTOR = 512 };
+
+struct spot { int disk, slot; };
+struct shift { int item; struct spot from, to; };
+
+static struct spot now[ITEMS];
+static int items;
+static int files[DISKS], dirty[DISKS], journal = -1, journal_dirty, made;
+
+static void fail(const char *what) { perror(what); exit(1); }
+
+/* SHA-256, FIPS 180-4. */
+
+static const uint32_t K[64] = {
+    0x428a2f98, 0x71374491, 0xb5c0fbcf, 0xe9b5dba5, 0x3956c25b, 0x59f111f1, 0x923f82a4, 0xab1c5ed5, 0xd807aa98, 0x12835b01, 0x243185be,
+    0x550c7dc3, 0x72be5d74, 0x80deb1fe, 0x9bdc06a7, 0xc19bf174, 0xe49b69c1, 0xefbe4786, 0x0fc19dc6, 0x240ca1cc, 0x2de92c6f, 0x4a7484aa,
+    0x5cb0a9dc, 0x76f988da, 0x983e5152, 0xa831c66d, 0xb00327c8, 0xbf597fc7, 0xc6e00bf3, 0xd5a79147, 0x06ca6351, 0x14292967, 0x27b70a85,
+    0x2e1b2138, 0x4d2c6dfc, 0x53380d13, 0x650a7354, 0x766a0abb, 0x81c2c92e, 0x92722c85, 0xa2bfe8a1, 0xa81a664b, 0xc24b8b70, 0xc76c51a3,
+    0xd192e819, 0xd6990624, 0xf40e3585, 0x106aa070, 0x19a4c116, 0x1e376c08, 0x2748774c, 0x34b0bcb5, 0x391c0cb3, 0x4ed8aa4a, 0x5b9cca4f,
+    0x682e6ff3, 0x748f82ee, 0x78a5636f, 0x84c87814, 0x8cc70208, 0x90befffa, 0xa4506ceb, 0xbef9a3f7, 0xc67178f2};
+
+static uint32_t turn(uint32_t x, int n) { return x >> n | x << (32 - n); }
+
+static void block(uint32_t state[8], const unsigned char *p) {
+    uint32_t w[64], a = state[0], b = state[1], c = state[2], d = state[3], e = state[4], f = state[5], g = state[6], h = state[7];
+    for (int i = 0; i < 16; i++, p += 4) w[i] = (uint32_t)p[0] << 24 | p[1] << 16 | p[2] << 8 | p[3];
+    for (int i = 16; i < 64; i++)
+        w[i] = w[i - 16] + (turn(w[i - 15], 7) ^ turn(w[i - 15], 18) ^ w[i - 15] >> 3) + w[i - 7] + (turn(w[i - 2], 17) ^ turn(w[i - 2], 19) ^ w[i - 2] >> 10);
+    for (int i = 0; i < 64; i++) {
+        uint32_t x = h + (turn(e, 6) ^ turn(e, 11) ^ turn(e, 25)) + ((e & f) ^ (~e & g)) + K[i] + w[i];
+        uint32_t y = (turn(a, 2) ^ turn(a, 13) ^ turn(a, 22)) + ((a & b) ^ (a & c) ^ (b & c));
+        h = g, g = f, f = e, e = d + x, d = c, c = b, b = a, a = x + y;
+    }
+    state[0] += a, state[1] += b, state[2] += c, state[3] += d, state[4] += e, state[5] += f, state[6] += g, state[7] += h;
+}
+
+static void sha256(const unsigned char *bytes, size_t length, unsigned char digest[32]) {
+    uint32_t h[8] = {0x6a09e667, 0xbb67ae85, 0x3c6ef372, 0xa54ff53a, 0x510e527f, 0x9b05688c, 0x1f83d9ab, 0x5be0cd19};
+    unsigned char end[128] = {0};
+    size_t whole = length / 64 * 64, rest = length - whole, last = rest < 56 ? 64 : 128;
+    for (size_t at = 0; at < whole; at += 64) block(h, bytes + at);
+    memcpy(end, bytes + whole, rest);
+    end[rest] = 0x80;
+    for (int i = 0; i < 8; i++) end[last - 1 - i] = (unsigned char)((uint64_t)length * 8 >> 8 * i);
+    for (size_t at = 0; at < last; at += 64) block(h, end + at);
+    for (int i = 0; i < 32; i++) digest[i] = (unsigned char)(h[i / 4] >> (24 - i % 4 * 8));
+}
+
+/* Files. */
+
+static int open_file(const char *name) {
+    int file = open(name, O_RDWR | O_CLOEXEC);
+    if (file < 0) {
+        file = open(name, O_RDWR | O_CREAT | O_EXCL | O_CLOEXEC, 0666);
+        made = 1;
+    }
+    if (file < 0) fail(name);
+    return file;
+}
+
+static int disk_file(int disk) {
+    char name[32];
+    if (files[disk] == 0) {
+        snprintf(name, sizeof name, "d%d.disk", disk);
+        files[disk] = open_file(name);
+    }
+    return files[disk];
+}
+
+static void lock_journal(void) {
+    if (journal >= 0) return;
+    journal = open_file("journal.mig");
+    if (flock(journal, LOCK_EX | LOCK_NB)) fail("journal.mig");
+}
+
+static void read_slot(struct spot spot, unsigned char *into) {
+    char name[32];
+    if (files[spot.disk] == 0) {
+        snprintf(name, sizeof name, "d%d.disk", spot.disk);
+        if (access(name, F_OK)) {
+            memset(into, 0, SLOT);
+            return;
+        }
+    }
+    ssize_t got = pread(disk_file(spot.disk), into, SLOT, (off_t)SLOT * spot.slot);
+    if (got < 0) fail("read");
+    memset(into + got, 0, SLOT - got);
+}
+
+static void write_slot(struct spot spot, const unsigned char *bytes) {
+    if (pwrite(disk_file(spot.disk), bytes, SLOT, (off_t)SLOT * spot.slot) != SLOT) fail("write");
+    dirty[spot.disk] = 1;
+}
+
+static void write_journal(const void *bytes, size_t length, off_t at) {
+    if (pwrite(journal, bytes, length, at) != (ssize_t)length) fail("journal.mig");
+    journal_dirty = 1;
+}
+
+static void sync_all(void) {
+    lock_journal();
+    for (int d = 0; d < DISKS; d++)
+        if (dirty[d]) {
+            if (fdatasync(files[d])) fail("sync");
+            dirty[d] = 0;
+        }
+    if (journal_dirty && fdatasync(journal)) fail("sync");
+    journal_dirty = 0;
+    if (made) {
+        int folder = open(".", O_RDONLY | O_CLOEXEC);
+        if (folder < 0 || fsync(folder)) fail("sync");
+        close(folder);
+        made = 0;
+    }
+}
+
+static int gate_is_one(void) {
+    unsigned char gate = 0;
+    if (pread(journal, &gate, 1, SECTOR) < 0) fail("journal.mig");
+    return gate == 1;
+}
+
+/* What is read from texts. */
+
+static void read_layout(const char *name) {
+    char line[128];
+    FILE *file = fopen(name, "r");
+    if (!file || !fgets(line, sizeof line, file)) fail(name);
+    while (fgets(line, sizeof line, file)) {
+        struct spot *spot = &now[items++];
+        char *at = strchr(line, ',');
+        spot->disk = strtol(at + 2, &at, 10);
+        spot->slot = strtol(at + 1, &at, 10);
+    }
+    fclose(file);
+}
+
+static char *read_text(const char *name, size_t *length) {
+    FILE *file = fopen(name, "r");
+    if (!file || fseek(file, 0, SEEK_END)) fail(name);
+    *length = ftell(file);
+    char *text = calloc(*length + 1, 1);
+    rewind(file);
+    if (!text || fread(text, 1, *length, file) != *length) fail(name);
+    fclose(file);
+    return text;
+}
+
+static char *skip_line(char *at) { return strchr(at, '\n') + 1; }
+
+static struct shift shift_of(char *at) {
+    struct shift s;
+    s.item = strtol(at + 1, &at, 10);
+    s.from.disk = strtol(at + 2, &at, 10);
+    s.from.slot = strtol(at, &at, 10);
+    s.to.disk = strtol(at + 2, &at, 10);
+    s.to.slot = strtol(at, &at, 10);
+    return s;
+}
+
+/* Slots. */
+
+static void header_of(int item, unsigned char *slot) {
+    memset(slot, 0, 34);
+    slot[0] = 1;
+    slot[1] = (unsigned char)sprintf((char *)slot + 2, "i%d", item);
+}
+
+static void made_slot(int item, unsigned char *slot) {
+    header_of(item, slot);
+    memcpy(slot + 34, slot + 2, slot[1]);
+    for (int end = 34 + slot[1]; end < SLOT; end += end - 34 < SLOT - end ? end - 34 : SLOT - end)
+        memcpy(slot + end, slot + 34, end - 34 < SLOT - end ? end - 34 : SLOT - end);
+}
+
+static int is_there(int item, const unsigned char *slot) {
+    unsigned char header[40];
+    header_of(item, header);
+    return memcmp(header, slot, 34) == 0;
+}
+
+/* The commands. */
+
+static void fill(void) {
+    unsigned char slot[SLOT];
+    sync_all();
+    if (gate_is_one()) exit(8);
+    for (int i = 0; i < items; i++) {
+        read_slot(now[i], slot);
+        if (slot[0] == 1) exit(9);
+    }
+    for (int i = 0; i < items; i++) {
+        made_slot(i, slot);
+        write_slot(now[i], slot);
+    }
+    sync_all();
+    printf("filled %d\n", items);
+}
+
+static void audit(void) {
+    unsigned char slot[SLOT], digest[32];
+    int here = 0;
+    for (int i = 0; i < items; i++) {
+        read_slot(now[i], slot);
+        sha256(slot, SLOT, digest);
+        int there = is_there(i, slot);
+        here += there;
+        char hex[65];
+        for (int b = 0; b < 32; b++) {
+            hex[2 * b] = "0123456789abcdef"[digest[b] >> 4];
+            hex[2 * b + 1] = "0123456789abcdef"[digest[b] & 15];
+        }
+        hex[64] = 0;
+        printf("i%d d%d %d %s %s\n", i, now[i].disk, now[i].slot, there ? "here" : "lost", hex);
+    }
+    printf("%d here, %d lost\n", here, items - here);
+}
+
+static void move(const char *name) {
+    static const unsigned char zeros[SLOT], one = 1;
+    unsigned char slot[SLOT], digest[32];
+    size_t length;
+    char *text = read_text(name, &length), *at = skip_line(text);
+    int rounds = atoi(at + 7), moved = 0;
+    char *first = skip_line(at);
+    int *sizes = calloc(rounds + 1, sizeof *sizes);
+    struct shift *shifts = calloc(ITEMS, sizeof *shifts);
+    at = first;
+    for (int r = 0; r < rounds; r++) {
+        strtol(at + 6, &at, 10);
+        sizes[r] = strtol(at, &at, 10);
+        at = skip_line(at);
+        for (int i = 0; i < sizes[r]; i++, at = skip_line(at)) shifts[moved++] = shift_of(at);
+    }
+    sync_all();
+    if (gate_is_one()) exit(8);
+    for (int i = 0; i < items; i++) {
+        read_slot(now[i], slot);
+        if (!is_there(i, slot)) exit(9);
+    }
+    for (int i = 0; i < moved; i++) {
+        read_slot(shifts[i].to, slot);
+        if (slot[0] == 1) exit(9);
+    }
+    sha256((unsigned char *)text, length, digest);
+    for (int r = 1; r <= rounds; r++) write_journal(zeros, 1, (off_t)SECTOR * (r + 1));
+    write_journal(digest, 32, 0);
+    sync_all();
+    write_journal(&one, 1, SECTOR);
+    sync_all();
+    struct shift *round = shifts;
+    for (int r = 1; r <= rounds; round += sizes[r - 1], r++) {
+        for (int i = 0; i < sizes[r - 1]; i++) {
+            read_slot(round[i].from, slot);
+            write_slot(round[i].to, slot);
+        }
+        sync_all();
+        write_journal(&one, 1, (off_t)SECTOR * (r + 1));
+        sync_all();
+        for (int i = 0; i < sizes[r - 1]; i++) write_slot(round[i].from, zeros);
+    }
+    sync_all();
+    printf("done %d rounds, found 0\n", rounds);
+}
+
+int main(int count, char **words) {
+    if (count < 4) return 2;
+    read_layout(words[3]);
+    if (strcmp(words[1], "fill") == 0) fill();
+    else if (strcmp(words[1], "audit") == 0) audit();
+    else if (strcmp(words[1], "move") == 0 && count > 5) move(words[5]);
+    else return 2;
+    return 0;
+}

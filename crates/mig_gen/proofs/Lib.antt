@@ -1,0 +1,5 @@
+mod Grids
+pub mod MadeInput
+mod MadeLists
+pub mod MadeNames
+pub mod MadeRoom

@@ -1,0 +1,20 @@
+use Rattle.std.proofs.Common.{◌∙◌, subst, sym}
+use Rattle.mig_base.specs.InputLists.{IsInput}
+use Rattle.mig_base.specs.Targets.{IsRoomy}
+use Rattle.mig_gen.proofs.MadeInput.{is_input, made_is}
+use Rattle.mig_gen.proofs.MadeRoom.{has_room}
+use Rattle.mig_gen.proofs.cases.make_case.Goals as goal
+
+pub new-requires : goal.new-requires
+new-requires c =
+    let is = made_is c.args.disks c.args.per_pair c.args.limit c.requires c.in_ok-disks.disks.items c.in_ok-names.names.items c.in_ok-spots.spots.items c.in_ok-next.next.items c.in_ok-disks.ensures c.in_ok-names.ensures c.in_ok-spots.ensures c.in_ok-next.ensures in
+    subst IsInput (sym is) (is_input c.args.disks c.args.per_pair c.args.limit c.requires)
+
+pub returns-clause-case : goal.returns-clause-case
+returns-clause-case c =
+    c.new.ensures ∙ made_is c.args.disks c.args.per_pair c.args.limit c.requires c.in_ok-disks.disks.items c.in_ok-names.names.items c.in_ok-spots.spots.items c.in_ok-next.next.items c.in_ok-disks.ensures c.in_ok-names.ensures c.in_ok-spots.ensures c.in_ok-next.ensures
+
+pub returns-clause-roomy : goal.returns-clause-roomy
+returns-clause-roomy c =
+    let is = made_is c.args.disks c.args.per_pair c.args.limit c.requires c.in_ok-disks.disks.items c.in_ok-names.names.items c.in_ok-spots.spots.items c.in_ok-next.next.items c.in_ok-disks.ensures c.in_ok-names.ensures c.in_ok-spots.ensures c.in_ok-next.ensures in
+    subst IsRoomy (sym (c.new.ensures ∙ is)) (has_room c.args.disks c.args.per_pair c.args.limit)

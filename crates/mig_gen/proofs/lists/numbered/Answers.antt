@@ -1,0 +1,8 @@
+use Rattle.std.proofs.Common.{arith, subst}
+use Rattle.std.proofs.lemmas.Grind.{common_steps}
+use Rattle.mig_base.specs.Naming.{IsName}
+use Rattle.mig_gen.proofs.MadeNames.{numbered_is_name}
+use Rattle.mig_gen.proofs.lists.numbered.Goals as goal
+
+pub name_of-requires : goal.name_of-requires
+name_of-requires c = subst IsName (grind (arith, common_steps)) (numbered_is_name c.args.letter c.args.number c.requires (omega arith))

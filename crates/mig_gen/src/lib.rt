@@ -1,0 +1,10 @@
+//! Migrations that are made from three numbers.
+#![tactic(auto)]
+
+mod cases;
+mod lists;
+
+pub use cases::{is_case_size, make_case};
+
+#[cfg(test)]
+mod tests;

@@ -1,0 +1,135 @@
+-- What is answered where the journal names a plan, and the store doesn't fail.
+use Rattle.std.proofs.Common.{◌≡◌, inl, inr, ℕ, suc, List, true, false, Option, Some, None, IfSome, IsSome, sym, ◌∙◌, subst, refl, arith}
+use Rattle.std.specs.Prelude.{slice_index_or}
+use Rattle.std.specs.List.{Contains}
+use Rattle.std.proofs.lemmas.List.Elements.{All-contains, Contains-get_or}
+use Rattle.std.proofs.lemmas.Option.{get_or_from_slice_get, slice_get_within}
+use Rattle.std.proofs.lemmas.Bool.{false≢true}
+use Rattle.mig_base.specs.declared.cells.Cell.TheVariants.{Head, Gate}
+use Rattle.mig_base.specs.declared.ids.Spot.{Spot}
+use Rattle.mig_base.specs.declared.ids.Shift.{Shift}
+use Rattle.mig_base.specs.FaultCounts.{Rose}
+use Rattle.mig_base.specs.Flights.{AreFlights}
+use Rattle.mig_base.specs.Images.{Image}
+use Rattle.mig_base.specs.InputLists.{no_spot}
+use Rattle.mig_base.specs.JobCells.{IsHaltCell, Tells, SettlesTo}
+use Rattle.mig_base.specs.Journals.{is_armed}
+use Rattle.mig_base.specs.Layouts.{round_at}
+use Rattle.mig_base.specs.Readiness.{shifts_of, CanTake, IsReady, IsFirstLost, IsFirstUsed}
+use Rattle.mig_base.specs.Slots.{slot_of, item_cell, HasHeader, IsUnused, first_byte}
+use Rattle.mig_base.specs.Stores.{State, flights}
+use Rattle.mig_base.specs.Texts.{item_name}
+use Rattle.mig_base.proofs.Rounds.{any_contains}
+use Rattle.mig_mover.specs.Moves.{Settles, IsRunning, IsFault, IsReadyIdle, IsStartFault, IsResumeFault}
+use Rattle.mig_mover.specs.Tasks.{Task, IsTask}
+use Rattle.mig_mover.specs.declared.faults.MoveFault.{MoveFault}
+use Rattle.mig_mover.specs.declared.faults.MoveFault.TheVariants.{Store, Started, OtherPlan, NotStarted, NotThere, Occupied}
+use Rattle.mig_mover.proofs.Settling.{settled_reads, tells_more, journal_kept, gate_kept}
+use Rattle.mig_mover.proofs.TargetLaws.{in_round}
+use Rattle.mig_lanes.specs.Runs.{IsJournalFault}
+
+pub if_some_is : (cell : Option (List ℕ)) (bytes : List ℕ) (P : List ℕ → Type 0) → cell ≡ Some bytes → IfSome cell P → P bytes
+if_some_is cell bytes P is holds = subst (λ (o : Option (List ℕ)). IfSome o P) is holds
+
+pub start_of_resume : (fault : MoveFault) → IsResumeFault fault → IsStartFault fault
+start_of_resume Store kind = kind
+start_of_resume Started kind = absurd kind
+start_of_resume (OtherPlan they mine) kind = kind
+start_of_resume NotStarted kind = kind
+start_of_resume (NotThere item) kind = kind
+start_of_resume (Occupied disk slot) kind = kind
+
+module _ (task : Task) (old new : State) (are : AreFlights (flights old)) (armed : is_armed old.reads ≡ true) (calm : Rose old.faults new.faults → ⊥) where
+  not_idle : Settles old new → is_armed new.reads ≡ false → ⊥
+  not_idle settles idle = false≢true (sym idle ∙ gate_kept old new settles are ∙ armed)
+
+  module _ (kept : List ℕ) (head : old.reads Head ≡ Some kept) where
+    head_now : Settles old new → new.reads Head ≡ Some kept
+    head_now settles = journal_kept old new settles are Head refl ∙ head
+
+    -- the journal names the job's plan
+    module _ (ours : kept ≡ task.digest) where
+      pub started_of : (fault : MoveFault) → IsStartFault fault → IsFault task old new fault → fault ≡ Started
+      started_of Store kind is = absurd (calm is)
+      started_of Started kind is = refl
+      started_of (OtherPlan theirs mine) kind is = absurd (is.1.2 (if_some_is (new.reads Head) kept (λ bytes. theirs ≡ bytes) (head_now is.0) is.1.1 ∙ ours))
+      started_of NotStarted kind is = absurd kind
+      started_of (NotThere item) kind is = absurd (not_idle is.0 is.1.0)
+      started_of (Occupied disk slot) kind is = absurd (not_idle is.0 is.1.0)
+
+      pub no_resume_fault : (fault : MoveFault) → IsResumeFault fault → IsFault task old new fault → ⊥
+      no_resume_fault Store kind is = calm is
+      no_resume_fault Started kind is = kind
+      no_resume_fault (OtherPlan theirs mine) kind is = is.1.2 (if_some_is (new.reads Head) kept (λ bytes. theirs ≡ bytes) (head_now is.0) is.1.1 ∙ ours)
+      no_resume_fault NotStarted kind is = kind
+      no_resume_fault (NotThere item) kind is = not_idle is.0 is.1.0
+      no_resume_fault (Occupied disk slot) kind is = not_idle is.0 is.1.0
+
+    -- the journal names another
+    module _ (theirs : kept ≡ task.digest → ⊥) where
+      pub other_of : (fault : MoveFault) → IsFault task old new fault → IsStartFault fault → fault ≡ OtherPlan kept task.digest
+      other_of Store is kind = absurd (calm is)
+      other_of Started is kind = absurd (theirs (if_some_is (new.reads Head) kept (λ bytes. bytes ≡ task.digest) (head_now is.0) is.1.1))
+      other_of (OtherPlan they mine) is kind =
+          let first : they ≡ kept = if_some_is (new.reads Head) kept (λ bytes. they ≡ bytes) (head_now is.0) is.1.1 in
+          let second : mine ≡ task.digest = is.1.3 in
+          λ i. OtherPlan (first i) (second i)
+      other_of NotStarted is kind = absurd kind
+      other_of (NotThere item) is kind = absurd (not_idle is.0 is.1.0)
+      other_of (Occupied disk slot) is kind = absurd (not_idle is.0 is.1.0)
+
+-- What slots show
+
+both_none : (cell : Option (List ℕ)) (P : List ℕ → Type 0) → IsSome cell → IfSome cell P → IfSome cell (λ slot. P slot → ⊥) → ⊥
+both_none None P some has out = false≢true some
+both_none (Some slot) P some has out = out has
+
+module _ (task : Task) (is : IsTask task) (image : Image) (tells : Tells (IsHaltCell task.input task.plan) image) (ready : IsReady task.input task.plan image) where
+  -- an image that is ready shows no item to be lost, and no target to be used
+  not_lost : (item : ℕ) → IsFirstLost task.input task.plan image item → ⊥
+  not_lost item lost = both_none (image (item_cell task.input item)) (HasHeader (item_name task.input item)) told (ready.there item lost.in_range lost.shifted) lost.lost
+    where
+      told : IsSome (image (item_cell task.input item))
+      told = tells (item_cell task.input item) (inr (slice_index_or task.input.spots item no_spot, inl (Contains-get_or task.input.spots item no_spot (omega (arith, lost.in_range, is.valid.spots_len))), refl))
+
+  not_used : (spot : Spot) → IsFirstUsed task.input task.plan image spot → ⊥
+  not_used spot used = both_none (image (slot_of task.input spot)) (λ slot. first_byte slot ≡ 1) told used.used
+      (subst (IsUnused task.input image) used.target (All-contains (CanTake task.input image) (shifts_of task.plan) used.shift ready.unused has (λ taken. used.free (subst (Contains task.input.spots) used.target taken))))
+    where
+      has : Contains (shifts_of task.plan) used.shift
+      has = (used.place, slice_get_within (shifts_of task.plan) used.place used.shift used.at, get_or_from_slice_get (shifts_of task.plan) used.place used.shift used.shift used.at)
+
+      told : IsSome (image (slot_of task.input spot))
+      told =
+          let at = in_round task.plan used.shift has in
+          tells (slot_of task.input spot) (inr (spot, inr (suc at.0, inr (any_contains (λ (s : Shift). s.to ≡ spot) (round_at task.plan (suc at.0)) used.shift at.2 used.target)), refl))
+
+  gate_there : IsSome (image Gate)
+  gate_there = tells Gate (inl (inr (inl refl)))
+
+module _ (task : Task) (is : IsTask task) (old new : State) (tells : Tells (IsHaltCell task.input task.plan) old.reads) where
+  module _ (before : SettlesTo (IsReadyIdle task) old) where
+    -- where each image whose gate isn't 1 is ready
+    pub unrefused_of : (fault : MoveFault) → IsFault task old new fault → IsJournalFault fault
+    unrefused_of Store fault = tt
+    unrefused_of Started fault = tt
+    unrefused_of (OtherPlan kept ours) fault = tt
+    unrefused_of NotStarted fault = tt
+    unrefused_of (NotThere item) fault = not_lost task is new.reads (tells_more old new fault.0 (IsHaltCell task.input task.plan) tells) (settled_reads old new fault.0 (IsReadyIdle task) before fault.1.0) item.0 fault.1.1
+    unrefused_of (Occupied disk slot) fault = not_used task is new.reads (tells_more old new fault.0 (IsHaltCell task.input task.plan) tells) (settled_reads old new fault.0 (IsReadyIdle task) before fault.1.0) (record { disk = disk; slot = slot }) fault.1.2
+
+  module _ (before : SettlesTo (IsReady task.input task.plan) old) (calm : Rose old.faults new.faults → ⊥) where
+    ready_now : Settles old new → IsReady task.input task.plan new.reads
+    ready_now settles = settled_reads old new settles (IsReady task.input task.plan) before
+
+    not_running : Settles old new → IsRunning new.reads → ⊥
+    not_running settles running = false≢true (sym (ready_now settles).idle ∙ running (gate_there task is new.reads (tells_more old new settles (IsHaltCell task.input task.plan) tells) (ready_now settles)))
+
+    -- a store that is ready isn't refused
+    pub no_fault : (fault : MoveFault) → IsStartFault fault → IsFault task old new fault → ⊥
+    no_fault Store kind fault = calm fault
+    no_fault Started kind fault = not_running fault.0 fault.1.0
+    no_fault (OtherPlan kept ours) kind fault = not_running fault.0 fault.1.0
+    no_fault NotStarted kind fault = kind
+    no_fault (NotThere item) kind fault = not_lost task is new.reads (tells_more old new fault.0 (IsHaltCell task.input task.plan) tells) (ready_now fault.0) item.0 fault.1.1
+    no_fault (Occupied disk slot) kind fault = not_used task is new.reads (tells_more old new fault.0 (IsHaltCell task.input task.plan) tells) (ready_now fault.0) (record { disk = disk; slot = slot }) fault.1.2

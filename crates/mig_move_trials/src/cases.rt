@@ -1,0 +1,86 @@
+//! Small migrations: their files, a plan for each, and what the slots hold before and after it.
+
+use mig_check::runs;
+use mig_csv::read_input;
+use mig_mover::{Job, prepare};
+use mig_text::read_plan;
+use std::alloc::Global;
+
+/// A slot, by the letter that names its disk and its number, and the letter that names the item in it, or 0 where it is erased.
+pub type Place = (u8, u32, u8);
+
+/// The three files, a plan, and the slots that it names, before and after.
+#[derive(Clone, Copy)]
+pub struct Case<'a> {
+    pub disks: &'a str,
+    pub now: &'a str,
+    pub next: &'a str,
+    pub plan: &'a str,
+    pub before: &'a [Place],
+    pub after: &'a [Place],
+}
+
+/// One item goes from one disk to another.
+pub static ONE_MOVE: Case<'static> = Case {
+    disks: "disk,limit,slots\na,1,1\nb,1,1\n",
+    now: "item,disk,slot\nx,a,0\n",
+    next: "item,disk\nx,b\n",
+    plan: "migration-plan 1\nrounds 1\nround 1 1\nx a 0 b 0\nend\n",
+    before: &[(b'a', 0, b'x'), (b'b', 0, 0)],
+    after: &[(b'a', 0, 0), (b'b', 0, b'x')],
+};
+
+/// One item goes away, and another goes to where it was and back again. So a slot is left twice.
+pub static LEFT_TWICE: Case<'static> = Case {
+    disks: "disk,limit,slots\na,1,1\nb,1,1\nc,1,1\n",
+    now: "item,disk,slot\nx,a,0\ny,c,0\n",
+    next: "item,disk\nx,b\ny,c\n",
+    plan: "migration-plan 1\nrounds 3\nround 1 1\nx a 0 b 0\nround 2 1\ny c 0 a 0\nround 3 1\ny a 0 c 0\nend\n",
+    before: &[(b'a', 0, b'x'), (b'b', 0, 0), (b'c', 0, b'y')],
+    after: &[(b'a', 0, 0), (b'b', 0, b'x'), (b'c', 0, b'y')],
+};
+
+/// Three items go from one disk to another, two of them in the first round.
+pub static THREE_ITEMS: Case<'static> = Case {
+    disks: "disk,limit,slots\na,2,4\nb,2,4\n",
+    now: "item,disk,slot\nx,a,0\ny,a,1\nz,a,2\n",
+    next: "item,disk\nx,b\ny,b\nz,b\n",
+    plan: "migration-plan 1\nrounds 2\nround 1 2\nx a 0 b 0\ny a 1 b 1\nround 2 1\nz a 2 b 2\nend\n",
+    before: &[
+        (b'a', 0, b'x'),
+        (b'a', 1, b'y'),
+        (b'a', 2, b'z'),
+        (b'b', 0, 0),
+        (b'b', 1, 0),
+        (b'b', 2, 0),
+    ],
+    after: &[
+        (b'a', 0, 0),
+        (b'a', 1, 0),
+        (b'a', 2, 0),
+        (b'b', 0, b'x'),
+        (b'b', 1, b'y'),
+        (b'b', 2, b'z'),
+    ],
+};
+
+/// Another plan for the three items, of a round for each.
+pub static ONE_BY_ONE: &str =
+    "migration-plan 1\nrounds 3\nround 1 1\nx a 0 b 0\nround 2 1\ny a 1 b 1\nround 3 1\nz a 2 b 2\nend\n";
+
+/// The job of a plan beside the files of a case.
+pub fn job_with(alloc: Global, case: &Case<'_>, plan_text: &str) -> Option<Job> {
+    let disks = case.disks.as_bytes();
+    let now = case.now.as_bytes();
+    let input = read_input(alloc, disks, now, case.next.as_bytes()).ok()?;
+    let plan = read_plan(alloc, &input, plan_text.as_bytes()).ok()?;
+    let Ok(()) = runs(alloc, &input, &plan) else {
+        return None;
+    };
+    prepare(alloc, &input, &plan, plan_text.as_bytes()).ok()
+}
+
+/// The job of a case.
+pub fn job_of(alloc: Global, case: &Case<'_>) -> Option<Job> {
+    job_with(alloc, case, case.plan)
+}

@@ -1,0 +1,95 @@
+//! Starts and resumes that are refused, and marks of an earlier plan.
+ghost use Rattle.std.specs.Prelude.{◌≡◌, []};
+ghost use Rattle.mig_store.specs.Memories.{aloft};
+
+use crate::cases::{ONE_BY_ONE, Place, THREE_ITEMS, job_of, job_with};
+use crate::stores::{filled, holds, is_reached, put};
+use mig_base::{Cell, DiskId, ItemId};
+use mig_lanes::{resume_lanes, start_lanes};
+use mig_mover::MoveFault;
+use mig_store::MemStore;
+use std::panic::Expect;
+
+// The slots of the three items before any is filled.
+static NOTHING_FILLED: [Place; 6] = [
+    (b'a', 0, 0),
+    (b'a', 1, 0),
+    (b'a', 2, 0),
+    (b'b', 0, 0),
+    (b'b', 1, 0),
+    (b'b', 2, 0),
+];
+
+// The three items, and another one where the first is to go.
+static TARGET_USED: [Place; 6] = [
+    (b'a', 0, b'x'),
+    (b'a', 1, b'y'),
+    (b'a', 2, b'z'),
+    (b'b', 0, b'w'),
+    (b'b', 1, 0),
+    (b'b', 2, 0),
+];
+
+#[test]
+fn a_plan_is_started_once(rt: HostRuntime) {
+    let alloc = rt.alloc();
+    let job = job_of(alloc, &THREE_ITEMS).expect(&rt, "ample memory");
+    let other = job_with(alloc, &THREE_ITEMS, ONE_BY_ONE).expect(&rt, "ample memory");
+    let mut store = filled(alloc, &job, THREE_ITEMS.before, Vec::new(alloc)).expect(
+        &rt,
+        "ample memory",
+    );
+    assert!(rt; start_lanes(&job, &mut store) == Ok(()));
+    assert!(rt; start_lanes(&job, &mut store) == Err(MoveFault::Started));
+    assert!(rt; resume_lanes(&job, &mut store) == Ok(2));
+    let refusal = MoveFault::OtherPlan {
+        kept: *job.digest(),
+        ours: *other.digest(),
+    };
+    assert!(rt; start_lanes(&other, &mut store) == Err(refusal));
+    assert!(rt; resume_lanes(&other, &mut store) == Err(refusal));
+    assert!(rt; is_reached(&store, &job, &THREE_ITEMS));
+}
+
+#[test]
+fn a_store_that_is_not_ready_is_left_alone(rt: HostRuntime) {
+    let alloc = rt.alloc();
+    let job = job_of(alloc, &THREE_ITEMS).expect(&rt, "ample memory");
+    let mut empty = filled(alloc, &job, &NOTHING_FILLED, Vec::new(alloc)).expect(
+        &rt,
+        "ample memory",
+    );
+    let lost = MoveFault::NotThere { item: ItemId(0) };
+    assert!(rt; start_lanes(&job, &mut empty) == Err(lost));
+    assert!(rt; holds(&empty, &NOTHING_FILLED));
+    let mut used = filled(alloc, &job, &TARGET_USED, Vec::new(alloc)).expect(&rt, "ample memory");
+    let occupied = MoveFault::Occupied {
+        disk: DiskId(1),
+        slot: 0,
+    };
+    assert!(rt; start_lanes(&job, &mut used) == Err(occupied));
+    assert!(rt; resume_lanes(&job, &mut used) == Err(occupied));
+    assert!(rt; holds(&used, &TARGET_USED));
+}
+
+// Writes what an earlier plan left in the journal: another head, and two marks.
+fn leave_marks(store: &mut MemStore) -> Option<()>
+    requires { aloft store.old ≡ [] }
+{
+    put(store, &Cell::Head, &[1; 4096])?;
+    put(store, &Cell::Mark { n: 1 }, &[1; 4096])?;
+    put(store, &Cell::Mark { n: 2 }, &[1; 4096])
+}
+
+#[test]
+fn marks_of_an_earlier_plan_do_not_count(rt: HostRuntime) {
+    let alloc = rt.alloc();
+    let job = job_of(alloc, &THREE_ITEMS).expect(&rt, "ample memory");
+    let mut store = filled(alloc, &job, THREE_ITEMS.before, Vec::new(alloc)).expect(
+        &rt,
+        "ample memory",
+    );
+    assert!(rt; leave_marks(&mut store).is_some());
+    assert!(rt; start_lanes(&job, &mut store) == Ok(()));
+    assert!(rt; is_reached(&store, &job, &THREE_ITEMS));
+}

@@ -1,0 +1,67 @@
+-- The steps of a loop over vacancies that erases those that last.
+use Rattle.std.proofs.Common.{◌≡◌, ◌⊎◌, inl, inr, ℕ, ◌+◌, ◌<◌, ◌≤◌, List, length, get_or, refl, sym, ◌∙◌, ap, subst, arith}
+use Rattle.std.specs.List.{AllWithin, Any}
+use Rattle.std.proofs.lemmas.Bool.{cases_eq, cases_lt}
+use Rattle.std.proofs.lemmas.List.{get_or_default}
+use Rattle.mig_base.specs.declared.cells.Cell.{Cell}
+use Rattle.mig_base.specs.declared.ids.Spot.{Spot}
+use Rattle.mig_base.specs.InputLists.{no_spot}
+use Rattle.mig_base.specs.Images.{Image, SameBut}
+use Rattle.mig_base.specs.JobCells.{IsFreeSlot}
+use Rattle.mig_base.specs.Slots.{slot_of}
+use Rattle.mig_base.proofs.ArrivalLaws.{named_on_disk}
+use Rattle.mig_base.proofs.CellTests.{cases_cell}
+use Rattle.mig_mover.specs.Erasures.{AreZeros}
+use Rattle.mig_mover.specs.Halts.{AreErased}
+use Rattle.mig_mover.specs.Tasks.{Task, IsTask}
+use Rattle.mig_mover.specs.Vacancies.{IsVacant, AreVacancies}
+use Rattle.mig_mover.specs.declared.vacancies.Vacancy.{Vacancy}
+
+-- what a vacancy that isn't there would be
+abbrev pub no_vacancy : Vacancy
+no_vacancy = record { spot = no_spot; from = 0; until = 0 }
+
+abbrev pub the_vacancy : List Vacancy → ℕ → Vacancy
+the_vacancy vs i = get_or vs i no_vacancy
+
+-- a vacancy lasts after k rounds or doesn't
+cases_vacant : (v : Vacancy) (k : ℕ) → IsVacant v k ⊎ (IsVacant v k → ⊥)
+cases_vacant v k = at (cases_lt k v.from) (cases_lt k v.until)
+  where
+    at : (k < v.from) ⊎ (v.from ≤ k) → (k < v.until) ⊎ (v.until ≤ k) → IsVacant v k ⊎ (IsVacant v k → ⊥)
+    at (inl early) until = inr (λ vacant. let low = vacant.0 in omega arith)
+    at (inr from) (inl until) = inl (from, until)
+    at (inr from) (inr late) = inr (λ vacant. let high = vacant.1 in omega arith)
+
+module _ (task : Task) (is : IsTask task) (found : ℕ) (most : found ≤ length task.plan) (vs : List Vacancy) (are : AreVacancies task.input task.plan vs) where
+  -- the slots of these vacancies that last are zeros
+  abbrev pub AreErasedTo : ℕ → Image → Type 0
+  AreErasedTo i image = AllWithin (λ v. IsVacant v found → AreZeros (image (slot_of task.input v.spot))) vs 0 i
+
+  module _ (i : ℕ) (lt : i < length vs) (d : Vacancy) where
+    pub vacancy_disk : (get_or vs i d).spot.disk.0 < length task.input.disks
+    vacancy_disk = named_on_disk task.input is.valid task.plan is.runs (get_or vs i d).spot (are.named i d lt)
+
+    pub vacancy_free : (cell : Cell) → IsVacant (get_or vs i d) found × (cell ≡ slot_of task.input (get_or vs i d).spot) → IsFreeSlot task.input task.plan found cell
+    vacancy_free cell of = ((get_or vs i d).spot, are.named i d lt, are.free i d lt found most of.0, sym of.1)
+
+    -- one slot more is erased
+    pub erased_more : (old new : Image) → SameBut (λ c. IsVacant (get_or vs i d) found × (c ≡ slot_of task.input (get_or vs i d).spot)) old new → AreErasedTo i old
+        → (IsVacant (get_or vs i d) found → AreZeros (new (slot_of task.input (get_or vs i d).spot))) → AreErasedTo (i + 1) new
+    erased_more old new step sofar erased j e low high = which (cases_eq j i)
+      where
+        kept : (cell : Cell) → AreZeros (old cell) → IsVacant (get_or vs i d) found ⊎ (IsVacant (get_or vs i d) found → ⊥) → (cell ≡ slot_of task.input (get_or vs i d).spot) ⊎ (cell ≡ slot_of task.input (get_or vs i d).spot → ⊥) → AreZeros (new cell)
+        kept cell was (inl vacant) (inl same) = subst (λ (c : Cell). AreZeros (new c)) (sym same) (erased vacant)
+        kept cell was (inl vacant) (inr other) = subst AreZeros (sym (step.same cell (λ of. other of.1))) was
+        kept cell was (inr not) same = subst AreZeros (sym (step.same cell (λ of. not of.0))) was
+
+        which : (j ≡ i) ⊎ (j ≡ i → ⊥) → IsVacant (get_or vs j e) found → AreZeros (new (slot_of task.input (get_or vs j e).spot))
+        which (inl last) = subst (λ (v : Vacancy). IsVacant v found → AreZeros (new (slot_of task.input v.spot))) (sym (ap (λ (n : ℕ). get_or vs n e) last ∙ get_or_default vs i e d lt)) erased
+        which (inr other) = λ vacant. kept _ (sofar j e low (omega arith) vacant) (cases_vacant (get_or vs i d) found) (cases_cell _ _)
+
+  -- once the loop is through, each named slot that is free is erased
+  pub all_erased : (image : Image) → AreErasedTo (length vs) image → AreErased task found image
+  all_erased image erased spot named free =
+      let any = are.all found spot most named free in
+      subst (λ (p : Spot). AreZeros (image (slot_of task.input p))) (ap (λ (v : Vacancy). v.spot) any.3 ∙ any.4.0)
+      (erased any.0 any.1 (omega arith) any.2 (subst (λ (v : Vacancy). IsVacant v found) (sym any.3) any.4.1))

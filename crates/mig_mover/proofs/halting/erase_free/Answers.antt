@@ -1,0 +1,38 @@
+use Rattle.std.proofs.Common.{◌≡◌, ◌<◌, ◌≤◌, arith}
+use Rattle.mig_base.specs.JobCells.{IsFreeSlot}
+use Rattle.mig_base.specs.Slots.{slot_of}
+use Rattle.mig_base.specs.Stores.{State}
+use Rattle.mig_journal.proofs.Steps.{then_step}
+use Rattle.mig_mover.specs.Vacancies.{IsVacant}
+use Rattle.mig_mover.proofs.HaltSteps.{no_vacancy, the_vacancy, vacancy_disk, vacancy_free, erased_more, all_erased}
+use Rattle.mig_mover.proofs.halting.erase_free.Goals as goal
+
+pub erase_vacant-requires-clause-disk : goal.erase_vacant-requires-clause-disk
+erase_vacant-requires-clause-disk g c = vacancy_disk c.args.job.now c.vacancies-v-items.ensures.valid c.args.found c.requires.most c.vacancies-v-items.result.now c.vacancies-v-items.ensures.vacancies c.loop-v.v-index c.loop-v-test.true no_vacancy
+
+pub returns-in_err-erase_vacant-clause-change : goal.returns-in_err-erase_vacant-clause-change
+returns-in_err-erase_vacant-clause-change g c =
+    let v = the_vacancy c.vacancies-v-items.result.now c.loop-v.v-index in
+    then_step (IsFreeSlot c.args.job.now.input c.args.job.now.plan c.args.found) (g.S.Store.state c.args.store.now) (g.S.Store.state c.loop-v.store) (λ k. IsVacant v c.args.found × (k ≡ slot_of c.args.job.now.input v.spot)) (g.S.Store.state c.erase_vacant.new.store)
+    (vacancy_free c.args.job.now c.vacancies-v-items.ensures.valid c.args.found c.requires.most c.vacancies-v-items.result.now c.vacancies-v-items.ensures.vacancies c.loop-v.v-index c.loop-v-test.true no_vacancy)
+    c.loop-v.invariant.change c.erase_vacant.ensures.change
+
+pub loop-v-preserved : goal.loop-v-preserved
+loop-v-preserved g c =
+    let v = the_vacancy c.vacancies-v-items.result.now c.loop-v.v-index in
+    let first = g.S.Store.state c.args.store.now in
+    let mid = g.S.Store.state c.loop-v.store in
+    let new = g.S.Store.state c.erase_vacant.new.store in
+    record {
+      erased = erased_more c.args.job.now c.vacancies-v-items.ensures.valid c.args.found c.requires.most c.vacancies-v-items.result.now c.vacancies-v-items.ensures.vacancies c.loop-v.v-index c.loop-v-test.true no_vacancy
+          mid.reads new.reads c.erase_vacant.ensures.change.told c.loop-v.invariant.erased c.in_ok-erase_vacant.ensures.erased;
+      change = then_step (IsFreeSlot c.args.job.now.input c.args.job.now.plan c.args.found) first mid (λ k. IsVacant v c.args.found × (k ≡ slot_of c.args.job.now.input v.spot)) new
+          (vacancy_free c.args.job.now c.vacancies-v-items.ensures.valid c.args.found c.requires.most c.vacancies-v-items.result.now c.vacancies-v-items.ensures.vacancies c.loop-v.v-index c.loop-v-test.true no_vacancy)
+          c.loop-v.invariant.change c.erase_vacant.ensures.change;
+      later = omega (arith, c.loop-v.invariant.later, c.erase_vacant.ensures.cause.later);
+    }
+
+pub returns-clause-erased : goal.returns-clause-erased
+returns-clause-erased g c =
+    all_erased c.args.job.now c.vacancies-v-items.ensures.valid c.args.found c.requires.most c.vacancies-v-items.result.now c.vacancies-v-items.ensures.vacancies (g.S.Store.state c.loop-v.store).reads
+    (λ k d low lt. c.loop-v.invariant.erased k d low (omega (arith, lt, c.loop-v-test.false)))

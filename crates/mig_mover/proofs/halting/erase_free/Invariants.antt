@@ -1,0 +1,15 @@
+use Rattle.std.proofs.Common.{◌≤◌}
+use Rattle.mig_base.specs.JobCells.{IsFreeSlot}
+use Rattle.mig_base.specs.Stores.{State, ChangesOnly}
+use Rattle.mig_base.specs.Slots.{slot_of}
+use Rattle.std.specs.List.{AllWithin}
+use Rattle.mig_mover.specs.Erasures.{AreZeros}
+use Rattle.mig_mover.specs.Vacancies.{IsVacant}
+use Rattle.mig_mover.proofs.halting.erase_free.Given as goal
+
+abbrev pub invariant-loop-v : goal.invariant-loop-v
+invariant-loop-v g l = record {
+  erased : AllWithin (λ v. IsVacant v l.found → AreZeros ((g.S.Store.state l.store).reads (slot_of l.job.input v.spot))) l.v-items 0 l.v-index;
+  change : ChangesOnly (IsFreeSlot l.job.input l.job.plan l.found) (g.S.Store.state l.initial.store) (g.S.Store.state l.store);
+  later : (g.S.Store.state l.initial.store).faults ≤ (g.S.Store.state l.store).faults;
+}

@@ -1,0 +1,5 @@
+use Rattle.mig_base.proofs.ArrivalLaws.{reached}
+use Rattle.mig_mover.proofs.laws.last_round_reaches_the_target.Goals as goal
+
+pub returns : goal.returns
+returns c = λ input plan digest contents valid runs. λ image at erased. reached input valid plan runs digest contents image at erased

@@ -1,0 +1,6 @@
+use Rattle.std.proofs.Common.{◌≡◌, ◌++◌, take}
+use Rattle.mig_mover.specs.Vacancies.{round_of, open_of}
+use Rattle.mig_mover.proofs.vacancies.add_all_open.Given as goal
+
+abbrev pub invariant-loop-s : goal.invariant-loop-s
+invariant-loop-s l = l.vacancies.items ≡ l.initial.vacancies.items ++ open_of (round_of l.left) l.until l.round (take l.s-index l.shifts)

@@ -1,0 +1,6 @@
+use Rattle.std.proofs.Common.{◌≡◌, ◌++◌, map, take}
+use Rattle.mig_mover.specs.Vacancies.{round_of, ended_by}
+use Rattle.mig_mover.proofs.vacancies.add_ended.Given as goal
+
+abbrev pub invariant-loop-s : goal.invariant-loop-s
+invariant-loop-s l = l.vacancies.items ≡ l.initial.vacancies.items ++ map (ended_by (round_of l.left) l.round) (take l.s-index l.shifts)

@@ -1,0 +1,10 @@
+use Rattle.std.proofs.Common.{◌≡◌, ◌++◌}
+use Rattle.mig_base.specs.declared.ids.Spot.{Spot}
+use Rattle.mig_mover.specs.Vacancies.{round_of, left_in, ended_in}
+use Rattle.mig_mover.proofs.vacancies.end_rounds.Given as goal
+
+abbrev pub invariant-loop-k : goal.invariant-loop-k
+invariant-loop-k l = record {
+  left : (spot : Spot) → round_of l.left spot ≡ left_in l.rounds l.k spot;
+  ended : l.vacancies.items ≡ l.initial.vacancies.items ++ ended_in l.rounds l.k;
+}

@@ -1,0 +1,79 @@
+//! How a migration is closed early.
+ghost use Rattle.std.specs.Prelude.{◌≡◌, ◌<◌, ◌≤◌, [], ◌∷◌, OnOk, IfErr, IfSome, length};
+ghost use Rattle.mig_base.specs.declared.cells.Cell.TheVariants.{Gate};
+ghost use Rattle.mig_base.specs.FaultCounts.{Rose};
+ghost use Rattle.mig_base.specs.JobCells.{IsFreeSlot};
+ghost use Rattle.mig_base.specs.Slots.{slot_of};
+ghost use Rattle.mig_base.specs.Stores.{State, flights, ChangesOnly, IsSettled, HasCause};
+ghost use Rattle.mig_mover.specs.declared.faults.MoveFault.TheVariants.{Store as StoreFault};
+ghost use Rattle.mig_mover.specs.Erasures.{AreZeros};
+ghost use Rattle.mig_mover.specs.Halts.{AreErased, IsClosingCell, KeepsHaltSafe, EndsHalted};
+ghost use Rattle.mig_mover.specs.Stands.{IsAt};
+ghost use Rattle.mig_mover.specs.Tasks.{Task, IsTask};
+ghost use Rattle.mig_mover.specs.Vacancies.{IsVacant};
+
+use crate::erasing::erase;
+use crate::faults::MoveFault;
+use crate::jobs::{Job, spot_cell};
+use crate::vacancies::Vacancy;
+use mig_journal::disarm;
+use mig_store::{Store, StoreFailed};
+
+// Erases the slot of a vacancy, if it lasts after this number of rounds.
+fn erase_vacant<S: Store>(
+    job: &Job,
+    store: &mut S,
+    v: &Vacancy,
+    found: u32,
+) -> Result<(), StoreFailed>
+    requires disk { v.now.spot.disk.0 < length job.now.input.disks }
+    requires none { flights (S.state store.old) ≡ [] }
+    ensures erased { OnOk result (IsVacant v.now found → AreZeros ((S.state store.new).reads (slot_of job.now.input v.now.spot))) }
+    ensures change { ChangesOnly (λ c. IsVacant v.now found × (c ≡ slot_of job.now.input v.now.spot)) (S.state store.old) (S.state store.new) }
+    ensures cause { HasCause (S.state store.old) (S.state store.new) result }
+{
+    if v.from <= found && found < v.until {
+        return erase(store, &spot_cell(job.input(), v.spot));
+    }
+    Ok(())
+}
+
+// Erases the named slots that are free after this number of rounds.
+fn erase_free<S: Store>(job: &Job, store: &mut S, found: u32) -> Result<(), StoreFailed>
+    requires most { found ≤ length job.now.plan }
+    requires none { flights (S.state store.old) ≡ [] }
+    ensures erased { OnOk result (AreErased job.now found (S.state store.new).reads) }
+    ensures change { ChangesOnly (IsFreeSlot job.now.input job.now.plan found) (S.state store.old) (S.state store.new) }
+    ensures cause { HasCause (S.state store.old) (S.state store.new) result }
+    ensures valid { IsTask job.now }
+{
+    for v in job.vacancies() {
+        erase_vacant(job, store, v, found)?;
+    }
+    Ok(())
+}
+
+/// Closes a migration that stands after `found` rounds, as `stand` said: writes zeros to each slot that an item has
+/// now or that the plan names and that is free after these rounds, syncs, and closes the journal.
+///
+/// Only the store's fault comes.
+pub fn halt<S: Store>(job: &Job, store: &mut S, found: u32) -> Result<(), MoveFault>
+    requires most { found ≤ length job.now.plan }
+    requires settled { IsSettled (S.state store.old) }
+    requires none { flights (S.state store.old) ≡ [] }
+    requires at { IsAt job.now (S.state store.old).reads found }
+    // At each moment the migration may go on after these rounds, or is halted there.
+    ensures any_moment { KeepsHaltSafe job.now found (S.state store.old) (S.state store.new) }
+    ensures halted { OnOk result (EndsHalted job.now found (S.state store.old) (S.state store.new)) }
+    ensures erased { OnOk result (AreErased job.now found (S.state store.new).reads) }
+    ensures closed { OnOk result (IfSome ((S.state store.new).reads Gate) (λ bytes. bytes ≡ 0 ∷ [])) }
+    ensures settled { OnOk result (IsSettled (S.state store.new)) }
+    ensures change { ChangesOnly (IsClosingCell job.now found) (S.state store.old) (S.state store.new) }
+    ensures fault { IfErr result (λ fault. (fault ≡ StoreFault) × Rose (S.state store.old).faults (S.state store.new).faults) }
+    ensures later { (S.state store.old).faults ≤ (S.state store.new).faults }
+{
+    erase_free(job, store, found)?;
+    store.sync()?;
+    disarm(store)?;
+    Ok(())
+}

@@ -1,0 +1,47 @@
+//! How far a plan is carried out.
+ghost use Rattle.std.specs.Prelude.{◌≡◌, ◌≢◌, ◌≤◌, [], IfErr, IfOk, IfSome, length};
+ghost use Rattle.std.specs.List.{prefix_len, range_with_len};
+ghost use Rattle.mig_base.specs.declared.cells.Cell.TheVariants.{Head};
+ghost use Rattle.mig_base.specs.Images.{NoCell};
+ghost use Rattle.mig_base.specs.Journals.{is_marked};
+ghost use Rattle.mig_base.specs.JobCells.{IsMark, Tells};
+ghost use Rattle.mig_base.specs.Stores.{State, flights, ChangesOnly};
+ghost use Rattle.mig_mover.specs.Moves.{Lands};
+ghost use Rattle.mig_mover.specs.Stands.{IsOtherFault, Stands, IsStandFault};
+ghost use Rattle.mig_mover.specs.Tasks.{Task};
+
+use crate::entries::{check_plan, settle_and_look};
+use crate::faults::MoveFault;
+use crate::jobs::Job;
+use mig_journal::{Seen, marked};
+use mig_store::Store;
+
+// Counts the marked rounds of the plan that the journal names, where it is the job's.
+fn stand_running<S: Store>(job: &Job, store: &mut S, kept: &[u8; 32]) -> Result<u32, MoveFault>
+    requires none { flights (S.state store.old) ≡ [] }
+    ensures ours { IfOk result (λ k. kept.now ≡ job.now.digest) }
+    ensures most { IfOk result (λ k. k ≤ length job.now.plan) }
+    ensures count { IfOk result (λ k. Tells (IsMark (length job.now.plan)) (S.state store.old).reads → k ≡ prefix_len (is_marked (S.state store.old).reads) (range_with_len 1 (length job.now.plan))) }
+    ensures change { ChangesOnly NoCell (S.state store.old) (S.state store.new) }
+    ensures fault { IfErr result (IsOtherFault job.now kept.now (S.state store.old) (S.state store.new)) }
+    ensures later { (S.state store.old).faults ≤ (S.state store.new).faults }
+{
+    check_plan(job, kept)?;
+    Ok(marked(store, job.rounds())?)
+}
+
+/// How many rounds of a plan that is being carried out, or was, are marked.
+///
+/// It syncs and then looks, and writes nothing. `NotStarted` comes where the gate isn't 1, `OtherPlan` where it is
+/// and the head has another digest.
+pub fn stand<S: Store>(job: &Job, store: &mut S) -> Result<u32, MoveFault>
+    ensures stands { IfOk result (Stands job.now (S.state store.old) (S.state store.new)) }
+    ensures lands { Lands (S.state store.old) (S.state store.new) }
+    ensures fault { IfErr result (IsStandFault job.now (S.state store.old) (S.state store.new)) }
+    ensures later { (S.state store.old).faults ≤ (S.state store.new).faults }
+{
+    match settle_and_look(store)? {
+        Seen::Idle => Err(MoveFault::NotStarted),
+        Seen::Running { digest } => stand_running(job, store, &digest),
+    }
+}

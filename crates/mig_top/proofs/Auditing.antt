@@ -1,0 +1,85 @@
+-- How `audit` ends.
+use Rattle.std.proofs.Common.{◌≡◌, ◌⊎◌, ◌≤◌, inl, inr, ℕ, List, [], ◌∷◌, ◌++◌, length, refl, arith, codes}
+use Rattle.mig_base.specs.FaultCounts.{Rose}
+use Rattle.mig_base.specs.InputLists.{Lists}
+use Rattle.mig_base.specs.Stores.{Looks}
+use Rattle.mig_io.specs.Held.{SinkState, Extends, ExtendsInPart}
+use Rattle.mig_top.specs.Audits.{HavePutSights, SinkStops, StoreStops}
+use Rattle.mig_top.specs.declared.endings.Ending.{Ending}
+use Rattle.mig_top.specs.Calls.{Call, Untouched}
+use Rattle.mig_top.specs.Ends.{FormEndsAs, WorldEnds}
+use Rattle.mig_top.specs.Loading.{NoLayout}
+use Rattle.mig_top.specs.Outcomes.{Done, SinkFault, StoreFault, outcome_of}
+use Rattle.mig_top.specs.Sights.{IsAudit, sight_count}
+use Rattle.mig_top.specs.Steps.{IsDone}
+use Rattle.mig_top.specs.StoreLeaves.{AreOfLayout}
+use Rattle.mig_top.specs.Words.{Form, Audit}
+use Rattle.mig_top.proofs.PutTexts.{begins_more, then_begins, then_extends}
+use Rattle.mig_top.proofs.Sightings.{whole_audit}
+use Rattle.mig_top.proofs.StepEnds.{if_map}
+use Rattle.mig_top.proofs.StoreEnds.{two_there, unread}
+
+module _ (k : Call) (disks now : List ℕ) (same : Untouched k.before.folder k.after.folder) (looks : Looks k.before.store k.after.store) where
+  abbrev form : Form
+  form = Audit disks now
+
+  -- the layout wasn't loaded or read
+  pub audit_unread : (e : Ending) → NoLayout disks now k.before.folder k.after.folder e → WorldEnds k form (outcome_of (disks ∷ now ∷ []) e)
+  audit_unread e h = record { cause = unread k form disks now (λ files input. IsDone (IsAudit input k.before.store)) (λ files o c. c) e h; leaves = same; store = looks }
+
+  module _ (input : Lists) (layout : AreOfLayout k.before.folder disks now input) (status : ℕ) where
+    audit_done : (text : List ℕ) → IsAudit input k.before.store text → WorldEnds k form (Done text)
+    audit_done text audit = record { cause = if_map k.before.folder.files (λ files holds. inr (tt, two_there files disks now input holds, inr (input, holds, audit))) layout; leaves = same; store = looks }
+
+    -- the sink failed at a line
+    pub sink_stops : SinkStops input k.before.store k.before.sink k.after.sink → status ≡ 6 → FormEndsAs k form status
+    sink_stops stops is =
+        let whole = whole_audit input k.before.store _ stops.lines stops.here stops.within stops.are in (
+          SinkFault (stops.lines ++ whole.rest),
+          is,
+          (stops.rose, audit_done (stops.lines ++ whole.rest) whole.audit),
+          record {
+            begun = begins_more stops.lines whole.rest k.before.sink k.after.sink stops.begun;
+            whole = λ fine. absurd (fine stops.rose);
+            done = λ zero. absurd (omega (arith, zero));
+          },
+        )
+
+    module _ (mid : SinkState) (later : k.before.sink.faults ≤ mid.faults) where
+      -- the store failed before a line, and that was told
+      pub store_stops : StoreStops input k.before.store k.after.store k.before.sink mid → status ≡ 5
+          → ExtendsInPart (codes "store fault\n") mid k.after.sink → ((Rose mid.faults k.after.sink.faults → ⊥) → Extends (codes "store fault\n") mid k.after.sink) → FormEndsAs k form status
+      store_stops stops is begun whole = (
+        StoreFault stops.lines,
+        is,
+        record { cause = (stops.rose, (input, layout, (stops.item, stops.here, stops.within, stops.are))); leaves = same; store = looks },
+        record {
+          begun = then_begins stops.lines (codes "store fault\n") k.before.sink mid k.after.sink stops.put begun;
+          whole = λ fine. then_extends stops.lines (codes "store fault\n") k.before.sink mid k.after.sink stops.put (whole (λ rose. fine (omega (arith, later, rose))));
+          done = λ zero. absurd (omega (arith, zero));
+        },
+      )
+
+      -- each line was put, and then the count
+      pub lines_end : (here : ℕ) → HavePutSights input k.before.store (length input.items) k.before.sink mid here → (status ≡ 0) ⊎ ((status ≡ 6) × Rose mid.faults k.after.sink.faults)
+          → ExtendsInPart (sight_count input here) mid k.after.sink → (status ≡ 0 → Extends (sight_count input here) mid k.after.sink) → FormEndsAs k form status
+      lines_end here h (inl is) begun done = (
+        Done (h.lines ++ sight_count input here),
+        is,
+        audit_done (h.lines ++ sight_count input here) (h.lines, here, h.are, refl),
+        record {
+          begun = then_begins h.lines (sight_count input here) k.before.sink mid k.after.sink h.put begun;
+          whole = λ fine. then_extends h.lines (sight_count input here) k.before.sink mid k.after.sink h.put (done is);
+          done = λ zero. then_extends h.lines (sight_count input here) k.before.sink mid k.after.sink h.put (done is);
+        },
+      )
+      lines_end here h (inr (is, failed)) begun done = (
+        SinkFault (h.lines ++ sight_count input here),
+        is,
+        (omega (arith, later, failed), audit_done (h.lines ++ sight_count input here) (h.lines, here, h.are, refl)),
+        record {
+          begun = then_begins h.lines (sight_count input here) k.before.sink mid k.after.sink h.put begun;
+          whole = λ fine. absurd (fine (omega (arith, later, failed)));
+          done = λ zero. absurd (omega (arith, zero));
+        },
+      )

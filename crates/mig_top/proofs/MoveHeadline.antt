@@ -1,0 +1,150 @@
+-- What `move` and `resume` promise, from the causes of their outcomes and what they leave.
+use Rattle.std.proofs.Common.{◌≡◌, ◌⊎◌, inl, inr, ⊎_elim, ◌≤◌, Bool, true, false, length, ℕ, List, [], ◌∷◌, Option, Some, refl, sym, ◌∙◌, ap, subst, arith}
+use Rattle.std.proofs.lemmas.Bool.{cases_Bool, false≢true}
+use Rattle.std.specs.Option.{IfSome}
+use Rattle.mig_base.specs.declared.cells.Cell.TheVariants.{Head}
+use Rattle.mig_base.specs.Images.{Image}
+use Rattle.mig_base.specs.JobCells.{IsJobCell, SettlesTo, Tells}
+use Rattle.mig_base.specs.Journals.{count_of, is_armed}
+use Rattle.mig_base.specs.Readiness.{IsReady}
+use Rattle.mig_base.specs.Safety.{Contents, IsSound}
+use Rattle.mig_base.specs.Stores.{State, IsState, LeavesOnly}
+use Rattle.mig_base.proofs.MarkCounts.{count_idle, counted}
+use Rattle.mig_io.specs.Files.{Files}
+use Rattle.mig_lanes.specs.Runs.{Finishes}
+use Rattle.mig_mover.specs.Moves.{IsReadyIdle, StaysArmed}
+use Rattle.mig_mover.specs.Tasks.{Task}
+use Rattle.mig_top.specs.Calls.{Call}
+use Rattle.mig_top.specs.Ends.{Ends, EndsAs, FormEnds, StoreLeaves}
+use Rattle.mig_top.specs.Headline.{MovesWell, ResumesWell, StartsWell}
+use Rattle.mig_top.specs.MoveLeaves.{AreOfTask, Carries, MoveLeaves, ResumeLeaves}
+use Rattle.mig_top.specs.MoveLooks.{IsResumable, IsTaskOf, done_text, resumes, starts, task_of}
+use Rattle.mig_top.specs.Outcomes.{Outcome, Done, StoreFault, SinkFault, Started, OtherPlan, NotThere, Occupied, code}
+use Rattle.mig_top.specs.StoreLeaves.{IsUntouched}
+use Rattle.mig_top.specs.StoreLooks.{TellsStill}
+use Rattle.mig_top.specs.Words.{Form, Move, Resume, IsListed}
+use Rattle.mig_top.proofs.Exactness.{comes_exactly, known_form, told}
+use Rattle.mig_top.proofs.Moving.{move_rest, resume_rest}
+use Rattle.mig_top.proofs.TaskFiles.{one_task, task_cause, task_parts}
+
+-- what holds whatever the outcome
+pub record AreKept (task : Task) (old new : State) : Type 0 where
+  pub sound : (asked : Bool) (contents : Contents) → Tells (IsJobCell task.input task.plan) old.reads → SettlesTo (IsSound asked task.input task.plan task.digest contents) old → LeavesOnly (IsSound asked task.input task.plan task.digest contents) old new
+  pub ready : Tells (IsJobCell task.input task.plan) old.reads → SettlesTo (IsReadyIdle task) old → LeavesOnly (IsReadyIdle task) old new
+  pub armed : StaysArmed old new
+
+leaves_same : (P : Image → Type 0) (old new : State) → IsUntouched old new → LeavesOnly P old new
+leaves_same P old new same = record { later = omega (arith, same.moment); since = λ t image le left. inl (same.since t image left) }
+
+untouched_kept : (task : Task) (old new : State) → IsUntouched old new → AreKept task old new
+untouched_kept task old new same = record { sound = λ asked contents tells before. leaves_same _ old new same; ready = λ tells before. leaves_same _ old new same; armed = λ before. leaves_same _ old new same }
+
+module _ (k : Call) (status : ℕ) (task : Task) (law : IsState k.before.store) (kept : AreKept task k.before.store k.after.store)
+    (finished : (status ≡ 0) ⊎ (status ≡ 6) → (found : ℕ) × Finishes task k.before.store k.after.store found) where
+  -- each image since the beginning
+  since : (P : Image → Type 0) → LeavesOnly P k.before.store k.after.store → ((image : Image) → k.before.store.may_leave image → P image) → (image : Image) → k.after.store.left_since k.before.store.moment image → P image
+  since P leaves all image left = ⊎_elim (λ past. all image (law.only_now image past)) (λ p. p) (leaves.since k.before.store.moment image (omega arith) left)
+
+  moves_well : MovesWell k task status
+  moves_well = record {
+    safe = λ asked contents tells images all. since (IsSound asked task.input task.plan task.digest contents) (kept.sound asked contents tells (inr (all, images))) all;
+    ready = λ tells images all. since (IsReadyIdle task) (kept.ready tells (inr (all, images))) all;
+    armed = λ images all. since (λ image. is_armed image ≡ true) (kept.armed (inr (all, images))) all;
+    reached = λ done contents tells before. (finished done).1.reached contents tells before;
+    arrived = λ done contents tells before. (finished done).1.arrived contents tells before;
+    settled = λ done. (finished done).1.settled;
+  }
+
+module _ (k : Call) (words : List (List ℕ)) (status : ℕ) (ends : EndsAs k words status) (law : IsState k.before.store) (files : Files) (disks : List ℕ) (now : List ℕ) (next : List ℕ) (plan : List ℕ) (task : Task)
+    (is : k.before.folder.files ≡ Some files) (holds : IsTaskOf files disks now next plan task) where
+  abbrev old : State
+  old = k.before.store
+
+  abbrev new : State
+  new = k.after.store
+
+  -- the task that is spoken of is the one
+  same_task : (t : Task) → AreOfTask k.before.folder disks now next plan t → t ≡ task
+  same_task t are = one_task files disks now next plan t task (told (λ f. IsTaskOf f disks now next plan t) k.before.folder.files files is are) holds
+
+  kept_of : (t : Task) → AreOfTask k.before.folder disks now next plan t → Carries t old new → AreKept task old new
+  kept_of t are h = subst (λ (u : Task). AreKept u old new) (same_task t are) (record { sound = h.keeps.sound; ready = h.keeps.ready; armed = h.armed })
+
+  finished_of : (t : Task) (found : ℕ) → AreOfTask k.before.folder disks now next plan t → Finishes t old new found → (found : ℕ) × Finishes task old new found
+  finished_of t found are h = (found, subst (λ (u : Task). Finishes u old new found) (same_task t are) h)
+
+  move_kept : (o : Outcome) → MoveLeaves k.before.folder old new disks now next plan o → AreKept task old new
+  move_kept (Done text) h = kept_of h.0 h.1 h.2.0.carries
+  move_kept (StoreFault before) h = kept_of h.0 h.1 h.2.carries
+  move_kept Started h = kept_of h.0 h.1 h.2.carries
+  move_kept (OtherPlan a b) h = kept_of h.0 h.1 h.2.carries
+  move_kept (NotThere item) h = kept_of h.0 h.1 h.2.carries
+  move_kept (Occupied disk slot) h = kept_of h.0 h.1 h.2.carries
+  move_kept o h = untouched_kept task old new h
+
+  resume_kept : (o : Outcome) → ResumeLeaves k.before.folder old new disks now next plan o → AreKept task old new
+  resume_kept (Done text) h = kept_of h.0 h.1 h.2.1.moves.carries
+  resume_kept (StoreFault before) h = kept_of h.0 h.1 h.2.0.2.carries
+  resume_kept Started h = kept_of h.0 h.1 h.2.carries
+  resume_kept (OtherPlan a b) h = kept_of h.0 h.1 h.2.carries
+  resume_kept (NotThere item) h = kept_of h.0 h.1 h.2.carries
+  resume_kept (Occupied disk slot) h = kept_of h.0 h.1 h.2.carries
+  resume_kept o h = untouched_kept task old new h
+
+  module _ (form : Form) (l : IsListed words form) (form_kept : (o : Outcome) → StoreLeaves k form o → AreKept task old new) (form_finished : (text : List ℕ) → StoreLeaves k form (Done text) → (found : ℕ) × Finishes task old new found) where
+    kept_at : (o : Outcome) → FormEnds k form o → AreKept task old new
+    kept_at (SinkFault text) h = form_kept (Done text) h.1.store
+    kept_at o h = form_kept o h.store
+
+    kept_by : (o : Outcome) → Ends k words o → AreKept task old new
+    kept_by o (inl unknown) = absurd (unknown.1.unlisted form l)
+    kept_by o (inr known) = kept_at o (known_form k words form o l known)
+
+    finished_at : (o : Outcome) → status ≡ code o → (status ≡ 0) ⊎ (status ≡ 6) → FormEnds k form o → (found : ℕ) × Finishes task old new found
+    finished_at (Done text) at done h = form_finished text h.store
+    finished_at (SinkFault text) at done h = form_finished text h.1.store
+    finished_at o at (inl zero) h = absurd (omega (arith, at, zero))
+    finished_at o at (inr six) h = absurd (omega (arith, at, six))
+
+    finished_by : (o : Outcome) → status ≡ code o → Ends k words o → (status ≡ 0) ⊎ (status ≡ 6) → (found : ℕ) × Finishes task old new found
+    finished_by o at (inl unknown) done = absurd (unknown.1.unlisted form l)
+    finished_by o at (inr known) done = finished_at o at done (known_form k words form o l known)
+
+    pub form_moves_well : MovesWell k task status
+    form_moves_well = moves_well k status task law (kept_by ends.0 ends.2) (finished_by ends.0 ends.1 ends.2)
+
+  pub move_moves : IsListed words (Move disks now next plan) → MovesWell k task status
+  move_moves l = form_moves_well (Move disks now next plan) l move_kept (λ text h. finished_of h.0 0 h.1 h.2.0.finishes)
+
+  pub resume_moves : IsListed words (Resume disks now next plan) → MovesWell k task status
+  resume_moves l = form_moves_well (Resume disks now next plan) l resume_kept (λ text h. finished_of h.0 h.2.0 h.1 h.2.1.moves.finishes)
+
+  pub starts_well : IsListed words (Move disks now next plan) → StartsWell k task status
+  starts_well l tells ready fine quiet sound = comes_exactly k words status ends files (Move disks now next plan) is l (Done (done_text task.plan 0))
+      (task_cause k (Move disks now next plan) disks now next plan (move_rest k.before.store plan) (λ files o c. c) files task holds (Done (done_text task.plan 0))
+      (inr (tt, subst (λ (t : Task). (starts t old).Passes tt) (task_parts files disks now next plan task holds) (λ none gate. ready), refl)))
+      fine quiet (sound, λ other same. subst (λ (t : Task). TellsStill (IsJobCell t.input t.plan) old) (one_task files disks now next plan task other holds same) tells)
+
+  pub resumes_well : IsListed words (Resume disks now next plan) → ResumesWell k task status
+  resumes_well l tells before fine quiet sound = comes_exactly k words status ends files (Resume disks now next plan) is l (Done (done_text task.plan found))
+      (task_cause k (Resume disks now next plan) disks now next plan (resume_rest k.before.store plan) (λ files o c. c) files task holds (Done (done_text task.plan found))
+      (inr (found, subst (λ (t : Task). IsResumable t old found) (task_parts files disks now next plan task holds) resumable, refl)))
+      fine quiet (sound, λ other same. subst (λ (t : Task). TellsStill (IsJobCell t.input t.plan) old) (one_task files disks now next plan task other holds same) tells)
+    where
+      found : ℕ
+      found = count_of (length task.plan) old.reads
+
+      resumable : IsResumable task old found
+      resumable = record { most = most (cases_Bool (is_armed old.reads)); found = λ tells none. refl; ours = λ none gate armed. ours armed before; ready = λ none idle gate. ready idle before }
+        where
+          most : (is_armed old.reads ≡ true) ⊎ (is_armed old.reads ≡ false) → found ≤ length task.plan
+          most (inl armed) = (counted (length task.plan) old.reads armed).most
+          most (inr idle) = let none = count_idle (length task.plan) old.reads idle in omega (arith, none)
+
+          ours : is_armed old.reads ≡ true → IsReady task.input task.plan old.reads ⊎ ((is_armed old.reads ≡ true) × (old.reads Head ≡ Some task.digest)) → IfSome (old.reads Head) (λ kept. kept ≡ task.digest)
+          ours armed (inl r) = absurd (false≢true (sym r.idle ∙ armed))
+          ours armed (inr (a, named)) = subst (λ (o : Option (List ℕ)). IfSome o (λ kept. kept ≡ task.digest)) (sym named) refl
+
+          ready : is_armed old.reads ≡ false → IsReady task.input task.plan old.reads ⊎ ((is_armed old.reads ≡ true) × (old.reads Head ≡ Some task.digest)) → IsReady task.input task.plan old.reads
+          ready idle (inl r) = r
+          ready idle (inr (armed, named)) = absurd (false≢true (sym idle ∙ armed))

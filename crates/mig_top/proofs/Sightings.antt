@@ -1,0 +1,146 @@
+-- The lines of an audit.
+use Rattle.std.proofs.Common.{◌≡◌, ◌+◌, ◌-◌, ◌<◌, ◌≤◌, Bool, true, false, ℕ, zero, suc, List, [], ◌++◌, MatchBool, IfSome, Option, Some, None, length, take, refl, sym, ap, subst, ◌∙◌, append_assoc, append-nil, arith, if◌then◌else◌}
+use Rattle.std.specs.Prelude.{bytes_eq}
+use Rattle.std.proofs.lemmas.Bool.{false≢true}
+use Rattle.std.proofs.lemmas.Slice.Eq.{bytes_eq-Decides}
+use Rattle.sha2.specs.Sha256.{sha256}
+use Rattle.mig_base.specs.declared.cells.Cell.{Cell}
+use Rattle.mig_base.specs.declared.cells.Flight.{Flight}
+use Rattle.mig_base.specs.Flights.{IsTargetOf}
+use Rattle.mig_base.specs.InputLists.{Lists}
+use Rattle.mig_base.specs.Slots.{HasHeader, header_of, item_cell}
+use Rattle.mig_base.specs.Stores.{State, IsMoving, Looks, flights}
+use Rattle.mig_base.specs.Texts.{item_name}
+use Rattle.mig_base.specs.Images.{NoCell}
+use Rattle.mig_base.proofs.Landing.{flights_same}
+use Rattle.mig_base.proofs.StoreSteps.{changes_then, changes_wider}
+use Rattle.mig_io.specs.Held.{SinkState, Extends}
+use Rattle.mig_mover.specs.declared.sights.Sight.{Sight}
+use Rattle.mig_top.specs.Audits.{AuditStops, HasPutSight, HavePutSights, SightStops}
+use Rattle.mig_top.specs.declared.audit_command.Stop.{Stop}
+use Rattle.mig_top.specs.declared.audit_command.Stop.TheVariants as stop
+use Rattle.mig_top.specs.Sights.{AreSightLines, IsAudit, IsSightOf, sight_count, sight_line}
+use Rattle.mig_top.proofs.PutTexts.{puts_nothing, then_begins, then_extends}
+
+-- what is seen of an item is seen at the beginning, where nothing was written since
+module _ (old mid : State) (looks : Looks old mid) where
+  moving : (cell : Cell) → IsMoving mid cell → IsMoving old cell
+  moving cell h = (h.0, subst (λ (fs : List Flight). IsTargetOf fs cell) (flights_same old mid looks.events) h.1)
+
+  pub seen_before : (input : Lists) (item : ℕ) (sight : Sight) → IsSightOf input mid item sight → IsSightOf input old item sight
+  seen_before input item sight h = record {
+    named = λ still. subst (λ (o : Option (List ℕ)). IfSome o (λ slot. MatchBool sight.named (HasHeader (item_name input item) slot) (¬ HasHeader (item_name input item) slot)))
+        (looks.told.same (item_cell input item) still) (h.named (λ m. still (moving (item_cell input item) m)));
+    digest = λ still. subst (λ (o : Option (List ℕ)). IfSome o (λ slot. sight.digest ≡ sha256 slot))
+        (looks.told.same (item_cell input item) still) (h.digest (λ m. still (moving (item_cell input item) m)));
+  }
+
+  pub looks_then : (new : State) → Looks mid new → Looks old new
+  looks_then new more = changes_then (IsMoving old) NoCell [] [] old mid new looks (changes_wider (IsMoving old) NoCell (IsMoving mid) NoCell moving (λ cell none. none) [] mid new more)
+
+-- Line by line
+
+pub no_lines : (input : Lists) (store : State) (out : SinkState) → HavePutSights input store 0 out out 0
+no_lines input store out = record { lines = []; are = (refl, refl); put = (puts_nothing out).extended; few = omega arith }
+
+-- one more is counted where it is named
+count_few : (here item : ℕ) (named : Bool) → here ≤ item → here + (if named then 1 else 0) ≤ item + 1
+count_few here item true few = omega arith
+count_few here item false few = omega arith
+
+module _ (input : Lists) (old mid : State) (looks : Looks old mid) (item : ℕ) (first out : SinkState) (here : ℕ) (lines : HavePutSights input old item first out here) where
+  more_are : (sight : Sight) → IsSightOf input mid item sight → AreSightLines input old (suc item) (lines.lines ++ sight_line input item sight) (here + (if sight.named then 1 else 0))
+  more_are sight seen = (lines.lines, here, sight, lines.are, seen_before old mid looks input item sight seen, refl, refl)
+
+  -- the line of the next item was put
+  pub line_more : (new : SinkState) (named : Bool) → HasPutSight input mid item out new named → HavePutSights input old (item + 1) first new (here + (if named then 1 else 0))
+  line_more new named h = record {
+    lines = lines.lines ++ sight_line input item h.sight;
+    are = subst (λ (n : ℕ). AreSightLines input old n (lines.lines ++ sight_line input item h.sight) (here + (if named then 1 else 0))) (let e : suc item ≡ item + 1 = omega arith in e)
+        (subst (λ (b : Bool). AreSightLines input old (suc item) (lines.lines ++ sight_line input item h.sight) (here + (if b then 1 else 0))) h.is (more_are h.sight h.seen));
+    put = then_extends lines.lines (sight_line input item h.sight) first out new lines.put h.line;
+    few = count_few here item named lines.few;
+  }
+
+  -- or it wasn't
+  module _ (within : item < length input.items) (last : State) (later : first.faults ≤ out.faults) (store_later : old.faults ≤ mid.faults) where
+    pub line_stops : (new : SinkState) (s : Stop) → SightStops input mid last item out new s → AuditStops input old last first new s
+    line_stops new stop.Sink (rose, sight, seen, part) = record {
+      rose = omega (arith, later, rose);
+      item = item;
+      within = within;
+      lines = lines.lines ++ sight_line input item sight;
+      here = here + (if sight.named then 1 else 0);
+      are = more_are sight seen;
+      begun = then_begins lines.lines (sight_line input item sight) first out new lines.put part;
+    }
+    line_stops new stop.Store (rose, same) = record {
+      rose = omega (arith, store_later, rose);
+      item = item;
+      within = within;
+      lines = lines.lines;
+      here = here;
+      are = lines.are;
+      put = held_still same lines.put;
+    }
+      where
+        held_still : new.held ≡ out.held → Extends lines.lines first out → Extends lines.lines first new
+        held_still e h = subst (λ (o : Option (List ℕ)). IfSome first.held (λ held. o ≡ Some (held ++ lines.lines))) (sym e) h
+
+-- something can be said of each item
+some_sight : (input : Lists) (store : State) (item : ℕ) → (sight : Sight) × IsSightOf input store item sight
+some_sight input store item = by (store.reads (item_cell input item)) refl
+  where
+    name : List ℕ
+    name = item_name input item
+
+    tell : (slot : List ℕ) (b : Bool) → bytes_eq (take 34 slot) (header_of name) ≡ b → MatchBool b (HasHeader name slot) (¬ HasHeader name slot)
+    tell slot true e = (bytes_eq-Decides (take 34 slot) (header_of name)).0 e
+    tell slot false e = λ is. false≢true (sym e ∙ (bytes_eq-Decides (take 34 slot) (header_of name)).1 is)
+
+    by : (o : Option (List ℕ)) → store.reads (item_cell input item) ≡ o → (sight : Sight) × IsSightOf input store item sight
+    by None e = (
+      record { named = false; digest = [] },
+      record {
+        named = λ still. subst (λ (o : Option (List ℕ)). IfSome o (λ slot. MatchBool false (HasHeader name slot) (¬ HasHeader name slot))) (sym e) tt;
+        digest = λ still. subst (λ (o : Option (List ℕ)). IfSome o (λ slot. [] ≡ sha256 slot)) (sym e) tt;
+      },
+    )
+    by (Some slot) e = (
+      record { named = bytes_eq (take 34 slot) (header_of name); digest = sha256 slot },
+      record {
+        named = λ still. subst (λ (o : Option (List ℕ)). IfSome o (λ s. MatchBool (bytes_eq (take 34 slot) (header_of name)) (HasHeader name s) (¬ HasHeader name s))) (sym e) (tell slot (bytes_eq (take 34 slot) (header_of name)) refl);
+        digest = λ still. subst (λ (o : Option (List ℕ)). IfSome o (λ s. sha256 slot ≡ sha256 s)) (sym e) refl;
+      },
+    )
+
+-- lines can be gone on with
+pub record GoesOn (input : Lists) (store : State) (item : ℕ) (lines : List ℕ) : Type 0 where
+  pub rest : List ℕ
+  pub here : ℕ
+  pub are : AreSightLines input store item (lines ++ rest) here
+
+more_lines : (input : Lists) (store : State) (more item : ℕ) (lines : List ℕ) (here : ℕ) → AreSightLines input store item lines here → GoesOn input store (more + item) lines
+more_lines input store zero item lines here are = record { rest = []; here = here; are = subst (λ (n : ℕ). AreSightLines input store n (lines ++ []) here) (let e : item ≡ 0 + item = omega arith in e) (subst (λ (l : List ℕ). AreSightLines input store item l here) (sym (append-nil lines)) are) }
+more_lines input store (suc more) item lines here are =
+    let go = more_lines input store more item lines here are in
+    let next = some_sight input store (more + item) in
+    record {
+      rest = go.rest ++ sight_line input (more + item) next.0;
+      here = go.here + (if next.0.named then 1 else 0);
+      are = subst (λ (n : ℕ). AreSightLines input store n (lines ++ (go.rest ++ sight_line input (more + item) next.0)) (go.here + (if next.0.named then 1 else 0))) (let e : suc (more + item) ≡ suc more + item = omega arith in e)
+          (lines ++ go.rest, go.here, next.0, go.are, next.1, sym (append_assoc lines go.rest (sight_line input (more + item) next.0)), refl);
+    }
+
+pub record Completes (input : Lists) (store : State) (lines : List ℕ) : Type 0 where
+  pub rest : List ℕ
+  pub audit : IsAudit input store (lines ++ rest)
+
+-- up to a whole text
+pub whole_audit : (input : Lists) (store : State) (item : ℕ) (lines : List ℕ) (here : ℕ) → item ≤ length input.items → AreSightLines input store item lines here → Completes input store lines
+whole_audit input store item lines here most are =
+    let go = more_lines input store (length input.items - item) item lines here are in
+    record {
+      rest = go.rest ++ sight_count input go.here;
+      audit = (lines ++ go.rest, go.here, subst (λ (n : ℕ). AreSightLines input store n (lines ++ go.rest) go.here) (let e : length input.items - item + item ≡ length input.items = omega (arith, most) in e) go.are, sym (append_assoc lines go.rest (sight_count input go.here)));
+    }

@@ -1,0 +1,62 @@
+use Rattle.std.proofs.Common.{◌≡◌, ◌+◌, ℕ, length, sym, subst, arith}
+use Rattle.mig_top.specs.Audits.{AuditStops, HavePutSights}
+use Rattle.mig_top.proofs.Sightings.{line_more, line_stops, looks_then, no_lines}
+use Rattle.mig_top.proofs.StepEnds.{handed_on}
+use Rattle.mig_top.proofs.StoreEnds.{looks_none}
+use Rattle.mig_top.proofs.audit_command.put_sights.Goals as goal
+
+pub loop-item-init : goal.loop-item-init
+loop-item-init g c = record {
+  put = no_lines c.args.input.now (g.S.Store.state c.args.store.now) (g.K.Sink.state c.args.out.now);
+  looks = looks_none (g.S.Store.state c.args.store.now);
+  later = omega arith;
+  store_later = omega arith;
+}
+
+pub loop-item-preserved : goal.loop-item-preserved
+loop-item-preserved g c =
+    let inv = c.loop-item.invariant in
+    let input = c.args.input.now in
+    let old = g.S.Store.state c.args.store.now in
+    let mid = g.S.Store.state c.loop-item.store in
+    let first = g.K.Sink.state c.args.out.now in
+    let new = g.K.Sink.state c.put_sight.new.out in
+    record {
+      put = subst (λ (n : ℕ). HavePutSights input old (c.loop-item.item + 1) first new n) (sym c.count_named-here.ensures)
+          (line_more input old mid inv.looks c.loop-item.item first (g.K.Sink.state c.loop-item.out) c.loop-item.here inv.put new c.in_ok-put_sight.field-0 c.in_ok-put_sight.ensures.put);
+      looks = looks_then old mid inv.looks (g.S.Store.state c.put_sight.new.store) c.put_sight.ensures.looks;
+      later = omega (arith, inv.later, c.put_sight.ensures.later);
+      store_later = omega (arith, inv.store_later, c.put_sight.ensures.store_later);
+    }
+
+pub returns-in_err-put_sight-clause-stopped : goal.returns-in_err-put_sight-clause-stopped
+returns-in_err-put_sight-clause-stopped g c =
+    let inv = c.loop-item.invariant in
+    let input = c.args.input.now in
+    let old = g.S.Store.state c.args.store.now in
+    let last = g.S.Store.state c.put_sight.new.store in
+    let first = g.K.Sink.state c.args.out.now in
+    let new = g.K.Sink.state c.put_sight.new.out in
+    handed_on c.from_residual.result c.in_err-put_sight.field-0.0 (AuditStops input old last first new) c.from_residual.ensures.1
+    (line_stops input old (g.S.Store.state c.loop-item.store) inv.looks c.loop-item.item first (g.K.Sink.state c.loop-item.out) c.loop-item.here inv.put (omega (arith, c.loop-item-test.true, c.item_count-item-end.ensures.count)) last inv.later inv.store_later new c.in_err-put_sight.field-0.0 c.in_err-put_sight.ensures.stopped)
+
+pub returns-in_err-put_sight-clause-looks : goal.returns-in_err-put_sight-clause-looks
+returns-in_err-put_sight-clause-looks g c = looks_then (g.S.Store.state c.args.store.now) (g.S.Store.state c.loop-item.store) c.loop-item.invariant.looks (g.S.Store.state c.put_sight.new.store) c.put_sight.ensures.looks
+
+pub returns-in_err-put_sight-clause-later : goal.returns-in_err-put_sight-clause-later
+returns-in_err-put_sight-clause-later g c = omega (arith, c.loop-item.invariant.later, c.put_sight.ensures.later)
+
+pub returns-in_err-put_sight-clause-store_later : goal.returns-in_err-put_sight-clause-store_later
+returns-in_err-put_sight-clause-store_later g c = omega (arith, c.loop-item.invariant.store_later, c.put_sight.ensures.store_later)
+
+pub returns : goal.returns
+returns g c =
+    let inv = c.loop-item.invariant in
+    record {
+      put = subst (λ (n : ℕ). HavePutSights c.args.input.now (g.S.Store.state c.args.store.now) n (g.K.Sink.state c.args.out.now) (g.K.Sink.state c.loop-item.out) c.loop-item.here)
+          (let e : c.loop-item.item ≡ length c.args.input.now.items = omega (arith, c.loop-item-test.false, c.item_count-item-end.ensures.count, c.loop-item.auto.item-end) in e) inv.put;
+      stopped = tt;
+      looks = inv.looks;
+      later = inv.later;
+      store_later = inv.store_later;
+    }

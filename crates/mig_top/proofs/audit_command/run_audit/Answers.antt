@@ -1,0 +1,35 @@
+use Rattle.std.proofs.Common.{◌≡◌, ◌-◌, [], ◌∷◌, ℕ, codes, refl, subst}
+use Rattle.std.specs.Fmt.{decimal}
+use Rattle.mig_io.specs.Held.{Extends, ExtendsInPart}
+use Rattle.mig_top.specs.declared.audit_command.Stop.{Stop}
+use Rattle.mig_top.specs.Audits.{AuditStops}
+use Rattle.mig_top.specs.Calls.{Call, call, world}
+use Rattle.mig_top.specs.Outcomes.{joined}
+use Rattle.mig_top.proofs.Auditing.{lines_end, sink_stops, store_stops}
+use Rattle.mig_top.proofs.audit_command.run_audit.Goals as goal
+
+pub returns-in-Ok-put_sights : goal.returns-in-Ok-put_sights
+returns-in-Ok-put_sights g c =
+    let k : Call = call (world (g.F.Folder.state c.args.folder.now) (g.K.Sink.state c.args.out.now) (g.S.Store.state c.args.store.now)) (world (g.F.Folder.state c.load_layout.new.folder) (g.K.Sink.state c.show_parts.new.out) (g.S.Store.state c.put_sights.new.store)) in
+    let input = c.in-Ok.input in
+    let mid = g.K.Sink.state c.put_sights.new.out in
+    let here = c.in-Ok-put_sights.here in
+    lines_end k c.args.disks.now c.args.now.now c.load_layout.ensures.same c.put_sights.ensures.looks input c.in-Ok.ensures.stands c.show_parts.result mid c.put_sights.ensures.later here c.in-Ok-put_sights.ensures.put c.show_parts.ensures.status
+    (subst (λ (n : ℕ). ExtendsInPart (joined (decimal here ∷ codes " here, " ∷ decimal (n - here) ∷ codes " lost\n" ∷ [])) mid k.after.sink) c.item_count.ensures.count c.show_parts.ensures.begun)
+    (subst (λ (n : ℕ). c.show_parts.result ≡ 0 → Extends (joined (decimal here ∷ codes " here, " ∷ decimal (n - here) ∷ codes " lost\n" ∷ [])) mid k.after.sink) c.item_count.ensures.count c.show_parts.ensures.done)
+
+pub returns-in-Err-Sink : goal.returns-in-Err-Sink
+returns-in-Err-Sink g c =
+    let k : Call = call (world (g.F.Folder.state c.args.folder.now) (g.K.Sink.state c.args.out.now) (g.S.Store.state c.args.store.now)) (world (g.F.Folder.state c.load_layout.new.folder) (g.K.Sink.state c.put_sights.new.out) (g.S.Store.state c.put_sights.new.store)) in
+    let input = c.in-Ok.input in
+    sink_stops k c.args.disks.now c.args.now.now c.load_layout.ensures.same c.put_sights.ensures.looks input c.in-Ok.ensures.stands 6
+    (subst (λ (s : Stop). AuditStops input k.before.store k.after.store k.before.sink k.after.sink s) c.in-Err-Sink.field-0-is c.in-Err-Sink.ensures.stopped) refl
+
+pub returns : goal.returns
+returns g c =
+    let k : Call = call (world (g.F.Folder.state c.args.folder.now) (g.K.Sink.state c.args.out.now) (g.S.Store.state c.args.store.now)) (world (g.F.Folder.state c.load_layout.new.folder) (g.K.Sink.state c.tell-in-Err-Store.new.out) (g.S.Store.state c.put_sights.new.store)) in
+    let input = c.in-Ok.input in
+    let mid = g.K.Sink.state c.put_sights.new.out in
+    let e = c.tell-in-Err-Store.ensures in
+    store_stops k c.args.disks.now c.args.now.now c.load_layout.ensures.same c.put_sights.ensures.looks input c.in-Ok.ensures.stands c.tell-in-Err-Store.result mid c.put_sights.ensures.later
+    (subst (λ (s : Stop). AuditStops input k.before.store k.after.store k.before.sink mid s) c.in-Err-Store.field-0-is c.in-Err-Store.ensures.stopped) e.status e.begun e.whole

@@ -1,0 +1,82 @@
+-- What `move` and `resume` leave in a store.
+use Rattle.std.specs.Prelude.{◌≡◌, ◌≤◌, ℕ, List, length}
+use Rattle.std.specs.Option.{IfSome}
+use Rattle.mig_base.specs.Arrivals.{IsArrived, IsReached}
+use Rattle.mig_base.specs.Flights.{AreFlights}
+use Rattle.mig_base.specs.JobCells.{IsJobCell, SettlesTo, Tells}
+use Rattle.mig_base.specs.Journals.{count_of}
+use Rattle.mig_base.specs.RoundEvents.{Adds, IsRun}
+use Rattle.mig_base.specs.Safety.{Contents, IsSafe}
+use Rattle.mig_base.specs.Stores.{State, LeavesOnly, flights}
+use Rattle.mig_io.specs.Files.{FolderState}
+use Rattle.mig_lanes.specs.LaneSteps.{later_rounds}
+use Rattle.mig_lanes.specs.Runs.{Finishes, IsPart}
+use Rattle.mig_mover.specs.Moves.{Keeps, MayBeHalting, Settles, StaysArmed}
+use Rattle.mig_mover.specs.Tasks.{Task}
+use Rattle.mig_top.specs.MoveLooks.{IsTaskOf}
+use Rattle.mig_top.specs.Outcomes.{Outcome, Done, StoreFault, Started, OtherPlan, NotThere, Occupied}
+use Rattle.mig_top.specs.StoreLeaves.{IsUntouched}
+
+-- the four files, where they are told, stand for this task
+abbrev pub AreOfTask : FolderState → List ℕ → List ℕ → List ℕ → List ℕ → Task → Type 0
+AreOfTask folder disks now next plan task = IfSome folder.files (λ files. IsTaskOf files disks now next plan task)
+
+-- what holds whatever is answered; the gate stays 1 once it is
+pub record Carries (task : Task) (old new : State) : Type 0 where
+  pub keeps : Keeps task old new
+  pub armed : StaysArmed old new
+
+-- the copies that were in flight ended, and nothing else was done
+pub record Refuses (task : Task) (old new : State) : Type 0 where
+  pub carries : Carries task old new
+  pub settles : Settles old new
+
+-- part of it was carried out, after k rounds that were marked before
+pub record MovesInPart (task : Task) (old new : State) (k : ℕ) : Type 0 where
+  pub carries : Carries task old new
+  pub part : Adds (IsPart task old k) old new
+
+-- so many rounds were marked
+pub record HasFound (task : Task) (old : State) (k : ℕ) : Type 0 where
+  pub most : k ≤ length task.plan
+  pub found : Tells (IsJobCell task.input task.plan) old.reads → AreFlights (flights old) → k ≡ count_of (length task.plan) old.reads
+
+-- the same after as many as a resumption finds
+abbrev pub ResumesInPart : Task → State → State → Type 0
+ResumesInPart task old new = (k : ℕ) × HasFound task old k × MovesInPart task old new k
+
+-- all of it was carried out
+pub record MovesAll (task : Task) (old new : State) (k : ℕ) : Type 0 where
+  pub carries : Carries task old new
+  pub finishes : Finishes task old new k
+  pub events : Adds (IsRun (flights old) (later_rounds task k)) old new
+
+-- where closing the plan early was stopped, no item is lost
+abbrev pub KeepsHalting : Task → State → State → Type 0
+KeepsHalting task old new = (contents : Contents) (n : ℕ) → Tells (IsJobCell task.input task.plan) old.reads → MayBeHalting task contents old n
+    → LeavesOnly (IsSafe task.input task.plan task.digest contents) old new
+
+-- and a plan that is carried out after it arrives; one that had reached its target stays so
+pub record ResumesAll (task : Task) (old new : State) (k : ℕ) : Type 0 where
+  pub moves : MovesAll task old new k
+  pub halting : KeepsHalting task old new
+  pub halted : (contents : Contents) (n : ℕ) → Tells (IsJobCell task.input task.plan) old.reads → MayBeHalting task contents old n → IsArrived task.input task.plan task.digest contents new.reads
+  pub kept : (contents : Contents) → Tells (IsJobCell task.input task.plan) old.reads → SettlesTo (IsReached task.input task.plan task.digest contents) old → IsReached task.input task.plan task.digest contents new.reads
+
+-- with some task that the files stand for
+abbrev pub ForTask : FolderState → List ℕ → List ℕ → List ℕ → List ℕ → (Task → Type 0) → Type 0
+ForTask folder disks now next plan P = (task : Task) × AreOfTask folder disks now next plan task × P task
+
+abbrev pub MoveLeaves : FolderState → State → State → (disks now next plan : List ℕ) → Outcome → Type 0
+MoveLeaves folder old new disks now next plan (Done text) = ForTask folder disks now next plan (λ task. MovesAll task old new 0 × MovesInPart task old new 0)
+MoveLeaves folder old new disks now next plan (StoreFault before) = ForTask folder disks now next plan (λ task. MovesInPart task old new 0)
+MoveLeaves folder old new disks now next plan Started = ForTask folder disks now next plan (λ task. Refuses task old new)
+MoveLeaves folder old new disks now next plan (OtherPlan kept ours) = ForTask folder disks now next plan (λ task. Refuses task old new)
+MoveLeaves folder old new disks now next plan (NotThere item) = ForTask folder disks now next plan (λ task. Refuses task old new)
+MoveLeaves folder old new disks now next plan (Occupied disk slot) = ForTask folder disks now next plan (λ task. Refuses task old new)
+MoveLeaves folder old new disks now next plan o = IsUntouched old new
+
+abbrev pub ResumeLeaves : FolderState → State → State → (disks now next plan : List ℕ) → Outcome → Type 0
+ResumeLeaves folder old new disks now next plan (Done text) = ForTask folder disks now next plan (λ task. (k : ℕ) × ResumesAll task old new k × ResumesInPart task old new)
+ResumeLeaves folder old new disks now next plan (StoreFault before) = ForTask folder disks now next plan (λ task. ResumesInPart task old new × KeepsHalting task old new)
+ResumeLeaves folder old new disks now next plan o = MoveLeaves folder old new disks now next plan o

@@ -1,0 +1,38 @@
+//! `fill`: writes made items to where a layout lists items.
+ghost use Rattle.mig_base.specs.Stores.{State};
+ghost use Rattle.mig_top.specs.Calls.{call, world};
+ghost use Rattle.mig_top.specs.Ends.{FormEndsAs};
+ghost use Rattle.mig_top.specs.Words.{Fill};
+
+use crate::layout_reads::{item_count, load_layout};
+use crate::naming::fault_ending;
+use crate::putting::Part::{Number, Text};
+use crate::telling::{show_parts, tell};
+use mig_io::{Folder, Sink};
+use mig_mover::fill;
+use mig_store::Store;
+use std::alloc::Global;
+
+/// `fill`, with its text. Once the files are read it takes no memory.
+pub fn run_fill<F: Folder, K: Sink, S: Store>(
+    alloc: Global,
+    folder: &mut F,
+    out: &mut K,
+    store: &mut S,
+    disks: &str,
+    now: &str,
+) -> u8
+    ensures { FormEndsAs (call (world (F.state folder.old) (K.state out.old) (S.state store.old)) (world (F.state folder.new) (K.state out.new) (S.state store.new))) (Fill disks.now now.now) result }
+{
+    let input = match load_layout(alloc, folder, disks, now) {
+        Ok(input) => input,
+        Err(ending) => return tell(out, ending, &[disks, now]),
+    };
+    match fill(&input, store) {
+        Ok(()) => show_parts(
+            out,
+            &[Text(b"filled "), Number(item_count(&input)), Text(b"\n")],
+        ),
+        Err(fault) => tell(out, fault_ending(&input, fault), &[disks, now]),
+    }
+}
