@@ -60,6 +60,13 @@ impl Board {
         })
     }
 
+    /// The board keeps the rules of every board. The call does nothing; it is made where a proof needs them.
+    pub fn keeps_rules(&self)
+        ensures { IsProper self.now }
+    {
+        let _ends = &self.ends;
+    }
+
     /// The number of nodes.
     pub fn nodes(&self) -> u32
         ensures value { result ≡ self.now.nodes }

@@ -115,12 +115,17 @@ impl Cells {
 /// The disks' files, whose table is made at the first use.
 fn disks_of(disks: &mut Option<Disks>, alloc: Global) -> Result<&mut Disks, Failure> {
     if disks.is_none() {
-        *disks = Some(Disks::new(alloc)?);
+        make_disks(disks, alloc)?;
     }
     match disks {
         Some(disks) => Ok(disks),
         None => Err(Failure::memory(Place::Folder)),
     }
+}
+
+fn make_disks(disks: &mut Option<Disks>, alloc: Global) -> Result<(), Failure> {
+    *disks = Some(Disks::new(alloc)?);
+    Ok(())
 }
 
 /// Brings the names of files that were made to the device.

@@ -19,14 +19,32 @@ const SPARE: usize = 8;
 /// The system's error where a process may open no more files (EMFILE).
 const TOO_MANY_OPEN: i32 = 24;
 
-/// The disks' files. They are kept open; where there are too many, the least recently used one is closed, and synced before if it was written.
+/// What is known of the file of a disk that was looked for.
+#[derive(Clone, Copy)]
+enum Known {
+    /// It isn't there.
+    Absent,
+    /// The device may lack some of its bytes: written by this process, or by an earlier one that ended without a sync.
+    Unsynced,
+    /// The device has all of its bytes.
+    Synced,
+}
+
+/// A disk's file that is open.
+#[derive(Drop)]
+struct Opened {
+    kept: Kept,
+    /// Its place in what is known.
+    place: usize,
+}
+
+/// The disks' files. They are kept open; where there are too many, the least recently used one is closed, and synced before if it was written. That a file isn't there is found out once, until this process makes it.
 #[derive(Drop)]
 pub struct Disks {
-    open: LruCache<Name, Kept>,
+    open: LruCache<Name, Opened>,
     /// How many may be open.
     most: usize,
-    /// For each disk whose file was opened, whether the device may lack some of its bytes: written by this process, or by an earlier one that ended without a sync.
-    unsynced: IndexMap<Name, bool>,
+    known: IndexMap<Name, Known>,
     /// A file was made since the folder was synced.
     pub made: bool,
     /// A file that had to be closed could not be synced.
@@ -43,7 +61,7 @@ impl Disks {
             Ok(open) => Ok(Disks {
                 open,
                 most: MOST_OPEN,
-                unsynced: IndexMap::new(alloc),
+                known: IndexMap::new(alloc),
                 made: false,
                 lost: false,
             }),
@@ -60,16 +78,15 @@ impl Disks {
         offset: u64,
         into: &mut [u8],
     ) -> Result<(), Failure> {
-        if !self.open.contains(&name) && !self.open_for_reading(rt, alloc, name)? {
+        if let Some(done) = self.read_opened(name, offset, into) {
+            return done;
+        }
+        if self.is_absent(name) || !self.open_for_reading(rt, alloc, name)? {
             into.fill(0);
             return Ok(());
         }
-        match self.open.get(&name) {
-            Some(kept) => kept
-                .read(offset, into)
-                .map_err(|error| Failure::new(Place::Disk(name), error)),
-            None => Err(Failure::memory(Place::Disk(name))),
-        }
+        let done = self.read_opened(name, offset, into);
+        done.unwrap_or(Err(Failure::memory(Place::Disk(name))))
     }
 
     /// Writes at an offset of the disk's file, which is made where it isn't there.
@@ -81,27 +98,21 @@ impl Disks {
         offset: u64,
         bytes: &[u8],
     ) -> Result<(), Failure> {
-        if !self.is_writable(name) {
-            self.open_for_writing(rt, alloc, name)?;
+        if let Some(done) = self.write_opened(name, offset, bytes) {
+            return done;
         }
-        self.note(name, true)?;
-        match self.open.get_mut(&name) {
-            Some(kept) => kept
-                .write(offset, bytes)
-                .map_err(|error| Failure::new(Place::Disk(name), error)),
-            None => Err(Failure::memory(Place::Disk(name))),
-        }
+        self.open_for_writing(rt, alloc, name)?;
+        let done = self.write_opened(name, offset, bytes);
+        done.unwrap_or(Err(Failure::memory(Place::Disk(name))))
     }
 
     /// Syncs each file that was written, and once each that was opened. One that was closed since is opened for it.
     pub fn sync<R: Files<File = File>>(&mut self, rt: &R, alloc: Global) -> Result<(), Failure> {
-        for i in 0..self.unsynced.len() {
-            let Some((name, true)) = self.unsynced.get_index(i) else {
-                continue;
-            };
-            let name = *name;
-            self.sync_disk(rt, alloc, name)?;
-            self.note(name, false)?;
+        for place in 0..self.known.len() {
+            if let Some((name, Known::Unsynced)) = self.known.get_index(place) {
+                let name = *name;
+                self.sync_disk(rt, alloc, name)?;
+            }
         }
         Ok(())
     }
@@ -112,19 +123,58 @@ impl Disks {
         alloc: Global,
         name: Name,
     ) -> Result<(), Failure> {
-        if !self.open.contains(&name) && !self.open_for_reading(rt, alloc, name)? {
+        if let Some(done) = self.sync_opened(name) {
+            return done;
+        }
+        if !self.open_for_reading(rt, alloc, name)? {
             return Ok(());
         }
-        match self.open.peek_mut(&name) {
-            Some(kept) => kept
-                .sync()
-                .map_err(|error| Failure::new(Place::Disk(name), error)),
-            None => Err(Failure::memory(Place::Disk(name))),
-        }
+        let done = self.sync_opened(name);
+        done.unwrap_or(Err(Failure::memory(Place::Disk(name))))
     }
 
-    fn is_writable(&self, name: Name) -> bool {
-        self.open.peek(&name).is_some_and(|kept| kept.writable)
+    /// Reads where the disk's file is open.
+    fn read_opened(
+        &mut self,
+        name: Name,
+        offset: u64,
+        into: &mut [u8],
+    ) -> Option<Result<(), Failure>> {
+        let opened = self.open.get(&name)?;
+        let done = opened.kept.read(offset, into);
+        Some(done.map_err(|error| Failure::new(Place::Disk(name), error)))
+    }
+
+    /// Writes where the disk's file is open for writing.
+    fn write_opened(
+        &mut self,
+        name: Name,
+        offset: u64,
+        bytes: &[u8],
+    ) -> Option<Result<(), Failure>> {
+        let opened = self.open.get_mut(&name)?;
+        if !opened.kept.writable {
+            return None;
+        }
+        *self.known.get_index_mut(opened.place)? = Known::Unsynced;
+        let done = opened.kept.write(offset, bytes);
+        Some(done.map_err(|error| Failure::new(Place::Disk(name), error)))
+    }
+
+    /// Syncs where the disk's file is open.
+    fn sync_opened(&mut self, name: Name) -> Option<Result<(), Failure>> {
+        let opened = self.open.peek_mut(&name)?;
+        let known = self.known.get_index_mut(opened.place)?;
+        if let Err(error) = opened.kept.sync() {
+            return Some(Err(Failure::new(Place::Disk(name), error)));
+        }
+        *known = Known::Synced;
+        Some(Ok(()))
+    }
+
+    /// Whether the disk's file was looked for and isn't there.
+    fn is_absent(&self, name: Name) -> bool {
+        matches!(self.known.get(&name), Some(Known::Absent))
     }
 
     /// Opens the disk's file, and says whether it is there.
@@ -144,7 +194,10 @@ impl Disks {
                 self.keep(name, kept)?;
                 Ok(true)
             }
-            Ok(None) => Ok(false),
+            Ok(None) => {
+                self.note(name, Known::Absent)?;
+                Ok(false)
+            }
             Err(error) => Err(Failure::new(Place::Disk(name), error)),
         }
     }
@@ -187,40 +240,43 @@ impl Disks {
         Ok(())
     }
 
-    /// Keeps a file open, in place of the least recently used one where there are too many.
+    /// Keeps a file open, in place of the least recently used one where there are too many. One that was never open before counts as not synced.
     fn keep(&mut self, name: Name, kept: Kept) -> Result<(), Failure> {
         if self.open.len() >= self.most {
             self.close_oldest()?;
         }
-        if !self.unsynced.contains_key(&name) {
-            self.note(name, true)?;
-        }
-        match self.open.put(name, kept) {
+        let known = match self.known.get(&name) {
+            Some(Known::Synced) => Known::Synced,
+            _ => Known::Unsynced,
+        };
+        let place = self.note(name, known)?;
+        match self.open.put(name, Opened { kept, place }) {
             Ok(_) => Ok(()),
             Err(_) => Err(Failure::memory(Place::Disk(name))),
         }
     }
 
-    /// Notes whether the device may lack bytes of the disk's file.
-    fn note(&mut self, name: Name, unsynced: bool) -> Result<(), Failure> {
-        match self.unsynced.insert(name, unsynced) {
-            Ok(_) => Ok(()),
+    /// Notes what is known of the disk's file, and answers its place.
+    fn note(&mut self, name: Name, known: Known) -> Result<usize, Failure> {
+        match self.known.insert_full(name, known) {
+            Ok((place, _)) => Ok(place),
             Err(_) => Err(Failure::memory(Place::Disk(name))),
         }
     }
 
     /// Closes the least recently used file. One that was written is synced before: only who has it open is told of a write that came to nothing.
     fn close_oldest(&mut self) -> Result<(), Failure> {
-        let Some((name, mut kept)) = self.open.pop_lru() else {
+        let Some((name, mut opened)) = self.open.pop_lru() else {
             return Ok(());
         };
-        if !kept.written {
+        if !opened.kept.written {
             return Ok(());
         }
-        if let Err(error) = kept.sync() {
+        if let Err(error) = opened.kept.sync() {
             self.lost = true;
             return Err(Failure::new(Place::Disk(name), error));
         }
-        self.note(name, false)
+        self.note(name, Known::Synced)?;
+        Ok(())
     }
 }

@@ -49,11 +49,20 @@ impl Journal {
         }
     }
 
-    /// Opens the file for writing, and takes it for this process alone until it ends. It is refused where another process has it.
+    /// Takes the file for this process alone until it ends. It is refused where another process has it.
     pub fn lock<R: Files<File = File>>(&mut self, rt: &R, alloc: Global) -> Result<(), Failure> {
         if self.locked {
             return Ok(());
         }
+        self.open_and_lock(rt, alloc)
+    }
+
+    /// Opens the file for writing, and locks it.
+    fn open_and_lock<R: Files<File = File>>(
+        &mut self,
+        rt: &R,
+        alloc: Global,
+    ) -> Result<(), Failure> {
         let (kept, made) = open_to_write(rt, alloc, Place::Journal).map_err(of_journal)?;
         self.made = self.made || made;
         match kept.file().try_lock() {

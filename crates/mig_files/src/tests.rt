@@ -56,6 +56,9 @@ fn a_synced_cell_is_read_by_a_new_store(rt: HostRuntime) -> Result<(), Fail> {
     let alloc = rt.alloc();
     {
         let mut store = FileStore::new(&rt, alloc);
+        // a missing file reads as zeros, and what is written then is read
+        assert!(rt; has(&mut store, &slot_of(b"a", 3), 0));
+        assert!(rt; has(&mut store, &slot_of(b"a", 3), 0));
         assert!(rt; put(&mut store, &slot_of(b"a", 3), 7));
         assert!(rt; has(&mut store, &slot_of(b"a", 3), 7));
         assert!(rt; store.write(&Cell::Head, &[5; 32]).is_ok());
@@ -162,6 +165,7 @@ fn what_is_refused(rt: HostRuntime) -> Result<(), Fail> {
     let mut store = FileStore::new(&rt, alloc);
     assert!(rt; has(&mut store, &a, 1));
     assert!(rt; put(&mut store, &a, 2));
+    assert!(rt; has(&mut store, &a, 2));
     assert!(rt; store.sync().is_ok());
     leave(&rt, "refused")?;
     Ok(())

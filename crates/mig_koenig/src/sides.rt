@@ -76,5 +76,5 @@ pub fn colour_sides(board: &mut Board, left: u32)
     for edge in 0..board.edges() {
         colour_edge(board, EdgeId(edge), left);
     }
-    let _edges = board.edges();
+    board.keeps_rules();
 }

@@ -1,5 +1,5 @@
-//! Tests alone: the calls of the mover over stores in memory, and plans that are carried out on them, stopped anywhere, and
-//! resumed. They stand apart from the mover, so that it is proved once.
+//! Tests alone: the calls of the mover over stores in memory, and plans that are carried out on them, stopped anywhere, resumed
+//! and drilled. They stand apart from the mover and the drill, so that each is proved once.
 #![tactic(auto)]
 
 #[cfg(test)]
@@ -7,9 +7,13 @@ mod cases;
 #[cfg(test)]
 mod cells;
 #[cfg(test)]
+mod drilling;
+#[cfg(test)]
 mod filling;
 #[cfg(test)]
 mod flying;
+#[cfg(test)]
+mod halting;
 #[cfg(test)]
 mod jobs;
 #[cfg(test)]

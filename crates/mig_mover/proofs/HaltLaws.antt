@@ -1,11 +1,9 @@
 -- Closing a migration early: the free slots are erased, the store is synced, and the journal is closed.
-use Rattle.std.proofs.Common.{◌≡◌, ◌⊎◌, inl, inr, ⊎_elim, ℕ, ◌≤◌, List, [], ◌∷◌, length, Option, Some, None, IfSome, IsSome, refl, sym, ◌∙◌, ap, subst}
+use Rattle.std.proofs.Common.{◌≡◌, inl, inr, ⊎_elim, ℕ, ◌≤◌, List, [], ◌∷◌, length, Option, Some, None, IfSome, IsSome, refl, sym, ◌∙◌, ap, subst}
 use Rattle.std.proofs.lemmas.Bool.{false≢true}
-use Rattle.mig_base.specs.declared.ids.Spot.{Spot}
-use Rattle.mig_base.specs.declared.cells.Cell.{Cell}
 use Rattle.mig_base.specs.declared.cells.Cell.TheVariants.{Gate}
 use Rattle.mig_base.specs.Arrivals.{AreFreeZeros, IsHalted, IsHaltSafe}
-use Rattle.mig_base.specs.Images.{Image, NoCell, SameBut}
+use Rattle.mig_base.specs.Images.{Image, NoCell}
 use Rattle.mig_base.specs.Journals.{is_one, count_of}
 use Rattle.mig_base.specs.JobCells.{IsFreeSlot, IsHaltCell, Tells}
 use Rattle.mig_base.specs.Safety.{Contents, IsSafeAt, IsSafe, IsSafeAfter}

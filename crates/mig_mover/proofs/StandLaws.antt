@@ -1,9 +1,9 @@
 -- Where a migration stands: the first sync, and then what looks at a settled store find.
-use Rattle.std.proofs.Common.{◌≡◌, ◌⊎◌, inl, inr, ◌≤◌, true, ℕ, List, [], length, Option, Some, None, Result, Ok, Err, IfOk, IfErr, IfSome, IsSome, refl, sym, ◌∙◌, ap, subst, arith}
+use Rattle.std.proofs.Common.{◌≡◌, inl, inr, ◌≤◌, true, false, ℕ, List, length, Option, Some, Result, Ok, Err, IfOk, IfErr, IfSome, IsOk, IsSome, refl, sym, ◌∙◌, subst, arith}
 use Rattle.std.specs.List.{prefix_len, range_with_len}
-use Rattle.std.proofs.lemmas.Bool.{cond-true}
-use Rattle.mig_base.specs.declared.cells.Cell.{Cell}
+use Rattle.std.proofs.lemmas.Bool.{cond-true, false≢true}
 use Rattle.mig_base.specs.declared.cells.Cell.TheVariants.{Gate, Head}
+use Rattle.mig_base.specs.FaultCounts.{Rose}
 use Rattle.mig_base.specs.Flights.{AreFlights}
 use Rattle.mig_base.specs.Images.{Image, NoCell}
 use Rattle.mig_base.specs.Journals.{is_armed, is_marked, count_of}
@@ -15,7 +15,7 @@ use Rattle.mig_mover.specs.Stands.{IsAt, Stands, IsOtherFault, IsStandFault}
 use Rattle.mig_mover.specs.Tasks.{Task}
 use Rattle.mig_mover.specs.declared.faults.MoveFault.{MoveFault}
 use Rattle.mig_mover.specs.declared.faults.MoveFault.TheVariants.{Store, Started, OtherPlan, NotStarted, NotThere, Occupied}
-use Rattle.mig_mover.proofs.Settling.{tells_more, count_kept, settles_quiet, head_is}
+use Rattle.mig_mover.proofs.Settling.{tells_more, journal_kept, gate_kept, count_kept, settles_quiet, head_is}
 
 module _ (task : Task) (old mid : State) (settles : Settles old mid) (later : old.faults ≤ mid.faults) (running : IsRunning mid.reads)
     (kept : List ℕ) (head : IfSome (mid.reads Head) (λ bytes. kept ≡ bytes)) (new : State) (quiet : ChangesOnly NoCell mid new) where
@@ -59,3 +59,54 @@ module _ (task : Task) (old mid : State) (settles : Settles old mid) (later : ol
 pub if_ok_all : {T E : Type 0} {A B C P : T → Type 0} (r : Result T E) → ((x : T) → A x → B x → C x → P x) → IfOk r A → IfOk r B → IfOk r C → IfOk r P
 if_ok_all (Ok x) gives a b c = gives x a b c
 if_ok_all (Err e) gives a b c = tt
+
+-- What is answered where the store doesn't fail
+
+module _ (task : Task) (old new : State) (are : AreFlights (flights old)) (calm : Rose old.faults new.faults → ⊥) where
+  module _ (settles : Settles old new) where
+    gate_now : is_armed new.reads ≡ is_armed old.reads
+    gate_now = gate_kept old new settles are
+
+    head_now : (P : List ℕ → Type 0) (kept : List ℕ) → old.reads Head ≡ Some kept → IfSome (new.reads Head) P → P kept
+    head_now P kept head holds = subst (λ (cell : Option (List ℕ)). IfSome cell P) (journal_kept old new settles are Head refl ∙ head) holds
+
+    -- a gate that isn't 1 stays so
+    not_running : IsSome (old.reads Gate) → is_armed old.reads ≡ false → IsRunning new.reads → ⊥
+    not_running told idle running = false≢true (sym idle ∙ sym gate_now ∙ running (subst IsSome (sym (journal_kept old new settles are Gate refl)) told))
+
+    not_idle : is_armed old.reads ≡ true → is_armed new.reads ≡ false → ⊥
+    not_idle armed idle = false≢true (sym idle ∙ gate_now ∙ armed)
+
+  -- the gate isn't 1
+  pub not_started : IsSome (old.reads Gate) → is_armed old.reads ≡ false → (r : Result ℕ MoveFault) → IfOk r (Stands task old new) → IfErr r (IsStandFault task old new) → r ≡ Err NotStarted
+  not_started told idle (Ok k) ok err = absurd (not_running ok.settles told idle ok.at.running)
+  not_started told idle (Err Store) ok err = absurd (calm err)
+  not_started told idle (Err Started) ok err = absurd err
+  not_started told idle (Err (OtherPlan theirs ours)) ok err = absurd (not_running err.0 told idle err.1.0)
+  not_started told idle (Err NotStarted) ok err = refl
+  not_started told idle (Err (NotThere item)) ok err = absurd err
+  not_started told idle (Err (Occupied disk slot)) ok err = absurd err
+
+  module _ (armed : is_armed old.reads ≡ true) (kept : List ℕ) (head : old.reads Head ≡ Some kept) where
+    -- it is 1, and the head has another digest
+    pub other_plan : (kept ≡ task.digest → ⊥) → (r : Result ℕ MoveFault) → IfOk r (Stands task old new) → IfErr r (IsStandFault task old new) → r ≡ Err (OtherPlan kept task.digest)
+    other_plan other (Ok k) ok err = absurd (other (head_now ok.settles (λ bytes. bytes ≡ task.digest) kept head ok.at.ours))
+    other_plan other (Err Store) ok err = absurd (calm err)
+    other_plan other (Err Started) ok err = absurd err
+    other_plan other (Err (OtherPlan theirs ours)) ok err =
+        let first : theirs ≡ kept = head_now err.0 (λ bytes. theirs ≡ bytes) kept head err.1.1 in
+        let second : ours ≡ task.digest = err.1.3 in
+        λ i. Err (OtherPlan (first i) (second i))
+    other_plan other (Err NotStarted) ok err = absurd (not_idle err.0 armed err.1)
+    other_plan other (Err (NotThere item)) ok err = absurd err
+    other_plan other (Err (Occupied disk slot)) ok err = absurd err
+
+    -- it is 1, and the head has the job's
+    pub stands_ok : kept ≡ task.digest → (r : Result ℕ MoveFault) → IfErr r (IsStandFault task old new) → IsOk r
+    stands_ok ours (Ok k) err = refl
+    stands_ok ours (Err Store) err = absurd (calm err)
+    stands_ok ours (Err Started) err = absurd err
+    stands_ok ours (Err (OtherPlan theirs mine)) err = absurd (err.1.2 (head_now err.0 (λ bytes. theirs ≡ bytes) kept head err.1.1 ∙ ours))
+    stands_ok ours (Err NotStarted) err = absurd (not_idle err.0 armed err.1)
+    stands_ok ours (Err (NotThere item)) err = absurd err
+    stands_ok ours (Err (Occupied disk slot)) err = absurd err

@@ -12,11 +12,14 @@ use crate::jobs::Job;
 use mig_base::Cell;
 use mig_store::{Store, StoreFailed};
 
+// The bytes of an erased slot.
+static ERASED: [u8; 4096] = [0; 4096];
+
 // An erased slot.
-fn zero_slot() -> [u8; 4096]
-    ensures { result ≡ zeros }
+fn zero_slot() -> &'static [u8; 4096]
+    ensures { result.now ≡ zeros }
 {
-    [0; 4096]
+    &ERASED
 }
 
 /// Erases a slot.
@@ -27,7 +30,7 @@ pub(crate) fn erase<S: Store>(store: &mut S, slot: &Cell) -> Result<(), StoreFai
     ensures change { ChangesOnly (λ c. c ≡ slot.now) (S.state store.old) (S.state store.new) }
     ensures cause { HasCause (S.state store.old) (S.state store.new) result }
 {
-    store.write(slot, &zero_slot())
+    store.write(slot, zero_slot())
 }
 
 /// Writes zeros where a round's shifts leave. Rounds count from 1.

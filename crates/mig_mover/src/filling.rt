@@ -36,8 +36,8 @@ fn find_taken<S: Store>(input: &Input, store: &mut S) -> Result<Option<Spot>, St
     Ok(None)
 }
 
-// Writes the slot that is made for an item to where the item is listed.
-fn put_item<S: Store>(input: &Input, store: &mut S, item: usize) -> Result<(), StoreFailed>
+/// Writes the slot that is made for an item to where the item is listed.
+pub fn put_item<S: Store>(input: &Input, store: &mut S, item: usize) -> Result<(), StoreFailed>
     requires item { item < length input.now.items }
     requires none { flights (S.state store.old) ≡ [] }
     ensures made { OnOk result (IfSome ((S.state store.new).reads (item_cell input.now item)) (λ slot. slot ≡ made_slot (item_name input.now item))) }

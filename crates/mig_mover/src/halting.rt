@@ -5,7 +5,6 @@ ghost use Rattle.mig_base.specs.FaultCounts.{Rose};
 ghost use Rattle.mig_base.specs.JobCells.{IsFreeSlot};
 ghost use Rattle.mig_base.specs.Slots.{slot_of};
 ghost use Rattle.mig_base.specs.Stores.{State, flights, ChangesOnly, IsSettled, HasCause};
-ghost use Rattle.mig_mover.specs.declared.faults.MoveFault.TheVariants.{Store as StoreFault};
 ghost use Rattle.mig_mover.specs.Erasures.{AreZeros};
 ghost use Rattle.mig_mover.specs.Halts.{AreErased, IsClosingCell, KeepsHaltSafe, EndsHalted};
 ghost use Rattle.mig_mover.specs.Stands.{IsAt};
@@ -69,7 +68,7 @@ pub fn halt<S: Store>(job: &Job, store: &mut S, found: u32) -> Result<(), MoveFa
     ensures closed { OnOk result (IfSome ((S.state store.new).reads Gate) (λ bytes. bytes ≡ 0 ∷ [])) }
     ensures settled { OnOk result (IsSettled (S.state store.new)) }
     ensures change { ChangesOnly (IsClosingCell job.now found) (S.state store.old) (S.state store.new) }
-    ensures fault { IfErr result (λ fault. (fault ≡ StoreFault) × Rose (S.state store.old).faults (S.state store.new).faults) }
+    ensures fault { IfErr result (λ fault. (fault ≡ MoveFault.Store) × Rose (S.state store.old).faults (S.state store.new).faults) }
     ensures later { (S.state store.old).faults ≤ (S.state store.new).faults }
 {
     erase_free(job, store, found)?;

@@ -75,8 +75,8 @@ fn copy_plan(alloc: Global, plan: &Plan) -> Result<Plan, AllocError>
     Ok(Plan::of(rounds))
 }
 
-// How many shifts the plan has.
-fn count_shifts(plan: &Plan) -> u32
+/// How many shifts a plan has. Only plans with no more of them than a file has bytes are counted.
+pub fn count_shifts(plan: &Plan) -> u32
     requires { length (shifts_of plan.now) ≤ MAX_FILE_BYTES }
     ensures { result ≡ length (shifts_of plan.now) }
 {

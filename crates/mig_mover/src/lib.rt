@@ -21,9 +21,9 @@ mod vacancies;
 pub use entries::{enter_resume, enter_start};
 pub use erasing::erase_sources;
 pub use faults::MoveFault;
-pub use filling::fill;
+pub use filling::{fill, put_item};
 pub use halting::halt;
-pub use jobs::{Job, prepare};
+pub use jobs::{Job, count_shifts, prepare};
 pub use laws::{
     copied_round_may_be_marked, free_slots_hold_anything, gate_may_be_closed,
     last_round_reaches_the_target, reached_target_is_sound, slots_in_use_hold_anything,

@@ -1,9 +1,11 @@
 //! How far a plan is carried out.
-ghost use Rattle.std.specs.Prelude.{◌≡◌, ◌≢◌, ◌≤◌, [], IfErr, IfOk, IfSome, length};
+ghost use Rattle.std.specs.Prelude.{◌≡◌, ◌≢◌, ◌≤◌, ℕ, List, [], true, false, Some, Err, IfErr, IfOk, IfSome, IsOk, IsSome, length};
 ghost use Rattle.std.specs.List.{prefix_len, range_with_len};
-ghost use Rattle.mig_base.specs.declared.cells.Cell.TheVariants.{Head};
+ghost use Rattle.mig_base.specs.declared.cells.Cell.TheVariants.{Gate, Head};
+ghost use Rattle.mig_base.specs.FaultCounts.{Rose};
+ghost use Rattle.mig_base.specs.Flights.{AreFlights};
 ghost use Rattle.mig_base.specs.Images.{NoCell};
-ghost use Rattle.mig_base.specs.Journals.{is_marked};
+ghost use Rattle.mig_base.specs.Journals.{is_armed, is_marked};
 ghost use Rattle.mig_base.specs.JobCells.{IsMark, Tells};
 ghost use Rattle.mig_base.specs.Stores.{State, flights, ChangesOnly};
 ghost use Rattle.mig_mover.specs.Moves.{Lands};
@@ -38,6 +40,10 @@ pub fn stand<S: Store>(job: &Job, store: &mut S) -> Result<u32, MoveFault>
     ensures stands { IfOk result (Stands job.now (S.state store.old) (S.state store.new)) }
     ensures lands { Lands (S.state store.old) (S.state store.new) }
     ensures fault { IfErr result (IsStandFault job.now (S.state store.old) (S.state store.new)) }
+    // Where the store doesn't fail, the gate and the head say what is answered.
+    ensures not_started { AreFlights (flights (S.state store.old)) → ¬ Rose (S.state store.old).faults (S.state store.new).faults → IsSome ((S.state store.old).reads Gate) → is_armed (S.state store.old).reads ≡ false → result ≡ Err MoveFault.NotStarted }
+    ensures other { AreFlights (flights (S.state store.old)) → ¬ Rose (S.state store.old).faults (S.state store.new).faults → is_armed (S.state store.old).reads ≡ true → (kept : List ℕ) → (S.state store.old).reads Head ≡ Some kept → kept ≢ job.now.digest → result ≡ Err (MoveFault.OtherPlan kept job.now.digest) }
+    ensures running { AreFlights (flights (S.state store.old)) → ¬ Rose (S.state store.old).faults (S.state store.new).faults → is_armed (S.state store.old).reads ≡ true → (S.state store.old).reads Head ≡ Some job.now.digest → IsOk result }
     ensures later { (S.state store.old).faults ≤ (S.state store.new).faults }
 {
     match settle_and_look(store)? {

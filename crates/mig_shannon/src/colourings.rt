@@ -25,9 +25,10 @@ fn try_all(board: &mut Board, size: u32, effort: &mut Effort) -> u32
         let edge = EdgeId(edge);
         if board.colour_of(edge).is_none() && !try_edge(board, edge, size, effort) {
             left += 1;
+            effort.hurry(left);
         }
     }
-    let _edges = board.edges();
+    board.keeps_rules();
     left
 }
 
@@ -99,7 +100,7 @@ pub fn colour_few(board: &mut Board, degree: u32, start: u32)
 {
     colour_within(board, start);
     colour_rest(board, degree);
-    let _edges = board.edges();
+    board.keeps_rules();
 }
 
 /// Colours each edge of a board on which nothing is coloured.

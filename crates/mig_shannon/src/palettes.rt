@@ -7,8 +7,11 @@ const FEW_TRIES: u32 = 16;
 
 const MOST_TRIES: u32 = 1024;
 
-/// What walks that fail may cost between two improvements, and in a whole run, in steps of walks.
-const PATIENCE: u64 = 1 << 22;
+/// What walks that fail may cost, in steps of walks: between two improvements until they have failed often, and until the
+/// palette grows; and in a whole run.
+const EASE: u64 = 1 << 12;
+
+const PATIENCE: u64 = 1 << 20;
 
 const BUDGET: u64 = 1 << 26;
 
@@ -112,6 +115,13 @@ impl Effort {
         self.left == 0
     }
 
+    /// Whether walks have not failed often since the last improvement.
+    pub fn is_easy(&self) -> bool
+        ensures { IsTrue result ↔ (self.now.spent < EASE) }
+    {
+        self.spent < EASE
+    }
+
     /// Whether a pass that left so many edges is an improvement: it left fewer than before by one in sixteen or more.
     pub fn is_better(&self, edges: u32) -> bool
         ensures { IsTrue result ↔ (edges + edges / 16 < self.now.least) }
@@ -124,6 +134,16 @@ impl Effort {
         ensures { IsTrue result ↔ (PATIENCE ≤ self.now.spent * min edges 16) }
     {
         self.spent.saturating_mul(edges.min(16) as u64) >= PATIENCE
+    }
+
+    /// Tries one walk alone for each further edge of a pass, where walks have brought nothing for long.
+    pub fn hurry(&mut self, edges: u32)
+        ensures stuck { PATIENCE ≤ self.old.spent * min edges 16 → self.new ≡ record self.old { tries = 1 } }
+        ensures going { self.old.spent * min edges 16 < PATIENCE → self.new ≡ self.old }
+    {
+        if self.is_stuck(edges) {
+            self.tries = 1;
+        }
     }
 
     /// Begins anew after a pass that left so many edges.

@@ -1,5 +1,5 @@
 //! Walks that free a colour for an edge.
-ghost use Rattle.std.specs.Prelude.{◌≡◌, ◌<◌, length, IfSome, MatchBool};
+ghost use Rattle.std.specs.Prelude.{◌≡◌, ◌<◌, length, max, IfSome, MatchBool};
 ghost use Rattle.mig_board.specs.Colouring.{IsMissing, IsProper};
 ghost use Rattle.mig_board.specs.Growth.{IsPlain, PaintsOne, Recolours};
 ghost use Rattle.mig_shannon.specs.Ways.{CanWalk};
@@ -27,6 +27,27 @@ fn missing_after(board: &Board, node: CopyId, from: u32, size: u32) -> Option<Co
     None
 }
 
+/// A colour of the palette that is missing at the node. Where walks have failed often, it is missing at a drawn node too,
+/// if there is such a colour.
+///
+/// In a tight palette most colours are missing at one node alone, and a walk by two of these can only end at the edge's
+/// other end. A colour that is missing at more nodes gives it other ends.
+fn missing_rarely(board: &Board, node: CopyId, size: u32, effort: &mut Effort) -> Option<Colour>
+    requires { node.0 < board.now.nodes }
+    ensures missing { IfSome result (IsMissing board.now node) }
+    ensures below { IfSome result (λ colour. colour.0 < size) }
+{
+    if !effort.is_easy() {
+        let beside = CopyId(effort.draw(board.nodes()));
+        if let Some(colour) = board.common(node, beside) {
+            if colour.0 < size {
+                return Some(colour);
+            }
+        }
+    }
+    missing_after(board, node, effort.draw(size), size)
+}
+
 /// Colours of the palette for a walk from an edge's first end: one that is missing there, and one that is missing at
 /// the second end.
 fn draw_pair(
@@ -41,7 +62,7 @@ fn draw_pair(
     ensures lacks { IfSome result (λ pair. IsMissing board.now first pair.0) }
     ensures has { IfSome result (λ pair. IsMissing board.now second pair.1) }
 {
-    let lacks = missing_after(board, first, effort.draw(size), size)?;
+    let lacks = missing_rarely(board, first, size, effort)?;
     let has = missing_after(board, second, effort.draw(size), size)?;
     Some((lacks, has))
 }
@@ -70,6 +91,22 @@ fn try_walk(
     true
 }
 
+/// A drawn number of the palette. Where walks have failed often, it is that of a colour that is missing at a drawn node,
+/// as `missing_rarely` finds it.
+fn draw_colour(board: &Board, size: u32, effort: &mut Effort) -> Colour
+    requires { 0 < board.now.nodes }
+    ensures { result.0 < max size 1 }
+{
+    if effort.is_easy() {
+        return Colour(effort.draw(size));
+    }
+    let node = CopyId(effort.draw(board.nodes()));
+    match missing_rarely(board, node, size, effort) {
+        Some(colour) => colour,
+        None => Colour(effort.draw(size)),
+    }
+}
+
 /// Exchanges a colour of the palette that is missing at the node with another one.
 fn stir(board: &mut Board, node: CopyId, size: u32, effort: &mut Effort)
     requires { node.0 < board.old.nodes }
@@ -80,7 +117,7 @@ fn stir(board: &mut Board, node: CopyId, size: u32, effort: &mut Effort)
     let Some(lacks) = missing_after(board, node, effort.draw(size), size) else {
         return;
     };
-    let has = Colour(effort.draw(size));
+    let has = draw_colour(board, size, effort);
     if has.0 < colours && !board.is_missing(node, has) {
         board.exchange(node, lacks, has);
     }

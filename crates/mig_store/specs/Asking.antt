@@ -1,6 +1,8 @@
 -- What a store in memory tells of a cell, and what calls do to it.
-use Rattle.std.specs.Prelude.{◌/◌, ◌==◌, Bool, true, false, ℕ, List, length, take, replicate, if◌then◌else◌}
+use Rattle.std.specs.Prelude.{◌/◌, ◌==◌, Bool, true, false, ℕ, List, [], Option, Some, None, length, take, replicate, slice_get, if◌then◌else◌}
 use Rattle.mig_store.specs.Bytes.{overwritten}
+use Rattle.mig_store.specs.declared.calls.Call.{Call}
+use Rattle.mig_store.specs.declared.calls.Call.TheVariants.{Wrote, Copies}
 use Rattle.mig_store.specs.declared.contents.Entry.{Entry}
 use Rattle.mig_store.specs.declared.contents.Pick.{Pick}
 use Rattle.mig_store.specs.declared.contents.Pick.TheVariants.{Old, New, Half, Ones}
@@ -42,6 +44,20 @@ picked pick c = if c.unsettled then bytes_of pick c.kept c.asked else c.shown
 abbrev pub crash : Pick → Contents → Contents
 crash pick c = fresh (picked pick c)
 
--- what an entry says of its cell in this period
-abbrev pub seen : ℕ → Entry → Contents
-seen period e = if e.period == period then record { kept = e.kept; shown = e.shown; asked = e.asked; unsettled = true } else fresh e.shown
+-- the bytes that a call asks to be written
+abbrev pub asked_by : Option Call → List ℕ
+asked_by (Some (Wrote cell bytes done)) = bytes
+asked_by (Some (Copies from to bytes done)) = bytes
+asked_by call = []
+
+-- the bytes that the call at a place asks for, or the first ones
+abbrev pub bytes_at : List Call → List ℕ → Option ℕ → List ℕ
+bytes_at calls first None = first
+bytes_at calls first (Some place) = asked_by (slice_get calls place)
+
+-- what an entry says of its cell in this period, after these calls
+abbrev pub seen : List Call → ℕ → Entry → Contents
+seen calls period e =
+    if e.period == period
+    then record { kept = bytes_at calls e.first e.kept; shown = bytes_at calls e.first e.shown; asked = bytes_at calls e.first e.asked; unsettled = true }
+    else fresh (bytes_at calls e.first e.shown)

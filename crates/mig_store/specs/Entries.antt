@@ -1,6 +1,7 @@
 -- The entries of cells.
-use Rattle.std.specs.Prelude.{◌≤◌, ℕ, List, All, map}
+use Rattle.std.specs.Prelude.{◌≤◌, ◌<◌, ℕ, List, All, None, IfSome, map}
 use Rattle.mig_base.specs.declared.cells.Cell.{Cell}
+use Rattle.mig_store.specs.declared.calls.Call.{Call}
 use Rattle.mig_store.specs.declared.held.Held.{Held}
 use Rattle.mig_store.specs.declared.contents.Entry.{Entry}
 use Rattle.mig_store.specs.declared.contents.Pick.{Pick}
@@ -14,18 +15,24 @@ first_of e = e.first
 abbrev pub firsts : List (Held Entry) → List (Held (List ℕ))
 firsts held = map (held_map first_of) held
 
--- what the entries say in this period
-abbrev pub seen_all : ℕ → List (Held Entry) → List (Held Contents)
-seen_all period held = map (held_map (seen period)) held
+-- what the entries say in this period, after these calls
+abbrev pub seen_all : List Call → ℕ → List (Held Entry) → List (Held Contents)
+seen_all calls period held = map (held_map (seen calls period)) held
 
 -- after a crash
-abbrev pub crash_entry : ℕ → Pick → Entry → Entry
-crash_entry period pick e = record { first = picked pick (seen period e); kept = e.kept; shown = picked pick (seen period e); asked = e.asked; period = 0 }
+abbrev pub crash_entry : List Call → ℕ → Pick → Entry → Entry
+crash_entry calls period pick e = record { first = picked pick (seen calls period e); kept = None; shown = None; asked = None; period = 0 }
 
--- no cell was asked to be written in a later period
-abbrev pub AreWithin : ℕ → List (Held Entry) → Type 0
-AreWithin period held = All (λ h. h.value.period ≤ period) held
+-- the cell wasn't asked to be written in a later period, and by none but the first calls
+pub record IsWithin (count period : ℕ) (e : Entry) : Type 0 where
+  pub earlier : e.period ≤ period
+  pub kept : IfSome e.kept (λ place. place < count)
+  pub shown : IfSome e.shown (λ place. place < count)
+  pub asked : IfSome e.asked (λ place. place < count)
+
+abbrev pub AreWithin : ℕ → ℕ → List (Held Entry) → Type 0
+AreWithin count period held = All (λ h. IsWithin count period h.value) held
 
 -- a cell that was never written
 abbrev pub zero_entry : Cell → Held Entry
-zero_entry cell = record { cell = cell; value = record { first = zero_bytes cell; kept = zero_bytes cell; shown = zero_bytes cell; asked = zero_bytes cell; period = 0 } }
+zero_entry cell = record { cell = cell; value = record { first = zero_bytes cell; kept = None; shown = None; asked = None; period = 0 } }

@@ -40,6 +40,15 @@ impl Block {
         &self.bytes[..self.len]
     }
 
+    // Holds these bytes instead.
+    pub fn set(&mut self, bytes: &[u8])
+        requires { length bytes.now ≤ 4096 }
+        ensures { self.new ≡ bytes.now }
+    {
+        self.bytes[..bytes.len()].copy_from_slice(bytes);
+        self.len = bytes.len();
+    }
+
     // Replaces the first bytes.
     pub fn overwrite(&mut self, front: &[u8])
         requires { length front.now ≤ length self.old }

@@ -1,11 +1,13 @@
 //! What a store in memory keeps of a cell.
-ghost use Rattle.std.specs.Prelude.{◌≡◌, ◌≤◌, ◌/◌, IfOk, length, map, take};
+ghost use Rattle.std.specs.Prelude.{◌≡◌, ◌≤◌, ◌+◌, ◌/◌, ℕ, List, IfOk, length, map, slice_get, take};
+ghost use Rattle.mig_store.specs.declared.calls.Call.{Call};
 ghost use Rattle.mig_store.specs.Bytes.{overwritten};
-ghost use Rattle.mig_store.specs.Asking.{ask, land, bytes_of, seen};
+ghost use Rattle.mig_store.specs.Asking.{ask, asked_by, land, bytes_at, bytes_of, seen};
 ghost use Rattle.mig_store.specs.HeldCells.{cell_of, held_at, change_at, held_map};
-ghost use Rattle.mig_store.specs.Entries.{firsts, seen_all, crash_entry, AreWithin, zero_entry};
+ghost use Rattle.mig_store.specs.Entries.{firsts, seen_all, crash_entry, IsWithin, AreWithin, zero_entry};
 
 use crate::block::Block;
+use crate::calls::Call;
 use crate::cell_table::CellTable;
 use crate::held::{Held, zero_block};
 use mig_base::Cell;
@@ -24,19 +26,32 @@ pub enum Pick {
     Ones,
 }
 
-/// The bytes of a cell. What was asked in an earlier period than this one is settled.
+/// The bytes of a cell: those before the first call, and of those that calls asked to be written since then the places of
+/// these calls in the record. No place stands for the first bytes. What was asked in an earlier period than this one is settled.
 #[derive(Drop)]
 pub struct Entry {
     /// Before the first call.
     pub first: Block,
     /// At the last sync before it was last asked to be written.
-    pub kept: Block,
+    pub kept: Option<usize>,
     /// What a read gives.
-    pub shown: Block,
+    pub shown: Option<usize>,
     /// The bytes last asked to be written.
-    pub asked: Block,
+    pub asked: Option<usize>,
     /// The period in which that was; periods count from 1.
     pub period: u64,
+}
+
+// The bytes that the call at this place asks to be written.
+fn asked_at(calls: &[Call], place: usize) -> &[u8]
+    ensures value { result.now ≡ asked_by (slice_get calls.now place) }
+    ensures short { length result.now ≤ 4096 }
+{
+    match calls.get(place) {
+        Some(Call::Wrote { bytes, .. }) => bytes.bytes(),
+        Some(Call::Copies { bytes, .. }) => bytes.bytes(),
+        _ => &[],
+    }
 }
 
 // The bytes that are picked.
@@ -65,60 +80,86 @@ fn halves(kept: &[u8], asked: &[u8]) -> Block
 }
 
 impl Entry {
-    fn ask(&mut self, period: u64, bytes: &[u8], done: bool)
-        requires { length bytes.now ≤ 4096 }
-        ensures seen { seen period self.new ≡ ask bytes.now done (seen period self.old) }
+    // The bytes that the call at this place asks for, or the first ones.
+    fn bytes<'a>(&'a self, calls: &'a [Call], place: Option<usize>) -> &'a [u8]
+        ensures value { result.now ≡ bytes_at calls.now self.now.first place }
+        ensures short { length result.now ≤ 4096 }
+    {
+        match place {
+            Some(place) => asked_at(calls, place),
+            None => self.first.bytes(),
+        }
+    }
+
+    /// What a read gives, after these calls.
+    pub fn shown<'a>(&'a self, calls: &'a [Call]) -> &'a [u8]
+        ensures { result.now ≡ bytes_at calls.now self.now.first self.now.shown }
+    {
+        self.bytes(calls, self.shown)
+    }
+
+    // Takes what the call at this place asks for.
+    fn ask(&mut self, period: u64, place: usize, done: bool)
+        ensures seen { (calls : List Call) → seen calls period self.new ≡ ask (asked_by (slice_get calls place)) done (seen calls period self.old) }
         ensures first { self.new.first ≡ self.old.first }
-        ensures period { self.new.period ≡ period }
+        ensures within { IsWithin place period self.old → IsWithin (place + 1) period self.new }
     {
         if self.period != period {
-            self.kept = self.shown.copied();
+            self.kept = self.shown;
             self.period = period;
         }
         if done {
-            self.shown = Block::of(bytes);
+            self.shown = Some(place);
         }
-        self.asked = Block::of(bytes);
+        self.asked = Some(place);
     }
 
     fn land(&mut self, period: u64)
-        ensures seen { seen period self.new ≡ land (seen period self.old) }
+        ensures seen { (calls : List Call) → seen calls period self.new ≡ land (seen calls period self.old) }
         ensures first { self.new.first ≡ self.old.first }
-        ensures period { self.new.period ≡ self.old.period }
+        ensures within { (count : ℕ) → IsWithin count period self.old → IsWithin count period self.new }
     {
         if self.period == period {
-            self.shown = self.asked.copied();
+            self.shown = self.asked;
         }
     }
 
-    fn crash(&mut self, period: u64, pick: Pick)
-        ensures { self.new ≡ crash_entry period pick self.old }
+    // Keeps what is picked, after these calls, as the first bytes.
+    fn crash(&mut self, calls: &[Call], period: u64, pick: Pick)
+        ensures { self.new ≡ crash_entry calls.now period pick self.old }
     {
         if self.period == period {
-            self.shown = pick_bytes(pick, self.kept.bytes(), self.asked.bytes());
+            self.first = pick_bytes(
+                pick,
+                self.bytes(calls, self.kept),
+                self.bytes(calls, self.asked),
+            );
+        } else if let Some(place) = self.shown {
+            self.first.set(asked_at(calls, place));
         }
-        self.first = self.shown.copied();
+        self.kept = None;
+        self.shown = None;
+        self.asked = None;
         self.period = 0;
     }
 }
 
-/// Takes bytes that are asked to be written to the cell, if it is held.
+/// Takes what the call at this place asks to be written to the cell, if it is held.
 pub fn ask_at(
     table: &CellTable,
     held: &mut Vec<Held<Entry>>,
     period: u64,
     cell: &Cell,
-    bytes: &[u8],
+    place: usize,
     done: bool,
 )
     requires cells { table.now ≡ map cell_of held.old.items }
-    requires length { length bytes.now ≤ 4096 }
-    ensures seen { held_at (seen_all period held.new.items) ≡ change_at (ask bytes.now done) cell.now (held_at (seen_all period held.old.items)) }
+    ensures seen { (calls : List Call) → held_at (seen_all calls period held.new.items) ≡ change_at (ask (asked_by (slice_get calls place)) done) cell.now (held_at (seen_all calls period held.old.items)) }
     ensures first { firsts held.new.items ≡ firsts held.old.items }
-    ensures within { AreWithin period held.old.items → AreWithin period held.new.items }
+    ensures within { AreWithin place period held.old.items → AreWithin (place + 1) period held.new.items }
 {
     match table.find(cell) {
-        Some(i) => held[i].value.ask(period, bytes, done),
+        Some(i) => held[i].value.ask(period, place, done),
         None => {}
     }
 }
@@ -126,9 +167,9 @@ pub fn ask_at(
 /// Shows the bytes that were asked to be written to the cell, if it is held and unsettled.
 pub fn land_at(table: &CellTable, held: &mut Vec<Held<Entry>>, period: u64, cell: &Cell)
     requires cells { table.now ≡ map cell_of held.old.items }
-    ensures seen { held_at (seen_all period held.new.items) ≡ change_at land cell.now (held_at (seen_all period held.old.items)) }
+    ensures seen { (calls : List Call) → held_at (seen_all calls period held.new.items) ≡ change_at land cell.now (held_at (seen_all calls period held.old.items)) }
     ensures first { firsts held.new.items ≡ firsts held.old.items }
-    ensures within { AreWithin period held.old.items → AreWithin period held.new.items }
+    ensures within { (count : ℕ) → AreWithin count period held.old.items → AreWithin count period held.new.items }
 {
     match table.find(cell) {
         Some(i) => held[i].value.land(period),
@@ -136,12 +177,12 @@ pub fn land_at(table: &CellTable, held: &mut Vec<Held<Entry>>, period: u64, cell
     }
 }
 
-/// Leaves in each cell what is picked.
-pub fn crash_all(held: &mut Vec<Held<Entry>>, period: u64, pick: Pick)
-    ensures { held.new.items ≡ map (held_map (crash_entry period pick)) held.old.items }
+/// Leaves in each cell what is picked, after these calls.
+pub fn crash_all(held: &mut Vec<Held<Entry>>, calls: &[Call], period: u64, pick: Pick)
+    ensures { held.new.items ≡ map (held_map (crash_entry calls.now period pick)) held.old.items }
 {
     for h in held.iter_mut() {
-        h.value.crash(period, pick);
+        h.value.crash(calls, period, pick);
     }
 }
 
@@ -155,9 +196,9 @@ pub fn zero_entries(alloc: Global, cells: &[Cell]) -> Result<Vec<Held<Entry>>, A
             cell: *cell,
             value: Entry {
                 first: zero_block(cell),
-                kept: zero_block(cell),
-                shown: zero_block(cell),
-                asked: zero_block(cell),
+                kept: None,
+                shown: None,
+                asked: None,
                 period: 0,
             },
         })?;

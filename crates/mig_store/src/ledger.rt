@@ -41,8 +41,8 @@ impl Model for Ledger {
 
     ghost view = { λ l. record { first = firsts l.held.items; calls = l.calls.items; room = l.room } };
 
-    ghost invariant = { λ l. IsLog (record { first = firsts l.held.items; calls = l.calls.items; room = l.room }) (seen_all l.period l.held.items) l.events.items l.flying.items
-        × (l.table ≡ map cell_of l.held.items) × AreWithin l.period l.held.items × (1 ≤ l.period) × (l.period ≤ length l.calls.items + 1)
+    ghost invariant = { λ l. IsLog (record { first = firsts l.held.items; calls = l.calls.items; room = l.room }) (seen_all l.calls.items l.period l.held.items) l.events.items l.flying.items
+        × (l.table ≡ map cell_of l.held.items) × AreWithin (length l.calls.items) l.period l.held.items × (1 ≤ l.period) × (l.period ≤ length l.calls.items + 1)
         × (l.room ≤ vec_capacity l.calls) × (l.room ≤ vec_capacity l.events) × (l.room ≤ vec_capacity l.flying) };
 }
 
@@ -91,7 +91,7 @@ impl Ledger {
             mut flying,
             room,
         } = self;
-        crash_all(&mut held, period, pick);
+        crash_all(&mut held, &calls, period, pick);
         calls.clear();
         events.clear();
         flying.clear();
@@ -121,7 +121,7 @@ impl Ledger {
         ensures length { IfSome result (λ bytes. length bytes.now ≡ cell_len cell.now) }
     {
         match get(&self.table, &self.held, cell) {
-            Some(entry) => Some(entry.shown.bytes()),
+            Some(entry) => Some(entry.shown(&self.calls)),
             None => None,
         }
     }
@@ -189,7 +189,7 @@ impl Ledger {
         requires not_source { ¬ IsSourceOf (flying (moment_of self.old)) cell.now }
         ensures { self.new ≡ record { first = self.old.first; calls = self.old.calls ++ Wrote cell.now bytes.now done ∷ []; room = self.old.room } }
     {
-        ask_at(&self.table, &mut self.held, self.period, cell, bytes, done);
+        let place = self.calls.len();
         push(
             &mut self.calls,
             Call::Wrote {
@@ -198,6 +198,7 @@ impl Ledger {
                 done,
             },
         );
+        ask_at(&self.table, &mut self.held, self.period, cell, place, done);
     }
 
     /// Records that a copy of these bytes was asked to begin.
@@ -212,14 +213,7 @@ impl Ledger {
         requires target { IsSome (reads (moment_of self.old) flight.to) }
         ensures { self.new ≡ record { first = self.old.first; calls = self.old.calls ++ Copies flight.from flight.to bytes.now done ∷ []; room = self.old.room } }
     {
-        ask_at(
-            &self.table,
-            &mut self.held,
-            self.period,
-            &flight.to,
-            bytes,
-            false,
-        );
+        let place = self.calls.len();
         push(
             &mut self.calls,
             Call::Copies {
@@ -228,6 +222,14 @@ impl Ledger {
                 bytes: Block::of(bytes),
                 done,
             },
+        );
+        ask_at(
+            &self.table,
+            &mut self.held,
+            self.period,
+            &flight.to,
+            place,
+            false,
         );
         if done {
             push(

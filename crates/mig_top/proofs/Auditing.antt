@@ -5,16 +5,16 @@ use Rattle.mig_base.specs.InputLists.{Lists}
 use Rattle.mig_base.specs.Stores.{Looks}
 use Rattle.mig_io.specs.Held.{SinkState, Extends, ExtendsInPart}
 use Rattle.mig_top.specs.Audits.{HavePutSights, SinkStops, StoreStops}
-use Rattle.mig_top.specs.declared.endings.Ending.{Ending}
+use Rattle.mig_words.specs.declared.endings.Ending.{Ending}
 use Rattle.mig_top.specs.Calls.{Call, Untouched}
 use Rattle.mig_top.specs.Ends.{FormEndsAs, WorldEnds}
 use Rattle.mig_top.specs.Loading.{NoLayout}
-use Rattle.mig_top.specs.Outcomes.{Done, SinkFault, StoreFault, outcome_of}
+use Rattle.mig_words.specs.Outcomes.{Done, SinkFault, StoreFault, outcome_of}
 use Rattle.mig_top.specs.Sights.{IsAudit, sight_count}
 use Rattle.mig_top.specs.Steps.{IsDone}
 use Rattle.mig_top.specs.StoreLeaves.{AreOfLayout}
-use Rattle.mig_top.specs.Words.{Form, Audit}
-use Rattle.mig_top.proofs.PutTexts.{begins_more, then_begins, then_extends}
+use Rattle.mig_words.specs.Words.{Form, Audit}
+use Rattle.mig_words.proofs.PutTexts.{begins_more, then_begins, then_extends}
 use Rattle.mig_top.proofs.Sightings.{whole_audit}
 use Rattle.mig_top.proofs.StepEnds.{if_map}
 use Rattle.mig_top.proofs.StoreEnds.{two_there, unread}

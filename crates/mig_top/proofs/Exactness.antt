@@ -16,15 +16,16 @@ use Rattle.mig_base.proofs.CertSpelling.{same_cert}
 use Rattle.mig_base.proofs.BlameOrder.{right_is_blameless}
 use Rattle.mig_check.proofs.BlameCases.{runs_blameless}
 use Rattle.mig_io.specs.Files.{Files, file}
-use Rattle.mig_top.specs.declared.endings.TextFile.TheVariants as text_file
-use Rattle.mig_top.specs.Outcomes.{Outcome, Blamed, Unlisted, Refused, FolderFault, StoreFault, SinkFault, Memory, NotSpelled, NoFile, code}
+use Rattle.mig_words.specs.declared.endings.TextFile.TheVariants as text_file
+use Rattle.mig_words.specs.Outcomes.{Outcome, Blamed, Unlisted, Refused, FolderFault, StoreFault, SinkFault, Memory, NotSpelled, TooLarge, NoFile, code}
 use Rattle.mig_top.specs.Calls.{Call, FolderFailed, SinkFailed, StoreFailed}
-use Rattle.mig_top.specs.Causes.{FilesCause, FormCause, LoadedCause, IsMissing, IsRefusal, IsLayoutRefusal, IsNoPlan, IsNoCert, DoesNotRun, IsWrong, loads, reads_input, reads_layout, reads_plan, reads_cert, runs, judges}
+use Rattle.mig_top.specs.Causes.{FilesCause, FormCause, LoadedCause, IsMissing, IsRefusal, IsLayoutRefusal, IsNoPlan, IsNoCert, DoesNotRun, IsTooLarge, IsWrong, loads, reads_input, reads_layout, reads_plan, reads_cert, runs, fits_drill, judges}
 use Rattle.mig_top.specs.Ends.{Ends, EndsAs, IsBegun, IsKnown, FormEnds, ComesExactly, Serves}
 use Rattle.mig_top.specs.Loads.{AreRefused, HasPlan, HasCert, HasNoPlan, HasNoCert, HoldsLayout, Stands, first_missing, AreThere}
-use Rattle.mig_top.specs.Words.{Form, Plan, Check, After, Fill, Audit, Rehearse, IsListed, loaded, words_of, Move, Resume}
+use Rattle.mig_words.specs.Words.{Form, Plan, Check, After, Fill, Audit, Rehearse, IsListed, loaded, words_of, Move, Resume, Drill, Halt}
 use Rattle.mig_top.specs.MoveLooks.{IsTaskOf, task_of}
 use Rattle.mig_top.proofs.Layouts.{layout_not_refused, one_layout}
+use Rattle.mig_top.proofs.HaltExact.{stands_exact}
 use Rattle.mig_top.proofs.MoveExact.{resumes_exact, starts_exact}
 use Rattle.mig_top.proofs.StoreExact.{fills_exact}
 use Rattle.mig_top.proofs.Steps.{IsExact, HaveOneStatus, by_status, then_one, done_one}
@@ -155,6 +156,17 @@ runs_exact input rounds = record { one_found = λ a b h k. refl; not_both = apar
     status (Blamed b name) h = refl
     status _ h = absurd h
 
+pub drill_exact : (rounds : List (List Shift)) → IsExact (fits_drill rounds)
+drill_exact rounds = record { one_found = λ a b h k. refl; not_both = apart; one_stop = by_status (IsTooLarge rounds) 11 status }
+  where
+    apart : (u : Unit {0}) (o : Outcome) → (fits_drill rounds).Passes u → IsTooLarge rounds o → ⊥
+    apart u (TooLarge shifts) h k = omega (arith, h, k.0)
+    apart u _ h k = k
+
+    status : (o : Outcome) → IsTooLarge rounds o → code o ≡ 11
+    status (TooLarge shifts) h = refl
+    status _ h = absurd h
+
 pub judges_exact : (input : Lists) (rounds : List (List Shift)) (cert : Cert) → IsExact (judges input rounds cert)
 judges_exact input rounds cert = record { one_found = λ a b h k. refl; not_both = apart; one_stop = by_status (IsWrong input rounds cert) 1 status }
   where
@@ -182,6 +194,12 @@ loaded_exact files (After disks now next plan) =
     then_one _ (plan_exact files plan input valid) _ (λ rounds _.
     then_one _ (runs_exact input rounds) _ (λ _ _.
     done_one _)))
+loaded_exact files (Drill disks now next plan) =
+    then_one _ (input_exact files disks now next) _ (λ input stands. let valid = is_input files disks now next input stands in
+    then_one _ (plan_exact files plan input valid) _ (λ rounds _.
+    then_one _ (runs_exact input rounds) _ (λ _ _.
+    then_one _ (drill_exact rounds) _ (λ _ _.
+    done_one _))))
 loaded_exact files _ = λ o p h k. absurd h
 
 files_exact : (files : Files) (form : Form) → HaveOneStatus (FilesCause files form)
@@ -212,6 +230,13 @@ forms_exact k files (Resume disks now next plan) serves =
     then_one _ (runs_exact input rounds) _ (λ _ ran. let task : IsTaskOf files disks now next plan (task_of files plan input rounds) = record { stands = stands; has_plan = has; runs = ran; digest = refl } in
     then_one _ (resumes_exact (task_of files plan input rounds) k.before.store valid ran (serves.1 (task_of files plan input rounds) task)) _ (λ _ _.
     done_one _)))))
+forms_exact k files (Halt disks now next plan layout) serves =
+    then_one _ (loads_exact files (disks ∷ now ∷ next ∷ plan ∷ [])) _ (λ _ _.
+    then_one _ (input_exact files disks now next) _ (λ input stand. let valid = is_input files disks now next input stand in
+    then_one _ (plan_exact files plan input valid) _ (λ rounds has.
+    then_one _ (runs_exact input rounds) _ (λ _ ran. let task : IsTaskOf files disks now next plan (task_of files plan input rounds) = record { stands = stand; has_plan = has; runs = ran; digest = refl } in
+    then_one _ (stands_exact (task_of files plan input rounds) k.before.store (serves.1 (task_of files plan input rounds) task)) _ (λ _ _.
+    done_one _)))))
 forms_exact k files form serves = files_exact files form
 
 -- a store that serves a command doesn't fail in it
@@ -220,14 +245,15 @@ served k files (Fill disks now) before serves h = serves.0 h.0
 served k files (Audit disks now) before serves h = serves h.0
 served k files (Move disks now next plan) before serves h = serves.0 h.0
 served k files (Resume disks now next plan) before serves h = serves.0 h.0
+served k files (Halt disks now next plan layout) before serves h = serves.0 h.0
 served k files _ before serves h = h.1
 
 -- words are those of one command
 abbrev form_by : List (List ℕ) → Option Form
 form_by (word ∷ a ∷ b ∷ []) = if bytes_eq word (codes "fill") then Some (Fill a b) else if bytes_eq word (codes "audit") then Some (Audit a b) else None
 form_by (word ∷ a ∷ b ∷ c ∷ []) = if bytes_eq word (codes "rehearse") then Some (Rehearse a b c) else None
-form_by (word ∷ a ∷ b ∷ c ∷ d ∷ []) = if bytes_eq word (codes "after") then Some (After a b c d) else if bytes_eq word (codes "move") then Some (Move a b c d) else if bytes_eq word (codes "resume") then Some (Resume a b c d) else None
-form_by (word ∷ a ∷ b ∷ c ∷ d ∷ e ∷ []) = if bytes_eq word (codes "plan") then Some (Plan a b c d e) else if bytes_eq word (codes "check") then Some (Check a b c d e) else None
+form_by (word ∷ a ∷ b ∷ c ∷ d ∷ []) = if bytes_eq word (codes "after") then Some (After a b c d) else if bytes_eq word (codes "move") then Some (Move a b c d) else if bytes_eq word (codes "resume") then Some (Resume a b c d) else if bytes_eq word (codes "drill") then Some (Drill a b c d) else None
+form_by (word ∷ a ∷ b ∷ c ∷ d ∷ e ∷ []) = if bytes_eq word (codes "plan") then Some (Plan a b c d e) else if bytes_eq word (codes "check") then Some (Check a b c d e) else if bytes_eq word (codes "halt") then Some (Halt a b c d e) else None
 form_by _ = None
 
 by_words : (form : Form) → form_by (words_of form) ≡ Some form
@@ -239,6 +265,8 @@ by_words (Audit d n) = refl
 by_words (Rehearse d p l) = refl
 by_words (Move d n x p) = refl
 by_words (Resume d n x p) = refl
+by_words (Drill d n x p) = refl
+by_words (Halt d n x p l) = refl
 
 pub one_form : (a b : Form) → words_of a ≡ words_of b → a ≡ b
 one_form a b h = let e : Some a ≡ Some b = sym (by_words a) ∙ ap form_by h ∙ by_words b in cc

@@ -8,18 +8,18 @@ use Rattle.mig_mover.specs.Fillings.{HasMade, IsFillable, IsFillFault, IsFillRef
 use Rattle.mig_mover.specs.Moves.{Settles}
 use Rattle.mig_mover.specs.declared.faults.MoveFault.{MoveFault}
 use Rattle.mig_mover.specs.declared.faults.MoveFault.TheVariants as fault
-use Rattle.mig_top.specs.declared.endings.Ending.{Ending}
-use Rattle.mig_top.specs.declared.endings.Ending.TheVariants.{Refused, FolderFault, Memory, NoFile}
+use Rattle.mig_words.specs.declared.endings.Ending.{Ending}
+use Rattle.mig_words.specs.declared.endings.Ending.TheVariants.{Refused, FolderFault, Memory, NoFile}
 use Rattle.mig_top.specs.Calls.{Call, Untouched}
 use Rattle.mig_top.specs.Causes.{FormCause}
 use Rattle.mig_top.specs.Ends.{FormEnds, WorldEnds}
 use Rattle.mig_top.specs.Loading.{NoLayout}
 use Rattle.mig_top.specs.Loads.{HoldsLayout}
-use Rattle.mig_top.specs.Outcomes.{Outcome, Done, fault_outcome, outcome_of}
+use Rattle.mig_words.specs.Outcomes.{Outcome, Done, fault_outcome, outcome_of}
 use Rattle.mig_top.specs.Steps.{Then, IsDone}
 use Rattle.mig_top.specs.StoreLeaves.{AreOfLayout, FillLeaves, IsUntouched, WritesListed}
 use Rattle.mig_top.specs.StoreLooks.{IsShown, fills, filled_text}
-use Rattle.mig_top.specs.Words.{Form, Fill}
+use Rattle.mig_words.specs.Words.{Form, Fill}
 use Rattle.mig_top.proofs.StepEnds.{if_map}
 use Rattle.mig_top.proofs.StoreEnds.{settled_left, two_there, unread}
 

@@ -13,7 +13,7 @@ use Rattle.mig_text.proofs.ShiftCounts as plans
 use Rattle.mig_cert.proofs.CertLengths as certs
 use Rattle.mig_io.specs.Files.{Files, file}
 use Rattle.mig_io.specs.Held.{Extends}
-use Rattle.mig_top.specs.Outcomes.{Outcome, Done, Unlisted, Refused, FolderFault, StoreFault, SinkFault, Memory, NoFile, code}
+use Rattle.mig_words.specs.Outcomes.{Outcome, Done, Unlisted, Refused, FolderFault, StoreFault, SinkFault, Memory, NoFile, code}
 use Rattle.mig_top.specs.Calls.{Call}
 use Rattle.mig_top.specs.Causes.{FilesCause, IsMissing, IsRefusal, IsRight, verdict_text}
 use Rattle.mig_top.specs.Ends.{AreSaved, Ends, EndsAs, FormEnds, IsPlanSaved, Says}
@@ -21,7 +21,7 @@ use Rattle.mig_top.specs.Headline.{HasPlanned, PlansWell, ChecksSaved}
 use Rattle.mig_top.specs.Planned.{IsDiskBound}
 use Rattle.mig_top.specs.Loads.{AreRefused, Stands, StandsForNone, HasPlan, HasCert, first_missing}
 use Rattle.mig_top.specs.Steps.{IsDone}
-use Rattle.mig_top.specs.Words.{Form, Plan, Check, IsListed, WritesApart}
+use Rattle.mig_words.specs.Words.{Form, Plan, Check, IsListed, WritesApart}
 use Rattle.mig_top.proofs.Exactness.{cert_exact, comes_exactly, gone, input_exact, is_input, judges_exact, known_form, loads_exact, one_content, one_there, plan_exact, three_there, told}
 use Rattle.mig_top.proofs.Steps.{follow}
 

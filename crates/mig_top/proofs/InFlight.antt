@@ -4,10 +4,11 @@ use Rattle.std.proofs.lemmas.Bool.{cases_Bool, false≢true}
 use Rattle.mig_base.specs.declared.cells.Cell.{Cell}
 use Rattle.mig_base.specs.declared.cells.Cell.TheVariants.{Gate, Head}
 use Rattle.mig_base.specs.declared.cells.Flight.{Flight}
+use Rattle.mig_base.specs.declared.ids.Shift.{Shift}
 use Rattle.mig_base.specs.Cells.{is_slot}
 use Rattle.mig_base.specs.Flights.{AreFlights, IsTargetOf}
 use Rattle.mig_base.specs.Images.{Image}
-use Rattle.mig_base.specs.InputLists.{IsInput}
+use Rattle.mig_base.specs.InputLists.{IsInput, Lists}
 use Rattle.mig_base.specs.JobCells.{IsJobCell, Tells}
 use Rattle.mig_base.specs.Journals.{is_armed, is_one}
 use Rattle.mig_base.specs.Running.{Runs}
@@ -19,13 +20,14 @@ use Rattle.mig_mover.specs.Tasks.{Task}
 use Rattle.mig_mover.specs.declared.faults.MoveFault.{MoveFault}
 use Rattle.mig_mover.specs.declared.faults.MoveFault.TheVariants as fault
 use Rattle.mig_top.specs.Calls.{Call, FolderFailed, SinkFailed, StoreFailed}
-use Rattle.mig_top.specs.Causes.{FormCause}
+use Rattle.mig_top.specs.Causes.{FormCause, loads, reads_input, reads_plan, runs}
 use Rattle.mig_top.specs.Ends.{Ends, EndsAs, FormEnds}
 use Rattle.mig_top.specs.Headline.{IsReadyInFlight, ResumesInFlight, StartsInFlight}
 use Rattle.mig_top.specs.MoveLooks.{IsResumeRefusal, IsStartRefusal, IsTaskOf, task_of}
-use Rattle.mig_top.specs.Outcomes.{Outcome, Done, Unlisted, FolderFault, StoreFault, SinkFault, Memory, code}
+use Rattle.mig_top.specs.Steps.{Then}
+use Rattle.mig_words.specs.Outcomes.{Outcome, Done, Unlisted, FolderFault, StoreFault, SinkFault, Memory, code}
 use Rattle.mig_top.specs.StoreLooks.{IsFound, IsShown}
-use Rattle.mig_top.specs.Words.{Form, Move, Resume, IsListed}
+use Rattle.mig_words.specs.Words.{Form, Move, Resume, IsListed}
 use Rattle.mig_top.proofs.Exactness.{input_exact, is_input, known_form, loads_exact, plan_exact, runs_exact, told}
 use Rattle.mig_top.proofs.MoveExact.{not_other, ready_refused, resume_refusal, start_refusal}
 use Rattle.mig_top.proofs.Moving.{move_rest, resume_rest}
@@ -33,7 +35,7 @@ use Rattle.mig_top.proofs.Steps.{follow}
 use Rattle.mig_top.proofs.TaskFiles.{four_there, task_parts}
 
 -- copies in flight reach slots alone
-journal_found : (store : State) (image : Image) → AreFlights (flights store) → IsFound store image → (cell : Cell) → is_slot cell ≡ false → image cell ≡ store.reads cell
+pub journal_found : (store : State) (image : Image) → AreFlights (flights store) → IsFound store image → (cell : Cell) → is_slot cell ≡ false → image cell ≡ store.reads cell
 journal_found store image are found cell none = found.same cell (λ any.
     let slot : is_slot any.1.to ≡ true = (subst (λ (f : Flight). (is_slot f.from ≡ true) × (is_slot f.to ≡ true)) any.3 (are.slots any.0 any.1 any.2)).1 in
     false≢true (sym none ∙ ap is_slot (sym any.4) ∙ slot))
@@ -90,18 +92,24 @@ module _ (k : Call) (words : List (List ℕ)) (status : ℕ) (ends : EndsAs k wo
     any_so o (inl unknown) = absurd (unknown.1.unlisted form l)
     any_so o (inr known) = ends_so o (known_form k words form o l known)
 
-    status_so : (status ≡ 0) ⊎ (status ≡ 7)
+    pub status_so : (status ≡ 0) ⊎ (status ≡ 7)
     status_so = subst (λ n. (n ≡ 0) ⊎ (n ≡ 7)) (sym ends.1) (any_so ends.0 ends.2)
+
+  -- what is left of it once the task is known
+  pub task_rest : (form : Form) (rest : Files → Lists → List (List Shift) → Outcome → Type 0)
+      → ((o : Outcome) → FormCause files k.before.store form o
+      → Then (loads files (disks ∷ now ∷ next ∷ plan ∷ [])) (λ _. Then (reads_input files disks now next) (λ input. Then (reads_plan files plan input) (λ rounds. Then (runs input rounds) (λ _. rest files input rounds)))) o)
+      → (o : Outcome) → FormCause files k.before.store form o → rest files task.input task.plan o
+  task_rest form rest to =
+      let loaded = follow _ (loads_exact files (disks ∷ now ∷ next ∷ plan ∷ [])) _ to tt (four_there files disks now next plan task holds) in
+      let read = follow _ (input_exact files disks now next) _ loaded task.input holds.stands in
+      let planned = follow _ (plan_exact files plan task.input valid) _ read task.plan holds.has_plan in
+      follow _ (runs_exact task.input task.plan) _ planned tt holds.runs
 
   -- `move`
 
   to_start : (o : Outcome) → FormCause files k.before.store (Move disks now next plan) o → move_rest k.before.store plan files task.input task.plan o
-  to_start =
-      let all : (o : Outcome) → FormCause files k.before.store (Move disks now next plan) o → FormCause files k.before.store (Move disks now next plan) o = λ o h. h in
-      let loaded = follow _ (loads_exact files (disks ∷ now ∷ next ∷ plan ∷ [])) _ all tt (four_there files disks now next plan task holds) in
-      let read = follow _ (input_exact files disks now next) _ loaded task.input holds.stands in
-      let planned = follow _ (plan_exact files plan task.input valid) _ read task.plan holds.has_plan in
-      follow _ (runs_exact task.input task.plan) _ planned tt holds.runs
+  to_start = task_rest (Move disks now next plan) (move_rest k.before.store plan) (λ o h. h)
 
   pub starts_in_flight : IsListed words (Move disks now next plan) → StartsInFlight k task status
   starts_in_flight l ready idle fine quiet sound = status_so (Move disks now next plan) l (λ o h. by o (to_start o h)) fine quiet sound
@@ -114,12 +122,7 @@ module _ (k : Call) (words : List (List ℕ)) (status : ℕ) (ends : EndsAs k wo
   -- `resume`
 
   to_resume : (o : Outcome) → FormCause files k.before.store (Resume disks now next plan) o → resume_rest k.before.store plan files task.input task.plan o
-  to_resume =
-      let all : (o : Outcome) → FormCause files k.before.store (Resume disks now next plan) o → FormCause files k.before.store (Resume disks now next plan) o = λ o h. h in
-      let loaded = follow _ (loads_exact files (disks ∷ now ∷ next ∷ plan ∷ [])) _ all tt (four_there files disks now next plan task holds) in
-      let read = follow _ (input_exact files disks now next) _ loaded task.input holds.stands in
-      let planned = follow _ (plan_exact files plan task.input valid) _ read task.plan holds.has_plan in
-      follow _ (runs_exact task.input task.plan) _ planned tt holds.runs
+  to_resume = task_rest (Resume disks now next plan) (resume_rest k.before.store plan) (λ o h. h)
 
   pub resumes_in_flight : IsListed words (Resume disks now next plan) → ResumesInFlight k task status
   resumes_in_flight l ready named fine quiet sound = status_so (Resume disks now next plan) l (λ o h. by o (to_resume o h)) fine quiet sound

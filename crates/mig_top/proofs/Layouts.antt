@@ -21,10 +21,10 @@ use Rattle.mig_csv.specs.Listings.{IsListing, IsListingRefusal, ListingFault, Li
 use Rattle.mig_csv.specs.declared.errors.InputError.{InputError}
 use Rattle.mig_csv.specs.declared.errors.InputError.TheVariants as error
 use Rattle.mig_io.specs.Files.{Files, FolderState, file}
-use Rattle.mig_top.specs.Endings.{ending_of}
+use Rattle.mig_words.specs.Endings.{ending_of}
 use Rattle.mig_top.specs.Loads.{HoldsLayout, IsLayoutRefused}
-use Rattle.mig_top.specs.declared.endings.Ending.{Ending}
-use Rattle.mig_top.specs.declared.endings.Ending.TheVariants.{Refused, Memory}
+use Rattle.mig_words.specs.declared.endings.Ending.{Ending}
+use Rattle.mig_words.specs.declared.endings.Ending.TheVariants.{Refused, Memory}
 use Rattle.mig_top.specs.Loading.{HoldFirst, NoLayout, UnreadAsLayout}
 use Rattle.mig_top.proofs.Cutting.{IsFirstOf, all_of, carried_first, long_of, whole_of}
 use Rattle.mig_top.proofs.Missing.{none_missing}

@@ -5,8 +5,8 @@ use Rattle.std.proofs.Math.Seq.{drop-cons, take-suc}
 use Rattle.std.proofs.lemmas.List.{get_or-map, length-map, map-append, take-append-drop}
 use Rattle.mig_base.specs.declared.limits.TheConstants.{MAX_FILE_BYTES}
 use Rattle.mig_io.specs.Files.{Files, FolderState, file}
-use Rattle.mig_top.specs.declared.endings.Ending.{Ending}
-use Rattle.mig_top.specs.declared.endings.Ending.TheVariants.{FolderFault, Memory, NoFile}
+use Rattle.mig_words.specs.declared.endings.Ending.{Ending}
+use Rattle.mig_words.specs.declared.endings.Ending.TheVariants.{FolderFault, Memory, NoFile}
 use Rattle.mig_top.specs.Loading.{HoldFirst, HoldsFirst, LoadEnds, LoadsEnd}
 use Rattle.mig_top.specs.Loads.{first_missing}
 

@@ -21,7 +21,7 @@ use Rattle.mig_mover.specs.Tasks.{Task}
 use Rattle.mig_mover.specs.declared.faults.MoveFault.{MoveFault}
 use Rattle.mig_mover.specs.declared.faults.MoveFault.TheVariants as fault
 use Rattle.mig_top.specs.MoveLooks.{IsResumable, IsResumeRefusal, IsStartRefusal, resumes, starts}
-use Rattle.mig_top.specs.Outcomes.{Outcome, code, fault_outcome}
+use Rattle.mig_words.specs.Outcomes.{Outcome, code, fault_outcome}
 use Rattle.mig_top.specs.StoreLooks.{TellsStill}
 use Rattle.mig_top.proofs.ShiftedSlots.{shifted_named, target_named}
 use Rattle.mig_top.proofs.Steps.{IsExact}

@@ -19,10 +19,10 @@ use Rattle.mig_top.specs.Ends.{Ends, EndsAs, FormEnds, StoreLeaves}
 use Rattle.mig_top.specs.Headline.{MovesWell, ResumesWell, StartsWell}
 use Rattle.mig_top.specs.MoveLeaves.{AreOfTask, Carries, MoveLeaves, ResumeLeaves}
 use Rattle.mig_top.specs.MoveLooks.{IsResumable, IsTaskOf, done_text, resumes, starts, task_of}
-use Rattle.mig_top.specs.Outcomes.{Outcome, Done, StoreFault, SinkFault, Started, OtherPlan, NotThere, Occupied, code}
+use Rattle.mig_words.specs.Outcomes.{Outcome, Done, StoreFault, SinkFault, Started, OtherPlan, NotThere, Occupied, code}
 use Rattle.mig_top.specs.StoreLeaves.{IsUntouched}
 use Rattle.mig_top.specs.StoreLooks.{TellsStill}
-use Rattle.mig_top.specs.Words.{Form, Move, Resume, IsListed}
+use Rattle.mig_words.specs.Words.{Form, Move, Resume, IsListed}
 use Rattle.mig_top.proofs.Exactness.{comes_exactly, known_form, told}
 use Rattle.mig_top.proofs.Moving.{move_rest, resume_rest}
 use Rattle.mig_top.proofs.TaskFiles.{one_task, task_cause, task_parts}

@@ -10,22 +10,21 @@ use Rattle.mig_mover.specs.Moves.{IsFault, IsRefusal, IsResumeFault, IsStartFaul
 use Rattle.mig_mover.specs.Tasks.{Task}
 use Rattle.mig_mover.specs.declared.faults.MoveFault.{MoveFault}
 use Rattle.mig_mover.specs.declared.faults.MoveFault.TheVariants as fault
-use Rattle.mig_top.specs.declared.endings.Ending.{Ending}
-use Rattle.mig_top.specs.declared.endings.Ending.TheVariants.{Blamed, Refused, FolderFault, Memory, NotSpelled, NoFile}
+use Rattle.mig_words.specs.declared.endings.Ending.{Ending}
+use Rattle.mig_words.specs.declared.endings.Ending.TheVariants.{Blamed, Refused, FolderFault, Memory, NotSpelled, TooLarge, NoFile}
 use Rattle.mig_top.specs.Calls.{Call, Untouched}
 use Rattle.mig_top.specs.Causes.{FormCause}
 use Rattle.mig_top.specs.Ends.{WorldEnds}
 use Rattle.mig_top.specs.Loading.{NoTask}
 use Rattle.mig_top.specs.MoveLeaves.{AreOfTask, Carries, KeepsHalting, MoveLeaves, MovesAll, MovesInPart, ResumeLeaves, ResumesAll, ResumesInPart}
 use Rattle.mig_top.specs.MoveLooks.{IsResumable, IsResumeRefusal, IsStartRefusal, IsStartable, IsTaskOf, done_text, resumes, starts, task_of}
-use Rattle.mig_top.specs.Outcomes.{Outcome, Done, fault_outcome, outcome_of}
+use Rattle.mig_words.specs.Outcomes.{Outcome, Done, fault_outcome, outcome_of}
 use Rattle.mig_top.specs.Steps.{Step, Then, IsDone}
 use Rattle.mig_top.specs.StoreLeaves.{IsUntouched}
 use Rattle.mig_top.specs.StoreLooks.{IsShown}
-use Rattle.mig_top.specs.Words.{Form, Move, Resume}
-use Rattle.mig_top.proofs.StepEnds.{if_map}
+use Rattle.mig_words.specs.Words.{Form, Move, Resume}
 use Rattle.mig_top.proofs.StoreEnds.{settled_left}
-use Rattle.mig_top.proofs.TaskFiles.{no_task_cause, task_cause, task_parts}
+use Rattle.mig_top.proofs.TaskFiles.{no_task_cause, told_cause}
 
 -- what is left of `move` once its task is known, and of `resume`
 abbrev pub move_rest : State → List ℕ → Files → Lists → List (List Shift) → Outcome → Type 0
@@ -35,7 +34,7 @@ abbrev pub resume_rest : State → List ℕ → Files → Lists → List (List S
 resume_rest store plan files input rounds = Then (resumes (task_of files plan input rounds) store) (λ found. IsDone (λ text. text ≡ done_text rounds found))
 
 -- what a refusal of a store that is settled shows
-shown : (task : Task) (k : Call) (f : MoveFault) → Settles k.before.store k.after.store → (Shows : Task → Image → MoveFault → Type 0) → Shows task k.after.store.reads f → IsShown task.input k.before.store (Shows task) (fault_outcome task.input f)
+pub shown : (task : Task) (k : Call) (f : MoveFault) → Settles k.before.store k.after.store → (Shows : Task → Image → MoveFault → Type 0) → Shows task k.after.store.reads f → IsShown task.input k.before.store (Shows task) (fault_outcome task.input f)
 shown task k f settles Shows h = record { fault = f; is = refl; image = k.after.store.reads; found = settles.change.told; left = settled_left k.before.store k.after.store settles; shows = h }
 
 module _ (k : Call) (disks now next plan : List ℕ) (same : Untouched k.before.folder k.after.folder) where
@@ -48,6 +47,7 @@ module _ (k : Call) (disks now next plan : List ℕ) (same : Untouched k.before.
   left (Blamed b name) h kept = kept
   left (Refused f r w) h kept = kept
   left (NotSpelled f line) h kept = kept
+  left (TooLarge shifts) h kept = kept
   left _ h kept = absurd h
 
   pub move_unread : (e : Ending) → NoTask disks now next plan k.before.folder k.after.folder e → IsUntouched k.before.store k.after.store → WorldEnds k (Move disks now next plan) (outcome_of (disks ∷ now ∷ next ∷ plan ∷ []) e)
@@ -61,23 +61,17 @@ module _ (k : Call) (disks now next plan : List ℕ) (same : Untouched k.before.
   resume_left (Blamed b name) h kept = kept
   resume_left (Refused f r w) h kept = kept
   resume_left (NotSpelled f line) h kept = kept
+  resume_left (TooLarge shifts) h kept = kept
   resume_left _ h kept = absurd h
 
   pub resume_unread : (e : Ending) → NoTask disks now next plan k.before.folder k.after.folder e → IsUntouched k.before.store k.after.store → WorldEnds k (Resume disks now next plan) (outcome_of (disks ∷ now ∷ next ∷ plan ∷ []) e)
   resume_unread e h kept = record { cause = no_task_cause k (Resume disks now next plan) disks now next plan (resume_rest k.before.store plan) (λ files o c. c) e h; leaves = same; store = resume_left e h kept }
 
   module _ (task : Task) (are : AreOfTask k.before.folder disks now next plan task) (carries : Carries task k.before.store k.after.store) where
-    -- the cause of what the store's step, over this task, leads to
-    step_cause : (form : Form) (rest : Files → Lists → List (List Shift) → Outcome → Type 0) (o : Outcome)
-        → ((files : Files) → IsTaskOf files disks now next plan task → rest files task.input task.plan o → FormCause files k.before.store form o)
-        → (Rest : Task → Type 0) → ((files : Files) → Rest (task_of files plan task.input task.plan) → rest files task.input task.plan o) → Rest task
-        → IfSome k.before.folder.files (λ files. FormCause files k.before.store form o)
-    step_cause form rest o to Rest into h = if_map k.before.folder.files (λ files holds. to files holds (into files (subst Rest (task_parts files disks now next plan task holds) h))) are
-
     -- `move`
 
     move_cause : (o : Outcome) → Then (starts task k.before.store) (λ _. IsDone (λ text. text ≡ done_text task.plan 0)) o → IfSome k.before.folder.files (λ files. FormCause files k.before.store (Move disks now next plan) o)
-    move_cause o h = step_cause (Move disks now next plan) (move_rest k.before.store plan) o (λ files holds ends. task_cause k (Move disks now next plan) disks now next plan (move_rest k.before.store plan) (λ files o c. c) files task holds o ends)
+    move_cause o h = told_cause k (Move disks now next plan) disks now next plan (move_rest k.before.store plan) (λ files o c. c) task are o
         (λ t. Then (starts t k.before.store) (λ _. IsDone (λ text. text ≡ done_text task.plan 0)) o) (λ files c. c) h
 
     pub move_done : MovesAll task k.before.store k.after.store 0 → MovesInPart task k.before.store k.after.store 0 → IsStartable task k.before.store → WorldEnds k (Move disks now next plan) (Done (done_text task.plan 0))
@@ -98,7 +92,7 @@ module _ (k : Call) (disks now next plan : List ℕ) (same : Untouched k.before.
     -- `resume`
 
     resume_cause : (o : Outcome) → Then (resumes task k.before.store) (λ found. IsDone (λ text. text ≡ done_text task.plan found)) o → IfSome k.before.folder.files (λ files. FormCause files k.before.store (Resume disks now next plan) o)
-    resume_cause o h = step_cause (Resume disks now next plan) (resume_rest k.before.store plan) o (λ files holds ends. task_cause k (Resume disks now next plan) disks now next plan (resume_rest k.before.store plan) (λ files o c. c) files task holds o ends)
+    resume_cause o h = told_cause k (Resume disks now next plan) disks now next plan (resume_rest k.before.store plan) (λ files o c. c) task are o
         (λ t. Then (resumes t k.before.store) (λ found. IsDone (λ text. text ≡ done_text task.plan found)) o) (λ files c. c) h
 
     pub resume_done : (found : ℕ) → ResumesAll task k.before.store k.after.store found → ResumesInPart task k.before.store k.after.store → IsResumable task k.before.store found → WorldEnds k (Resume disks now next plan) (Done (done_text task.plan found))

@@ -2,9 +2,9 @@
 use Rattle.std.proofs.Common.{inr, ℕ, List, [], ◌∷◌}
 use Rattle.mig_io.specs.Files.{Files}
 use Rattle.mig_top.specs.Causes.{LoadedCause}
-use Rattle.mig_top.specs.Loading.{HoldFirst, HoldsFirst, PlanOn, CheckOn, AfterOn}
-use Rattle.mig_top.specs.Outcomes.{Outcome}
-use Rattle.mig_top.specs.Words.{Plan, Check, After, loaded}
+use Rattle.mig_top.specs.Loading.{HoldFirst, HoldsFirst, PlanOn, CheckOn, AfterOn, DrillOn}
+use Rattle.mig_words.specs.Outcomes.{Outcome}
+use Rattle.mig_words.specs.Words.{Plan, Check, After, Drill, loaded}
 use Rattle.mig_top.proofs.Missing.{none_missing}
 
 module _ (d n x : List ℕ) where
@@ -14,6 +14,10 @@ module _ (d n x : List ℕ) where
   pub after_on : (p : List ℕ) (o : Outcome) → ((files : Files) (disks now next plan : List ℕ) → HoldFirst files (disks ∷ now ∷ next ∷ []) (d ∷ n ∷ x ∷ []) → HoldsFirst files plan p → LoadedCause files (After disks now next plan) o) → AfterOn d n x p o
   after_on p o h disks now next plan files held =
       inr (tt, none_missing files (loaded (After disks now next plan)) (d ∷ n ∷ x ∷ p ∷ []) held, h files disks now next plan (held.0, (held.1.0, (held.1.1.0, tt))) held.1.1.1.0)
+
+  pub drill_on : (p : List ℕ) (o : Outcome) → ((files : Files) (disks now next plan : List ℕ) → HoldFirst files (disks ∷ now ∷ next ∷ []) (d ∷ n ∷ x ∷ []) → HoldsFirst files plan p → LoadedCause files (Drill disks now next plan) o) → DrillOn d n x p o
+  drill_on p o h disks now next plan files held =
+      inr (tt, none_missing files (loaded (Drill disks now next plan)) (d ∷ n ∷ x ∷ p ∷ []) held, h files disks now next plan (held.0, (held.1.0, (held.1.1.0, tt))) held.1.1.1.0)
 
   pub check_on : (p c : List ℕ) (o : Outcome) → ((files : Files) (disks now next plan cert : List ℕ) → HoldFirst files (disks ∷ now ∷ next ∷ []) (d ∷ n ∷ x ∷ []) → HoldsFirst files plan p → HoldsFirst files cert c → LoadedCause files (Check disks now next plan cert) o) → CheckOn d n x p c o
   check_on p c o h disks now next plan cert files held =

@@ -6,10 +6,10 @@ use Rattle.mig_io.specs.Held.{SinkState, Extends, ExtendsInPart}
 use Rattle.mig_top.specs.Calls.{Call, Untouched}
 use Rattle.mig_top.specs.Ends.{EndsAs, FormEnds, RehearsalEnds, RehearsalEndsAs, Says}
 use Rattle.mig_top.specs.Headline.{RehearsesWell}
-use Rattle.mig_top.specs.Outcomes.{Outcome, Done, SinkFault, Memory, code, text_of}
+use Rattle.mig_words.specs.Outcomes.{Outcome, Done, SinkFault, Memory, code, text_of}
 use Rattle.mig_top.specs.Rehearsed.{IsRehearsed, case_in}
 use Rattle.mig_top.specs.StoreLeaves.{IsUntouched}
-use Rattle.mig_top.specs.Words.{Form, Rehearse, IsListed}
+use Rattle.mig_words.specs.Words.{Form, Rehearse, IsListed}
 use Rattle.mig_top.proofs.Exactness.{one_form}
 
 whatever : {X P : Type 0} (o : Option X) → P → IfSome o (λ _. P)

@@ -4,14 +4,14 @@ use Rattle.std.specs.Option.{IfSome, IsSomeAnd}
 use Rattle.mig_base.specs.FaultCounts.{Rose}
 use Rattle.mig_io.specs.Files.{Files, FolderState, OthersStay, Saves}
 use Rattle.mig_io.specs.Held.{SinkState, Extends, ExtendsInPart}
-use Rattle.mig_top.specs.declared.endings.Ending.{Ending}
-use Rattle.mig_top.specs.declared.endings.Ending.TheVariants as ending
+use Rattle.mig_words.specs.declared.endings.Ending.{Ending}
+use Rattle.mig_words.specs.declared.endings.Ending.TheVariants as ending
 use Rattle.mig_top.specs.Calls.{Call, SinkFailed}
 use Rattle.mig_top.specs.Ends.{AreSaved, CauseOf, EndsAs, FilesCauseOf, FilesEndAs, FilesEnds, FolderEnds, FormEnds, FormEndsAs, IsPlanSaved, StoreLeaves, WorldEnds}
 use Rattle.mig_top.specs.Loading.{HoldFirst, PlansOn}
-use Rattle.mig_top.specs.Outcomes.{Outcome, Done, SinkFault, StoreFault, code, outcome_of, text_of}
+use Rattle.mig_words.specs.Outcomes.{Outcome, Done, SinkFault, StoreFault, code, outcome_of, text_of}
 use Rattle.mig_top.specs.StoreLeaves.{IsUntouched}
-use Rattle.mig_top.specs.Words.{Form, Plan, Check, After, Fill, Audit, Rehearse, IsListed, Move, Resume}
+use Rattle.mig_words.specs.Words.{Form, Plan, Check, After, Fill, Audit, Rehearse, IsListed, Move, Resume, Drill, Halt}
 
 -- Commands over files alone
 
@@ -52,6 +52,7 @@ IsOverFiles (Audit d n) = ⊥
 IsOverFiles (Rehearse d p l) = ⊥
 IsOverFiles (Move d n x p) = ⊥
 IsOverFiles (Resume d n x p) = ⊥
+IsOverFiles (Halt d n x p l) = ⊥
 IsOverFiles form = Unit {0}
 
 module _ (k : Call) where
@@ -61,12 +62,15 @@ module _ (k : Call) where
   files_cause (Rehearse d p l) o over h = absurd over
   files_cause (Move d n x p) o over h = absurd over
   files_cause (Resume d n x p) o over h = absurd over
+  files_cause (Halt d n x p l) o over h = absurd over
   files_cause (Plan d n x p c) (StoreFault b) over h = absurd h
   files_cause (Plan d n x p c) o over h = h
   files_cause (Check d n x p c) (StoreFault b) over h = absurd h
   files_cause (Check d n x p c) o over h = h
   files_cause (After d n x p) (StoreFault b) over h = absurd h
   files_cause (After d n x p) o over h = h
+  files_cause (Drill d n x p) (StoreFault b) over h = absurd h
+  files_cause (Drill d n x p) o over h = h
 
   store_kept : (form : Form) (o : Outcome) → IsOverFiles form → IsUntouched k.before.store k.after.store → StoreLeaves k form o
   store_kept (Fill d n) o over kept = absurd over
@@ -74,6 +78,7 @@ module _ (k : Call) where
   store_kept (Rehearse d p l) o over kept = absurd over
   store_kept (Move d n x p) o over kept = absurd over
   store_kept (Resume d n x p) o over kept = absurd over
+  store_kept (Halt d n x p l) o over kept = absurd over
   store_kept _ o over kept = kept
 
   -- a command that has no store leaves it as it was

@@ -20,7 +20,7 @@ use Rattle.mig_top.specs.Audits.{AuditStops, HasPutSight, HavePutSights, SightSt
 use Rattle.mig_top.specs.declared.audit_command.Stop.{Stop}
 use Rattle.mig_top.specs.declared.audit_command.Stop.TheVariants as stop
 use Rattle.mig_top.specs.Sights.{AreSightLines, IsAudit, IsSightOf, sight_count, sight_line}
-use Rattle.mig_top.proofs.PutTexts.{puts_nothing, then_begins, then_extends}
+use Rattle.mig_words.proofs.PutTexts.{puts_nothing, then_begins, then_extends}
 
 -- what is seen of an item is seen at the beginning, where nothing was written since
 module _ (old mid : State) (looks : Looks old mid) where

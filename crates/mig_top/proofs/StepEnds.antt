@@ -4,14 +4,14 @@ use Rattle.std.specs.Prelude.{IfErr, IfOk, MatchResult}
 use Rattle.std.specs.Option.{IfSome, IsSomeAnd}
 use Rattle.std.specs.Result.{IsErrAnd}
 use Rattle.mig_io.specs.Files.{Files, FolderState, OthersStay}
-use Rattle.mig_top.specs.declared.endings.Ending.{Ending}
-use Rattle.mig_top.specs.declared.endings.Ending.TheVariants.{Blamed, Refused, FolderFault, Memory, NotSpelled, NoFile}
+use Rattle.mig_words.specs.declared.endings.Ending.{Ending}
+use Rattle.mig_words.specs.declared.endings.Ending.TheVariants.{Blamed, Refused, FolderFault, Memory, NotSpelled, TooLarge, NoFile, StoreFault}
 use Rattle.mig_top.specs.Calls.{Changes, Untouched}
 use Rattle.mig_top.specs.Causes.{FilesCause}
 use Rattle.mig_top.specs.Ends.{FolderEnds, FolderLeaves}
 use Rattle.mig_top.specs.Loading.{EndsWithin, HoldFirst, LoadsEnd, On}
-use Rattle.mig_top.specs.Outcomes.{Outcome, Done, outcome_of}
-use Rattle.mig_top.specs.Words.{Form, Plan, loaded}
+use Rattle.mig_words.specs.Outcomes.{Outcome, Done, outcome_of}
+use Rattle.mig_words.specs.Words.{Form, Plan, Halt, loaded}
 
 pub if_map : {X : Type 0} {P Q : X → Type 0} (o : Option X) → ((x : X) → P x → Q x) → IfSome o P → IfSome o Q
 if_map None f h = tt
@@ -22,6 +22,7 @@ pub within : (P Q : Outcome → Type 0) → ((o : Outcome) → P o → Q o) → 
 within P Q to (Blamed b name) h = to _ h
 within P Q to (Refused f row w) h = to _ h
 within P Q to (NotSpelled f line) h = to _ h
+within P Q to (TooLarge shifts) h = to _ h
 within P Q to Memory h = tt
 within P Q to _ h = absurd h
 
@@ -47,7 +48,7 @@ handed_end (Ok x) e P Q is h = absurd is
 handed_end (Err x) e P Q is h = subst Q (sym is) h
 
 -- nothing changed, so no file but one did
-one_changed : (old new : FolderState) (name : List ℕ) → Untouched old new → Changes old new (OthersStay name)
+pub one_changed : (old new : FolderState) (name : List ℕ) → Untouched old new → Changes old new (OthersStay name)
 one_changed old new name same = subst (λ (after : Option Files). IfSome old.files (λ files. IsSomeAnd after (OthersStay name files))) (sym same) (at old.files)
   where
     at : (o : Option Files) → IfSome o (λ files. IsSomeAnd o (OthersStay name files))
@@ -55,9 +56,12 @@ one_changed old new name same = subst (λ (after : Option Files). IfSome old.fil
     at (Some files) = λ other differs. refl
 
 -- a command that changed nothing may end with each ending
-leaves : (old new : FolderState) (form : Form) (names : List (List ℕ)) (e : Ending) → Untouched old new → FolderLeaves old new form (outcome_of names e)
+pub leaves : (old new : FolderState) (form : Form) (names : List (List ℕ)) (e : Ending) → Untouched old new → FolderLeaves old new form (outcome_of names e)
 leaves old new (Plan d n x p c) names FolderFault same = inl (one_changed old new p same)
 leaves old new (Plan d n x p c) names _ same = same
+leaves old new (Halt d n x p l) names FolderFault same = one_changed old new l same
+leaves old new (Halt d n x p l) names StoreFault same = one_changed old new l same
+leaves old new (Halt d n x p l) names _ same = same
 leaves old new _ names e same = same
 
 module _ (old new : FolderState) (form : Form) (same : Untouched old new) where
@@ -78,6 +82,7 @@ module _ (old new : FolderState) (form : Form) (same : Untouched old new) where
     memory_ends (Blamed b name) h = record { cause = cause _ h; leaves = leaves old new form (loaded form) (Blamed b name) same }
     memory_ends (Refused f r w) h = record { cause = cause _ h; leaves = leaves old new form (loaded form) (Refused f r w) same }
     memory_ends (NotSpelled t line) h = record { cause = cause _ h; leaves = leaves old new form (loaded form) (NotSpelled t line) same }
+    memory_ends (TooLarge shifts) h = record { cause = cause _ h; leaves = leaves old new form (loaded form) (TooLarge shifts) same }
     memory_ends Memory h = record { cause = tt; leaves = leaves old new form (loaded form) Memory same }
     memory_ends _ h = absurd h
 

@@ -10,20 +10,21 @@ use Rattle.mig_base.specs.Stores.{State, IsState, Changes, IsMoving, Looks, flig
 use Rattle.mig_base.proofs.StoreSteps.{changes_none, same_image}
 use Rattle.mig_io.specs.Files.{Files}
 use Rattle.mig_mover.specs.Moves.{Settles}
-use Rattle.mig_top.specs.declared.endings.Ending.{Ending}
-use Rattle.mig_top.specs.declared.endings.Ending.TheVariants.{Refused, FolderFault, Memory, NoFile}
+use Rattle.mig_words.specs.declared.endings.Ending.{Ending}
+use Rattle.mig_words.specs.declared.endings.Ending.TheVariants.{Refused, FolderFault, Memory, NoFile}
 use Rattle.mig_top.specs.Calls.{Call}
 use Rattle.mig_top.specs.Causes.{FormCause, loads, reads_layout}
 use Rattle.mig_top.specs.Ends.{CauseOf, Ends, EndsAs, FormEnds, StoreLeaves}
+use Rattle.mig_top.specs.HaltLeaves.{IsUnwritten}
 use Rattle.mig_top.specs.Headline.{WritesLast}
 use Rattle.mig_top.specs.Loading.{NoLayout}
 use Rattle.mig_top.specs.Loads.{HoldsLayout, first_missing}
-use Rattle.mig_top.specs.Outcomes as out
-use Rattle.mig_top.specs.Outcomes.{Outcome, code, outcome_of}
+use Rattle.mig_words.specs.Outcomes as out
+use Rattle.mig_words.specs.Outcomes.{Outcome, code, outcome_of}
 use Rattle.mig_top.specs.Steps.{Then}
 use Rattle.mig_top.specs.MoveLeaves.{MoveLeaves}
 use Rattle.mig_top.specs.StoreLeaves.{IsUntouched, WroteNothing}
-use Rattle.mig_top.specs.Words.{Form, Fill, Audit, Move, Resume}
+use Rattle.mig_words.specs.Words.{Form, Fill, Audit, Move, Resume, Halt}
 use Rattle.mig_top.proofs.Exactness.{one_there}
 use Rattle.mig_top.proofs.StepEnds.{if_map}
 
@@ -61,14 +62,17 @@ module _ (k : Call) (form : Form) (disks now : List ℕ) (rest : Files → Lists
 -- Where nothing was written
 
 module _ (old new : State) (law : IsState old) where
-  untouched_quiet : IsUntouched old new → WroteNothing old new
+  pub untouched_quiet : IsUntouched old new → WroteNothing old new
   untouched_quiet same image left = law.only_now image (same.since old.moment image left)
 
   pub quiet : (P : Cell → Type 0) (added : List Event) → Changes P NoCell added old new → WroteNothing old new
   quiet P added change image left = ⊎_elim (law.only_now image) (λ from. subst old.may_leave (same_image from.0 image from.2) from.1) (change.time.since old.moment image (omega arith) left)
 
-  settled_quiet : Settles old new → WroteNothing old new
+  pub settled_quiet : Settles old new → WroteNothing old new
   settled_quiet settles = quiet (IsTargetOf (flights old)) settles.added settles.change
+
+  unwritten_quiet : IsUnwritten old new → WroteNothing old new
+  unwritten_quiet = ⊎_elim untouched_quiet settled_quiet
 
 module _ (k : Call) (law : IsState k.before.store) where
   move_quiet : (disks now next plan : List ℕ) (o : Outcome) → MoveLeaves k.before.folder k.before.store k.after.store disks now next plan o → code o ≢ 0 → code o ≢ 5 → WroteNothing k.before.store k.after.store
@@ -80,7 +84,7 @@ module _ (k : Call) (law : IsState k.before.store) where
   move_quiet d n x p (out.Occupied disk slot) h zero five = settled_quiet k.before.store k.after.store law h.2.settles
   move_quiet d n x p o h zero five = untouched_quiet k.before.store k.after.store law h
 
-  form_quiet : (form : Form) (o : Outcome) → StoreLeaves k form o → code o ≢ 0 → code o ≢ 5 → WroteNothing k.before.store k.after.store
+  pub form_quiet : (form : Form) (o : Outcome) → StoreLeaves k form o → code o ≢ 0 → code o ≢ 5 → WroteNothing k.before.store k.after.store
   form_quiet (Fill d n) (out.Done text) h zero five = absurd (zero refl)
   form_quiet (Fill d n) (out.StoreFault before) h zero five = absurd (five refl)
   form_quiet (Fill d n) out.Started h zero five = settled_quiet k.before.store k.after.store law h
@@ -91,6 +95,13 @@ module _ (k : Call) (law : IsState k.before.store) where
   form_quiet (Resume d n x p) (out.Done text) h zero five = absurd (zero refl)
   form_quiet (Resume d n x p) (out.StoreFault before) h zero five = absurd (five refl)
   form_quiet (Resume d n x p) o h zero five = move_quiet d n x p o h zero five
+  form_quiet (Halt d n x p l) (out.Done text) h zero five = absurd (zero refl)
+  form_quiet (Halt d n x p l) (out.StoreFault before) h zero five = absurd (five refl)
+  form_quiet (Halt d n x p l) out.FolderFault h zero five = unwritten_quiet k.before.store k.after.store law h
+  form_quiet (Halt d n x p l) out.Memory h zero five = unwritten_quiet k.before.store k.after.store law h
+  form_quiet (Halt d n x p l) out.NotStarted h zero five = settled_quiet k.before.store k.after.store law h
+  form_quiet (Halt d n x p l) (out.OtherPlan kept ours) h zero five = settled_quiet k.before.store k.after.store law h
+  form_quiet (Halt d n x p l) o h zero five = untouched_quiet k.before.store k.after.store law h
   form_quiet form o h zero five = untouched_quiet k.before.store k.after.store law h
 
   ended_quiet : (form : Form) (o : Outcome) → FormEnds k form o → code o ≢ 0 → code o ≢ 5 → code o ≢ 6 → WroteNothing k.before.store k.after.store

@@ -14,7 +14,7 @@ use Rattle.mig_base.proofs.StoreSteps.{same_image, same_wider}
 use Rattle.mig_mover.specs.Fillings.{IsFillable, IsFillRefusal, IsFirstTaken}
 use Rattle.mig_mover.specs.declared.faults.MoveFault.{MoveFault}
 use Rattle.mig_mover.specs.declared.faults.MoveFault.TheVariants.{Started, Occupied}
-use Rattle.mig_top.specs.Outcomes.{Outcome, code, fault_outcome}
+use Rattle.mig_words.specs.Outcomes.{Outcome, code, fault_outcome}
 use Rattle.mig_top.specs.StoreLooks.{IsFillCell, IsFound, IsShown, TellsStill, fills}
 use Rattle.mig_top.proofs.Steps.{IsExact}
 

@@ -8,12 +8,12 @@ use Rattle.mig_top.specs.Causes.{FormCause}
 use Rattle.mig_top.specs.Ends.{Ends, EndsAs, FormEnds, WorldEnds}
 use Rattle.mig_top.specs.Headline.{AuditsWell, FillsWell}
 use Rattle.mig_top.specs.Loads.{HoldsLayout}
-use Rattle.mig_top.specs.Outcomes.{Outcome, Done, SinkFault, code, text_of}
+use Rattle.mig_words.specs.Outcomes.{Outcome, Done, SinkFault, code, text_of}
 use Rattle.mig_top.specs.Sights.{IsAudit}
 use Rattle.mig_top.specs.Steps.{IsDone}
 use Rattle.mig_top.specs.StoreLeaves.{IsFilled}
 use Rattle.mig_top.specs.StoreLooks.{IsFillCell, TellsStill, filled_text}
-use Rattle.mig_top.specs.Words.{Fill, Audit, IsListed}
+use Rattle.mig_words.specs.Words.{Fill, Audit, IsListed}
 use Rattle.mig_top.proofs.Exactness.{comes_exactly, known_form, layout_exact, loads_exact, told}
 use Rattle.mig_top.proofs.Layouts.{one_layout}
 use Rattle.mig_top.proofs.Sightings.{whole_audit}

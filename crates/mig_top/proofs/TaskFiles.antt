@@ -8,18 +8,18 @@ use Rattle.mig_base.specs.declared.ids.Shift.{Shift}
 use Rattle.mig_base.specs.InputLists.{Lists}
 use Rattle.mig_io.specs.Files.{Files, FolderState, file}
 use Rattle.mig_mover.specs.Tasks.{Task}
-use Rattle.mig_top.specs.declared.endings.Ending.{Ending}
-use Rattle.mig_top.specs.declared.endings.Ending.TheVariants.{Blamed, Refused, FolderFault, Memory, NotSpelled, NoFile}
+use Rattle.mig_words.specs.declared.endings.Ending.{Ending}
+use Rattle.mig_words.specs.declared.endings.Ending.TheVariants.{Blamed, Refused, FolderFault, Memory, NotSpelled, TooLarge, NoFile}
 use Rattle.mig_top.specs.Calls.{Call}
 use Rattle.mig_top.specs.Causes.{FormCause, loads, reads_input, reads_plan, runs}
 use Rattle.mig_top.specs.Ends.{CauseOf}
 use Rattle.mig_top.specs.Loading.{EndsWithin, HoldFirst, HoldsFirst, NoTask, TaskStops, UnreadAsTask}
 use Rattle.mig_top.specs.Loads.{HasPlan, Stands, first_missing}
 use Rattle.mig_top.specs.MoveLooks.{IsTaskOf, task_of}
-use Rattle.mig_top.specs.Outcomes as out
-use Rattle.mig_top.specs.Outcomes.{Outcome, outcome_of}
+use Rattle.mig_words.specs.Outcomes as out
+use Rattle.mig_words.specs.Outcomes.{Outcome, outcome_of}
 use Rattle.mig_top.specs.Steps.{Then}
-use Rattle.mig_top.specs.Words.{Form}
+use Rattle.mig_words.specs.Words.{Form}
 use Rattle.mig_top.proofs.Cutting.{all_of, whole_of}
 use Rattle.mig_top.proofs.Exactness.{is_input, one_plan, one_there, same_bytes, stands_for_one, three_there}
 use Rattle.mig_top.proofs.Missing.{none_missing}
@@ -62,6 +62,7 @@ no_task disks now next plan d n x p old new held e h = by e h
     by (Blamed b name) h = at (out.Blamed b (unwrap_or name [])) h
     by (Refused f r w) h = at (out.Refused f r w) h
     by (NotSpelled f line) h = at (out.NotSpelled f line) h
+    by (TooLarge shifts) h = at (out.TooLarge shifts) h
     by Memory h = tt
     by _ h = absurd h
 
@@ -80,8 +81,14 @@ module _ (k : Call) (form : Form) (disks now next plan : List ℕ) (rest : Files
   no_task_cause (Blamed b name) h = if_map k.before.folder.files (λ files no. to files (outcome_of (disks ∷ now ∷ next ∷ plan ∷ []) (Blamed b name)) (inr (tt, no.0, stopped files (outcome_of (disks ∷ now ∷ next ∷ plan ∷ []) (Blamed b name)) no.1))) h
   no_task_cause (Refused f r w) h = if_map k.before.folder.files (λ files no. to files (outcome_of (disks ∷ now ∷ next ∷ plan ∷ []) (Refused f r w)) (inr (tt, no.0, stopped files (outcome_of (disks ∷ now ∷ next ∷ plan ∷ []) (Refused f r w)) no.1))) h
   no_task_cause (NotSpelled f line) h = if_map k.before.folder.files (λ files no. to files (outcome_of (disks ∷ now ∷ next ∷ plan ∷ []) (NotSpelled f line)) (inr (tt, no.0, stopped files (outcome_of (disks ∷ now ∷ next ∷ plan ∷ []) (NotSpelled f line)) no.1))) h
+  no_task_cause (TooLarge shifts) h = if_map k.before.folder.files (λ files no. to files (outcome_of (disks ∷ now ∷ next ∷ plan ∷ []) (TooLarge shifts)) (inr (tt, no.0, stopped files (outcome_of (disks ∷ now ∷ next ∷ plan ∷ []) (TooLarge shifts)) no.1))) h
   no_task_cause _ h = absurd h
 
   -- the files stand for a task, and so the command goes on
   pub task_cause : (files : Files) (task : Task) → IsTaskOf files disks now next plan task → (o : Outcome) → rest files task.input task.plan o → FormCause files k.before.store form o
   task_cause files task h o ends = to files o (inr (tt, four_there files disks now next plan task h, inr (task.input, h.stands, inr (task.plan, h.has_plan, inr (tt, h.runs, ends)))))
+
+  -- the same of the task that the files, as far as they are told, stand for
+  pub told_cause : (task : Task) → IfSome k.before.folder.files (λ files. IsTaskOf files disks now next plan task) → (o : Outcome) (Rest : Task → Type 0)
+      → ((files : Files) → Rest (task_of files plan task.input task.plan) → rest files task.input task.plan o) → Rest task → IfSome k.before.folder.files (λ files. FormCause files k.before.store form o)
+  told_cause task are o Rest into ends = if_map k.before.folder.files (λ files holds. task_cause files task holds o (into files (subst Rest (task_parts files disks now next plan task holds) ends))) are

@@ -1,5 +1,5 @@
 -- Why a command ends as it does: its steps over the files that it finds.
-use Rattle.std.specs.Prelude.{◌≡◌, ◌≢◌, ℕ, ◌==◌, List, [], ◌∷◌, None, Some, codes, if◌then◌else◌, length}
+use Rattle.std.specs.Prelude.{◌≡◌, ◌≢◌, ◌<◌, ◌≤◌, ℕ, ◌==◌, List, [], ◌∷◌, None, Some, codes, if◌then◌else◌, length}
 use Rattle.mig_base.specs.InputLists.{Lists}
 use Rattle.mig_base.specs.Running.{Runs, Once}
 use Rattle.mig_base.specs.Layouts.{At, IsListOf}
@@ -11,17 +11,21 @@ use Rattle.mig_base.specs.declared.blames.Blame.TheVariants as blame
 use Rattle.mig_base.specs.declared.certs.Cert.{Cert}
 use Rattle.mig_base.specs.declared.ids.Shift.{Shift}
 use Rattle.mig_base.specs.declared.ids.Spot.{Spot}
+use Rattle.mig_base.specs.Readiness.{shifts_of}
 use Rattle.mig_base.specs.Stores.{State}
+use Rattle.mig_drill.specs.Drills.{drill_text}
+use Rattle.mig_drill.specs.declared.limits.TheConstants.{MAX_DRILL_SHIFTS}
 use Rattle.mig_io.specs.Files.{Files}
-use Rattle.mig_top.specs.declared.endings.TextFile.TheVariants as text_file
+use Rattle.mig_top.specs.HaltLooks.{halted_text, stands}
+use Rattle.mig_words.specs.declared.endings.TextFile.TheVariants as text_file
 use Rattle.mig_top.specs.Loads.{AreRefused, HasPlan, HasCert, HasNoPlan, HasNoCert, HoldsLayout, IsLayoutRefused, Stands, first_missing}
 use Rattle.mig_top.specs.MoveLooks.{done_text, resumes, starts, task_of}
-use Rattle.mig_top.specs.Outcomes.{Outcome, Blamed, Refused, NotSpelled, NoFile, named}
+use Rattle.mig_words.specs.Outcomes.{Outcome, Blamed, Refused, NotSpelled, TooLarge, NoFile, named}
 use Rattle.mig_top.specs.Rehearsed.{IsRehearsed, case_in}
 use Rattle.mig_top.specs.Sights.{IsAudit}
 use Rattle.mig_top.specs.Steps.{Step, Then, IsDone}
 use Rattle.mig_top.specs.StoreLooks.{fills, filled_text}
-use Rattle.mig_top.specs.Words.{Form, Plan, Check, After, Fill, Audit, Rehearse, loaded, Move, Resume}
+use Rattle.mig_words.specs.Words.{Form, Plan, Check, After, Fill, Audit, Rehearse, loaded, Move, Resume, Drill, Halt}
 
 -- What ends each step
 
@@ -49,6 +53,11 @@ IsNoCert files cert input _ = ⊥
 abbrev pub DoesNotRun : Lists → List (List Shift) → Outcome → Type 0
 DoesNotRun input rounds (Blamed b name) = IsRunBlame input rounds b × (b ≢ blame.Memory) × (name ≡ named input b)
 DoesNotRun input rounds _ = ⊥
+
+-- the plan has this many shifts, more than a drill takes
+abbrev pub IsTooLarge : List (List Shift) → Outcome → Type 0
+IsTooLarge rounds (TooLarge shifts) = (MAX_DRILL_SHIFTS < length (shifts_of rounds)) × (shifts ≡ length (shifts_of rounds))
+IsTooLarge rounds _ = ⊥
 
 -- the first thing that is wrong with the plan or its certificate
 abbrev pub IsWrong : Lists → List (List Shift) → Cert → Outcome → Type 0
@@ -82,6 +91,9 @@ module _ (files : Files) where
 abbrev pub runs : Lists → List (List Shift) → Step (Unit {0})
 runs input rounds = record { Passes = λ _. Runs input rounds; Stops = DoesNotRun input rounds }
 
+abbrev pub fits_drill : List (List Shift) → Step (Unit {0})
+fits_drill rounds = record { Passes = λ _. length (shifts_of rounds) ≤ MAX_DRILL_SHIFTS; Stops = IsTooLarge rounds }
+
 abbrev pub judges : Lists → List (List Shift) → Cert → Step (Unit {0})
 judges input rounds cert = record { Passes = λ _. IsRight input rounds cert; Stops = IsWrong input rounds cert }
 
@@ -90,9 +102,13 @@ judges input rounds cert = record { Passes = λ _. IsRight input rounds cert; St
 abbrev pub verdict_text : List (List Shift) → Cert → List ℕ
 verdict_text rounds cert = if length rounds == bound_value cert.bound then codes "optimal\n" else codes "bounded\n"
 
--- this is the text of the layout after the last round
+-- this is the text of the layout after the first k rounds
+abbrev pub IsLayoutAfter : Lists → List (List Shift) → ℕ → List ℕ → Type 0
+IsLayoutAfter input rounds k text = (spots : List Spot) × IsListOf (At input rounds k) spots × LayoutText input spots text
+
+-- and this is that after the last
 abbrev pub IsLastLayout : Lists → List (List Shift) → List ℕ → Type 0
-IsLastLayout input rounds text = (spots : List Spot) × IsListOf (At input rounds (length rounds)) spots × LayoutText input spots text
+IsLastLayout input rounds text = IsLayoutAfter input rounds (length rounds) text
 
 -- The commands
 
@@ -112,6 +128,12 @@ LoadedCause files (After disks now next plan) =
     Then (reads_plan files plan input) (λ rounds.
     Then (runs input rounds) (λ _.
     IsDone (IsLastLayout input rounds))))
+LoadedCause files (Drill disks now next plan) =
+    Then (reads_input files disks now next) (λ input.
+    Then (reads_plan files plan input) (λ rounds.
+    Then (runs input rounds) (λ _.
+    Then (fits_drill rounds) (λ _.
+    IsDone (λ text. text ≡ drill_text rounds)))))
 LoadedCause files form = λ o. ⊥
 
 abbrev pub FilesCause : Files → Form → Outcome → Type 0
@@ -143,4 +165,11 @@ FormCause files store (Resume disks now next plan) =
     Then (runs input rounds) (λ _.
     Then (resumes (task_of files plan input rounds) store) (λ found.
     IsDone (λ text. text ≡ done_text rounds found))))))
+FormCause files store (Halt disks now next plan layout) =
+    Then (loads files (disks ∷ now ∷ next ∷ plan ∷ [])) (λ _.
+    Then (reads_input files disks now next) (λ input.
+    Then (reads_plan files plan input) (λ rounds.
+    Then (runs input rounds) (λ _.
+    Then (stands (task_of files plan input rounds) store) (λ found.
+    IsDone (λ text. text ≡ halted_text rounds found))))))
 FormCause files store form = FilesCause files form

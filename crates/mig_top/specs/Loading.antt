@@ -13,11 +13,11 @@ use Rattle.mig_top.specs.Loads.{HasPlan, HasCert, HoldsLayout, Stands, first_mis
 use Rattle.mig_top.specs.MoveLooks.{IsTaskOf}
 use Rattle.mig_top.specs.Planned.{AreTextsOf}
 use Rattle.mig_top.specs.Steps.{Then}
-use Rattle.mig_top.specs.Words.{Plan, Check, After, Form, loaded}
-use Rattle.mig_top.specs.Outcomes.{Outcome}
-use Rattle.mig_top.specs.Outcomes as out
-use Rattle.mig_top.specs.declared.endings.Ending.{Ending}
-use Rattle.mig_top.specs.declared.endings.Ending.TheVariants.{Blamed, Refused, FolderFault, Memory, NotSpelled, NoFile}
+use Rattle.mig_words.specs.Words.{Plan, Check, After, Drill, Form, loaded}
+use Rattle.mig_words.specs.Outcomes.{Outcome}
+use Rattle.mig_words.specs.Outcomes as out
+use Rattle.mig_words.specs.declared.endings.Ending.{Ending}
+use Rattle.mig_words.specs.declared.endings.Ending.TheVariants.{Blamed, Refused, FolderFault, Memory, NotSpelled, TooLarge, NoFile}
 
 -- the file is there, and these are its first bytes
 abbrev pub HoldsFirst : Files → List ℕ → List ℕ → Type 0
@@ -48,6 +48,7 @@ abbrev pub EndsWithin : (Outcome → Type 0) → Ending → Type 0
 EndsWithin Stops (Blamed b name) = Stops (out.Blamed b (unwrap_or name []))
 EndsWithin Stops (Refused f row w) = Stops (out.Refused f row w)
 EndsWithin Stops (NotSpelled f line) = Stops (out.NotSpelled f line)
+EndsWithin Stops (TooLarge shifts) = Stops (out.TooLarge shifts)
 EndsWithin Stops Memory = Unit {0}
 EndsWithin Stops _ = ⊥
 
@@ -104,6 +105,7 @@ NoTask disks now next plan old new (NoFile place) = LoadsEnd (disks ∷ now ∷ 
 NoTask disks now next plan old new (Blamed b name) = TaskEnds old disks now next plan (out.Blamed b (unwrap_or name []))
 NoTask disks now next plan old new (Refused f row w) = TaskEnds old disks now next plan (out.Refused f row w)
 NoTask disks now next plan old new (NotSpelled f line) = TaskEnds old disks now next plan (out.NotSpelled f line)
+NoTask disks now next plan old new (TooLarge shifts) = TaskEnds old disks now next plan (out.TooLarge shifts)
 NoTask disks now next plan old new _ = ⊥
 
 -- a text whose first bytes are these is the spelling of the plan
@@ -133,6 +135,9 @@ CheckOn d n x p c o = (disks : List ℕ) (now : List ℕ) (next : List ℕ) (pla
 
 abbrev pub AfterOn : (d n x p : List ℕ) → Outcome → Type 0
 AfterOn d n x p o = (disks : List ℕ) (now : List ℕ) (next : List ℕ) (plan : List ℕ) → On (d ∷ n ∷ x ∷ p ∷ []) (After disks now next plan) o
+
+abbrev pub DrillOn : (d n x p : List ℕ) → Outcome → Type 0
+DrillOn d n x p o = (disks : List ℕ) (now : List ℕ) (next : List ℕ) (plan : List ℕ) → On (d ∷ n ∷ x ∷ p ∷ []) (Drill disks now next plan) o
 
 -- the texts of a plan and its certificate, for the input of these bytes
 abbrev pub PlansOn : (d n x plan_text cert_text : List ℕ) → Type 0

@@ -14,7 +14,7 @@ use Rattle.mig_lanes.specs.Runs.{Finishes, IsPart}
 use Rattle.mig_mover.specs.Moves.{Keeps, MayBeHalting, Settles, StaysArmed}
 use Rattle.mig_mover.specs.Tasks.{Task}
 use Rattle.mig_top.specs.MoveLooks.{IsTaskOf}
-use Rattle.mig_top.specs.Outcomes.{Outcome, Done, StoreFault, Started, OtherPlan, NotThere, Occupied}
+use Rattle.mig_words.specs.Outcomes.{Outcome, Done, StoreFault, Started, OtherPlan, NotThere, Occupied}
 use Rattle.mig_top.specs.StoreLeaves.{IsUntouched}
 
 -- the four files, where they are told, stand for this task

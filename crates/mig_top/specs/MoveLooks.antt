@@ -17,7 +17,7 @@ use Rattle.mig_mover.specs.Tasks.{Task}
 use Rattle.mig_mover.specs.declared.faults.MoveFault.{MoveFault}
 use Rattle.mig_mover.specs.declared.faults.MoveFault.TheVariants.{Started, NotStarted}
 use Rattle.mig_top.specs.Loads.{HasPlan, Stands}
-use Rattle.mig_top.specs.Outcomes.{joined}
+use Rattle.mig_words.specs.Outcomes.{joined}
 use Rattle.mig_top.specs.Steps.{Step}
 use Rattle.mig_top.specs.StoreLooks.{IsShown}
 

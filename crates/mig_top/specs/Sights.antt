@@ -9,7 +9,7 @@ use Rattle.mig_base.specs.Stores.{State, IsMoving}
 use Rattle.mig_base.specs.Texts.{disk_name, item_name}
 use Rattle.mig_base.specs.declared.ids.Spot.{Spot}
 use Rattle.mig_mover.specs.declared.sights.Sight.{Sight}
-use Rattle.mig_top.specs.Outcomes.{joined}
+use Rattle.mig_words.specs.Outcomes.{joined}
 
 -- where the item's slot is told and no copy to it is in flight: whether its header names the item, and its digest
 pub record IsSightOf (input : Lists) (store : State) (item : ℕ) (sight : Sight) : Type 0 where

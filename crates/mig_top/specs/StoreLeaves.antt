@@ -12,7 +12,7 @@ use Rattle.mig_io.specs.Files.{FolderState}
 use Rattle.mig_mover.specs.Fillings.{HasMade}
 use Rattle.mig_mover.specs.Moves.{Settles}
 use Rattle.mig_top.specs.Loads.{HoldsLayout}
-use Rattle.mig_top.specs.Outcomes.{Outcome, Done, StoreFault, Started, Occupied}
+use Rattle.mig_words.specs.Outcomes.{Outcome, Done, StoreFault, Started, Occupied}
 
 -- the store is as it was
 pub record IsUntouched (old new : State) : Type 0 where

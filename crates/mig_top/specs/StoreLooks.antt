@@ -11,7 +11,7 @@ use Rattle.mig_base.specs.Slots.{IsListedCell}
 use Rattle.mig_base.specs.Stores.{State, flights}
 use Rattle.mig_mover.specs.Fillings.{IsFillable, IsFillRefusal}
 use Rattle.mig_mover.specs.declared.faults.MoveFault.{MoveFault}
-use Rattle.mig_top.specs.Outcomes.{Outcome, fault_outcome, joined}
+use Rattle.mig_words.specs.Outcomes.{Outcome, fault_outcome, joined}
 use Rattle.mig_top.specs.Steps.{Step}
 
 -- what reads may give once each copy in flight has ended: nothing else has changed

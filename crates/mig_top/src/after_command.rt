@@ -4,17 +4,16 @@ ghost use Rattle.mig_base.specs.Running.{PlanFits, Runs};
 ghost use Rattle.mig_top.specs.Causes.{DoesNotRun, IsLastLayout};
 ghost use Rattle.mig_top.specs.Ends.{FolderEnds};
 ghost use Rattle.mig_top.specs.Loading.{AfterOn, EndsWithin};
-ghost use Rattle.mig_top.specs.Outcomes.{Done, outcome_of};
-ghost use Rattle.mig_top.specs.Words.{After, loaded};
+ghost use Rattle.mig_words.specs.Outcomes.{Done, outcome_of};
+ghost use Rattle.mig_words.specs.Words.{After, loaded};
 
-use crate::endings::Ending;
 use crate::judging::check_runs;
+use crate::layout_texts::layout_text;
 use crate::loads::load_all;
 use crate::reads::{read_files, read_plan_text};
 use mig_base::{Input, Plan};
-use mig_check::layout_after;
 use mig_io::Folder;
-use mig_text::print_layout;
+use mig_words::Ending;
 use std::alloc::{AllocError, Global};
 
 /// The text of the layout after the last round.
@@ -23,9 +22,7 @@ fn last_layout(alloc: Global, input: &Input, plan: &Plan) -> Result<Vec<u8>, All
     requires runs { Runs input.now plan.now }
     ensures { IfOk result (λ text. IsLastLayout input.now plan.now text.items) }
 {
-    input.keeps_rules();
-    let spots = layout_after(alloc, input, plan, plan.rounds().len() as u32)?;
-    print_layout(alloc, input, &spots)
+    layout_text(alloc, input, plan, plan.rounds().len() as u32)
 }
 
 /// The text of the layout in which the plan ends that these bytes spell.

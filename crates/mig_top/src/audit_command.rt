@@ -4,19 +4,17 @@ ghost use Rattle.mig_base.specs.Stores.{State, Looks};
 ghost use Rattle.mig_top.specs.Audits.{AuditStops, HasPutSight, HavePutSights, SightStops};
 ghost use Rattle.mig_top.specs.Calls.{call, world};
 ghost use Rattle.mig_top.specs.Ends.{FormEndsAs};
-ghost use Rattle.mig_top.specs.Puts.{Puts};
+ghost use Rattle.mig_words.specs.Puts.{Puts};
 ghost use Rattle.mig_top.specs.Sights.{sight_line};
-ghost use Rattle.mig_top.specs.Words.{Audit};
+ghost use Rattle.mig_words.specs.Words.{Audit};
 
-use crate::endings::Ending;
 use crate::layout_reads::{item_count, load_layout};
-use crate::putting::Part::{Hex, Number, Text};
-use crate::putting::put_parts;
-use crate::telling::{show_parts, tell};
 use mig_base::{Input, ItemId};
 use mig_io::{Folder, Sink, SinkFailed};
 use mig_mover::{Sight, sight};
 use mig_store::{Store, StoreFailed};
+use mig_words::Part::{Hex, Number, Text};
+use mig_words::{Ending, put_parts, show_parts, tell};
 use std::alloc::Global;
 
 /// Why an audit isn't done.

@@ -2,15 +2,14 @@
 ghost use Rattle.mig_base.specs.Stores.{State};
 ghost use Rattle.mig_top.specs.Calls.{call, world};
 ghost use Rattle.mig_top.specs.Ends.{FormEndsAs};
-ghost use Rattle.mig_top.specs.Words.{Fill};
+ghost use Rattle.mig_words.specs.Words.{Fill};
 
 use crate::layout_reads::{item_count, load_layout};
-use crate::naming::fault_ending;
-use crate::putting::Part::{Number, Text};
-use crate::telling::{show_parts, tell};
 use mig_io::{Folder, Sink};
 use mig_mover::fill;
 use mig_store::Store;
+use mig_words::Part::{Number, Text};
+use mig_words::{fault_ending, show_parts, tell};
 use std::alloc::Global;
 
 /// `fill`, with its text. Once the files are read it takes no memory.

@@ -5,10 +5,9 @@ ghost use Rattle.mig_base.specs.Running.{Once, PlanFits, Runs};
 ghost use Rattle.mig_top.specs.Causes.{DoesNotRun, IsWrong, verdict_text};
 ghost use Rattle.mig_top.specs.Loading.{EndsWithin};
 
-use crate::endings::Ending;
-use crate::naming::name_in;
 use mig_base::{Blame, Cert, Input, Plan, Verdict};
 use mig_check::{judge, runs};
+use mig_words::{Ending, name_in};
 use std::alloc::Global;
 
 /// Whether the plan runs.

@@ -5,11 +5,11 @@ ghost use Rattle.mig_base.specs.InputLists.{IsInput};
 ghost use Rattle.mig_top.specs.Loading.{NoLayout, ReadsAsLayout, UnreadAsLayout};
 ghost use Rattle.mig_top.specs.StoreLeaves.{AreOfLayout};
 
-use crate::endings::Ending;
 use crate::loads::load_all;
 use mig_base::Input;
 use mig_csv::read_layout;
 use mig_io::Folder;
+use mig_words::Ending;
 use std::alloc::Global;
 
 /// The layout that the bytes of the two files stand for.

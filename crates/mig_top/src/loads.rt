@@ -3,9 +3,9 @@ ghost use Rattle.std.specs.Prelude.{◌≡◌, ◌≤◌, IfOk, IfErr, length, m
 ghost use Rattle.std.specs.Option.{IfSome};
 ghost use Rattle.mig_top.specs.Loading.{HoldFirst, HoldsFirst, LoadEnds, LoadsEnd};
 
-use crate::endings::Ending;
 use mig_base::MAX_FILE_BYTES;
 use mig_io::{Folder, LoadFault};
+use mig_words::Ending;
 use std::alloc::Global;
 
 // One more byte than a file may have, so that a file that is too long is seen.

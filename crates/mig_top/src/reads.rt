@@ -7,11 +7,11 @@ ghost use Rattle.mig_base.specs.Running.{PlanFits};
 ghost use Rattle.mig_base.specs.Targets.{IsRoomy};
 ghost use Rattle.mig_top.specs.Loading.{EndsWithin, ReadsAs, ReadsAsCert, ReadsAsPlan, UnreadAs, UnreadAsCert, UnreadAsPlan};
 
-use crate::endings::{Ending, TextFile};
 use mig_base::{Cert, Input, Plan};
 use mig_cert::read_cert;
 use mig_csv::read_input;
 use mig_text::{TextError, read_plan};
+use mig_words::{Ending, TextFile};
 use std::alloc::Global;
 
 /// The input that the bytes of the three files stand for.

@@ -9,12 +9,9 @@ ghost use Rattle.mig_base.specs.Texts.{text_of_lines, words};
 ghost use Rattle.mig_top.specs.Ends.{RehearsalEndsAs};
 ghost use Rattle.mig_top.specs.Planned.{IsCertified};
 ghost use Rattle.mig_top.specs.Rehearsed.{IsPlanDigest, IsRehearsed, case_in, eight_lines, six_lines, verdict_word};
-ghost use Rattle.mig_top.specs.Words.{AreCaseWords};
+ghost use Rattle.mig_words.specs.Words.{AreCaseWords};
 
-use crate::case_words::number_in;
-use crate::endings::Ending;
 use crate::plan_command::{Certified, certified_plan, value_of};
-use crate::telling::{show, tell};
 use mig_base::{Blame, Cert, Input, Plan, Verdict};
 use mig_check::judge;
 use mig_gen::make_case;
@@ -22,6 +19,7 @@ use mig_graph::Graph;
 use mig_io::Sink;
 use mig_journal::digest_of;
 use mig_text::{print_plan, push_count};
+use mig_words::{Ending, number_in, show, tell};
 use std::alloc::{AllocError, Global};
 
 /// The verdict on a plan and its certificate, by the checker.

@@ -2,14 +2,13 @@
 ghost use Rattle.mig_base.specs.Stores.{State};
 ghost use Rattle.mig_top.specs.Calls.{call, world};
 ghost use Rattle.mig_top.specs.Ends.{FormEndsAs};
-ghost use Rattle.mig_top.specs.Words.{Resume};
+ghost use Rattle.mig_words.specs.Words.{Resume};
 
-use crate::naming::fault_ending;
 use crate::tasks::load_job;
-use crate::telling::{show_rounds, tell};
 use mig_io::{Folder, Sink};
 use mig_lanes::resume_lanes;
 use mig_store::Store;
+use mig_words::{PlanFiles, fault_ending, show_rounds, tell};
 use std::alloc::Global;
 
 /// `resume`, with its text. Once the job is made it takes no memory.
@@ -18,23 +17,24 @@ pub fn run_resume<F: Folder, K: Sink, S: Store>(
     folder: &mut F,
     out: &mut K,
     store: &mut S,
-    disks: &str,
-    now: &str,
-    next: &str,
-    plan: &str,
+    files: PlanFiles<'_>,
 ) -> u8
-    ensures { FormEndsAs (call (world (F.state folder.old) (K.state out.old) (S.state store.old)) (world (F.state folder.new) (K.state out.new) (S.state store.new))) (Resume disks.now now.now next.now plan.now) result }
+    ensures { FormEndsAs (call (world (F.state folder.old) (K.state out.old) (S.state store.old)) (world (F.state folder.new) (K.state out.new) (S.state store.new))) (Resume files.entry.disks.now files.entry.now.now files.entry.next.now files.entry.plan.now) result }
 {
-    let job = match load_job(alloc, folder, disks, now, next, plan) {
+    let names = [files.disks, files.now, files.next, files.plan];
+    let job = match load_job(
+        alloc,
+        folder,
+        files.disks,
+        files.now,
+        files.next,
+        files.plan,
+    ) {
         Ok(job) => job,
-        Err(ending) => return tell(out, ending, &[disks, now, next, plan]),
+        Err(ending) => return tell(out, ending, &names),
     };
     match resume_lanes(&job, store) {
         Ok(found) => show_rounds(out, job.rounds(), found),
-        Err(fault) => tell(
-            out,
-            fault_ending(job.input(), fault),
-            &[disks, now, next, plan],
-        ),
+        Err(fault) => tell(out, fault_ending(job.input(), fault), &names),
     }
 }

@@ -3,12 +3,12 @@ ghost use Rattle.std.specs.Prelude.{◌≡◌, ◌≤◌, IfErr, IfOk};
 ghost use Rattle.mig_top.specs.Loading.{EndsWithin, NoTask, ReadsAsTask, UnreadAsTask};
 ghost use Rattle.mig_top.specs.MoveLeaves.{AreOfTask};
 
-use crate::endings::Ending;
 use crate::judging::check_runs;
 use crate::loads::load_all;
 use crate::reads::{read_files, read_plan_text};
 use mig_io::Folder;
 use mig_mover::{Job, prepare};
+use mig_words::Ending;
 use std::alloc::Global;
 
 /// The job that the bytes of the four files stand for.

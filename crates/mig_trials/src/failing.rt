@@ -1,24 +1,43 @@
 //! Folders, sinks and memory that fail at one call.
 
-use crate::clusters::{THREE_ITEMS, TWO_NEEDED, TWO_ROUNDS};
-use crate::running::{AFTER, CHECK, PLAN, expect, folder_of, holds, planned, status_of};
+use crate::expecting::expect;
 use crate::scarce_folder::ScarceFolder;
-use mig_io::MemSink;
+use mig_fixtures::{
+    AFTER, CHECK, Cluster, PLAN, THREE_ITEMS, TWO_NEEDED, TWO_ROUNDS, folder_of, holds, planned,
+    status_of,
+};
+use mig_io::{MemFolder, MemSink};
 use std::test::Fail;
 
+/// The three files of a cluster stand as they were.
+fn stand(folder: &MemFolder, cluster: &Cluster<'_>) -> bool {
+    holds(folder, "D", Some(cluster.disks))
+        && holds(folder, "N", Some(cluster.now))
+        && holds(folder, "X", Some(cluster.next))
+}
+
+// The first save leaves nothing where it fails, and the plan stands where the second fails.
 #[test]
-fn faults_of_the_folder(rt: HostRuntime) -> Result<(), Fail> {
+fn faults_while_planning(rt: HostRuntime) -> Result<(), Fail> {
     let alloc = rt.alloc();
-    let text = "folder fault\n";
     for call in 0..5u64 {
         let mut folder = folder_of(alloc, &THREE_ITEMS, vec![in alloc; call]?)?;
-        expect(&rt, alloc, &mut folder, PLAN, 4, text)?;
-        // the first save leaves nothing where it fails, and the plan stands where the second fails
+        expect(&rt, alloc, &mut folder, PLAN, 4, "folder fault\n")?;
+        assert!(rt; stand(&folder, &THREE_ITEMS));
         assert_eq!(rt; folder.file("P").is_some(), call == 4);
         assert!(rt; holds(&folder, "C", None));
+    }
+    Ok(())
+}
+
+#[test]
+fn faults_while_checking(rt: HostRuntime) -> Result<(), Fail> {
+    let alloc = rt.alloc();
+    for call in 0..5u64 {
         let failing = vec![in alloc; call]?;
         let mut folder = planned(alloc, &THREE_ITEMS, TWO_ROUNDS, TWO_NEEDED, failing)?;
-        expect(&rt, alloc, &mut folder, CHECK, 4, text)?;
+        expect(&rt, alloc, &mut folder, CHECK, 4, "folder fault\n")?;
+        assert!(rt; stand(&folder, &THREE_ITEMS));
         assert!(rt; holds(&folder, "P", Some(TWO_ROUNDS)));
         assert!(rt; holds(&folder, "C", Some(TWO_NEEDED)));
     }

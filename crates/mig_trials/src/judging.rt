@@ -1,10 +1,10 @@
 //! What `check` and `after` say of plans and certificates that stand beside the files of a cluster.
 
-use crate::clusters::{
-    Cluster, NO_ROUNDS, NOTHING_NEEDED, ONE_STAYS, THREE_ITEMS, THREE_MOVED, TRIANGLE, TWO_NEEDED,
-    TWO_ROUNDS,
+use crate::expecting::expect;
+use mig_fixtures::{
+    AFTER, CHECK, Cluster, NO_ROUNDS, NOTHING_NEEDED, ONE_STAYS, THREE_ITEMS, THREE_MOVED,
+    TRIANGLE, TWO_NEEDED, TWO_ROUNDS, folder_of, planned,
 };
-use crate::running::{AFTER, CHECK, expect, folder_of, planned};
 use std::alloc::{AllocError, Global};
 use std::process::Abort;
 use std::test::Fail;

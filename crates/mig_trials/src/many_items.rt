@@ -1,7 +1,7 @@
 //! Some thousand items.
 
-use crate::clusters::Cluster;
-use crate::running::{AFTER, CHECK, PLAN, expect, folder_of, holds};
+use crate::expecting::expect;
+use mig_fixtures::{AFTER, CHECK, Cluster, PLAN, folder_of, holds};
 use std::alloc::{AllocError, Global};
 use std::test::Fail;
 

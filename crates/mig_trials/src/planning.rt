@@ -1,9 +1,10 @@
 //! What `plan` saves and puts, and what `check` and `after` then say of it.
 
-use crate::clusters::{
-    Cluster, NO_ROUNDS, NOTHING_NEEDED, ONE_STAYS, THREE_ITEMS, THREE_MOVED, TRIANGLE, TWO_NEEDED,
+use crate::expecting::expect;
+use mig_fixtures::{
+    AFTER, CHECK, Cluster, NO_ROUNDS, NOTHING_NEEDED, ONE_STAYS, PLAN, THREE_ITEMS, THREE_MOVED,
+    TRIANGLE, TWO_NEEDED, folder_of, holds, sink_of, status_of,
 };
-use crate::running::{AFTER, CHECK, PLAN, expect, folder_of, holds, sink_of, status_of};
 use std::test::Fail;
 
 /// A cluster, its plan up to the order of the shifts, its certificate and its last layout. The plan has one of the forms, in

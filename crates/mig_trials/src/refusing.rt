@@ -1,7 +1,10 @@
 //! Words that are no command, files that are not there, and files that stand for no input.
 
-use crate::clusters::{Cluster, ONE_STAYS, THREE_ITEMS, TRIANGLE, TWO_NEEDED, TWO_ROUNDS};
-use crate::running::{AFTER, CHECK, PLAN, expect, folder_of, holds, planned};
+use crate::expecting::expect;
+use mig_fixtures::{
+    AFTER, CHECK, Cluster, ONE_STAYS, PLAN, THREE_ITEMS, TRIANGLE, TWO_NEEDED, TWO_ROUNDS,
+    folder_of, holds, planned,
+};
 use std::alloc::{AllocError, Global};
 use std::process::Abort;
 use std::test::Fail;

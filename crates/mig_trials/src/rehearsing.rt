@@ -1,7 +1,7 @@
 //! What `rehearse` puts, and which words it takes.
 
-use crate::clusters::THREE_ITEMS;
-use crate::running::{expect, folder_of, sink_of, status_of};
+use crate::expecting::expect;
+use mig_fixtures::{THREE_ITEMS, folder_of, sink_of, status_of};
 use std::alloc::{AllocError, Global};
 use std::test::Fail;
 

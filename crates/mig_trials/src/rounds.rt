@@ -1,9 +1,9 @@
 //! How many rounds plans have where a limit is odd. They are as few as can be, which no promise of the planner says: a
 //! planner that has lost its search makes more.
 
-use crate::clusters::Cluster;
-use crate::running::{CHECK, PLAN, expect, folder_of, holds};
+use crate::expecting::expect;
 use mig_csv::read_input;
+use mig_fixtures::{CHECK, Cluster, PLAN, folder_of, holds};
 use mig_plan::make_plan;
 use std::alloc::{AllocError, Global};
 use std::test::Fail;

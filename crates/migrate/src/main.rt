@@ -26,10 +26,12 @@ migrate: the words are no command. The commands:
   migrate audit DISKS NOW                  say of each item whether it is at its spot of NOW
   migrate move DISKS NOW NEXT PLAN         carry the plan out
   migrate resume DISKS NOW NEXT PLAN       carry out what a stopped move left
+  migrate halt DISKS NOW NEXT PLAN LAYOUT  close the plan where it stands, and save where the items are there
+  migrate drill DISKS NOW NEXT PLAN        try each stop of the plan on stores in memory
   migrate rehearse N PERPAIR LIMIT         plan a case of N disks with this limit and PERPAIR items from each to each other
 DISKS, NOW and NEXT are CSV files; PLAN is a plan and CERT its certificate.
 Each command has just these words, in this order, and no options. Often:
-  PLAN and CERT must differ, from each other and from the other files
+  PLAN and CERT of plan, and LAYOUT of halt, must differ from each other and from the other files
   a file's name has 1 to 255 bytes
   a file's name ends neither in .disk nor in .mig
   N is 2 to 1024, N times N - 1 times PERPAIR 1 to 65536, LIMIT 1 to 1024";

@@ -1,6 +1,6 @@
 use Rattle.std.proofs.Common.{◌≤◌}
 use Rattle.mig_base.specs.JobCells.{IsFreeSlot}
-use Rattle.mig_base.specs.Stores.{State, ChangesOnly}
+use Rattle.mig_base.specs.Stores.{ChangesOnly}
 use Rattle.mig_base.specs.Slots.{slot_of}
 use Rattle.std.specs.List.{AllWithin}
 use Rattle.mig_mover.specs.Erasures.{AreZeros}

@@ -1,11 +1,11 @@
-use Rattle.std.proofs.Common.{◌≡◌, List, ℕ, sym, ◌∙◌, ap, subst}
+use Rattle.std.proofs.Common.{Err, refl, sym, ◌∙◌, ap, subst}
 use Rattle.mig_base.specs.declared.cells.Cell.TheVariants.{Head}
-use Rattle.mig_base.specs.Stores.{State}
 use Rattle.mig_journal.specs.SeenJournals.{is_running, HasHead}
 use Rattle.mig_journal.specs.declared.looking.Seen.{Seen}
 use Rattle.mig_mover.specs.Moves.{IsRunning}
-use Rattle.mig_mover.proofs.Settling.{if_err, settles_land, settles_quiet}
-use Rattle.mig_mover.proofs.StandLaws.{if_ok_all, stands_at, stand_fault}
+use Rattle.mig_mover.specs.declared.faults.MoveFault.TheVariants.{NotStarted}
+use Rattle.mig_mover.proofs.Settling.{if_err, settles_land, settles_quiet, seen_idle}
+use Rattle.mig_mover.proofs.StandLaws.{if_ok_all, stands_at, stand_fault, not_started, other_plan, stands_ok}
 use Rattle.mig_mover.proofs.standing.stand.Goals as goal
 
 pub returns-in-Running-clause-stands : goal.returns-in-Running-clause-stands
@@ -36,3 +36,32 @@ returns-in-Running-clause-fault g c =
     if_err c.stand_running.result
     (stand_fault c.args.job.now old mid c.in_ok-settle_and_look.ensures.settles c.settle_and_look.ensures.cause.later running c.in-Running.digest head new c.stand_running.ensures.change)
     c.stand_running.ensures.fault
+
+-- Where the store doesn't fail
+
+pub returns-in-Idle-clause-not_started : goal.returns-in-Idle-clause-not_started
+returns-in-Idle-clause-not_started g c = λ are calm told idle. refl
+
+pub returns-in-Idle-clause-other : goal.returns-in-Idle-clause-other
+returns-in-Idle-clause-other g c =
+    let new = g.S.Store.state c.settle_and_look.new.store in
+    let idle = seen_idle new.reads (λ told. ap is_running (sym c.in-Idle.is) ∙ c.in_ok-settle_and_look.ensures.gate told) in
+    λ are calm armed kept head differs. other_plan c.args.job.now (g.S.Store.state c.args.store.now) new are calm armed kept head differs (Err NotStarted) tt (c.in_ok-settle_and_look.ensures.settles, idle)
+
+pub returns-in-Idle-clause-running : goal.returns-in-Idle-clause-running
+returns-in-Idle-clause-running g c =
+    let new = g.S.Store.state c.settle_and_look.new.store in
+    let idle = seen_idle new.reads (λ told. ap is_running (sym c.in-Idle.is) ∙ c.in_ok-settle_and_look.ensures.gate told) in
+    λ are calm armed head. stands_ok c.args.job.now (g.S.Store.state c.args.store.now) new are calm armed c.args.job.now.digest head refl (Err NotStarted) (c.in_ok-settle_and_look.ensures.settles, idle)
+
+pub returns-in-Running-clause-not_started : goal.returns-in-Running-clause-not_started
+returns-in-Running-clause-not_started g c = λ are calm told idle. not_started c.args.job.now (g.S.Store.state c.args.store.now) (g.S.Store.state c.stand_running.new.store) are calm told idle c.stand_running.result
+    (returns-in-Running-clause-stands g c) (returns-in-Running-clause-fault g c)
+
+pub returns-in-Running-clause-other : goal.returns-in-Running-clause-other
+returns-in-Running-clause-other g c = λ are calm armed kept head differs. other_plan c.args.job.now (g.S.Store.state c.args.store.now) (g.S.Store.state c.stand_running.new.store) are calm armed kept head differs c.stand_running.result
+    (returns-in-Running-clause-stands g c) (returns-in-Running-clause-fault g c)
+
+pub returns-in-Running-clause-running : goal.returns-in-Running-clause-running
+returns-in-Running-clause-running g c = λ are calm armed head. stands_ok c.args.job.now (g.S.Store.state c.args.store.now) (g.S.Store.state c.stand_running.new.store) are calm armed c.args.job.now.digest head refl c.stand_running.result
+    (returns-in-Running-clause-fault g c)

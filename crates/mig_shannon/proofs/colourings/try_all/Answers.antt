@@ -35,4 +35,4 @@ pub returns-clause-left : goal.returns-clause-left
 returns-clause-left c =
     let a = c.loop-edge.invariant in
     a.counted ∙ left_all c.loop-edge.board c.loop-edge.edge
-    (omega (arith, c.edges-edges.ensures.value, c.edges-edges.ensures.proper.one_each, c.edges-edge-end.ensures.value, c.loop-edge-test.false, ap (λ (g : Colouring). length g.ends) a.grows.graph))
+    (omega (arith, c.keeps_rules.ensures.one_each, c.edges-edge-end.ensures.value, c.loop-edge-test.false, ap (λ (g : Colouring). length g.ends) a.grows.graph))

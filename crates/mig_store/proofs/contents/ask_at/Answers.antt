@@ -1,20 +1,22 @@
-use Rattle.std.proofs.Common.{ℕ, List, ◌∙◌, ap, subst}
+use Rattle.std.proofs.Common.{◌+◌, ℕ, List, sym, ◌∙◌, ap, subst}
+use Rattle.std.specs.List.{slice_get}
 use Rattle.std.proofs.Math.Seq.{map-set_same}
 use Rattle.mig_base.specs.InputLists.{AreDifferent}
 use Rattle.mig_store.specs.declared.contents.Entry.{Entry}
 use Rattle.mig_store.specs.declared.held.Held.{Held}
-use Rattle.mig_store.specs.Asking.{ask, seen}
-use Rattle.mig_store.specs.Entries.{first_of}
+use Rattle.mig_store.specs.Asking.{ask, asked_by, seen}
+use Rattle.mig_store.specs.Entries.{first_of, IsWithin}
 use Rattle.mig_store.specs.HeldCells.{held_map}
-use Rattle.mig_store.proofs.EntryLists.{seen_at-set, seen_at-none}
+use Rattle.mig_store.proofs.EntryLists.{seen_at-set, seen_at-none, set_all, within_one, within_more}
 use Rattle.mig_store.proofs.contents.ask_at.Goals as goal
 
 pub returns-in-Some-clause-seen : goal.returns-in-Some-clause-seen
-returns-in-Some-clause-seen c =
+returns-in-Some-clause-seen c = λ calls.
     let d = c.index_mut.result.now in
-    seen_at-set c.args.period c.args.held.now.items c.args.cell.now c.in-Some.i (rw (← c.requires.cells) c.in-Some.ensures.found) (subst AreDifferent c.requires.cells c.find.ensures.different)
-    (ask c.args.bytes.now c.args.done) (record { cell = d.cell; value = c.ask.new.self }) d (ap (λ (h : Held Entry). h.cell) c.index_mut.ensures.value)
-    (c.ask.ensures.seen ∙ ap (λ (h : Held Entry). ask c.args.bytes.now c.args.done (seen c.args.period h.value)) c.index_mut.ensures.value)
+    let asks = ask (asked_by (slice_get calls c.args.place)) c.args.done in
+    seen_at-set calls c.args.period c.args.held.now.items c.args.cell.now c.in-Some.i (rw (← c.requires.cells) c.in-Some.ensures.found) (subst AreDifferent c.requires.cells c.find.ensures.different)
+    asks (record { cell = d.cell; value = c.ask.new.self }) d (ap (λ (h : Held Entry). h.cell) c.index_mut.ensures.value)
+    (c.ask.ensures.seen calls ∙ ap (λ (h : Held Entry). asks (seen calls c.args.period h.value)) c.index_mut.ensures.value)
 
 pub returns-in-Some-clause-first : goal.returns-in-Some-clause-first
 returns-in-Some-clause-first c =
@@ -22,5 +24,14 @@ returns-in-Some-clause-first c =
     map-set_same (held_map first_of) c.args.held.now.items c.in-Some.i (record { cell = d.cell; value = c.ask.new.self }) d
     (ap {B = Held (List ℕ)} (λ (bytes : List ℕ). record { cell = d.cell; value = bytes }) c.ask.ensures.first ∙ ap (held_map first_of) c.index_mut.ensures.value)
 
+pub returns-in-Some-clause-within : goal.returns-in-Some-clause-within
+returns-in-Some-clause-within c = λ within.
+    let d = c.index_mut.result.now in
+    set_all (IsWithin c.args.place c.args.period) (IsWithin (c.args.place + 1) c.args.period) (within_one c.args.place c.args.period) c.args.held.now.items c.in-Some.i (record { cell = d.cell; value = c.ask.new.self }) d within
+    (λ here. c.ask.ensures.within (subst (λ (h : Held Entry). IsWithin c.args.place c.args.period h.value) (sym c.index_mut.ensures.value) here))
+
 pub returns-in-None-clause-seen : goal.returns-in-None-clause-seen
-returns-in-None-clause-seen c = seen_at-none c.args.period c.args.held.now.items c.args.cell.now (ask c.args.bytes.now c.args.done) (rw (← c.requires.cells) c.in-None.ensures.found)
+returns-in-None-clause-seen c = λ calls. seen_at-none calls c.args.period c.args.held.now.items c.args.cell.now (ask (asked_by (slice_get calls c.args.place)) c.args.done) (rw (← c.requires.cells) c.in-None.ensures.found)
+
+pub returns-in-None-clause-within : goal.returns-in-None-clause-within
+returns-in-None-clause-within c = within_more c.args.place c.args.period c.args.held.now.items

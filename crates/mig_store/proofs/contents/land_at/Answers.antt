@@ -1,20 +1,20 @@
-use Rattle.std.proofs.Common.{ℕ, List, ◌∙◌, ap, subst}
+use Rattle.std.proofs.Common.{ℕ, List, sym, ◌∙◌, ap, subst}
 use Rattle.std.proofs.Math.Seq.{map-set_same}
 use Rattle.mig_base.specs.InputLists.{AreDifferent}
 use Rattle.mig_store.specs.declared.contents.Entry.{Entry}
 use Rattle.mig_store.specs.declared.held.Held.{Held}
 use Rattle.mig_store.specs.Asking.{land, seen}
-use Rattle.mig_store.specs.Entries.{first_of}
+use Rattle.mig_store.specs.Entries.{first_of, IsWithin}
 use Rattle.mig_store.specs.HeldCells.{held_map}
-use Rattle.mig_store.proofs.EntryLists.{seen_at-set, seen_at-none}
+use Rattle.mig_store.proofs.EntryLists.{seen_at-set, seen_at-none, set_all}
 use Rattle.mig_store.proofs.contents.land_at.Goals as goal
 
 pub returns-in-Some-clause-seen : goal.returns-in-Some-clause-seen
-returns-in-Some-clause-seen c =
+returns-in-Some-clause-seen c = λ calls.
     let d = c.index_mut.result.now in
-    seen_at-set c.args.period c.args.held.now.items c.args.cell.now c.in-Some.i (rw (← c.requires.cells) c.in-Some.ensures.found) (subst AreDifferent c.requires.cells c.find.ensures.different)
+    seen_at-set calls c.args.period c.args.held.now.items c.args.cell.now c.in-Some.i (rw (← c.requires.cells) c.in-Some.ensures.found) (subst AreDifferent c.requires.cells c.find.ensures.different)
     land (record { cell = d.cell; value = c.land.new.self }) d (ap (λ (h : Held Entry). h.cell) c.index_mut.ensures.value)
-    (c.land.ensures.seen ∙ ap (λ (h : Held Entry). land (seen c.args.period h.value)) c.index_mut.ensures.value)
+    (c.land.ensures.seen calls ∙ ap (λ (h : Held Entry). land (seen calls c.args.period h.value)) c.index_mut.ensures.value)
 
 pub returns-in-Some-clause-first : goal.returns-in-Some-clause-first
 returns-in-Some-clause-first c =
@@ -23,4 +23,10 @@ returns-in-Some-clause-first c =
     (ap {B = Held (List ℕ)} (λ (bytes : List ℕ). record { cell = d.cell; value = bytes }) c.land.ensures.first ∙ ap (held_map first_of) c.index_mut.ensures.value)
 
 pub returns-in-None-clause-seen : goal.returns-in-None-clause-seen
-returns-in-None-clause-seen c = seen_at-none c.args.period c.args.held.now.items c.args.cell.now land (rw (← c.requires.cells) c.in-None.ensures.found)
+returns-in-None-clause-seen c = λ calls. seen_at-none calls c.args.period c.args.held.now.items c.args.cell.now land (rw (← c.requires.cells) c.in-None.ensures.found)
+
+pub returns-in-Some-clause-within : goal.returns-in-Some-clause-within
+returns-in-Some-clause-within c = λ count within.
+    let d = c.index_mut.result.now in
+    set_all (IsWithin count c.args.period) (IsWithin count c.args.period) (λ e here. here) c.args.held.now.items c.in-Some.i (record { cell = d.cell; value = c.land.new.self }) d within
+    (λ here. c.land.ensures.within count (subst (λ (h : Held Entry). IsWithin count c.args.period h.value) (sym c.index_mut.ensures.value) here))

@@ -1,7 +1,7 @@
 use Rattle.std.proofs.Common.{inl, inr}
 use Rattle.mig_top.specs.Causes.{DoesNotRun}
 use Rattle.mig_top.specs.Loading.{AfterOn, EndsWithin, UnreadAs, UnreadAsPlan}
-use Rattle.mig_top.specs.Outcomes.{Done}
+use Rattle.mig_words.specs.Outcomes.{Done}
 use Rattle.mig_top.proofs.OnBytes.{after_on}
 use Rattle.mig_top.proofs.StepEnds.{handed_on, within}
 use Rattle.mig_top.proofs.after_command.layout.Goals as goal

@@ -4,7 +4,7 @@ use Rattle.mig_io.specs.Held.{Extends, ExtendsInPart}
 use Rattle.mig_top.specs.declared.audit_command.Stop.{Stop}
 use Rattle.mig_top.specs.Audits.{AuditStops}
 use Rattle.mig_top.specs.Calls.{Call, call, world}
-use Rattle.mig_top.specs.Outcomes.{joined}
+use Rattle.mig_words.specs.Outcomes.{joined}
 use Rattle.mig_top.proofs.Auditing.{lines_end, sink_stops, store_stops}
 use Rattle.mig_top.proofs.audit_command.run_audit.Goals as goal
 

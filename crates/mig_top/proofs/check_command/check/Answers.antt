@@ -2,7 +2,7 @@ use Rattle.std.proofs.Common.{◌≡◌, [], ◌∷◌, ℕ, List, map, subst, a
 use Rattle.std.specs.Option.{IfSome}
 use Rattle.std.proofs.lemmas.List.{length-map}
 use Rattle.mig_top.specs.Loading.{CheckOn, HoldFirst}
-use Rattle.mig_top.specs.Words.{Check, loaded}
+use Rattle.mig_words.specs.Words.{Check, loaded}
 use Rattle.mig_top.proofs.Missing.{lists_all, loaded_at}
 use Rattle.mig_top.proofs.StepEnds.{answer_ends}
 use Rattle.mig_top.proofs.check_command.check.Goals as goal

@@ -3,7 +3,7 @@ use Rattle.mig_base.specs.Certificates.{CertHolds}
 use Rattle.mig_base.specs.Running.{Once, Runs}
 use Rattle.mig_top.specs.Causes.{IsWrong, verdict_text}
 use Rattle.mig_top.specs.Loading.{CheckOn, EndsWithin, UnreadAs, UnreadAsCert, UnreadAsPlan}
-use Rattle.mig_top.specs.Outcomes.{Done}
+use Rattle.mig_words.specs.Outcomes.{Done}
 use Rattle.mig_top.proofs.OnBytes.{check_on}
 use Rattle.mig_top.proofs.StepEnds.{err_within, handed_on, within}
 use Rattle.mig_top.proofs.check_command.verdict.Goals as goal

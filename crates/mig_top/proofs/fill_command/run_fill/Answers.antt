@@ -3,9 +3,9 @@ use Rattle.std.specs.Fmt.{decimal}
 use Rattle.mig_io.specs.Held.{Extends, ExtendsInPart}
 use Rattle.mig_top.specs.Calls.{Call, call, world}
 use Rattle.mig_top.specs.Ends.{WorldEnds}
-use Rattle.mig_top.specs.Outcomes.{Outcome, joined}
+use Rattle.mig_words.specs.Outcomes.{Outcome, joined}
 use Rattle.mig_top.specs.StoreLooks.{filled_text}
-use Rattle.mig_top.specs.Words.{Fill}
+use Rattle.mig_words.specs.Words.{Fill}
 use Rattle.mig_top.proofs.Filling.{fill_done, fill_refused}
 use Rattle.mig_top.proofs.ShownEnds.{world_shown, world_told}
 use Rattle.mig_top.proofs.fill_command.run_fill.Goals as goal

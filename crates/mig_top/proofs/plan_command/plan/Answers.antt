@@ -3,9 +3,9 @@ use Rattle.std.specs.Option.{IfSome}
 use Rattle.std.proofs.lemmas.List.{length-map}
 use Rattle.mig_top.specs.Ends.{FolderEnds}
 use Rattle.mig_top.specs.Loading.{HoldFirst, On, PlanOn}
-use Rattle.mig_top.specs.Outcomes.{Done, outcome_of}
-use Rattle.mig_top.specs.Words.{Plan, loaded}
-use Rattle.mig_top.specs.declared.endings.Ending.TheVariants.{FolderFault}
+use Rattle.mig_words.specs.Outcomes.{Done, outcome_of}
+use Rattle.mig_words.specs.Words.{Plan, loaded}
+use Rattle.mig_words.specs.declared.endings.Ending.TheVariants.{FolderFault}
 use Rattle.mig_top.proofs.Missing.{lists_all, loaded_at}
 use Rattle.mig_top.proofs.OnBytes.{plan_on}
 use Rattle.mig_top.proofs.ShownEnds.{are_saved, half_saved}

@@ -1,6 +1,6 @@
 use Rattle.std.proofs.Common.{refl}
 use Rattle.mig_top.specs.Calls.{Call, call, world}
-use Rattle.mig_top.specs.Words.{texts}
+use Rattle.mig_words.specs.Words.{texts}
 use Rattle.mig_top.proofs.Rehearsing.{rehearsal_ends, rehearses_one}
 use Rattle.mig_top.proofs.StoreEnds.{untouched}
 use Rattle.mig_top.proofs.top.carry_out.Goals as goal

@@ -1,5 +1,5 @@
 use Rattle.std.proofs.Common.{◌≡◌, inl, refl}
-use Rattle.mig_top.specs.Outcomes.{Unlisted}
+use Rattle.mig_words.specs.Outcomes.{Unlisted}
 use Rattle.mig_top.proofs.StoreEnds.{untouched}
 use Rattle.mig_top.proofs.top.carry_out_files.Goals as goal
 

@@ -1,7 +1,6 @@
-use Rattle.std.proofs.Common.{◌≡◌, List, sym, ◌∙◌, subst}
+use Rattle.std.proofs.Common.{sym, ◌∙◌, subst}
 use Rattle.mig_mover.specs.Tasks.{Task}
 use Rattle.mig_mover.specs.Vacancies.{AreVacancies}
-use Rattle.mig_mover.specs.declared.vacancies.Vacancy.{Vacancy}
 use Rattle.mig_mover.proofs.VacancyLaws.{are_vacancies}
 use Rattle.mig_mover.proofs.jobs.Job.vacancies.Goals as goal
 

@@ -1,4 +1,3 @@
-use Rattle.std.proofs.Common.{◌≡◌}
 use Rattle.mig_mover.proofs.VacancySteps.{some_round, no_round_of}
 use Rattle.mig_mover.proofs.left_rounds.LeftRounds.round.Goals as goal
 

@@ -1,4 +1,3 @@
-use Rattle.std.proofs.Common.{◌≡◌}
 use Rattle.mig_mover.proofs.VacancySteps.{round_set}
 use Rattle.mig_mover.proofs.left_rounds.LeftRounds.set.Goals as goal
 use Rattle.mig_mover.proofs.left_rounds.LeftRounds.set.Goals.{in-Ok, in-Err}

@@ -1,14 +1,15 @@
-use Rattle.std.proofs.Common.{◌≡◌, [], ℕ, List, Option, map, sym, ◌∙◌, ap, subst, arith}
+use Rattle.std.proofs.Common.{◌≡◌, [], ℕ, List, Option, length, map, sym, ◌∙◌, ap, subst, arith}
 use Rattle.std.specs.Option.{option_map}
 use Rattle.mig_base.specs.declared.cells.Cell.{Cell}
 use Rattle.mig_base.specs.declared.cells.Event.{Event}
 use Rattle.mig_base.specs.declared.cells.Flight.{Flight}
 use Rattle.mig_base.specs.Images.{Image}
 use Rattle.mig_store.specs.declared.contents.Entry.{Entry}
+use Rattle.mig_store.specs.declared.calls.Call.{Call}
 use Rattle.mig_store.specs.declared.held.Held.{Held}
 use Rattle.mig_store.specs.Asking.{Contents, fresh, picked}
 use Rattle.mig_store.specs.Entries.{firsts, seen_all, crash_entry, AreWithin}
-use Rattle.mig_store.specs.HeldCells.{cell_of, held_at}
+use Rattle.mig_store.specs.HeldCells.{cell_of, held_at, held_map}
 use Rattle.mig_store.specs.Ledgers.{Log, IsLog, moment_of}
 use Rattle.mig_store.proofs.CellLists.{cells_of-map}
 use Rattle.mig_store.proofs.Crashes.{HaveLengths, fresh_log, after_crash, crash_lengths, held_after, first_after, first_is, held_is}
@@ -19,14 +20,17 @@ pub invariant_of-result : goal.invariant_of-result
 invariant_of-result c =
     let pick = c.args.pick in
     let period = c.self.inside.period in
-    let old = seen_all period c.self.inside.held.items in
+    let calls = c.self.inside.calls.items in
+    let crashed : c.crash_all.new.held.items ≡ map (held_map (crash_entry calls period pick)) c.self.inside.held.items = c.crash_all.ensures ∙ ap (λ (l : List Call). map (held_map (crash_entry l period pick)) c.self.inside.held.items) c.deref.ensures.value in
+    let old = seen_all calls period c.self.inside.held.items in
     let items = c.crash_all.new.held.items in
-    let held = seen_all 1 items in
+    let later = c.clear.new.self.items in
+    let held = seen_all later 1 items in
     let first = firsts items in
     let log : Log = record { first = firsts c.self.inside.held.items; calls = c.self.inside.calls.items; room = c.self.inside.room } in
     let is = c.self.invariant.0 in
-    let is_held : held ≡ held_after pick old = ap (seen_all 1) c.crash_all.ensures ∙ seen_crashed period pick c.self.inside.held.items in
-    let is_first : first ≡ first_after pick old = ap firsts c.crash_all.ensures ∙ firsts_crashed period pick c.self.inside.held.items in
+    let is_held : held ≡ held_after pick old = ap (seen_all later 1) crashed ∙ seen_crashed calls period pick later c.self.inside.held.items in
+    let is_first : first ≡ first_after pick old = ap firsts crashed ∙ firsts_crashed calls period pick c.self.inside.held.items in
     let cells : held_at held ≡ (λ cell. option_map fresh (held_at first cell)) =
     ap (λ (l : List (Held Contents)). held_at l) is_held ∙ held_is pick old ∙ ap {B = Cell → Option Contents} (λ (l : List (Held (List ℕ))) (cell : Cell). option_map fresh (held_at l cell)) (sym is_first) in
     let image : held_at first ≡ after_crash (moment_of log) is.moment pick =
@@ -35,8 +39,8 @@ invariant_of-result c =
       subst (λ (l : List Event). IsLog (record { first = first; calls = c.clear.new.self.items; room = c.self.inside.room }) held l c.clear-3.new.self.items) (sym c.clear-2.ensures.items)
           (subst (λ (l : List Flight). IsLog (record { first = first; calls = c.clear.new.self.items; room = c.self.inside.room }) held [] l) (sym c.clear-3.ensures.items)
           (fresh_log first held cells lengths c.self.inside.room c.clear.new.self.items c.clear.ensures.items)),
-      c.self.invariant.1 ∙ sym (ap (λ (l : List (Held Entry)). map cell_of l) c.crash_all.ensures ∙ cells_of-map (crash_entry period pick) c.self.inside.held.items),
-      subst (AreWithin 1) (sym c.crash_all.ensures) (within_crashed period pick c.self.inside.held.items),
+      c.self.invariant.1 ∙ sym (ap (λ (l : List (Held Entry)). map cell_of l) crashed ∙ cells_of-map (crash_entry calls period pick) c.self.inside.held.items),
+      subst (AreWithin (length later) 1) (sym crashed) (within_crashed calls period pick (length later) c.self.inside.held.items),
       omega arith,
       omega arith,
       omega (arith, c.clear.ensures.capacity, c.self.invariant.5),
@@ -48,7 +52,9 @@ pub returns-clause-first : goal.returns-clause-first
 returns-clause-first c =
     let pick = c.args.pick in
     let period = c.self.inside.period in
-    let old = seen_all period c.self.inside.held.items in
-    let is_first : firsts c.crash_all.new.held.items ≡ first_after pick old = ap firsts c.crash_all.ensures ∙ firsts_crashed period pick c.self.inside.held.items in
+    let calls = c.self.inside.calls.items in
+    let crashed : c.crash_all.new.held.items ≡ map (held_map (crash_entry calls period pick)) c.self.inside.held.items = c.crash_all.ensures ∙ ap (λ (l : List Call). map (held_map (crash_entry l period pick)) c.self.inside.held.items) c.deref.ensures.value in
+    let old = seen_all calls period c.self.inside.held.items in
+    let is_first : firsts c.crash_all.new.held.items ≡ first_after pick old = ap firsts crashed ∙ firsts_crashed calls period pick c.self.inside.held.items in
     ap (λ (l : List (Held (List ℕ))). held_at l) is_first ∙ first_is pick old ∙ ap {B = Image} (λ (cells : Cell → Option Contents) (cell : Cell). option_map (picked pick) (cells cell)) c.self.invariant.0.cells
     ∙ ap {B = Image} (λ (l : Log) (cell : Cell). option_map (picked pick) ((moment_of l).cells cell)) c.self.view_is

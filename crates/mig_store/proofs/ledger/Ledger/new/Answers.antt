@@ -1,4 +1,4 @@
-use Rattle.std.proofs.Common.{◌≡◌, [], ℕ, List, map, sym, ◌∙◌, ap, subst, arith}
+use Rattle.std.proofs.Common.{◌≡◌, [], ℕ, List, length, map, sym, ◌∙◌, ap, subst, arith}
 use Rattle.std.specs.Option.{option_map}
 use Rattle.mig_base.specs.declared.cells.Event.{Event}
 use Rattle.mig_base.specs.declared.cells.Flight.{Flight}
@@ -18,16 +18,17 @@ invariant_of-result c =
     let items = c.in_ok-zero_entries.field-0.items in
     let zero : items ≡ map zero_entry c.args.cells.now = c.in_ok-zero_entries.ensures in
     let first = firsts items in
-    let held = seen_all 1 items in
+    let calls = c.in_ok-with_capacity.field-0.items in
+    let held = seen_all calls 1 items in
     let is_first : first ≡ map zero_held c.args.cells.now = ap firsts zero ∙ firsts_zero c.args.cells.now in
-    let is_held : held ≡ map (held_map fresh) first = ap (seen_all 1) zero ∙ seen_zero c.args.cells.now ∙ ap (λ (l : List (Held (List ℕ))). map (held_map fresh) l) (sym is_first) in
+    let is_held : held ≡ map (held_map fresh) first = ap (seen_all calls 1) zero ∙ seen_zero calls c.args.cells.now ∙ ap (λ (l : List (Held (List ℕ))). map (held_map fresh) l) (sym is_first) in
     let cells : held_at held ≡ (λ cell. option_map fresh (held_at first cell)) = ap (λ (l : List (Held Contents)). held_at l) is_held ∙ (λ i cell. held_at-map fresh first cell i) in
     let lengths : HaveLengths (held_at first) = subst (λ (l : List (Held (List ℕ))). HaveLengths (held_at l)) (sym is_first) (zero-lengths c.args.cells.now) in (
       subst (λ (l : List Event). IsLog (record { first = first; calls = c.in_ok-with_capacity.field-0.items; room = c.args.room }) held l c.in_ok-with_capacity-3.field-0.items) (sym c.in_ok-with_capacity-2.ensures.items)
           (subst (λ (l : List Flight). IsLog (record { first = first; calls = c.in_ok-with_capacity.field-0.items; room = c.args.room }) held [] l) (sym c.in_ok-with_capacity-3.ensures.items)
           (fresh_log first held cells lengths c.args.room c.in_ok-with_capacity.field-0.items c.in_ok-with_capacity.ensures.items)),
       c.in_ok-of.ensures ∙ sym (ap (λ (l : List (Held Entry)). map cell_of l) zero ∙ cells_of-entries c.args.cells.now),
-      subst (AreWithin 1) (sym zero) (within_zero c.args.cells.now),
+      subst (AreWithin (length calls) 1) (sym zero) (within_zero (length calls) c.args.cells.now),
       omega arith,
       omega arith,
       omega (arith, c.in_ok-with_capacity.ensures.exact),

@@ -1,0 +1,4 @@
+pub mod ItemLists
+pub mod LineTexts
+pub mod StopSteps
+pub mod WriteLists

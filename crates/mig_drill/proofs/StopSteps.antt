@@ -1,0 +1,66 @@
+-- A plan that is started, crashes, and is resumed.
+use Rattle.std.proofs.Common.{◌≡◌, inl, inr, true, ℕ, List, [], length, Option, Some, None, IsSome, Result, Ok, Err, IfOk, is_ok, subst, arith}
+use Rattle.std.specs.Option.{option_map}
+use Rattle.mig_base.specs.Arrivals.{IsReached}
+use Rattle.mig_base.specs.Images.{Image}
+use Rattle.mig_base.specs.JobCells.{SettlesTo}
+use Rattle.mig_base.specs.Safety.{Contents, IsSound}
+use Rattle.mig_base.specs.Stores.{State, IsState, flights, LeavesOnly, IsSettled}
+use Rattle.mig_base.proofs.StoreSteps.{same_image, told_kept}
+use Rattle.mig_mover.specs.Moves.{Keeps}
+use Rattle.mig_mover.specs.Tasks.{Task}
+use Rattle.mig_lanes.specs.Runs.{Finishes}
+use Rattle.mig_drill.specs.Stops.{LeavesSound}
+
+-- what every image since a moment has, each image that a crash now may leave has
+left_now : (P : Image → Type 0) (old new : State) → IsState old → IsState new → LeavesOnly P old new → ((image : Image) → old.may_leave image → P image) → (image : Image) → new.may_leave image → P image
+left_now P old new was is leaves before image left = elim (leaves.since old.moment image (omega arith) (is.counts_now old.moment image leaves.later left)) [
+  | inl earlier ↦ before image (was.only_now image earlier)
+  | inr new ↦ new
+]
+
+module _ (task : Task) (contents : Contents) where
+  -- after a call of the mover
+  kept_sound : (old new : State) → IsState old → IsState new → Keeps task old new → SettlesTo (IsSound true task.input task.plan task.digest contents) old → LeavesSound task contents old → LeavesSound task contents new
+  kept_sound old new was is keeps settles before = record {
+    tells = λ cell job. told_kept _ old.reads new.reads keeps.change.1.told cell (before.tells cell job);
+    sound = left_now (IsSound true task.input task.plan task.digest contents) old new was is (keeps.sound true contents before.tells settles) before.sound;
+  }
+
+  -- a store that tells images has one that a crash may leave, once a sync settles it
+  settles_told : (s : State) → s.may_leave s.reads → LeavesSound task contents s → SettlesTo (IsSound true task.input task.plan task.digest contents) s
+  settles_told s images before = inr (before.sound, images)
+
+  -- after a crash
+  crashed_sound : (old new : State) → IsState old → old.may_leave new.reads → IsSettled new → LeavesSound task contents old → LeavesSound task contents new
+  crashed_sound old new was left settled before = record {
+    tells = λ cell job. shape_told (old.reads cell) (new.reads cell) (was.shape new.reads left cell) (before.tells cell job);
+    sound = λ image may. subst (IsSound true task.input task.plan task.digest contents) (same_image new.reads image (settled image may)) (before.sound new.reads left);
+  }
+    where
+      shape_told : (old new : Option (List ℕ)) → option_map length new ≡ option_map length old → IsSome old → IsSome new
+      shape_told (Some a) (Some b) e told = told
+      shape_told (Some a) None e told = cc
+      shape_told None new e told = cc
+
+  module _ (first started crashed resumed : State) (at_first : IsState first) (at_started : IsState started) (at_crashed : IsState crashed) (at_resumed : IsState resumed)
+      (images : first.may_leave first.reads) (told : crashed.may_leave crashed.reads) (crash : started.may_leave crashed.reads) (settled : IsSettled crashed) (landed : flights crashed ≡ [])
+      (start : Keeps task first started) (resume : Keeps task crashed resumed) (before : LeavesSound task contents first) where
+    between : LeavesSound task contents crashed
+    between = crashed_sound started crashed at_started crash settled (kept_sound first started at_first at_started start (settles_told first images before) before)
+
+    still : SettlesTo (IsSound true task.input task.plan task.digest contents) crashed
+    still = inl (between.sound crashed.reads told, landed)
+
+    -- a stop keeps soundness
+    pub stop_keeps : LeavesSound task contents resumed
+    stop_keeps = kept_sound crashed resumed at_crashed at_resumed resume still between
+
+    -- and where the plan was resumed to its end, its target is reached
+    pub stop_reaches : (k : ℕ) → Finishes task crashed resumed k → IsReached task.input task.plan task.digest contents resumed.reads
+    stop_reaches k finishes = finishes.reached contents between.tells still
+
+-- what holds of the answer of a call that succeeded
+pub ended : {T E : Type 0} (r : Result T E) (P : T → Type 0) → IfOk r P → is_ok r ≡ true → (x : T) × P x
+ended (Ok x) P holds ok = (x, holds)
+ended (Err e) P holds ok = cc

@@ -1,0 +1,37 @@
+use Rattle.std.proofs.Common.{List, sym, ◌∙◌, ap, subst, arith}
+use Rattle.mig_base.specs.Stores.{flights}
+use Rattle.mig_base.proofs.MarkCounts.{count_most}
+use Rattle.mig_base.proofs.StoreSteps.{same_none}
+use Rattle.mig_store.specs.declared.calls.Call.{Call}
+use Rattle.mig_store.specs.Ledgers.{state_at}
+use Rattle.mig_store.specs.Memories.{state_of, mem_is_state}
+use Rattle.mig_drill.specs.Stops.{LeavesSound}
+use Rattle.mig_drill.proofs.StopSteps.{ended, stop_keeps, stop_reaches}
+use Rattle.mig_drill.proofs.stops.stop_at.Goals as goal
+
+pub returns-clause-keeps : goal.returns-clause-keeps
+returns-clause-keeps c contents before =
+    let first = c.fuse.new.self in
+    let started = c.start_lanes.new.store in
+    let left = c.crash-left.result in
+    let resumed = c.resume_lanes.new.store in
+    stop_keeps c.args.job.now contents (state_of first) (state_of started) (state_of left) (state_of resumed) (mem_is_state first) (mem_is_state started) (mem_is_state left) (mem_is_state resumed)
+    (same_none _ _) (same_none _ _) c.crash-left.ensures.left c.crash-left.ensures.settled
+    (ap (λ (calls : List Call). flights (state_at left.log.first calls left.trouble.faults)) c.crash-left.ensures.calls)
+    c.start_lanes.ensures.keeps c.resume_lanes.ensures.keeps (subst (LeavesSound c.args.job.now contents) (sym (ap state_of c.fuse.ensures)) before)
+
+pub returns-clause-reached : goal.returns-clause-reached
+returns-clause-reached c done contents before =
+    let first = c.fuse.new.self in
+    let started = c.start_lanes.new.store in
+    let left = c.crash-left.result in
+    let resumed = c.resume_lanes.new.store in
+    let finished = ended c.resume_lanes.result _ c.resume_lanes.ensures.finishes (sym c.is_ok-reached.ensures.value ∙ done) in
+    stop_reaches c.args.job.now contents (state_of first) (state_of started) (state_of left) (state_of resumed) (mem_is_state first) (mem_is_state started) (mem_is_state left) (mem_is_state resumed)
+    (same_none _ _) (same_none _ _) c.crash-left.ensures.left c.crash-left.ensures.settled
+    (ap (λ (calls : List Call). flights (state_at left.log.first calls left.trouble.faults)) c.crash-left.ensures.calls)
+    c.start_lanes.ensures.keeps c.resume_lanes.ensures.keeps (subst (LeavesSound c.args.job.now contents) (sym (ap state_of c.fuse.ensures)) before)
+    finished.0 finished.1
+
+pub returns-clause-marks : goal.returns-clause-marks
+returns-clause-marks c = omega (arith, c.count_rounds-marks.ensures, c.rounds.ensures.count, count_most c.rounds.result (state_of c.crash-left.result).reads)

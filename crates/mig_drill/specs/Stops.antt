@@ -1,0 +1,12 @@
+-- What a stop of a plan leaves.
+use Rattle.std.specs.Prelude.{true}
+use Rattle.mig_base.specs.Images.{Image}
+use Rattle.mig_base.specs.JobCells.{IsJobCell, Tells}
+use Rattle.mig_base.specs.Safety.{Contents, IsSound}
+use Rattle.mig_base.specs.Stores.{State}
+use Rattle.mig_mover.specs.Tasks.{Task}
+
+-- the job's cells are told, and each image that a crash may leave is safe and clean for these contents
+pub record LeavesSound (task : Task) (contents : Contents) (s : State) : Type 0 where
+  pub tells : Tells (IsJobCell task.input task.plan) s.reads
+  pub sound : (image : Image) → s.may_leave image → IsSound true task.input task.plan task.digest contents image

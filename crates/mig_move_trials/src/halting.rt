@@ -1,0 +1,155 @@
+//! Migrations that are closed early.
+
+use crate::cases::{LEFT_TWICE, ONE_BY_ONE, Place, THREE_ITEMS, job_of, job_with};
+use crate::stores::{filled, holds};
+use mig_base::Cell;
+use mig_lanes::start_lanes;
+use mig_mover::{Job, MoveFault, halt, stand};
+use mig_store::{MemStore, Pick};
+use std::alloc::Global;
+use std::panic::Expect;
+
+// What a crash may leave of each cell that isn't settled.
+static PICKS: [Pick; 4] = [Pick::Old, Pick::New, Pick::Half, Pick::Ones];
+
+// The three items after the first round.
+static HALF_WAY: [Place; 6] = [
+    (b'a', 0, 0),
+    (b'a', 1, 0),
+    (b'a', 2, b'z'),
+    (b'b', 0, b'x'),
+    (b'b', 1, b'y'),
+    (b'b', 2, 0),
+];
+
+// The slots of the case in which one is left twice, after each number of rounds.
+static LEFT_TWICE_AFTER: [[Place; 3]; 4] = [
+    [(b'a', 0, b'x'), (b'b', 0, 0), (b'c', 0, b'y')],
+    [(b'a', 0, 0), (b'b', 0, b'x'), (b'c', 0, b'y')],
+    [(b'a', 0, b'y'), (b'b', 0, b'x'), (b'c', 0, 0)],
+    [(b'a', 0, 0), (b'b', 0, b'x'), (b'c', 0, b'y')],
+];
+
+// Closes a migration where it stands, and tells after how many rounds.
+fn close(job: &Job, store: &mut MemStore) -> Result<u32, MoveFault> {
+    let found = stand(job, store)?;
+    halt(job, store, found)?;
+    Ok(found)
+}
+
+// Whether a store is closed and its slots are these.
+fn is_closed(store: &MemStore, places: &[Place]) -> bool {
+    store.cell(&Cell::Gate) == Some([0].as_slice()) && holds(store, places)
+}
+
+// The store of three items on which a start stopped after nine writes, which is in the midst of what the first round leaves,
+// after a crash.
+fn half_way(alloc: Global, job: &Job, pick: Pick) -> Option<MemStore> {
+    let mut store = filled(alloc, job, THREE_ITEMS.before, Vec::new(alloc))?;
+    store.fuse(9);
+    if start_lanes(job, &mut store) != Err(MoveFault::Store) {
+        return None;
+    }
+    Some(store.crash(pick))
+}
+
+// Whether three items are halted after the first round, once a start stopped and a crash left what is picked.
+fn halts(alloc: Global, pick: Pick) -> Option<bool> {
+    let job = job_of(alloc, &THREE_ITEMS)?;
+    let mut store = half_way(alloc, &job, pick)?;
+    let closed = close(&job, &mut store) == Ok(1) && is_closed(&store, &HALF_WAY);
+    let again = close(&job, &mut store) == Err(MoveFault::NotStarted);
+    Some(closed && again && is_closed(&store, &HALF_WAY) && store.events().is_empty())
+}
+
+#[test]
+fn a_stopped_start_is_halted(rt: HostRuntime) {
+    for pick in PICKS.as_slice() {
+        assert!(rt; halts(rt.alloc(), *pick) == Some(true));
+    }
+}
+
+// Whether three items are halted after the first round, where closing stops after so many writes, a crash leaves what is
+// picked, and it is closed again. Where the gate is closed already, the slots are as they are to be.
+fn halts_again(alloc: Global, writes: u64, pick: Pick) -> Option<bool> {
+    let job = job_of(alloc, &THREE_ITEMS)?;
+    let mut store = half_way(alloc, &job, Pick::Old)?;
+    store.fuse(writes);
+    if close(&job, &mut store) != Err(MoveFault::Store) {
+        return None;
+    }
+    let mut left = store.crash(pick);
+    Some(match close(&job, &mut left) {
+        Ok(found) => found == 1 && is_closed(&left, &HALF_WAY),
+        Err(fault) => fault == MoveFault::NotStarted && is_closed(&left, &HALF_WAY),
+    })
+}
+
+#[test]
+fn a_stopped_halt_is_ended(rt: HostRuntime) {
+    // It writes three slots and the gate.
+    for writes in 0..4 {
+        for pick in PICKS.as_slice() {
+            assert!(rt; halts_again(rt.alloc(), writes, *pick) == Some(true));
+        }
+    }
+}
+
+// After how many rounds the case in which a slot is left twice is halted, where its start stops after so many writes and a
+// crash leaves the new bytes, and whether the slots are as after that round.
+fn halts_twice(alloc: Global, writes: u64) -> Option<(Result<u32, MoveFault>, bool)> {
+    let job = job_of(alloc, &LEFT_TWICE)?;
+    let mut store = filled(alloc, &job, LEFT_TWICE.before, Vec::new(alloc))?;
+    store.fuse(writes);
+    let _stopped = start_lanes(&job, &mut store);
+    let mut left = store.crash(Pick::New);
+    let found = close(&job, &mut left);
+    let after = match found {
+        Ok(found) => LEFT_TWICE_AFTER.get(found as usize)?,
+        Err(_) => &LEFT_TWICE_AFTER[0],
+    };
+    Some((found, holds(&left, after)))
+}
+
+#[test]
+fn a_slot_that_is_left_twice_is_erased_where_it_is_free(rt: HostRuntime) {
+    // Three marks are zeroed, the head and the gate are written; then each round has a copy, its mark and an erasure. The write
+    // that stops the start leaves its bytes.
+    let found = [
+        (3, Err(MoveFault::NotStarted)),
+        (4, Ok(0)),
+        (5, Ok(0)),
+        (6, Ok(1)),
+        (7, Ok(1)),
+        (8, Ok(1)),
+        (9, Ok(2)),
+        (10, Ok(2)),
+        (11, Ok(2)),
+        (12, Ok(3)),
+        (13, Ok(3)),
+        (14, Ok(3)),
+    ];
+    for (writes, found) in found {
+        assert!(rt; halts_twice(rt.alloc(), writes) == Some((found, true)));
+    }
+}
+
+// What is answered where another plan was started on the store.
+fn other(alloc: Global) -> Option<Result<u32, MoveFault>> {
+    let job = job_of(alloc, &THREE_ITEMS)?;
+    let mut store = half_way(alloc, &job, Pick::New)?;
+    let answer = stand(&job_with(alloc, &THREE_ITEMS, ONE_BY_ONE)?, &mut store);
+    Some(answer)
+}
+
+#[test]
+fn another_plan_is_refused(rt: HostRuntime) {
+    let alloc = rt.alloc();
+    let ours = job_with(alloc, &THREE_ITEMS, ONE_BY_ONE).expect(&rt, "ample memory");
+    let kept = job_of(alloc, &THREE_ITEMS).expect(&rt, "ample memory");
+    let fault = MoveFault::OtherPlan {
+        kept: *kept.digest(),
+        ours: *ours.digest(),
+    };
+    assert!(rt; other(alloc) == Some(Err(fault)));
+}

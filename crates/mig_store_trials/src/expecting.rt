@@ -1,0 +1,40 @@
+//! Lines over a store that must end in one way.
+
+use mig_fixtures::outcome_over;
+use mig_io::MemFolder;
+use mig_store::Store;
+use std::alloc::{AllocError, Global};
+use std::process::Abort;
+
+/// A line, its status and all that it puts.
+pub type Line<'a> = (&'a str, u8, &'a str);
+
+/// Carries out a line over a store, and asserts its status and all that it puts.
+pub fn expect_over<S: Store>(
+    rt: &impl Abort,
+    alloc: Global,
+    folder: &mut MemFolder,
+    store: &mut S,
+    line: &str,
+    status: u8,
+    text: &str,
+) -> Result<(), AllocError> {
+    let came = outcome_over(alloc, folder, store, line)?;
+    assert_eq!(rt; came.status, status, "status of {line}");
+    assert_eq!(rt; came.out.held(), text.as_bytes(), "text of {line}");
+    Ok(())
+}
+
+/// The same for lines one after the other over one store.
+pub fn expect_all<S: Store>(
+    rt: &impl Abort,
+    alloc: Global,
+    folder: &mut MemFolder,
+    store: &mut S,
+    lines: &[Line<'_>],
+) -> Result<(), AllocError> {
+    for (line, status, text) in lines {
+        expect_over(rt, alloc, folder, store, line, *status, text)?;
+    }
+    Ok(())
+}

@@ -1,0 +1,101 @@
+//! What `fill` and `audit` do with a store, and what they say of it.
+
+use crate::expecting::{Line, expect_all};
+use crate::looks::{HERE, LOST, three_items};
+use crate::stores::{store_of, two_disks};
+use mig_base::Cell;
+use mig_fixtures::status_over;
+use mig_io::MemSink;
+use mig_store::{Store, SureStore};
+use std::test::Fail;
+
+/// Lines one after the other over one store.
+static SESSION: [Line<'static>; 7] = [
+    ("audit D N", 0, LOST),
+    ("fill D N", 0, "filled 3\n"),
+    ("fill D N", 9, "occupied a 0\n"),
+    ("audit D N", 0, HERE),
+    ("fill D Q", 16, "no file Q\n"),
+    ("audit Q N", 16, "no file Q\n"),
+    ("fill D X", 3, "refused now row 0: bad header\n"),
+];
+
+#[test]
+fn items_are_filled_and_seen(rt: HostRuntime) -> Result<(), Fail> {
+    let alloc = rt.alloc();
+    let mut folder = three_items(alloc)?;
+    let mut store = store_of(alloc, Vec::new(alloc))?;
+    expect_all(&rt, alloc, &mut folder, &mut store, &SESSION)?;
+    let mut sure = SureStore::new(alloc, &two_disks(alloc)?.list)?;
+    expect_all(&rt, alloc, &mut folder, &mut sure, &SESSION)?;
+    Ok(())
+}
+
+/// Lines over a store in which a plan was started.
+static STARTED: [Line<'static>; 2] = [("fill D N", 8, "journal started\n"), ("audit D N", 0, LOST)];
+
+#[test]
+fn nothing_is_filled_where_a_plan_was_started(rt: HostRuntime) -> Result<(), Fail> {
+    let alloc = rt.alloc();
+    let mut folder = three_items(alloc)?;
+    let mut store = SureStore::new(alloc, &two_disks(alloc)?.list)?;
+    assert!(rt; store.write(&Cell::Gate, &[1]).is_ok());
+    expect_all(&rt, alloc, &mut folder, &mut store, &STARTED)?;
+    Ok(())
+}
+
+/// Lines over a store whose first call, a sync, fails.
+static UNSYNCED: [Line<'static>; 2] = [("fill D N", 5, "store fault\n"), ("audit D N", 0, LOST)];
+
+#[test]
+fn a_fill_whose_first_sync_fails_writes_nothing(rt: HostRuntime) -> Result<(), Fail> {
+    let alloc = rt.alloc();
+    let mut folder = three_items(alloc)?;
+    let mut store = store_of(alloc, vec![in alloc; 0]?)?;
+    expect_all(&rt, alloc, &mut folder, &mut store, &UNSYNCED)?;
+    Ok(())
+}
+
+/// Lines, the call of the store and the put of the sink that fail, counted from 0, the statuses, and what the sink then
+/// holds.
+static STOPPED: [(&str, u64, u64, u8, &str); 6] = [
+    (
+        "audit D N",
+        1,
+        99,
+        5,
+        "x a 0 lost ad7facb2586fc6e966c004d7d1d16b024f5805ff7cb47c7a85dabd8b48892ca7\nstore fault\n",
+    ),
+    (
+        "audit D N",
+        2,
+        99,
+        5,
+        "x a 0 lost ad7facb2586fc6e966c004d7d1d16b024f5805ff7cb47c7a85dabd8b48892ca7\n\
+        y a 1 lost ad7facb2586fc6e966c004d7d1d16b024f5805ff7cb47c7a85dabd8b48892ca7\nstore fault\n",
+    ),
+    (
+        "audit D N",
+        99,
+        9,
+        6,
+        "x a 0 lost ad7facb2586fc6e966c004d7d1d16b024f5805ff7cb47c7a85dabd8b48892ca7\ny",
+    ),
+    ("audit D N", 0, 0, 5, ""),
+    ("fill D N", 99, 1, 6, "filled "),
+    ("fill D N", 5, 99, 5, "store fault\n"),
+];
+
+#[test]
+fn faults_in_the_middle(rt: HostRuntime) -> Result<(), Fail> {
+    let alloc = rt.alloc();
+    let mut folder = three_items(alloc)?;
+    for (line, call, put, status, text) in &STOPPED {
+        let mut store = store_of(alloc, vec![in alloc; *call]?)?;
+        let mut out = MemSink::new(alloc, 4096, vec![in alloc; *put]?)?;
+        let ended = status_over(alloc, &mut folder, line, &mut out, &mut store)?;
+        assert_eq!(rt; ended, *status, "status of {line}");
+        assert_eq!(rt; out.held(), text.as_bytes(), "text of {line}");
+    }
+    Ok(())
+}

@@ -1,0 +1,87 @@
+//! What `move` and `resume` do with a store, and what they say of it.
+
+use crate::expecting::{Line, expect_all};
+use crate::looks::{ANOTHER, AT_TARGET, FILL, HERE, three_items};
+use crate::stores::{is_done, store_of, two_disks};
+use mig_fixtures::{THREE_MOVED, sink_of, status_over};
+use mig_store::SureStore;
+use std::test::Fail;
+
+/// Lines one after the other over one store.
+static SESSION: [Line<'static>; 11] = [
+    ("move D N X P", 9, "not there x\n"),
+    ("resume D N X P", 9, "not there x\n"),
+    ("fill D N", 0, "filled 3\n"),
+    ("move D N X P", 0, "done 2 rounds, found 0\n"),
+    ("move D N X P", 8, "journal started\n"),
+    ("resume D N X P", 0, "done 2 rounds, found 2\n"),
+    ("move D N X R", 8, ANOTHER),
+    ("resume D N X R", 8, ANOTHER),
+    ("fill D N", 8, "journal started\n"),
+    ("after D N X P", 0, THREE_MOVED),
+    ("resume D N X N", 10, "refused plan line 1\n"),
+];
+
+#[test]
+fn items_are_moved(rt: HostRuntime) -> Result<(), Fail> {
+    let alloc = rt.alloc();
+    let mut folder = three_items(alloc)?;
+    let mut store = store_of(alloc, Vec::new(alloc))?;
+    expect_all(&rt, alloc, &mut folder, &mut store, &SESSION)?;
+    expect_all(&rt, alloc, &mut folder, &mut store, AT_TARGET)?;
+    assert!(rt; is_done(&store));
+    let mut sure = SureStore::new(alloc, &two_disks(alloc)?.list)?;
+    expect_all(&rt, alloc, &mut folder, &mut sure, &SESSION)?;
+    expect_all(&rt, alloc, &mut folder, &mut sure, AT_TARGET)?;
+    Ok(())
+}
+
+/// Lines over a store in which an item is where another is to go, and over one whose first sync after a filling fails; the
+/// call that fails, counted from 0.
+static REFUSED: [(u64, &[Line<'static>]); 2] = [
+    (
+        999,
+        &[
+            ("fill D W", 0, "filled 4\n"),
+            ("move D N X P", 9, "occupied b 0\n"),
+            ("audit D N", 0, HERE),
+        ],
+    ),
+    (
+        9,
+        &[
+            ("fill D N", 0, "filled 3\n"),
+            ("move D N X P", 5, "store fault\n"),
+            ("audit D N", 0, HERE),
+        ],
+    ),
+];
+
+#[test]
+fn nothing_is_written_by_a_move_that_is_refused(rt: HostRuntime) -> Result<(), Fail> {
+    let alloc = rt.alloc();
+    let mut folder = three_items(alloc)?;
+    for (call, lines) in &REFUSED {
+        let mut store = store_of(alloc, vec![in alloc; *call]?)?;
+        expect_all(&rt, alloc, &mut folder, &mut store, lines)?;
+    }
+    Ok(())
+}
+
+// The sink's first put fails.
+#[test]
+fn what_is_not_told_is_done(rt: HostRuntime) -> Result<(), Fail> {
+    let alloc = rt.alloc();
+    let mut folder = three_items(alloc)?;
+    for line in ["move D N X P", "resume D N X P"] {
+        let mut store = store_of(alloc, Vec::new(alloc))?;
+        expect_all(&rt, alloc, &mut folder, &mut store, FILL)?;
+        let mut out = sink_of(alloc, vec![in alloc; 0]?)?;
+        let ended = status_over(alloc, &mut folder, line, &mut out, &mut store)?;
+        assert_eq!(rt; ended, 6, "status of {line}");
+        assert!(rt; out.held().is_empty());
+        expect_all(&rt, alloc, &mut folder, &mut store, AT_TARGET)?;
+        assert!(rt; is_done(&store));
+    }
+    Ok(())
+}

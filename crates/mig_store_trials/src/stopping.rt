@@ -1,0 +1,104 @@
+//! Moves at which a call of the store fails, and what `resume` makes of them after a crash.
+
+use crate::expecting::expect_all;
+use crate::looks::{FILL, three_items};
+use crate::stores::{are_exchanged, is_done, store_of};
+use mig_fixtures::{Outcome, outcome_over};
+use mig_io::MemFolder;
+use mig_store::{EndOrder, MemStore, Pick};
+use std::alloc::Global;
+use std::process::Abort;
+use std::test::Fail;
+
+/// The number of the first call of a move. A filling syncs, reads the gate and three slots, writes these and syncs.
+const FIRST: u64 = 9;
+
+/// More calls than a move makes.
+const MANY: u64 = 200;
+
+/// Which copy in flight ends next, and what a crash leaves.
+static CRASHES: [(EndOrder, Pick); 12] = [
+    (EndOrder::First, Pick::Old),
+    (EndOrder::First, Pick::New),
+    (EndOrder::First, Pick::Half),
+    (EndOrder::First, Pick::Ones),
+    (EndOrder::Last, Pick::Old),
+    (EndOrder::Last, Pick::New),
+    (EndOrder::Last, Pick::Half),
+    (EndOrder::Last, Pick::Ones),
+    (EndOrder::Turns, Pick::Old),
+    (EndOrder::Turns, Pick::New),
+    (EndOrder::Turns, Pick::Half),
+    (EndOrder::Turns, Pick::Ones),
+];
+
+/// What a resume may say.
+static RESUMED: [&str; 3] = [
+    "done 2 rounds, found 0\n",
+    "done 2 rounds, found 1\n",
+    "done 2 rounds, found 2\n",
+];
+
+/// A store on which the items are filled and moved, and whose call of this number fails, with how the move ended.
+fn moved(
+    rt: &impl Abort,
+    alloc: Global,
+    folder: &mut MemFolder,
+    order: EndOrder,
+    call: u64,
+) -> Result<(MemStore, Outcome), Fail> {
+    let mut store = store_of(alloc, vec![in alloc; call]?)?;
+    store.order(order);
+    expect_all(rt, alloc, folder, &mut store, FILL)?;
+    let came = outcome_over(alloc, folder, &mut store, "move D N X P")?;
+    Ok((store, came))
+}
+
+/// Resumes the move, and asserts that the target is reached: what the first disk held is on the second, and the first is empty.
+fn expect_resumed(
+    rt: &impl Abort,
+    alloc: Global,
+    folder: &mut MemFolder,
+    filled: &MemStore,
+    mut store: MemStore,
+) -> Result<(), Fail> {
+    let came = outcome_over(alloc, folder, &mut store, "resume D N X P")?;
+    assert_eq!(rt; came.status, 0);
+    assert!(rt;
+        RESUMED
+            .iter()
+            .any(|text| came.out.held() == text.as_bytes())
+    );
+    assert!(rt; is_done(&store) && are_exchanged(filled, &store));
+    Ok(())
+}
+
+/// Lets each call of a move fail in turn, from the first one on, until a move ends well. The number of those that failed.
+fn stops(rt: &impl Abort, alloc: Global, order: EndOrder, pick: Pick) -> Result<usize, Fail> {
+    let mut folder = three_items(alloc)?;
+    let mut filled = store_of(alloc, Vec::new(alloc))?;
+    expect_all(rt, alloc, &mut folder, &mut filled, FILL)?;
+    for (number, call) in (FIRST..MANY).enumerate() {
+        let (store, came) = moved(rt, alloc, &mut folder, order, call)?;
+        if came.status == 0 {
+            return Ok(number);
+        }
+        assert_eq!(rt; came.status, 5, "status at call {call}");
+        assert_eq!(rt;
+            came.out.held(),
+            "store fault\n".as_bytes(),
+            "text at call {call}"
+        );
+        expect_resumed(rt, alloc, &mut folder, &filled, store.crash(pick))?;
+    }
+    Err(Fail::new("a move has too many calls"))
+}
+
+// Each of the twelve writes of the plan is a call.
+#[test]
+fn a_move_is_resumed_whichever_call_fails(rt: HostRuntime) -> Result<(), Fail> {
+    for (order, pick) in &CRASHES {
+        assert!(rt; stops(&rt, rt.alloc(), *order, *pick)? >= 12);
+    }
+    Ok(())
+}

@@ -1,0 +1,101 @@
+//! Stores in memory for small clusters.
+ghost use Rattle.mig_base.specs.InputLists.{AreDifferent};
+
+use mig_base::{Cell, Name};
+use mig_store::MemStore;
+use std::alloc::{AllocError, Global};
+
+/// A slot of the disk that the letter names.
+fn slot_of(disk: u8, slot: u32) -> Cell {
+    match Name::read(&[disk]) {
+        Some(disk) => Cell::Slot { disk, slot },
+        None => Cell::Head,
+    }
+}
+
+/// Cells that are different.
+#[derive(Drop)]
+pub struct Cells {
+    pub list: Vec<Cell>,
+    ghost different: { AreDifferent list.items },
+}
+
+impl Cells {
+    /// No cells.
+    fn new(alloc: Global) -> Self {
+        Cells {
+            list: Vec::new(alloc),
+        }
+    }
+
+    /// Adds a cell, if it isn't there.
+    fn add(&mut self, cell: Cell) -> Result<(), AllocError> {
+        if self.list.contains(&cell) {
+            return Ok(());
+        }
+        self.list.push(cell)?;
+        Ok(())
+    }
+
+    /// Adds the first four slots of the disk that the letter names.
+    fn add_disk(&mut self, disk: u8) -> Result<(), AllocError> {
+        for slot in 0..4 {
+            self.add(slot_of(disk, slot))?;
+        }
+        Ok(())
+    }
+}
+
+/// The head, the gate, the first four marks, and the first four slots of the disks a and b.
+pub fn two_disks(alloc: Global) -> Result<Cells, AllocError> {
+    let mut cells = Cells::new(alloc);
+    cells.add(Cell::Head)?;
+    cells.add(Cell::Gate)?;
+    for n in 1..5 {
+        cells.add(Cell::Mark { n })?;
+    }
+    cells.add_disk(b'a')?;
+    cells.add_disk(b'b')?;
+    Ok(cells)
+}
+
+/// A store of these cells, all zeros. Its calls with these numbers fail.
+pub fn store_of(alloc: Global, failing: Vec<u64>) -> Result<MemStore, AllocError> {
+    let cells = two_disks(alloc)?;
+    MemStore::new(alloc, &cells.list, 200, failing)
+}
+
+/// SHA-256 of the plan of two rounds.
+pub const DIGEST: [u8; 32] =
+    *b"\x6e\x02\xb0\x0f\x13\xc0\xb1\xaf\x17\x33\xca\x34\x37\xd1\xb2\x8e\x36\xfc\xd8\x62\xdf\x45\xdc\x43\x18\x4f\xe6\xeb\x3f\x48\xcf\x4e";
+
+/// The journal says that the plan of two rounds is carried out.
+pub fn is_done(store: &MemStore) -> bool {
+    store.cell(&Cell::Gate) == Some([1].as_slice())
+        && store.cell(&Cell::Head) == Some(DIGEST.as_slice())
+        && store.cell(&Cell::Mark { n: 1 }) == Some([1].as_slice())
+        && store.cell(&Cell::Mark { n: 2 }) == Some([1].as_slice())
+}
+
+/// Each disk holds what the other one held in the earlier store.
+pub fn are_exchanged(earlier: &MemStore, store: &MemStore) -> bool {
+    for slot in 0..4 {
+        let one = slot_of(b'a', slot);
+        let other = slot_of(b'b', slot);
+        if store.cell(&one) != earlier.cell(&other) || store.cell(&other) != earlier.cell(&one) {
+            return false;
+        }
+    }
+    true
+}
+
+/// Each cell is zeros.
+pub fn are_zeros(store: &MemStore, cells: &[Cell]) -> bool {
+    for cell in cells {
+        let bytes = store.cell(cell).unwrap_or(&[]);
+        if bytes.len() != cell.len() || bytes.iter().any(|byte| *byte != 0) {
+            return false;
+        }
+    }
+    true
+}

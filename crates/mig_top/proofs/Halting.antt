@@ -1,0 +1,208 @@
+-- How `halt` ends.
+use Rattle.std.proofs.Common.{◌≡◌, ◌⊎◌, ◌≤◌, None, Some, inl, inr, true, ℕ, List, [], ◌∷◌, Option, IfSome, IsSome, length, refl, sym, ◌∙◌, ap, subst, arith, append-nil}
+use Rattle.std.proofs.lemmas.Bool.{false≢true}
+use Rattle.std.specs.Option.{IsSomeAnd}
+use Rattle.mig_base.specs.declared.cells.Cell.{Cell}
+use Rattle.mig_base.specs.declared.cells.Cell.TheVariants.{Gate, Head}
+use Rattle.mig_base.specs.declared.cells.Event.{Event}
+use Rattle.mig_base.specs.declared.ids.Shift.{Shift}
+use Rattle.mig_base.specs.Arrivals.{IsHalted, IsHaltSafe}
+use Rattle.mig_base.specs.FaultCounts.{Rose}
+use Rattle.mig_base.specs.Flights.{IsTargetOf}
+use Rattle.mig_base.specs.Images.{Image, NoCell}
+use Rattle.mig_base.specs.InputLists.{Lists}
+use Rattle.mig_base.specs.JobCells.{IsHaltCell, SettlesTo, Tells}
+use Rattle.mig_base.specs.Journals.{count_of, is_armed}
+use Rattle.mig_base.specs.RoundEvents.{BeginsRun}
+use Rattle.mig_base.specs.Safety.{Contents, IsSafe, IsSafeAt}
+use Rattle.mig_base.specs.Stores.{State, IsState, Changes, ChangesOnly, IsSettled, LeavesOnly, flights}
+use Rattle.mig_base.proofs.StoreSteps.{changes_then, changes_wider, leaves_then, quiet_leaves, same_image}
+use Rattle.mig_io.specs.Files.{Files, FolderState, ChangedOnly, OthersStay}
+use Rattle.mig_mover.specs.Halts.{EndsHalted, IsClosingCell, KeepsHaltSafe}
+use Rattle.mig_mover.specs.Moves.{Lands, Settles}
+use Rattle.mig_mover.specs.Stands.{IsStandFault, Stands}
+use Rattle.mig_mover.specs.Tasks.{Task}
+use Rattle.mig_mover.specs.declared.faults.MoveFault.{MoveFault}
+use Rattle.mig_mover.specs.declared.faults.MoveFault.TheVariants as fault
+use Rattle.mig_mover.proofs.Settling.{gate_kept, journal_kept, settled_reads, settles_land, tells_more}
+use Rattle.mig_words.specs.declared.endings.Ending.{Ending}
+use Rattle.mig_words.specs.declared.endings.Ending.TheVariants as ending
+use Rattle.mig_top.specs.Calls.{Call, Untouched}
+use Rattle.mig_top.specs.Calls as calls
+use Rattle.mig_top.specs.Causes.{FormCause}
+use Rattle.mig_top.specs.Ends.{WorldEnds}
+use Rattle.mig_top.specs.HaltLeaves.{HaltLeaves, HaltsAll, HaltsInPart, IsLayoutSaved, MayHalt, SaveEnds, SavesLayout}
+use Rattle.mig_top.specs.HaltLooks.{IsStanding, IsStandRefusal, halted_text, stands}
+use Rattle.mig_top.specs.Loading.{NoTask}
+use Rattle.mig_top.specs.MoveLeaves.{AreOfTask, HasFound}
+use Rattle.mig_top.specs.MoveLooks.{task_of}
+use Rattle.mig_words.specs.Outcomes.{Outcome, Done, StoreFault, fault_outcome, outcome_of}
+use Rattle.mig_top.specs.Steps.{Then, IsDone}
+use Rattle.mig_top.specs.StoreLeaves.{IsUntouched}
+use Rattle.mig_words.specs.Words.{Form, Halt}
+use Rattle.mig_top.proofs.Moving.{shown}
+use Rattle.mig_top.proofs.StepEnds.{if_map, leaves, one_changed}
+use Rattle.mig_top.proofs.TaskFiles.{no_task_cause, told_cause}
+
+-- what is left of `halt` once its task is known
+abbrev pub halt_rest : State → List ℕ → Files → Lists → List (List Shift) → Outcome → Type 0
+halt_rest store plan files input rounds = Then (stands (task_of files plan input rounds) store) (λ found. IsDone (λ text. text ≡ halted_text rounds found))
+
+-- Once it is known where the plan stands
+
+module _ (task : Task) (old mid : State) (k : ℕ) (stood : Stands task old mid k) where
+  pub has_found : HasFound task old k
+  has_found = record { most = stood.most; found = stood.found }
+
+  pub is_standing : IsStanding task old k
+  is_standing = record {
+    found = has_found;
+    running = λ are told. sym (gate_kept old mid stood.settles are) ∙ stood.at.running (subst IsSome (sym (journal_kept old mid stood.settles are Gate refl)) told);
+    ours = λ are. subst (λ (o : Option (List ℕ)). IfSome o (λ kept. kept ≡ task.digest)) (journal_kept old mid stood.settles are Head refl) stood.at.ours;
+  }
+
+  -- the settled store is safe
+  module _ (contents : Contents) (tells : Tells (IsHaltCell task.input task.plan) old.reads) where
+    tells_mid : Tells (IsHaltCell task.input task.plan) mid.reads
+    tells_mid = tells_more old mid stood.settles (IsHaltCell task.input task.plan) tells
+
+    by_halting : (n : ℕ) → IsHaltSafe task.input task.plan task.digest contents mid.reads n → IsSafe task.input task.plan task.digest contents mid.reads
+    by_halting n (inl after) = subst (IsSafeAt task.input task.plan task.digest contents mid.reads) (sym after.count) after.safe
+    by_halting n (inr halted) = absurd (false≢true (sym halted.idle ∙ stood.at.running (tells_mid Gate (inl (inr (inl refl))))))
+
+    safe_mid : MayHalt task contents old → IsSafe task.input task.plan task.digest contents mid.reads
+    safe_mid (inl safe) = settled_reads old mid stood.settles (IsSafe task.input task.plan task.digest contents) safe
+    safe_mid (inr (n, halting)) = by_halting n (settled_reads old mid stood.settles (λ image. IsHaltSafe task.input task.plan task.digest contents image n) halting)
+
+  -- and then it is closed, in part or whole
+  module _ (law : IsState old) (law_mid : IsState mid) (new : State) (law_new : IsState new) (keeps : KeepsHaltSafe task k mid new) (change : ChangesOnly (IsClosingCell task k) mid new) where
+    abbrev HaltSafe : Contents → Image → Type 0
+    HaltSafe contents image = IsHaltSafe task.input task.plan task.digest contents image k
+
+    abbrev Reach : Cell → Type 0
+    Reach cell = IsTargetOf (flights old) cell ⊎ IsClosingCell task k cell
+
+    closing : (contents : Contents) → Tells (IsHaltCell task.input task.plan) old.reads → MayHalt task contents old → LeavesOnly (HaltSafe contents) mid new
+    closing contents tells may = keeps contents (tells_mid contents tells) (safe_mid contents tells may)
+
+    settling : Lands old mid
+    settling = settles_land old mid stood.settles
+
+    -- what a crash leaves of the settled store
+    at_mid : (contents : Contents) → Tells (IsHaltCell task.input task.plan) old.reads → MayHalt task contents old → (image : Image) → mid.may_leave image → HaltSafe contents image
+    at_mid contents tells may image left =
+        subst (HaltSafe contents) (same_image mid.reads image (stood.settles.settled image left))
+        (inl (record {
+          armed = stood.at.running (tells_mid contents tells Gate (inl (inr (inl refl))));
+          count = count;
+          safe = subst (IsSafeAt task.input task.plan task.digest contents mid.reads) count (safe_mid contents tells may);
+        }))
+      where
+        count : count_of (length task.plan) mid.reads ≡ k
+        count = stood.at.count (λ cell of. tells_mid contents tells cell (inl of))
+
+    pub in_part : HaltsInPart task old new k
+    in_part = record {
+      found = has_found;
+      safe = λ contents tells may. leaves_then (HaltSafe contents) old mid new (quiet_leaves (HaltSafe contents) (IsTargetOf (flights old)) settling.added old mid law settling.change) (closing contents tells may);
+      again = λ contents tells may image left.
+          let run = closing contents tells may in
+          now contents tells may image (run.since mid.moment image (omega arith) (law_new.counts_now mid.moment image run.later left));
+      change = (
+        settling.added,
+        settling.part,
+        subst (λ (added : List Event). Changes Reach (IsClosingCell task k) added old new) (append-nil settling.added)
+            (changes_then Reach (IsClosingCell task k) settling.added [] old mid new
+            (changes_wider Reach (IsClosingCell task k) (IsTargetOf (flights old)) NoCell (λ cell of. inl of) (λ cell none. absurd none) settling.added old mid settling.change)
+            (changes_wider Reach (IsClosingCell task k) (IsClosingCell task k) (IsClosingCell task k) (λ cell of. inr of) (λ cell of. of) [] mid new change)),
+      );
+    }
+      where
+        now : (contents : Contents) → Tells (IsHaltCell task.input task.plan) old.reads → MayHalt task contents old → (image : Image) → mid.left_since mid.moment image ⊎ HaltSafe contents image → HaltSafe contents image
+        now contents tells may image (inl past) = at_mid contents tells may image (law_mid.only_now image past)
+        now contents tells may image (inr safe) = safe
+
+    pub in_whole : EndsHalted task k mid new → IsSettled new → HaltsAll task old new k
+    in_whole halts settled = record { part = in_part; halted = λ contents tells may. halts contents (tells_mid contents tells) (safe_mid contents tells may); settled = settled }
+
+-- a change of a folder that begins with the files of another
+module _ (R : Files → Files → Type 0) (before from to : FolderState) (same : from.files ≡ before.files) where
+  pub changes_before : calls.Changes from to R → calls.Changes before to R
+  changes_before = subst (λ (o : Option Files). IfSome o (λ files. IsSomeAnd to.files (R files))) same
+
+pub saved_only : (task : Task) (layout : List ℕ) (k : ℕ) (old new : FolderState) → SavesLayout task layout k old new → ChangedOnly layout old new
+saved_only task layout k old new saves = if_map old.files (λ files. at new.files files) saves
+  where
+    at : (o : Option Files) (files : Files) → IsSomeAnd o (IsLayoutSaved task layout k files) → IsSomeAnd o (OthersStay layout files)
+    at None files h = h
+    at (Some f) files h = h.saves.others
+
+-- The ends
+
+module _ (k : Call) (disks now next plan layout : List ℕ) where
+  abbrev form : Form
+  form = Halt disks now next plan layout
+
+  abbrev names : List (List ℕ)
+  names = disks ∷ now ∷ next ∷ plan ∷ []
+
+  -- the files weren't loaded, or stand for no task
+  pub halt_unread : Untouched k.before.folder k.after.folder → (e : Ending) → NoTask disks now next plan k.before.folder k.after.folder e → IsUntouched k.before.store k.after.store → WorldEnds k form (outcome_of names e)
+  halt_unread same e h kept = record {
+    cause = no_task_cause k form disks now next plan (halt_rest k.before.store plan) (λ files o c. c) e h;
+    leaves = leaves k.before.folder k.after.folder form names e same;
+    store = left e h;
+  }
+    where
+      left : (e : Ending) → NoTask disks now next plan k.before.folder k.after.folder e → HaltLeaves k.before.folder k.after.folder k.before.store k.after.store disks now next plan layout (outcome_of names e)
+      left ending.FolderFault h = inl kept
+      left ending.Memory h = inl kept
+      left (ending.NoFile place) h = kept
+      left (ending.Blamed b name) h = kept
+      left (ending.Refused f r w) h = kept
+      left (ending.NotSpelled f line) h = kept
+      left (ending.TooLarge shifts) h = kept
+      left _ h = absurd h
+
+  module _ (task : Task) (are : AreOfTask k.before.folder disks now next plan task) where
+    halt_cause : (o : Outcome) → Then (stands task k.before.store) (λ found. IsDone (λ text. text ≡ halted_text task.plan found)) o → IfSome k.before.folder.files (λ files. FormCause files k.before.store form o)
+    halt_cause o h = told_cause k form disks now next plan (halt_rest k.before.store plan) (λ files o c. c) task are o
+        (λ t. Then (stands t k.before.store) (λ found. IsDone (λ text. text ≡ halted_text task.plan found)) o) (λ files c. c) h
+
+    -- it isn't known where the plan stands
+    pub halt_refused : Untouched k.before.folder k.after.folder → Lands k.before.store k.after.store → (f : MoveFault) → IsStandFault task k.before.store k.after.store f → WorldEnds k form (fault_outcome task.input f)
+    halt_refused same lands fault.Store h = record { cause = (h, refl); leaves = one_changed k.before.folder k.after.folder layout same; store = inl (lands, same) }
+    halt_refused same lands fault.NotStarted h = record { cause = halt_cause _ (inl (shown task k fault.NotStarted h.0 IsStandRefusal h.1)); leaves = same; store = h.0 }
+    halt_refused same lands (fault.OtherPlan kept ours) h = record { cause = halt_cause _ (inl (shown task k (fault.OtherPlan kept ours) h.0 IsStandRefusal h.1)); leaves = same; store = h.0 }
+    halt_refused same lands _ h = absurd h
+
+  -- the layout isn't saved
+  pub halt_unsaved : (loaded : FolderState) → loaded.files ≡ k.before.folder.files → k.before.folder.faults ≤ loaded.faults → Settles k.before.store k.after.store → (e : Ending) → SaveEnds layout loaded k.after.folder e
+      → WorldEnds k form (outcome_of names e)
+  halt_unsaved loaded same later settles ending.FolderFault h = record {
+    cause = (let rose = h.0 in omega (arith, later, rose));
+    leaves = changes_before (OthersStay layout) k.before.folder loaded k.after.folder same h.1;
+    store = inr settles;
+  }
+  halt_unsaved loaded same later settles ending.Memory h = record { cause = tt; leaves = h ∙ same; store = inr settles }
+  halt_unsaved loaded same later settles _ h = absurd h
+
+  module _ (task : Task) (are : AreOfTask k.before.folder disks now next plan task) (loaded : FolderState) (same : loaded.files ≡ k.before.folder.files) (found : ℕ) (saves : SavesLayout task layout found loaded k.after.folder) where
+    saved : SavesLayout task layout found k.before.folder k.after.folder
+    saved = changes_before (IsLayoutSaved task layout found) k.before.folder loaded k.after.folder same saves
+
+    -- the store fails while the plan is closed
+    pub halt_failed : HaltsInPart task k.before.store k.after.store found → Rose k.before.store.faults k.after.store.faults → (f : MoveFault) → f ≡ fault.Store → WorldEnds k form (fault_outcome task.input f)
+    halt_failed part rose f is = subst (λ (f : MoveFault). WorldEnds k form (fault_outcome task.input f)) (sym is) (record {
+      cause = (rose, refl);
+      leaves = saved_only task layout found k.before.folder k.after.folder saved;
+      store = inr (task, are, (found, part, saved));
+    })
+
+    -- it is closed
+    pub halt_done : HaltsAll task k.before.store k.after.store found → IsStanding task k.before.store found → WorldEnds k form (Done (halted_text task.plan found))
+    halt_done all standing = record {
+      cause = halt_cause task are (Done (halted_text task.plan found)) (inr (found, standing, refl));
+      leaves = saved_only task layout found k.before.folder k.after.folder saved;
+      store = (task, are, (found, all, saved, refl));
+    }

@@ -1,9 +1,0 @@
-use Rattle.std.proofs.Common.{[]}
-use Rattle.mig_top.specs.declared.putting.Part.TheVariants.{Text}
-use Rattle.mig_top.specs.Puts.{part_text}
-use Rattle.mig_top.proofs.PutTexts.{piece_fails}
-use Rattle.mig_top.proofs.putting.put_parts.Goals as goal
-
-pub returns-in_err-put_part : goal.returns-in_err-put_part
-returns-in_err-put_part g c =
-    piece_fails part_text c.args.parts.now c.loop-part.part-index (Text (record { ref_ptr = (0, 0); now = [] })) _ _ _ c.in_err-put_part.field-0.0 c.from_residual.result c.loop-part-test.true c.from_residual.ensures.0 c.loop-part.invariant c.in_err-put_part.ensures

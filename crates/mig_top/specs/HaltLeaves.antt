@@ -1,0 +1,95 @@
+-- What `halt` leaves in a folder and in a store.
+use Rattle.std.specs.Prelude.{◌≡◌, ◌⊎◌, ℕ, List, []}
+use Rattle.mig_base.specs.declared.cells.Event.{Event}
+use Rattle.mig_base.specs.Arrivals.{IsHalted, IsHaltSafe}
+use Rattle.mig_base.specs.FaultCounts.{Rose}
+use Rattle.mig_base.specs.Flights.{IsTargetOf}
+use Rattle.mig_base.specs.Images.{Image}
+use Rattle.mig_base.specs.JobCells.{IsHaltCell, SettlesTo, Tells}
+use Rattle.mig_base.specs.RoundEvents.{BeginsRun}
+use Rattle.mig_base.specs.Safety.{Contents, IsSafe}
+use Rattle.mig_base.specs.Stores.{State, Changes, IsSettled, LeavesOnly, flights}
+use Rattle.mig_io.specs.Files.{Files, FolderState, ChangedOnly, Saves}
+use Rattle.mig_mover.specs.Halts.{IsClosingCell}
+use Rattle.mig_mover.specs.Moves.{Lands, Settles}
+use Rattle.mig_mover.specs.Tasks.{Task}
+use Rattle.mig_words.specs.declared.endings.Ending.{Ending}
+use Rattle.mig_words.specs.declared.endings.Ending.TheVariants as ending
+use Rattle.mig_top.specs.Calls as calls
+use Rattle.mig_top.specs.Causes.{IsLayoutAfter}
+use Rattle.mig_top.specs.HaltLooks.{halted_text}
+use Rattle.mig_top.specs.MoveLeaves.{ForTask, HasFound}
+use Rattle.mig_words.specs.Outcomes.{Outcome, Done, FolderFault, StoreFault, Memory, NotStarted, OtherPlan}
+use Rattle.mig_top.specs.StoreLeaves.{IsUntouched}
+
+-- In the folder
+
+-- the file of the layout holds the text of the layout after k rounds, and no other file changed
+pub record IsLayoutSaved (task : Task) (layout : List ℕ) (k : ℕ) (old new : Files) : Type 0 where
+  pub text : List ℕ
+  pub spelled : IsLayoutAfter task.input task.plan k text
+  pub saves : Saves layout text old new
+
+abbrev pub SavesLayout : Task → List ℕ → ℕ → FolderState → FolderState → Type 0
+SavesLayout task layout k old new = calls.Changes old new (IsLayoutSaved task layout k)
+
+-- why the layout wasn't saved
+abbrev pub SaveEnds : List ℕ → FolderState → FolderState → Ending → Type 0
+SaveEnds layout old new ending.FolderFault = Rose old.faults new.faults × ChangedOnly layout old new
+SaveEnds layout old new ending.Memory = calls.Untouched old new
+SaveEnds layout old new _ = ⊥
+
+-- `halt` changes no file but LAYOUT's, and that one only once the journal was found to name the plan
+abbrev pub HaltSaves : FolderState → FolderState → List ℕ → Outcome → Type 0
+HaltSaves old new layout (Done text) = ChangedOnly layout old new
+HaltSaves old new layout FolderFault = ChangedOnly layout old new
+HaltSaves old new layout (StoreFault before) = ChangedOnly layout old new
+HaltSaves old new layout _ = calls.Untouched old new
+
+-- In the store
+
+-- Once the store is settled each item's contents stand, or closing the plan after n rounds was stopped.
+abbrev pub MayHalt : Task → Contents → State → Type 0
+MayHalt task contents s = SettlesTo (IsSafe task.input task.plan task.digest contents) s
+    ⊎ ((n : ℕ) × SettlesTo (λ image. IsHaltSafe task.input task.plan task.digest contents image n) s)
+
+-- each image that a crash may leave is so
+abbrev pub AllMayHalt : Task → Contents → State → Type 0
+AllMayHalt task contents s = ((image : Image) → s.may_leave image → IsSafe task.input task.plan task.digest contents image)
+    ⊎ ((n : ℕ) × ((image : Image) → s.may_leave image → IsHaltSafe task.input task.plan task.digest contents image n))
+
+-- nothing was written, and each copy that was in flight has ended or none has
+abbrev pub IsUnwritten : State → State → Type 0
+IsUnwritten old new = IsUntouched old new ⊎ Settles old new
+
+-- the plan was closed in part, after k rounds that were marked
+pub record HaltsInPart (task : Task) (old new : State) (k : ℕ) : Type 0 where
+  pub found : HasFound task old k
+  -- a crash at each moment leaves a migration that may go on after these rounds, or is halted there
+  pub safe : (contents : Contents) → Tells (IsHaltCell task.input task.plan) old.reads → MayHalt task contents old
+      → LeavesOnly (λ image. IsHaltSafe task.input task.plan task.digest contents image k) old new
+  -- and so does a crash now
+  pub again : (contents : Contents) → Tells (IsHaltCell task.input task.plan) old.reads → MayHalt task contents old
+      → (image : Image) → new.may_leave image → IsHaltSafe task.input task.plan task.digest contents image k
+  -- no cell was written but the gate and the named slots that are free then, and no copy began
+  pub change : (added : List Event) × BeginsRun (flights old) [] added
+      × Changes (λ cell. IsTargetOf (flights old) cell ⊎ IsClosingCell task k cell) (IsClosingCell task k) added old new
+
+-- and it is closed
+pub record HaltsAll (task : Task) (old new : State) (k : ℕ) : Type 0 where
+  pub part : HaltsInPart task old new k
+  pub halted : (contents : Contents) → Tells (IsHaltCell task.input task.plan) old.reads → MayHalt task contents old → IsHalted task.input task.plan contents new.reads k
+  pub settled : IsSettled new
+
+-- Both
+
+-- The layout is saved before the store is written: a fault of the store comes before that, with nothing written and no file changed, or after it. A
+-- refusal comes from a store that is settled, and so does what ends the command between.
+abbrev pub HaltLeaves : FolderState → FolderState → State → State → (disks now next plan layout : List ℕ) → Outcome → Type 0
+HaltLeaves from to old new disks now next plan layout (Done text) = ForTask from disks now next plan (λ task. (k : ℕ) × HaltsAll task old new k × SavesLayout task layout k from to × (text ≡ halted_text task.plan k))
+HaltLeaves from to old new disks now next plan layout (StoreFault before) = (Lands old new × calls.Untouched from to) ⊎ ForTask from disks now next plan (λ task. (k : ℕ) × HaltsInPart task old new k × SavesLayout task layout k from to)
+HaltLeaves from to old new disks now next plan layout FolderFault = IsUnwritten old new
+HaltLeaves from to old new disks now next plan layout Memory = IsUnwritten old new
+HaltLeaves from to old new disks now next plan layout NotStarted = Settles old new
+HaltLeaves from to old new disks now next plan layout (OtherPlan kept ours) = Settles old new
+HaltLeaves from to old new disks now next plan layout o = IsUntouched old new

@@ -1,0 +1,68 @@
+//! `halt`: closes a migration where it stands, with the layout that it has there.
+ghost use Rattle.std.specs.Prelude.{◌≤◌, IfErr, OnOk, length};
+ghost use Rattle.mig_base.specs.Stores.{State};
+ghost use Rattle.mig_top.specs.Calls.{call, world};
+ghost use Rattle.mig_top.specs.Ends.{FormEndsAs};
+ghost use Rattle.mig_top.specs.HaltLeaves.{SaveEnds, SavesLayout};
+ghost use Rattle.mig_words.specs.Words.{Halt};
+
+use crate::layout_texts::layout_text;
+use crate::tasks::load_job;
+use mig_io::{Folder, Sink};
+use mig_mover::{Job, halt, stand};
+use mig_store::Store;
+use mig_words::{Ending, PlanFiles, fault_ending, show_halted, tell};
+use std::alloc::Global;
+
+/// Saves the layout after the first rounds of a job.
+fn save_layout<F: Folder>(
+    alloc: Global,
+    folder: &mut F,
+    job: &Job,
+    rounds: u32,
+    layout: &str,
+) -> Result<(), Ending>
+    requires { rounds ≤ length job.now.plan }
+    ensures saved { OnOk result (SavesLayout job.now layout.now rounds (F.state folder.old) (F.state folder.new)) }
+    ensures failed { IfErr result (SaveEnds layout.now (F.state folder.old) (F.state folder.new)) }
+{
+    let text = layout_text(alloc, job.input(), job.plan(), rounds)?;
+    folder.save(layout, &text)?;
+    Ok(())
+}
+
+/// `halt`, with its text. Once the layout is saved it takes no memory.
+pub fn run_halt<F: Folder, K: Sink, S: Store>(
+    alloc: Global,
+    folder: &mut F,
+    out: &mut K,
+    store: &mut S,
+    files: PlanFiles<'_>,
+    layout: &str,
+) -> u8
+    ensures { FormEndsAs (call (world (F.state folder.old) (K.state out.old) (S.state store.old)) (world (F.state folder.new) (K.state out.new) (S.state store.new))) (Halt files.entry.disks.now files.entry.now.now files.entry.next.now files.entry.plan.now layout.now) result }
+{
+    let names = [files.disks, files.now, files.next, files.plan];
+    let job = match load_job(
+        alloc,
+        folder,
+        files.disks,
+        files.now,
+        files.next,
+        files.plan,
+    ) {
+        Ok(job) => job,
+        Err(ending) => return tell(out, ending, &names),
+    };
+    let found = match stand(&job, store) {
+        Ok(found) => found,
+        Err(fault) => return tell(out, fault_ending(job.input(), fault), &names),
+    };
+    if let Err(ending) = save_layout(alloc, folder, &job, found, layout) {
+        return tell(out, ending, &names);
+    }
+    match halt(&job, store, found) {
+        Ok(()) => show_halted(out, job.rounds(), found),
+        Err(fault) => tell(out, fault_ending(job.input(), fault), &names),
+    }
+}

@@ -1,0 +1,169 @@
+//! What `drill` puts, and what it refuses.
+
+use crate::expecting::expect;
+use mig_fixtures::{
+    Cluster, NO_ROUNDS, ONE_STAYS, THREE_ITEMS, TWO_NEEDED, TWO_ROUNDS, folder_of, holds, planned,
+    sink_of, status_of,
+};
+use std::alloc::{AllocError, Global};
+use std::test::Fail;
+
+/// The line that drills what stands as P.
+const DRILL: &str = "drill D N X P";
+
+/// One item goes from one disk to another.
+const ONE_MOVES: Cluster<'static> = Cluster {
+    disks: "disk,limit,slots\na,1,1\nb,1,1\n",
+    now: "item,disk,slot\nx,a,0\n",
+    next: "item,disk\nx,b\n",
+};
+
+/// The plan of the one item.
+const ONE_ROUND: &str = "migration-plan 1\nrounds 1\nround 1 1\nx a 0 b 0\nend\n";
+
+/// What is put of the one item: the mark is zeroed, the head, the gate, the item and the mark are written, the source is erased.
+const ONE_DRILLED: &str = "\
+writes 6
+stop 0 marks 0 0 0 0
+stop 1 marks 0 0 0 0
+stop 2 marks 0 0 0 0
+stop 3 marks 0 0 0 0
+stop 4 marks 0 1 0 1
+stop 5 marks 1 1 1 1
+reached 24
+";
+
+/// What is put of two rounds, of two shifts and of one.
+const TWO_DRILLED: &str = "\
+writes 12
+stop 0 marks 0 0 0 0
+stop 1 marks 0 0 0 0
+stop 2 marks 0 0 0 0
+stop 3 marks 0 0 0 0
+stop 4 marks 0 0 0 0
+stop 5 marks 0 0 0 0
+stop 6 marks 0 1 0 1
+stop 7 marks 1 1 1 1
+stop 8 marks 1 1 1 1
+stop 9 marks 1 1 1 1
+stop 10 marks 1 2 1 2
+stop 11 marks 2 2 2 2
+reached 48
+";
+
+/// What is put where nothing is to be moved.
+const NONE_DRILLED: &str = "writes 2\nstop 0 marks 0 0 0 0\nstop 1 marks 0 0 0 0\nreached 8\n";
+
+#[test]
+fn plans_are_drilled(rt: HostRuntime) -> Result<(), Fail> {
+    let alloc = rt.alloc();
+    for (cluster, plan, text) in [
+        (&ONE_MOVES, ONE_ROUND, ONE_DRILLED),
+        (&THREE_ITEMS, TWO_ROUNDS, TWO_DRILLED),
+        (&ONE_STAYS, NO_ROUNDS, NONE_DRILLED),
+    ] {
+        let mut folder = planned(alloc, cluster, plan, TWO_NEEDED, Vec::new(alloc))?;
+        expect(&rt, alloc, &mut folder, DRILL, 0, text)?;
+        assert!(rt; holds(&folder, "P", Some(plan)));
+        assert!(rt; holds(&folder, "C", Some(TWO_NEEDED)));
+    }
+    Ok(())
+}
+
+#[test]
+fn what_cannot_be_drilled_is_told(rt: HostRuntime) -> Result<(), Fail> {
+    let alloc = rt.alloc();
+    let shifted = "migration-plan 1\nrounds 1\nround 1 1\nx b 0 a 0\nend\n";
+    for (plan, status, text) in [
+        (shifted, 1, "not here round 1 item x\n"),
+        (NO_ROUNDS, 1, "wrong end item x\n"),
+        ("", 10, "refused plan line 1\n"),
+    ] {
+        let mut folder = planned(alloc, &THREE_ITEMS, plan, TWO_NEEDED, Vec::new(alloc))?;
+        expect(&rt, alloc, &mut folder, DRILL, status, text)?;
+    }
+    let mut folder = folder_of(alloc, &THREE_ITEMS, Vec::new(alloc))?;
+    expect(&rt, alloc, &mut folder, DRILL, 16, "no file P\n")?;
+    for line in [
+        "drill",
+        "drill D N X",
+        "drill D N X P C",
+        "drill D N X P.mig",
+    ] {
+        expect(&rt, alloc, &mut folder, line, 2, "words not understood\n")?;
+    }
+    Ok(())
+}
+
+/// The status of a drill of two rounds whose output fails at this put, and whose folder fails at these calls.
+fn status_failing(alloc: Global, put: u64, calls: &[u64]) -> Result<u8, AllocError> {
+    let failing = Vec::from_slice(alloc, calls)?;
+    let mut folder = planned(alloc, &THREE_ITEMS, TWO_ROUNDS, TWO_NEEDED, failing)?;
+    let mut out = sink_of(alloc, Vec::from_slice(alloc, &[put])?)?;
+    status_of(alloc, &mut folder, DRILL, &mut out)
+}
+
+#[test]
+fn a_drill_may_fail(rt: HostRuntime) -> Result<(), Fail> {
+    let alloc = rt.alloc();
+    assert!(rt; status_failing(alloc, 0, &[])? == 6);
+    assert!(rt; status_failing(alloc, 5, &[])? == 6);
+    for call in 0..4 {
+        assert!(rt; status_failing(alloc, 9999, &[call])? == 4);
+    }
+    Ok(())
+}
+
+/// The three files of an input, and a plan.
+#[derive(Drop)]
+struct Texts {
+    disks: String,
+    now: String,
+    next: String,
+    plan: String,
+}
+
+/// Adds so many items that go from one disk to another, one in each round.
+fn add_items(texts: &mut Texts, items: u32) -> Result<(), AllocError> {
+    for i in 0..items {
+        let round = i.saturating_add(1);
+        write!(texts.now, "i{i},a,{i}\n")?;
+        write!(texts.next, "i{i},b\n")?;
+        write!(texts.plan, "round {round} 1\ni{i} a {i} b {i}\n")?;
+    }
+    Ok(())
+}
+
+/// The texts of 257 items that go from one disk to another, one in each round.
+fn one_by_one(alloc: Global) -> Result<Texts, AllocError> {
+    let mut texts = Texts {
+        disks: String::from_str(alloc, "disk,limit,slots\na,1,257\nb,1,257\n")?,
+        now: String::from_str(alloc, "item,disk,slot\n")?,
+        next: String::from_str(alloc, "item,disk\n")?,
+        plan: String::from_str(alloc, "migration-plan 1\nrounds 257\n")?,
+    };
+    add_items(&mut texts, 257)?;
+    write!(texts.plan, "end\n")?;
+    Ok(texts)
+}
+
+#[test]
+fn a_large_plan_is_not_drilled(rt: HostRuntime) -> Result<(), Fail> {
+    let alloc = rt.alloc();
+    let texts = one_by_one(alloc)?;
+    let cluster = Cluster {
+        disks: texts.disks.as_str(),
+        now: texts.now.as_str(),
+        next: texts.next.as_str(),
+    };
+    let mut folder = planned(alloc, &cluster, texts.plan.as_str(), "", Vec::new(alloc))?;
+    expect(
+        &rt,
+        alloc,
+        &mut folder,
+        DRILL,
+        11,
+        "too large for a drill 257\n",
+    )?;
+    Ok(())
+}

@@ -1,0 +1,179 @@
+-- How a call of the program may end, with the numbers of the statuses and the texts.
+use Rattle.std.specs.Prelude.{ℕ, List, [], ◌∷◌, ◌++◌, codes, slice_index_or, unwrap_or}
+use Rattle.std.specs.List.{flat_map}
+use Rattle.std.specs.Fmt.{decimal}
+use Rattle.mig_base.specs.declared.blames.Blame.{Blame}
+use Rattle.mig_base.specs.declared.blames.Blame.TheVariants as blame
+use Rattle.mig_base.specs.declared.faults.FileKind.{FileKind}
+use Rattle.mig_base.specs.declared.faults.FileKind.TheVariants as file
+use Rattle.mig_base.specs.declared.faults.Why.{Why}
+use Rattle.mig_base.specs.declared.faults.Why.TheVariants as why
+use Rattle.mig_base.specs.InputLists.{Lists}
+use Rattle.mig_base.specs.Texts.{disk_name, item_name}
+use Rattle.mig_mover.specs.declared.faults.MoveFault.{MoveFault}
+use Rattle.mig_mover.specs.declared.faults.MoveFault.TheVariants as fault
+use Rattle.hex.specs.Hex.{encode_lower}
+use Rattle.mig_words.specs.declared.endings.Ending.{Ending}
+use Rattle.mig_words.specs.declared.endings.Ending.TheVariants as ending
+use Rattle.mig_words.specs.declared.endings.TextFile.{TextFile}
+use Rattle.mig_words.specs.declared.endings.TextFile.TheVariants as text_file
+
+-- an outcome, with what its text shows
+pub data Outcome : Type 0 where
+  -- what the command means was done, and this text was put
+  Done : (text : List ℕ) → Outcome
+  -- the plan or its certificate is blamed; the name is that of the item or the disk that the blame names
+  Blamed : (blame : Blame) (name : List ℕ) → Outcome
+  Unlisted : Outcome
+  Refused : (file : FileKind) (row : ℕ) (why : Why) → Outcome
+  FolderFault : Outcome
+  -- the store failed; this had been put before
+  StoreFault : (before : List ℕ) → Outcome
+  -- the command was done, but this text wasn't put whole
+  SinkFault : (text : List ℕ) → Outcome
+  Memory : Outcome
+  -- the journal says that this plan was started, that another was, or that none was
+  Started : Outcome
+  OtherPlan : (kept ours : List ℕ) → Outcome
+  NotStarted : Outcome
+  -- a slot doesn't name its item, or is used that should be free
+  NotThere : (item : List ℕ) → Outcome
+  Occupied : (disk : List ℕ) (slot : ℕ) → Outcome
+  NotSpelled : (file : TextFile) (line : ℕ) → Outcome
+  -- the plan runs, but has this many shifts, more than a drill takes
+  TooLarge : (shifts : ℕ) → Outcome
+  NoFile : (word : List ℕ) → Outcome
+
+-- the outcome of an ending, where the command loads the files of these names
+abbrev pub outcome_of : List (List ℕ) → Ending → Outcome
+outcome_of names (ending.Blamed b name) = Blamed b (unwrap_or name [])
+outcome_of names ending.Unlisted = Unlisted
+outcome_of names (ending.Refused f row w) = Refused f row w
+outcome_of names ending.FolderFault = FolderFault
+outcome_of names ending.StoreFault = StoreFault []
+outcome_of names ending.Memory = Memory
+outcome_of names ending.Started = Started
+outcome_of names (ending.OtherPlan kept ours) = OtherPlan kept ours
+outcome_of names ending.NotStarted = NotStarted
+outcome_of names (ending.NotThere item) = NotThere (unwrap_or item [])
+outcome_of names (ending.Occupied disk slot) = Occupied (unwrap_or disk []) slot
+outcome_of names (ending.NotSpelled f line) = NotSpelled f line
+outcome_of names (ending.TooLarge shifts) = TooLarge shifts
+outcome_of names (ending.NoFile place) = NoFile (slice_index_or names place [])
+
+-- the outcome of a mover's fault
+abbrev pub fault_outcome : Lists → MoveFault → Outcome
+fault_outcome input fault.Store = StoreFault []
+fault_outcome input fault.Started = Started
+fault_outcome input (fault.OtherPlan kept ours) = OtherPlan kept ours
+fault_outcome input fault.NotStarted = NotStarted
+fault_outcome input (fault.NotThere item) = NotThere (item_name input item.0)
+fault_outcome input (fault.Occupied disk slot) = Occupied (disk_name input disk.0) slot
+
+-- the number of the status
+abbrev pub code : Outcome → ℕ
+code (Done text) = 0
+code (Blamed b name) = 1
+code Unlisted = 2
+code (Refused f row w) = 3
+code FolderFault = 4
+code (StoreFault before) = 5
+code (SinkFault text) = 6
+code Memory = 7
+code Started = 8
+code (OtherPlan kept ours) = 8
+code NotStarted = 8
+code (NotThere item) = 9
+code (Occupied disk slot) = 9
+code (NotSpelled f line) = 10
+code (TooLarge shifts) = 11
+code (NoFile word) = 16
+
+-- the pieces of a text, one after the other
+abbrev pub joined : List (List ℕ) → List ℕ
+joined = flat_map (λ piece. piece)
+
+-- the name of the item or the disk that a blame names
+abbrev pub named : Lists → Blame → List ℕ
+named input (blame.NotHere r item) = item_name input item.0
+named input (blame.TwiceInRound r item) = item_name input item.0
+named input (blame.SlotNotFree r item) = item_name input item.0
+named input (blame.OverLimit r disk count) = disk_name input disk.0
+named input (blame.WrongEnd item) = item_name input item.0
+named input (blame.MovedTooOften item count) = item_name input item.0
+named input _ = []
+
+-- two numbers that differ
+abbrev pub kept_counted : ℕ → ℕ → List (List ℕ)
+kept_counted kept counted = codes " kept " ∷ decimal kept ∷ codes " counted " ∷ decimal counted ∷ codes "\n" ∷ []
+
+-- what is wrong with an item in a round
+abbrev pub in_round : List ℕ → ℕ → List ℕ → List (List ℕ)
+in_round what r item = what ∷ codes " round " ∷ decimal r ∷ codes " item " ∷ item ∷ codes "\n" ∷ []
+
+-- what is wrong with a plan or its certificate
+abbrev pub blame_pieces : Blame → List ℕ → List (List ℕ)
+blame_pieces (blame.EmptyRound r) name = codes "empty round " ∷ decimal r ∷ codes "\n" ∷ []
+blame_pieces (blame.NotHere r item) name = in_round (codes "not here") r name
+blame_pieces (blame.TwiceInRound r item) name = in_round (codes "twice in") r name
+blame_pieces (blame.SlotNotFree r item) name = in_round (codes "slot not free") r name
+blame_pieces (blame.OverLimit r disk count) name = codes "over limit round " ∷ decimal r ∷ codes " disk " ∷ name ∷ codes " count " ∷ decimal count ∷ codes "\n" ∷ []
+blame_pieces (blame.WrongEnd item) name = codes "wrong end item " ∷ name ∷ codes "\n" ∷ []
+blame_pieces (blame.MovedTooOften item count) name = codes "moved too often item " ∷ name ∷ codes " count " ∷ decimal count ∷ codes "\n" ∷ []
+blame_pieces (blame.RoundsDiffer kept counted) name = codes "rounds differ" ∷ kept_counted kept counted
+blame_pieces (blame.QuotientDiffers kept counted) name = codes "quotient differs" ∷ kept_counted kept counted
+blame_pieces blame.ClassDiffers name = codes "class differs\n" ∷ []
+blame_pieces (blame.LoadDiffers kept counted) name = codes "load differs" ∷ kept_counted kept counted
+blame_pieces (blame.ValueDiffers kept counted) name = codes "value differs" ∷ kept_counted kept counted
+blame_pieces blame.Memory name = []
+
+-- a file of the input, and why it is refused
+abbrev pub file_word : FileKind → List ℕ
+file_word file.Disks = codes "disks"
+file_word file.Now = codes "now"
+file_word file.Next = codes "next"
+
+abbrev pub cause_text : Why → List ℕ
+cause_text why.BadHeader = codes "bad header"
+cause_text why.BadWidth = codes "bad width"
+cause_text why.BadName = codes "bad name"
+cause_text why.BadNumber = codes "bad number"
+cause_text why.OutOfRange = codes "out of range"
+cause_text why.DuplicateDisk = codes "disk listed twice"
+cause_text why.DuplicateItem = codes "item listed twice"
+cause_text why.UnknownDisk = codes "unknown disk"
+cause_text why.SlotTooHigh = codes "slot too high"
+cause_text why.SlotTaken = codes "slot taken"
+cause_text why.TooManyRows = codes "too many rows"
+cause_text why.TooLong = codes "file too long"
+cause_text why.NotInNow = codes "item not in now"
+cause_text why.NotInNext = codes "item not in next"
+cause_text (why.NoRoom disk needs slots) = joined (codes "no room on " ∷ disk ∷ codes ", needs " ∷ decimal needs ∷ codes ", has " ∷ decimal slots ∷ [])
+
+-- `refused FILE row N: CAUSE`
+abbrev pub refusal_text : FileKind → ℕ → Why → List ℕ
+refusal_text f row w = joined (codes "refused " ∷ file_word f ∷ codes " row " ∷ decimal row ∷ codes ": " ∷ []) ++ cause_text w ++ codes "\n"
+
+-- a text that is no spelling
+abbrev pub text_word : TextFile → List ℕ
+text_word text_file.Plan = codes "plan"
+text_word text_file.Cert = codes "certificate"
+
+-- the text that is put with each outcome
+abbrev pub text_of : Outcome → List ℕ
+text_of (Done text) = text
+text_of (Blamed b name) = joined (blame_pieces b name)
+text_of Unlisted = codes "words not understood\n"
+text_of (Refused f row w) = refusal_text f row w
+text_of FolderFault = codes "folder fault\n"
+text_of (StoreFault before) = before ++ codes "store fault\n"
+text_of (SinkFault text) = text
+text_of Memory = codes "no memory\n"
+text_of Started = codes "journal started\n"
+text_of (OtherPlan kept ours) = joined (codes "journal started with another plan " ∷ encode_lower kept ∷ codes ", ours " ∷ encode_lower ours ∷ codes "\n" ∷ [])
+text_of NotStarted = codes "journal not started\n"
+text_of (NotThere item) = joined (codes "not there " ∷ item ∷ codes "\n" ∷ [])
+text_of (Occupied disk slot) = joined (codes "occupied " ∷ disk ∷ codes " " ∷ decimal slot ∷ codes "\n" ∷ [])
+text_of (NotSpelled f line) = joined (codes "refused " ∷ text_word f ∷ codes " line " ∷ decimal line ∷ codes "\n" ∷ [])
+text_of (TooLarge shifts) = joined (codes "too large for a drill " ∷ decimal shifts ∷ codes "\n" ∷ [])
+text_of (NoFile word) = joined (codes "no file " ∷ word ∷ codes "\n" ∷ [])

@@ -1,0 +1,22 @@
+-- What the putting of a text says.
+use Rattle.std.specs.Prelude.{ℕ, ◌≤◌, List, Result, OnOk, OnErr}
+use Rattle.std.specs.Fmt.{decimal}
+use Rattle.hex.specs.Hex.{encode_lower}
+use Rattle.mig_base.specs.FaultCounts.{Rose}
+use Rattle.mig_io.specs.Held.{SinkState, Extends, ExtendsInPart}
+use Rattle.mig_io.specs.declared.sink.SinkFailed.{SinkFailed}
+use Rattle.mig_words.specs.declared.putting.Part.{Part}
+use Rattle.mig_words.specs.declared.putting.Part.TheVariants.{Text, Number, Hex}
+
+-- a number stands in decimal, and a digest in hexadecimal
+abbrev pub part_text : Part → List ℕ
+part_text (Text text) = text.now
+part_text (Number n) = decimal n
+part_text (Hex digest) = encode_lower digest.now
+
+-- a text that is put in pieces: the sink is extended by all of it, or by a beginning where it fails
+pub record Puts (text : List ℕ) (old new : SinkState) (result : Result (Unit {0}) SinkFailed) : Type 0 where
+  pub extended : OnOk result (Extends text old new)
+  pub in_part : OnErr result (ExtendsInPart text old new)
+  pub later : old.faults ≤ new.faults
+  pub failed : OnErr result (Rose old.faults new.faults)

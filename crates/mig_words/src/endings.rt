@@ -1,0 +1,121 @@
+//! Why a command isn't done.
+ghost use Rattle.std.specs.Prelude.{◌≡◌};
+
+use mig_base::{Blame, FileKind, Name, Why};
+use mig_csv::InputError;
+use mig_io::SaveFailed;
+use std::alloc::{AllocError, AllocFailed};
+
+/// A text that a command reads beside the three files.
+#[derive(Clone, Copy, Debug, PartialEq, Eq)]
+pub enum TextFile {
+    Plan,
+    Cert,
+}
+
+/// Why a command isn't done, with what its text shows.
+#[derive(Clone, Copy, Debug, PartialEq, Eq)]
+pub enum Ending {
+    /// The plan or its certificate is blamed. The name is that of the item or the disk that the blame names, if it names one.
+    Blamed { blame: Blame, name: Option<Name> },
+    /// The words are no command in its listed form.
+    Unlisted,
+    /// The three files stand for no input. Row 0 is the header.
+    Refused { file: FileKind, row: u32, why: Why },
+    /// A load or a save failed.
+    FolderFault,
+    /// The store failed.
+    StoreFault,
+    /// Memory was refused.
+    Memory,
+    /// The journal says that this plan is being carried out, or was; for `fill`, that any is.
+    Started,
+    /// The journal says so of another plan: `kept` is its digest, `ours` that of this plan.
+    OtherPlan { kept: [u8; 32], ours: [u8; 32] },
+    /// The journal says that no plan is being carried out.
+    NotStarted,
+    /// The slot where this item is listed doesn't name it.
+    NotThere { item: Option<Name> },
+    /// A slot of this disk is used that should be free. Slots count from 0.
+    Occupied { disk: Option<Name>, slot: u32 },
+    /// A text is no spelling. Lines count from 1; 0 says that the text is too long.
+    NotSpelled { text: TextFile, line: u32 },
+    /// The plan runs, but has this many shifts, more than a drill takes.
+    TooLarge { shifts: u32 },
+    /// A file isn't there: that of the word with this place among those that the command loads, from 0.
+    NoFile { place: usize },
+}
+
+impl Ending {
+    ghost use Rattle.std.specs.Prelude.{List, ℕ};
+    ghost use Rattle.mig_words.specs.Outcomes.{code, outcome_of};
+
+    /// The number of the status.
+    pub fn code(&self) -> u8
+        ensures { (names : List (List ℕ)) → result ≡ code (outcome_of names self.now) }
+    {
+        match self {
+            Ending::Blamed { blame: _, name: _ } => 1,
+            Ending::Unlisted => 2,
+            Ending::Refused {
+                file: _,
+                row: _,
+                why: _,
+            } => 3,
+            Ending::FolderFault => 4,
+            Ending::StoreFault => 5,
+            Ending::Memory => 7,
+            Ending::Started => 8,
+            Ending::OtherPlan { kept: _, ours: _ } => 8,
+            Ending::NotStarted => 8,
+            Ending::NotThere { item: _ } => 9,
+            Ending::Occupied { disk: _, slot: _ } => 9,
+            Ending::NotSpelled { text: _, line: _ } => 10,
+            Ending::TooLarge { shifts: _ } => 11,
+            Ending::NoFile { place: _ } => 16,
+        }
+    }
+}
+
+impl From<AllocError> for Ending {
+    ghost use Rattle.mig_words.specs.declared.endings.Ending.TheVariants as ending;
+
+    ghost from_gives = { λ _ e. e ≡ ending.Memory };
+
+    fn from(_error: AllocError) -> Self {
+        Ending::Memory
+    }
+}
+
+impl<T: Drop> From<AllocFailed<T>> for Ending {
+    ghost use Rattle.mig_words.specs.declared.endings.Ending.TheVariants as ending;
+
+    ghost from_gives = { λ _ e. e ≡ ending.Memory };
+
+    fn from(_error: AllocFailed<T>) -> Self {
+        Ending::Memory
+    }
+}
+
+impl From<SaveFailed> for Ending {
+    ghost use Rattle.mig_words.specs.declared.endings.Ending.TheVariants as ending;
+
+    ghost from_gives = { λ _ e. e ≡ ending.FolderFault };
+
+    fn from(_error: SaveFailed) -> Self {
+        Ending::FolderFault
+    }
+}
+
+impl From<InputError> for Ending {
+    ghost use Rattle.mig_words.specs.Endings.{ending_of};
+
+    ghost from_gives = { λ error e. e ≡ ending_of error };
+
+    fn from(error: InputError) -> Self {
+        match error {
+            InputError::Refused { file, row, why } => Ending::Refused { file, row, why },
+            InputError::Memory => Ending::Memory,
+        }
+    }
+}

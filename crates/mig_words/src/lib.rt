@@ -1,0 +1,17 @@
+//! Reads the words of a command line, and puts the text with which a command ends.
+#![tactic(auto)]
+
+mod case_words;
+mod endings;
+mod fault_texts;
+mod naming;
+mod putting;
+mod telling;
+mod words;
+
+pub use case_words::{CaseWords, number_in, rehearsal_words};
+pub use endings::{Ending, TextFile};
+pub use naming::{fault_ending, name_in};
+pub use putting::{Part, put_parts};
+pub use telling::{show, show_halted, show_parts, show_rounds, tell};
+pub use words::{Command, PlanFiles, read_words};

@@ -1,0 +1,63 @@
+//! The names of items and disks.
+ghost use Rattle.std.specs.Prelude.{◌≡◌, [], ℕ, List, unwrap_or};
+ghost use Rattle.mig_base.specs.Texts.{disk_name, item_name};
+ghost use Rattle.mig_words.specs.Outcomes.{fault_outcome, named, outcome_of};
+
+use crate::endings::Ending;
+use mig_base::{Blame, DiskId, Input, ItemId, Name};
+use mig_mover::MoveFault;
+
+/// An item's name.
+fn item_in(input: &Input, item: ItemId) -> Option<Name>
+    ensures { unwrap_or result [] ≡ item_name input.now item.0 }
+{
+    input.items().get(item.0 as usize).copied()
+}
+
+/// A disk's name.
+fn disk_in(input: &Input, disk: DiskId) -> Option<Name>
+    ensures { unwrap_or result [] ≡ disk_name input.now disk.0 }
+{
+    match input.disks().get(disk.0 as usize) {
+        Some(disk) => Some(disk.name),
+        None => None,
+    }
+}
+
+/// The name of the item or the disk that a blame names, if it names one.
+pub fn name_in(input: &Input, blame: &Blame) -> Option<Name>
+    ensures { unwrap_or result [] ≡ named input.now blame.now }
+{
+    match blame {
+        Blame::NotHere { round: _, item } => item_in(input, *item),
+        Blame::TwiceInRound { round: _, item } => item_in(input, *item),
+        Blame::SlotNotFree { round: _, item } => item_in(input, *item),
+        Blame::OverLimit {
+            round: _,
+            disk,
+            count: _,
+        } => disk_in(input, *disk),
+        Blame::WrongEnd { item } => item_in(input, *item),
+        Blame::MovedTooOften { item, count: _ } => item_in(input, *item),
+        _ => None,
+    }
+}
+
+/// The ending that a mover's fault is, with the names that its text shows.
+pub fn fault_ending(input: &Input, fault: MoveFault) -> Ending
+    ensures { (names : List (List ℕ)) → outcome_of names result ≡ fault_outcome input.now fault }
+{
+    match fault {
+        MoveFault::Store => Ending::StoreFault,
+        MoveFault::Started => Ending::Started,
+        MoveFault::OtherPlan { kept, ours } => Ending::OtherPlan { kept, ours },
+        MoveFault::NotStarted => Ending::NotStarted,
+        MoveFault::NotThere { item } => Ending::NotThere {
+            item: item_in(input, item),
+        },
+        MoveFault::Occupied { disk, slot } => Ending::Occupied {
+            disk: disk_in(input, disk),
+            slot,
+        },
+    }
+}

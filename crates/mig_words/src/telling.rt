@@ -1,0 +1,249 @@
+//! Puts the text of a command, and answers the number of its status.
+ghost use Rattle.std.specs.Prelude.{◌≡◌, ◌≤◌, ◌⊎◌, ◌∷◌, [], codes, map, slice_index_or, unwrap_or};
+ghost use Rattle.std.specs.Fmt.{decimal};
+ghost use Rattle.mig_base.specs.FaultCounts.{Rose};
+ghost use Rattle.mig_io.specs.Held.{Extends, ExtendsInPart};
+ghost use Rattle.mig_words.specs.Outcomes.{NotThere, Occupied, OtherPlan, TooLarge, code, file_word, joined, outcome_of, refusal_text, text_of, text_word};
+ghost use Rattle.mig_words.specs.Puts.{Puts, part_text};
+
+use crate::endings::{Ending, TextFile};
+use crate::fault_texts::{put_blame, put_cause};
+use crate::putting::Part::{Hex, Number, Text};
+use crate::putting::{Part, put_parts};
+use mig_base::{FileKind, Name, Why};
+use mig_io::{Sink, SinkFailed};
+
+/// The word of a file of the input.
+fn word_of(file: FileKind) -> &'static [u8]
+    ensures { result.now ≡ file_word file }
+{
+    match file {
+        FileKind::Disks => b"disks",
+        FileKind::Now => b"now",
+        FileKind::Next => b"next",
+    }
+}
+
+/// Puts the text of a refused file.
+fn put_refusal<K: Sink>(out: &mut K, file: FileKind, row: u32, why: &Why) -> Result<(), SinkFailed>
+    ensures { Puts (refusal_text file row why.now) (K.state out.old) (K.state out.new) result }
+{
+    put_parts(
+        out,
+        &[
+            Text(b"refused "),
+            Text(word_of(file)),
+            Text(b" row "),
+            Number(row),
+            Text(b": "),
+        ],
+    )?;
+    put_cause(out, why)?;
+    out.put(b"\n")
+}
+
+/// The word of a text.
+fn text_word_of(text: TextFile) -> &'static [u8]
+    ensures { result.now ≡ text_word text }
+{
+    match text {
+        TextFile::Plan => b"plan",
+        TextFile::Cert => b"certificate",
+    }
+}
+
+/// Puts the text of a text that is no spelling.
+fn put_misfit<K: Sink>(out: &mut K, text: TextFile, line: u32) -> Result<(), SinkFailed>
+    ensures { Puts (joined (codes "refused " ∷ text_word text ∷ codes " line " ∷ decimal line ∷ codes "\n" ∷ [])) (K.state out.old) (K.state out.new) result }
+{
+    put_parts(
+        out,
+        &[
+            Text(b"refused "),
+            Text(text_word_of(text)),
+            Text(b" line "),
+            Number(line),
+            Text(b"\n"),
+        ],
+    )
+}
+
+/// Puts the two digests of a journal that names another plan.
+fn put_other_plan<'a, K: Sink>(
+    out: &mut K,
+    kept: &'a [u8; 32],
+    ours: &'a [u8; 32],
+) -> Result<(), SinkFailed>
+    ensures { Puts (text_of (OtherPlan kept.now ours.now)) (K.state out.old) (K.state out.new) result }
+{
+    put_parts(
+        out,
+        &[
+            Text(b"journal started with another plan "),
+            Hex(kept),
+            Text(b", ours "),
+            Hex(ours),
+            Text(b"\n"),
+        ],
+    )
+}
+
+/// Puts the item that a slot doesn't name.
+fn put_not_there<K: Sink>(out: &mut K, item: &[u8]) -> Result<(), SinkFailed>
+    ensures { Puts (text_of (NotThere item.now)) (K.state out.old) (K.state out.new) result }
+{
+    put_parts(out, &[Text(b"not there "), Text(item), Text(b"\n")])
+}
+
+/// Puts the slot that is used.
+fn put_occupied<K: Sink>(out: &mut K, disk: &[u8], slot: u32) -> Result<(), SinkFailed>
+    ensures { Puts (text_of (Occupied disk.now slot)) (K.state out.old) (K.state out.new) result }
+{
+    put_parts(
+        out,
+        &[
+            Text(b"occupied "),
+            Text(disk),
+            Text(b" "),
+            Number(slot),
+            Text(b"\n"),
+        ],
+    )
+}
+
+/// Puts how many shifts a plan has that is too large for a drill.
+fn put_too_large<K: Sink>(out: &mut K, shifts: u32) -> Result<(), SinkFailed>
+    ensures { Puts (text_of (TooLarge shifts)) (K.state out.old) (K.state out.new) result }
+{
+    put_parts(
+        out,
+        &[Text(b"too large for a drill "), Number(shifts), Text(b"\n")],
+    )
+}
+
+/// The bytes of a name; none where there is no name.
+fn name_bytes(name: &Option<Name>) -> &[u8]
+    ensures { result.now ≡ unwrap_or name.now [] }
+{
+    match name {
+        Some(name) => name.bytes(),
+        None => b"",
+    }
+}
+
+/// The name at a place; no text where there is none.
+fn name_at<'a>(names: &[&'a str], place: usize) -> &'a str
+    ensures { result.now ≡ slice_index_or (map (λ n. n.now) names.now) place [] }
+{
+    if place < names.len() {
+        names[place]
+    } else {
+        ""
+    }
+}
+
+/// Puts the text of an ending of a command that loads the files of these names.
+fn put_text<K: Sink>(out: &mut K, ending: &Ending, names: &[&str]) -> Result<(), SinkFailed>
+    ensures { Puts (text_of (outcome_of (map (λ n. n.now) names.now) ending.now)) (K.state out.old) (K.state out.new) result }
+{
+    match ending {
+        Ending::Blamed { blame, name } => put_blame(out, blame, name_bytes(name)),
+        Ending::Unlisted => out.put(b"words not understood\n"),
+        Ending::Refused { file, row, why } => put_refusal(out, *file, *row, why),
+        Ending::FolderFault => out.put(b"folder fault\n"),
+        Ending::StoreFault => out.put(b"store fault\n"),
+        Ending::Memory => out.put(b"no memory\n"),
+        Ending::Started => out.put(b"journal started\n"),
+        Ending::OtherPlan { kept, ours } => put_other_plan(out, kept, ours),
+        Ending::NotStarted => out.put(b"journal not started\n"),
+        Ending::NotThere { item } => put_not_there(out, name_bytes(item)),
+        Ending::Occupied { disk, slot } => put_occupied(out, name_bytes(disk), *slot),
+        Ending::NotSpelled { text, line } => put_misfit(out, *text, *line),
+        Ending::TooLarge { shifts } => put_too_large(out, *shifts),
+        Ending::NoFile { place } => {
+            let word = name_at(names, *place);
+            put_parts(
+                out,
+                &[Text(b"no file "), Text(word.as_bytes()), Text(b"\n")],
+            )
+        }
+    }
+}
+
+/// Puts the text of an ending of a command that loads the files of these names, and answers the number of its status.
+/// A fault of the sink ends the text there.
+pub fn tell<K: Sink>(out: &mut K, ending: Ending, names: &[&str]) -> u8
+    ensures status { result ≡ code (outcome_of (map (λ n. n.now) names.now) ending) }
+    ensures begun { ExtendsInPart (text_of (outcome_of (map (λ n. n.now) names.now) ending)) (K.state out.old) (K.state out.new) }
+    ensures whole { (Rose (K.state out.old).faults (K.state out.new).faults → ⊥) → Extends (text_of (outcome_of (map (λ n. n.now) names.now) ending)) (K.state out.old) (K.state out.new) }
+    ensures later { (K.state out.old).faults ≤ (K.state out.new).faults }
+{
+    let _ = put_text(out, &ending, names);
+    ending.code()
+}
+
+/// Puts the text of a command that is done, and answers the number of the status: 0, or 6 where the sink fails.
+pub fn show<K: Sink>(out: &mut K, text: &[u8]) -> u8
+    ensures status { (result ≡ 0) ⊎ ((result ≡ 6) × Rose (K.state out.old).faults (K.state out.new).faults) }
+    ensures begun { ExtendsInPart text.now (K.state out.old) (K.state out.new) }
+    ensures done { result ≡ 0 → Extends text.now (K.state out.old) (K.state out.new) }
+    ensures later { (K.state out.old).faults ≤ (K.state out.new).faults }
+{
+    match out.put(text) {
+        Ok(()) => 0,
+        Err(SinkFailed) => 6,
+    }
+}
+
+/// The same of a text that is put part by part.
+pub fn show_parts<K: Sink>(out: &mut K, parts: &[Part<'_>]) -> u8
+    ensures status { (result ≡ 0) ⊎ ((result ≡ 6) × Rose (K.state out.old).faults (K.state out.new).faults) }
+    ensures begun { ExtendsInPart (joined (map part_text parts.now)) (K.state out.old) (K.state out.new) }
+    ensures done { result ≡ 0 → Extends (joined (map part_text parts.now)) (K.state out.old) (K.state out.new) }
+    ensures later { (K.state out.old).faults ≤ (K.state out.new).faults }
+{
+    if put_parts(out, parts).is_err() {
+        return 6;
+    }
+    0
+}
+
+/// Puts how many rounds a plan that is carried out has, and how many of them were found done, and answers the number of
+/// the status: 0, or 6 where the sink fails.
+pub fn show_rounds<K: Sink>(out: &mut K, rounds: u32, found: u32) -> u8
+    ensures status { (result ≡ 0) ⊎ ((result ≡ 6) × Rose (K.state out.old).faults (K.state out.new).faults) }
+    ensures begun { ExtendsInPart (joined (codes "done " ∷ decimal rounds ∷ codes " rounds, found " ∷ decimal found ∷ codes "\n" ∷ [])) (K.state out.old) (K.state out.new) }
+    ensures done { result ≡ 0 → Extends (joined (codes "done " ∷ decimal rounds ∷ codes " rounds, found " ∷ decimal found ∷ codes "\n" ∷ [])) (K.state out.old) (K.state out.new) }
+    ensures later { (K.state out.old).faults ≤ (K.state out.new).faults }
+{
+    show_parts(
+        out,
+        &[
+            Text(b"done "),
+            Number(rounds),
+            Text(b" rounds, found "),
+            Number(found),
+            Text(b"\n"),
+        ],
+    )
+}
+
+/// Puts after how many rounds a plan is closed, and how many it has, and answers the number of the status: 0, or 6 where
+/// the sink fails.
+pub fn show_halted<K: Sink>(out: &mut K, rounds: u32, found: u32) -> u8
+    ensures status { (result ≡ 0) ⊎ ((result ≡ 6) × Rose (K.state out.old).faults (K.state out.new).faults) }
+    ensures begun { ExtendsInPart (joined (codes "halted after " ∷ decimal found ∷ codes " of " ∷ decimal rounds ∷ codes "\n" ∷ [])) (K.state out.old) (K.state out.new) }
+    ensures done { result ≡ 0 → Extends (joined (codes "halted after " ∷ decimal found ∷ codes " of " ∷ decimal rounds ∷ codes "\n" ∷ [])) (K.state out.old) (K.state out.new) }
+    ensures later { (K.state out.old).faults ≤ (K.state out.new).faults }
+{
+    show_parts(
+        out,
+        &[
+            Text(b"halted after "),
+            Number(found),
+            Text(b" of "),
+            Number(rounds),
+            Text(b"\n"),
+        ],
+    )
+}

@@ -1,0 +1,216 @@
+//! Reads the words of a command line.
+ghost use Rattle.std.specs.List.{AllByRecursion};
+ghost use Rattle.std.specs.Prelude.{◌≡◌, ◌↔◌, ℕ, List, ◌∷◌, [], IsTrue, MatchOption, length, map};
+ghost use Rattle.mig_words.specs.Commands.{form_of};
+ghost use Rattle.mig_words.specs.Words.{DiffersFrom, Form, Halt, IsFileWord, IsListed, Plan, Rehearse, WritesApart, texts};
+
+/// The words that name the three files, and that of a plan.
+#[derive(Clone, Copy)]
+pub struct PlanFiles<'a> {
+    pub disks: &'a str,
+    pub now: &'a str,
+    pub next: &'a str,
+    pub plan: &'a str,
+}
+
+/// A command over files, with the words that name them.
+#[derive(Clone, Copy)]
+pub enum Command<'a> {
+    Plan {
+        files: PlanFiles<'a>,
+        cert: &'a str,
+    },
+    Check {
+        files: PlanFiles<'a>,
+        cert: &'a str,
+    },
+    After {
+        files: PlanFiles<'a>,
+    },
+    Fill {
+        disks: &'a str,
+        now: &'a str,
+    },
+    Audit {
+        disks: &'a str,
+        now: &'a str,
+    },
+    Move {
+        files: PlanFiles<'a>,
+    },
+    Resume {
+        files: PlanFiles<'a>,
+    },
+    Halt {
+        files: PlanFiles<'a>,
+        layout: &'a str,
+    },
+    Drill {
+        files: PlanFiles<'a>,
+    },
+}
+
+/// Whether a word may name a file.
+fn is_file_word(word: &str) -> bool
+    ensures { IsTrue result ↔ IsFileWord word.now }
+{
+    let bytes = word.as_bytes();
+    !bytes.is_empty()
+        && bytes.len() <= 255
+        && !bytes.ends_with(b".disk")
+        && !bytes.ends_with(b".mig")
+}
+
+/// Whether each word may name a file.
+fn are_file_words(words: &[&str]) -> bool
+    ensures { IsTrue result ↔ AllByRecursion IsFileWord (map (λ w. w.now) words.now) }
+{
+    for word in words {
+        if !is_file_word(word) {
+            return false;
+        }
+    }
+    true
+}
+
+/// Whether the word is none of the others.
+fn differs_from(word: &str, others: &[&str]) -> bool
+    ensures { IsTrue result ↔ DiffersFrom word.now (map (λ w. w.now) others.now) }
+{
+    for other in others {
+        if *other == word {
+            return false;
+        }
+    }
+    true
+}
+
+/// Whether the two files that `plan` writes differ from all its others.
+fn writes_apart(files: PlanFiles<'_>, cert: &str) -> bool
+    ensures { IsTrue result ↔ WritesApart (Plan files.entry.disks.now files.entry.now.now files.entry.next.now files.entry.plan.now cert.now) }
+{
+    differs_from(files.plan, &[files.disks, files.now, files.next, cert])
+        && differs_from(cert, &[files.disks, files.now, files.next])
+}
+
+/// Whether the file that `halt` writes differs from all its others.
+fn saves_apart(files: PlanFiles<'_>, layout: &str) -> bool
+    ensures { IsTrue result ↔ WritesApart (Halt files.entry.disks.now files.entry.now.now files.entry.next.now files.entry.plan.now layout.now) }
+{
+    differs_from(layout, &[files.disks, files.now, files.next, files.plan])
+}
+
+/// The command over two files that three words are, if they are one in its listed form.
+fn over_two_files<'a>(command: &str, disks: &'a str, now: &'a str) -> Option<Command<'a>>
+    ensures { MatchOption result
+        ((form : Form) → IsListed (command.now ∷ disks.now ∷ now.now ∷ []) form → ⊥)
+        (λ read. IsListed (command.now ∷ disks.now ∷ now.now ∷ []) (form_of read)) }
+{
+    if !are_file_words(&[disks, now]) {
+        return None;
+    }
+    match command {
+        "fill" => Some(Command::Fill { disks, now }),
+        "audit" => Some(Command::Audit { disks, now }),
+        _ => None,
+    }
+}
+
+/// The command over four files that five words are, if they are one in its listed form.
+fn over_four_files<'a>(command: &str, files: PlanFiles<'a>) -> Option<Command<'a>>
+    ensures { MatchOption result
+        ((form : Form) → IsListed (command.now ∷ files.entry.disks.now ∷ files.entry.now.now ∷ files.entry.next.now ∷ files.entry.plan.now ∷ []) form → ⊥)
+        (λ read. IsListed (command.now ∷ files.entry.disks.now ∷ files.entry.now.now ∷ files.entry.next.now ∷ files.entry.plan.now ∷ []) (form_of read)) }
+{
+    if !are_file_words(&[files.disks, files.now, files.next, files.plan]) {
+        return None;
+    }
+    match command {
+        "after" => Some(Command::After { files }),
+        "move" => Some(Command::Move { files }),
+        "resume" => Some(Command::Resume { files }),
+        "drill" => Some(Command::Drill { files }),
+        _ => None,
+    }
+}
+
+/// The command over five files that six words are, if they are one in its listed form.
+fn over_five_files<'a>(command: &str, files: PlanFiles<'a>, last: &'a str) -> Option<Command<'a>>
+    ensures { MatchOption result
+        ((form : Form) → IsListed (command.now ∷ files.entry.disks.now ∷ files.entry.now.now ∷ files.entry.next.now ∷ files.entry.plan.now ∷ last.now ∷ []) form → ⊥)
+        (λ read. IsListed (command.now ∷ files.entry.disks.now ∷ files.entry.now.now ∷ files.entry.next.now ∷ files.entry.plan.now ∷ last.now ∷ []) (form_of read)) }
+{
+    if !are_file_words(&[files.disks, files.now, files.next, files.plan, last]) {
+        return None;
+    }
+    match command {
+        "plan" if writes_apart(files, last) => Some(Command::Plan { files, cert: last }),
+        "check" => Some(Command::Check { files, cert: last }),
+        "halt" if saves_apart(files, last) => Some(Command::Halt {
+            files,
+            layout: last,
+        }),
+        _ => None,
+    }
+}
+
+/// The command that three words are, if they are one in its listed form.
+fn three_words(words: &[String]) -> Option<Command<'_>>
+    ensures { MatchOption result
+        (length words.now ≡ 3 → (form : Form) → IsListed (texts words.now) form → ⊥)
+        (λ command. IsListed (texts words.now) (form_of command)) }
+{
+    let [command, disks, now] = words else {
+        return None;
+    };
+    over_two_files(command.as_str(), disks.as_str(), now.as_str())
+}
+
+/// The command that five words are, if they are one in its listed form.
+fn five_words(words: &[String]) -> Option<Command<'_>>
+    ensures { MatchOption result
+        (length words.now ≡ 5 → (form : Form) → IsListed (texts words.now) form → ⊥)
+        (λ command. IsListed (texts words.now) (form_of command)) }
+{
+    let [command, disks, now, next, plan] = words else {
+        return None;
+    };
+    let files = PlanFiles {
+        disks: disks.as_str(),
+        now: now.as_str(),
+        next: next.as_str(),
+        plan: plan.as_str(),
+    };
+    over_four_files(command.as_str(), files)
+}
+
+/// The command that six words are, if they are one in its listed form.
+fn six_words(words: &[String]) -> Option<Command<'_>>
+    ensures { MatchOption result
+        (length words.now ≡ 6 → (form : Form) → IsListed (texts words.now) form → ⊥)
+        (λ command. IsListed (texts words.now) (form_of command)) }
+{
+    let [command, disks, now, next, plan, last] = words else {
+        return None;
+    };
+    let files = PlanFiles {
+        disks: disks.as_str(),
+        now: now.as_str(),
+        next: next.as_str(),
+        plan: plan.as_str(),
+    };
+    over_five_files(command.as_str(), files, last.as_str())
+}
+
+/// The command over files that the words are, if they are one in its listed form. They are not those of a rehearsal.
+pub fn read_words(words: &[String]) -> Option<Command<'_>>
+    requires { (disks : List ℕ) (per_pair : List ℕ) (limit : List ℕ) → IsListed (texts words.now) (Rehearse disks per_pair limit) → ⊥ }
+    ensures { MatchOption result ((form : Form) → IsListed (texts words.now) form → ⊥) (λ command. IsListed (texts words.now) (form_of command)) }
+{
+    match words.len() {
+        3 => three_words(words),
+        5 => five_words(words),
+        6 => six_words(words),
+        _ => None,
+    }
+}
