@@ -5,5 +5,4 @@ pub mod LayoutLists
 pub mod MoveCounts
 pub mod Repeats
 pub mod Rooms
-pub mod SpotOrder
 pub mod TakenSpots

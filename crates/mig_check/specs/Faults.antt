@@ -3,12 +3,12 @@ use Rattle.std.specs.Prelude.{◌≡◌, ◌≢◌, List, length}
 use Rattle.mig_base.specs.declared.ids.Shift.{Shift}
 use Rattle.mig_base.specs.declared.certs.Cert.{Cert}
 use Rattle.mig_base.specs.declared.blames.Blame.{Blame}
-use Rattle.mig_base.specs.declared.blames.Blame.TheVariants.{EmptyRound, NotHere, TwiceInRound, SlotNotFree, OverLimit, WrongEnd, MovedTooOften, RoundsDiffer, QuotientDiffers, ClassDiffers, LoadDiffers, ValueDiffers, Memory}
+use Rattle.mig_base.specs.declared.blames.Blame.TheVariants.{MovedTooOften, RoundsDiffer, QuotientDiffers, ClassDiffers, LoadDiffers, ValueDiffers, Memory}
 use Rattle.mig_base.specs.InputLists.{Lists}
 use Rattle.mig_base.specs.Transfers.{transfers}
 use Rattle.mig_base.specs.Bounding.{bound_value, class_of, counted_load, counted_value, quotient, stated_load}
 use Rattle.mig_base.specs.Running.{shift_count}
-use Rattle.mig_base.specs.Judging.{Differ, FirstBlame, IsLeast, IsMovedTooOften}
+use Rattle.mig_base.specs.Judging.{Differ, IsLeast, IsMovedTooOften}
 use Rattle.mig_check.specs.declared.counted.Shown.{Shown}
 
 -- what is wrong behind that: an item that is moved too often

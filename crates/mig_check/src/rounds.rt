@@ -1,6 +1,7 @@
 //! The rounds of a plan, one after another.
-ghost use Rattle.std.specs.Prelude.{◌≡◌, ℕ, ◌+◌, ◌<◌, ◌≤◌, suc, All, IfErr, IfOk, OnOk, length};
+ghost use Rattle.std.specs.Prelude.{◌≡◌, ◌≢◌, ℕ, ◌+◌, ◌<◌, ◌≤◌, suc, All, AllPairs, IfErr, IfOk, OnOk, Some, length};
 ghost use Rattle.mig_base.specs.Checks.{RoundBlame};
+ghost use Rattle.mig_base.specs.InputLists.{Lists};
 ghost use Rattle.mig_base.specs.Judging.{IsRunBlame};
 ghost use Rattle.mig_base.specs.Layouts.{At, IsLayout, IsListOf, round_at};
 ghost use Rattle.mig_base.specs.Running.{IsLegal, PlanFits, ShiftFits};
@@ -36,6 +37,36 @@ impl Tables {
     }
 }
 
+/// Checks the items of a round, which has this number, against where they are: there is a shift, each
+/// leaves its item's spot, and no two have one item. Items that the round shifts get its number.
+fn check_items(spots: &[Spot], seen: &mut [u32], number: u32, round: &[Shift]) -> Result<(), Blame>
+    requires items { All (λ s. s.item.0 < length spots.now) round.now }
+    requires len { length seen.old ≡ length spots.now }
+    requires earlier { All (λ n. n < number) seen.old }
+    ensures some { OnOk result (0 < length round.now) }
+    ensures leaves { OnOk result (All (λ s. layout_of spots.now s.item.0 ≡ Some s.from) round.now) }
+    ensures once { OnOk result (AllPairs (λ s t. s.item ≢ t.item) round.now) }
+    ensures blame { (input : Lists) → IfErr result (RoundBlame input (layout_of spots.now) round.now number) }
+    ensures later { All (λ n. n ≤ number) seen.new }
+{
+    if round.is_empty() {
+        return Err(Blame::EmptyRound { round: number });
+    }
+    if let Some(item) = find_elsewhere(spots, round) {
+        return Err(Blame::NotHere {
+            round: number,
+            item,
+        });
+    }
+    if let Some(item) = find_repeat(seen, number, round) {
+        return Err(Blame::TwiceInRound {
+            round: number,
+            item,
+        });
+    }
+    Ok(())
+}
+
 /// Checks a round, which has this number, against the layout before it.
 fn check_round(
     input: &Input,
@@ -60,21 +91,7 @@ fn check_round(
     ensures lens { (length tables.new.seen.items ≡ length input.now.items)
         × (length tables.new.counts.items ≡ length input.now.disks) }
 {
-    if round.is_empty() {
-        return Err(Blame::EmptyRound { round: number });
-    }
-    if let Some(item) = find_elsewhere(spots, round) {
-        return Err(Blame::NotHere {
-            round: number,
-            item,
-        });
-    }
-    if let Some(item) = find_repeat(&mut tables.seen, number, round) {
-        return Err(Blame::TwiceInRound {
-            round: number,
-            item,
-        });
-    }
+    check_items(spots, &mut tables.seen, number, round)?;
     match check_room(input, spots, &mut tables.taken, round) {
         Err(_) => return Err(Blame::Memory),
         Ok(Some(item)) => {

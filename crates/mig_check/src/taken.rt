@@ -7,22 +7,22 @@ ghost use Rattle.mig_check.specs.SpotSets.{has_spot};
 
 use mig_base::Spot;
 use std::alloc::{AllocError, Global};
-use std::collections::BTreeSet;
+use std::collections::HashSet;
 
 /// The spots that are taken.
 #[derive(Drop)]
 pub struct Taken {
-    spots: BTreeSet<Spot>,
+    spots: HashSet<Spot>,
 }
 
 impl Taken {
-    /// No spot is taken.
-    pub fn new(alloc: Global) -> Taken
-        ensures { (t : Spot) → has_spot result t ≡ false }
+    /// No spot is taken, and there is room for this many.
+    pub fn with_capacity(alloc: Global, capacity: usize) -> Result<Taken, AllocError>
+        ensures { IfOk result (λ taken. (t : Spot) → has_spot taken t ≡ false) }
     {
-        Taken {
-            spots: BTreeSet::new(alloc),
-        }
+        Ok(Taken {
+            spots: HashSet::with_capacity(alloc, capacity)?,
+        })
     }
 
     /// Takes the spot, and says whether it was free.
@@ -45,7 +45,7 @@ impl Taken {
 pub fn take_all(alloc: Global, spots: &[Spot]) -> Result<Taken, AllocError>
     ensures { IfOk result (λ taken. IsTakenSet (has_spot taken) (layout_of spots.now)) }
 {
-    let mut taken = Taken::new(alloc);
+    let mut taken = Taken::with_capacity(alloc, spots.len())?;
     for spot in spots {
         let _free = taken.insert(*spot)?;
     }

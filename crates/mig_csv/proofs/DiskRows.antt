@@ -1,7 +1,6 @@
-use Rattle.std.proofs.Common.{◌≡◌, ◌&&◌, ◌∙◌, IsTrue, Bool, false, nat_eq, sym, ◌<◌, ◌∷◌, [], zero, suc, ℕ, true, List, Contains, Option, Some, None, MatchOption, is_some, slice_get, length, arith, refl}
+use Rattle.std.proofs.Common.{◌≡◌, false, sym, ◌<◌, ◌∷◌, [], zero, suc, ℕ, true, List, Contains, Option, Some, None, MatchOption, is_some, slice_get, length, arith, refl}
 use Rattle.std.proofs.lemmas.Bool.{false≢true}
 use Rattle.std.proofs.lemmas.Option.{get_or_from_slice_get, slice_get_within}
-use Rattle.std.specs.Cmp.Lexicographic.{pointwise, same_text, nat_list_eq_equiv}
 use Rattle.csv.specs.Records.{field_at}
 use Rattle.mig_base.specs.declared.limits.TheConstants.{MAX_DISKS}
 use Rattle.mig_base.specs.Refusals.{DisksRowFault, rank_of}

@@ -1,9 +1,9 @@
 -- The rows of a next file.
-use Rattle.std.proofs.Common.{◌≡◌, ◌≢◌, ◌⊎◌, ◌≤◌, ◌<◌, ◌+◌, ◌++◌, ◌∷◌, [], ℕ, zero, suc, Option, Some, None, List, Contains, All, get_or, length, map, replicate, slice_get, inl, inr, arith, refl, ap, sym, subst, ◌∙◌, set, append_assoc, Bool, true, false, ◌&&◌, IsTrue, nat_eq}
+use Rattle.std.proofs.Common.{◌≡◌, ◌≢◌, ◌⊎◌, ◌≤◌, ◌<◌, ◌+◌, ◌++◌, ◌∷◌, [], ℕ, zero, suc, Option, Some, None, List, Contains, All, get_or, length, map, replicate, slice_get, inl, inr, arith, refl, ap, sym, subst, ◌∙◌, set, append_assoc}
 use Rattle.std.specs.List.{Any}
+use Rattle.std.specs.Prelude.{MatchOption}
 use Rattle.std.specs.Option.{IsSomeAnd}
-use Rattle.std.proofs.lemmas.Bool.{cases_lt, cases_eq, false≢true}
-use Rattle.std.specs.Cmp.Lexicographic.{pointwise, same_text, nat_list_eq_equiv}
+use Rattle.std.proofs.lemmas.Bool.{cases_lt, cases_eq}
 use Rattle.std.proofs.lemmas.List.{append-nil, length-append, length-map, length-set, map-append, get_or-set_same, get_or-set_other}
 use Rattle.std.proofs.lemmas.List.Elements.{All-append}
 use Rattle.std.proofs.lemmas.Option.{get_or_from_slice_get, slice_get-get_or, slice_get_past, slice_get_within}
@@ -20,7 +20,7 @@ use Rattle.mig_base.specs.declared.inputs.Disk.{Disk}
 use Rattle.mig_base.proofs.Listed.{one_place, some_and}
 use Rattle.mig_csv.proofs.DiskFiles.{OfRows, Sound, Sound-nil, Sound-push, first_fault, no_fault}
 use Rattle.mig_csv.proofs.ItemRows.{Contains-at}
-use Rattle.mig_csv.specs.Lists.{AreNextOf, IsNextOf}
+use Rattle.mig_csv.specs.Lists.{AreNextOf, AreSeen, IsNextOf}
 use Rattle.mig_csv.specs.Refusals.{NextFault}
 
 -- no cause before the place n in the order of causes holds of a row of the next file
@@ -163,55 +163,85 @@ next_has disks present before r w = NextRowFault disks present (map first before
 next_rows : (disks : List Disk) (present : List (List ℕ)) → OfRows (next_has disks present)
 next_rows disks present = record { long = λ before r h. h; head = λ before r h. h }
 
+-- each row that is done names an item
+items_of : (disks : List Disk) (items : List (List ℕ)) (next : List (Option DiskId)) (rs : List Row) → All (IsNextOf disks items next) rs → (n : List ℕ) → Contains (map first rs) n → Contains items n
+items_of disks items next [] a n c = absurd (omega (arith, c.1))
+items_of disks items next (r ∷ rs) a n (zero, lt, is) = let h = a 0 r (omega arith) in subst (λ m. Contains items m) is (Contains-at items h.0 (first r) h.2)
+items_of disks items next (r ∷ rs) a n (suc k, lt, is) = items_of disks items next rs (λ j d l. a (suc j) d (omega (arith, l))) n (k, omega (arith, lt), is)
+
 -- the records of the file are its header, rows that are done and those that are left
-pub record WaysSoFar (bytes : List ℕ) (disks : List Disk) (present : List (List ℕ)) (left : List Row) (seen : List (List ℕ)) (next : List (Option DiskId)) : Type 0 where
+pub record WaysSoFar (bytes : List ℕ) (disks : List Disk) (present : List (List ℕ)) (left : List Row) (seen : ℕ) (next : List (Option DiskId)) : Type 0 where
   pub short : length bytes ≤ MAX_FILE_BYTES
   pub done : List Row
   pub records : records_of bytes ≡ header_of file.Next ∷ (done ++ left)
   pub sound : Sound (next_has disks present) done
-  pub few : length done ≤ MAX_ITEMS
-  pub named : seen ≡ map first done
+  pub few : seen ≤ MAX_ITEMS
+  pub count : seen ≡ length done
   pub ways : AreNextOf disks present done next
 
 pub WaysSoFar-start : {bytes : List ℕ} {disks : List Disk} {present : List (List ℕ)} (left : List Row) → length bytes ≤ MAX_FILE_BYTES → records_of bytes ≡ header_of file.Next ∷ left
-    → WaysSoFar bytes disks present left [] (replicate (length present) unknown)
+    → WaysSoFar bytes disks present left 0 (replicate (length present) unknown)
 WaysSoFar-start {bytes} {disks} {present} left short e = record {
   short = short;
   done = [];
   records = e;
   sound = Sound-nil (next_has disks present);
   few = omega arith;
-  named = refl;
+  count = refl;
   ways = AreNextOf-start disks present;
 }
 
-pub WaysSoFar-end : {bytes : List ℕ} {disks : List Disk} {present : List (List ℕ)} {left : List Row} {seen : List (List ℕ)} {next : List (Option DiskId)}
+pub WaysSoFar-end : {bytes : List ℕ} {disks : List Disk} {present : List (List ℕ)} {left : List Row} {seen : ℕ} {next : List (Option DiskId)}
     → WaysSoFar bytes disks present left seen next → left ≡ [] → (n : ℕ) (w : Why) → ¬ (NextFault disks present bytes n w)
 WaysSoFar-end {bytes} {disks} {present} s e = no_fault (next_has disks present) (header_of file.Next) bytes s.done s.short (rw (e, append-nil) at s.records) s.sound
 
-pub WaysSoFar-ways : {bytes : List ℕ} {disks : List Disk} {present : List (List ℕ)} {left : List Row} {seen : List (List ℕ)} {next : List (Option DiskId)}
+pub WaysSoFar-ways : {bytes : List ℕ} {disks : List Disk} {present : List (List ℕ)} {left : List Row} {seen : ℕ} {next : List (Option DiskId)}
     → WaysSoFar bytes disks present left seen next → left ≡ [] → AreNextOf disks present (rows_of bytes) next
 WaysSoFar-ways {bytes} {disks} {present} {left} {seen} {next} s e = let rows : rows_of bytes ≡ s.done = rw (s.records, e, append-nil) refl in subst (λ rs. AreNextOf disks present rs next) (sym rows) s.ways
 
-pub WaysSoFar-push : {bytes : List ℕ} {disks : List Disk} {present : List (List ℕ)} {left : List Row} {seen : List (List ℕ)} {next : List (Option DiskId)}
-    → WaysSoFar bytes disks present left seen next → (r : Row) (rest : List Row) (name : List ℕ) (k : ℕ) (v : DiskId) → left ≡ r ∷ rest → name ≡ first r → AreDifferent present
-    → slice_get present k ≡ Some (first r) → IsSomeAnd (slice_get disks v.0) (λ d. d.name ≡ second r) → ((w : Why) → ¬ (NextRowFault disks present seen r w))
-    → WaysSoFar bytes disks present rest (seen ++ name ∷ []) (set next k (Some v))
-WaysSoFar-push {bytes} {disks} {present} {left} {seen} {next} s r rest name k v e is ne at disk new =
-    let new_here : (w : Why) → ¬ (next_has disks present s.done r w) = rw s.named at new in
-    let room : ¬ (MAX_ITEMS ≤ length seen) = new why.TooManyRows in
+-- the names of the rows that are done
+pub WaysSoFar-seen : {bytes : List ℕ} {disks : List Disk} {present : List (List ℕ)} {left : List Row} {seen : ℕ} {next : List (Option DiskId)}
+    → (s : WaysSoFar bytes disks present left seen next) → AreSeen present next seen (map first s.done)
+WaysSoFar-seen {bytes} {disks} {present} {left} {seen} {next} s = record {
+  count = length-map s.done first ∙ sym s.count;
+  listed = s.ways.listed;
+  missing = s.ways.missing;
+  there = items_of disks present next s.done s.ways.named;
+}
+
+pub WaysSoFar-push : {bytes : List ℕ} {disks : List Disk} {present : List (List ℕ)} {left : List Row} {seen : ℕ} {next : List (Option DiskId)}
+    → WaysSoFar bytes disks present left seen next → (r : Row) (rest : List Row) (k : ℕ) (v : DiskId) → left ≡ r ∷ rest → AreDifferent present
+    → slice_get present k ≡ Some (first r) → IsSomeAnd (slice_get disks v.0) (λ d. d.name ≡ second r) → ((names : List (List ℕ)) → AreSeen present next seen names → (w : Why) → ¬ (NextRowFault disks present names r w))
+    → WaysSoFar bytes disks present rest (seen + 1) (set next k (Some v))
+WaysSoFar-push {bytes} {disks} {present} {left} {seen} {next} s r rest k v e ne at disk new =
+    let new_here : (w : Why) → ¬ (next_has disks present s.done r w) = new (map first s.done) (WaysSoFar-seen s) in
+    let room : ¬ (MAX_ITEMS ≤ length (map first s.done)) = new_here why.TooManyRows in
+    let n : length (map first s.done) ≡ seen = length-map s.done first ∙ sym s.count in
     record {
       short = s.short;
       done = s.done ++ r ∷ [];
       records = rw (append_assoc, ← e) s.records;
       sound = Sound-push (next_has disks present) s.done r s.sound new_here;
-      few = let n : length seen ≡ length s.done = rw (s.named, length-map) refl in omega (arith, length-append s.done (r ∷ []));
-      named = rw (is, map-append, ← s.named) refl;
+      few = omega (arith, room, n);
+      count = omega (arith, s.count, length-append s.done (r ∷ []));
       ways = AreNextOf-push disks present s.done next r k v s.ways ne at disk (new_here why.DuplicateItem);
     }
 
-pub WaysSoFar-fault : {bytes : List ℕ} {disks : List Disk} {present : List (List ℕ)} {left : List Row} {seen : List (List ℕ)} {next : List (Option DiskId)}
-    → WaysSoFar bytes disks present left seen next → (r : Row) (rest : List Row) (w : Why) → left ≡ r ∷ rest → IsFirstCause (NextRowFault disks present seen r) w
-    → IsFirstFault (NextFault disks present bytes) (length seen + 1) w
+pub WaysSoFar-fault : {bytes : List ℕ} {disks : List Disk} {present : List (List ℕ)} {left : List Row} {seen : ℕ} {next : List (Option DiskId)}
+    → WaysSoFar bytes disks present left seen next → (r : Row) (rest : List Row) (w : Why) → left ≡ r ∷ rest → ((names : List (List ℕ)) → AreSeen present next seen names → IsFirstCause (NextRowFault disks present names r) w)
+    → IsFirstFault (NextFault disks present bytes) (seen + 1) w
 WaysSoFar-fault {bytes} {disks} {present} {left} {seen} s r rest w e f =
-    rw (s.named, length-map) (first_fault (next_has disks present) (header_of file.Next) bytes s.done rest r w (next_rows disks present) s.short (rw e at s.records) s.sound (rw s.named at f))
+    subst (λ n. IsFirstFault (NextFault disks present bytes) (n + 1) w) (sym s.count)
+    (first_fault (next_has disks present) (header_of file.Next) bytes s.done rest r w (next_rows disks present) s.short (rw e at s.records) s.sound (f (map first s.done) (WaysSoFar-seen s)))
+
+-- an item that has no next disk is named by no row that is done, and one that is not in the now file by none either
+pub not_seen : (items : List (List ℕ)) (next : List (Option DiskId)) (rows : ℕ) (names : List (List ℕ)) (n : List ℕ) (o : Option ℕ) → AreSeen items next rows names
+    → MatchOption o (¬ (Contains items n)) (λ k. slice_get items k ≡ Some n) → ((k : ℕ) → o ≡ Some k → slice_get next k ≡ Some None) → ¬ (Contains names n)
+not_seen items next rows names n None a found free = λ c. found (a.there n c)
+not_seen items next rows names n (Some k) a found free = a.missing k n found (free k refl)
+
+-- an item that has a next disk is named by a row that is done
+pub seen_before : (items : List (List ℕ)) (next : List (Option DiskId)) (rows : ℕ) (names : List (List ℕ)) (n : List ℕ) (o : Option ℕ) → AreSeen items next rows names
+    → MatchOption o (¬ (Contains items n)) (λ k. slice_get items k ≡ Some n) → (k : ℕ) × (v : DiskId) × (o ≡ Some k) × (slice_get next k ≡ Some (Some v)) → Contains names n
+seen_before items next rows names n None a found has = absurd (let e = has.2 in cc e)
+seen_before items next rows names n (Some k) a found has = a.listed k n has.1 found (subst (λ j. slice_get next j ≡ Some (Some has.1)) (let e = has.2 in cc e) has.3)

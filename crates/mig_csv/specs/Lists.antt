@@ -22,6 +22,13 @@ pub record AreNextOf (disks : List Disk) (items : List (List ℕ)) (rows : List 
   pub missing : (k : ℕ) (n : List ℕ) → slice_get items k ≡ Some n → slice_get next k ≡ Some None → ¬ (Contains (map first rows) n)
   pub on_disks : (k : ℕ) (v : DiskId) → slice_get next k ≡ Some (Some v) → v.0 < length disks
 
+-- the names of so many rows, which gave these next disks to the items: those of the items that have one, and no others
+pub record AreSeen (items : List (List ℕ)) (next : List (Option DiskId)) (rows : ℕ) (names : List (List ℕ)) : Type 0 where
+  pub count : length names ≡ rows
+  pub listed : (k : ℕ) (n : List ℕ) (v : DiskId) → slice_get items k ≡ Some n → slice_get next k ≡ Some (Some v) → Contains names n
+  pub missing : (k : ℕ) (n : List ℕ) → slice_get items k ≡ Some n → slice_get next k ≡ Some None → ¬ (Contains names n)
+  pub there : (n : List ℕ) → Contains names n → Contains items n
+
 -- the first item with no next disk is refused
 abbrev pub RefusesMissing : List (Option DiskId) → InputError → Type 0
 RefusesMissing next (Refused f n why.NotInNext) = (f ≡ file.Now) × (k : ℕ) × (n ≡ k + 1) × (slice_get next k ≡ Some None) × ((j : ℕ) → j < k → (v : DiskId) × (slice_get next j ≡ Some (Some v)))

@@ -48,8 +48,13 @@ pub(crate) fn read_now(alloc: Global, bytes: &[u8], disks: &DiskList) -> Result<
 {
     let mut row = ByteRecord::new(alloc);
     let mut records = rows_after_header(alloc, FileKind::Now, bytes, &mut row)?;
-    let mut names = NameTable::new(alloc);
-    let mut taken = SpotTable::new(alloc);
+    let rows = likely_rows(bytes.len());
+    let Ok(mut names) = NameTable::with_capacity(alloc, rows) else {
+        return Err(InputError::Memory);
+    };
+    let Ok(mut taken) = SpotTable::with_capacity(alloc, rows) else {
+        return Err(InputError::Memory);
+    };
     let mut items = Vec::new(alloc);
     let mut spots = Vec::new(alloc);
     'rows: while records.read(&mut row)? {
@@ -71,6 +76,13 @@ pub(crate) fn read_now(alloc: Global, bytes: &[u8], disks: &DiskList) -> Result<
         items,
         spots,
     })
+}
+
+/// How many rows a now file of so many bytes may well have: few have rows of fewer than eight.
+fn likely_rows(bytes: usize) -> usize
+    ensures { result ≤ MAX_ITEMS }
+{
+    (bytes / 8).min(MAX_ITEMS)
 }
 
 /// The item that a row lists and its spot, or the first cause that holds of the row after rows of these items and spots.

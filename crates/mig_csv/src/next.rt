@@ -1,13 +1,14 @@
 //! The next file: the disks that the items are to go to.
-ghost use Rattle.std.specs.Prelude.{◌≡◌, ◌≤◌, Some, IfErr, IfOk, length, map, slice_get, ℕ};
-ghost use Rattle.std.specs.Option.{IsSomeAnd};
+ghost use Rattle.std.specs.Prelude.{◌≡◌, ◌<◌, ◌≤◌, List, None, Some, IfErr, IfOk, MatchBool, length, map, slice_get, ℕ};
+ghost use Rattle.std.specs.Option.{IfSome, IsSomeAnd};
 ghost use Rattle.csv.specs.Records.{fields_of};
 ghost use Rattle.mig_base.specs.Refusals.{IsFirstCause, NextRowFault};
 ghost use Rattle.mig_base.specs.InputLists.{AreDifferent};
 ghost use Rattle.mig_base.specs.Rows.{first, rows_of, second};
 ghost use Rattle.mig_base.specs.declared.faults.FileKind.TheVariants as file;
 ghost use Rattle.mig_base.specs.declared.faults.Why.{Why};
-ghost use Rattle.mig_csv.specs.Lists.{AreNextOf};
+ghost use Rattle.mig_base.specs.declared.ids.DiskId.{DiskId};
+ghost use Rattle.mig_csv.specs.Lists.{AreNextOf, AreSeen};
 ghost use Rattle.mig_csv.specs.Refusals.{IsRefusalOf, NextFault};
 
 use crate::disks::DiskList;
@@ -19,10 +20,9 @@ use mig_base::{DiskId, FileKind, MAX_DISKS, MAX_ITEMS, Name, Why};
 use mig_names::NameTable;
 use std::alloc::Global;
 
-/// An item, its place among the items, and the disk that it is to go to.
+/// An item's place among the items, and the disk that it is to go to.
 #[derive(Clone, Copy)]
 pub(crate) struct Way {
-    pub(crate) name: Name,
     pub(crate) item: usize,
     pub(crate) disk: DiskId,
 }
@@ -42,41 +42,52 @@ pub(crate) fn read_next(
 {
     let mut row = ByteRecord::new(alloc);
     let mut records = rows_after_header(alloc, FileKind::Next, bytes, &mut row)?;
-    let mut seen = NameTable::new(alloc);
+    let mut seen = 0;
     let Ok(mut next) = vec![in alloc; None; present.len()] else {
         return Err(InputError::Memory);
     };
     'rows: while records.read(&mut row)? {
-        match read_way(disks, present, &seen, &row) {
+        match read_way(disks, present, &next, seen, &row) {
             Ok(way) => {
-                if seen.push(way.name).is_err() {
-                    return Err(InputError::Memory);
-                }
                 next[way.item] = Some(way.disk);
+                seen += 1;
             }
-            Err(why) => return Err(refused(FileKind::Next, seen.len() as u32 + 1, why)),
+            Err(why) => return Err(refused(FileKind::Next, seen as u32 + 1, why)),
         }
     }
     Ok(next)
 }
 
-/// What a row of a next file lists, or the first cause that holds of the row after rows of the items that were seen.
+/// Whether the item at a place, if there is one, has a next disk.
+fn has_next(next: &[Option<DiskId>], place: Option<usize>) -> bool
+    requires { IfSome place (λ k. k < length next.now) }
+    ensures { MatchBool result ((k : ℕ) × (v : DiskId) × (place ≡ Some k) × (slice_get next.now k ≡ Some (Some v))) ((k : ℕ) → place ≡ Some k → slice_get next.now k ≡ Some None) }
+{
+    match place {
+        Some(item) => next[item].is_some(),
+        None => false,
+    }
+}
+
+/// What a row of a next file lists, or the first cause that holds of the row after so many rows, which gave items these
+/// next disks. Often the row names the item of the same row of the now file, so it is looked for there first.
 fn read_way(
     disks: &DiskList,
     present: &NameTable,
-    seen: &NameTable,
+    next: &[Option<DiskId>],
+    seen: usize,
     row: &ByteRecord,
 ) -> Result<Way, Why>
     requires named { disks.now.names ≡ map (λ d. d.name) disks.now.disks.items }
     requires few { length disks.now.disks.items ≤ MAX_DISKS }
-    ensures name { IfOk result (λ way. way.name ≡ first (fields_of row.now)) }
+    requires one_each { length next.now ≡ length present.now }
     ensures item { IfOk result (λ way. slice_get present.now way.item ≡ Some (first (fields_of row.now))) }
     ensures disk { IfOk result (λ way. IsSomeAnd (slice_get disks.now.disks.items way.disk.0) (λ d. d.name ≡ second (fields_of row.now))) }
     ensures different { IfOk result (λ _. AreDifferent present.now) }
-    ensures sound { IfOk result (λ _. (w : Why) → ¬ (NextRowFault disks.now.disks.items present.now seen.now (fields_of row.now) w)) }
-    ensures cause { IfErr result (IsFirstCause (NextRowFault disks.now.disks.items present.now seen.now (fields_of row.now))) }
+    ensures sound { IfOk result (λ _. (names : List (List ℕ)) → AreSeen present.now next.now seen names → (w : Why) → ¬ (NextRowFault disks.now.disks.items present.now names (fields_of row.now) w)) }
+    ensures cause { IfErr result (λ w. (names : List (List ℕ)) → AreSeen present.now next.now seen names → IsFirstCause (NextRowFault disks.now.disks.items present.now names (fields_of row.now)) w) }
 {
-    if seen.len() >= MAX_ITEMS {
+    if seen >= MAX_ITEMS {
         return Err(Why::TooManyRows);
     }
     if row.len() != 2 {
@@ -88,17 +99,17 @@ fn read_way(
     let Some(disk) = Name::read(field(row, 1)) else {
         return Err(Why::BadName);
     };
-    if seen.find(&name).is_some() {
+    let found = present.find_with_hint(&name, seen);
+    if has_next(next, found) {
         return Err(Why::DuplicateItem);
     }
     let Some(place) = disks.names.find(&disk) else {
         return Err(Why::UnknownDisk);
     };
-    let Some(item) = present.find(&name) else {
+    let Some(item) = found else {
         return Err(Why::NotInNow);
     };
     Ok(Way {
-        name,
         item,
         disk: DiskId(place as u32),
     })

@@ -28,8 +28,9 @@ fn find_taken<S: Store>(input: &Input, store: &mut S) -> Result<Option<Spot>, St
     ensures cause { HasCause (S.state store.old) (S.state store.new) result }
 {
     input.keeps_rules();
+    let mut slot = [0; 4096];
     for spot in input.now() {
-        if is_used(input, store, *spot)? {
+        if is_used(input, store, *spot, &mut slot)? {
             return Ok(Some(*spot));
         }
     }

@@ -33,11 +33,12 @@ pub(crate) fn has_header(slot: &[u8], name: &Name) -> bool
     slot[2..34] == padded(name)[..]
 }
 
-/// Whether the header at an item's spot of now names it.
+/// Whether the header at an item's spot of now names it. The slot is read into the given bytes.
 pub(crate) fn is_there<S: Store>(
     input: &Input,
     store: &mut S,
     item: usize,
+    slot: &mut [u8; 4096],
 ) -> Result<bool, StoreFailed>
     requires item { item < length input.now.items }
     requires none { flights (S.state store.old) ≡ [] }
@@ -46,16 +47,16 @@ pub(crate) fn is_there<S: Store>(
     ensures cause { HasCause (S.state store.old) (S.state store.new) result }
 {
     input.keeps_rules();
-    let mut slot = [0u8; 4096];
-    store.read(&spot_cell(input, input.now()[item]), &mut slot)?;
-    Ok(has_header(&slot, &input.items()[item]))
+    store.read(&spot_cell(input, input.now()[item]), slot)?;
+    Ok(has_header(slot, &input.items()[item]))
 }
 
-/// Whether the slot of a spot is used.
+/// Whether the slot of a spot is used. It is read into the given bytes.
 pub(crate) fn is_used<S: Store>(
     input: &Input,
     store: &mut S,
     spot: Spot,
+    slot: &mut [u8; 4096],
 ) -> Result<bool, StoreFailed>
     requires disk { spot.disk.0 < length input.now.disks }
     requires none { flights (S.state store.old) ≡ [] }
@@ -63,7 +64,6 @@ pub(crate) fn is_used<S: Store>(
     ensures change { ChangesOnly NoCell (S.state store.old) (S.state store.new) }
     ensures cause { HasCause (S.state store.old) (S.state store.new) result }
 {
-    let mut slot = [0u8; 4096];
-    store.read(&spot_cell(input, spot), &mut slot)?;
+    store.read(&spot_cell(input, spot), slot)?;
     Ok(slot[0] == 1)
 }

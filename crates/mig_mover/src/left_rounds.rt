@@ -57,12 +57,22 @@ impl LeftRounds {
         }
     }
 
+    // Sets the round of a spot to 0. One that was never left needs no place in the table.
+    fn forget(&mut self, spot: Spot) -> Result<(), AllocError>
+        ensures { OnOk result ((other : Spot) → round_of self.new other ≡ (if same_spot spot other then 0 else round_of self.old other)) }
+    {
+        if self.round(&spot) == 0 {
+            return Ok(());
+        }
+        self.set(spot, 0)
+    }
+
     // Shifts go to spots.
     fn fill(&mut self, shifts: &[Shift]) -> Result<(), AllocError>
         ensures { OnOk result ((spot : Spot) → round_of self.new spot ≡ (if list_any (λ s. same_spot s.to spot) shifts.now then 0 else round_of self.old spot)) }
     {
         for s in shifts {
-            self.set(s.to, 0)?;
+            self.forget(s.to)?;
         }
         Ok(())
     }

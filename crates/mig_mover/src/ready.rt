@@ -15,7 +15,12 @@ use mig_base::{ItemId, Spot};
 use mig_store::{Store, StoreFailed};
 
 // Whether the plan shifts an item, and the header at its spot of now doesn't name it.
-fn is_lost<S: Store>(job: &Job, store: &mut S, item: usize) -> Result<bool, StoreFailed>
+fn is_lost<S: Store>(
+    job: &Job,
+    store: &mut S,
+    item: usize,
+    slot: &mut [u8; 4096],
+) -> Result<bool, StoreFailed>
     requires item { item < length job.now.input.items }
     requires none { flights (S.state store.old) ≡ [] }
     ensures answer { IfOk result (λ yes. MatchBool yes (IsShifted job.now.plan item × IsLost job.now.input (S.state store.old).reads item) (IsShifted job.now.plan item → IsThere job.now.input (S.state store.old).reads item)) }
@@ -25,7 +30,7 @@ fn is_lost<S: Store>(job: &Job, store: &mut S, item: usize) -> Result<bool, Stor
     if !job.is_shifted(item) {
         return Ok(false);
     }
-    Ok(!is_there(job.input(), store, item)?)
+    Ok(!is_there(job.input(), store, item, slot)?)
 }
 
 // The first item that the plan shifts and that isn't at its spot of now.
@@ -37,8 +42,9 @@ fn find_lost<S: Store>(job: &Job, store: &mut S) -> Result<Option<ItemId>, Store
     ensures cause { HasCause (S.state store.old) (S.state store.new) result }
 {
     job.input().keeps_rules();
+    let mut slot = [0; 4096];
     for item in 0..job.input().items().len() {
-        if is_lost(job, store, item)? {
+        if is_lost(job, store, item, &mut slot)? {
             return Ok(Some(ItemId(item as u32)));
         }
     }
@@ -53,8 +59,9 @@ fn find_used<S: Store>(job: &Job, store: &mut S) -> Result<Option<Spot>, StoreFa
     ensures change { ChangesOnly NoCell (S.state store.old) (S.state store.new) }
     ensures cause { HasCause (S.state store.old) (S.state store.new) result }
 {
+    let mut slot = [0; 4096];
     for spot in job.targets() {
-        if is_used(job.input(), store, *spot)? {
+        if is_used(job.input(), store, *spot, &mut slot)? {
             return Ok(Some(*spot));
         }
     }

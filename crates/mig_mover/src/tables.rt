@@ -51,7 +51,7 @@ pub(crate) fn shift_flags(
 fn spots_of(alloc: Global, input: &Input) -> Result<SpotTable, AllocError>
     ensures { IfOk result (λ table. table ≡ input.now.spots) }
 {
-    let mut table = SpotTable::new(alloc);
+    let mut table = SpotTable::with_capacity(alloc, input.items().len())?;
     for spot in input.now() {
         table.push(*spot)?;
     }

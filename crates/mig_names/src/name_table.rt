@@ -1,5 +1,5 @@
 //! Tables of names.
-ghost use Rattle.std.specs.Prelude.{◌≡◌, ◌∷◌, ◌++◌, [], Some, Contains, MatchOption, OnErr, OnOk, length, slice_get};
+ghost use Rattle.std.specs.Prelude.{◌≡◌, ◌∷◌, ◌++◌, [], Some, Contains, IfOk, IsOk, MatchOption, OnErr, OnOk, length, slice_get};
 ghost use Rattle.mig_base.specs.InputLists.{AreDifferent};
 
 use indexmap::IndexSet;
@@ -36,6 +36,16 @@ impl NameTable {
         }
     }
 
+    /// A table with no name, and room for so many. An error is want of memory.
+    pub fn with_capacity(alloc: Global, names: usize) -> Result<NameTable, AllocError>
+        ensures empty { IfOk result (λ table. table ≡ []) }
+        ensures none { names ≡ 0 → IsOk result }
+    {
+        Ok(NameTable {
+            names: IndexSet::with_capacity(alloc, names)?,
+        })
+    }
+
     /// How many names there are.
     pub fn len(&self) -> usize
         ensures { result ≡ length self.now }
@@ -49,6 +59,17 @@ impl NameTable {
         ensures different { AreDifferent self.now }
     {
         self.names.get_index_of(name)
+    }
+
+    /// As `find`, and sooner where the name is at the place of the hint.
+    pub fn find_with_hint(&self, name: &Name, hint: usize) -> Option<usize>
+        ensures found { MatchOption result (¬ (Contains self.now name.now)) (λ k. slice_get self.now k ≡ Some name.now) }
+        ensures different { AreDifferent self.now }
+    {
+        match self.names.get_index(hint) {
+            Some(there) if there == name => Some(hint),
+            _ => self.find(name),
+        }
     }
 
     /// Adds a new name at the end. An error is want of memory.

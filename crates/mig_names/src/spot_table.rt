@@ -1,5 +1,5 @@
 //! Tables of spots.
-ghost use Rattle.std.specs.Prelude.{◌≡◌, ◌∷◌, ◌++◌, ◌↔◌, [], Contains, IsTrue, OnErr, OnOk};
+ghost use Rattle.std.specs.Prelude.{◌≡◌, ◌∷◌, ◌++◌, ◌↔◌, [], Contains, IfOk, IsOk, IsTrue, OnErr, OnOk};
 ghost use Rattle.mig_base.specs.declared.ids.Spot.{Spot};
 
 use indexmap::IndexSet;
@@ -32,6 +32,16 @@ impl SpotTable {
         SpotTable {
             spots: IndexSet::new(alloc),
         }
+    }
+
+    /// A table with no spot, and room for so many. An error is want of memory.
+    pub fn with_capacity(alloc: Global, spots: usize) -> Result<SpotTable, AllocError>
+        ensures empty { IfOk result (λ table. table ≡ []) }
+        ensures none { spots ≡ 0 → IsOk result }
+    {
+        Ok(SpotTable {
+            spots: IndexSet::with_capacity(alloc, spots)?,
+        })
     }
 
     /// Whether the table has a spot.

@@ -3,3 +3,4 @@ pub mod Limits
 pub mod RowLaws
 pub mod SlotLaws
 pub mod TargetSteps
+pub mod OneWay

@@ -1,14 +1,14 @@
 -- From a complete proper colouring of copies to a limited colouring of the transfer graph.
 use Rattle.std.proofs.Common.{◌≡◌, ◌≢◌, ◌⊎◌, ℕ, suc, zero, ◌+◌, ◌-◌, ◌*◌, ◌/◌, ◌%◌, min, ◌<◌, ◌≤◌, Bool, true, false, cond, not, ◌&&◌, ◌||◌, eqb, eq-eqb, List, [], ◌∷◌, ◌++◌, length, map, refl, sym, ap, ◌∙◌, arith, sum_by, count_by, filter, All, get_or, take, drop, inl, inr, subst, Some, None, Option}
 use Rattle.std.specs.Prelude.{slice_get}
-use Rattle.std.specs.List.{range_with_len}
+use Rattle.std.specs.List.{list_any, range_with_len}
 use Rattle.std.proofs.lemmas.List.Sums.{sum_by-cons, get_or-le-sum_by, sum_by-take-drop}
 use Rattle.std.proofs.lemmas.List.{get_or_default, length-map}
 use Rattle.std.proofs.lemmas.Option.{slice_get-get_or, slice_get_within, same_Some}
-use Rattle.std.proofs.lemmas.Bool.{cases_eq, ne_eqb}
+use Rattle.std.proofs.lemmas.Bool.{cases_Bool, cases_eq, false≢true, ne_eqb}
 use Rattle.std.proofs.lemmas.Bool.Decides.{nat_tests}
 use Rattle.std.proofs.lemmas.Grind.{div_ceil_times}
-use Rattle.std.proofs.Math.Nat.{mul-le-mul_left, mul-le-mul_right}
+use Rattle.std.proofs.Math.Nat.{mul_comm, mul-le-mul_left, mul-le-mul_right}
 use Rattle.mig_base.specs.declared.limits.TheConstants.{MAX_DISKS, MAX_ITEMS}
 use Rattle.mig_base.specs.declared.ids.Colour.{Colour}
 use Rattle.mig_base.specs.declared.ids.CopyId.{CopyId}
@@ -16,7 +16,7 @@ use Rattle.mig_base.specs.declared.ids.DiskId.{DiskId}
 use Rattle.mig_base.specs.declared.ids.EdgeId.{EdgeId}
 use Rattle.mig_base.specs.Transfers.{Trip, load, touches, div_ceil}
 use Rattle.mig_base.specs.Transfers.{Transfers}
-use Rattle.mig_base.specs.Bounding.{quotient, limit, IsEven}
+use Rattle.mig_base.specs.Bounding.{gives, quotient, limit, IsEven, IsOneWay}
 use Rattle.mig_base.specs.InputLists.{no_disk}
 use Rattle.mig_base.specs.Directions.{trip_at, is_forward, tails, heads, tail_of, head_of, out_of, in_of, Balances}
 use Rattle.mig_base.specs.Colourings.{IsLimited, edges_of, colour_at}
@@ -26,7 +26,8 @@ use Rattle.mig_board.specs.Colouring.{Colouring, Joins, HasColour, Leads, IsProp
 use Rattle.mig_split.specs.Dealing.{count_of, disk_at}
 use Rattle.mig_board.specs.Growth.{SameGraph}
 use Rattle.mig_split.specs.Copies.{AreSides, AreShares, first_of, second_of}
-use Rattle.mig_plan.specs.Coloured.{AreColours, IsDealtBoard}
+use Rattle.mig_split.specs.Sharing.{AreOnSides, AreThrough}
+use Rattle.mig_plan.specs.Coloured.{AreColours, IsDealtBoard, SidesFit}
 
 -- edges between copies whose homes are their disks
 abbrev copied_of : Transfers → List (CopyId × CopyId) → List DiskId → List Colour → Copied
@@ -54,12 +55,25 @@ leads_at g colours e k a h met =
       | inr s ↦ (p.0, record { joins = inr (row ∙ ap (λ (c : CopyId). Some (p.0, c)) (same_copy p.1 (record { 0 = k }) s)); colour = a.has e h })
     ]
 
-proper_copies : (g : Colouring) (graph : Transfers) (homes : List DiskId) (colours : List Colour) → IsProper g → AreColours g colours → length g.ends ≡ length graph.trips → IsProperCopies (copied_of graph g.ends homes colours)
-proper_copies g graph homes colours proper a len d e k lt h same m n =
-    let x = leads_at g colours d k a (omega (arith, lt, h, len)) m in
-    let y = leads_at g colours e k a (omega (arith, h, len)) n in
-    let turned : Leads g (record { 0 = k }) (record { 0 = colour_at colours e }) (record { 0 = d }) x.0 = subst (λ (c : ℕ). Leads g (record { 0 = k }) (record { 0 = c }) (record { 0 = d }) x.0) same x.1 in
-    let eq = ap (λ (i : EdgeId). i.0) (proper.apart (record { 0 = k }) (record { 0 = colour_at colours e }) (record { 0 = d }) (record { 0 = e }) x.0 y.0 turned y.1) in
+-- an edge that meets a copy meets the copy's node
+meets_node : (node : ℕ → ℕ) (ends new : List (CopyId × CopyId)) (e k : ℕ) → AreThrough node ends new → e < length ends → (eqb (first_of ends e) k || eqb (second_of ends e) k) ≡ true → (eqb (first_of new e) (node k) || eqb (second_of new e) (node k)) ≡ true
+meets_node node ends new e k t h met = elim (or_cases (first_of ends e) (second_of ends e) k met) [
+  | inl s ↦ one_is (first_of new e) (second_of new e) (node k) (inl (t.first e h ∙ ap node s))
+  | inr s ↦ one_is (first_of new e) (second_of new e) (node k) (inr (t.second e h ∙ ap node s))
+]
+  where
+    one_is : (a b k : ℕ) → (a ≡ k) ⊎ (b ≡ k) → (eqb a k || eqb b k) ≡ true
+    one_is a b k h = grind (arith, nat_tests)
+
+-- where copies share nodes, edges that are proper at the nodes are proper at the copies
+proper_copies : (g : Colouring) (graph : Transfers) (node : ℕ → ℕ) (ends : List (CopyId × CopyId)) (homes : List DiskId) (colours : List Colour) → IsProper g → AreColours g colours → AreThrough node ends g.ends → length ends ≡ length graph.trips → IsProperCopies (copied_of graph ends homes colours)
+proper_copies g graph node ends homes colours proper a t len d e k lt h same m n =
+    let hd : d < length ends = omega (arith, lt, h, len) in
+    let he : e < length ends = omega (arith, h, len) in
+    let x = leads_at g colours d (node k) a (omega (arith, hd, t.one_each)) (meets_node node ends g.ends d k t hd m) in
+    let y = leads_at g colours e (node k) a (omega (arith, he, t.one_each)) (meets_node node ends g.ends e k t he n) in
+    let turned : Leads g (record { 0 = node k }) (record { 0 = colour_at colours e }) (record { 0 = d }) x.0 = subst (λ (c : ℕ). Leads g (record { 0 = node k }) (record { 0 = c }) (record { 0 = d }) x.0) same x.1 in
+    let eq = ap (λ (i : EdgeId). i.0) (proper.apart (record { 0 = node k }) (record { 0 = colour_at colours e }) (record { 0 = d }) (record { 0 = e }) x.0 y.0 turned y.1) in
     absurd (omega (arith, eq, lt))
 
 home_is : (homes : List DiskId) (k : ℕ) → get_or (map (λ (d : DiskId). d.0) homes) k 0 ≡ disk_at homes k
@@ -67,20 +81,24 @@ home_is [] k = refl
 home_is (d ∷ ds) zero = refl
 home_is (d ∷ ds) (suc k) = home_is ds k
 
-pub limited_by_copies : (g : Colouring) (graph : Transfers) (homes : List DiskId) (colours : List Colour) → IsProper g → AreColours g colours → length g.ends ≡ length graph.trips → ((e : ℕ) → e < length graph.trips → StandsForEnds (copied_of graph g.ends homes colours) e) → ((v : ℕ) → v < length graph.disks → count_of v homes ≤ limit graph v) → IsLimited graph g.colours colours
-limited_by_copies g graph homes colours proper a len stands most =
-    let x = copied_of graph g.ends homes colours in
+pub limited_by_copies : (g : Colouring) (graph : Transfers) (node : ℕ → ℕ) (ends : List (CopyId × CopyId)) (homes : List DiskId) (colours : List Colour) → IsProper g → AreColours g colours → AreThrough node ends g.ends → length ends ≡ length graph.trips → ((e : ℕ) → e < length graph.trips → StandsForEnds (copied_of graph ends homes colours) e) → ((v : ℕ) → v < length graph.disks → count_of v homes ≤ limit graph v) → IsLimited graph g.colours colours
+limited_by_copies g graph node ends homes colours proper a t len stands most =
+    let x = copied_of graph ends homes colours in
     let m = length graph.trips in
     record {
-      one_each = a.one_each ∙ len;
+      one_each = a.one_each ∙ t.one_each ∙ len;
       below = λ e d h. subst (λ (k : Colour). k.0 < g.colours) (get_or_default colours e (record { 0 = 0 }) d h) (proper.colours_in_range (record { 0 = e }) (record { 0 = colour_at colours e }) (a.has e (omega (arith, h, a.one_each))));
       within = λ c v h.
-          (let law = colour_at_disk x c v stands (proper_copies g graph homes colours proper a len) in
+          (let law = colour_at_disk x c v stands (proper_copies g graph node ends homes colours proper a t len) in
           let homes_are = sum_by-map (λ n. one (eqb n v)) (λ (d : DiskId). d.0) homes in
           let counted = sum_by-map (λ (t : Trip). one (touches v t)) (trip_at graph.trips) (edges_of colours c m) in
           let filtered = count_by-filter (λ e. touches v (trip_at graph.trips e)) (λ e. eqb (colour_at colours e) c) (range_with_len 0 m) in
           omega (arith, law, homes_are, counted, filtered, most v h));
     }
+
+-- where each copy is a node of its own
+through_self : (ends new : List (CopyId × CopyId)) → new ≡ ends → AreThrough (λ k. k) ends new
+through_self ends new same = subst (λ (x : List (CopyId × CopyId)). AreThrough (λ k. k) ends x) (sym same) (record { one_each = refl; first = λ e h. refl; second = λ e h. refl })
 
 -- ---- the quotient
 
@@ -158,8 +176,8 @@ dealt_limited graph n old new colours b same proper c =
     let ends : new.ends ≡ old.ends = ap (λ (g : Colouring). g.ends) same in
     let count : new.colours ≡ n = ap (λ (g : Colouring). g.colours) same ∙ ap (λ (g : Colouring). g.colours) b.made in
     subst (λ k. IsLimited graph k colours) count
-    (limited_by_copies new graph b.homes colours proper c (ap (λ (x : List (CopyId × CopyId)). length x) ends ∙ b.copies.one_each)
-    (subst (λ (x : List (CopyId × CopyId)). (e : ℕ) → e < length graph.trips → StandsForEnds (copied_of graph x b.homes colours) e) (sym ends) (stands_shares graph b.directions b.share old.ends b.homes colours b.copies))
+    (limited_by_copies new graph (λ k. k) old.ends b.homes colours proper c (through_self old.ends new.ends ends) b.copies.one_each
+    (stands_shares graph b.directions b.share old.ends b.homes colours b.copies)
     (λ v h. min_left (limit graph v) (div_ceil (load v graph.trips) b.share) (count_of v b.homes) (b.copies.number v h)))
 
 -- ends that are in range and differ
@@ -240,6 +258,10 @@ out_and_in v (t ∷ ts) (d ∷ ds) len h =
       out_and_in v ts ds (omega arith) (Rattle.std.proofs.lemmas.List.Elements.All-tail (λ (x : Trip). x.leaves ≢ x.reaches) t ts h),
     )
 
+or_none : (a b : Bool) → (a || b) ≡ false → (a ≡ false) × (b ≡ false)
+or_none true b e = absurd (false≢true (sym e))
+or_none false b e = (refl, e)
+
 none_for : (q : ℕ) → 1 ≤ q → div_ceil 0 q ≡ 0
 none_for q p = omega (arith, Rattle.mig_base.proofs.Counting.div_ceil-le 0 q 0 p (omega arith))
 
@@ -258,37 +280,90 @@ most_of_load graph v o i l q total om im within pos even h = elim (cases_eq (loa
     takes : (graph : Transfers) (v : ℕ) → load v graph.trips ≢ 0 → not (eqb (load v graph.trips) 0) ≡ true
     takes graph v ne = ap not (ne_eqb (load v graph.trips) 0 ne)
 
-pub most_sides : (q : ℕ) (graph : Transfers) (ds : List Bool) (left : ℕ) (ends : List (CopyId × CopyId)) (homes : List DiskId) → q ≡ quotient graph → 1 ≤ q → HasLimits graph → IsEven graph → length ds ≡ length graph.trips → All (λ t. t.leaves ≢ t.reaches) graph.trips → Balances graph.trips ds → AreSides q graph ds left ends homes → (v : ℕ) → v < length graph.disks → count_of v homes ≤ limit graph v
-most_sides q graph ds left ends homes is_q pos limits even len apart b a v h =
-    let law = most_of_load graph v (out_of graph.trips ds v) (in_of graph.trips ds v) 0 q (out_and_in v graph.trips ds len apart) (b.out_most v) (b.in_most v)
-    (omega (arith, load_within_quotient graph v h (limits v h), ap (λ m. m * limit graph v) is_q)) pos even h in
-    omega (arith, law, a.left_number v h, a.right_number v h, sum_by-take-drop (λ (d : DiskId). one (eqb d.0 v)) homes left)
+-- where limits are even, by directions that balance
+pub even_fits : (graph : Transfers) (ds : List Bool) → 1 ≤ quotient graph → HasLimits graph → IsEven graph → length ds ≡ length graph.trips → All (λ t. t.leaves ≢ t.reaches) graph.trips → Balances graph.trips ds → SidesFit graph ds
+even_fits graph ds pos limits even len apart b v h =
+    most_of_load graph v (out_of graph.trips ds v) (in_of graph.trips ds v) 0 (quotient graph) (out_and_in v graph.trips ds len apart) (b.out_most v) (b.in_most v) (load_within_quotient graph v h (limits v h)) pos even h
 
-pub even_limited : (g : Colouring) (graph : Transfers) (q : ℕ) (ds : List Bool) (left : ℕ) (ends : List (CopyId × CopyId)) (homes : List DiskId) (colours : List Colour) → q ≡ quotient graph → 1 ≤ q → HasLimits graph → IsEven graph → length ds ≡ length graph.trips → All (λ t. t.leaves ≢ t.reaches) graph.trips → Balances graph.trips ds → AreSides q graph ds left ends homes → g.ends ≡ ends → IsProper g → AreColours g colours → IsLimited graph g.colours colours
-even_limited g graph q ds left ends homes colours is_q pos limits even len apart b a same proper c =
-    limited_by_copies g graph homes colours proper c (ap (λ (x : List (CopyId × CopyId)). length x) same ∙ a.one_each)
-    (subst (λ (x : List (CopyId × CopyId)). (e : ℕ) → e < length graph.trips → StandsForEnds (copied_of graph x homes colours) e) (sym same) (stands_sides q graph ds left ends homes colours a))
-    (most_sides q graph ds left ends homes is_q pos limits even len apart b a)
+-- where each disk only gives or only takes, by the directions of the transfers
 
-pub sides_in_range : (q : ℕ) (graph : Transfers) (ds : List Bool) (left : ℕ) (ends : List (CopyId × CopyId)) (homes : List DiskId) (n : ℕ) → n ≡ length homes → AreSides q graph ds left ends homes → All (λ p. (p.0.0 < n) × (p.1.0 < n)) ends
-sides_in_range q graph ds left ends homes n is_n a k d h = subst (λ (p : CopyId × CopyId). (p.0.0 < n) × (p.1.0 < n)) (get_or_default ends k (record { 0 = 0 }, record { 0 = 0 }) d h) (omega (arith, a.there k h, is_n), omega (arith, a.there k h, is_n))
+none_out : (v : ℕ) (ts : List Trip) (ds : List Bool) → length ds ≡ length ts → ((k : ℕ) → k < length ts → is_forward ds k ≡ true) → list_any (λ (t : Trip). eqb t.leaves v) ts ≡ false → out_of ts ds v ≡ 0
+none_out v [] ds len forward none = refl
+none_out v (t ∷ ts) [] len forward none = absurd (omega arith)
+none_out v (t ∷ ts) (d ∷ ds) len forward none =
+    let parts = or_none (eqb t.leaves v) (list_any (λ (u : Trip). eqb u.leaves v) ts) none in
+    let tail : tail_of t d ≡ t.leaves = ap (tail_of t) (forward 0 (omega arith)) in
+    omega (arith, sum_by-cons (λ n. one (eqb n v)) (tail_of t d) (tails ts ds), ap (λ n. one (eqb n v)) tail, ap one parts.0, none_out v ts ds (omega arith) (λ k l. forward (suc k) (omega (arith, l))) parts.1)
 
-pub sides_differ : (q : ℕ) (graph : Transfers) (ds : List Bool) (left : ℕ) (ends : List (CopyId × CopyId)) (homes : List DiskId) → AreSides q graph ds left ends homes → All (λ p. p.0 ≢ p.1) ends
-sides_differ q graph ds left ends homes a k d h = subst (λ (p : CopyId × CopyId). p.0 ≢ p.1) (get_or_default ends k (record { 0 = 0 }, record { 0 = 0 }) d h) (λ e. absurd (omega (arith, a.there k h, ap (λ (c : CopyId). c.0) e)))
+none_in : (v : ℕ) (ts : List Trip) (ds : List Bool) → length ds ≡ length ts → ((k : ℕ) → k < length ts → is_forward ds k ≡ true) → All (λ t. eqb t.reaches v ≡ false) ts → in_of ts ds v ≡ 0
+none_in v [] ds len forward none = refl
+none_in v (t ∷ ts) [] len forward none = absurd (omega arith)
+none_in v (t ∷ ts) (d ∷ ds) len forward none =
+    let head : head_of t d ≡ t.reaches = ap (head_of t) (forward 0 (omega arith)) in
+    omega (
+      arith,
+      sum_by-cons (λ n. one (eqb n v)) (head_of t d) (heads ts ds),
+      ap (λ n. one (eqb n v)) head,
+      ap one (Rattle.std.proofs.lemmas.List.Elements.All-head (λ (x : Trip). eqb x.reaches v ≡ false) t ts none),
+      none_in v ts ds (omega arith) (λ k l. forward (suc k) (omega (arith, l))) (Rattle.std.proofs.lemmas.List.Elements.All-tail (λ (x : Trip). eqb x.reaches v ≡ false) t ts none),
+    )
 
-pub few_even : (nodes q m d : ℕ) → nodes * q ≤ 2 * m + 2 * (d * q) → m ≤ MAX_ITEMS → d ≤ MAX_DISKS → q ≤ MAX_ITEMS → nodes * q ≤ 268435456
-few_even nodes q m d room hm hd hq = omega (arith, mul-le-mul_right q hd, room, hm, hq)
+-- what isn't left isn't the disk that is
+not_reached : (graph : Transfers) (v r : ℕ) → gives graph v ≡ true → gives graph r ≡ false → eqb r v ≡ false
+not_reached graph v r gave none = elim (cases_eq r v) [
+  | inl e ↦ absurd (false≢true (sym none ∙ ap (gives graph) e ∙ gave))
+  | inr ne ↦ ne_eqb r v ne
+]
 
-side_at : (q : ℕ) (graph : Transfers) (ds : List Bool) (left : ℕ) (ends : List (CopyId × CopyId)) (homes : List DiskId) → AreSides q graph ds left ends homes → (e : EdgeId) (v w : CopyId) → slice_get ends e.0 ≡ Some (v, w) → (v.0 < left) × (left ≤ w.0)
-side_at q graph ds left ends homes a e v w row =
+pub one_way_fits : (graph : Transfers) (ds : List Bool) → 1 ≤ quotient graph → HasLimits graph → IsOneWay graph → length ds ≡ length graph.trips → All (λ t. t.leaves ≢ t.reaches) graph.trips → ((k : ℕ) → k < length graph.trips → is_forward ds k ≡ true) → SidesFit graph ds
+one_way_fits graph ds pos limits one_way len apart forward v h =
+    let q = quotient graph in
+    let o = out_of graph.trips ds v in
+    let i = in_of graph.trips ds v in
+    let total = out_and_in v graph.trips ds len apart in
+    let within : div_ceil (load v graph.trips) q ≤ limit graph v = Rattle.mig_base.proofs.Counting.div_ceil-le (load v graph.trips) q (limit graph v) pos (omega (arith, load_within_quotient graph v h (limits v h), mul_comm q (limit graph v))) in
+    elim (cases_Bool (gives graph v)) [
+      | inl gave ↦ (let none : i ≡ 0 = none_in v graph.trips ds len forward (λ k d l. not_reached graph v (get_or graph.trips k d).reaches gave (one_way k d l)) in
+          omega (arith, within, none_for q pos, ap (λ n. div_ceil n q) none, ap (λ n. div_ceil n q) (all_left o i (load v graph.trips) total none)))
+      | inr kept ↦ (let none : o ≡ 0 = none_out v graph.trips ds len forward kept in
+          omega (arith, within, none_for q pos, ap (λ n. div_ceil n q) none, ap (λ n. div_ceil n q) (all_right o i (load v graph.trips) total none)))
+    ]
+  where
+    all_left : (o i l : ℕ) → o + i ≡ l → i ≡ 0 → o ≡ l
+    all_left o i l total none = omega arith
+
+    all_right : (o i l : ℕ) → o + i ≡ l → o ≡ 0 → i ≡ l
+    all_right o i l total none = omega arith
+
+pub sides_limited : (g : Colouring) (graph : Transfers) (q : ℕ) (ds : List Bool) (left : ℕ) (node : ℕ → ℕ) (ends : List (CopyId × CopyId)) (homes : List DiskId) (colours : List Colour) → q ≡ quotient graph → SidesFit graph ds → AreSides q graph ds left ends homes → AreThrough node ends g.ends → IsProper g → AreColours g colours → IsLimited graph g.colours colours
+sides_limited g graph q ds left node ends homes colours is_q fit a t proper c =
+    limited_by_copies g graph node ends homes colours proper c t a.one_each (stands_sides q graph ds left ends homes colours a)
+    (λ v h. omega (
+      arith,
+      subst (λ n. div_ceil (out_of graph.trips ds v) n + div_ceil (in_of graph.trips ds v) n ≤ limit graph v) (sym is_q) (fit v h),
+      a.left_number v h,
+      a.right_number v h,
+      sum_by-take-drop (λ (d : DiskId). one (eqb d.0 v)) homes left,
+    ))
+
+-- ---- nodes on two sides
+
+pub nodes_in_range : (left nodes : ℕ) (ends : List (CopyId × CopyId)) → AreOnSides left nodes ends → All (λ p. (p.0.0 < nodes) × (p.1.0 < nodes)) ends
+nodes_in_range left nodes ends a k d h = subst (λ (p : CopyId × CopyId). (p.0.0 < nodes) × (p.1.0 < nodes)) (get_or_default ends k (record { 0 = 0 }, record { 0 = 0 }) d h) (omega (arith, a k h), omega (arith, a k h))
+
+pub nodes_differ : (left nodes : ℕ) (ends : List (CopyId × CopyId)) → AreOnSides left nodes ends → All (λ p. p.0 ≢ p.1) ends
+nodes_differ left nodes ends a k d h = subst (λ (p : CopyId × CopyId). p.0 ≢ p.1) (get_or_default ends k (record { 0 = 0 }, record { 0 = 0 }) d h) (λ e. absurd (omega (arith, a k h, ap (λ (c : CopyId). c.0) e)))
+
+side_at : (left nodes : ℕ) (ends : List (CopyId × CopyId)) → AreOnSides left nodes ends → (e : EdgeId) (v w : CopyId) → slice_get ends e.0 ≡ Some (v, w) → (v.0 < left) × (left ≤ w.0)
+side_at left nodes ends a e v w row =
     let h : e.0 < length ends = slice_get_within ends e.0 (v, w) row in
     let p = get_or ends e.0 (record { 0 = 0 }, record { 0 = 0 }) in
     let same : p ≡ (v, w) = same_Some p (v, w) (sym (slice_get-get_or ends e.0 (record { 0 = 0 }, record { 0 = 0 }) h) ∙ row) in
-    (omega (arith, a.there e.0 h, ap (λ (x : CopyId × CopyId). x.0.0) same), omega (arith, a.there e.0 h, ap (λ (x : CopyId × CopyId). x.1.0) same))
+    (omega (arith, a e.0 h, ap (λ (x : CopyId × CopyId). x.0.0) same), omega (arith, a e.0 h, ap (λ (x : CopyId × CopyId). x.1.0) same))
 
-pub two_sided : (g : Colouring) (q : ℕ) (graph : Transfers) (ds : List Bool) (left : ℕ) (ends : List (CopyId × CopyId)) (homes : List DiskId) → g.ends ≡ ends → AreSides q graph ds left ends homes → Rattle.mig_board.specs.Growth.IsTwoSided g left
-two_sided g q graph ds left ends homes same a e v w joins =
+pub two_sided : (g : Colouring) (left nodes : ℕ) (ends : List (CopyId × CopyId)) → g.ends ≡ ends → AreOnSides left nodes ends → Rattle.mig_board.specs.Growth.IsTwoSided g left
+two_sided g left nodes ends same a e v w joins =
     elim joins [
-      | inl row ↦ (let x = side_at q graph ds left ends homes a e v w (subst (λ (y : List (CopyId × CopyId)). slice_get y e.0 ≡ Some (v, w)) same row) in inl (x.0, x.1))
-      | inr row ↦ (let x = side_at q graph ds left ends homes a e w v (subst (λ (y : List (CopyId × CopyId)). slice_get y e.0 ≡ Some (w, v)) same row) in inr (x.1, x.0))
+      | inl row ↦ (let x = side_at left nodes ends a e v w (subst (λ (y : List (CopyId × CopyId)). slice_get y e.0 ≡ Some (v, w)) same row) in inl (x.0, x.1))
+      | inr row ↦ (let x = side_at left nodes ends a e w v (subst (λ (y : List (CopyId × CopyId)). slice_get y e.0 ≡ Some (w, v)) same row) in inr (x.1, x.0))
     ]

@@ -1,9 +1,9 @@
 //! Colourings of a transfer graph, so that the edges of one colour keep each disk's limit.
-ghost use Rattle.std.specs.Prelude.{◌≡◌, ◌<◌, ◌≤◌, ◌+◌, ◌*◌, length, vec_len, IfOk, IfSome};
-ghost use Rattle.mig_base.specs.Bounding.{quotient, IsEven};
+ghost use Rattle.std.specs.Prelude.{◌≡◌, ℕ, ◌<◌, ◌≤◌, ◌+◌, ◌*◌, false, length, slice_index_or, vec_len, All, IfOk, IfSome, MatchBool};
+ghost use Rattle.mig_base.specs.Bounding.{gives, quotient, IsEven, IsOneWay};
 ghost use Rattle.mig_base.specs.Colourings.{IsLimited};
 ghost use Rattle.mig_board.specs.Growth.{IsComplete};
-ghost use Rattle.mig_plan.specs.Coloured.{AreColours, IsDealtBoard};
+ghost use Rattle.mig_plan.specs.Coloured.{AreColours, IsDealtBoard, SidesFit};
 
 use mig_base::{Colour, EdgeId};
 use mig_board::Board;
@@ -11,7 +11,7 @@ use mig_euler::orient;
 use mig_graph::Graph;
 use mig_koenig::colour_sides;
 use mig_shannon::{colour_few, colour_within};
-use mig_split::{split_limits, split_sides};
+use mig_split::{share_nodes, split_limits, split_sides};
 use std::alloc::{AllocError, Global};
 
 /// A disk below its limit has so many copies, or nearly, for each one that it needs.
@@ -41,23 +41,89 @@ fn colours_of(alloc: Global, board: &Board) -> Result<Vec<Colour>, AllocError>
     Ok(colours)
 }
 
-/// Colours the edges by as many colours as the quotient, where limits are even.
+/// Colours the edges by as many colours as the quotient, where each disk's limit covers the copies that these directions
+/// of the edges need on its two sides.
 ///
-/// The edges are directed and each disk is split into copies on two sides, which have as many colours as the quotient
-/// (König 1916).
+/// Each disk is split into copies on two sides, for edges that go out and for edges that come in. Copies share the nodes
+/// of a board, whose edges have as many colours as the quotient (König 1916): so its table is linear in the edges,
+/// however many copies there are.
+fn colour_directed(
+    alloc: Global,
+    graph: &Graph,
+    directions: &[bool],
+) -> Result<Vec<Colour>, AllocError>
+    requires some { 0 < length graph.now.trips }
+    requires directions { length directions.now ≡ length graph.now.trips }
+    requires fit { SidesFit graph.now directions.now }
+    ensures { IfOk result (λ v. IsLimited graph.now (quotient graph.now) v.items) }
+{
+    graph.keeps_rules();
+    let q = graph.quotient();
+    let sides = split_sides(alloc, graph, directions, q)?;
+    let shared = share_nodes(alloc, &sides, q)?;
+    let left = shared.left;
+    let mut board = Board::new(alloc, shared.nodes, shared.ends, q)?;
+    colour_sides(&mut board, left);
+    colours_of(alloc, &board)
+}
+
+/// Colours the edges by as many colours as the quotient, where limits are even. At each disk the directions balance.
 fn colour_even(alloc: Global, graph: &Graph) -> Result<Vec<Colour>, AllocError>
     requires some { 0 < length graph.now.trips }
     requires even { IsEven graph.now }
     ensures { IfOk result (λ v. IsLimited graph.now (quotient graph.now) v.items) }
 {
     graph.keeps_rules();
-    let q = graph.quotient();
     let directions = orient(alloc, graph)?;
-    let sides = split_sides(alloc, graph, &directions, q)?;
-    let left = sides.left;
-    let mut board = Board::new(alloc, sides.nodes, sides.ends, q)?;
-    colour_sides(&mut board, left);
-    colours_of(alloc, &board)
+    colour_directed(alloc, graph, &directions)
+}
+
+/// Colours the edges by as many colours as the quotient, where each disk only gives items away or only takes them. The
+/// directions are those of the transfers.
+fn colour_one_way(alloc: Global, graph: &Graph) -> Result<Vec<Colour>, AllocError>
+    requires some { 0 < length graph.now.trips }
+    requires one_way { IsOneWay graph.now }
+    ensures { IfOk result (λ v. IsLimited graph.now (quotient graph.now) v.items) }
+{
+    graph.keeps_rules();
+    let directions = vec![in alloc; true; graph.edges() as usize]?;
+    colour_directed(alloc, graph, &directions)
+}
+
+/// Marks the disks that transfers leave, where none is marked yet.
+fn mark_givers(graph: &Graph, givers: &mut [bool])
+    requires len { length givers.old ≡ length graph.now.disks }
+    requires none { All (λ m. m ≡ false) givers.old }
+    ensures { (v : ℕ) → v < length givers.new → slice_index_or givers.new v false ≡ gives graph.now v }
+{
+    for edge in 0..graph.edges() {
+        let (from, _) = graph.ends(EdgeId(edge));
+        givers[from.0 as usize] = true;
+    }
+}
+
+/// Whether no transfer reaches a marked disk: one that transfers leave.
+fn spares(graph: &Graph, givers: &[bool]) -> bool
+    requires len { length givers.now ≡ length graph.now.disks }
+    requires marked { (v : ℕ) → v < length givers.now → slice_index_or givers.now v false ≡ gives graph.now v }
+    ensures { MatchBool result (IsOneWay graph.now) (¬ IsOneWay graph.now) }
+{
+    for edge in 0..graph.edges() {
+        let (_, to) = graph.ends(EdgeId(edge));
+        if givers[to.0 as usize] {
+            return false;
+        }
+    }
+    true
+}
+
+/// Whether each disk only gives items away or only takes them.
+fn is_one_way(alloc: Global, graph: &Graph) -> Result<bool, AllocError>
+    ensures { IfOk result (λ yes. MatchBool yes (IsOneWay graph.now) (¬ IsOneWay graph.now)) }
+{
+    let mut givers = vec![in alloc; false; graph.disks() as usize]?;
+    mark_givers(graph, &mut givers);
+    Ok(spares(graph, &givers))
 }
 
 /// Directions of so many edges for a dealing: those of the transfers for the first one, and others for each other
@@ -165,8 +231,8 @@ fn colour_general(
 }
 
 /// Colours the edges so that those of one colour keep each disk's limit, and gives the number of colours too: the
-/// quotient where limits are even, and else three halves of it at most. There fewer colours are tried first, from
-/// `start` on.
+/// quotient where limits are even, and where each disk only gives items away or only takes them; else three halves of it
+/// at most. There fewer colours are tried first, from `start` on.
 pub fn colour_moves(
     alloc: Global,
     graph: &Graph,
@@ -174,6 +240,7 @@ pub fn colour_moves(
 ) -> Result<(Vec<Colour>, u32), AllocError>
     ensures limited { IfOk result (λ r. IsLimited graph.now r.1 r.0.items) }
     ensures even { IfOk result (λ r. IsEven graph.now → r.1 ≤ quotient graph.now) }
+    ensures one_way { IfOk result (λ r. IsOneWay graph.now → r.1 ≤ quotient graph.now) }
     ensures most { IfOk result (λ r. 2 * r.1 ≤ 3 * quotient graph.now) }
 {
     if graph.edges() == 0 {
@@ -182,6 +249,9 @@ pub fn colour_moves(
     let q = graph.quotient();
     if graph.all_even() {
         return Ok((colour_even(alloc, graph)?, q));
+    }
+    if is_one_way(alloc, graph)? {
+        return Ok((colour_one_way(alloc, graph)?, q));
     }
     let most = 3 * q / 2;
     colour_general(alloc, graph, most, start.max(q).min(most))

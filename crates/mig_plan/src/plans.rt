@@ -32,8 +32,8 @@ fn plan_moves(
 ///
 /// Each relocated item is shifted once, from its spot to its target spot, and nothing else is shifted. No round is
 /// empty, and in each round each disk is an end of at most its limit of shifts. Where each disk that takes part has an
-/// even limit, the number of rounds is the quotient and no schedule has fewer; else it is at most three halves of the
-/// quotient. Errs for want of memory only.
+/// even limit, and where each disk only gives items away or only takes them, the number of rounds is the quotient and no
+/// schedule has fewer; else it is at most three halves of the quotient. Errs for want of memory only.
 pub fn make_plan(alloc: Global, input: &Input) -> Result<Plan, AllocError>
     requires { IsRoomy input.now }
     ensures planned { IfOk result (IsPlanOf input.now) }

@@ -61,12 +61,12 @@ or_most : (a b : Bool) → one (a || b) ≤ one a + one b
 or_most true b = omega arith
 or_most false b = omega arith
 
-ends_most : (k : CopyId) (ends : List (CopyId × CopyId)) → ends_at k ends ≤ count_by (λ p. eqb p.0.0 k.0) ends + count_by (λ p. eqb p.1.0 k.0) ends
+pub ends_most : (k : CopyId) (ends : List (CopyId × CopyId)) → ends_at k ends ≤ count_by (λ p. eqb p.0.0 k.0) ends + count_by (λ p. eqb p.1.0 k.0) ends
 ends_most k [] = omega arith
 ends_most k (p ∷ ps) =
     omega (arith, sum_by-cons (λ q. one (is_end k q)) p ps, sum_by-cons (λ (q : CopyId × CopyId). one (eqb q.0.0 k.0)) p ps, sum_by-cons (λ (q : CopyId × CopyId). one (eqb q.1.0 k.0)) p ps, or_most (eqb p.0.0 k.0) (eqb p.1.0 k.0), ends_most k ps)
 
-firsts_are : (k : CopyId) (firsts seconds : List CopyId) (from : ℕ) (ends : List (CopyId × CopyId)) → ArePairs firsts seconds from ends → count_by (λ p. eqb p.0.0 k.0) ends ≡ count_at k.0 firsts
+pub firsts_are : (k : CopyId) (firsts seconds : List CopyId) (from : ℕ) (ends : List (CopyId × CopyId)) → ArePairs firsts seconds from ends → count_by (λ p. eqb p.0.0 k.0) ends ≡ count_at k.0 firsts
 firsts_are k firsts seconds from ends a = count_same (λ (p : CopyId × CopyId). eqb p.0.0 k.0) (λ (c : CopyId). eqb c.0 k.0) (record { 0 = 0 }, record { 0 = 0 }) (record { 0 = 0 }) ends firsts a.len (λ i h. ap (λ n. eqb n k.0) (a.first i (omega (arith, h, a.len))))
 
 less_not : (a b : ℕ) → a < b → eqb a b ≡ false
@@ -82,13 +82,13 @@ none_pass : {X : Type 0} (p : X → Bool) (xs : List X) → All (λ x. p x ≡ f
 none_pass p [] h = refl
 none_pass {X} p (x ∷ xs) h = omega (arith, sum_by-cons (λ y. one (p y)) x xs, ap one (All-head (λ y. p y ≡ false) x xs h), none_pass p xs (All-tail (λ y. p y ≡ false) x xs h))
 
-seconds_are : (k : CopyId) (firsts seconds : List CopyId) (from : ℕ) (ends : List (CopyId × CopyId)) → length firsts ≡ length seconds → from ≤ k.0 → ArePairs firsts seconds from ends → count_by (λ p. eqb p.1.0 k.0) ends ≡ count_at (k.0 - from) seconds
+pub seconds_are : (k : CopyId) (firsts seconds : List CopyId) (from : ℕ) (ends : List (CopyId × CopyId)) → length firsts ≡ length seconds → from ≤ k.0 → ArePairs firsts seconds from ends → count_by (λ p. eqb p.1.0 k.0) ends ≡ count_at (k.0 - from) seconds
 seconds_are k firsts seconds from ends same h a = count_same (λ (p : CopyId × CopyId). eqb p.1.0 k.0) (λ (c : CopyId). eqb c.0 (k.0 - from)) (record { 0 = 0 }, record { 0 = 0 }) (record { 0 = 0 }) ends seconds (a.len ∙ same) (λ i l. ap (λ n. eqb n k.0) (a.second i (omega (arith, l, a.len))) ∙ moved_test from (copy_at seconds i) k.0 h)
 
-seconds_none : (k : CopyId) (firsts seconds : List CopyId) (from : ℕ) (ends : List (CopyId × CopyId)) → k.0 < from → ArePairs firsts seconds from ends → count_by (λ p. eqb p.1.0 k.0) ends ≡ 0
+pub seconds_none : (k : CopyId) (firsts seconds : List CopyId) (from : ℕ) (ends : List (CopyId × CopyId)) → k.0 < from → ArePairs firsts seconds from ends → count_by (λ p. eqb p.1.0 k.0) ends ≡ 0
 seconds_none k firsts seconds from ends h a = none_pass (λ (p : CopyId × CopyId). eqb p.1.0 k.0) ends (λ i d l. subst (λ (p : CopyId × CopyId). eqb p.1.0 k.0 ≡ false) (get_or_default ends i (record { 0 = 0 }, record { 0 = 0 }) d l) (more_not (second_of ends i) k.0 (omega (arith, h, a.second i (omega (arith, l, a.len))))))
 
-firsts_none : (k : CopyId) (firsts seconds : List CopyId) (from : ℕ) (ends : List (CopyId × CopyId)) → ((i : ℕ) → i < length firsts → copy_at firsts i < k.0) → ArePairs firsts seconds from ends → count_by (λ p. eqb p.0.0 k.0) ends ≡ 0
+pub firsts_none : (k : CopyId) (firsts seconds : List CopyId) (from : ℕ) (ends : List (CopyId × CopyId)) → ((i : ℕ) → i < length firsts → copy_at firsts i < k.0) → ArePairs firsts seconds from ends → count_by (λ p. eqb p.0.0 k.0) ends ≡ 0
 firsts_none k firsts seconds from ends h a = none_pass (λ (p : CopyId × CopyId). eqb p.0.0 k.0) ends (λ i d l. subst (λ (p : CopyId × CopyId). eqb p.0.0 k.0 ≡ false) (get_or_default ends i (record { 0 = 0 }, record { 0 = 0 }) d l) (less_not (first_of ends i) k.0 (omega (arith, h i (omega (arith, l, a.len)), a.first i (omega (arith, l, a.len))))))
 
 copy_there : (q disks : ℕ) (stops homes : List DiskId) (copies : List CopyId) → IsDealt q disks stops homes copies → (i : ℕ) → i < length stops → copy_at copies i < length homes

@@ -1,3 +1,4 @@
 pub mod Copies
 pub mod Dealing
 pub mod Decks
+pub mod Sharing

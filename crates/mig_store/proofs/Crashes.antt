@@ -8,7 +8,7 @@ use Rattle.mig_base.specs.declared.cells.Cell.{Cell}
 use Rattle.mig_base.specs.Cells.{cell_len}
 use Rattle.mig_base.specs.Images.{Image}
 use Rattle.mig_base.proofs.Landing.{flights_none}
-use Rattle.mig_store.specs.declared.calls.Call.{Call}
+use Rattle.mig_store.specs.Calls.{Call}
 use Rattle.mig_store.specs.Asking.{Contents}
 use Rattle.mig_store.specs.declared.contents.Pick.{Pick}
 use Rattle.mig_store.specs.declared.contents.Pick.TheVariants.{Old, New, Half, Ones}

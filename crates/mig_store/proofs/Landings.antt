@@ -5,7 +5,7 @@ use Rattle.mig_base.specs.declared.cells.Flight.{Flight}
 use Rattle.mig_base.specs.Flights.{AreFlights}
 use Rattle.mig_base.specs.Stores.{Ends}
 use Rattle.mig_base.proofs.Landing.{ends_none, ends_then}
-use Rattle.mig_store.specs.declared.calls.Call.TheVariants.{Lands}
+use Rattle.mig_store.specs.Calls.{Lands}
 use Rattle.mig_store.specs.Ledgers.{Log, state_at, flying, moment_of}
 use Rattle.mig_store.specs.declared.ends.Landing.{Landing}
 use Rattle.mig_store.specs.declared.trouble.Trouble.{Trouble}

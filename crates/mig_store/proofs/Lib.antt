@@ -5,6 +5,8 @@ pub mod EntryLists
 pub mod Landings
 pub mod Logs
 pub mod Moments
+pub mod NoteLists
 pub mod Serving
+pub mod Sources
 pub mod Steps
 pub mod SureSteps

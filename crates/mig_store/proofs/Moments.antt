@@ -12,7 +12,7 @@ use Rattle.mig_base.specs.Images.{Image, SameBut}
 use Rattle.mig_base.specs.Stores.{IsLeftBut, Changes}
 use Rattle.mig_base.proofs.StoreSteps.{same_none, events_none}
 use Rattle.mig_base.proofs.CellTests.{is_cell-same, is_cell-other, cases_cell}
-use Rattle.mig_store.specs.declared.calls.Call.{Call}
+use Rattle.mig_store.specs.Calls.{Call}
 use Rattle.mig_store.specs.Asking.{Contents}
 use Rattle.mig_store.specs.declared.held.Held.{Held}
 use Rattle.mig_store.specs.HeldCells.{change_at}

@@ -11,8 +11,7 @@ use Rattle.mig_base.specs.Flights.{began, ended, is_flight, IsTargetOf}
 use Rattle.mig_base.specs.Stores.{Changes, Ends, IsSettled}
 use Rattle.mig_base.proofs.Landing.{flights_began, ends_one_others, target_here, target_right}
 use Rattle.mig_base.proofs.Rounds.{contains_any}
-use Rattle.mig_store.specs.declared.calls.Call.{Call}
-use Rattle.mig_store.specs.declared.calls.Call.TheVariants.{Wrote, Copies, Lands, Synced}
+use Rattle.mig_store.specs.Calls.{Call, Wrote, Copies, Lands, Synced}
 use Rattle.mig_store.specs.declared.held.Held.{Held}
 use Rattle.mig_store.specs.Ledgers.{Moment, Log, after, after_call, reads, MayLeave, flying, moment_of, IsMoment, state_at}
 use Rattle.mig_store.specs.Memories.{Memory, pushed, state_of}

@@ -14,7 +14,7 @@ use Rattle.mig_base.proofs.StoreSteps.{same_none, same_wider}
 use Rattle.mig_base.proofs.CellTests.{cases_cell}
 use Rattle.mig_base.proofs.Rounds.{any_contains, one_by}
 use Rattle.mig_base.proofs.Landing.{flights_began, flights_ended, flights_push, flights_filter, contains_kept, target_here, is_flight-same}
-use Rattle.mig_store.specs.declared.calls.Call.TheVariants.{Wrote, Copies, Lands, Synced}
+use Rattle.mig_store.specs.Calls.{Wrote, Copies, Lands, Synced}
 use Rattle.mig_store.specs.Asking.{Contents}
 use Rattle.mig_store.specs.Asking.{ask, land, settle}
 use Rattle.mig_store.specs.Ledgers.{Moment, after_call, reads, IsUnsettled, MayLeave, flying, HaveLength, IsLaid, IsMoment}

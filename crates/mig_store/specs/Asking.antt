@@ -1,8 +1,7 @@
 -- What a store in memory tells of a cell, and what calls do to it.
 use Rattle.std.specs.Prelude.{◌/◌, ◌==◌, Bool, true, false, ℕ, List, [], Option, Some, None, length, take, replicate, slice_get, if◌then◌else◌}
 use Rattle.mig_store.specs.Bytes.{overwritten}
-use Rattle.mig_store.specs.declared.calls.Call.{Call}
-use Rattle.mig_store.specs.declared.calls.Call.TheVariants.{Wrote, Copies}
+use Rattle.mig_store.specs.Calls.{Call, Wrote, Copies}
 use Rattle.mig_store.specs.declared.contents.Entry.{Entry}
 use Rattle.mig_store.specs.declared.contents.Pick.{Pick}
 use Rattle.mig_store.specs.declared.contents.Pick.TheVariants.{Old, New, Half, Ones}

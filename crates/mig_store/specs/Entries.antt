@@ -1,7 +1,7 @@
 -- The entries of cells.
 use Rattle.std.specs.Prelude.{◌≤◌, ◌<◌, ℕ, List, All, None, IfSome, map}
 use Rattle.mig_base.specs.declared.cells.Cell.{Cell}
-use Rattle.mig_store.specs.declared.calls.Call.{Call}
+use Rattle.mig_store.specs.Calls.{Call}
 use Rattle.mig_store.specs.declared.held.Held.{Held}
 use Rattle.mig_store.specs.declared.contents.Entry.{Entry}
 use Rattle.mig_store.specs.declared.contents.Pick.{Pick}

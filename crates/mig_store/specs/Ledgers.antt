@@ -9,8 +9,7 @@ use Rattle.mig_base.specs.Cells.{cell_len}
 use Rattle.mig_base.specs.Images.{Image, SameBut}
 use Rattle.mig_base.specs.Flights.{after_events, AreFlights}
 use Rattle.mig_base.specs.Stores.{State}
-use Rattle.mig_store.specs.declared.calls.Call.{Call}
-use Rattle.mig_store.specs.declared.calls.Call.TheVariants.{Wrote, Copies, Lands, Synced}
+use Rattle.mig_store.specs.Calls.{Call, Wrote, Copies, Lands, Synced}
 use Rattle.mig_store.specs.declared.held.Held.{Held}
 use Rattle.mig_store.specs.Asking.{Contents, fresh, ask, land, settle}
 use Rattle.mig_store.specs.HeldCells.{held_at, change_at}

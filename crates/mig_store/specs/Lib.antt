@@ -1,5 +1,6 @@
 pub mod Asking
 pub mod Bytes
+pub mod Calls
 pub mod Entries
 pub mod HeldCells
 pub mod Ledgers

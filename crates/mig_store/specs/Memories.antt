@@ -5,8 +5,7 @@ use Rattle.std.proofs.lemmas.List.{take_all}
 use Rattle.mig_base.specs.declared.cells.Cell.{Cell}
 use Rattle.mig_base.specs.declared.cells.Flight.{Flight}
 use Rattle.mig_base.specs.Stores.{State, IsState}
-use Rattle.mig_store.specs.declared.calls.Call.{Call}
-use Rattle.mig_store.specs.declared.calls.Call.TheVariants.{Lands, Synced}
+use Rattle.mig_store.specs.Calls.{Call, Lands, Synced}
 use Rattle.mig_store.specs.declared.ends.Landing.{Landing}
 use Rattle.mig_store.specs.declared.trouble.Trouble.{Trouble}
 use Rattle.mig_store.specs.Ledgers.{Log, after, moment_of, flying, MayLeave, state_at}

@@ -1,16 +1,16 @@
 //! What a store in memory keeps of a cell.
-ghost use Rattle.std.specs.Prelude.{◌≡◌, ◌≤◌, ◌+◌, ◌/◌, ℕ, List, IfOk, length, map, slice_get, take};
-ghost use Rattle.mig_store.specs.declared.calls.Call.{Call};
+ghost use Rattle.std.specs.Prelude.{◌≡◌, ◌<◌, ◌≤◌, ◌+◌, ◌++◌, ◌∷◌, [], ◌/◌, ℕ, List, IfOk, IfSome, length, map, slice_get, take};
+ghost use Rattle.mig_store.specs.Calls.{Call, Copies, call_with};
 ghost use Rattle.mig_store.specs.Bytes.{overwritten};
 ghost use Rattle.mig_store.specs.Asking.{ask, asked_by, land, bytes_at, bytes_of, seen};
 ghost use Rattle.mig_store.specs.HeldCells.{cell_of, held_at, change_at, held_map};
 ghost use Rattle.mig_store.specs.Entries.{firsts, seen_all, crash_entry, IsWithin, AreWithin, zero_entry};
 
 use crate::block::Block;
-use crate::calls::Call;
+use crate::calls::{Act, Calls};
 use crate::cell_table::CellTable;
-use crate::held::{Held, zero_block};
-use mig_base::Cell;
+use crate::held::{Held, get, zero_block};
+use mig_base::{Cell, Flight};
 use std::alloc::{AllocError, Global};
 
 /// What each cell that isn't settled holds after a crash.
@@ -42,18 +42,6 @@ pub struct Entry {
     pub period: u64,
 }
 
-// The bytes that the call at this place asks to be written.
-fn asked_at(calls: &[Call], place: usize) -> &[u8]
-    ensures value { result.now ≡ asked_by (slice_get calls.now place) }
-    ensures short { length result.now ≤ 4096 }
-{
-    match calls.get(place) {
-        Some(Call::Wrote { bytes, .. }) => bytes.bytes(),
-        Some(Call::Copies { bytes, .. }) => bytes.bytes(),
-        _ => &[],
-    }
-}
-
 // The bytes that are picked.
 fn pick_bytes(pick: Pick, kept: &[u8], asked: &[u8]) -> Block
     requires kept { length kept.now ≤ 4096 }
@@ -81,21 +69,33 @@ fn halves(kept: &[u8], asked: &[u8]) -> Block
 
 impl Entry {
     // The bytes that the call at this place asks for, or the first ones.
-    fn bytes<'a>(&'a self, calls: &'a [Call], place: Option<usize>) -> &'a [u8]
-        ensures value { result.now ≡ bytes_at calls.now self.now.first place }
+    fn bytes<'a>(&'a self, calls: &'a Calls, place: Option<usize>) -> &'a [u8]
+        ensures value { result.now ≡ bytes_at calls.now.calls self.now.first place }
         ensures short { length result.now ≤ 4096 }
     {
         match place {
-            Some(place) => asked_at(calls, place),
+            Some(place) => calls.asked(place),
             None => self.first.bytes(),
         }
     }
 
     /// What a read gives, after these calls.
-    pub fn shown<'a>(&'a self, calls: &'a [Call]) -> &'a [u8]
-        ensures { result.now ≡ bytes_at calls.now self.now.first self.now.shown }
+    pub fn shown<'a>(&'a self, calls: &'a Calls) -> &'a [u8]
+        ensures { result.now ≡ bytes_at calls.now.calls self.now.first self.now.shown }
     {
         self.bytes(calls, self.shown)
+    }
+
+    // Records a call that asks what a read gives to be written.
+    fn note_shown(&self, calls: &mut Calls, act: &Act)
+        requires { length calls.old.calls < calls.old.room }
+        ensures calls { calls.new.calls ≡ calls.old.calls ++ call_with act.now (bytes_at calls.old.calls self.now.first self.now.shown) ∷ [] }
+        ensures room { calls.new.room ≡ calls.old.room }
+    {
+        match self.shown {
+            Some(place) => calls.note_again(act, place),
+            None => calls.note(act, self.first.bytes()),
+        }
     }
 
     // Takes what the call at this place asks for.
@@ -125,8 +125,8 @@ impl Entry {
     }
 
     // Keeps what is picked, after these calls, as the first bytes.
-    fn crash(&mut self, calls: &[Call], period: u64, pick: Pick)
-        ensures { self.new ≡ crash_entry calls.now period pick self.old }
+    fn crash(&mut self, calls: &Calls, period: u64, pick: Pick)
+        ensures { self.new ≡ crash_entry calls.now.calls period pick self.old }
     {
         if self.period == period {
             self.first = pick_bytes(
@@ -135,12 +135,35 @@ impl Entry {
                 self.bytes(calls, self.asked),
             );
         } else if let Some(place) = self.shown {
-            self.first.set(asked_at(calls, place));
+            self.first.set(calls.asked(place));
         }
         self.kept = None;
         self.shown = None;
         self.asked = None;
         self.period = 0;
+    }
+}
+
+/// Records that a copy of what a read of its source gives was asked to begin, if the source is held.
+pub fn note_copy(
+    table: &CellTable,
+    held: &[Held<Entry>],
+    calls: &mut Calls,
+    flight: &Flight,
+    done: bool,
+)
+    requires cells { table.now ≡ map cell_of held.now }
+    requires room { length calls.old.calls < calls.old.room }
+    ensures calls { IfSome (held_at held.now flight.now.from) (λ e. calls.new.calls ≡ calls.old.calls ++ Copies flight.now.from flight.now.to (bytes_at calls.old.calls e.first e.shown) done ∷ []) }
+    ensures room { calls.new.room ≡ calls.old.room }
+{
+    if let Some(entry) = get(table, held, &flight.from) {
+        let act = Act::Copy {
+            from: flight.from,
+            to: flight.to,
+            done,
+        };
+        entry.note_shown(calls, &act);
     }
 }
 
@@ -178,8 +201,8 @@ pub fn land_at(table: &CellTable, held: &mut Vec<Held<Entry>>, period: u64, cell
 }
 
 /// Leaves in each cell what is picked, after these calls.
-pub fn crash_all(held: &mut Vec<Held<Entry>>, calls: &[Call], period: u64, pick: Pick)
-    ensures { held.new.items ≡ map (held_map (crash_entry calls.now period pick)) held.old.items }
+pub fn crash_all(held: &mut Vec<Held<Entry>>, calls: &Calls, period: u64, pick: Pick)
+    ensures { held.new.items ≡ map (held_map (crash_entry calls.now.calls period pick)) held.old.items }
 {
     for h in held.iter_mut() {
         h.value.crash(calls, period, pick);

@@ -1,18 +1,18 @@
 //! A record of calls on cells that are held in memory.
-ghost use Rattle.std.specs.Prelude.{◌≡◌, ◌⊎◌, ◌↔◌, ◌≤◌, ◌<◌, ◌+◌, ◌++◌, Bool, true, [], ◌∷◌, ℕ, List, IsTrue, IsSome, IfSome, IfNone, IfOk, None, Some, map, length, count_by, slice_index_or, vec_len, vec_capacity};
+ghost use Rattle.std.specs.Prelude.{◌≡◌, ◌↔◌, ◌≤◌, ◌<◌, ◌+◌, ◌++◌, Bool, true, [], ◌∷◌, ℕ, List, IsTrue, IsSome, IfSome, IfNone, IfOk, None, Some, map, length, count_by, slice_index_or};
 ghost use Rattle.std.specs.Option.{IsSomeAnd, option_map};
 ghost use Rattle.mig_base.specs.Cells.{cell_len, is_slot};
 ghost use Rattle.mig_base.specs.InputLists.{AreDifferent};
 ghost use Rattle.mig_base.specs.Flights.{IsTargetOf, IsSourceOf, AreFlights};
-ghost use Rattle.mig_store.specs.declared.calls.Call.TheVariants.{Wrote, Copies, Lands, Synced};
+ghost use Rattle.mig_store.specs.Calls.{Wrote, Copies, Lands, Synced};
 ghost use Rattle.mig_store.specs.HeldCells.{held_at, held_map, zero_held};
 ghost use Rattle.mig_store.specs.Asking.{picked};
 ghost use Rattle.mig_store.specs.Ledgers.{Log, is_sync, IsMoment, moment_of, reads, flying};
 
-use crate::block::Block;
-use crate::calls::Call;
+use crate::calls::{Act, Calls};
 use crate::cell_table::CellTable;
-use crate::contents::{Entry, Pick, ask_at, crash_all, land_at, zero_entries};
+use crate::contents::{Entry, Pick, ask_at, crash_all, land_at, note_copy, zero_entries};
+use crate::growing::push;
 use crate::held::{Held, get};
 use mig_base::{Cell, Event, Flight};
 use std::alloc::{AllocError, Global};
@@ -25,7 +25,7 @@ pub struct Ledger {
     held: Vec<Held<Entry>>,
     /// One more than the number of syncs.
     period: u64,
-    calls: Vec<Call>,
+    calls: Calls,
     events: Vec<Event>,
     flying: Vec<Flight>,
     room: u32,
@@ -39,23 +39,11 @@ impl Model for Ledger {
 
     ghost Value = { Log };
 
-    ghost view = { λ l. record { first = firsts l.held.items; calls = l.calls.items; room = l.room } };
+    ghost view = { λ l. record { first = firsts l.held.items; calls = l.calls.calls; room = l.room } };
 
-    ghost invariant = { λ l. IsLog (record { first = firsts l.held.items; calls = l.calls.items; room = l.room }) (seen_all l.calls.items l.period l.held.items) l.events.items l.flying.items
-        × (l.table ≡ map cell_of l.held.items) × AreWithin (length l.calls.items) l.period l.held.items × (1 ≤ l.period) × (l.period ≤ length l.calls.items + 1)
-        × (l.room ≤ vec_capacity l.calls) × (l.room ≤ vec_capacity l.events) × (l.room ≤ vec_capacity l.flying) };
-}
-
-// Puts a value into a list with room.
-fn push<T: Drop>(list: &mut Vec<T>, value: T)
-    requires { vec_len list.old < vec_capacity list.old }
-    ensures items { list.new.items ≡ list.old.items ++ value ∷ [] }
-    ensures capacity { vec_capacity list.old ≤ vec_capacity list.new }
-{
-    match list.push(value) {
-        Ok(()) => {}
-        Err(_) => {}
-    }
+    ghost invariant = { λ l. IsLog (record { first = firsts l.held.items; calls = l.calls.calls; room = l.room }) (seen_all l.calls.calls l.period l.held.items) l.events.items l.flying.items
+        × (l.table ≡ map cell_of l.held.items) × AreWithin (length l.calls.calls) l.period l.held.items × (1 ≤ l.period) × (l.period ≤ length l.calls.calls + 1)
+        × (l.room ≤ l.calls.room) × (l.room ≤ vec_capacity l.events) × (l.room ≤ vec_capacity l.flying) };
 }
 
 impl Ledger {
@@ -68,7 +56,7 @@ impl Ledger {
             table: CellTable::of(alloc, cells)?,
             held: zero_entries(alloc, cells)?,
             period: 1,
-            calls: Vec::with_capacity(alloc, room as usize)?,
+            calls: Calls::new(alloc, room)?,
             events: Vec::with_capacity(alloc, room as usize)?,
             flying: Vec::with_capacity(alloc, room as usize)?,
             room,
@@ -136,20 +124,11 @@ impl Ledger {
         }
     }
 
-    /// The bytes of the first cell, where both cells are told.
-    pub fn to_copy(&self, from: &Cell, to: &Cell) -> Option<Block>
-        ensures from { IfSome result (λ bytes. reads (moment_of self.now) from.now ≡ Some bytes) }
-        ensures to { IfSome result (λ bytes. IsSome (reads (moment_of self.now) to.now)) }
-        ensures length { IfSome result (λ bytes. length bytes ≡ cell_len from.now) }
-        ensures none { IfNone result ((reads (moment_of self.now) from.now ≡ None) ⊎ (reads (moment_of self.now) to.now ≡ None)) }
+    /// Whether both cells are told.
+    pub fn tells(&self, from: &Cell, to: &Cell) -> bool
+        ensures { IsTrue result ↔ IsSome (reads (moment_of self.now) from.now) × IsSome (reads (moment_of self.now) to.now) }
     {
-        let Some(bytes) = self.shown(from) else {
-            return None;
-        };
-        match self.shown(to) {
-            Some(_) => Some(Block::of(bytes)),
-            None => None,
-        }
+        self.shown(from).is_some() && self.shown(to).is_some()
     }
 
     /// The copies in flight.
@@ -171,14 +150,7 @@ impl Ledger {
     pub fn syncs(&self) -> u32
         ensures { result ≡ count_by is_sync self.now.calls }
     {
-        let _room = self.room;
-        let mut syncs = 0;
-        for call in &self.calls {
-            if let Call::Synced = call {
-                syncs += 1;
-            }
-        }
-        syncs
+        self.calls.syncs()
     }
 
     /// Records a write.
@@ -190,39 +162,24 @@ impl Ledger {
         ensures { self.new ≡ record { first = self.old.first; calls = self.old.calls ++ Wrote cell.now bytes.now done ∷ []; room = self.old.room } }
     {
         let place = self.calls.len();
-        push(
-            &mut self.calls,
-            Call::Wrote {
-                cell: *cell,
-                bytes: Block::of(bytes),
-                done,
-            },
-        );
+        self.calls.note(&Act::Write { cell: *cell, done }, bytes);
         ask_at(&self.table, &mut self.held, self.period, cell, place, done);
     }
 
-    /// Records that a copy of these bytes was asked to begin.
-    pub fn begin(&mut self, flight: Flight, bytes: &[u8], done: bool)
+    /// Records that a copy of what a read of its source gives was asked to begin.
+    pub fn begin(&mut self, flight: Flight, done: bool)
         requires room { length self.old.calls < self.old.room }
-        requires length { length bytes.now ≡ cell_len flight.to }
+        requires length { cell_len flight.from ≡ cell_len flight.to }
         requires flight { AreFlights (flight ∷ []) }
         requires from_still { ¬ IsTargetOf (flying (moment_of self.old)) flight.from }
         requires not_target { ¬ IsTargetOf (flying (moment_of self.old)) flight.to }
         requires not_source { ¬ IsSourceOf (flying (moment_of self.old)) flight.to }
-        requires source { reads (moment_of self.old) flight.from ≡ Some bytes.now }
+        requires source { IsSome (reads (moment_of self.old) flight.from) }
         requires target { IsSome (reads (moment_of self.old) flight.to) }
-        ensures { self.new ≡ record { first = self.old.first; calls = self.old.calls ++ Copies flight.from flight.to bytes.now done ∷ []; room = self.old.room } }
+        ensures { IfSome (reads (moment_of self.old) flight.from) (λ bytes. self.new ≡ record { first = self.old.first; calls = self.old.calls ++ Copies flight.from flight.to bytes done ∷ []; room = self.old.room }) }
     {
         let place = self.calls.len();
-        push(
-            &mut self.calls,
-            Call::Copies {
-                from: flight.from,
-                to: flight.to,
-                bytes: Block::of(bytes),
-                done,
-            },
-        );
+        note_copy(&self.table, &self.held, &mut self.calls, &flight, done);
         ask_at(
             &self.table,
             &mut self.held,
@@ -252,12 +209,12 @@ impl Ledger {
     {
         let flight = self.flying.remove(index);
         land_at(&self.table, &mut self.held, self.period, &flight.to);
-        push(
-            &mut self.calls,
-            Call::Lands {
+        self.calls.note(
+            &Act::Land {
                 from: flight.from,
                 to: flight.to,
             },
+            &[],
         );
         push(
             &mut self.events,
@@ -275,7 +232,7 @@ impl Ledger {
         requires none { flying (moment_of self.old) ≡ [] }
         ensures { self.new ≡ record { first = self.old.first; calls = self.old.calls ++ Synced ∷ []; room = self.old.room } }
     {
-        push(&mut self.calls, Call::Synced);
+        self.calls.note(&Act::Sync, &[]);
         self.period += 1;
     }
 }

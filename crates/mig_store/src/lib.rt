@@ -6,6 +6,7 @@ mod calls;
 mod cell_table;
 mod contents;
 mod ends;
+mod growing;
 mod held;
 mod ledger;
 mod memory;

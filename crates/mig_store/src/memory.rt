@@ -7,7 +7,7 @@ ghost use Rattle.mig_base.specs.Flights.{began, IsTargetOf, IsSourceOf};
 ghost use Rattle.mig_base.specs.Cells.{cell_len, is_slot};
 ghost use Rattle.mig_base.specs.Stores.{State, flights, IsMoving, Changes, ChangesOnly, Looks, Ends, named, IsSettled, HasCause};
 ghost use Rattle.mig_base.specs.InputLists.{AreDifferent};
-ghost use Rattle.mig_store.specs.declared.calls.Call.TheVariants.{Wrote, Copies, Lands};
+ghost use Rattle.mig_store.specs.Calls.{Wrote, Copies, Lands};
 ghost use Rattle.mig_store.specs.declared.ends.EndOrder.{EndOrder};
 ghost use Rattle.mig_store.specs.declared.trouble.Trouble.{Trouble};
 ghost use Rattle.mig_store.specs.Asking.{picked};
@@ -242,16 +242,15 @@ impl Store for MemStore {
             self.trouble.fault();
             return Err(StoreFailed);
         }
-        let Some(block) = self.ledger.to_copy(from, to) else {
+        if !self.ledger.tells(from, to) {
             self.trouble.fault();
             return Err(StoreFailed);
-        };
+        }
         self.ledger.begin(
             Flight {
                 from: *from,
                 to: *to,
             },
-            block.bytes(),
             !fails,
         );
         if fails {

@@ -92,7 +92,7 @@ fn disk_names(alloc: Global, disks: &[Disk]) -> Result<NameTable, AllocError>
     requires { AreDifferent (names_of disks.now) }
     ensures { IfOk result (λ t. t ≡ names_of disks.now) }
 {
-    let mut table = NameTable::new(alloc);
+    let mut table = NameTable::with_capacity(alloc, disks.len())?;
     for disk in disks {
         table.push(disk.name)?;
     }
@@ -104,7 +104,7 @@ fn item_names(alloc: Global, items: &[Name]) -> Result<NameTable, AllocError>
     requires { AreDifferent items.now }
     ensures { IfOk result (λ t. t ≡ items.now) }
 {
-    let mut table = NameTable::new(alloc);
+    let mut table = NameTable::with_capacity(alloc, items.len())?;
     for item in items {
         table.push(*item)?;
     }

@@ -10,6 +10,7 @@ use Rattle.mig_top.specs.Calls.{Call, Untouched}
 use Rattle.mig_top.specs.Ends.{FormEndsAs, WorldEnds}
 use Rattle.mig_top.specs.Loading.{NoLayout}
 use Rattle.mig_words.specs.Outcomes.{Done, SinkFault, StoreFault, outcome_of}
+use Rattle.mig_words.specs.Puts.{Shows}
 use Rattle.mig_top.specs.Sights.{IsAudit, sight_count}
 use Rattle.mig_top.specs.Steps.{IsDone}
 use Rattle.mig_top.specs.StoreLeaves.{AreOfLayout}
@@ -61,25 +62,20 @@ module _ (k : Call) (disks now : List ℕ) (same : Untouched k.before.folder k.a
       )
 
       -- each line was put, and then the count
-      pub lines_end : (here : ℕ) → HavePutSights input k.before.store (length input.items) k.before.sink mid here → (status ≡ 0) ⊎ ((status ≡ 6) × Rose mid.faults k.after.sink.faults)
-          → ExtendsInPart (sight_count input here) mid k.after.sink → (status ≡ 0 → Extends (sight_count input here) mid k.after.sink) → FormEndsAs k form status
-      lines_end here h (inl is) begun done = (
-        Done (h.lines ++ sight_count input here),
-        is,
-        audit_done (h.lines ++ sight_count input here) (h.lines, here, h.are, refl),
-        record {
-          begun = then_begins h.lines (sight_count input here) k.before.sink mid k.after.sink h.put begun;
-          whole = λ fine. then_extends h.lines (sight_count input here) k.before.sink mid k.after.sink h.put (done is);
-          done = λ zero. then_extends h.lines (sight_count input here) k.before.sink mid k.after.sink h.put (done is);
-        },
-      )
-      lines_end here h (inr (is, failed)) begun done = (
-        SinkFault (h.lines ++ sight_count input here),
-        is,
-        (omega (arith, later, failed), audit_done (h.lines ++ sight_count input here) (h.lines, here, h.are, refl)),
-        record {
-          begun = then_begins h.lines (sight_count input here) k.before.sink mid k.after.sink h.put begun;
-          whole = λ fine. absurd (fine (omega (arith, later, failed)));
-          done = λ zero. absurd (omega (arith, zero));
-        },
-      )
+      pub lines_end : (here : ℕ) → HavePutSights input k.before.store (length input.items) k.before.sink mid here → Shows (sight_count input here) mid k.after.sink status → FormEndsAs k form status
+      lines_end here h shows = by shows.status
+        where
+          text : List ℕ
+          text = h.lines ++ sight_count input here
+
+          begun : ExtendsInPart text k.before.sink k.after.sink
+          begun = then_begins h.lines (sight_count input here) k.before.sink mid k.after.sink h.put shows.begun
+
+          put : status ≡ 0 → Extends text k.before.sink k.after.sink
+          put is = then_extends h.lines (sight_count input here) k.before.sink mid k.after.sink h.put (shows.done is)
+
+          by : (status ≡ 0) ⊎ ((status ≡ 6) × Rose mid.faults k.after.sink.faults) → FormEndsAs k form status
+          by (inl is) = (Done text, is, audit_done text (h.lines, here, h.are, refl), record { begun = begun; whole = λ fine. put is; done = λ zero. put is })
+          by (inr (is, failed)) =
+              let rose : Rose k.before.sink.faults k.after.sink.faults = omega (arith, later, failed) in
+              (SinkFault text, is, (rose, audit_done text (h.lines, here, h.are, refl)), record { begun = begun; whole = λ fine. absurd (fine rose); done = λ zero. absurd (omega (arith, zero)) })

@@ -1,5 +1,7 @@
 -- What `drill` promises, from the causes of its outcomes and what it leaves.
-use Rattle.std.proofs.Common.{◌≡◌, ◌<◌, inl, inr, ℕ, List, [], ◌∷◌, Some, length, refl, subst, arith}
+use Rattle.std.proofs.Common.{◌≡◌, ◌<◌, inl, inr, ℕ, List, Some, length, refl, subst, arith}
+use Rattle.mig_base.specs.declared.ids.Shift.{Shift}
+use Rattle.mig_base.specs.InputLists.{Lists}
 use Rattle.mig_base.specs.Readiness.{shifts_of}
 use Rattle.mig_drill.specs.Drills.{drill_text}
 use Rattle.mig_drill.specs.declared.limits.TheConstants.{MAX_DRILL_SHIFTS}
@@ -15,28 +17,26 @@ use Rattle.mig_top.specs.Steps.{IsDone, Then}
 use Rattle.mig_top.specs.StoreLeaves.{IsUntouched}
 use Rattle.mig_words.specs.Outcomes.{Outcome, Done, SinkFault, TooLarge, code, text_of}
 use Rattle.mig_words.specs.Words.{Drill, IsListed}
-use Rattle.mig_top.proofs.Exactness.{comes_exactly, input_exact, is_input, known_form, loads_exact, plan_exact, runs_exact, told}
-use Rattle.mig_top.proofs.Steps.{follow}
-use Rattle.mig_top.proofs.TaskFiles.{four_there}
+use Rattle.mig_top.proofs.Exactness.{comes_exactly, known_form, told}
+use Rattle.mig_top.proofs.InFlight.{task_rest}
+use Rattle.mig_top.proofs.TaskFiles.{task_cause}
+
+-- what is left of `drill` once its task is known
+abbrev drill_rest : Files → Lists → List (List Shift) → Outcome → Type 0
+drill_rest files input rounds = Then (fits_drill rounds) (λ _. IsDone (λ text. text ≡ drill_text rounds))
 
 module _ (k : Call) (words : List (List ℕ)) (status : ℕ) (ends : EndsAs k words status) (files : Files) (disks : List ℕ) (now : List ℕ) (next : List ℕ) (plan : List ℕ) (task : Task)
     (is : k.before.folder.files ≡ Some files) (holds : IsTaskOf files disks now next plan task) (l : IsListed words (Drill disks now next plan)) where
   -- once the plan runs
   abbrev rest : Outcome → Type 0
-  rest = Then (fits_drill task.plan) (λ _. IsDone (λ text. text ≡ drill_text task.plan))
+  rest = drill_rest files task.input task.plan
 
   -- the cause of an outcome says how the drill of this plan ends
   means : (o : Outcome) → FormCause files k.before.store (Drill disks now next plan) o → rest o
-  means =
-      let all : (o : Outcome) → FormCause files k.before.store (Drill disks now next plan) o → FormCause files k.before.store (Drill disks now next plan) o = λ o h. h in
-      let valid = is_input files disks now next task.input holds.stands in
-      let loaded = follow _ (loads_exact files (disks ∷ now ∷ next ∷ plan ∷ [])) _ all tt (four_there files disks now next plan task holds) in
-      let stands = follow _ (input_exact files disks now next) _ loaded task.input holds.stands in
-      let has = follow _ (plan_exact files plan task.input valid) _ stands task.plan holds.has_plan in
-      follow _ (runs_exact task.input task.plan) _ has tt holds.runs
+  means = task_rest k words status ends files disks now next plan task is holds (Drill disks now next plan) drill_rest (λ o h. h)
 
   leads : (o : Outcome) → rest o → FormCause files k.before.store (Drill disks now next plan) o
-  leads o h = inr (tt, four_there files disks now next plan task holds, inr (task.input, holds.stands, inr (task.plan, holds.has_plan, inr (tt, holds.runs, h))))
+  leads = task_cause k (Drill disks now next plan) disks now next plan drill_rest (λ files o c. c) files task holds
 
   text_is : (text : List ℕ) → rest (Done text) → text ≡ drill_text task.plan
   text_is text (inl large) = absurd large

@@ -1,9 +1,8 @@
 -- How `fill` ends.
-use Rattle.std.proofs.Common.{◌≡◌, ◌⊎◌, inl, inr, ℕ, List, [], ◌∷◌, ◌++◌, Option, Result, Ok, Err, IfErr, OnOk, refl, sym, subst}
+use Rattle.std.proofs.Common.{◌≡◌, inl, inr, ℕ, List, [], ◌∷◌, refl}
 use Rattle.std.specs.Option.{IfSome}
 use Rattle.mig_base.specs.InputLists.{Lists}
-use Rattle.mig_base.specs.Stores.{State, IsSettled, flights}
-use Rattle.mig_io.specs.Files.{Files}
+use Rattle.mig_base.specs.Stores.{IsSettled, flights}
 use Rattle.mig_mover.specs.Fillings.{HasMade, IsFillable, IsFillFault, IsFillRefusal}
 use Rattle.mig_mover.specs.Moves.{Settles}
 use Rattle.mig_mover.specs.declared.faults.MoveFault.{MoveFault}
@@ -12,13 +11,12 @@ use Rattle.mig_words.specs.declared.endings.Ending.{Ending}
 use Rattle.mig_words.specs.declared.endings.Ending.TheVariants.{Refused, FolderFault, Memory, NoFile}
 use Rattle.mig_top.specs.Calls.{Call, Untouched}
 use Rattle.mig_top.specs.Causes.{FormCause}
-use Rattle.mig_top.specs.Ends.{FormEnds, WorldEnds}
+use Rattle.mig_top.specs.Ends.{WorldEnds}
 use Rattle.mig_top.specs.Loading.{NoLayout}
-use Rattle.mig_top.specs.Loads.{HoldsLayout}
-use Rattle.mig_words.specs.Outcomes.{Outcome, Done, fault_outcome, outcome_of}
+use Rattle.mig_words.specs.Outcomes.{Done, fault_outcome, outcome_of}
 use Rattle.mig_top.specs.Steps.{Then, IsDone}
 use Rattle.mig_top.specs.StoreLeaves.{AreOfLayout, FillLeaves, IsUntouched, WritesListed}
-use Rattle.mig_top.specs.StoreLooks.{IsShown, fills, filled_text}
+use Rattle.mig_top.specs.StoreLooks.{fills, filled_text}
 use Rattle.mig_words.specs.Words.{Form, Fill}
 use Rattle.mig_top.proofs.StepEnds.{if_map}
 use Rattle.mig_top.proofs.StoreEnds.{settled_left, two_there, unread}

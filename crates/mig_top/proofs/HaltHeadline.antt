@@ -1,40 +1,39 @@
 -- What `halt` promises, from the causes of its outcomes and what they leave.
-use Rattle.std.proofs.Common.{◌≡◌, ◌⊎◌, inl, inr, ⊎_elim, true, ℕ, length, List, [], ◌∷◌, Option, Some, None, IfSome, IsSome, append-nil, map, refl, sym, ◌∙◌, ap, subst, arith}
+use Rattle.std.proofs.Common.{◌≡◌, ◌⊎◌, inl, inr, ⊎_elim, true, ℕ, length, List, [], Option, Some, IfSome, IsSome, append-nil, map, refl, sym, ◌∙◌, ap, subst, arith}
 use Rattle.std.proofs.lemmas.List.Sorted.{IsPermutation-refl}
 use Rattle.std.specs.Option.{IsSomeAnd}
 use Rattle.mig_base.specs.declared.cells.Cell.{Cell}
 use Rattle.mig_base.specs.declared.cells.Cell.TheVariants.{Gate, Head, Slot}
 use Rattle.mig_base.specs.declared.ids.Spot.{Spot}
 use Rattle.mig_base.specs.declared.inputs.Disk.{Disk}
-use Rattle.mig_base.specs.Arrivals.{IsHalted, IsHaltSafe}
+use Rattle.mig_base.specs.Arrivals.{IsHalted}
 use Rattle.mig_base.specs.Flights.{AreFlights, IsTargetOf, ended}
 use Rattle.mig_base.specs.Images.{Image}
 use Rattle.mig_base.specs.InputLists.{Lists, disk_at}
-use Rattle.mig_base.specs.JobCells.{IsHaltCell, Tells}
+use Rattle.mig_base.specs.JobCells.{IsHaltCell}
 use Rattle.mig_base.specs.Journals.{count_of, is_armed, is_one}
 use Rattle.mig_base.specs.Layouts.{At}
 use Rattle.mig_base.specs.RoundEvents.{Adds, BeginsRun}
-use Rattle.mig_base.specs.Safety.{Contents, HasContents, IsSafe, IsSound}
+use Rattle.mig_base.specs.Safety.{Contents, HasContents, IsSound}
 use Rattle.mig_base.specs.Slots.{slot_of}
-use Rattle.mig_base.specs.Stores.{State, IsState, IsSettled, flights}
+use Rattle.mig_base.specs.Stores.{State, IsState, flights}
 use Rattle.mig_base.proofs.ArrivalLaws.{idle_sound}
 use Rattle.mig_base.proofs.MarkCounts.{count_most}
 use Rattle.mig_base.proofs.StoreSteps.{events_none, same_image, same_none, same_wider}
-use Rattle.mig_io.specs.Files.{Files, FolderState, ChangedOnly, OthersStay}
+use Rattle.mig_io.specs.Files.{Files, ChangedOnly, OthersStay}
 use Rattle.mig_io.specs.Held.{Extends}
 use Rattle.mig_mover.specs.Halts.{IsClosingCell}
 use Rattle.mig_mover.specs.Moves.{Lands, Settles}
 use Rattle.mig_mover.specs.Tasks.{Task}
 use Rattle.mig_mover.proofs.Settling.{settles_land}
 use Rattle.mig_top.specs.Calls.{Call, FolderFailed, SinkFailed, StoreFailed}
-use Rattle.mig_top.specs.Causes.{FormCause}
 use Rattle.mig_top.specs.Ends.{Ends, EndsAs, FormEnds, Says}
 use Rattle.mig_top.specs.HaltHeadline.{BeginsAfter, HaltsWell}
-use Rattle.mig_top.specs.HaltLeaves.{AllMayHalt, HaltLeaves, HaltSaves, HaltsAll, HaltsInPart, IsLayoutSaved, IsUnwritten, MayHalt, SavesLayout}
-use Rattle.mig_top.specs.HaltLooks.{IsStandRefusal, halted_text}
+use Rattle.mig_top.specs.HaltLeaves.{AllMayHalt, HaltLeaves, HaltsAll, HaltsInPart, IsLayoutSaved, IsUnwritten, MayHalt, SavesLayout}
+use Rattle.mig_top.specs.HaltLooks.{IsStandRefusal, halted_text, stands}
 use Rattle.mig_top.specs.MoveLeaves.{AreOfTask}
-use Rattle.mig_top.specs.MoveLooks.{IsTaskOf}
-use Rattle.mig_words.specs.Outcomes.{Outcome, Done, FolderFault, StoreFault, SinkFault, Memory, NotStarted, OtherPlan, code, text_of}
+use Rattle.mig_top.specs.MoveLooks.{IsTaskOf, task_of}
+use Rattle.mig_words.specs.Outcomes.{Outcome, Done, FolderFault, StoreFault, SinkFault, Memory, NotStarted, OtherPlan, code}
 use Rattle.mig_top.specs.StoreLeaves.{IsUntouched, WroteNothing}
 use Rattle.mig_top.specs.StoreLooks.{IsShown}
 use Rattle.mig_words.specs.Words.{Form, Halt, IsListed}
@@ -43,6 +42,7 @@ use Rattle.mig_top.proofs.HaltExact.{named_refused}
 use Rattle.mig_top.proofs.Halting.{halt_rest, saved_only}
 use Rattle.mig_top.proofs.InFlight.{journal_found, status_so, task_rest}
 use Rattle.mig_top.proofs.StepEnds.{one_changed}
+use Rattle.mig_top.proofs.Steps.{only_done}
 use Rattle.mig_top.proofs.StoreEnds.{quiet, untouched_quiet}
 use Rattle.mig_top.proofs.TaskFiles.{one_task, task_parts}
 
@@ -170,12 +170,12 @@ module _ (k : Call) (words : List (List ℕ)) (status : ℕ) (ends : EndsAs k wo
       named_refused task h.image (ap is_one (journal_found k.before.store h.image are h.found Gate refl) ∙ armed) (subst IsSome (sym same) refl) (subst (λ (o : Option (List ℕ)). IfSome o (λ kept. kept ≡ task.digest)) (sym same) refl) h.fault h.shows
 
   completes : Completes k task status
-  completes are armed named = status_so k words status ends files disks now next plan task is holds form l (λ o h. by o (task_rest k words status ends files disks now next plan task is holds form (halt_rest k.before.store plan) (λ o h. h) o h))
+  completes are armed named =
+      let rest = task_rest k words status ends files disks now next plan task is holds form (halt_rest k.before.store plan) (λ o h. h) in
+      status_so k words status ends files disks now next plan task is holds form l (λ o h. only_done (stands (task_of files plan task.input task.plan) k.before.store) (λ found text. text ≡ halted_text task.plan found) none o (rest o h))
     where
-      by : (o : Outcome) → halt_rest k.before.store plan files task.input task.plan o → code o ≡ 0
-      by o (inl stops) = absurd (unrefused are armed named o (subst (λ (t : Task). IsShown task.input k.before.store (IsStandRefusal t) o) (sym (task_parts files disks now next plan task holds)) stops))
-      by (Done text) (inr rest) = refl
-      by o (inr rest) = absurd rest.2
+      none : (o : Outcome) → IsShown task.input k.before.store (IsStandRefusal (task_of files plan task.input task.plan)) o → ⊥
+      none o stops = unrefused are armed named o (subst (λ (t : Task). IsShown task.input k.before.store (IsStandRefusal t) o) (sym (task_parts files disks now next plan task holds)) stops)
 
   -- The ends
 

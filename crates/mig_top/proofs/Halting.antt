@@ -1,19 +1,18 @@
 -- How `halt` ends.
-use Rattle.std.proofs.Common.{◌≡◌, ◌⊎◌, ◌≤◌, None, Some, inl, inr, true, ℕ, List, [], ◌∷◌, Option, IfSome, IsSome, length, refl, sym, ◌∙◌, ap, subst, arith, append-nil}
+use Rattle.std.proofs.Common.{◌≡◌, ◌⊎◌, ◌≤◌, None, Some, inl, inr, ℕ, List, [], ◌∷◌, Option, IfSome, IsSome, length, refl, sym, ◌∙◌, subst, arith, append-nil}
 use Rattle.std.proofs.lemmas.Bool.{false≢true}
 use Rattle.std.specs.Option.{IsSomeAnd}
 use Rattle.mig_base.specs.declared.cells.Cell.{Cell}
 use Rattle.mig_base.specs.declared.cells.Cell.TheVariants.{Gate, Head}
 use Rattle.mig_base.specs.declared.cells.Event.{Event}
 use Rattle.mig_base.specs.declared.ids.Shift.{Shift}
-use Rattle.mig_base.specs.Arrivals.{IsHalted, IsHaltSafe}
+use Rattle.mig_base.specs.Arrivals.{IsHaltSafe}
 use Rattle.mig_base.specs.FaultCounts.{Rose}
 use Rattle.mig_base.specs.Flights.{IsTargetOf}
 use Rattle.mig_base.specs.Images.{Image, NoCell}
 use Rattle.mig_base.specs.InputLists.{Lists}
-use Rattle.mig_base.specs.JobCells.{IsHaltCell, SettlesTo, Tells}
-use Rattle.mig_base.specs.Journals.{count_of, is_armed}
-use Rattle.mig_base.specs.RoundEvents.{BeginsRun}
+use Rattle.mig_base.specs.JobCells.{IsHaltCell, Tells}
+use Rattle.mig_base.specs.Journals.{count_of}
 use Rattle.mig_base.specs.Safety.{Contents, IsSafe, IsSafeAt}
 use Rattle.mig_base.specs.Stores.{State, IsState, Changes, ChangesOnly, IsSettled, LeavesOnly, flights}
 use Rattle.mig_base.proofs.StoreSteps.{changes_then, changes_wider, leaves_then, quiet_leaves, same_image}
@@ -36,13 +35,13 @@ use Rattle.mig_top.specs.HaltLooks.{IsStanding, IsStandRefusal, halted_text, sta
 use Rattle.mig_top.specs.Loading.{NoTask}
 use Rattle.mig_top.specs.MoveLeaves.{AreOfTask, HasFound}
 use Rattle.mig_top.specs.MoveLooks.{task_of}
-use Rattle.mig_words.specs.Outcomes.{Outcome, Done, StoreFault, fault_outcome, outcome_of}
+use Rattle.mig_words.specs.Outcomes.{Outcome, Done, fault_outcome, outcome_of}
 use Rattle.mig_top.specs.Steps.{Then, IsDone}
 use Rattle.mig_top.specs.StoreLeaves.{IsUntouched}
 use Rattle.mig_words.specs.Words.{Form, Halt}
 use Rattle.mig_top.proofs.Moving.{shown}
 use Rattle.mig_top.proofs.StepEnds.{if_map, leaves, one_changed}
-use Rattle.mig_top.proofs.TaskFiles.{no_task_cause, told_cause}
+use Rattle.mig_top.proofs.TaskFiles.{no_task_cause, told_cause, unread_leaves}
 
 -- what is left of `halt` once its task is known
 abbrev pub halt_rest : State → List ℕ → Files → Lists → List (List Shift) → Outcome → Type 0
@@ -151,18 +150,8 @@ module _ (k : Call) (disks now next plan layout : List ℕ) where
   halt_unread same e h kept = record {
     cause = no_task_cause k form disks now next plan (halt_rest k.before.store plan) (λ files o c. c) e h;
     leaves = leaves k.before.folder k.after.folder form names e same;
-    store = left e h;
+    store = unread_leaves disks now next plan k.before.folder k.after.folder (HaltLeaves k.before.folder k.after.folder k.before.store k.after.store disks now next plan layout) (inl kept) (inl kept) (λ word. kept) (λ b name. kept) (λ f r w. kept) (λ f line. kept) (λ shifts. kept) e h;
   }
-    where
-      left : (e : Ending) → NoTask disks now next plan k.before.folder k.after.folder e → HaltLeaves k.before.folder k.after.folder k.before.store k.after.store disks now next plan layout (outcome_of names e)
-      left ending.FolderFault h = inl kept
-      left ending.Memory h = inl kept
-      left (ending.NoFile place) h = kept
-      left (ending.Blamed b name) h = kept
-      left (ending.Refused f r w) h = kept
-      left (ending.NotSpelled f line) h = kept
-      left (ending.TooLarge shifts) h = kept
-      left _ h = absurd h
 
   module _ (task : Task) (are : AreOfTask k.before.folder disks now next plan task) where
     halt_cause : (o : Outcome) → Then (stands task k.before.store) (λ found. IsDone (λ text. text ≡ halted_text task.plan found)) o → IfSome k.before.folder.files (λ files. FormCause files k.before.store form o)

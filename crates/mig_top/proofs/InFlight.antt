@@ -1,5 +1,5 @@
 -- `move` and `resume` where copies may be in flight: no refusal comes where each image whose gate isn't 1 is ready.
-use Rattle.std.proofs.Common.{◌≡◌, ◌≢◌, ◌⊎◌, inl, inr, Bool, true, false, ℕ, List, [], ◌∷◌, Option, Some, IfSome, IsSome, refl, sym, ◌∙◌, ap, subst}
+use Rattle.std.proofs.Common.{◌≡◌, ◌≢◌, ◌⊎◌, inl, inr, true, false, ℕ, List, [], ◌∷◌, Option, Some, IfSome, refl, sym, ◌∙◌, ap, subst}
 use Rattle.std.proofs.lemmas.Bool.{cases_Bool, false≢true}
 use Rattle.mig_base.specs.declared.cells.Cell.{Cell}
 use Rattle.mig_base.specs.declared.cells.Cell.TheVariants.{Gate, Head}
@@ -23,15 +23,15 @@ use Rattle.mig_top.specs.Calls.{Call, FolderFailed, SinkFailed, StoreFailed}
 use Rattle.mig_top.specs.Causes.{FormCause, loads, reads_input, reads_plan, runs}
 use Rattle.mig_top.specs.Ends.{Ends, EndsAs, FormEnds}
 use Rattle.mig_top.specs.Headline.{IsReadyInFlight, ResumesInFlight, StartsInFlight}
-use Rattle.mig_top.specs.MoveLooks.{IsResumeRefusal, IsStartRefusal, IsTaskOf, task_of}
+use Rattle.mig_top.specs.MoveLooks.{IsResumeRefusal, IsStartRefusal, IsTaskOf, done_text, resumes, starts, task_of}
 use Rattle.mig_top.specs.Steps.{Then}
-use Rattle.mig_words.specs.Outcomes.{Outcome, Done, Unlisted, FolderFault, StoreFault, SinkFault, Memory, code}
+use Rattle.mig_words.specs.Outcomes.{Outcome, Unlisted, FolderFault, StoreFault, SinkFault, Memory, code}
 use Rattle.mig_top.specs.StoreLooks.{IsFound, IsShown}
 use Rattle.mig_words.specs.Words.{Form, Move, Resume, IsListed}
 use Rattle.mig_top.proofs.Exactness.{input_exact, is_input, known_form, loads_exact, plan_exact, runs_exact, told}
 use Rattle.mig_top.proofs.MoveExact.{not_other, ready_refused, resume_refusal, start_refusal}
 use Rattle.mig_top.proofs.Moving.{move_rest, resume_rest}
-use Rattle.mig_top.proofs.Steps.{follow}
+use Rattle.mig_top.proofs.Steps.{follow, only_done}
 use Rattle.mig_top.proofs.TaskFiles.{four_there, task_parts}
 
 -- copies in flight reach slots alone
@@ -108,26 +108,20 @@ module _ (k : Call) (words : List (List ℕ)) (status : ℕ) (ends : EndsAs k wo
 
   -- `move`
 
-  to_start : (o : Outcome) → FormCause files k.before.store (Move disks now next plan) o → move_rest k.before.store plan files task.input task.plan o
-  to_start = task_rest (Move disks now next plan) (move_rest k.before.store plan) (λ o h. h)
-
   pub starts_in_flight : IsListed words (Move disks now next plan) → StartsInFlight k task status
-  starts_in_flight l ready idle fine quiet sound = status_so (Move disks now next plan) l (λ o h. by o (to_start o h)) fine quiet sound
+  starts_in_flight l ready idle fine quiet sound =
+      let rest = task_rest (Move disks now next plan) (move_rest k.before.store plan) (λ o h. h) in
+      status_so (Move disks now next plan) l (λ o h. only_done (starts (task_of files plan task.input task.plan) k.before.store) (λ _ text. text ≡ done_text task.plan 0) none o (rest o h)) fine quiet sound
     where
-      by : (o : Outcome) → move_rest k.before.store plan files task.input task.plan o → code o ≡ 0
-      by o (inl stops) = absurd (no_start_refusal task k.before.store valid holds.runs ready idle o (subst (λ (t : Task). IsShown task.input k.before.store (IsStartRefusal t) o) (sym (task_parts files disks now next plan task holds)) stops))
-      by (Done text) (inr rest) = refl
-      by o (inr rest) = absurd rest.2
+      none : (o : Outcome) → IsShown task.input k.before.store (IsStartRefusal (task_of files plan task.input task.plan)) o → ⊥
+      none o stops = no_start_refusal task k.before.store valid holds.runs ready idle o (subst (λ (t : Task). IsShown task.input k.before.store (IsStartRefusal t) o) (sym (task_parts files disks now next plan task holds)) stops)
 
   -- `resume`
 
-  to_resume : (o : Outcome) → FormCause files k.before.store (Resume disks now next plan) o → resume_rest k.before.store plan files task.input task.plan o
-  to_resume = task_rest (Resume disks now next plan) (resume_rest k.before.store plan) (λ o h. h)
-
   pub resumes_in_flight : IsListed words (Resume disks now next plan) → ResumesInFlight k task status
-  resumes_in_flight l ready named fine quiet sound = status_so (Resume disks now next plan) l (λ o h. by o (to_resume o h)) fine quiet sound
+  resumes_in_flight l ready named fine quiet sound =
+      let rest = task_rest (Resume disks now next plan) (resume_rest k.before.store plan) (λ o h. h) in
+      status_so (Resume disks now next plan) l (λ o h. only_done (resumes (task_of files plan task.input task.plan) k.before.store) (λ found text. text ≡ done_text task.plan found) none o (rest o h)) fine quiet sound
     where
-      by : (o : Outcome) → resume_rest k.before.store plan files task.input task.plan o → code o ≡ 0
-      by o (inl stops) = absurd (no_resume_refusal task k.before.store valid holds.runs ready named o (subst (λ (t : Task). IsShown task.input k.before.store (IsResumeRefusal t) o) (sym (task_parts files disks now next plan task holds)) stops))
-      by (Done text) (inr rest) = refl
-      by o (inr rest) = absurd rest.2
+      none : (o : Outcome) → IsShown task.input k.before.store (IsResumeRefusal (task_of files plan task.input task.plan)) o → ⊥
+      none o stops = no_resume_refusal task k.before.store valid holds.runs ready named o (subst (λ (t : Task). IsShown task.input k.before.store (IsResumeRefusal t) o) (sym (task_parts files disks now next plan task holds)) stops)

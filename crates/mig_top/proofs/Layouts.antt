@@ -1,5 +1,5 @@
 -- Two files list one layout at most; and the first thing that is wrong with their first bytes is the first thing that is wrong with them.
-use Rattle.std.proofs.Common.{◌+◌, ◌≡◌, inl, inr, ℕ, ◌<◌, ◌≤◌, List, [], ◌∷◌, Contains, get_or, length, map, slice_get, take, refl, sym, ap, subst, ◌∙◌, arith, Option, Some}
+use Rattle.std.proofs.Common.{◌+◌, ◌≡◌, inl, inr, ℕ, ◌<◌, ◌≤◌, List, [], ◌∷◌, Contains, get_or, length, map, slice_get, take, refl, sym, ap, subst, ◌∙◌, arith, Some}
 use Rattle.std.specs.List.{AllZip}
 use Rattle.std.specs.Option.{IfSome, IsSomeAnd}
 use Rattle.std.proofs.lemmas.Bool.{cases_lt}
@@ -7,8 +7,8 @@ use Rattle.std.proofs.lemmas.List.{get_or-take, length-take, take-map}
 use Rattle.std.proofs.lemmas.Option.{get_or_from_slice_get, slice_get-get_or}
 use Rattle.mig_base.specs.declared.limits.TheConstants.{MAX_FILE_BYTES}
 use Rattle.mig_base.specs.InputLists.{AreDifferent, Lists}
-use Rattle.mig_base.specs.Refusals.{IsSpotNamed, Precedes, stage_of}
-use Rattle.mig_base.specs.Rows.{Row, disk_of, first, rows_of, second}
+use Rattle.mig_base.specs.Refusals.{IsSpotNamed, stage_of}
+use Rattle.mig_base.specs.Rows.{Row, first, rows_of, second}
 use Rattle.mig_base.specs.declared.faults.FileKind.{FileKind}
 use Rattle.mig_base.specs.declared.faults.FileKind.TheVariants as file_kind
 use Rattle.mig_base.specs.declared.faults.Why.{Why}

@@ -83,7 +83,7 @@ rest_lists : (a : List ℕ) (l : List (List ℕ)) (i : ℕ) (bs : List (List ℕ
 rest_lists a l i [] h = tt
 rest_lists a l i (b ∷ bs) h = (h.0, rest_lists a l (suc i) bs h.1)
 
-pub lists_all : (l bs : List (List ℕ)) → length l ≡ length bs → Lists l 0 bs → l ≡ bs
+lists_all : (l bs : List (List ℕ)) → length l ≡ length bs → Lists l 0 bs → l ≡ bs
 lists_all [] [] e h = refl
 lists_all [] (b ∷ bs) e h = absurd cc
 lists_all (a ∷ l) [] e h = absurd cc
@@ -91,3 +91,8 @@ lists_all (a ∷ l) (b ∷ bs) e h = ap (λ c. c ∷ l) h.0 ∙ ap (λ rest. b �
 
 pub loaded_at : {X : Type 0} (f : X → List ℕ) (xs : List X) (i : ℕ) (x : X) (b : List ℕ) → i < length xs → x ≡ get_or xs i x → b ≡ f x → get_or (map f xs) i [] ≡ b
 loaded_at f xs i x b within is e = get_or-map f xs i x [] within ∙ sym (ap f is) ∙ sym e
+
+-- so the files begin with all of these
+pub held_by : {X : Type 0} (f : X → List ℕ) (xs : List X) (names bytes : List (List ℕ)) (files : Option Files) → length xs ≡ length bytes → Lists (map f xs) 0 bytes
+    → IfSome files (λ files. HoldFirst files names (map f xs)) → IfSome files (λ files. HoldFirst files names bytes)
+held_by f xs names bytes files count at = subst (λ (bs : List (List ℕ)). IfSome files (λ files. HoldFirst files names bs)) (lists_all (map f xs) bytes (omega (arith, length-map xs f, count)) at)

@@ -1,20 +1,18 @@
 -- The steps of `move` and `resume` at the store are exact, where it tells the cells of their task and has no copy in flight.
-use Rattle.std.proofs.Common.{◌≡◌, ◌≢◌, ◌<◌, inl, inr, true, false, ℕ, List, [], Option, Some, None, Contains, IfSome, IsSome, get_or, length, slice_get, refl, sym, ◌∙◌, ap, subst, arith}
+use Rattle.std.proofs.Common.{◌≡◌, ◌≢◌, ◌<◌, inl, inr, ℕ, List, Contains, IfSome, IsSome, get_or, length, refl, sym, ◌∙◌, subst, arith}
 use Rattle.std.proofs.lemmas.Bool.{false≢true}
 use Rattle.std.proofs.lemmas.List.Elements.{All-contains}
 use Rattle.std.proofs.lemmas.Option.{get_or_from_slice_get, slice_get-get_or, slice_get_within}
 use Rattle.mig_base.specs.declared.cells.Cell.TheVariants.{Gate, Head}
-use Rattle.mig_base.specs.declared.ids.Shift.{Shift}
 use Rattle.mig_base.specs.declared.ids.Spot.{Spot}
 use Rattle.mig_base.specs.Arrivals.{IsPlanSpot}
 use Rattle.mig_base.specs.Images.{Image}
 use Rattle.mig_base.specs.InputLists.{IsInput, no_spot}
 use Rattle.mig_base.specs.JobCells.{IsJobCell, Tells}
-use Rattle.mig_base.specs.Journals.{count_of, is_armed}
 use Rattle.mig_base.specs.Readiness.{CanTake, IsFirstLost, IsFirstUsed, IsReady, shifts_of}
 use Rattle.mig_base.specs.Running.{Runs}
 use Rattle.mig_base.specs.Slots.{HasHeader, IsUnused, first_byte, item_cell, slot_of}
-use Rattle.mig_base.specs.Stores.{State, flights}
+use Rattle.mig_base.specs.Stores.{State}
 use Rattle.mig_base.specs.Texts.{item_name}
 use Rattle.mig_mover.specs.Moves.{IsRefusal}
 use Rattle.mig_mover.specs.Tasks.{Task}

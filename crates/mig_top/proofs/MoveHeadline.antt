@@ -1,6 +1,6 @@
 -- What `move` and `resume` promise, from the causes of their outcomes and what they leave.
-use Rattle.std.proofs.Common.{◌≡◌, ◌⊎◌, inl, inr, ⊎_elim, ◌≤◌, Bool, true, false, length, ℕ, List, [], ◌∷◌, Option, Some, refl, sym, ◌∙◌, ap, subst, arith}
-use Rattle.std.proofs.lemmas.Bool.{cases_Bool, false≢true}
+use Rattle.std.proofs.Common.{◌≡◌, ◌⊎◌, inl, inr, ⊎_elim, Bool, true, false, length, ℕ, List, Option, Some, refl, sym, ◌∙◌, subst, arith}
+use Rattle.std.proofs.lemmas.Bool.{false≢true}
 use Rattle.std.specs.Option.{IfSome}
 use Rattle.mig_base.specs.declared.cells.Cell.TheVariants.{Head}
 use Rattle.mig_base.specs.Images.{Image}
@@ -9,7 +9,7 @@ use Rattle.mig_base.specs.Journals.{count_of, is_armed}
 use Rattle.mig_base.specs.Readiness.{IsReady}
 use Rattle.mig_base.specs.Safety.{Contents, IsSound}
 use Rattle.mig_base.specs.Stores.{State, IsState, LeavesOnly}
-use Rattle.mig_base.proofs.MarkCounts.{count_idle, counted}
+use Rattle.mig_base.proofs.MarkCounts.{count_most}
 use Rattle.mig_io.specs.Files.{Files}
 use Rattle.mig_lanes.specs.Runs.{Finishes}
 use Rattle.mig_mover.specs.Moves.{IsReadyIdle, StaysArmed}
@@ -18,7 +18,7 @@ use Rattle.mig_top.specs.Calls.{Call}
 use Rattle.mig_top.specs.Ends.{Ends, EndsAs, FormEnds, StoreLeaves}
 use Rattle.mig_top.specs.Headline.{MovesWell, ResumesWell, StartsWell}
 use Rattle.mig_top.specs.MoveLeaves.{AreOfTask, Carries, MoveLeaves, ResumeLeaves}
-use Rattle.mig_top.specs.MoveLooks.{IsResumable, IsTaskOf, done_text, resumes, starts, task_of}
+use Rattle.mig_top.specs.MoveLooks.{IsResumable, IsTaskOf, done_text, starts}
 use Rattle.mig_words.specs.Outcomes.{Outcome, Done, StoreFault, SinkFault, Started, OtherPlan, NotThere, Occupied, code}
 use Rattle.mig_top.specs.StoreLeaves.{IsUntouched}
 use Rattle.mig_top.specs.StoreLooks.{TellsStill}
@@ -135,12 +135,8 @@ module _ (k : Call) (words : List (List ℕ)) (status : ℕ) (ends : EndsAs k wo
       found = count_of (length task.plan) old.reads
 
       resumable : IsResumable task old found
-      resumable = record { most = most (cases_Bool (is_armed old.reads)); found = λ tells none. refl; ours = λ none gate armed. ours armed before; ready = λ none idle gate. ready idle before }
+      resumable = record { most = count_most (length task.plan) old.reads; found = λ tells none. refl; ours = λ none gate armed. ours armed before; ready = λ none idle gate. ready idle before }
         where
-          most : (is_armed old.reads ≡ true) ⊎ (is_armed old.reads ≡ false) → found ≤ length task.plan
-          most (inl armed) = (counted (length task.plan) old.reads armed).most
-          most (inr idle) = let none = count_idle (length task.plan) old.reads idle in omega (arith, none)
-
           ours : is_armed old.reads ≡ true → IsReady task.input task.plan old.reads ⊎ ((is_armed old.reads ≡ true) × (old.reads Head ≡ Some task.digest)) → IfSome (old.reads Head) (λ kept. kept ≡ task.digest)
           ours armed (inl r) = absurd (false≢true (sym r.idle ∙ armed))
           ours armed (inr (a, named)) = subst (λ (o : Option (List ℕ)). IfSome o (λ kept. kept ≡ task.digest)) (sym named) refl

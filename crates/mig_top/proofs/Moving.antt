@@ -1,5 +1,5 @@
 -- How `move` and `resume` end.
-use Rattle.std.proofs.Common.{◌≡◌, inl, inr, ℕ, List, [], ◌∷◌, refl, sym, subst}
+use Rattle.std.proofs.Common.{◌≡◌, inl, inr, ℕ, List, [], ◌∷◌, refl}
 use Rattle.std.specs.Option.{IfSome}
 use Rattle.mig_base.specs.declared.ids.Shift.{Shift}
 use Rattle.mig_base.specs.Images.{Image}
@@ -11,20 +11,19 @@ use Rattle.mig_mover.specs.Tasks.{Task}
 use Rattle.mig_mover.specs.declared.faults.MoveFault.{MoveFault}
 use Rattle.mig_mover.specs.declared.faults.MoveFault.TheVariants as fault
 use Rattle.mig_words.specs.declared.endings.Ending.{Ending}
-use Rattle.mig_words.specs.declared.endings.Ending.TheVariants.{Blamed, Refused, FolderFault, Memory, NotSpelled, TooLarge, NoFile}
 use Rattle.mig_top.specs.Calls.{Call, Untouched}
 use Rattle.mig_top.specs.Causes.{FormCause}
 use Rattle.mig_top.specs.Ends.{WorldEnds}
 use Rattle.mig_top.specs.Loading.{NoTask}
 use Rattle.mig_top.specs.MoveLeaves.{AreOfTask, Carries, KeepsHalting, MoveLeaves, MovesAll, MovesInPart, ResumeLeaves, ResumesAll, ResumesInPart}
-use Rattle.mig_top.specs.MoveLooks.{IsResumable, IsResumeRefusal, IsStartRefusal, IsStartable, IsTaskOf, done_text, resumes, starts, task_of}
+use Rattle.mig_top.specs.MoveLooks.{IsResumable, IsResumeRefusal, IsStartRefusal, IsStartable, done_text, resumes, starts, task_of}
 use Rattle.mig_words.specs.Outcomes.{Outcome, Done, fault_outcome, outcome_of}
-use Rattle.mig_top.specs.Steps.{Step, Then, IsDone}
+use Rattle.mig_top.specs.Steps.{Then, IsDone}
 use Rattle.mig_top.specs.StoreLeaves.{IsUntouched}
 use Rattle.mig_top.specs.StoreLooks.{IsShown}
-use Rattle.mig_words.specs.Words.{Form, Move, Resume}
+use Rattle.mig_words.specs.Words.{Move, Resume}
 use Rattle.mig_top.proofs.StoreEnds.{settled_left}
-use Rattle.mig_top.proofs.TaskFiles.{no_task_cause, told_cause}
+use Rattle.mig_top.proofs.TaskFiles.{no_task_cause, told_cause, unread_leaves}
 
 -- what is left of `move` once its task is known, and of `resume`
 abbrev pub move_rest : State → List ℕ → Files → Lists → List (List Shift) → Outcome → Type 0
@@ -39,33 +38,11 @@ shown task k f settles Shows h = record { fault = f; is = refl; image = k.after.
 
 module _ (k : Call) (disks now next plan : List ℕ) (same : Untouched k.before.folder k.after.folder) where
   -- the files weren't loaded, or stand for no task
-  left : (e : Ending) → NoTask disks now next plan k.before.folder k.after.folder e → IsUntouched k.before.store k.after.store
-      → MoveLeaves k.before.folder k.before.store k.after.store disks now next plan (outcome_of (disks ∷ now ∷ next ∷ plan ∷ []) e)
-  left FolderFault h kept = kept
-  left Memory h kept = kept
-  left (NoFile place) h kept = kept
-  left (Blamed b name) h kept = kept
-  left (Refused f r w) h kept = kept
-  left (NotSpelled f line) h kept = kept
-  left (TooLarge shifts) h kept = kept
-  left _ h kept = absurd h
-
   pub move_unread : (e : Ending) → NoTask disks now next plan k.before.folder k.after.folder e → IsUntouched k.before.store k.after.store → WorldEnds k (Move disks now next plan) (outcome_of (disks ∷ now ∷ next ∷ plan ∷ []) e)
-  move_unread e h kept = record { cause = no_task_cause k (Move disks now next plan) disks now next plan (move_rest k.before.store plan) (λ files o c. c) e h; leaves = same; store = left e h kept }
-
-  resume_left : (e : Ending) → NoTask disks now next plan k.before.folder k.after.folder e → IsUntouched k.before.store k.after.store
-      → ResumeLeaves k.before.folder k.before.store k.after.store disks now next plan (outcome_of (disks ∷ now ∷ next ∷ plan ∷ []) e)
-  resume_left FolderFault h kept = kept
-  resume_left Memory h kept = kept
-  resume_left (NoFile place) h kept = kept
-  resume_left (Blamed b name) h kept = kept
-  resume_left (Refused f r w) h kept = kept
-  resume_left (NotSpelled f line) h kept = kept
-  resume_left (TooLarge shifts) h kept = kept
-  resume_left _ h kept = absurd h
+  move_unread e h kept = record { cause = no_task_cause k (Move disks now next plan) disks now next plan (move_rest k.before.store plan) (λ files o c. c) e h; leaves = same; store = unread_leaves disks now next plan k.before.folder k.after.folder (MoveLeaves k.before.folder k.before.store k.after.store disks now next plan) kept kept (λ word. kept) (λ b name. kept) (λ f r w. kept) (λ f line. kept) (λ shifts. kept) e h }
 
   pub resume_unread : (e : Ending) → NoTask disks now next plan k.before.folder k.after.folder e → IsUntouched k.before.store k.after.store → WorldEnds k (Resume disks now next plan) (outcome_of (disks ∷ now ∷ next ∷ plan ∷ []) e)
-  resume_unread e h kept = record { cause = no_task_cause k (Resume disks now next plan) disks now next plan (resume_rest k.before.store plan) (λ files o c. c) e h; leaves = same; store = resume_left e h kept }
+  resume_unread e h kept = record { cause = no_task_cause k (Resume disks now next plan) disks now next plan (resume_rest k.before.store plan) (λ files o c. c) e h; leaves = same; store = unread_leaves disks now next plan k.before.folder k.after.folder (ResumeLeaves k.before.folder k.before.store k.after.store disks now next plan) kept kept (λ word. kept) (λ b name. kept) (λ f r w. kept) (λ f line. kept) (λ shifts. kept) e h }
 
   module _ (task : Task) (are : AreOfTask k.before.folder disks now next plan task) (carries : Carries task k.before.store k.after.store) where
     -- `move`

@@ -1,5 +1,5 @@
 -- How a rehearsal ends, as a call of the program and as its promise.
-use Rattle.std.proofs.Common.{◌≡◌, ◌⊎◌, inl, inr, ℕ, List, Option, Some, None, refl, sym, ◌∙◌, subst, arith}
+use Rattle.std.proofs.Common.{◌≡◌, inl, inr, ⊎_elim, ℕ, List, Option, Some, None, refl, sym, ◌∙◌, subst, arith}
 use Rattle.std.specs.Option.{IfSome}
 use Rattle.mig_base.specs.FaultCounts.{Rose}
 use Rattle.mig_io.specs.Held.{SinkState, Extends, ExtendsInPart}
@@ -7,10 +7,12 @@ use Rattle.mig_top.specs.Calls.{Call, Untouched}
 use Rattle.mig_top.specs.Ends.{EndsAs, FormEnds, RehearsalEnds, RehearsalEndsAs, Says}
 use Rattle.mig_top.specs.Headline.{RehearsesWell}
 use Rattle.mig_words.specs.Outcomes.{Outcome, Done, SinkFault, Memory, code, text_of}
+use Rattle.mig_words.specs.Puts.{Shows}
 use Rattle.mig_top.specs.Rehearsed.{IsRehearsed, case_in}
 use Rattle.mig_top.specs.StoreLeaves.{IsUntouched}
 use Rattle.mig_words.specs.Words.{Form, Rehearse, IsListed}
 use Rattle.mig_top.proofs.Exactness.{one_form}
+use Rattle.mig_top.proofs.ShownEnds.{shown_says}
 
 whatever : {X P : Type 0} (o : Option X) → P → IfSome o (λ _. P)
 whatever None h = tt
@@ -33,10 +35,8 @@ module _ (disks per_pair limit : List ℕ) where
 
   module _ (old new : SinkState) where
     -- a rehearsal that is done, and its text
-    pub rehearsal_shown : (status : ℕ) (text : List ℕ) → IsRehearsed (case_in disks per_pair limit) text → (status ≡ 0) ⊎ ((status ≡ 6) × Rose old.faults new.faults)
-        → ExtendsInPart text old new → (status ≡ 0 → Extends text old new) → RehearsalEndsAs old new disks per_pair limit status
-    rehearsal_shown status text h (inl is) begun done = (Done text, is, h, record { begun = begun; whole = λ fine. done is; done = λ zero. done is })
-    rehearsal_shown status text h (inr (is, failed)) begun done = (SinkFault text, is, (failed, h), record { begun = begun; whole = λ fine. absurd (fine failed); done = λ zero. absurd (omega (arith, zero)) })
+    pub rehearsal_shown : (status : ℕ) (text : List ℕ) → IsRehearsed (case_in disks per_pair limit) text → Shows text old new status → RehearsalEndsAs old new disks per_pair limit status
+    rehearsal_shown status text h shows = ⊎_elim (λ done. (Done text, done.0, h, done.1)) (λ failed. (SinkFault text, failed.0, (failed.1, h), failed.2)) (shown_says text old new status shows)
 
     pub rehearsal_told : (status : ℕ) → status ≡ 7 → ExtendsInPart (text_of Memory) old new → ((Rose old.faults new.faults → ⊥) → Extends (text_of Memory) old new) → RehearsalEndsAs old new disks per_pair limit status
     rehearsal_told status is begun whole = (Memory, is, tt, record { begun = begun; whole = whole; done = λ zero. absurd (omega (arith, zero)) })

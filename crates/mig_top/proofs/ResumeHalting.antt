@@ -1,5 +1,5 @@
 -- What `resume` promises where closing the plan early was stopped.
-use Rattle.std.proofs.Common.{◌≡◌, ◌≢◌, ◌⊎◌, inl, inr, ⊎_elim, ℕ, List, Some, sym, ◌∙◌, subst, arith}
+use Rattle.std.proofs.Common.{◌≡◌, ◌⊎◌, inl, inr, ⊎_elim, ℕ, List, Some, subst, arith}
 use Rattle.mig_base.specs.Arrivals.{IsArrived}
 use Rattle.mig_base.specs.Images.{Image}
 use Rattle.mig_base.specs.JobCells.{IsJobCell, Tells}

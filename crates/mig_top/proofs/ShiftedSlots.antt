@@ -1,18 +1,15 @@
 -- An item that a plan shifts is where its first shift leaves it: at a slot that the plan names.
-use Rattle.std.proofs.Common.{◌≡◌, ◌⊎◌, ◌<◌, ◌≤◌, inl, inr, ⊎_elim, Bool, true, false, ℕ, zero, suc, List, [], ◌∷◌, Option, Some, None, Contains, get_or, length, eqb, slice_get, refl, sym, ◌∙◌, ap, subst, arith, if◌then◌else◌}
+use Rattle.std.proofs.Common.{◌≡◌, ◌⊎◌, ◌<◌, ◌≤◌, inl, inr, ⊎_elim, Bool, true, false, ℕ, zero, suc, List, [], ◌∷◌, Option, Some, None, Contains, get_or, length, eqb, slice_get, refl, sym, ◌∙◌, ap, arith, if◌then◌else◌}
 use Rattle.std.specs.Option.{option_or}
 use Rattle.std.proofs.lemmas.Bool.{eqb-true}
 use Rattle.std.proofs.lemmas.List.Elements.{All-contains, Contains-append_cases}
-use Rattle.mig_base.specs.declared.cells.Cell.{Cell}
 use Rattle.mig_base.specs.declared.ids.Shift.{Shift}
 use Rattle.mig_base.specs.declared.ids.Spot.{Spot}
 use Rattle.mig_base.specs.Arrivals.{IsPlanSpot}
 use Rattle.mig_base.specs.InputLists.{Lists}
-use Rattle.mig_base.specs.JobCells.{IsPlanSlot}
 use Rattle.mig_base.specs.Layouts.{At, last_target, round_at}
 use Rattle.mig_base.specs.Readiness.{IsShifted, shifts_of}
 use Rattle.mig_base.specs.Running.{Runs}
-use Rattle.mig_base.specs.Slots.{item_cell}
 
 -- a shift of the plan is one of a round
 in_round : (plan : List (List Shift)) (s : Shift) → Contains (shifts_of plan) s → (i : ℕ) × (i < length plan) × Contains (get_or plan i []) s

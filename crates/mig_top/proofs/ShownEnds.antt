@@ -1,17 +1,28 @@
 -- From the end of a command's work and the putting of its text to the end of the command.
-use Rattle.std.proofs.Common.{◌≡◌, ◌≢◌, ◌⊎◌, inl, inr, ℕ, List, [], ◌∷◌, Option, Some, None, subst, ◌∙◌, arith}
+use Rattle.std.proofs.Common.{◌≡◌, ◌≢◌, ◌⊎◌, inl, inr, ⊎_elim, ℕ, List, [], ◌∷◌, Option, Some, None, sym, subst, ◌∙◌, arith}
 use Rattle.std.specs.Option.{IfSome, IsSomeAnd}
 use Rattle.mig_base.specs.FaultCounts.{Rose}
+use Rattle.mig_base.specs.InputLists.{Lists}
 use Rattle.mig_io.specs.Files.{Files, FolderState, OthersStay, Saves}
 use Rattle.mig_io.specs.Held.{SinkState, Extends, ExtendsInPart}
+use Rattle.mig_mover.specs.declared.faults.MoveFault.{MoveFault}
 use Rattle.mig_words.specs.declared.endings.Ending.{Ending}
 use Rattle.mig_words.specs.declared.endings.Ending.TheVariants as ending
 use Rattle.mig_top.specs.Calls.{Call, SinkFailed}
-use Rattle.mig_top.specs.Ends.{AreSaved, CauseOf, EndsAs, FilesCauseOf, FilesEndAs, FilesEnds, FolderEnds, FormEnds, FormEndsAs, IsPlanSaved, StoreLeaves, WorldEnds}
+use Rattle.mig_top.specs.Ends.{AreSaved, CauseOf, EndsAs, FilesCauseOf, FilesEndAs, FilesEnds, FolderEnds, FormEnds, FormEndsAs, IsPlanSaved, Says, StoreLeaves, WorldEnds}
 use Rattle.mig_top.specs.Loading.{HoldFirst, PlansOn}
-use Rattle.mig_words.specs.Outcomes.{Outcome, Done, SinkFault, StoreFault, code, outcome_of, text_of}
+use Rattle.mig_words.specs.Outcomes.{Outcome, Done, SinkFault, StoreFault, code, fault_outcome, outcome_of, text_of}
+use Rattle.mig_words.specs.Puts.{Shows}
 use Rattle.mig_top.specs.StoreLeaves.{IsUntouched}
 use Rattle.mig_words.specs.Words.{Form, Plan, Check, After, Fill, Audit, Rehearse, IsListed, Move, Resume, Drill, Halt}
+
+-- the text of a command that is done was put: the whole with status 0, or in part with 6
+pub shown_says : (text : List ℕ) (old new : SinkState) (status : ℕ) → Shows text old new status → ((status ≡ 0) × Says old new (Done text)) ⊎ ((status ≡ 6) × Rose old.faults new.faults × Says old new (SinkFault text))
+shown_says text old new status shows = by shows.status
+  where
+    by : (status ≡ 0) ⊎ ((status ≡ 6) × Rose old.faults new.faults) → ((status ≡ 0) × Says old new (Done text)) ⊎ ((status ≡ 6) × Rose old.faults new.faults × Says old new (SinkFault text))
+    by (inl is) = inl (is, record { begun = shows.begun; whole = λ fine. shows.done is; done = λ zero. shows.done is })
+    by (inr (is, failed)) = inr (is, failed, record { begun = shows.begun; whole = λ fine. absurd (fine failed); done = λ zero. absurd (omega (arith, zero)) })
 
 -- Commands over files alone
 
@@ -23,10 +34,8 @@ module _ (old new : FolderState) (out_old out_new : SinkState) (form : Form) (st
   told_ends names e is h begun whole = (outcome_of names e, is, h, record { begun = begun; whole = whole; done = λ zero. absurd (omega (arith, zero)) })
 
   -- a command that is done, and its text
-  pub shown_ends : (text : List ℕ) → FolderEnds old new form (Done text) → (status ≡ 0) ⊎ ((status ≡ 6) × Rose out_old.faults out_new.faults)
-      → ExtendsInPart text out_old out_new → (status ≡ 0 → Extends text out_old out_new) → FilesEndAs old new out_old out_new form status
-  shown_ends text h (inl is) begun done = (Done text, is, h, record { begun = begun; whole = λ fine. done is; done = λ zero. done is })
-  shown_ends text h (inr (is, failed)) begun done = (SinkFault text, is, (failed, h), record { begun = begun; whole = λ fine. absurd (fine failed); done = λ zero. absurd (omega (arith, zero)) })
+  pub shown_ends : (text : List ℕ) → FolderEnds old new form (Done text) → Shows text out_old out_new status → FilesEndAs old new out_old out_new form status
+  shown_ends text h shows = ⊎_elim (λ done. (Done text, done.0, h, done.1)) (λ failed. (SinkFault text, failed.0, (failed.1, h), failed.2)) (shown_says text out_old out_new status shows)
 
 -- Commands over a store
 
@@ -36,10 +45,13 @@ module _ (k : Call) (form : Form) (status : ℕ) where
   world_told names ending.Unlisted is h begun whole = absurd h.cause
   world_told names e is h begun whole = (outcome_of names e, is, h, record { begun = begun; whole = whole; done = λ zero. absurd (omega (arith, zero)) })
 
-  pub world_shown : (text : List ℕ) → WorldEnds k form (Done text) → (status ≡ 0) ⊎ ((status ≡ 6) × SinkFailed k)
-      → ExtendsInPart text k.before.sink k.after.sink → (status ≡ 0 → Extends text k.before.sink k.after.sink) → FormEndsAs k form status
-  world_shown text h (inl is) begun done = (Done text, is, h, record { begun = begun; whole = λ fine. done is; done = λ zero. done is })
-  world_shown text h (inr (is, failed)) begun done = (SinkFault text, is, (failed, h), record { begun = begun; whole = λ fine. absurd (fine failed); done = λ zero. absurd (omega (arith, zero)) })
+  -- a command that the layer below refuses
+  pub world_refused : (names : List (List ℕ)) (e : Ending) (given input : Lists) (f : MoveFault) → outcome_of names e ≡ fault_outcome given f → given ≡ input → WorldEnds k form (fault_outcome input f) → status ≡ code (outcome_of names e)
+      → ExtendsInPart (text_of (outcome_of names e)) k.before.sink k.after.sink → ((SinkFailed k → ⊥) → Extends (text_of (outcome_of names e)) k.before.sink k.after.sink) → FormEndsAs k form status
+  world_refused names e given input f named same h is = world_told names e is (subst (λ (o : Outcome). WorldEnds k form o) (sym named) (subst (λ (i : Lists). WorldEnds k form (fault_outcome i f)) (sym same) h))
+
+  pub world_shown : (text : List ℕ) → WorldEnds k form (Done text) → Shows text k.before.sink k.after.sink status → FormEndsAs k form status
+  world_shown text h shows = ⊎_elim (λ done. (Done text, done.0, h, done.1)) (λ failed. (SinkFault text, failed.0, (failed.1, h), failed.2)) (shown_says text k.before.sink k.after.sink status shows)
 
 -- the words are the command
 pub words_end : (k : Call) (words : List (List ℕ)) (form : Form) (status : ℕ) → IsListed words form → FormEndsAs k form status → EndsAs k words status

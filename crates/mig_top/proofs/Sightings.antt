@@ -1,5 +1,5 @@
 -- The lines of an audit.
-use Rattle.std.proofs.Common.{◌≡◌, ◌+◌, ◌-◌, ◌<◌, ◌≤◌, Bool, true, false, ℕ, zero, suc, List, [], ◌++◌, MatchBool, IfSome, Option, Some, None, length, take, refl, sym, ap, subst, ◌∙◌, append_assoc, append-nil, arith, if◌then◌else◌}
+use Rattle.std.proofs.Common.{◌≡◌, ◌+◌, ◌-◌, ◌<◌, ◌≤◌, Bool, true, false, ℕ, zero, suc, List, [], ◌++◌, MatchBool, IfSome, Option, Some, None, length, take, refl, sym, subst, ◌∙◌, append_assoc, append-nil, arith, if◌then◌else◌}
 use Rattle.std.specs.Prelude.{bytes_eq}
 use Rattle.std.proofs.lemmas.Bool.{false≢true}
 use Rattle.std.proofs.lemmas.Slice.Eq.{bytes_eq-Decides}
@@ -9,7 +9,7 @@ use Rattle.mig_base.specs.declared.cells.Flight.{Flight}
 use Rattle.mig_base.specs.Flights.{IsTargetOf}
 use Rattle.mig_base.specs.InputLists.{Lists}
 use Rattle.mig_base.specs.Slots.{HasHeader, header_of, item_cell}
-use Rattle.mig_base.specs.Stores.{State, IsMoving, Looks, flights}
+use Rattle.mig_base.specs.Stores.{State, IsMoving, Looks}
 use Rattle.mig_base.specs.Texts.{item_name}
 use Rattle.mig_base.specs.Images.{NoCell}
 use Rattle.mig_base.proofs.Landing.{flights_same}

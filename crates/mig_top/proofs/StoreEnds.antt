@@ -1,10 +1,9 @@
 -- What the ends of commands say of the store.
-use Rattle.std.proofs.Common.{◌≡◌, ◌≢◌, inl, inr, ⊎_elim, ℕ, List, [], ◌∷◌, Option, Some, None, refl, sym, subst, ◌∙◌, arith}
-use Rattle.std.specs.Option.{IfSome}
+use Rattle.std.proofs.Common.{◌≡◌, ◌≢◌, inl, inr, ⊎_elim, ℕ, List, [], ◌∷◌, None, refl, sym, subst, ◌∙◌, arith}
 use Rattle.mig_base.specs.declared.cells.Cell.{Cell}
 use Rattle.mig_base.specs.declared.cells.Event.{Event}
 use Rattle.mig_base.specs.Flights.{AreFlights, IsTargetOf}
-use Rattle.mig_base.specs.Images.{Image, NoCell}
+use Rattle.mig_base.specs.Images.{NoCell}
 use Rattle.mig_base.specs.InputLists.{Lists}
 use Rattle.mig_base.specs.Stores.{State, IsState, Changes, IsMoving, Looks, flights}
 use Rattle.mig_base.proofs.StoreSteps.{changes_none, same_image}

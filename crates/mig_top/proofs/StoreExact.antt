@@ -1,5 +1,5 @@
 -- The steps of commands over a store are exact, where it tells the cells that decide and has no copy in flight.
-use Rattle.std.proofs.Common.{◌≡◌, ◌≢◌, inl, inr, ℕ, List, [], get_or, Option, Some, None, IfSome, IsSome, length, slice_get, refl, sym, ◌∙◌, ap, subst}
+use Rattle.std.proofs.Common.{◌≡◌, ◌≢◌, inl, inr, ℕ, List, [], Option, Some, None, IfSome, IsSome, refl, sym, ◌∙◌, ap, subst}
 use Rattle.std.proofs.lemmas.Bool.{false≢true}
 use Rattle.std.proofs.lemmas.Option.{slice_get_within, get_or_from_slice_get}
 use Rattle.mig_base.specs.declared.ids.Spot.{Spot}

@@ -1,26 +1,30 @@
 -- The tasks that files stand for.
-use Rattle.std.proofs.Common.{◌≡◌, ◌+◌, ◌≤◌, inl, inr, ℕ, List, [], ◌∷◌, Option, Some, None, length, take, unwrap_or, refl, sym, ◌∙◌, ap, subst, arith}
+use Rattle.std.proofs.Common.{◌≡◌, ◌+◌, ◌≤◌, inl, inr, ℕ, List, [], ◌∷◌, Option, None, length, take, unwrap_or, sym, ◌∙◌, ap, subst, arith}
 use Rattle.std.specs.Option.{IfSome}
 use Rattle.std.proofs.lemmas.List.{take_all}
 use Rattle.sha2.specs.Sha256.{sha256}
 use Rattle.mig_base.specs.declared.limits.TheConstants.{MAX_FILE_BYTES}
+use Rattle.mig_base.specs.declared.blames.Blame.{Blame}
+use Rattle.mig_base.specs.declared.faults.FileKind.{FileKind}
+use Rattle.mig_base.specs.declared.faults.Why.{Why}
 use Rattle.mig_base.specs.declared.ids.Shift.{Shift}
 use Rattle.mig_base.specs.InputLists.{Lists}
 use Rattle.mig_io.specs.Files.{Files, FolderState, file}
 use Rattle.mig_mover.specs.Tasks.{Task}
 use Rattle.mig_words.specs.declared.endings.Ending.{Ending}
 use Rattle.mig_words.specs.declared.endings.Ending.TheVariants.{Blamed, Refused, FolderFault, Memory, NotSpelled, TooLarge, NoFile}
+use Rattle.mig_words.specs.declared.endings.TextFile.{TextFile}
 use Rattle.mig_top.specs.Calls.{Call}
 use Rattle.mig_top.specs.Causes.{FormCause, loads, reads_input, reads_plan, runs}
 use Rattle.mig_top.specs.Ends.{CauseOf}
-use Rattle.mig_top.specs.Loading.{EndsWithin, HoldFirst, HoldsFirst, NoTask, TaskStops, UnreadAsTask}
-use Rattle.mig_top.specs.Loads.{HasPlan, Stands, first_missing}
+use Rattle.mig_top.specs.Loading.{EndsWithin, HoldFirst, HoldsFirst, NoTask, TaskEnds, TaskStops, UnreadAsTask}
+use Rattle.mig_top.specs.Loads.{HasPlan, first_missing}
 use Rattle.mig_top.specs.MoveLooks.{IsTaskOf, task_of}
 use Rattle.mig_words.specs.Outcomes as out
 use Rattle.mig_words.specs.Outcomes.{Outcome, outcome_of}
 use Rattle.mig_top.specs.Steps.{Then}
 use Rattle.mig_words.specs.Words.{Form}
-use Rattle.mig_top.proofs.Cutting.{all_of, whole_of}
+use Rattle.mig_top.proofs.Cutting.{whole_of}
 use Rattle.mig_top.proofs.Exactness.{is_input, one_plan, one_there, same_bytes, stands_for_one, three_there}
 use Rattle.mig_top.proofs.Missing.{none_missing}
 use Rattle.mig_top.proofs.StepEnds.{if_map}
@@ -66,22 +70,40 @@ no_task disks now next plan d n x p old new held e h = by e h
     by Memory h = tt
     by _ h = absurd h
 
+-- what stops a command before its plan runs
+pub stopped : (files : Files) (disks now next plan : List ℕ) (rest : Lists → List (List Shift) → Outcome → Type 0) (o : Outcome) → TaskStops files disks now next plan o
+    → Then (reads_input files disks now next) (λ input. Then (reads_plan files plan input) (λ rounds. Then (runs input rounds) (λ _. rest input rounds))) o
+stopped files disks now next plan rest o (inl h) = inl h
+stopped files disks now next plan rest o (inr (input, s, inl h)) = inr (input, s, inl h)
+stopped files disks now next plan rest o (inr (input, s, inr (rounds, p, h))) = inr (input, s, inr (rounds, p, inl h))
+
+-- and leaves nothing but what such a command may
+module _ (disks now next plan : List ℕ) (old new : FolderState) (Leaves : Outcome → Type 0) where
+  pub unread_leaves : Leaves out.FolderFault → Leaves out.Memory → ((word : List ℕ) → Leaves (out.NoFile word)) → ((b : Blame) (name : List ℕ) → Leaves (out.Blamed b name)) → ((f : FileKind) (r : ℕ) (w : Why) → Leaves (out.Refused f r w))
+      → ((f : TextFile) (line : ℕ) → Leaves (out.NotSpelled f line)) → ((shifts : ℕ) → Leaves (out.TooLarge shifts)) → (e : Ending) → NoTask disks now next plan old new e → Leaves (outcome_of (disks ∷ now ∷ next ∷ plan ∷ []) e)
+  unread_leaves fault memory missing blamed refused unspelled large FolderFault h = fault
+  unread_leaves fault memory missing blamed refused unspelled large Memory h = memory
+  unread_leaves fault memory missing blamed refused unspelled large (NoFile place) h = missing _
+  unread_leaves fault memory missing blamed refused unspelled large (Blamed b name) h = blamed b _
+  unread_leaves fault memory missing blamed refused unspelled large (Refused f r w) h = refused f r w
+  unread_leaves fault memory missing blamed refused unspelled large (NotSpelled f line) h = unspelled f line
+  unread_leaves fault memory missing blamed refused unspelled large (TooLarge shifts) h = large shifts
+  unread_leaves fault memory missing blamed refused unspelled large _ h = absurd h
+
 -- a command whose files weren't loaded, or stand for no task
 module _ (k : Call) (form : Form) (disks now next plan : List ℕ) (rest : Files → Lists → List (List Shift) → Outcome → Type 0)
     (to : (files : Files) (o : Outcome) → Then (loads files (disks ∷ now ∷ next ∷ plan ∷ [])) (λ _. Then (reads_input files disks now next) (λ input. Then (reads_plan files plan input) (λ rounds. Then (runs input rounds) (λ _. rest files input rounds)))) o → FormCause files k.before.store form o) where
-  stopped : (files : Files) (o : Outcome) → TaskStops files disks now next plan o → Then (reads_input files disks now next) (λ input. Then (reads_plan files plan input) (λ rounds. Then (runs input rounds) (λ _. rest files input rounds))) o
-  stopped files o (inl h) = inl h
-  stopped files o (inr (input, s, inl h)) = inr (input, s, inl h)
-  stopped files o (inr (input, s, inr (rounds, p, h))) = inr (input, s, inr (rounds, p, inl h))
+  unread_cause : (o : Outcome) → TaskEnds k.before.folder disks now next plan o → IfSome k.before.folder.files (λ files. FormCause files k.before.store form o)
+  unread_cause o = if_map k.before.folder.files (λ files no. to files o (inr (tt, no.0, stopped files disks now next plan (rest files) o no.1)))
 
   pub no_task_cause : (e : Ending) → NoTask disks now next plan k.before.folder k.after.folder e → CauseOf k form (outcome_of (disks ∷ now ∷ next ∷ plan ∷ []) e)
   no_task_cause FolderFault h = h
   no_task_cause Memory h = tt
   no_task_cause (NoFile place) h = if_map k.before.folder.files (λ files no. to files (outcome_of (disks ∷ now ∷ next ∷ plan ∷ []) (NoFile place)) (inl no)) h.1
-  no_task_cause (Blamed b name) h = if_map k.before.folder.files (λ files no. to files (outcome_of (disks ∷ now ∷ next ∷ plan ∷ []) (Blamed b name)) (inr (tt, no.0, stopped files (outcome_of (disks ∷ now ∷ next ∷ plan ∷ []) (Blamed b name)) no.1))) h
-  no_task_cause (Refused f r w) h = if_map k.before.folder.files (λ files no. to files (outcome_of (disks ∷ now ∷ next ∷ plan ∷ []) (Refused f r w)) (inr (tt, no.0, stopped files (outcome_of (disks ∷ now ∷ next ∷ plan ∷ []) (Refused f r w)) no.1))) h
-  no_task_cause (NotSpelled f line) h = if_map k.before.folder.files (λ files no. to files (outcome_of (disks ∷ now ∷ next ∷ plan ∷ []) (NotSpelled f line)) (inr (tt, no.0, stopped files (outcome_of (disks ∷ now ∷ next ∷ plan ∷ []) (NotSpelled f line)) no.1))) h
-  no_task_cause (TooLarge shifts) h = if_map k.before.folder.files (λ files no. to files (outcome_of (disks ∷ now ∷ next ∷ plan ∷ []) (TooLarge shifts)) (inr (tt, no.0, stopped files (outcome_of (disks ∷ now ∷ next ∷ plan ∷ []) (TooLarge shifts)) no.1))) h
+  no_task_cause (Blamed b name) h = unread_cause (out.Blamed b (unwrap_or name [])) h
+  no_task_cause (Refused f r w) h = unread_cause (out.Refused f r w) h
+  no_task_cause (NotSpelled f line) h = unread_cause (out.NotSpelled f line) h
+  no_task_cause (TooLarge shifts) h = unread_cause (out.TooLarge shifts) h
   no_task_cause _ h = absurd h
 
   -- the files stand for a task, and so the command goes on

@@ -11,7 +11,7 @@ use Rattle.mig_base.specs.Journals.{is_armed, count_of}
 use Rattle.mig_base.specs.Readiness.{IsReady}
 use Rattle.mig_base.specs.Running.{Runs}
 use Rattle.mig_base.specs.Stores.{State, flights}
-use Rattle.mig_io.specs.Files.{Files, FolderState, file}
+use Rattle.mig_io.specs.Files.{Files, file}
 use Rattle.mig_mover.specs.Moves.{IsRefusal}
 use Rattle.mig_mover.specs.Tasks.{Task}
 use Rattle.mig_mover.specs.declared.faults.MoveFault.{MoveFault}

@@ -1,19 +1,18 @@
 //! `after`: prints the layout in which a plan ends.
-ghost use Rattle.std.specs.Prelude.{◌≡◌, length, IfErr, IfOk, MatchResult, OnOk};
+ghost use Rattle.std.specs.Prelude.{IfErr, IfOk, MatchResult};
 ghost use Rattle.mig_base.specs.Running.{PlanFits, Runs};
-ghost use Rattle.mig_top.specs.Causes.{DoesNotRun, IsLastLayout};
+ghost use Rattle.mig_top.specs.Causes.{IsLastLayout};
 ghost use Rattle.mig_top.specs.Ends.{FolderEnds};
 ghost use Rattle.mig_top.specs.Loading.{AfterOn, EndsWithin};
 ghost use Rattle.mig_words.specs.Outcomes.{Done, outcome_of};
 ghost use Rattle.mig_words.specs.Words.{After, loaded};
 
-use crate::judging::check_runs;
 use crate::layout_texts::layout_text;
 use crate::loads::load_all;
-use crate::reads::{read_files, read_plan_text};
+use crate::tasks::read_runnable;
 use mig_base::{Input, Plan};
 use mig_io::Folder;
-use mig_words::Ending;
+use mig_words::{Ending, PlanFiles};
 use std::alloc::{AllocError, Global};
 
 /// The text of the layout after the last round.
@@ -36,25 +35,21 @@ fn layout(
     ensures done { IfOk result (λ text. AfterOn disks.now now.now next.now plan.now (Done text.items)) }
     ensures failed { IfErr result (EndsWithin (AfterOn disks.now now.now next.now plan.now)) }
 {
-    let input = read_files(alloc, disks, now, next)?;
-    let plan = read_plan_text(alloc, &input, plan)?;
-    check_runs(alloc, &input, &plan)?;
-    Ok(last_layout(alloc, &input, &plan)?)
+    let read = read_runnable(alloc, disks, now, next, plan)?;
+    Ok(last_layout(alloc, &read.input, &read.plan)?)
 }
 
 /// The text of the layout in which a plan ends.
 pub fn after<F: Folder>(
     alloc: Global,
     folder: &mut F,
-    disks: &str,
-    now: &str,
-    next: &str,
-    plan: &str,
+    files: PlanFiles<'_>,
 ) -> Result<Vec<u8>, Ending>
     ensures { MatchResult result
-        (λ text. FolderEnds (F.state folder.old) (F.state folder.new) (After disks.now now.now next.now plan.now) (Done text.items))
-        (λ e. FolderEnds (F.state folder.old) (F.state folder.new) (After disks.now now.now next.now plan.now) (outcome_of (loaded (After disks.now now.now next.now plan.now)) e)) }
+        (λ text. FolderEnds (F.state folder.old) (F.state folder.new) (After files.entry.disks.now files.entry.now.now files.entry.next.now files.entry.plan.now) (Done text.items))
+        (λ e. FolderEnds (F.state folder.old) (F.state folder.new) (After files.entry.disks.now files.entry.now.now files.entry.next.now files.entry.plan.now) (outcome_of (loaded (After files.entry.disks.now files.entry.now.now files.entry.next.now files.entry.plan.now)) e)) }
 {
-    let files = load_all(alloc, folder, &[disks, now, next, plan])?;
-    layout(alloc, &files[0], &files[1], &files[2], &files[3])
+    let names = [files.disks, files.now, files.next, files.plan];
+    let bytes = load_all(alloc, folder, &names)?;
+    layout(alloc, &bytes[0], &bytes[1], &bytes[2], &bytes[3])
 }

@@ -1,6 +1,6 @@
 //! `audit`: says of each item whether it is where a layout lists it.
 ghost use Rattle.std.specs.Prelude.{◌≡◌, ◌+◌, ◌<◌, ◌≤◌, IfErr, IfOk, codes, if◌then◌else◌, length};
-ghost use Rattle.mig_base.specs.Stores.{State, Looks};
+ghost use Rattle.mig_base.specs.Stores.{Looks};
 ghost use Rattle.mig_top.specs.Audits.{AuditStops, HasPutSight, HavePutSights, SightStops};
 ghost use Rattle.mig_top.specs.Calls.{call, world};
 ghost use Rattle.mig_top.specs.Ends.{FormEndsAs};

@@ -8,9 +8,8 @@ ghost use Rattle.mig_top.specs.Loading.{DrillOn, EndsWithin};
 ghost use Rattle.mig_words.specs.Outcomes.{Done, outcome_of};
 ghost use Rattle.mig_words.specs.Words.{Drill, loaded};
 
-use crate::judging::check_runs;
 use crate::loads::load_all;
-use crate::reads::{read_files, read_plan_text};
+use crate::tasks::read_runnable;
 use mig_base::{MAX_FILE_BYTES, Plan};
 use mig_drill::{DrillFault, MAX_DRILL_SHIFTS, drill};
 use mig_io::{Folder, Sink};
@@ -43,11 +42,9 @@ fn small_job(
     ensures fits { IfOk result (λ job. length (shifts_of job.plan) ≤ MAX_DRILL_SHIFTS) }
     ensures failed { IfErr result (EndsWithin (DrillOn disks.now now.now next.now text.now)) }
 {
-    let input = read_files(alloc, disks, now, next)?;
-    let plan = read_plan_text(alloc, &input, text)?;
-    check_runs(alloc, &input, &plan)?;
-    check_size(&plan)?;
-    Ok(prepare(alloc, &input, &plan, text)?)
+    let read = read_runnable(alloc, disks, now, next, text)?;
+    check_size(&read.plan)?;
+    Ok(prepare(alloc, &read.input, &read.plan, text)?)
 }
 
 /// Loads the four files of a drill, and makes its job.
@@ -61,11 +58,8 @@ fn load_small_job<F: Folder>(
         (λ e. FolderEnds (F.state folder.old) (F.state folder.new) (Drill files.entry.disks.now files.entry.now.now files.entry.next.now files.entry.plan.now) (outcome_of (loaded (Drill files.entry.disks.now files.entry.now.now files.entry.next.now files.entry.plan.now)) e)) }
     ensures fits { IfOk result (λ job. length (shifts_of job.plan) ≤ MAX_DRILL_SHIFTS) }
 {
-    let bytes = load_all(
-        alloc,
-        folder,
-        &[files.disks, files.now, files.next, files.plan],
-    )?;
+    let names = [files.disks, files.now, files.next, files.plan];
+    let bytes = load_all(alloc, folder, &names)?;
     small_job(alloc, &bytes[0], &bytes[1], &bytes[2], &bytes[3])
 }
 

@@ -1,5 +1,4 @@
 //! `fill`: writes made items to where a layout lists items.
-ghost use Rattle.mig_base.specs.Stores.{State};
 ghost use Rattle.mig_top.specs.Calls.{call, world};
 ghost use Rattle.mig_top.specs.Ends.{FormEndsAs};
 ghost use Rattle.mig_words.specs.Words.{Fill};

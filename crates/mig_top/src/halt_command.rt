@@ -1,6 +1,5 @@
 //! `halt`: closes a migration where it stands, with the layout that it has there.
 ghost use Rattle.std.specs.Prelude.{◌≤◌, IfErr, OnOk, length};
-ghost use Rattle.mig_base.specs.Stores.{State};
 ghost use Rattle.mig_top.specs.Calls.{call, world};
 ghost use Rattle.mig_top.specs.Ends.{FormEndsAs};
 ghost use Rattle.mig_top.specs.HaltLeaves.{SaveEnds, SavesLayout};
@@ -43,14 +42,7 @@ pub fn run_halt<F: Folder, K: Sink, S: Store>(
     ensures { FormEndsAs (call (world (F.state folder.old) (K.state out.old) (S.state store.old)) (world (F.state folder.new) (K.state out.new) (S.state store.new))) (Halt files.entry.disks.now files.entry.now.now files.entry.next.now files.entry.plan.now layout.now) result }
 {
     let names = [files.disks, files.now, files.next, files.plan];
-    let job = match load_job(
-        alloc,
-        folder,
-        files.disks,
-        files.now,
-        files.next,
-        files.plan,
-    ) {
+    let job = match load_job(alloc, folder, files) {
         Ok(job) => job,
         Err(ending) => return tell(out, ending, &names),
     };

@@ -1,6 +1,5 @@
 //! Reads the two files of a layout.
 ghost use Rattle.std.specs.Prelude.{◌≡◌, ◌≤◌, IfErr, IfOk, length};
-ghost use Rattle.std.specs.Option.{IfSome};
 ghost use Rattle.mig_base.specs.InputLists.{IsInput};
 ghost use Rattle.mig_top.specs.Loading.{NoLayout, ReadsAsLayout, UnreadAsLayout};
 ghost use Rattle.mig_top.specs.StoreLeaves.{AreOfLayout};

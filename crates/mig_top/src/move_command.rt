@@ -1,5 +1,4 @@
 //! `move`: carries out a plan.
-ghost use Rattle.mig_base.specs.Stores.{State};
 ghost use Rattle.mig_top.specs.Calls.{call, world};
 ghost use Rattle.mig_top.specs.Ends.{FormEndsAs};
 ghost use Rattle.mig_words.specs.Words.{Move};
@@ -22,14 +21,7 @@ pub fn run_move<F: Folder, K: Sink, S: Store>(
     ensures { FormEndsAs (call (world (F.state folder.old) (K.state out.old) (S.state store.old)) (world (F.state folder.new) (K.state out.new) (S.state store.new))) (Move files.entry.disks.now files.entry.now.now files.entry.next.now files.entry.plan.now) result }
 {
     let names = [files.disks, files.now, files.next, files.plan];
-    let job = match load_job(
-        alloc,
-        folder,
-        files.disks,
-        files.now,
-        files.next,
-        files.plan,
-    ) {
+    let job = match load_job(alloc, folder, files) {
         Ok(job) => job,
         Err(ending) => return tell(out, ending, &names),
     };

@@ -5,9 +5,10 @@ use Rattle.std.specs.Result.{IsErr}
 use Rattle.std.proofs.lemmas.List.{append-nil, length-append, map-append, take-append-drop, take-append-le}
 use Rattle.std.proofs.lemmas.Grind.{flat_map-append}
 use Rattle.std.proofs.Math.Seq.{drop-cons, take-append-add, take-length}
+use Rattle.mig_base.specs.declared.blames.Blame.{Blame}
 use Rattle.mig_io.specs.Held.{SinkState, Extends, ExtendsByPrefix, ExtendsInPart}
 use Rattle.mig_io.specs.declared.sink.SinkFailed.{SinkFailed}
-use Rattle.mig_words.specs.Outcomes.{joined}
+use Rattle.mig_words.specs.Outcomes.{blame_pieces, joined}
 use Rattle.mig_words.specs.Puts.{Puts}
 
 -- a whole text is a beginning of it
@@ -81,3 +82,7 @@ piece_fails f xs i d x y z e result within fails h k =
 pub puts_begin : (a : List ℕ) (x y : SinkState) (result : Result (Unit {0}) SinkFailed) → Puts a x y result → ExtendsInPart a x y
 puts_begin a x y (Ok u) h = begins a x y h.extended
 puts_begin a x y (Err e) h = h.in_part
+
+-- the text of a blame, once it is known which it is
+pub blamed : (name : List ℕ) {x y : SinkState} {result : Result (Unit {0}) SinkFailed} {known blame : Blame} → blame ≡ known → Puts (joined (blame_pieces known name)) x y result → Puts (joined (blame_pieces blame name)) x y result
+blamed name {x = x} {y = y} {result = result} is puts = subst (λ (b : Blame). Puts (joined (blame_pieces b name)) x y result) (sym is) puts

@@ -111,15 +111,19 @@ kept_counted kept counted = codes " kept " ∷ decimal kept ∷ codes " counted 
 abbrev pub in_round : List ℕ → ℕ → List ℕ → List (List ℕ)
 in_round what r item = what ∷ codes " round " ∷ decimal r ∷ codes " item " ∷ item ∷ codes "\n" ∷ []
 
+-- the name of a disk or of an item, and a count of it
+abbrev pub named_count : List ℕ → ℕ → List (List ℕ)
+named_count name count = name ∷ codes " count " ∷ decimal count ∷ codes "\n" ∷ []
+
 -- what is wrong with a plan or its certificate
 abbrev pub blame_pieces : Blame → List ℕ → List (List ℕ)
 blame_pieces (blame.EmptyRound r) name = codes "empty round " ∷ decimal r ∷ codes "\n" ∷ []
 blame_pieces (blame.NotHere r item) name = in_round (codes "not here") r name
 blame_pieces (blame.TwiceInRound r item) name = in_round (codes "twice in") r name
 blame_pieces (blame.SlotNotFree r item) name = in_round (codes "slot not free") r name
-blame_pieces (blame.OverLimit r disk count) name = codes "over limit round " ∷ decimal r ∷ codes " disk " ∷ name ∷ codes " count " ∷ decimal count ∷ codes "\n" ∷ []
+blame_pieces (blame.OverLimit r disk count) name = codes "over limit round " ∷ decimal r ∷ codes " disk " ∷ named_count name count
 blame_pieces (blame.WrongEnd item) name = codes "wrong end item " ∷ name ∷ codes "\n" ∷ []
-blame_pieces (blame.MovedTooOften item count) name = codes "moved too often item " ∷ name ∷ codes " count " ∷ decimal count ∷ codes "\n" ∷ []
+blame_pieces (blame.MovedTooOften item count) name = codes "moved too often item " ∷ named_count name count
 blame_pieces (blame.RoundsDiffer kept counted) name = codes "rounds differ" ∷ kept_counted kept counted
 blame_pieces (blame.QuotientDiffers kept counted) name = codes "quotient differs" ∷ kept_counted kept counted
 blame_pieces blame.ClassDiffers name = codes "class differs\n" ∷ []

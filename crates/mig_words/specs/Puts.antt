@@ -1,5 +1,5 @@
 -- What the putting of a text says.
-use Rattle.std.specs.Prelude.{ℕ, ◌≤◌, List, Result, OnOk, OnErr}
+use Rattle.std.specs.Prelude.{◌≡◌, ◌⊎◌, ℕ, ◌≤◌, List, Result, OnOk, OnErr}
 use Rattle.std.specs.Fmt.{decimal}
 use Rattle.hex.specs.Hex.{encode_lower}
 use Rattle.mig_base.specs.FaultCounts.{Rose}
@@ -20,3 +20,10 @@ pub record Puts (text : List ℕ) (old new : SinkState) (result : Result (Unit {
   pub in_part : OnErr result (ExtendsInPart text old new)
   pub later : old.faults ≤ new.faults
   pub failed : OnErr result (Rose old.faults new.faults)
+
+-- the text of a command that is done was put, and this is the number of the status: 0, or 6 where the sink failed
+pub record Shows (text : List ℕ) (old new : SinkState) (result : ℕ) : Type 0 where
+  pub status : (result ≡ 0) ⊎ ((result ≡ 6) × Rose old.faults new.faults)
+  pub begun : ExtendsInPart text old new
+  pub done : result ≡ 0 → Extends text old new
+  pub later : old.faults ≤ new.faults

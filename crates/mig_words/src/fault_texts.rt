@@ -1,6 +1,7 @@
 //! The texts of what is wrong with a file, a plan or a certificate.
-ghost use Rattle.std.specs.Prelude.{◌∷◌};
-ghost use Rattle.mig_words.specs.Outcomes.{blame_pieces, cause_text, in_round, joined, kept_counted};
+ghost use Rattle.std.specs.Prelude.{◌∷◌, codes};
+ghost use Rattle.std.specs.Fmt.{decimal};
+ghost use Rattle.mig_words.specs.Outcomes.{blame_pieces, cause_text, in_round, joined, kept_counted, named_count};
 ghost use Rattle.mig_words.specs.Puts.{Puts};
 
 use crate::putting::Part::{Number, Text};
@@ -63,6 +64,45 @@ fn put_item<'a, K: Sink>(
     )
 }
 
+/// Puts the disk that is over its limit in a round, and how many shifts have it as an end.
+fn put_over_limit<'a, K: Sink>(
+    out: &mut K,
+    round: u32,
+    disk: &'a [u8],
+    count: u32,
+) -> Result<(), SinkFailed>
+    ensures { Puts (joined (codes "over limit round " ∷ decimal round ∷ codes " disk " ∷ named_count disk.now count)) (K.state out.old) (K.state out.new) result }
+{
+    put_parts(
+        out,
+        &[
+            Text(b"over limit round "),
+            Number(round),
+            Text(b" disk "),
+            Text(disk),
+            Text(b" count "),
+            Number(count),
+            Text(b"\n"),
+        ],
+    )
+}
+
+/// Puts the item that is moved too often, and how many shifts have it.
+fn put_moved_too_often<K: Sink>(out: &mut K, item: &[u8], count: u32) -> Result<(), SinkFailed>
+    ensures { Puts (joined (codes "moved too often item " ∷ named_count item.now count)) (K.state out.old) (K.state out.new) result }
+{
+    put_parts(
+        out,
+        &[
+            Text(b"moved too often item "),
+            Text(item),
+            Text(b" count "),
+            Number(count),
+            Text(b"\n"),
+        ],
+    )
+}
+
 /// Puts two numbers that differ.
 fn put_differ<K: Sink>(out: &mut K, what: &[u8], kept: u32, counted: u32) -> Result<(), SinkFailed>
     ensures { Puts (joined (what.now ∷ kept_counted kept counted)) (K.state out.old) (K.state out.new) result }
@@ -96,32 +136,12 @@ pub fn put_blame<K: Sink>(out: &mut K, blame: &Blame, name: &[u8]) -> Result<(),
             round,
             disk: _,
             count,
-        } => put_parts(
-            out,
-            &[
-                Text(b"over limit round "),
-                Number(*round),
-                Text(b" disk "),
-                Text(name),
-                Text(b" count "),
-                Number(*count),
-                Text(b"\n"),
-            ],
-        ),
+        } => put_over_limit(out, *round, name, *count),
         Blame::WrongEnd { item: _ } => put_parts(
             out,
             &[Text(b"wrong end item "), Text(name), Text(b"\n")],
         ),
-        Blame::MovedTooOften { item: _, count } => put_parts(
-            out,
-            &[
-                Text(b"moved too often item "),
-                Text(name),
-                Text(b" count "),
-                Number(*count),
-                Text(b"\n"),
-            ],
-        ),
+        Blame::MovedTooOften { item: _, count } => put_moved_too_often(out, name, *count),
         Blame::RoundsDiffer { kept, counted } => put_differ(out, b"rounds differ", *kept, *counted),
         Blame::QuotientDiffers { kept, counted } => {
             put_differ(out, b"quotient differs", *kept, *counted)

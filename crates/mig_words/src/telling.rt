@@ -1,10 +1,10 @@
 //! Puts the text of a command, and answers the number of its status.
-ghost use Rattle.std.specs.Prelude.{◌≡◌, ◌≤◌, ◌⊎◌, ◌∷◌, [], codes, map, slice_index_or, unwrap_or};
+ghost use Rattle.std.specs.Prelude.{◌≡◌, ◌≤◌, ◌∷◌, [], codes, map, slice_index_or, unwrap_or};
 ghost use Rattle.std.specs.Fmt.{decimal};
 ghost use Rattle.mig_base.specs.FaultCounts.{Rose};
 ghost use Rattle.mig_io.specs.Held.{Extends, ExtendsInPart};
 ghost use Rattle.mig_words.specs.Outcomes.{NotThere, Occupied, OtherPlan, TooLarge, code, file_word, joined, outcome_of, refusal_text, text_of, text_word};
-ghost use Rattle.mig_words.specs.Puts.{Puts, part_text};
+ghost use Rattle.mig_words.specs.Puts.{Puts, Shows, part_text};
 
 use crate::endings::{Ending, TextFile};
 use crate::fault_texts::{put_blame, put_cause};
@@ -184,10 +184,7 @@ pub fn tell<K: Sink>(out: &mut K, ending: Ending, names: &[&str]) -> u8
 
 /// Puts the text of a command that is done, and answers the number of the status: 0, or 6 where the sink fails.
 pub fn show<K: Sink>(out: &mut K, text: &[u8]) -> u8
-    ensures status { (result ≡ 0) ⊎ ((result ≡ 6) × Rose (K.state out.old).faults (K.state out.new).faults) }
-    ensures begun { ExtendsInPart text.now (K.state out.old) (K.state out.new) }
-    ensures done { result ≡ 0 → Extends text.now (K.state out.old) (K.state out.new) }
-    ensures later { (K.state out.old).faults ≤ (K.state out.new).faults }
+    ensures { Shows text.now (K.state out.old) (K.state out.new) result }
 {
     match out.put(text) {
         Ok(()) => 0,
@@ -197,10 +194,7 @@ pub fn show<K: Sink>(out: &mut K, text: &[u8]) -> u8
 
 /// The same of a text that is put part by part.
 pub fn show_parts<K: Sink>(out: &mut K, parts: &[Part<'_>]) -> u8
-    ensures status { (result ≡ 0) ⊎ ((result ≡ 6) × Rose (K.state out.old).faults (K.state out.new).faults) }
-    ensures begun { ExtendsInPart (joined (map part_text parts.now)) (K.state out.old) (K.state out.new) }
-    ensures done { result ≡ 0 → Extends (joined (map part_text parts.now)) (K.state out.old) (K.state out.new) }
-    ensures later { (K.state out.old).faults ≤ (K.state out.new).faults }
+    ensures { Shows (joined (map part_text parts.now)) (K.state out.old) (K.state out.new) result }
 {
     if put_parts(out, parts).is_err() {
         return 6;
@@ -211,10 +205,7 @@ pub fn show_parts<K: Sink>(out: &mut K, parts: &[Part<'_>]) -> u8
 /// Puts how many rounds a plan that is carried out has, and how many of them were found done, and answers the number of
 /// the status: 0, or 6 where the sink fails.
 pub fn show_rounds<K: Sink>(out: &mut K, rounds: u32, found: u32) -> u8
-    ensures status { (result ≡ 0) ⊎ ((result ≡ 6) × Rose (K.state out.old).faults (K.state out.new).faults) }
-    ensures begun { ExtendsInPart (joined (codes "done " ∷ decimal rounds ∷ codes " rounds, found " ∷ decimal found ∷ codes "\n" ∷ [])) (K.state out.old) (K.state out.new) }
-    ensures done { result ≡ 0 → Extends (joined (codes "done " ∷ decimal rounds ∷ codes " rounds, found " ∷ decimal found ∷ codes "\n" ∷ [])) (K.state out.old) (K.state out.new) }
-    ensures later { (K.state out.old).faults ≤ (K.state out.new).faults }
+    ensures { Shows (joined (codes "done " ∷ decimal rounds ∷ codes " rounds, found " ∷ decimal found ∷ codes "\n" ∷ [])) (K.state out.old) (K.state out.new) result }
 {
     show_parts(
         out,
@@ -231,10 +222,7 @@ pub fn show_rounds<K: Sink>(out: &mut K, rounds: u32, found: u32) -> u8
 /// Puts after how many rounds a plan is closed, and how many it has, and answers the number of the status: 0, or 6 where
 /// the sink fails.
 pub fn show_halted<K: Sink>(out: &mut K, rounds: u32, found: u32) -> u8
-    ensures status { (result ≡ 0) ⊎ ((result ≡ 6) × Rose (K.state out.old).faults (K.state out.new).faults) }
-    ensures begun { ExtendsInPart (joined (codes "halted after " ∷ decimal found ∷ codes " of " ∷ decimal rounds ∷ codes "\n" ∷ [])) (K.state out.old) (K.state out.new) }
-    ensures done { result ≡ 0 → Extends (joined (codes "halted after " ∷ decimal found ∷ codes " of " ∷ decimal rounds ∷ codes "\n" ∷ [])) (K.state out.old) (K.state out.new) }
-    ensures later { (K.state out.old).faults ≤ (K.state out.new).faults }
+    ensures { Shows (joined (codes "halted after " ∷ decimal found ∷ codes " of " ∷ decimal rounds ∷ codes "\n" ∷ [])) (K.state out.old) (K.state out.new) result }
 {
     show_parts(
         out,

@@ -1,6 +1,6 @@
-use Rattle.std.proofs.Common.{◌≡◌, ◌∙◌, arith, sym, subst, ap, not, true, false, get_or, refl}
+use Rattle.std.proofs.Common.{◌∙◌, arith, sym, refl}
 use Rattle.csv.specs.Records.{fields_of}
-use Rattle.mig_csv.proofs.Fields.{Agree, agree_all, agree_more, disagree}
+use Rattle.mig_csv.proofs.Fields.{agree_all, agree_more, disagree}
 use Rattle.mig_csv.proofs.files.has_fields.Goals as goal
 
 pub loop-i-init : goal.loop-i-init

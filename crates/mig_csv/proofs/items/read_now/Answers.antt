@@ -16,7 +16,7 @@ returns-in_err-records-clause-fault c =
 
 pub rows-init : goal.rows-init
 rows-init c =
-    rw (c.new-names.ensures, c.new-taken.ensures, c.new-items.ensures.items, c.new-spots.ensures.items)
+    rw (c.in-Ok.ensures.empty, c.in-Ok-with_capacity.ensures.empty, c.new-items.ensures.items, c.new-spots.ensures.items)
     (ItemsSoFar-start c.in_ok-records.records c.in_ok-records.ensures.short c.in_ok-records.ensures.rows)
 
 pub returns-clause-sound : goal.returns-clause-sound
@@ -35,16 +35,16 @@ pub returns-clause-on_disks : goal.returns-clause-on_disks
 returns-clause-on_disks c = ItemsSoFar-on_disks c.rows.invariant
 
 pub push-requires : goal.push-requires
-push-requires c = rw c.in-Ok.ensures.item (c.in-Ok.ensures.sound why.DuplicateItem)
+push-requires c = rw c.in-Ok-read_item.ensures.item (c.in-Ok-read_item.ensures.sound why.DuplicateItem)
 
 pub push-requires-else-is_err : goal.push-requires-else-is_err
-push-requires-else-is_err c = not_taken c.args.disks.now.disks.items c.rows.taken (fields_of c.read.new.row) c.in-Ok.found.spot c.in-Ok.ensures.spot (c.in-Ok.ensures.sound why.SlotTaken)
+push-requires-else-is_err c = not_taken c.args.disks.now.disks.items c.rows.taken (fields_of c.read.new.row) c.in-Ok-read_item.found.spot c.in-Ok-read_item.ensures.spot (c.in-Ok-read_item.ensures.sound why.SlotTaken)
 
 pub rows-preserved : goal.rows-preserved
 rows-preserved c =
     let one = rw c.if-branch.true at c.in_ok-read.ensures.found in
-    let e = c.in-Ok.ensures in
-    let next = ItemsSoFar-push c.rows.invariant (fields_of c.read.new.row) c.read.new.self c.in-Ok.found.name c.in-Ok.found.spot one e.item e.spot e.on_disk e.sound in
+    let e = c.in-Ok-read_item.ensures in
+    let next = ItemsSoFar-push c.rows.invariant (fields_of c.read.new.row) c.read.new.self c.in-Ok-read_item.found.name c.in-Ok-read_item.found.spot one e.item e.spot e.on_disk e.sound in
     let good : is_err c.push.result ≡ false = search rules in
     let named = on-ok c.push.result good c.push.ensures.ok in
     let good2 : is_err c.push-else-is_err.result ≡ false = search rules in

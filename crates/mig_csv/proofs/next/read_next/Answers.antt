@@ -1,10 +1,7 @@
-use Rattle.std.proofs.Common.{◌≡◌, None, arith, refl, replicate, rules, false}
-use Rattle.std.specs.Result.{is_err}
+use Rattle.std.proofs.Common.{◌≡◌, None, arith, refl, replicate, rules}
 use Rattle.std.proofs.lemmas.Option.{slice_get_within}
-use Rattle.csv.proofs.ReadFacts.{on-ok}
 use Rattle.csv.specs.Records.{fields_of}
 use Rattle.mig_base.specs.Rows.{first}
-use Rattle.mig_base.specs.declared.faults.Why.TheVariants as why
 use Rattle.std.proofs.lemmas.Result.{err_from_is_err_and}
 use Rattle.mig_base.specs.declared.faults.FileKind.TheVariants as file
 use Rattle.mig_csv.proofs.Headers.{refusal_of_header}
@@ -19,13 +16,10 @@ returns-in_err-records-clause-fault c =
 pub rows-init : goal.rows-init
 rows-init c =
     let none : c.in-Ok.next.items ≡ replicate c.len.result None = search rules in
-    rw (c.new-seen.ensures, none, c.len.ensures) (WaysSoFar-start c.in_ok-records.records c.in_ok-records.ensures.short c.in_ok-records.ensures.rows)
+    rw (none, c.len.ensures) (WaysSoFar-start c.in_ok-records.records c.in_ok-records.ensures.short c.in_ok-records.ensures.rows)
 
 pub returns-clause-sound : goal.returns-clause-sound
 returns-clause-sound c = WaysSoFar-end c.rows.invariant (rw c.if-branch.false at c.in_ok-read.ensures.found)
-
-pub push-requires : goal.push-requires
-push-requires c = rw c.in-Ok-read_way.ensures.name (c.in-Ok-read_way.ensures.sound why.DuplicateItem)
 
 pub index_mut-requires : goal.index_mut-requires
 index_mut-requires c =
@@ -39,13 +33,10 @@ rows-preserved c =
     let one = rw c.if-branch.true at c.in_ok-read.ensures.found in
     let e = c.in-Ok-read_way.ensures in
     let way = c.in-Ok-read_way.way in
-    let next = WaysSoFar-push c.rows.invariant (fields_of c.read.new.row) c.read.new.self way.name way.item way.disk one e.name e.different e.item e.disk e.sound in
-    let good : is_err c.push.result ≡ false = search rules in
-    let named = on-ok c.push.result good c.push.ensures.ok in
-    rw named next
+    WaysSoFar-push c.rows.invariant (fields_of c.read.new.row) c.read.new.self way.item way.disk one e.different e.item e.disk (rw c.deref.ensures.value at e.sound)
 
 pub returns-in-Err-clause-fault : goal.returns-in-Err-clause-fault
 returns-in-Err-clause-fault c =
     let one = rw c.if-branch.true at c.in_ok-read.ensures.found in
-    let f = WaysSoFar-fault c.rows.invariant (fields_of c.read.new.row) c.read.new.self c.in-Err.why one c.in-Err.ensures.cause in
-    rw (c.refused.ensures, c.len-in-Err.ensures) (refl, f)
+    let f = WaysSoFar-fault c.rows.invariant (fields_of c.read.new.row) c.read.new.self c.in-Err.why one (rw c.deref.ensures.value at c.in-Err.ensures.cause) in
+    rw c.refused.ensures (refl, f)

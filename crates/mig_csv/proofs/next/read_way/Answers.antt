@@ -2,9 +2,8 @@ use Rattle.std.proofs.Common.{◌≡◌, ◌∙◌, Contains, arith, refl, sym}
 use Rattle.std.proofs.lemmas.Option.{get_or_from_slice_get, slice_get_within}
 use Rattle.csv.specs.Records.{fields_of}
 use Rattle.mig_base.specs.Rows.{first, second}
-use Rattle.mig_csv.proofs.DiskRows.{not_found}
+use Rattle.mig_csv.proofs.WayRows.{none_before, not_seen}
 use Rattle.mig_csv.proofs.ItemRows.{Contains-at, found_disk, no_disk, rank_small}
-use Rattle.mig_csv.proofs.WayRows.{none_before}
 use Rattle.mig_csv.proofs.next.read_way.Goals as goal
 
 pub overflow_cast-result : goal.overflow_cast-result
@@ -24,37 +23,37 @@ returns-clause-disk c =
     rw f.1 (sym second_is)
 
 pub returns-in_default-find-clause-cause : goal.returns-in_default-find-clause-cause
-returns-in_default-find-clause-cause c =
+returns-in_default-find-clause-cause c = λ names seen.
     let disks = c.args.disks.now.disks.items in
     let r = fields_of c.args.row.now in
     let name = c.in-Some.ensures in
     let named = c.in-Some-read.ensures in
-    let new : ¬ (Contains c.args.seen.now (first r)) = rw (← c.field.ensures, ← name.value) (not_found c.args.seen.now c.in-Some.name c.find.result c.find.ensures.found (sym c.is_some.ensures ∙ c.if-is_some.false)) in
+    let new : ¬ (Contains names (first r)) = rw (← c.field.ensures, ← name.value) (not_seen c.args.present.now c.args.next.now c.args.seen names c.in-Some.name c.find_with_hint-found.result seen c.find_with_hint-found.ensures.found (rw c.if-has_next.false at c.has_next.ensures)) in
     record {
       holds = rw (← c.field-2.ensures, ← named.value) (no_disk disks c.args.disks.now.names c.in-Some-read.disk c.requires.named c.in_default-find.ensures.found);
-      first = none_before disks c.args.present.now c.args.seen.now r 9
-          (λ _. omega arith)
-          (λ _. sym c.len-2.ensures ∙ c.if-len-ne2.false)
+      first = none_before disks c.args.present.now names r 9
+          (λ _. let rows = seen.count in omega (arith, rows))
+          (λ _. sym c.len.ensures ∙ c.if-len-ne2.false)
           (λ _. (rw c.field.ensures at (name.valid.0 refl), rw c.field-2.ensures at (named.valid.0 refl)))
           (λ _. new)
           (λ lt. absurd (omega (arith, lt)))
           (λ lt. absurd (omega (arith, lt)));
     }
 
-pub returns-in_default-find-2-clause-cause : goal.returns-in_default-find-2-clause-cause
-returns-in_default-find-2-clause-cause c =
+pub returns-in_default-found-clause-cause : goal.returns-in_default-found-clause-cause
+returns-in_default-found-clause-cause c = λ names seen.
     let disks = c.args.disks.now.disks.items in
     let r = fields_of c.args.row.now in
     let name = c.in-Some.ensures in
     let named = c.in-Some-read.ensures in
-    let new : ¬ (Contains c.args.seen.now (first r)) = rw (← c.field.ensures, ← name.value) (not_found c.args.seen.now c.in-Some.name c.find.result c.find.ensures.found (sym c.is_some.ensures ∙ c.if-is_some.false)) in
+    let new : ¬ (Contains names (first r)) = rw (← c.field.ensures, ← name.value) (not_seen c.args.present.now c.args.next.now c.args.seen names c.in-Some.name c.find_with_hint-found.result seen c.find_with_hint-found.ensures.found (rw c.if-has_next.false at c.has_next.ensures)) in
     let f = found_disk disks c.args.disks.now.names c.in-Some-find.place c.in-Some-read.disk c.requires.named c.in-Some-find.ensures.found in
     let second_is : second r ≡ f.0.name = sym c.field-2.ensures ∙ sym named.value ∙ f.2 in
     record {
-      holds = rw (← c.field.ensures, ← name.value) c.in_default-find-2.ensures.found;
-      first = none_before disks c.args.present.now c.args.seen.now r 12
-          (λ _. omega arith)
-          (λ _. sym c.len-2.ensures ∙ c.if-len-ne2.false)
+      holds = rw (← c.field.ensures, ← name.value) c.in_default-found.ensures.found;
+      first = none_before disks c.args.present.now names r 12
+          (λ _. let rows = seen.count in omega (arith, rows))
+          (λ _. sym c.len.ensures ∙ c.if-len-ne2.false)
           (λ _. (rw c.field.ensures at (name.valid.0 refl), rw c.field-2.ensures at (named.valid.0 refl)))
           (λ _. new)
           (λ _. rw second_is (c.in-Some-find.place, f.0, slice_get_within disks c.in-Some-find.place f.0 f.1, get_or_from_slice_get disks c.in-Some-find.place f.0 f.0 f.1, refl))
@@ -62,18 +61,18 @@ returns-in_default-find-2-clause-cause c =
     }
 
 pub returns-clause-sound : goal.returns-clause-sound
-returns-clause-sound c = λ w.
+returns-clause-sound c = λ names seen w.
     let disks = c.args.disks.now.disks.items in
     let r = fields_of c.args.row.now in
     let name = c.in-Some.ensures in
     let named = c.in-Some-read.ensures in
-    let new : ¬ (Contains c.args.seen.now (first r)) = rw (← c.field.ensures, ← name.value) (not_found c.args.seen.now c.in-Some.name c.find.result c.find.ensures.found (sym c.is_some.ensures ∙ c.if-is_some.false)) in
+    let new : ¬ (Contains names (first r)) = rw (← c.field.ensures, ← name.value) (not_seen c.args.present.now c.args.next.now c.args.seen names c.in-Some.name c.find_with_hint-found.result seen c.find_with_hint-found.ensures.found (rw c.if-has_next.false at c.has_next.ensures)) in
     let f = found_disk disks c.args.disks.now.names c.in-Some-find.place c.in-Some-read.disk c.requires.named c.in-Some-find.ensures.found in
     let second_is : second r ≡ f.0.name = sym c.field-2.ensures ∙ sym named.value ∙ f.2 in
-    let here : Contains c.args.present.now (first r) = rw (← c.field.ensures, ← name.value) (Contains-at c.args.present.now c.in-Some-find-2.item c.in-Some.name c.in-Some-find-2.ensures.found) in
-    none_before disks c.args.present.now c.args.seen.now r 15
-    (λ _. omega arith)
-    (λ _. sym c.len-2.ensures ∙ c.if-len-ne2.false)
+    let here : Contains c.args.present.now (first r) = rw (← c.field.ensures, ← name.value) (Contains-at c.args.present.now c.in-Some-found.item c.in-Some.name c.in-Some-found.ensures.found) in
+    none_before disks c.args.present.now names r 15
+    (λ _. let rows = seen.count in omega (arith, rows))
+    (λ _. sym c.len.ensures ∙ c.if-len-ne2.false)
     (λ _. (rw c.field.ensures at (name.valid.0 refl), rw c.field-2.ensures at (named.valid.0 refl)))
     (λ _. new)
     (λ _. rw second_is (c.in-Some-find.place, f.0, slice_get_within disks c.in-Some-find.place f.0 f.1, get_or_from_slice_get disks c.in-Some-find.place f.0 f.0 f.1, refl))

@@ -2,7 +2,7 @@ use Rattle.std.proofs.Common.{List, sym, ◌∙◌, ap, subst, arith}
 use Rattle.mig_base.specs.Stores.{flights}
 use Rattle.mig_base.proofs.MarkCounts.{count_most}
 use Rattle.mig_base.proofs.StoreSteps.{same_none}
-use Rattle.mig_store.specs.declared.calls.Call.{Call}
+use Rattle.mig_store.specs.Calls.{Call}
 use Rattle.mig_store.specs.Ledgers.{state_at}
 use Rattle.mig_store.specs.Memories.{state_of, mem_is_state}
 use Rattle.mig_drill.specs.Stops.{LeavesSound}

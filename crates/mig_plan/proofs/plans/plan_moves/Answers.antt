@@ -20,6 +20,6 @@ returns c =
     let e = c.plan_of.ensures in
     record {
       planned = if_made input c.in_ok-colours.count c.plan_of.result
-          (λ p fits runs once targets filled few. plan_made input c.args.graph.now p c.in_ok-colours.count c.keeps_rules.ensures c.requires.graph fits runs once targets filled few c.in_ok-colours.ensures.even c.in_ok-colours.ensures.most)
+          (λ p fits runs once targets filled few. plan_made input c.args.graph.now p c.in_ok-colours.count c.keeps_rules.ensures c.requires.graph fits runs once targets filled few c.in_ok-colours.ensures.even c.in_ok-colours.ensures.one_way c.in_ok-colours.ensures.most)
           e.fits e.runs e.once e.targets e.filled e.few;
     }

@@ -12,7 +12,7 @@ loop-h-preserved c =
     let i = c.loop-h.h-index in
     let d = c.h-item.result in
     ap (λ (v : Entry). set c.loop-h.h-items i (record { cell = (get_or c.loop-h.h-items i d).cell; value = v })) c.crash.ensures
-    ∙ ap (λ (l : List (Held Entry)). set l i ((held_map (crash_entry c.args.calls.now c.args.period c.args.pick)) (get_or l i d))) c.loop-h.invariant
-    ∙ ap (λ (h : Held Entry). set (map (held_map (crash_entry c.args.calls.now c.args.period c.args.pick)) (take i xs) ++ drop i xs) i ((held_map (crash_entry c.args.calls.now c.args.period c.args.pick)) h)) (mapped-next (held_map (crash_entry c.args.calls.now c.args.period c.args.pick)) xs i d c.loop-h-test.true)
-    ∙ mapped-more (held_map (crash_entry c.args.calls.now c.args.period c.args.pick)) xs i d c.loop-h-test.true
-    ∙ ap (λ (n : ℕ). map (held_map (crash_entry c.args.calls.now c.args.period c.args.pick)) (take n xs) ++ drop n xs) (let e : suc i ≡ i + 1 = omega arith in e)
+    ∙ ap (λ (l : List (Held Entry)). set l i ((held_map (crash_entry c.args.calls.now.calls c.args.period c.args.pick)) (get_or l i d))) c.loop-h.invariant
+    ∙ ap (λ (h : Held Entry). set (map (held_map (crash_entry c.args.calls.now.calls c.args.period c.args.pick)) (take i xs) ++ drop i xs) i ((held_map (crash_entry c.args.calls.now.calls c.args.period c.args.pick)) h)) (mapped-next (held_map (crash_entry c.args.calls.now.calls c.args.period c.args.pick)) xs i d c.loop-h-test.true)
+    ∙ mapped-more (held_map (crash_entry c.args.calls.now.calls c.args.period c.args.pick)) xs i d c.loop-h-test.true
+    ∙ ap (λ (n : ℕ). map (held_map (crash_entry c.args.calls.now.calls c.args.period c.args.pick)) (take n xs) ++ drop n xs) (let e : suc i ≡ i + 1 = omega arith in e)

@@ -4,4 +4,4 @@ use Rattle.mig_store.specs.HeldCells.{held_map}
 use Rattle.mig_store.proofs.contents.crash_all.Given as goal
 
 abbrev pub invariant-loop-h : goal.invariant-loop-h
-invariant-loop-h l = l.h-items ≡ map (held_map (crash_entry l.calls l.period l.pick)) (take l.h-index l.initial.h-items) ++ drop l.h-index l.initial.h-items
+invariant-loop-h l = l.h-items ≡ map (held_map (crash_entry l.calls.calls l.period l.pick)) (take l.h-index l.initial.h-items) ++ drop l.h-index l.initial.h-items

@@ -1,10 +1,10 @@
-use Rattle.std.proofs.Common.{◌≡◌, ◌-◌, [], ◌∷◌, ℕ, codes, refl, subst}
+use Rattle.std.proofs.Common.{◌-◌, [], ◌∷◌, ℕ, codes, refl, subst}
 use Rattle.std.specs.Fmt.{decimal}
-use Rattle.mig_io.specs.Held.{Extends, ExtendsInPart}
 use Rattle.mig_top.specs.declared.audit_command.Stop.{Stop}
 use Rattle.mig_top.specs.Audits.{AuditStops}
 use Rattle.mig_top.specs.Calls.{Call, call, world}
 use Rattle.mig_words.specs.Outcomes.{joined}
+use Rattle.mig_words.specs.Puts.{Shows}
 use Rattle.mig_top.proofs.Auditing.{lines_end, sink_stops, store_stops}
 use Rattle.mig_top.proofs.audit_command.run_audit.Goals as goal
 
@@ -14,9 +14,8 @@ returns-in-Ok-put_sights g c =
     let input = c.in-Ok.input in
     let mid = g.K.Sink.state c.put_sights.new.out in
     let here = c.in-Ok-put_sights.here in
-    lines_end k c.args.disks.now c.args.now.now c.load_layout.ensures.same c.put_sights.ensures.looks input c.in-Ok.ensures.stands c.show_parts.result mid c.put_sights.ensures.later here c.in-Ok-put_sights.ensures.put c.show_parts.ensures.status
-    (subst (λ (n : ℕ). ExtendsInPart (joined (decimal here ∷ codes " here, " ∷ decimal (n - here) ∷ codes " lost\n" ∷ [])) mid k.after.sink) c.item_count.ensures.count c.show_parts.ensures.begun)
-    (subst (λ (n : ℕ). c.show_parts.result ≡ 0 → Extends (joined (decimal here ∷ codes " here, " ∷ decimal (n - here) ∷ codes " lost\n" ∷ [])) mid k.after.sink) c.item_count.ensures.count c.show_parts.ensures.done)
+    lines_end k c.args.disks.now c.args.now.now c.load_layout.ensures.same c.put_sights.ensures.looks input c.in-Ok.ensures.stands c.show_parts.result mid c.put_sights.ensures.later here c.in-Ok-put_sights.ensures.put
+    (subst (λ (n : ℕ). Shows (joined (decimal here ∷ codes " here, " ∷ decimal (n - here) ∷ codes " lost\n" ∷ [])) mid k.after.sink c.show_parts.result) c.item_count.ensures.count c.show_parts.ensures)
 
 pub returns-in-Err-Sink : goal.returns-in-Err-Sink
 returns-in-Err-Sink g c =

@@ -22,7 +22,7 @@ returns-in-Ok-drill g c =
     let old = g.K.Sink.state c.args.out.now in
     let new = g.K.Sink.state c.drill.new.out in
     let text = drill_text c.in-Ok.job.plan in
-    shown_ends (g.F.Folder.state c.args.folder.now) (g.F.Folder.state c.load_small_job.new.folder) old new form 0 text c.in-Ok.ensures.ends (inl refl) (begins text old new c.in-Ok-drill.ensures.text) (λ zero. c.in-Ok-drill.ensures.text)
+    shown_ends (g.F.Folder.state c.args.folder.now) (g.F.Folder.state c.load_small_job.new.folder) old new form 0 text c.in-Ok.ensures.ends (record { status = inl refl; begun = begins text old new c.in-Ok-drill.ensures.text; done = λ zero. c.in-Ok-drill.ensures.text; later = c.drill.ensures.later })
 
 pub returns-in-Err-Sink : goal.returns-in-Err-Sink
 returns-in-Err-Sink g c =
@@ -30,7 +30,7 @@ returns-in-Err-Sink g c =
     let old = g.K.Sink.state c.args.out.now in
     let new = g.K.Sink.state c.drill.new.out in
     let failed : Rose old.faults new.faults = subst (λ (f : DrillFault). IsDrillFault old new f) c.in-Err-Sink.field-0-is c.in-Err-Sink.ensures.fault in
-    shown_ends (g.F.Folder.state c.args.folder.now) (g.F.Folder.state c.load_small_job.new.folder) old new form 6 (drill_text c.in-Ok.job.plan) c.in-Ok.ensures.ends (inr (refl, failed)) c.in-Err-Sink.ensures.in_part (λ zero. absurd (omega (arith, zero)))
+    shown_ends (g.F.Folder.state c.args.folder.now) (g.F.Folder.state c.load_small_job.new.folder) old new form 6 (drill_text c.in-Ok.job.plan) c.in-Ok.ensures.ends (record { status = inr (refl, failed); begun = c.in-Err-Sink.ensures.in_part; done = λ zero. absurd (omega (arith, zero)); later = c.drill.ensures.later })
 
 pub returns : goal.returns
 returns g c =

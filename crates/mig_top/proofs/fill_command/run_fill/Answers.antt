@@ -1,13 +1,12 @@
-use Rattle.std.proofs.Common.{◌≡◌, [], ◌∷◌, ℕ, codes, sym, subst}
+use Rattle.std.proofs.Common.{[], ◌∷◌, ℕ, codes, refl, subst}
 use Rattle.std.specs.Fmt.{decimal}
-use Rattle.mig_io.specs.Held.{Extends, ExtendsInPart}
 use Rattle.mig_top.specs.Calls.{Call, call, world}
-use Rattle.mig_top.specs.Ends.{WorldEnds}
-use Rattle.mig_words.specs.Outcomes.{Outcome, joined}
+use Rattle.mig_words.specs.Outcomes.{joined}
+use Rattle.mig_words.specs.Puts.{Shows}
 use Rattle.mig_top.specs.StoreLooks.{filled_text}
 use Rattle.mig_words.specs.Words.{Fill}
 use Rattle.mig_top.proofs.Filling.{fill_done, fill_refused}
-use Rattle.mig_top.proofs.ShownEnds.{world_shown, world_told}
+use Rattle.mig_top.proofs.ShownEnds.{world_refused, world_shown}
 use Rattle.mig_top.proofs.fill_command.run_fill.Goals as goal
 
 pub returns-in-Ok-fill : goal.returns-in-Ok-fill
@@ -16,9 +15,8 @@ returns-in-Ok-fill g c =
     let input = c.in-Ok.input in
     let e = c.in-Ok-fill.ensures in
     world_shown k (Fill c.args.disks.now c.args.now.now) c.show_parts.result (filled_text input)
-    (fill_done k c.args.disks.now c.args.now.now c.load_layout.ensures.same input c.in-Ok.ensures.stands c.fill.ensures.change e.made e.settled e.landed e.fillable) c.show_parts.ensures.status
-    (subst (λ (n : ℕ). ExtendsInPart (joined (codes "filled " ∷ decimal n ∷ codes "\n" ∷ [])) k.before.sink k.after.sink) c.item_count.ensures.count c.show_parts.ensures.begun)
-    (subst (λ (n : ℕ). c.show_parts.result ≡ 0 → Extends (joined (codes "filled " ∷ decimal n ∷ codes "\n" ∷ [])) k.before.sink k.after.sink) c.item_count.ensures.count c.show_parts.ensures.done)
+    (fill_done k c.args.disks.now c.args.now.now c.load_layout.ensures.same input c.in-Ok.ensures.stands c.fill.ensures.change e.made e.settled e.landed e.fillable)
+    (subst (λ (n : ℕ). Shows (joined (codes "filled " ∷ decimal n ∷ codes "\n" ∷ [])) k.before.sink k.after.sink c.show_parts.result) c.item_count.ensures.count c.show_parts.ensures)
 
 pub returns : goal.returns
 returns g c =
@@ -27,5 +25,5 @@ returns g c =
     let form = Fill c.args.disks.now c.args.now.now in
     let names = c.args.disks.now ∷ c.args.now.now ∷ [] in
     let e = c.tell-in-Err-fill.ensures in
-    world_told k form c.tell-in-Err-fill.result names c.fault_ending.result e.status
-    (subst (λ (o : Outcome). WorldEnds k form o) (sym (c.fault_ending.ensures names)) (fill_refused k c.args.disks.now c.args.now.now c.load_layout.ensures.same input c.in-Ok.ensures.stands c.fill.ensures.change c.in-Err-fill.fault c.in-Err-fill.ensures.fault)) e.begun e.whole
+    world_refused k form c.tell-in-Err-fill.result names c.fault_ending.result input input c.in-Err-fill.fault (c.fault_ending.ensures names) refl
+    (fill_refused k c.args.disks.now c.args.now.now c.load_layout.ensures.same input c.in-Ok.ensures.stands c.fill.ensures.change c.in-Err-fill.fault c.in-Err-fill.ensures.fault) e.status e.begun e.whole

@@ -1,14 +1,12 @@
-use Rattle.std.proofs.Common.{◌≡◌, [], ◌∷◌, ℕ, codes, refl, sym, subst, arith}
+use Rattle.std.proofs.Common.{[], ◌∷◌, ℕ, codes, subst, arith}
 use Rattle.std.specs.Fmt.{decimal}
-use Rattle.mig_base.specs.InputLists.{Lists}
-use Rattle.mig_io.specs.Held.{Extends, ExtendsInPart}
 use Rattle.mig_top.specs.Calls.{Call, call, world}
-use Rattle.mig_top.specs.Ends.{WorldEnds}
 use Rattle.mig_top.specs.HaltLooks.{halted_text}
-use Rattle.mig_words.specs.Outcomes.{Outcome, fault_outcome, joined}
+use Rattle.mig_words.specs.Outcomes.{joined}
+use Rattle.mig_words.specs.Puts.{Shows}
 use Rattle.mig_words.specs.Words.{Halt}
 use Rattle.mig_top.proofs.Halting.{halt_done, halt_failed, halt_refused, halt_unread, halt_unsaved, in_part, in_whole, is_standing}
-use Rattle.mig_top.proofs.ShownEnds.{world_shown, world_told}
+use Rattle.mig_top.proofs.ShownEnds.{world_refused, world_shown, world_told}
 use Rattle.mig_top.proofs.StoreEnds.{untouched}
 use Rattle.mig_top.proofs.halt_command.run_halt.Goals as goal
 
@@ -27,9 +25,8 @@ returns-in-Err-stand g c =
     let form = Halt f.disks.now f.now.now f.next.now f.plan.now c.args.layout.now in
     let names = f.disks.now ∷ f.now.now ∷ f.next.now ∷ f.plan.now ∷ [] in
     let t = c.tell-in-Err-stand.ensures in
-    world_told k form c.tell-in-Err-stand.result names c.fault_ending.result t.status
-    (subst (λ (o : Outcome). WorldEnds k form o) (sym (c.fault_ending.ensures names)) (subst (λ (i : Lists). WorldEnds k form (fault_outcome i c.in-Err-stand.fault)) (sym c.input.ensures.value)
-    (halt_refused k f.disks.now f.now.now f.next.now f.plan.now c.args.layout.now c.in-Ok.job c.in-Ok.ensures.task c.load_job.ensures.same c.stand.ensures.lands c.in-Err-stand.fault c.in-Err-stand.ensures.fault))) t.begun t.whole
+    world_refused k form c.tell-in-Err-stand.result names c.fault_ending.result c.input.result.now c.in-Ok.job.input c.in-Err-stand.fault (c.fault_ending.ensures names) c.input.ensures.value
+    (halt_refused k f.disks.now f.now.now f.next.now f.plan.now c.args.layout.now c.in-Ok.job c.in-Ok.ensures.task c.load_job.ensures.same c.stand.ensures.lands c.in-Err-stand.fault c.in-Err-stand.ensures.fault) t.status t.begun t.whole
 
 pub returns-in-Err-save_layout : goal.returns-in-Err-save_layout
 returns-in-Err-save_layout g c =
@@ -51,9 +48,8 @@ returns-in-Ok-halt g c =
     let mid = g.S.Store.state c.stand.new.store in
     let all = in_whole task k.before.store mid found stood (g.met.S.Store.is_state c.args.store.now) (g.met.S.Store.is_state c.stand.new.store) k.after.store (g.met.S.Store.is_state c.halt.new.store) h.any_moment h.change c.in-Ok-halt.ensures.halted c.in-Ok-halt.ensures.settled in
     world_shown k (Halt f.disks.now f.now.now f.next.now f.plan.now c.args.layout.now) c.show_halted.result (halted_text task.plan found)
-    (halt_done k f.disks.now f.now.now f.next.now f.plan.now c.args.layout.now task c.in-Ok.ensures.task (g.F.Folder.state c.load_job.new.folder) c.load_job.ensures.same found c.in_default.ensures.saved all (is_standing task k.before.store mid found stood)) c.show_halted.ensures.status
-    (subst (λ (n : ℕ). ExtendsInPart (joined (codes "halted after " ∷ decimal found ∷ codes " of " ∷ decimal n ∷ codes "\n" ∷ [])) k.before.sink k.after.sink) c.rounds.ensures.count c.show_halted.ensures.begun)
-    (subst (λ (n : ℕ). c.show_halted.result ≡ 0 → Extends (joined (codes "halted after " ∷ decimal found ∷ codes " of " ∷ decimal n ∷ codes "\n" ∷ [])) k.before.sink k.after.sink) c.rounds.ensures.count c.show_halted.ensures.done)
+    (halt_done k f.disks.now f.now.now f.next.now f.plan.now c.args.layout.now task c.in-Ok.ensures.task (g.F.Folder.state c.load_job.new.folder) c.load_job.ensures.same found c.in_default.ensures.saved all (is_standing task k.before.store mid found stood))
+    (subst (λ (n : ℕ). Shows (joined (codes "halted after " ∷ decimal found ∷ codes " of " ∷ decimal n ∷ codes "\n" ∷ [])) k.before.sink k.after.sink c.show_halted.result) c.rounds.ensures.count c.show_halted.ensures)
 
 pub returns : goal.returns
 returns g c =
@@ -69,6 +65,5 @@ returns g c =
     let rose = bad.1 in
     let t = c.tell-in-Err-halt.ensures in
     let part = in_part task k.before.store (g.S.Store.state c.stand.new.store) found stood (g.met.S.Store.is_state c.args.store.now) (g.met.S.Store.is_state c.stand.new.store) k.after.store (g.met.S.Store.is_state c.halt.new.store) h.any_moment h.change in
-    world_told k form c.tell-in-Err-halt.result names c.fault_ending-in-Err-halt.result t.status
-    (subst (λ (o : Outcome). WorldEnds k form o) (sym (c.fault_ending-in-Err-halt.ensures names)) (subst (λ (i : Lists). WorldEnds k form (fault_outcome i c.in-Err-halt.fault)) (sym c.input-in-Err-halt.ensures.value)
-    (halt_failed k f.disks.now f.now.now f.next.now f.plan.now c.args.layout.now task c.in-Ok.ensures.task (g.F.Folder.state c.load_job.new.folder) c.load_job.ensures.same found c.in_default.ensures.saved part (omega (arith, c.stand.ensures.later, rose)) c.in-Err-halt.fault bad.0))) t.begun t.whole
+    world_refused k form c.tell-in-Err-halt.result names c.fault_ending-in-Err-halt.result c.input-in-Err-halt.result.now task.input c.in-Err-halt.fault (c.fault_ending-in-Err-halt.ensures names) c.input-in-Err-halt.ensures.value
+    (halt_failed k f.disks.now f.now.now f.next.now f.plan.now c.args.layout.now task c.in-Ok.ensures.task (g.F.Folder.state c.load_job.new.folder) c.load_job.ensures.same found c.in_default.ensures.saved part (omega (arith, c.stand.ensures.later, rose)) c.in-Err-halt.fault bad.0) t.status t.begun t.whole

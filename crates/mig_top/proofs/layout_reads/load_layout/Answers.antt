@@ -1,9 +1,7 @@
-use Rattle.std.proofs.Common.{◌≡◌, [], ◌∷◌, ℕ, List, map, subst, arith}
-use Rattle.std.specs.Option.{IfSome}
-use Rattle.std.proofs.lemmas.List.{length-map}
-use Rattle.mig_top.specs.Loading.{HoldFirst, NoLayout, UnreadAsLayout}
+use Rattle.std.proofs.Common.{[], ◌∷◌, arith}
+use Rattle.mig_top.specs.Loading.{NoLayout, UnreadAsLayout}
 use Rattle.mig_top.proofs.Layouts.{no_layout}
-use Rattle.mig_top.proofs.Missing.{lists_all, loaded_at}
+use Rattle.mig_top.proofs.Missing.{held_by, loaded_at}
 use Rattle.mig_top.proofs.StepEnds.{err_map}
 use Rattle.mig_top.proofs.layout_reads.load_layout.Goals as goal
 
@@ -17,6 +15,5 @@ returns-clause-failed g c =
     let now = c.args.now.now in
     let bytes = c.deref.result.now ∷ c.deref-2.result.now ∷ [] in
     let at = loaded_at (λ b. b.items) files in
-    let are : map (λ b. b.items) files ≡ bytes = lists_all (map (λ b. b.items) files) bytes (omega (arith, length-map files (λ b. b.items), e.count)) (at 0 c.index.result.now c.deref.result.now (omega (arith, e.count)) c.index.ensures c.deref.ensures.value, (at 1 c.index-2.result.now c.deref-2.result.now (omega (arith, e.count)) c.index-2.ensures c.deref-2.ensures.value, tt)) in
-    let held : IfSome old.files (λ f. HoldFirst f (disks ∷ now ∷ []) bytes) = subst (λ (bs : List (List ℕ)). IfSome old.files (λ f. HoldFirst f (disks ∷ now ∷ []) bs)) are e.loaded in
+    let held = held_by (λ b. b.items) files (disks ∷ now ∷ []) bytes old.files (omega (arith, e.count)) (at 0 c.index.result.now c.deref.result.now (omega (arith, e.count)) c.index.ensures c.deref.ensures.value, (at 1 c.index-2.result.now c.deref-2.result.now (omega (arith, e.count)) c.index-2.ensures c.deref-2.ensures.value, tt)) e.loaded in
     err_map c.layout_of.result (UnreadAsLayout c.deref.result.now c.deref-2.result.now) (NoLayout disks now old new) (no_layout disks now c.deref.result.now c.deref-2.result.now old new held) c.layout_of.ensures.failed

@@ -1,15 +1,13 @@
-use Rattle.std.proofs.Common.{◌≡◌, [], ◌∷◌, ℕ, codes, sym, subst}
+use Rattle.std.proofs.Common.{[], ◌∷◌, ℕ, codes, subst}
 use Rattle.std.specs.Fmt.{decimal}
-use Rattle.mig_base.specs.InputLists.{Lists}
-use Rattle.mig_io.specs.Held.{Extends, ExtendsInPart}
 use Rattle.mig_top.specs.Calls.{Call, call, world}
-use Rattle.mig_top.specs.Ends.{WorldEnds}
 use Rattle.mig_top.specs.MoveLeaves.{Carries}
 use Rattle.mig_top.specs.MoveLooks.{done_text}
-use Rattle.mig_words.specs.Outcomes.{Outcome, fault_outcome, joined}
+use Rattle.mig_words.specs.Outcomes.{joined}
+use Rattle.mig_words.specs.Puts.{Shows}
 use Rattle.mig_words.specs.Words.{Move}
 use Rattle.mig_top.proofs.Moving.{move_done, move_refused, move_unread}
-use Rattle.mig_top.proofs.ShownEnds.{world_shown, world_told}
+use Rattle.mig_top.proofs.ShownEnds.{world_refused, world_shown, world_told}
 use Rattle.mig_top.proofs.StoreEnds.{no_flights, untouched}
 use Rattle.mig_top.proofs.move_command.run_move.Goals as goal
 
@@ -27,9 +25,8 @@ returns-in-Ok-start_lanes g c =
     let ok = c.in-Ok-start_lanes.ensures in
     let carries : Carries task k.before.store k.after.store = record { keeps = e.keeps; armed = e.armed } in
     world_shown k (Move c.args.files.disks.now c.args.files.now.now c.args.files.next.now c.args.files.plan.now) c.show_rounds.result (done_text task.plan 0)
-    (move_done k c.args.files.disks.now c.args.files.now.now c.args.files.next.now c.args.files.plan.now c.load_job.ensures.same task c.in-Ok.ensures.task carries (record { carries = carries; finishes = ok.finishes; events = ok.events }) (record { carries = carries; part = e.part }) (λ none gate. ok.finishes.ready none (ok.idle (no_flights k.before.store none) gate) gate)) c.show_rounds.ensures.status
-    (subst (λ (n : ℕ). ExtendsInPart (joined (codes "done " ∷ decimal n ∷ codes " rounds, found " ∷ decimal 0 ∷ codes "\n" ∷ [])) k.before.sink k.after.sink) c.rounds.ensures.count c.show_rounds.ensures.begun)
-    (subst (λ (n : ℕ). c.show_rounds.result ≡ 0 → Extends (joined (codes "done " ∷ decimal n ∷ codes " rounds, found " ∷ decimal 0 ∷ codes "\n" ∷ [])) k.before.sink k.after.sink) c.rounds.ensures.count c.show_rounds.ensures.done)
+    (move_done k c.args.files.disks.now c.args.files.now.now c.args.files.next.now c.args.files.plan.now c.load_job.ensures.same task c.in-Ok.ensures.task carries (record { carries = carries; finishes = ok.finishes; events = ok.events }) (record { carries = carries; part = e.part }) (λ none gate. ok.finishes.ready none (ok.idle (no_flights k.before.store none) gate) gate))
+    (subst (λ (n : ℕ). Shows (joined (codes "done " ∷ decimal n ∷ codes " rounds, found " ∷ decimal 0 ∷ codes "\n" ∷ [])) k.before.sink k.after.sink c.show_rounds.result) c.rounds.ensures.count c.show_rounds.ensures)
 
 pub returns : goal.returns
 returns g c =
@@ -41,6 +38,5 @@ returns g c =
     let bad = c.in-Err-start_lanes.ensures in
     let t = c.tell-in-Err-start_lanes.ensures in
     let carries : Carries task k.before.store k.after.store = record { keeps = e.keeps; armed = e.armed } in
-    world_told k form c.tell-in-Err-start_lanes.result names c.fault_ending.result t.status
-    (subst (λ (o : Outcome). WorldEnds k form o) (sym (c.fault_ending.ensures names)) (subst (λ (i : Lists). WorldEnds k form (fault_outcome i c.in-Err-start_lanes.fault)) (sym c.input.ensures.value)
-    (move_refused k c.args.files.disks.now c.args.files.now.now c.args.files.next.now c.args.files.plan.now c.load_job.ensures.same task c.in-Ok.ensures.task carries (record { carries = carries; part = e.part }) c.in-Err-start_lanes.fault bad.fault bad.kind))) t.begun t.whole
+    world_refused k form c.tell-in-Err-start_lanes.result names c.fault_ending.result c.input.result.now task.input c.in-Err-start_lanes.fault (c.fault_ending.ensures names) c.input.ensures.value
+    (move_refused k c.args.files.disks.now c.args.files.now.now c.args.files.next.now c.args.files.plan.now c.load_job.ensures.same task c.in-Ok.ensures.task carries (record { carries = carries; part = e.part }) c.in-Err-start_lanes.fault bad.fault bad.kind) t.status t.begun t.whole

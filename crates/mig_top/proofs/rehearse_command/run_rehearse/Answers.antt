@@ -3,8 +3,7 @@ use Rattle.mig_top.proofs.rehearse_command.run_rehearse.Goals as goal
 
 pub returns-in-Ok : goal.returns-in-Ok
 returns-in-Ok g c =
-    rehearsal_shown c.args.disks.now c.args.per_pair.now c.args.limit.now (g.K.Sink.state c.args.out.now) (g.K.Sink.state c.show.new.out) c.show.result c.in-Ok.text.items c.in-Ok.ensures c.show.ensures.status
-    (rw c.deref.ensures.value at c.show.ensures.begun) (rw c.deref.ensures.value at c.show.ensures.done)
+    rehearsal_shown c.args.disks.now c.args.per_pair.now c.args.limit.now (g.K.Sink.state c.args.out.now) (g.K.Sink.state c.show.new.out) c.show.result c.in-Ok.text.items c.in-Ok.ensures (rw c.deref.ensures.value at c.show.ensures)
 
 pub returns-in-Err : goal.returns-in-Err
 returns-in-Err g c =

@@ -1,45 +1,21 @@
-use Rattle.std.proofs.Common.{inl, inr, sym, ◌∙◌, subst}
-use Rattle.sha2.specs.Sha256.{sha256}
+use Rattle.std.proofs.Common.{sym, subst}
 use Rattle.mig_mover.specs.Tasks.{Task}
-use Rattle.mig_top.specs.Causes.{DoesNotRun}
-use Rattle.mig_top.specs.Loading.{EndsWithin, UnreadAs, UnreadAsPlan, UnreadAsTask}
+use Rattle.mig_top.specs.Loading.{EndsWithin, UnreadAsTask}
 use Rattle.mig_top.specs.MoveLooks.{IsTaskOf}
-use Rattle.mig_top.proofs.StepEnds.{handed_on, within}
+use Rattle.mig_top.proofs.StepEnds.{handed_on}
 use Rattle.mig_top.proofs.TaskFiles.{digest_is}
 use Rattle.mig_top.proofs.tasks.job_of.Goals as goal
 
-pub returns-in_err-input-clause-failed : goal.returns-in_err-input-clause-failed
-returns-in_err-input-clause-failed c =
-    let On = UnreadAsTask c.args.disks.now c.args.now.now c.args.next.now c.args.text.now in
-    handed_on c.from_residual.result _ (EndsWithin On) c.from_residual.ensures.1
-    (within (UnreadAs c.args.disks.now c.args.now.now c.args.next.now) On (λ o h files disks now next plan held. inl (h files disks now next (held.0, (held.1.0, (held.1.1.0, tt))))) c.in_err-input.field-0.0 c.in_err-input.ensures.failed)
-
-pub returns-in_err-plan-clause-failed : goal.returns-in_err-plan-clause-failed
-returns-in_err-plan-clause-failed c =
-    let On = UnreadAsTask c.args.disks.now c.args.now.now c.args.next.now c.args.text.now in
-    let input = c.in_ok-input.input in
-    handed_on c.from_residual-in_err-plan.result _ (EndsWithin On) c.from_residual-in_err-plan.ensures.1
-    (within (UnreadAsPlan input c.args.text.now) On
-    (λ o h files disks now next plan held. inr (input, c.in_ok-input.ensures.stands files disks now next (held.0, (held.1.0, (held.1.1.0, tt))), inl (h files plan held.1.1.1.0)))
-    c.in_err-plan.field-0.0 c.in_err-plan.ensures.failed)
-
-pub returns-in_err-check_runs-clause-failed : goal.returns-in_err-check_runs-clause-failed
-returns-in_err-check_runs-clause-failed c =
-    let On = UnreadAsTask c.args.disks.now c.args.now.now c.args.next.now c.args.text.now in
-    let input = c.in_ok-input.input in
-    handed_on c.from_residual-in_err-check_runs.result _ (EndsWithin On) c.from_residual-in_err-check_runs.ensures.1
-    (within (DoesNotRun input c.in_ok-plan.plan) On
-    (λ o h files disks now next plan held. inr (input, c.in_ok-input.ensures.stands files disks now next (held.0, (held.1.0, (held.1.1.0, tt))), inr (c.in_ok-plan.plan, c.in_ok-plan.ensures.reads files plan held.1.1.1.0, h)))
-    c.in_err-check_runs.field-0.0 c.in_err-check_runs.ensures.failed)
+pub returns-in_err-read-clause-failed : goal.returns-in_err-read-clause-failed
+returns-in_err-read-clause-failed c = handed_on c.from_residual.result _ (EndsWithin (UnreadAsTask c.args.disks.now c.args.now.now c.args.next.now c.args.text.now)) c.from_residual.ensures.1 c.in_err-read.ensures.failed
 
 pub returns-clause-task : goal.returns-clause-task
 returns-clause-task c = λ files disks now next plan held.
-    let input = c.in_ok-input.input in
-    let has = c.in_ok-plan.ensures.reads files plan held.1.1.1.0 in
-    let task : Task = record { input = input; plan = c.in_ok-plan.plan; digest = sha256 c.args.text.now } in
+    let e = c.in_ok-read.ensures in
+    let has = e.reads files plan held.1.1.1.0 in
     subst (λ (t : Task). IsTaskOf files disks now next plan t) (sym c.in_ok-prepare.ensures) (record {
-      stands = c.in_ok-input.ensures.stands files disks now next (held.0, (held.1.0, (held.1.1.0, tt)));
+      stands = e.stands files disks now next (held.0, (held.1.0, (held.1.1.0, tt)));
       has_plan = has;
-      runs = c.in_ok-check_runs.ensures.runs;
-      digest = digest_is files plan c.args.text.now input c.in_ok-plan.plan has held.1.1.1.0;
+      runs = e.runs;
+      digest = digest_is files plan c.args.text.now c.in_ok-read.read.input c.in_ok-read.read.plan has held.1.1.1.0;
     })

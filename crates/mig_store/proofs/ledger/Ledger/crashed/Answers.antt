@@ -5,7 +5,6 @@ use Rattle.mig_base.specs.declared.cells.Event.{Event}
 use Rattle.mig_base.specs.declared.cells.Flight.{Flight}
 use Rattle.mig_base.specs.Images.{Image}
 use Rattle.mig_store.specs.declared.contents.Entry.{Entry}
-use Rattle.mig_store.specs.declared.calls.Call.{Call}
 use Rattle.mig_store.specs.declared.held.Held.{Held}
 use Rattle.mig_store.specs.Asking.{Contents, fresh, picked}
 use Rattle.mig_store.specs.Entries.{firsts, seen_all, crash_entry, AreWithin}
@@ -20,14 +19,14 @@ pub invariant_of-result : goal.invariant_of-result
 invariant_of-result c =
     let pick = c.args.pick in
     let period = c.self.inside.period in
-    let calls = c.self.inside.calls.items in
-    let crashed : c.crash_all.new.held.items ≡ map (held_map (crash_entry calls period pick)) c.self.inside.held.items = c.crash_all.ensures ∙ ap (λ (l : List Call). map (held_map (crash_entry l period pick)) c.self.inside.held.items) c.deref.ensures.value in
+    let calls = c.self.inside.calls.calls in
+    let crashed : c.crash_all.new.held.items ≡ map (held_map (crash_entry calls period pick)) c.self.inside.held.items = c.crash_all.ensures in
     let old = seen_all calls period c.self.inside.held.items in
     let items = c.crash_all.new.held.items in
-    let later = c.clear.new.self.items in
+    let later = c.clear.new.self.calls in
     let held = seen_all later 1 items in
     let first = firsts items in
-    let log : Log = record { first = firsts c.self.inside.held.items; calls = c.self.inside.calls.items; room = c.self.inside.room } in
+    let log : Log = record { first = firsts c.self.inside.held.items; calls = c.self.inside.calls.calls; room = c.self.inside.room } in
     let is = c.self.invariant.0 in
     let is_held : held ≡ held_after pick old = ap (seen_all later 1) crashed ∙ seen_crashed calls period pick later c.self.inside.held.items in
     let is_first : first ≡ first_after pick old = ap firsts crashed ∙ firsts_crashed calls period pick c.self.inside.held.items in
@@ -36,14 +35,14 @@ invariant_of-result c =
     let image : held_at first ≡ after_crash (moment_of log) is.moment pick =
     ap (λ (l : List (Held (List ℕ))). held_at l) is_first ∙ first_is pick old ∙ ap {B = Image} (λ (cells : Cell → Option Contents) (cell : Cell). option_map (picked pick) (cells cell)) is.cells in
     let lengths : HaveLengths (held_at first) = subst HaveLengths (sym image) (crash_lengths (moment_of log) is.moment pick) in (
-      subst (λ (l : List Event). IsLog (record { first = first; calls = c.clear.new.self.items; room = c.self.inside.room }) held l c.clear-3.new.self.items) (sym c.clear-2.ensures.items)
-          (subst (λ (l : List Flight). IsLog (record { first = first; calls = c.clear.new.self.items; room = c.self.inside.room }) held [] l) (sym c.clear-3.ensures.items)
-          (fresh_log first held cells lengths c.self.inside.room c.clear.new.self.items c.clear.ensures.items)),
+      subst (λ (l : List Event). IsLog (record { first = first; calls = c.clear.new.self.calls; room = c.self.inside.room }) held l c.clear-3.new.self.items) (sym c.clear-2.ensures.items)
+          (subst (λ (l : List Flight). IsLog (record { first = first; calls = c.clear.new.self.calls; room = c.self.inside.room }) held [] l) (sym c.clear-3.ensures.items)
+          (fresh_log first held cells lengths c.self.inside.room c.clear.new.self.calls c.clear.ensures.calls)),
       c.self.invariant.1 ∙ sym (ap (λ (l : List (Held Entry)). map cell_of l) crashed ∙ cells_of-map (crash_entry calls period pick) c.self.inside.held.items),
       subst (AreWithin (length later) 1) (sym crashed) (within_crashed calls period pick (length later) c.self.inside.held.items),
       omega arith,
       omega arith,
-      omega (arith, c.clear.ensures.capacity, c.self.invariant.5),
+      omega (arith, c.clear.ensures.room, c.self.invariant.5),
       omega (arith, c.clear-2.ensures.capacity, c.self.invariant.6),
       omega (arith, c.clear-3.ensures.capacity, c.self.invariant.7),
     )
@@ -52,8 +51,8 @@ pub returns-clause-first : goal.returns-clause-first
 returns-clause-first c =
     let pick = c.args.pick in
     let period = c.self.inside.period in
-    let calls = c.self.inside.calls.items in
-    let crashed : c.crash_all.new.held.items ≡ map (held_map (crash_entry calls period pick)) c.self.inside.held.items = c.crash_all.ensures ∙ ap (λ (l : List Call). map (held_map (crash_entry l period pick)) c.self.inside.held.items) c.deref.ensures.value in
+    let calls = c.self.inside.calls.calls in
+    let crashed : c.crash_all.new.held.items ≡ map (held_map (crash_entry calls period pick)) c.self.inside.held.items = c.crash_all.ensures in
     let old = seen_all calls period c.self.inside.held.items in
     let is_first : firsts c.crash_all.new.held.items ≡ first_after pick old = ap firsts crashed ∙ firsts_crashed calls period pick c.self.inside.held.items in
     ap (λ (l : List (Held (List ℕ))). held_at l) is_first ∙ first_is pick old ∙ ap {B = Image} (λ (cells : Cell → Option Contents) (cell : Cell). option_map (picked pick) (cells cell)) c.self.invariant.0.cells

@@ -3,9 +3,8 @@ use Rattle.std.specs.Option.{option_map}
 use Rattle.mig_base.specs.declared.cells.Cell.{Cell}
 use Rattle.mig_base.specs.Cells.{cell_len}
 use Rattle.mig_store.specs.declared.contents.Entry.{Entry}
-use Rattle.mig_store.specs.declared.calls.Call.{Call}
 use Rattle.mig_store.specs.declared.held.Held.{Held}
-use Rattle.mig_store.specs.Asking.{Contents, bytes_at}
+use Rattle.mig_store.specs.Asking.{Contents}
 use Rattle.mig_store.specs.Entries.{firsts}
 use Rattle.mig_store.specs.HeldCells.{held_at}
 use Rattle.mig_store.specs.Ledgers.{Log, moment_of, reads}
@@ -16,12 +15,12 @@ use Rattle.mig_store.proofs.ledger.Ledger.shown.Goals as goal
 abbrev shown : (cells : Cell → Option Contents) (cell : Cell) → Option (List ℕ)
 shown cells cell = option_map (λ (c : Contents). c.shown) (cells cell)
 
-gives : (c : goal.After-shown) → shown (moment_of (record { first = firsts c.self.inside.held.items; calls = c.self.inside.calls.items; room = c.self.inside.room })).cells c.args.cell.now ≡ Some c.shown.result.now
+gives : (c : goal.After-shown) → shown (moment_of (record { first = firsts c.self.inside.held.items; calls = c.self.inside.calls.calls; room = c.self.inside.room })).cells c.args.cell.now ≡ Some c.shown.result.now
 gives c =
     ap (λ (cells : Cell → Option Contents). shown cells c.args.cell.now) (sym c.self.invariant.0.cells)
-    ∙ reads_entry c.self.inside.calls.items c.self.inside.period c.self.inside.held.items c.args.cell.now c.in-Some.entry.now
+    ∙ reads_entry c.self.inside.calls.calls c.self.inside.period c.self.inside.held.items c.args.cell.now c.in-Some.entry.now
     (ap (λ (l : List (Held Entry)). held_at l c.args.cell.now) (sym c.deref.ensures.value) ∙ c.in-Some.ensures.some)
-    ∙ ap (λ (l : List Call). Some (bytes_at l c.in-Some.entry.now.first c.in-Some.entry.now.shown)) (sym c.deref-in-Some.ensures.value) ∙ ap Some (sym c.shown.ensures)
+    ∙ ap Some (sym c.shown.ensures)
 
 pub returns-in-Some-clause-some : goal.returns-in-Some-clause-some
 returns-in-Some-clause-some c = subst (λ (l : Log). reads (moment_of l) c.args.cell.now ≡ Some c.shown.result.now) c.self.view_is (gives c)
@@ -32,5 +31,5 @@ returns-in-Some-clause-length c = shown-length (cell_len c.args.cell.now) _ c.sh
 pub returns-in-None-clause-none : goal.returns-in-None-clause-none
 returns-in-None-clause-none c = subst (λ (l : Log). reads (moment_of l) c.args.cell.now ≡ None) c.self.view_is
     (ap (λ (cells : Cell → Option Contents). shown cells c.args.cell.now) (sym c.self.invariant.0.cells)
-    ∙ reads_nothing c.self.inside.calls.items c.self.inside.period c.self.inside.held.items c.args.cell.now
+    ∙ reads_nothing c.self.inside.calls.calls c.self.inside.period c.self.inside.held.items c.args.cell.now
     (ap (λ (l : List (Held Entry)). held_at l c.args.cell.now) (sym c.deref.ensures.value) ∙ c.in-None.ensures.none))

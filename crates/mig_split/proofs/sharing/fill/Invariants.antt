@@ -1,0 +1,5 @@
+use Rattle.mig_split.specs.Sharing.{IsFilling}
+use Rattle.mig_split.proofs.sharing.fill.Given as goal
+
+abbrev pub invariant-loop-copy : goal.invariant-loop-copy
+invariant-loop-copy l = IsFilling l.fn.q l.copy l.stops l.nodes.items l.last

@@ -1,0 +1,7 @@
+use Rattle.std.proofs.Common.{◌≡◌, ◌≤◌, take}
+use Rattle.std.specs.List.{count_by}
+use Rattle.mig_store.proofs.NoteLists.{notes_sync}
+use Rattle.mig_store.proofs.calls.Calls.syncs.Given as goal
+
+abbrev pub invariant-loop-note : goal.invariant-loop-note
+invariant-loop-note l = (l.syncs ≡ count_by notes_sync (take l.note-index l.note-items)) × (l.syncs ≤ l.note-index)
