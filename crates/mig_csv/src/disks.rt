@@ -1,5 +1,5 @@
 //! The disks file.
-ghost use Rattle.std.specs.Prelude.{◌≡◌, ◌≤◌, IfErr, IfOk, length, map, ℕ};
+ghost use Rattle.std.specs.Prelude.{◌≡◌, ◌≤◌, ◌++◌, ◌∷◌, [], Contains, IfErr, IfOk, OnOk, length, map, ℕ};
 ghost use Rattle.csv.specs.Records.{fields_of};
 ghost use Rattle.mig_base.specs.Refusals.{DisksRowFault, IsFirstCause};
 ghost use Rattle.mig_base.specs.Rows.{disk_of, rows_of};
@@ -13,13 +13,37 @@ use crate::rows::field;
 use csv::ByteRecord;
 use mig_base::{Disk, FileKind, MAX_DISKS, MAX_LIMIT, MAX_SLOTS, Name, Why, read_digits};
 use mig_names::NameTable;
-use std::alloc::Global;
+use std::alloc::{AllocError, Global};
 
 /// The disks of a disks file, and their names.
 #[derive(Drop)]
 pub(crate) struct DiskList {
     pub(crate) names: NameTable,
     pub(crate) disks: Vec<Disk>,
+}
+
+impl DiskList {
+    /// No disks.
+    fn new(alloc: Global) -> DiskList
+        ensures names { result.names ≡ [] }
+        ensures disks { result.disks.items ≡ [] }
+    {
+        DiskList {
+            names: NameTable::new(alloc),
+            disks: Vec::new(alloc),
+        }
+    }
+
+    /// Adds a disk of a new name. An error is want of memory.
+    fn push(&mut self, disk: Disk) -> Result<(), AllocError>
+        requires { ¬ (Contains self.old.names disk.name) }
+        ensures names { OnOk result (self.new.names ≡ self.old.names ++ disk.name ∷ []) }
+        ensures disks { OnOk result (self.new.disks.items ≡ self.old.disks.items ++ disk ∷ []) }
+    {
+        self.names.push(disk.name)?;
+        self.disks.push(disk)?;
+        Ok(())
+    }
 }
 
 /// The disks that a disks file lists, in its order, or the first fault of the file.
@@ -32,19 +56,18 @@ pub(crate) fn read_disks(alloc: Global, bytes: &[u8]) -> Result<DiskList, InputE
 {
     let mut row = ByteRecord::new(alloc);
     let mut records = rows_after_header(alloc, FileKind::Disks, bytes, &mut row)?;
-    let mut names = NameTable::new(alloc);
-    let mut disks = Vec::new(alloc);
+    let mut listed = DiskList::new(alloc);
     'rows: while records.read(&mut row)? {
-        match read_disk(&names, &row) {
+        match read_disk(&listed.names, &row) {
             Ok(disk) => {
-                if names.push(disk.name).is_err() || disks.push(disk).is_err() {
+                if listed.push(disk).is_err() {
                     return Err(InputError::Memory);
                 }
             }
-            Err(why) => return Err(refused(FileKind::Disks, names.len() as u32 + 1, why)),
+            Err(why) => return Err(refused(FileKind::Disks, listed.names.len() as u32 + 1, why)),
         }
     }
-    Ok(DiskList { names, disks })
+    Ok(listed)
 }
 
 /// The disk that a row lists, or the first cause that holds of it after rows of these names.

@@ -1,15 +1,16 @@
 //! The input that three files stand for.
 ghost use Rattle.std.specs.Prelude.{◌≡◌, IfErr, IfOk};
+ghost use Rattle.mig_base.specs.InputLists.{IsInput};
 ghost use Rattle.mig_base.specs.Refusals.{Accepted};
 ghost use Rattle.mig_base.specs.Targets.{IsRoomy};
 ghost use Rattle.mig_csv.specs.Refusals.{IsRefusal};
 
-use crate::disks::read_disks;
+use crate::disks::{DiskList, read_disks};
 use crate::errors::InputError;
-use crate::items::read_now;
+use crate::items::{Layout, read_now};
 use crate::next::read_next;
 use crate::room::{all_next, check_room};
-use mig_base::Input;
+use mig_base::{DiskId, Input};
 use std::alloc::Global;
 
 /// Reads the input that three files stand for, given by their bytes.
@@ -32,5 +33,13 @@ pub fn read_input(alloc: Global, disks: &[u8], now: &[u8], next: &[u8]) -> Resul
     let places = read_next(alloc, next, &listed, &layout.names)?;
     let next = all_next(alloc, &places)?;
     check_room(alloc, &listed.disks, &layout.items, &layout.spots, &next)?;
-    Ok(Input::new(listed.disks, layout.items, layout.spots, next))
+    Ok(input_of(listed, layout, next))
+}
+
+/// The input of these disks and items, with the disks that the items are to go to.
+pub(crate) fn input_of(listed: DiskList, layout: Layout, next: Vec<DiskId>) -> Input
+    requires { IsInput (record { disks = listed.disks.items; items = layout.items.items; spots = layout.spots.items; next = next.items }) }
+    ensures { result ≡ record { disks = listed.disks.items; items = layout.items.items; spots = layout.spots.items; next = next.items } }
+{
+    Input::new(listed.disks, layout.items, layout.spots, next)
 }

@@ -1,5 +1,5 @@
 //! The now file: the items and where they are.
-ghost use Rattle.std.specs.Prelude.{◌≡◌, ◌≤◌, All, IfErr, IfOk, length, map, ℕ};
+ghost use Rattle.std.specs.Prelude.{◌≡◌, ◌≤◌, ◌++◌, ◌∷◌, [], All, Contains, IfErr, IfOk, OnOk, length, map, ℕ};
 ghost use Rattle.std.specs.List.{AllZip};
 ghost use Rattle.csv.specs.Records.{fields_of};
 ghost use Rattle.mig_base.specs.Refusals.{IsFirstCause, IsSpotNamed, NowRowFault};
@@ -17,21 +17,55 @@ use crate::rows::field;
 use csv::ByteRecord;
 use mig_base::{DiskId, FileKind, MAX_DISKS, MAX_ITEMS, Name, Spot, Why, read_digits};
 use mig_names::{NameTable, SpotTable};
-use std::alloc::Global;
-
-/// The items of a now file and their spots.
-#[derive(Drop)]
-pub(crate) struct Layout {
-    pub(crate) names: NameTable,
-    pub(crate) items: Vec<Name>,
-    pub(crate) spots: Vec<Spot>,
-}
+use std::alloc::{AllocError, Global};
 
 /// An item and where it is.
 #[derive(Clone, Copy)]
 struct Placed {
     name: Name,
     spot: Spot,
+}
+
+/// The items that rows of a now file list, and their spots.
+#[derive(Drop)]
+pub(crate) struct Layout {
+    pub(crate) names: NameTable,
+    taken: SpotTable,
+    pub(crate) items: Vec<Name>,
+    pub(crate) spots: Vec<Spot>,
+}
+
+impl Layout {
+    /// No items, and tables with room for so many. An error is want of memory.
+    fn with_capacity(alloc: Global, rows: usize) -> Result<Layout, AllocError>
+        ensures names { IfOk result (λ r. r.names ≡ []) }
+        ensures taken { IfOk result (λ r. r.taken ≡ []) }
+        ensures items { IfOk result (λ r. r.items.items ≡ []) }
+        ensures spots { IfOk result (λ r. r.spots.items ≡ []) }
+    {
+        Ok(Layout {
+            names: NameTable::with_capacity(alloc, rows)?,
+            taken: SpotTable::with_capacity(alloc, rows)?,
+            items: Vec::new(alloc),
+            spots: Vec::new(alloc),
+        })
+    }
+
+    /// Adds a new item, at a spot that is not taken. An error is want of memory.
+    fn push(&mut self, found: Placed) -> Result<(), AllocError>
+        requires new_name { ¬ (Contains self.old.names found.name) }
+        requires free { ¬ (Contains self.old.taken found.spot) }
+        ensures names { OnOk result (self.new.names ≡ self.old.names ++ found.name ∷ []) }
+        ensures taken { OnOk result (self.new.taken ≡ self.old.taken ++ found.spot ∷ []) }
+        ensures items { OnOk result (self.new.items.items ≡ self.old.items.items ++ found.name ∷ []) }
+        ensures spots { OnOk result (self.new.spots.items ≡ self.old.spots.items ++ found.spot ∷ []) }
+    {
+        self.names.push(found.name)?;
+        self.taken.push(found.spot)?;
+        self.items.push(found.name)?;
+        self.spots.push(found.spot)?;
+        Ok(())
+    }
 }
 
 /// The items that a now file lists, in its order, or the first fault of the file.
@@ -48,34 +82,20 @@ pub(crate) fn read_now(alloc: Global, bytes: &[u8], disks: &DiskList) -> Result<
 {
     let mut row = ByteRecord::new(alloc);
     let mut records = rows_after_header(alloc, FileKind::Now, bytes, &mut row)?;
-    let rows = likely_rows(bytes.len());
-    let Ok(mut names) = NameTable::with_capacity(alloc, rows) else {
+    let Ok(mut layout) = Layout::with_capacity(alloc, likely_rows(bytes.len())) else {
         return Err(InputError::Memory);
     };
-    let Ok(mut taken) = SpotTable::with_capacity(alloc, rows) else {
-        return Err(InputError::Memory);
-    };
-    let mut items = Vec::new(alloc);
-    let mut spots = Vec::new(alloc);
     'rows: while records.read(&mut row)? {
-        match read_item(disks, &names, &taken, &row) {
+        match read_item(disks, &layout.names, &layout.taken, &row) {
             Ok(found) => {
-                if names.push(found.name).is_err()
-                    || taken.push(found.spot).is_err()
-                    || items.push(found.name).is_err()
-                    || spots.push(found.spot).is_err()
-                {
+                if layout.push(found).is_err() {
                     return Err(InputError::Memory);
                 }
             }
-            Err(why) => return Err(refused(FileKind::Now, names.len() as u32 + 1, why)),
+            Err(why) => return Err(refused(FileKind::Now, layout.names.len() as u32 + 1, why)),
         }
     }
-    Ok(Layout {
-        names,
-        items,
-        spots,
-    })
+    Ok(layout)
 }
 
 /// How many rows a now file of so many bytes may well have: few have rows of fewer than eight.

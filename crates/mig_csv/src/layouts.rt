@@ -4,6 +4,7 @@ ghost use Rattle.mig_csv.specs.Listings.{IsListing, IsListingRefusal};
 
 use crate::disks::read_disks;
 use crate::errors::InputError;
+use crate::inputs::input_of;
 use crate::items::read_now;
 use mig_base::{DiskId, Input, Spot};
 use std::alloc::Global;
@@ -22,7 +23,7 @@ pub fn read_layout(alloc: Global, disks: &[u8], now: &[u8]) -> Result<Input, Inp
     let listed = read_disks(alloc, disks)?;
     let layout = read_now(alloc, now, &listed)?;
     let next = disks_of(alloc, &layout.spots)?;
-    Ok(Input::new(listed.disks, layout.items, layout.spots, next))
+    Ok(input_of(listed, layout, next))
 }
 
 // The disks of these spots.

@@ -16,6 +16,3 @@ pub use errors::InputError;
 pub use inputs::read_input;
 pub use layouts::read_layout;
 pub use mig_base::{FileKind, Why};
-
-#[cfg(test)]
-mod tests;

@@ -8,7 +8,5 @@ mod kept;
 mod places;
 mod store;
 
+pub use disks::MOST_OPEN;
 pub use store::FileStore;
-
-#[cfg(test)]
-mod tests;

@@ -5,6 +5,3 @@ mod cases;
 mod lists;
 
 pub use cases::{is_case_size, make_case};
-
-#[cfg(test)]
-mod tests;

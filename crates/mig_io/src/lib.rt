@@ -17,8 +17,7 @@ pub use dir::DirFolder;
 pub use folder::{Folder, LoadFault, SaveFailed};
 pub use mem_sink::MemSink;
 pub use memory::MemFolder;
+pub use reading::read_first;
 pub use sink::{Sink, SinkFailed};
 pub use std_sink::StdSink;
-
-#[cfg(test)]
-mod tests;
+pub use writing::write_whole;

@@ -10,6 +10,3 @@ pub use arming::{arm, disarm};
 pub use digests::digest_of;
 pub use looking::{Seen, look};
 pub use marks::{mark, marked};
-
-#[cfg(test)]
-mod tests;

@@ -32,6 +32,3 @@ pub use laws::{
 pub use looking::sight;
 pub use sights::Sight;
 pub use standing::stand;
-
-#[cfg(test)]
-mod fill_tests;

@@ -6,6 +6,3 @@ mod spot_table;
 
 pub use name_table::NameTable;
 pub use spot_table::SpotTable;
-
-#[cfg(test)]
-mod tests;

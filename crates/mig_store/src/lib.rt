@@ -19,6 +19,3 @@ pub use ends::EndOrder;
 pub use memory::MemStore;
 pub use store::{Store, StoreFailed};
 pub use sure::SureStore;
-
-#[cfg(test)]
-mod tests;

@@ -1,5 +1,5 @@
-use Rattle.std.proofs.Common.{◌≡◌, ◌∙◌, arith, length, map, refl, rules, sym, true}
-use Rattle.std.specs.Result.{is_ok}
+use Rattle.std.proofs.Common.{◌≡◌, arith, false, length, map, refl, rules}
+use Rattle.std.specs.Result.{is_err}
 use Rattle.csv.proofs.ReadFacts.{on-ok}
 use Rattle.std.proofs.lemmas.List.{length-map}
 use Rattle.std.proofs.lemmas.Result.{err_from_is_err_and}
@@ -18,7 +18,7 @@ returns-in_err-records-clause-fault c =
     rw (p.1, p.2) (refusal_of_header file.Disks (λ before. DisksRowFault (map first before)) c.args.bytes.now _ c.in_err-records.ensures.refused)
 
 pub rows-init : goal.rows-init
-rows-init c = rw (c.new-names.ensures, c.new-disks.ensures.items) (ReadSoFar-start c.in_ok-records.records c.in_ok-records.ensures.short c.in_ok-records.ensures.rows)
+rows-init c = rw (c.new-listed.ensures.names, c.new-listed.ensures.disks) (ReadSoFar-start c.in_ok-records.records c.in_ok-records.ensures.short c.in_ok-records.ensures.rows)
 
 pub returns-clause-sound : goal.returns-clause-sound
 returns-clause-sound c = ReadSoFar-end c.rows.invariant (rw c.if-branch.false at c.in_ok-read.ensures.found)
@@ -30,15 +30,13 @@ pub rows-preserved : goal.rows-preserved
 rows-preserved c =
     let one = rw c.if-branch.true at c.in_ok-read.ensures.found in
     let next = ReadSoFar-push c.rows.invariant (fields_of c.read.new.row) c.read.new.self c.in-Ok.disk one c.in-Ok.ensures.value c.in-Ok.ensures.sound in
-    let named = on-ok c.push.result (sym c.is_err.ensures.value ∙ c.if-is_err.false) c.push.ensures.ok in
-    let good : is_ok c.push-else-is_err.result ≡ true = search rules in
-    let listed = rw good at c.push-else-is_err.ensures.items in
-    rw (named, listed) next
+    let good : is_err c.push.result ≡ false = search rules in
+    rw (on-ok c.push.result good c.push.ensures.names, on-ok c.push.result good c.push.ensures.disks) next
 
 pub overflow_add-len : goal.overflow_add-len
 overflow_add-len c =
     let s = c.rows.invariant in
-    let n : length c.rows.names ≡ length s.done = rw (s.named, length-map) refl in
+    let n : length c.rows.listed.names ≡ length s.done = rw (s.named, length-map) refl in
     let few = s.few in
     omega arith
 

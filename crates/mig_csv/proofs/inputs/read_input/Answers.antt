@@ -78,8 +78,8 @@ returns-in_err-check_room-clause-refused c =
     let lacking = rw (c.deref-2.ensures.value, c.deref-3.ensures.value, c.deref-4.ensures.value, c.deref-5.ensures.value) at c.in_err-check_room.ensures.lacking in
     rw (p.1, p.2) (refusal_of_room fs i _ d.sound clean_of_now clean_of_next missing listed lacking)
 
-pub new-requires : goal.new-requires
-new-requires c =
+pub input_of-requires : goal.input_of-requires
+input_of-requires c =
     let fs : Bodies = record { disks = c.args.disks.now; now = c.args.now.now; next = c.args.next.now } in
     let i : Lists = record { disks = c.in_ok-listed.listed.disks.items; items = c.in_ok-layout.layout.items.items; spots = c.in_ok-layout.layout.spots.items; next = c.in_ok-next.next.items } in
     let d = c.in_ok-listed.ensures in
@@ -106,9 +106,9 @@ returns-clause-accepted c =
     let missing = none_missing fs i.disks i.items c.in_ok-places.places.items i.next n.items x.value filled in
     let listed = listed_of fs i c.in_ok-places.places.items d.value n.items n.spots x.value filled in
     let roomy = rw (c.deref-2.ensures.value, c.deref-3.ensures.value, c.deref-4.ensures.value, c.deref-5.ensures.value) at c.in_ok-check_room.ensures.roomy in
-    rw c.new.ensures (Accepted-roomy fs i d.sound clean_of_now clean_of_next missing listed roomy)
+    rw c.input_of.ensures (Accepted-roomy fs i d.sound clean_of_now clean_of_next missing listed roomy)
 
 pub returns-clause-roomy : goal.returns-clause-roomy
 returns-clause-roomy c =
     let roomy = rw (c.deref-2.ensures.value, c.deref-3.ensures.value, c.deref-4.ensures.value, c.deref-5.ensures.value) at c.in_ok-check_room.ensures.roomy in
-    rw c.new.ensures roomy
+    rw c.input_of.ensures roomy

@@ -1,5 +1,5 @@
-use Rattle.std.proofs.Common.{◌≡◌, refl, rules, true, false}
-use Rattle.std.specs.Result.{is_err, is_ok}
+use Rattle.std.proofs.Common.{◌≡◌, refl, rules, false}
+use Rattle.std.specs.Result.{is_err}
 use Rattle.csv.proofs.ReadFacts.{on-ok}
 use Rattle.csv.specs.Records.{fields_of}
 use Rattle.std.proofs.lemmas.Result.{err_from_is_err_and}
@@ -16,8 +16,8 @@ returns-in_err-records-clause-fault c =
 
 pub rows-init : goal.rows-init
 rows-init c =
-    rw (c.in-Ok.ensures.empty, c.in-Ok-with_capacity.ensures.empty, c.new-items.ensures.items, c.new-spots.ensures.items)
-    (ItemsSoFar-start c.in_ok-records.records c.in_ok-records.ensures.short c.in_ok-records.ensures.rows)
+    let e = c.in-Ok.ensures in
+    rw (e.names, e.taken, e.items, e.spots) (ItemsSoFar-start c.in_ok-records.records c.in_ok-records.ensures.short c.in_ok-records.ensures.rows)
 
 pub returns-clause-sound : goal.returns-clause-sound
 returns-clause-sound c = ItemsSoFar-end c.rows.invariant (rw c.if-branch.false at c.in_ok-read.ensures.found)
@@ -35,10 +35,12 @@ pub returns-clause-on_disks : goal.returns-clause-on_disks
 returns-clause-on_disks c = ItemsSoFar-on_disks c.rows.invariant
 
 pub push-requires : goal.push-requires
-push-requires c = rw c.in-Ok-read_item.ensures.item (c.in-Ok-read_item.ensures.sound why.DuplicateItem)
-
-pub push-requires-else-is_err : goal.push-requires-else-is_err
-push-requires-else-is_err c = not_taken c.args.disks.now.disks.items c.rows.taken (fields_of c.read.new.row) c.in-Ok-read_item.found.spot c.in-Ok-read_item.ensures.spot (c.in-Ok-read_item.ensures.sound why.SlotTaken)
+push-requires c =
+    let e = c.in-Ok-read_item.ensures in
+    record {
+      new_name = rw e.item (e.sound why.DuplicateItem);
+      free = not_taken c.args.disks.now.disks.items c.rows.layout.taken (fields_of c.read.new.row) c.in-Ok-read_item.found.spot e.spot (e.sound why.SlotTaken);
+    }
 
 pub rows-preserved : goal.rows-preserved
 rows-preserved c =
@@ -46,14 +48,11 @@ rows-preserved c =
     let e = c.in-Ok-read_item.ensures in
     let next = ItemsSoFar-push c.rows.invariant (fields_of c.read.new.row) c.read.new.self c.in-Ok-read_item.found.name c.in-Ok-read_item.found.spot one e.item e.spot e.on_disk e.sound in
     let good : is_err c.push.result ≡ false = search rules in
-    let named = on-ok c.push.result good c.push.ensures.ok in
-    let good2 : is_err c.push-else-is_err.result ≡ false = search rules in
-    let taken = on-ok c.push-else-is_err.result good2 c.push-else-is_err.ensures.ok in
-    let good3 : is_ok c.push-else-is_err-2.result ≡ true = search rules in
-    let items = rw good3 at c.push-else-is_err-2.ensures.items in
-    let good4 : is_ok c.push-else-is_err-3.result ≡ true = search rules in
-    let spots = rw good4 at c.push-else-is_err-3.ensures.items in
-    rw (named, taken, items, spots) next
+    let names = on-ok c.push.result good c.push.ensures.names in
+    let taken = on-ok c.push.result good c.push.ensures.taken in
+    let items = on-ok c.push.result good c.push.ensures.items in
+    let spots = on-ok c.push.result good c.push.ensures.spots in
+    rw (names, taken, items, spots) next
 
 pub returns-in-Err-clause-fault : goal.returns-in-Err-clause-fault
 returns-in-Err-clause-fault c =

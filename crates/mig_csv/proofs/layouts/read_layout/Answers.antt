@@ -15,8 +15,8 @@ returns-in_err-layout-clause-refused c =
     let d = c.in_ok-listed.ensures in
     rw (p.1, p.2) (listing_of_now c.args.disks.now c.args.now.now _ d.value d.sound _ c.in_err-layout.ensures.fault)
 
-pub new-requires : goal.new-requires
-new-requires c =
+pub input_of-requires : goal.input_of-requires
+input_of-requires c =
     let i : Lists = record { disks = c.in_ok-listed.listed.disks.items; items = c.in_ok-layout.layout.items.items; spots = c.in_ok-layout.layout.spots.items; next = c.in_ok-next.next.items } in
     let d = c.in_ok-listed.ensures in
     let n = c.in_ok-layout.ensures in
@@ -26,7 +26,7 @@ pub returns-clause-listed : goal.returns-clause-listed
 returns-clause-listed c =
     let d = c.in_ok-listed.ensures in
     let n = c.in_ok-layout.ensures in
-    rw c.new.ensures (record {
+    rw c.input_of.ensures (record {
       sound = sound c.args.disks.now c.args.now.now c.in_ok-listed.listed.disks.items d.value d.sound n.sound;
       disks = d.value;
       items = n.items;

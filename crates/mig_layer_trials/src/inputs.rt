@@ -1,6 +1,9 @@
-use crate::{FileKind, InputError, Why, read_input, read_layout};
+//! Inputs as their three files have them, and why files are refused.
+
 use mig_base::{DiskId, Name, Spot};
+use mig_csv::{FileKind, InputError, Why, read_input, read_layout};
 use std::alloc::{AllocError, Global};
+use std::panic::Expect;
 
 // The file, the row and the cause of a refusal, or nothing where the files are accepted. Want of memory is told as row 4,294,967,295.
 fn refusal(alloc: Global, disks: &[u8], now: &[u8], next: &[u8]) -> Option<(FileKind, u32, Why)> {
@@ -248,24 +251,23 @@ fn items(alloc: Global, count: u32) -> Result<String, AllocError> {
 }
 
 #[test]
-fn as_many_rows_as_there_may_be(rt: HostRuntime) -> Result<(), AllocError> {
+fn as_many_rows_as_there_may_be(rt: HostRuntime) {
     let alloc = rt.alloc();
-    let most = rows(alloc, "disk,limit,slots\n", 'd', 1024, ",1,1")?;
+    let most = rows(alloc, "disk,limit,slots\n", 'd', 1024, ",1,1").expect(&rt, "ample memory");
     assert!(rt; refusal(alloc, most.as_bytes(), NO_ITEM, NO_WAY).is_none());
-    let more = rows(alloc, "disk,limit,slots\n", 'd', 1025, ",1,1")?;
+    let more = rows(alloc, "disk,limit,slots\n", 'd', 1025, ",1,1").expect(&rt, "ample memory");
     let want = Some((FileKind::Disks, 1025, Why::TooManyRows));
     assert!(rt; refusal(alloc, more.as_bytes(), NO_ITEM, NO_WAY) == want);
     let disks: &[u8] = b"disk,limit,slots\na,1,65536\nb,1,65536\n";
-    let now = items(alloc, 65_536)?;
-    let next = rows(alloc, "item,disk\n", 'i', 65_536, ",b")?;
+    let now = items(alloc, 65_536).expect(&rt, "ample memory");
+    let next = rows(alloc, "item,disk\n", 'i', 65_536, ",b").expect(&rt, "ample memory");
     assert!(rt; refusal(alloc, disks, now.as_bytes(), next.as_bytes()).is_none());
-    let long_next = rows(alloc, "item,disk\n", 'i', 65_537, ",b")?;
+    let long_next = rows(alloc, "item,disk\n", 'i', 65_537, ",b").expect(&rt, "ample memory");
     let want = Some((FileKind::Next, 65_537, Why::TooManyRows));
     assert!(rt; refusal(alloc, disks, now.as_bytes(), long_next.as_bytes()) == want);
-    let long_now = items(alloc, 65_537)?;
+    let long_now = items(alloc, 65_537).expect(&rt, "ample memory");
     let want = Some((FileKind::Now, 65_537, Why::TooManyRows));
     assert!(rt; refusal(alloc, disks, long_now.as_bytes(), next.as_bytes()) == want);
-    Ok(())
 }
 
 // The text, and empty lines up to so many bytes.
@@ -277,11 +279,11 @@ fn padded(alloc: Global, text: &[u8], len: usize) -> Result<Vec<u8>, AllocError>
 }
 
 #[test]
-fn as_long_as_a_file_may_be(rt: HostRuntime) -> Result<(), AllocError> {
+fn as_long_as_a_file_may_be(rt: HostRuntime) {
     let alloc = rt.alloc();
-    let most = padded(alloc, ONE_DISK, 16_777_216)?;
+    let most = padded(alloc, ONE_DISK, 16_777_216).expect(&rt, "ample memory");
     assert!(rt; refusal(alloc, &most, ONE_ITEM, b"item,disk\nx,a\n").is_none());
-    let more = padded(alloc, ONE_DISK, 16_777_217)?;
+    let more = padded(alloc, ONE_DISK, 16_777_217).expect(&rt, "ample memory");
     let want = Some((FileKind::Disks, 0, Why::TooLong));
     assert!(rt; refusal(alloc, &more, NO_ITEM, NO_WAY) == want);
     let want = Some((FileKind::Now, 0, Why::TooLong));
@@ -289,7 +291,6 @@ fn as_long_as_a_file_may_be(rt: HostRuntime) -> Result<(), AllocError> {
     // A fault of an earlier file comes before the length of a later one.
     let want = Some((FileKind::Now, 1, Why::UnknownDisk));
     assert!(rt; refusal(alloc, ONE_DISK, b"item,disk,slot\nx,q,0\n", &more) == want);
-    Ok(())
 }
 
 // The place of each item's next disk as a layout is read, or the refusal.

@@ -1,13 +1,15 @@
+//! Stores in memory: crashes, calls that fail, and copies in flight.
 ghost use Rattle.std.specs.Prelude.{◌≡◌, ◌≢◌, ◌++◌, ◌∷◌, [], IfSome, IsTrue};
 ghost use Rattle.mig_base.specs.declared.cells.Cell.TheVariants.{Slot};
 ghost use Rattle.mig_base.specs.Cells.{is_slot};
 ghost use Rattle.mig_base.specs.Flights.{IsTargetOf, IsSourceOf};
 ghost use Rattle.mig_store.specs.Memories.{aloft};
 
-use crate::{EndOrder, MemStore, Pick, Store, SureStore};
 use mig_base::{Cell, Event, Name};
+use mig_store::{EndOrder, MemStore, Pick, Store, SureStore};
 use std::alloc::Global;
 use std::panic::Expect;
+use std::process::Abort;
 
 // A store of the gate, the head and a mark.
 fn journal(alloc: Global, room: u32, failing: &[u64]) -> Option<MemStore>
@@ -120,18 +122,17 @@ fn copy(store: &mut MemStore, from: &Cell, to: &Cell) -> bool
     store.begin(from, to).is_ok()
 }
 
-// A store of four slots of a disk. Slot 0 is copied to slot 2, and slot 1 to slot 3; then the copy that ends next is ended, and then all are.
-fn copied(alloc: Global, disk: Name, order: EndOrder) -> Option<MemStore> {
+// A store of four slots of a disk. Slot 0 is copied to slot 2, and slot 1 to slot 3; then the copy that ends next is ended,
+// and then all are.
+fn copied(rt: &impl Abort, alloc: Global, disk: Name, order: EndOrder) -> MemStore {
     let [a, b, c, d] = [slot(disk, 0), slot(disk, 1), slot(disk, 2), slot(disk, 3)];
-    let mut store = MemStore::new(alloc, &[a, b, c, d], 7, Vec::new(alloc)).ok()?;
+    let store = MemStore::new(alloc, &[a, b, c, d], 7, Vec::new(alloc));
+    let mut store = store.expect(rt, "ample memory");
     store.order(order);
     put(&mut store, &b, 9);
-    if !copy(&mut store, &a, &c) || !copy(&mut store, &b, &d) {
-        return None;
-    }
-    store.ended().ok()?;
-    store.sync().ok()?;
-    Some(store)
+    let copies = copy(&mut store, &a, &c) && copy(&mut store, &b, &d);
+    assert!(rt; copies && store.ended().is_ok() && store.sync().is_ok());
+    store
 }
 
 // Whether the event is a beginning, and the slot that is copied to.
@@ -158,7 +159,7 @@ fn copies_end_in_order(rt: HostRuntime) {
         (EndOrder::Last, 3, 2),
         (EndOrder::Turns, 3, 2),
     ] {
-        let store = copied(alloc, disk, order).expect(&rt, "ample memory");
+        let store = copied(&rt, alloc, disk, order);
         let ends = [(true, 2), (true, 3), (false, first), (false, last)];
         assert!(rt; store.events().iter().map(told).eq(ends));
         assert!(rt; store.syncs() == 1);
@@ -167,19 +168,15 @@ fn copies_end_in_order(rt: HostRuntime) {
     }
 }
 
-// What a sure store of two slots shows of both, after a write of the first and a copy to the second.
-fn sure(alloc: Global, disk: Name) -> Option<bool> {
-    let cells = [slot(disk, 0), slot(disk, 1)];
-    let mut store = SureStore::new(alloc, &cells).ok()?;
-    let zeros = store.cell(&cells[1]) == Some([0; 4096].as_slice());
-    store.write(&cells[0], &[9; 4096]).ok()?;
-    store.begin(&cells[0], &cells[1]).ok()?;
-    let copied = store.cell(&cells[1]) == Some([9; 4096].as_slice());
-    Some(zeros && copied && store.ended().ok()?.is_none() && store.cell(&Cell::Gate).is_none())
-}
-
 #[test]
 fn a_sure_store_copies_at_once(rt: HostRuntime) {
     let disk = Name::read(b"a").expect(&rt, "a name");
-    assert!(rt; sure(rt.alloc(), disk) == Some(true));
+    let cells = [slot(disk, 0), slot(disk, 1)];
+    let mut store = SureStore::new(rt.alloc(), &cells).expect(&rt, "ample memory");
+    assert!(rt; store.cell(&cells[1]) == Some([0; 4096].as_slice()));
+    assert!(rt; store.write(&cells[0], &[9; 4096]).is_ok());
+    assert!(rt; store.begin(&cells[0], &cells[1]).is_ok());
+    assert!(rt; store.cell(&cells[1]) == Some([9; 4096].as_slice()));
+    assert!(rt; store.ended() == Ok(None));
+    assert!(rt; store.cell(&Cell::Gate).is_none());
 }

@@ -1,6 +1,7 @@
-use crate::name_table::NameTable;
-use crate::spot_table::SpotTable;
+//! Tables of names and of spots.
+
 use mig_base::{DiskId, Name, Spot};
+use mig_names::{NameTable, SpotTable};
 use std::alloc::Global;
 
 // The names `x1`, `x2` and `x1.b`, added in this order to a table that has room for two.

@@ -1,5 +1,7 @@
-use crate::{is_case_size, make_case};
+//! Cases that are made from three numbers.
+
 use mig_base::{DiskId, Input};
+use mig_gen::{is_case_size, make_case};
 
 // Whether the input's disks have these names, each with this limit and so many slots.
 fn has_disks(input: &Input, names: &[&[u8]], limit: u32, slots: u32) -> bool {

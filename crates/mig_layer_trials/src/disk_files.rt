@@ -1,27 +1,13 @@
-use crate::FileStore;
-use crate::disks::MOST_OPEN;
+//! The store over real files: what a new store reads, many disks, and what is refused.
+
+use crate::work_folder::{enter, leave};
 use mig_base::{Cell, Name};
+use mig_files::{FileStore, MOST_OPEN};
 use mig_store::Store;
 use std::fs::{self, File};
 use std::os::unix::fs::symlink;
-use std::rt::{Env, Files};
-use std::test::Fail;
-use std::{env, io};
-
-/// Makes an empty folder, and works in it. One that a test left which was cut off is removed.
-fn enter<R: AllocGlobal + Env + Files>(rt: &R, folder: &str) -> io::Result<()> {
-    if fs::exists(rt, folder)? {
-        fs::remove_dir_all(rt, folder)?;
-    }
-    fs::create_dir(rt, folder)?;
-    env::set_current_dir(rt, folder)
-}
-
-/// Goes back, and removes the folder.
-fn leave<R: AllocGlobal + Env + Files>(rt: &R, folder: &str) -> io::Result<()> {
-    env::set_current_dir(rt, "..")?;
-    fs::remove_dir_all(rt, folder)
-}
+use std::rt::Files;
+use std::panic::Expect;
 
 /// A slot of the disk with this name.
 fn slot_of(name: &[u8], slot: u32) -> Cell {
@@ -51,8 +37,8 @@ fn has<R: Files<File = File> + Eprint>(
 }
 
 #[test]
-fn a_synced_cell_is_read_by_a_new_store(rt: HostRuntime) -> Result<(), Fail> {
-    enter(&rt, "synced")?;
+fn a_synced_cell_is_read_by_a_new_store(rt: HostRuntime) {
+    enter(&rt, "synced").expect(&rt, "a folder");
     let alloc = rt.alloc();
     {
         let mut store = FileStore::new(&rt, alloc);
@@ -83,12 +69,12 @@ fn a_synced_cell_is_read_by_a_new_store(rt: HostRuntime) -> Result<(), Fail> {
     assert!(rt; store.read(&Cell::Mark { n: 2 }, &mut byte).is_ok() && byte == [1]);
     assert!(rt; store.read(&Cell::Mark { n: 3 }, &mut byte).is_ok() && byte == [0]);
     // the files themselves: slot 3 ends at byte 16,384, and mark 2 stands at byte 1,536
-    let disk = fs::read(&rt, "a.disk")?;
+    let disk = fs::read(&rt, "a.disk").expect(&rt, "a file");
     assert!(rt; disk.len() == 16384);
     for (i, byte) in disk.iter().enumerate() {
         assert!(rt; *byte == if i < 12288 { 0 } else { 7 });
     }
-    let journal = fs::read(&rt, "journal.mig")?;
+    let journal = fs::read(&rt, "journal.mig").expect(&rt, "a file");
     assert!(rt; journal.len() == 1537);
     for (i, byte) in journal.iter().enumerate() {
         let wanted = match i {
@@ -99,13 +85,12 @@ fn a_synced_cell_is_read_by_a_new_store(rt: HostRuntime) -> Result<(), Fail> {
         assert!(rt; *byte == wanted);
     }
     assert!(rt; fs::exists(&rt, "b.disk").is_ok_and(|is| !is));
-    leave(&rt, "synced")?;
-    Ok(())
+    leave(&rt, "synced").expect(&rt, "a folder");
 }
 
 #[test]
-fn more_disks_than_open_files(rt: HostRuntime) -> Result<(), Fail> {
-    enter(&rt, "many")?;
+fn more_disks_than_open_files(rt: HostRuntime) {
+    enter(&rt, "many").expect(&rt, "a folder");
     let alloc = rt.alloc();
     let disks = MOST_OPEN as u32 + 50;
     let name = |d: u32| {
@@ -128,17 +113,16 @@ fn more_disks_than_open_files(rt: HostRuntime) -> Result<(), Fail> {
     }
     assert!(rt; has(&mut store, &slot_of(&name(0), 1), 1));
     assert!(rt; has(&mut store, &slot_of(&name(1), 1), 0));
-    leave(&rt, "many")?;
-    Ok(())
+    leave(&rt, "many").expect(&rt, "a folder");
 }
 
 #[test]
-fn what_is_refused(rt: HostRuntime) -> Result<(), Fail> {
-    enter(&rt, "refused")?;
+fn what_is_refused(rt: HostRuntime) {
+    enter(&rt, "refused").expect(&rt, "a folder");
     let alloc = rt.alloc();
     let (a, b, c) = (slot_of(b"a", 0), slot_of(b"b", 0), slot_of(b"c", 0));
-    symlink(&rt, "nowhere", "b.disk")?;
-    symlink(&rt, "/dev/null", "c.disk")?;
+    assert!(rt; symlink(&rt, "nowhere", "b.disk").is_ok());
+    assert!(rt; symlink(&rt, "/dev/null", "c.disk").is_ok());
     let mut store = FileStore::new(&rt, alloc);
     // a link that leads nowhere reads as zeros, and no file is made through it
     assert!(rt; has(&mut store, &b, 0));
@@ -167,6 +151,5 @@ fn what_is_refused(rt: HostRuntime) -> Result<(), Fail> {
     assert!(rt; put(&mut store, &a, 2));
     assert!(rt; has(&mut store, &a, 2));
     assert!(rt; store.sync().is_ok());
-    leave(&rt, "refused")?;
-    Ok(())
+    leave(&rt, "refused").expect(&rt, "a folder");
 }

@@ -1,4 +1,6 @@
-use crate::digest_of;
+//! Digests of the standard's messages.
+
+use mig_journal::digest_of;
 
 // Messages of one, two and three blocks with their digests, as in the examples of FIPS 180-4, and the empty message.
 static DIGESTS: [(&[u8], &[u8; 32]); 4] = [

@@ -1,0 +1,34 @@
+//! Copies of small loads, which share nodes.
+
+use mig_base::CopyId;
+use mig_split::{Sides, share_nodes};
+use std::panic::Expect;
+use std::prelude::HostRuntime;
+
+/// Three copies on each side, of 1, 1 and 2 ends and of 2, 1 and 1 ends. A node has at most 3: on both sides the
+/// third copy has a node of its own.
+#[test]
+fn copies_share_nodes(rt: HostRuntime) {
+    let ends = [
+        (CopyId(0), CopyId(3)),
+        (CopyId(1), CopyId(3)),
+        (CopyId(2), CopyId(4)),
+        (CopyId(2), CopyId(5)),
+    ];
+    let sides = Sides {
+        left: 3,
+        nodes: 6,
+        ends: ends.to_vec(rt.alloc()).expect(&rt, "ample memory"),
+        homes: Vec::new(rt.alloc()),
+    };
+    let shared = share_nodes(rt.alloc(), &sides, 3).expect(&rt, "ample memory");
+    let wanted = [
+        (CopyId(0), CopyId(2)),
+        (CopyId(0), CopyId(2)),
+        (CopyId(1), CopyId(2)),
+        (CopyId(1), CopyId(3)),
+    ];
+    assert_eq!(&rt; shared.left, 2);
+    assert_eq!(&rt; shared.nodes, 4);
+    assert_eq!(&rt; shared.ends.as_slice(), &wanted[..]);
+}

@@ -1,0 +1,98 @@
+//! Readers and writers that move a byte a call, are interrupted, or fail on the way.
+
+use mig_io::{read_first, write_whole};
+use std::io::{self, ErrorKind, Read, Write};
+use std::panic::Expect;
+
+/// A reader and a writer that moves at most one byte a call, and does at each call what the script says: `1` moves one, `0` none, `i` is interrupted, `x` fails. After the script each call moves one.
+#[derive(Drop)]
+struct Scripted {
+    script: &'static [u8],
+    calls: usize,
+    bytes: Vec<u8>,
+    read: usize,
+}
+
+impl Scripted {
+    fn new(script: &'static [u8], bytes: Vec<u8>) -> Self {
+        Scripted {
+            script,
+            calls: 0,
+            bytes,
+            read: 0,
+        }
+    }
+
+    /// Whether this call moves a byte.
+    fn moves(&mut self) -> io::Result<bool> {
+        let step = self.script.get(self.calls).copied();
+        self.calls = self.calls.saturating_add(1);
+        match step {
+            Some(b'i') => Err(ErrorKind::Interrupted.into()),
+            Some(b'x') => Err(ErrorKind::Other.into()),
+            Some(b'0') => Ok(false),
+            _ => Ok(true),
+        }
+    }
+}
+
+impl Read for Scripted {
+    fn read(&mut self, buf: &mut [u8]) -> io::Result<usize> {
+        if !self.moves()? || buf.is_empty() {
+            return Ok(0);
+        }
+        let Some(byte) = self.bytes.get(self.read) else {
+            return Ok(0);
+        };
+        buf[0] = *byte;
+        self.read = self.read.saturating_add(1);
+        Ok(1)
+    }
+}
+
+impl Write for Scripted {
+    fn write(&mut self, buf: &[u8]) -> io::Result<usize> {
+        if !self.moves()? || buf.is_empty() {
+            return Ok(0);
+        }
+        self.bytes.push(buf[0])?;
+        Ok(1)
+    }
+
+    fn flush(&mut self) -> io::Result<()> {
+        Ok(())
+    }
+}
+
+#[test]
+fn one_byte_a_call(rt: HostRuntime) {
+    let alloc = rt.alloc();
+    let reads: [(&'static [u8], usize, Option<&'static [u8]>); 8] = [
+        (b"", 10, Some(b"abcde")),
+        (b"", 5, Some(b"abcde")),
+        (b"", 3, Some(b"abc")),
+        (b"", 0, Some(b"")),
+        (b"1ii1i", 10, Some(b"abcde")),
+        (b"110", 10, Some(b"ab")),
+        (b"11x", 2, Some(b"ab")),
+        (b"11x", 10, None),
+    ];
+    for (script, most, wanted) in reads {
+        let bytes = Vec::from_slice(alloc, b"abcde").expect(&rt, "ample memory");
+        let mut file = Scripted::new(script, bytes);
+        let got = read_first(alloc, &mut file, most);
+        assert!(rt; got.as_ref().ok().map(|bytes| bytes.as_slice()) == wanted);
+    }
+    let writes: [(&'static [u8], bool, &'static [u8]); 5] = [
+        (b"", true, b"abcde"),
+        (b"i1ii1", true, b"abcde"),
+        (b"11x", false, b"ab"),
+        (b"110", false, b"ab"),
+        (b"0", false, b""),
+    ];
+    for (script, whole, written) in writes {
+        let mut out = Scripted::new(script, Vec::new(alloc));
+        assert_eq!(rt; write_whole(&mut out, b"abcde").is_ok(), whole);
+        assert_eq!(rt; out.bytes.as_slice(), written);
+    }
+}
