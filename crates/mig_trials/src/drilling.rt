@@ -1,12 +1,13 @@
 //! What `drill` puts, and what it refuses.
 
-use crate::expecting::expect;
+use crate::expecting::{calls_of, expect};
 use mig_fixtures::{
     Cluster, NO_ROUNDS, ONE_STAYS, THREE_ITEMS, TWO_NEEDED, TWO_ROUNDS, folder_of, holds, planned,
     sink_of, status_of,
 };
-use std::alloc::{AllocError, Global};
-use std::test::Fail;
+use std::alloc::Global;
+use std::panic::Expect;
+use std::process::Abort;
 
 /// The line that drills what stands as P.
 const DRILL: &str = "drill D N X P";
@@ -54,24 +55,35 @@ reached 48
 /// What is put where nothing is to be moved.
 const NONE_DRILLED: &str = "writes 2\nstop 0 marks 0 0 0 0\nstop 1 marks 0 0 0 0\nreached 8\n";
 
+/// Drills a plan, and asserts what is put. The plan and the certificate stand.
+fn expect_drilled(rt: &impl Abort, alloc: Global, cluster: &Cluster<'_>, plan: &str, text: &str) {
+    let made = planned(alloc, cluster, plan, TWO_NEEDED, Vec::new(alloc));
+    let mut folder = made.expect(rt, "ample memory");
+    expect(rt, alloc, &mut folder, DRILL, 0, text);
+    assert!(rt; holds(&folder, "P", Some(plan)));
+    assert!(rt; holds(&folder, "C", Some(TWO_NEEDED)));
+}
+
 #[test]
-fn plans_are_drilled(rt: HostRuntime) -> Result<(), Fail> {
-    let alloc = rt.alloc();
+fn plans_are_drilled(rt: HostRuntime) {
     for (cluster, plan, text) in [
         (&ONE_MOVES, ONE_ROUND, ONE_DRILLED),
         (&THREE_ITEMS, TWO_ROUNDS, TWO_DRILLED),
         (&ONE_STAYS, NO_ROUNDS, NONE_DRILLED),
     ] {
-        let mut folder = planned(alloc, cluster, plan, TWO_NEEDED, Vec::new(alloc))?;
-        expect(&rt, alloc, &mut folder, DRILL, 0, text)?;
-        assert!(rt; holds(&folder, "P", Some(plan)));
-        assert!(rt; holds(&folder, "C", Some(TWO_NEEDED)));
+        expect_drilled(&rt, rt.alloc(), cluster, plan, text);
     }
-    Ok(())
+}
+
+/// Tells of a plan of the three items that cannot be drilled.
+fn expect_undrilled(rt: &impl Abort, alloc: Global, plan: &str, status: u8, text: &str) {
+    let made = planned(alloc, &THREE_ITEMS, plan, TWO_NEEDED, Vec::new(alloc));
+    let mut folder = made.expect(rt, "ample memory");
+    expect(rt, alloc, &mut folder, DRILL, status, text);
 }
 
 #[test]
-fn what_cannot_be_drilled_is_told(rt: HostRuntime) -> Result<(), Fail> {
+fn what_cannot_be_drilled_is_told(rt: HostRuntime) {
     let alloc = rt.alloc();
     let shifted = "migration-plan 1\nrounds 1\nround 1 1\nx b 0 a 0\nend\n";
     for (plan, status, text) in [
@@ -79,39 +91,39 @@ fn what_cannot_be_drilled_is_told(rt: HostRuntime) -> Result<(), Fail> {
         (NO_ROUNDS, 1, "wrong end item x\n"),
         ("", 10, "refused plan line 1\n"),
     ] {
-        let mut folder = planned(alloc, &THREE_ITEMS, plan, TWO_NEEDED, Vec::new(alloc))?;
-        expect(&rt, alloc, &mut folder, DRILL, status, text)?;
+        expect_undrilled(&rt, alloc, plan, status, text);
     }
-    let mut folder = folder_of(alloc, &THREE_ITEMS, Vec::new(alloc))?;
-    expect(&rt, alloc, &mut folder, DRILL, 16, "no file P\n")?;
+    let mut folder = folder_of(alloc, &THREE_ITEMS, Vec::new(alloc)).expect(&rt, "ample memory");
+    expect(&rt, alloc, &mut folder, DRILL, 16, "no file P\n");
     for line in [
         "drill",
         "drill D N X",
         "drill D N X P C",
         "drill D N X P.mig",
     ] {
-        expect(&rt, alloc, &mut folder, line, 2, "words not understood\n")?;
+        expect(&rt, alloc, &mut folder, line, 2, "words not understood\n");
     }
-    Ok(())
 }
 
 /// The status of a drill of two rounds whose output fails at this put, and whose folder fails at these calls.
-fn status_failing(alloc: Global, put: u64, calls: &[u64]) -> Result<u8, AllocError> {
-    let failing = Vec::from_slice(alloc, calls)?;
-    let mut folder = planned(alloc, &THREE_ITEMS, TWO_ROUNDS, TWO_NEEDED, failing)?;
-    let mut out = sink_of(alloc, Vec::from_slice(alloc, &[put])?)?;
-    status_of(alloc, &mut folder, DRILL, &mut out)
+fn status_failing(rt: &impl Abort, alloc: Global, put: u64, calls: &[u64]) -> u8 {
+    let failing = calls_of(rt, alloc, calls);
+    let mut folder = planned(alloc, &THREE_ITEMS, TWO_ROUNDS, TWO_NEEDED, failing).expect(
+        rt,
+        "ample memory",
+    );
+    let mut out = sink_of(alloc, calls_of(rt, alloc, &[put])).expect(rt, "ample memory");
+    status_of(alloc, &mut folder, DRILL, &mut out).expect(rt, "ample memory")
 }
 
 #[test]
-fn a_drill_may_fail(rt: HostRuntime) -> Result<(), Fail> {
+fn a_drill_may_fail(rt: HostRuntime) {
     let alloc = rt.alloc();
-    assert!(rt; status_failing(alloc, 0, &[])? == 6);
-    assert!(rt; status_failing(alloc, 5, &[])? == 6);
+    assert!(rt; status_failing(&rt, alloc, 0, &[]) == 6);
+    assert!(rt; status_failing(&rt, alloc, 5, &[]) == 6);
     for call in 0..4 {
-        assert!(rt; status_failing(alloc, 9999, &[call])? == 4);
+        assert!(rt; status_failing(&rt, alloc, 9999, &[call]) == 4);
     }
-    Ok(())
 }
 
 /// The three files of an input, and a plan.
@@ -124,39 +136,45 @@ struct Texts {
 }
 
 /// Adds so many items that go from one disk to another, one in each round.
-fn add_items(texts: &mut Texts, items: u32) -> Result<(), AllocError> {
+fn add_items(rt: &impl Abort, texts: &mut Texts, items: u32) {
     for i in 0..items {
         let round = i.saturating_add(1);
-        write!(texts.now, "i{i},a,{i}\n")?;
-        write!(texts.next, "i{i},b\n")?;
-        write!(texts.plan, "round {round} 1\ni{i} a {i} b {i}\n")?;
+        write!(texts.now, "i{i},a,{i}\n").expect(rt, "ample memory");
+        write!(texts.next, "i{i},b\n").expect(rt, "ample memory");
+        write!(texts.plan, "round {round} 1\ni{i} a {i} b {i}\n").expect(rt, "ample memory");
     }
-    Ok(())
 }
 
 /// The texts of 257 items that go from one disk to another, one in each round.
-fn one_by_one(alloc: Global) -> Result<Texts, AllocError> {
+fn one_by_one(rt: &impl Abort, alloc: Global) -> Texts {
     let mut texts = Texts {
-        disks: String::from_str(alloc, "disk,limit,slots\na,1,257\nb,1,257\n")?,
-        now: String::from_str(alloc, "item,disk,slot\n")?,
-        next: String::from_str(alloc, "item,disk\n")?,
-        plan: String::from_str(alloc, "migration-plan 1\nrounds 257\n")?,
+        disks: String::from_str(alloc, "disk,limit,slots\na,1,257\nb,1,257\n").expect(
+            rt,
+            "ample memory",
+        ),
+        now: String::from_str(alloc, "item,disk,slot\n").expect(rt, "ample memory"),
+        next: String::from_str(alloc, "item,disk\n").expect(rt, "ample memory"),
+        plan: String::from_str(alloc, "migration-plan 1\nrounds 257\n").expect(rt, "ample memory"),
     };
-    add_items(&mut texts, 257)?;
-    write!(texts.plan, "end\n")?;
-    Ok(texts)
+    add_items(rt, &mut texts, 257);
+    write!(texts.plan, "end\n").expect(rt, "ample memory");
+    texts
 }
 
 #[test]
-fn a_large_plan_is_not_drilled(rt: HostRuntime) -> Result<(), Fail> {
+fn a_large_plan_is_not_drilled(rt: HostRuntime) {
     let alloc = rt.alloc();
-    let texts = one_by_one(alloc)?;
+    let texts = one_by_one(&rt, alloc);
     let cluster = Cluster {
         disks: texts.disks.as_str(),
         now: texts.now.as_str(),
         next: texts.next.as_str(),
     };
-    let mut folder = planned(alloc, &cluster, texts.plan.as_str(), "", Vec::new(alloc))?;
+    let none = Vec::new(alloc);
+    let mut folder = planned(alloc, &cluster, texts.plan.as_str(), "", none).expect(
+        &rt,
+        "ample memory",
+    );
     expect(
         &rt,
         alloc,
@@ -164,6 +182,5 @@ fn a_large_plan_is_not_drilled(rt: HostRuntime) -> Result<(), Fail> {
         DRILL,
         11,
         "too large for a drill 257\n",
-    )?;
-    Ok(())
+    );
 }

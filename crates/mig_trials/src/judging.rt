@@ -5,9 +5,9 @@ use mig_fixtures::{
     AFTER, CHECK, Cluster, NO_ROUNDS, NOTHING_NEEDED, ONE_STAYS, THREE_ITEMS, THREE_MOVED,
     TRIANGLE, TWO_NEEDED, TWO_ROUNDS, folder_of, planned,
 };
-use std::alloc::{AllocError, Global};
+use std::alloc::Global;
+use std::panic::Expect;
 use std::process::Abort;
-use std::test::Fail;
 
 /// A plan and a certificate beside the files of a cluster, with the status and the text of `check`, and the layout that `after`
 /// prints. Where there is none, `after` ends as `check` does.
@@ -22,18 +22,20 @@ struct Judged<'a> {
 }
 
 /// Asserts how `check` and `after` end.
-fn expect_judged(rt: &impl Abort, alloc: Global, cases: &[Judged<'_>]) -> Result<(), AllocError> {
+fn expect_judged(rt: &impl Abort, alloc: Global, cases: &[Judged<'_>]) {
     for case in cases {
         let none = Vec::new(alloc);
-        let mut folder = planned(alloc, &case.cluster, case.plan, case.cert, none)?;
-        expect(rt, alloc, &mut folder, CHECK, case.status, case.text)?;
+        let mut folder = planned(alloc, &case.cluster, case.plan, case.cert, none).expect(
+            rt,
+            "ample memory",
+        );
+        expect(rt, alloc, &mut folder, CHECK, case.status, case.text);
         let (status, text) = match case.layout {
             Some(layout) => (0, layout),
             None => (case.status, case.text),
         };
-        expect(rt, alloc, &mut folder, AFTER, status, text)?;
+        expect(rt, alloc, &mut folder, AFTER, status, text);
     }
-    Ok(())
 }
 
 const THREE_JUDGED: Judged<'static> = Judged {
@@ -127,9 +129,8 @@ static STOPPED: [Judged<'static>; 12] = [
 ];
 
 #[test]
-fn blames_plans_that_do_not_run(rt: HostRuntime) -> Result<(), Fail> {
-    expect_judged(&rt, rt.alloc(), &STOPPED)?;
-    Ok(())
+fn blames_plans_that_do_not_run(rt: HostRuntime) {
+    expect_judged(&rt, rt.alloc(), &STOPPED);
 }
 
 static JUDGED: [Judged<'static>; 13] = [
@@ -206,9 +207,8 @@ static JUDGED: [Judged<'static>; 13] = [
 ];
 
 #[test]
-fn judges_plans_that_run(rt: HostRuntime) -> Result<(), Fail> {
-    expect_judged(&rt, rt.alloc(), &JUDGED)?;
-    Ok(())
+fn judges_plans_that_run(rt: HostRuntime) {
+    expect_judged(&rt, rt.alloc(), &JUDGED);
 }
 
 /// A text that is no plan of the three items.
@@ -294,32 +294,33 @@ static NO_PLANS: [Judged<'static>; 14] = [
 ];
 
 #[test]
-fn refuses_plans(rt: HostRuntime) -> Result<(), Fail> {
+fn refuses_plans(rt: HostRuntime) {
     let alloc = rt.alloc();
-    expect_judged(&rt, alloc, &NO_PLANS)?;
-    let mut folder = folder_of(alloc, &THREE_ITEMS, Vec::new(alloc))?;
-    let long = vec![in alloc; b'\n'; 16_777_217]?;
-    folder.keep("P", &long)?;
-    expect(&rt, alloc, &mut folder, AFTER, 10, "refused plan line 0\n")?;
-    Ok(())
+    expect_judged(&rt, alloc, &NO_PLANS);
+    let mut folder = folder_of(alloc, &THREE_ITEMS, Vec::new(alloc)).expect(&rt, "ample memory");
+    let long = vec![in alloc; b'\n'; 16_777_217].expect(&rt, "ample memory");
+    folder.keep("P", &long).expect(&rt, "ample memory");
+    expect(&rt, alloc, &mut folder, AFTER, 10, "refused plan line 0\n");
 }
 
 // The line number of a text that is cut: the number of its LF bytes and 1, and 1 more where it ends just before an LF.
 #[test]
-fn refuses_each_plan_that_is_cut(rt: HostRuntime) -> Result<(), Fail> {
+fn refuses_each_plan_that_is_cut(rt: HostRuntime) {
     let alloc = rt.alloc();
     let whole = TWO_ROUNDS.as_bytes();
     assert_eq!(rt; whole.len(), 80);
-    let mut folder = folder_of(alloc, &THREE_ITEMS, Vec::new(alloc))?;
+    let mut folder = folder_of(alloc, &THREE_ITEMS, Vec::new(alloc)).expect(&rt, "ample memory");
     for len in 0..whole.len() {
         let part = &whole[..len];
         let ends = part.iter().filter(|byte| **byte == b'\n').count();
         let more = if whole[len] == b'\n' { 2 } else { 1 };
-        folder.keep("P", part)?;
-        let want = format!(in alloc; "refused plan line {}\n", ends.saturating_add(more))?;
-        expect(&rt, alloc, &mut folder, AFTER, 10, want.as_str())?;
+        folder.keep("P", part).expect(&rt, "ample memory");
+        let want = format!(in alloc; "refused plan line {}\n", ends.saturating_add(more)).expect(
+            &rt,
+            "ample memory",
+        );
+        expect(&rt, alloc, &mut folder, AFTER, 10, want.as_str());
     }
-    Ok(())
 }
 
 /// A text that is no certificate, beside a plan without rounds for three disks and no items.
@@ -411,7 +412,6 @@ static NO_CERTS: [Judged<'static>; 14] = [
 ];
 
 #[test]
-fn refuses_certificates(rt: HostRuntime) -> Result<(), Fail> {
-    expect_judged(&rt, rt.alloc(), &NO_CERTS)?;
-    Ok(())
+fn refuses_certificates(rt: HostRuntime) {
+    expect_judged(&rt, rt.alloc(), &NO_CERTS);
 }

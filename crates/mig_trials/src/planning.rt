@@ -1,11 +1,13 @@
 //! What `plan` saves and puts, and what `check` and `after` then say of it.
 
-use crate::expecting::expect;
+use crate::expecting::{expect, expect_end};
 use mig_fixtures::{
     AFTER, CHECK, Cluster, NO_ROUNDS, NOTHING_NEEDED, ONE_STAYS, PLAN, THREE_ITEMS, THREE_MOVED,
-    TRIANGLE, TWO_NEEDED, folder_of, holds, sink_of, status_of,
+    TRIANGLE, TWO_NEEDED, folder_of, holds, outcome_of,
 };
-use std::test::Fail;
+use std::alloc::Global;
+use std::panic::Expect;
+use std::process::Abort;
 
 /// A cluster, its plan up to the order of the shifts, its certificate and its last layout. The plan has one of the forms, in
 /// which `*` is the place of a shift.
@@ -211,25 +213,29 @@ static SETTLED: [Settled<'static>; 13] = [
     },
 ];
 
+/// Plans a cluster, and asserts its plan, its certificate, its verdict and its last layout.
+fn expect_settled(rt: &impl Abort, alloc: Global, case: &Settled<'_>) {
+    let made = folder_of(alloc, &case.cluster, Vec::new(alloc));
+    let mut folder = made.expect(rt, "ample memory");
+    expect(rt, alloc, &mut folder, PLAN, 0, case.cert);
+    let plan = str::from_utf8(folder.file("P").expect(rt, "a plan")).expect(rt, "a text");
+    assert!(rt;
+        case.forms
+            .iter()
+            .any(|form| is_filled(plan, form, case.shifts)),
+        "{plan}"
+    );
+    assert!(rt; holds(&folder, "C", Some(case.cert)));
+    assert!(rt; holds(&folder, "D", Some(case.cluster.disks)));
+    expect(rt, alloc, &mut folder, CHECK, 0, "optimal\n");
+    expect(rt, alloc, &mut folder, AFTER, 0, case.layout);
+}
+
 #[test]
-fn plans_as_stated(rt: HostRuntime) -> Result<(), Fail> {
-    let alloc = rt.alloc();
+fn plans_as_stated(rt: HostRuntime) {
     for case in &SETTLED {
-        let mut folder = folder_of(alloc, &case.cluster, Vec::new(alloc))?;
-        expect(&rt, alloc, &mut folder, PLAN, 0, case.cert)?;
-        let plan = str::from_utf8(folder.file("P").ok_or("no plan")?)?;
-        assert!(rt;
-            case.forms
-                .iter()
-                .any(|form| is_filled(plan, form, case.shifts)),
-            "{plan}"
-        );
-        assert!(rt; holds(&folder, "C", Some(case.cert)));
-        assert!(rt; holds(&folder, "D", Some(case.cluster.disks)));
-        expect(&rt, alloc, &mut folder, CHECK, 0, "optimal\n")?;
-        expect(&rt, alloc, &mut folder, AFTER, 0, case.layout)?;
+        expect_settled(&rt, rt.alloc(), case);
     }
-    Ok(())
 }
 
 /// A cluster whose plan is open, but for its shifts and its last layout. One of the endings comes: how the plan begins, its
@@ -384,20 +390,23 @@ fn ending_of<'a>(
     None
 }
 
+/// Plans a cluster, and asserts its shifts, one of its endings and its last layout.
+fn expect_unsettled(rt: &impl Abort, alloc: Global, case: &Unsettled<'_>) {
+    let made = folder_of(alloc, &case.cluster, Vec::new(alloc));
+    let mut folder = made.expect(rt, "ample memory");
+    let came = outcome_of(alloc, &mut folder, PLAN).expect(rt, "ample memory");
+    let plan = str::from_utf8(folder.file("P").expect(rt, "a plan")).expect(rt, "a text");
+    assert!(rt; has_each(plan, case.shifts), "{plan}");
+    let (cert, verdict) = ending_of(plan, case.endings).expect(rt, "as few rounds as may be");
+    expect_end(rt, PLAN, (came.status, came.out.held()), (0, cert));
+    assert!(rt; holds(&folder, "C", Some(cert)));
+    expect(rt, alloc, &mut folder, CHECK, 0, verdict);
+    expect(rt, alloc, &mut folder, AFTER, 0, case.layout);
+}
+
 #[test]
-fn plans_as_bounded(rt: HostRuntime) -> Result<(), Fail> {
-    let alloc = rt.alloc();
+fn plans_as_bounded(rt: HostRuntime) {
     for case in &UNSETTLED {
-        let mut folder = folder_of(alloc, &case.cluster, Vec::new(alloc))?;
-        let mut out = sink_of(alloc, Vec::new(alloc))?;
-        assert_eq!(rt; status_of(alloc, &mut folder, PLAN, &mut out)?, 0);
-        let plan = str::from_utf8(folder.file("P").ok_or("no plan")?)?;
-        assert!(rt; has_each(plan, case.shifts), "{plan}");
-        let (cert, verdict) = ending_of(plan, case.endings).ok_or("too many rounds")?;
-        assert_eq!(rt; out.held(), cert.as_bytes());
-        assert!(rt; holds(&folder, "C", Some(cert)));
-        expect(&rt, alloc, &mut folder, CHECK, 0, verdict)?;
-        expect(&rt, alloc, &mut folder, AFTER, 0, case.layout)?;
+        expect_unsettled(&rt, rt.alloc(), case);
     }
-    Ok(())
 }

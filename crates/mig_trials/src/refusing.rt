@@ -5,9 +5,9 @@ use mig_fixtures::{
     AFTER, CHECK, Cluster, ONE_STAYS, PLAN, THREE_ITEMS, TRIANGLE, TWO_NEEDED, TWO_ROUNDS,
     folder_of, holds, planned,
 };
-use std::alloc::{AllocError, Global};
+use std::alloc::Global;
+use std::panic::Expect;
 use std::process::Abort;
-use std::test::Fail;
 
 /// Lines, their statuses and what is put.
 static LINES: [(&str, u8, &str); 18] = [
@@ -36,16 +36,15 @@ static LINES: [(&str, u8, &str); 18] = [
 ];
 
 #[test]
-fn tells_of_words_and_files(rt: HostRuntime) -> Result<(), Fail> {
+fn tells_of_words_and_files(rt: HostRuntime) {
     let alloc = rt.alloc();
-    let mut folder = folder_of(alloc, &THREE_ITEMS, Vec::new(alloc))?;
-    folder.keep("EMPTY", b"")?;
+    let mut folder = folder_of(alloc, &THREE_ITEMS, Vec::new(alloc)).expect(&rt, "ample memory");
+    folder.keep("EMPTY", b"").expect(&rt, "ample memory");
     for (line, status, text) in &LINES {
-        expect(&rt, alloc, &mut folder, line, *status, text)?;
+        expect(&rt, alloc, &mut folder, line, *status, text);
     }
     assert!(rt; holds(&folder, "P", None));
     assert!(rt; holds(&folder, "C", None));
-    Ok(())
 }
 
 /// Files that stand for no input, and what is put.
@@ -183,47 +182,48 @@ static REFUSED: [(Cluster<'static>, &str); 18] = [
 ];
 
 /// Each command refuses the files of a cluster with this text, and changes nothing.
-fn expect_refused(
-    rt: &impl Abort,
-    alloc: Global,
-    cluster: &Cluster<'_>,
-    text: &str,
-) -> Result<(), AllocError> {
-    let mut folder = planned(alloc, cluster, TWO_ROUNDS, TWO_NEEDED, Vec::new(alloc))?;
+fn expect_refused(rt: &impl Abort, alloc: Global, cluster: &Cluster<'_>, text: &str) {
+    let none = Vec::new(alloc);
+    let mut folder = planned(alloc, cluster, TWO_ROUNDS, TWO_NEEDED, none).expect(
+        rt,
+        "ample memory",
+    );
     for line in [PLAN, CHECK, AFTER] {
-        expect(rt, alloc, &mut folder, line, 3, text)?;
+        expect(rt, alloc, &mut folder, line, 3, text);
     }
     assert!(rt; holds(&folder, "P", Some(TWO_ROUNDS)));
     assert!(rt; holds(&folder, "C", Some(TWO_NEEDED)));
-    Ok(())
 }
 
 /// A disks file with so many rows.
-fn disk_rows(alloc: Global, count: u32) -> Result<String, AllocError> {
-    let mut text = String::from_str(alloc, "disk,limit,slots\n")?;
+fn disk_rows(rt: &impl Abort, alloc: Global, count: u32) -> String {
+    let mut text = String::from_str(alloc, "disk,limit,slots\n").expect(rt, "ample memory");
     for number in 1..=count {
-        write!(text, "d{number},1,1\n")?;
+        write!(text, "d{number},1,1\n").expect(rt, "ample memory");
     }
-    Ok(text)
+    text
 }
 
 /// A disks file of so many bytes, most of them empty lines.
-fn long_disks(alloc: Global, len: usize) -> Result<String, AllocError> {
-    let mut text = String::from_str(alloc, "disk,limit,slots\na,2,4\nb,2,4\n")?;
+fn long_disks(rt: &impl Abort, alloc: Global, len: usize) -> String {
+    let mut text = String::from_str(alloc, "disk,limit,slots\na,2,4\nb,2,4\n").expect(
+        rt,
+        "ample memory",
+    );
     for _ in text.len()..len {
-        text.push('\n')?;
+        text.push('\n').expect(rt, "ample memory");
     }
-    Ok(text)
+    text
 }
 
 #[test]
-fn refuses_files_with_each_cause(rt: HostRuntime) -> Result<(), Fail> {
+fn refuses_files_with_each_cause(rt: HostRuntime) {
     let alloc = rt.alloc();
     for (cluster, text) in &REFUSED {
-        expect_refused(&rt, alloc, cluster, text)?;
+        expect_refused(&rt, alloc, cluster, text);
     }
-    let many = disk_rows(alloc, 1025)?;
-    let long = long_disks(alloc, 16_777_217)?;
+    let many = disk_rows(&rt, alloc, 1025);
+    let long = long_disks(&rt, alloc, 16_777_217);
     for (disks, text) in [
         (&many, "refused disks row 1025: too many rows\n"),
         (&long, "refused disks row 0: file too long\n"),
@@ -232,7 +232,6 @@ fn refuses_files_with_each_cause(rt: HostRuntime) -> Result<(), Fail> {
             disks: disks.as_str(),
             ..THREE_ITEMS
         };
-        expect_refused(&rt, alloc, &cluster, text)?;
+        expect_refused(&rt, alloc, &cluster, text);
     }
-    Ok(())
 }

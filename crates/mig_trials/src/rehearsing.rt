@@ -1,9 +1,10 @@
 //! What `rehearse` puts, and which words it takes.
 
-use crate::expecting::expect;
+use crate::expecting::{calls_of, expect};
 use mig_fixtures::{THREE_ITEMS, folder_of, sink_of, status_of};
-use std::alloc::{AllocError, Global};
-use std::test::Fail;
+use std::alloc::Global;
+use std::panic::Expect;
+use std::process::Abort;
 
 /// What is put but for the plan's digest, by the line.
 static REHEARSED: [(&str, &str); 4] = [
@@ -70,51 +71,53 @@ fn tells(text: &[u8], digest: &str) -> bool {
 }
 
 /// The line puts this beginning and a digest, with status 0.
-fn rehearses(alloc: Global, line: &str, beginning: &str) -> Result<bool, AllocError> {
-    let mut folder = folder_of(alloc, &THREE_ITEMS, Vec::new(alloc))?;
-    let mut out = sink_of(alloc, Vec::new(alloc))?;
-    let status = status_of(alloc, &mut folder, line, &mut out)?;
-    Ok(status == 0 && is_rehearsed(out.held(), beginning))
+fn rehearses(rt: &impl Abort, alloc: Global, line: &str, beginning: &str) -> bool {
+    let mut folder = folder_of(alloc, &THREE_ITEMS, Vec::new(alloc)).expect(rt, "ample memory");
+    let mut out = sink_of(alloc, Vec::new(alloc)).expect(rt, "ample memory");
+    let status = status_of(alloc, &mut folder, line, &mut out).expect(rt, "ample memory");
+    status == 0 && is_rehearsed(out.held(), beginning)
 }
 
 #[test]
-fn numbers_and_verdicts(rt: HostRuntime) -> Result<(), Fail> {
+fn numbers_and_verdicts(rt: HostRuntime) {
     for (line, beginning) in &REHEARSED {
-        assert!(rt; rehearses(rt.alloc(), line, beginning)?);
+        assert!(rt; rehearses(&rt, rt.alloc(), line, beginning));
     }
-    Ok(())
 }
 
 #[test]
-fn the_digest_is_that_of_the_plan(rt: HostRuntime) -> Result<(), Fail> {
+fn the_digest_is_that_of_the_plan(rt: HostRuntime) {
     let alloc = rt.alloc();
-    let mut folder = folder_of(alloc, &THREE_ITEMS, Vec::new(alloc))?;
-    let mut out = sink_of(alloc, Vec::new(alloc))?;
-    let status = status_of(alloc, &mut folder, "rehearse 2 1 1", &mut out)?;
+    let mut folder = folder_of(alloc, &THREE_ITEMS, Vec::new(alloc)).expect(&rt, "ample memory");
+    let mut out = sink_of(alloc, Vec::new(alloc)).expect(&rt, "ample memory");
+    let status = status_of(alloc, &mut folder, "rehearse 2 1 1", &mut out).expect(
+        &rt,
+        "ample memory",
+    );
     assert_eq!(rt; status, 0);
     let put = out.held();
     assert!(rt; TWO_PLANS.iter().any(|digest| tells(put, digest)));
-    Ok(())
 }
 
 #[test]
-fn words_that_make_no_case(rt: HostRuntime) -> Result<(), Fail> {
+fn words_that_make_no_case(rt: HostRuntime) {
     let alloc = rt.alloc();
-    let mut folder = folder_of(alloc, &THREE_ITEMS, Vec::new(alloc))?;
+    let mut folder = folder_of(alloc, &THREE_ITEMS, Vec::new(alloc)).expect(&rt, "ample memory");
     for line in &UNLISTED {
-        expect(&rt, alloc, &mut folder, line, 2, "words not understood\n")?;
+        expect(&rt, alloc, &mut folder, line, 2, "words not understood\n");
     }
-    Ok(())
 }
 
 // The first put fails.
 #[test]
-fn a_rehearsal_that_is_not_put(rt: HostRuntime) -> Result<(), Fail> {
+fn a_rehearsal_that_is_not_put(rt: HostRuntime) {
     let alloc = rt.alloc();
-    let mut folder = folder_of(alloc, &THREE_ITEMS, Vec::new(alloc))?;
-    let mut out = sink_of(alloc, vec![in alloc; 0]?)?;
-    let status = status_of(alloc, &mut folder, "rehearse 2 1 1", &mut out)?;
+    let mut folder = folder_of(alloc, &THREE_ITEMS, Vec::new(alloc)).expect(&rt, "ample memory");
+    let mut out = sink_of(alloc, calls_of(&rt, alloc, &[0])).expect(&rt, "ample memory");
+    let status = status_of(alloc, &mut folder, "rehearse 2 1 1", &mut out).expect(
+        &rt,
+        "ample memory",
+    );
     assert_eq!(rt; status, 6);
     assert!(rt; out.held().is_empty());
-    Ok(())
 }

@@ -5,8 +5,9 @@ use crate::expecting::expect;
 use mig_csv::read_input;
 use mig_fixtures::{CHECK, Cluster, PLAN, folder_of, holds};
 use mig_plan::make_plan;
-use std::alloc::{AllocError, Global};
-use std::test::Fail;
+use std::alloc::Global;
+use std::panic::Expect;
+use std::process::Abort;
 
 /// Disks of which each gives so many items to each other one. Where there is a guest, it is one more disk of limit 1,
 /// and the first disk gives it one item.
@@ -29,36 +30,55 @@ struct Texts {
 }
 
 /// Adds the items that one disk gives to the others.
-fn add_source(texts: &mut Texts, disks: usize, each: u32, source: usize) -> Result<(), AllocError> {
+fn add_source(rt: &impl Abort, texts: &mut Texts, disks: usize, each: u32, source: usize) {
     let mut slot: u32 = 0;
     for target in 0..disks {
         for number in 0..each {
             if target != source {
-                write!(texts.now, "s{source}t{target}n{number},d{source},{slot}\n")?;
-                write!(texts.next, "s{source}t{target}n{number},d{target}\n")?;
+                write!(texts.now, "s{source}t{target}n{number},d{source},{slot}\n").expect(
+                    rt,
+                    "ample memory",
+                );
+                write!(texts.next, "s{source}t{target}n{number},d{target}\n").expect(
+                    rt,
+                    "ample memory",
+                );
                 slot = slot.saturating_add(1);
             }
         }
     }
-    Ok(())
 }
 
-fn texts_of(alloc: Global, exchange: &Exchange<'_>) -> Result<Texts, AllocError> {
+/// Adds one more disk of limit 1, and an item that the first disk gives it.
+fn add_guest(rt: &impl Abort, texts: &mut Texts) {
+    texts
+        .disks
+        .push_str("guest,1,1\n")
+        .expect(rt, "ample memory");
+    texts
+        .now
+        .push_str("visitor,d0,4095\n")
+        .expect(rt, "ample memory");
+    texts
+        .next
+        .push_str("visitor,guest\n")
+        .expect(rt, "ample memory");
+}
+
+fn texts_of(rt: &impl Abort, alloc: Global, exchange: &Exchange<'_>) -> Texts {
     let mut texts = Texts {
-        disks: String::from_str(alloc, "disk,limit,slots\n")?,
-        now: String::from_str(alloc, "item,disk,slot\n")?,
-        next: String::from_str(alloc, "item,disk\n")?,
+        disks: String::from_str(alloc, "disk,limit,slots\n").expect(rt, "ample memory"),
+        now: String::from_str(alloc, "item,disk,slot\n").expect(rt, "ample memory"),
+        next: String::from_str(alloc, "item,disk\n").expect(rt, "ample memory"),
     };
     for (disk, limit) in exchange.limits.iter().enumerate() {
-        write!(texts.disks, "d{disk},{limit},4096\n")?;
-        add_source(&mut texts, exchange.limits.len(), exchange.each, disk)?;
+        write!(texts.disks, "d{disk},{limit},4096\n").expect(rt, "ample memory");
+        add_source(rt, &mut texts, exchange.limits.len(), exchange.each, disk);
     }
     if exchange.guest {
-        write!(texts.disks, "guest,1,1\n")?;
-        write!(texts.now, "visitor,d0,4095\n")?;
-        write!(texts.next, "visitor,guest\n")?;
+        add_guest(rt, &mut texts);
     }
-    Ok(texts)
+    texts
 }
 
 static EXCHANGES: [Exchange<'static>; 5] = [
@@ -110,41 +130,36 @@ static EXCHANGES: [Exchange<'static>; 5] = [
 
 // The search begins with the best bound.
 #[test]
-fn plans_have_as_few_rounds_as_can_be(rt: HostRuntime) -> Result<(), Fail> {
+fn plans_have_as_few_rounds_as_can_be(rt: HostRuntime) {
     let alloc = rt.alloc();
     for exchange in &EXCHANGES {
-        let texts = texts_of(alloc, exchange)?;
+        let texts = texts_of(&rt, alloc, exchange);
         let cluster = Cluster {
             disks: texts.disks.as_str(),
             now: texts.now.as_str(),
             next: texts.next.as_str(),
         };
-        let mut folder = folder_of(alloc, &cluster, Vec::new(alloc))?;
-        expect(&rt, alloc, &mut folder, PLAN, 0, exchange.cert)?;
+        let mut folder = folder_of(alloc, &cluster, Vec::new(alloc)).expect(&rt, "ample memory");
+        expect(&rt, alloc, &mut folder, PLAN, 0, exchange.cert);
         assert!(rt; holds(&folder, "C", Some(exchange.cert)));
-        expect(&rt, alloc, &mut folder, CHECK, 0, exchange.verdict)?;
+        expect(&rt, alloc, &mut folder, CHECK, 0, exchange.verdict);
     }
-    Ok(())
 }
 
 // The search begins with what a single disk needs.
 #[test]
-fn the_search_for_few_rounds_goes_up(rt: HostRuntime) -> Result<(), Fail> {
+fn the_search_for_few_rounds_goes_up(rt: HostRuntime) {
     let alloc = rt.alloc();
     for exchange in &EXCHANGES {
-        let texts = texts_of(alloc, exchange)?;
+        let texts = texts_of(&rt, alloc, exchange);
         let read = read_input(
             alloc,
             texts.disks.as_bytes(),
             texts.now.as_bytes(),
             texts.next.as_bytes(),
         );
-        let Ok(input) = read else {
-            assert!(rt; false, "the files are refused");
-            return Ok(());
-        };
-        let plan = make_plan(alloc, &input)?;
+        let input = read.expect(&rt, "an input");
+        let plan = make_plan(alloc, &input).expect(&rt, "ample memory");
         assert_eq!(rt; plan.rounds().len(), exchange.rounds);
     }
-    Ok(())
 }
