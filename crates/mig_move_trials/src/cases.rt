@@ -5,6 +5,8 @@ use mig_csv::read_input;
 use mig_mover::{Job, prepare};
 use mig_text::read_plan;
 use std::alloc::Global;
+use std::panic::Expect;
+use std::process::Abort;
 
 /// A slot, by the letter that names its disk and its number, and the letter that names the item in it, or 0 where it is erased.
 pub type Place = (u8, u32, u8);
@@ -69,18 +71,19 @@ pub static ONE_BY_ONE: &str =
     "migration-plan 1\nrounds 3\nround 1 1\nx a 0 b 0\nround 2 1\ny a 1 b 1\nround 3 1\nz a 2 b 2\nend\n";
 
 /// The job of a plan beside the files of a case.
-pub fn job_with(alloc: Global, case: &Case<'_>, plan_text: &str) -> Option<Job> {
+pub fn job_with(rt: &impl Abort, alloc: Global, case: &Case<'_>, plan_text: &str) -> Job {
     let disks = case.disks.as_bytes();
     let now = case.now.as_bytes();
-    let input = read_input(alloc, disks, now, case.next.as_bytes()).ok()?;
-    let plan = read_plan(alloc, &input, plan_text.as_bytes()).ok()?;
-    let Ok(()) = runs(alloc, &input, &plan) else {
-        return None;
-    };
-    prepare(alloc, &input, &plan, plan_text.as_bytes()).ok()
+    let input = read_input(alloc, disks, now, case.next.as_bytes()).expect(
+        rt,
+        "files of a migration",
+    );
+    let plan = read_plan(alloc, &input, plan_text.as_bytes()).expect(rt, "a plan");
+    runs(alloc, &input, &plan).expect(rt, "a plan that runs");
+    prepare(alloc, &input, &plan, plan_text.as_bytes()).expect(rt, "ample memory")
 }
 
 /// The job of a case.
-pub fn job_of(alloc: Global, case: &Case<'_>) -> Option<Job> {
-    job_with(alloc, case, case.plan)
+pub fn job_of(rt: &impl Abort, alloc: Global, case: &Case<'_>) -> Job {
+    job_with(rt, alloc, case, case.plan)
 }

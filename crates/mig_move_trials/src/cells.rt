@@ -1,10 +1,11 @@
 //! The cells of a store.
-ghost use Rattle.std.specs.Prelude.{IfOk};
 ghost use Rattle.mig_base.specs.InputLists.{AreDifferent};
 
 use crate::cases::Place;
 use mig_base::{Cell, Name};
 use std::alloc::{AllocError, Global};
+use std::panic::Expect;
+use std::process::Abort;
 
 /// A slot of the disk that the letter names.
 pub fn slot_of(disk: u8, slot: u32) -> Cell {
@@ -37,15 +38,15 @@ fn add_marks(cells: &mut Vec<Cell>, rounds: u32) -> Result<(), AllocError>
 }
 
 /// The head, the gate, the marks of so many rounds, and these slots.
-pub fn cells_of(alloc: Global, rounds: u32, places: &[Place]) -> Result<Vec<Cell>, AllocError>
-    ensures { IfOk result (λ cells. AreDifferent cells.items) }
+pub fn cells_of(rt: &impl Abort, alloc: Global, rounds: u32, places: &[Place]) -> Vec<Cell>
+    ensures { AreDifferent result.items }
 {
     let mut cells = Vec::new(alloc);
-    add_cell(&mut cells, Cell::Head)?;
-    add_cell(&mut cells, Cell::Gate)?;
-    add_marks(&mut cells, rounds)?;
+    add_cell(&mut cells, Cell::Head).expect(rt, "ample memory");
+    add_cell(&mut cells, Cell::Gate).expect(rt, "ample memory");
+    add_marks(&mut cells, rounds).expect(rt, "ample memory");
     for (disk, slot, _) in places {
-        add_cell(&mut cells, slot_of(*disk, *slot))?;
+        add_cell(&mut cells, slot_of(*disk, *slot)).expect(rt, "ample memory");
     }
-    Ok(cells)
+    cells
 }

@@ -6,9 +6,11 @@ use crate::stores::{filled, is_reached};
 use mig_drill::{DrillFault, Stop, drill, stop_at};
 use mig_io::MemSink;
 use mig_lanes::start_lanes;
-use mig_store::Pick;
+use mig_mover::Job;
+use mig_store::{MemStore, Pick};
 use std::alloc::Global;
 use std::panic::Expect;
+use std::process::Abort;
 
 static THREE_ITEMS_MARKED: [Marked; 12] = [
     [0, 0, 0, 0],
@@ -26,45 +28,64 @@ static THREE_ITEMS_MARKED: [Marked; 12] = [
 ];
 
 // Whether a stop of a case after so many writes counts so many marks, and is resumed to the target.
-fn is_stop(alloc: Global, case: &Case<'_>, writes: u32, pick: Pick, marks: u32) -> Option<bool> {
-    let job = job_of(alloc, case)?;
-    let store = filled(alloc, &job, case.before, Vec::new(alloc))?;
+fn is_stop(
+    rt: &impl Abort,
+    alloc: Global,
+    case: &Case<'_>,
+    writes: u32,
+    pick: Pick,
+    marks: u32,
+) -> bool {
+    let job = job_of(rt, alloc, case);
+    let store = filled(rt, alloc, &job, case.before, Vec::new(alloc));
     let (stop, left) = stop_at(&job, store, writes, pick);
     let reached = Stop {
         marks,
         reached: true,
     };
-    Some(stop == reached && is_reached(&left, &job, case))
+    stop == reached && is_reached(&left, &job, case)
 }
 
 // Whether the stop of a case after so many writes is so with each pick.
-fn are_stops(alloc: Global, case: &Case<'_>, writes: u32, marked: &Marked) -> Option<bool> {
+fn are_stops(
+    rt: &impl Abort,
+    alloc: Global,
+    case: &Case<'_>,
+    writes: u32,
+    marked: &Marked,
+) -> bool {
     let picks = [Pick::Old, Pick::New, Pick::Half, Pick::Ones];
     for (pick, marks) in picks.iter().zip(marked) {
-        if !is_stop(alloc, case, writes, *pick, *marks)? {
-            return Some(false);
+        if !is_stop(rt, alloc, case, writes, *pick, *marks) {
+            return false;
         }
     }
-    Some(true)
+    true
 }
 
 // Whether each stop of a case is so.
-fn are_all_stops(alloc: Global, case: &Case<'_>, marked: &[Marked]) -> Option<bool> {
+fn are_all_stops(rt: &impl Abort, alloc: Global, case: &Case<'_>, marked: &[Marked]) -> bool {
     let mut writes: u32 = 0;
     for counts in marked {
-        if !are_stops(alloc, case, writes, counts)? {
-            return Some(false);
+        if !are_stops(rt, alloc, case, writes, counts) {
+            return false;
         }
         writes = writes.saturating_add(1);
     }
-    Some(true)
+    true
 }
 
 #[test]
 fn stops_are_counted_and_resumed(rt: HostRuntime) {
     let alloc = rt.alloc();
-    assert!(rt; are_all_stops(alloc, &ONE_MOVE, &ONE_MOVE_MARKED) == Some(true));
-    assert!(rt; are_all_stops(alloc, &THREE_ITEMS, &THREE_ITEMS_MARKED) == Some(true));
+    assert!(rt; are_all_stops(&rt, alloc, &ONE_MOVE, &ONE_MOVE_MARKED));
+    assert!(rt; are_all_stops(&rt, alloc, &THREE_ITEMS, &THREE_ITEMS_MARKED));
+}
+
+// How a start that stops before its first write is resumed, where a crash leaves the old bytes.
+fn first_stop(job: &Job, store: MemStore) -> Stop {
+    let (stop, _left) = stop_at(job, store, 0, Pick::Old);
+    stop
 }
 
 // The two slots of one move, before the item is there.
@@ -73,26 +94,23 @@ static NOTHING: [Place; 2] = [(b'a', 0, 0), (b'b', 0, 0)];
 #[test]
 fn a_stop_looks_at_the_store(rt: HostRuntime) {
     let alloc = rt.alloc();
-    let job = job_of(alloc, &ONE_MOVE).expect(&rt, "ample memory");
-    let empty = filled(alloc, &job, &NOTHING, Vec::new(alloc)).expect(&rt, "ample memory");
-    let (stop, _) = stop_at(&job, empty, 0, Pick::Old);
+    let job = job_of(&rt, alloc, &ONE_MOVE);
+    let empty = filled(&rt, alloc, &job, &NOTHING, Vec::new(alloc));
     assert!(rt;
-        stop == Stop {
-            marks: 0,
-            reached: false
-        }
+        first_stop(&job, empty)
+            == Stop {
+                marks: 0,
+                reached: false
+            }
     );
-    let mut done = filled(alloc, &job, ONE_MOVE.before, Vec::new(alloc)).expect(
-        &rt,
-        "ample memory",
-    );
+    let mut done = filled(&rt, alloc, &job, ONE_MOVE.before, Vec::new(alloc));
     assert!(rt; start_lanes(&job, &mut done) == Ok(()));
-    let (stop, _) = stop_at(&job, done, 0, Pick::Old);
     assert!(rt;
-        stop == Stop {
-            marks: 1,
-            reached: true
-        }
+        first_stop(&job, done)
+            == Stop {
+                marks: 1,
+                reached: true
+            }
     );
 }
 
@@ -126,18 +144,17 @@ reached 48
 
 // What a drill of a case answers, and the sink into which it prints. The sink's puts with these numbers fail.
 fn drilled(
+    rt: &impl Abort,
     alloc: Global,
     case: &Case<'_>,
     failing: &[u64],
-) -> Option<(Result<u32, DrillFault>, MemSink)> {
-    let job = job_of(alloc, case)?;
-    if job.shifts() > 256 {
-        return None;
-    }
-    let failing = Vec::from_slice(alloc, failing).ok()?;
-    let mut out = MemSink::new(alloc, 1000, failing).ok()?;
+) -> (Result<u32, DrillFault>, MemSink) {
+    let job = job_of(rt, alloc, case);
+    assert!(rt; job.shifts() <= 256);
+    let failing = Vec::from_slice(alloc, failing).expect(rt, "ample memory");
+    let mut out = MemSink::new(alloc, 1000, failing).expect(rt, "ample memory");
     let answer = drill(alloc, job.input(), &job, &mut out);
-    Some((answer, out))
+    (answer, out)
 }
 
 #[test]
@@ -147,7 +164,7 @@ fn a_drill_prints_each_stop(rt: HostRuntime) {
         (&ONE_MOVE, 24, ONE_MOVE_TEXT),
         (&THREE_ITEMS, 48, THREE_ITEMS_TEXT),
     ] {
-        let (answer, out) = drilled(alloc, case, &[]).expect(&rt, "ample memory");
+        let (answer, out) = drilled(&rt, alloc, case, &[]);
         assert!(rt; answer == Ok(stops));
         assert!(rt; out.held() == text.as_bytes());
     }
@@ -155,7 +172,7 @@ fn a_drill_prints_each_stop(rt: HostRuntime) {
 
 #[test]
 fn a_drill_tells_that_the_sink_failed(rt: HostRuntime) {
-    let (answer, out) = drilled(rt.alloc(), &THREE_ITEMS, &[0]).expect(&rt, "ample memory");
+    let (answer, out) = drilled(&rt, rt.alloc(), &THREE_ITEMS, &[0]);
     assert!(rt; answer == Err(DrillFault::Sink));
     assert!(rt; out.held().is_empty());
 }

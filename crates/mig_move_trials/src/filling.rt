@@ -8,6 +8,7 @@ use mig_mover::{MoveFault, Sight, fill, sight};
 use mig_store::{MemStore, Store, StoreFailed};
 use std::alloc::Global;
 use std::panic::Expect;
+use std::process::Abort;
 
 // Two items on one disk; the first is in the later slot.
 const DISKS: &str = "disk,limit,slots\na,1,2\n";
@@ -30,23 +31,25 @@ static SECOND: Sight = Sight {
     digest: *b"\x23\x03\x1c\x9c\x6b\x8e\x12\xb9\x33\x7f\x8d\x7b\xc6\xd5\xce\xfa\xdd\xe1\x58\xb2\x0c\xaf\x32\xa7\x91\x7c\x9e\x1b\x9e\xfa\x96\x37",
 };
 
-fn layout(alloc: Global) -> Option<Input> {
-    read_layout(alloc, DISKS.as_bytes(), NOW.as_bytes()).ok()
+fn layout(rt: &impl Abort, alloc: Global) -> Input {
+    read_layout(alloc, DISKS.as_bytes(), NOW.as_bytes()).expect(rt, "a layout")
 }
 
 // A store of the disk's slots, all zeros, and of a gate that holds this byte. Its calls with these numbers fail; the gate is
 // written by the first.
-fn store_of(alloc: Global, gate: u8, failing: &[u64]) -> Option<MemStore> {
-    let disk = Name::read(b"a")?;
+fn store_of(rt: &impl Abort, alloc: Global, gate: u8, failing: &[u64]) -> MemStore {
+    let disk = Name::read(b"a").expect(rt, "a name");
     let cells = [
         Cell::Slot { disk, slot: 0 },
         Cell::Slot { disk, slot: 1 },
         Cell::Gate,
     ];
-    let failing = Vec::from_slice(alloc, failing).ok()?;
-    let mut store = MemStore::new(alloc, &cells, 16, failing).ok()?;
-    store.write(&Cell::Gate, &[gate]).ok()?;
-    Some(store)
+    let failing = Vec::from_slice(alloc, failing).expect(rt, "ample memory");
+    let mut store = MemStore::new(alloc, &cells, 16, failing).expect(rt, "ample memory");
+    store
+        .write(&Cell::Gate, &[gate])
+        .expect(rt, "a write that does not fail");
+    store
 }
 
 // What stands where an item is listed, if there is such an item.
@@ -65,10 +68,10 @@ fn shows(input: &Input, store: &mut MemStore, first: Sight, second: Sight) -> bo
 #[test]
 fn items_are_written_where_they_are_listed(rt: HostRuntime) {
     let alloc = rt.alloc();
-    let input = layout(alloc).expect(&rt, "a layout");
+    let input = layout(&rt, alloc);
     // A gate other than 1 is one of a store where no plan is carried out.
     for gate in [0, 2] {
-        let mut store = store_of(alloc, gate, &[]).expect(&rt, "ample memory");
+        let mut store = store_of(&rt, alloc, gate, &[]);
         assert!(rt; shows(&input, &mut store, ZEROS, ZEROS));
         assert!(rt; fill(&input, &mut store) == Ok(()));
         assert!(rt; shows(&input, &mut store, FIRST, SECOND));
@@ -84,12 +87,12 @@ fn items_are_written_where_they_are_listed(rt: HostRuntime) {
 #[test]
 fn nothing_is_written_where_a_filling_is_refused(rt: HostRuntime) {
     let alloc = rt.alloc();
-    let input = layout(alloc).expect(&rt, "a layout");
-    let mut started = store_of(alloc, 1, &[]).expect(&rt, "ample memory");
+    let input = layout(&rt, alloc);
+    let mut started = store_of(&rt, alloc, 1, &[]);
     assert!(rt; fill(&input, &mut started) == Err(MoveFault::Started));
     assert!(rt; shows(&input, &mut started, ZEROS, ZEROS));
     // The first sync fails.
-    let mut failing = store_of(alloc, 0, &[1]).expect(&rt, "ample memory");
+    let mut failing = store_of(&rt, alloc, 0, &[1]);
     assert!(rt; fill(&input, &mut failing) == Err(MoveFault::Store));
     assert!(rt; shows(&input, &mut failing, ZEROS, ZEROS));
 }
@@ -97,7 +100,7 @@ fn nothing_is_written_where_a_filling_is_refused(rt: HostRuntime) {
 #[test]
 fn a_look_at_a_store_that_fails_fails(rt: HostRuntime) {
     let alloc = rt.alloc();
-    let input = layout(alloc).expect(&rt, "a layout");
-    let mut store = store_of(alloc, 0, &[1]).expect(&rt, "ample memory");
+    let input = layout(&rt, alloc);
+    let mut store = store_of(&rt, alloc, 0, &[1]);
     assert!(rt; look_at(&input, 0, &mut store) == Some(Err(StoreFailed)));
 }

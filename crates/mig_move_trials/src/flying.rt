@@ -9,6 +9,7 @@ use mig_mover::MoveFault;
 use mig_store::{EndOrder, MemStore};
 use std::alloc::Global;
 use std::panic::Expect;
+use std::process::Abort;
 
 // An event of the copy of a slot of the first disk to the same slot of the second: whether it began, and the slot.
 type Told = (bool, u32);
@@ -29,12 +30,12 @@ fn tells(store: &MemStore, told: &[Told]) -> bool {
 }
 
 // The store of the three items, where the newest copy ends first. Its calls with these numbers fail.
-fn newest_first(alloc: Global, failing: &[u64]) -> Option<MemStore> {
-    let job = job_of(alloc, &THREE_ITEMS)?;
-    let failing = Vec::from_slice(alloc, failing).ok()?;
-    let mut store = filled(alloc, &job, THREE_ITEMS.before, failing)?;
+fn newest_first(rt: &impl Abort, alloc: Global, failing: &[u64]) -> MemStore {
+    let job = job_of(rt, alloc, &THREE_ITEMS);
+    let failing = Vec::from_slice(alloc, failing).expect(rt, "ample memory");
+    let mut store = filled(rt, alloc, &job, THREE_ITEMS.before, failing);
     store.order(EndOrder::Last);
-    Some(store)
+    store
 }
 
 // The events of both rounds.
@@ -50,8 +51,8 @@ static BOTH_ROUNDS: [Told; 6] = [
 #[test]
 fn the_copies_of_a_round_are_in_flight_together(rt: HostRuntime) {
     let alloc = rt.alloc();
-    let job = job_of(alloc, &THREE_ITEMS).expect(&rt, "ample memory");
-    let mut store = newest_first(alloc, &[]).expect(&rt, "ample memory");
+    let job = job_of(&rt, alloc, &THREE_ITEMS);
+    let mut store = newest_first(&rt, alloc, &[]);
     let syncs = store.syncs();
     assert!(rt; start_lanes(&job, &mut store) == Ok(()));
     assert!(rt; tells(&store, &BOTH_ROUNDS));
@@ -66,8 +67,8 @@ const SECOND_BEGIN: u64 = 22;
 #[test]
 fn a_copy_that_cannot_begin_is_made_up_for(rt: HostRuntime) {
     let alloc = rt.alloc();
-    let job = job_of(alloc, &THREE_ITEMS).expect(&rt, "ample memory");
-    let mut store = newest_first(alloc, &[SECOND_BEGIN]).expect(&rt, "ample memory");
+    let job = job_of(&rt, alloc, &THREE_ITEMS);
+    let mut store = newest_first(&rt, alloc, &[SECOND_BEGIN]);
     assert!(rt; start_lanes(&job, &mut store) == Err(MoveFault::Store));
     assert!(rt; tells(&store, &[(true, 0)]));
     assert!(rt; resume_lanes(&job, &mut store) == Ok(0));

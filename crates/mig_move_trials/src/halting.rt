@@ -8,6 +8,7 @@ use mig_mover::{Job, MoveFault, halt, stand};
 use mig_store::{MemStore, Pick};
 use std::alloc::Global;
 use std::panic::Expect;
+use std::process::Abort;
 
 // What a crash may leave of each cell that isn't settled.
 static PICKS: [Pick; 4] = [Pick::Old, Pick::New, Pick::Half, Pick::Ones];
@@ -44,45 +45,44 @@ fn is_closed(store: &MemStore, places: &[Place]) -> bool {
 
 // The store of three items on which a start stopped after nine writes, which is in the midst of what the first round leaves,
 // after a crash.
-fn half_way(alloc: Global, job: &Job, pick: Pick) -> Option<MemStore> {
-    let mut store = filled(alloc, job, THREE_ITEMS.before, Vec::new(alloc))?;
+fn half_way(rt: &impl Abort, alloc: Global, job: &Job, pick: Pick) -> MemStore {
+    let mut store = filled(rt, alloc, job, THREE_ITEMS.before, Vec::new(alloc));
     store.fuse(9);
-    if start_lanes(job, &mut store) != Err(MoveFault::Store) {
-        return None;
-    }
-    Some(store.crash(pick))
+    assert!(rt; start_lanes(job, &mut store) == Err(MoveFault::Store));
+    store.crash(pick)
 }
 
 // Whether three items are halted after the first round, once a start stopped and a crash left what is picked.
-fn halts(alloc: Global, pick: Pick) -> Option<bool> {
-    let job = job_of(alloc, &THREE_ITEMS)?;
-    let mut store = half_way(alloc, &job, pick)?;
+fn halts(rt: &impl Abort, alloc: Global, pick: Pick) -> bool {
+    let job = job_of(rt, alloc, &THREE_ITEMS);
+    let mut store = half_way(rt, alloc, &job, pick);
     let closed = close(&job, &mut store) == Ok(1) && is_closed(&store, &HALF_WAY);
     let again = close(&job, &mut store) == Err(MoveFault::NotStarted);
-    Some(closed && again && is_closed(&store, &HALF_WAY) && store.events().is_empty())
+    closed && again && is_closed(&store, &HALF_WAY) && store.events().is_empty()
 }
 
 #[test]
 fn a_stopped_start_is_halted(rt: HostRuntime) {
     for pick in PICKS.as_slice() {
-        assert!(rt; halts(rt.alloc(), *pick) == Some(true));
+        assert!(rt; halts(&rt, rt.alloc(), *pick));
     }
+}
+
+// The store of three items that are half way, on which closing stopped after so many writes, after a crash.
+fn half_closed(rt: &impl Abort, alloc: Global, job: &Job, writes: u64, pick: Pick) -> MemStore {
+    let mut store = half_way(rt, alloc, job, Pick::Old);
+    store.fuse(writes);
+    assert!(rt; close(job, &mut store) == Err(MoveFault::Store));
+    store.crash(pick)
 }
 
 // Whether three items are halted after the first round, where closing stops after so many writes, a crash leaves what is
 // picked, and it is closed again. Where the gate is closed already, the slots are as they are to be.
-fn halts_again(alloc: Global, writes: u64, pick: Pick) -> Option<bool> {
-    let job = job_of(alloc, &THREE_ITEMS)?;
-    let mut store = half_way(alloc, &job, Pick::Old)?;
-    store.fuse(writes);
-    if close(&job, &mut store) != Err(MoveFault::Store) {
-        return None;
-    }
-    let mut left = store.crash(pick);
-    Some(match close(&job, &mut left) {
-        Ok(found) => found == 1 && is_closed(&left, &HALF_WAY),
-        Err(fault) => fault == MoveFault::NotStarted && is_closed(&left, &HALF_WAY),
-    })
+fn halts_again(rt: &impl Abort, alloc: Global, writes: u64, pick: Pick) -> bool {
+    let job = job_of(rt, alloc, &THREE_ITEMS);
+    let mut left = half_closed(rt, alloc, &job, writes, pick);
+    let again = close(&job, &mut left);
+    (again == Ok(1) || again == Err(MoveFault::NotStarted)) && is_closed(&left, &HALF_WAY)
 }
 
 #[test]
@@ -90,25 +90,27 @@ fn a_stopped_halt_is_ended(rt: HostRuntime) {
     // It writes three slots and the gate.
     for writes in 0..4 {
         for pick in PICKS.as_slice() {
-            assert!(rt; halts_again(rt.alloc(), writes, *pick) == Some(true));
+            assert!(rt; halts_again(&rt, rt.alloc(), writes, *pick));
         }
     }
 }
 
 // After how many rounds the case in which a slot is left twice is halted, where its start stops after so many writes and a
 // crash leaves the new bytes, and whether the slots are as after that round.
-fn halts_twice(alloc: Global, writes: u64) -> Option<(Result<u32, MoveFault>, bool)> {
-    let job = job_of(alloc, &LEFT_TWICE)?;
-    let mut store = filled(alloc, &job, LEFT_TWICE.before, Vec::new(alloc))?;
+fn halts_twice(rt: &impl Abort, alloc: Global, writes: u64) -> (Result<u32, MoveFault>, bool) {
+    let job = job_of(rt, alloc, &LEFT_TWICE);
+    let mut store = filled(rt, alloc, &job, LEFT_TWICE.before, Vec::new(alloc));
     store.fuse(writes);
     let _stopped = start_lanes(&job, &mut store);
     let mut left = store.crash(Pick::New);
     let found = close(&job, &mut left);
     let after = match found {
-        Ok(found) => LEFT_TWICE_AFTER.get(found as usize)?,
+        Ok(found) => LEFT_TWICE_AFTER
+            .get(found as usize)
+            .expect(rt, "one of its rounds"),
         Err(_) => &LEFT_TWICE_AFTER[0],
     };
-    Some((found, holds(&left, after)))
+    (found, holds(&left, after))
 }
 
 #[test]
@@ -130,26 +132,25 @@ fn a_slot_that_is_left_twice_is_erased_where_it_is_free(rt: HostRuntime) {
         (14, Ok(3)),
     ];
     for (writes, found) in found {
-        assert!(rt; halts_twice(rt.alloc(), writes) == Some((found, true)));
+        assert!(rt; halts_twice(&rt, rt.alloc(), writes) == (found, true));
     }
 }
 
 // What is answered where another plan was started on the store.
-fn other(alloc: Global) -> Option<Result<u32, MoveFault>> {
-    let job = job_of(alloc, &THREE_ITEMS)?;
-    let mut store = half_way(alloc, &job, Pick::New)?;
-    let answer = stand(&job_with(alloc, &THREE_ITEMS, ONE_BY_ONE)?, &mut store);
-    Some(answer)
+fn other(rt: &impl Abort, alloc: Global) -> Result<u32, MoveFault> {
+    let job = job_of(rt, alloc, &THREE_ITEMS);
+    let mut store = half_way(rt, alloc, &job, Pick::New);
+    stand(&job_with(rt, alloc, &THREE_ITEMS, ONE_BY_ONE), &mut store)
 }
 
 #[test]
 fn another_plan_is_refused(rt: HostRuntime) {
     let alloc = rt.alloc();
-    let ours = job_with(alloc, &THREE_ITEMS, ONE_BY_ONE).expect(&rt, "ample memory");
-    let kept = job_of(alloc, &THREE_ITEMS).expect(&rt, "ample memory");
+    let ours = job_with(&rt, alloc, &THREE_ITEMS, ONE_BY_ONE);
+    let kept = job_of(&rt, alloc, &THREE_ITEMS);
     let fault = MoveFault::OtherPlan {
         kept: *kept.digest(),
         ours: *ours.digest(),
     };
-    assert!(rt; other(alloc) == Some(Err(fault)));
+    assert!(rt; other(&rt, alloc) == Err(fault));
 }

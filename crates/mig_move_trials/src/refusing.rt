@@ -6,9 +6,9 @@ use crate::cases::{ONE_BY_ONE, Place, THREE_ITEMS, job_of, job_with};
 use crate::stores::{filled, holds, is_reached, put};
 use mig_base::{Cell, DiskId, ItemId};
 use mig_lanes::{resume_lanes, start_lanes};
-use mig_mover::MoveFault;
+use mig_mover::{Job, MoveFault};
 use mig_store::MemStore;
-use std::panic::Expect;
+use std::process::Abort;
 
 // The slots of the three items before any is filled.
 static NOTHING_FILLED: [Place; 6] = [
@@ -30,39 +30,38 @@ static TARGET_USED: [Place; 6] = [
     (b'b', 2, 0),
 ];
 
+// Asserts that a plan is neither started nor resumed where another was carried out.
+fn expect_other(rt: &impl Abort, store: &mut MemStore, kept: &Job, ours: &Job) {
+    let refusal = MoveFault::OtherPlan {
+        kept: *kept.digest(),
+        ours: *ours.digest(),
+    };
+    assert!(rt; start_lanes(ours, store) == Err(refusal));
+    assert!(rt; resume_lanes(ours, store) == Err(refusal));
+}
+
 #[test]
 fn a_plan_is_started_once(rt: HostRuntime) {
     let alloc = rt.alloc();
-    let job = job_of(alloc, &THREE_ITEMS).expect(&rt, "ample memory");
-    let other = job_with(alloc, &THREE_ITEMS, ONE_BY_ONE).expect(&rt, "ample memory");
-    let mut store = filled(alloc, &job, THREE_ITEMS.before, Vec::new(alloc)).expect(
-        &rt,
-        "ample memory",
-    );
+    let job = job_of(&rt, alloc, &THREE_ITEMS);
+    let other = job_with(&rt, alloc, &THREE_ITEMS, ONE_BY_ONE);
+    let mut store = filled(&rt, alloc, &job, THREE_ITEMS.before, Vec::new(alloc));
     assert!(rt; start_lanes(&job, &mut store) == Ok(()));
     assert!(rt; start_lanes(&job, &mut store) == Err(MoveFault::Started));
     assert!(rt; resume_lanes(&job, &mut store) == Ok(2));
-    let refusal = MoveFault::OtherPlan {
-        kept: *job.digest(),
-        ours: *other.digest(),
-    };
-    assert!(rt; start_lanes(&other, &mut store) == Err(refusal));
-    assert!(rt; resume_lanes(&other, &mut store) == Err(refusal));
+    expect_other(&rt, &mut store, &job, &other);
     assert!(rt; is_reached(&store, &job, &THREE_ITEMS));
 }
 
 #[test]
 fn a_store_that_is_not_ready_is_left_alone(rt: HostRuntime) {
     let alloc = rt.alloc();
-    let job = job_of(alloc, &THREE_ITEMS).expect(&rt, "ample memory");
-    let mut empty = filled(alloc, &job, &NOTHING_FILLED, Vec::new(alloc)).expect(
-        &rt,
-        "ample memory",
-    );
+    let job = job_of(&rt, alloc, &THREE_ITEMS);
+    let mut empty = filled(&rt, alloc, &job, &NOTHING_FILLED, Vec::new(alloc));
     let lost = MoveFault::NotThere { item: ItemId(0) };
     assert!(rt; start_lanes(&job, &mut empty) == Err(lost));
     assert!(rt; holds(&empty, &NOTHING_FILLED));
-    let mut used = filled(alloc, &job, &TARGET_USED, Vec::new(alloc)).expect(&rt, "ample memory");
+    let mut used = filled(&rt, alloc, &job, &TARGET_USED, Vec::new(alloc));
     let occupied = MoveFault::Occupied {
         disk: DiskId(1),
         slot: 0,
@@ -73,23 +72,20 @@ fn a_store_that_is_not_ready_is_left_alone(rt: HostRuntime) {
 }
 
 // Writes what an earlier plan left in the journal: another head, and two marks.
-fn leave_marks(store: &mut MemStore) -> Option<()>
+fn leave_marks(rt: &impl Abort, store: &mut MemStore)
     requires { aloft store.old ≡ [] }
 {
-    put(store, &Cell::Head, &[1; 4096])?;
-    put(store, &Cell::Mark { n: 1 }, &[1; 4096])?;
-    put(store, &Cell::Mark { n: 2 }, &[1; 4096])
+    put(rt, store, &Cell::Head, &[1; 4096]);
+    put(rt, store, &Cell::Mark { n: 1 }, &[1; 4096]);
+    put(rt, store, &Cell::Mark { n: 2 }, &[1; 4096]);
 }
 
 #[test]
 fn marks_of_an_earlier_plan_do_not_count(rt: HostRuntime) {
     let alloc = rt.alloc();
-    let job = job_of(alloc, &THREE_ITEMS).expect(&rt, "ample memory");
-    let mut store = filled(alloc, &job, THREE_ITEMS.before, Vec::new(alloc)).expect(
-        &rt,
-        "ample memory",
-    );
-    assert!(rt; leave_marks(&mut store).is_some());
+    let job = job_of(&rt, alloc, &THREE_ITEMS);
+    let mut store = filled(&rt, alloc, &job, THREE_ITEMS.before, Vec::new(alloc));
+    leave_marks(&rt, &mut store);
     assert!(rt; start_lanes(&job, &mut store) == Ok(()));
     assert!(rt; is_reached(&store, &job, &THREE_ITEMS));
 }

@@ -1,5 +1,5 @@
 //! Stores that are filled, and what they hold.
-ghost use Rattle.std.specs.Prelude.{◌≡◌, [], IfSome};
+ghost use Rattle.std.specs.Prelude.{◌≡◌, []};
 ghost use Rattle.mig_store.specs.Memories.{aloft};
 
 use crate::cases::{Case, Place};
@@ -8,6 +8,8 @@ use mig_base::Cell;
 use mig_mover::Job;
 use mig_store::{MemStore, Store};
 use std::alloc::Global;
+use std::panic::Expect;
+use std::process::Abort;
 
 // How many calls a store has room for.
 const ROOM: u32 = 200;
@@ -24,33 +26,43 @@ fn made(item: u8) -> [u8; 4096] {
 }
 
 /// Writes these bytes to a cell.
-pub fn put(store: &mut MemStore, cell: &Cell, bytes: &[u8; 4096]) -> Option<()>
+pub fn put(rt: &impl Abort, store: &mut MemStore, cell: &Cell, bytes: &[u8; 4096])
     requires { aloft store.old ≡ [] }
     ensures { aloft store.new ≡ [] }
 {
-    store.write(cell, &bytes[..cell.len()]).ok()
+    store
+        .write(cell, &bytes[..cell.len()])
+        .expect(rt, "a write that does not fail");
 }
 
 // Writes the items of these places.
-fn fill(store: &mut MemStore, places: &[Place]) -> Option<()>
+fn fill(rt: &impl Abort, store: &mut MemStore, places: &[Place])
     requires { aloft store.old ≡ [] }
     ensures { aloft store.new ≡ [] }
 {
     for (disk, slot, item) in places {
-        put(store, &slot_of(*disk, *slot), &made(*item))?;
+        put(rt, store, &slot_of(*disk, *slot), &made(*item));
     }
-    Some(())
 }
 
 /// A store of these places and of a job's journal, which is filled and synced. Its calls with these numbers fail.
-pub fn filled(alloc: Global, job: &Job, places: &[Place], failing: Vec<u64>) -> Option<MemStore>
-    ensures { IfSome result (λ store. aloft store ≡ []) }
+pub fn filled(
+    rt: &impl Abort,
+    alloc: Global,
+    job: &Job,
+    places: &[Place],
+    failing: Vec<u64>,
+) -> MemStore
+    ensures { aloft result ≡ [] }
 {
-    let cells = cells_of(alloc, job.rounds(), places).ok()?;
-    let mut store = MemStore::new(alloc, cells.as_slice(), ROOM, failing).ok()?;
-    fill(&mut store, places)?;
-    store.sync().ok()?;
-    Some(store)
+    let cells = cells_of(rt, alloc, job.rounds(), places);
+    let mut store = MemStore::new(alloc, cells.as_slice(), ROOM, failing).expect(
+        rt,
+        "ample memory",
+    );
+    fill(rt, &mut store, places);
+    store.sync().expect(rt, "a sync that does not fail");
+    store
 }
 
 /// Whether the places hold their items.

@@ -3,7 +3,8 @@
 use mig_fixtures::outcome_over;
 use mig_io::MemFolder;
 use mig_store::Store;
-use std::alloc::{AllocError, Global};
+use std::alloc::Global;
+use std::panic::Expect;
 use std::process::Abort;
 
 /// A line, its status and all that it puts.
@@ -18,11 +19,10 @@ pub fn expect_over<S: Store>(
     line: &str,
     status: u8,
     text: &str,
-) -> Result<(), AllocError> {
-    let came = outcome_over(alloc, folder, store, line)?;
+) {
+    let came = outcome_over(alloc, folder, store, line).expect(rt, "ample memory");
     assert_eq!(rt; came.status, status, "status of {line}");
     assert_eq!(rt; came.out.held(), text.as_bytes(), "text of {line}");
-    Ok(())
 }
 
 /// The same for lines one after the other over one store.
@@ -32,9 +32,8 @@ pub fn expect_all<S: Store>(
     folder: &mut MemFolder,
     store: &mut S,
     lines: &[Line<'_>],
-) -> Result<(), AllocError> {
+) {
     for (line, status, text) in lines {
-        expect_over(rt, alloc, folder, store, line, *status, text)?;
+        expect_over(rt, alloc, folder, store, line, *status, text);
     }
-    Ok(())
 }

@@ -2,12 +2,12 @@
 
 use crate::expecting::{Line, expect_all};
 use crate::looks::{HERE, LOST, three_items};
-use crate::stores::{store_of, two_disks};
+use crate::stores::{failing_at, store_of, sure_store};
 use mig_base::Cell;
 use mig_fixtures::status_over;
 use mig_io::MemSink;
-use mig_store::{Store, SureStore};
-use std::test::Fail;
+use mig_store::Store;
+use std::panic::Expect;
 
 /// Lines one after the other over one store.
 static SESSION: [Line<'static>; 7] = [
@@ -21,39 +21,36 @@ static SESSION: [Line<'static>; 7] = [
 ];
 
 #[test]
-fn items_are_filled_and_seen(rt: HostRuntime) -> Result<(), Fail> {
+fn items_are_filled_and_seen(rt: HostRuntime) {
     let alloc = rt.alloc();
-    let mut folder = three_items(alloc)?;
-    let mut store = store_of(alloc, Vec::new(alloc))?;
-    expect_all(&rt, alloc, &mut folder, &mut store, &SESSION)?;
-    let mut sure = SureStore::new(alloc, &two_disks(alloc)?.list)?;
-    expect_all(&rt, alloc, &mut folder, &mut sure, &SESSION)?;
-    Ok(())
+    let mut folder = three_items(&rt, alloc);
+    let mut store = store_of(&rt, alloc, Vec::new(alloc));
+    expect_all(&rt, alloc, &mut folder, &mut store, &SESSION);
+    let mut sure = sure_store(&rt, alloc);
+    expect_all(&rt, alloc, &mut folder, &mut sure, &SESSION);
 }
 
 /// Lines over a store in which a plan was started.
 static STARTED: [Line<'static>; 2] = [("fill D N", 8, "journal started\n"), ("audit D N", 0, LOST)];
 
 #[test]
-fn nothing_is_filled_where_a_plan_was_started(rt: HostRuntime) -> Result<(), Fail> {
+fn nothing_is_filled_where_a_plan_was_started(rt: HostRuntime) {
     let alloc = rt.alloc();
-    let mut folder = three_items(alloc)?;
-    let mut store = SureStore::new(alloc, &two_disks(alloc)?.list)?;
+    let mut folder = three_items(&rt, alloc);
+    let mut store = sure_store(&rt, alloc);
     assert!(rt; store.write(&Cell::Gate, &[1]).is_ok());
-    expect_all(&rt, alloc, &mut folder, &mut store, &STARTED)?;
-    Ok(())
+    expect_all(&rt, alloc, &mut folder, &mut store, &STARTED);
 }
 
 /// Lines over a store whose first call, a sync, fails.
 static UNSYNCED: [Line<'static>; 2] = [("fill D N", 5, "store fault\n"), ("audit D N", 0, LOST)];
 
 #[test]
-fn a_fill_whose_first_sync_fails_writes_nothing(rt: HostRuntime) -> Result<(), Fail> {
+fn a_fill_whose_first_sync_fails_writes_nothing(rt: HostRuntime) {
     let alloc = rt.alloc();
-    let mut folder = three_items(alloc)?;
-    let mut store = store_of(alloc, vec![in alloc; 0]?)?;
-    expect_all(&rt, alloc, &mut folder, &mut store, &UNSYNCED)?;
-    Ok(())
+    let mut folder = three_items(&rt, alloc);
+    let mut store = store_of(&rt, alloc, failing_at(&rt, alloc, 0));
+    expect_all(&rt, alloc, &mut folder, &mut store, &UNSYNCED);
 }
 
 /// Lines, the call of the store and the put of the sink that fail, counted from 0, the statuses, and what the sink then
@@ -87,15 +84,20 @@ static STOPPED: [(&str, u64, u64, u8, &str); 6] = [
 ];
 
 #[test]
-fn faults_in_the_middle(rt: HostRuntime) -> Result<(), Fail> {
+fn faults_in_the_middle(rt: HostRuntime) {
     let alloc = rt.alloc();
-    let mut folder = three_items(alloc)?;
+    let mut folder = three_items(&rt, alloc);
     for (line, call, put, status, text) in &STOPPED {
-        let mut store = store_of(alloc, vec![in alloc; *call]?)?;
-        let mut out = MemSink::new(alloc, 4096, vec![in alloc; *put]?)?;
-        let ended = status_over(alloc, &mut folder, line, &mut out, &mut store)?;
+        let mut store = store_of(&rt, alloc, failing_at(&rt, alloc, *call));
+        let mut out = MemSink::new(alloc, 4096, failing_at(&rt, alloc, *put)).expect(
+            &rt,
+            "ample memory",
+        );
+        let ended = status_over(alloc, &mut folder, line, &mut out, &mut store).expect(
+            &rt,
+            "ample memory",
+        );
         assert_eq!(rt; ended, *status, "status of {line}");
         assert_eq!(rt; out.held(), text.as_bytes(), "text of {line}");
     }
-    Ok(())
 }

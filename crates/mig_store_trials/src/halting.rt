@@ -1,15 +1,15 @@
 //! Migrations that `halt` closes early, and what comes after.
 
 use crate::expecting::{Line, expect_all, expect_over};
-use crate::looks::{ANOTHER, MOVED, THREE_ROUNDS};
-use crate::stores::{are_zeros, store_of};
+use crate::looks::{ANOTHER, MOVED, THREE_ROUNDS, keep};
+use crate::stores::{are_zeros, failing_at, store_of};
 use mig_base::{Cell, Name};
 use mig_fixtures::{THREE_ITEMS, THREE_MOVED, TWO_ROUNDS, folder_of, holds, status_over};
 use mig_io::{MemFolder, MemSink};
 use mig_store::{MemStore, Pick};
-use std::alloc::{AllocError, Global};
+use std::alloc::Global;
+use std::panic::Expect;
 use std::process::Abort;
-use std::test::Fail;
 
 /// The line that closes the migration of the three items, and what is put where their plan stood after the first round.
 const HALT: &str = "halt D N X P L";
@@ -33,51 +33,46 @@ const ONE_NEEDED: &str =
 static PICKS: [Pick; 4] = [Pick::Old, Pick::New, Pick::Half, Pick::Ones];
 
 /// The folder of the three items, with their plan as P, another as R, one that doesn't run as W, and the last layout as M.
-/// Its calls with these numbers fail.
-fn folder(alloc: Global, failing: Vec<u64>) -> Result<MemFolder, AllocError> {
-    let mut folder = folder_of(alloc, &THREE_ITEMS, failing)?;
-    folder.keep("P", TWO_ROUNDS.as_bytes())?;
-    folder.keep("R", THREE_ROUNDS.as_bytes())?;
-    folder.keep("W", FROM_ELSEWHERE.as_bytes())?;
-    folder.keep("M", THREE_MOVED.as_bytes())?;
-    Ok(folder)
+fn folder(rt: &impl Abort, alloc: Global) -> MemFolder {
+    let mut folder = folder_of(alloc, &THREE_ITEMS, Vec::new(alloc)).expect(rt, "ample memory");
+    keep(rt, &mut folder, "P", TWO_ROUNDS);
+    keep(rt, &mut folder, "R", THREE_ROUNDS);
+    keep(rt, &mut folder, "W", FROM_ELSEWHERE);
+    keep(rt, &mut folder, "M", THREE_MOVED);
+    folder
 }
 
 /// The same, with room for a layout, a plan and a certificate as L, O and K.
-fn roomy_folder(alloc: Global) -> Result<MemFolder, AllocError> {
-    let mut folder = folder(alloc, Vec::new(alloc))?;
-    folder.grant("L", 100)?;
-    folder.grant("O", 100)?;
-    folder.grant("K", 100)?;
-    Ok(folder)
+fn roomy_folder(rt: &impl Abort, alloc: Global) -> MemFolder {
+    let mut folder = folder(rt, alloc);
+    folder.grant("L", 100).expect(rt, "ample memory");
+    folder.grant("O", 100).expect(rt, "ample memory");
+    folder.grant("K", 100).expect(rt, "ample memory");
+    folder
 }
 
 /// The store of the three items on which `move` stopped after nine writes, which have carried out the first round, after
 /// a crash.
-fn half_way(
-    rt: &impl Abort,
-    alloc: Global,
-    folder: &mut MemFolder,
-    pick: Pick,
-) -> Result<MemStore, Fail> {
-    let mut store = store_of(alloc, Vec::new(alloc))?;
-    expect_over(rt, alloc, folder, &mut store, "fill D N", 0, "filled 3\n")?;
+fn half_way(rt: &impl Abort, alloc: Global, folder: &mut MemFolder, pick: Pick) -> MemStore {
+    let mut store = store_of(rt, alloc, Vec::new(alloc));
+    expect_over(rt, alloc, folder, &mut store, "fill D N", 0, "filled 3\n");
     store.fuse(9);
     let text = "store fault\n";
-    expect_over(rt, alloc, folder, &mut store, "move D N X P", 5, text)?;
-    Ok(store.crash(pick))
+    expect_over(rt, alloc, folder, &mut store, "move D N X P", 5, text);
+    store.crash(pick)
 }
 
 /// The slots that are free after the first round, and the gate.
-fn closed_cells(alloc: Global) -> Result<Vec<Cell>, Fail> {
-    let a = Name::read(b"a").ok_or("no name")?;
-    let b = Name::read(b"b").ok_or("no name")?;
-    Ok(vec![in alloc;
+fn closed_cells(rt: &impl Abort, alloc: Global) -> Vec<Cell> {
+    let a = Name::read(b"a").expect(rt, "a name");
+    let b = Name::read(b"b").expect(rt, "a name");
+    vec![in alloc;
         Cell::Slot { disk: a, slot: 0 },
         Cell::Slot { disk: a, slot: 1 },
         Cell::Slot { disk: b, slot: 2 },
         Cell::Gate,
-    ]?)
+    ]
+    .expect(rt, "ample memory")
 }
 
 /// Lines one after the other once the migration is closed.
@@ -91,75 +86,65 @@ static AFTERWARDS: [Line<'static>; 5] = [
 
 /// Asserts that the migration is closed after the first round and its layout is saved, and that the next one goes on
 /// from there.
-fn expect_closed(
-    rt: &impl Abort,
-    alloc: Global,
-    folder: &mut MemFolder,
-    store: &mut MemStore,
-) -> Result<(), Fail> {
+fn expect_closed(rt: &impl Abort, alloc: Global, folder: &mut MemFolder, store: &mut MemStore) {
     assert!(rt; holds(folder, "L", Some(HALF_WAY)));
-    assert!(rt; are_zeros(store, &closed_cells(alloc)?));
-    expect_all(rt, alloc, folder, store, &AFTERWARDS)?;
+    assert!(rt; are_zeros(store, &closed_cells(rt, alloc)));
+    expect_all(rt, alloc, folder, store, &AFTERWARDS);
     assert!(rt; holds(folder, "O", Some(ONE_LEFT)));
-    Ok(())
 }
 
 #[test]
-fn a_stopped_move_is_halted_and_the_next_migration_goes_on(rt: HostRuntime) -> Result<(), Fail> {
+fn a_stopped_move_is_halted_and_the_next_migration_goes_on(rt: HostRuntime) {
     let alloc = rt.alloc();
     for pick in PICKS.as_slice() {
-        let mut folder = roomy_folder(alloc)?;
-        let mut store = half_way(&rt, alloc, &mut folder, *pick)?;
-        expect_over(&rt, alloc, &mut folder, &mut store, HALT, 0, HALTED)?;
-        expect_closed(&rt, alloc, &mut folder, &mut store)?;
+        let mut folder = roomy_folder(&rt, alloc);
+        let mut store = half_way(&rt, alloc, &mut folder, *pick);
+        expect_over(&rt, alloc, &mut folder, &mut store, HALT, 0, HALTED);
+        expect_closed(&rt, alloc, &mut folder, &mut store);
     }
-    Ok(())
 }
 
 /// Asserts that `halt`, stopped after so many writes, has saved the layout, and that `halt` after a crash closes the
 /// migration, or finds it closed.
-fn expect_halted_again(
-    rt: &impl Abort,
-    alloc: Global,
-    writes: u64,
-    pick: Pick,
-) -> Result<(), Fail> {
-    let mut folder = roomy_folder(alloc)?;
-    let mut store = half_way(rt, alloc, &mut folder, Pick::Old)?;
+fn expect_halted_again(rt: &impl Abort, alloc: Global, writes: u64, pick: Pick) {
+    let mut folder = roomy_folder(rt, alloc);
+    let mut store = half_way(rt, alloc, &mut folder, Pick::Old);
     store.fuse(writes);
     let text = "store fault\n";
-    expect_over(rt, alloc, &mut folder, &mut store, HALT, 5, text)?;
+    expect_over(rt, alloc, &mut folder, &mut store, HALT, 5, text);
     assert!(rt; holds(&folder, "L", Some(HALF_WAY)));
     let mut left = store.crash(pick);
-    let mut out = MemSink::new(alloc, 100, Vec::new(alloc))?;
-    let status = status_over(alloc, &mut folder, HALT, &mut out, &mut left)?;
+    let mut out = MemSink::new(alloc, 100, Vec::new(alloc)).expect(rt, "ample memory");
+    let status = status_over(alloc, &mut folder, HALT, &mut out, &mut left).expect(
+        rt,
+        "ample memory",
+    );
     let closed = status == 8 && out.held() == b"journal not started\n".as_slice();
     assert!(rt; closed || status == 0 && out.held() == HALTED.as_bytes());
-    expect_closed(rt, alloc, &mut folder, &mut left)
+    expect_closed(rt, alloc, &mut folder, &mut left);
 }
 
 // It writes three slots and the gate.
 #[test]
-fn a_stopped_halt_is_ended(rt: HostRuntime) -> Result<(), Fail> {
+fn a_stopped_halt_is_ended(rt: HostRuntime) {
     let alloc = rt.alloc();
     for writes in 0..4 {
         for pick in PICKS.as_slice() {
-            expect_halted_again(&rt, alloc, writes, *pick)?;
+            expect_halted_again(&rt, alloc, writes, *pick);
         }
     }
-    Ok(())
 }
 
 // The gate is still 1 after three writes.
 #[test]
-fn a_stopped_halt_is_resumed(rt: HostRuntime) -> Result<(), Fail> {
+fn a_stopped_halt_is_resumed(rt: HostRuntime) {
     let alloc = rt.alloc();
     for writes in 0..4 {
-        let mut folder = roomy_folder(alloc)?;
-        let mut store = half_way(&rt, alloc, &mut folder, Pick::New)?;
+        let mut folder = roomy_folder(&rt, alloc);
+        let mut store = half_way(&rt, alloc, &mut folder, Pick::New);
         store.fuse(writes);
         let text = "store fault\n";
-        expect_over(&rt, alloc, &mut folder, &mut store, HALT, 5, text)?;
+        expect_over(&rt, alloc, &mut folder, &mut store, HALT, 5, text);
         let mut left = store.crash(Pick::Old);
         let text = "done 2 rounds, found 1\n";
         expect_over(
@@ -170,10 +155,9 @@ fn a_stopped_halt_is_resumed(rt: HostRuntime) -> Result<(), Fail> {
             "resume D N X P",
             0,
             text,
-        )?;
-        expect_over(&rt, alloc, &mut folder, &mut left, "audit D M", 0, MOVED)?;
+        );
+        expect_over(&rt, alloc, &mut folder, &mut left, "audit D M", 0, MOVED);
     }
-    Ok(())
 }
 
 /// Lines over the store that is half way; the last is done, after which the journal names the plan.
@@ -194,26 +178,25 @@ static REFUSED: [Line<'static>; 13] = [
 ];
 
 #[test]
-fn a_halt_that_is_refused_changes_nothing(rt: HostRuntime) -> Result<(), Fail> {
+fn a_halt_that_is_refused_changes_nothing(rt: HostRuntime) {
     let alloc = rt.alloc();
-    let mut folder = roomy_folder(alloc)?;
-    let mut store = store_of(alloc, Vec::new(alloc))?;
+    let mut folder = roomy_folder(&rt, alloc);
+    let mut store = store_of(&rt, alloc, Vec::new(alloc));
     let text = "journal not started\n";
-    expect_over(&rt, alloc, &mut folder, &mut store, HALT, 8, text)?;
-    let mut store = half_way(&rt, alloc, &mut folder, Pick::Half)?;
-    expect_all(&rt, alloc, &mut folder, &mut store, &REFUSED)?;
+    expect_over(&rt, alloc, &mut folder, &mut store, HALT, 8, text);
+    let mut store = half_way(&rt, alloc, &mut folder, Pick::Half);
+    expect_all(&rt, alloc, &mut folder, &mut store, &REFUSED);
     assert!(rt; holds(&folder, "L", None));
-    Ok(())
 }
 
 // The folder has no room for the layout.
 #[test]
-fn a_layout_that_is_not_saved_leaves_the_store(rt: HostRuntime) -> Result<(), Fail> {
+fn a_layout_that_is_not_saved_leaves_the_store(rt: HostRuntime) {
     let alloc = rt.alloc();
-    let mut folder = folder(alloc, Vec::new(alloc))?;
-    let mut store = half_way(&rt, alloc, &mut folder, Pick::New)?;
+    let mut folder = folder(&rt, alloc);
+    let mut store = half_way(&rt, alloc, &mut folder, Pick::New);
     let text = "folder fault\n";
-    expect_over(&rt, alloc, &mut folder, &mut store, HALT, 4, text)?;
+    expect_over(&rt, alloc, &mut folder, &mut store, HALT, 4, text);
     assert!(rt; holds(&folder, "L", None));
     assert!(rt; store.cell(&Cell::Gate) == Some([1].as_slice()));
     let text = "done 2 rounds, found 1\n";
@@ -225,30 +208,31 @@ fn a_layout_that_is_not_saved_leaves_the_store(rt: HostRuntime) -> Result<(), Fa
         "resume D N X P",
         0,
         text,
-    )?;
-    Ok(())
+    );
 }
 
 // The store's first sync fails, before anything is saved.
 #[test]
-fn a_halt_whose_first_sync_fails_saves_nothing(rt: HostRuntime) -> Result<(), Fail> {
+fn a_halt_whose_first_sync_fails_saves_nothing(rt: HostRuntime) {
     let alloc = rt.alloc();
-    let mut folder = roomy_folder(alloc)?;
-    let mut store = store_of(alloc, vec![in alloc; 0]?)?;
+    let mut folder = roomy_folder(&rt, alloc);
+    let mut store = store_of(&rt, alloc, failing_at(&rt, alloc, 0));
     let text = "store fault\n";
-    expect_over(&rt, alloc, &mut folder, &mut store, HALT, 5, text)?;
+    expect_over(&rt, alloc, &mut folder, &mut store, HALT, 5, text);
     assert!(rt; holds(&folder, "L", None));
-    Ok(())
 }
 
 #[test]
-fn a_halt_that_is_not_told_is_done(rt: HostRuntime) -> Result<(), Fail> {
+fn a_halt_that_is_not_told_is_done(rt: HostRuntime) {
     let alloc = rt.alloc();
-    let mut folder = roomy_folder(alloc)?;
-    let mut store = half_way(&rt, alloc, &mut folder, Pick::Ones)?;
-    let mut out = MemSink::new(alloc, 100, vec![in alloc; 0]?)?;
-    let status = status_over(alloc, &mut folder, HALT, &mut out, &mut store)?;
+    let mut folder = roomy_folder(&rt, alloc);
+    let mut store = half_way(&rt, alloc, &mut folder, Pick::Ones);
+    let mut out = MemSink::new(alloc, 100, failing_at(&rt, alloc, 0)).expect(&rt, "ample memory");
+    let status = status_over(alloc, &mut folder, HALT, &mut out, &mut store).expect(
+        &rt,
+        "ample memory",
+    );
     assert_eq!(rt; status, 6);
     assert!(rt; out.held().is_empty());
-    expect_closed(&rt, alloc, &mut folder, &mut store)
+    expect_closed(&rt, alloc, &mut folder, &mut store);
 }

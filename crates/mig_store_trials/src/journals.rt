@@ -2,10 +2,10 @@
 
 use crate::expecting::{Line, expect_all};
 use crate::looks::{AT_TARGET, FILL, three_items};
-use crate::stores::{DIGEST, two_disks};
+use crate::stores::{DIGEST, sure_store};
 use mig_base::Cell;
 use mig_store::{Store, StoreFailed, SureStore};
-use std::test::Fail;
+use std::panic::Expect;
 
 /// What a journal holds once the items are filled, and lines over it.
 struct Journal<'a> {
@@ -63,15 +63,14 @@ fn set(store: &mut SureStore, journal: &Journal<'_>) -> Result<(), StoreFailed> 
 }
 
 #[test]
-fn journals_are_told_apart(rt: HostRuntime) -> Result<(), Fail> {
+fn journals_are_told_apart(rt: HostRuntime) {
     let alloc = rt.alloc();
-    let mut folder = three_items(alloc)?;
+    let mut folder = three_items(&rt, alloc);
     for journal in &JOURNALS {
-        let mut store = SureStore::new(alloc, &two_disks(alloc)?.list)?;
-        expect_all(&rt, alloc, &mut folder, &mut store, FILL)?;
-        set(&mut store, journal)?;
-        expect_all(&rt, alloc, &mut folder, &mut store, &[journal.line])?;
-        expect_all(&rt, alloc, &mut folder, &mut store, journal.then)?;
+        let mut store = sure_store(&rt, alloc);
+        expect_all(&rt, alloc, &mut folder, &mut store, FILL);
+        set(&mut store, journal).expect(&rt, "a store that does not fail");
+        expect_all(&rt, alloc, &mut folder, &mut store, &[journal.line]);
+        expect_all(&rt, alloc, &mut folder, &mut store, journal.then);
     }
-    Ok(())
 }

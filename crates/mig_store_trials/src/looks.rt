@@ -3,7 +3,9 @@
 use crate::expecting::Line;
 use mig_fixtures::{THREE_ITEMS, THREE_MOVED, TWO_ROUNDS, folder_of};
 use mig_io::MemFolder;
-use std::alloc::{AllocError, Global};
+use std::alloc::Global;
+use std::panic::Expect;
+use std::process::Abort;
 
 /// Another plan of the three items.
 pub const THREE_ROUNDS: &str =
@@ -14,13 +16,20 @@ const IN_THE_WAY: &str = "item,disk,slot\nx,a,0\ny,a,1\nz,a,2\nw,b,0\n";
 
 /// The folder of the three items, with both plans as P and R, their last layout as L, and the layout with an item in the
 /// way as W.
-pub fn three_items(alloc: Global) -> Result<MemFolder, AllocError> {
-    let mut folder = folder_of(alloc, &THREE_ITEMS, Vec::new(alloc))?;
-    folder.keep("P", TWO_ROUNDS.as_bytes())?;
-    folder.keep("R", THREE_ROUNDS.as_bytes())?;
-    folder.keep("L", THREE_MOVED.as_bytes())?;
-    folder.keep("W", IN_THE_WAY.as_bytes())?;
-    Ok(folder)
+pub fn three_items(rt: &impl Abort, alloc: Global) -> MemFolder {
+    let mut folder = folder_of(alloc, &THREE_ITEMS, Vec::new(alloc)).expect(rt, "ample memory");
+    keep(rt, &mut folder, "P", TWO_ROUNDS);
+    keep(rt, &mut folder, "R", THREE_ROUNDS);
+    keep(rt, &mut folder, "L", THREE_MOVED);
+    keep(rt, &mut folder, "W", IN_THE_WAY);
+    folder
+}
+
+/// Puts a file of this text into the folder.
+pub fn keep(rt: &impl Abort, folder: &mut MemFolder, name: &str, text: &str) {
+    folder
+        .keep(name, text.as_bytes())
+        .expect(rt, "ample memory");
 }
 
 /// What is said of the three items where they are filled.

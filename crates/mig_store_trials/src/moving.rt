@@ -2,10 +2,9 @@
 
 use crate::expecting::{Line, expect_all};
 use crate::looks::{ANOTHER, AT_TARGET, FILL, HERE, three_items};
-use crate::stores::{is_done, store_of, two_disks};
+use crate::stores::{failing_at, is_done, store_of, sure_store};
 use mig_fixtures::{THREE_MOVED, sink_of, status_over};
-use mig_store::SureStore;
-use std::test::Fail;
+use std::panic::Expect;
 
 /// Lines one after the other over one store.
 static SESSION: [Line<'static>; 11] = [
@@ -23,17 +22,16 @@ static SESSION: [Line<'static>; 11] = [
 ];
 
 #[test]
-fn items_are_moved(rt: HostRuntime) -> Result<(), Fail> {
+fn items_are_moved(rt: HostRuntime) {
     let alloc = rt.alloc();
-    let mut folder = three_items(alloc)?;
-    let mut store = store_of(alloc, Vec::new(alloc))?;
-    expect_all(&rt, alloc, &mut folder, &mut store, &SESSION)?;
-    expect_all(&rt, alloc, &mut folder, &mut store, AT_TARGET)?;
+    let mut folder = three_items(&rt, alloc);
+    let mut store = store_of(&rt, alloc, Vec::new(alloc));
+    expect_all(&rt, alloc, &mut folder, &mut store, &SESSION);
+    expect_all(&rt, alloc, &mut folder, &mut store, AT_TARGET);
     assert!(rt; is_done(&store));
-    let mut sure = SureStore::new(alloc, &two_disks(alloc)?.list)?;
-    expect_all(&rt, alloc, &mut folder, &mut sure, &SESSION)?;
-    expect_all(&rt, alloc, &mut folder, &mut sure, AT_TARGET)?;
-    Ok(())
+    let mut sure = sure_store(&rt, alloc);
+    expect_all(&rt, alloc, &mut folder, &mut sure, &SESSION);
+    expect_all(&rt, alloc, &mut folder, &mut sure, AT_TARGET);
 }
 
 /// Lines over a store in which an item is where another is to go, and over one whose first sync after a filling fails; the
@@ -58,30 +56,31 @@ static REFUSED: [(u64, &[Line<'static>]); 2] = [
 ];
 
 #[test]
-fn nothing_is_written_by_a_move_that_is_refused(rt: HostRuntime) -> Result<(), Fail> {
+fn nothing_is_written_by_a_move_that_is_refused(rt: HostRuntime) {
     let alloc = rt.alloc();
-    let mut folder = three_items(alloc)?;
+    let mut folder = three_items(&rt, alloc);
     for (call, lines) in &REFUSED {
-        let mut store = store_of(alloc, vec![in alloc; *call]?)?;
-        expect_all(&rt, alloc, &mut folder, &mut store, lines)?;
+        let mut store = store_of(&rt, alloc, failing_at(&rt, alloc, *call));
+        expect_all(&rt, alloc, &mut folder, &mut store, lines);
     }
-    Ok(())
 }
 
 // The sink's first put fails.
 #[test]
-fn what_is_not_told_is_done(rt: HostRuntime) -> Result<(), Fail> {
+fn what_is_not_told_is_done(rt: HostRuntime) {
     let alloc = rt.alloc();
-    let mut folder = three_items(alloc)?;
+    let mut folder = three_items(&rt, alloc);
     for line in ["move D N X P", "resume D N X P"] {
-        let mut store = store_of(alloc, Vec::new(alloc))?;
-        expect_all(&rt, alloc, &mut folder, &mut store, FILL)?;
-        let mut out = sink_of(alloc, vec![in alloc; 0]?)?;
-        let ended = status_over(alloc, &mut folder, line, &mut out, &mut store)?;
+        let mut store = store_of(&rt, alloc, Vec::new(alloc));
+        expect_all(&rt, alloc, &mut folder, &mut store, FILL);
+        let mut out = sink_of(alloc, failing_at(&rt, alloc, 0)).expect(&rt, "ample memory");
+        let ended = status_over(alloc, &mut folder, line, &mut out, &mut store).expect(
+            &rt,
+            "ample memory",
+        );
         assert_eq!(rt; ended, 6, "status of {line}");
         assert!(rt; out.held().is_empty());
-        expect_all(&rt, alloc, &mut folder, &mut store, AT_TARGET)?;
+        expect_all(&rt, alloc, &mut folder, &mut store, AT_TARGET);
         assert!(rt; is_done(&store));
     }
-    Ok(())
 }

@@ -2,13 +2,13 @@
 
 use crate::expecting::expect_all;
 use crate::looks::{FILL, three_items};
-use crate::stores::{are_exchanged, is_done, store_of};
+use crate::stores::{are_exchanged, failing_at, is_done, store_of};
 use mig_fixtures::{Outcome, outcome_over};
 use mig_io::MemFolder;
 use mig_store::{EndOrder, MemStore, Pick};
 use std::alloc::Global;
+use std::panic::Expect;
 use std::process::Abort;
-use std::test::Fail;
 
 /// The number of the first call of a move. A filling syncs, reads the gate and three slots, writes these and syncs.
 const FIRST: u64 = 9;
@@ -46,12 +46,12 @@ fn moved(
     folder: &mut MemFolder,
     order: EndOrder,
     call: u64,
-) -> Result<(MemStore, Outcome), Fail> {
-    let mut store = store_of(alloc, vec![in alloc; call]?)?;
+) -> (MemStore, Outcome) {
+    let mut store = store_of(rt, alloc, failing_at(rt, alloc, call));
     store.order(order);
-    expect_all(rt, alloc, folder, &mut store, FILL)?;
-    let came = outcome_over(alloc, folder, &mut store, "move D N X P")?;
-    Ok((store, came))
+    expect_all(rt, alloc, folder, &mut store, FILL);
+    let came = outcome_over(alloc, folder, &mut store, "move D N X P").expect(rt, "ample memory");
+    (store, came)
 }
 
 /// Resumes the move, and asserts that the target is reached: what the first disk held is on the second, and the first is empty.
@@ -61,8 +61,8 @@ fn expect_resumed(
     folder: &mut MemFolder,
     filled: &MemStore,
     mut store: MemStore,
-) -> Result<(), Fail> {
-    let came = outcome_over(alloc, folder, &mut store, "resume D N X P")?;
+) {
+    let came = outcome_over(alloc, folder, &mut store, "resume D N X P").expect(rt, "ample memory");
     assert_eq!(rt; came.status, 0);
     assert!(rt;
         RESUMED
@@ -70,18 +70,17 @@ fn expect_resumed(
             .any(|text| came.out.held() == text.as_bytes())
     );
     assert!(rt; is_done(&store) && are_exchanged(filled, &store));
-    Ok(())
 }
 
 /// Lets each call of a move fail in turn, from the first one on, until a move ends well. The number of those that failed.
-fn stops(rt: &impl Abort, alloc: Global, order: EndOrder, pick: Pick) -> Result<usize, Fail> {
-    let mut folder = three_items(alloc)?;
-    let mut filled = store_of(alloc, Vec::new(alloc))?;
-    expect_all(rt, alloc, &mut folder, &mut filled, FILL)?;
+fn stops(rt: &impl Abort, alloc: Global, order: EndOrder, pick: Pick) -> usize {
+    let mut folder = three_items(rt, alloc);
+    let mut filled = store_of(rt, alloc, Vec::new(alloc));
+    expect_all(rt, alloc, &mut folder, &mut filled, FILL);
     for (number, call) in (FIRST..MANY).enumerate() {
-        let (store, came) = moved(rt, alloc, &mut folder, order, call)?;
+        let (store, came) = moved(rt, alloc, &mut folder, order, call);
         if came.status == 0 {
-            return Ok(number);
+            return number;
         }
         assert_eq!(rt; came.status, 5, "status at call {call}");
         assert_eq!(rt;
@@ -89,16 +88,15 @@ fn stops(rt: &impl Abort, alloc: Global, order: EndOrder, pick: Pick) -> Result<
             "store fault\n".as_bytes(),
             "text at call {call}"
         );
-        expect_resumed(rt, alloc, &mut folder, &filled, store.crash(pick))?;
+        expect_resumed(rt, alloc, &mut folder, &filled, store.crash(pick));
     }
-    Err(Fail::new("a move has too many calls"))
+    panic!(rt; "a move has too many calls")
 }
 
 // Each of the twelve writes of the plan is a call.
 #[test]
-fn a_move_is_resumed_whichever_call_fails(rt: HostRuntime) -> Result<(), Fail> {
+fn a_move_is_resumed_whichever_call_fails(rt: HostRuntime) {
     for (order, pick) in &CRASHES {
-        assert!(rt; stops(&rt, rt.alloc(), *order, *pick)? >= 12);
+        assert!(rt; stops(&rt, rt.alloc(), *order, *pick) >= 12);
     }
-    Ok(())
 }

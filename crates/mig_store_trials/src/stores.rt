@@ -2,8 +2,10 @@
 ghost use Rattle.mig_base.specs.InputLists.{AreDifferent};
 
 use mig_base::{Cell, Name};
-use mig_store::MemStore;
+use mig_store::{MemStore, SureStore};
 use std::alloc::{AllocError, Global};
+use std::panic::Expect;
+use std::process::Abort;
 
 /// A slot of the disk that the letter names.
 fn slot_of(disk: u8, slot: u32) -> Cell {
@@ -47,22 +49,33 @@ impl Cells {
 }
 
 /// The head, the gate, the first four marks, and the first four slots of the disks a and b.
-pub fn two_disks(alloc: Global) -> Result<Cells, AllocError> {
+pub fn two_disks(rt: &impl Abort, alloc: Global) -> Cells {
     let mut cells = Cells::new(alloc);
-    cells.add(Cell::Head)?;
-    cells.add(Cell::Gate)?;
+    cells.add(Cell::Head).expect(rt, "ample memory");
+    cells.add(Cell::Gate).expect(rt, "ample memory");
     for n in 1..5 {
-        cells.add(Cell::Mark { n })?;
+        cells.add(Cell::Mark { n }).expect(rt, "ample memory");
     }
-    cells.add_disk(b'a')?;
-    cells.add_disk(b'b')?;
-    Ok(cells)
+    cells.add_disk(b'a').expect(rt, "ample memory");
+    cells.add_disk(b'b').expect(rt, "ample memory");
+    cells
+}
+
+/// The number of one call alone, as the list of those that fail.
+pub fn failing_at(rt: &impl Abort, alloc: Global, call: u64) -> Vec<u64> {
+    vec![in alloc; call].expect(rt, "ample memory")
 }
 
 /// A store of these cells, all zeros. Its calls with these numbers fail.
-pub fn store_of(alloc: Global, failing: Vec<u64>) -> Result<MemStore, AllocError> {
-    let cells = two_disks(alloc)?;
-    MemStore::new(alloc, &cells.list, 200, failing)
+pub fn store_of(rt: &impl Abort, alloc: Global, failing: Vec<u64>) -> MemStore {
+    let cells = two_disks(rt, alloc);
+    MemStore::new(alloc, &cells.list, 200, failing).expect(rt, "ample memory")
+}
+
+/// A store of the same cells, all zeros, whose calls cannot fail.
+pub fn sure_store(rt: &impl Abort, alloc: Global) -> SureStore {
+    let cells = two_disks(rt, alloc);
+    SureStore::new(alloc, &cells.list).expect(rt, "ample memory")
 }
 
 /// SHA-256 of the plan of two rounds.

@@ -3,4 +3,4 @@ use Rattle.mig_store.specs.Memories.{aloft}
 use Rattle.mig_move_trials.proofs.stores.fill.Given as goal
 
 abbrev pub invariant-loop-disk : goal.invariant-loop-disk
-invariant-loop-disk l = aloft l.store ≡ []
+invariant-loop-disk g l = aloft l.store ≡ []
