@@ -268,6 +268,7 @@ impl Store for MemStore {
         ensures failed { OnErr result (self.new ≡ record self.old { trouble = faulted result (next_number self.old.trouble) }) }
         ensures ends { Ends (named (state_of self.old) result) (state_of self.old) (state_of self.new) }
         ensures none { IfOk result (λ answer. IfNone answer (flights (state_of self.old) ≡ [])) }
+        ensures some { IfOk result (λ answer. IfSome answer (λ _. flights (state_of self.old) ≢ [])) }
         ensures cause { HasCause (state_of self.old) (state_of self.new) result }
     {
         if self.trouble.next() {

@@ -52,6 +52,7 @@ pub trait Store {
     fn ended(&mut self) -> Result<Option<(Cell, Cell)>, StoreFailed>
         ensures ends { Ends (named (state self.old) result) (state self.old) (state self.new) }
         ensures none { IfOk result (λ answer. IfNone answer (flights (state self.old) ≡ [])) }
+        ensures some { IfOk result (λ answer. IfSome answer (λ _. flights (state self.old) ≢ [])) }
         ensures cause { HasCause (state self.old) (state self.new) result };
 
     /// Ends each copy in flight; after it a crash leaves what reads give. Where it fails it may have ended some copies.
