@@ -6,8 +6,8 @@ use mig_files::{FileStore, MOST_OPEN};
 use mig_store::Store;
 use std::fs::{self, File};
 use std::os::unix::fs::symlink;
-use std::rt::Files;
 use std::panic::Expect;
+use std::rt::Files;
 
 /// A slot of the disk with this name.
 fn slot_of(name: &[u8], slot: u32) -> Cell {
