@@ -43,7 +43,7 @@ fn is_stop(
         marks,
         reached: true,
     };
-    stop == reached && is_reached(&left, &job, case)
+    (stop, is_reached(&left, &job, case)) == (reached, true)
 }
 
 // Whether the stop of a case after so many writes is so with each pick.

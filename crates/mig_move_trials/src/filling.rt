@@ -65,23 +65,33 @@ fn shows(input: &Input, store: &mut MemStore, first: Sight, second: Sight) -> bo
     look_at(input, 0, store) == Some(Ok(first)) && look_at(input, 1, store) == Some(Ok(second))
 }
 
+// Asserts that a store of zeros is filled once.
+fn expect_filled_once(rt: &impl Abort, input: &Input, store: &mut MemStore) {
+    assert!(rt; shows(input, store, ZEROS, ZEROS));
+    assert!(rt; fill(input, store) == Ok(()));
+    assert!(rt; shows(input, store, FIRST, SECOND));
+    let occupied = MoveFault::Occupied {
+        disk: DiskId(0),
+        slot: 1,
+    };
+    assert!(rt; fill(input, store) == Err(occupied));
+    assert!(rt; shows(input, store, FIRST, SECOND));
+}
+
 #[test]
 fn items_are_written_where_they_are_listed(rt: HostRuntime) {
     let alloc = rt.alloc();
     let input = layout(&rt, alloc);
     // A gate other than 1 is one of a store where no plan is carried out.
     for gate in [0, 2] {
-        let mut store = store_of(&rt, alloc, gate, &[]);
-        assert!(rt; shows(&input, &mut store, ZEROS, ZEROS));
-        assert!(rt; fill(&input, &mut store) == Ok(()));
-        assert!(rt; shows(&input, &mut store, FIRST, SECOND));
-        let occupied = MoveFault::Occupied {
-            disk: DiskId(0),
-            slot: 1,
-        };
-        assert!(rt; fill(&input, &mut store) == Err(occupied));
-        assert!(rt; shows(&input, &mut store, FIRST, SECOND));
+        expect_filled_once(&rt, &input, &mut store_of(&rt, alloc, gate, &[]));
     }
+}
+
+// Asserts that a store of zeros is not filled, for this reason.
+fn expect_unfilled(rt: &impl Abort, input: &Input, store: &mut MemStore, refusal: MoveFault) {
+    assert!(rt; fill(input, store) == Err(refusal));
+    assert!(rt; shows(input, store, ZEROS, ZEROS));
 }
 
 #[test]
@@ -89,12 +99,10 @@ fn nothing_is_written_where_a_filling_is_refused(rt: HostRuntime) {
     let alloc = rt.alloc();
     let input = layout(&rt, alloc);
     let mut started = store_of(&rt, alloc, 1, &[]);
-    assert!(rt; fill(&input, &mut started) == Err(MoveFault::Started));
-    assert!(rt; shows(&input, &mut started, ZEROS, ZEROS));
+    expect_unfilled(&rt, &input, &mut started, MoveFault::Started);
     // The first sync fails.
     let mut failing = store_of(&rt, alloc, 0, &[1]);
-    assert!(rt; fill(&input, &mut failing) == Err(MoveFault::Store));
-    assert!(rt; shows(&input, &mut failing, ZEROS, ZEROS));
+    expect_unfilled(&rt, &input, &mut failing, MoveFault::Store);
 }
 
 #[test]

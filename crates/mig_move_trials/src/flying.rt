@@ -5,7 +5,7 @@ use crate::cells::slot_of;
 use crate::stores::{filled, is_reached};
 use mig_base::Event;
 use mig_lanes::{resume_lanes, start_lanes};
-use mig_mover::MoveFault;
+use mig_mover::{Job, MoveFault};
 use mig_store::{EndOrder, MemStore};
 use std::alloc::Global;
 use std::panic::Expect;
@@ -48,30 +48,32 @@ static BOTH_ROUNDS: [Told; 6] = [
     (false, 2),
 ];
 
+// Asserts that a start carries out both rounds, with eight syncs.
+fn expect_both_rounds(rt: &impl Abort, job: &Job, store: &mut MemStore) {
+    let syncs = store.syncs();
+    assert!(rt; start_lanes(job, store) == Ok(()));
+    assert!(rt; tells(store, &BOTH_ROUNDS));
+    assert!(rt; store.syncs() >= syncs && store.syncs() - syncs == 8);
+    assert!(rt; is_reached(store, job, &THREE_ITEMS));
+}
+
 #[test]
 fn the_copies_of_a_round_are_in_flight_together(rt: HostRuntime) {
     let alloc = rt.alloc();
     let job = job_of(&rt, alloc, &THREE_ITEMS);
     let mut store = newest_first(&rt, alloc, &[]);
-    let syncs = store.syncs();
-    assert!(rt; start_lanes(&job, &mut store) == Ok(()));
-    assert!(rt; tells(&store, &BOTH_ROUNDS));
-    assert!(rt; store.syncs() >= syncs && store.syncs() - syncs == 8);
-    assert!(rt; is_reached(&store, &job, &THREE_ITEMS));
+    expect_both_rounds(&rt, &job, &mut store);
 }
 
 // The number of the call that begins the second copy. Six slots are filled and synced. The start syncs, reads the gate, three
 // items and three targets, writes two marks and the head, syncs, writes the gate, syncs, and begins the first copy.
 const SECOND_BEGIN: u64 = 22;
 
-#[test]
-fn a_copy_that_cannot_begin_is_made_up_for(rt: HostRuntime) {
-    let alloc = rt.alloc();
-    let job = job_of(&rt, alloc, &THREE_ITEMS);
-    let mut store = newest_first(&rt, alloc, &[SECOND_BEGIN]);
-    assert!(rt; start_lanes(&job, &mut store) == Err(MoveFault::Store));
-    assert!(rt; tells(&store, &[(true, 0)]));
-    assert!(rt; resume_lanes(&job, &mut store) == Ok(0));
+// Asserts that a start stops there, and that a resume carries out both rounds.
+fn expect_made_up_for(rt: &impl Abort, job: &Job, store: &mut MemStore) {
+    assert!(rt; start_lanes(job, store) == Err(MoveFault::Store));
+    assert!(rt; tells(store, &[(true, 0)]));
+    assert!(rt; resume_lanes(job, store) == Ok(0));
     let told = [
         (true, 0),
         (false, 0),
@@ -82,6 +84,14 @@ fn a_copy_that_cannot_begin_is_made_up_for(rt: HostRuntime) {
         (true, 2),
         (false, 2),
     ];
-    assert!(rt; tells(&store, &told));
-    assert!(rt; is_reached(&store, &job, &THREE_ITEMS));
+    assert!(rt; tells(store, &told));
+    assert!(rt; is_reached(store, job, &THREE_ITEMS));
+}
+
+#[test]
+fn a_copy_that_cannot_begin_is_made_up_for(rt: HostRuntime) {
+    let alloc = rt.alloc();
+    let job = job_of(&rt, alloc, &THREE_ITEMS);
+    let mut store = newest_first(&rt, alloc, &[SECOND_BEGIN]);
+    expect_made_up_for(&rt, &job, &mut store);
 }

@@ -52,13 +52,18 @@ fn half_way(rt: &impl Abort, alloc: Global, job: &Job, pick: Pick) -> MemStore {
     store.crash(pick)
 }
 
+// Whether the three items are halted after the first round, and not a second time.
+fn is_halted_once(job: &Job, store: &mut MemStore) -> bool {
+    let closed = close(job, store) == Ok(1) && is_closed(store, &HALF_WAY);
+    let again = close(job, store) == Err(MoveFault::NotStarted);
+    closed && again && is_closed(store, &HALF_WAY) && store.events().is_empty()
+}
+
 // Whether three items are halted after the first round, once a start stopped and a crash left what is picked.
 fn halts(rt: &impl Abort, alloc: Global, pick: Pick) -> bool {
     let job = job_of(rt, alloc, &THREE_ITEMS);
     let mut store = half_way(rt, alloc, &job, pick);
-    let closed = close(&job, &mut store) == Ok(1) && is_closed(&store, &HALF_WAY);
-    let again = close(&job, &mut store) == Err(MoveFault::NotStarted);
-    closed && again && is_closed(&store, &HALF_WAY) && store.events().is_empty()
+    is_halted_once(&job, &mut store)
 }
 
 #[test]
@@ -76,13 +81,18 @@ fn half_closed(rt: &impl Abort, alloc: Global, job: &Job, writes: u64, pick: Pic
     store.crash(pick)
 }
 
+// Whether the three items are halted after the first round, or were so before.
+fn is_halted(job: &Job, store: &mut MemStore) -> bool {
+    let came = close(job, store);
+    (came == Ok(1) || came == Err(MoveFault::NotStarted)) && is_closed(store, &HALF_WAY)
+}
+
 // Whether three items are halted after the first round, where closing stops after so many writes, a crash leaves what is
 // picked, and it is closed again. Where the gate is closed already, the slots are as they are to be.
 fn halts_again(rt: &impl Abort, alloc: Global, writes: u64, pick: Pick) -> bool {
     let job = job_of(rt, alloc, &THREE_ITEMS);
     let mut left = half_closed(rt, alloc, &job, writes, pick);
-    let again = close(&job, &mut left);
-    (again == Ok(1) || again == Err(MoveFault::NotStarted)) && is_closed(&left, &HALF_WAY)
+    is_halted(&job, &mut left)
 }
 
 #[test]
@@ -95,22 +105,26 @@ fn a_stopped_halt_is_ended(rt: HostRuntime) {
     }
 }
 
-// After how many rounds the case in which a slot is left twice is halted, where its start stops after so many writes and a
-// crash leaves the new bytes, and whether the slots are as after that round.
-fn halts_twice(rt: &impl Abort, alloc: Global, writes: u64) -> (Result<u32, MoveFault>, bool) {
-    let job = job_of(rt, alloc, &LEFT_TWICE);
-    let mut store = filled(rt, alloc, &job, LEFT_TWICE.before, Vec::new(alloc));
-    store.fuse(writes);
-    let _stopped = start_lanes(&job, &mut store);
-    let mut left = store.crash(Pick::New);
-    let found = close(&job, &mut left);
+// After how many rounds the case in which a slot is left twice is halted, and whether the slots are as after that round.
+fn closes(rt: &impl Abort, job: &Job, store: &mut MemStore) -> (Result<u32, MoveFault>, bool) {
+    let found = close(job, store);
     let after = match found {
         Ok(found) => LEFT_TWICE_AFTER
             .get(found as usize)
             .expect(rt, "one of its rounds"),
         Err(_) => &LEFT_TWICE_AFTER[0],
     };
-    (found, holds(&left, after))
+    (found, holds(store, after))
+}
+
+// The same for that case, where its start stops after so many writes and a
+// crash leaves the new bytes.
+fn halts_twice(rt: &impl Abort, alloc: Global, writes: u64) -> (Result<u32, MoveFault>, bool) {
+    let job = job_of(rt, alloc, &LEFT_TWICE);
+    let mut store = filled(rt, alloc, &job, LEFT_TWICE.before, Vec::new(alloc));
+    store.fuse(writes);
+    let _stopped = start_lanes(&job, &mut store);
+    closes(rt, &job, &mut store.crash(Pick::New))
 }
 
 #[test]

@@ -8,6 +8,7 @@ use mig_base::{Cell, DiskId, ItemId};
 use mig_lanes::{resume_lanes, start_lanes};
 use mig_mover::{Job, MoveFault};
 use mig_store::MemStore;
+use std::alloc::Global;
 use std::process::Abort;
 
 // The slots of the three items before any is filled.
@@ -40,35 +41,43 @@ fn expect_other(rt: &impl Abort, store: &mut MemStore, kept: &Job, ours: &Job) {
     assert!(rt; resume_lanes(ours, store) == Err(refusal));
 }
 
+// Asserts that a job is carried out by a start, and by no second one.
+fn expect_started_once(rt: &impl Abort, job: &Job, store: &mut MemStore) {
+    assert!(rt; start_lanes(job, store) == Ok(()));
+    assert!(rt; start_lanes(job, store) == Err(MoveFault::Started));
+    assert!(rt; resume_lanes(job, store) == Ok(2));
+}
+
 #[test]
 fn a_plan_is_started_once(rt: HostRuntime) {
     let alloc = rt.alloc();
     let job = job_of(&rt, alloc, &THREE_ITEMS);
     let other = job_with(&rt, alloc, &THREE_ITEMS, ONE_BY_ONE);
     let mut store = filled(&rt, alloc, &job, THREE_ITEMS.before, Vec::new(alloc));
-    assert!(rt; start_lanes(&job, &mut store) == Ok(()));
-    assert!(rt; start_lanes(&job, &mut store) == Err(MoveFault::Started));
-    assert!(rt; resume_lanes(&job, &mut store) == Ok(2));
+    expect_started_once(&rt, &job, &mut store);
     expect_other(&rt, &mut store, &job, &other);
     assert!(rt; is_reached(&store, &job, &THREE_ITEMS));
+}
+
+// Asserts that a store whose slots hold these is neither started on nor resumed, for this reason, and left as it is.
+fn expect_left_alone(rt: &impl Abort, alloc: Global, places: &[Place], refusal: MoveFault) {
+    let job = job_of(rt, alloc, &THREE_ITEMS);
+    let mut store = filled(rt, alloc, &job, places, Vec::new(alloc));
+    let started = start_lanes(&job, &mut store) == Err(refusal);
+    let resumed = resume_lanes(&job, &mut store) == Err(refusal);
+    assert!(rt; [started, resumed, holds(&store, places)] == [true; 3]);
 }
 
 #[test]
 fn a_store_that_is_not_ready_is_left_alone(rt: HostRuntime) {
     let alloc = rt.alloc();
-    let job = job_of(&rt, alloc, &THREE_ITEMS);
-    let mut empty = filled(&rt, alloc, &job, &NOTHING_FILLED, Vec::new(alloc));
     let lost = MoveFault::NotThere { item: ItemId(0) };
-    assert!(rt; start_lanes(&job, &mut empty) == Err(lost));
-    assert!(rt; holds(&empty, &NOTHING_FILLED));
-    let mut used = filled(&rt, alloc, &job, &TARGET_USED, Vec::new(alloc));
+    expect_left_alone(&rt, alloc, &NOTHING_FILLED, lost);
     let occupied = MoveFault::Occupied {
         disk: DiskId(1),
         slot: 0,
     };
-    assert!(rt; start_lanes(&job, &mut used) == Err(occupied));
-    assert!(rt; resume_lanes(&job, &mut used) == Err(occupied));
-    assert!(rt; holds(&used, &TARGET_USED));
+    expect_left_alone(&rt, alloc, &TARGET_USED, occupied);
 }
 
 // Writes what an earlier plan left in the journal: another head, and two marks.
