@@ -1,8 +1,9 @@
 //! Lines over a store that must end in one way.
 
-use mig_fixtures::outcome_over;
+use crate::stores::failing_at;
+use mig_fixtures::{outcome_over, sink_of, status_over};
 use mig_io::MemFolder;
-use mig_store::Store;
+use mig_store::{MemStore, Store};
 use std::alloc::Global;
 use std::panic::Expect;
 use std::process::Abort;
@@ -36,4 +37,21 @@ pub fn expect_all<S: Store>(
     for (line, status, text) in lines {
         expect_over(rt, alloc, folder, store, line, *status, text);
     }
+}
+
+/// Carries out a line over a store, where a put of this number, counted from 0, fails, and asserts its status and all that
+/// was put before.
+pub fn expect_cut(
+    rt: &impl Abort,
+    alloc: Global,
+    folder: &mut MemFolder,
+    store: &mut MemStore,
+    put: u64,
+    line: &Line<'_>,
+) {
+    let (line, status, text) = line;
+    let mut out = sink_of(alloc, failing_at(rt, alloc, put)).expect(rt, "ample memory");
+    let ended = status_over(alloc, folder, line, &mut out, store).expect(rt, "ample memory");
+    assert_eq!(rt; ended, *status, "status of {line}");
+    assert_eq!(rt; out.held(), text.as_bytes(), "text of {line}");
 }

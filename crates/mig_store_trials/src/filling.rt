@@ -1,13 +1,10 @@
 //! What `fill` and `audit` do with a store, and what they say of it.
 
-use crate::expecting::{Line, expect_all};
+use crate::expecting::{Line, expect_all, expect_cut};
 use crate::looks::{HERE, LOST, three_items};
 use crate::stores::{failing_at, store_of, sure_store};
 use mig_base::Cell;
-use mig_fixtures::status_over;
-use mig_io::MemSink;
 use mig_store::Store;
-use std::panic::Expect;
 
 /// Lines one after the other over one store.
 static SESSION: [Line<'static>; 7] = [
@@ -26,6 +23,12 @@ fn items_are_filled_and_seen(rt: HostRuntime) {
     let mut folder = three_items(&rt, alloc);
     let mut store = store_of(&rt, alloc, Vec::new(alloc));
     expect_all(&rt, alloc, &mut folder, &mut store, &SESSION);
+}
+
+#[test]
+fn items_are_filled_where_no_call_fails(rt: HostRuntime) {
+    let alloc = rt.alloc();
+    let mut folder = three_items(&rt, alloc);
     let mut sure = sure_store(&rt, alloc);
     expect_all(&rt, alloc, &mut folder, &mut sure, &SESSION);
 }
@@ -53,51 +56,47 @@ fn a_fill_whose_first_sync_fails_writes_nothing(rt: HostRuntime) {
     expect_all(&rt, alloc, &mut folder, &mut store, &UNSYNCED);
 }
 
-/// Lines, the call of the store and the put of the sink that fail, counted from 0, the statuses, and what the sink then
-/// holds.
-static STOPPED: [(&str, u64, u64, u8, &str); 6] = [
+/// The call of the store and the put of the sink that fail, counted from 0, and lines, with what the sink then holds.
+static STOPPED: [(u64, u64, Line<'static>); 6] = [
     (
-        "audit D N",
         1,
         99,
-        5,
-        "x a 0 lost ad7facb2586fc6e966c004d7d1d16b024f5805ff7cb47c7a85dabd8b48892ca7\nstore fault\n",
+        (
+            "audit D N",
+            5,
+            "x a 0 lost ad7facb2586fc6e966c004d7d1d16b024f5805ff7cb47c7a85dabd8b48892ca7\nstore fault\n",
+        ),
     ),
     (
-        "audit D N",
         2,
         99,
-        5,
-        "x a 0 lost ad7facb2586fc6e966c004d7d1d16b024f5805ff7cb47c7a85dabd8b48892ca7\n\
-        y a 1 lost ad7facb2586fc6e966c004d7d1d16b024f5805ff7cb47c7a85dabd8b48892ca7\nstore fault\n",
+        (
+            "audit D N",
+            5,
+            "x a 0 lost ad7facb2586fc6e966c004d7d1d16b024f5805ff7cb47c7a85dabd8b48892ca7\n\
+            y a 1 lost ad7facb2586fc6e966c004d7d1d16b024f5805ff7cb47c7a85dabd8b48892ca7\nstore fault\n",
+        ),
     ),
     (
-        "audit D N",
         99,
         9,
-        6,
-        "x a 0 lost ad7facb2586fc6e966c004d7d1d16b024f5805ff7cb47c7a85dabd8b48892ca7\ny",
+        (
+            "audit D N",
+            6,
+            "x a 0 lost ad7facb2586fc6e966c004d7d1d16b024f5805ff7cb47c7a85dabd8b48892ca7\ny",
+        ),
     ),
-    ("audit D N", 0, 0, 5, ""),
-    ("fill D N", 99, 1, 6, "filled "),
-    ("fill D N", 5, 99, 5, "store fault\n"),
+    (0, 0, ("audit D N", 5, "")),
+    (99, 1, ("fill D N", 6, "filled ")),
+    (5, 99, ("fill D N", 5, "store fault\n")),
 ];
 
 #[test]
 fn faults_in_the_middle(rt: HostRuntime) {
     let alloc = rt.alloc();
     let mut folder = three_items(&rt, alloc);
-    for (line, call, put, status, text) in &STOPPED {
+    for (call, put, line) in &STOPPED {
         let mut store = store_of(&rt, alloc, failing_at(&rt, alloc, *call));
-        let mut out = MemSink::new(alloc, 4096, failing_at(&rt, alloc, *put)).expect(
-            &rt,
-            "ample memory",
-        );
-        let ended = status_over(alloc, &mut folder, line, &mut out, &mut store).expect(
-            &rt,
-            "ample memory",
-        );
-        assert_eq!(rt; ended, *status, "status of {line}");
-        assert_eq!(rt; out.held(), text.as_bytes(), "text of {line}");
+        expect_cut(&rt, alloc, &mut folder, &mut store, *put, line);
     }
 }

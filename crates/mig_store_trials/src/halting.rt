@@ -1,11 +1,11 @@
 //! Migrations that `halt` closes early, and what comes after.
 
-use crate::expecting::{Line, expect_all, expect_over};
+use crate::expecting::{Line, expect_all, expect_cut, expect_over};
 use crate::looks::{ANOTHER, MOVED, THREE_ROUNDS, keep};
 use crate::stores::{are_zeros, failing_at, store_of};
 use mig_base::{Cell, Name};
-use mig_fixtures::{THREE_ITEMS, THREE_MOVED, TWO_ROUNDS, folder_of, holds, status_over};
-use mig_io::{MemFolder, MemSink};
+use mig_fixtures::{THREE_ITEMS, THREE_MOVED, TWO_ROUNDS, folder_of, holds, outcome_over};
+use mig_io::MemFolder;
 use mig_store::{MemStore, Pick};
 use std::alloc::Global;
 use std::panic::Expect;
@@ -104,23 +104,34 @@ fn a_stopped_move_is_halted_and_the_next_migration_goes_on(rt: HostRuntime) {
     }
 }
 
-/// Asserts that `halt`, stopped after so many writes, has saved the layout, and that `halt` after a crash closes the
-/// migration, or finds it closed.
+/// The store on which `move` and then `halt` stopped, the latter after so many writes, after a crash each. The layout is
+/// saved.
+fn half_halted(
+    rt: &impl Abort,
+    alloc: Global,
+    folder: &mut MemFolder,
+    writes: u64,
+    picks: (Pick, Pick),
+) -> MemStore {
+    let mut store = half_way(rt, alloc, folder, picks.0);
+    store.fuse(writes);
+    expect_over(rt, alloc, folder, &mut store, HALT, 5, "store fault\n");
+    assert!(rt; holds(folder, "L", Some(HALF_WAY)));
+    store.crash(picks.1)
+}
+
+/// Asserts that `halt` closes the migration, or finds it closed.
+fn expect_halted(rt: &impl Abort, alloc: Global, folder: &mut MemFolder, store: &mut MemStore) {
+    let came = outcome_over(alloc, folder, store, HALT).expect(rt, "ample memory");
+    let closed = came.status == 8 && came.out.held() == b"journal not started\n".as_slice();
+    assert!(rt; closed || came.status == 0 && came.out.held() == HALTED.as_bytes());
+}
+
+/// Asserts that a migration on which `halt` stopped after so many writes is closed by `halt`.
 fn expect_halted_again(rt: &impl Abort, alloc: Global, writes: u64, pick: Pick) {
     let mut folder = roomy_folder(rt, alloc);
-    let mut store = half_way(rt, alloc, &mut folder, Pick::Old);
-    store.fuse(writes);
-    let text = "store fault\n";
-    expect_over(rt, alloc, &mut folder, &mut store, HALT, 5, text);
-    assert!(rt; holds(&folder, "L", Some(HALF_WAY)));
-    let mut left = store.crash(pick);
-    let mut out = MemSink::new(alloc, 100, Vec::new(alloc)).expect(rt, "ample memory");
-    let status = status_over(alloc, &mut folder, HALT, &mut out, &mut left).expect(
-        rt,
-        "ample memory",
-    );
-    let closed = status == 8 && out.held() == b"journal not started\n".as_slice();
-    assert!(rt; closed || status == 0 && out.held() == HALTED.as_bytes());
+    let mut left = half_halted(rt, alloc, &mut folder, writes, (Pick::Old, pick));
+    expect_halted(rt, alloc, &mut folder, &mut left);
     expect_closed(rt, alloc, &mut folder, &mut left);
 }
 
@@ -141,11 +152,8 @@ fn a_stopped_halt_is_resumed(rt: HostRuntime) {
     let alloc = rt.alloc();
     for writes in 0..4 {
         let mut folder = roomy_folder(&rt, alloc);
-        let mut store = half_way(&rt, alloc, &mut folder, Pick::New);
-        store.fuse(writes);
-        let text = "store fault\n";
-        expect_over(&rt, alloc, &mut folder, &mut store, HALT, 5, text);
-        let mut left = store.crash(Pick::Old);
+        let picks = (Pick::New, Pick::Old);
+        let mut left = half_halted(&rt, alloc, &mut folder, writes, picks);
         let text = "done 2 rounds, found 1\n";
         expect_over(
             &rt,
@@ -178,12 +186,19 @@ static REFUSED: [Line<'static>; 13] = [
 ];
 
 #[test]
-fn a_halt_that_is_refused_changes_nothing(rt: HostRuntime) {
+fn nothing_is_halted_where_nothing_was_started(rt: HostRuntime) {
     let alloc = rt.alloc();
     let mut folder = roomy_folder(&rt, alloc);
     let mut store = store_of(&rt, alloc, Vec::new(alloc));
     let text = "journal not started\n";
     expect_over(&rt, alloc, &mut folder, &mut store, HALT, 8, text);
+    assert!(rt; holds(&folder, "L", None));
+}
+
+#[test]
+fn a_halt_that_is_refused_changes_nothing(rt: HostRuntime) {
+    let alloc = rt.alloc();
+    let mut folder = roomy_folder(&rt, alloc);
     let mut store = half_way(&rt, alloc, &mut folder, Pick::Half);
     expect_all(&rt, alloc, &mut folder, &mut store, &REFUSED);
     assert!(rt; holds(&folder, "L", None));
@@ -227,12 +242,6 @@ fn a_halt_that_is_not_told_is_done(rt: HostRuntime) {
     let alloc = rt.alloc();
     let mut folder = roomy_folder(&rt, alloc);
     let mut store = half_way(&rt, alloc, &mut folder, Pick::Ones);
-    let mut out = MemSink::new(alloc, 100, failing_at(&rt, alloc, 0)).expect(&rt, "ample memory");
-    let status = status_over(alloc, &mut folder, HALT, &mut out, &mut store).expect(
-        &rt,
-        "ample memory",
-    );
-    assert_eq!(rt; status, 6);
-    assert!(rt; out.held().is_empty());
+    expect_cut(&rt, alloc, &mut folder, &mut store, 0, &(HALT, 6, ""));
     expect_closed(&rt, alloc, &mut folder, &mut store);
 }

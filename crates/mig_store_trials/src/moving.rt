@@ -1,10 +1,9 @@
 //! What `move` and `resume` do with a store, and what they say of it.
 
-use crate::expecting::{Line, expect_all};
+use crate::expecting::{Line, expect_all, expect_cut};
 use crate::looks::{ANOTHER, AT_TARGET, FILL, HERE, three_items};
 use crate::stores::{failing_at, is_done, store_of, sure_store};
-use mig_fixtures::{THREE_MOVED, sink_of, status_over};
-use std::panic::Expect;
+use mig_fixtures::THREE_MOVED;
 
 /// Lines one after the other over one store.
 static SESSION: [Line<'static>; 11] = [
@@ -29,6 +28,12 @@ fn items_are_moved(rt: HostRuntime) {
     expect_all(&rt, alloc, &mut folder, &mut store, &SESSION);
     expect_all(&rt, alloc, &mut folder, &mut store, AT_TARGET);
     assert!(rt; is_done(&store));
+}
+
+#[test]
+fn items_are_moved_where_no_call_fails(rt: HostRuntime) {
+    let alloc = rt.alloc();
+    let mut folder = three_items(&rt, alloc);
     let mut sure = sure_store(&rt, alloc);
     expect_all(&rt, alloc, &mut folder, &mut sure, &SESSION);
     expect_all(&rt, alloc, &mut folder, &mut sure, AT_TARGET);
@@ -73,13 +78,7 @@ fn what_is_not_told_is_done(rt: HostRuntime) {
     for line in ["move D N X P", "resume D N X P"] {
         let mut store = store_of(&rt, alloc, Vec::new(alloc));
         expect_all(&rt, alloc, &mut folder, &mut store, FILL);
-        let mut out = sink_of(alloc, failing_at(&rt, alloc, 0)).expect(&rt, "ample memory");
-        let ended = status_over(alloc, &mut folder, line, &mut out, &mut store).expect(
-            &rt,
-            "ample memory",
-        );
-        assert_eq!(rt; ended, 6, "status of {line}");
-        assert!(rt; out.held().is_empty());
+        expect_cut(&rt, alloc, &mut folder, &mut store, 0, &(line, 6, ""));
         expect_all(&rt, alloc, &mut folder, &mut store, AT_TARGET);
         assert!(rt; is_done(&store));
     }

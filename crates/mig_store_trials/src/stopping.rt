@@ -72,23 +72,38 @@ fn expect_resumed(
     assert!(rt; is_done(&store) && are_exchanged(filled, &store));
 }
 
-/// Lets each call of a move fail in turn, from the first one on, until a move ends well. The number of those that failed.
-fn stops(rt: &impl Abort, alloc: Global, order: EndOrder, pick: Pick) -> usize {
-    let mut folder = three_items(rt, alloc);
-    let mut filled = store_of(rt, alloc, Vec::new(alloc));
-    expect_all(rt, alloc, &mut folder, &mut filled, FILL);
-    for (number, call) in (FIRST..MANY).enumerate() {
-        let (store, came) = moved(rt, alloc, &mut folder, order, call);
-        if came.status == 0 {
-            return number;
-        }
+/// Whether a move ends well though its call of this number fails. Where it doesn't, it is stopped by a fault, and resumed.
+fn is_moved(
+    rt: &impl Abort,
+    alloc: Global,
+    folder: &mut MemFolder,
+    filled: &MemStore,
+    crash: (EndOrder, Pick),
+    call: u64,
+) -> bool {
+    let (store, came) = moved(rt, alloc, folder, crash.0, call);
+    let is_well = came.status == 0;
+    if !is_well {
         assert_eq!(rt; came.status, 5, "status at call {call}");
         assert_eq!(rt;
             came.out.held(),
             "store fault\n".as_bytes(),
             "text at call {call}"
         );
-        expect_resumed(rt, alloc, &mut folder, &filled, store.crash(pick));
+        expect_resumed(rt, alloc, folder, filled, store.crash(crash.1));
+    }
+    is_well
+}
+
+/// Lets each call of a move fail in turn, from the first one on, until a move ends well. The number of those that failed.
+fn stops(rt: &impl Abort, alloc: Global, crash: (EndOrder, Pick)) -> usize {
+    let mut folder = three_items(rt, alloc);
+    let mut filled = store_of(rt, alloc, Vec::new(alloc));
+    expect_all(rt, alloc, &mut folder, &mut filled, FILL);
+    for (number, call) in (FIRST..MANY).enumerate() {
+        if is_moved(rt, alloc, &mut folder, &filled, crash, call) {
+            return number;
+        }
     }
     panic!(rt; "a move has too many calls")
 }
@@ -96,7 +111,7 @@ fn stops(rt: &impl Abort, alloc: Global, order: EndOrder, pick: Pick) -> usize {
 // Each of the twelve writes of the plan is a call.
 #[test]
 fn a_move_is_resumed_whichever_call_fails(rt: HostRuntime) {
-    for (order, pick) in &CRASHES {
-        assert!(rt; stops(&rt, rt.alloc(), *order, *pick) >= 12);
+    for crash in &CRASHES {
+        assert!(rt; stops(&rt, rt.alloc(), *crash) >= 12);
     }
 }
