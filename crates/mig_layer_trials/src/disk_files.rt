@@ -7,6 +7,7 @@ use mig_store::Store;
 use std::fs::{self, File};
 use std::os::unix::fs::symlink;
 use std::panic::Expect;
+use std::process::Abort;
 use std::rt::Files;
 
 /// A slot of the disk with this name.
@@ -36,23 +37,20 @@ fn has<R: Files<File = File> + Eprint>(
     cell.len() == 4096 && store.read(cell, &mut bytes).is_ok() && bytes == [byte; 4096]
 }
 
-#[test]
-fn a_synced_cell_is_read_by_a_new_store(rt: HostRuntime) {
-    enter(&rt, "synced").expect(&rt, "a folder");
-    let alloc = rt.alloc();
-    {
-        let mut store = FileStore::new(&rt, alloc);
-        // a missing file reads as zeros, and what is written then is read
-        assert!(rt; has(&mut store, &slot_of(b"a", 3), 0));
-        assert!(rt; has(&mut store, &slot_of(b"a", 3), 0));
-        assert!(rt; put(&mut store, &slot_of(b"a", 3), 7));
-        assert!(rt; has(&mut store, &slot_of(b"a", 3), 7));
-        assert!(rt; store.write(&Cell::Head, &[5; 32]).is_ok());
-        assert!(rt; store.write(&Cell::Gate, &[1]).is_ok());
-        assert!(rt; store.write(&Cell::Mark { n: 2 }, &[1]).is_ok());
-        assert!(rt; store.sync().is_ok());
-    }
-    let mut store = FileStore::new(&rt, alloc);
+/// Writes a slot and the journal, and syncs them. A missing file reads as zeros, and what is written then is read.
+fn expect_written<R: Files<File = File> + Eprint>(rt: &impl Abort, store: &mut FileStore<'_, R>) {
+    assert!(rt; has(store, &slot_of(b"a", 3), 0));
+    assert!(rt; has(store, &slot_of(b"a", 3), 0));
+    assert!(rt; put(store, &slot_of(b"a", 3), 7));
+    assert!(rt; has(store, &slot_of(b"a", 3), 7));
+    assert!(rt; store.write(&Cell::Head, &[5; 32]).is_ok());
+    assert!(rt; store.write(&Cell::Gate, &[1]).is_ok());
+    assert!(rt; store.write(&Cell::Mark { n: 2 }, &[1]).is_ok());
+    assert!(rt; store.sync().is_ok());
+}
+
+/// Asserts that these are read, and zeros beside them.
+fn expect_read_back<R: Files<File = File> + Eprint>(rt: &impl Abort, store: &mut FileStore<'_, R>) {
     let cells: [(&[u8], u32, u8); 5] = [
         (b"a", 3, 7),
         (b"a", 2, 0),
@@ -61,13 +59,21 @@ fn a_synced_cell_is_read_by_a_new_store(rt: HostRuntime) {
         (b"a", 3, 7),
     ];
     for (disk, slot, byte) in cells {
-        assert!(rt; has(&mut store, &slot_of(disk, slot), byte));
+        assert!(rt; has(store, &slot_of(disk, slot), byte));
     }
     let mut byte = [9];
     assert!(rt; store.read(&Cell::Gate, &mut byte).is_ok() && byte == [1]);
-    assert!(rt; store.read(&Cell::Mark { n: 1 }, &mut byte).is_ok() && byte == [0]);
-    assert!(rt; store.read(&Cell::Mark { n: 2 }, &mut byte).is_ok() && byte == [1]);
-    assert!(rt; store.read(&Cell::Mark { n: 3 }, &mut byte).is_ok() && byte == [0]);
+    for (n, mark) in [(1, 0), (2, 1), (3, 0)] {
+        assert!(rt; store.read(&Cell::Mark { n }, &mut byte).is_ok() && byte == [mark]);
+    }
+}
+
+#[test]
+fn a_synced_cell_is_read_by_a_new_store(rt: HostRuntime) {
+    enter(&rt, "synced").expect(&rt, "a folder");
+    let alloc = rt.alloc();
+    expect_written(&rt, &mut FileStore::new(&rt, alloc));
+    expect_read_back(&rt, &mut FileStore::new(&rt, alloc));
     // the files themselves: slot 3 ends at byte 16,384, and mark 2 stands at byte 1,536
     let disk = fs::read(&rt, "a.disk").expect(&rt, "a file");
     assert!(rt; disk.len() == 16384);
@@ -116,40 +122,72 @@ fn more_disks_than_open_files(rt: HostRuntime) {
     leave(&rt, "many").expect(&rt, "a folder");
 }
 
+/// Asserts that a link which leads nowhere reads as zeros, and that no file is made through it.
+fn expect_no_link<H: Abort + AllocGlobal + Files, R: Files<File = File> + Eprint>(
+    rt: &H,
+    store: &mut FileStore<'_, R>,
+    cell: &Cell,
+) {
+    assert!(rt; has(store, cell, 0));
+    assert!(rt; !put(store, cell, 1));
+    assert!(rt; fs::exists(rt, "nowhere").is_ok_and(|is| !is));
+}
+
+/// Asserts that a store reads a slot that is not there yet, and writes nothing since the journal is another's.
+fn expect_nothing_written<H: Abort + AllocGlobal + Files, R: Files<File = File> + Eprint>(
+    rt: &H,
+    store: &mut FileStore<'_, R>,
+    cell: &Cell,
+) {
+    assert!(rt; has(store, cell, 0));
+    assert!(rt; !put(store, cell, 1));
+    assert!(rt; store.sync().is_err());
+    assert!(rt; fs::exists(rt, "a.disk").is_ok_and(|is| !is));
+}
+
+/// Asserts that a slot is written over, and that each call fails after a sync that does.
+fn expect_broken<R: Files<File = File> + Eprint>(
+    rt: &impl Abort,
+    store: &mut FileStore<'_, R>,
+    cell: &Cell,
+    unsynced: &Cell,
+) {
+    assert!(rt; put(store, cell, 1));
+    assert!(rt; store.sync().is_ok());
+    assert!(rt; put(store, unsynced, 1));
+    assert!(rt; store.sync().is_err());
+    assert!(rt; !has(store, cell, 1));
+    assert!(rt; !put(store, cell, 2));
+    assert!(rt; store.ended().is_err());
+    assert!(rt; store.sync().is_err());
+}
+
+/// Asserts that a slot holds what was synced, and can be written over.
+fn expect_mended<R: Files<File = File> + Eprint>(
+    rt: &impl Abort,
+    store: &mut FileStore<'_, R>,
+    cell: &Cell,
+) {
+    assert!(rt; has(store, cell, 1));
+    assert!(rt; put(store, cell, 2));
+    assert!(rt; has(store, cell, 2));
+    assert!(rt; store.sync().is_ok());
+}
+
 #[test]
 fn what_is_refused(rt: HostRuntime) {
     enter(&rt, "refused").expect(&rt, "a folder");
     let alloc = rt.alloc();
     let (a, b, c) = (slot_of(b"a", 0), slot_of(b"b", 0), slot_of(b"c", 0));
     assert!(rt; symlink(&rt, "nowhere", "b.disk").is_ok());
+    // what can't be synced
     assert!(rt; symlink(&rt, "/dev/null", "c.disk").is_ok());
     let mut store = FileStore::new(&rt, alloc);
-    // a link that leads nowhere reads as zeros, and no file is made through it
-    assert!(rt; has(&mut store, &b, 0));
-    assert!(rt; !put(&mut store, &b, 1));
-    assert!(rt; fs::exists(&rt, "nowhere").is_ok_and(|is| !is));
+    expect_no_link(&rt, &mut store, &b);
     // the journal is this store's now
-    {
-        let mut other = FileStore::new(&rt, alloc);
-        assert!(rt; has(&mut other, &a, 0));
-        assert!(rt; !put(&mut other, &a, 1));
-        assert!(rt; other.sync().is_err());
-        assert!(rt; fs::exists(&rt, "a.disk").is_ok_and(|is| !is));
-    }
-    assert!(rt; put(&mut store, &a, 1));
-    assert!(rt; store.sync().is_ok());
-    // what can't be synced: from then on each call fails
-    assert!(rt; put(&mut store, &c, 1));
-    assert!(rt; store.sync().is_err());
-    assert!(rt; !has(&mut store, &a, 1));
-    assert!(rt; !put(&mut store, &a, 2));
-    assert!(rt; store.ended().is_err());
-    assert!(rt; store.sync().is_err());
+    expect_nothing_written(&rt, &mut FileStore::new(&rt, alloc), &a);
+    expect_broken(&rt, &mut store, &a, &c);
     drop(store);
-    let mut store = FileStore::new(&rt, alloc);
-    assert!(rt; has(&mut store, &a, 1));
-    assert!(rt; put(&mut store, &a, 2));
-    assert!(rt; has(&mut store, &a, 2));
-    assert!(rt; store.sync().is_ok());
+    expect_mended(&rt, &mut FileStore::new(&rt, alloc), &a);
     leave(&rt, "refused").expect(&rt, "a folder");
 }

@@ -6,6 +6,8 @@ use std::alloc::Global;
 use std::fs::{self, Permissions};
 use std::os::unix::fs::{MetadataExt, PermissionsExt, symlink};
 use std::panic::Expect;
+use std::process::Abort;
+use std::rt::Files;
 
 #[test]
 fn files_in_memory(rt: HostRuntime) {
@@ -80,6 +82,37 @@ fn fault(folder: &mut impl Folder, alloc: Global, name: &str) -> Option<LoadFaul
     folder.load(alloc, name, 100).err()
 }
 
+/// Saves files, and asserts that they are loaded back.
+fn expect_loaded_back<R: Abort + AllocGlobal + Files>(
+    rt: &R,
+    alloc: Global,
+    folder: &mut impl Folder,
+    long: &[u8],
+) {
+    assert!(rt; folder.save("long", long).is_ok());
+    assert!(rt; folder.save("empty", b"").is_ok());
+    assert!(rt; fs::create_dir(rt, "inner").is_ok());
+    assert!(rt; folder.save("inner/file", b"some bytes").is_ok());
+    assert!(rt; holds(folder, alloc, "long", long));
+    assert!(rt; holds(folder, alloc, "empty", b""));
+    assert!(rt; holds(folder, alloc, "inner/file", b"some bytes"));
+}
+
+/// Asserts that what is no file is not loaded, and that what is no file or was loaded is not saved.
+fn expect_faults(rt: &impl Abort, alloc: Global, folder: &mut impl Folder) {
+    for (name, wanted) in [
+        ("nothing", LoadFault::Missing),
+        ("nothing/file", LoadFault::Missing),
+        ("inner", LoadFault::Failed),
+        ("long/file", LoadFault::Failed),
+    ] {
+        assert_eq!(rt; fault(folder, alloc, name), Some(wanted));
+    }
+    for name in ["nothing/file", "inner", "long/file", "long", ""] {
+        assert_eq!(rt; folder.save(name, b"x"), Err(SaveFailed));
+    }
+}
+
 #[test]
 fn files_are_loaded_back(rt: HostRuntime) {
     enter(&rt, "loaded_back").expect(&rt, "a folder");
@@ -89,37 +122,43 @@ fn files_are_loaded_back(rt: HostRuntime) {
     for i in 0..10000u32 {
         assert!(rt; long.push((i % 251) as u8).is_ok());
     }
-    assert!(rt; folder.save("long", &long).is_ok());
-    assert!(rt; folder.save("empty", b"").is_ok());
-    assert!(rt; fs::create_dir(&rt, "inner").is_ok());
-    assert!(rt; folder.save("inner/file", b"some bytes").is_ok());
-    assert!(rt; holds(&mut folder, alloc, "long", &long));
-    assert!(rt; holds(&mut folder, alloc, "empty", b""));
-    assert!(rt; holds(&mut folder, alloc, "inner/file", b"some bytes"));
-    assert_eq!(rt;
-        fault(&mut folder, alloc, "nothing"),
-        Some(LoadFault::Missing)
-    );
-    assert_eq!(rt;
-        fault(&mut folder, alloc, "nothing/file"),
-        Some(LoadFault::Missing)
-    );
-    assert_eq!(rt; fault(&mut folder, alloc, "inner"), Some(LoadFault::Failed));
-    assert_eq!(rt;
-        fault(&mut folder, alloc, "long/file"),
-        Some(LoadFault::Failed)
-    );
-    for name in ["nothing/file", "inner", "long/file", "long", ""] {
-        assert!(rt;
-            folder
-                .save(name, b"x")
-                .is_err_and(|failed| failed == SaveFailed)
-        );
-    }
+    expect_loaded_back(&rt, alloc, &mut folder, &long);
+    expect_faults(&rt, alloc, &mut folder);
     assert!(rt; holds(&mut folder, alloc, "long", &long));
     long.truncate(9999);
     assert!(rt; first_are(&mut folder, alloc, "long", 9999, &long));
     leave(&rt, "loaded_back").expect(&rt, "a folder");
+}
+
+/// Saves over a file, and asserts that it keeps its permissions and that nothing is left beside it.
+fn expect_replaced<R: Abort + AllocGlobal + Files>(
+    rt: &R,
+    alloc: Global,
+    folder: &mut impl Folder,
+) {
+    assert!(rt; fs::set_permissions(rt, "saved", Permissions::from_mode(0o600)).is_ok());
+    assert!(rt; fs::write(rt, "saved.new.mig", b"left by a crash").is_ok());
+    assert!(rt; folder.save("saved", b"fewer").is_ok());
+    assert!(rt; folder.save("./saved", b"over").is_err());
+    assert!(rt; fs::metadata(rt, "saved").is_ok_and(|found| found.mode() & 0o777 == 0o600));
+    assert!(rt; fs::exists(rt, "saved.new.mig").is_ok_and(|is| !is));
+    assert!(rt; holds(folder, alloc, "saved", b"fewer"));
+}
+
+/// Asserts that a file that was loaded is saved over by none of its names.
+fn expect_kept<R: Abort + AllocGlobal + Files>(rt: &R, alloc: Global, folder: &mut impl Folder) {
+    assert!(rt; symlink(rt, "saved", "link").is_ok());
+    assert!(rt; fs::hard_link(rt, "saved", "second_name").is_ok());
+    for name in ["saved", "./saved", "link", "second_name"] {
+        assert!(rt; folder.save(name, b"over").is_err());
+    }
+    assert!(rt; holds(folder, alloc, "saved", b"fewer"));
+}
+
+/// Asserts that a file is written where a link leads.
+fn expect_in_place(rt: &impl Abort, alloc: Global, folder: &mut impl Folder, bytes: &[u8]) {
+    assert!(rt; folder.save("to_other", bytes).is_ok());
+    assert!(rt; holds(folder, alloc, "other", bytes));
 }
 
 #[test]
@@ -132,27 +171,15 @@ fn files_are_saved_whole(rt: HostRuntime) {
             .is_ok()
     );
     let mut folder = DirFolder::new(&rt, alloc);
-    assert!(rt; fs::set_permissions(&rt, "saved", Permissions::from_mode(0o600)).is_ok());
-    assert!(rt; fs::write(&rt, "saved.new.mig", b"left by a crash").is_ok());
-    assert!(rt; folder.save("saved", b"fewer").is_ok());
-    assert!(rt; folder.save("./saved", b"over").is_err());
-    assert!(rt; fs::metadata(&rt, "saved").is_ok_and(|found| found.mode() & 0o777 == 0o600));
-    assert!(rt; fs::exists(&rt, "saved.new.mig").is_ok_and(|is| !is));
-    assert!(rt; holds(&mut folder, alloc, "saved", b"fewer"));
-    assert!(rt; symlink(&rt, "saved", "link").is_ok());
-    assert!(rt; fs::hard_link(&rt, "saved", "second_name").is_ok());
-    for name in ["saved", "./saved", "link", "second_name"] {
-        assert!(rt; folder.save(name, b"over").is_err());
-    }
-    assert!(rt; holds(&mut folder, alloc, "saved", b"fewer"));
-    assert!(rt; symlink(&rt, "other", "to_other").is_ok());
-    for bytes in [b"in place".as_slice(), b"shorter"] {
-        let mut folder = DirFolder::new(&rt, alloc);
-        assert!(rt; folder.save("to_other", bytes).is_ok());
-        assert!(rt; holds(&mut folder, alloc, "other", bytes));
-    }
-    assert!(rt; fs::symlink_metadata(&rt, "to_other").is_ok_and(|found| found.is_symlink()));
+    expect_replaced(&rt, alloc, &mut folder);
+    expect_kept(&rt, alloc, &mut folder);
     assert!(rt; folder.save("/dev/full", b"x").is_err());
     assert!(rt; folder.save("/dev/null", b"x").is_ok());
+    drop(folder);
+    assert!(rt; symlink(&rt, "other", "to_other").is_ok());
+    for bytes in [b"in place".as_slice(), b"shorter"] {
+        expect_in_place(&rt, alloc, &mut DirFolder::new(&rt, alloc), bytes);
+    }
+    assert!(rt; fs::symlink_metadata(&rt, "to_other").is_ok_and(|found| found.is_symlink()));
     leave(&rt, "saved_whole").expect(&rt, "a folder");
 }

@@ -150,6 +150,15 @@ fn told(event: &Event) -> (bool, u32) {
     }
 }
 
+// Asserts that both copies of a disk began, ended in this order, and were synced.
+fn expect_copied(rt: &impl Abort, store: &MemStore, disk: Name, ended: [u32; 2]) {
+    let events = [(true, 2), (true, 3), (false, ended[0]), (false, ended[1])];
+    assert!(rt; store.events().iter().map(told).eq(events));
+    assert!(rt; store.syncs() == 1);
+    assert!(rt; store.cell(&slot(disk, 3)) == Some([9; 4096].as_slice()));
+    assert!(rt; store.cell(&slot(disk, 2)) == Some([0; 4096].as_slice()));
+}
+
 #[test]
 fn copies_end_in_order(rt: HostRuntime) {
     let alloc = rt.alloc();
@@ -159,12 +168,7 @@ fn copies_end_in_order(rt: HostRuntime) {
         (EndOrder::Last, 3, 2),
         (EndOrder::Turns, 3, 2),
     ] {
-        let store = copied(&rt, alloc, disk, order);
-        let ends = [(true, 2), (true, 3), (false, first), (false, last)];
-        assert!(rt; store.events().iter().map(told).eq(ends));
-        assert!(rt; store.syncs() == 1);
-        assert!(rt; store.cell(&slot(disk, 3)) == Some([9; 4096].as_slice()));
-        assert!(rt; store.cell(&slot(disk, 2)) == Some([0; 4096].as_slice()));
+        expect_copied(&rt, &copied(&rt, alloc, disk, order), disk, [first, last]);
     }
 }
 

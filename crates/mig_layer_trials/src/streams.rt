@@ -1,8 +1,10 @@
 //! Readers and writers that move a byte a call, are interrupted, or fail on the way.
 
 use mig_io::{read_first, write_whole};
+use std::alloc::Global;
 use std::io::{self, ErrorKind, Read, Write};
 use std::panic::Expect;
+use std::process::Abort;
 
 /// A reader and a writer that moves at most one byte a call, and does at each call what the script says: `1` moves one, `0` none, `i` is interrupted, `x` fails. After the script each call moves one.
 #[derive(Drop)]
@@ -64,6 +66,25 @@ impl Write for Scripted {
     }
 }
 
+/// The first bytes of a reader that follows the script, where it doesn't fail.
+fn first_bytes(
+    rt: &impl Abort,
+    alloc: Global,
+    script: &'static [u8],
+    most: usize,
+) -> Option<Vec<u8>> {
+    let bytes = Vec::from_slice(alloc, b"abcde").expect(rt, "ample memory");
+    let mut file = Scripted::new(script, bytes);
+    read_first(alloc, &mut file, most).ok()
+}
+
+/// Whether a writer that follows the script takes all bytes, and those that it took.
+fn written_bytes(alloc: Global, script: &'static [u8]) -> (bool, Vec<u8>) {
+    let mut out = Scripted::new(script, Vec::new(alloc));
+    let is_whole = write_whole(&mut out, b"abcde").is_ok();
+    (is_whole, out.bytes)
+}
+
 #[test]
 fn one_byte_a_call(rt: HostRuntime) {
     let alloc = rt.alloc();
@@ -78,10 +99,8 @@ fn one_byte_a_call(rt: HostRuntime) {
         (b"11x", 10, None),
     ];
     for (script, most, wanted) in reads {
-        let bytes = Vec::from_slice(alloc, b"abcde").expect(&rt, "ample memory");
-        let mut file = Scripted::new(script, bytes);
-        let got = read_first(alloc, &mut file, most);
-        assert!(rt; got.as_ref().ok().map(|bytes| bytes.as_slice()) == wanted);
+        let got = first_bytes(&rt, alloc, script, most);
+        assert!(rt; got.as_ref().map(|bytes| bytes.as_slice()) == wanted);
     }
     let writes: [(&'static [u8], bool, &'static [u8]); 5] = [
         (b"", true, b"abcde"),
@@ -91,8 +110,7 @@ fn one_byte_a_call(rt: HostRuntime) {
         (b"0", false, b""),
     ];
     for (script, whole, written) in writes {
-        let mut out = Scripted::new(script, Vec::new(alloc));
-        assert_eq!(rt; write_whole(&mut out, b"abcde").is_ok(), whole);
-        assert_eq!(rt; out.bytes.as_slice(), written);
+        let (is_whole, bytes) = written_bytes(alloc, script);
+        assert!(rt; is_whole == whole && bytes.as_slice() == written);
     }
 }
