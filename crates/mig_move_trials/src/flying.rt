@@ -69,7 +69,7 @@ fn the_copies_of_a_round_are_in_flight_together(rt: HostRuntime) {
 // items and three targets, writes two marks and the head, syncs, writes the gate, syncs, and begins the first copy.
 const SECOND_BEGIN: u64 = 22;
 
-// Asserts that a start stops there, and that a resume carries out both rounds.
+// Asserts that a start stops where its second copy cannot begin, and that a resume carries out both rounds.
 fn expect_made_up_for(rt: &impl Abort, job: &Job, store: &mut MemStore) {
     assert!(rt; start_lanes(job, store) == Err(MoveFault::Store));
     assert!(rt; tells(store, &[(true, 0)]));

@@ -117,8 +117,7 @@ fn closes(rt: &impl Abort, job: &Job, store: &mut MemStore) -> (Result<u32, Move
     (found, holds(store, after))
 }
 
-// The same for that case, where its start stops after so many writes and a
-// crash leaves the new bytes.
+// The same for that case, where its start stops after so many writes and a crash leaves the new bytes.
 fn halts_twice(rt: &impl Abort, alloc: Global, writes: u64) -> (Result<u32, MoveFault>, bool) {
     let job = job_of(rt, alloc, &LEFT_TWICE);
     let mut store = filled(rt, alloc, &job, LEFT_TWICE.before, Vec::new(alloc));
