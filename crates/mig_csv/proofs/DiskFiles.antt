@@ -171,3 +171,10 @@ map-name (r ∷ rs) = ap (λ ns. first r ∷ ns) (map-name rs)
 -- the names are those of the disks
 pub ReadSoFar-names : {bytes : List ℕ} {left : List Row} {names : List (List ℕ)} {disks : List Disk} → ReadSoFar bytes left names disks → names ≡ map (λ (d : Disk). d.name) disks
 ReadSoFar-names s = s.named ∙ map-name s.done ∙ ap (map (λ (d : Disk). d.name)) (sym s.listed)
+
+-- the disks are those of the rows of a file that was read to its end
+pub ReadSoFar-value : {bytes : List ℕ} {left : List Row} {names : List (List ℕ)} {disks : List Disk} → ReadSoFar bytes left names disks → left ≡ [] → disks ≡ map disk_of (rows_of bytes)
+ReadSoFar-value {bytes} s e = s.listed ∙ ap (map disk_of) (sym (rows (header_of file.Disks) bytes s.done (rw (e, append-nil) at s.records)))
+
+pub ReadSoFar-few : {bytes : List ℕ} {left : List Row} {names : List (List ℕ)} {disks : List Disk} → ReadSoFar bytes left names disks → length disks ≤ MAX_DISKS
+ReadSoFar-few s = rw (s.listed, length-map) s.few

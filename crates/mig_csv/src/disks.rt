@@ -1,15 +1,17 @@
 //! The disks file.
-ghost use Rattle.std.specs.Prelude.{◌≡◌, ◌≤◌, ◌++◌, ◌∷◌, [], Contains, IfErr, IfOk, OnOk, length, map, ℕ};
+ghost use Rattle.std.specs.Prelude.{◌≡◌, ◌≤◌, ◌++◌, ◌∷◌, [], Contains, IfErr, IfOk, List, OnOk, length, map, ℕ};
 ghost use Rattle.csv.specs.Records.{fields_of};
 ghost use Rattle.mig_base.specs.Refusals.{DisksRowFault, IsFirstCause};
 ghost use Rattle.mig_base.specs.Rows.{disk_of, rows_of};
 ghost use Rattle.mig_base.specs.declared.faults.FileKind.TheVariants as file;
 ghost use Rattle.mig_base.specs.declared.faults.Why.{Why};
+ghost use Rattle.mig_csv.specs.Listed.{ListsDisks};
+ghost use Rattle.mig_csv.specs.Opened.{IsOpened};
 ghost use Rattle.mig_csv.specs.Refusals.{DisksFault, IsRefusalOf};
 
 use crate::errors::{InputError, refused};
 use crate::files::rows_after_header;
-use crate::rows::field;
+use crate::rows::{Records, field};
 use csv::ByteRecord;
 use mig_base::{Disk, FileKind, MAX_DISKS, MAX_LIMIT, MAX_SLOTS, Name, Why, read_digits};
 use mig_names::NameTable;
@@ -57,8 +59,24 @@ pub(crate) fn read_disks(alloc: Global, bytes: &[u8]) -> Result<DiskList, InputE
     let mut row = ByteRecord::new(alloc);
     let mut records = rows_after_header(alloc, FileKind::Disks, bytes, &mut row)?;
     let mut listed = DiskList::new(alloc);
-    'rows: while records.read(&mut row)? {
-        match read_disk(&listed.names, &row) {
+    add_disks(&mut records, &mut row, &mut listed)?;
+    Ok(listed)
+}
+
+/// Adds the disks that the rows after the header of a disks file list to a list without disks. `row` is a buffer.
+fn add_disks(
+    records: &mut Records<'_>,
+    row: &mut ByteRecord,
+    listed: &mut DiskList,
+) -> Result<(), InputError>
+    requires opened { (bytes : List ℕ) × IsOpened file.Disks bytes records.old }
+    requires no_names { listed.old.names ≡ [] }
+    requires no_disks { listed.old.disks.items ≡ [] }
+    ensures listed { IfOk result (λ _. (bytes : List ℕ) → IsOpened file.Disks bytes records.old → ListsDisks bytes listed.new) }
+    ensures fault { IfErr result (λ e. (bytes : List ℕ) → IsOpened file.Disks bytes records.old → IsRefusalOf file.Disks (DisksFault bytes) e) }
+{
+    'rows: while records.read(row)? {
+        match read_disk(&listed.names, row) {
             Ok(disk) => {
                 if listed.push(disk).is_err() {
                     return Err(InputError::Memory);
@@ -67,7 +85,7 @@ pub(crate) fn read_disks(alloc: Global, bytes: &[u8]) -> Result<DiskList, InputE
             Err(why) => return Err(refused(FileKind::Disks, listed.names.len() as u32 + 1, why)),
         }
     }
-    Ok(listed)
+    Ok(())
 }
 
 /// The disk that a row lists, or the first cause that holds of it after rows of these names.

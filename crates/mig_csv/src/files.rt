@@ -1,7 +1,8 @@
 //! The header of a file, and what comes after it.
-ghost use Rattle.std.specs.Prelude.{◌≡◌, ◌∷◌, ◌≤◌, ◌↔◌, IfErr, IfOk, IsTrue, length, map};
+ghost use Rattle.std.specs.Prelude.{◌≡◌, ◌↔◌, IfErr, IfOk, IsTrue, map};
 ghost use Rattle.csv.specs.Records.{fields_of};
-ghost use Rattle.mig_base.specs.Rows.{header_of, records_of};
+ghost use Rattle.mig_base.specs.Rows.{header_of};
+ghost use Rattle.mig_csv.specs.Opened.{IsOpened};
 ghost use Rattle.mig_csv.specs.Refusals.{RefusesHeader};
 
 use crate::errors::{InputError, refused};
@@ -17,8 +18,7 @@ pub(crate) fn rows_after_header<'a>(
     bytes: &'a [u8],
     row: &mut ByteRecord,
 ) -> Result<Records<'a>, InputError>
-    ensures short { IfOk result (λ _. length bytes.now ≤ MAX_FILE_BYTES) }
-    ensures rows { IfOk result (λ rows. records_of bytes.now ≡ header_of file ∷ rows) }
+    ensures opened { IfOk result (IsOpened file bytes.now) }
     ensures refused { IfErr result (RefusesHeader file bytes.now) }
 {
     if bytes.len() > MAX_FILE_BYTES {

@@ -1,5 +1,5 @@
 //! The now file: the items and where they are.
-ghost use Rattle.std.specs.Prelude.{◌≡◌, ◌≤◌, ◌++◌, ◌∷◌, [], All, Contains, IfErr, IfOk, OnOk, length, map, ℕ};
+ghost use Rattle.std.specs.Prelude.{◌≡◌, ◌≤◌, ◌++◌, ◌∷◌, [], All, Contains, IfErr, IfOk, List, OnOk, length, map, ℕ};
 ghost use Rattle.std.specs.List.{AllZip};
 ghost use Rattle.csv.specs.Records.{fields_of};
 ghost use Rattle.mig_base.specs.Refusals.{IsFirstCause, IsSpotNamed, NowRowFault};
@@ -8,12 +8,14 @@ ghost use Rattle.mig_base.specs.Rows.{first, rows_of};
 ghost use Rattle.mig_base.specs.declared.faults.FileKind.TheVariants as file;
 ghost use Rattle.mig_base.specs.declared.faults.Why.{Why};
 ghost use Rattle.mig_csv.specs.Places.{place_in};
+ghost use Rattle.mig_csv.specs.Opened.{IsOpened};
+ghost use Rattle.mig_csv.specs.Listed.{ListsItems};
 ghost use Rattle.mig_csv.specs.Refusals.{IsRefusalOf, NowFault};
 
 use crate::disks::DiskList;
 use crate::errors::{InputError, refused};
 use crate::files::rows_after_header;
-use crate::rows::field;
+use crate::rows::{Records, field};
 use csv::ByteRecord;
 use mig_base::{DiskId, FileKind, MAX_DISKS, MAX_ITEMS, Name, Spot, Why, read_digits};
 use mig_names::{NameTable, SpotTable};
@@ -85,8 +87,29 @@ pub(crate) fn read_now(alloc: Global, bytes: &[u8], disks: &DiskList) -> Result<
     let Ok(mut layout) = Layout::with_capacity(alloc, likely_rows(bytes.len())) else {
         return Err(InputError::Memory);
     };
-    'rows: while records.read(&mut row)? {
-        match read_item(disks, &layout.names, &layout.taken, &row) {
+    add_items(&mut records, &mut row, disks, &mut layout)?;
+    Ok(layout)
+}
+
+/// Adds the items that the rows after the header of a now file list to a layout without items. `row` is a buffer.
+fn add_items(
+    records: &mut Records<'_>,
+    row: &mut ByteRecord,
+    disks: &DiskList,
+    layout: &mut Layout,
+) -> Result<(), InputError>
+    requires named { disks.now.names ≡ map (λ d. d.name) disks.now.disks.items }
+    requires few { length disks.now.disks.items ≤ MAX_DISKS }
+    requires opened { (bytes : List ℕ) × IsOpened file.Now bytes records.old }
+    requires no_names { layout.old.names ≡ [] }
+    requires no_taken { layout.old.taken ≡ [] }
+    requires no_items { layout.old.items.items ≡ [] }
+    requires no_spots { layout.old.spots.items ≡ [] }
+    ensures listed { IfOk result (λ _. (bytes : List ℕ) → IsOpened file.Now bytes records.old → ListsItems bytes disks.now.disks.items layout.new) }
+    ensures fault { IfErr result (λ e. (bytes : List ℕ) → IsOpened file.Now bytes records.old → IsRefusalOf file.Now (NowFault disks.now.disks.items bytes) e) }
+{
+    'rows: while records.read(row)? {
+        match read_item(disks, &layout.names, &layout.taken, row) {
             Ok(found) => {
                 if layout.push(found).is_err() {
                     return Err(InputError::Memory);
@@ -95,7 +118,7 @@ pub(crate) fn read_now(alloc: Global, bytes: &[u8], disks: &DiskList) -> Result<
             Err(why) => return Err(refused(FileKind::Now, layout.names.len() as u32 + 1, why)),
         }
     }
-    Ok(layout)
+    Ok(())
 }
 
 /// How many rows a now file of so many bytes may well have: few have rows of fewer than eight.

@@ -1,5 +1,5 @@
 //! The next file: the disks that the items are to go to.
-ghost use Rattle.std.specs.Prelude.{◌≡◌, ◌<◌, ◌≤◌, List, None, Some, IfErr, IfOk, MatchBool, length, map, slice_get, ℕ};
+ghost use Rattle.std.specs.Prelude.{◌≡◌, ◌<◌, ◌≤◌, List, None, Some, IfErr, IfOk, MatchBool, length, map, replicate, slice_get, ℕ};
 ghost use Rattle.std.specs.Option.{IfSome, IsSomeAnd};
 ghost use Rattle.csv.specs.Records.{fields_of};
 ghost use Rattle.mig_base.specs.Refusals.{IsFirstCause, NextRowFault};
@@ -8,13 +8,15 @@ ghost use Rattle.mig_base.specs.Rows.{first, rows_of, second};
 ghost use Rattle.mig_base.specs.declared.faults.FileKind.TheVariants as file;
 ghost use Rattle.mig_base.specs.declared.faults.Why.{Why};
 ghost use Rattle.mig_base.specs.declared.ids.DiskId.{DiskId};
+ghost use Rattle.mig_csv.specs.Listed.{ListsNext};
 ghost use Rattle.mig_csv.specs.Lists.{AreNextOf, AreSeen};
+ghost use Rattle.mig_csv.specs.Opened.{IsOpened};
 ghost use Rattle.mig_csv.specs.Refusals.{IsRefusalOf, NextFault};
 
 use crate::disks::DiskList;
 use crate::errors::{InputError, refused};
 use crate::files::rows_after_header;
-use crate::rows::field;
+use crate::rows::{Records, field};
 use csv::ByteRecord;
 use mig_base::{DiskId, FileKind, MAX_DISKS, MAX_ITEMS, Name, Why};
 use mig_names::NameTable;
@@ -42,12 +44,31 @@ pub(crate) fn read_next(
 {
     let mut row = ByteRecord::new(alloc);
     let mut records = rows_after_header(alloc, FileKind::Next, bytes, &mut row)?;
-    let mut seen = 0;
     let Ok(mut next) = vec![in alloc; None; present.len()] else {
         return Err(InputError::Memory);
     };
-    'rows: while records.read(&mut row)? {
-        match read_way(disks, present, &next, seen, &row) {
+    set_next(&mut records, &mut row, disks, present, &mut next)?;
+    Ok(next)
+}
+
+/// Sets the next disks that the rows after the header of a next file give, where none is set. `row` is a buffer.
+fn set_next(
+    records: &mut Records<'_>,
+    row: &mut ByteRecord,
+    disks: &DiskList,
+    present: &NameTable,
+    next: &mut Vec<Option<DiskId>>,
+) -> Result<(), InputError>
+    requires named { disks.now.names ≡ map (λ d. d.name) disks.now.disks.items }
+    requires few { length disks.now.disks.items ≤ MAX_DISKS }
+    requires opened { (bytes : List ℕ) × IsOpened file.Next bytes records.old }
+    requires none { next.old.items ≡ replicate (length present.now) None }
+    ensures listed { IfOk result (λ _. (bytes : List ℕ) → IsOpened file.Next bytes records.old → ListsNext disks.now.disks.items present.now bytes next.new.items) }
+    ensures fault { IfErr result (λ e. (bytes : List ℕ) → IsOpened file.Next bytes records.old → IsRefusalOf file.Next (NextFault disks.now.disks.items present.now bytes) e) }
+{
+    let mut seen = 0;
+    'rows: while records.read(row)? {
+        match read_way(disks, present, next, seen, row) {
             Ok(way) => {
                 next[way.item] = Some(way.disk);
                 seen += 1;
@@ -55,7 +76,7 @@ pub(crate) fn read_next(
             Err(why) => return Err(refused(FileKind::Next, seen as u32 + 1, why)),
         }
     }
-    Ok(next)
+    Ok(())
 }
 
 /// Whether the item at a place, if there is one, has a next disk.

@@ -1,0 +1,5 @@
+use Rattle.std.proofs.Common.{rules}
+use Rattle.mig_csv.proofs.files.is_header.Goals as goal
+
+pub returns-in-Next : goal.returns-in-Next
+returns-in-Next c = search rules

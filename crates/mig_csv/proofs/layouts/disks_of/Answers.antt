@@ -1,0 +1,6 @@
+use Rattle.std.proofs.Common.{arith}
+use Rattle.std.proofs.lemmas.Grind.{common_steps}
+use Rattle.mig_csv.proofs.layouts.disks_of.Goals as goal
+
+pub loop-spot-preserved : goal.loop-spot-preserved
+loop-spot-preserved c = grind (arith, common_steps)
