@@ -1,8 +1,10 @@
 //! `halt`: closes a migration where it stands, with the layout that it has there.
-ghost use Rattle.std.specs.Prelude.{◌≤◌, IfErr, OnOk, length};
+ghost use Rattle.std.specs.Prelude.{◌≡◌, ◌≤◌, IfErr, OnOk, length};
+ghost use Rattle.mig_io.specs.Files.{FolderState};
 ghost use Rattle.mig_top.specs.Calls.{call, world};
 ghost use Rattle.mig_top.specs.Ends.{FormEndsAs};
 ghost use Rattle.mig_top.specs.HaltLeaves.{SaveEnds, SavesLayout};
+ghost use Rattle.mig_top.specs.MoveLeaves.{AreOfTask};
 ghost use Rattle.mig_words.specs.Words.{Halt};
 
 use crate::layout_texts::layout_text;
@@ -30,7 +32,35 @@ fn save_layout<F: Folder>(
     Ok(())
 }
 
-/// `halt`, with its text. Once the layout is saved it takes no memory.
+/// Closes the migration of a job that was loaded from the folder, with the text of `halt`. Once the layout is saved it
+/// takes no memory.
+fn close<F: Folder, K: Sink, S: Store>(
+    alloc: Global,
+    folder: &mut F,
+    out: &mut K,
+    store: &mut S,
+    job: &Job,
+    files: PlanFiles<'_>,
+    layout: &str,
+) -> u8
+    ensures { (before : FolderState) → AreOfTask before files.entry.disks.now files.entry.now.now files.entry.next.now files.entry.plan.now job.now → (F.state folder.old).files ≡ before.files → before.faults ≤ (F.state folder.old).faults
+        → FormEndsAs (call (world before (K.state out.old) (S.state store.old)) (world (F.state folder.new) (K.state out.new) (S.state store.new))) (Halt files.entry.disks.now files.entry.now.now files.entry.next.now files.entry.plan.now layout.now) result }
+{
+    let names = [files.disks, files.now, files.next, files.plan];
+    let found = match stand(job, store) {
+        Ok(found) => found,
+        Err(fault) => return tell(out, fault_ending(job.input(), fault), &names),
+    };
+    if let Err(ending) = save_layout(alloc, folder, job, found, layout) {
+        return tell(out, ending, &names);
+    }
+    match halt(job, store, found) {
+        Ok(()) => show_halted(out, job.rounds(), found),
+        Err(fault) => tell(out, fault_ending(job.input(), fault), &names),
+    }
+}
+
+/// `halt`, with its text.
 pub fn run_halt<F: Folder, K: Sink, S: Store>(
     alloc: Global,
     folder: &mut F,
@@ -41,20 +71,12 @@ pub fn run_halt<F: Folder, K: Sink, S: Store>(
 ) -> u8
     ensures { FormEndsAs (call (world (F.state folder.old) (K.state out.old) (S.state store.old)) (world (F.state folder.new) (K.state out.new) (S.state store.new))) (Halt files.entry.disks.now files.entry.now.now files.entry.next.now files.entry.plan.now layout.now) result }
 {
-    let names = [files.disks, files.now, files.next, files.plan];
-    let job = match load_job(alloc, folder, files) {
-        Ok(job) => job,
-        Err(ending) => return tell(out, ending, &names),
-    };
-    let found = match stand(&job, store) {
-        Ok(found) => found,
-        Err(fault) => return tell(out, fault_ending(job.input(), fault), &names),
-    };
-    if let Err(ending) = save_layout(alloc, folder, &job, found, layout) {
-        return tell(out, ending, &names);
-    }
-    match halt(&job, store, found) {
-        Ok(()) => show_halted(out, job.rounds(), found),
-        Err(fault) => tell(out, fault_ending(job.input(), fault), &names),
+    match load_job(alloc, folder, files) {
+        Ok(job) => close(alloc, folder, out, store, &job, files, layout),
+        Err(ending) => tell(
+            out,
+            ending,
+            &[files.disks, files.now, files.next, files.plan],
+        ),
     }
 }
