@@ -8,6 +8,7 @@ use Rattle.std.proofs.lemmas.List.FromFn.{get_or-map-range_with_len, length-map-
 use Rattle.mig_base.specs.declared.ids.DiskId.{DiskId}
 use Rattle.mig_base.specs.declared.ids.Spot.{Spot}
 use Rattle.mig_base.specs.declared.inputs.Disk.{Disk}
+use Rattle.mig_base.specs.declared.limits.TheConstants.{MAX_ITEMS, MAX_SLOTS}
 use Rattle.mig_base.specs.declared.names.Name.{Name}
 use Rattle.mig_base.specs.InputLists.{IsInput, IsDiskInRange, IsSpotOf, Lists, no_disk}
 use Rattle.mig_base.specs.Naming.{IsName}
@@ -26,10 +27,10 @@ module _ (disks per_pair limit : ℕ) (size : IsCaseSize disks per_pair limit) w
   some_on_each : 1 ≤ on_each
   some_on_each = let some = size.some_disks in let many = size.some_items in grind arith
 
-  few_items : count ≤ 65536
+  few_items : count ≤ MAX_ITEMS
   few_items = let few = size.few_items in omega arith
 
-  room : 2 * on_each ≤ 65536
+  room : 2 * on_each ≤ MAX_SLOTS
   room = omega (arith, mul-le-mul_left on_each size.some_disks, few_items)
 
   abbrev by_number : Lists

@@ -1,6 +1,7 @@
 //! When the slots that a plan uses are free.
 ghost use Rattle.std.specs.Prelude.{◌≡◌, ◌≤◌, ◌++◌, [], ◌∷◌, IfOk, OnOk, length, map};
 ghost use Rattle.mig_base.specs.declared.ids.Spot.{Spot};
+ghost use Rattle.mig_base.specs.declared.limits.TheConstants.{MAX_ROUNDS};
 ghost use Rattle.mig_mover.specs.Vacancies.{round_of, left_in, ended_by, ended_in, open_of, open_in, vacancies_in};
 
 use crate::left_rounds::LeftRounds;
@@ -76,7 +77,7 @@ fn end_rounds(
     rounds: &[Round],
     vacancies: &mut Vec<Vacancy>,
 ) -> Result<(), AllocError>
-    requires few { length rounds.now ≤ 131072 }
+    requires few { length rounds.now ≤ MAX_ROUNDS }
     requires none { left.old ≡ [] }
     ensures left { OnOk result ((spot : Spot) → round_of left.new spot ≡ left_in rounds.now (length rounds.now) spot) }
     ensures ended { OnOk result (vacancies.new.items ≡ vacancies.old.items ++ ended_in rounds.now (length rounds.now)) }
@@ -96,7 +97,7 @@ fn open_rounds(
     rounds: &[Round],
     vacancies: &mut Vec<Vacancy>,
 ) -> Result<(), AllocError>
-    requires few { length rounds.now ≤ 131072 }
+    requires few { length rounds.now ≤ MAX_ROUNDS }
     requires left { (spot : Spot) → round_of left.now spot ≡ left_in rounds.now (length rounds.now) spot }
     ensures open { OnOk result (vacancies.new.items ≡ vacancies.old.items ++ open_in rounds.now (length rounds.now)) }
 {
@@ -109,7 +110,7 @@ fn open_rounds(
 
 /// The vacancies of the spots that the plan's shifts leave or go to.
 pub(crate) fn vacancies_of(alloc: Global, plan: &Plan) -> Result<Vec<Vacancy>, AllocError>
-    requires { length plan.now ≤ 131072 }
+    requires { length plan.now ≤ MAX_ROUNDS }
     ensures { IfOk result (λ vacancies. vacancies.items ≡ vacancies_in plan.now) }
 {
     let mut left = LeftRounds::new(alloc);

@@ -1,5 +1,6 @@
 //! `audit`: says of each item whether it is where a layout lists it.
 ghost use Rattle.std.specs.Prelude.{◌≡◌, ◌+◌, ◌<◌, ◌≤◌, IfErr, IfOk, codes, if◌then◌else◌, length};
+ghost use Rattle.mig_base.specs.declared.limits.TheConstants.{MAX_ITEMS};
 ghost use Rattle.mig_base.specs.Stores.{Looks};
 ghost use Rattle.mig_top.specs.Audits.{AuditStops, HasPutSight, HavePutSights, SightStops};
 ghost use Rattle.mig_top.specs.Calls.{call, world};
@@ -104,7 +105,7 @@ fn put_sight<K: Sink, S: Store>(
 
 /// One more, where an item is named.
 fn count_named(here: u32, named: bool) -> u32
-    requires { here < 65536 }
+    requires { here < MAX_ITEMS }
     ensures { result ≡ here + (if named then 1 else 0) }
 {
     if named { here + 1 } else { here }

@@ -1,6 +1,7 @@
 use Rattle.std.proofs.Common.{arith, ◌≡◌, ◌≤◌, ◌<◌, ◌+◌, ◌-◌, ◌∙◌, ap, sym, subst, length, ℕ, List, All}
 use Rattle.std.proofs.lemmas.List.{get_or_default}
 use Rattle.mig_base.specs.declared.ids.CopyId.{CopyId}
+use Rattle.mig_base.specs.declared.limits.TheConstants.{MAX_ITEMS}
 use Rattle.mig_split.specs.Copies.{ArePairs}
 use Rattle.mig_split.specs.Dealing.{count_at}
 use Rattle.mig_split.specs.Sharing.{IsShared}
@@ -8,7 +9,7 @@ use Rattle.mig_split.proofs.Shared.{AreNodes-all, AreParted-all, few_nodes}
 use Rattle.mig_split.proofs.sharing.share_nodes.Goals as goal
 
 -- nodes that stand for those of the second side fit their type
-fits : (q : ℕ) (firsts seconds ins : List CopyId) (n m : ℕ) (outs : List CopyId) → 1 ≤ q → length firsts ≤ 65536 → length seconds ≤ 65536 → IsShared q firsts n outs → IsShared q seconds m ins → (n + m < 4294967296) × All (λ c. n + c.0 < 4294967296) ins
+fits : (q : ℕ) (firsts seconds ins : List CopyId) (n m : ℕ) (outs : List CopyId) → 1 ≤ q → length firsts ≤ MAX_ITEMS → length seconds ≤ MAX_ITEMS → IsShared q firsts n outs → IsShared q seconds m ins → (n + m < 4294967296) × All (λ c. n + c.0 < 4294967296) ins
 fits q firsts seconds ins n m outs some few few' o i =
     let small : n + m < 4294967296 = omega (arith, few, few', few_nodes n q (length firsts) some o.room, few_nodes m q (length seconds) some i.room) in
     (small, λ k d h. subst (λ (c : CopyId). n + c.0 < 4294967296) (get_or_default ins k (record { 0 = 0 }) d h) (omega (arith, small, i.there k (omega (arith, h, i.one_each)))))
