@@ -1,0 +1,5 @@
+use Rattle.std.proofs.Common.{rules}
+use Rattle.mig_gen.proofs.lists.other.Goals as goal
+
+pub returns-then-number-disk : goal.returns-then-number-disk
+returns-then-number-disk c = search rules

@@ -1,0 +1,5 @@
+use Rattle.std.proofs.Common.{rules}
+use Rattle.mig_words.proofs.naming.fault_ending.Goals as goal
+
+pub returns-in-Started : goal.returns-in-Started
+returns-in-Started c = search rules
