@@ -178,3 +178,6 @@ ReadSoFar-value {bytes} s e = s.listed ∙ ap (map disk_of) (sym (rows (header_o
 
 pub ReadSoFar-few : {bytes : List ℕ} {left : List Row} {names : List (List ℕ)} {disks : List Disk} → ReadSoFar bytes left names disks → length disks ≤ MAX_DISKS
 ReadSoFar-few s = rw (s.listed, length-map) s.few
+
+pub ReadSoFar-few_names : {bytes : List ℕ} {left : List Row} {names : List (List ℕ)} {disks : List Disk} → ReadSoFar bytes left names disks → length names ≤ MAX_DISKS
+ReadSoFar-few_names s = rw (s.named, length-map) s.few

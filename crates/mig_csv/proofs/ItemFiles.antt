@@ -126,3 +126,7 @@ ItemsSoFar-few {items = items} s = let n : length items ≡ length s.done = rw (
 pub ItemsSoFar-on_disks : {bytes : List ℕ} {disks : List Disk} {left : List Row} {names : List (List ℕ)} {taken : List Spot} {items : List (List ℕ)} {spots : List Spot}
     → ItemsSoFar bytes disks left names taken items spots → All (IsSpotOf disks) spots
 ItemsSoFar-on_disks {disks = disks} s = subst (λ (ss : List Spot). All (IsSpotOf disks) ss) (sym s.spots_are) s.valid
+
+pub ItemsSoFar-few_names : {bytes : List ℕ} {disks : List Disk} {left : List Row} {names : List (List ℕ)} {taken : List Spot} {items : List (List ℕ)} {spots : List Spot}
+    → ItemsSoFar bytes disks left names taken items spots → length names ≤ MAX_ITEMS
+ItemsSoFar-few_names s = rw (s.named, length-map) s.few

@@ -1,10 +1,9 @@
-use Rattle.std.proofs.Common.{◌≡◌, arith, false, length, refl, rules}
+use Rattle.std.proofs.Common.{◌≡◌, arith, false, refl, rules}
 use Rattle.std.specs.Result.{is_err}
 use Rattle.csv.proofs.ReadFacts.{on-ok}
 use Rattle.csv.specs.Records.{fields_of}
-use Rattle.std.proofs.lemmas.List.{length-map}
 use Rattle.mig_base.specs.declared.faults.Why.TheVariants as why
-use Rattle.mig_csv.proofs.DiskFiles.{ReadSoFar-end, ReadSoFar-fault, ReadSoFar-few, ReadSoFar-names, ReadSoFar-push, ReadSoFar-start, ReadSoFar-value}
+use Rattle.mig_csv.proofs.DiskFiles.{ReadSoFar-end, ReadSoFar-fault, ReadSoFar-few, ReadSoFar-few_names, ReadSoFar-names, ReadSoFar-push, ReadSoFar-start, ReadSoFar-value}
 use Rattle.mig_csv.proofs.disks.add_disks.Goals as goal
 
 pub rows-init : goal.rows-init
@@ -29,17 +28,13 @@ rows-preserved c bytes opened =
 pub overflow_cast-len : goal.overflow_cast-len
 overflow_cast-len c =
     let (bytes, opened) = c.requires.opened in
-    let s = c.rows.invariant bytes opened in
-    let n : length c.rows.listed.names ≡ length s.done = rw (s.named, length-map) refl in
-    let few = s.few in
+    let few = ReadSoFar-few_names (c.rows.invariant bytes opened) in
     omega arith
 
 pub overflow_add-len : goal.overflow_add-len
 overflow_add-len c =
     let (bytes, opened) = c.requires.opened in
-    let s = c.rows.invariant bytes opened in
-    let n : length c.rows.listed.names ≡ length s.done = rw (s.named, length-map) refl in
-    let few = s.few in
+    let few = ReadSoFar-few_names (c.rows.invariant bytes opened) in
     omega arith
 
 pub returns-in-Err-clause-fault : goal.returns-in-Err-clause-fault

@@ -1,10 +1,9 @@
-use Rattle.std.proofs.Common.{◌≡◌, arith, length, refl, rules, false}
+use Rattle.std.proofs.Common.{◌≡◌, arith, refl, rules, false}
 use Rattle.std.specs.Result.{is_err}
 use Rattle.csv.proofs.ReadFacts.{on-ok}
 use Rattle.csv.specs.Records.{fields_of}
 use Rattle.mig_base.specs.declared.faults.Why.TheVariants as why
-use Rattle.std.proofs.lemmas.List.{length-map}
-use Rattle.mig_csv.proofs.ItemFiles.{ItemsSoFar-few, ItemsSoFar-end, ItemsSoFar-fault, ItemsSoFar-items, ItemsSoFar-on_disks, ItemsSoFar-push, ItemsSoFar-spots, ItemsSoFar-start, not_taken}
+use Rattle.mig_csv.proofs.ItemFiles.{ItemsSoFar-few, ItemsSoFar-few_names, ItemsSoFar-end, ItemsSoFar-fault, ItemsSoFar-items, ItemsSoFar-on_disks, ItemsSoFar-push, ItemsSoFar-spots, ItemsSoFar-start, not_taken}
 use Rattle.mig_csv.proofs.items.add_items.Goals as goal
 
 pub rows-init : goal.rows-init
@@ -59,15 +58,11 @@ read_item-requires-clause-on_disks c =
 pub overflow_cast-len : goal.overflow_cast-len
 overflow_cast-len c =
     let (bytes, opened) = c.requires.opened in
-    let s = c.rows.invariant bytes opened in
-    let n : length c.rows.layout.names ≡ length s.done = rw (s.named, length-map) refl in
-    let few = s.few in
+    let few = ItemsSoFar-few_names (c.rows.invariant bytes opened) in
     omega arith
 
 pub overflow_add-len : goal.overflow_add-len
 overflow_add-len c =
     let (bytes, opened) = c.requires.opened in
-    let s = c.rows.invariant bytes opened in
-    let n : length c.rows.layout.names ≡ length s.done = rw (s.named, length-map) refl in
-    let few = s.few in
+    let few = ItemsSoFar-few_names (c.rows.invariant bytes opened) in
     omega arith
