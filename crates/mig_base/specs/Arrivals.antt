@@ -21,7 +21,7 @@ IsNamed input plan spot = Contains input.spots spot ⊎ IsPlanSpot plan spot
 abbrev pub AreFreeZeros : Lists → List (List Shift) → Image → ℕ → Type 0
 AreFreeZeros input plan image k = (spot : Spot) → IsNamed input plan spot → ¬ IsTaken (At input plan k) spot → image (slot_of input spot) ≡ Some zeros
 
--- the gate is 1, all rounds count, and each item's contents stand at its last spot
+-- safe after all rounds: the gate is 1, all rounds count, and each item's contents stand at its last spot
 abbrev pub IsArrived : Lists → List (List Shift) → List ℕ → Contents → Image → Type 0
 IsArrived input plan digest contents image = IsSafeAfter input plan digest contents image (length plan)
 

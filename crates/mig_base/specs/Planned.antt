@@ -29,6 +29,7 @@ IsMoveShift input targets s = (move : ℕ) × (move < length (moves input)) × (
 abbrev pub ShiftsMoves : Lists → List Spot → List (List Shift) → Type 0
 ShiftsMoves input targets plan = All (λ round. All (IsMoveShift input targets) round) plan
 
+-- and these spots are the target spots of the input
 abbrev pub GoesToTargets : Lists → List (List Shift) → Type 0
 GoesToTargets input plan = (targets : List Spot) × AreTargets input targets × ShiftsMoves input targets plan
 
@@ -49,5 +50,6 @@ pub record IsPlan (input : Lists) (plan : List (List Shift)) : Type 0 where
   pub once : Once input plan
   pub fits : PlanFits input plan
 
+-- a partition of the moves of a roomy input, to its target spots, is such a plan
 abbrev pub PartitionIsPlan : Type 0
 PartitionIsPlan = (input : Lists) (targets : List Spot) (plan : List (List Shift)) → IsInput input → IsRoomy input → AreTargets input targets → IsPartition input targets plan → IsPlan input plan

@@ -27,7 +27,7 @@ pub record IsCopied (input : Lists) (plan : List (List Shift)) (contents : Conte
   pub targets : All (λ s. image (slot_of input s.to) ≡ Some (contents s.item.0)) (round_at plan (suc k))
   pub sources : All (λ s. ¬ IsTaken (At input plan (suc k)) s.from → image (slot_of input s.from) ≡ Some zeros) (round_at plan k)
 
--- k rounds are carried out: what reads give is sound, zeros stand where round k left, and nothing else is unsettled
+-- k rounds are carried out: what reads give is sound, zeros stand where round k left, nothing else is unsettled, and the job's cells are told
 pub record HasDone (asked : Bool) (input : Lists) (plan : List (List Shift)) (digest : List ℕ) (contents : Contents) (s : State) (k : ℕ) : Type 0 where
   pub sound : IsSoundAfter asked input plan digest contents s.reads k
   pub erased : All (λ m. s.reads (slot_of input m.from) ≡ Some zeros) (round_at plan k)

@@ -4,9 +4,11 @@ use Rattle.mig_base.specs.declared.limits.TheConstants.{MAX_ITEMS}
 use Rattle.mig_board.specs.Colouring.{Colouring, IsProper, IsTableOf}
 use Rattle.mig_board.specs.declared.boards.Board.TheInside.{Inside}
 
+-- the colouring of the fields
 abbrev pub colouring_of : Inside → Colouring
 colouring_of a = record { nodes = a.table.nodes; colours = a.table.colours; ends = a.ends.items; painted = a.painted.items }
 
+-- the fields keep a proper colouring, its table, and the limits of both
 pub record IsBoard (a : Inside) : Type 0 where
   pub proper : IsProper (colouring_of a)
   pub table : IsTableOf (colouring_of a) a.table.entries

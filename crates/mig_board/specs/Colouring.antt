@@ -6,6 +6,7 @@ use Rattle.mig_base.specs.declared.ids.EdgeId.{EdgeId}
 use Rattle.mig_base.specs.declared.ids.Colour.{Colour}
 use Rattle.mig_base.specs.Ends.{ends_at}
 
+-- a multigraph, and the colours of its edges
 pub record Colouring : Type 0 where
   pub nodes : ℕ
   pub colours : ℕ
@@ -18,6 +19,7 @@ pub record Colouring : Type 0 where
 abbrev pub Joins : Colouring → EdgeId → CopyId → CopyId → Type 0
 Joins g e v w = (slice_get g.ends e.0 ≡ Some (v, w)) ⊎ (slice_get g.ends e.0 ≡ Some (w, v))
 
+-- edge e has colour k
 abbrev pub HasColour : Colouring → EdgeId → Colour → Type 0
 HasColour g e k = slice_get g.painted e.0 ≡ Some (Some k)
 

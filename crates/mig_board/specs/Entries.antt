@@ -5,6 +5,7 @@ use Rattle.mig_base.specs.declared.ids.EdgeId.{EdgeId}
 use Rattle.mig_base.specs.declared.ids.Colour.{Colour}
 use Rattle.mig_board.specs.Words.{words_for, HasBit}
 
+-- a table with an entry for each node and colour
 pub record Entries : Type 0 where
   pub nodes : ℕ
   pub colours : ℕ

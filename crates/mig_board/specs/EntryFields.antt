@@ -5,6 +5,7 @@ use Rattle.mig_board.specs.declared.entries.Entry.TheInside.{Inside}
 use Rattle.std.proofs.Common.{ap, sym, ◌∙◌, inl, inr, cond}
 use Rattle.std.proofs.lemmas.Bool.Decides.{eqb_tells}
 
+-- the entry of a number, and the number of an entry
 abbrev pub entry_of : ℕ → Option EdgeId
 entry_of n = if n == 4294967295 then None else Some (record { 0 = n })
 

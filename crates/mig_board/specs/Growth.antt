@@ -4,6 +4,7 @@ use Rattle.mig_base.specs.declared.ids.CopyId.{CopyId}
 use Rattle.mig_base.specs.declared.ids.EdgeId.{EdgeId}
 use Rattle.mig_board.specs.Colouring.{Colouring, Joins, IsPainted}
 
+-- edge e has no colour
 abbrev pub IsPlain : Colouring → EdgeId → Type 0
 IsPlain g e = slice_get g.painted e.0 ≡ Some None
 

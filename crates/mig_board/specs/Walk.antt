@@ -31,6 +31,7 @@ abbrev pub backwards : CopyId → List Step → List Step
 backwards v [] = []
 backwards v (s ∷ rest) = backwards s.to rest ++ record { edge = s.edge; to = v } ∷ []
 
+-- the nodes of a path from v
 abbrev pub nodes_of : CopyId → List Step → List CopyId
 nodes_of v steps = v ∷ map (λ s. s.to) steps
 

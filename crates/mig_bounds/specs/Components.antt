@@ -36,5 +36,6 @@ abbrev pub candidate_by : List ℕ → Witness → Candidate
 candidate_by labels (Small set) = candidate_of set
 candidate_by labels (Component root) = ByComponent (labelled labels root.0)
 
+-- the first best of the candidates of disks, triples and labels below a place, and its value
 abbrev pub IsBestOf : Transfers → Components → BestWitness → List ℕ → Type 0
 IsBestOf graph components best upto = IsBestBelow graph (candidate_by components.labels.items best.witness) best.value upto

@@ -8,6 +8,7 @@ use Rattle.mig_base.specs.Bounding.{limit}
 abbrev pub joins : ℕ → ℕ → Trip → Bool
 joins a b t = ((t.leaves == a) && (t.reaches == b)) || ((t.leaves == b) && (t.reaches == a))
 
+-- how many trips join them
 abbrev pub between : ℕ → ℕ → List Trip → ℕ
 between a b trips = count_by (joins a b) trips
 
@@ -16,6 +17,7 @@ pub record CountsPairs (disks : ℕ) (trips : List Trip) (pairs : List ℕ) : Ty
   pub len : length pairs ≡ disks * disks
   pub pair : (a b : ℕ) → a < disks → b < disks → slice_index pairs (a * disks + b) ≡ between a b trips
 
+-- the table counts the transfers
 abbrev pub IsPairTable : Transfers → List ℕ → Type 0
 IsPairTable graph pairs = CountsPairs (length graph.disks) graph.trips pairs
 

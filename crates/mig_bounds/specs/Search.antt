@@ -6,6 +6,7 @@ use Rattle.mig_bounds.specs.declared.best.BestSmall.{BestSmall}
 use Rattle.mig_bounds.specs.declared.best.SmallSet.{SmallSet}
 use Rattle.mig_bounds.specs.declared.best.SmallSet.TheVariants.{Disk, Triple}
 
+-- the candidate of a disk or of a triple
 abbrev pub candidate_of : SmallSet → Candidate
 candidate_of (Disk v) = ByDisk v.0
 candidate_of (Triple a b c) = ByTriple a.0 b.0 c.0
@@ -17,6 +18,7 @@ pub record IsBestBelow (graph : Transfers) (best : Candidate) (rounds : ℕ) (up
   pub greatest : (c : Candidate) → IsCandidate graph c → IsBelow (place c) upto → value graph c ≤ rounds
   pub first : (c : Candidate) → IsCandidate graph c → IsBelow (place c) (place best) → value graph c < rounds
 
+-- the same of disks and triples
 abbrev pub IsBestSmall : Transfers → BestSmall → List ℕ → Type 0
 IsBestSmall graph best upto = IsBestBelow graph (candidate_of best.set) best.value upto
 

@@ -7,6 +7,7 @@ use Rattle.mig_base.specs.CertLines.{FitsLine}
 use Rattle.mig_cert.specs.declared.bounds.Head.{Head}
 use Rattle.mig_cert.specs.declared.bounds.Head.TheVariants as head
 
+-- the limit of a disk
 abbrev pub limit_of : Lists → ℕ → ℕ
 limit_of input v = (disk_at input.disks v).limit
 

@@ -28,5 +28,6 @@ opening_lines rounds quotient class =
     ∷ words (codes "class" ∷ class ∷ [])
     ∷ []
 
+-- the text of these of a certificate
 abbrev pub opening_text : Cert → List ℕ
 opening_text cert = text_of_lines (opening_lines cert.rounds cert.quotient (class_word cert.class))

@@ -13,7 +13,7 @@ use Rattle.mig_base.specs.Judging.{shift_at}
 abbrev pub layout_of : List Spot → Layout
 layout_of spots item = slice_get spots item
 
--- the list after each of these shifts
+-- the list after a shift, and after each shift of a round
 abbrev pub after_shift : List Spot → Shift → List Spot
 after_shift spots s = slice_set spots s.item.0 s.to
 
@@ -26,6 +26,7 @@ after_round spots round = fold after_shift spots round
 abbrev pub SpotSet : Type 0
 SpotSet = Spot → Bool
 
+-- whether both are the same spot
 abbrev pub same_spot : Spot → Spot → Bool
 same_spot s t = (s.disk.0 == t.disk.0) && (s.slot == t.slot)
 

@@ -26,5 +26,6 @@ pub record AllPassed (ends : List (DiskId × DiskId)) (directions : List (Option
   pub bound : (v : DiskId) → slice_index from v.0 ≤ length ends
   pub passed : (v : DiskId) → PassedBelow ends directions v (slice_index from v.0)
 
+-- the ends are disks that are there
 abbrev pub AllInRange : List (DiskId × DiskId) → ℕ → Type 0
 AllInRange ends disks = (e : EdgeId) (p : DiskId × DiskId) → slice_get ends e.0 ≡ Some p → (p.0.0 < disks) × (p.1.0 < disks)

@@ -4,9 +4,11 @@ use Rattle.std.proofs.Common.{cond, eqb}
 use Rattle.mig_base.specs.declared.ids.DiskId.{DiskId}
 use Rattle.mig_euler.specs.Balance.{pair_tail, pair_head}
 
+-- 1 where it is so, and 0 where not
 abbrev pub bit : Bool → ℕ
 bit t = cond t 1 0
 
+-- 1 where both are the same disk
 abbrev pub is : DiskId → DiskId → ℕ
 is v w = bit (eqb w.0 v.0)
 
@@ -23,6 +25,7 @@ abbrev pub waits : DiskId → DiskId × DiskId → Option Bool → ℕ
 waits v p None = is v p.0 + is v p.1
 waits v p (Some d) = 0
 
+-- the sum of such counts over the edges and their directions
 abbrev pub total : (DiskId × DiskId → Option Bool → ℕ) → List (DiskId × DiskId) → List (Option Bool) → ℕ
 total f [] ds = 0
 total f (p ∷ ps) [] = 0
@@ -49,6 +52,7 @@ pub record IsBalanced (ps : List (DiskId × DiskId)) (ds : List (Option Bool)) :
   pub in_most : (v : DiskId) → total (enters v) ps ds ≤ total (leaves v) ps ds + 1
   pub odd : (v : DiskId) → total (waits v) ps ds % 2 ≡ 1 → total (leaves v) ps ds ≡ total (enters v) ps ds
 
+-- whether an edge has the direction true
 abbrev pub points_forward : Option Bool → Bool
 points_forward None = false
 points_forward (Some d) = d

@@ -3,7 +3,7 @@ use Rattle.std.specs.Prelude.{ℕ, ◌+◌, ◌/◌, ◌%◌, if◌then◌else�
 use Rattle.mig_base.specs.declared.ids.DiskId.{DiskId}
 use Rattle.mig_base.specs.declared.ids.Spot.{Spot}
 
--- where each disk has so many items
+-- the spot of item i, where each disk has so many items
 abbrev pub spot_at : ℕ → ℕ → Spot
 spot_at items i = record { disk = record { 0 = i / items }; slot = i % items }
 
@@ -11,6 +11,6 @@ spot_at items i = record { disk = record { 0 = i / items }; slot = i % items }
 abbrev pub other : ℕ → ℕ → ℕ
 other v k = if nat_lt k v then k else k + 1
 
--- where each disk has so many items, so many for each other disk
+-- the next disk of item i, where each disk has so many items, so many for each other disk
 abbrev pub next_at : ℕ → ℕ → ℕ → DiskId
 next_at items per_pair i = record { 0 = other (i / items) (i % items / per_pair) }

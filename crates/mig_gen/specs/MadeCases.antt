@@ -8,7 +8,8 @@ use Rattle.mig_base.specs.declared.inputs.Disk.{Disk}
 use Rattle.mig_base.specs.declared.limits.TheConstants.{MAX_DISKS, MAX_ITEMS, MAX_LIMIT}
 use Rattle.mig_base.specs.InputLists.{Lists}
 
--- which numbers make a case
+-- which numbers make a case: 2 to `MAX_DISKS` disks, an item at least for each pair, at most `MAX_ITEMS` items in all, and a limit of 1 to
+-- `MAX_LIMIT`
 pub record IsCaseSize (disks per_pair limit : ℕ) : Type 0 where
   pub some_disks : 2 ≤ disks
   pub few_disks : disks ≤ MAX_DISKS
@@ -21,10 +22,11 @@ pub record IsCaseSize (disks per_pair limit : ℕ) : Type 0 where
 abbrev pub items_on : ℕ → ℕ → ℕ
 items_on disks per_pair = (disks - 1) * per_pair
 
--- the disk numbered v: twice as many slots as items
+-- the disk numbered v, `d0`, `d1` and so on: twice as many slots as items
 abbrev pub made_disk : ℕ → ℕ → ℕ → Disk
 made_disk limit slots v = record { name = codes "d" ++ decimal v; limit = limit; slots = slots }
 
+-- the item numbered i, `i0`, `i1` and so on
 abbrev pub made_item : ℕ → List ℕ
 made_item i = codes "i" ++ decimal i
 

@@ -122,13 +122,13 @@ fn more_disks_than_open_files(rt: HostRuntime) {
     leave(&rt, "many").expect(&rt, "a folder");
 }
 
-/// Asserts that a link which leads nowhere reads as zeros, and that no file is made through it.
-fn expect_no_link<H: Abort + AllocGlobal + Files, R: Files<File = File> + Eprint>(
+/// Asserts that a link which leads nowhere, or to what is neither a file nor a disk, is neither read nor written, and that no file is made through it.
+fn expect_no_disk<H: Abort + AllocGlobal + Files, R: Files<File = File> + Eprint>(
     rt: &H,
     store: &mut FileStore<'_, R>,
     cell: &Cell,
 ) {
-    assert!(rt; has(store, cell, 0));
+    assert!(rt; !has(store, cell, 0));
     assert!(rt; !put(store, cell, 1));
     assert!(rt; fs::exists(rt, "nowhere").is_ok_and(|is| !is));
 }
@@ -145,24 +145,24 @@ fn expect_nothing_written<H: Abort + AllocGlobal + Files, R: Files<File = File> 
     assert!(rt; fs::exists(rt, "a.disk").is_ok_and(|is| !is));
 }
 
-/// Asserts that a slot is written over, and that each call fails after a sync that does.
-fn expect_broken<R: Files<File = File> + Eprint>(
-    rt: &impl Abort,
+/// Asserts that a slot is written over, and that each call fails after a sync that does: a folder stands where the journal's copy is to be.
+fn expect_broken<H: Abort + AllocGlobal + Files, R: Files<File = File> + Eprint>(
+    rt: &H,
     store: &mut FileStore<'_, R>,
     cell: &Cell,
-    unsynced: &Cell,
 ) {
     assert!(rt; put(store, cell, 1));
-    assert!(rt; store.sync().is_ok());
-    assert!(rt; put(store, unsynced, 1));
+    assert!(rt; store.write(&Cell::Gate, &[1]).is_ok());
+    assert!(rt; fs::create_dir(rt, "journal.mig.copy.mig").is_ok());
     assert!(rt; store.sync().is_err());
+    assert!(rt; fs::remove_dir(rt, "journal.mig.copy.mig").is_ok());
     assert!(rt; !has(store, cell, 1));
     assert!(rt; !put(store, cell, 2));
     assert!(rt; store.ended().is_err());
     assert!(rt; store.sync().is_err());
 }
 
-/// Asserts that a slot holds what was synced, and can be written over.
+/// Asserts that a slot holds what was written, and can be written over.
 fn expect_mended<R: Files<File = File> + Eprint>(
     rt: &impl Abort,
     store: &mut FileStore<'_, R>,
@@ -180,13 +180,13 @@ fn what_is_refused(rt: HostRuntime) {
     let alloc = rt.alloc();
     let (a, b, c) = (slot_of(b"a", 0), slot_of(b"b", 0), slot_of(b"c", 0));
     assert!(rt; symlink(&rt, "nowhere", "b.disk").is_ok());
-    // what can't be synced
     assert!(rt; symlink(&rt, "/dev/null", "c.disk").is_ok());
     let mut store = FileStore::new(&rt, alloc);
-    expect_no_link(&rt, &mut store, &b);
+    expect_no_disk(&rt, &mut store, &b);
+    expect_no_disk(&rt, &mut store, &c);
     // the journal is this store's now
     expect_nothing_written(&rt, &mut FileStore::new(&rt, alloc), &a);
-    expect_broken(&rt, &mut store, &a, &c);
+    expect_broken(&rt, &mut store, &a);
     drop(store);
     expect_mended(&rt, &mut FileStore::new(&rt, alloc), &a);
     leave(&rt, "refused").expect(&rt, "a folder");

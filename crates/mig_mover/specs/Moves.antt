@@ -114,6 +114,7 @@ pub record Enters (task : Task) (old new : State) (k : ℕ) : Type 0 where
 
 -- The same from a store with nothing unsettled and no copy in flight
 
+-- the same from a store with nothing unsettled and no copy in flight
 pub record KeepsOn (task : Task) (old new : State) : Type 0 where
   pub sound : (asked : Bool) (contents : Contents) → Tells (IsJobCell task.input task.plan) old.reads → IsSound asked task.input task.plan task.digest contents old.reads
       → LeavesOnly (IsSound asked task.input task.plan task.digest contents) old new

@@ -17,6 +17,7 @@ ghost use Rattle.mig_mover.specs.Moves.{Lands, Settles, IsRunning, IsPlanFault, 
 ghost use Rattle.mig_mover.specs.Tasks.{Task};
 
 use crate::erasing::erase_sources;
+use crate::expecting::expect_all;
 use crate::faults::MoveFault;
 use crate::jobs::Job;
 use crate::ready::check_ready;
@@ -105,7 +106,7 @@ fn erase_last<S: Store>(job: &Job, store: &mut S, k: u32) -> Result<(), StoreFai
     erase_sources(job, store, k)
 }
 
-// Goes on after the marked rounds of a store whose journal names the job's plan.
+// Goes on after the marked rounds of a store whose journal names the job's plan. Before anything is written the store is asked for the items.
 fn enter_running<S: Store>(job: &Job, store: &mut S) -> Result<u32, StoreFailed>
     requires settled { IsSettled (S.state store.old) }
     requires none { flights (S.state store.old) ≡ [] }
@@ -116,6 +117,7 @@ fn enter_running<S: Store>(job: &Job, store: &mut S) -> Result<u32, StoreFailed>
     ensures cause { HasCause (S.state store.old) (S.state store.new) result }
 {
     let k = marked(store, job.rounds())?;
+    expect_all(job, store, k)?;
     erase_last(job, store, k)?;
     Ok(k)
 }
@@ -155,8 +157,8 @@ pub fn enter_start<S: Store>(job: &Job, store: &mut S) -> Result<(), MoveFault>
     }
 }
 
-/// Resumes a plan: syncs, starts it where the gate isn't 1, and otherwise erases again what the last marked round
-/// left. It answers how many rounds are marked.
+/// Resumes a plan: syncs, starts it where the gate isn't 1, and otherwise asks for the items, and erases again what the
+/// last marked round left. It answers how many rounds are marked.
 pub fn enter_resume<S: Store>(job: &Job, store: &mut S) -> Result<u32, MoveFault>
     ensures keeps { Keeps job.now (S.state store.old) (S.state store.new) }
     ensures enters { IfOk result (Enters job.now (S.state store.old) (S.state store.new)) }

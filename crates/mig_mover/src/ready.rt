@@ -8,6 +8,7 @@ ghost use Rattle.mig_base.specs.Stores.{State, flights, ChangesOnly, HasCause};
 ghost use Rattle.mig_mover.specs.Moves.{IsFaultOn, IsResumeFault};
 ghost use Rattle.mig_mover.specs.Tasks.{Task};
 
+use crate::expecting::expect_all;
 use crate::faults::MoveFault;
 use crate::headers::{is_there, is_used};
 use crate::jobs::Job;
@@ -68,7 +69,7 @@ fn find_used<S: Store>(job: &Job, store: &mut S) -> Result<Option<Spot>, StoreFa
     Ok(None)
 }
 
-/// Refuses a store that isn't ready for the plan. The gate isn't 1.
+/// Refuses a store that isn't ready for the plan, and asks it whether it stands as it should before the first round. The gate isn't 1.
 pub(crate) fn check_ready<S: Store>(job: &Job, store: &mut S) -> Result<(), MoveFault>
     requires idle { is_armed (S.state store.old).reads ≡ false }
     requires none { flights (S.state store.old) ≡ [] }
@@ -87,5 +88,6 @@ pub(crate) fn check_ready<S: Store>(job: &Job, store: &mut S) -> Result<(), Move
             slot: spot.slot,
         });
     }
+    expect_all(job, store, 0)?;
     Ok(())
 }

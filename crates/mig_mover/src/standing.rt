@@ -13,12 +13,13 @@ ghost use Rattle.mig_mover.specs.Stands.{IsOtherFault, Stands, IsStandFault};
 ghost use Rattle.mig_mover.specs.Tasks.{Task};
 
 use crate::entries::{check_plan, settle_and_look};
+use crate::expecting::expect_all;
 use crate::faults::MoveFault;
 use crate::jobs::Job;
 use mig_journal::{Seen, marked};
 use mig_store::Store;
 
-// Counts the marked rounds of the plan that the journal names, where it is the job's.
+// Counts the marked rounds of the plan that the journal names, where it is the job's, and asks the store for each item that the plan shifts.
 fn stand_running<S: Store>(job: &Job, store: &mut S, kept: &[u8; 32]) -> Result<u32, MoveFault>
     requires none { flights (S.state store.old) ≡ [] }
     ensures ours { IfOk result (λ k. kept.now ≡ job.now.digest) }
@@ -29,12 +30,15 @@ fn stand_running<S: Store>(job: &Job, store: &mut S, kept: &[u8; 32]) -> Result<
     ensures later { (S.state store.old).faults ≤ (S.state store.new).faults }
 {
     check_plan(job, kept)?;
-    Ok(marked(store, job.rounds())?)
+    let k = marked(store, job.rounds())?;
+    expect_all(job, store, k)?;
+    Ok(k)
 }
 
 /// How many rounds of a plan that is being carried out, or was, are marked.
 ///
-/// It syncs and then looks, and writes nothing. `NotStarted` comes where the gate isn't 1, `OtherPlan` where it is
+/// It syncs and then looks, asks the store for each item that the plan shifts, at its spot after these rounds, and writes
+/// nothing. `NotStarted` comes where the gate isn't 1, `OtherPlan` where it is
 /// and the head has another digest.
 pub fn stand<S: Store>(job: &Job, store: &mut S) -> Result<u32, MoveFault>
     ensures stands { IfOk result (Stands job.now (S.state store.old) (S.state store.new)) }

@@ -17,8 +17,10 @@ row_of input targets colours c n = map (move_shift input targets) (edges_of colo
 pub record AreRows (input : Lists) (targets : List Spot) (colours : List Colour) (n : ℕ) (rows : List (Vec Shift Global)) : Type 0 where
   pub row : (c : ℕ) (d : Vec Shift Global) → c < length rows → (slice_index_or rows c d).items ≡ row_of input targets colours c n
 
+-- the shifts that a row has
 abbrev pub items_of : Vec Shift Global → List Shift
 items_of row = row.items
 
+-- whether there is one
 abbrev pub is_filled : List Shift → Bool
 is_filled row = not (length row == 0)

@@ -13,6 +13,7 @@ use Rattle.mig_split.specs.Copies.{AreShares}
 abbrev pub SidesFit : Transfers → List Bool → Type 0
 SidesFit graph directions = (v : ℕ) → v < length graph.disks → div_ceil (out_of graph.trips directions v) (quotient graph) + div_ceil (in_of graph.trips directions v) (quotient graph) ≤ limit graph v
 
+-- the list has the colour of each edge
 pub record AreColours (g : Colouring) (colours : List Colour) : Type 0 where
   pub one_each : length colours ≡ length g.ends
   pub has : (e : ℕ) → e < length g.ends → HasColour g (record { 0 = e }) (record { 0 = colour_at colours e })

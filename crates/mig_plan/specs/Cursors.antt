@@ -7,6 +7,7 @@ use Rattle.mig_base.specs.Transfers.{is_relocated, target}
 use Rattle.mig_base.specs.Targets.{IsLowestFree}
 use Rattle.mig_base.specs.Planned.{move_at, target_at}
 
+-- slot s of disk v
 abbrev pub spot : ℕ → ℕ → Spot
 spot v s = record { disk = record { 0 = v }; slot = s }
 

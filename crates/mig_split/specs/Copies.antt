@@ -9,6 +9,7 @@ use Rattle.mig_base.specs.Ends.{ends_at}
 use Rattle.mig_base.specs.Directions.{tail_of, head_of, trip_at, is_forward, out_of, in_of}
 use Rattle.mig_split.specs.Dealing.{count_of, disk_at, copy_at}
 
+-- the number of an edge's first copy, and of its second
 abbrev pub first_of : List (CopyId × CopyId) → ℕ → ℕ
 first_of ends e = (slice_index_or ends e (record { 0 = 0 }, record { 0 = 0 })).0.0
 
@@ -46,6 +47,7 @@ pub record AreJoined (q edges : ℕ) (numbers : List ℕ) (stops : List DiskId) 
 abbrev pub shared : Transfers → ℕ → ℕ → ℕ
 shared graph share v = min (limit graph v) (div_ceil (load v graph.trips) share)
 
+-- these numbers of all disks
 pub record AreShared (graph : Transfers) (share : ℕ) (numbers : List ℕ) : Type 0 where
   pub len : length numbers ≡ length graph.disks
   pub each : (v : ℕ) → v < length graph.disks → slice_index numbers v ≡ shared graph share v
@@ -84,6 +86,7 @@ pub record AreSides (q : ℕ) (graph : Transfers) (directions : List Bool) (left
   pub room : length homes * q ≤ 2 * length graph.trips + 2 * (length graph.disks * q)
   pub few : length homes ≤ 2 * length graph.trips
 
+-- each edge joins the copy of the first list at its place with that of the second, which are numbered from `from` on
 pub record ArePairs (firsts seconds : List CopyId) (from : ℕ) (ends : List (CopyId × CopyId)) : Type 0 where
   pub len : length ends ≡ length firsts
   pub first : (e : ℕ) → e < length firsts → first_of ends e ≡ copy_at firsts e

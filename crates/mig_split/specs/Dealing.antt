@@ -13,7 +13,7 @@ count_of v disks = count_by (λ d. d.0 == v) disks
 abbrev pub count_at : ℕ → List CopyId → ℕ
 count_at k copies = count_by (λ c. c.0 == k) copies
 
--- the disk at a place
+-- the disk at a place, and the copy
 abbrev pub disk_at : List DiskId → ℕ → ℕ
 disk_at disks k = (slice_index_or disks k (record { 0 = 0 })).0
 

@@ -5,9 +5,11 @@ use Rattle.mig_base.specs.declared.ids.CopyId.{CopyId}
 use Rattle.mig_split.specs.declared.decks.Deck.{Deck}
 use Rattle.mig_split.specs.Dealing.{count_of, count_at, disk_at, copy_at}
 
+-- what a deck that isn't there would be
 abbrev pub no_deck : Deck
 no_deck = record { first = 0; count = 0; start = 0; next = 0 }
 
+-- the deck of a disk
 abbrev pub deck_at : List Deck → ℕ → Deck
 deck_at decks v = slice_index_or decks v no_deck
 

@@ -40,6 +40,7 @@ bytes_of Ones kept asked = replicate (length kept) 1
 abbrev pub picked : Pick → Contents → List ℕ
 picked pick c = if c.unsettled then bytes_of pick c.kept c.asked else c.shown
 
+-- the cell after a crash
 abbrev pub crash : Pick → Contents → Contents
 crash pick c = fresh (picked pick c)
 

@@ -6,6 +6,7 @@ use Rattle.mig_store.specs.declared.calls.Act.TheVariants.{Write, Copy, Land, Sy
 use Rattle.mig_store.specs.declared.calls.Note.{Note}
 use Rattle.mig_store.specs.declared.calls.Span.{Span}
 
+-- a call of a store in memory, with its bytes
 pub data Call : Type 0 where
   -- these bytes were asked to be written; a write that failed left the cell
   Wrote : Cell → List ℕ → Bool → Call

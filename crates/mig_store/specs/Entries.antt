@@ -19,7 +19,7 @@ firsts held = map (held_map first_of) held
 abbrev pub seen_all : List Call → ℕ → List (Held Entry) → List (Held Contents)
 seen_all calls period held = map (held_map (seen calls period)) held
 
--- after a crash
+-- an entry after a crash
 abbrev pub crash_entry : List Call → ℕ → Pick → Entry → Entry
 crash_entry calls period pick e = record { first = picked pick (seen calls period e); kept = None; shown = None; asked = None; period = 0 }
 

@@ -5,6 +5,7 @@ use Rattle.mig_base.specs.declared.cells.Cell.{Cell}
 use Rattle.mig_base.specs.Cells.{is_cell, cell_len}
 use Rattle.mig_store.specs.declared.held.Held.{Held}
 
+-- the cell of which something is held
 abbrev pub cell_of : {T : Type 0} → Held T → Cell
 cell_of h = h.cell
 

@@ -55,7 +55,7 @@ MayLeave m image = SameBut (IsUnsettled m) (reads m) image
 abbrev pub flying : Moment → List Flight
 flying m = after_events [] m.events
 
--- at some moment from this one on
+-- a crash at some moment from this one on may have left the image
 abbrev pub LeftSince : List (Held (List ℕ)) → List Call → ℕ → Image → Type 0
 LeftSince first calls t image = (k : ℕ) × (t ≤ k) × (k ≤ length calls) × MayLeave (after first (take k calls)) image
 
@@ -81,6 +81,7 @@ pub record Log : Type 0 where
   pub calls : List Call
   pub room : ℕ
 
+-- the cells and the events after all of them
 abbrev pub moment_of : Log → Moment
 moment_of log = after log.first log.calls
 

@@ -17,6 +17,7 @@ pub record Memory : Type 0 where
   pub landing : Landing
   pub trouble : Trouble
 
+-- what it tells
 abbrev pub state_of : Memory → State
 state_of m = state_at m.log.first m.log.calls m.trouble.faults
 

@@ -22,7 +22,7 @@ use crate::ends::{EndOrder, Landing};
 use crate::ledger::Ledger;
 use crate::trouble::Trouble;
 use crate::{Store, StoreFailed};
-use mig_base::{Cell, Event, Flight};
+use mig_base::{Cell, Event, Flight, Name};
 use std::alloc::{AllocError, Global};
 use std::marker::Model;
 
@@ -193,6 +193,28 @@ impl Store for MemStore {
             return Err(StoreFailed);
         }
         self.ledger.read(cell, into);
+        Ok(())
+    }
+
+    /// Never fails, and has no number.
+    fn expects(&mut self, slot: &Cell, name: &Name) -> Result<(), StoreFailed>
+        requires { IsTrue (is_slot slot.now) }
+        ensures succeeds { IsOk result }
+        ensures after { self.new ≡ self.old }
+        ensures change { Looks (state_of self.old) (state_of self.new) }
+        ensures cause { HasCause (state_of self.old) (state_of self.new) result }
+    {
+        Ok(())
+    }
+
+    /// Never fails, and has no number.
+    fn expects_free(&mut self, slot: &Cell) -> Result<(), StoreFailed>
+        requires { IsTrue (is_slot slot.now) }
+        ensures succeeds { IsOk result }
+        ensures after { self.new ≡ self.old }
+        ensures change { Looks (state_of self.old) (state_of self.new) }
+        ensures cause { HasCause (state_of self.old) (state_of self.new) result }
+    {
         Ok(())
     }
 

@@ -6,7 +6,7 @@ ghost use Rattle.mig_base.specs.declared.cells.Flight.{Flight};
 ghost use Rattle.mig_base.specs.Flights.{began, IsTargetOf, IsSourceOf};
 ghost use Rattle.mig_base.specs.Stores.{State, IsState, flights, IsMoving, Changes, ChangesOnly, Looks, Ends, named, IsSettled, HasCause};
 
-use mig_base::Cell;
+use mig_base::{Cell, Name};
 
 /// A fault of the store itself.
 #[derive(Clone, Copy, Debug, PartialEq, Eq)]
@@ -23,6 +23,18 @@ pub trait Store {
     fn read(&mut self, cell: &Cell, into: &mut [u8]) -> Result<(), StoreFailed>
         requires { length into.old ≡ cell_len cell.now }
         ensures bytes { OnOk result (¬ IsMoving (state self.old) cell.now → IfSome ((state self.old).reads cell.now) (λ bytes. into.new ≡ bytes)) }
+        ensures change { Looks (state self.old) (state self.new) }
+        ensures cause { HasCause (state self.old) (state self.new) result };
+
+    /// Asks whether a slot holds the item of this name, before anything is written that rests on it. A store whose slots may be another's fails where this one doesn't; any other store may answer Ok unseen.
+    fn expects(&mut self, slot: &Cell, name: &Name) -> Result<(), StoreFailed>
+        requires slot { IsTrue (is_slot slot.now) }
+        ensures change { Looks (state self.old) (state self.new) }
+        ensures cause { HasCause (state self.old) (state self.new) result };
+
+    /// Asks whether a slot may be emptied or written over. A store whose slots may be another's fails where this one holds an item that wasn't expected at another slot; any other store may answer Ok unseen.
+    fn expects_free(&mut self, slot: &Cell) -> Result<(), StoreFailed>
+        requires slot { IsTrue (is_slot slot.now) }
         ensures change { Looks (state self.old) (state self.new) }
         ensures cause { HasCause (state self.old) (state self.new) result };
 

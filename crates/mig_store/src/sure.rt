@@ -8,7 +8,7 @@ use crate::block::Block;
 use crate::cell_table::CellTable;
 use crate::held::{Held, get, put, zero_cells};
 use crate::{Store, StoreFailed};
-use mig_base::Cell;
+use mig_base::{Cell, Name};
 use std::alloc::{AllocError, Global};
 use std::marker::Model;
 
@@ -64,6 +64,14 @@ impl Store for SureStore {
         if let Some(block) = get(&self.table, &self.held, cell) {
             into.copy_from_slice(block.bytes());
         }
+        Ok(())
+    }
+
+    fn expects(&mut self, slot: &Cell, name: &Name) -> Result<(), StoreFailed> {
+        Ok(())
+    }
+
+    fn expects_free(&mut self, slot: &Cell) -> Result<(), StoreFailed> {
         Ok(())
     }
 

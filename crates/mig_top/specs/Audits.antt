@@ -28,7 +28,7 @@ pub record HavePutSights (input : Lists) (store : State) (item : ℕ) (old new :
   pub put : Extends lines old new
   pub few : here ≤ item
 
--- not all lines were put: the sink failed at one, or the store before one
+-- the sink failed at a line
 pub record SinkStops (input : Lists) (store : State) (old new : SinkState) : Type 0 where
   pub rose : Rose old.faults new.faults
   pub item : ℕ
@@ -38,6 +38,7 @@ pub record SinkStops (input : Lists) (store : State) (old new : SinkState) : Typ
   pub are : AreSightLines input store (suc item) lines here
   pub begun : ExtendsInPart lines old new
 
+-- the store failed before a line
 pub record StoreStops (input : Lists) (store store_new : State) (old new : SinkState) : Type 0 where
   pub rose : Rose store.faults store_new.faults
   pub item : ℕ
@@ -47,6 +48,7 @@ pub record StoreStops (input : Lists) (store store_new : State) (old new : SinkS
   pub are : AreSightLines input store item lines here
   pub put : Extends lines old new
 
+-- not all lines were put
 abbrev pub AuditStops : Lists → State → State → SinkState → SinkState → Stop → Type 0
 AuditStops input store store_new old new stop.Sink = SinkStops input store old new
 AuditStops input store store_new old new stop.Store = StoreStops input store store_new old new

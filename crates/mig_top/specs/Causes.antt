@@ -29,18 +29,22 @@ use Rattle.mig_words.specs.Words.{Form, Plan, Check, After, Fill, Audit, Rehears
 
 -- What ends each step
 
+-- a file isn't there, by its word
 abbrev pub IsMissing : Files → List (List ℕ) → Outcome → Type 0
 IsMissing files names (NoFile word) = first_missing files names ≡ Some word
 IsMissing files names _ = ⊥
 
+-- the first thing that is wrong with the three files
 abbrev pub IsRefusal : Files → List ℕ → List ℕ → List ℕ → Outcome → Type 0
 IsRefusal files disks now next (Refused f n w) = AreRefused files disks now next f n w
 IsRefusal files disks now next _ = ⊥
 
+-- the first thing that is wrong with the two files of a layout
 abbrev pub IsLayoutRefusal : Files → List ℕ → List ℕ → Outcome → Type 0
 IsLayoutRefusal files disks now (Refused f n w) = IsLayoutRefused files disks now f n w
 IsLayoutRefusal files disks now _ = ⊥
 
+-- the file of the plan is no spelling, and that of the certificate
 abbrev pub IsNoPlan : Files → List ℕ → Lists → Outcome → Type 0
 IsNoPlan files plan input (NotSpelled text_file.Plan line) = HasNoPlan files plan input line
 IsNoPlan files plan input _ = ⊥
@@ -73,6 +77,7 @@ pub record IsRight (input : Lists) (rounds : List (List Shift)) (cert : Cert) : 
 -- The steps
 
 module _ (files : Files) where
+  -- the steps over files: that they are there, and the reading of an input, of a layout, of a plan and of a certificate
   abbrev pub loads : List (List ℕ) → Step (Unit {0})
   loads names = record { Passes = λ _. first_missing files names ≡ None; Stops = IsMissing files names }
 
@@ -88,6 +93,7 @@ module _ (files : Files) where
   abbrev pub reads_cert : List ℕ → Lists → Step Cert
   reads_cert cert input = record { Passes = HasCert files cert input; Stops = IsNoCert files cert input }
 
+-- the steps: that the plan runs, that it isn't too large for a drill, and judging
 abbrev pub runs : Lists → List (List Shift) → Step (Unit {0})
 runs input rounds = record { Passes = λ _. Runs input rounds; Stops = DoesNotRun input rounds }
 
@@ -99,6 +105,7 @@ judges input rounds cert = record { Passes = λ _. IsRight input rounds cert; St
 
 -- The texts of what is done
 
+-- `optimal`, where there are as many rounds as the bound says, or `bounded`
 abbrev pub verdict_text : List (List Shift) → Cert → List ℕ
 verdict_text rounds cert = if length rounds == bound_value cert.bound then codes "optimal\n" else codes "bounded\n"
 
@@ -136,6 +143,7 @@ LoadedCause files (Drill disks now next plan) =
     IsDone (λ text. text ≡ drill_text rounds)))))
 LoadedCause files form = λ o. ⊥
 
+-- what ends a command over files alone: its loading, and then its steps over what was loaded
 abbrev pub FilesCause : Files → Form → Outcome → Type 0
 FilesCause files form = Then (loads files (loaded form)) (λ _. LoadedCause files form)
 

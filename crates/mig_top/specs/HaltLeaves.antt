@@ -30,6 +30,7 @@ pub record IsLayoutSaved (task : Task) (layout : List ℕ) (k : ℕ) (old new : 
   pub spelled : IsLayoutAfter task.input task.plan k text
   pub saves : Saves layout text old new
 
+-- and so of two states of a folder, as far as files are told
 abbrev pub SavesLayout : Task → List ℕ → ℕ → FolderState → FolderState → Type 0
 SavesLayout task layout k old new = calls.Changes old new (IsLayoutSaved task layout k)
 

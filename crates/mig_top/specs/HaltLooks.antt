@@ -28,6 +28,7 @@ pub record IsStanding (task : Task) (store : State) (k : ℕ) : Type 0 where
   pub running : AreFlights (flights store) → IsSome (store.reads Gate) → is_armed store.reads ≡ true
   pub ours : AreFlights (flights store) → IfSome (store.reads Head) (λ kept. kept ≡ task.digest)
 
+-- the step of `halt` at the store
 abbrev pub stands : Task → State → Step ℕ
 stands task store = record { Passes = IsStanding task store; Stops = IsShown task.input store (IsStandRefusal task) }
 

@@ -23,6 +23,7 @@ use Rattle.mig_words.specs.declared.endings.Ending.TheVariants.{Blamed, Refused,
 abbrev pub HoldsFirst : Files → List ℕ → List ℕ → Type 0
 HoldsFirst files name bytes = IsSomeAnd (file files name) (λ whole. bytes ≡ take (MAX_FILE_BYTES + 1) whole)
 
+-- the same of several files
 abbrev pub HoldFirst : Files → List (List ℕ) → List (List ℕ) → Type 0
 HoldFirst files [] [] = Unit {0}
 HoldFirst files [] (b ∷ bs) = ⊥
@@ -108,7 +109,7 @@ NoTask disks now next plan old new (NotSpelled f line) = TaskEnds old disks now 
 NoTask disks now next plan old new (TooLarge shifts) = TaskEnds old disks now next plan (out.TooLarge shifts)
 NoTask disks now next plan old new _ = ⊥
 
--- a text whose first bytes are these is the spelling of the plan
+-- a text whose first bytes are these is the spelling of the plan, of the certificate
 abbrev pub ReadsAsPlan : Lists → List ℕ → List (List Shift) → Type 0
 ReadsAsPlan input bytes rounds = (files : Files) (name : List ℕ) → HoldsFirst files name bytes → HasPlan files name input rounds
 
@@ -124,9 +125,11 @@ UnreadAsCert input bytes o = (files : Files) (name : List ℕ) → HoldsFirst fi
 
 -- The outcome of a command, in all files that begin with these bytes
 
+-- the outcome of a command in all files that begin with these bytes
 abbrev pub On : List (List ℕ) → Form → Outcome → Type 0
 On bytes form o = (files : Files) → HoldFirst files (loaded form) bytes → FilesCause files form o
 
+-- the same of `plan`, `check`, `after` and `drill`, whatever their files are named
 abbrev pub PlanOn : (d n x : List ℕ) → Outcome → Type 0
 PlanOn d n x o = (disks : List ℕ) (now : List ℕ) (next : List ℕ) (plan : List ℕ) (cert : List ℕ) → On (d ∷ n ∷ x ∷ []) (Plan disks now next plan cert) o
 

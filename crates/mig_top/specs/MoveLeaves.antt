@@ -67,6 +67,7 @@ pub record ResumesAll (task : Task) (old new : State) (k : ℕ) : Type 0 where
 abbrev pub ForTask : FolderState → List ℕ → List ℕ → List ℕ → List ℕ → (Task → Type 0) → Type 0
 ForTask folder disks now next plan P = (task : Task) × AreOfTask folder disks now next plan task × P task
 
+-- what `move` and `resume` leave with each outcome
 abbrev pub MoveLeaves : FolderState → State → State → (disks now next plan : List ℕ) → Outcome → Type 0
 MoveLeaves folder old new disks now next plan (Done text) = ForTask folder disks now next plan (λ task. MovesAll task old new 0 × MovesInPart task old new 0)
 MoveLeaves folder old new disks now next plan (StoreFault before) = ForTask folder disks now next plan (λ task. MovesInPart task old new 0)

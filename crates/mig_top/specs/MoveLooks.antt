@@ -53,6 +53,7 @@ pub record IsResumable (task : Task) (store : State) (k : ℕ) : Type 0 where
   pub ours : flights store ≡ [] → IsSome (store.reads Gate) → is_armed store.reads ≡ true → IfSome (store.reads Head) (λ kept. kept ≡ task.digest)
   pub ready : flights store ≡ [] → is_armed store.reads ≡ false → IsSome (store.reads Gate) → IsReady task.input task.plan store.reads
 
+-- the steps of `move` and `resume` at the store
 abbrev pub starts : Task → State → Step (Unit {0})
 starts task store = record { Passes = λ _. IsStartable task store; Stops = IsShown task.input store (IsStartRefusal task) }
 

@@ -16,6 +16,7 @@ pub record IsSightOf (input : Lists) (store : State) (item : ℕ) (sight : Sight
   pub named : ¬ IsMoving store (item_cell input item) → IfSome (store.reads (item_cell input item)) (λ slot. MatchBool sight.named (HasHeader (item_name input item) slot) (¬ HasHeader (item_name input item) slot))
   pub digest : ¬ IsMoving store (item_cell input item) → IfSome (store.reads (item_cell input item)) (λ slot. sight.digest ≡ sha256 slot)
 
+-- the spot where an item is listed
 abbrev pub spot_of : Lists → ℕ → Spot
 spot_of input item = slice_index_or input.spots item no_spot
 

@@ -35,6 +35,7 @@ pub record TellsStill (P : Cell → Type 0) (store : State) : Type 0 where
 
 -- `fill`
 
+-- the step of `fill` at the store
 abbrev pub fills : Lists → State → Step (Unit {0})
 fills input store = record { Passes = λ _. flights store ≡ [] → IsFillable input store.reads; Stops = IsShown input store (IsFillRefusal input) }
 

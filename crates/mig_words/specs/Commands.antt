@@ -3,6 +3,7 @@ use Rattle.mig_words.specs.declared.words.Command.{Command}
 use Rattle.mig_words.specs.declared.words.Command.TheVariants as command
 use Rattle.mig_words.specs.Words.{Form, Plan, Check, After, Fill, Audit, Move, Resume, Drill, Halt}
 
+-- the form of a command that was read
 abbrev pub form_of : Command → Form
 form_of (command.Plan files cert) = Plan files.disks.now files.now.now files.next.now files.plan.now cert.now
 form_of (command.Check files cert) = Check files.disks.now files.now.now files.next.now files.plan.now cert.now

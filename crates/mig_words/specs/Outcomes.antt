@@ -137,6 +137,7 @@ file_word file.Disks = codes "disks"
 file_word file.Now = codes "now"
 file_word file.Next = codes "next"
 
+-- the words of a cause
 abbrev pub cause_text : Why → List ℕ
 cause_text why.BadHeader = codes "bad header"
 cause_text why.BadWidth = codes "bad width"

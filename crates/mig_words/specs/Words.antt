@@ -66,7 +66,7 @@ loaded (Resume disks now next plan) = disks ∷ now ∷ next ∷ plan ∷ []
 loaded (Halt disks now next plan layout) = disks ∷ now ∷ next ∷ plan ∷ []
 loaded (Drill disks now next plan) = disks ∷ now ∷ next ∷ plan ∷ []
 
--- a word that may name a file
+-- a word that may name a file: 1 to 255 bytes that don't end in `.disk` or `.mig`
 pub record IsFileWord (word : List ℕ) : Type 0 where
   pub some : 0 < length word
   pub short : length word ≤ 255

@@ -24,5 +24,12 @@ returns-in-Some-2-clause-fault g c =
       (c.requires.idle, there, subst (λ (image : Image). IsFirstUsed c.args.job.now.input c.args.job.now.plan image c.in-Some-2.spot) (sym (quiet_same old mid c.find_lost.ensures.change)) used),
     )
 
+pub returns-in_err-expect_all-clause-change : goal.returns-in_err-expect_all-clause-change
+returns-in_err-expect_all-clause-change g c =
+    let used = then_quiet NoCell (g.S.Store.state c.args.store.now) (g.S.Store.state c.find_lost.new.store) (g.S.Store.state c.find_used.new.store) c.find_lost.ensures.change c.find_used.ensures.change in
+    then_quiet NoCell (g.S.Store.state c.args.store.now) (g.S.Store.state c.find_used.new.store) (g.S.Store.state c.expect_all.new.store) used c.expect_all.ensures.change
+
 pub returns-clause-change : goal.returns-clause-change
-returns-clause-change g c = then_quiet NoCell (g.S.Store.state c.args.store.now) (g.S.Store.state c.find_lost.new.store) (g.S.Store.state c.find_used.new.store) c.find_lost.ensures.change c.find_used.ensures.change
+returns-clause-change g c =
+    let used = then_quiet NoCell (g.S.Store.state c.args.store.now) (g.S.Store.state c.find_lost.new.store) (g.S.Store.state c.find_used.new.store) c.find_lost.ensures.change c.find_used.ensures.change in
+    then_quiet NoCell (g.S.Store.state c.args.store.now) (g.S.Store.state c.find_used.new.store) (g.S.Store.state c.expect_all.new.store) used c.expect_all.ensures.change

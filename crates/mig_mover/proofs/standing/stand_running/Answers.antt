@@ -1,5 +1,13 @@
 use Rattle.std.proofs.Common.{rules}
+use Rattle.mig_base.specs.Images.{NoCell}
+use Rattle.mig_journal.proofs.Steps.{then_quiet}
 use Rattle.mig_mover.proofs.standing.stand_running.Goals as goal
+
+pub returns-in_err-expect_all-clause-change : goal.returns-in_err-expect_all-clause-change
+returns-in_err-expect_all-clause-change g c = then_quiet NoCell (g.S.Store.state c.args.store.now) (g.S.Store.state c.marked.new.store) (g.S.Store.state c.expect_all.new.store) c.marked.ensures.change c.expect_all.ensures.change
 
 pub returns-clause-count : goal.returns-clause-count
 returns-clause-count g c = search rules
+
+pub returns-clause-change : goal.returns-clause-change
+returns-clause-change g c = then_quiet NoCell (g.S.Store.state c.args.store.now) (g.S.Store.state c.marked.new.store) (g.S.Store.state c.expect_all.new.store) c.marked.ensures.change c.expect_all.ensures.change

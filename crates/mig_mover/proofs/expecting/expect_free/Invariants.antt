@@ -1,0 +1,10 @@
+use Rattle.std.proofs.Common.{◌≤◌}
+use Rattle.mig_base.specs.Images.{NoCell}
+use Rattle.mig_base.specs.Stores.{State, ChangesOnly}
+use Rattle.mig_mover.proofs.expecting.expect_free.Given as goal
+
+abbrev pub invariant-loop-v : goal.invariant-loop-v
+invariant-loop-v g l = record {
+  change : ChangesOnly NoCell (g.S.Store.state l.initial.store) (g.S.Store.state l.store);
+  later : (g.S.Store.state l.initial.store).faults ≤ (g.S.Store.state l.store).faults;
+}

@@ -1,0 +1,107 @@
+//! What a store is asked before anything is written that rests on it.
+ghost use Rattle.std.specs.Prelude.{◌≡◌, ◌<◌, ◌≤◌, [], Some, length};
+ghost use Rattle.mig_base.specs.Images.{NoCell};
+ghost use Rattle.mig_base.specs.Layouts.{At};
+ghost use Rattle.mig_base.specs.Stores.{State, flights, ChangesOnly, HasCause};
+ghost use Rattle.mig_mover.specs.Stays.{IsStay};
+ghost use Rattle.mig_mover.specs.Tasks.{Task, IsTask};
+
+use crate::jobs::{Job, spot_cell};
+use crate::stays::Stay;
+use crate::vacancies::Vacancy;
+use mig_base::{ItemId, Spot};
+use mig_store::{Store, StoreFailed};
+
+// Asks for an item at its spot after this number of rounds.
+fn expect_item<S: Store>(
+    job: &Job,
+    store: &mut S,
+    item: ItemId,
+    spot: Spot,
+    found: u32,
+) -> Result<(), StoreFailed>
+    requires most { found ≤ length job.now.plan }
+    requires there { At job.now.input job.now.plan found item.0 ≡ Some spot }
+    requires none { flights (S.state store.old) ≡ [] }
+    ensures change { ChangesOnly NoCell (S.state store.old) (S.state store.new) }
+    ensures cause { HasCause (S.state store.old) (S.state store.new) result }
+{
+    job.keeps_rules();
+    let input = job.input();
+    store.expects(&spot_cell(input, spot), &input.items()[item.0 as usize])
+}
+
+// Asks for the item of a stay, if it lasts after this number of rounds.
+fn expect_stay<S: Store>(
+    job: &Job,
+    store: &mut S,
+    stay: &Stay,
+    found: u32,
+) -> Result<(), StoreFailed>
+    requires most { found ≤ length job.now.plan }
+    requires stay { IsStay job.now.input job.now.plan stay.now }
+    requires none { flights (S.state store.old) ≡ [] }
+    ensures change { ChangesOnly NoCell (S.state store.old) (S.state store.new) }
+    ensures cause { HasCause (S.state store.old) (S.state store.new) result }
+{
+    if stay.from <= found && found < stay.until {
+        return expect_item(job, store, stay.item, stay.spot, found);
+    }
+    Ok(())
+}
+
+// Asks whether the slot of a vacancy is free, if it lasts after this number of rounds.
+fn expect_vacant<S: Store>(
+    job: &Job,
+    store: &mut S,
+    v: &Vacancy,
+    found: u32,
+) -> Result<(), StoreFailed>
+    requires disk { v.now.spot.disk.0 < length job.now.input.disks }
+    requires none { flights (S.state store.old) ≡ [] }
+    ensures change { ChangesOnly NoCell (S.state store.old) (S.state store.new) }
+    ensures cause { HasCause (S.state store.old) (S.state store.new) result }
+{
+    if v.from <= found && found < v.until {
+        return store.expects_free(&spot_cell(job.input(), v.spot));
+    }
+    Ok(())
+}
+
+// Asks for each item that the plan shifts, at its spot after this number of rounds.
+fn expect_shifted<S: Store>(job: &Job, store: &mut S, found: u32) -> Result<(), StoreFailed>
+    requires most { found ≤ length job.now.plan }
+    requires none { flights (S.state store.old) ≡ [] }
+    ensures change { ChangesOnly NoCell (S.state store.old) (S.state store.new) }
+    ensures cause { HasCause (S.state store.old) (S.state store.new) result }
+{
+    for stay in job.stays() {
+        expect_stay(job, store, stay, found)?;
+    }
+    Ok(())
+}
+
+// Asks for each named slot that is free after this number of rounds.
+fn expect_free<S: Store>(job: &Job, store: &mut S, found: u32) -> Result<(), StoreFailed>
+    requires most { found ≤ length job.now.plan }
+    requires none { flights (S.state store.old) ≡ [] }
+    ensures change { ChangesOnly NoCell (S.state store.old) (S.state store.new) }
+    ensures cause { HasCause (S.state store.old) (S.state store.new) result }
+{
+    for v in job.vacancies() {
+        expect_vacant(job, store, v, found)?;
+    }
+    Ok(())
+}
+
+/// Asks whether the store stands as it should after this number of rounds: each item that the plan shifts is at its spot,
+/// and the named slots that are free then may be emptied.
+pub(crate) fn expect_all<S: Store>(job: &Job, store: &mut S, found: u32) -> Result<(), StoreFailed>
+    requires most { found ≤ length job.now.plan }
+    requires none { flights (S.state store.old) ≡ [] }
+    ensures change { ChangesOnly NoCell (S.state store.old) (S.state store.new) }
+    ensures cause { HasCause (S.state store.old) (S.state store.new) result }
+{
+    expect_shifted(job, store, found)?;
+    expect_free(job, store, found)
+}
