@@ -1,4 +1,5 @@
 //! The disks' files.
+use crate::identity::Node;
 use crate::kept::{Kept, open_to_read, open_to_write};
 use crate::places::{Failure, Place};
 use indexmap::IndexMap;
@@ -45,6 +46,12 @@ pub struct Disks {
     /// How many may be open.
     most: usize,
     known: IndexMap<Name, Known>,
+    /// The disk of each file that was opened.
+    nodes: IndexMap<Node, Name>,
+    /// The files of the journal, which are no disk's.
+    pub journal: [Option<Node>; 2],
+    /// The permissions of the first file that was opened: new ones get the same.
+    mode: Option<u32>,
     /// A file was made since the folder was synced.
     pub made: bool,
     /// A file that had to be closed could not be synced.
@@ -62,6 +69,9 @@ impl Disks {
                 open,
                 most: MOST_OPEN,
                 known: IndexMap::new(alloc),
+                nodes: IndexMap::new(alloc),
+                journal: [None; 2],
+                mode: None,
                 made: false,
                 lost: false,
             }),
@@ -133,6 +143,24 @@ impl Disks {
         done.unwrap_or(Err(Failure::memory(Place::Disk(name))))
     }
 
+    /// Refuses what lies past the end of a disk that is a device.
+    pub fn check_room(&self, name: Name, end: u64) -> Result<(), Failure> {
+        match self.open.peek(&name) {
+            Some(opened) => opened
+                .kept
+                .check_room(end)
+                .map_err(|error| Failure::new(Place::Disk(name), error)),
+            None => Ok(()),
+        }
+    }
+
+    /// Whether the disk's file is open and has the bytes before this one.
+    pub fn reaches(&self, name: Name, end: u64) -> bool {
+        self.open
+            .peek(&name)
+            .is_some_and(|opened| opened.kept.reaches(end))
+    }
+
     /// Reads where the disk's file is open.
     fn read_opened(
         &mut self,
@@ -173,7 +201,7 @@ impl Disks {
     }
 
     /// Whether the disk's file was looked for and isn't there.
-    fn is_absent(&self, name: Name) -> bool {
+    pub fn is_absent(&self, name: Name) -> bool {
         matches!(self.known.get(&name), Some(Known::Absent))
     }
 
@@ -191,6 +219,8 @@ impl Disks {
         }
         match opened {
             Ok(Some(kept)) => {
+                self.identify(name, &kept)?;
+                self.mode = self.mode.or(Some(kept.mode));
                 self.keep(name, kept)?;
                 Ok(true)
             }
@@ -215,11 +245,39 @@ impl Disks {
             opened = open_to_write(rt, alloc, Place::Disk(name));
         }
         match opened {
-            Ok((kept, made)) => {
-                self.made = self.made || made;
-                self.keep(name, kept)
-            }
+            Ok((kept, made)) => self.keep_for_writing(name, kept, made),
             Err(error) => Err(Failure::new(Place::Disk(name), error)),
+        }
+    }
+
+    /// Keeps a file open that was opened for writing, for this process alone.
+    fn keep_for_writing(&mut self, name: Name, kept: Kept, made: bool) -> Result<(), Failure> {
+        self.made = self.made || made;
+        self.identify(name, &kept)?;
+        if let Err(error) = self.take(&kept, made) {
+            return Err(Failure::new(Place::Disk(name), error));
+        }
+        self.keep(name, kept)
+    }
+
+    /// Takes a file for this process alone. One that was made gets the permissions of the others.
+    fn take(&self, kept: &Kept, made: bool) -> io::Result<()> {
+        kept.lock()?;
+        match self.mode {
+            Some(mode) if made => kept.set_mode(mode),
+            _ => Ok(()),
+        }
+    }
+
+    /// Notes which file the disk is, and refuses one that is another disk's.
+    fn identify(&mut self, name: Name, kept: &Kept) -> Result<(), Failure> {
+        if self.journal.contains(&Some(kept.node)) {
+            return Err(Failure::IsJournal(name));
+        }
+        match self.nodes.insert(kept.node, name) {
+            Ok(Some(other)) if other != name => Err(Failure::OneFile(name, other)),
+            Ok(_) => Ok(()),
+            Err(_) => Err(Failure::memory(Place::Disk(name))),
         }
     }
 
@@ -242,6 +300,9 @@ impl Disks {
 
     /// Keeps a file open, in place of the least recently used one where there are too many. One that was never open before counts as not synced.
     fn keep(&mut self, name: Name, kept: Kept) -> Result<(), Failure> {
+        if !self.open.is_empty() && !kept.leaves_some() {
+            self.keep_fewer()?;
+        }
         if self.open.len() >= self.most {
             self.close_oldest()?;
         }

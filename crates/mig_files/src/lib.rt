@@ -3,9 +3,11 @@
 
 mod cells;
 mod disks;
+mod identity;
 mod journal;
 mod kept;
 mod places;
+mod seen;
 mod store;
 
 pub use disks::MOST_OPEN;

@@ -16,7 +16,7 @@ pub enum Place {
 }
 
 /// How many bytes of a disk's file a slot takes.
-const SLOT: u64 = 4096;
+pub const SLOT: u64 = 4096;
 
 /// How many bytes of the journal's file a cell takes: a device writes a sector whole.
 const SECTOR: u64 = 512;
@@ -42,16 +42,51 @@ impl Place {
     }
 }
 
+/// A name as text.
+fn text_of(name: &Name) -> Result<&str, fmt::Error> {
+    std::str::from_utf8(name.bytes()).map_err(|_| fmt::Error)
+}
+
 impl Display for Place {
     fn fmt<W: fmt::Write>(&self, f: &mut Formatter<W>) -> fmt::Result {
         match self {
-            Place::Disk(name) => match std::str::from_utf8(name.bytes()) {
-                Ok(name) => write!(f, "{name}.disk"),
-                Err(_) => Err(fmt::Error),
-            },
+            Place::Disk(name) => write!(f, "{}.disk", text_of(name)?),
             Place::Journal => f.write_str("journal.mig"),
             Place::Folder => f.write_str("."),
         }
+    }
+}
+
+/// A slot of a disk.
+#[derive(Clone, Copy, PartialEq, Eq)]
+pub struct Slot {
+    pub disk: Name,
+    pub number: u32,
+}
+
+impl Slot {
+    /// The cell that it is.
+    pub fn cell(&self) -> Cell {
+        Cell::Slot {
+            disk: self.disk,
+            slot: self.number,
+        }
+    }
+
+    /// The byte of the disk's file that it begins at.
+    pub fn offset(&self) -> u64 {
+        SLOT * u64::from(self.number)
+    }
+
+    /// The byte after its last one.
+    pub fn end(&self) -> u64 {
+        self.offset().saturating_add(SLOT)
+    }
+}
+
+impl Display for Slot {
+    fn fmt<W: fmt::Write>(&self, f: &mut Formatter<W>) -> fmt::Result {
+        write!(f, "{}: slot {}", Place::Disk(self.disk), self.number)
     }
 }
 
@@ -63,6 +98,20 @@ pub enum Failure {
     OfFolder(io::Error),
     /// A sync failed before.
     AfterSync,
+    /// Two disks are one file.
+    OneFile(Name, Name),
+    /// The disk is the journal's file.
+    IsJournal(Name),
+    /// The slot doesn't hold the item.
+    NotHeld(Slot, Name),
+    /// The file of the disk, whose slot should hold the item, isn't there.
+    NoDisk(Slot, Name),
+    /// The file ends within the slot that should hold the item.
+    Cut(Slot, Name),
+    /// The slot is to be copied, and holds no item.
+    NoItem(Slot),
+    /// The slot is to be emptied or written over, and holds this item, which was seen nowhere else.
+    Held(Slot, Name),
 }
 
 impl Failure {
@@ -79,16 +128,72 @@ impl Failure {
     pub fn memory(place: Place) -> Failure {
         Failure::new(place, ErrorKind::OutOfMemory.into())
     }
+
+    /// Whether a disk's file isn't there.
+    pub fn is_missing(&self) -> bool {
+        match self {
+            Failure::OfDisk(_, error) => error.kind() == ErrorKind::NotFound,
+            _ => false,
+        }
+    }
+
+    /// What is to be copied is no slot.
+    pub fn no_slot() -> Failure {
+        Failure::OfJournal(ErrorKind::InvalidInput.into())
+    }
 }
+
+/// What to look at where a slot is not as it should be.
+const LOOK: &str = "is this the right disk, and is it mounted?";
 
 impl Display for Failure {
     fn fmt<W: fmt::Write>(&self, f: &mut Formatter<W>) -> fmt::Result {
-        let (place, error) = match self {
-            Failure::OfDisk(name, error) => (Place::Disk(*name), error),
-            Failure::OfJournal(error) => (Place::Journal, error),
-            Failure::OfFolder(error) => (Place::Folder, error),
-            Failure::AfterSync => return f.write_str("nothing is done after a sync that failed"),
-        };
-        write!(f, "{place}: {error}")
+        match self {
+            Failure::OfDisk(name, error) => write!(f, "{}: {error}", Place::Disk(*name)),
+            Failure::OfJournal(error) => write!(f, "{}: {error}", Place::Journal),
+            Failure::OfFolder(error) => write!(f, "{}: {error}", Place::Folder),
+            Failure::AfterSync => f.write_str("nothing is done after a sync that failed"),
+            Failure::OneFile(disk, other) => write!(
+                f,
+                "{} and {} are one file",
+                Place::Disk(*disk),
+                Place::Disk(*other)
+            ),
+            Failure::IsJournal(disk) => write!(
+                f,
+                "{} and {} are one file",
+                Place::Disk(*disk),
+                Place::Journal
+            ),
+            Failure::NotHeld(slot, item) => {
+                write!(
+                    f,
+                    "{slot} should hold item {}, and doesn't: {LOOK}",
+                    text_of(item)?
+                )
+            }
+            Failure::NoDisk(slot, item) => {
+                write!(
+                    f,
+                    "{slot} should hold item {}, and the file isn't there: is the disk mounted?",
+                    text_of(item)?
+                )
+            }
+            Failure::Cut(slot, item) => {
+                write!(
+                    f,
+                    "{slot} should hold item {}, and the file ends within it: {LOOK}",
+                    text_of(item)?
+                )
+            }
+            Failure::NoItem(slot) => write!(f, "{slot} is to be copied, and holds no item: {LOOK}"),
+            Failure::Held(slot, item) => {
+                write!(
+                    f,
+                    "{slot} is to be free, and holds item {}, which was seen nowhere else: {LOOK}",
+                    text_of(item)?
+                )
+            }
+        }
     }
 }

@@ -3,15 +3,15 @@ ghost use Rattle.std.specs.Prelude.{◌≡◌, ◌≤◌};
 ghost use Rattle.mig_base.specs.FaultCounts.{Rose};
 ghost use Rattle.mig_files.specs.Told.{untold_state, untold_is_state};
 
-use crate::cells::Cells;
+use crate::cells::{Cells, slot_of};
 use crate::places::Failure;
-use mig_base::Cell;
+use mig_base::{Cell, Name};
 use mig_store::{Store, StoreFailed};
 use std::alloc::Global;
 use std::fs::File;
 use std::rt::Files;
 
-/// The store over the working folder. It tells nothing of content. A missing file, and what lies past a file's end, reads as zeros. A copy has ended when `begin` returns. After a sync that failed each call fails. What failed, and why, is said on standard error.
+/// The store over the working folder. It tells nothing of content. A missing file, and what lies past a file's end, reads as zeros. A copy has ended when `begin` returns; a slot that holds no item isn't copied, and no item is written over or erased that was seen nowhere else. After a sync that failed each call fails. What failed, and why, is said on standard error.
 pub struct FileStore<'a, R: Files<File = File> + Eprint> {
     rt: &'a R,
     cells: Cells,
@@ -64,6 +64,26 @@ impl<'a, R: Files<File = File> + Eprint> Store for FileStore<'a, R> {
         }
     }
 
+    fn expects(&mut self, slot: &Cell, name: &Name) -> Result<(), StoreFailed> {
+        let Some(slot) = slot_of(slot) else {
+            return Ok(());
+        };
+        match self.cells.expects(self.rt, slot, name) {
+            Ok(()) => Ok(()),
+            Err(failure) => Err(self.fault(failure)),
+        }
+    }
+
+    fn expects_free(&mut self, slot: &Cell) -> Result<(), StoreFailed> {
+        let Some(slot) = slot_of(slot) else {
+            return Ok(());
+        };
+        match self.cells.expects_free(self.rt, slot) {
+            Ok(()) => Ok(()),
+            Err(failure) => Err(self.fault(failure)),
+        }
+    }
+
     fn write(&mut self, cell: &Cell, bytes: &[u8]) -> Result<(), StoreFailed> {
         match self.cells.write(self.rt, cell, bytes) {
             Ok(()) => Ok(()),
@@ -72,6 +92,9 @@ impl<'a, R: Files<File = File> + Eprint> Store for FileStore<'a, R> {
     }
 
     fn begin(&mut self, from: &Cell, to: &Cell) -> Result<(), StoreFailed> {
+        let (Some(from), Some(to)) = (slot_of(from), slot_of(to)) else {
+            return Err(self.fault(Failure::no_slot()));
+        };
         match self.cells.copy(self.rt, from, to) {
             Ok(()) => Ok(()),
             Err(failure) => Err(self.fault(failure)),
