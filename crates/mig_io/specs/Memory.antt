@@ -21,6 +21,7 @@ pub record Held : Type 0 where
   pub calls : ℕ
   pub faults : ℕ
 
+-- a code that stands for it
 abbrev pub held_code : Coded Held
 held_code =
     code_by (((Files × Rooms) × List ℕ) × (ℕ × ℕ)) (coded× (coded× (coded× (map.code (coded_list coded_ℕ) (coded_list coded_ℕ)) (map.code (coded_list coded_ℕ) coded_ℕ)) (coded_list coded_ℕ)) (coded× coded_ℕ coded_ℕ))

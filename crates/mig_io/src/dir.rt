@@ -13,6 +13,7 @@ use std::rt::Files;
 /// The working folder. A name is a path of the operating system, and two spellings of one file are two names. Of what files hold nothing is told. A file that was loaded, and the one that was saved last, is never saved over, whatever its spelling: a folder serves one run. What failed, and why, is said on standard error.
 pub struct DirFolder<'a, R: Files<File = File> + Eprint> {
     rt: &'a R,
+    alloc: Global,
     loaded: Vec<Node>,
     saved: Option<Node>,
     faults: u64,
@@ -22,6 +23,7 @@ impl<'a, R: Files<File = File> + Eprint> Drop for DirFolder<'a, R> {
     fn drop(self) {
         let DirFolder {
             rt: _,
+            alloc: _,
             loaded,
             saved: _,
             faults: _,
@@ -37,6 +39,7 @@ impl<'a, R: Files<File = File> + Eprint> DirFolder<'a, R> {
     {
         DirFolder {
             rt,
+            alloc,
             loaded: Vec::new(alloc),
             saved: None,
             faults: 0,
@@ -108,7 +111,7 @@ impl<'a, R: Files<File = File> + Eprint> Folder for DirFolder<'a, R> {
             loaded: &self.loaded,
             saved: self.saved,
         };
-        match save_over(self.rt, &used, name, bytes) {
+        match save_over(self.rt, self.alloc, &used, name, bytes) {
             Ok(saved) => {
                 self.saved = saved;
                 Ok(())

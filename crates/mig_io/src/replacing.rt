@@ -1,9 +1,10 @@
 //! Saving a file whole: after a crash a plain file holds what it held before, or the new bytes.
 use crate::writing::write_whole;
+use std::alloc::Global;
 use std::fmt::{self, Display, Formatter};
 use std::fs::{self, File, Metadata, OpenOptions, Permissions};
-use std::io::{self, Error, ErrorKind};
-use std::os::unix::fs::{MetadataExt, PermissionsExt};
+use std::io::{self, Error, ErrorKind, Read};
+use std::os::unix::fs::{FileTypeExt, MetadataExt, PermissionsExt};
 use std::path::Path;
 use std::rt::Files;
 
@@ -85,14 +86,15 @@ enum Target {
     InPlace(File),
 }
 
-/// Makes the file hold these bytes, unless it was used, and answers which one it is. A plain file is replaced whole; a device, a pipe, or what a link leads to is written in place.
+/// Makes the file hold these bytes, unless it was used, and answers which one it is. A plain file is replaced whole; a terminal, a pipe, or what a link leads to is written in place, but never a disk or a journal.
 pub fn save_over<R: Files<File = File>>(
     rt: &R,
+    alloc: Global,
     used: &Used,
     name: &str,
     bytes: &[u8],
 ) -> Result<Option<Node>, Unsaved> {
-    let made = match target_of(rt, used, name) {
+    let made = match target_of(rt, alloc, used, name) {
         Ok(Target::Plain(mode)) => {
             replace(rt, used, name, bytes, Some(mode)).map_err(Unsaved::OldStands)?
         }
@@ -107,26 +109,62 @@ pub fn save_over<R: Files<File = File>>(
 }
 
 /// Finds what a name leads to; an error where that was used, or can't be written. Nothing is changed.
-fn target_of<R: Files<File = File>>(rt: &R, used: &Used, name: &str) -> io::Result<Target> {
+fn target_of<R: Files<File = File>>(
+    rt: &R,
+    alloc: Global,
+    used: &Used,
+    name: &str,
+) -> io::Result<Target> {
     let file = match OpenOptions::new().write(true).open(rt, name) {
         Ok(file) => file,
-        Err(error) if error.kind() == ErrorKind::NotFound => return free_target_of(rt, name),
+        Err(error) if error.kind() == ErrorKind::NotFound => return free_target_of(rt, alloc, name),
         Err(error) => return Err(error),
     };
     let found = file.metadata()?;
     if let Some(refusal) = node_of(&found).and_then(|node| used.refusal(node)) {
         return Err(Error::other(refusal));
     }
+    if found.file_type().is_block_device() {
+        return Err(Error::other("it is a block device"));
+    }
+    if found.is_file() {
+        check_text(rt, name)?;
+    }
     if found.is_file() && !fs::symlink_metadata(rt, name)?.is_symlink() {
         return Ok(Target::Plain(found.mode()));
+    }
+    if found.is_file() {
+        check_path(rt.canonicalize(alloc, name)?.as_str())?;
     }
     Ok(Target::InPlace(file))
 }
 
+/// Refuses a file that holds no text, where it can be read: it may be a disk or the journal under another name. A disk's slot has a byte 0 or 1 in its first bytes, and so has a journal.
+fn check_text<R: Files<File = File>>(rt: &R, name: &str) -> io::Result<()> {
+    let Ok(mut file) = fs::open(rt, name) else {
+        return Ok(());
+    };
+    let mut first = [0u8; 4096];
+    let count = file.read(&mut first)?;
+    if first[..count].iter().any(|byte| *byte < 2) {
+        return Err(Error::other("what it holds is no text"));
+    }
+    Ok(())
+}
+
+/// Refuses what a link leads to where it has the name of a disk or of a journal.
+fn check_path(path: &str) -> io::Result<()> {
+    if path.ends_with(".disk") || path.ends_with(".mig") {
+        return Err(Error::other("it leads to a disk or a journal"));
+    }
+    Ok(())
+}
+
 /// A name that leads to no file yet: it is free, or it is a link to one that is free, through which an empty file is made.
-fn free_target_of<R: Files<File = File>>(rt: &R, name: &str) -> io::Result<Target> {
+fn free_target_of<R: Files<File = File>>(rt: &R, alloc: Global, name: &str) -> io::Result<Target> {
     match fs::symlink_metadata(rt, name) {
         Ok(_) => {
+            check_path(rt.read_link(alloc, name)?.as_str())?;
             let file = OpenOptions::new().write(true).create(true).open(rt, name)?;
             Ok(Target::InPlace(file))
         }

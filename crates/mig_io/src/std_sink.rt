@@ -3,9 +3,9 @@ ghost use Rattle.std.specs.Prelude.{◌≡◌, None, ℕ};
 
 use crate::writing::write_whole;
 use crate::{Sink, SinkFailed};
-use std::io;
+use std::io::{self, ErrorKind};
 
-/// Standard output. Of what reaches it nothing is told. What failed, and why, is said on standard error.
+/// Standard output. Of what reaches it nothing is told. What failed, and why, is said on standard error, unless it is that the other end of a pipe was closed.
 pub struct StdSink<'a, R: Print + Eprint> {
     rt: &'a R,
     faults: u64,
@@ -34,7 +34,10 @@ impl<'a, R: Print + Eprint> Sink for StdSink<'a, R> {
         let Err(error) = write_whole(&mut out, bytes) else {
             return Ok(());
         };
-        let _ = eprintln!(self.rt; "migrate: cannot write to standard output: {error}");
+        // who closes a pipe wants no more of it, and no news
+        if error.kind() != ErrorKind::BrokenPipe {
+            let _ = eprintln!(self.rt; "migrate: cannot write to standard output: {error}");
+        }
         self.faults = self.faults.saturating_add(1);
         Err(SinkFailed)
     }
