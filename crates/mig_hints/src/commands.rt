@@ -1,0 +1,56 @@
+//! The commands, and what each of their words stands for.
+
+/// The commands in the order in which they are listed.
+pub(crate) const COMMANDS: [&str; 10] = [
+    "plan", "check", "after", "fill", "audit", "move", "resume", "halt", "drill", "rehearse",
+];
+
+static WITH_CERT: [&str; 5] = ["DISKS", "NOW", "NEXT", "PLAN", "CERT"];
+
+static WITH_LAYOUT: [&str; 5] = ["DISKS", "NOW", "NEXT", "PLAN", "LAYOUT"];
+
+static WITH_PLAN: [&str; 4] = ["DISKS", "NOW", "NEXT", "PLAN"];
+
+static TWO_FILES: [&str; 2] = ["DISKS", "NOW"];
+
+static CASE: [&str; 3] = ["N", "PERPAIR", "LIMIT"];
+
+/// The forms of all commands, for standard error.
+pub const FORMS: &str = "\
+The commands:
+  migrate plan DISKS NOW NEXT PLAN CERT    plan the moves from NOW to NEXT, and save PLAN and CERT
+  migrate check DISKS NOW NEXT PLAN CERT   judge a plan and its certificate
+  migrate after DISKS NOW NEXT PLAN        print where the items are once the plan is carried out
+  migrate fill DISKS NOW                   write a made item to each spot of NOW
+  migrate audit DISKS NOW                  say of each item whether it is at its spot of NOW
+  migrate move DISKS NOW NEXT PLAN         carry the plan out
+  migrate resume DISKS NOW NEXT PLAN       carry out what a stopped move left
+  migrate halt DISKS NOW NEXT PLAN LAYOUT  close the plan where it stands, and save where the items are there
+  migrate drill DISKS NOW NEXT PLAN        try each stop of the plan on stores in memory
+  migrate rehearse N PERPAIR LIMIT         plan a case of N disks with this limit and PERPAIR items from each to each other
+DISKS, NOW and NEXT are CSV files; PLAN is a plan and CERT its certificate.
+Each command has just these words, in this order, and no options. Often:
+  PLAN and CERT of plan, and LAYOUT of halt, must differ from each other and from the other files
+  a file's name has 1 to 255 bytes
+  a file's name ends neither in .disk nor in .mig
+  N is 2 to 1024, N times N - 1 times PERPAIR 1 to 65536, LIMIT 1 to 1024";
+
+/// What the words after a command's name stand for, in their order; None where it is no command.
+pub(crate) fn roles_of(command: &str) -> Option<&'static [&'static str]> {
+    match command {
+        "plan" | "check" => Some(&WITH_CERT),
+        "halt" => Some(&WITH_LAYOUT),
+        "after" | "move" | "resume" | "drill" => Some(&WITH_PLAN),
+        "fill" | "audit" => Some(&TWO_FILES),
+        "rehearse" => Some(&CASE),
+        _ => None,
+    }
+}
+
+/// The word that has this role, if the command has one.
+pub(crate) fn word_for<'a>(words: &'a [String], role: &str) -> Option<&'a str> {
+    let (command, files) = words.split_first()?;
+    let roles = roles_of(command.as_str())?;
+    let place = roles.iter().position(|it| *it == role)?;
+    Some(files.get(place)?.as_str())
+}
