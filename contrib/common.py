@@ -60,14 +60,15 @@ def save_all(files, inputs=()):
 
 
 def put(text, out, mode=0o644, inputs=()):
-    """Saves a text under `out`, or prints it where that is None."""
+    """Saves a text under `out`, or prints it where that is None. Where its reader has gone, as `head` goes, nothing is said of it."""
     if out is not None:
         return save_all({out: (text, mode)}, inputs)
     if sys.stdout is None:
         fail("standard output is closed")
     try:
+        sys.stdout.reconfigure(encoding="utf-8", errors="surrogateescape")
         sys.stdout.write(text)
         sys.stdout.flush()
     except OSError as error:
         os.dup2(os.open(os.devnull, os.O_WRONLY), 1)
-        fail(f"standard output cannot be written: {error.strerror}")
+        isinstance(error, BrokenPipeError) or fail(f"standard output cannot be written: {error.strerror}")

@@ -2,24 +2,40 @@
 import collections, itertools, json, re
 from common import fail, read_text
 from plans import MOST_ITEMS, MOST_SLOTS, NAME
+from pvmoves import leg_of, top_of
 
-LVS = "lvs -a --segments --reportformat json -o lv_name,seg_pe_ranges,seg_size_pe VG"
-PVS = "pvs --reportformat json -o pv_name,pv_pe_count -S vg_name=VG"
+LVS = "lvs -a --segments --reportformat json -o vg_name,lv_name,lv_role,segtype,seg_pe_ranges VG"
+PVS = "pvs --reportformat json -o vg_name,pv_name,pv_attr,pv_pe_count -S vg_name=VG"
+# What pvmove can move alone. A volume with a snapshot, a snapshot, and the parts of a cache have other roles.
+ROLES = {"public", "private,raid,image", "private,raid,metadata", "private,mirror,image", "private,mirror,log",
+         "private,thin,pool,data", "private,thin,pool,metadata", "private,pool,spare"}
 
-# Extents `first` to `last` of a device, all of one volume; whether pvmove can move them alone.
-Piece = collections.namedtuple("Piece", "volume device first last movable")
+# Extents `first` to `last` of a device, all of one volume; whether pvmove can move them alone. LVM keeps the legs of a group,
+# which are those of a raid or a mirror, or the stripes of a segment, on devices of their own. Elsewhere the group is None.
+Piece = collections.namedtuple("Piece", "volume device first last movable group leg")
 
 
-def report(path, key, columns, command):
-    """The rows of a report of LVM in JSON: of each row these columns."""
+def report(path, key, command):
+    """The rows of a report of LVM in JSON, with the columns that the command asks for."""
+    columns = re.search(r"-o (\S+)", command)[1].split(",")
     try:
-        rows = [row for part in json.loads(read_text(path))["report"] for row in part[key]]
-        lists = [[row[column] for column in columns] for row in rows]
+        rows = [dict(row) for part in json.loads(read_text(path))["report"] for row in part[key]]
     except (ValueError, KeyError, TypeError):
         fail(f"{path} does not hold what this prints: {command}")
-    if len({row.get("vg_name") for row in rows}) > 1:
-        fail(f"{path} has more than one volume group, and a plan is for one: {command}")
-    return lists or fail(f"{path} lists nothing; is the volume group's name right in: {command}")
+    lacks = [it for it in columns if any(it not in row for row in rows)]
+    lacks and fail(f"{path} lacks the column{'s' * (len(lacks) > 1)} {', '.join(lacks)}; this prints all that is needed: {command}")
+    return rows or fail(f"{path} lists nothing; is the volume group's name right in: {command}")
+
+
+def read_reports(lvs, pvs):
+    """The rows of both reports, which are of one volume group. What is in no volume group is left out."""
+    segments, devices = report(lvs, "seg", LVS), [row for row in report(pvs, "pv", PVS) if row["vg_name"]]
+    devices or fail(f"{pvs} has no physical volume that is in a volume group: {PVS}")
+    names = [sorted({row["vg_name"] for row in rows}) for rows in (segments, devices)]
+    for path, found, command in (lvs, names[0], LVS), (pvs, names[1], PVS):
+        len(found) == 1 or fail(f"{path} has the volume groups {' and '.join(found)}, and a plan is for one: {command}")
+    names[0] == names[1] or fail(f"{lvs} is of the volume group {names[0][0]}, and {pvs} of {names[1][0]}: make both for one")
+    return segments, devices
 
 
 def count(text, path, what):
@@ -29,10 +45,23 @@ def count(text, path, what):
     return int(text)
 
 
-def read_sizes(path):
-    """The number of extents of each physical volume. One without any is in no volume group, and is left out."""
-    sizes = {device: count(size, path, device) for device, size in report(path, "pv", ["pv_name", "pv_pe_count"], PVS)}
-    return {device: size for device, size in sizes.items() if size} or fail(f"{path} has no physical volume with extents")
+def read_sizes(rows, path, segments):
+    """The number of extents of each physical volume, and those to which LVM lets nothing come. LVM moves nothing while one is away."""
+    sizes, closed = {}, set()
+    for name, attr in ((row["pv_name"], row["pv_attr"]) for row in rows):
+        if not re.fullmatch(r"[au-][x-][m-].*", attr):
+            fail(f"{path}: {name} has the pv_attr '{attr}', which is that of no sound physical volume")
+        if attr[2] == "m":
+            there = dict.fromkeys(row["lv_name"].strip("[]") for row in segments if f"{name}:" in str(row["seg_pe_ranges"]))
+            fail(f"{path}: the physical volume {name} is missing (pv_attr {attr}); on it {', '.join(there) or 'no volume'} has extents. LVM moves "
+                 "nothing until it is back, or is given up by vgreduce --removemissing")
+        attr[1] == "x" and fail(f"{path}: {name} is exported (pv_attr {attr}): call vgimport first")
+        attr[0] == "a" or closed.add(name)
+    for row in rows:
+        name = row["pv_name"]
+        name not in sizes or fail(f"{path} has {name} twice")
+        sizes[name] = count(row["pv_pe_count"], path, name)
+    return {device: size for device, size in sizes.items() if size} or fail(f"{path} has no physical volume with extents"), closed
 
 
 def ranges_of(volume, text, path):
@@ -42,23 +71,25 @@ def ranges_of(volume, text, path):
         yield found[1], int(found[2]), int(found[3])
 
 
-def read_pieces(path, sizes):
+def read_pieces(rows, path, sizes):
     """What is used of each device, in order. A volume over volumes is passed over: those have rows of their own."""
-    rows, pieces = report(path, "seg", ["lv_name", "seg_pe_ranges", "seg_size_pe"], LVS), []
-    volumes = {volume.strip("[]") for volume, _, _ in rows}
-    for volume, text, size in rows:
-        ranges = list(ranges_of(volume, text, path))
-        for device, first, last in ranges:
-            if re.fullmatch(r"pvmove[0-9]+", device) or re.fullmatch(r"\[pvmove[0-9]+\]", volume):
+    roles, pieces = {row["lv_name"].strip("[]"): row["lv_role"] for row in rows}, []
+    for at, row in enumerate(rows):
+        volume = row["lv_name"].strip("[]")
+        ranges = list(ranges_of(volume, row["seg_pe_ranges"], path))
+        movable = row["lv_role"] in ROLES and row["segtype"] in ("linear", "striped")
+        movable = movable and (top_of(volume) == volume or roles.get(top_of(volume)) in ("public", "private"))
+        for number, (device, first, last) in enumerate(ranges):
+            if re.fullmatch(r"pvmove[0-9]+", device) or re.fullmatch(r"pvmove[0-9]+", volume):
                 fail(f"{volume} is being moved: let `pvmove` end it, or give it up with `pvmove --abort`; then make both reports anew")
             if device not in sizes:
-                if device not in volumes:
+                if device not in roles:
                     fail(f"{volume} lies on {device}, which neither report has: call lvs with -a, and both for one volume group")
                 continue
             if not first <= last < sizes[device]:
                 fail(f"{volume} has {device}:{first}-{last}, and {device} has {sizes[device]} extents: make both reports anew")
-            alone = len(ranges) == 1 and last - first + 1 == count(size, path, volume)
-            pieces.append(Piece(volume, device, first, last, alone and not volume.startswith("[")))
+            group, leg = leg_of(volume) or (((volume, at), number) if len(ranges) > 1 else (None, 0))
+            pieces.append(Piece(volume, device, first, last, movable, group, leg))
     pieces.sort(key=lambda it: (it.device, it.first))
     for one, two in itertools.pairwise(pieces):
         if one.device == two.device and two.first <= one.last:
@@ -66,26 +97,16 @@ def read_pieces(path, sizes):
     return pieces
 
 
-def cut(pieces, unit):
-    """The pieces in each run of `unit` extents that is used, by device and slot. None where they are too many."""
+def cut(pieces, unit, sizes):
+    """The pieces in each run of `unit` extents that is used, by device and slot. None where they, or the slots, are too many."""
     items = collections.defaultdict(list)
-    for it in pieces:
+    for it in pieces if max(sizes.values()) <= unit * MOST_SLOTS else ():
         slots = range(it.first // unit, it.last // unit + 1)
         if len(items) + len(slots) > MOST_ITEMS + 1:
             return None
         for slot in slots:
             items[it.device, slot].append(it._replace(first=max(it.first, slot * unit), last=min(it.last, slot * unit + unit - 1)))
-    return items if len(items) <= MOST_ITEMS else None
-
-
-def choose_unit(pieces, sizes, wanted):
-    """The least power of two with which items and slots stay within the limits, or the one that is wanted; and its items."""
-    for unit in [wanted] if wanted else (1 << n for n in range(40)):
-        items = cut(pieces, unit) if max(sizes.values()) <= unit * MOST_SLOTS else None
-        if items is not None:
-            return unit, items
-    fail(f"a unit of {wanted} extents gives more than {MOST_ITEMS} items, or a disk of more than {MOST_SLOTS} slots: "
-         "take a greater --unit, or none")
+    return items if 0 < len(items) <= MOST_ITEMS else None
 
 
 def short(name, taken):

@@ -45,6 +45,13 @@ def read_rows(path, *headers):
     return list(enumerate(rows[1:], 1))
 
 
+def table(rows):
+    """The text of a CSV file with these rows."""
+    text = io.StringIO()
+    csv.writer(text, lineterminator="\n").writerows(rows)
+    return text.getvalue()
+
+
 def number(text, least, most, where):
     if not (re.fullmatch(r"[0-9]{1,10}", text, re.ASCII) and least <= int(text) <= most):
         fail(f"{where}: '{text}' is no number from {least} to {most}")

@@ -1,11 +1,12 @@
 """What the tests of contrib/ share: a folder with the program, the scripts and stand-ins for the tools; the recorded outputs, read
 here for themselves; what is counted."""
 import collections, csv, json, os, re, shutil, subprocess, sys, tempfile
+from ceph_model import exceptions_in, groups_in
 
 TOP = os.path.dirname(os.path.dirname(os.path.realpath(__file__)))
 SAMPLES = f"{TOP}/contrib/samples"
-SCRIPTS = ["from-lvm", "to-lvm", "from-ceph", "to-ceph", "run-plan", "picture", "summary", "progress"]
-STAND_INS = ["lvs", "pvs", "pvmove", "osdmaptool", "ceph"]
+SCRIPTS = ["from-lvm", "to-lvm", "from-ceph", "to-ceph", "from-folders", "run-plan", "picture", "summary", "progress"]
+STAND_INS = ["lvs", "pvs", "pvmove", "osdmaptool", "crushtool", "ceph"]
 FILES = ["disks.csv", "now.csv", "next.csv"]
 PROGRAM = os.path.realpath(sys.argv[1] if len(sys.argv) > 1 else f"{TOP}/crates/migrate/out/migrate")
 
@@ -46,9 +47,11 @@ class Room:
         os.symlink(os.path.realpath(sys.executable), self.path("bin/python3"))
         for name in STAND_INS:
             os.symlink(f"{TOP}/tests/stand-in", self.path(f"bin/{name}"))
+        for name in ("mount", "umount", "mountpoint"):
+            os.symlink(f"{TOP}/tests/stand-in-mount", self.path(f"bin/{name}"))
         self.keep("state/lvm.json", {"devices": sizes_of(), "volumes": volumes_of(), "moving": {}})
-        self.keep("state/ceph.json", {"raw": {it: list(map(int, osds)) for it, osds in groups_of("raw").items()}, "balancer": False,
-                                      "pairs": exceptions_of(), "acting": {}, "late": {}})
+        self.keep("state/ceph.json", {"raw": {it: chosen for it, (chosen, _) in groups_in(page("contrib/samples/ceph/before")).items()}, "balancer": False,
+                                      "pairs": exceptions_in(page("contrib/samples/ceph/dump")), "acting": {}, "late": {}, "dropped": ""})
         self.env = {**os.environ, "PATH": f"{self.path('bin')}:{os.environ['PATH']}", "STAND_IN": self.path("state"), "PAUSE": "0",
                     "COLUMNS": "200", "LANG": "C.UTF-8", "LVM_SUPPRESS_FD_WARNINGS": "1"}
 
@@ -83,7 +86,9 @@ class Room:
         found = {}
         for folder, inner, names in os.walk(self.at):
             inner[:] = [it for it in inner if it not in ("bin", "state", "examples")]
-            found.update({os.path.relpath(f"{folder}/{it}", self.at): self.read(os.path.relpath(f"{folder}/{it}", self.at)) for it in names})
+            for path in (f"{folder}/{it}" for it in names if os.path.exists(f"{folder}/{it}")):
+                with open(path, "rb") as file:
+                    found[os.path.relpath(path, self.at)] = file.read()
         return found
 
     def run(self, command):
@@ -108,40 +113,23 @@ class Room:
 
 # The recorded outputs, read here for themselves
 
-def sizes_of():
-    with open(f"{SAMPLES}/lvm/pvs.json", encoding="ascii") as file:
+def sizes_of(name="pvs.json"):
+    with open(f"{SAMPLES}/lvm/{name}", encoding="ascii") as file:
         return {row["pv_name"]: int(row["pv_pe_count"]) for row in json.load(file)["report"][0]["pv"]}
 
 
-def volumes_of(report=None):
-    """Each volume's extents in order: device and number."""
-    if report is None:
-        with open(f"{SAMPLES}/lvm/lvs.json", encoding="ascii") as file:
+def volumes_of(report="lvs.json"):
+    """Each volume's extents in the order of its data, device and number: of a report, or of a recorded one. Those of volumes over
+    volumes are none."""
+    if isinstance(report, str):
+        with open(f"{SAMPLES}/lvm/{report}", encoding="ascii") as file:
             report = json.load(file)
     volumes = collections.defaultdict(list)
     for row in report["report"][0]["seg"]:
-        device, first, last = re.fullmatch(r"(.+):(\d+)-(\d+)", row["seg_pe_ranges"]).groups()
-        volumes[row["lv_name"]] += [[device, at] for at in range(int(first), int(last) + 1)]
+        ranges = re.findall(r"(/\S+):(\d+)-(\d+)", row["seg_pe_ranges"])
+        for at in zip(*(range(int(first), int(last) + 1) for _, first, last in ranges)):
+            volumes[row["lv_name"].strip("[]")] += [[device, extent] for (device, _, _), extent in zip(ranges, at)]
     return volumes
-
-
-def groups_in(text):
-    return {it[0]: it[1].split(",") for it in re.findall(r"^(\d+\.[0-9a-f]+)\t\[([0-9,]+)\]\t", text, re.M)}
-
-
-def groups_of(name):
-    with open(f"{SAMPLES}/ceph/{name}", encoding="ascii") as file:
-        return groups_in(file.read())
-
-
-def exceptions_in(text):
-    return {group: [list(map(int, it)) for it in zip(osds.split(",")[::2], osds.split(",")[1::2])]
-            for group, osds in re.findall(r"^pg_upmap_items (\S+) \[([0-9,]+)\]", text, re.M)}
-
-
-def exceptions_of():
-    with open(f"{SAMPLES}/ceph/dump", encoding="ascii") as file:
-        return exceptions_in(file.read())
 
 
 def rows_of(text):
