@@ -1,5 +1,5 @@
-"""What bench/stops and bench/halts share: plans, layouts, disks of items with random bytes, and what their files then hold.
-All files are those of the working folder."""
+"""What bench/stops and bench/halts share, and tests/power in part: plans, layouts, disks of items with random bytes, and what their
+files then hold. All files are those of the working folder."""
 import os, random
 
 SLOT, GATE = 4096, 512
@@ -21,15 +21,20 @@ def named_in(now, rounds):
 
 
 def read_rounds(name="plan.txt"):
+    """The shifts of each round of a plan that was saved."""
+    with open(name) as file:
+        return rounds_of(file)
+
+
+def rounds_of(lines):
     """The shifts of each round of a plan, as (item, (disk, slot), (disk, slot))."""
     rounds = []
-    with open(name) as file:
-        for line in file:
-            words = line.split()
-            if words[0] == "round":
-                rounds.append([])
-            elif len(words) == 5:
-                rounds[-1].append((words[0], (words[1], int(words[2])), (words[3], int(words[4]))))
+    for line in lines:
+        words = line.split()
+        if words[0] == "round":
+            rounds.append([])
+        elif len(words) == 5:
+            rounds[-1].append((words[0], (words[1], int(words[2])), (words[3], int(words[4]))))
     return rounds
 
 

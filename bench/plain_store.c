@@ -1,8 +1,9 @@
-/* What `migrate fill`, `audit` and `move` do with files, written plainly and without their checks, to be measured beside them:
+/* What `migrate fill`, `audit`, `move` and `resume` do with files, written plainly and without their checks, to be measured beside them:
    the same reads, writes and syncs in the same order. Disks are named d0, d1 and so on, and items i0, i1 and so on, as in the
    cases that `store` makes.
 
-       plain_store fill DISKS NOW        plain_store audit DISKS NOW        plain_store move DISKS NOW NEXT PLAN */
+       plain_store fill DISKS NOW        plain_store move DISKS NOW NEXT PLAN
+       plain_store audit DISKS NOW       plain_store resume DISKS NOW NEXT PLAN */
 #define _GNU_SOURCE
 #include <fcntl.h>
 #include <stdint.h>
@@ -12,13 +13,14 @@
 #include <sys/file.h>
 #include <unistd.h>
 
-enum { DISKS = 1024, ITEMS = 65536, SLOT = 4096, SECTOR = 512 };
+enum { DISKS = 1024, ITEMS = 65536, SLOT = 4096, HEADER = 34, SECTOR = 512 };
 
 struct spot { int disk, slot; };
 struct shift { int item; struct spot from, to; };
 
 static struct spot now[ITEMS];
 static int items;
+static const unsigned char zeros[SLOT], one = 1;
 static int files[DISKS], dirty[DISKS], journal = -1, journal_dirty, made;
 
 static void fail(const char *what) { perror(what); exit(1); }
@@ -87,18 +89,19 @@ static void lock_journal(void) {
     if (flock(journal, LOCK_EX | LOCK_NB)) fail("journal.mig");
 }
 
-static void read_slot(struct spot spot, unsigned char *into) {
+/* Reads the first bytes of a slot. */
+static void read_slot(struct spot spot, unsigned char *into, size_t length) {
     char name[32];
     if (files[spot.disk] == 0) {
         snprintf(name, sizeof name, "d%d.disk", spot.disk);
         if (access(name, F_OK)) {
-            memset(into, 0, SLOT);
+            memset(into, 0, length);
             return;
         }
     }
-    ssize_t got = pread(disk_file(spot.disk), into, SLOT, (off_t)SLOT * spot.slot);
+    ssize_t got = pread(disk_file(spot.disk), into, length, (off_t)SLOT * spot.slot);
     if (got < 0) fail("read");
-    memset(into + got, 0, SLOT - got);
+    memset(into + got, 0, length - got);
 }
 
 static void write_slot(struct spot spot, const unsigned char *bytes) {
@@ -128,11 +131,13 @@ static void sync_all(void) {
     }
 }
 
-static int gate_is_one(void) {
-    unsigned char gate = 0;
-    if (pread(journal, &gate, 1, SECTOR) < 0) fail("journal.mig");
-    return gate == 1;
+static int byte_of_journal(int sector) {
+    unsigned char byte = 0;
+    if (pread(journal, &byte, 1, (off_t)SECTOR * sector) < 0) fail("journal.mig");
+    return byte;
 }
+
+static int gate_is_one(void) { return byte_of_journal(1) == 1; }
 
 /* What is read from texts. */
 
@@ -175,7 +180,7 @@ static struct shift shift_of(char *at) {
 /* Slots. */
 
 static void header_of(int item, unsigned char *slot) {
-    memset(slot, 0, 34);
+    memset(slot, 0, HEADER);
     slot[0] = 1;
     slot[1] = (unsigned char)sprintf((char *)slot + 2, "i%d", item);
 }
@@ -190,7 +195,7 @@ static void made_slot(int item, unsigned char *slot) {
 static int is_there(int item, const unsigned char *slot) {
     unsigned char header[40];
     header_of(item, header);
-    return memcmp(header, slot, 34) == 0;
+    return memcmp(header, slot, HEADER) == 0;
 }
 
 /* The commands. */
@@ -200,7 +205,7 @@ static void fill(void) {
     sync_all();
     if (gate_is_one()) exit(8);
     for (int i = 0; i < items; i++) {
-        read_slot(now[i], slot);
+        read_slot(now[i], slot, SLOT);
         if (slot[0] == 1) exit(9);
     }
     for (int i = 0; i < items; i++) {
@@ -215,7 +220,7 @@ static void audit(void) {
     unsigned char slot[SLOT], digest[32];
     int here = 0;
     for (int i = 0; i < items; i++) {
-        read_slot(now[i], slot);
+        read_slot(now[i], slot, SLOT);
         sha256(slot, SLOT, digest);
         int there = is_there(i, slot);
         here += there;
@@ -230,51 +235,98 @@ static void audit(void) {
     printf("%d here, %d lost\n", here, items - here);
 }
 
-static void move(const char *name) {
-    static const unsigned char zeros[SLOT], one = 1;
-    unsigned char slot[SLOT], digest[32];
-    size_t length;
-    char *text = read_text(name, &length), *at = skip_line(text);
-    int rounds = atoi(at + 7), moved = 0;
-    char *first = skip_line(at);
-    int *sizes = calloc(rounds + 1, sizeof *sizes);
-    struct shift *shifts = calloc(ITEMS, sizeof *shifts);
-    at = first;
-    for (int r = 0; r < rounds; r++) {
+struct plan { char *text; size_t length; int rounds, moved, *sizes; struct shift *shifts; };
+
+static struct plan read_plan(const char *name) {
+    struct plan plan = {0};
+    plan.text = read_text(name, &plan.length);
+    char *at = skip_line(plan.text);
+    plan.rounds = atoi(at + 7);
+    plan.sizes = calloc(plan.rounds + 1, sizeof *plan.sizes);
+    plan.shifts = calloc(ITEMS, sizeof *plan.shifts);
+    at = skip_line(at);
+    for (int r = 0; r < plan.rounds; r++) {
         strtol(at + 6, &at, 10);
-        sizes[r] = strtol(at, &at, 10);
+        plan.sizes[r] = strtol(at, &at, 10);
         at = skip_line(at);
-        for (int i = 0; i < sizes[r]; i++, at = skip_line(at)) shifts[moved++] = shift_of(at);
+        for (int i = 0; i < plan.sizes[r]; i++, at = skip_line(at)) plan.shifts[plan.moved++] = shift_of(at);
     }
-    sync_all();
-    if (gate_is_one()) exit(8);
+    return plan;
+}
+
+static void check_ready(const struct plan *plan) {
+    unsigned char slot[SLOT];
     for (int i = 0; i < items; i++) {
-        read_slot(now[i], slot);
+        read_slot(now[i], slot, SLOT);
         if (!is_there(i, slot)) exit(9);
     }
-    for (int i = 0; i < moved; i++) {
-        read_slot(shifts[i].to, slot);
+    for (int i = 0; i < plan->moved; i++) {
+        read_slot(plan->shifts[i].to, slot, SLOT);
         if (slot[0] == 1) exit(9);
     }
-    sha256((unsigned char *)text, length, digest);
-    for (int r = 1; r <= rounds; r++) write_journal(zeros, 1, (off_t)SECTOR * (r + 1));
+}
+
+static void arm(const struct plan *plan) {
+    unsigned char digest[32];
+    sha256((unsigned char *)plan->text, plan->length, digest);
+    for (int r = 1; r <= plan->rounds; r++) write_journal(zeros, 1, (off_t)SECTOR * (r + 1));
     write_journal(digest, 32, 0);
     sync_all();
     write_journal(&one, 1, SECTOR);
     sync_all();
-    struct shift *round = shifts;
-    for (int r = 1; r <= rounds; round += sizes[r - 1], r++) {
-        for (int i = 0; i < sizes[r - 1]; i++) {
-            read_slot(round[i].from, slot);
+}
+
+static void erase(const struct shift *round, int size) {
+    for (int i = 0; i < size; i++) write_slot(round[i].from, zeros);
+}
+
+/* Carries out the rounds after the first `found`; the shifts of the next one begin at `round`. */
+static void carry_out(const struct plan *plan, int found, const struct shift *round) {
+    unsigned char slot[SLOT];
+    for (int r = found + 1; r <= plan->rounds; round += plan->sizes[r - 1], r++) {
+        for (int i = 0; i < plan->sizes[r - 1]; i++) {
+            read_slot(round[i].from, slot, SLOT);
             write_slot(round[i].to, slot);
         }
         sync_all();
         write_journal(&one, 1, (off_t)SECTOR * (r + 1));
         sync_all();
-        for (int i = 0; i < sizes[r - 1]; i++) write_slot(round[i].from, zeros);
+        erase(round, plan->sizes[r - 1]);
     }
     sync_all();
-    printf("done %d rounds, found 0\n", rounds);
+    printf("done %d rounds, found %d\n", plan->rounds, found);
+}
+
+static void move(const char *name) {
+    struct plan plan = read_plan(name);
+    sync_all();
+    if (gate_is_one()) exit(8);
+    check_ready(&plan);
+    arm(&plan);
+    carry_out(&plan, 0, plan.shifts);
+}
+
+/* The header of each item that is moved is read where the marked rounds have put it. */
+static void look_for_all(const struct plan *plan, const struct shift *next) {
+    unsigned char header[HEADER];
+    for (const struct shift *s = plan->shifts; s < plan->shifts + plan->moved; s++) {
+        read_slot(s < next ? s->to : s->from, header, HEADER);
+        if (!is_there(s->item, header)) exit(5);
+    }
+}
+
+static void resume(const char *name) {
+    struct plan plan = read_plan(name);
+    unsigned char digest[32], head[32];
+    sync_all();
+    sha256((unsigned char *)plan.text, plan.length, digest);
+    if (!gate_is_one() || pread(journal, head, sizeof head, 0) != sizeof head || memcmp(head, digest, sizeof head)) exit(8);
+    const struct shift *next = plan.shifts;
+    int found = 0;
+    for (; found < plan.rounds && byte_of_journal(found + 2) == 1; found++) next += plan.sizes[found];
+    look_for_all(&plan, next);
+    if (found) erase(next - plan.sizes[found - 1], plan.sizes[found - 1]);
+    carry_out(&plan, found, next);
 }
 
 int main(int count, char **words) {
@@ -283,6 +335,7 @@ int main(int count, char **words) {
     if (strcmp(words[1], "fill") == 0) fill();
     else if (strcmp(words[1], "audit") == 0) audit();
     else if (strcmp(words[1], "move") == 0 && count > 5) move(words[5]);
+    else if (strcmp(words[1], "resume") == 0 && count > 5) resume(words[5]);
     else return 2;
     return 0;
 }
