@@ -1,6 +1,9 @@
 pub mod Counts
 pub mod Files
 pub mod Held
+pub mod HostSaves
+pub mod MemSaves
 pub mod Memory
 pub mod Places
+pub mod Saves
 pub mod Streams

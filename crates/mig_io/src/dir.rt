@@ -2,8 +2,10 @@
 ghost use Rattle.std.specs.Prelude.{◌≡◌, ◌≢◌, ◌≤◌, ◌↔◌, vec_len, None, IfOk};
 ghost use Rattle.std.specs.IoError.{error_kind};
 
+use crate::host_save::{HostSave, PATH_MAX, node_of};
 use crate::reading::read_first;
-use crate::replacing::{Node, Used, node_of, save_over};
+use crate::replacing::{Unsaved, save_over};
+use crate::save_calls::Node;
 use crate::{Folder, LoadFault, SaveFailed};
 use std::alloc::Global;
 use std::fs::{self, File};
@@ -86,6 +88,20 @@ fn read_noted(
     read_first(alloc, file, most)
 }
 
+/// Saves a file by calls over the system.
+fn save_named<R: Files<File = File>>(
+    rt: &R,
+    alloc: Global,
+    loaded: &[Node],
+    saved: Option<Node>,
+    name: &str,
+    bytes: &[u8],
+) -> Result<Option<Node>, Unsaved> {
+    let mut room = [0u8; PATH_MAX];
+    let mut calls = HostSave::new(rt, alloc, loaded, saved, name, &mut room);
+    save_over(&mut calls, bytes)
+}
+
 impl<'a, R: Files<File = File> + Eprint> Folder for DirFolder<'a, R> {
     ghost state = { λ s. record { files = None; faults = s.faults } };
 
@@ -107,11 +123,7 @@ impl<'a, R: Files<File = File> + Eprint> Folder for DirFolder<'a, R> {
     }
 
     fn save(&mut self, name: &str, bytes: &[u8]) -> Result<(), SaveFailed> {
-        let used = Used {
-            loaded: &self.loaded,
-            saved: self.saved,
-        };
-        match save_over(self.rt, self.alloc, &used, name, bytes) {
+        match save_named(self.rt, self.alloc, &self.loaded, self.saved, name, bytes) {
             Ok(saved) => {
                 self.saved = saved;
                 Ok(())

@@ -1,50 +1,11 @@
 //! Saving a file whole: after a crash a plain file holds what it held before, or the new bytes.
-use crate::writing::write_whole;
-use std::alloc::Global;
+ghost use Rattle.std.specs.Prelude.{◌≡◌, ◌≤◌, ◌++◌, [], Some, ℕ, IsTrue, IfErr, OnOk, OnErr, length};
+ghost use Rattle.mig_base.specs.FaultCounts.{Rose};
+ghost use Rattle.mig_io.specs.Saves.{IsBytes, IsPlaced, IsSettled, LeavesOldOrNew, SaveChange, StandsAs, Stays};
+
+use crate::save_calls::{Node, SaveCalls, Target};
 use std::fmt::{self, Display, Formatter};
-use std::fs::{self, File, Metadata, OpenOptions, Permissions};
-use std::io::{self, Error, ErrorKind, Read};
-use std::os::unix::fs::{FileTypeExt, MetadataExt, PermissionsExt};
-use std::path::Path;
-use std::rt::Files;
-
-/// Which file of the system it is, whatever its name.
-#[derive(Clone, Copy, PartialEq, Eq)]
-pub struct Node {
-    device: u64,
-    inode: u64,
-}
-
-/// The node of a plain file. A pipe or a device may be read and written in one run.
-pub fn node_of(found: &Metadata) -> Option<Node> {
-    if !found.is_file() {
-        return None;
-    }
-    Some(Node {
-        device: found.dev(),
-        inode: found.ino(),
-    })
-}
-
-/// The files that a run has used: none of them is saved over.
-#[derive(Clone, Copy)]
-pub struct Used<'a> {
-    pub loaded: &'a [Node],
-    pub saved: Option<Node>,
-}
-
-impl<'a> Used<'a> {
-    /// Why a file is not to be saved over.
-    fn refusal(&self, node: Node) -> Option<&'static str> {
-        if self.loaded.contains(&node) {
-            Some("it was loaded in this run")
-        } else if self.saved == Some(node) {
-            Some("it was saved in this run")
-        } else {
-            None
-        }
-    }
-}
+use std::io::{self, Error, ErrorKind};
 
 /// Why a file was not saved, and what stands under its name.
 #[derive(Clone, Copy)]
@@ -75,220 +36,113 @@ impl Display for Unsaved {
     }
 }
 
-/// What a name leads to before it is saved.
-#[derive(Drop)]
-enum Target {
-    /// A plain file, with its mode.
-    Plain(u32),
-    /// Nothing, and no link.
-    Missing,
-    /// A device, a pipe, or a link to what it leads to.
-    InPlace(File),
-}
-
-/// Makes the file hold these bytes, unless it was used, and answers which one it is. A plain file is replaced whole; a terminal, a pipe, or what a link leads to is written in place, but never a disk or a journal.
-pub fn save_over<R: Files<File = File>>(
-    rt: &R,
-    alloc: Global,
-    used: &Used,
-    name: &str,
-    bytes: &[u8],
-) -> Result<Option<Node>, Unsaved> {
-    let made = match target_of(rt, alloc, used, name) {
-        Ok(Target::Plain(mode)) => {
-            replace(rt, used, name, bytes, Some(mode)).map_err(Unsaved::OldStands)?
-        }
-        Ok(Target::Missing) => replace(rt, used, name, bytes, None).map_err(Unsaved::Unchanged)?,
-        Ok(Target::InPlace(file)) => {
-            return write_in_place(file, bytes).map_err(Unsaved::InPart);
-        }
+/// Makes the file hold these bytes, and answers which one it is. A plain file is replaced whole: a crash at any moment leaves what it might have left before, or the new bytes. A terminal, a pipe, or what a link leads to is written in place.
+pub fn save_over<C: SaveCalls>(calls: &mut C, bytes: &[u8]) -> Result<Option<Node>, Unsaved>
+    ensures whole { IsTrue (C.SaveCalls.state calls.old).told → LeavesOldOrNew bytes.now (C.SaveCalls.state calls.old) (C.SaveCalls.state calls.new) }
+    ensures saved { OnOk result (IsTrue (C.SaveCalls.state calls.old).told → (C.SaveCalls.state calls.new).stands ≡ Some bytes.now) }
+    ensures settled { OnOk result (IsTrue (C.SaveCalls.state calls.old).told → IsTrue (C.SaveCalls.state calls.old).listed → IsSettled (C.SaveCalls.state calls.new)) }
+    ensures stands { IfErr result (λ unsaved. IsTrue (C.SaveCalls.state calls.old).told → StandsAs bytes.now (C.SaveCalls.state calls.old) (C.SaveCalls.state calls.new) unsaved) }
+    ensures failed { OnErr result (Rose (C.SaveCalls.state calls.old).failures (C.SaveCalls.state calls.new).failures) }
+{
+    let made = match calls.look() {
+        Ok(Target::Plain(mode)) => match replace(calls, bytes, Some(mode)) {
+            Ok(made) => made,
+            Err(error) => return Err(Unsaved::OldStands(error)),
+        },
+        Ok(Target::Missing) => match replace(calls, bytes, None) {
+            Ok(made) => made,
+            Err(error) => return Err(Unsaved::Unchanged(error)),
+        },
+        Ok(Target::InPlace) => return calls.save_in_place(bytes).map_err(Unsaved::InPart),
         Err(error) => return Err(Unsaved::Unchanged(error)),
     };
-    sync_folder_of(rt, name).map_err(Unsaved::NewStands)?;
-    Ok(made)
-}
-
-/// Finds what a name leads to; an error where that was used, or can't be written. Nothing is changed.
-fn target_of<R: Files<File = File>>(
-    rt: &R,
-    alloc: Global,
-    used: &Used,
-    name: &str,
-) -> io::Result<Target> {
-    let file = match OpenOptions::new().write(true).open(rt, name) {
-        Ok(file) => file,
-        Err(error) if error.kind() == ErrorKind::NotFound => return free_target_of(rt, alloc, name),
-        Err(error) => return Err(error),
-    };
-    let found = file.metadata()?;
-    if let Some(refusal) = node_of(&found).and_then(|node| used.refusal(node)) {
-        return Err(Error::other(refusal));
-    }
-    if found.file_type().is_block_device() {
-        return Err(Error::other("it is a block device"));
-    }
-    if found.is_file() {
-        check_text(rt, name)?;
-    }
-    if found.is_file() && !fs::symlink_metadata(rt, name)?.is_symlink() {
-        return Ok(Target::Plain(found.mode()));
-    }
-    if found.is_file() {
-        check_path(rt.canonicalize(alloc, name)?.as_str())?;
-    }
-    Ok(Target::InPlace(file))
-}
-
-/// Refuses a file that holds no text, where it can be read: it may be a disk or the journal under another name. A disk's slot has a byte 0 or 1 in its first bytes, and so has a journal.
-fn check_text<R: Files<File = File>>(rt: &R, name: &str) -> io::Result<()> {
-    let Ok(mut file) = fs::open(rt, name) else {
-        return Ok(());
-    };
-    let mut first = [0u8; 4096];
-    let count = file.read(&mut first)?;
-    if first[..count].iter().any(|byte| *byte < 2) {
-        return Err(Error::other("what it holds is no text"));
-    }
-    Ok(())
-}
-
-/// Refuses what a link leads to where it has the name of a disk or of a journal.
-fn check_path(path: &str) -> io::Result<()> {
-    if path.ends_with(".disk") || path.ends_with(".mig") {
-        return Err(Error::other("it leads to a disk or a journal"));
-    }
-    Ok(())
-}
-
-/// A name that leads to no file yet: it is free, or it is a link to one that is free, through which an empty file is made.
-fn free_target_of<R: Files<File = File>>(rt: &R, alloc: Global, name: &str) -> io::Result<Target> {
-    match fs::symlink_metadata(rt, name) {
-        Ok(_) => {
-            check_path(rt.read_link(alloc, name)?.as_str())?;
-            let file = OpenOptions::new().write(true).create(true).open(rt, name)?;
-            Ok(Target::InPlace(file))
-        }
-        Err(error) if error.kind() == ErrorKind::NotFound => Ok(Target::Missing),
-        Err(error) => Err(error),
-    }
-}
-
-/// The most bytes of a file's own name, and of a path.
-const NAME_MAX: usize = 255;
-
-const PATH_MAX: usize = 4096;
-
-/// No word for a file ends in `.mig`, and no name followed by this is the journal's.
-const SUFFIX: &str = ".new.mig";
-
-/// The path of the new file, in memory of the caller: the name, cut where the system would find it too long, and the suffix.
-fn new_path<'b>(name: &str, room: &'b mut [u8; PATH_MAX]) -> io::Result<&'b str> {
-    let own = Path::new(name).file_name().map_or(0, |own| own.len());
-    let over = (own + SUFFIX.len()).saturating_sub(NAME_MAX);
-    let mut end = name.len().saturating_sub(over);
-    for _ in 0..4 {
-        if !name.is_char_boundary(end) {
-            end = end.saturating_sub(1);
-        }
-    }
-    let Some(stem) = name.get(..end) else {
-        return Err(ErrorKind::InvalidFilename.into());
-    };
-    let whole = stem.len() + SUFFIX.len();
-    if whole > PATH_MAX {
-        return Err(ErrorKind::InvalidFilename.into());
-    }
-    room[..stem.len()].copy_from_slice(stem.as_bytes());
-    room[stem.len()..whole].copy_from_slice(SUFFIX.as_bytes());
-    match std::str::from_utf8(&room[..whole]) {
-        Ok(path) => Ok(path),
-        Err(_) => Err(ErrorKind::InvalidFilename.into()),
-    }
-}
-
-/// Makes the new file. One that a run left which was cut off is removed first.
-fn make_new<R: Files<File = File>>(rt: &R, used: &Used, path: &str) -> io::Result<File> {
-    let mut options = OpenOptions::new();
-    options.write(true).create_new(true);
-    match options.open(rt, path) {
-        Err(error) if error.kind() == ErrorKind::AlreadyExists => {
-            let left = node_of(&fs::symlink_metadata(rt, path)?);
-            if left.is_none_or(|node| used.refusal(node).is_some()) {
-                return Err(Error::other("what stands at its name and .new.mig is in the way"));
-            }
-            fs::remove_file(rt, path)?;
-            options.open(rt, path)
-        }
-        opened => opened,
+    match calls.sync_folder() {
+        Ok(()) => Ok(made),
+        Err(error) => Err(Unsaved::NewStands(error)),
     }
 }
 
 /// Writes a new file beside the name, and gives it the name once it is whole. The new file is removed where that fails.
-fn replace<R: Files<File = File>>(
-    rt: &R,
-    used: &Used,
-    name: &str,
-    bytes: &[u8],
-    mode: Option<u32>,
-) -> io::Result<Option<Node>> {
-    let mut room = [0u8; PATH_MAX];
-    let path = new_path(name, &mut room)?;
-    let file = make_new(rt, used, path)?;
-    let done = fill_and_rename(rt, file, path, name, bytes, mode);
+fn replace<C: SaveCalls>(calls: &mut C, bytes: &[u8], mode: Option<u32>) -> io::Result<Option<Node>>
+    ensures placed { OnOk result (IsPlaced bytes.now (C.SaveCalls.state calls.old) (C.SaveCalls.state calls.new)) }
+    ensures unchanged { OnErr result ((C.SaveCalls.state calls.new).stands ≡ (C.SaveCalls.state calls.old).stands) }
+    ensures change { SaveChange (IsBytes bytes.now (C.SaveCalls.state calls.old)) (C.SaveCalls.state calls.old) (C.SaveCalls.state calls.new) }
+    ensures failed { OnErr result (Rose (C.SaveCalls.state calls.old).failures (C.SaveCalls.state calls.new).failures) }
+{
+    make_new(calls)?;
+    let done = fill_and_rename(calls, bytes, mode);
     if done.is_err() {
-        let _ = fs::remove_file(rt, path);
+        let _ = calls.remove();
     }
     done
 }
 
-fn fill_and_rename<R: Files<File = File>>(
-    rt: &R,
-    file: File,
-    path: &str,
-    name: &str,
+/// Makes the new file. One that a run left which was cut off is removed first.
+fn make_new<C: SaveCalls>(calls: &mut C) -> io::Result<()>
+    ensures made { OnOk result (IsTrue (C.SaveCalls.state calls.new).made) }
+    ensures empty { OnOk result (IsTrue (C.SaveCalls.state calls.old).told → (C.SaveCalls.state calls.new).beside ≡ []) }
+    ensures stays { Stays (C.SaveCalls.state calls.old) (C.SaveCalls.state calls.new) }
+    ensures failed { OnErr result (Rose (C.SaveCalls.state calls.old).failures (C.SaveCalls.state calls.new).failures) }
+{
+    match calls.make() {
+        Err(error) if error.kind() == ErrorKind::AlreadyExists => {
+            calls.check_left()?;
+            calls.remove()?;
+            calls.make()
+        }
+        made => made,
+    }
+}
+
+/// Fills the new file, brings it to the device, and then gives it the name.
+fn fill_and_rename<C: SaveCalls>(
+    calls: &mut C,
     bytes: &[u8],
     mode: Option<u32>,
-) -> io::Result<Option<Node>> {
-    if let Some(mode) = mode {
-        file.set_permissions(Permissions::from_mode(mode & 0o777))?;
-    }
-    let made = node_of(&file.metadata()?);
-    write_out(file, bytes)?;
-    if node_of(&fs::symlink_metadata(rt, path)?) != made {
-        return Err(Error::other("another process saves it at this moment"));
-    }
-    fs::rename(rt, path, name)?;
+) -> io::Result<Option<Node>>
+    requires made { IsTrue (C.SaveCalls.state calls.old).made }
+    requires empty { IsTrue (C.SaveCalls.state calls.old).told → (C.SaveCalls.state calls.old).beside ≡ [] }
+    ensures placed { OnOk result (IsPlaced bytes.now (C.SaveCalls.state calls.old) (C.SaveCalls.state calls.new)) }
+    ensures unchanged { OnErr result ((C.SaveCalls.state calls.new).stands ≡ (C.SaveCalls.state calls.old).stands) }
+    ensures change { SaveChange (IsBytes bytes.now (C.SaveCalls.state calls.old)) (C.SaveCalls.state calls.old) (C.SaveCalls.state calls.new) }
+    ensures failed { OnErr result (Rose (C.SaveCalls.state calls.old).failures (C.SaveCalls.state calls.new).failures) }
+{
+    let made = fill(calls, bytes, mode)?;
+    calls.check_made(made)?;
+    calls.rename()?;
     Ok(made)
 }
 
-/// Writes into what is there. A plain file, which a link leads to, is emptied first.
-fn write_in_place(file: File, bytes: &[u8]) -> io::Result<Option<Node>> {
-    let node = node_of(&file.metadata()?);
-    if node.is_some() {
-        file.set_len(0)?;
+/// Fills the new file, and brings it to the device.
+fn fill<C: SaveCalls>(calls: &mut C, bytes: &[u8], mode: Option<u32>) -> io::Result<Option<Node>>
+    requires made { IsTrue (C.SaveCalls.state calls.old).made }
+    requires empty { IsTrue (C.SaveCalls.state calls.old).told → (C.SaveCalls.state calls.old).beside ≡ [] }
+    ensures filled { OnOk result (IsTrue (C.SaveCalls.state calls.old).told → (C.SaveCalls.state calls.new).beside ≡ bytes.now) }
+    ensures flushed { OnOk result (IsTrue (C.SaveCalls.state calls.new).flushed) }
+    ensures made { OnOk result (IsTrue (C.SaveCalls.state calls.new).made) }
+    ensures stays { Stays (C.SaveCalls.state calls.old) (C.SaveCalls.state calls.new) }
+    ensures failed { OnErr result (Rose (C.SaveCalls.state calls.old).failures (C.SaveCalls.state calls.new).failures) }
+{
+    if let Some(mode) = mode {
+        calls.set_mode(mode)?;
     }
-    write_out(file, bytes)?;
-    Ok(node)
+    let made = calls.node()?;
+    write_all(calls, bytes)?;
+    calls.sync()?;
+    Ok(made)
 }
 
-/// Writes all bytes, syncs what can be synced, and closes. What a file system tells only at the close is lost, but after a sync that succeeded there is none of it.
-fn write_out(mut file: File, bytes: &[u8]) -> io::Result<()> {
-    write_whole(&mut file, bytes)?;
-    match file.sync_all() {
-        // a pipe or a terminal has nothing to sync
-        Err(error) if error.kind() == ErrorKind::InvalidInput => Ok(()),
-        synced => synced,
+/// Writes all bytes at the end of the new file.
+fn write_all<C: SaveCalls>(calls: &mut C, bytes: &[u8]) -> io::Result<()>
+    requires { IsTrue (C.SaveCalls.state calls.old).made }
+    ensures written { OnOk result (IsTrue (C.SaveCalls.state calls.old).told → (C.SaveCalls.state calls.new).beside ≡ (C.SaveCalls.state calls.old).beside ++ bytes.now) }
+    ensures made { IsTrue (C.SaveCalls.state calls.new).made }
+    ensures stays { Stays (C.SaveCalls.state calls.old) (C.SaveCalls.state calls.new) }
+    ensures failed { OnErr result (Rose (C.SaveCalls.state calls.old).failures (C.SaveCalls.state calls.new).failures) }
+{
+    let mut done = 0;
+    while done < bytes.len() {
+        done += calls.write(&bytes[done..])?;
     }
-}
-
-/// Syncs the folder that the name stands in, where it can be opened.
-fn sync_folder_of<R: Files<File = File>>(rt: &R, name: &str) -> io::Result<()> {
-    let folder = match Path::new(name).parent() {
-        Some(folder) if !folder.as_str().is_empty() => folder,
-        _ => Path::new("."),
-    };
-    match fs::open(rt, folder) {
-        Ok(folder) => folder.sync_all(),
-        Err(_) => Ok(()),
-    }
+    Ok(())
 }

@@ -8,7 +8,7 @@ ghost use Rattle.mig_io.specs.Streams.{AppendsBeginning};
 use std::io::{self, ErrorKind, Write};
 
 /// One write. One that a signal interrupted is tried again.
-fn write_some<W: Write>(out: &mut W, bytes: &[u8]) -> io::Result<usize>
+pub fn write_some<W: Write>(out: &mut W, bytes: &[u8]) -> io::Result<usize>
     ensures bound { WritesAtMost result bytes.now }
     ensures written { WriteAppends (W.contents out.old) (W.contents out.new) result bytes.now }
     ensures tried_again { IfErr result (λ e. error_kind e ≢ ErrorKind.Interrupted) }
