@@ -1,9 +1,5 @@
 pub mod Counts
 pub mod Files
 pub mod Held
-pub mod HostSaves
-pub mod MemSaves
 pub mod Memory
 pub mod Places
-pub mod Saves
-pub mod Streams

@@ -2,11 +2,9 @@
 ghost use Rattle.std.specs.Prelude.{◌≡◌, ◌≢◌, ◌≤◌, ◌↔◌, vec_len, None, IfOk};
 ghost use Rattle.std.specs.IoError.{error_kind};
 
-use crate::host_save::{HostSave, PATH_MAX, node_of};
 use crate::reading::read_first;
-use crate::replacing::{Unsaved, save_over};
-use crate::save_calls::Node;
 use crate::{Folder, LoadFault, SaveFailed};
+use mig_save::{HostSave, Node, PATH_MAX, Unsaved, node_of, save_over};
 use std::alloc::Global;
 use std::fs::{self, File};
 use std::io::{self, ErrorKind};

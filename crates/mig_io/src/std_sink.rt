@@ -1,8 +1,8 @@
 //! Standard output.
 ghost use Rattle.std.specs.Prelude.{◌≡◌, None, ℕ};
 
-use crate::writing::write_whole;
 use crate::{Sink, SinkFailed};
+use mig_save::write_whole;
 use std::io::{self, ErrorKind};
 
 /// Standard output. Of what reaches it nothing is told. What failed, and why, is said on standard error, unless it is that the other end of a pipe was closed.

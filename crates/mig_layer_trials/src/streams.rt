@@ -1,6 +1,7 @@
 //! Readers and writers that move a byte a call, are interrupted, or fail on the way.
 
-use mig_io::{read_first, write_whole};
+use mig_io::read_first;
+use mig_save::write_whole;
 use std::alloc::Global;
 use std::io::{self, ErrorKind, Read, Write};
 use std::panic::Expect;

@@ -1,7 +1,7 @@
 //! Saving a file whole: after a crash a plain file holds what it held before, or the new bytes.
 ghost use Rattle.std.specs.Prelude.{◌≡◌, ◌≤◌, ◌++◌, [], Some, ℕ, IsTrue, IfErr, OnOk, OnErr, length};
 ghost use Rattle.mig_base.specs.FaultCounts.{Rose};
-ghost use Rattle.mig_io.specs.Saves.{IsBytes, IsPlaced, IsSettled, LeavesOldOrNew, SaveChange, StandsAs, Stays};
+ghost use Rattle.mig_save.specs.Saves.{IsBytes, IsPlaced, IsSettled, LeavesOldOrNew, SaveChange, StandsAs, Stays};
 
 use crate::save_calls::{Node, SaveCalls, Target};
 use std::fmt::{self, Display, Formatter};

@@ -1,8 +1,8 @@
 //! The calls that save a file, in memory.
 ghost use Rattle.std.specs.Prelude.{◌≡◌, ◌≤◌, ◌++◌, ◌∷◌, [], IsTrue, IfOk, OnOk, OnErr};
 ghost use Rattle.mig_base.specs.FaultCounts.{Rose};
-ghost use Rattle.mig_io.specs.Saves.{IsSettled};
-ghost use Rattle.mig_io.specs.MemSaves.{Moment, after_step, content_of, mem_state, mem_is_state};
+ghost use Rattle.mig_save.specs.Saves.{IsSettled};
+ghost use Rattle.mig_save.specs.MemSaves.{Moment, after_step, content_of, mem_state, mem_is_state};
 
 use crate::save_calls::{Node, SaveCalls, Target};
 use std::alloc::{AllocError, Global};

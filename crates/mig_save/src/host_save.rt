@@ -1,7 +1,7 @@
 //! The calls that save a file, over the system. Each makes the one call that its name says, and what that needs to be safe.
 ghost use Rattle.std.specs.Prelude.{◌≤◌, ◌<◌, IfOk, length};
 ghost use Rattle.mig_base.specs.FaultCounts.{Rose};
-ghost use Rattle.mig_io.specs.HostSaves.{host_state, host_is_state};
+ghost use Rattle.mig_save.specs.HostSaves.{host_state, host_is_state};
 
 use crate::save_calls::{Node, SaveCalls, Target};
 use crate::writing::{write_some, write_whole};

@@ -1,6 +1,6 @@
 use Rattle.std.proofs.Common.{◌-◌, length}
-use Rattle.mig_io.specs.Saves.{HasWritten}
-use Rattle.mig_io.proofs.replacing.write_all.Given as goal
+use Rattle.mig_save.specs.Saves.{HasWritten}
+use Rattle.mig_save.proofs.replacing.write_all.Given as goal
 
 abbrev pub invariant-loop-done : goal.invariant-loop-done
 invariant-loop-done g l = HasWritten l.done l.bytes (g.C.SaveCalls.state l.fn.calls) (g.C.SaveCalls.state l.calls)

@@ -4,9 +4,9 @@ use Rattle.std.specs.declared.vec.Vec.{Vec}
 use Rattle.std.specs.declared.alloc.Global.{Global}
 use Rattle.std.proofs.Common.{sym, subst, arith}
 use Rattle.std.proofs.lemmas.List.{take_all}
-use Rattle.mig_io.specs.declared.mem_save.Step.{Step}
-use Rattle.mig_io.specs.declared.mem_save.Step.TheVariants.{Made, Wrote, Synced, Renamed, Removed, FolderSynced}
-use Rattle.mig_io.specs.Saves.{Content, SaveState, IsSaveState}
+use Rattle.mig_save.specs.declared.mem_save.Step.{Step}
+use Rattle.mig_save.specs.declared.mem_save.Step.TheVariants.{Made, Wrote, Synced, Renamed, Removed, FolderSynced}
+use Rattle.mig_save.specs.Saves.{Content, SaveState, IsSaveState}
 
 -- the bytes of a file, if there is one
 abbrev pub content_of : Option (Vec ℕ Global) → Content

@@ -1,8 +1,8 @@
 use Rattle.std.proofs.Common.{◌≤◌, ◌++◌, ℕ, List, append_assoc, arith, length-drop, length, slice_range, subst, sym, ap, ◌∙◌, take}
 use Rattle.std.proofs.lemmas.List.{take_rest}
 use Rattle.std.proofs.Math.Seq.{take-add}
-use Rattle.mig_io.proofs.SaveSteps.{stays_then, told_after}
-use Rattle.mig_io.proofs.replacing.write_all.Goals as goal
+use Rattle.mig_save.proofs.SaveSteps.{stays_then, told_after}
+use Rattle.mig_save.proofs.replacing.write_all.Goals as goal
 
 pub loop-done-preserved : goal.loop-done-preserved
 loop-done-preserved g c =

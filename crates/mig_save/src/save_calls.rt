@@ -1,7 +1,7 @@
 //! What saving a file asks of the system: a few calls on what stands under one name, and on a new file beside it.
 ghost use Rattle.std.specs.Prelude.{◌≡◌, ◌≤◌, ◌<◌, ◌++◌, [], Some, IsTrue, IsFalse, IfOk, OnOk, OnErr, length, take};
 ghost use Rattle.mig_base.specs.FaultCounts.{Rose};
-ghost use Rattle.mig_io.specs.Saves.{SaveState, IsSaveState, IsNewWhole, IsSettled, KeepsNew, SaveChange, Stays};
+ghost use Rattle.mig_save.specs.Saves.{SaveState, IsSaveState, IsNewWhole, IsSettled, KeepsNew, SaveChange, Stays};
 
 use std::io;
 

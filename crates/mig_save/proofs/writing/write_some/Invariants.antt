@@ -1,5 +1,5 @@
 use Rattle.std.specs.Io.KnownBytes.{Keeps}
-use Rattle.mig_io.proofs.writing.write_some.Given as goal
+use Rattle.mig_save.proofs.writing.write_some.Given as goal
 
 -- a write that was interrupted wrote nothing
 abbrev pub invariant-loop : goal.invariant-loop

@@ -3,7 +3,7 @@ ghost use Rattle.std.specs.Prelude.{◌≢◌, OnOk, OnErr, IfErr};
 ghost use Rattle.std.specs.Io.{WritesAtMost};
 ghost use Rattle.std.specs.Io.KnownBytes.{Appends, WriteAppends};
 ghost use Rattle.std.specs.IoError.{error_kind};
-ghost use Rattle.mig_io.specs.Streams.{AppendsBeginning};
+ghost use Rattle.mig_save.specs.Streams.{AppendsBeginning};
 
 use std::io::{self, ErrorKind, Write};
 

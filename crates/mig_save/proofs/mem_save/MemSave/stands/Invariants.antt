@@ -1,6 +1,6 @@
 use Rattle.std.proofs.Common.{◌≡◌, take}
-use Rattle.mig_io.specs.MemSaves.{content_of, after}
-use Rattle.mig_io.proofs.mem_save.MemSave.stands.Given as goal
+use Rattle.mig_save.specs.MemSaves.{content_of, after}
+use Rattle.mig_save.proofs.mem_save.MemSave.stands.Given as goal
 
 abbrev pub invariant-loop-step : goal.invariant-loop-step
 invariant-loop-step l =

@@ -1,5 +1,5 @@
 use Rattle.std.proofs.Common.{rules}
-use Rattle.mig_io.proofs.writing.write_some.Goals as goal
+use Rattle.mig_save.proofs.writing.write_some.Goals as goal
 
 pub returns-in_default-clause-tried_again : goal.returns-in_default-clause-tried_again
 returns-in_default-clause-tried_again g c = search rules

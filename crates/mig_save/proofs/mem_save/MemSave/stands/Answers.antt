@@ -1,10 +1,10 @@
 use Rattle.std.proofs.Common.{◌≡◌, ◌+◌, ◌<◌, ℕ, List, length, take, get_or, sym, ap, ◌∙◌, arith}
 use Rattle.std.proofs.lemmas.List.Sums.{fold_more}
-use Rattle.mig_io.specs.declared.mem_save.Step.{Step}
-use Rattle.mig_io.specs.declared.mem_save.Step.TheVariants.{Made}
-use Rattle.mig_io.specs.Saves.{Content}
-use Rattle.mig_io.specs.MemSaves.{Moment, after_step, blank, after, content_of}
-use Rattle.mig_io.proofs.mem_save.MemSave.stands.Goals as goal
+use Rattle.mig_save.specs.declared.mem_save.Step.{Step}
+use Rattle.mig_save.specs.declared.mem_save.Step.TheVariants.{Made}
+use Rattle.mig_save.specs.Saves.{Content}
+use Rattle.mig_save.specs.MemSaves.{Moment, after_step, blank, after, content_of}
+use Rattle.mig_save.proofs.mem_save.MemSave.stands.Goals as goal
 
 -- the moment after one step more
 one_more : (first : Content) (steps read : List Step) (i : ℕ) → read ≡ steps → i < length steps → after_step (after first (take i steps)) (get_or read i Made) ≡ after first (take (i + 1) steps)

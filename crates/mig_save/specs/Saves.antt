@@ -1,7 +1,7 @@
 -- What stands under a name while its file is saved, and what a crash may leave of it.
 use Rattle.std.specs.Prelude.{◌≡◌, ◌⊎◌, ◌≤◌, ◌++◌, ℕ, Bool, IsTrue, List, length, take, Option, Some}
-use Rattle.mig_io.specs.declared.replacing.Unsaved.{Unsaved}
-use Rattle.mig_io.specs.declared.replacing.Unsaved.TheVariants.{Unchanged, OldStands, InPart, NewStands}
+use Rattle.mig_save.specs.declared.replacing.Unsaved.{Unsaved}
+use Rattle.mig_save.specs.declared.replacing.Unsaved.TheVariants.{Unchanged, OldStands, InPart, NewStands}
 
 -- what stands under a name: the bytes of its file, or no file
 abbrev pub Content : Type 0

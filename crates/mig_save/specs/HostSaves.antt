@@ -1,6 +1,6 @@
 -- A name that tells nothing but how many calls failed.
 use Rattle.std.specs.Prelude.{ℕ, true, false, [], None}
-use Rattle.mig_io.specs.Saves.{SaveState, IsSaveState}
+use Rattle.mig_save.specs.Saves.{SaveState, IsSaveState}
 
 -- What isn't told holds of no content, so each of these may be said.
 abbrev pub host_state : ℕ → SaveState

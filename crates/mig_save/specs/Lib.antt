@@ -1,0 +1,4 @@
+pub mod HostSaves
+pub mod MemSaves
+pub mod Saves
+pub mod Streams
