@@ -1,4 +1,6 @@
+pub mod Alike
 pub mod Auditing
+pub mod Before
 pub mod BestFits
 pub mod Drilling
 pub mod EightLines

@@ -1,4 +1,6 @@
+pub mod Alike
 pub mod Audits
+pub mod Before
 pub mod Bodies
 pub mod Calls
 pub mod Causes
