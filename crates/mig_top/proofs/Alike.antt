@@ -21,12 +21,12 @@ use Rattle.mig_top.specs.Alike.{Alike, AreReadAlike, IsSame}
 use Rattle.mig_top.specs.Loads.{IsLayoutRefusal, IsNoCert, IsNoPlan, IsRefusal, LayoutBodies, reads_cert, reads_input, reads_layout, reads_plan}
 use Rattle.mig_top.specs.Steps.{Step}
 
-pub alike_sym : (a b : List ℕ) → Alike a b → Alike b a
+alike_sym : (a b : List ℕ) → Alike a b → Alike b a
 alike_sym a b (inl same) = inl (sym same)
 alike_sym a b (inr long) = inr (long.1, long.0)
 
 -- of two that are alike, if one is short they are the same
-pub short_same : (a b : List ℕ) → Alike a b → length a ≤ MAX_FILE_BYTES → a ≡ b
+short_same : (a b : List ℕ) → Alike a b → length a ≤ MAX_FILE_BYTES → a ≡ b
 short_same a b (inl same) short = same
 short_same a b (inr long) short = absurd (let more = long.0 in omega (arith, more, short))
 

@@ -1,6 +1,5 @@
 pub mod Alike
 pub mod Auditing
-pub mod Before
 pub mod BestFits
 pub mod Drilling
 pub mod EightLines

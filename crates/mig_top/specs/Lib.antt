@@ -1,6 +1,5 @@
 pub mod Alike
 pub mod Audits
-pub mod Before
 pub mod Bodies
 pub mod Calls
 pub mod Causes
