@@ -1,36 +1,28 @@
 -- How `audit` ends.
-use Rattle.std.proofs.Common.{◌≡◌, ◌⊎◌, ◌≤◌, inl, inr, ℕ, List, [], ◌∷◌, ◌++◌, length, refl, arith, codes}
+use Rattle.std.proofs.Common.{◌≡◌, ◌⊎◌, ◌≤◌, inl, inr, ℕ, List, ◌++◌, length, refl, arith, codes}
 use Rattle.mig_base.specs.FaultCounts.{Rose}
 use Rattle.mig_base.specs.InputLists.{Lists}
 use Rattle.mig_base.specs.Stores.{Looks}
 use Rattle.mig_io.specs.Held.{SinkState, Extends, ExtendsInPart}
 use Rattle.mig_top.specs.Audits.{HavePutSights, SinkStops, StoreStops}
-use Rattle.mig_words.specs.declared.endings.Ending.{Ending}
 use Rattle.mig_top.specs.Calls.{Call, Untouched}
 use Rattle.mig_top.specs.Ends.{FormEndsAs, WorldEnds}
-use Rattle.mig_top.specs.Loading.{NoLayout}
-use Rattle.mig_words.specs.Outcomes.{Done, SinkFault, StoreFault, outcome_of}
+use Rattle.mig_words.specs.Outcomes.{Done, SinkFault, StoreFault}
 use Rattle.mig_words.specs.Puts.{Shows}
 use Rattle.mig_top.specs.Sights.{IsAudit, sight_count}
-use Rattle.mig_top.specs.Steps.{IsDone}
 use Rattle.mig_top.specs.StoreLeaves.{AreOfLayout}
 use Rattle.mig_words.specs.Words.{Form, Audit}
 use Rattle.mig_words.proofs.PutTexts.{begins_more, then_begins, then_extends}
 use Rattle.mig_top.proofs.Sightings.{whole_audit}
-use Rattle.mig_top.proofs.StepEnds.{if_map}
-use Rattle.mig_top.proofs.StoreEnds.{two_there, unread}
+use Rattle.mig_top.proofs.Steps.{if_map}
 
 module _ (k : Call) (disks now : List ℕ) (same : Untouched k.before.folder k.after.folder) (looks : Looks k.before.store k.after.store) where
   abbrev form : Form
   form = Audit disks now
 
-  -- the layout wasn't loaded or read
-  pub audit_unread : (e : Ending) → NoLayout disks now k.before.folder k.after.folder e → WorldEnds k form (outcome_of (disks ∷ now ∷ []) e)
-  audit_unread e h = record { cause = unread k form disks now (λ files input. IsDone (IsAudit input k.before.store)) (λ files o c. c) e h; leaves = same; store = looks }
-
   module _ (input : Lists) (layout : AreOfLayout k.before.folder disks now input) (status : ℕ) where
     audit_done : (text : List ℕ) → IsAudit input k.before.store text → WorldEnds k form (Done text)
-    audit_done text audit = record { cause = if_map k.before.folder.files (λ files holds. inr (tt, two_there files disks now input holds, inr (input, holds, audit))) layout; leaves = same; store = looks }
+    audit_done text audit = record { cause = if_map k.before.folder.files (λ files holds. (input, holds, audit)) layout; leaves = same; store = looks }
 
     -- the sink failed at a line
     pub sink_stops : SinkStops input k.before.store k.before.sink k.after.sink → status ≡ 6 → FormEndsAs k form status

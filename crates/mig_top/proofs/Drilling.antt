@@ -1,79 +1,65 @@
 -- What `drill` promises, from the causes of its outcomes and what it leaves.
 use Rattle.std.proofs.Common.{◌≡◌, ◌<◌, inl, inr, ℕ, List, Some, length, refl, subst, arith}
-use Rattle.mig_base.specs.declared.ids.Shift.{Shift}
-use Rattle.mig_base.specs.InputLists.{Lists}
 use Rattle.mig_base.specs.Readiness.{shifts_of}
 use Rattle.mig_drill.specs.Drills.{drill_text}
 use Rattle.mig_drill.specs.declared.limits.TheConstants.{MAX_DRILL_SHIFTS}
 use Rattle.mig_io.specs.Files.{Files}
 use Rattle.mig_io.specs.Held.{Extends}
 use Rattle.mig_mover.specs.Tasks.{Task}
+use Rattle.mig_words.specs.Outcomes.{Outcome, Done, TooLarge, code}
+use Rattle.mig_words.specs.Words.{Form, Names, Drill, IsListed}
 use Rattle.mig_top.specs.Calls.{Call, Untouched}
 use Rattle.mig_top.specs.Causes.{FormCause, fits_drill}
-use Rattle.mig_top.specs.Ends.{Ends, EndsAs, FormEnds}
+use Rattle.mig_top.specs.Ends.{EndsAs, FormEndsAs, IsOrNotPut, WorldEnds}
 use Rattle.mig_top.specs.Headline.{DrillsWell}
-use Rattle.mig_top.specs.MoveLooks.{IsTaskOf}
-use Rattle.mig_top.specs.Steps.{IsDone, Then}
+use Rattle.mig_top.specs.Loads.{IsTaskOf, task_in}
+use Rattle.mig_top.specs.Steps.{Step, after, finds, IsEndOf}
 use Rattle.mig_top.specs.StoreLeaves.{IsUntouched}
-use Rattle.mig_words.specs.Outcomes.{Outcome, Done, SinkFault, TooLarge, code, text_of}
-use Rattle.mig_words.specs.Words.{Drill, IsListed}
-use Rattle.mig_top.proofs.Exactness.{comes_exactly, known_form, told}
-use Rattle.mig_top.proofs.InFlight.{task_rest}
-use Rattle.mig_top.proofs.TaskFiles.{task_cause}
+use Rattle.mig_top.proofs.EndsOf.{cause_at, ends_of, holds_by, put_by}
+use Rattle.mig_top.proofs.Exactness.{comes_exactly, task_in_exact}
+use Rattle.mig_top.proofs.Steps.{follow, lead}
 
 -- what is left of `drill` once its task is known
-abbrev drill_rest : Files → Lists → List (List Shift) → Outcome → Type 0
-drill_rest files input rounds = Then (fits_drill rounds) (λ _. IsDone (λ text. text ≡ drill_text rounds))
+abbrev drill_rest : Task → Step (List ℕ)
+drill_rest task = after (fits_drill task.plan) (λ _. finds (λ text. text ≡ drill_text task.plan))
 
-module _ (k : Call) (words : List (List ℕ)) (status : ℕ) (ends : EndsAs k words status) (files : Files) (disks : List ℕ) (now : List ℕ) (next : List ℕ) (plan : List ℕ) (task : Task)
-    (is : k.before.folder.files ≡ Some files) (holds : IsTaskOf files disks now next plan task) (l : IsListed words (Drill disks now next plan)) where
-  -- once the plan runs
-  abbrev rest : Outcome → Type 0
-  rest = drill_rest files task.input task.plan
+module _ (k : Call) (words : List (List ℕ)) (status : ℕ) (ends : EndsAs k words status) (files : Files) (names : Names) (task : Task)
+    (is : k.before.folder.files ≡ Some files) (holds : IsTaskOf files names task) (l : IsListed words (Drill names)) where
+  abbrev form : Form
+  form = Drill names
+
+  e : FormEndsAs k form status
+  e = ends_of k words status ends form l
 
   -- the cause of an outcome says how the drill of this plan ends
-  means : (o : Outcome) → FormCause files k.before.store (Drill disks now next plan) o → rest o
-  means = task_rest k words status ends files disks now next plan task is holds (Drill disks now next plan) drill_rest (λ o h. h)
+  means : (o : Outcome) → FormCause files k.before.store form o → IsEndOf (drill_rest task) o
+  means = follow (task_in names files) (task_in_exact names files) drill_rest task holds
 
-  leads : (o : Outcome) → rest o → FormCause files k.before.store (Drill disks now next plan) o
-  leads = task_cause k (Drill disks now next plan) disks now next plan drill_rest (λ files o c. c) files task holds
+  comes : (o : Outcome) → IsEndOf (drill_rest task) o → FormCause files k.before.store form o
+  comes = lead (task_in names files) drill_rest task holds
 
-  text_is : (text : List ℕ) → rest (Done text) → text ≡ drill_text task.plan
-  text_is text (inl large) = absurd large
-  text_is text (inr (u, fits, same)) = same
+  told : status ≡ 0 → Extends (drill_text task.plan) k.before.sink k.after.sink
+  told zero =
+      let (text, h, put) = put_by (WorldEnds k form) k.before.sink k.after.sink status e zero in
+      subst (λ (t : List ℕ). Extends t k.before.sink k.after.sink) (means (Done text) (cause_at k files is form (Done text) h.cause)).2 put
 
-  is_large : (shifts : ℕ) → rest (TooLarge shifts) → MAX_DRILL_SHIFTS < length (shifts_of task.plan)
+  is_large : (shifts : ℕ) → IsEndOf (drill_rest task) (TooLarge shifts) → MAX_DRILL_SHIFTS < length (shifts_of task.plan)
   is_large shifts (inl large) = large.0
   is_large shifts (inr (u, fits, done)) = absurd done
 
-  told_by : (o : Outcome) → status ≡ code o → Ends k words o → (code o ≡ 0 → Extends (text_of o) k.before.sink k.after.sink) → status ≡ 0 → Extends (drill_text task.plan) k.before.sink k.after.sink
-  told_by o at (inl unknown) put zero = absurd (unknown.1.unlisted (Drill disks now next plan) l)
-  told_by (Done text) at (inr known) put zero =
-      let cause = told (λ f. FormCause f k.before.store (Drill disks now next plan) (Done text)) k.before.folder.files files is (known_form k words (Drill disks now next plan) (Done text) l known).cause in
-      subst (λ (t : List ℕ). Extends t k.before.sink k.after.sink) (text_is text (means (Done text) cause)) (put refl)
-  told_by o at (inr known) put zero = absurd (omega (arith, at, zero))
-
-  large_by : (o : Outcome) → status ≡ code o → Ends k words o → status ≡ 11 → MAX_DRILL_SHIFTS < length (shifts_of task.plan)
-  large_by o at (inl unknown) eleven = absurd (unknown.1.unlisted (Drill disks now next plan) l)
-  large_by (TooLarge shifts) at (inr known) eleven =
-      let cause = told (λ f. FormCause f k.before.store (Drill disks now next plan) (TooLarge shifts)) k.before.folder.files files is (known_form k words (Drill disks now next plan) (TooLarge shifts) l known).cause in
-      is_large shifts (means (TooLarge shifts) cause)
-  large_by o at (inr known) eleven = absurd (omega (arith, at, eleven))
-
-  kept_by : (o : Outcome) → Ends k words o → Untouched k.before.folder k.after.folder × IsUntouched k.before.store k.after.store
-  kept_by o (inl unknown) = absurd (unknown.1.unlisted (Drill disks now next plan) l)
-  kept_by o (inr known) = by o (known_form k words (Drill disks now next plan) o l known)
+  large : status ≡ 11 → MAX_DRILL_SHIFTS < length (shifts_of task.plan)
+  large eleven = by e.0 e.1 e.2
     where
-      by : (o : Outcome) → FormEnds k (Drill disks now next plan) o → Untouched k.before.folder k.after.folder × IsUntouched k.before.store k.after.store
-      by (SinkFault text) h = (h.1.leaves, h.1.store)
-      by o h = (h.leaves, h.store)
+      by : (o : Outcome) → status ≡ code o → IsOrNotPut (WorldEnds k form) k.before.sink k.after.sink o → MAX_DRILL_SHIFTS < length (shifts_of task.plan)
+      by (TooLarge shifts) at h = is_large shifts (means (TooLarge shifts) (cause_at k files is form (TooLarge shifts) h.cause))
+      by o at h = absurd (omega (arith, at, eleven))
 
   pub drills_well : DrillsWell k task status
   drills_well = record {
-    told = told_by ends.0 ends.1 ends.2 ends.3.done;
-    drills = λ fits fine quiet. comes_exactly k words status ends files (Drill disks now next plan) is l (Done (drill_text task.plan)) (leads (Done (drill_text task.plan)) (inr (tt, fits, refl))) fine quiet tt;
-    refuses = λ large fine quiet. comes_exactly k words status ends files (Drill disks now next plan) is l (TooLarge (length (shifts_of task.plan))) (leads (TooLarge (length (shifts_of task.plan))) (inl (large, refl))) fine quiet tt;
-    large = large_by ends.0 ends.1 ends.2;
-    files = (kept_by ends.0 ends.2).0;
-    store = (kept_by ends.0 ends.2).1;
+    told = told;
+    drills = λ fits fine quiet. comes_exactly k words status ends files form is l (Done (drill_text task.plan)) (comes (Done (drill_text task.plan)) (tt, fits, refl)) fine quiet tt;
+    refuses = λ more fine quiet. comes_exactly k words status ends files form is l (TooLarge (length (shifts_of task.plan))) (comes (TooLarge (length (shifts_of task.plan))) (inl (more, refl))) fine quiet tt;
+    large = large;
+    files = holds_by (WorldEnds k form) k.before.sink k.after.sink status e (Untouched k.before.folder k.after.folder) (λ o h. h.leaves);
+    store = holds_by (WorldEnds k form) k.before.sink k.after.sink status e (IsUntouched k.before.store k.after.store) (λ o h. h.store);
   }

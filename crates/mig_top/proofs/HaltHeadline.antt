@@ -26,25 +26,25 @@ use Rattle.mig_mover.specs.Halts.{IsClosingCell}
 use Rattle.mig_mover.specs.Moves.{Lands, Settles}
 use Rattle.mig_mover.specs.Tasks.{Task}
 use Rattle.mig_mover.proofs.Settling.{settles_land}
+use Rattle.mig_words.specs.Outcomes.{Outcome, Done, FolderFault, StoreFault, SinkFault, Memory, NotStarted, OtherPlan, code}
+use Rattle.mig_words.specs.Words.{Form, Names, Halt, IsListed}
 use Rattle.mig_top.specs.Calls.{Call, FolderFailed, SinkFailed, StoreFailed}
-use Rattle.mig_top.specs.Ends.{Ends, EndsAs, FormEnds, Says}
+use Rattle.mig_top.specs.Ends.{EndsAs, IsOrNotPut, Says, WorldEnds}
 use Rattle.mig_top.specs.HaltHeadline.{BeginsAfter, HaltsWell}
 use Rattle.mig_top.specs.HaltLeaves.{AllMayHalt, HaltLeaves, HaltsAll, HaltsInPart, IsLayoutSaved, IsUnwritten, MayHalt, SavesLayout}
 use Rattle.mig_top.specs.HaltLooks.{IsStandRefusal, halted_text, stands}
+use Rattle.mig_top.specs.Loads.{IsTaskOf, task_in}
 use Rattle.mig_top.specs.MoveLeaves.{AreOfTask}
-use Rattle.mig_top.specs.MoveLooks.{IsTaskOf, task_of}
-use Rattle.mig_words.specs.Outcomes.{Outcome, Done, FolderFault, StoreFault, SinkFault, Memory, NotStarted, OtherPlan, code}
 use Rattle.mig_top.specs.StoreLeaves.{IsUntouched, WroteNothing}
 use Rattle.mig_top.specs.StoreLooks.{IsShown}
-use Rattle.mig_words.specs.Words.{Form, Halt, IsListed}
-use Rattle.mig_top.proofs.Exactness.{known_form, told}
+use Rattle.mig_top.proofs.EndsOf.{ends_of, one_changed, told_at}
+use Rattle.mig_top.proofs.Exactness.{task_in_exact}
 use Rattle.mig_top.proofs.HaltExact.{named_refused}
 use Rattle.mig_top.proofs.Halting.{halt_rest, saved_only}
-use Rattle.mig_top.proofs.InFlight.{journal_found, status_so, task_rest}
-use Rattle.mig_top.proofs.StepEnds.{one_changed}
-use Rattle.mig_top.proofs.Steps.{only_done}
+use Rattle.mig_top.proofs.InFlight.{journal_found, status_so}
+use Rattle.mig_top.proofs.MoveHeadline.{same_task}
+use Rattle.mig_top.proofs.Steps.{follow, only_done}
 use Rattle.mig_top.proofs.StoreEnds.{quiet, untouched_quiet}
-use Rattle.mig_top.proofs.TaskFiles.{one_task, task_parts}
 
 -- Where nothing was written
 
@@ -113,7 +113,7 @@ module _ (k : Call) (files : Files) (task : Task) (layout : List ℕ) (status : 
   new = k.after.store
 
   others_kept : ChangedOnly layout k.before.folder k.after.folder → IsSomeAnd k.after.folder.files (OthersStay layout files)
-  others_kept changed = told (λ f. IsSomeAnd k.after.folder.files (OthersStay layout f)) k.before.folder.files files is changed
+  others_kept changed = told_at (λ f. IsSomeAnd k.after.folder.files (OthersStay layout f)) k.before.folder.files files is changed
 
   quiet_well : IsQuiet old new → ChangedOnly layout k.before.folder k.after.folder → ((status ≡ 0) ⊎ (status ≡ 6) → ⊥) → HaltsWell k files task layout status
   quiet_well q changed not = record {
@@ -136,7 +136,7 @@ module _ (k : Call) (files : Files) (task : Task) (layout : List ℕ) (status : 
   module _ (rounds : ℕ) (part : HaltsInPart task old new rounds) (saves : SavesLayout task layout rounds k.before.folder k.after.folder)
       (whole : (status ≡ 0) ⊎ (status ≡ 6) → HaltsAll task old new rounds) (said : status ≡ 0 → Extends (halted_text task.plan rounds) k.before.sink k.after.sink) where
     is_saved : IsSomeAnd k.after.folder.files (IsLayoutSaved task layout rounds files)
-    is_saved = told (λ f. IsSomeAnd k.after.folder.files (IsLayoutSaved task layout rounds f)) k.before.folder.files files is saves
+    is_saved = told_at (λ f. IsSomeAnd k.after.folder.files (IsLayoutSaved task layout rounds f)) k.before.folder.files files is saves
 
     written_well : HaltsWell k files task layout status
     written_well = record {
@@ -157,10 +157,10 @@ module _ (k : Call) (files : Files) (task : Task) (layout : List ℕ) (status : 
       next = λ done contents tells may begun after. begins_well task rounds contents new.reads ((whole done).halted contents tells may) begun after;
     }
 
-module _ (k : Call) (words : List (List ℕ)) (status : ℕ) (ends : EndsAs k words status) (law : IsState k.before.store) (files : Files) (disks : List ℕ) (now : List ℕ) (next : List ℕ) (plan : List ℕ) (layout : List ℕ) (task : Task)
-    (is : k.before.folder.files ≡ Some files) (l : IsListed words (Halt disks now next plan layout)) (holds : IsTaskOf files disks now next plan task) where
+module _ (k : Call) (words : List (List ℕ)) (status : ℕ) (ends : EndsAs k words status) (law : IsState k.before.store) (files : Files) (names : Names) (layout : List ℕ) (task : Task)
+    (is : k.before.folder.files ≡ Some files) (l : IsListed words (Halt names layout)) (holds : IsTaskOf files names task) where
   abbrev form : Form
-  form = Halt disks now next plan layout
+  form = Halt names layout
 
   -- Completeness
 
@@ -171,17 +171,13 @@ module _ (k : Call) (words : List (List ℕ)) (status : ℕ) (ends : EndsAs k wo
 
   completes : Completes k task status
   completes are armed named =
-      let rest = task_rest k words status ends files disks now next plan task is holds form (halt_rest k.before.store plan) (λ o h. h) in
-      status_so k words status ends files disks now next plan task is holds form l (λ o h. only_done (stands (task_of files plan task.input task.plan) k.before.store) (λ found text. text ≡ halted_text task.plan found) none o (rest o h))
-    where
-      none : (o : Outcome) → IsShown task.input k.before.store (IsStandRefusal (task_of files plan task.input task.plan)) o → ⊥
-      none o stops = unrefused are armed named o (subst (λ (t : Task). IsShown task.input k.before.store (IsStandRefusal t) o) (sym (task_parts files disks now next plan task holds)) stops)
+      status_so k words status ends files is form l (λ o h. only_done (stands task k.before.store) (λ found text. text ≡ halted_text task.plan found)
+      (unrefused are armed named) o (follow (task_in names files) (task_in_exact names files) (halt_rest k.before.store) task holds o h))
 
   -- The ends
 
-  -- the task that is spoken of is the one
-  same_task : (t : Task) → AreOfTask k.before.folder disks now next plan t → t ≡ task
-  same_task t are = one_task files disks now next plan t task (told (λ f. IsTaskOf f disks now next plan t) k.before.folder.files files is are) holds
+  same : (t : Task) → AreOfTask k.before.folder names t → t ≡ task
+  same = same_task k files names task is holds
 
   abbrev Written : Task → ℕ → Type 0
   Written t found = HaltsInPart t k.before.store k.after.store found × SavesLayout t layout found k.before.folder k.after.folder
@@ -189,14 +185,14 @@ module _ (k : Call) (words : List (List ℕ)) (status : ℕ) (ends : EndsAs k wo
   quiet_end : IsQuiet k.before.store k.after.store → ChangedOnly layout k.before.folder k.after.folder → ((status ≡ 0) ⊎ (status ≡ 6) → ⊥) → HaltsWell k files task layout status
   quiet_end = quiet_well k files task layout status law is completes
 
-  written_end : (t : Task) → AreOfTask k.before.folder disks now next plan t → (found : ℕ) → Written t found → ((status ≡ 0) ⊎ (status ≡ 6) → ⊥) → HaltsWell k files task layout status
+  written_end : (t : Task) → AreOfTask k.before.folder names t → (found : ℕ) → Written t found → ((status ≡ 0) ⊎ (status ≡ 6) → ⊥) → HaltsWell k files task layout status
   written_end t are found w not =
-      let h = subst (λ (u : Task). Written u found) (same_task t are) w in
+      let h = subst (λ (u : Task). Written u found) (same t are) w in
       written_well k files task layout status law is completes found h.0 h.1 (λ done. absurd (not done)) (λ zero. absurd (not (inl zero)))
 
-  done_end : (t : Task) → AreOfTask k.before.folder disks now next plan t → (found : ℕ) → HaltsAll t k.before.store k.after.store found → SavesLayout t layout found k.before.folder k.after.folder
+  done_end : (t : Task) → AreOfTask k.before.folder names t → (found : ℕ) → HaltsAll t k.before.store k.after.store found → SavesLayout t layout found k.before.folder k.after.folder
       → (status ≡ 0 → Extends (halted_text t.plan found) k.before.sink k.after.sink) → HaltsWell k files task layout status
-  done_end t are found all saves said = by (subst (λ (u : Task). HaltsAll u k.before.store k.after.store found × SavesLayout u layout found k.before.folder k.after.folder × (status ≡ 0 → Extends (halted_text u.plan found) k.before.sink k.after.sink)) (same_task t are) (all, saves, said))
+  done_end t are found all saves said = by (subst (λ (u : Task). HaltsAll u k.before.store k.after.store found × SavesLayout u layout found k.before.folder k.after.folder × (status ≡ 0 → Extends (halted_text u.plan found) k.before.sink k.after.sink)) (same t are) (all, saves, said))
     where
       by : HaltsAll task k.before.store k.after.store found × SavesLayout task layout found k.before.folder k.after.folder × (status ≡ 0 → Extends (halted_text task.plan found) k.before.sink k.after.sink) → HaltsWell k files task layout status
       by h = written_well k files task layout status law is completes found h.0.part h.1 (λ done. h.0) h.2
@@ -208,7 +204,7 @@ module _ (k : Call) (words : List (List ℕ)) (status : ℕ) (ends : EndsAs k wo
   neither n at zero six (inl e) = zero (sym at ∙ e)
   neither n at zero six (inr e) = six (sym at ∙ e)
 
-  well_at : (o : Outcome) → status ≡ code o → FormEnds k form o → Says k.before.sink k.after.sink o → HaltsWell k files task layout status
+  well_at : (o : Outcome) → status ≡ code o → IsOrNotPut (WorldEnds k form) k.before.sink k.after.sink o → Says k.before.sink k.after.sink o → HaltsWell k files task layout status
   well_at (Done text) at h says = let s = h.store in done_end s.0 s.1 s.2.0 s.2.1 s.2.2 (λ zero. subst (λ (t : List ℕ). Extends t k.before.sink k.after.sink) s.2.3 (says.done refl))
   well_at (SinkFault text) at h says = let s = h.1.store in done_end s.0 s.1 s.2.0 s.2.1 s.2.2 (λ zero. absurd (omega (arith, at, zero)))
   well_at (StoreFault before) at h says = by h.store
@@ -216,7 +212,7 @@ module _ (k : Call) (words : List (List ℕ)) (status : ℕ) (ends : EndsAs k wo
       not : (status ≡ 0) ⊎ (status ≡ 6) → ⊥
       not = neither 5 at (λ e. cc) (λ e. cc)
 
-      by : HaltLeaves k.before.folder k.after.folder k.before.store k.after.store disks now next plan layout (StoreFault before) → HaltsWell k files task layout status
+      by : HaltLeaves k.before.folder k.after.folder k.before.store k.after.store names layout (StoreFault before) → HaltsWell k files task layout status
       by (inl quiet) = quiet_end (by_lands k.before.store k.after.store law quiet.0) h.leaves not
       by (inr w) = written_end w.0 w.1 w.2.0 (w.2.1, w.2.2) not
   well_at FolderFault at h says = quiet_end (unwritten_end h.store) h.leaves (neither 4 at (λ e. cc) (λ e. cc))
@@ -225,9 +221,5 @@ module _ (k : Call) (words : List (List ℕ)) (status : ℕ) (ends : EndsAs k wo
   well_at (OtherPlan kept ours) at h says = quiet_end (by_settles k.before.store k.after.store law h.store) (one_changed k.before.folder k.after.folder layout h.leaves) (neither 8 at (λ e. cc) (λ e. cc))
   well_at o at h says = quiet_end (by_untouched k.before.store k.after.store law h.store) (one_changed k.before.folder k.after.folder layout h.leaves) (neither (code o) at (λ e. omega (arith, e)) (λ e. omega (arith, e)))
 
-  any_well : (o : Outcome) → status ≡ code o → Ends k words o → Says k.before.sink k.after.sink o → HaltsWell k files task layout status
-  any_well o at (inl unknown) says = absurd (unknown.1.unlisted form l)
-  any_well o at (inr known) says = well_at o at (known_form k words form o l known) says
-
   pub halts_well : HaltsWell k files task layout status
-  halts_well = any_well ends.0 ends.1 ends.2 ends.3
+  halts_well = let e = ends_of k words status ends form l in well_at e.0 e.1 e.2 e.3

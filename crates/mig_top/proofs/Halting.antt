@@ -1,16 +1,14 @@
 -- How `halt` ends.
-use Rattle.std.proofs.Common.{◌≡◌, ◌⊎◌, ◌≤◌, None, Some, inl, inr, ℕ, List, [], ◌∷◌, Option, IfSome, IsSome, length, refl, sym, ◌∙◌, subst, arith, append-nil}
+use Rattle.std.proofs.Common.{◌≡◌, ◌⊎◌, ◌≤◌, None, Some, inl, inr, ℕ, List, [], Option, IfSome, IsSome, length, refl, sym, ◌∙◌, subst, arith, append-nil}
 use Rattle.std.proofs.lemmas.Bool.{false≢true}
 use Rattle.std.specs.Option.{IsSomeAnd}
 use Rattle.mig_base.specs.declared.cells.Cell.{Cell}
 use Rattle.mig_base.specs.declared.cells.Cell.TheVariants.{Gate, Head}
 use Rattle.mig_base.specs.declared.cells.Event.{Event}
-use Rattle.mig_base.specs.declared.ids.Shift.{Shift}
 use Rattle.mig_base.specs.Arrivals.{IsHaltSafe}
 use Rattle.mig_base.specs.FaultCounts.{Rose}
 use Rattle.mig_base.specs.Flights.{IsTargetOf}
 use Rattle.mig_base.specs.Images.{Image, NoCell}
-use Rattle.mig_base.specs.InputLists.{Lists}
 use Rattle.mig_base.specs.JobCells.{IsHaltCell, Tells}
 use Rattle.mig_base.specs.Journals.{count_of}
 use Rattle.mig_base.specs.Safety.{Contents, IsSafe, IsSafeAt}
@@ -26,26 +24,23 @@ use Rattle.mig_mover.specs.declared.faults.MoveFault.TheVariants as fault
 use Rattle.mig_mover.proofs.Settling.{gate_kept, journal_kept, settled_reads, settles_land, tells_more}
 use Rattle.mig_words.specs.declared.endings.Ending.{Ending}
 use Rattle.mig_words.specs.declared.endings.Ending.TheVariants as ending
+use Rattle.mig_words.specs.Outcomes as out
+use Rattle.mig_words.specs.Outcomes.{Outcome, Done, fault_outcome, outcome_of}
+use Rattle.mig_words.specs.Words.{Form, Names, Halt, four_and}
 use Rattle.mig_top.specs.Calls.{Call, Untouched}
 use Rattle.mig_top.specs.Calls as calls
-use Rattle.mig_top.specs.Causes.{FormCause}
-use Rattle.mig_top.specs.Ends.{WorldEnds}
-use Rattle.mig_top.specs.HaltLeaves.{HaltLeaves, HaltsAll, HaltsInPart, IsLayoutSaved, MayHalt, SaveEnds, SavesLayout}
+use Rattle.mig_top.specs.Ends.{CauseIn, WorldEnds}
+use Rattle.mig_top.specs.HaltLeaves.{HaltSaves, HaltsAll, HaltsInPart, IsLayoutSaved, MayHalt, SaveEnds, SavesLayout}
 use Rattle.mig_top.specs.HaltLooks.{IsStanding, IsStandRefusal, halted_text, stands}
-use Rattle.mig_top.specs.Loading.{NoTask}
 use Rattle.mig_top.specs.MoveLeaves.{AreOfTask, HasFound}
-use Rattle.mig_top.specs.MoveLooks.{task_of}
-use Rattle.mig_words.specs.Outcomes.{Outcome, Done, fault_outcome, outcome_of}
-use Rattle.mig_top.specs.Steps.{Then, IsDone}
-use Rattle.mig_top.specs.StoreLeaves.{IsUntouched}
-use Rattle.mig_words.specs.Words.{Form, Halt}
-use Rattle.mig_top.proofs.Moving.{shown}
-use Rattle.mig_top.proofs.StepEnds.{if_map, leaves, one_changed}
-use Rattle.mig_top.proofs.TaskFiles.{no_task_cause, told_cause, unread_leaves}
+use Rattle.mig_top.specs.Steps.{Step, after, finds, IsEndOf}
+use Rattle.mig_top.proofs.EndsOf.{IsUnread, one_changed}
+use Rattle.mig_top.proofs.Moving.{shown, task_cause}
+use Rattle.mig_top.proofs.Steps.{if_map}
 
 -- what is left of `halt` once its task is known
-abbrev pub halt_rest : State → List ℕ → Files → Lists → List (List Shift) → Outcome → Type 0
-halt_rest store plan files input rounds = Then (stands (task_of files plan input rounds) store) (λ found. IsDone (λ text. text ≡ halted_text rounds found))
+abbrev pub halt_rest : State → Task → Step (List ℕ)
+halt_rest store task = after (stands task store) (λ found. finds (λ text. text ≡ halted_text task.plan found))
 
 -- Once it is known where the plan stands
 
@@ -138,45 +133,43 @@ saved_only task layout k old new saves = if_map old.files (λ files. at new.file
 
 -- The ends
 
-module _ (k : Call) (disks now next plan layout : List ℕ) where
+-- what `halt` leaves in the folder where its files weren't loaded or read
+pub unread_saves : (old new : FolderState) (layout : List ℕ) (o : Outcome) → IsUnread o → Untouched old new → HaltSaves old new layout o
+unread_saves old new layout (out.Done text) u same = absurd u
+unread_saves old new layout (out.StoreFault before) u same = absurd u
+unread_saves old new layout out.FolderFault u same = one_changed old new layout same
+unread_saves old new layout o u same = same
+
+module _ (k : Call) (names : Names) (layout : List ℕ) where
   abbrev form : Form
-  form = Halt disks now next plan layout
+  form = Halt names layout
 
-  abbrev names : List (List ℕ)
-  names = disks ∷ now ∷ next ∷ plan ∷ []
+  abbrev four : List (List ℕ)
+  four = four_and names []
 
-  -- the files weren't loaded, or stand for no task
-  pub halt_unread : Untouched k.before.folder k.after.folder → (e : Ending) → NoTask disks now next plan k.before.folder k.after.folder e → IsUntouched k.before.store k.after.store → WorldEnds k form (outcome_of names e)
-  halt_unread same e h kept = record {
-    cause = no_task_cause k form disks now next plan (halt_rest k.before.store plan) (λ files o c. c) e h;
-    leaves = leaves k.before.folder k.after.folder form names e same;
-    store = unread_leaves disks now next plan k.before.folder k.after.folder (HaltLeaves k.before.folder k.after.folder k.before.store k.after.store disks now next plan layout) (inl kept) (inl kept) (λ word. kept) (λ b name. kept) (λ f r w. kept) (λ f line. kept) (λ shifts. kept) e h;
-  }
-
-  module _ (task : Task) (are : AreOfTask k.before.folder disks now next plan task) where
-    halt_cause : (o : Outcome) → Then (stands task k.before.store) (λ found. IsDone (λ text. text ≡ halted_text task.plan found)) o → IfSome k.before.folder.files (λ files. FormCause files k.before.store form o)
-    halt_cause o h = told_cause k form disks now next plan (halt_rest k.before.store plan) (λ files o c. c) task are o
-        (λ t. Then (stands t k.before.store) (λ found. IsDone (λ text. text ≡ halted_text task.plan found)) o) (λ files c. c) h
+  module _ (task : Task) (are : AreOfTask k.before.folder names task) where
+    halt_cause : (o : Outcome) → IsEndOf (halt_rest k.before.store task) o → CauseIn k.before form o
+    halt_cause = task_cause k names task are (halt_rest k.before.store)
 
     -- it isn't known where the plan stands
     pub halt_refused : Untouched k.before.folder k.after.folder → Lands k.before.store k.after.store → (f : MoveFault) → IsStandFault task k.before.store k.after.store f → WorldEnds k form (fault_outcome task.input f)
     halt_refused same lands fault.Store h = record { cause = (h, refl); leaves = one_changed k.before.folder k.after.folder layout same; store = inl (lands, same) }
-    halt_refused same lands fault.NotStarted h = record { cause = halt_cause _ (inl (shown task k fault.NotStarted h.0 IsStandRefusal h.1)); leaves = same; store = h.0 }
-    halt_refused same lands (fault.OtherPlan kept ours) h = record { cause = halt_cause _ (inl (shown task k (fault.OtherPlan kept ours) h.0 IsStandRefusal h.1)); leaves = same; store = h.0 }
+    halt_refused same lands fault.NotStarted h = record { cause = halt_cause (fault_outcome task.input fault.NotStarted) (inl (shown task k fault.NotStarted h.0 IsStandRefusal h.1)); leaves = same; store = h.0 }
+    halt_refused same lands (fault.OtherPlan kept ours) h = record { cause = halt_cause (fault_outcome task.input (fault.OtherPlan kept ours)) (inl (shown task k (fault.OtherPlan kept ours) h.0 IsStandRefusal h.1)); leaves = same; store = h.0 }
     halt_refused same lands _ h = absurd h
 
   -- the layout isn't saved
   pub halt_unsaved : (loaded : FolderState) → loaded.files ≡ k.before.folder.files → k.before.folder.faults ≤ loaded.faults → Settles k.before.store k.after.store → (e : Ending) → SaveEnds layout loaded k.after.folder e
-      → WorldEnds k form (outcome_of names e)
+      → WorldEnds k form (outcome_of four e)
   halt_unsaved loaded same later settles ending.FolderFault h = record {
-    cause = (let rose = h.0 in omega (arith, later, rose));
+    cause = (let rose = h.0 in omega (arith, later, rose), tt);
     leaves = changes_before (OthersStay layout) k.before.folder loaded k.after.folder same h.1;
     store = inr settles;
   }
   halt_unsaved loaded same later settles ending.Memory h = record { cause = tt; leaves = h ∙ same; store = inr settles }
   halt_unsaved loaded same later settles _ h = absurd h
 
-  module _ (task : Task) (are : AreOfTask k.before.folder disks now next plan task) (loaded : FolderState) (same : loaded.files ≡ k.before.folder.files) (found : ℕ) (saves : SavesLayout task layout found loaded k.after.folder) where
+  module _ (task : Task) (are : AreOfTask k.before.folder names task) (loaded : FolderState) (same : loaded.files ≡ k.before.folder.files) (found : ℕ) (saves : SavesLayout task layout found loaded k.after.folder) where
     saved : SavesLayout task layout found k.before.folder k.after.folder
     saved = changes_before (IsLayoutSaved task layout found) k.before.folder loaded k.after.folder same saves
 
@@ -191,7 +184,7 @@ module _ (k : Call) (disks now next plan layout : List ℕ) where
     -- it is closed
     pub halt_done : HaltsAll task k.before.store k.after.store found → IsStanding task k.before.store found → WorldEnds k form (Done (halted_text task.plan found))
     halt_done all standing = record {
-      cause = halt_cause task are (Done (halted_text task.plan found)) (inr (found, standing, refl));
+      cause = halt_cause task are (Done (halted_text task.plan found)) (found, standing, refl);
       leaves = saved_only task layout found k.before.folder k.after.folder saved;
       store = (task, are, (found, all, saved, refl));
     }

@@ -14,18 +14,29 @@ use Rattle.mig_io.specs.Files.{Files}
 use Rattle.mig_lanes.specs.Runs.{Finishes}
 use Rattle.mig_mover.specs.Moves.{IsReadyIdle, StaysArmed}
 use Rattle.mig_mover.specs.Tasks.{Task}
+use Rattle.mig_words.specs.Outcomes.{Outcome, Done, StoreFault, Started, OtherPlan, NotThere, Occupied}
+use Rattle.mig_words.specs.Words.{Form, Names, Move, Resume, IsListed}
 use Rattle.mig_top.specs.Calls.{Call}
-use Rattle.mig_top.specs.Ends.{Ends, EndsAs, FormEnds, StoreLeaves}
-use Rattle.mig_top.specs.Headline.{MovesWell, ResumesWell, StartsWell}
+use Rattle.mig_top.specs.Ends.{EndsAs, FormEndsAs, StoreLeaves, WorldEnds}
+use Rattle.mig_top.specs.Headline.{MovesWell, ResumesHalting, ResumesWell, StartsWell}
+use Rattle.mig_top.specs.Loads.{IsTaskOf, task_in}
 use Rattle.mig_top.specs.MoveLeaves.{AreOfTask, Carries, MoveLeaves, ResumeLeaves}
-use Rattle.mig_top.specs.MoveLooks.{IsResumable, IsTaskOf, done_text, starts}
-use Rattle.mig_words.specs.Outcomes.{Outcome, Done, StoreFault, SinkFault, Started, OtherPlan, NotThere, Occupied, code}
+use Rattle.mig_top.specs.MoveLooks.{IsResumable, done_text}
 use Rattle.mig_top.specs.StoreLeaves.{IsUntouched}
 use Rattle.mig_top.specs.StoreLooks.{TellsStill}
-use Rattle.mig_words.specs.Words.{Form, Move, Resume, IsListed}
-use Rattle.mig_top.proofs.Exactness.{comes_exactly, known_form, told}
+use Rattle.mig_top.proofs.EndsOf.{done_by, ends_of, holds_by, told_at}
+use Rattle.mig_top.proofs.Exactness.{comes_exactly, task_in_exact}
 use Rattle.mig_top.proofs.Moving.{move_rest, resume_rest}
-use Rattle.mig_top.proofs.TaskFiles.{one_task, task_cause, task_parts}
+use Rattle.mig_top.proofs.ResumeHalting as halting
+use Rattle.mig_top.proofs.Steps.{lead}
+
+-- files stand for one task
+pub one_task : (files : Files) (names : Names) (a b : Task) → IsTaskOf files names a → IsTaskOf files names b → a ≡ b
+one_task files names = (task_in_exact names files).one_found
+
+-- also as far as the files of a folder are told
+pub same_task : (k : Call) (files : Files) (names : Names) (task : Task) → k.before.folder.files ≡ Some files → IsTaskOf files names task → (t : Task) → AreOfTask k.before.folder names t → t ≡ task
+same_task k files names task is holds t are = one_task files names t task (told_at (λ f. IsTaskOf f names t) k.before.folder.files files is are) holds
 
 -- what holds whatever the outcome
 pub record AreKept (task : Task) (old new : State) : Type 0 where
@@ -55,25 +66,24 @@ module _ (k : Call) (status : ℕ) (task : Task) (law : IsState k.before.store) 
     settled = λ done. (finished done).1.settled;
   }
 
-module _ (k : Call) (words : List (List ℕ)) (status : ℕ) (ends : EndsAs k words status) (law : IsState k.before.store) (files : Files) (disks : List ℕ) (now : List ℕ) (next : List ℕ) (plan : List ℕ) (task : Task)
-    (is : k.before.folder.files ≡ Some files) (holds : IsTaskOf files disks now next plan task) where
+module _ (k : Call) (words : List (List ℕ)) (status : ℕ) (ends : EndsAs k words status) (law : IsState k.before.store) (files : Files) (names : Names) (task : Task)
+    (is : k.before.folder.files ≡ Some files) (holds : IsTaskOf files names task) where
   abbrev old : State
   old = k.before.store
 
   abbrev new : State
   new = k.after.store
 
-  -- the task that is spoken of is the one
-  same_task : (t : Task) → AreOfTask k.before.folder disks now next plan t → t ≡ task
-  same_task t are = one_task files disks now next plan t task (told (λ f. IsTaskOf f disks now next plan t) k.before.folder.files files is are) holds
+  same : (t : Task) → AreOfTask k.before.folder names t → t ≡ task
+  same = same_task k files names task is holds
 
-  kept_of : (t : Task) → AreOfTask k.before.folder disks now next plan t → Carries t old new → AreKept task old new
-  kept_of t are h = subst (λ (u : Task). AreKept u old new) (same_task t are) (record { sound = h.keeps.sound; ready = h.keeps.ready; armed = h.armed })
+  kept_of : (t : Task) → AreOfTask k.before.folder names t → Carries t old new → AreKept task old new
+  kept_of t are h = subst (λ (u : Task). AreKept u old new) (same t are) (record { sound = h.keeps.sound; ready = h.keeps.ready; armed = h.armed })
 
-  finished_of : (t : Task) (found : ℕ) → AreOfTask k.before.folder disks now next plan t → Finishes t old new found → (found : ℕ) × Finishes task old new found
-  finished_of t found are h = (found, subst (λ (u : Task). Finishes u old new found) (same_task t are) h)
+  finished_of : (t : Task) (found : ℕ) → AreOfTask k.before.folder names t → Finishes t old new found → (found : ℕ) × Finishes task old new found
+  finished_of t found are h = (found, subst (λ (u : Task). Finishes u old new found) (same t are) h)
 
-  move_kept : (o : Outcome) → MoveLeaves k.before.folder old new disks now next plan o → AreKept task old new
+  move_kept : (o : Outcome) → MoveLeaves k.before.folder old new names o → AreKept task old new
   move_kept (Done text) h = kept_of h.0 h.1 h.2.0.carries
   move_kept (StoreFault before) h = kept_of h.0 h.1 h.2.carries
   move_kept Started h = kept_of h.0 h.1 h.2.carries
@@ -82,54 +92,40 @@ module _ (k : Call) (words : List (List ℕ)) (status : ℕ) (ends : EndsAs k wo
   move_kept (Occupied disk slot) h = kept_of h.0 h.1 h.2.carries
   move_kept o h = untouched_kept task old new h
 
-  resume_kept : (o : Outcome) → ResumeLeaves k.before.folder old new disks now next plan o → AreKept task old new
+  resume_kept : (o : Outcome) → ResumeLeaves k.before.folder old new names o → AreKept task old new
   resume_kept (Done text) h = kept_of h.0 h.1 h.2.1.moves.carries
   resume_kept (StoreFault before) h = kept_of h.0 h.1 h.2.0.2.carries
-  resume_kept Started h = kept_of h.0 h.1 h.2.carries
-  resume_kept (OtherPlan a b) h = kept_of h.0 h.1 h.2.carries
-  resume_kept (NotThere item) h = kept_of h.0 h.1 h.2.carries
-  resume_kept (Occupied disk slot) h = kept_of h.0 h.1 h.2.carries
-  resume_kept o h = untouched_kept task old new h
+  resume_kept o h = move_kept o h
 
   module _ (form : Form) (l : IsListed words form) (form_kept : (o : Outcome) → StoreLeaves k form o → AreKept task old new) (form_finished : (text : List ℕ) → StoreLeaves k form (Done text) → (found : ℕ) × Finishes task old new found) where
-    kept_at : (o : Outcome) → FormEnds k form o → AreKept task old new
-    kept_at (SinkFault text) h = form_kept (Done text) h.1.store
-    kept_at o h = form_kept o h.store
+    e : FormEndsAs k form status
+    e = ends_of k words status ends form l
 
-    kept_by : (o : Outcome) → Ends k words o → AreKept task old new
-    kept_by o (inl unknown) = absurd (unknown.1.unlisted form l)
-    kept_by o (inr known) = kept_at o (known_form k words form o l known)
+    form_moves_well : MovesWell k task status
+    form_moves_well = moves_well k status task law (holds_by (WorldEnds k form) k.before.sink k.after.sink status e (AreKept task old new) (λ o h. form_kept o h.store))
+        (λ done. let d = done_by (WorldEnds k form) k.before.sink k.after.sink status e done in form_finished d.0 d.1.store)
 
-    finished_at : (o : Outcome) → status ≡ code o → (status ≡ 0) ⊎ (status ≡ 6) → FormEnds k form o → (found : ℕ) × Finishes task old new found
-    finished_at (Done text) at done h = form_finished text h.store
-    finished_at (SinkFault text) at done h = form_finished text h.1.store
-    finished_at o at (inl zero) h = absurd (omega (arith, at, zero))
-    finished_at o at (inr six) h = absurd (omega (arith, at, six))
+  pub move_moves : IsListed words (Move names) → MovesWell k task status
+  move_moves l = form_moves_well (Move names) l move_kept (λ text h. finished_of h.0 0 h.1 h.2.0.finishes)
 
-    finished_by : (o : Outcome) → status ≡ code o → Ends k words o → (status ≡ 0) ⊎ (status ≡ 6) → (found : ℕ) × Finishes task old new found
-    finished_by o at (inl unknown) done = absurd (unknown.1.unlisted form l)
-    finished_by o at (inr known) done = finished_at o at done (known_form k words form o l known)
+  pub resume_moves : IsListed words (Resume names) → MovesWell k task status
+  resume_moves l = form_moves_well (Resume names) l resume_kept (λ text h. finished_of h.0 h.2.0 h.1 h.2.1.moves.finishes)
 
-    pub form_moves_well : MovesWell k task status
-    form_moves_well = moves_well k status task law (kept_by ends.0 ends.2) (finished_by ends.0 ends.1 ends.2)
+  pub resumes_halting : IsListed words (Resume names) → ResumesHalting k task status
+  resumes_halting l = halting.resumes_halting k status law names task (ends_of k words status ends (Resume names) l) same
 
-  pub move_moves : IsListed words (Move disks now next plan) → MovesWell k task status
-  move_moves l = form_moves_well (Move disks now next plan) l move_kept (λ text h. finished_of h.0 0 h.1 h.2.0.finishes)
+  still : TellsStill (IsJobCell task.input task.plan) old → (other : Task) → IsTaskOf files names other → TellsStill (IsJobCell other.input other.plan) old
+  still tells other so = subst (λ (t : Task). TellsStill (IsJobCell t.input t.plan) old) (one_task files names task other holds so) tells
 
-  pub resume_moves : IsListed words (Resume disks now next plan) → MovesWell k task status
-  resume_moves l = form_moves_well (Resume disks now next plan) l resume_kept (λ text h. finished_of h.0 h.2.0 h.1 h.2.1.moves.finishes)
+  pub starts_well : IsListed words (Move names) → StartsWell k task status
+  starts_well l tells ready fine quiet sound =
+      comes_exactly k words status ends files (Move names) is l (Done (done_text task.plan 0)) (lead (task_in names files) (move_rest old) task holds (Done (done_text task.plan 0)) (tt, λ none gate. ready, refl))
+      fine quiet (sound, still tells)
 
-  pub starts_well : IsListed words (Move disks now next plan) → StartsWell k task status
-  starts_well l tells ready fine quiet sound = comes_exactly k words status ends files (Move disks now next plan) is l (Done (done_text task.plan 0))
-      (task_cause k (Move disks now next plan) disks now next plan (move_rest k.before.store plan) (λ files o c. c) files task holds (Done (done_text task.plan 0))
-      (inr (tt, subst (λ (t : Task). (starts t old).Passes tt) (task_parts files disks now next plan task holds) (λ none gate. ready), refl)))
-      fine quiet (sound, λ other same. subst (λ (t : Task). TellsStill (IsJobCell t.input t.plan) old) (one_task files disks now next plan task other holds same) tells)
-
-  pub resumes_well : IsListed words (Resume disks now next plan) → ResumesWell k task status
-  resumes_well l tells before fine quiet sound = comes_exactly k words status ends files (Resume disks now next plan) is l (Done (done_text task.plan found))
-      (task_cause k (Resume disks now next plan) disks now next plan (resume_rest k.before.store plan) (λ files o c. c) files task holds (Done (done_text task.plan found))
-      (inr (found, subst (λ (t : Task). IsResumable t old found) (task_parts files disks now next plan task holds) resumable, refl)))
-      fine quiet (sound, λ other same. subst (λ (t : Task). TellsStill (IsJobCell t.input t.plan) old) (one_task files disks now next plan task other holds same) tells)
+  pub resumes_well : IsListed words (Resume names) → ResumesWell k task status
+  resumes_well l tells before fine quiet sound =
+      comes_exactly k words status ends files (Resume names) is l (Done (done_text task.plan found)) (lead (task_in names files) (resume_rest old) task holds (Done (done_text task.plan found)) (found, resumable, refl))
+      fine quiet (sound, still tells)
     where
       found : ℕ
       found = count_of (length task.plan) old.reads

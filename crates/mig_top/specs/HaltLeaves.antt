@@ -20,6 +20,7 @@ use Rattle.mig_top.specs.Causes.{IsLayoutAfter}
 use Rattle.mig_top.specs.HaltLooks.{halted_text}
 use Rattle.mig_top.specs.MoveLeaves.{ForTask, HasFound}
 use Rattle.mig_words.specs.Outcomes.{Outcome, Done, FolderFault, StoreFault, Memory, NotStarted, OtherPlan}
+use Rattle.mig_words.specs.Words.{Names}
 use Rattle.mig_top.specs.StoreLeaves.{IsUntouched}
 
 -- In the folder
@@ -86,11 +87,11 @@ pub record HaltsAll (task : Task) (old new : State) (k : ℕ) : Type 0 where
 
 -- The layout is saved before the store is written: a fault of the store comes before that, with nothing written and no file changed, or after it. A
 -- refusal comes from a store that is settled, and so does what ends the command between.
-abbrev pub HaltLeaves : FolderState → FolderState → State → State → (disks now next plan layout : List ℕ) → Outcome → Type 0
-HaltLeaves from to old new disks now next plan layout (Done text) = ForTask from disks now next plan (λ task. (k : ℕ) × HaltsAll task old new k × SavesLayout task layout k from to × (text ≡ halted_text task.plan k))
-HaltLeaves from to old new disks now next plan layout (StoreFault before) = (Lands old new × calls.Untouched from to) ⊎ ForTask from disks now next plan (λ task. (k : ℕ) × HaltsInPart task old new k × SavesLayout task layout k from to)
-HaltLeaves from to old new disks now next plan layout FolderFault = IsUnwritten old new
-HaltLeaves from to old new disks now next plan layout Memory = IsUnwritten old new
-HaltLeaves from to old new disks now next plan layout NotStarted = Settles old new
-HaltLeaves from to old new disks now next plan layout (OtherPlan kept ours) = Settles old new
-HaltLeaves from to old new disks now next plan layout o = IsUntouched old new
+abbrev pub HaltLeaves : FolderState → FolderState → State → State → Names → List ℕ → Outcome → Type 0
+HaltLeaves from to old new names layout (Done text) = ForTask from names (λ task. (k : ℕ) × HaltsAll task old new k × SavesLayout task layout k from to × (text ≡ halted_text task.plan k))
+HaltLeaves from to old new names layout (StoreFault before) = (Lands old new × calls.Untouched from to) ⊎ ForTask from names (λ task. (k : ℕ) × HaltsInPart task old new k × SavesLayout task layout k from to)
+HaltLeaves from to old new names layout FolderFault = IsUnwritten old new
+HaltLeaves from to old new names layout Memory = IsUnwritten old new
+HaltLeaves from to old new names layout NotStarted = Settles old new
+HaltLeaves from to old new names layout (OtherPlan kept ours) = Settles old new
+HaltLeaves from to old new names layout o = IsUntouched old new

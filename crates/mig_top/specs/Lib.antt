@@ -1,4 +1,6 @@
+pub mod Alike
 pub mod Audits
+pub mod Bodies
 pub mod Calls
 pub mod Causes
 pub mod Ends
@@ -6,7 +8,6 @@ pub mod HaltHeadline
 pub mod HaltLeaves
 pub mod HaltLooks
 pub mod Headline
-pub mod Loading
 pub mod Loads
 pub mod MoveLeaves
 pub mod MoveLooks

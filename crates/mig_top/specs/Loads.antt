@@ -1,84 +1,162 @@
--- What the files of a command stand for.
-use Rattle.std.specs.Prelude.{◌≡◌, ℕ, ◌≤◌, List, [], ◌∷◌, Option, Some, None, if◌then◌else◌, is_none, length}
+-- What the files of a command stand for: how they begin, and the reading of an input, of a layout, of a plan, of a certificate and of a task.
+use Rattle.std.specs.Prelude.{◌≡◌, ◌≢◌, ◌+◌, ◌≤◌, ℕ, List, None, length, take}
+use Rattle.std.specs.Option.{IsSomeAnd}
+use Rattle.sha2.specs.Sha256.{sha256}
 use Rattle.mig_base.specs.declared.limits.TheConstants.{MAX_FILE_BYTES}
-use Rattle.mig_io.specs.Files.{Files, file}
 use Rattle.mig_base.specs.InputLists.{Lists}
+use Rattle.mig_base.specs.Judging.{IsRunBlame}
 use Rattle.mig_base.specs.Rows.{Bodies}
+use Rattle.mig_base.specs.Running.{Runs}
 use Rattle.mig_base.specs.Refusals.{Accepted, RefusedAs}
 use Rattle.mig_base.specs.Texts.{PlanText, CertText}
 use Rattle.mig_base.specs.PlanLines.{PlanLine}
 use Rattle.mig_base.specs.CertLines.{CertLine}
+use Rattle.mig_base.specs.declared.blames.Blame.TheVariants as blame
 use Rattle.mig_base.specs.declared.certs.Cert.{Cert}
 use Rattle.mig_base.specs.declared.faults.FileKind.{FileKind}
 use Rattle.mig_base.specs.declared.faults.Why.{Why}
 use Rattle.mig_base.specs.declared.ids.Shift.{Shift}
 use Rattle.mig_csv.specs.Listings.{IsListing, ListingRefusedAs}
+use Rattle.mig_io.specs.Files.{Files, file}
+use Rattle.mig_mover.specs.Tasks.{Task}
+use Rattle.mig_words.specs.declared.endings.TextFile.TheVariants as text_file
+use Rattle.mig_words.specs.Outcomes.{Outcome, Blamed, Refused, NotSpelled, NoFile, named}
+use Rattle.mig_words.specs.Words.{Names}
+use Rattle.mig_top.specs.Steps.{Step, after, finds}
 
--- each of these names has a file, with these bytes
-abbrev pub AreThere : Files → List (List ℕ) → List (List ℕ) → Type 0
-AreThere files [] [] = Unit {0}
-AreThere files [] (b ∷ bs) = ⊥
-AreThere files (name ∷ names) [] = ⊥
-AreThere files (name ∷ names) (b ∷ bs) = (file files name ≡ Some b) × AreThere files names bs
+-- Loading
 
--- the first of these names that has no file
-abbrev pub first_missing : Files → List (List ℕ) → Option (List ℕ)
-first_missing files [] = None
-first_missing files (name ∷ names) = if is_none (file files name) then Some name else first_missing files names
+-- the file is there and begins with these bytes: they are all of it, or one more than the most where it has more
+abbrev pub HoldsFirst : Files → List ℕ → List ℕ → Type 0
+HoldsFirst files name bytes = IsSomeAnd (file files name) (λ whole. bytes ≡ take (MAX_FILE_BYTES + 1) whole)
+
+-- there is no file of this name
+abbrev pub IsMissing : List ℕ → Files → Outcome → Type 0
+IsMissing name files (NoFile word) = (file files name ≡ None) × (word ≡ name)
+IsMissing name files _ = ⊥
+
+-- the step that loads a file
+abbrev pub loads : List ℕ → Files → Step (List ℕ)
+loads name files = record { Passes = HoldsFirst files name; Stops = IsMissing name files }
+
+-- the bytes of the two files of a layout
+pub record LayoutBodies : Type 0 where
+  pub disks : List ℕ
+  pub now : List ℕ
+
+-- the bytes of the three files of an input, and of a plan
+pub record PlanBodies : Type 0 where
+  pub input : Bodies
+  pub plan : List ℕ
+
+-- the steps that load those of a layout, of an input, and of a plan besides
+abbrev pub loads_layout : List ℕ → List ℕ → Files → Step LayoutBodies
+loads_layout disks now files =
+    after (loads disks files) (λ d.
+    after (loads now files) (λ n.
+    finds (λ bodies. bodies ≡ record { disks = d; now = n })))
+
+abbrev pub loads_input : Names → Files → Step Bodies
+loads_input names files =
+    after (loads names.disks files) (λ d.
+    after (loads names.now files) (λ n.
+    after (loads names.next files) (λ x.
+    finds (λ bodies. bodies ≡ record { disks = d; now = n; next = x }))))
+
+abbrev pub loads_plan : Names → Files → Step PlanBodies
+loads_plan names files =
+    after (loads_input names files) (λ input.
+    after (loads names.plan files) (λ plan.
+    finds (λ bodies. bodies ≡ record { input = input; plan = plan })))
+
+-- Reading
+
+-- the first thing that is wrong with the bytes of an input, and of a layout
+abbrev pub IsRefusal : Bodies → Outcome → Type 0
+IsRefusal bodies (Refused f n w) = RefusedAs bodies f n w
+IsRefusal bodies _ = ⊥
+
+abbrev pub IsLayoutRefusal : LayoutBodies → Outcome → Type 0
+IsLayoutRefusal bodies (Refused f n w) = ListingRefusedAs bodies.disks bodies.now f n w
+IsLayoutRefusal bodies _ = ⊥
+
+-- the bytes are no spelling of a plan, and of a certificate, by the number of a line
+abbrev pub IsNoPlan : List ℕ → Lists → Outcome → Type 0
+IsNoPlan bytes input (NotSpelled text_file.Plan line) = PlanLine input bytes line
+IsNoPlan bytes input _ = ⊥
+
+abbrev pub IsNoCert : List ℕ → Lists → Outcome → Type 0
+IsNoCert bytes input (NotSpelled text_file.Cert line) = CertLine input bytes line
+IsNoCert bytes input _ = ⊥
+
+-- the first reason why the plan doesn't run
+abbrev pub DoesNotRun : Lists → List (List Shift) → Outcome → Type 0
+DoesNotRun input rounds (Blamed b name) = IsRunBlame input rounds b × (b ≢ blame.Memory) × (name ≡ named input b)
+DoesNotRun input rounds _ = ⊥
+
+-- the steps that read an input, a layout, a plan and a certificate, and that the plan runs
+abbrev pub reads_input : Bodies → Step Lists
+reads_input bodies = record { Passes = Accepted bodies; Stops = IsRefusal bodies }
+
+abbrev pub reads_layout : LayoutBodies → Step Lists
+reads_layout bodies = record { Passes = IsListing bodies.disks bodies.now; Stops = IsLayoutRefusal bodies }
+
+abbrev pub reads_plan : List ℕ → Lists → Step (List (List Shift))
+reads_plan bytes input = record { Passes = λ rounds. PlanText input rounds bytes × (length bytes ≤ MAX_FILE_BYTES); Stops = IsNoPlan bytes input }
+
+abbrev pub reads_cert : List ℕ → Lists → Step Cert
+reads_cert bytes input = record { Passes = λ cert. CertText input cert bytes × (length bytes ≤ MAX_FILE_BYTES); Stops = IsNoCert bytes input }
+
+abbrev pub runs : Lists → List (List Shift) → Step (Unit {0})
+runs input rounds = record { Passes = λ _. Runs input rounds; Stops = DoesNotRun input rounds }
+
+-- what is to be carried out: the input, its plan, and the digest of the plan's file
+abbrev pub task_of : List ℕ → Lists → List (List Shift) → Task
+task_of text input rounds = record { input = input; plan = rounds; digest = sha256 text }
+
+-- the step that reads a task: an input, and a plan that runs on it
+abbrev pub reads_task : PlanBodies → Step Task
+reads_task bodies =
+    after (reads_input bodies.input) (λ input.
+    after (reads_plan bodies.plan input) (λ rounds.
+    after (runs input rounds) (λ _.
+    finds (λ task. task ≡ task_of bodies.plan input rounds))))
+
+-- In a folder: all files are loaded, and then they are read
+
+abbrev pub input_in : Names → Files → Step Lists
+input_in names files = after (loads_input names files) reads_input
+
+abbrev pub layout_in : List ℕ → List ℕ → Files → Step Lists
+layout_in disks now files = after (loads_layout disks now files) reads_layout
+
+abbrev pub task_in : Names → Files → Step Task
+task_in names files = after (loads_plan names files) reads_task
 
 -- the three files stand for this input
-pub record Stands (files : Files) (disks now next : List ℕ) (input : Lists) : Type 0 where
-  pub bodies : Bodies
-  pub there : AreThere files (disks ∷ now ∷ next ∷ []) (bodies.disks ∷ bodies.now ∷ bodies.next ∷ [])
-  pub accepted : Accepted bodies input
-
--- the three files are there, and this is the first thing that is wrong with them
-pub record AreRefused (files : Files) (disks now next : List ℕ) (f : FileKind) (n : ℕ) (w : Why) : Type 0 where
-  pub bodies : Bodies
-  pub there : AreThere files (disks ∷ now ∷ next ∷ []) (bodies.disks ∷ bodies.now ∷ bodies.next ∷ [])
-  pub refused : RefusedAs bodies f n w
-
--- the three files are there, and stand for no input
-pub record StandsForNone (files : Files) (disks now next : List ℕ) : Type 0 where
-  pub bodies : Bodies
-  pub there : AreThere files (disks ∷ now ∷ next ∷ []) (bodies.disks ∷ bodies.now ∷ bodies.next ∷ [])
-  pub none : (input : Lists) → Accepted bodies input → ⊥
+abbrev pub Stands : Files → Names → Lists → Type 0
+Stands files names = (input_in names files).Passes
 
 -- the two files stand for this layout; each item is to stay on its disk
-pub record HoldsLayout (files : Files) (disks now : List ℕ) (input : Lists) : Type 0 where
-  pub disks_body : List ℕ
-  pub now_body : List ℕ
-  pub there : AreThere files (disks ∷ now ∷ []) (disks_body ∷ now_body ∷ [])
-  pub listing : IsListing disks_body now_body input
+abbrev pub HoldsLayout : Files → List ℕ → List ℕ → Lists → Type 0
+HoldsLayout files disks now = (layout_in disks now files).Passes
 
--- the two files are there, and this is the first thing that is wrong with them
-pub record IsLayoutRefused (files : Files) (disks now : List ℕ) (f : FileKind) (n : ℕ) (w : Why) : Type 0 where
-  pub disks_body : List ℕ
-  pub now_body : List ℕ
-  pub there : AreThere files (disks ∷ now ∷ []) (disks_body ∷ now_body ∷ [])
-  pub refused : ListingRefusedAs disks_body now_body f n w
+-- the four files stand for this: an input, and a plan that runs
+abbrev pub IsTaskOf : Files → Names → Task → Type 0
+IsTaskOf files names = (task_in names files).Passes
 
--- the file of this name is the spelling of the plan, and short enough to be read
-pub record HasPlan (files : Files) (name : List ℕ) (input : Lists) (rounds : List (List Shift)) : Type 0 where
-  pub bytes : List ℕ
-  pub there : file files name ≡ Some bytes
-  pub short : length bytes ≤ MAX_FILE_BYTES
-  pub spelled : PlanText input rounds bytes
+-- the three files are there
+abbrev pub AreThere : Files → Names → Bodies → Type 0
+AreThere files names = (loads_input names files).Passes
 
--- the same of a certificate
-pub record HasCert (files : Files) (name : List ℕ) (input : Lists) (cert : Cert) : Type 0 where
-  pub bytes : List ℕ
-  pub there : file files name ≡ Some bytes
-  pub short : length bytes ≤ MAX_FILE_BYTES
-  pub spelled : CertText input cert bytes
+-- they are there, and this is the first thing that is wrong with them
+pub record AreRefused (files : Files) (names : Names) (f : FileKind) (n : ℕ) (w : Why) : Type 0 where
+  pub bodies : Bodies
+  pub there : AreThere files names bodies
+  pub refused : RefusedAs bodies f n w
 
--- the file of this name is no spelling, and this is the number of the line
-pub record HasNoPlan (files : Files) (name : List ℕ) (input : Lists) (line : ℕ) : Type 0 where
-  pub bytes : List ℕ
-  pub there : file files name ≡ Some bytes
-  pub misfit : PlanLine input bytes line
-
-pub record HasNoCert (files : Files) (name : List ℕ) (input : Lists) (line : ℕ) : Type 0 where
-  pub bytes : List ℕ
-  pub there : file files name ≡ Some bytes
-  pub misfit : CertLine input bytes line
+-- they are there, and stand for no input
+pub record StandsForNone (files : Files) (names : Names) : Type 0 where
+  pub bodies : Bodies
+  pub there : AreThere files names bodies
+  pub none : (input : Lists) → Accepted bodies input → ⊥

@@ -1,5 +1,5 @@
 -- What `move` and `resume` leave in a store.
-use Rattle.std.specs.Prelude.{◌≡◌, ◌≤◌, ℕ, List, length}
+use Rattle.std.specs.Prelude.{◌≡◌, ◌≤◌, ℕ, length}
 use Rattle.std.specs.Option.{IfSome}
 use Rattle.mig_base.specs.Arrivals.{IsArrived, IsReached}
 use Rattle.mig_base.specs.Flights.{AreFlights}
@@ -13,13 +13,14 @@ use Rattle.mig_lanes.specs.LaneSteps.{later_rounds}
 use Rattle.mig_lanes.specs.Runs.{Finishes, IsPart}
 use Rattle.mig_mover.specs.Moves.{Keeps, MayBeHalting, Settles, StaysArmed}
 use Rattle.mig_mover.specs.Tasks.{Task}
-use Rattle.mig_top.specs.MoveLooks.{IsTaskOf}
+use Rattle.mig_top.specs.Loads.{IsTaskOf}
 use Rattle.mig_words.specs.Outcomes.{Outcome, Done, StoreFault, Started, OtherPlan, NotThere, Occupied}
+use Rattle.mig_words.specs.Words.{Names}
 use Rattle.mig_top.specs.StoreLeaves.{IsUntouched}
 
 -- the four files, where they are told, stand for this task
-abbrev pub AreOfTask : FolderState → List ℕ → List ℕ → List ℕ → List ℕ → Task → Type 0
-AreOfTask folder disks now next plan task = IfSome folder.files (λ files. IsTaskOf files disks now next plan task)
+abbrev pub AreOfTask : FolderState → Names → Task → Type 0
+AreOfTask folder names task = IfSome folder.files (λ files. IsTaskOf files names task)
 
 -- what holds whatever is answered; the gate stays 1 once it is
 pub record Carries (task : Task) (old new : State) : Type 0 where
@@ -64,20 +65,20 @@ pub record ResumesAll (task : Task) (old new : State) (k : ℕ) : Type 0 where
   pub kept : (contents : Contents) → Tells (IsJobCell task.input task.plan) old.reads → SettlesTo (IsReached task.input task.plan task.digest contents) old → IsReached task.input task.plan task.digest contents new.reads
 
 -- with some task that the files stand for
-abbrev pub ForTask : FolderState → List ℕ → List ℕ → List ℕ → List ℕ → (Task → Type 0) → Type 0
-ForTask folder disks now next plan P = (task : Task) × AreOfTask folder disks now next plan task × P task
+abbrev pub ForTask : FolderState → Names → (Task → Type 0) → Type 0
+ForTask folder names P = (task : Task) × AreOfTask folder names task × P task
 
 -- what `move` and `resume` leave with each outcome
-abbrev pub MoveLeaves : FolderState → State → State → (disks now next plan : List ℕ) → Outcome → Type 0
-MoveLeaves folder old new disks now next plan (Done text) = ForTask folder disks now next plan (λ task. MovesAll task old new 0 × MovesInPart task old new 0)
-MoveLeaves folder old new disks now next plan (StoreFault before) = ForTask folder disks now next plan (λ task. MovesInPart task old new 0)
-MoveLeaves folder old new disks now next plan Started = ForTask folder disks now next plan (λ task. Refuses task old new)
-MoveLeaves folder old new disks now next plan (OtherPlan kept ours) = ForTask folder disks now next plan (λ task. Refuses task old new)
-MoveLeaves folder old new disks now next plan (NotThere item) = ForTask folder disks now next plan (λ task. Refuses task old new)
-MoveLeaves folder old new disks now next plan (Occupied disk slot) = ForTask folder disks now next plan (λ task. Refuses task old new)
-MoveLeaves folder old new disks now next plan o = IsUntouched old new
+abbrev pub MoveLeaves : FolderState → State → State → Names → Outcome → Type 0
+MoveLeaves folder old new names (Done text) = ForTask folder names (λ task. MovesAll task old new 0 × MovesInPart task old new 0)
+MoveLeaves folder old new names (StoreFault before) = ForTask folder names (λ task. MovesInPart task old new 0)
+MoveLeaves folder old new names Started = ForTask folder names (λ task. Refuses task old new)
+MoveLeaves folder old new names (OtherPlan kept ours) = ForTask folder names (λ task. Refuses task old new)
+MoveLeaves folder old new names (NotThere item) = ForTask folder names (λ task. Refuses task old new)
+MoveLeaves folder old new names (Occupied disk slot) = ForTask folder names (λ task. Refuses task old new)
+MoveLeaves folder old new names o = IsUntouched old new
 
-abbrev pub ResumeLeaves : FolderState → State → State → (disks now next plan : List ℕ) → Outcome → Type 0
-ResumeLeaves folder old new disks now next plan (Done text) = ForTask folder disks now next plan (λ task. (k : ℕ) × ResumesAll task old new k × ResumesInPart task old new)
-ResumeLeaves folder old new disks now next plan (StoreFault before) = ForTask folder disks now next plan (λ task. ResumesInPart task old new × KeepsHalting task old new)
-ResumeLeaves folder old new disks now next plan o = MoveLeaves folder old new disks now next plan o
+abbrev pub ResumeLeaves : FolderState → State → State → Names → Outcome → Type 0
+ResumeLeaves folder old new names (Done text) = ForTask folder names (λ task. (k : ℕ) × ResumesAll task old new k × ResumesInPart task old new)
+ResumeLeaves folder old new names (StoreFault before) = ForTask folder names (λ task. ResumesInPart task old new × KeepsHalting task old new)
+ResumeLeaves folder old new names o = MoveLeaves folder old new names o

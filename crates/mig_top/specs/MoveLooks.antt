@@ -1,36 +1,20 @@
 -- What `move` and `resume` find in a store, and how that ends them.
-use Rattle.std.specs.Prelude.{◌≡◌, ◌≤◌, true, false, ℕ, List, [], ◌∷◌, IfSome, IsSome, codes, length, unwrap_or}
+use Rattle.std.specs.Prelude.{◌≡◌, ◌≤◌, true, false, ℕ, List, [], ◌∷◌, IfSome, IsSome, codes, length}
 use Rattle.std.specs.Fmt.{decimal}
-use Rattle.sha2.specs.Sha256.{sha256}
 use Rattle.mig_base.specs.declared.cells.Cell.TheVariants.{Gate, Head}
 use Rattle.mig_base.specs.declared.ids.Shift.{Shift}
 use Rattle.mig_base.specs.Images.{Image}
-use Rattle.mig_base.specs.InputLists.{Lists}
 use Rattle.mig_base.specs.JobCells.{IsJobCell, Tells}
 use Rattle.mig_base.specs.Journals.{is_armed, count_of}
 use Rattle.mig_base.specs.Readiness.{IsReady}
-use Rattle.mig_base.specs.Running.{Runs}
 use Rattle.mig_base.specs.Stores.{State, flights}
-use Rattle.mig_io.specs.Files.{Files, file}
 use Rattle.mig_mover.specs.Moves.{IsRefusal}
 use Rattle.mig_mover.specs.Tasks.{Task}
 use Rattle.mig_mover.specs.declared.faults.MoveFault.{MoveFault}
 use Rattle.mig_mover.specs.declared.faults.MoveFault.TheVariants.{Started, NotStarted}
-use Rattle.mig_top.specs.Loads.{HasPlan, Stands}
 use Rattle.mig_words.specs.Outcomes.{joined}
 use Rattle.mig_top.specs.Steps.{Step}
 use Rattle.mig_top.specs.StoreLooks.{IsShown}
-
--- what is to be carried out: the input, its plan, and the digest of the plan's file
-abbrev pub task_of : Files → List ℕ → Lists → List (List Shift) → Task
-task_of files plan input rounds = record { input = input; plan = rounds; digest = sha256 (unwrap_or (file files plan) []) }
-
--- the four files stand for this: an input, and a plan that runs
-pub record IsTaskOf (files : Files) (disks now next plan : List ℕ) (task : Task) : Type 0 where
-  pub stands : Stands files disks now next task.input
-  pub has_plan : HasPlan files plan task.input task.plan
-  pub runs : Runs task.input task.plan
-  pub digest : task.digest ≡ sha256 (unwrap_or (file files plan) [])
 
 -- the causes for which starting a plan is refused, and resuming it
 abbrev pub IsStartRefusal : Task → Image → MoveFault → Type 0

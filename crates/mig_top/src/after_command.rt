@@ -1,15 +1,13 @@
 //! `after`: prints the layout in which a plan ends.
-ghost use Rattle.std.specs.Prelude.{IfErr, IfOk, MatchResult};
+ghost use Rattle.std.specs.Prelude.{◌≡◌, ◌≤◌, [], IfOk};
 ghost use Rattle.mig_base.specs.Running.{PlanFits, Runs};
-ghost use Rattle.mig_top.specs.Causes.{IsLastLayout};
-ghost use Rattle.mig_top.specs.Ends.{FolderEnds};
-ghost use Rattle.mig_top.specs.Loading.{AfterOn, EndsWithin};
-ghost use Rattle.mig_words.specs.Outcomes.{Done, outcome_of};
-ghost use Rattle.mig_words.specs.Words.{After, loaded};
+ghost use Rattle.mig_top.specs.Causes.{IsLastLayout, lays_out};
+ghost use Rattle.mig_top.specs.Steps.{TakesFrom};
+ghost use Rattle.mig_words.specs.Commands.{names_in};
+ghost use Rattle.mig_words.specs.Words.{four_and};
 
 use crate::layout_texts::layout_text;
-use crate::loads::load_all;
-use crate::tasks::read_runnable;
+use crate::tasks::load_task;
 use mig_base::{Input, Plan};
 use mig_io::Folder;
 use mig_words::{Ending, PlanFiles};
@@ -24,32 +22,16 @@ fn last_layout(alloc: Global, input: &Input, plan: &Plan) -> Result<Vec<u8>, All
     layout_text(alloc, input, plan, plan.rounds().len() as u32)
 }
 
-/// The text of the layout in which the plan ends that these bytes spell.
-fn layout(
-    alloc: Global,
-    disks: &[u8],
-    now: &[u8],
-    next: &[u8],
-    plan: &[u8],
-) -> Result<Vec<u8>, Ending>
-    ensures done { IfOk result (λ text. AfterOn disks.now now.now next.now plan.now (Done text.items)) }
-    ensures failed { IfErr result (EndsWithin (AfterOn disks.now now.now next.now plan.now)) }
-{
-    let read = read_runnable(alloc, disks, now, next, plan)?;
-    Ok(last_layout(alloc, &read.input, &read.plan)?)
-}
-
 /// The text of the layout in which a plan ends.
 pub fn after<F: Folder>(
     alloc: Global,
     folder: &mut F,
     files: PlanFiles<'_>,
 ) -> Result<Vec<u8>, Ending>
-    ensures { MatchResult result
-        (λ text. FolderEnds (F.state folder.old) (F.state folder.new) (After files.entry.disks.now files.entry.now.now files.entry.next.now files.entry.plan.now) (Done text.items))
-        (λ e. FolderEnds (F.state folder.old) (F.state folder.new) (After files.entry.disks.now files.entry.now.now files.entry.next.now files.entry.plan.now) (outcome_of (loaded (After files.entry.disks.now files.entry.now.now files.entry.next.now files.entry.plan.now)) e)) }
+    ensures takes { TakesFrom (λ text. text.items) (F.state folder.old) (F.state folder.new) (four_and (names_in files.entry) []) (lays_out (names_in files.entry)) result }
+    ensures same { (F.state folder.new).files ≡ (F.state folder.old).files }
+    ensures later { (F.state folder.old).faults ≤ (F.state folder.new).faults }
 {
-    let names = [files.disks, files.now, files.next, files.plan];
-    let bytes = load_all(alloc, folder, &names)?;
-    layout(alloc, &bytes[0], &bytes[1], &bytes[2], &bytes[3])
+    let read = load_task(alloc, folder, files)?;
+    Ok(last_layout(alloc, &read.input, &read.plan)?)
 }

@@ -5,6 +5,7 @@ ghost use Rattle.mig_top.specs.Calls.{call, world};
 ghost use Rattle.mig_top.specs.Ends.{FormEndsAs};
 ghost use Rattle.mig_top.specs.HaltLeaves.{SaveEnds, SavesLayout};
 ghost use Rattle.mig_top.specs.MoveLeaves.{AreOfTask};
+ghost use Rattle.mig_words.specs.Commands.{names_in};
 ghost use Rattle.mig_words.specs.Words.{Halt};
 
 use crate::layout_texts::layout_text;
@@ -43,8 +44,8 @@ fn close<F: Folder, K: Sink, S: Store>(
     files: PlanFiles<'_>,
     layout: &str,
 ) -> u8
-    ensures { (before : FolderState) → AreOfTask before files.entry.disks.now files.entry.now.now files.entry.next.now files.entry.plan.now job.now → (F.state folder.old).files ≡ before.files → before.faults ≤ (F.state folder.old).faults
-        → FormEndsAs (call (world before (K.state out.old) (S.state store.old)) (world (F.state folder.new) (K.state out.new) (S.state store.new))) (Halt files.entry.disks.now files.entry.now.now files.entry.next.now files.entry.plan.now layout.now) result }
+    ensures { (before : FolderState) → AreOfTask before (names_in files.entry) job.now → (F.state folder.old).files ≡ before.files → before.faults ≤ (F.state folder.old).faults
+        → FormEndsAs (call (world before (K.state out.old) (S.state store.old)) (world (F.state folder.new) (K.state out.new) (S.state store.new))) (Halt (names_in files.entry) layout.now) result }
 {
     let names = [files.disks, files.now, files.next, files.plan];
     let found = match stand(job, store) {
@@ -69,7 +70,7 @@ pub fn run_halt<F: Folder, K: Sink, S: Store>(
     files: PlanFiles<'_>,
     layout: &str,
 ) -> u8
-    ensures { FormEndsAs (call (world (F.state folder.old) (K.state out.old) (S.state store.old)) (world (F.state folder.new) (K.state out.new) (S.state store.new))) (Halt files.entry.disks.now files.entry.now.now files.entry.next.now files.entry.plan.now layout.now) result }
+    ensures { FormEndsAs (call (world (F.state folder.old) (K.state out.old) (S.state store.old)) (world (F.state folder.new) (K.state out.new) (S.state store.new))) (Halt (names_in files.entry) layout.now) result }
 {
     match load_job(alloc, folder, files) {
         Ok(job) => close(alloc, folder, out, store, &job, files, layout),

@@ -1,9 +1,9 @@
 //! Judges a plan and its certificate.
-ghost use Rattle.std.specs.Prelude.{◌≡◌, IfErr, IfOk, OnOk};
-ghost use Rattle.mig_base.specs.Certificates.{CertFits, CertHolds};
-ghost use Rattle.mig_base.specs.Running.{Once, PlanFits, Runs};
-ghost use Rattle.mig_top.specs.Causes.{DoesNotRun, IsWrong, verdict_text};
-ghost use Rattle.mig_top.specs.Loading.{EndsWithin};
+ghost use Rattle.mig_base.specs.Certificates.{CertFits};
+ghost use Rattle.mig_base.specs.Running.{PlanFits};
+ghost use Rattle.mig_top.specs.Causes.{judges};
+ghost use Rattle.mig_top.specs.Loads.{runs};
+ghost use Rattle.mig_top.specs.Steps.{Takes, TakesAs};
 
 use mig_base::{Blame, Cert, Input, Plan, Verdict};
 use mig_check::{judge, runs};
@@ -13,8 +13,7 @@ use std::alloc::Global;
 /// Whether the plan runs.
 pub fn check_runs(alloc: Global, input: &Input, plan: &Plan) -> Result<(), Ending>
     requires { PlanFits input.now plan.now }
-    ensures runs { OnOk result (Runs input.now plan.now) }
-    ensures failed { IfErr result (EndsWithin (DoesNotRun input.now plan.now)) }
+    ensures { Takes (runs input.now plan.now) result }
 {
     match runs(alloc, input, plan) {
         Ok(()) => Ok(()),
@@ -35,11 +34,7 @@ pub fn verdict_on(
 ) -> Result<&'static [u8], Ending>
     requires plan { PlanFits input.now plan.now }
     requires cert { CertFits input.now cert.now }
-    ensures runs { OnOk result (Runs input.now plan.now) }
-    ensures once { OnOk result (Once input.now plan.now) }
-    ensures holds { OnOk result (CertHolds input.now plan.now cert.now) }
-    ensures verdict { IfOk result (λ text. text.now ≡ verdict_text plan.now cert.now) }
-    ensures failed { IfErr result (EndsWithin (IsWrong input.now plan.now cert.now)) }
+    ensures { TakesAs (λ text. text.now) (judges input.now plan.now cert.now) result }
 {
     match judge(alloc, input, plan, cert) {
         Ok(Verdict::Optimal) => Ok(b"optimal\n"),

@@ -1,10 +1,11 @@
 //! Reads the two files of a layout.
-ghost use Rattle.std.specs.Prelude.{◌≡◌, ◌≤◌, IfErr, IfOk, length};
+ghost use Rattle.std.specs.Prelude.{◌≡◌, ◌≤◌, ◌∷◌, [], length};
 ghost use Rattle.mig_base.specs.InputLists.{IsInput};
-ghost use Rattle.mig_top.specs.Loading.{NoLayout, ReadsAsLayout, UnreadAsLayout};
-ghost use Rattle.mig_top.specs.StoreLeaves.{AreOfLayout};
+ghost use Rattle.mig_top.specs.Bodies.{two_bodies_of};
+ghost use Rattle.mig_top.specs.Loads.{layout_in, reads_layout};
+ghost use Rattle.mig_top.specs.Steps.{Takes, TakesFrom};
 
-use crate::loads::load_all;
+use crate::loads::{LayoutBytes, load_two};
 use mig_base::Input;
 use mig_csv::read_layout;
 use mig_io::Folder;
@@ -12,11 +13,10 @@ use mig_words::Ending;
 use std::alloc::Global;
 
 /// The layout that the bytes of the two files stand for.
-fn layout_of(alloc: Global, disks: &[u8], now: &[u8]) -> Result<Input, Ending>
-    ensures stands { IfOk result (ReadsAsLayout disks.now now.now) }
-    ensures failed { IfErr result (UnreadAsLayout disks.now now.now) }
+fn layout_of(alloc: Global, bytes: &LayoutBytes) -> Result<Input, Ending>
+    ensures { Takes (reads_layout (two_bodies_of bytes.entry.now)) result }
 {
-    Ok(read_layout(alloc, disks, now)?)
+    Ok(read_layout(alloc, &bytes.disks, &bytes.now)?)
 }
 
 /// Loads the two files of a layout, and reads them.
@@ -26,13 +26,12 @@ pub fn load_layout<F: Folder>(
     disks: &str,
     now: &str,
 ) -> Result<Input, Ending>
-    ensures stands { IfOk result (AreOfLayout (F.state folder.old) disks.now now.now) }
-    ensures failed { IfErr result (NoLayout disks.now now.now (F.state folder.old) (F.state folder.new)) }
+    ensures takes { TakesFrom (λ input. input) (F.state folder.old) (F.state folder.new) (disks.now ∷ now.now ∷ []) (layout_in disks.now now.now) result }
     ensures same { (F.state folder.new).files ≡ (F.state folder.old).files }
     ensures later { (F.state folder.old).faults ≤ (F.state folder.new).faults }
 {
-    let files = load_all(alloc, folder, &[disks, now])?;
-    layout_of(alloc, &files[0], &files[1])
+    let bytes = load_two(alloc, folder, disks, now)?;
+    layout_of(alloc, &bytes)
 }
 
 /// How many items the input has.

@@ -1,25 +1,51 @@
 //! Loads the files of a command.
-ghost use Rattle.std.specs.Prelude.{◌≡◌, ◌≤◌, IfOk, IfErr, length, map, vec_len};
-ghost use Rattle.std.specs.Option.{IfSome};
-ghost use Rattle.mig_top.specs.Loading.{HoldFirst, HoldsFirst, LoadEnds, LoadsEnd};
+ghost use Rattle.std.specs.Prelude.{◌≡◌, ◌≤◌, ◌∷◌, [], ℕ, List, slice_index_or};
+ghost use Rattle.mig_top.specs.Bodies.{bodies_of, plan_bodies_of, two_bodies_of};
+ghost use Rattle.mig_top.specs.Loads.{loads, loads_input, loads_layout, loads_plan};
+ghost use Rattle.mig_top.specs.Steps.{TakesFrom};
+ghost use Rattle.mig_words.specs.Commands.{names_in};
+ghost use Rattle.mig_words.specs.Words.{four_and};
 
 use mig_base::MAX_FILE_BYTES;
 use mig_io::{Folder, LoadFault};
-use mig_words::Ending;
+use mig_words::{Ending, PlanFiles};
 use std::alloc::Global;
 
 // One more byte than a file may have, so that a file that is too long is seen.
 const MOST: usize = MAX_FILE_BYTES + 1;
 
-/// Loads the first bytes of a file, whose word has this place among those that the command loads.
-fn load_file<F: Folder>(
+/// The bytes of the two files of a layout.
+#[derive(Drop)]
+pub struct LayoutBytes {
+    pub disks: Vec<u8>,
+    pub now: Vec<u8>,
+}
+
+/// The bytes of the three files of an input.
+#[derive(Drop)]
+pub struct InputBytes {
+    pub disks: Vec<u8>,
+    pub now: Vec<u8>,
+    pub next: Vec<u8>,
+}
+
+/// The bytes of the three files of an input, and of a plan for it.
+#[derive(Drop)]
+pub struct PlanBytes {
+    pub input: InputBytes,
+    pub plan: Vec<u8>,
+}
+
+/// Loads the first bytes of a file: all of one that isn't too long, and one more than the most of one that is. Its word
+/// has this place among those that the command loads.
+pub fn load_file<F: Folder>(
     alloc: Global,
     folder: &mut F,
     name: &str,
     place: usize,
 ) -> Result<Vec<u8>, Ending>
-    ensures loaded { IfOk result (λ bytes. IfSome (F.state folder.old).files (λ files. HoldsFirst files name.now bytes.items)) }
-    ensures failed { IfErr result (LoadEnds name.now place (F.state folder.old) (F.state folder.new)) }
+    ensures takes { (names : List (List ℕ)) → slice_index_or names place [] ≡ name.now
+        → TakesFrom (λ bytes. bytes.items) (F.state folder.old) (F.state folder.new) names (loads name.now) result }
     ensures same { (F.state folder.new).files ≡ (F.state folder.old).files }
     ensures later { (F.state folder.old).faults ≤ (F.state folder.new).faults }
 {
@@ -31,24 +57,49 @@ fn load_file<F: Folder>(
     }
 }
 
-/// Loads the files that the words name, in their order, up to the first that isn't there. Of each come the first
-/// bytes: all of a file that isn't too long, and one more than the most of one that is.
-pub fn load_all<F: Folder>(
+/// Loads the two files of a layout.
+pub fn load_two<F: Folder>(
     alloc: Global,
     folder: &mut F,
-    names: &[&str],
-) -> Result<Vec<Vec<u8>>, Ending>
-    ensures loaded { IfOk result (λ loaded. IfSome (F.state folder.old).files (λ files.
-        HoldFirst files (map (λ n. n.now) names.now) (map (λ bytes. bytes.items) loaded.items))) }
-    ensures count { IfOk result (λ loaded. vec_len loaded ≡ length names.now) }
-    ensures failed { IfErr result (LoadsEnd (map (λ n. n.now) names.now) (F.state folder.old) (F.state folder.new)) }
+    disks: &str,
+    now: &str,
+) -> Result<LayoutBytes, Ending>
+    ensures takes { TakesFrom two_bodies_of (F.state folder.old) (F.state folder.new) (disks.now ∷ now.now ∷ []) (loads_layout disks.now now.now) result }
     ensures same { (F.state folder.new).files ≡ (F.state folder.old).files }
     ensures later { (F.state folder.old).faults ≤ (F.state folder.new).faults }
 {
-    let mut loaded = Vec::new(alloc);
-    for name in names {
-        let bytes = load_file(alloc, folder, name, loaded.len())?;
-        loaded.push(bytes)?;
-    }
-    Ok(loaded)
+    let disks = load_file(alloc, folder, disks, 0)?;
+    let now = load_file(alloc, folder, now, 1)?;
+    Ok(LayoutBytes { disks, now })
+}
+
+/// Loads the three files of an input, the first of those that the command loads.
+pub fn load_input<F: Folder>(
+    alloc: Global,
+    folder: &mut F,
+    files: PlanFiles<'_>,
+) -> Result<InputBytes, Ending>
+    ensures takes { (others : List (List ℕ)) → TakesFrom bodies_of (F.state folder.old) (F.state folder.new) (four_and (names_in files.entry) others) (loads_input (names_in files.entry)) result }
+    ensures same { (F.state folder.new).files ≡ (F.state folder.old).files }
+    ensures later { (F.state folder.old).faults ≤ (F.state folder.new).faults }
+{
+    let disks = load_file(alloc, folder, files.disks, 0)?;
+    let now = load_file(alloc, folder, files.now, 1)?;
+    let next = load_file(alloc, folder, files.next, 2)?;
+    Ok(InputBytes { disks, now, next })
+}
+
+/// Loads the three files of an input, and that of a plan for it.
+pub fn load_plan<F: Folder>(
+    alloc: Global,
+    folder: &mut F,
+    files: PlanFiles<'_>,
+) -> Result<PlanBytes, Ending>
+    ensures takes { (others : List (List ℕ)) → TakesFrom plan_bodies_of (F.state folder.old) (F.state folder.new) (four_and (names_in files.entry) others) (loads_plan (names_in files.entry)) result }
+    ensures same { (F.state folder.new).files ≡ (F.state folder.old).files }
+    ensures later { (F.state folder.old).faults ≤ (F.state folder.new).faults }
+{
+    let input = load_input(alloc, folder, files)?;
+    let plan = load_file(alloc, folder, files.plan, 3)?;
+    Ok(PlanBytes { input, plan })
 }

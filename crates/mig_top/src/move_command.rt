@@ -1,6 +1,7 @@
 //! `move`: carries out a plan.
 ghost use Rattle.mig_top.specs.Calls.{call, world};
 ghost use Rattle.mig_top.specs.Ends.{FormEndsAs};
+ghost use Rattle.mig_words.specs.Commands.{names_in};
 ghost use Rattle.mig_words.specs.Words.{Move};
 
 use crate::tasks::load_job;
@@ -18,7 +19,7 @@ pub fn run_move<F: Folder, K: Sink, S: Store>(
     store: &mut S,
     files: PlanFiles<'_>,
 ) -> u8
-    ensures { FormEndsAs (call (world (F.state folder.old) (K.state out.old) (S.state store.old)) (world (F.state folder.new) (K.state out.new) (S.state store.new))) (Move files.entry.disks.now files.entry.now.now files.entry.next.now files.entry.plan.now) result }
+    ensures { FormEndsAs (call (world (F.state folder.old) (K.state out.old) (S.state store.old)) (world (F.state folder.new) (K.state out.new) (S.state store.new))) (Move (names_in files.entry)) result }
 {
     let names = [files.disks, files.now, files.next, files.plan];
     let job = match load_job(alloc, folder, files) {

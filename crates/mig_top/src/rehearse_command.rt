@@ -6,7 +6,7 @@ ghost use Rattle.mig_base.specs.Certificates.{CertFits};
 ghost use Rattle.mig_base.specs.Running.{PlanFits};
 ghost use Rattle.mig_base.specs.Targets.{IsRoomy};
 ghost use Rattle.mig_base.specs.Texts.{text_of_lines, words};
-ghost use Rattle.mig_top.specs.Ends.{RehearsalEndsAs};
+ghost use Rattle.mig_top.specs.Ends.{EndsBy, IsRehearsalEnd};
 ghost use Rattle.mig_top.specs.Planned.{IsCertified};
 ghost use Rattle.mig_top.specs.Rehearsed.{IsPlanDigest, IsRehearsed, case_in, eight_lines, six_lines, verdict_word};
 ghost use Rattle.mig_words.specs.Words.{AreCaseWords};
@@ -151,7 +151,7 @@ pub fn run_rehearse<K: Sink>(
     limit: &str,
 ) -> u8
     requires { AreCaseWords disks.now per_pair.now limit.now }
-    ensures { RehearsalEndsAs (K.state out.old) (K.state out.new) disks.now per_pair.now limit.now result }
+    ensures { EndsBy (IsRehearsalEnd (case_in disks.now per_pair.now limit.now)) (K.state out.old) (K.state out.new) result }
 {
     match rehearse(alloc, disks, per_pair, limit) {
         Ok(text) => show(out, &text),

@@ -1,13 +1,16 @@
 //! Makes the job of a migration from its four files.
-ghost use Rattle.std.specs.Prelude.{◌≡◌, ◌≤◌, IfErr, IfOk, length};
+ghost use Rattle.std.specs.Prelude.{◌≡◌, ◌≤◌, [], IfOk, length};
 ghost use Rattle.mig_base.specs.Readiness.{shifts_of};
 ghost use Rattle.mig_base.specs.Running.{PlanFits, Runs};
 ghost use Rattle.mig_base.specs.declared.limits.TheConstants.{MAX_FILE_BYTES};
-ghost use Rattle.mig_top.specs.Loading.{EndsWithin, NoTask, ReadsAs, ReadsAsPlan, ReadsAsTask, UnreadAsTask};
-ghost use Rattle.mig_top.specs.MoveLeaves.{AreOfTask};
+ghost use Rattle.mig_top.specs.Bodies.{plan_bodies_of, task_read};
+ghost use Rattle.mig_top.specs.Loads.{reads_task, task_in};
+ghost use Rattle.mig_top.specs.Steps.{Takes, TakesAs, TakesFrom};
+ghost use Rattle.mig_words.specs.Commands.{names_in};
+ghost use Rattle.mig_words.specs.Words.{four_and};
 
 use crate::judging::check_runs;
-use crate::loads::load_all;
+use crate::loads::{PlanBytes, load_plan};
 use crate::reads::{read_files, read_plan_text};
 use mig_base::{Input, Plan};
 use mig_io::Folder;
@@ -15,41 +18,46 @@ use mig_mover::{Job, prepare};
 use mig_words::{Ending, PlanFiles};
 use std::alloc::Global;
 
-/// An input, and a plan that runs on it.
+/// An input, a plan that runs on it, and the plan's text.
 #[derive(Drop)]
 pub struct Runnable {
     pub input: Input,
     pub plan: Plan,
+    pub text: Vec<u8>,
 }
 
 /// What the bytes of four files stand for: an input, and a plan that runs on it.
-pub fn read_runnable(
-    alloc: Global,
-    disks: &[u8],
-    now: &[u8],
-    next: &[u8],
-    text: &[u8],
-) -> Result<Runnable, Ending>
-    ensures stands { IfOk result (λ read. ReadsAs disks.now now.now next.now read.input) }
-    ensures reads { IfOk result (λ read. ReadsAsPlan read.input text.now read.plan) }
+fn read_task(alloc: Global, bytes: PlanBytes) -> Result<Runnable, Ending>
+    ensures takes { TakesAs task_read (reads_task (plan_bodies_of bytes)) result }
     ensures fits { IfOk result (λ read. PlanFits read.input read.plan) }
     ensures few { IfOk result (λ read. length (shifts_of read.plan) ≤ MAX_FILE_BYTES) }
     ensures runs { IfOk result (λ read. Runs read.input read.plan) }
-    ensures failed { IfErr result (EndsWithin (UnreadAsTask disks.now now.now next.now text.now)) }
 {
-    let input = read_files(alloc, disks, now, next)?;
-    let plan = read_plan_text(alloc, &input, text)?;
+    let input = read_files(alloc, &bytes.input)?;
+    let plan = read_plan_text(alloc, &input, &bytes.plan)?;
     check_runs(alloc, &input, &plan)?;
-    Ok(Runnable { input, plan })
+    Ok(Runnable {
+        input,
+        plan,
+        text: bytes.plan,
+    })
 }
 
-/// The job that the bytes of the four files stand for.
-fn job_of(alloc: Global, disks: &[u8], now: &[u8], next: &[u8], text: &[u8]) -> Result<Job, Ending>
-    ensures task { IfOk result (ReadsAsTask disks.now now.now next.now text.now) }
-    ensures failed { IfErr result (EndsWithin (UnreadAsTask disks.now now.now next.now text.now)) }
+/// Loads the four files of a plan, and reads them.
+pub fn load_task<F: Folder>(
+    alloc: Global,
+    folder: &mut F,
+    files: PlanFiles<'_>,
+) -> Result<Runnable, Ending>
+    ensures takes { TakesFrom task_read (F.state folder.old) (F.state folder.new) (four_and (names_in files.entry) []) (task_in (names_in files.entry)) result }
+    ensures fits { IfOk result (λ read. PlanFits read.input read.plan) }
+    ensures few { IfOk result (λ read. length (shifts_of read.plan) ≤ MAX_FILE_BYTES) }
+    ensures runs { IfOk result (λ read. Runs read.input read.plan) }
+    ensures same { (F.state folder.new).files ≡ (F.state folder.old).files }
+    ensures later { (F.state folder.old).faults ≤ (F.state folder.new).faults }
 {
-    let read = read_runnable(alloc, disks, now, next, text)?;
-    Ok(prepare(alloc, &read.input, &read.plan, text)?)
+    let bytes = load_plan(alloc, folder, files)?;
+    read_task(alloc, bytes)
 }
 
 /// Loads the four files of a migration, and makes its job. After this no memory is taken.
@@ -58,12 +66,10 @@ pub fn load_job<F: Folder>(
     folder: &mut F,
     files: PlanFiles<'_>,
 ) -> Result<Job, Ending>
-    ensures task { IfOk result (AreOfTask (F.state folder.old) files.entry.disks.now files.entry.now.now files.entry.next.now files.entry.plan.now) }
-    ensures failed { IfErr result (NoTask files.entry.disks.now files.entry.now.now files.entry.next.now files.entry.plan.now (F.state folder.old) (F.state folder.new)) }
+    ensures takes { TakesFrom (λ job. job) (F.state folder.old) (F.state folder.new) (four_and (names_in files.entry) []) (task_in (names_in files.entry)) result }
     ensures same { (F.state folder.new).files ≡ (F.state folder.old).files }
     ensures later { (F.state folder.old).faults ≤ (F.state folder.new).faults }
 {
-    let names = [files.disks, files.now, files.next, files.plan];
-    let bytes = load_all(alloc, folder, &names)?;
-    job_of(alloc, &bytes[0], &bytes[1], &bytes[2], &bytes[3])
+    let read = load_task(alloc, folder, files)?;
+    Ok(prepare(alloc, &read.input, &read.plan, &read.text)?)
 }

@@ -28,6 +28,15 @@ five_items (_ ∷ _ ∷ _ ∷ _ ∷ []) a b c d e l _ _ _ _ _ = absurd (omega ar
 five_items (_ ∷ _ ∷ _ ∷ _ ∷ _ ∷ []) a b c d e l p q r s t = cc
 five_items (_ ∷ _ ∷ _ ∷ _ ∷ _ ∷ _ ∷ xs) a b c d e l _ _ _ _ _ = absurd (omega arith)
 
+-- four items
+pub four_items : {X : Type 0} (xs : List X) (a b c d : X) → length xs ≡ 4 → a ≡ get_or xs 0 a → b ≡ get_or xs 1 b → c ≡ get_or xs 2 c → d ≡ get_or xs 3 d → xs ≡ a ∷ b ∷ c ∷ d ∷ []
+four_items [] a b c d l _ _ _ _ = absurd (omega arith)
+four_items (_ ∷ []) a b c d l _ _ _ _ = absurd (omega arith)
+four_items (_ ∷ _ ∷ []) a b c d l _ _ _ _ = absurd (omega arith)
+four_items (_ ∷ _ ∷ _ ∷ []) a b c d l _ _ _ _ = absurd (omega arith)
+four_items (_ ∷ _ ∷ _ ∷ _ ∷ []) a b c d l p q r s = cc
+four_items (_ ∷ _ ∷ _ ∷ _ ∷ _ ∷ xs) a b c d l _ _ _ _ = absurd (omega arith)
+
 -- a loop that tests each item: what holds of the rest holds of all, as far as it has come
 pub record SoFar {X : Type 0} (P : X → Type 0) (rest all : List X) : Type 0 where
   pub then : AllByRecursion P rest → AllByRecursion P all
@@ -55,6 +64,13 @@ pub five_texts : (xs : List (String Global)) (a b c d e : String Global) (u v w 
     → u ≡ string_bytes a → v ≡ string_bytes b → w ≡ string_bytes c → x ≡ string_bytes d → y ≡ string_bytes e
     → texts xs ≡ u ∷ v ∷ w ∷ x ∷ y ∷ []
 five_texts xs a b c d e u v w x y l p q r s t i j k m n = ap texts (five_items xs a b c d e l p q r s t) ∙ cc
+
+-- and four
+pub four_texts : (xs : List (String Global)) (a b c d : String Global) (u v w x : List ℕ) → length xs ≡ 4
+    → a ≡ get_or xs 0 a → b ≡ get_or xs 1 b → c ≡ get_or xs 2 c → d ≡ get_or xs 3 d
+    → u ≡ string_bytes a → v ≡ string_bytes b → w ≡ string_bytes c → x ≡ string_bytes d
+    → texts xs ≡ u ∷ v ∷ w ∷ x ∷ []
+four_texts xs a b c d u v w x l p q r s i j k m = ap texts (four_items xs a b c d l p q r s) ∙ cc
 
 -- where there is none, another reason will do
 pub none_map : {X : Type 0} (o : Option X) (P Q : Type 0) (R : X → Type 0) → (P → Q) → MatchOption o P R → MatchOption o Q R

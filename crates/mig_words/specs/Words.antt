@@ -7,19 +7,30 @@ use Rattle.std.specs.declared.alloc.Global.{Global}
 use Rattle.mig_base.specs.Digits.{IsNumber, number_of}
 use Rattle.mig_gen.specs.MadeCases.{IsCaseSize}
 
+-- the names of the three files of an input, and of a plan for it
+pub record Names : Type 0 where
+  pub disks : List ℕ
+  pub now : List ℕ
+  pub next : List ℕ
+  pub plan : List ℕ
+
+-- these four, and then others
+abbrev pub four_and : Names → List (List ℕ) → List (List ℕ)
+four_and names others = names.disks ∷ names.now ∷ names.next ∷ names.plan ∷ others
+
 -- a command, with the names of its files or its numbers
 pub data Form : Type 0 where
-  Plan : (disks now next plan cert : List ℕ) → Form
-  Check : (disks now next plan cert : List ℕ) → Form
-  After : (disks now next plan : List ℕ) → Form
+  Plan : (names : Names) (cert : List ℕ) → Form
+  Check : (names : Names) (cert : List ℕ) → Form
+  After : (names : Names) → Form
   Fill : (disks now : List ℕ) → Form
   Audit : (disks now : List ℕ) → Form
   -- no files, but three numbers
   Rehearse : (disks per_pair limit : List ℕ) → Form
-  Move : (disks now next plan : List ℕ) → Form
-  Resume : (disks now next plan : List ℕ) → Form
-  Halt : (disks now next plan layout : List ℕ) → Form
-  Drill : (disks now next plan : List ℕ) → Form
+  Move : (names : Names) → Form
+  Resume : (names : Names) → Form
+  Halt : (names : Names) (layout : List ℕ) → Form
+  Drill : (names : Names) → Form
 
 -- the words of a command line, as lists of bytes
 abbrev pub texts : List (String Global) → List (List ℕ)
@@ -27,44 +38,31 @@ texts words = map string_bytes words
 
 -- the names of all files of a command
 abbrev pub names_of : Form → List (List ℕ)
-names_of (Plan disks now next plan cert) = disks ∷ now ∷ next ∷ plan ∷ cert ∷ []
-names_of (Check disks now next plan cert) = disks ∷ now ∷ next ∷ plan ∷ cert ∷ []
-names_of (After disks now next plan) = disks ∷ now ∷ next ∷ plan ∷ []
+names_of (Plan names cert) = four_and names (cert ∷ [])
+names_of (Check names cert) = four_and names (cert ∷ [])
+names_of (After names) = four_and names []
 names_of (Fill disks now) = disks ∷ now ∷ []
 names_of (Audit disks now) = disks ∷ now ∷ []
 names_of (Rehearse disks per_pair limit) = []
-names_of (Move disks now next plan) = disks ∷ now ∷ next ∷ plan ∷ []
-names_of (Resume disks now next plan) = disks ∷ now ∷ next ∷ plan ∷ []
-names_of (Halt disks now next plan layout) = disks ∷ now ∷ next ∷ plan ∷ layout ∷ []
-names_of (Drill disks now next plan) = disks ∷ now ∷ next ∷ plan ∷ []
+names_of (Move names) = four_and names []
+names_of (Resume names) = four_and names []
+names_of (Halt names layout) = four_and names (layout ∷ [])
+names_of (Drill names) = four_and names []
 
 -- `plan DISKS NOW NEXT PLAN CERT`, `check DISKS NOW NEXT PLAN CERT`, `after DISKS NOW NEXT PLAN`, `fill DISKS NOW`, `audit DISKS NOW`,
 -- `rehearse N PERPAIR LIMIT`, `move DISKS NOW NEXT PLAN`, `resume DISKS NOW NEXT PLAN`, `halt DISKS NOW NEXT PLAN LAYOUT` and
 -- `drill DISKS NOW NEXT PLAN`
 abbrev pub words_of : Form → List (List ℕ)
-words_of (Plan disks now next plan cert) = codes "plan" ∷ names_of (Plan disks now next plan cert)
-words_of (Check disks now next plan cert) = codes "check" ∷ names_of (Check disks now next plan cert)
-words_of (After disks now next plan) = codes "after" ∷ names_of (After disks now next plan)
+words_of (Plan names cert) = codes "plan" ∷ names_of (Plan names cert)
+words_of (Check names cert) = codes "check" ∷ names_of (Check names cert)
+words_of (After names) = codes "after" ∷ names_of (After names)
 words_of (Fill disks now) = codes "fill" ∷ names_of (Fill disks now)
 words_of (Audit disks now) = codes "audit" ∷ names_of (Audit disks now)
 words_of (Rehearse disks per_pair limit) = codes "rehearse" ∷ disks ∷ per_pair ∷ limit ∷ []
-words_of (Move disks now next plan) = codes "move" ∷ names_of (Move disks now next plan)
-words_of (Resume disks now next plan) = codes "resume" ∷ names_of (Resume disks now next plan)
-words_of (Halt disks now next plan layout) = codes "halt" ∷ names_of (Halt disks now next plan layout)
-words_of (Drill disks now next plan) = codes "drill" ∷ names_of (Drill disks now next plan)
-
--- the names of the files that a command loads, in the order of the loads
-abbrev pub loaded : Form → List (List ℕ)
-loaded (Plan disks now next plan cert) = disks ∷ now ∷ next ∷ []
-loaded (Check disks now next plan cert) = disks ∷ now ∷ next ∷ plan ∷ cert ∷ []
-loaded (After disks now next plan) = disks ∷ now ∷ next ∷ plan ∷ []
-loaded (Fill disks now) = disks ∷ now ∷ []
-loaded (Audit disks now) = disks ∷ now ∷ []
-loaded (Rehearse disks per_pair limit) = []
-loaded (Move disks now next plan) = disks ∷ now ∷ next ∷ plan ∷ []
-loaded (Resume disks now next plan) = disks ∷ now ∷ next ∷ plan ∷ []
-loaded (Halt disks now next plan layout) = disks ∷ now ∷ next ∷ plan ∷ []
-loaded (Drill disks now next plan) = disks ∷ now ∷ next ∷ plan ∷ []
+words_of (Move names) = codes "move" ∷ names_of (Move names)
+words_of (Resume names) = codes "resume" ∷ names_of (Resume names)
+words_of (Halt names layout) = codes "halt" ∷ names_of (Halt names layout)
+words_of (Drill names) = codes "drill" ∷ names_of (Drill names)
 
 -- a word that may name a file: 1 to 255 bytes that don't end in `.disk` or `.mig`
 pub record IsFileWord (word : List ℕ) : Type 0 where
@@ -79,8 +77,8 @@ DiffersFrom word others = AllByRecursion (λ other. word ≢ other) others
 
 -- the names of the files that a command writes differ from its other names
 abbrev pub WritesApart : Form → Type 0
-WritesApart (Plan disks now next plan cert) = DiffersFrom plan (disks ∷ now ∷ next ∷ cert ∷ []) × DiffersFrom cert (disks ∷ now ∷ next ∷ [])
-WritesApart (Halt disks now next plan layout) = DiffersFrom layout (disks ∷ now ∷ next ∷ plan ∷ [])
+WritesApart (Plan names cert) = DiffersFrom names.plan (names.disks ∷ names.now ∷ names.next ∷ cert ∷ []) × DiffersFrom cert (names.disks ∷ names.now ∷ names.next ∷ [])
+WritesApart (Halt names layout) = DiffersFrom layout (four_and names [])
 WritesApart form = Unit {0}
 
 -- the words are numbers of which a case can be made

@@ -1,18 +1,12 @@
 //! The words of a rehearsal.
-ghost use Rattle.std.specs.Prelude.{◌≡◌, ◌<◌, ◌^◌, ◌↔◌, ◌∷◌, [], ℕ, List, IsTrue, MatchOption};
+ghost use Rattle.std.specs.Prelude.{◌≡◌, ◌<◌, ◌^◌, ◌↔◌, ◌∷◌, [], IsTrue, MatchOption};
 ghost use Rattle.mig_base.specs.Digits.{IsNumber, number_of};
-ghost use Rattle.mig_words.specs.Words.{AreCaseWords, IsListed, Rehearse, texts};
+ghost use Rattle.mig_words.specs.Commands.{form_of};
+ghost use Rattle.mig_words.specs.Words.{AreCaseWords, Form, IsListed};
 
+use crate::words::{CaseWords, Command};
 use mig_base::read_digits;
 use mig_gen::is_case_size;
-
-/// The words of a rehearsal after its name, each the digits of a number.
-#[derive(Clone, Copy)]
-pub struct CaseWords<'a> {
-    pub disks: &'a str,
-    pub per_pair: &'a str,
-    pub limit: &'a str,
-}
 
 /// Whether the words are numbers of which a case can be made.
 fn are_case_words(disks: &str, per_pair: &str, limit: &str) -> bool
@@ -30,44 +24,19 @@ fn are_case_words(disks: &str, per_pair: &str, limit: &str) -> bool
     is_case_size(disks, per_pair, limit)
 }
 
-/// The words of a rehearsal that these four words are, if they are one in its listed form.
-fn case_words<'a>(
-    command: &str,
-    disks: &'a str,
-    per_pair: &'a str,
-    limit: &'a str,
-) -> Option<CaseWords<'a>>
+/// The command over three numbers that four words are, if they are one in its listed form.
+pub fn over_three_numbers<'a>(command: &str, case: CaseWords<'a>) -> Option<Command<'a>>
     ensures { MatchOption result
-        (IsListed (command.now ∷ disks.now ∷ per_pair.now ∷ limit.now ∷ []) (Rehearse disks.now per_pair.now limit.now) → ⊥)
-        (λ case. IsListed (command.now ∷ disks.now ∷ per_pair.now ∷ limit.now ∷ []) (Rehearse case.disks.now case.per_pair.now case.limit.now)) }
+        ((form : Form) → IsListed (command.now ∷ case.entry.disks.now ∷ case.entry.per_pair.now ∷ case.entry.limit.now ∷ []) form → ⊥)
+        (λ read. IsListed (command.now ∷ case.entry.disks.now ∷ case.entry.per_pair.now ∷ case.entry.limit.now ∷ []) (form_of read)) }
 {
-    if command != "rehearse" {
+    if !are_case_words(case.disks, case.per_pair, case.limit) {
         return None;
     }
-    if !are_case_words(disks, per_pair, limit) {
-        return None;
+    match command {
+        "rehearse" => Some(Command::Rehearse { case }),
+        _ => None,
     }
-    Some(CaseWords {
-        disks,
-        per_pair,
-        limit,
-    })
-}
-
-/// The words of a rehearsal, if the words are one in its listed form.
-pub fn rehearsal_words(words: &[String]) -> Option<CaseWords<'_>>
-    ensures { MatchOption result
-        ((disks : List ℕ) (per_pair : List ℕ) (limit : List ℕ) → IsListed (texts words.now) (Rehearse disks per_pair limit) → ⊥)
-        (λ case. IsListed (texts words.now) (Rehearse case.disks.now case.per_pair.now case.limit.now)) }
-{
-    let [command, disks, per_pair, limit] = words else {
-        return None;
-    };
-    let command = command.as_str();
-    let disks = disks.as_str();
-    let per_pair = per_pair.as_str();
-    let limit = limit.as_str();
-    case_words(command, disks, per_pair, limit)
 }
 
 /// The number that a word is.

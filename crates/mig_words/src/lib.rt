@@ -9,9 +9,9 @@ mod putting;
 mod telling;
 mod words;
 
-pub use case_words::{CaseWords, number_in, rehearsal_words};
+pub use case_words::number_in;
 pub use endings::{Ending, TextFile};
 pub use naming::{fault_ending, name_in};
 pub use putting::{Part, put_parts};
 pub use telling::{show, show_halted, show_parts, show_rounds, tell};
-pub use words::{Command, PlanFiles, read_words};
+pub use words::{CaseWords, Command, PlanFiles, read_words};

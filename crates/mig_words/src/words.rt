@@ -1,8 +1,10 @@
 //! Reads the words of a command line.
 ghost use Rattle.std.specs.List.{AllByRecursion};
-ghost use Rattle.std.specs.Prelude.{◌≡◌, ◌↔◌, ℕ, List, ◌∷◌, [], IsTrue, MatchOption, length, map};
-ghost use Rattle.mig_words.specs.Commands.{form_of};
-ghost use Rattle.mig_words.specs.Words.{DiffersFrom, Form, Halt, IsFileWord, IsListed, Plan, Rehearse, WritesApart, texts};
+ghost use Rattle.std.specs.Prelude.{◌≡◌, ◌↔◌, ◌∷◌, [], IsTrue, MatchOption, length, map};
+ghost use Rattle.mig_words.specs.Commands.{form_of, names_in};
+ghost use Rattle.mig_words.specs.Words.{DiffersFrom, Form, Halt, IsFileWord, IsListed, Plan, WritesApart, four_and, texts};
+
+use crate::case_words::over_three_numbers;
 
 /// The words that name the three files, and that of a plan.
 #[derive(Clone, Copy)]
@@ -13,7 +15,15 @@ pub struct PlanFiles<'a> {
     pub plan: &'a str,
 }
 
-/// A command over files, with the words that name them.
+/// The words of a rehearsal after its name, each the digits of a number.
+#[derive(Clone, Copy)]
+pub struct CaseWords<'a> {
+    pub disks: &'a str,
+    pub per_pair: &'a str,
+    pub limit: &'a str,
+}
+
+/// A command, with the words that name its files, or with its numbers.
 #[derive(Clone, Copy)]
 pub enum Command<'a> {
     Plan {
@@ -34,6 +44,9 @@ pub enum Command<'a> {
     Audit {
         disks: &'a str,
         now: &'a str,
+    },
+    Rehearse {
+        case: CaseWords<'a>,
     },
     Move {
         files: PlanFiles<'a>,
@@ -87,7 +100,7 @@ fn differs_from(word: &str, others: &[&str]) -> bool
 
 /// Whether the two files that `plan` writes differ from all its others.
 fn writes_apart(files: PlanFiles<'_>, cert: &str) -> bool
-    ensures { IsTrue result ↔ WritesApart (Plan files.entry.disks.now files.entry.now.now files.entry.next.now files.entry.plan.now cert.now) }
+    ensures { IsTrue result ↔ WritesApart (Plan (names_in files.entry) cert.now) }
 {
     differs_from(files.plan, &[files.disks, files.now, files.next, cert])
         && differs_from(cert, &[files.disks, files.now, files.next])
@@ -95,7 +108,7 @@ fn writes_apart(files: PlanFiles<'_>, cert: &str) -> bool
 
 /// Whether the file that `halt` writes differs from all its others.
 fn saves_apart(files: PlanFiles<'_>, layout: &str) -> bool
-    ensures { IsTrue result ↔ WritesApart (Halt files.entry.disks.now files.entry.now.now files.entry.next.now files.entry.plan.now layout.now) }
+    ensures { IsTrue result ↔ WritesApart (Halt (names_in files.entry) layout.now) }
 {
     differs_from(layout, &[files.disks, files.now, files.next, files.plan])
 }
@@ -119,8 +132,8 @@ fn over_two_files<'a>(command: &str, disks: &'a str, now: &'a str) -> Option<Com
 /// The command over four files that five words are, if they are one in its listed form.
 fn over_four_files<'a>(command: &str, files: PlanFiles<'a>) -> Option<Command<'a>>
     ensures { MatchOption result
-        ((form : Form) → IsListed (command.now ∷ files.entry.disks.now ∷ files.entry.now.now ∷ files.entry.next.now ∷ files.entry.plan.now ∷ []) form → ⊥)
-        (λ read. IsListed (command.now ∷ files.entry.disks.now ∷ files.entry.now.now ∷ files.entry.next.now ∷ files.entry.plan.now ∷ []) (form_of read)) }
+        ((form : Form) → IsListed (command.now ∷ four_and (names_in files.entry) []) form → ⊥)
+        (λ read. IsListed (command.now ∷ four_and (names_in files.entry) []) (form_of read)) }
 {
     if !are_file_words(&[files.disks, files.now, files.next, files.plan]) {
         return None;
@@ -137,8 +150,8 @@ fn over_four_files<'a>(command: &str, files: PlanFiles<'a>) -> Option<Command<'a
 /// The command over five files that six words are, if they are one in its listed form.
 fn over_five_files<'a>(command: &str, files: PlanFiles<'a>, last: &'a str) -> Option<Command<'a>>
     ensures { MatchOption result
-        ((form : Form) → IsListed (command.now ∷ files.entry.disks.now ∷ files.entry.now.now ∷ files.entry.next.now ∷ files.entry.plan.now ∷ last.now ∷ []) form → ⊥)
-        (λ read. IsListed (command.now ∷ files.entry.disks.now ∷ files.entry.now.now ∷ files.entry.next.now ∷ files.entry.plan.now ∷ last.now ∷ []) (form_of read)) }
+        ((form : Form) → IsListed (command.now ∷ four_and (names_in files.entry) (last.now ∷ [])) form → ⊥)
+        (λ read. IsListed (command.now ∷ four_and (names_in files.entry) (last.now ∷ [])) (form_of read)) }
 {
     if !are_file_words(&[files.disks, files.now, files.next, files.plan, last]) {
         return None;
@@ -164,6 +177,23 @@ fn three_words(words: &[String]) -> Option<Command<'_>>
         return None;
     };
     over_two_files(command.as_str(), disks.as_str(), now.as_str())
+}
+
+/// The command that four words are, if they are one in its listed form.
+fn four_words(words: &[String]) -> Option<Command<'_>>
+    ensures { MatchOption result
+        (length words.now ≡ 4 → (form : Form) → IsListed (texts words.now) form → ⊥)
+        (λ command. IsListed (texts words.now) (form_of command)) }
+{
+    let [command, disks, per_pair, limit] = words else {
+        return None;
+    };
+    let case = CaseWords {
+        disks: disks.as_str(),
+        per_pair: per_pair.as_str(),
+        limit: limit.as_str(),
+    };
+    over_three_numbers(command.as_str(), case)
 }
 
 /// The command that five words are, if they are one in its listed form.
@@ -202,13 +232,13 @@ fn six_words(words: &[String]) -> Option<Command<'_>>
     over_five_files(command.as_str(), files, last.as_str())
 }
 
-/// The command over files that the words are, if they are one in its listed form. They are not those of a rehearsal.
+/// The command that the words are, if they are one in its listed form.
 pub fn read_words(words: &[String]) -> Option<Command<'_>>
-    requires { (disks : List ℕ) (per_pair : List ℕ) (limit : List ℕ) → IsListed (texts words.now) (Rehearse disks per_pair limit) → ⊥ }
     ensures { MatchOption result ((form : Form) → IsListed (texts words.now) form → ⊥) (λ command. IsListed (texts words.now) (form_of command)) }
 {
     match words.len() {
         3 => three_words(words),
+        4 => four_words(words),
         5 => five_words(words),
         6 => six_words(words),
         _ => None,

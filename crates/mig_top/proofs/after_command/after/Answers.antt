@@ -1,18 +1,19 @@
-use Rattle.std.proofs.Common.{[], ◌∷◌, arith}
-use Rattle.mig_top.specs.Loading.{AfterOn}
-use Rattle.mig_words.specs.Words.{After, loaded}
-use Rattle.mig_top.proofs.Missing.{held_by, loaded_at}
-use Rattle.mig_top.proofs.StepEnds.{answer_ends}
+use Rattle.std.proofs.Common.{[], inl}
+use Rattle.mig_words.specs.Commands.{names_in}
+use Rattle.mig_words.specs.Words.{four_and}
+use Rattle.mig_top.specs.Bodies.{task_read}
+use Rattle.mig_top.specs.Causes.{lays_out}
+use Rattle.mig_top.specs.Loads.{task_in}
+use Rattle.mig_top.proofs.Steps.{handed_from, if_map, stops_first}
 use Rattle.mig_top.proofs.after_command.after.Goals as goal
 
-pub returns : goal.returns
-returns g c =
+pub returns-in_err-read-clause-takes : goal.returns-in_err-read-clause-takes
+returns-in_err-read-clause-takes g c =
+    let n = names_in c.args.files in
     let old = g.F.Folder.state c.args.folder.now in
-    let form = After c.args.files.disks.now c.args.files.now.now c.args.files.next.now c.args.files.plan.now in
-    let e = c.in_ok-bytes.ensures in
-    let files = c.in_ok-bytes.bytes.items in
-    let bytes = c.deref.result.now ∷ c.deref-2.result.now ∷ c.deref-3.result.now ∷ c.deref-4.result.now ∷ [] in
-    let at = loaded_at (λ b. b.items) files in
-    let held = held_by (λ b. b.items) files (loaded form) bytes old.files (omega (arith, e.count)) (at 0 c.index.result.now c.deref.result.now (omega (arith, e.count)) c.index.ensures c.deref.ensures.value, (at 1 c.index-2.result.now c.deref-2.result.now (omega (arith, e.count)) c.index-2.ensures c.deref-2.ensures.value, (at 2 c.index-3.result.now c.deref-3.result.now (omega (arith, e.count)) c.index-3.ensures c.deref-3.ensures.value, (at 3 c.index-4.result.now c.deref-4.result.now (omega (arith, e.count)) c.index-4.ensures c.deref-4.ensures.value, tt)))) e.loaded in
-    answer_ends old (g.F.Folder.state c.load_all.new.folder) form e.same bytes held c.layout.result (λ text. text.items) (AfterOn c.deref.result.now c.deref-2.result.now c.deref-3.result.now c.deref-4.result.now) (λ o h. h c.args.files.disks.now c.args.files.now.now c.args.files.next.now c.args.files.plan.now) (λ text. e.same)
-    c.layout.ensures.done c.layout.ensures.failed
+    let new = g.F.Folder.state c.load_task.new.folder in
+    handed_from old new (four_and n []) (λ text. text.items) (lays_out n) c.from_residual.result c.in_err-read.field-0.0 c.from_residual.ensures.1
+    (stops_first old new (four_and n []) (λ files. (task_in n files).Stops) (λ files. (lays_out n files).Stops) (λ files o s. inl s) c.in_err-read.field-0.0 c.in_err-read.ensures.takes)
+
+pub returns-clause-takes : goal.returns-clause-takes
+returns-clause-takes g c = if_map (g.F.Folder.state c.args.folder.now).files (λ files holds. (task_read c.in_ok-read.read, holds, c.in_ok-last_layout.ensures)) c.in_ok-read.ensures.takes

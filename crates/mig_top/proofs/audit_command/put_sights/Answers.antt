@@ -1,7 +1,7 @@
 use Rattle.std.proofs.Common.{◌≡◌, ◌+◌, ℕ, length, sym, subst, arith}
 use Rattle.mig_top.specs.Audits.{AuditStops, HavePutSights}
 use Rattle.mig_top.proofs.Sightings.{line_more, line_stops, looks_then, no_lines}
-use Rattle.mig_top.proofs.StepEnds.{handed_on}
+use Rattle.mig_top.proofs.Results.{handed_on}
 use Rattle.mig_top.proofs.StoreEnds.{looks_none}
 use Rattle.mig_top.proofs.audit_command.put_sights.Goals as goal
 

@@ -1,18 +1,47 @@
-use Rattle.std.proofs.Common.{[], ◌∷◌, arith}
-use Rattle.mig_top.specs.Loading.{CheckOn}
-use Rattle.mig_words.specs.Words.{Check, loaded}
-use Rattle.mig_top.proofs.Missing.{held_by, loaded_at}
-use Rattle.mig_top.proofs.StepEnds.{answer_ends}
+use Rattle.std.proofs.Common.{[], ◌∷◌, inl, inr, refl, subst, Option}
+use Rattle.std.specs.Option.{IfSome}
+use Rattle.mig_io.specs.Files.{Files}
+use Rattle.mig_words.specs.Commands.{names_in}
+use Rattle.mig_words.specs.Words.{four_and}
+use Rattle.mig_top.specs.Bodies.{plan_bodies_of}
+use Rattle.mig_top.specs.Causes.{checks, reads_verdict}
+use Rattle.mig_top.specs.Loads.{HoldsFirst, loads, loads_plan}
+use Rattle.mig_top.proofs.Steps.{answers_in, handed_from, if_both, stops_first, stops_later}
 use Rattle.mig_top.proofs.check_command.check.Goals as goal
 
-pub returns : goal.returns
-returns g c =
+pub returns-in_err-bytes-clause-takes : goal.returns-in_err-bytes-clause-takes
+returns-in_err-bytes-clause-takes g c =
+    let n = names_in c.args.files in
+    let cert = c.args.cert.now in
+    let names = four_and n (cert ∷ []) in
     let old = g.F.Folder.state c.args.folder.now in
-    let form = Check c.args.files.disks.now c.args.files.now.now c.args.files.next.now c.args.files.plan.now c.args.cert.now in
-    let e = c.in_ok-bytes.ensures in
-    let files = c.in_ok-bytes.bytes.items in
-    let bytes = c.deref.result.now ∷ c.deref-2.result.now ∷ c.deref-3.result.now ∷ c.deref-4.result.now ∷ c.deref-5.result.now ∷ [] in
-    let at = loaded_at (λ b. b.items) files in
-    let held = held_by (λ b. b.items) files (loaded form) bytes old.files (omega (arith, e.count)) (at 0 c.index.result.now c.deref.result.now (omega (arith, e.count)) c.index.ensures c.deref.ensures.value, (at 1 c.index-2.result.now c.deref-2.result.now (omega (arith, e.count)) c.index-2.ensures c.deref-2.ensures.value, (at 2 c.index-3.result.now c.deref-3.result.now (omega (arith, e.count)) c.index-3.ensures c.deref-3.ensures.value, (at 3 c.index-4.result.now c.deref-4.result.now (omega (arith, e.count)) c.index-4.ensures c.deref-4.ensures.value, (at 4 c.index-5.result.now c.deref-5.result.now (omega (arith, e.count)) c.index-5.ensures c.deref-5.ensures.value, tt))))) e.loaded in
-    answer_ends old (g.F.Folder.state c.load_all.new.folder) form e.same bytes held c.verdict.result (λ text. text.now) (CheckOn c.deref.result.now c.deref-2.result.now c.deref-3.result.now c.deref-4.result.now c.deref-5.result.now) (λ o h. h c.args.files.disks.now c.args.files.now.now c.args.files.next.now c.args.files.plan.now c.args.cert.now) (λ text. e.same)
-    c.verdict.ensures.done c.verdict.ensures.failed
+    let new = g.F.Folder.state c.load_plan.new.folder in
+    handed_from old new names (λ text. text.now) (checks n cert) c.from_residual.result c.in_err-bytes.field-0.0 c.from_residual.ensures.1
+    (stops_first old new names (λ files. (loads_plan n files).Stops) (λ files. (checks n cert files).Stops) (λ files o s. inl s) c.in_err-bytes.field-0.0 (c.in_err-bytes.ensures.takes (cert ∷ [])))
+
+pub returns-in_err-last-clause-takes : goal.returns-in_err-last-clause-takes
+returns-in_err-last-clause-takes g c =
+    let n = names_in c.args.files in
+    let cert = c.args.cert.now in
+    let names = four_and n (cert ∷ []) in
+    let old = g.F.Folder.state c.args.folder.now in
+    let mid = g.F.Folder.state c.load_plan.new.folder in
+    let new = g.F.Folder.state c.load_file.new.folder in
+    let bodies = plan_bodies_of c.in_ok-bytes.bytes in
+    handed_from old new names (λ text. text.now) (checks n cert) c.from_residual-in_err-last.result c.in_err-last.field-0.0 c.from_residual-in_err-last.ensures.1
+    (stops_later old new names (λ files. (loads_plan n files).Passes bodies) (c.in_ok-bytes.ensures.takes (cert ∷ [])) mid c.load_plan.ensures.same c.load_plan.ensures.later
+    (λ files. (loads cert files).Stops) (λ files. (checks n cert files).Stops) (λ files o held s. inr (bodies, held, inl s)) c.in_err-last.field-0.0 (c.in_err-last.ensures.takes names refl))
+
+pub returns-clause-takes : goal.returns-clause-takes
+returns-clause-takes g c =
+    let n = names_in c.args.files in
+    let cert = c.args.cert.now in
+    let names = four_and n (cert ∷ []) in
+    let old = g.F.Folder.state c.args.folder.now in
+    let new = g.F.Folder.state c.load_file.new.folder in
+    let bodies = plan_bodies_of c.in_ok-bytes.bytes in
+    let last = c.in_ok-last.last.items in
+    let here = subst (λ (f : Option Files). IfSome f (λ files. HoldsFirst files cert last)) c.load_plan.ensures.same (c.in_ok-last.ensures.takes names refl) in
+    answers_in old new names (λ files. (loads_plan n files).Passes bodies × HoldsFirst files cert last) (if_both old.files (λ files one two. (one, two)) (c.in_ok-bytes.ensures.takes (cert ∷ [])) here)
+    (λ text. text.now) (checks n cert) (λ text. text.now) (reads_verdict bodies last) (λ files held text h. (bodies, held.0, (last, held.1, h))) (λ files o held s. inr (bodies, held.0, inr (last, held.1, s)))
+    c.verdict.result (rw c.deref.ensures.value at c.verdict.ensures)

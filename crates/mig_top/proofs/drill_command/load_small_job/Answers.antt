@@ -1,19 +1,37 @@
-use Rattle.std.proofs.Common.{[], ◌∷◌, arith}
+use Rattle.std.proofs.Common.{◌≤◌, [], inl, inr, length, sym, ap, subst}
+use Rattle.mig_base.specs.Readiness.{shifts_of}
 use Rattle.mig_drill.specs.Drills.{drill_text}
-use Rattle.mig_top.specs.Loading.{DrillOn}
-use Rattle.mig_words.specs.Words.{Drill, loaded}
-use Rattle.mig_top.proofs.Missing.{held_by, loaded_at}
-use Rattle.mig_top.proofs.StepEnds.{answer_ends}
+use Rattle.mig_drill.specs.declared.limits.TheConstants.{MAX_DRILL_SHIFTS}
+use Rattle.mig_mover.specs.Tasks.{Task}
+use Rattle.mig_words.specs.Commands.{names_in}
+use Rattle.mig_words.specs.Words.{four_and}
+use Rattle.mig_top.specs.Bodies.{task_read}
+use Rattle.mig_top.specs.Causes.{IsTooLarge, drills}
+use Rattle.mig_top.specs.Loads.{task_in}
+use Rattle.mig_top.proofs.Steps.{handed_from, if_map, stops_first, stops_in}
 use Rattle.mig_top.proofs.drill_command.load_small_job.Goals as goal
 
-pub returns-clause-ends : goal.returns-clause-ends
-returns-clause-ends g c =
+pub returns-in_err-read-clause-takes : goal.returns-in_err-read-clause-takes
+returns-in_err-read-clause-takes g c =
+    let n = names_in c.args.files in
     let old = g.F.Folder.state c.args.folder.now in
-    let form = Drill c.args.files.disks.now c.args.files.now.now c.args.files.next.now c.args.files.plan.now in
-    let e = c.in_ok-bytes.ensures in
-    let files = c.in_ok-bytes.bytes.items in
-    let bytes = c.deref.result.now ∷ c.deref-2.result.now ∷ c.deref-3.result.now ∷ c.deref-4.result.now ∷ [] in
-    let at = loaded_at (λ b. b.items) files in
-    let held = held_by (λ b. b.items) files (loaded form) bytes old.files (omega (arith, e.count)) (at 0 c.index.result.now c.deref.result.now (omega (arith, e.count)) c.index.ensures c.deref.ensures.value, (at 1 c.index-2.result.now c.deref-2.result.now (omega (arith, e.count)) c.index-2.ensures c.deref-2.ensures.value, (at 2 c.index-3.result.now c.deref-3.result.now (omega (arith, e.count)) c.index-3.ensures c.deref-3.ensures.value, (at 3 c.index-4.result.now c.deref-4.result.now (omega (arith, e.count)) c.index-4.ensures c.deref-4.ensures.value, tt)))) e.loaded in
-    answer_ends old (g.F.Folder.state c.load_all.new.folder) form e.same bytes held c.small_job.result (λ job. drill_text job.plan) (DrillOn c.deref.result.now c.deref-2.result.now c.deref-3.result.now c.deref-4.result.now)
-    (λ o h. h c.args.files.disks.now c.args.files.now.now c.args.files.next.now c.args.files.plan.now) (λ job. e.same) c.small_job.ensures.done c.small_job.ensures.failed
+    let new = g.F.Folder.state c.load_task.new.folder in
+    handed_from old new (four_and n []) (λ (job : Task). drill_text job.plan) (drills n) c.from_residual.result c.in_err-read.field-0.0 c.from_residual.ensures.1
+    (stops_first old new (four_and n []) (λ files. (task_in n files).Stops) (λ files. (drills n files).Stops) (λ files o s. inl s) c.in_err-read.field-0.0 c.in_err-read.ensures.takes)
+
+pub returns-in_err-check_size-clause-takes : goal.returns-in_err-check_size-clause-takes
+returns-in_err-check_size-clause-takes g c =
+    let n = names_in c.args.files in
+    let old = g.F.Folder.state c.args.folder.now in
+    let new = g.F.Folder.state c.load_task.new.folder in
+    let task = task_read c.in_ok-read.read in
+    handed_from old new (four_and n []) (λ (job : Task). drill_text job.plan) (drills n) c.from_residual-in_err-check_size.result c.in_err-check_size.field-0.0 c.from_residual-in_err-check_size.ensures.1
+    (stops_in old new (four_and n []) (λ files. (task_in n files).Passes task) c.in_ok-read.ensures.takes (IsTooLarge task.plan) (λ files. (drills n files).Stops) (λ files o holds s. inr (task, holds, inl s))
+    c.in_err-check_size.field-0.0 c.in_err-check_size.ensures)
+
+pub returns-clause-takes : goal.returns-clause-takes
+returns-clause-takes g c =
+    if_map (g.F.Folder.state c.args.folder.now).files (λ files holds. (task_read c.in_ok-read.read, holds, (tt, c.in_ok-check_size.ensures, ap (λ (t : Task). drill_text t.plan) c.in_ok-prepare.ensures))) c.in_ok-read.ensures.takes
+
+pub returns-clause-fits : goal.returns-clause-fits
+returns-clause-fits g c = subst (λ (t : Task). length (shifts_of t.plan) ≤ MAX_DRILL_SHIFTS) (sym c.in_ok-prepare.ensures) c.in_ok-check_size.ensures

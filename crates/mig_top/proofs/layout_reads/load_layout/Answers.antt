@@ -1,19 +1,25 @@
-use Rattle.std.proofs.Common.{[], ◌∷◌, arith}
-use Rattle.mig_top.specs.Loading.{NoLayout, UnreadAsLayout}
-use Rattle.mig_top.proofs.Layouts.{no_layout}
-use Rattle.mig_top.proofs.Missing.{held_by, loaded_at}
-use Rattle.mig_top.proofs.StepEnds.{err_map}
+use Rattle.std.proofs.Common.{[], ◌∷◌, inl, inr}
+use Rattle.mig_base.specs.InputLists.{Lists}
+use Rattle.mig_top.specs.Bodies.{two_bodies_of}
+use Rattle.mig_top.specs.Loads.{layout_in, loads_layout, reads_layout}
+use Rattle.mig_top.proofs.Steps.{answers_in, handed_from, stops_first}
 use Rattle.mig_top.proofs.layout_reads.load_layout.Goals as goal
 
-pub returns-clause-failed : goal.returns-clause-failed
-returns-clause-failed g c =
+pub returns-in_err-bytes-clause-takes : goal.returns-in_err-bytes-clause-takes
+returns-in_err-bytes-clause-takes g c =
+    let d = c.args.disks.now in
+    let n = c.args.now.now in
     let old = g.F.Folder.state c.args.folder.now in
-    let new = g.F.Folder.state c.load_all.new.folder in
-    let e = c.in_ok-files.ensures in
-    let files = c.in_ok-files.files.items in
-    let disks = c.args.disks.now in
-    let now = c.args.now.now in
-    let bytes = c.deref.result.now ∷ c.deref-2.result.now ∷ [] in
-    let at = loaded_at (λ b. b.items) files in
-    let held = held_by (λ b. b.items) files (disks ∷ now ∷ []) bytes old.files (omega (arith, e.count)) (at 0 c.index.result.now c.deref.result.now (omega (arith, e.count)) c.index.ensures c.deref.ensures.value, (at 1 c.index-2.result.now c.deref-2.result.now (omega (arith, e.count)) c.index-2.ensures c.deref-2.ensures.value, tt)) e.loaded in
-    err_map c.layout_of.result (UnreadAsLayout c.deref.result.now c.deref-2.result.now) (NoLayout disks now old new) (no_layout disks now c.deref.result.now c.deref-2.result.now old new held) c.layout_of.ensures.failed
+    let new = g.F.Folder.state c.load_two.new.folder in
+    handed_from old new (d ∷ n ∷ []) (λ (input : Lists). input) (layout_in d n) c.from_residual.result c.in_err-bytes.field-0.0 c.from_residual.ensures.1
+    (stops_first old new (d ∷ n ∷ []) (λ files. (loads_layout d n files).Stops) (λ files. (layout_in d n files).Stops) (λ files o s. inl s) c.in_err-bytes.field-0.0 c.in_err-bytes.ensures.takes)
+
+pub returns-clause-takes : goal.returns-clause-takes
+returns-clause-takes g c =
+    let d = c.args.disks.now in
+    let n = c.args.now.now in
+    let old = g.F.Folder.state c.args.folder.now in
+    let new = g.F.Folder.state c.load_two.new.folder in
+    let bodies = two_bodies_of c.in_ok-bytes.bytes in
+    answers_in old new (d ∷ n ∷ []) (λ files. (loads_layout d n files).Passes bodies) c.in_ok-bytes.ensures.takes (λ (input : Lists). input) (layout_in d n) (λ (input : Lists). input) (reads_layout bodies)
+    (λ files held input h. (bodies, held, h)) (λ files o held s. inr (bodies, held, s)) c.layout_of.result c.layout_of.ensures

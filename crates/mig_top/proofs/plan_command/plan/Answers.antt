@@ -1,61 +1,66 @@
-use Rattle.std.proofs.Common.{[], ◌∷◌, inr, arith}
-use Rattle.mig_top.specs.Ends.{FolderEnds}
-use Rattle.mig_top.specs.Loading.{On, PlanOn}
+use Rattle.std.proofs.Common.{[], inl, inr, arith, subst, Option}
+use Rattle.std.specs.Option.{IfSome, IsSomeAnd}
+use Rattle.mig_io.specs.Files.{Files, OthersStay}
+use Rattle.mig_words.specs.Commands.{names_in}
 use Rattle.mig_words.specs.Outcomes.{Done, outcome_of}
-use Rattle.mig_words.specs.Words.{Plan, loaded}
+use Rattle.mig_words.specs.Words.{four_and}
 use Rattle.mig_words.specs.declared.endings.Ending.TheVariants.{FolderFault}
-use Rattle.mig_top.proofs.Missing.{held_by, loaded_at}
-use Rattle.mig_top.proofs.OnBytes.{plan_on}
-use Rattle.mig_top.proofs.ShownEnds.{are_saved, half_saved}
-use Rattle.mig_top.proofs.StepEnds.{cause, handed_end, memory_ends, within}
+use Rattle.mig_top.specs.Bodies.{texts_of}
+use Rattle.mig_top.specs.Causes.{plans, plans_texts}
+use Rattle.mig_top.specs.Ends.{FolderEnds, PlanLeaves}
+use Rattle.mig_top.proofs.EndsOf.{files_unread, is_unread}
+use Rattle.mig_top.proofs.PlanSaves.{are_saved, half_saved, unread_saves}
+use Rattle.mig_top.proofs.Results.{handed_end}
+use Rattle.mig_top.proofs.Steps.{if_map}
 use Rattle.mig_top.proofs.plan_command.plan.Goals as goal
 
 pub returns-in_err-texts : goal.returns-in_err-texts
 returns-in_err-texts g c =
+    let n = names_in c.args.files in
     let old = g.F.Folder.state c.args.folder.now in
-    let form = Plan c.args.files.disks.now c.args.files.now.now c.args.files.next.now c.args.files.plan.now c.args.cert.now in
-    let e = c.in_ok-bytes.ensures in
-    let files = c.in_ok-bytes.bytes.items in
-    let bytes = c.deref.result.now ∷ c.deref-2.result.now ∷ c.deref-3.result.now ∷ [] in
-    let at = loaded_at (λ b. b.items) files in
-    let held = held_by (λ b. b.items) files (loaded form) bytes old.files (omega (arith, e.count)) (at 0 c.index.result.now c.deref.result.now (omega (arith, e.count)) c.index.ensures c.deref.ensures.value, (at 1 c.index-2.result.now c.deref-2.result.now (omega (arith, e.count)) c.index-2.ensures c.deref-2.ensures.value, (at 2 c.index-3.result.now c.deref-3.result.now (omega (arith, e.count)) c.index-3.ensures c.deref-3.ensures.value, tt))) e.loaded in
-    let new = g.F.Folder.state c.load_all.new.folder in
-    handed_end c.from_residual-in_err-texts.result c.in_err-texts.field-0.0 (λ text. FolderEnds old new form (Done text.items)) (λ e. FolderEnds old new form (outcome_of (loaded form) e)) c.from_residual-in_err-texts.ensures.1
-    (memory_ends old new form e.same bytes held c.in_err-texts.field-0.0
-    (within (PlanOn c.deref.result.now c.deref-2.result.now c.deref-3.result.now) (On bytes form) (λ o h. h c.args.files.disks.now c.args.files.now.now c.args.files.next.now c.args.files.plan.now c.args.cert.now) c.in_err-texts.field-0.0 c.in_err-texts.ensures.failed))
+    let new = g.F.Folder.state c.load_planned.new.folder in
+    let Ends = FolderEnds old new (plans n) (PlanLeaves old new n c.args.cert.now) in
+    let e = c.in_err-texts.field-0.0 in
+    handed_end c.from_residual.result e (λ text. Ends (Done text.items)) (λ e. Ends (outcome_of (four_and n []) e)) c.from_residual.ensures.1
+    (record {
+      cause = files_unread (four_and n []) old new (plans n) e c.in_err-texts.ensures.takes;
+      leaves = unread_saves old new n c.args.cert.now _ (is_unread (four_and n []) old new (λ files. (plans_texts n files).Stops) e c.in_err-texts.ensures.takes) c.load_planned.ensures.same;
+    })
+
+pub returns-in_err-save : goal.returns-in_err-save
+returns-in_err-save g c =
+    let n = names_in c.args.files in
+    let old = g.F.Folder.state c.args.folder.now in
+    let new = g.F.Folder.state c.save.new.self in
+    let Ends = FolderEnds old new (plans n) (PlanLeaves old new n c.args.cert.now) in
+    handed_end c.from_residual-in_err-save.result FolderFault (λ text. Ends (Done text.items)) (λ e. Ends (outcome_of (four_and n []) e)) c.from_residual-in_err-save.ensures.1
+    (record {
+      cause = omega (arith, c.load_planned.ensures.later, c.in_err-save.ensures.failed);
+      leaves = inl (subst (λ (o : Option Files). IfSome o (λ files. IsSomeAnd new.files (OthersStay n.plan files))) c.load_planned.ensures.same c.save.ensures.others);
+    })
 
 pub returns-in_err-save-2 : goal.returns-in_err-save-2
 returns-in_err-save-2 g c =
+    let n = names_in c.args.files in
     let old = g.F.Folder.state c.args.folder.now in
-    let form = Plan c.args.files.disks.now c.args.files.now.now c.args.files.next.now c.args.files.plan.now c.args.cert.now in
-    let e = c.in_ok-bytes.ensures in
-    let files = c.in_ok-bytes.bytes.items in
-    let bytes = c.deref.result.now ∷ c.deref-2.result.now ∷ c.deref-3.result.now ∷ [] in
-    let at = loaded_at (λ b. b.items) files in
-    let held = held_by (λ b. b.items) files (loaded form) bytes old.files (omega (arith, e.count)) (at 0 c.index.result.now c.deref.result.now (omega (arith, e.count)) c.index.ensures c.deref.ensures.value, (at 1 c.index-2.result.now c.deref-2.result.now (omega (arith, e.count)) c.index-2.ensures c.deref-2.ensures.value, (at 2 c.index-3.result.now c.deref-3.result.now (omega (arith, e.count)) c.index-3.ensures c.deref-3.ensures.value, tt))) e.loaded in
+    let mid = g.F.Folder.state c.load_planned.new.folder in
     let new = g.F.Folder.state c.save-2.new.self in
-    handed_end c.from_residual-in_err-save-2.result FolderFault (λ text. FolderEnds old new form (Done text.items)) (λ e. FolderEnds old new form (outcome_of (loaded form) e)) c.from_residual-in_err-save-2.ensures.1
+    let Ends = FolderEnds old new (plans n) (PlanLeaves old new n c.args.cert.now) in
+    handed_end c.from_residual-in_err-save-2.result FolderFault (λ text. Ends (Done text.items)) (λ e. Ends (outcome_of (four_and n []) e)) c.from_residual-in_err-save-2.ensures.1
     (record {
-      cause = omega (arith, e.later, c.save.ensures.later, c.in_err-save-2.ensures.failed);
-      leaves = inr (half_saved c.args.files.disks.now c.args.files.now.now c.args.files.next.now c.args.files.plan.now c.args.cert.now c.requires c.deref.result.now c.deref-2.result.now c.deref-3.result.now c.in_ok-texts.texts.plan.items c.in_ok-texts.texts.cert.items c.in_ok-texts.ensures.done
-          old.files (g.F.Folder.state c.load_all.new.folder).files (g.F.Folder.state c.save.new.self).files new.files e.same held (rw c.deref-4.ensures.value at c.in_ok-save.ensures.saved) c.save-2.ensures.others);
+      cause = omega (arith, c.load_planned.ensures.later, c.save.ensures.later, c.in_err-save-2.ensures.failed);
+      leaves = inr (half_saved n c.args.cert.now c.requires (texts_of c.in_ok-texts.texts) old.files mid.files (g.F.Folder.state c.save.new.self).files new.files c.load_planned.ensures.same c.in_ok-texts.ensures.takes
+          (rw c.deref.ensures.value at c.in_ok-save.ensures.saved) c.save-2.ensures.others);
     })
 
 pub returns : goal.returns
 returns g c =
+    let n = names_in c.args.files in
     let old = g.F.Folder.state c.args.folder.now in
-    let form = Plan c.args.files.disks.now c.args.files.now.now c.args.files.next.now c.args.files.plan.now c.args.cert.now in
-    let e = c.in_ok-bytes.ensures in
-    let files = c.in_ok-bytes.bytes.items in
-    let bytes = c.deref.result.now ∷ c.deref-2.result.now ∷ c.deref-3.result.now ∷ [] in
-    let at = loaded_at (λ b. b.items) files in
-    let held = held_by (λ b. b.items) files (loaded form) bytes old.files (omega (arith, e.count)) (at 0 c.index.result.now c.deref.result.now (omega (arith, e.count)) c.index.ensures c.deref.ensures.value, (at 1 c.index-2.result.now c.deref-2.result.now (omega (arith, e.count)) c.index-2.ensures c.deref-2.ensures.value, (at 2 c.index-3.result.now c.deref-3.result.now (omega (arith, e.count)) c.index-3.ensures c.deref-3.ensures.value, tt))) e.loaded in
+    let mid = g.F.Folder.state c.load_planned.new.folder in
     let new = g.F.Folder.state c.save-2.new.self in
-    let text = c.in_ok-texts.texts.cert.items in
-    let made = c.in_ok-texts.ensures.done in
     record {
-      cause = cause old (g.F.Folder.state c.load_all.new.folder) form e.same bytes held (Done text)
-          (plan_on c.deref.result.now c.deref-2.result.now c.deref-3.result.now (Done text) (λ files disks now next plan cert inputs. inr (made.0, made.1 files disks now next inputs, tt)) c.args.files.disks.now c.args.files.now.now c.args.files.next.now c.args.files.plan.now c.args.cert.now);
-      leaves = are_saved c.args.files.disks.now c.args.files.now.now c.args.files.next.now c.args.files.plan.now c.args.cert.now c.requires c.deref.result.now c.deref-2.result.now c.deref-3.result.now c.in_ok-texts.texts.plan.items text made
-          old.files (g.F.Folder.state c.load_all.new.folder).files (g.F.Folder.state c.save.new.self).files new.files e.same held (rw c.deref-4.ensures.value at c.in_ok-save.ensures.saved) (rw c.deref-5.ensures.value at c.in_ok-save-2.ensures.saved);
+      cause = if_map old.files (λ files made. (made.0, made.1, tt)) c.in_ok-texts.ensures.takes;
+      leaves = are_saved n c.args.cert.now c.requires (texts_of c.in_ok-texts.texts) old.files mid.files (g.F.Folder.state c.save.new.self).files new.files c.load_planned.ensures.same c.in_ok-texts.ensures.takes
+          (rw c.deref.ensures.value at c.in_ok-save.ensures.saved) (rw c.deref-2.ensures.value at c.in_ok-save-2.ensures.saved);
     }

@@ -1,11 +1,17 @@
-use Rattle.mig_top.specs.Loading.{EndsWithin, UnreadAs}
-use Rattle.mig_top.proofs.Cutting.{refused_ends, stands}
-use Rattle.mig_top.proofs.StepEnds.{handed_on}
+use Rattle.mig_base.specs.InputLists.{Lists}
+use Rattle.mig_top.specs.Bodies.{bodies_of}
+use Rattle.mig_top.specs.Loads.{IsRefusal, reads_input}
+use Rattle.mig_top.proofs.Results.{input_ends}
+use Rattle.mig_top.proofs.Steps.{handed_on}
+use Rattle.mig_words.specs.Endings.{ending_of}
 use Rattle.mig_top.proofs.reads.read_files.Goals as goal
 
-pub returns-in_err-read_input-clause-failed : goal.returns-in_err-read_input-clause-failed
-returns-in_err-read_input-clause-failed c =
-    handed_on c.from_residual.result _ (EndsWithin (UnreadAs c.args.disks.now c.args.now.now c.args.next.now)) c.from_residual.ensures.1 (refused_ends _ _ _ c.in_err-read_input.field-0.0 c.in_err-read_input.ensures.refused)
+pub returns-in_err-read_input-clause-takes : goal.returns-in_err-read_input-clause-takes
+returns-in_err-read_input-clause-takes c =
+    let b = bodies_of c.args.bytes.now in
+    let e = c.in_err-read_input.field-0.0 in
+    handed_on (λ (input : Lists). input) (reads_input b) (IsRefusal b) (λ o s. s) c.from_residual.result (ending_of e) c.from_residual.ensures.1
+    (input_ends b e (rw (c.deref.ensures.value, c.deref-2.ensures.value, c.deref-3.ensures.value) at c.in_err-read_input.ensures.refused))
 
-pub returns-clause-stands : goal.returns-clause-stands
-returns-clause-stands c = λ files disks now next h. stands files disks now next _ _ _ _ h c.in_ok-read_input.ensures.accepted
+pub returns-clause-takes : goal.returns-clause-takes
+returns-clause-takes c = rw (c.deref.ensures.value, c.deref-2.ensures.value, c.deref-3.ensures.value) at c.in_ok-read_input.ensures.accepted

@@ -1,0 +1,245 @@
+-- Bytes that are alike are read alike: where a file is too long, that is the first thing that is wrong with it.
+use Rattle.std.proofs.Common.{◌+◌, ◌≡◌, ◌⊎◌, inl, inr, ℕ, zero, suc, ◌<◌, ◌≤◌, List, length, take, refl, sym, ap, subst, ◌∙◌, arith, length-take}
+use Rattle.std.proofs.lemmas.Bool.{cases_lt}
+use Rattle.std.proofs.lemmas.List.{take_all}
+use Rattle.mig_base.specs.declared.limits.TheConstants.{MAX_FILE_BYTES}
+use Rattle.mig_base.specs.CertLines.{CertLine}
+use Rattle.mig_base.specs.InputLists.{Lists}
+use Rattle.mig_base.specs.PlanLines.{PlanLine}
+use Rattle.mig_base.specs.Texts.{CertText, PlanText}
+use Rattle.mig_base.specs.Rows.{Bodies, file_of}
+use Rattle.mig_base.specs.Refusals.{Accepted, Fault, Precedes, RefusedAs, stage_of, rank_of}
+use Rattle.mig_base.specs.declared.faults.FileKind.{FileKind}
+use Rattle.mig_base.specs.declared.faults.FileKind.TheVariants.{Disks, Now, Next}
+use Rattle.mig_base.specs.declared.faults.Why.{Why}
+use Rattle.mig_base.specs.declared.faults.Why.TheVariants as why
+use Rattle.mig_base.proofs.Listed.{Accepted-short}
+use Rattle.mig_csv.specs.Listings.{IsListing, ListingFault, ListingRefusedAs}
+use Rattle.mig_words.specs.Outcomes.{Outcome, Refused, NotSpelled}
+use Rattle.mig_words.specs.declared.endings.TextFile.TheVariants as text_file
+use Rattle.mig_top.specs.Alike.{Alike, AreReadAlike, IsSame}
+use Rattle.mig_top.specs.Loads.{IsLayoutRefusal, IsNoCert, IsNoPlan, IsRefusal, LayoutBodies, reads_cert, reads_input, reads_layout, reads_plan}
+use Rattle.mig_top.specs.Steps.{Step}
+
+alike_sym : (a b : List ℕ) → Alike a b → Alike b a
+alike_sym a b (inl same) = inl (sym same)
+alike_sym a b (inr long) = inr (long.1, long.0)
+
+-- of two that are alike, if one is short they are the same
+short_same : (a b : List ℕ) → Alike a b → length a ≤ MAX_FILE_BYTES → a ≡ b
+short_same a b (inl same) short = same
+short_same a b (inr long) short = absurd (let more = long.0 in omega (arith, more, short))
+
+begins : (whole : List ℕ) → Alike whole (take (MAX_FILE_BYTES + 1) whole)
+begins whole = elim (cases_lt MAX_FILE_BYTES (length whole)) [
+  | inl long ↦ inr (long, omega (arith, long, length-take (MAX_FILE_BYTES + 1) whole))
+  | inr short ↦ inl (sym (take_all (MAX_FILE_BYTES + 1) whole (omega (arith, short))))
+]
+
+-- a fault of the disks file says nothing of the other two
+disks_alone : (d n x m y : List ℕ) (f : FileKind) (r : ℕ) (w : Why) → stage_of f w < 1 → Fault (record { disks = d; now = n; next = x }) f r w → Fault (record { disks = d; now = m; next = y }) f r w
+disks_alone d n x m y f r why.NotInNext s h = absurd (omega arith)
+disks_alone d n x m y f r (why.NoRoom a b c) s h = absurd (omega arith)
+disks_alone d n x m y Disks r _ s h = h
+disks_alone d n x m y Now r _ s h = absurd (omega arith)
+disks_alone d n x m y Next r _ s h = absurd (omega arith)
+
+-- a fault of these two says nothing of the next file
+next_apart : (d n x y : List ℕ) (f : FileKind) (r : ℕ) (w : Why) → stage_of f w < 2 → Fault (record { disks = d; now = n; next = x }) f r w → Fault (record { disks = d; now = n; next = y }) f r w
+next_apart d n x y f r why.NotInNext s h = absurd (omega arith)
+next_apart d n x y f r (why.NoRoom a b c) s h = absurd (omega arith)
+next_apart d n x y Disks r _ s h = h
+next_apart d n x y Now r _ s h = h
+next_apart d n x y Next r _ s h = absurd (omega arith)
+
+-- only a file that is too long has the first rank
+rank_zero : (w : Why) → rank_of w ≡ 0 → w ≡ why.TooLong
+rank_zero why.TooLong e = refl
+rank_zero (why.NoRoom a b c) e = absurd (omega (arith, e))
+rank_zero _ e = absurd (omega (arith, e))
+
+same_file : (f g : FileKind) → stage_of f why.TooLong ≡ stage_of g why.TooLong → f ≡ g
+same_file Disks Disks e = refl
+same_file Now Now e = refl
+same_file Next Next e = refl
+same_file _ _ e = absurd (omega (arith, e))
+
+-- Two sets of faults, each with a file that is too long: what is first in the one is first in the other, where they agree before that file.
+
+-- this fault is one, and none that comes before it
+pub record IsFirstOf (has : FileKind → ℕ → Why → Type 0) (f : FileKind) (n : ℕ) (w : Why) : Type 0 where
+  pub fault : has f n w
+  pub first : (g : FileKind) (m : ℕ) (v : Why) → Precedes g m v f n w → has g m v → ⊥
+
+module _ (a b : FileKind → ℕ → Why → Type 0) (g : FileKind)
+    (to : (k : FileKind) (m : ℕ) (v : Why) → stage_of k v < stage_of g why.TooLong → a k m v → b k m v)
+    (back : (k : FileKind) (m : ℕ) (v : Why) → stage_of k v < stage_of g why.TooLong → b k m v → a k m v)
+    (long_a : a g 0 why.TooLong) (long_b : b g 0 why.TooLong) where
+  no_later : (k f : FileKind) (m r : ℕ) (v w : Why) → Precedes k m v f r w → stage_of k v ≤ stage_of f w
+  no_later k f m r v w (inl lt) = omega (arith, lt)
+  no_later k f m r v w (inr same) = omega (arith, same.0)
+
+  none_before : (k : FileKind) (m : ℕ) (v : Why) → Precedes k m v g 0 why.TooLong → stage_of k v < stage_of g why.TooLong
+  none_before k m v (inl lt) = lt
+  none_before k m v (inr (same, inl lt)) = absurd (omega (arith, lt))
+  none_before k m v (inr (same, inr (at, lt))) = absurd (omega (arith, lt))
+
+  long_refused : IsFirstOf a g 0 why.TooLong → IsFirstOf b g 0 why.TooLong
+  long_refused h = record {
+    fault = long_b;
+    first = λ k m v p q. h.first k m v p (back k m v (none_before k m v p) q);
+  }
+
+  is_long : (f : FileKind) (r : ℕ) (w : Why) → stage_of g why.TooLong ≤ stage_of f w → IsFirstOf a f r w → (f ≡ g) × (r ≡ 0) × (w ≡ why.TooLong)
+  is_long f r w le h =
+      let not_before : Precedes g 0 why.TooLong f r w → ⊥ = λ p. h.first g 0 why.TooLong p long_a in
+      let stage : stage_of g why.TooLong ≡ stage_of f w = at_most (stage_of g why.TooLong) (stage_of f w) le (λ lt. not_before (inl lt)) in
+      let row : r ≡ 0 = none r (λ lt. not_before (inr (stage, inl lt))) in
+      let rank : rank_of w ≡ 0 = none (rank_of w) (λ lt. not_before (inr (stage, inr (sym row, lt)))) in
+      let cause : w ≡ why.TooLong = rank_zero w rank in
+      (same_file f g (sym (stage ∙ ap (stage_of f) cause)), row, cause)
+    where
+      at_most : (m n : ℕ) → m ≤ n → (m < n → ⊥) → m ≡ n
+      at_most m n le not = elim (cases_lt m n) [
+        | inl lt ↦ absurd (not lt)
+        | inr ge ↦ omega (arith, le, ge)
+      ]
+
+      none : (n : ℕ) → (0 < n → ⊥) → n ≡ 0
+      none zero not = refl
+      none (suc n) not = absurd (not (omega arith))
+
+  pub carried_first : (f : FileKind) (r : ℕ) (w : Why) → IsFirstOf a f r w → IsFirstOf b f r w
+  carried_first f r w h = elim (cases_lt (stage_of f w) (stage_of g why.TooLong)) [
+    | inl lt ↦ record {
+      fault = to f r w lt h.fault;
+      first = λ k m v p q. h.first k m v p (back k m v (omega (arith, lt, no_later k f m r v w p)) q);
+    }
+    | inr ge ↦
+        let is = is_long f r w ge h in
+        subst (λ k. IsFirstOf b k r w) (sym is.0) (subst (λ m. IsFirstOf b g m w) (sym is.1) (subst (λ v. IsFirstOf b g 0 v) (sym is.2)
+        (long_refused (subst (λ v. IsFirstOf a g 0 v) is.2 (subst (λ m. IsFirstOf a g m w) is.1 (subst (λ k. IsFirstOf a k r w) is.0 h))))))
+  ]
+
+-- Inputs
+
+-- files of which one is too long, beside others with the same faults before it
+carried : (a b : Bodies) (g : FileKind) → ((k : FileKind) (m : ℕ) (v : Why) → stage_of k v < stage_of g why.TooLong → Fault a k m v → Fault b k m v)
+    → ((k : FileKind) (m : ℕ) (v : Why) → stage_of k v < stage_of g why.TooLong → Fault b k m v → Fault a k m v)
+    → MAX_FILE_BYTES < length (file_of a g) → MAX_FILE_BYTES < length (file_of b g) → (f : FileKind) (r : ℕ) (w : Why) → RefusedAs a f r w → RefusedAs b f r w
+carried a b g to back long_a long_b f r w h =
+    let first = carried_first (Fault a) (Fault b) g to back (refl, long_a) (refl, long_b) f r w (record { fault = h.fault; first = h.first }) in
+    record { fault = first.fault; first = first.first }
+
+abbrev three : (disks now next : List ℕ) → Bodies
+three disks now next = record { disks = disks; now = now; next = next }
+
+refused : (d n x e m y : List ℕ) → Alike d e → Alike n m → Alike x y → (f : FileKind) (r : ℕ) (w : Why) → RefusedAs (three d n x) f r w → RefusedAs (three e m y) f r w
+refused d n x e m y (inr long) second third f r w h = carried (three d n x) (three e m y) Disks (λ k i v lt q. absurd (omega (arith, lt))) (λ k i v lt q. absurd (omega (arith, lt))) long.0 long.1 f r w h
+refused d n x e m y (inl same) (inr long) third f r w h = subst (λ (b : List ℕ). RefusedAs (three b m y) f r w) same
+    (carried (three d n x) (three d m y) Now (λ k i v lt q. disks_alone d n x m y k i v lt q) (λ k i v lt q. disks_alone d m y n x k i v lt q) long.0 long.1 f r w h)
+refused d n x e m y (inl same) (inl also) (inr long) f r w h = subst (λ (b : List ℕ). RefusedAs (three b m y) f r w) same (subst (λ (b : List ℕ). RefusedAs (three d b y) f r w) also
+    (carried (three d n x) (three d n y) Next (λ k i v lt q. next_apart d n x y k i v lt q) (λ k i v lt q. next_apart d n y x k i v lt q) long.0 long.1 f r w h))
+refused d n x e m y (inl same) (inl also) (inl too) f r w h =
+    subst (λ (b : List ℕ). RefusedAs (three b m y) f r w) same (subst (λ (b : List ℕ). RefusedAs (three d b y) f r w) also (subst (λ (b : List ℕ). RefusedAs (three d n b) f r w) too h))
+
+module _ (a b : Bodies) (disks : Alike a.disks b.disks) (now : Alike a.now b.now) (next : Alike a.next b.next) where
+  input_passes : (input : Lists) → Accepted a input → Accepted b input
+  input_passes input h =
+      let d = short_same a.disks b.disks disks (Accepted-short a input h Disks) in
+      let n = short_same a.now b.now now (Accepted-short a input h Now) in
+      let x = short_same a.next b.next next (Accepted-short a input h Next) in
+      subst (λ (c : Bodies). Accepted c input) (λ i. three (d i) (n i) (x i)) h
+
+  input_stops : (o : Outcome) → IsRefusal a o → IsRefusal b o
+  input_stops (Refused f r w) h = refused a.disks a.now a.next b.disks b.now b.next disks now next f r w h
+  input_stops _ h = absurd h
+
+inputs : (a b : Bodies) → Alike a.disks b.disks → Alike a.now b.now → Alike a.next b.next → IsSame (reads_input a) (reads_input b)
+inputs a b d n x =
+    let e = alike_sym a.disks b.disks d in
+    let m = alike_sym a.now b.now n in
+    let y = alike_sym a.next b.next x in
+    record { passes = λ input. (input_passes a b d n x input, input_passes b a e m y input); stops = λ o. (input_stops a b d n x o, input_stops b a e m y o) }
+
+-- Layouts
+
+-- a fault in the now file comes after those in the disks file
+now_stage : (w : Why) → 1 ≤ stage_of Now w
+now_stage why.NotInNext = omega arith
+now_stage (why.NoRoom a b c) = omega arith
+now_stage _ = omega arith
+
+disks_apart : (d n m : List ℕ) (f : FileKind) (r : ℕ) (w : Why) → stage_of f w < 1 → ListingFault d n f r w → ListingFault d m f r w
+disks_apart d n m Disks r w s h = h
+disks_apart d n m Now r w s h = absurd (omega (arith, s, now_stage w))
+disks_apart d n m Next r w s h = absurd h
+
+listing_carried : (d n e m : List ℕ) (g : FileKind) → ((k : FileKind) (i : ℕ) (v : Why) → stage_of k v < stage_of g why.TooLong → ListingFault d n k i v → ListingFault e m k i v)
+    → ((k : FileKind) (i : ℕ) (v : Why) → stage_of k v < stage_of g why.TooLong → ListingFault e m k i v → ListingFault d n k i v)
+    → ListingFault d n g 0 why.TooLong → ListingFault e m g 0 why.TooLong → (f : FileKind) (r : ℕ) (w : Why) → ListingRefusedAs d n f r w → ListingRefusedAs e m f r w
+listing_carried d n e m g to back long_a long_b f r w h =
+    let first = carried_first (ListingFault d n) (ListingFault e m) g to back long_a long_b f r w (record { fault = h.fault; first = h.first }) in
+    record { fault = first.fault; first = first.first }
+
+listing_refused : (d n e m : List ℕ) → Alike d e → Alike n m → (f : FileKind) (r : ℕ) (w : Why) → ListingRefusedAs d n f r w → ListingRefusedAs e m f r w
+listing_refused d n e m (inr long) second f r w h = listing_carried d n e m Disks (λ k i v lt q. absurd (omega (arith, lt))) (λ k i v lt q. absurd (omega (arith, lt))) (refl, long.0) (refl, long.1) f r w h
+listing_refused d n e m (inl same) (inr long) f r w h = subst (λ (b : List ℕ). ListingRefusedAs b m f r w) same
+    (listing_carried d n d m Now (λ k i v lt q. disks_apart d n m k i v lt q) (λ k i v lt q. disks_apart d m n k i v lt q) (refl, long.0) (refl, long.1) f r w h)
+listing_refused d n e m (inl same) (inl also) f r w h = subst (λ (b : List ℕ). ListingRefusedAs b m f r w) same (subst (λ (b : List ℕ). ListingRefusedAs d b f r w) also h)
+
+module _ (a b : LayoutBodies) (disks : Alike a.disks b.disks) (now : Alike a.now b.now) where
+  short_listed : (input : Lists) (f : FileKind) (bytes : List ℕ) → IsListing a.disks a.now input → (MAX_FILE_BYTES < length bytes → ListingFault a.disks a.now f 0 why.TooLong) → length bytes ≤ MAX_FILE_BYTES
+  short_listed input f bytes h fault = elim (cases_lt MAX_FILE_BYTES (length bytes)) [ inl long ↦ absurd (h.sound f 0 why.TooLong (fault long)) | inr short ↦ short ]
+
+  layout_passes : (input : Lists) → IsListing a.disks a.now input → IsListing b.disks b.now input
+  layout_passes input h =
+      let d = short_same a.disks b.disks disks (short_listed input Disks a.disks h (λ long. (refl, long))) in
+      let n = short_same a.now b.now now (short_listed input Now a.now h (λ long. (refl, long))) in
+      subst (λ (e : List ℕ). IsListing e b.now input) d (subst (λ (m : List ℕ). IsListing a.disks m input) n h)
+
+  layout_stops : (o : Outcome) → IsLayoutRefusal a o → IsLayoutRefusal b o
+  layout_stops (Refused f r w) h = listing_refused a.disks a.now b.disks b.now disks now f r w h
+  layout_stops _ h = absurd h
+
+layouts : (a b : LayoutBodies) → Alike a.disks b.disks → Alike a.now b.now → IsSame (reads_layout a) (reads_layout b)
+layouts a b d n =
+    let e = alike_sym a.disks b.disks d in
+    let m = alike_sym a.now b.now n in
+    record { passes = λ input. (layout_passes a b d n input, layout_passes b a e m input); stops = λ o. (layout_stops a b d n o, layout_stops b a e m o) }
+
+-- Texts
+
+module _ (a b : List ℕ) (input : Lists) (same : Alike a b) where
+  plan_stops : (o : Outcome) → IsNoPlan a input o → IsNoPlan b input o
+  plan_stops (NotSpelled text_file.Plan line) h = by same
+    where
+      by : Alike a b → PlanLine input b line
+      by (inl is) = subst (λ (t : List ℕ). PlanLine input t line) is h
+      by (inr long) = record { no_plan = λ plan text. long.1; line = record { long = λ _. h.line.long long.0; short = λ le. absurd (let more = long.1 in omega (arith, le, more)) } }
+  plan_stops _ h = absurd h
+
+  cert_stops : (o : Outcome) → IsNoCert a input o → IsNoCert b input o
+  cert_stops (NotSpelled text_file.Cert line) h = by same
+    where
+      by : Alike a b → CertLine input b line
+      by (inl is) = subst (λ (t : List ℕ). CertLine input t line) is h
+      by (inr long) = record { no_cert = λ cert text. long.1; line = record { long = λ _. h.line.long long.0; short = λ le. absurd (let more = long.1 in omega (arith, le, more)) } }
+  cert_stops _ h = absurd h
+
+-- what is short enough to be read is the same
+short_passes : {X : Type 0} (Spells : X → List ℕ → Type 0) (a b : List ℕ) → Alike a b → (x : X) → Spells x a × (length a ≤ MAX_FILE_BYTES) → Spells x b × (length b ≤ MAX_FILE_BYTES)
+short_passes Spells a b same x h = subst (λ (t : List ℕ). Spells x t × (length t ≤ MAX_FILE_BYTES)) (short_same a b same h.1) h
+
+plans : (a b : List ℕ) (input : Lists) → Alike a b → IsSame (reads_plan a input) (reads_plan b input)
+plans a b input same =
+    let back = alike_sym a b same in
+    record { passes = λ rounds. (short_passes (PlanText input) a b same rounds, short_passes (PlanText input) b a back rounds); stops = λ o. (plan_stops a b input same o, plan_stops b a input back o) }
+
+certs : (a b : List ℕ) (input : Lists) → Alike a b → IsSame (reads_cert a input) (reads_cert b input)
+certs a b input same =
+    let back = alike_sym a b same in
+    record { passes = λ cert. (short_passes (CertText input) a b same cert, short_passes (CertText input) b a back cert); stops = λ o. (cert_stops a b input same o, cert_stops b a input back o) }
+
+pub read_alike : AreReadAlike
+read_alike = record { begins = begins; inputs = inputs; layouts = layouts; plans = plans; certs = certs }

@@ -1,0 +1,25 @@
+use Rattle.std.proofs.Common.{[], inl, inr, ⊎_elim}
+use Rattle.mig_words.specs.Commands.{names_in}
+use Rattle.mig_words.specs.Words.{four_and}
+use Rattle.mig_top.specs.Bodies.{bodies_of, texts_of}
+use Rattle.mig_top.specs.Causes.{makes_texts, plans_texts}
+use Rattle.mig_top.specs.Loads.{loads_input}
+use Rattle.mig_top.proofs.Steps.{answers_in, handed_from, stops_first}
+use Rattle.mig_top.proofs.plan_command.load_planned.Goals as goal
+
+pub returns-in_err-bytes-clause-takes : goal.returns-in_err-bytes-clause-takes
+returns-in_err-bytes-clause-takes g c =
+    let n = names_in c.args.files in
+    let old = g.F.Folder.state c.args.folder.now in
+    let new = g.F.Folder.state c.load_input.new.folder in
+    handed_from old new (four_and n []) texts_of (plans_texts n) c.from_residual.result c.in_err-bytes.field-0.0 c.from_residual.ensures.1
+    (stops_first old new (four_and n []) (λ files. (loads_input n files).Stops) (λ files. (plans_texts n files).Stops) (λ files o s. inl (inl s)) c.in_err-bytes.field-0.0 (c.in_err-bytes.ensures.takes []))
+
+pub returns-clause-takes : goal.returns-clause-takes
+returns-clause-takes g c =
+    let n = names_in c.args.files in
+    let old = g.F.Folder.state c.args.folder.now in
+    let new = g.F.Folder.state c.load_input.new.folder in
+    let bodies = bodies_of c.in_ok-bytes.bytes in
+    answers_in old new (four_and n []) (λ files. (loads_input n files).Passes bodies) (c.in_ok-bytes.ensures.takes []) texts_of (plans_texts n) texts_of (makes_texts bodies)
+    (λ files held texts h. (h.0, (bodies, held, h.1), h.2)) (λ files o held s. ⊎_elim (λ r. inl (inr (bodies, held, r))) (λ none. absurd none.2) s) c.planned.result c.planned.ensures

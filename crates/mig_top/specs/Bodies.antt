@@ -1,0 +1,28 @@
+-- What contracts see of the bytes that were loaded, and of what was read.
+use Rattle.mig_base.specs.Rows.{Bodies}
+use Rattle.mig_mover.specs.Tasks.{Task}
+use Rattle.mig_top.specs.declared.loads.InputBytes.{InputBytes}
+use Rattle.mig_top.specs.declared.loads.LayoutBytes.{LayoutBytes}
+use Rattle.mig_top.specs.declared.loads.PlanBytes.{PlanBytes}
+use Rattle.mig_top.specs.declared.plan_command.Texts.{Texts}
+use Rattle.mig_top.specs.declared.tasks.Runnable.{Runnable}
+use Rattle.mig_top.specs.Loads.{LayoutBodies, PlanBodies, task_of}
+use Rattle.mig_top.specs.Planned.{PlanTexts}
+
+-- the bytes of a layout, of an input, and of a plan
+abbrev pub two_bodies_of : LayoutBytes → LayoutBodies
+two_bodies_of bytes = record { disks = bytes.disks.items; now = bytes.now.items }
+
+abbrev pub bodies_of : InputBytes → Bodies
+bodies_of bytes = record { disks = bytes.disks.items; now = bytes.now.items; next = bytes.next.items }
+
+abbrev pub plan_bodies_of : PlanBytes → PlanBodies
+plan_bodies_of bytes = record { input = bodies_of bytes.input; plan = bytes.plan.items }
+
+-- the task that was read
+abbrev pub task_read : Runnable → Task
+task_read read = task_of read.text.items read.input read.plan
+
+-- the texts of a plan and of its certificate
+abbrev pub texts_of : Texts → PlanTexts
+texts_of texts = record { plan = texts.plan.items; cert = texts.cert.items }
