@@ -161,6 +161,10 @@ fn expect_in_place(rt: &impl Abort, alloc: Global, folder: &mut impl Folder, byt
     assert!(rt; holds(folder, alloc, "other", bytes));
 }
 
+/// A name of 255 bytes whose new file would have the same name.
+const OWN_NEW_FILE: &str =
+    "nnnnnnnnnnnnnnnnnnnnnnnnnnnnnnnnnnnnnnnnnnnnnnnnnnnnnnnnnnnnnnnnnnnnnnnnnnnnnnnnnnnnnnnnnnnnnnnnnnnnnnnnnnnnnnnnnnnnnnnnnnnnnnnnnnnnnnnnnnnnnnnnnnnnnnnnnnnnnnnnnnnnnnnnnnnnnnnnnnnnnnnnnnnnnnnnnnnnnnnnnnnnnnnnnnnnnnnnnnnnnnnnnnnnnnnnnnnnnnnnnnnnnnn.new.mig";
+
 #[test]
 fn files_are_saved_whole(rt: HostRuntime) {
     enter(&rt, "saved_whole").expect(&rt, "a folder");
@@ -173,6 +177,7 @@ fn files_are_saved_whole(rt: HostRuntime) {
     let mut folder = DirFolder::new(&rt, alloc);
     expect_replaced(&rt, alloc, &mut folder);
     expect_kept(&rt, alloc, &mut folder);
+    assert!(rt; folder.save(OWN_NEW_FILE, b"x").is_err());
     assert!(rt; folder.save("/dev/full", b"x").is_err());
     assert!(rt; folder.save("/dev/null", b"x").is_ok());
     drop(folder);
