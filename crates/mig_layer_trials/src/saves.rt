@@ -1,11 +1,22 @@
 //! Saving a file by calls in memory, one of which fails.
 
-use mig_io::{MemSave, Unsaved, save_over};
+use mig_save::{MemSave, Unsaved, save_over};
 use std::alloc::Global;
 use std::panic::Expect;
 use std::process::Abort;
 
-/// What a save of three bytes answers whose call of this number fails, and what then stands under the name.
+/// What a save of three bytes answers.
+fn answer_of(calls: &mut MemSave) -> &'static str {
+    match save_over(calls, b"new") {
+        Ok(_) => "saved",
+        Err(Unsaved::Unchanged(_)) => "nothing was changed",
+        Err(Unsaved::OldStands(_)) => "the old file stands",
+        Err(Unsaved::NewStands(_)) => "the new file stands",
+        Err(Unsaved::InPart(_)) => "a part may have been written",
+    }
+}
+
+/// What a save answers whose call of this number fails, and what then stands under the name.
 fn saved_with<R: Abort + AllocGlobal>(
     rt: &R,
     alloc: Global,
@@ -17,13 +28,7 @@ fn saved_with<R: Abort + AllocGlobal>(
         None => None,
     };
     let mut calls = MemSave::new(alloc, first, failing);
-    let answer = match save_over(&mut calls, b"new") {
-        Ok(_) => "saved",
-        Err(Unsaved::Unchanged(_)) => "nothing was changed",
-        Err(Unsaved::OldStands(_)) => "the old file stands",
-        Err(Unsaved::NewStands(_)) => "the new file stands",
-        Err(Unsaved::InPart(_)) => "a part may have been written",
-    };
+    let answer = answer_of(&mut calls);
     (answer, calls.stands(alloc).expect(rt, "ample memory"))
 }
 
@@ -60,5 +65,15 @@ fn a_new_file_in_memory_is_there_whole_or_not(rt: HostRuntime) {
             Some(stands) => assert!(rt; failing > 9 && stands.as_slice() == b"new".as_slice()),
             None => assert!(rt; failing < 10),
         }
+    }
+}
+
+#[test]
+fn a_pipe_in_memory_is_written_in_place(rt: HostRuntime) {
+    let alloc = rt.alloc();
+    // the calls: look, save_in_place
+    let wanted = ["nothing was changed", "a part may have been written", "saved"];
+    for (i, wanted) in wanted.iter().enumerate() {
+        assert_eq!(rt; answer_of(&mut MemSave::pipe(alloc, i as u64 + 1)), *wanted);
     }
 }

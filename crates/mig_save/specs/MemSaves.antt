@@ -53,9 +53,9 @@ MayLeave m content = (content ≡ m.stands) ⊎ (IsOneOf m.older content ⊎ IsT
 abbrev pub LeftSince : Content → List Step → ℕ → Content → Type 0
 LeftSince first steps t content = (k : ℕ) × (t ≤ k) × (k ≤ length steps) × MayLeave (after first (take k steps)) content
 
-abbrev pub mem_state : Content → List Step → ℕ → SaveState
-mem_state first steps failures = record {
-  told = true;
+abbrev pub mem_state : Bool → Content → List Step → ℕ → SaveState
+mem_state told first steps failures = record {
+  told = told;
   stands = (after first steps).stands;
   may_leave = MayLeave (after first steps);
   moment = length steps;
@@ -68,8 +68,8 @@ mem_state first steps failures = record {
   failures = failures;
 }
 
-pub mem_is_state : (first : Content) (steps : List Step) (failures : ℕ) → IsSaveState (mem_state first steps failures)
-mem_is_state first steps failures = record {
+pub mem_is_state : (told : Bool) (first : Content) (steps : List Step) (failures : ℕ) → IsSaveState (mem_state told first steps failures)
+mem_is_state told first steps failures = record {
   counts_now = λ t content le left. (length steps, le, omega arith, subst (λ (l : List Step). MayLeave (after first l) content) (sym (take_all (length steps) steps (omega arith))) left);
   only_now = λ content left. subst (λ (l : List Step). MayLeave (after first l) content) (take_all left.0 steps (omega (arith, left.1))) left.3;
 }

@@ -1,5 +1,5 @@
 //! The calls that save a file, in memory.
-ghost use Rattle.std.specs.Prelude.{◌≡◌, ◌≤◌, ◌++◌, ◌∷◌, [], IsTrue, IfOk, OnOk, OnErr};
+ghost use Rattle.std.specs.Prelude.{◌≡◌, ◌≤◌, ◌++◌, ◌∷◌, [], IsTrue, IsFalse, IfOk, OnOk, OnErr};
 ghost use Rattle.mig_base.specs.FaultCounts.{Rose};
 ghost use Rattle.mig_save.specs.Saves.{IsSettled};
 ghost use Rattle.mig_save.specs.MemSaves.{Moment, after_step, content_of, mem_state, mem_is_state};
@@ -19,9 +19,11 @@ pub enum Step {
     FolderSynced,
 }
 
-/// A file of one name in memory, which tells all. A write takes one byte, and one call may fail.
+/// A file of one name in memory, which tells all, or a pipe, which is written in place and tells nothing. A write takes one byte, and one call may fail.
 #[derive(Drop)]
 pub struct MemSave {
+    /// It is no pipe.
+    told: bool,
     /// What stood under the name at first.
     first: Option<Vec<u8>>,
     steps: Vec<Step>,
@@ -40,7 +42,22 @@ impl MemSave {
         ensures settled { IsSettled (⟦<MemSave as SaveCalls>⟧.state result) }
     {
         MemSave {
+            told: true,
             first,
+            steps: Vec::new(alloc),
+            calls: 0,
+            failing,
+            failures: 0,
+        }
+    }
+
+    /// A pipe, and the number of the call that fails, counted from 1.
+    pub fn pipe(alloc: Global, failing: u64) -> Self
+        ensures untold { IsFalse (⟦<MemSave as SaveCalls>⟧.state result).told }
+    {
+        MemSave {
+            told: false,
+            first: None,
             steps: Vec::new(alloc),
             calls: 0,
             failing,
@@ -65,6 +82,7 @@ impl MemSave {
 
     /// Begins a call, which may fail.
     fn enter(&mut self) -> io::Result<()>
+        ensures told { self.new.told ≡ self.old.told }
         ensures first { self.new.first ≡ self.old.first }
         ensures steps { self.new.steps.items ≡ self.old.steps.items }
         ensures later { self.old.failures ≤ self.new.failures }
@@ -80,6 +98,7 @@ impl MemSave {
 
     /// Notes a step; an error where memory is refused.
     fn note(&mut self, step: Step) -> io::Result<()>
+        ensures told { self.new.told ≡ self.old.told }
         ensures first { self.new.first ≡ self.old.first }
         ensures done { OnOk result (self.new.steps.items ≡ self.old.steps.items ++ step ∷ []) }
         ensures nothing { OnErr result (self.new.steps.items ≡ self.old.steps.items) }
@@ -114,13 +133,14 @@ fn follow(
 }
 
 impl SaveCalls for MemSave {
-    ghost state = { λ m. mem_state (content_of m.first) m.steps.items m.failures };
+    ghost state = { λ m. mem_state m.told (content_of m.first) m.steps.items m.failures };
 
-    ghost is_state = { λ m. mem_is_state (content_of m.first) m.steps.items m.failures };
+    ghost is_state = { λ m. mem_is_state m.told (content_of m.first) m.steps.items m.failures };
 
     fn look(&mut self) -> io::Result<Target> {
         self.enter()?;
         match self.first {
+            _ if !self.told => Ok(Target::InPlace),
             Some(_) => Ok(Target::Plain(0o644)),
             None => Ok(Target::Missing),
         }
@@ -174,9 +194,8 @@ impl SaveCalls for MemSave {
         self.note(Step::FolderSynced)
     }
 
-    /// Nothing is written so: all is told.
     fn save_in_place(&mut self, _bytes: &[u8]) -> io::Result<Option<Node>> {
-        self.failures = self.failures.saturating_add(1);
-        Err(ErrorKind::Unsupported.into())
+        self.enter()?;
+        Ok(None)
     }
 }
