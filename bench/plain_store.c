@@ -1,6 +1,5 @@
 /* What `migrate fill`, `audit`, `move` and `resume` do with files, written plainly and without their checks, to be measured beside them:
-   the same reads, writes and syncs in the same order. Disks are named d0, d1 and so on, and items i0, i1 and so on, as in the
-   cases that `store` makes.
+   the same reads, writes and syncs. Names are found by their hash, as in any program that does not know them before.
 
        plain_store fill DISKS NOW        plain_store move DISKS NOW NEXT PLAN
        plain_store audit DISKS NOW       plain_store resume DISKS NOW NEXT PLAN */
@@ -13,17 +12,45 @@
 #include <sys/file.h>
 #include <unistd.h>
 
-enum { DISKS = 1024, ITEMS = 65536, SLOT = 4096, HEADER = 34, SECTOR = 512 };
+enum { DISKS = 1024, ITEMS = 65536, PLACES = 1 << 18, NAME = 32, SLOT = 4096, HEADER = 34, SECTOR = 512 };
 
 struct spot { int disk, slot; };
 struct shift { int item; struct spot from, to; };
 
+struct names { int count, places[PLACES]; char texts[ITEMS][NAME + 1]; };
+
+static struct names disk_names, item_names;
 static struct spot now[ITEMS];
-static int items;
+static int next[ITEMS];
 static const unsigned char zeros[SLOT], one = 1;
 static int files[DISKS], dirty[DISKS], journal = -1, journal_dirty, made;
 
 static void fail(const char *what) { perror(what); exit(1); }
+
+/* The number of a name, which ends at a character and stands in a text; `at` is moved behind that character. A new name gets the next
+   number where it may be added. */
+static int number_of(struct names *names, char **at, char end, int most) {
+    const char *name = *at;
+    uint32_t hash = 2166136261u;
+    while (**at != end) {
+        if (**at == 0) exit(3);
+        hash = (hash ^ (unsigned char)*(*at)++) * 16777619u;
+    }
+    int length = (int)((*at)++ - name);
+    for (uint32_t place = hash % PLACES;; place = (place + 1) % PLACES) {
+        int number = names->places[place] - 1;
+        if (number < 0) {
+            if (names->count >= most || length > NAME) exit(3);
+            memcpy(names->texts[names->count], name, length);
+            names->places[place] = ++names->count;
+            return names->count - 1;
+        }
+        if (memcmp(names->texts[number], name, length) == 0 && names->texts[number][length] == 0) return number;
+    }
+}
+
+static int disk_of(char **at, char end) { return number_of(&disk_names, at, end, disk_names.count); }
+static int item_of(char **at, char end) { return number_of(&item_names, at, end, item_names.count); }
 
 /* SHA-256, FIPS 180-4. */
 
@@ -75,9 +102,9 @@ static int open_file(const char *name) {
 }
 
 static int disk_file(int disk) {
-    char name[32];
+    char name[NAME + 6];
     if (files[disk] == 0) {
-        snprintf(name, sizeof name, "d%d.disk", disk);
+        snprintf(name, sizeof name, "%s.disk", disk_names.texts[disk]);
         files[disk] = open_file(name);
     }
     return files[disk];
@@ -91,9 +118,9 @@ static void lock_journal(void) {
 
 /* Reads the first bytes of a slot. */
 static void read_slot(struct spot spot, unsigned char *into, size_t length) {
-    char name[32];
+    char name[NAME + 6];
     if (files[spot.disk] == 0) {
-        snprintf(name, sizeof name, "d%d.disk", spot.disk);
+        snprintf(name, sizeof name, "%s.disk", disk_names.texts[spot.disk]);
         if (access(name, F_OK)) {
             memset(into, 0, length);
             return;
@@ -141,19 +168,6 @@ static int gate_is_one(void) { return byte_of_journal(1) == 1; }
 
 /* What is read from texts. */
 
-static void read_layout(const char *name) {
-    char line[128];
-    FILE *file = fopen(name, "r");
-    if (!file || !fgets(line, sizeof line, file)) fail(name);
-    while (fgets(line, sizeof line, file)) {
-        struct spot *spot = &now[items++];
-        char *at = strchr(line, ',');
-        spot->disk = strtol(at + 2, &at, 10);
-        spot->slot = strtol(at + 1, &at, 10);
-    }
-    fclose(file);
-}
-
 static char *read_text(const char *name, size_t *length) {
     FILE *file = fopen(name, "r");
     if (!file || fseek(file, 0, SEEK_END)) fail(name);
@@ -167,13 +181,38 @@ static char *read_text(const char *name, size_t *length) {
 
 static char *skip_line(char *at) { return strchr(at, '\n') + 1; }
 
-static struct shift shift_of(char *at) {
+static int number_in(char **at, char end) {
+    int number = (int)strtol(*at, at, 10);
+    if (*(*at)++ != end) exit(3);
+    return number;
+}
+
+static void read_layout(char **words) {
+    size_t length;
+    for (char *at = skip_line(read_text(words[2], &length)); *at; at = skip_line(at)) number_of(&disk_names, &at, ',', DISKS);
+    for (char *at = skip_line(read_text(words[3], &length)); *at;) {
+        struct spot *spot = &now[number_of(&item_names, &at, ',', ITEMS)];
+        spot->disk = disk_of(&at, ',');
+        spot->slot = number_in(&at, '\n');
+    }
+}
+
+static void read_next(const char *name) {
+    size_t length;
+    for (char *at = skip_line(read_text(name, &length)); *at;) {
+        int item = item_of(&at, ',');
+        next[item] = disk_of(&at, '\n');
+    }
+}
+
+static struct shift shift_at(char **at) {
     struct shift s;
-    s.item = strtol(at + 1, &at, 10);
-    s.from.disk = strtol(at + 2, &at, 10);
-    s.from.slot = strtol(at, &at, 10);
-    s.to.disk = strtol(at + 2, &at, 10);
-    s.to.slot = strtol(at, &at, 10);
+    s.item = item_of(at, ' ');
+    s.from.disk = disk_of(at, ' ');
+    s.from.slot = number_in(at, ' ');
+    s.to.disk = disk_of(at, ' ');
+    s.to.slot = number_in(at, '\n');
+    if (next[s.item] != s.to.disk) exit(1);
     return s;
 }
 
@@ -182,7 +221,8 @@ static struct shift shift_of(char *at) {
 static void header_of(int item, unsigned char *slot) {
     memset(slot, 0, HEADER);
     slot[0] = 1;
-    slot[1] = (unsigned char)sprintf((char *)slot + 2, "i%d", item);
+    slot[1] = (unsigned char)strlen(item_names.texts[item]);
+    memcpy(slot + 2, item_names.texts[item], slot[1]);
 }
 
 static void made_slot(int item, unsigned char *slot) {
@@ -204,22 +244,22 @@ static void fill(void) {
     unsigned char slot[SLOT];
     sync_all();
     if (gate_is_one()) exit(8);
-    for (int i = 0; i < items; i++) {
+    for (int i = 0; i < item_names.count; i++) {
         read_slot(now[i], slot, SLOT);
         if (slot[0] == 1) exit(9);
     }
-    for (int i = 0; i < items; i++) {
+    for (int i = 0; i < item_names.count; i++) {
         made_slot(i, slot);
         write_slot(now[i], slot);
     }
     sync_all();
-    printf("filled %d\n", items);
+    printf("filled %d\n", item_names.count);
 }
 
 static void audit(void) {
     unsigned char slot[SLOT], digest[32];
     int here = 0;
-    for (int i = 0; i < items; i++) {
+    for (int i = 0; i < item_names.count; i++) {
         read_slot(now[i], slot, SLOT);
         sha256(slot, SLOT, digest);
         int there = is_there(i, slot);
@@ -230,9 +270,9 @@ static void audit(void) {
             hex[2 * b + 1] = "0123456789abcdef"[digest[b] & 15];
         }
         hex[64] = 0;
-        printf("i%d d%d %d %s %s\n", i, now[i].disk, now[i].slot, there ? "here" : "lost", hex);
+        printf("%s %s %d %s %s\n", item_names.texts[i], disk_names.texts[now[i].disk], now[i].slot, there ? "here" : "lost", hex);
     }
-    printf("%d here, %d lost\n", here, items - here);
+    printf("%d here, %d lost\n", here, item_names.count - here);
 }
 
 struct plan { char *text; size_t length; int rounds, moved, *sizes; struct shift *shifts; };
@@ -249,14 +289,14 @@ static struct plan read_plan(const char *name) {
         strtol(at + 6, &at, 10);
         plan.sizes[r] = strtol(at, &at, 10);
         at = skip_line(at);
-        for (int i = 0; i < plan.sizes[r]; i++, at = skip_line(at)) plan.shifts[plan.moved++] = shift_of(at);
+        for (int i = 0; i < plan.sizes[r]; i++) plan.shifts[plan.moved++] = shift_at(&at);
     }
     return plan;
 }
 
 static void check_ready(const struct plan *plan) {
     unsigned char slot[SLOT];
-    for (int i = 0; i < items; i++) {
+    for (int i = 0; i < item_names.count; i++) {
         read_slot(now[i], slot, SLOT);
         if (!is_there(i, slot)) exit(9);
     }
@@ -306,13 +346,24 @@ static void move(const char *name) {
     carry_out(&plan, 0, plan.shifts);
 }
 
-/* The header of each item that is moved is read where the marked rounds have put it. */
+/* The header of each item that is moved is read where the marked rounds have put it, and that of each named slot that is free then. */
 static void look_for_all(const struct plan *plan, const struct shift *next) {
-    unsigned char header[HEADER];
+    unsigned char header[HEADER], *seen = calloc(DISKS, ITEMS);
+    if (!seen) fail("memory");
     for (const struct shift *s = plan->shifts; s < plan->shifts + plan->moved; s++) {
-        read_slot(s < next ? s->to : s->from, header, HEADER);
+        struct spot at = s < next ? s->to : s->from;
+        read_slot(at, header, HEADER);
         if (!is_there(s->item, header)) exit(5);
+        seen[(size_t)at.disk * ITEMS + at.slot] = 1;
     }
+    for (const struct shift *s = plan->shifts; s < plan->shifts + plan->moved; s++) {
+        struct spot at = s < next ? s->from : s->to;
+        if (seen[(size_t)at.disk * ITEMS + at.slot]) continue;
+        seen[(size_t)at.disk * ITEMS + at.slot] = 1;
+        read_slot(at, header, HEADER);
+        if (header[0] == 1) exit(5);
+    }
+    free(seen);
 }
 
 static void resume(const char *name) {
@@ -331,11 +382,12 @@ static void resume(const char *name) {
 
 int main(int count, char **words) {
     if (count < 4) return 2;
-    read_layout(words[3]);
+    read_layout(words);
     if (strcmp(words[1], "fill") == 0) fill();
     else if (strcmp(words[1], "audit") == 0) audit();
-    else if (strcmp(words[1], "move") == 0 && count > 5) move(words[5]);
-    else if (strcmp(words[1], "resume") == 0 && count > 5) resume(words[5]);
-    else return 2;
+    else if (count < 6) return 2;
+    else read_next(words[4]);
+    if (strcmp(words[1], "move") == 0) move(words[5]);
+    else if (strcmp(words[1], "resume") == 0) resume(words[5]);
     return 0;
 }
