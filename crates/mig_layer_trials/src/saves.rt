@@ -72,7 +72,11 @@ fn a_new_file_in_memory_is_there_whole_or_not(rt: HostRuntime) {
 fn a_pipe_in_memory_is_written_in_place(rt: HostRuntime) {
     let alloc = rt.alloc();
     // the calls: look, save_in_place
-    let wanted = ["nothing was changed", "a part may have been written", "saved"];
+    let wanted = [
+        "nothing was changed",
+        "a part may have been written",
+        "saved",
+    ];
     for (i, wanted) in wanted.iter().enumerate() {
         assert_eq!(rt; answer_of(&mut MemSave::pipe(alloc, i as u64 + 1)), *wanted);
     }
