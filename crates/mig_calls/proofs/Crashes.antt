@@ -1,0 +1,47 @@
+-- What a crash leaves of files in memory.
+use Rattle.std.proofs.Common.{◌≡◌, inl, inr, true, false, Bool, not, ℕ, List, [], ◌∷◌, ◌++◌, cond, sym, ◌∙◌, ap, subst}
+use Rattle.std.specs.Prelude.{IsTrue}
+use Rattle.std.proofs.lemmas.Bool.{cond-false}
+use Rattle.mig_calls.specs.declared.places.Place.{Place}
+use Rattle.mig_calls.specs.declared.file_bytes.Byte.{Byte}
+use Rattle.mig_calls.specs.declared.mem_disk.Step.TheVariants.{Crashed}
+use Rattle.mig_calls.specs.declared.pick.Pick.{Pick}
+use Rattle.mig_calls.specs.FileBytes.{picked}
+use Rattle.mig_calls.specs.Files.{IsSettledAt}
+use Rattle.mig_calls.specs.MemFiles.{FileMoment, takes_old, first_or, left_file}
+use Rattle.mig_calls.specs.Memory.{Moment, Memory, Fits, FitsOne, MayHold, MayLeave, after_step, after, reads_of, mem_state, mem_is_state}
+use Rattle.mig_calls.proofs.Disks.{after-push}
+
+-- what is left under a name may be left
+fits_left : (pick : Pick) (f : FileMoment) → MayHold f (λ i. picked pick i (left_file pick f i))
+fits_left pick f = at (takes_old pick) f.now f.olds
+  where
+    own : (file : ℕ → Byte) → Fits file (λ i. picked pick i (file i))
+    own file i calm = cond-false _ _ _ calm
+
+    at : (old : Bool) (now : ℕ → Byte) (olds : List (ℕ → Byte)) → FitsOne (now ∷ olds) (λ i. picked pick i (cond old (first_or now olds) now i))
+    at true now [] = inl (own now)
+    at true now (first ∷ olds) = inr (inl (own first))
+    at false now olds = inl (own now)
+
+module _ (x y : Memory) (pick : Pick) (pushed : y.steps ≡ x.steps ++ Crashed pick ∷ []) where
+  crashed_is : after y.steps ≡ after_step (after x.steps) (Crashed pick)
+  crashed_is = ap after pushed ∙ after-push x.steps (Crashed pick)
+
+  pub crash_picked : (place : Place) (i : ℕ) → (mem_state y).reads place i ≡ picked pick i (left_file pick ((after x.steps).files place) i)
+  crash_picked place i = ap (λ (m : Moment). reads_of m place i) crashed_is
+
+  pub crash_left : (mem_state x).may_leave (mem_state y).reads
+  crash_left = subst (λ (m : Moment). MayLeave (after x.steps) (reads_of m)) (sym crashed_is) (λ place. fits_left pick ((after x.steps).files place))
+
+  pub crash_named : IsTrue (mem_state y).named
+  crash_named = ap (λ (m : Moment). m.named) crashed_is
+
+  pub crash_flushed : (place : Place) → IsTrue ((mem_state y).flushed place)
+  crash_flushed place = ap (λ (m : Moment). (m.files place).flushed) crashed_is
+
+  pub crash_fresh : (place : Place) → IsTrue ((mem_state y).fresh place)
+  crash_fresh place = ap (λ (m : Moment). not (m.files place).stale) crashed_is
+
+  pub crash_settled : (place : Place) → IsSettledAt (mem_state y) place
+  crash_settled place = (mem_is_state y).settled crash_named place (crash_flushed place) (crash_fresh place)

@@ -1,0 +1,56 @@
+-- What steps make of the lists that are kept.
+use Rattle.std.proofs.Common.{◌≡◌, List, [], ◌∷◌, ◌++◌, map, refl, sym, ◌∙◌, ap}
+use Rattle.std.proofs.lemmas.List.{map-append}
+use Rattle.std.proofs.lemmas.List.Sums.{fold-append}
+use Rattle.mig_calls.specs.declared.places.Place.{Place}
+use Rattle.mig_calls.specs.declared.mem_disk.Step.{Step}
+use Rattle.mig_calls.specs.declared.mem_disk.Step.TheVariants.{Changed, Named, Crashed}
+use Rattle.mig_calls.specs.declared.mem_file.Change.{Change}
+use Rattle.mig_calls.specs.declared.pick.Pick.{Pick}
+use Rattle.mig_calls.specs.declared.pick.Pick.TheVariants.{Old, New, Front, Back, Ones}
+use Rattle.mig_calls.specs.MemFiles.{FileMoment, Seen, no_file, place_of, look, change_at, on_file, changed, with_name, crashed}
+use Rattle.mig_calls.specs.Memory.{Moment, after_step, blank, after, IsDisk}
+use Rattle.mig_calls.proofs.FileLists.{look-map, places-map, look-push}
+
+pub after-push : (steps : List Step) (step : Step) → after (steps ++ step ∷ []) ≡ after_step (after steps) step
+after-push steps step = fold-append after_step blank steps (step ∷ [])
+
+module _ (steps new : List Step) (table : List Place) (seen after_all : List Seen) (is : IsDisk steps table seen) where
+  -- all files changed
+  all_changed : (step : Step) (change : FileMoment → FileMoment) → change no_file ≡ no_file → (after_step (after steps) step).files ≡ (λ place. change ((after steps).files place))
+      → after_all ≡ map (on_file change) seen → new ≡ steps ++ step ∷ [] → IsDisk new table after_all
+  all_changed step change none files mapped pushed = record {
+    places = is.places ∙ sym (places-map change seen) ∙ ap (map place_of) (sym mapped);
+    shown = λ place.
+        ap (λ (l : List Seen). look l place) mapped ∙ look-map change none seen place ∙ ap change (is.shown place)
+        ∙ sym (ap (λ (f : Place → FileMoment). f place) files) ∙ ap (λ (m : Moment). m.files place) (sym (ap after pushed ∙ after-push steps step));
+  }
+
+  pub all_named : after_all ≡ map (on_file with_name) seen → new ≡ steps ++ Named ∷ [] → IsDisk new table after_all
+  all_named = all_changed Named with_name refl refl
+
+  pub all_crashed : (pick : Pick) → after_all ≡ map (on_file (crashed pick)) seen → new ≡ steps ++ Crashed pick ∷ [] → IsDisk new table after_all
+  all_crashed pick = all_changed (Crashed pick) (crashed pick) (none pick) refl
+    where
+      none : (p : Pick) → crashed p no_file ≡ no_file
+      none Old = refl
+      none New = refl
+      none Front = refl
+      none Back = refl
+      none Ones = refl
+
+  pub one_changed : (place : Place) (change : Change) → map place_of after_all ≡ map place_of seen → ((other : Place) → look after_all other ≡ change_at place (changed change) (look seen) other)
+      → new ≡ steps ++ Changed place change ∷ [] → IsDisk new table after_all
+  one_changed place change places looks pushed = record {
+    places = is.places ∙ sym places;
+    shown = λ other. looks other ∙ ap (λ (files : Place → FileMoment). change_at place (changed change) files other) (λ i p. is.shown p i)
+        ∙ ap (λ (m : Moment). m.files other) (sym (ap after pushed ∙ after-push steps (Changed place change)));
+  }
+
+-- a file that isn't there is kept
+pub one_added : (steps : List Step) (table more : List Place) (seen after_all : List Seen) (place : Place) → IsDisk steps table seen → more ≡ table ++ place ∷ []
+    → after_all ≡ seen ++ record { place = place; file = no_file } ∷ [] → IsDisk steps more after_all
+one_added steps table more seen after_all place is added pushed = record {
+  places = added ∙ ap (λ (l : List Place). l ++ place ∷ []) is.places ∙ sym (ap (map place_of) pushed ∙ map-append place_of seen (record { place = place; file = no_file } ∷ []));
+  shown = λ other. ap (λ (l : List Seen). look l other) pushed ∙ look-push seen place other ∙ is.shown other;
+}

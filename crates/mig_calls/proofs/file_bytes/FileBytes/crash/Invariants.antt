@@ -1,0 +1,10 @@
+use Rattle.std.proofs.Common.{◌≡◌, ℕ, length, cond}
+use Rattle.std.specs.Prelude.{nat_lt}
+use Rattle.mig_calls.specs.FileBytes.{byte_at, settled_as, picked}
+use Rattle.mig_calls.proofs.file_bytes.FileBytes.crash.Given as goal
+
+abbrev pub invariant-loop-i : goal.invariant-loop-i
+invariant-loop-i l = record {
+  crashed : (k : ℕ) → byte_at l.self-inside.bytes.items k ≡ cond (nat_lt k l.i) (settled_as (picked l.pick k (byte_at l.fn.self k))) (byte_at l.fn.self k);
+  long : length l.self-inside.bytes.items ≡ length l.fn.self;
+}

@@ -1,0 +1,15 @@
+use Rattle.std.proofs.Common.{subst, sym, ap, ◌∙◌}
+use Rattle.std.proofs.Math.ListN.{get_or-map}
+use Rattle.mig_base.specs.InputLists.{AreDifferent}
+use Rattle.mig_calls.specs.MemFiles.{Seen, moment_of, seen_of, seen_all}
+use Rattle.mig_calls.proofs.FileLists.{look-found, look-absent}
+use Rattle.mig_calls.proofs.mem_files.get.Goals as goal
+
+pub returns-in-Some-clause-some : goal.returns-in-Some-clause-some
+returns-in-Some-clause-some c =
+    let d = c.index-files-i.result in
+    look-found (seen_all c.args.files.now) c.args.place.now c.in-Some.i (rw (← c.requires) c.in-Some.ensures.found) (subst AreDifferent c.requires c.find.ensures.different) (seen_of d)
+    ∙ ap (λ (s : Seen). s.file) (get_or-map seen_of c.args.files.now c.in-Some.i d) ∙ sym (ap moment_of c.index-files-i.is)
+
+pub returns-in-None-clause-none : goal.returns-in-None-clause-none
+returns-in-None-clause-none c = look-absent (seen_all c.args.files.now) c.args.place.now (rw (← c.requires) c.in-None.ensures.found)

@@ -1,0 +1,6 @@
+use Rattle.std.proofs.Common.{◌≡◌, ◌++◌, take, drop, map}
+use Rattle.mig_calls.specs.MemFiles.{with_name, seen_all, on_file}
+use Rattle.mig_calls.proofs.mem_files.name_all.Given as goal
+
+abbrev pub invariant-loop-file : goal.invariant-loop-file
+invariant-loop-file l = seen_all l.file-items ≡ map (on_file with_name) (take l.file-index (seen_all l.initial.file-items)) ++ drop l.file-index (seen_all l.initial.file-items)

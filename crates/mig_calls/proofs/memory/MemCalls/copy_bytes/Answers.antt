@@ -1,0 +1,7 @@
+use Rattle.std.proofs.Common.{refl}
+use Rattle.mig_calls.specs.Files.{NoByte}
+use Rattle.mig_calls.proofs.MemorySteps.{kept_change}
+use Rattle.mig_calls.proofs.memory.MemCalls.copy_bytes.Goals as goal
+
+pub returns-in-Ok-clause-look : goal.returns-in-Ok-clause-look
+returns-in-Ok-clause-look c = kept_change NoByte c.args.self.now c.args.self.now refl

@@ -1,0 +1,11 @@
+use Rattle.std.proofs.Common.{◌∙◌, ap}
+use Rattle.mig_calls.specs.Files.{NoByte}
+use Rattle.mig_calls.specs.Memory.{Memory}
+use Rattle.mig_calls.proofs.MemorySteps.{kept_change, kept_at}
+use Rattle.mig_calls.proofs.memory.MemCalls.enter.Goals as goal
+
+pub returns-then-interrupts-clause-look : goal.returns-then-interrupts-clause-look
+returns-then-interrupts-clause-look c = kept_change NoByte c.args.self.now c.leave.new.self (ap (λ (m : Memory). m.steps) c.leave.ensures.same ∙ ap (λ (m : Memory). m.steps) c.self.view_is)
+
+pub returns-clause-look : goal.returns-clause-look
+returns-clause-look c = kept_at NoByte c.args.self.now c.self.inside.disk _ _ _ _ (ap (λ (m : Memory). m.steps) c.self.view_is)

@@ -1,0 +1,7 @@
+use Rattle.std.proofs.Common.{refl}
+use Rattle.mig_calls.specs.Files.{NoByte}
+use Rattle.mig_calls.proofs.MemorySteps.{kept_change}
+use Rattle.mig_calls.proofs.memory.MemCalls.make.Goals as goal
+
+pub returns-then-there-clause-look : goal.returns-then-there-clause-look
+returns-then-there-clause-look c = kept_change NoByte c.args.self.now c.args.self.now refl

@@ -1,0 +1,8 @@
+use Rattle.std.proofs.Common.{[], ◌∷◌, ◌++◌, ◌∙◌, ap}
+use Rattle.mig_calls.specs.declared.mem_disk.Step.TheVariants.{Named}
+use Rattle.mig_calls.specs.Memory.{Memory}
+use Rattle.mig_calls.proofs.MemorySteps.{named_at}
+use Rattle.mig_calls.proofs.memory.MemCalls.name.Goals as goal
+
+pub returns-in-Ok-clause-look : goal.returns-in-Ok-clause-look
+returns-in-Ok-clause-look c = named_at c.args.self.now c.name_all.new.self _ _ _ _ (c.in-Ok.ensures.done ∙ ap (λ (m : Memory). m.steps ++ Named ∷ []) c.self.view_is)

@@ -1,0 +1,8 @@
+use Rattle.std.proofs.Common.{ap}
+use Rattle.mig_calls.specs.Files.{NoByte}
+use Rattle.mig_calls.specs.Memory.{Memory}
+use Rattle.mig_calls.proofs.MemorySteps.{kept_change}
+use Rattle.mig_calls.proofs.memory.MemCallsCalls.close.Goals as goal
+
+pub returns-clause-change : goal.returns-clause-change
+returns-clause-change c = kept_change NoByte c.args.self.now c.shut.new.self (ap (λ (m : Memory). m.steps) c.shut.ensures)

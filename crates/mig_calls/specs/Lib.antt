@@ -1,0 +1,6 @@
+pub mod Places
+pub mod Files
+pub mod Refusals
+pub mod FileBytes
+pub mod MemFiles
+pub mod Memory

@@ -1,0 +1,97 @@
+-- A file in memory, and how it changes.
+use Rattle.std.specs.Prelude.{ℕ, Bool, true, false, List, [], ◌∷◌, if◌then◌else◌, map}
+use Rattle.mig_calls.specs.declared.file_bytes.Byte.{Byte}
+use Rattle.mig_calls.specs.declared.mem_file.MemFile.{MemFile}
+use Rattle.mig_calls.specs.declared.mem_file.Change.{Change}
+use Rattle.mig_calls.specs.declared.mem_file.Change.TheVariants.{Made, Wrote, Synced, Lost, Emptied, Took}
+use Rattle.mig_calls.specs.declared.pick.Pick.{Pick}
+use Rattle.mig_calls.specs.declared.pick.Pick.TheVariants.{Old, Back}
+use Rattle.mig_calls.specs.declared.places.Place.{Place}
+use Rattle.mig_calls.specs.Places.{is_place}
+use Rattle.mig_calls.specs.FileBytes.{no_byte, byte_at, with_written, settled, settled_as, picked}
+
+-- what is under a name at one moment
+pub record FileMoment : Type 0 where
+  -- the bytes of the file that has the name, by their offsets
+  pub now : ℕ → Byte
+  -- those of the files that the device may have under the name instead, the latest first
+  pub olds : List (ℕ → Byte)
+  -- all that was written to the file was brought to the device
+  pub flushed : Bool
+  -- a sync of the file failed, since when a sync brings nothing more to the device
+  pub stale : Bool
+
+-- no file
+abbrev pub no_file : FileMoment
+no_file = record { now = λ i. no_byte; olds = []; flushed = true; stale = false }
+
+-- what the program keeps of it
+abbrev pub moment_of : MemFile → FileMoment
+moment_of f = record { now = byte_at f.now; olds = map byte_at f.olds.items; flushed = f.flushed; stale = f.stale }
+
+-- a file after values were written to it from an offset on
+abbrev pub after_write : ℕ → List ℕ → FileMoment → FileMoment
+after_write at values f = record { now = with_written at values f.now; olds = f.olds; flushed = false; stale = f.stale }
+
+-- another file of these bytes, which the device has, under the same name
+abbrev pub after_held : (ℕ → Byte) → FileMoment → FileMoment
+after_held bytes f = record { now = bytes; olds = f.olds; flushed = true; stale = false }
+
+-- a file after a change
+abbrev pub changed : Change → FileMoment → FileMoment
+changed Made f = record { now = f.now; olds = f.now ∷ f.olds; flushed = f.flushed; stale = f.stale }
+changed (Wrote at values) f = after_write at values f
+changed Synced f = record { now = if f.stale then f.now else (λ i. settled (f.now i)); olds = f.olds; flushed = true; stale = f.stale }
+changed Lost f = record { now = f.now; olds = f.olds; flushed = f.flushed; stale = true }
+changed Emptied f = after_held (λ i. no_byte) f
+changed (Took bytes) f = after_held (λ i. settled (byte_at bytes i)) f
+
+-- a file whose name was brought to the device
+abbrev pub with_name : FileMoment → FileMoment
+with_name f = record { now = f.now; olds = []; flushed = f.flushed; stale = f.stale }
+
+-- whether a crash leaves the file that the device had under the name
+abbrev pub takes_old : Pick → Bool
+takes_old Old = true
+takes_old Back = true
+takes_old pick = false
+
+-- the latest of these files, or this one
+abbrev pub first_or : (ℕ → Byte) → List (ℕ → Byte) → ℕ → Byte
+first_or now [] = now
+first_or now (old ∷ olds) = old
+
+-- the file that a crash leaves
+abbrev pub left_file : Pick → FileMoment → ℕ → Byte
+left_file pick f = if takes_old pick then first_or f.now f.olds else f.now
+
+-- a file after a crash
+abbrev pub crashed : Pick → FileMoment → FileMoment
+crashed pick f = record { now = λ i. settled_as (picked pick i (left_file pick f i)); olds = []; flushed = true; stale = false }
+
+-- what a list of files shows of one of them
+pub record Seen : Type 0 where
+  pub place : Place
+  pub file : FileMoment
+
+abbrev pub seen_of : MemFile → Seen
+seen_of f = record { place = f.place; file = moment_of f }
+
+abbrev pub seen_all : List MemFile → List Seen
+seen_all files = map seen_of files
+
+abbrev pub place_of : Seen → Place
+place_of s = s.place
+
+-- the file of a place, where it is one of these
+abbrev pub look : List Seen → Place → FileMoment
+look [] place = no_file
+look (s ∷ seen) place = if is_place s.place place then s.file else look seen place
+
+-- the files, with a change of one of them
+abbrev pub change_at : Place → (FileMoment → FileMoment) → (Place → FileMoment) → Place → FileMoment
+change_at place change files other = if is_place place other then change (files other) else files other
+
+-- a change of any file
+abbrev pub on_file : (FileMoment → FileMoment) → Seen → Seen
+on_file change s = record { place = s.place; file = change s.file }

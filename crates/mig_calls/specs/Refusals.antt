@@ -1,0 +1,35 @@
+-- When a store over files may refuse what no call failed at.
+use Rattle.std.specs.Prelude.{◌+◌, ◌^◌, ◌<◌, ◌≤◌, ℕ, ⊤, IsTrue, List}
+use Rattle.mig_base.specs.declared.cells.Cell.{Cell}
+use Rattle.mig_base.specs.Cells.{cell_len}
+use Rattle.mig_base.specs.Naming.{IsName}
+use Rattle.mig_base.specs.Slots.{header_of}
+use Rattle.mig_calls.specs.declared.refusals.Refusal.{Refusal}
+use Rattle.mig_calls.specs.declared.refusals.Refusal.TheVariants.{Memory, AfterSync, Interrupted, Full, TooShort, NotHeld, NoDisk, Cut, NoItem, Held}
+use Rattle.mig_calls.specs.Places.{file_of, offset_of}
+use Rattle.mig_calls.specs.Files.{FilesState, HasBytes, EndsAt}
+
+-- the cell begins as a slot that holds the item of this name
+abbrev pub HoldsItem : FilesState → Cell → List ℕ → Type 0
+HoldsItem s cell item = HasBytes (s.reads (file_of cell)) (offset_of cell) 34 (header_of item)
+
+-- the file of the cell ends before the cell does
+abbrev pub EndsBefore : FilesState → Cell → Type 0
+EndsBefore s cell = (end : ℕ) × (end < offset_of cell + cell_len cell) × EndsAt (s.reads (file_of cell)) end
+
+-- where the file of the cell is told
+abbrev pub WhereTold : FilesState → Cell → Type 0 → Type 0
+WhereTold s cell P = IsTrue (s.told (file_of cell)) → P
+
+-- when the store may refuse for this
+abbrev pub IsRefusalCause : FilesState → Refusal → Type 0
+IsRefusalCause s (Memory place) = ⊤
+IsRefusalCause s AfterSync = 0 < s.faults
+IsRefusalCause s (Interrupted place) = 2 ^ 63 ≤ s.unmade
+IsRefusalCause s (Full place) = 0 < s.unmade
+IsRefusalCause s (TooShort slot) = WhereTold s slot (EndsBefore s slot)
+IsRefusalCause s (NotHeld slot item) = WhereTold s slot (¬ HoldsItem s slot item)
+IsRefusalCause s (NoDisk slot item) = WhereTold s slot (EndsAt (s.reads (file_of slot)) 0)
+IsRefusalCause s (Cut slot item) = WhereTold s slot (EndsBefore s slot)
+IsRefusalCause s (NoItem slot) = (item : List ℕ) → IsName item → WhereTold s slot (¬ HoldsItem s slot item)
+IsRefusalCause s (Held slot item) = WhereTold s slot (HoldsItem s slot item)

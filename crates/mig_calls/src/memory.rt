@@ -1,0 +1,469 @@
+//! Files in memory, which tell all.
+ghost use Rattle.std.specs.Prelude.{◌≡◌, ◌≤◌, ◌<◌, ◌+◌, true, false, ◌++◌, ◌∷◌, [], ℕ, IsTrue, IsFalse, IfOk, IfErr, OnOk, OnErr, length, slice_index};
+ghost use Rattle.mig_base.specs.FaultCounts.{Rose};
+ghost use Rattle.mig_calls.specs.declared.calls.CallError.TheVariants.{Failed};
+ghost use Rattle.mig_calls.specs.declared.places.Place.TheVariants.{Journal as JournalFile, Copy as CopyFile};
+ghost use Rattle.mig_calls.specs.declared.mem_file.Change.TheVariants.{Made, Took, Emptied};
+ghost use Rattle.mig_calls.specs.declared.mem_disk.Step.TheVariants.{Changed, Crashed};
+ghost use Rattle.mig_calls.specs.declared.places.Place.{Place as Places};
+ghost use Rattle.mig_calls.specs.FileBytes.{byte_at, picked};
+ghost use Rattle.mig_calls.specs.MemFiles.{left_file};
+ghost use Rattle.mig_calls.specs.Files.{FilesState, FilesLook, FilesWrite, FileChange, KeepsFlags, TouchesFile, KeepsFlushed, KeepsFreshBut, IsSettledAt, HasBytes, EndsAt, HasCallCause};
+ghost use Rattle.mig_calls.specs.Memory.{Memory, mem_state, mem_is_state, after, reads_of};
+
+use crate::calls::{CallError, Calls, Extent, Written};
+use crate::file_bytes::FileBytes;
+use crate::mem_disk::MemDisk;
+use crate::mem_file::Change;
+use crate::pick::Pick;
+use crate::places::Place;
+use crate::refusals::Refusal;
+use crate::trouble::Trouble;
+use crate::values::Values;
+use indexmap::IndexSet;
+use std::alloc::{AllocError, Global};
+use std::marker::Model;
+
+/// Files in memory, which tell all: what reads give, and what a crash may leave. Calls fail where they are told to.
+#[derive(Drop)]
+pub struct MemCalls {
+    alloc: Global,
+    disk: MemDisk,
+    opened: IndexSet<Place>,
+    trouble: Trouble,
+    /// How many calls were made.
+    number: u64,
+    faults: u64,
+    unmade: u64,
+    claimed: bool,
+    usable: bool,
+}
+
+impl Model for MemCalls {
+    ghost use Rattle.mig_calls.specs.Memory.{Memory};
+
+    ghost Value = { Memory };
+
+    ghost view = { λ m. record { steps = m.disk; faults = m.faults; unmade = m.unmade; claimed = m.claimed; usable = m.usable } };
+}
+
+impl MemCalls {
+    /// No files, and no call that fails.
+    pub fn new(alloc: Global) -> MemCalls
+        ensures { result ≡ record { steps = []; faults = 0; unmade = 0; claimed = false; usable = true } }
+    {
+        MemCalls {
+            alloc,
+            disk: MemDisk::new(alloc),
+            opened: IndexSet::new(alloc),
+            trouble: Trouble::none(alloc),
+            number: 0,
+            faults: 0,
+            unmade: 0,
+            claimed: false,
+            usable: true,
+        }
+    }
+
+    /// Lets calls go wrong from now on, which are numbered from the next one on.
+    pub fn trouble(&mut self, trouble: Trouble)
+        ensures { self.new ≡ self.old }
+    {
+        self.trouble = trouble;
+        self.number = 0;
+    }
+
+    /// How many calls were made since calls were told to go wrong.
+    pub fn calls(&self) -> u64 {
+        self.number
+    }
+
+    /// The files as the next process finds them: none is open, and nothing goes wrong.
+    pub fn restart(&mut self)
+        ensures { self.new ≡ record self.old { claimed = false; usable = true } }
+    {
+        self.opened.clear();
+        self.trouble = Trouble::none(self.alloc);
+        self.number = 0;
+        self.claimed = false;
+        self.usable = true;
+    }
+
+    /// The files after a crash, as the next process finds them: what is picked of each byte that isn't settled, and under each name. An error is want of memory.
+    pub fn crash(self, pick: Pick) -> Result<MemCalls, AllocError>
+        ensures files { IfOk result (λ left. left ≡ record self { steps = self.steps ++ Crashed pick ∷ []; claimed = false; usable = true }) }
+        ensures picked { IfOk result (λ left. (place : Places) (i : ℕ) → (mem_state left).reads place i ≡ picked pick i (left_file pick ((after self.steps).files place) i)) }
+        ensures left { IfOk result (λ left. (mem_state self).may_leave (mem_state left).reads) }
+        ensures settled { IfOk result (λ left. (place : Places) → IsSettledAt (mem_state left) place) }
+        ensures named { IfOk result (λ left. IsTrue (mem_state left).named) }
+        ensures flushed { IfOk result (λ left. (place : Places) → IsTrue ((mem_state left).flushed place)) }
+        ensures fresh { IfOk result (λ left. (place : Places) → IsTrue ((mem_state left).fresh place)) }
+    {
+        let mut left = self;
+        left.crash_disk(pick)?;
+        left.restart();
+        Ok(left)
+    }
+
+    fn crash_disk(&mut self, pick: Pick) -> Result<(), AllocError>
+        ensures done { OnOk result (self.new ≡ record self.old { steps = self.old.steps ++ Crashed pick ∷ [] }) }
+        ensures nothing { OnErr result (self.new ≡ self.old) }
+    {
+        self.disk.crash(pick)
+    }
+
+    /// What reads give of a file from an offset on; tells how many bytes there are. It counts as no call.
+    pub fn peek(&self, place: &Place, at: u64, into: &mut [u8]) -> usize
+        ensures count { result ≤ length into.old }
+        ensures bytes { HasBytes ((mem_state self.now).reads place.now) at result into.new }
+        ensures end { result ≡ 0 → 0 < length into.old → EndsAt ((mem_state self.now).reads place.now) at }
+    {
+        self.disk.read(place, at, usize::MAX, into)
+    }
+
+    // Counts a fault.
+    fn fail(&mut self) -> CallError
+        ensures error { result ≡ Failed }
+        ensures same { self.new ≡ record self.old { faults = self.new.faults } }
+        ensures look { FilesLook (mem_state self.old) (mem_state self.new) }
+        ensures flags { KeepsFlags (mem_state self.old) (mem_state self.new) }
+        ensures rose { Rose self.old.faults self.new.faults }
+        ensures later { self.old.faults ≤ self.new.faults }
+    {
+        self.faults = self.faults.saturating_add(1);
+        CallError::Failed
+    }
+
+    // Counts a call that isn't made.
+    fn leave(&mut self)
+        ensures same { self.new ≡ record self.old { unmade = self.new.unmade } }
+        ensures rose { Rose self.old.unmade self.new.unmade }
+        ensures more { self.old.unmade ≤ self.new.unmade }
+    {
+        self.unmade = self.unmade.saturating_add(1);
+    }
+
+    // Begins a call, which may fail or be interrupted.
+    fn enter(&mut self) -> Result<(), CallError>
+        ensures look { FilesLook (mem_state self.old) (mem_state self.new) }
+        ensures flags { KeepsFlags (mem_state self.old) (mem_state self.new) }
+        ensures steps { self.new.steps ≡ self.old.steps }
+        ensures claimed { self.new.claimed ≡ self.old.claimed }
+        ensures usable { self.new.usable ≡ self.old.usable }
+        ensures cause { HasCallCause (mem_state self.old) (mem_state self.new) result }
+    {
+        self.number = self.number.saturating_add(1);
+        if self.trouble.interrupts(self.number) {
+            self.leave();
+            return Err(CallError::Interrupted);
+        }
+        if self.trouble.fails(self.number) {
+            return Err(self.fail());
+        }
+        Ok(())
+    }
+
+    // Begins a call on a file, which opens it.
+    fn open(&mut self, place: &Place) -> Result<(), CallError>
+        ensures look { FilesLook (mem_state self.old) (mem_state self.new) }
+        ensures flags { KeepsFlags (mem_state self.old) (mem_state self.new) }
+        ensures steps { self.new.steps ≡ self.old.steps }
+        ensures claimed { self.new.claimed ≡ self.old.claimed }
+        ensures usable { self.new.usable ≡ self.old.usable }
+        ensures cause { HasCallCause (mem_state self.old) (mem_state self.new) result }
+    {
+        self.enter()?;
+        if self.opened.contains(place) {
+            return Ok(());
+        }
+        if self.trouble.most_open <= self.opened.len() {
+            self.leave();
+            return Err(CallError::Full);
+        }
+        match self.opened.insert(*place) {
+            Ok(_) => Ok(()),
+            Err(_) => Err(self.fail()),
+        }
+    }
+
+    // Changes a file.
+    fn change(&mut self, place: &Place, change: Change) -> Result<(), CallError>
+        ensures done { OnOk result (self.new.steps ≡ self.old.steps ++ Changed place.now change ∷ []) }
+        ensures nothing { OnErr result (self.new.steps ≡ self.old.steps) }
+        ensures failed { IfErr result (λ error. error ≡ Failed) }
+        ensures claimed { self.new.claimed ≡ self.old.claimed }
+        ensures usable { self.new.usable ≡ self.old.usable }
+        ensures cause { HasCallCause (mem_state self.old) (mem_state self.new) result }
+    {
+        match self.disk.change(place, change) {
+            Ok(()) => Ok(()),
+            Err(_) => Err(self.fail()),
+        }
+    }
+
+    // Another file is about to have the name: the device may go on having this one there.
+    fn mark(&mut self, place: &Place) -> Result<(), CallError>
+        ensures look { FilesLook (mem_state self.old) (mem_state self.new) }
+        ensures shown { reads_of (after self.new.steps) ≡ reads_of (after self.old.steps) }
+        ensures flushed { (mem_state self.new).flushed ≡ (mem_state self.old).flushed }
+        ensures fresh { (mem_state self.new).fresh ≡ (mem_state self.old).fresh }
+        ensures failed { IfErr result (λ error. error ≡ Failed) }
+        ensures claimed { self.new.claimed ≡ self.old.claimed }
+        ensures usable { self.new.usable ≡ self.old.usable }
+        ensures cause { HasCallCause (mem_state self.old) (mem_state self.new) result }
+    {
+        self.change(place, Change::Made)
+    }
+
+    // Makes the file where it isn't there, and tells whether it did.
+    fn make(&mut self, place: &Place) -> Result<bool, CallError>
+        ensures look { FilesLook (mem_state self.old) (mem_state self.new) }
+        ensures flushed { (mem_state self.new).flushed ≡ (mem_state self.old).flushed }
+        ensures fresh { (mem_state self.new).fresh ≡ (mem_state self.old).fresh }
+        ensures named { IfOk result (λ made. IsFalse made → (mem_state self.new).named ≡ (mem_state self.old).named) }
+        ensures claimed { self.new.claimed ≡ self.old.claimed }
+        ensures usable { self.new.usable ≡ self.old.usable }
+        ensures cause { HasCallCause (mem_state self.old) (mem_state self.new) result }
+    {
+        let there = match self.disk.file(place) {
+            Some(file) => file.there,
+            None => false,
+        };
+        if there {
+            return Ok(false);
+        }
+        self.mark(place)?;
+        Ok(true)
+    }
+
+    // Writes values from an offset on.
+    fn put(&mut self, place: &Place, at: u64, values: &[u8]) -> Result<(), CallError>
+        ensures written { OnOk result (HasBytes ((mem_state self.new).reads place.now) at (length values.now) values.now) }
+        ensures change { FilesWrite place.now at (length values.now) (mem_state self.old) (mem_state self.new) }
+        ensures flags { TouchesFile place.now (mem_state self.old) (mem_state self.new) }
+        ensures named { (mem_state self.new).named ≡ (mem_state self.old).named }
+        ensures fresh { (mem_state self.new).fresh ≡ (mem_state self.old).fresh }
+        ensures usable { self.new.usable ≡ self.old.usable }
+        ensures cause { HasCallCause (mem_state self.old) (mem_state self.new) result }
+    {
+        match Values::of(self.alloc, values) {
+            Ok(values) => self.change(place, Change::Wrote { at, values }),
+            Err(_) => Err(self.fail()),
+        }
+    }
+
+    // The bytes of the journal's copy.
+    fn copy_bytes(&mut self) -> Result<FileBytes, CallError>
+        ensures bytes { IfOk result (λ bytes. (i : ℕ) → (byte_at bytes i).shown ≡ (mem_state self.old).reads CopyFile i) }
+        ensures look { FilesLook (mem_state self.old) (mem_state self.new) }
+        ensures flags { KeepsFlags (mem_state self.old) (mem_state self.new) }
+        ensures steps { self.new.steps ≡ self.old.steps }
+        ensures failed { IfErr result (λ error. error ≡ Failed) }
+        ensures claimed { self.new.claimed ≡ self.old.claimed }
+        ensures usable { self.new.usable ≡ self.old.usable }
+        ensures cause { HasCallCause (mem_state self.old) (mem_state self.new) result }
+    {
+        match self.disk.copied(&Place::Copy) {
+            Ok(bytes) => Ok(bytes),
+            Err(_) => Err(self.fail()),
+        }
+    }
+
+    // The bytes of the journal's copy, which is about to take the journal's name. The device may go on having either file under its name.
+    fn ready_copy(&mut self) -> Result<FileBytes, CallError>
+        ensures look { FilesLook (mem_state self.old) (mem_state self.new) }
+        ensures shown { reads_of (after self.new.steps) ≡ reads_of (after self.old.steps) }
+        ensures bytes { IfOk result (λ bytes. (i : ℕ) → (byte_at bytes i).shown ≡ (mem_state self.old).reads CopyFile i) }
+        ensures flushed { (mem_state self.new).flushed ≡ (mem_state self.old).flushed }
+        ensures fresh { (mem_state self.new).fresh ≡ (mem_state self.old).fresh }
+        ensures failed { IfErr result (λ error. error ≡ Failed) }
+        ensures claimed { self.new.claimed ≡ self.old.claimed }
+        ensures usable { self.new.usable ≡ self.old.usable }
+        ensures cause { HasCallCause (mem_state self.old) (mem_state self.new) result }
+    {
+        let bytes = self.copy_bytes()?;
+        self.mark(&Place::Journal)?;
+        self.mark(&Place::Copy)?;
+        Ok(bytes)
+    }
+
+    // The journal is another file of these bytes, which the device has.
+    fn take(&mut self, bytes: FileBytes) -> Result<(), CallError>
+        requires { (i : ℕ) → (byte_at bytes i).shown ≡ (mem_state self.old).reads JournalFile i }
+        ensures look { FilesLook (mem_state self.old) (mem_state self.new) }
+        ensures renewed { OnOk result (IsTrue ((mem_state self.new).flushed JournalFile) × IsTrue ((mem_state self.new).fresh JournalFile)) }
+        ensures flushed { KeepsFlushed (mem_state self.old) (mem_state self.new) }
+        ensures fresh { KeepsFreshBut JournalFile (mem_state self.old) (mem_state self.new) }
+        ensures kept { IsTrue ((mem_state self.old).fresh JournalFile) → IsTrue ((mem_state self.new).fresh JournalFile) }
+        ensures failed { IfErr result (λ error. error ≡ Failed) }
+        ensures claimed { self.new.claimed ≡ self.old.claimed }
+        ensures usable { self.new.usable ≡ self.old.usable }
+        ensures cause { HasCallCause (mem_state self.old) (mem_state self.new) result }
+    {
+        self.change(&Place::Journal, Change::Took { bytes })
+    }
+
+    // The journal's copy is a new file of no bytes.
+    fn empty_copy(&mut self) -> Result<(), CallError>
+        ensures change { FileChange CopyFile (mem_state self.old) (mem_state self.new) }
+        ensures empty { OnOk result ((i : ℕ) → (mem_state self.new).reads CopyFile i ≡ 0) }
+        ensures new_one { OnOk result (IsTrue ((mem_state self.new).fresh CopyFile)) }
+        ensures flags { TouchesFile CopyFile (mem_state self.old) (mem_state self.new) }
+        ensures flushed { KeepsFlushed (mem_state self.old) (mem_state self.new) }
+        ensures fresh { KeepsFreshBut CopyFile (mem_state self.old) (mem_state self.new) }
+        ensures kept { IsTrue ((mem_state self.old).fresh CopyFile) → IsTrue ((mem_state self.new).fresh CopyFile) }
+        ensures failed { IfErr result (λ error. error ≡ Failed) }
+        ensures usable { self.new.usable ≡ self.old.usable }
+        ensures cause { HasCallCause (mem_state self.old) (mem_state self.new) result }
+    {
+        self.change(&Place::Copy, Change::Emptied)
+    }
+
+    // This process alone may write from now on.
+    fn own(&mut self)
+        ensures same { self.new ≡ record self.old { claimed = true } }
+        ensures look { FilesLook (mem_state self.old) (mem_state self.new) }
+        ensures flushed { (mem_state self.new).flushed ≡ (mem_state self.old).flushed }
+        ensures fresh { (mem_state self.new).fresh ≡ (mem_state self.old).fresh }
+    {
+        self.claimed = true;
+    }
+
+    // No call may be made from now on.
+    fn give_up(&mut self)
+        ensures same { self.new ≡ record self.old { usable = false } }
+        ensures look { FilesLook (mem_state self.old) (mem_state self.new) }
+        ensures flags { KeepsFlags (mem_state self.old) (mem_state self.new) }
+    {
+        self.usable = false;
+    }
+
+    // A sync of the file failed, so that nothing written to it may ever reach the device.
+    fn lose(&mut self, place: &Place)
+        ensures look { FilesLook (mem_state self.old) (mem_state self.new) }
+        ensures flushed { (mem_state self.new).flushed ≡ (mem_state self.old).flushed }
+        ensures named { (mem_state self.new).named ≡ (mem_state self.old).named }
+        ensures claimed { self.new.claimed ≡ self.old.claimed }
+        ensures later { self.old.faults ≤ self.new.faults }
+        ensures more { self.old.unmade ≤ self.new.unmade }
+    {
+        let _lost = self.change(place, Change::Lost);
+        self.give_up();
+    }
+
+    // Brings the names of all files to the device.
+    fn name(&mut self) -> Result<(), CallError>
+        ensures look { FilesLook (mem_state self.old) (mem_state self.new) }
+        ensures done { OnOk result (IsTrue (mem_state self.new).named) }
+        ensures flushed { (mem_state self.new).flushed ≡ (mem_state self.old).flushed }
+        ensures fresh { (mem_state self.new).fresh ≡ (mem_state self.old).fresh }
+        ensures claimed { self.new.claimed ≡ self.old.claimed }
+        ensures usable { self.new.usable ≡ self.old.usable }
+        ensures cause { HasCallCause (mem_state self.old) (mem_state self.new) result }
+    {
+        match self.disk.name_all() {
+            Ok(()) => Ok(()),
+            Err(_) => Err(self.fail()),
+        }
+    }
+
+    // The file isn't open.
+    fn shut(&mut self, place: &Place)
+        ensures { self.new ≡ self.old }
+    {
+        let _was_open = self.opened.swap_remove(place);
+    }
+
+    // How many of so many bytes a call moves.
+    fn most(&self, len: usize) -> usize
+        ensures most { result ≤ len }
+        ensures some { 0 < len → 0 < result }
+    {
+        let _claimed = self.claimed;
+        len.min(self.trouble.most_bytes.max(1))
+    }
+}
+
+impl Calls for MemCalls {
+    ghost state = { mem_state };
+
+    ghost is_state = { mem_is_state };
+
+    fn claim(&mut self) -> Result<(), CallError> {
+        self.open(&Place::Journal)?;
+        let _made = self.make(&Place::Journal)?;
+        self.own();
+        Ok(())
+    }
+
+    fn read_at(&mut self, place: &Place, offset: u64, into: &mut [u8]) -> Result<usize, CallError> {
+        self.open(place)?;
+        let most = self.most(into.len());
+        Ok(self.disk.read(place, offset, most, into))
+    }
+
+    fn len(&mut self, place: &Place) -> Result<Extent, CallError> {
+        self.open(place)?;
+        let (len, there) = self.disk.len(place);
+        if len == 0 && !there {
+            return Ok(Extent::Absent);
+        }
+        Ok(Extent::File { len: len as u64 })
+    }
+
+    fn is_fresh(&mut self) -> Result<bool, CallError> {
+        self.open(&Place::Journal)?;
+        Ok(!self.disk.is_stale(&Place::Journal))
+    }
+
+    fn write_at(&mut self, place: &Place, offset: u64, bytes: &[u8]) -> Result<Written, CallError> {
+        self.open(place)?;
+        let made = self.make(place)?;
+        let count = self.most(bytes.len());
+        self.put(place, offset, &bytes[..count])?;
+        Ok(Written { count, made })
+    }
+
+    fn sync(&mut self, place: &Place) -> Result<(), CallError> {
+        match self.open(place) {
+            Ok(()) => self.change(place, Change::Synced),
+            Err(CallError::Failed) => {
+                self.lose(place);
+                Err(CallError::Failed)
+            }
+            Err(error) => Err(error),
+        }
+    }
+
+    fn sync_names(&mut self) -> Result<(), CallError> {
+        match self.enter() {
+            Ok(()) => self.name(),
+            Err(CallError::Failed) => {
+                self.give_up();
+                Err(CallError::Failed)
+            }
+            Err(error) => Err(error),
+        }
+    }
+
+    fn make_copy(&mut self) -> Result<(), CallError> {
+        self.open(&Place::Copy)?;
+        self.mark(&Place::Copy)?;
+        self.empty_copy()
+    }
+
+    fn rename(&mut self) -> Result<(), CallError> {
+        self.enter()?;
+        let bytes = self.ready_copy()?;
+        self.take(bytes)?;
+        self.empty_copy()
+    }
+
+    fn close(&mut self, place: &Place) {
+        self.shut(place);
+    }
+
+    fn refuse(&mut self, _why: &Refusal) {
+        let _failed = self.fail();
+    }
+}
