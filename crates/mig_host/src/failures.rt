@@ -1,0 +1,84 @@
+//! What went wrong, and with which file.
+use crate::texts::{DiskFile, JOURNAL};
+use mig_base::Name;
+use std::fmt::{self, Display, Formatter};
+use std::io::{self, ErrorKind};
+
+/// The system's error where a process may open no more files (EMFILE).
+const TOO_MANY_OPEN: i32 = 24;
+
+/// What went wrong, and with which file.
+#[derive(Clone, Copy)]
+pub enum Failure {
+    OfDisk(Name, io::Error),
+    OfJournal(io::Error),
+    OfFolder(io::Error),
+    /// Two disks are one file.
+    OneFile(Name, Name),
+    /// The disk is the journal's file.
+    IsJournal(Name),
+}
+
+impl Failure {
+    /// Memory was refused while a disk's file was worked with.
+    pub fn memory(name: Name) -> Failure {
+        Failure::OfDisk(name, ErrorKind::OutOfMemory.into())
+    }
+
+    /// The system's error, where there is one.
+    fn error(&self) -> Option<io::Error> {
+        match self {
+            Failure::OfDisk(_, error) | Failure::OfJournal(error) | Failure::OfFolder(error) => {
+                Some(*error)
+            }
+            Failure::OneFile(..) | Failure::IsJournal(_) => None,
+        }
+    }
+
+    /// Whether it came of this kind.
+    fn is_of(&self, kind: ErrorKind) -> bool {
+        match self.error() {
+            Some(error) => error.kind() == kind,
+            None => false,
+        }
+    }
+
+    /// Whether a file isn't there.
+    pub fn is_missing(&self) -> bool {
+        self.is_of(ErrorKind::NotFound)
+    }
+
+    /// Whether a signal came first.
+    pub fn is_interruption(&self) -> bool {
+        self.is_of(ErrorKind::Interrupted)
+    }
+
+    /// Whether too many files are open.
+    pub fn is_full(&self) -> bool {
+        match self.error() {
+            Some(error) => error.raw_os_error() == Some(TOO_MANY_OPEN),
+            None => false,
+        }
+    }
+}
+
+/// The error where a process may open no more files.
+pub fn too_many_open() -> io::Error {
+    io::Error::from_raw_os_error(TOO_MANY_OPEN)
+}
+
+impl Display for Failure {
+    fn fmt<W: fmt::Write>(&self, f: &mut Formatter<W>) -> fmt::Result {
+        match self {
+            Failure::OfDisk(name, error) => write!(f, "{}: {error}", DiskFile(name)),
+            Failure::OfJournal(error) => write!(f, "{JOURNAL}: {error}"),
+            Failure::OfFolder(error) => write!(f, ".: {error}"),
+            Failure::OneFile(disk, other) => {
+                write!(f, "{} and {} are one file", DiskFile(disk), DiskFile(other))
+            }
+            Failure::IsJournal(disk) => {
+                write!(f, "{} and {JOURNAL} are one file", DiskFile(disk))
+            }
+        }
+    }
+}

@@ -1,0 +1,147 @@
+//! The calls on the files of the working folder.
+ghost use Rattle.std.specs.Prelude.{◌≡◌, ◌≤◌, IsTrue};
+ghost use Rattle.mig_calls.specs.declared.places.Place.{Place as Places};
+ghost use Rattle.mig_calls.specs.Files.{IsCallCause};
+ghost use Rattle.mig_host.specs.Untold.{host_state, host_is_state};
+
+use crate::failures::Failure;
+use crate::files::HostFiles;
+use crate::texts::Told;
+use mig_calls::{CallError, Calls, Extent, Place, Refusal, Written};
+use std::alloc::Global;
+use std::fs::File;
+use std::rt::Files;
+
+/// The calls over this runtime's files. They tell nothing but how many failed or were not made. What failed, and why, is said on standard error.
+pub struct HostCalls<'a, R: Files<File = File> + Eprint> {
+    rt: &'a R,
+    files: HostFiles,
+    faults: u64,
+    unmade: u64,
+}
+
+impl<'a, R: Files<File = File> + Eprint> Drop for HostCalls<'a, R> {
+    fn drop(self) {
+        let HostCalls {
+            rt: _,
+            files,
+            faults: _,
+            unmade: _,
+        } = self;
+        drop(files);
+    }
+}
+
+impl<'a, R: Files<File = File> + Eprint> HostCalls<'a, R> {
+    /// No file is open yet, and no call failed.
+    pub fn new(rt: &'a R, alloc: Global) -> Self
+        ensures usable { IsTrue (⟦<HostCalls<'a, R> as Calls>⟧.state result).usable }
+        ensures flushed { (place : Places) → IsTrue ((⟦<HostCalls<'a, R> as Calls>⟧.state result).flushed place) }
+        ensures fresh { (place : Places) → IsTrue ((⟦<HostCalls<'a, R> as Calls>⟧.state result).fresh place) }
+        ensures faults { (⟦<HostCalls<'a, R> as Calls>⟧.state result).faults ≡ 0 }
+    {
+        HostCalls {
+            rt,
+            files: HostFiles::new(alloc),
+            faults: 0,
+            unmade: 0,
+        }
+    }
+
+    /// Counts a call that failed, and says why. One that may be made again is counted apart, and not told.
+    fn counted(&mut self, failure: Failure) -> CallError
+        ensures cause { IsCallCause (host_state self.old.faults self.old.unmade) (host_state self.new.faults self.new.unmade) result }
+        ensures later { self.old.faults ≤ self.new.faults }
+        ensures more { self.old.unmade ≤ self.new.unmade }
+    {
+        if failure.is_interruption() {
+            self.unmade = self.unmade.saturating_add(1);
+            return CallError::Interrupted;
+        }
+        if failure.is_full() && self.files.has_open() {
+            self.unmade = self.unmade.saturating_add(1);
+            return CallError::Full;
+        }
+        let _ = eprintln!(self.rt; "migrate: {failure}");
+        self.faults = self.faults.saturating_add(1);
+        CallError::Failed
+    }
+}
+
+impl<'a, R: Files<File = File> + Eprint> Calls for HostCalls<'a, R> {
+    ghost state = { λ h. host_state h.faults h.unmade };
+
+    ghost is_state = { λ h. host_is_state h.faults h.unmade };
+
+    fn claim(&mut self) -> Result<(), CallError> {
+        match self.files.claim(self.rt) {
+            Ok(()) => Ok(()),
+            Err(failure) => Err(self.counted(failure)),
+        }
+    }
+
+    fn read_at(&mut self, place: &Place, offset: u64, into: &mut [u8]) -> Result<usize, CallError> {
+        match self.files.read_at(self.rt, place, offset, into) {
+            Ok(count) => Ok(count),
+            Err(failure) => Err(self.counted(failure)),
+        }
+    }
+
+    fn len(&mut self, place: &Place) -> Result<Extent, CallError> {
+        match self.files.len(self.rt, place) {
+            Ok(extent) => Ok(extent),
+            Err(failure) => Err(self.counted(failure)),
+        }
+    }
+
+    fn is_fresh(&mut self) -> Result<bool, CallError> {
+        match self.files.is_fresh(self.rt) {
+            Ok(sure) => Ok(sure),
+            Err(failure) => Err(self.counted(failure)),
+        }
+    }
+
+    fn write_at(&mut self, place: &Place, offset: u64, bytes: &[u8]) -> Result<Written, CallError> {
+        match self.files.write_at(self.rt, place, offset, bytes) {
+            Ok(written) => Ok(written),
+            Err(failure) => Err(self.counted(failure)),
+        }
+    }
+
+    fn sync(&mut self, place: &Place) -> Result<(), CallError> {
+        match self.files.sync(self.rt, place) {
+            Ok(()) => Ok(()),
+            Err(failure) => Err(self.counted(failure)),
+        }
+    }
+
+    fn sync_names(&mut self) -> Result<(), CallError> {
+        match self.files.sync_names(self.rt) {
+            Ok(()) => Ok(()),
+            Err(failure) => Err(self.counted(failure)),
+        }
+    }
+
+    fn make_copy(&mut self) -> Result<(), CallError> {
+        match self.files.make_copy(self.rt) {
+            Ok(()) => Ok(()),
+            Err(failure) => Err(self.counted(failure)),
+        }
+    }
+
+    fn rename(&mut self) -> Result<(), CallError> {
+        match self.files.rename(self.rt) {
+            Ok(()) => Ok(()),
+            Err(failure) => Err(self.counted(failure)),
+        }
+    }
+
+    fn close(&mut self, place: &Place) {
+        self.files.close(place);
+    }
+
+    fn refuse(&mut self, why: &Refusal) {
+        let _ = eprintln!(self.rt; "migrate: {}", Told(why));
+        self.faults = self.faults.saturating_add(1);
+    }
+}

@@ -1,0 +1,288 @@
+//! The journal's file, and the copy that is to take its place.
+ghost use Rattle.std.specs.Prelude.{◌≤◌, ◌<◌, IfOk, length};
+
+use crate::failures::Failure;
+use crate::identity::{Node, node_of};
+use crate::opened::{Opened, make_new, open_to_read, open_to_write};
+use crate::texts::JOURNAL;
+use mig_calls::{Extent, Written};
+use std::alloc::Global;
+use std::fs::{self, File};
+use std::io::{self, Error, ErrorKind};
+use std::mem;
+use std::path::Path;
+use std::rt::Files;
+
+/// What the name of the journal's copy has besides. No word for a file ends so.
+const COPY: &str = ".copy.mig";
+
+/// A copy of the journal's file beside it.
+#[derive(Drop)]
+struct Copy {
+    opened: Opened,
+    /// Its path, and the journal's.
+    beside: String,
+    path: String,
+}
+
+/// The journal's file, which one process writes at a time.
+#[derive(Drop)]
+pub struct Journal {
+    alloc: Global,
+    opened: Option<Opened>,
+    /// The file that was found, before a copy took its place. It stays open, so that no new file gets its inode.
+    found: Option<Opened>,
+    copy: Option<Copy>,
+    /// The path at which a copy took the file's place, since names were synced.
+    renamed: Option<String>,
+    /// This process alone may write.
+    locked: bool,
+}
+
+impl Journal {
+    /// The journal, not opened yet.
+    pub fn new(alloc: Global) -> Journal {
+        Journal {
+            alloc,
+            opened: None,
+            found: None,
+            copy: None,
+            renamed: None,
+            locked: false,
+        }
+    }
+
+    /// Which files of the system it was and is, where it is open.
+    pub fn nodes(&self) -> [Option<Node>; 2] {
+        [node_in(&self.found), node_in(&self.opened)]
+    }
+
+    /// Takes the file for this process alone until it ends, and makes it where it isn't there. It is refused where another process has it.
+    pub fn claim<R: Files<File = File>>(&mut self, rt: &R) -> Result<(), Failure> {
+        if self.locked {
+            return Ok(());
+        }
+        match open_and_lock(rt, self.alloc) {
+            Ok(opened) => {
+                self.opened = Some(opened);
+                self.locked = true;
+                Ok(())
+            }
+            Err(error) => Err(Failure::OfJournal(error)),
+        }
+    }
+
+    /// Reads some bytes, none where the file isn't there. It takes no lock.
+    pub fn read_at<R: Files<File = File>>(
+        &mut self,
+        rt: &R,
+        offset: u64,
+        into: &mut [u8],
+    ) -> Result<usize, Failure>
+        ensures { IfOk result (λ n. n ≤ length into.old) }
+    {
+        match self.to_read(rt)? {
+            Some(opened) => opened.read_at(offset, into).map_err(Failure::OfJournal),
+            None => Ok(0),
+        }
+    }
+
+    /// How many bytes the file has.
+    pub fn len<R: Files<File = File>>(&mut self, rt: &R) -> Result<Extent, Failure> {
+        match self.to_read(rt)? {
+            Some(opened) => Ok(opened.extent()),
+            None => Ok(Extent::Absent),
+        }
+    }
+
+    /// The file, opened where it isn't, if it is there.
+    fn to_read<R: Files<File = File>>(&mut self, rt: &R) -> Result<Option<&Opened>, Failure> {
+        if self.opened.is_none() {
+            self.opened = open_to_read(rt, self.alloc, JOURNAL).map_err(Failure::OfJournal)?;
+        }
+        Ok(self.opened.as_ref())
+    }
+
+    /// Writes some of the bytes to the file, which is locked.
+    pub fn write_at(&mut self, offset: u64, bytes: &[u8]) -> Result<Written, Failure>
+        ensures count { IfOk result (λ written. written.count ≤ length bytes.now) }
+        ensures some { IfOk result (λ written. 0 < length bytes.now → 0 < written.count) }
+    {
+        match &mut self.opened {
+            Some(opened) => write_some(opened, offset, bytes),
+            None => Err(Failure::OfJournal(Error::other("it is not open"))),
+        }
+    }
+
+    /// Brings all that was written to the file to the device.
+    pub fn sync(&self) -> Result<(), Failure> {
+        match &self.opened {
+            Some(opened) => opened.sync().map_err(Failure::OfJournal),
+            None => Ok(()),
+        }
+    }
+
+    /// Makes a new file beside the journal's, which has the same permissions and is this process's alone. A copy that a process left which was cut off is removed first.
+    pub fn make_copy<R: Files<File = File>>(&mut self, rt: &R) -> Result<(), Failure> {
+        match self.new_copy(rt) {
+            Ok(copy) => {
+                self.copy = Some(copy);
+                Ok(())
+            }
+            Err(error) => Err(Failure::OfJournal(error)),
+        }
+    }
+
+    fn new_copy<R: Files<File = File>>(&self, rt: &R) -> io::Result<Copy> {
+        let path = rt.canonicalize(self.alloc, JOURNAL)?;
+        let path = String::from_str(self.alloc, path.as_str())?;
+        let beside = format!(in self.alloc; "{path}{COPY}")?;
+        remove_left(rt, beside.as_str())?;
+        let opened = make_new(rt, beside.as_str())?;
+        if let Err(error) = self.dress(&opened) {
+            let _ = fs::remove_file(rt, beside.as_str());
+            return Err(error);
+        }
+        Ok(Copy {
+            opened,
+            beside,
+            path,
+        })
+    }
+
+    /// Takes a new file for this process alone, and gives it the journal's permissions.
+    fn dress(&self, opened: &Opened) -> io::Result<()> {
+        opened.lock()?;
+        match &self.opened {
+            Some(journal) => opened.set_mode(journal.mode),
+            None => Ok(()),
+        }
+    }
+
+    /// Writes some of the bytes to the copy, which is removed where that fails.
+    pub fn write_copy_at<R: Files<File = File>>(
+        &mut self,
+        rt: &R,
+        offset: u64,
+        bytes: &[u8],
+    ) -> Result<Written, Failure>
+        ensures count { IfOk result (λ written. written.count ≤ length bytes.now) }
+        ensures some { IfOk result (λ written. 0 < length bytes.now → 0 < written.count) }
+    {
+        let written = match &mut self.copy {
+            Some(copy) => write_some(&mut copy.opened, offset, bytes),
+            None => Err(no_copy()),
+        };
+        self.keep_whole(rt, written.as_ref().err());
+        written
+    }
+
+    /// Reads some bytes of the copy.
+    pub fn read_copy_at(&self, offset: u64, into: &mut [u8]) -> Result<usize, Failure>
+        ensures { IfOk result (λ n. n ≤ length into.old) }
+    {
+        match &self.copy {
+            Some(copy) => copy
+                .opened
+                .read_at(offset, into)
+                .map_err(Failure::OfJournal),
+            None => Ok(0),
+        }
+    }
+
+    /// How many bytes the copy has.
+    pub fn copy_len(&self) -> Extent {
+        match &self.copy {
+            Some(copy) => copy.opened.extent(),
+            None => Extent::Absent,
+        }
+    }
+
+    /// Brings the copy to the device. It is removed where that fails.
+    pub fn sync_copy<R: Files<File = File>>(&mut self, rt: &R) -> Result<(), Failure> {
+        let synced = match &self.copy {
+            Some(copy) => copy.opened.sync_all().map_err(Failure::OfJournal),
+            None => Err(no_copy()),
+        };
+        self.keep_whole(rt, synced.as_ref().err());
+        synced
+    }
+
+    /// Gives the copy the journal's name. It is removed where that fails.
+    pub fn rename<R: Files<File = File>>(&mut self, rt: &R) -> Result<(), Failure> {
+        let Some(copy) = self.copy.take() else {
+            return Err(no_copy());
+        };
+        if let Err(error) = fs::rename(rt, copy.beside.as_str(), copy.path.as_str()) {
+            let _ = fs::remove_file(rt, copy.beside.as_str());
+            return Err(Failure::OfJournal(error));
+        }
+        self.found = mem::replace(&mut self.opened, Some(copy.opened));
+        self.renamed = Some(copy.path);
+        Ok(())
+    }
+
+    /// Brings the name of a copy that took the file's place to the device.
+    pub fn sync_name<R: Files<File = File>>(&mut self, rt: &R) -> Result<(), Failure> {
+        if let Some(path) = &self.renamed {
+            sync_folder_of(rt, path.as_str()).map_err(Failure::OfJournal)?;
+        }
+        self.renamed = None;
+        Ok(())
+    }
+
+    /// Closes a copy that can't be made whole, and removes it.
+    fn keep_whole<R: Files<File = File>>(&mut self, rt: &R, failure: Option<&Failure>) {
+        if failure.is_none_or(|failure| failure.is_interruption()) {
+            return;
+        }
+        if let Some(copy) = self.copy.take() {
+            let _ = fs::remove_file(rt, copy.beside.as_str());
+        }
+    }
+}
+
+fn no_copy() -> Failure {
+    Failure::OfJournal(ErrorKind::NotFound.into())
+}
+
+/// Which file of the system is open here.
+fn node_in(opened: &Option<Opened>) -> Option<Node> {
+    opened.as_ref().map(|opened| opened.node)
+}
+
+fn write_some(opened: &mut Opened, offset: u64, bytes: &[u8]) -> Result<Written, Failure>
+    ensures count { IfOk result (λ written. written.count ≤ length bytes.now) }
+    ensures some { IfOk result (λ written. 0 < length bytes.now → 0 < written.count) }
+{
+    match opened.write_at(offset, bytes) {
+        Ok(count) => Ok(Written { count, made: false }),
+        Err(error) => Err(Failure::OfJournal(error)),
+    }
+}
+
+/// Opens the journal's file for writing, and locks it. Another process may have put a copy in its place since it was opened.
+fn open_and_lock<R: Files<File = File>>(rt: &R, alloc: Global) -> io::Result<Opened> {
+    let (opened, _) = open_to_write(rt, alloc, JOURNAL)?;
+    opened.lock()?;
+    if !fs::metadata(rt, JOURNAL).is_ok_and(|found| node_of(&found) == opened.node) {
+        return Err(Error::other("another process is at work with it"));
+    }
+    Ok(opened)
+}
+
+/// Removes a copy that a process left which was cut off.
+fn remove_left<R: Files<File = File>>(rt: &R, beside: &str) -> io::Result<()> {
+    match fs::remove_file(rt, beside) {
+        Err(error) if error.kind() != ErrorKind::NotFound => Err(error),
+        _ => Ok(()),
+    }
+}
+
+/// Syncs the folder of a file whose whole path is given.
+fn sync_folder_of<R: Files<File = File>>(rt: &R, path: &str) -> io::Result<()> {
+    match Path::new(path).parent() {
+        Some(folder) => fs::open(rt, folder)?.sync_all(),
+        None => Ok(()),
+    }
+}
