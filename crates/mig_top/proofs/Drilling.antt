@@ -58,7 +58,9 @@ module _ (k : Call) (words : List (List ℕ)) (status : ℕ) (ends : EndsAs k wo
   drills_well = record {
     told = told;
     drills = λ fits fine quiet. comes_exactly k words status ends files form is l (Done (drill_text task.plan)) (comes (Done (drill_text task.plan)) (tt, fits, refl)) fine quiet tt;
-    refuses = λ more fine quiet. comes_exactly k words status ends files form is l (TooLarge (length (shifts_of task.plan))) (comes (TooLarge (length (shifts_of task.plan))) (inl (more, refl))) fine quiet tt;
+    refuses =
+        λ more fine quiet. comes_exactly k words status ends files form is l (TooLarge (length (shifts_of task.plan)))
+        (comes (TooLarge (length (shifts_of task.plan))) (inl (more, refl))) fine quiet tt;
     large = large;
     files = holds_by (WorldEnds k form) k.before.sink k.after.sink status e (Untouched k.before.folder k.after.folder) (λ o h. h.leaves);
     store = holds_by (WorldEnds k form) k.before.sink k.after.sink status e (IsUntouched k.before.store k.after.store) (λ o h. h.store);

@@ -32,7 +32,8 @@ module _ (Is : Outcome → Type 0) (old new : SinkState) (status : ℕ) where
       by e is h begun whole = (outcome_of names e, is, h, record { begun = begun; whole = whole; done = λ zero. absurd (omega (arith, zero)) })
 
   -- one that the layer below refuses
-  pub refused : (names : List (List ℕ)) (e : Ending) (given input : Lists) (f : MoveFault) → outcome_of names e ≡ fault_outcome given f → given ≡ input → Is (fault_outcome input f) → status ≡ code (outcome_of names e)
+  pub refused : (names : List (List ℕ)) (e : Ending) (given input : Lists) (f : MoveFault) → outcome_of names e ≡ fault_outcome given f → given ≡ input → Is (fault_outcome input f)
+      → status ≡ code (outcome_of names e)
       → ExtendsInPart (text_of (outcome_of names e)) old new → ((Rose old.faults new.faults → ⊥) → Extends (text_of (outcome_of names e)) old new) → EndsBy Is old new status
   refused names e given input f named same h is = told names e is (subst Is (sym named) (subst (λ (i : Lists). Is (fault_outcome i f)) (sym same) h))
 
@@ -116,7 +117,8 @@ module _ (names : List (List ℕ)) where
   files_unread old new steps (TooLarge shifts) h = h
   files_unread old new steps _ h = absurd h
 
-  module _ (k : Call) (form : Form) (has : HasFiles form) (Stops : Files → Outcome → Type 0) (to : (o : Outcome) → IfSome k.before.folder.files (λ files. Stops files o) → CauseIn k.before form o) where
+  module _ (k : Call) (form : Form) (has : HasFiles form) (Stops : Files → Outcome → Type 0)
+      (to : (o : Outcome) → IfSome k.before.folder.files (λ files. Stops files o) → CauseIn k.before form o) where
     pub world_unread : (e : Ending) → StopsFrom k.before.folder k.after.folder names Stops e → CauseOf k form (outcome_of names e)
     world_unread FolderFault h = (h, has)
     world_unread Memory h = tt

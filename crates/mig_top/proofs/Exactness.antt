@@ -20,7 +20,8 @@ use Rattle.mig_words.specs.Words.{Form, Names, Plan, Check, After, Fill, Audit, 
 use Rattle.mig_top.specs.Calls.{Call, StoreFailed}
 use Rattle.mig_top.specs.Causes.{FormCause, IsLastLayout, IsTooLarge, IsWrong, checks, drills, fits_drill, judges}
 use Rattle.mig_top.specs.Ends.{EndsAs, IsBegun, IsOrNotPut, ComesExactly, Serves, WorldEnds}
-use Rattle.mig_top.specs.Loads.{DoesNotRun, HoldsFirst, IsLayoutRefusal, IsMissing, IsNoCert, IsNoPlan, IsRefusal, IsTaskOf, LayoutBodies, PlanBodies, Stands, input_in, layout_in, loads, loads_input, loads_layout, loads_plan, reads_cert, reads_input, reads_layout, reads_plan, reads_task, runs, task_in}
+use Rattle.mig_top.specs.Loads.{DoesNotRun, HoldsFirst, IsLayoutRefusal, IsMissing, IsNoCert, IsNoPlan, IsRefusal, IsTaskOf, LayoutBodies, PlanBodies, Stands, input_in, layout_in, loads}
+use Rattle.mig_top.specs.Loads.{loads_input, loads_layout, loads_plan, reads_cert, reads_input, reads_layout, reads_plan, reads_task, runs, task_in}
 use Rattle.mig_top.specs.HaltLooks.{halted_text}
 use Rattle.mig_top.specs.MoveLooks.{done_text}
 use Rattle.mig_top.specs.Rehearsed.{IsRehearsed, case_in}
@@ -235,7 +236,8 @@ served k files (Halt names layout) before serves h = serves.0 h.0
 served k files _ before serves h = h.1
 
 -- as a clause of the top call
-pub comes_exactly : (k : Call) (words : List (List ℕ)) (status : ℕ) → EndsAs k words status → (files : Files) (form : Form) → k.before.folder.files ≡ Some files → IsListed words form → ComesExactly k files form status
+pub comes_exactly : (k : Call) (words : List (List ℕ)) (status : ℕ) → EndsAs k words status → (files : Files) (form : Form) → k.before.folder.files ≡ Some files → IsListed words form
+    → ComesExactly k files form status
 comes_exactly k words status ends files form is l p cause fine quiet serves = let e = ends_of k words status ends form l in by e.0 e.1 e.2
   where
     by : (o : Outcome) → status ≡ code o → IsOrNotPut (WorldEnds k form) k.before.sink k.after.sink o → (status ≡ code p) ⊎ (status ≡ 7)

@@ -21,7 +21,8 @@ use Rattle.mig_top.proofs.StoreEnds.{settled_left}
 abbrev pub fill_rest : State → Lists → Step (List ℕ)
 fill_rest store input = after (fills input store) (λ _. finds (λ text. text ≡ filled_text input))
 
-module _ (k : Call) (disks now : List ℕ) (same : Untouched k.before.folder k.after.folder) (input : Lists) (layout : AreOfLayout k.before.folder disks now input) (writes : WritesListed input k.before.store k.after.store) where
+module _ (k : Call) (disks now : List ℕ) (same : Untouched k.before.folder k.after.folder) (input : Lists) (layout : AreOfLayout k.before.folder disks now input)
+    (writes : WritesListed input k.before.store k.after.store) where
   abbrev form : Form
   form = Fill disks now
 
@@ -35,11 +36,13 @@ module _ (k : Call) (disks now : List ℕ) (same : Untouched k.before.folder k.a
   pub fill_refused : (f : MoveFault) → IsFillFault input k.before.store k.after.store f → WorldEnds k form (fault_outcome input f)
   fill_refused fault.Store h = record { cause = (h, refl); leaves = same; store = (input, layout, writes) }
   fill_refused fault.Started h = record { cause = fill_cause (fault_outcome input fault.Started) (inl (shows fault.Started h.0 h.1)); leaves = same; store = h.0 }
-  fill_refused (fault.Occupied disk slot) h = record { cause = fill_cause (fault_outcome input (fault.Occupied disk slot)) (inl (shows (fault.Occupied disk slot) h.0 h.1)); leaves = same; store = h.0 }
+  fill_refused (fault.Occupied disk slot) h =
+      record { cause = fill_cause (fault_outcome input (fault.Occupied disk slot)) (inl (shows (fault.Occupied disk slot) h.0 h.1)); leaves = same; store = h.0 }
   fill_refused _ h = absurd h.1
 
   -- it is done
-  pub fill_done : HasMade input k.after.store.reads → IsSettled k.after.store → flights k.after.store ≡ [] → (flights k.before.store ≡ [] → IsFillable input k.before.store.reads) → WorldEnds k form (Done (filled_text input))
+  pub fill_done : HasMade input k.after.store.reads → IsSettled k.after.store → flights k.after.store ≡ [] → (flights k.before.store ≡ [] → IsFillable input k.before.store.reads)
+      → WorldEnds k form (Done (filled_text input))
   fill_done made settled landed fillable = record {
     cause = fill_cause (Done (filled_text input)) (tt, fillable, refl);
     leaves = same;

@@ -36,7 +36,12 @@ module _ (task : Task) (store : State) (tells : TellsStill (IsJobCell task.input
   one_stand f g h k = status f h ∙ sym (status g k)
 
   pub stands_exact : IsExact (stands task store)
-  stands_exact = record { one_found = λ a b h k. h.found.found tells.cells slots ∙ sym (k.found.found tells.cells slots); not_both = apart; one_stop = shown_one task.input store (IsStandRefusal task) tells.none one_stand }
+  stands_exact =
+      record {
+        one_found = λ a b h k. h.found.found tells.cells slots ∙ sym (k.found.found tells.cells slots);
+        not_both = apart;
+        one_stop = shown_one task.input store (IsStandRefusal task) tells.none one_stand;
+      }
     where
       apart : (k : ℕ) (o : Outcome) → (stands task store).Passes k → (stands task store).Stops o → ⊥
       apart k o passes h = named_refused task store.reads (passes.running slots (tells.cells Gate (inl (inr (inl refl))))) (tells.cells Head (inl (inl refl))) (passes.ours slots)

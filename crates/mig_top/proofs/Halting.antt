@@ -98,7 +98,9 @@ module _ (task : Task) (old mid : State) (k : ℕ) (stood : Stands task old mid 
     pub in_part : HaltsInPart task old new k
     in_part = record {
       found = has_found;
-      safe = λ contents tells may. leaves_then (HaltSafe contents) old mid new (quiet_leaves (HaltSafe contents) (IsTargetOf (flights old)) settling.added old mid law settling.change) (closing contents tells may);
+      safe =
+          λ contents tells may. leaves_then (HaltSafe contents) old mid new (quiet_leaves (HaltSafe contents) (IsTargetOf (flights old)) settling.added old mid law settling.change)
+          (closing contents tells may);
       again = λ contents tells may image left.
           let run = closing contents tells may in
           now contents tells may image (run.since mid.moment image (omega arith) (law_new.counts_now mid.moment image run.later left));
@@ -112,7 +114,8 @@ module _ (task : Task) (old mid : State) (k : ℕ) (stood : Stands task old mid 
       );
     }
       where
-        now : (contents : Contents) → Tells (IsHaltCell task.input task.plan) old.reads → MayHalt task contents old → (image : Image) → mid.left_since mid.moment image ⊎ HaltSafe contents image → HaltSafe contents image
+        now : (contents : Contents) → Tells (IsHaltCell task.input task.plan) old.reads → MayHalt task contents old → (image : Image) → mid.left_since mid.moment image ⊎ HaltSafe contents image
+            → HaltSafe contents image
         now contents tells may image (inl past) = at_mid contents tells may image (law_mid.only_now image past)
         now contents tells may image (inr safe) = safe
 
@@ -152,14 +155,18 @@ module _ (k : Call) (names : Names) (layout : List ℕ) where
     halt_cause = task_cause k names task are (halt_rest k.before.store)
 
     -- it isn't known where the plan stands
-    pub halt_refused : Untouched k.before.folder k.after.folder → Lands k.before.store k.after.store → (f : MoveFault) → IsStandFault task k.before.store k.after.store f → WorldEnds k form (fault_outcome task.input f)
+    pub halt_refused : Untouched k.before.folder k.after.folder → Lands k.before.store k.after.store → (f : MoveFault) → IsStandFault task k.before.store k.after.store f
+        → WorldEnds k form (fault_outcome task.input f)
     halt_refused same lands fault.Store h = record { cause = (h, refl); leaves = one_changed k.before.folder k.after.folder layout same; store = inl (lands, same) }
-    halt_refused same lands fault.NotStarted h = record { cause = halt_cause (fault_outcome task.input fault.NotStarted) (inl (shown task k fault.NotStarted h.0 IsStandRefusal h.1)); leaves = same; store = h.0 }
-    halt_refused same lands (fault.OtherPlan kept ours) h = record { cause = halt_cause (fault_outcome task.input (fault.OtherPlan kept ours)) (inl (shown task k (fault.OtherPlan kept ours) h.0 IsStandRefusal h.1)); leaves = same; store = h.0 }
+    halt_refused same lands fault.NotStarted h =
+        record { cause = halt_cause (fault_outcome task.input fault.NotStarted) (inl (shown task k fault.NotStarted h.0 IsStandRefusal h.1)); leaves = same; store = h.0 }
+    halt_refused same lands (fault.OtherPlan kept ours) h =
+        record { cause = halt_cause (fault_outcome task.input (fault.OtherPlan kept ours)) (inl (shown task k (fault.OtherPlan kept ours) h.0 IsStandRefusal h.1)); leaves = same; store = h.0 }
     halt_refused same lands _ h = absurd h
 
   -- the layout isn't saved
-  pub halt_unsaved : (loaded : FolderState) → loaded.files ≡ k.before.folder.files → k.before.folder.faults ≤ loaded.faults → Settles k.before.store k.after.store → (e : Ending) → SaveEnds layout loaded k.after.folder e
+  pub halt_unsaved : (loaded : FolderState) → loaded.files ≡ k.before.folder.files → k.before.folder.faults ≤ loaded.faults → Settles k.before.store k.after.store → (e : Ending)
+      → SaveEnds layout loaded k.after.folder e
       → WorldEnds k form (outcome_of four e)
   halt_unsaved loaded same later settles ending.FolderFault h = record {
     cause = (let rose = h.0 in omega (arith, later, rose), tt);
@@ -169,12 +176,14 @@ module _ (k : Call) (names : Names) (layout : List ℕ) where
   halt_unsaved loaded same later settles ending.Memory h = record { cause = tt; leaves = h ∙ same; store = inr settles }
   halt_unsaved loaded same later settles _ h = absurd h
 
-  module _ (task : Task) (are : AreOfTask k.before.folder names task) (loaded : FolderState) (same : loaded.files ≡ k.before.folder.files) (found : ℕ) (saves : SavesLayout task layout found loaded k.after.folder) where
+  module _ (task : Task) (are : AreOfTask k.before.folder names task) (loaded : FolderState) (same : loaded.files ≡ k.before.folder.files) (found : ℕ)
+      (saves : SavesLayout task layout found loaded k.after.folder) where
     saved : SavesLayout task layout found k.before.folder k.after.folder
     saved = changes_before (IsLayoutSaved task layout found) k.before.folder loaded k.after.folder same saves
 
     -- the store fails while the plan is closed
-    pub halt_failed : HaltsInPart task k.before.store k.after.store found → Rose k.before.store.faults k.after.store.faults → (f : MoveFault) → f ≡ fault.Store → WorldEnds k form (fault_outcome task.input f)
+    pub halt_failed : HaltsInPart task k.before.store k.after.store found → Rose k.before.store.faults k.after.store.faults → (f : MoveFault) → f ≡ fault.Store
+        → WorldEnds k form (fault_outcome task.input f)
     halt_failed part rose f is = subst (λ (f : MoveFault). WorldEnds k form (fault_outcome task.input f)) (sym is) (record {
       cause = (rose, refl);
       leaves = saved_only task layout found k.before.folder k.after.folder saved;

@@ -78,7 +78,8 @@ module _ (k : Call) (names : Names) (cert : List ℕ) (files : Files) (is : k.be
       by (input, (bodies, there, accepted)) = none.none input (subst (λ (b : Bodies). Accepted b input) ((input_loads names files).one_found bodies none.bodies there none.there) accepted)
 
   module _ (status : ℕ) where
-    ends_by : (o : Outcome) → status ≡ code o → IsOrNotPut (WorldEnds k form) k.before.sink k.after.sink o → (bodies : Bodies) → AreThere files names bodies → (FolderFailed k → ⊥) → (SinkFailed k → ⊥) → (status ≡ 0) ⊎ (status ≡ 3) ⊎ (status ≡ 7)
+    ends_by : (o : Outcome) → status ≡ code o → IsOrNotPut (WorldEnds k form) k.before.sink k.after.sink o → (bodies : Bodies) → AreThere files names bodies → (FolderFailed k → ⊥)
+        → (SinkFailed k → ⊥) → (status ≡ 0) ⊎ (status ≡ 3) ⊎ (status ≡ 7)
     ends_by (Done text) at h bodies there fine quiet = inl at
     ends_by (Refused f n w) at h bodies there fine quiet = inr (inl at)
     ends_by Memory at h bodies there fine quiet = inr (inr at)
@@ -119,7 +120,8 @@ module _ (k : Call) (names : Names) (cert : List ℕ) (files : Files) (is : k.be
 
 -- `check` of what `plan` saved
 
-module _ (names : Names) (cert text : List ℕ) (old files : Files) (apart : WritesApart (Plan names cert)) (saved : IsPlanSaved names cert text old files) (cert_saved : file files cert ≡ Some text) where
+module _ (names : Names) (cert text : List ℕ) (old files : Files) (apart : WritesApart (Plan names cert)) (saved : IsPlanSaved names cert text old files)
+    (cert_saved : file files cert ≡ Some text) where
   -- the three files are as they were
   kept : (name bytes : List ℕ) → name ≢ names.plan → name ≢ cert → HoldsFirst old name bytes → HoldsFirst files name bytes
   kept name bytes p c = subst (λ (o : Option (List ℕ)). IsSomeAnd o (λ whole. bytes ≡ take (MAX_FILE_BYTES + 1) whole)) (sym (saved.others name p c))

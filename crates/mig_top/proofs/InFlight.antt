@@ -85,7 +85,8 @@ status_so k words status ends files is form l done fine quiet sound = let e = en
     by Memory at h = inr at
     by o at h = inl (at ∙ done o (cause_at k files is form o h.cause))
 
-module _ (k : Call) (words : List (List ℕ)) (status : ℕ) (ends : EndsAs k words status) (files : Files) (names : Names) (task : Task) (is : k.before.folder.files ≡ Some files) (holds : IsTaskOf files names task) where
+module _ (k : Call) (words : List (List ℕ)) (status : ℕ) (ends : EndsAs k words status) (files : Files) (names : Names) (task : Task) (is : k.before.folder.files ≡ Some files)
+    (holds : IsTaskOf files names task) where
   pub starts_in_flight : IsListed words (Move names) → StartsInFlight k task status
   starts_in_flight l ready idle =
       let valid = is_task files names task holds in

@@ -26,10 +26,12 @@ different_from xs new i j d lt within same =
 names_differ : (disks now : List ℕ) (i : Lists) → IsListing disks now i → AreDifferent (map first (rows_of disks))
 names_differ disks now i a = different_from (map first (rows_of disks)) (λ j x e c.
     let r = some_map first (rows_of disks) j x e in
-    a.sound file_kind.Disks (j + 1) why.DuplicateDisk (record { place = j; row = r.0; number = refl; at = r.1; holds = subst (λ y. Contains (map first (take j (rows_of disks))) y) r.2 (rw take-map at c) }))
+    a.sound file_kind.Disks (j + 1) why.DuplicateDisk
+    (record { place = j; row = r.0; number = refl; at = r.1; holds = subst (λ y. Contains (map first (take j (rows_of disks))) y) r.2 (rw take-map at c) }))
 
 -- two disks of one name are one
-one_disk : (disks : List Disk) (a b : DiskId) (n : List ℕ) → AreDifferent (map name_at disks) → IsSomeAnd (slice_get disks a.0) (λ d. d.name ≡ n) → IsSomeAnd (slice_get disks b.0) (λ d. d.name ≡ n) → a ≡ b
+one_disk : (disks : List Disk) (a b : DiskId) (n : List ℕ) → AreDifferent (map name_at disks) → IsSomeAnd (slice_get disks a.0) (λ d. d.name ≡ n)
+    → IsSomeAnd (slice_get disks b.0) (λ d. d.name ≡ n) → a ≡ b
 one_disk disks a b n ne p q =
     let (d, at, name) = some_and (λ (d : Disk). d.name ≡ n) (slice_get disks a.0) p in
     let (e, bt, name2) = some_and (λ (d : Disk). d.name ≡ n) (slice_get disks b.0) q in

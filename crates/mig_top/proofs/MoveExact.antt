@@ -38,7 +38,8 @@ module _ (task : Task) (valid : IsInput task.input) (runs : Runs task.input task
       let within : item < length task.input.spots = omega (arith, lost.in_range, valid.spots_len) in
       let spot = get_or task.input.spots item no_spot in
       let named = shifted_named task.input task.plan runs item spot (slice_get-get_or task.input.spots item no_spot within) lost.shifted in
-      told_apart (image (item_cell task.input item)) (HasHeader (item_name task.input item)) (λ slot. ¬ HasHeader (item_name task.input item) slot) (told (item_cell task.input item) (inr (spot, named, refl))) (λ slot p q. q p)
+      told_apart (image (item_cell task.input item)) (HasHeader (item_name task.input item)) (λ slot. ¬ HasHeader (item_name task.input item) slot)
+      (told (item_cell task.input item) (inr (spot, named, refl))) (λ slot p q. q p)
       (ready.there item lost.in_range lost.shifted) lost.lost
 
   -- a target that can be taken isn't used
@@ -138,7 +139,12 @@ module _ (task : Task) (store : State) (valid : IsInput task.input) (runs : Runs
   resumable_refused k h (fault.Occupied disk slot) p q r = ready_refused task valid runs store.reads tells.cells (fault.Occupied disk slot) p (h.ready tells.none r.0 gate_told) r
 
   pub resumes_exact : IsExact (resumes task store)
-  resumes_exact = record { one_found = λ a b h k. h.found tells.cells tells.none ∙ sym (k.found tells.cells tells.none); not_both = apart; one_stop = shown_one task.input store (IsResumeRefusal task) tells.none one_resume }
+  resumes_exact =
+      record {
+        one_found = λ a b h k. h.found tells.cells tells.none ∙ sym (k.found tells.cells tells.none);
+        not_both = apart;
+        one_stop = shown_one task.input store (IsResumeRefusal task) tells.none one_resume;
+      }
     where
       apart : (k : ℕ) (o : Outcome) → (resumes task store).Passes k → (resumes task store).Stops o → ⊥
       apart k o passes h =

@@ -16,7 +16,8 @@ use Rattle.mig_top.specs.MoveLeaves.{AreOfTask, KeepsHalting}
 use Rattle.mig_top.proofs.EndsOf.{done_by, holds_by}
 use Rattle.mig_top.proofs.StoreEnds.{form_quiet}
 
-module _ (k : Call) (status : ℕ) (law : IsState k.before.store) (names : Names) (task : Task) (ends : FormEndsAs k (Resume names) status) (same_task : (t : Task) → AreOfTask k.before.folder names t → t ≡ task) where
+module _ (k : Call) (status : ℕ) (law : IsState k.before.store) (names : Names) (task : Task) (ends : FormEndsAs k (Resume names) status)
+    (same_task : (t : Task) → AreOfTask k.before.folder names t → t ≡ task) where
   abbrev old : State
   old = k.before.store
 

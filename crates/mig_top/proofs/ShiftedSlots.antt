@@ -1,5 +1,6 @@
 -- An item that a plan shifts is where its first shift leaves it: at a slot that the plan names.
-use Rattle.std.proofs.Common.{◌≡◌, ◌⊎◌, ◌<◌, ◌≤◌, inl, inr, ⊎_elim, Bool, true, false, ℕ, zero, suc, List, [], ◌∷◌, Option, Some, None, Contains, get_or, length, eqb, slice_get, refl, sym, ◌∙◌, ap, arith, if◌then◌else◌}
+use Rattle.std.proofs.Common.{◌≡◌, ◌⊎◌, ◌<◌, ◌≤◌, inl, inr, ⊎_elim, Bool, true, false, ℕ, zero, suc, List, [], ◌∷◌, Option, Some, None, Contains, get_or, length, eqb, slice_get, refl, sym}
+use Rattle.std.proofs.Common.{◌∙◌, ap, arith, if◌then◌else◌}
 use Rattle.std.specs.Option.{option_or}
 use Rattle.std.proofs.lemmas.Bool.{eqb-true}
 use Rattle.std.proofs.lemmas.List.Elements.{All-contains, Contains-append_cases}
@@ -21,7 +22,8 @@ last_shift : (shifts : List Shift) (item : ℕ) (t : Spot) → last_target shift
 last_shift [] item t e = absurd cc
 last_shift (s ∷ shifts) item t e = by (last_shift shifts item) (last_target shifts item) refl (eqb s.item.0 item) refl
   where
-    by : ((u : Spot) → last_target shifts item ≡ Some u → (x : Shift) × Contains shifts x × (x.item.0 ≡ item)) → (o : Option Spot) → last_target shifts item ≡ o → (b : Bool) → eqb s.item.0 item ≡ b → (x : Shift) × Contains (s ∷ shifts) x × (x.item.0 ≡ item)
+    by : ((u : Spot) → last_target shifts item ≡ Some u → (x : Shift) × Contains shifts x × (x.item.0 ≡ item)) → (o : Option Spot) → last_target shifts item ≡ o → (b : Bool)
+        → eqb s.item.0 item ≡ b → (x : Shift) × Contains (s ∷ shifts) x × (x.item.0 ≡ item)
     by more (Some u) later b here = let found = more u later in (found.0, (suc found.1.0, let lt = found.1.1 in omega arith, found.1.2), found.2)
     by more None later true here = (s, (0, omega arith, refl), eqb-true s.item.0 item here)
     by more None later false here =

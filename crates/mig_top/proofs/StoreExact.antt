@@ -44,7 +44,8 @@ module _ (input : Lists) (image : Image) (told : Tells (IsFillCell input) image)
       let within = slice_get_within input.spots taken.item spot taken.listed in
       let here = get_or_from_slice_get input.spots taken.item spot spot taken.listed in
       let unused : IsUnused input image spot = subst (λ (s : Spot). IsUnused input image s) here (fillable.unused taken.item spot within) in
-      told_apart (image (slot_of input spot)) (λ slot. first_byte slot ≡ 1) (λ slot. first_byte slot ≢ 1) (told (slot_of input spot) (inr (spot, (taken.item, within, here), refl))) (λ slot p q. q p) taken.used unused
+      told_apart (image (slot_of input spot)) (λ slot. first_byte slot ≡ 1) (λ slot. first_byte slot ≢ 1) (told (slot_of input spot) (inr (spot, (taken.item, within, here), refl)))
+      (λ slot p q. q p) taken.used unused
 
   fill_not_both : (fault : MoveFault) → IsFillable input image → IsFillRefusal input image fault → ⊥
   fill_not_both Started fillable running = false≢true (sym fillable.idle ∙ running (told _ (inl refl)))

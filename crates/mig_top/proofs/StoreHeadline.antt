@@ -44,8 +44,12 @@ module _ (k : Call) (words : List (List ℕ)) (status : ℕ) (ends : EndsAs k wo
     pub audits_well : AuditsWell k input status
     audits_well = record {
       said = λ zero.
-          let (text, h, put) = put_by (WorldEnds k (Audit disks now)) k.before.sink k.after.sink status (ends_of k words status ends (Audit disks now) l) zero in
-          (text, follow (layout_in disks now files) (layout_in_exact disks now files) (λ i. finds (IsAudit i k.before.store)) input holds (Done text) (cause_at k files is (Audit disks now) (Done text) h.cause), put);
+          let (text, h, put) = put_by (WorldEnds k (Audit disks now)) k.before.sink k.after.sink status (ends_of k words status ends (Audit disks now) l) zero in (
+            text,
+            follow (layout_in disks now files) (layout_in_exact disks now files) (λ i. finds (IsAudit i k.before.store)) input holds
+                (Done text) (cause_at k files is (Audit disks now) (Done text) h.cause),
+            put,
+          );
       audits = λ fine quiet sound.
           let whole = whole_audit input k.before.store 0 [] 0 (omega arith) (refl, refl) in
           comes_exactly k words status ends files (Audit disks now) is l (Done ([] ++ whole.rest)) (input, holds, whole.audit) fine quiet sound;

@@ -43,5 +43,6 @@ returns-clause-takes g c =
     let last = c.in_ok-last.last.items in
     let here = subst (λ (f : Option Files). IfSome f (λ files. HoldsFirst files cert last)) c.load_plan.ensures.same (c.in_ok-last.ensures.takes names refl) in
     answers_in old new names (λ files. (loads_plan n files).Passes bodies × HoldsFirst files cert last) (if_both old.files (λ files one two. (one, two)) (c.in_ok-bytes.ensures.takes (cert ∷ [])) here)
-    (λ text. text.now) (checks n cert) (λ text. text.now) (reads_verdict bodies last) (λ files held text h. (bodies, held.0, (last, held.1, h))) (λ files o held s. inr (bodies, held.0, inr (last, held.1, s)))
+    (λ text. text.now) (checks n cert) (λ text. text.now) (reads_verdict bodies last) (λ files held text h. (bodies, held.0, (last, held.1, h)))
+    (λ files o held s. inr (bodies, held.0, inr (last, held.1, s)))
     c.verdict.result (rw c.deref.ensures.value at c.verdict.ensures)

@@ -40,7 +40,8 @@ returns-in-Err-Sink g c =
     let old = g.K.Sink.state c.args.out.now in
     let new = g.K.Sink.state c.drill.new.out in
     let failed : Rose old.faults new.faults = subst (λ (f : DrillFault). IsDrillFault old new f) c.in-Err-Sink.field-0-is c.in-Err-Sink.ensures.fault in
-    shown (FolderEnds from to (drills (names_in c.args.files)) (λ o. Untouched from to)) old new 6 (drill_text c.in-Ok.job.plan) (record { cause = c.in-Ok.ensures.takes; leaves = c.load_small_job.ensures.same })
+    shown (FolderEnds from to (drills (names_in c.args.files)) (λ o. Untouched from to)) old new 6
+    (drill_text c.in-Ok.job.plan) (record { cause = c.in-Ok.ensures.takes; leaves = c.load_small_job.ensures.same })
     (record { status = inr (refl, failed); begun = c.in-Err-Sink.ensures.in_part; done = λ zero. absurd (omega (arith, zero)); later = c.drill.ensures.later })
 
 pub returns : goal.returns

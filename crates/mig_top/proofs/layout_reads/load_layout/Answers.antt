@@ -21,5 +21,6 @@ returns-clause-takes g c =
     let old = g.F.Folder.state c.args.folder.now in
     let new = g.F.Folder.state c.load_two.new.folder in
     let bodies = two_bodies_of c.in_ok-bytes.bytes in
-    answers_in old new (d ∷ n ∷ []) (λ files. (loads_layout d n files).Passes bodies) c.in_ok-bytes.ensures.takes (λ (input : Lists). input) (layout_in d n) (λ (input : Lists). input) (reads_layout bodies)
+    answers_in old new (d ∷ n ∷ []) (λ files. (loads_layout d n files).Passes bodies) c.in_ok-bytes.ensures.takes (λ (input : Lists). input) (layout_in d n)
+    (λ (input : Lists). input) (reads_layout bodies)
     (λ files held input h. (bodies, held, h)) (λ files o held s. inr (bodies, held, s)) c.layout_of.result c.layout_of.ensures

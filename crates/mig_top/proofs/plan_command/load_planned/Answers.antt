@@ -13,7 +13,8 @@ returns-in_err-bytes-clause-takes g c =
     let old = g.F.Folder.state c.args.folder.now in
     let new = g.F.Folder.state c.load_input.new.folder in
     handed_from old new (four_and n []) texts_of (plans_texts n) c.from_residual.result c.in_err-bytes.field-0.0 c.from_residual.ensures.1
-    (stops_first old new (four_and n []) (λ files. (loads_input n files).Stops) (λ files. (plans_texts n files).Stops) (λ files o s. inl (inl s)) c.in_err-bytes.field-0.0 (c.in_err-bytes.ensures.takes []))
+    (stops_first old new (four_and n []) (λ files. (loads_input n files).Stops) (λ files. (plans_texts n files).Stops) (λ files o s. inl (inl s)) c.in_err-bytes.field-0.0
+    (c.in_err-bytes.ensures.takes []))
 
 pub returns-clause-takes : goal.returns-clause-takes
 returns-clause-takes g c =

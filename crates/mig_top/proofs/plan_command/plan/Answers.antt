@@ -49,7 +49,9 @@ returns-in_err-save-2 g c =
     handed_end c.from_residual-in_err-save-2.result FolderFault (λ text. Ends (Done text.items)) (λ e. Ends (outcome_of (four_and n []) e)) c.from_residual-in_err-save-2.ensures.1
     (record {
       cause = omega (arith, c.load_planned.ensures.later, c.save.ensures.later, c.in_err-save-2.ensures.failed);
-      leaves = inr (half_saved n c.args.cert.now c.requires (texts_of c.in_ok-texts.texts) old.files mid.files (g.F.Folder.state c.save.new.self).files new.files c.load_planned.ensures.same c.in_ok-texts.ensures.takes
+      leaves =
+          inr (half_saved n c.args.cert.now c.requires (texts_of c.in_ok-texts.texts) old.files mid.files
+          (g.F.Folder.state c.save.new.self).files new.files c.load_planned.ensures.same c.in_ok-texts.ensures.takes
           (rw c.deref.ensures.value at c.in_ok-save.ensures.saved) c.save-2.ensures.others);
     })
 
@@ -61,6 +63,8 @@ returns g c =
     let new = g.F.Folder.state c.save-2.new.self in
     record {
       cause = if_map old.files (λ files made. (made.0, made.1, tt)) c.in_ok-texts.ensures.takes;
-      leaves = are_saved n c.args.cert.now c.requires (texts_of c.in_ok-texts.texts) old.files mid.files (g.F.Folder.state c.save.new.self).files new.files c.load_planned.ensures.same c.in_ok-texts.ensures.takes
+      leaves =
+          are_saved n c.args.cert.now c.requires (texts_of c.in_ok-texts.texts) old.files mid.files
+          (g.F.Folder.state c.save.new.self).files new.files c.load_planned.ensures.same c.in_ok-texts.ensures.takes
           (rw c.deref.ensures.value at c.in_ok-save.ensures.saved) (rw c.deref-2.ensures.value at c.in_ok-save-2.ensures.saved);
     }
