@@ -1,25 +1,19 @@
 -- Bytes that are alike are read alike: where a file is too long, that is the first thing that is wrong with it.
 use Rattle.std.proofs.Common.{◌+◌, ◌≡◌, ◌⊎◌, inl, inr, ℕ, zero, suc, ◌<◌, ◌≤◌, List, length, take, refl, sym, ap, subst, ◌∙◌, arith, length-take}
 use Rattle.std.proofs.lemmas.Bool.{cases_lt}
-use Rattle.std.proofs.lemmas.List.{take_all}
-use Rattle.mig_base.specs.declared.limits.TheConstants.{MAX_FILE_BYTES}
-use Rattle.mig_base.specs.CertLines.{CertLine}
-use Rattle.mig_base.specs.InputLists.{Lists}
-use Rattle.mig_base.specs.PlanLines.{PlanLine}
+use Rattle.mig_top.proofs.Common.{Accepted, Bodies, CertLine, FileKind, IsLayoutRefusal, IsListing, IsNoCert, IsNoPlan, LayoutBodies, Lists, MAX_FILE_BYTES, Outcome, PlanLine, Step, Why}
+use Rattle.mig_top.proofs.Common.{reads_cert, reads_input, reads_layout, reads_plan, take_all}
 use Rattle.mig_base.specs.Texts.{CertText, PlanText}
-use Rattle.mig_base.specs.Rows.{Bodies, file_of}
-use Rattle.mig_base.specs.Refusals.{Accepted, Fault, Precedes, RefusedAs, stage_of, rank_of}
-use Rattle.mig_base.specs.declared.faults.FileKind.{FileKind}
+use Rattle.mig_base.specs.Rows.{file_of}
+use Rattle.mig_base.specs.Refusals.{Fault, Precedes, RefusedAs, stage_of, rank_of}
 use Rattle.mig_base.specs.declared.faults.FileKind.TheVariants.{Disks, Now, Next}
-use Rattle.mig_base.specs.declared.faults.Why.{Why}
 use Rattle.mig_base.specs.declared.faults.Why.TheVariants as why
 use Rattle.mig_base.proofs.Listed.{Accepted-short}
-use Rattle.mig_csv.specs.Listings.{IsListing, ListingFault, ListingRefusedAs}
-use Rattle.mig_words.specs.Outcomes.{Outcome, Refused, NotSpelled}
+use Rattle.mig_csv.specs.Listings.{ListingFault, ListingRefusedAs}
+use Rattle.mig_words.specs.Outcomes.{Refused, NotSpelled}
 use Rattle.mig_words.specs.declared.endings.TextFile.TheVariants as text_file
 use Rattle.mig_top.specs.Alike.{Alike, AreReadAlike, IsSame}
-use Rattle.mig_top.specs.Loads.{IsLayoutRefusal, IsNoCert, IsNoPlan, IsRefusal, LayoutBodies, reads_cert, reads_input, reads_layout, reads_plan}
-use Rattle.mig_top.specs.Steps.{Step}
+use Rattle.mig_top.specs.Loads.{IsRefusal}
 
 alike_sym : (a b : List ℕ) → Alike a b → Alike b a
 alike_sym a b (inl same) = inl (sym same)

@@ -1,21 +1,13 @@
 -- From what a command finds, does and puts to its status, and back.
 use Rattle.std.proofs.Common.{◌≡◌, ◌⊎◌, inl, inr, ℕ, List, Option, Some, None, refl, sym, subst, ◌∙◌, arith}
-use Rattle.std.specs.Option.{IfSome, IsSomeAnd}
-use Rattle.mig_base.specs.FaultCounts.{Rose}
-use Rattle.mig_base.specs.InputLists.{Lists}
-use Rattle.mig_io.specs.Files.{Files, FolderState, OthersStay}
-use Rattle.mig_io.specs.Held.{SinkState, Extends, ExtendsInPart}
-use Rattle.mig_mover.specs.declared.faults.MoveFault.{MoveFault}
-use Rattle.mig_words.specs.declared.endings.Ending.{Ending}
+use Rattle.mig_top.proofs.Common.{Call, CauseIn, Done, Ending, EndsAs, EndsBy, Extends, ExtendsInPart, Files, FolderState, Form, FormCause, FormEndsAs, HasFiles, IsEndOf, IsListed, IsOrNotPut}
+use Rattle.mig_top.proofs.Common.{IsSomeAnd, Lists, MoveFault, OthersStay, Outcome, Rehearse, Rose, Says, Shows, SinkFault, SinkState, Step, StopsFrom, Untouched, code, fault_outcome, outcome_of}
+use Rattle.mig_top.proofs.Common.{text_of}
+use Rattle.std.specs.Option.{IfSome}
 use Rattle.mig_words.specs.declared.endings.Ending.TheVariants.{Blamed, Unlisted, Refused, FolderFault, Memory, NotSpelled, TooLarge, NoFile}
 use Rattle.mig_words.specs.Outcomes as out
-use Rattle.mig_words.specs.Outcomes.{Outcome, Done, SinkFault, code, fault_outcome, outcome_of, text_of}
-use Rattle.mig_words.specs.Puts.{Shows}
-use Rattle.mig_words.specs.Words.{Form, IsListed, Rehearse}
-use Rattle.mig_top.specs.Calls.{Call, Changes, Untouched}
-use Rattle.mig_top.specs.Causes.{FormCause}
-use Rattle.mig_top.specs.Ends.{CauseIn, CauseOf, EndsAs, EndsBy, FilesCause, FormEndsAs, HasFiles, IsOrNotPut, Says}
-use Rattle.mig_top.specs.Steps.{Step, IsEndOf, StopsFrom}
+use Rattle.mig_top.specs.Calls.{Changes}
+use Rattle.mig_top.specs.Ends.{CauseOf, FilesCause}
 use Rattle.mig_top.proofs.Forms.{one_form}
 
 -- An outcome and its text

@@ -1,19 +1,10 @@
 -- How `fill` ends.
 use Rattle.std.proofs.Common.{◌≡◌, inl, ℕ, List, [], refl}
-use Rattle.mig_base.specs.InputLists.{Lists}
-use Rattle.mig_base.specs.Stores.{State, IsSettled, flights}
-use Rattle.mig_mover.specs.Fillings.{HasMade, IsFillable, IsFillFault, IsFillRefusal}
-use Rattle.mig_mover.specs.Moves.{Settles}
-use Rattle.mig_mover.specs.declared.faults.MoveFault.{MoveFault}
+use Rattle.mig_top.proofs.Common.{AreOfLayout, Call, CauseIn, Done, Fill, Form, IsEndOf, IsFillRefusal, IsFillable, IsSettled, IsShown, Lists, MoveFault, Outcome, Settles, State, Step, Untouched}
+use Rattle.mig_top.proofs.Common.{WorldEnds, after, fault_outcome, filled_text, fills, finds, flights, layout_in}
+use Rattle.mig_mover.specs.Fillings.{HasMade, IsFillFault}
 use Rattle.mig_mover.specs.declared.faults.MoveFault.TheVariants as fault
-use Rattle.mig_words.specs.Outcomes.{Outcome, Done, fault_outcome}
-use Rattle.mig_words.specs.Words.{Form, Fill}
-use Rattle.mig_top.specs.Calls.{Call, Untouched}
-use Rattle.mig_top.specs.Ends.{CauseIn, WorldEnds}
-use Rattle.mig_top.specs.Loads.{layout_in}
-use Rattle.mig_top.specs.Steps.{Step, after, finds, IsEndOf}
-use Rattle.mig_top.specs.StoreLeaves.{AreOfLayout, WritesListed}
-use Rattle.mig_top.specs.StoreLooks.{IsShown, fills, filled_text}
+use Rattle.mig_top.specs.StoreLeaves.{WritesListed}
 use Rattle.mig_top.proofs.Steps.{if_map, lead}
 use Rattle.mig_top.proofs.StoreEnds.{settled_left}
 

@@ -1,42 +1,22 @@
 -- What `halt` promises, from the causes of its outcomes and what they leave.
 use Rattle.std.proofs.Common.{◌≡◌, ◌⊎◌, inl, inr, ⊎_elim, true, ℕ, length, List, [], Option, Some, IfSome, IsSome, append-nil, map, refl, sym, ◌∙◌, ap, subst, arith}
 use Rattle.std.proofs.lemmas.List.Sorted.{IsPermutation-refl}
-use Rattle.std.specs.Option.{IsSomeAnd}
-use Rattle.mig_base.specs.declared.cells.Cell.{Cell}
-use Rattle.mig_base.specs.declared.cells.Cell.TheVariants.{Gate, Head, Slot}
-use Rattle.mig_base.specs.declared.ids.Spot.{Spot}
-use Rattle.mig_base.specs.declared.inputs.Disk.{Disk}
+use Rattle.mig_top.proofs.Common.{AreFlights, AreOfTask, At, Call, Cell, ChangedOnly, Contents, Disk, Done, EndsAs, Extends, Files, FolderFailed, Form, Gate, Halt, HaltsAll, HaltsInPart, Head}
+use Rattle.mig_top.proofs.Common.{Image, IsClosingCell, IsHaltCell, IsLayoutSaved, IsListed, IsOrNotPut, IsShown, IsSomeAnd, IsSound, IsStandRefusal, IsState, IsTargetOf, IsTaskOf, IsUntouched}
+use Rattle.mig_top.proofs.Common.{IsUnwritten, Lands, Lists, MayHalt, Names, OtherPlan, OthersStay, Outcome, SavesLayout, Says, Settles, SinkFailed, SinkFault, Spot, State, StoreFailed}
+use Rattle.mig_top.proofs.Common.{StoreFault, Task, WorldEnds, WroteNothing, code, count_most, count_of, flights, halted_text, is_armed, is_one, same_image, same_wider, settles_land, slot_of}
+use Rattle.mig_top.proofs.Common.{stands, task_in}
+use Rattle.mig_base.specs.declared.cells.Cell.TheVariants.{Slot}
 use Rattle.mig_base.specs.Arrivals.{IsHalted}
-use Rattle.mig_base.specs.Flights.{AreFlights, IsTargetOf, ended}
-use Rattle.mig_base.specs.Images.{Image}
-use Rattle.mig_base.specs.InputLists.{Lists, disk_at}
-use Rattle.mig_base.specs.JobCells.{IsHaltCell}
-use Rattle.mig_base.specs.Journals.{count_of, is_armed, is_one}
-use Rattle.mig_base.specs.Layouts.{At}
+use Rattle.mig_base.specs.Flights.{ended}
+use Rattle.mig_base.specs.InputLists.{disk_at}
 use Rattle.mig_base.specs.RoundEvents.{Adds, BeginsRun}
-use Rattle.mig_base.specs.Safety.{Contents, HasContents, IsSound}
-use Rattle.mig_base.specs.Slots.{slot_of}
-use Rattle.mig_base.specs.Stores.{State, IsState, flights}
+use Rattle.mig_base.specs.Safety.{HasContents}
 use Rattle.mig_base.proofs.ArrivalLaws.{idle_sound}
-use Rattle.mig_base.proofs.MarkCounts.{count_most}
-use Rattle.mig_base.proofs.StoreSteps.{events_none, same_image, same_none, same_wider}
-use Rattle.mig_io.specs.Files.{Files, ChangedOnly, OthersStay}
-use Rattle.mig_io.specs.Held.{Extends}
-use Rattle.mig_mover.specs.Halts.{IsClosingCell}
-use Rattle.mig_mover.specs.Moves.{Lands, Settles}
-use Rattle.mig_mover.specs.Tasks.{Task}
-use Rattle.mig_mover.proofs.Settling.{settles_land}
-use Rattle.mig_words.specs.Outcomes.{Outcome, Done, FolderFault, StoreFault, SinkFault, Memory, NotStarted, OtherPlan, code}
-use Rattle.mig_words.specs.Words.{Form, Names, Halt, IsListed}
-use Rattle.mig_top.specs.Calls.{Call, FolderFailed, SinkFailed, StoreFailed}
-use Rattle.mig_top.specs.Ends.{EndsAs, IsOrNotPut, Says, WorldEnds}
+use Rattle.mig_base.proofs.StoreSteps.{events_none, same_none}
+use Rattle.mig_words.specs.Outcomes.{FolderFault, Memory, NotStarted}
 use Rattle.mig_top.specs.HaltHeadline.{BeginsAfter, HaltsWell}
-use Rattle.mig_top.specs.HaltLeaves.{AllMayHalt, HaltLeaves, HaltsAll, HaltsInPart, IsLayoutSaved, IsUnwritten, MayHalt, SavesLayout}
-use Rattle.mig_top.specs.HaltLooks.{IsStandRefusal, halted_text, stands}
-use Rattle.mig_top.specs.Loads.{IsTaskOf, task_in}
-use Rattle.mig_top.specs.MoveLeaves.{AreOfTask}
-use Rattle.mig_top.specs.StoreLeaves.{IsUntouched, WroteNothing}
-use Rattle.mig_top.specs.StoreLooks.{IsShown}
+use Rattle.mig_top.specs.HaltLeaves.{AllMayHalt, HaltLeaves}
 use Rattle.mig_top.proofs.EndsOf.{ends_of, one_changed, told_at}
 use Rattle.mig_top.proofs.Exactness.{task_in_exact}
 use Rattle.mig_top.proofs.HaltExact.{named_refused}

@@ -1,39 +1,23 @@
 -- How `halt` ends.
 use Rattle.std.proofs.Common.{◌≡◌, ◌⊎◌, ◌≤◌, None, Some, inl, inr, ℕ, List, [], Option, IfSome, IsSome, length, refl, sym, ◌∙◌, subst, arith, append-nil}
-use Rattle.std.proofs.lemmas.Bool.{false≢true}
-use Rattle.std.specs.Option.{IsSomeAnd}
-use Rattle.mig_base.specs.declared.cells.Cell.{Cell}
-use Rattle.mig_base.specs.declared.cells.Cell.TheVariants.{Gate, Head}
-use Rattle.mig_base.specs.declared.cells.Event.{Event}
+use Rattle.mig_top.proofs.Common.{AreOfTask, Call, CauseIn, Cell, ChangedOnly, Contents, Done, Ending, Event, Files, FolderState, Form, Gate, Halt, HaltsAll, HaltsInPart, Head, Image}
+use Rattle.mig_top.proofs.Common.{IsClosingCell, IsEndOf, IsHaltCell, IsLayoutSaved, IsSafe, IsSettled, IsSomeAnd, IsStandRefusal, IsState, IsTargetOf, Lands, LeavesOnly, MayHalt, MoveFault}
+use Rattle.mig_top.proofs.Common.{Names, NoCell, OthersStay, Outcome, Rose, SavesLayout, Settles, State, Step, Task, Tells, Untouched, WorldEnds, after, changes_then, changes_wider, count_of}
+use Rattle.mig_top.proofs.Common.{false≢true, fault_outcome, finds, flights, four_and, halted_text, outcome_of, same_image, settles_land, stands}
 use Rattle.mig_base.specs.Arrivals.{IsHaltSafe}
-use Rattle.mig_base.specs.FaultCounts.{Rose}
-use Rattle.mig_base.specs.Flights.{IsTargetOf}
-use Rattle.mig_base.specs.Images.{Image, NoCell}
-use Rattle.mig_base.specs.JobCells.{IsHaltCell, Tells}
-use Rattle.mig_base.specs.Journals.{count_of}
-use Rattle.mig_base.specs.Safety.{Contents, IsSafe, IsSafeAt}
-use Rattle.mig_base.specs.Stores.{State, IsState, Changes, ChangesOnly, IsSettled, LeavesOnly, flights}
-use Rattle.mig_base.proofs.StoreSteps.{changes_then, changes_wider, leaves_then, quiet_leaves, same_image}
-use Rattle.mig_io.specs.Files.{Files, FolderState, ChangedOnly, OthersStay}
-use Rattle.mig_mover.specs.Halts.{EndsHalted, IsClosingCell, KeepsHaltSafe}
-use Rattle.mig_mover.specs.Moves.{Lands, Settles}
+use Rattle.mig_base.specs.Safety.{IsSafeAt}
+use Rattle.mig_base.specs.Stores.{Changes, ChangesOnly}
+use Rattle.mig_base.proofs.StoreSteps.{leaves_then, quiet_leaves}
+use Rattle.mig_mover.specs.Halts.{EndsHalted, KeepsHaltSafe}
 use Rattle.mig_mover.specs.Stands.{IsStandFault, Stands}
-use Rattle.mig_mover.specs.Tasks.{Task}
-use Rattle.mig_mover.specs.declared.faults.MoveFault.{MoveFault}
 use Rattle.mig_mover.specs.declared.faults.MoveFault.TheVariants as fault
-use Rattle.mig_mover.proofs.Settling.{gate_kept, journal_kept, settled_reads, settles_land, tells_more}
-use Rattle.mig_words.specs.declared.endings.Ending.{Ending}
+use Rattle.mig_mover.proofs.Settling.{gate_kept, journal_kept, settled_reads, tells_more}
 use Rattle.mig_words.specs.declared.endings.Ending.TheVariants as ending
 use Rattle.mig_words.specs.Outcomes as out
-use Rattle.mig_words.specs.Outcomes.{Outcome, Done, fault_outcome, outcome_of}
-use Rattle.mig_words.specs.Words.{Form, Names, Halt, four_and}
-use Rattle.mig_top.specs.Calls.{Call, Untouched}
 use Rattle.mig_top.specs.Calls as calls
-use Rattle.mig_top.specs.Ends.{CauseIn, WorldEnds}
-use Rattle.mig_top.specs.HaltLeaves.{HaltSaves, HaltsAll, HaltsInPart, IsLayoutSaved, MayHalt, SaveEnds, SavesLayout}
-use Rattle.mig_top.specs.HaltLooks.{IsStanding, IsStandRefusal, halted_text, stands}
-use Rattle.mig_top.specs.MoveLeaves.{AreOfTask, HasFound}
-use Rattle.mig_top.specs.Steps.{Step, after, finds, IsEndOf}
+use Rattle.mig_top.specs.HaltLeaves.{HaltSaves, SaveEnds}
+use Rattle.mig_top.specs.HaltLooks.{IsStanding}
+use Rattle.mig_top.specs.MoveLeaves.{HasFound}
 use Rattle.mig_top.proofs.EndsOf.{IsUnread, one_changed}
 use Rattle.mig_top.proofs.Moving.{shown, task_cause}
 use Rattle.mig_top.proofs.Steps.{if_map}

@@ -1,30 +1,16 @@
 -- What `plan` promises, from the causes of its outcomes and what they leave; and what `check` says of what it saved.
 use Rattle.std.proofs.Common.{◌≡◌, ◌≢◌, ◌⊎◌, ◌+◌, ◌≤◌, inl, inr, ℕ, List, Option, Some, None, refl, sym, ◌∙◌, ap, subst, arith, if◌then◌else◌, codes, take, length}
-use Rattle.std.specs.Option.{IsSomeAnd}
+use Rattle.mig_top.proofs.Common.{Accepted, AreSaved, Bodies, Bound, Call, CauseIn, Check, Done, EndsAs, Extends, FileKind, Files, FolderFailed, Form, FormCause, HoldsFirst, IsDiskBound, IsEven}
+use Rattle.mig_top.proofs.Common.{IsInput, IsListed, IsMissing, IsOrNotPut, IsPlanSaved, IsSomeAnd, Lists, MAX_FILE_BYTES, Names, Nothing, OfDisk, OfSet, Outcome, Plan, SinkFailed, SinkFault}
+use Rattle.mig_top.proofs.Common.{StoreFault, Why, WorldEnds, bound_value, checks, code, file, loads_input, quotient, take_all, transfers}
 use Rattle.std.proofs.lemmas.Bool.{eq-eqb}
-use Rattle.std.proofs.lemmas.List.{take_all}
-use Rattle.mig_base.specs.InputLists.{IsInput, Lists}
-use Rattle.mig_base.specs.Transfers.{transfers}
-use Rattle.mig_base.specs.Bounding.{IsEven, bound_value, quotient}
-use Rattle.mig_base.specs.Rows.{Bodies}
-use Rattle.mig_base.specs.Refusals.{Accepted}
-use Rattle.mig_base.specs.declared.certs.Bound.{Bound}
-use Rattle.mig_base.specs.declared.certs.Bound.TheVariants.{Nothing, OfDisk, OfSet}
-use Rattle.mig_base.specs.declared.faults.FileKind.{FileKind}
-use Rattle.mig_base.specs.declared.faults.Why.{Why}
-use Rattle.mig_base.specs.declared.limits.TheConstants.{MAX_FILE_BYTES}
 use Rattle.mig_text.proofs.ShiftCounts as plan_lengths
 use Rattle.mig_cert.proofs.CertLengths as cert_lengths
-use Rattle.mig_io.specs.Files.{Files, file}
-use Rattle.mig_io.specs.Held.{Extends}
-use Rattle.mig_words.specs.Outcomes.{Outcome, Done, Unlisted, Refused, FolderFault, StoreFault, SinkFault, Memory, NoFile, code}
-use Rattle.mig_words.specs.Words.{Form, Names, Plan, Check, IsListed, WritesApart}
-use Rattle.mig_top.specs.Calls.{Call, FolderFailed, SinkFailed}
-use Rattle.mig_top.specs.Causes.{FormCause, checks, verdict_text}
-use Rattle.mig_top.specs.Ends.{AreSaved, CauseIn, EndsAs, IsOrNotPut, IsPlanSaved, WorldEnds}
+use Rattle.mig_words.specs.Outcomes.{Unlisted, Refused, FolderFault, Memory, NoFile}
+use Rattle.mig_words.specs.Words.{WritesApart}
+use Rattle.mig_top.specs.Causes.{verdict_text}
 use Rattle.mig_top.specs.Headline.{HasPlanned, PlansWell, ChecksSaved}
-use Rattle.mig_top.specs.Loads.{AreRefused, AreThere, HoldsFirst, IsMissing, Stands, StandsForNone, loads_input}
-use Rattle.mig_top.specs.Planned.{IsDiskBound}
+use Rattle.mig_top.specs.Loads.{AreRefused, AreThere, Stands, StandsForNone}
 use Rattle.mig_top.proofs.EndsOf.{cause_at, ends_of, put_by, told_at}
 use Rattle.mig_top.proofs.Exactness.{checks_exact, comes_exactly, input_loads, is_input}
 

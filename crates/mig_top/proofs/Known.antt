@@ -1,15 +1,9 @@
 -- The commands that words are, by how each ends.
 use Rattle.std.proofs.Common.{inr, ℕ, List}
 use Rattle.std.specs.Option.{IfSome}
-use Rattle.mig_io.specs.Files.{Files}
-use Rattle.mig_words.specs.Outcomes.{Outcome}
-use Rattle.mig_words.specs.Words.{Form, Names, Plan, Check, After, Drill, Rehearse, IsListed}
-use Rattle.mig_top.specs.Calls.{Call, Untouched}
-use Rattle.mig_top.specs.Causes.{checks, drills, lays_out, plans}
-use Rattle.mig_top.specs.Ends.{CauseIn, EndsAs, EndsBy, FilesEndAs, FolderEnds, FolderLeaves, FormEndsAs, HasFiles, IsRehearsalEnd, PlanLeaves, StoreLeaves, WorldEnds}
-use Rattle.mig_top.specs.Rehearsed.{case_in}
-use Rattle.mig_top.specs.Steps.{Step, IsEndOf}
-use Rattle.mig_top.specs.StoreLeaves.{IsUntouched}
+use Rattle.mig_top.proofs.Common.{After, Call, CauseIn, Check, Drill, EndsAs, EndsBy, Files, FolderEnds, FolderLeaves, Form, FormEndsAs, HasFiles, IsEndOf, IsListed, IsRehearsalEnd, IsUntouched}
+use Rattle.mig_top.proofs.Common.{Names, Outcome, Plan, PlanLeaves, Rehearse, Step, StoreLeaves, Untouched, WorldEnds, case_in, checks, drills, lays_out, plans}
+use Rattle.mig_top.specs.Ends.{FilesEndAs}
 use Rattle.mig_top.proofs.EndsOf.{ends_map, files_cause}
 use Rattle.mig_top.proofs.Rehearsing.{rehearsal_ends}
 

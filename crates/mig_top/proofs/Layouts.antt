@@ -1,19 +1,14 @@
 -- Two files list one layout at most.
 use Rattle.std.proofs.Common.{◌+◌, ◌≡◌, ℕ, ◌<◌, List, [], ◌∷◌, Contains, get_or, length, map, slice_get, take, refl, sym, ap, subst, ◌∙◌, arith, Some}
 use Rattle.std.specs.List.{AllZip}
-use Rattle.std.specs.Option.{IsSomeAnd}
+use Rattle.mig_top.proofs.Common.{Disk, DiskId, IsListing, IsSomeAnd, Lists, Spot, get_or_from_slice_get, one_place, slice_get-get_or}
 use Rattle.std.proofs.lemmas.List.{get_or-take, length-take, take-map}
-use Rattle.std.proofs.lemmas.Option.{get_or_from_slice_get, slice_get-get_or}
-use Rattle.mig_base.specs.InputLists.{AreDifferent, Lists}
+use Rattle.mig_base.specs.InputLists.{AreDifferent}
 use Rattle.mig_base.specs.Refusals.{IsSpotNamed}
 use Rattle.mig_base.specs.Rows.{Row, first, rows_of, second}
 use Rattle.mig_base.specs.declared.faults.FileKind.TheVariants as file_kind
 use Rattle.mig_base.specs.declared.faults.Why.TheVariants as why
-use Rattle.mig_base.specs.declared.ids.DiskId.{DiskId}
-use Rattle.mig_base.specs.declared.ids.Spot.{Spot}
-use Rattle.mig_base.specs.declared.inputs.Disk.{Disk}
-use Rattle.mig_base.proofs.Listed.{at_map, map-name, name_at, one_place, some_and, some_map}
-use Rattle.mig_csv.specs.Listings.{IsListing}
+use Rattle.mig_base.proofs.Listed.{at_map, map-name, name_at, some_and, some_map}
 
 -- elements that are not among those before them are different
 different_from : {X : Type 0} (xs : List X) → ((j : ℕ) (x : X) → slice_get xs j ≡ Some x → ¬ (Contains (take j xs) x)) → AreDifferent xs

@@ -1,29 +1,15 @@
 -- What `move` and `resume` promise, from the causes of their outcomes and what they leave.
 use Rattle.std.proofs.Common.{◌≡◌, ◌⊎◌, inl, inr, ⊎_elim, Bool, true, false, length, ℕ, List, Option, Some, refl, sym, ◌∙◌, subst, arith}
-use Rattle.std.proofs.lemmas.Bool.{false≢true}
+use Rattle.mig_top.proofs.Common.{AreOfTask, Call, Carries, Contents, Done, EndsAs, Files, Form, FormEndsAs, Head, Image, IsJobCell, IsListed, IsReady, IsResumable, IsSound, IsState, IsTaskOf}
+use Rattle.mig_top.proofs.Common.{IsUntouched, LeavesOnly, Move, MoveLeaves, Names, OtherPlan, Outcome, Resume, ResumesHalting, State, StoreFault, StoreLeaves, Task, Tells, TellsStill, WorldEnds}
+use Rattle.mig_top.proofs.Common.{count_most, count_of, done_text, false≢true, is_armed, task_in}
 use Rattle.std.specs.Option.{IfSome}
-use Rattle.mig_base.specs.declared.cells.Cell.TheVariants.{Head}
-use Rattle.mig_base.specs.Images.{Image}
-use Rattle.mig_base.specs.JobCells.{IsJobCell, SettlesTo, Tells}
-use Rattle.mig_base.specs.Journals.{count_of, is_armed}
-use Rattle.mig_base.specs.Readiness.{IsReady}
-use Rattle.mig_base.specs.Safety.{Contents, IsSound}
-use Rattle.mig_base.specs.Stores.{State, IsState, LeavesOnly}
-use Rattle.mig_base.proofs.MarkCounts.{count_most}
-use Rattle.mig_io.specs.Files.{Files}
+use Rattle.mig_base.specs.JobCells.{SettlesTo}
 use Rattle.mig_lanes.specs.Runs.{Finishes}
 use Rattle.mig_mover.specs.Moves.{IsReadyIdle, StaysArmed}
-use Rattle.mig_mover.specs.Tasks.{Task}
-use Rattle.mig_words.specs.Outcomes.{Outcome, Done, StoreFault, Started, OtherPlan, NotThere, Occupied}
-use Rattle.mig_words.specs.Words.{Form, Names, Move, Resume, IsListed}
-use Rattle.mig_top.specs.Calls.{Call}
-use Rattle.mig_top.specs.Ends.{EndsAs, FormEndsAs, StoreLeaves, WorldEnds}
-use Rattle.mig_top.specs.Headline.{MovesWell, ResumesHalting, ResumesWell, StartsWell}
-use Rattle.mig_top.specs.Loads.{IsTaskOf, task_in}
-use Rattle.mig_top.specs.MoveLeaves.{AreOfTask, Carries, MoveLeaves, ResumeLeaves}
-use Rattle.mig_top.specs.MoveLooks.{IsResumable, done_text}
-use Rattle.mig_top.specs.StoreLeaves.{IsUntouched}
-use Rattle.mig_top.specs.StoreLooks.{TellsStill}
+use Rattle.mig_words.specs.Outcomes.{Started, NotThere, Occupied}
+use Rattle.mig_top.specs.Headline.{MovesWell, ResumesWell, StartsWell}
+use Rattle.mig_top.specs.MoveLeaves.{ResumeLeaves}
 use Rattle.mig_top.proofs.EndsOf.{done_by, ends_of, holds_by, told_at}
 use Rattle.mig_top.proofs.Exactness.{comes_exactly, task_in_exact}
 use Rattle.mig_top.proofs.Moving.{move_rest, resume_rest}

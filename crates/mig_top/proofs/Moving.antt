@@ -1,21 +1,12 @@
 -- How `move` and `resume` end.
 use Rattle.std.proofs.Common.{◌≡◌, inl, ℕ, List, refl}
 use Rattle.std.specs.Option.{IfSome}
-use Rattle.mig_base.specs.Images.{Image}
-use Rattle.mig_base.specs.Stores.{State}
-use Rattle.mig_mover.specs.Moves.{IsFault, IsResumeFault, IsStartFault, Settles}
-use Rattle.mig_mover.specs.Tasks.{Task}
-use Rattle.mig_mover.specs.declared.faults.MoveFault.{MoveFault}
+use Rattle.mig_top.proofs.Common.{AreOfTask, Call, Carries, CauseIn, Done, Image, IsEndOf, IsResumable, IsResumeRefusal, IsShown, IsStartRefusal, KeepsHalting, Move, MoveFault, Names, Outcome}
+use Rattle.mig_top.proofs.Common.{Resume, Settles, State, Step, Task, Untouched, WorldEnds, after, done_text, fault_outcome, finds, resumes, starts, task_in}
+use Rattle.mig_mover.specs.Moves.{IsFault, IsResumeFault, IsStartFault}
 use Rattle.mig_mover.specs.declared.faults.MoveFault.TheVariants as fault
-use Rattle.mig_words.specs.Outcomes.{Outcome, Done, fault_outcome}
-use Rattle.mig_words.specs.Words.{Names, Move, Resume}
-use Rattle.mig_top.specs.Calls.{Call, Untouched}
-use Rattle.mig_top.specs.Ends.{CauseIn, WorldEnds}
-use Rattle.mig_top.specs.Loads.{task_in}
-use Rattle.mig_top.specs.MoveLeaves.{AreOfTask, Carries, KeepsHalting, MovesAll, MovesInPart, ResumesAll, ResumesInPart}
-use Rattle.mig_top.specs.MoveLooks.{IsResumable, IsResumeRefusal, IsStartRefusal, IsStartable, done_text, resumes, starts}
-use Rattle.mig_top.specs.Steps.{Step, after, finds, IsEndOf}
-use Rattle.mig_top.specs.StoreLooks.{IsShown}
+use Rattle.mig_top.specs.MoveLeaves.{MovesAll, MovesInPart, ResumesAll, ResumesInPart}
+use Rattle.mig_top.specs.MoveLooks.{IsStartable}
 use Rattle.mig_top.proofs.Steps.{if_map, lead}
 use Rattle.mig_top.proofs.StoreEnds.{settled_left}
 

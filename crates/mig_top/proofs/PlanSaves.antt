@@ -1,12 +1,9 @@
 -- The two saves of `plan`.
 use Rattle.std.proofs.Common.{◌≡◌, ◌≢◌, inl, ℕ, List, Option, Some, None, ◌∙◌, subst}
-use Rattle.std.specs.Option.{IfSome, IsSomeAnd}
-use Rattle.mig_io.specs.Files.{Files, FolderState, OthersStay, Saves}
-use Rattle.mig_words.specs.Outcomes.{Outcome, Done, FolderFault}
-use Rattle.mig_words.specs.Words.{Names}
-use Rattle.mig_top.specs.Calls.{Untouched}
-use Rattle.mig_top.specs.Causes.{plans_texts}
-use Rattle.mig_top.specs.Ends.{AreSaved, IsPlanSaved, PlanLeaves}
+use Rattle.mig_top.proofs.Common.{AreSaved, Done, Files, FolderState, IsPlanSaved, IsSomeAnd, Names, OthersStay, Outcome, PlanLeaves, Untouched, plans_texts}
+use Rattle.std.specs.Option.{IfSome}
+use Rattle.mig_io.specs.Files.{Saves}
+use Rattle.mig_words.specs.Outcomes.{FolderFault}
 use Rattle.mig_top.specs.Planned.{PlanTexts}
 use Rattle.mig_top.proofs.EndsOf.{IsUnread, one_changed}
 

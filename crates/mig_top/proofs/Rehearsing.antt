@@ -1,13 +1,8 @@
 -- How a rehearsal ends, as a call of the program and as its promise.
 use Rattle.std.proofs.Common.{◌≡◌, ◌⊎◌, inl, inr, ℕ, List}
-use Rattle.mig_base.specs.FaultCounts.{Rose}
-use Rattle.mig_words.specs.Outcomes.{Outcome, Done, SinkFault, FolderFault, StoreFault, Memory, code}
-use Rattle.mig_words.specs.Words.{Rehearse, IsListed}
-use Rattle.mig_top.specs.Calls.{Call, Untouched}
-use Rattle.mig_top.specs.Ends.{EndsAs, IsOrNotPut, IsRehearsalEnd, WorldEnds}
+use Rattle.mig_top.proofs.Common.{Call, Done, EndsAs, IsListed, IsOrNotPut, IsRehearsalEnd, IsUntouched, Outcome, Rehearse, Rose, SinkFault, StoreFault, Untouched, WorldEnds, case_in, code}
+use Rattle.mig_words.specs.Outcomes.{FolderFault, Memory}
 use Rattle.mig_top.specs.Headline.{RehearsesWell}
-use Rattle.mig_top.specs.Rehearsed.{case_in}
-use Rattle.mig_top.specs.StoreLeaves.{IsUntouched}
 use Rattle.mig_top.proofs.EndsOf.{ends_of, put_by}
 
 module _ (k : Call) (disks per_pair limit : List ℕ) where

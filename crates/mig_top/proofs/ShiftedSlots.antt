@@ -3,14 +3,10 @@ use Rattle.std.proofs.Common.{◌≡◌, ◌⊎◌, ◌<◌, ◌≤◌, inl, inr
 use Rattle.std.proofs.Common.{◌∙◌, ap, arith, if◌then◌else◌}
 use Rattle.std.specs.Option.{option_or}
 use Rattle.std.proofs.lemmas.Bool.{eqb-true}
-use Rattle.std.proofs.lemmas.List.Elements.{All-contains, Contains-append_cases}
-use Rattle.mig_base.specs.declared.ids.Shift.{Shift}
-use Rattle.mig_base.specs.declared.ids.Spot.{Spot}
-use Rattle.mig_base.specs.Arrivals.{IsPlanSpot}
-use Rattle.mig_base.specs.InputLists.{Lists}
-use Rattle.mig_base.specs.Layouts.{At, last_target, round_at}
-use Rattle.mig_base.specs.Readiness.{IsShifted, shifts_of}
-use Rattle.mig_base.specs.Running.{Runs}
+use Rattle.mig_top.proofs.Common.{All-contains, At, IsPlanSpot, Lists, Runs, Shift, Spot, round_at, shifts_of}
+use Rattle.std.proofs.lemmas.List.Elements.{Contains-append_cases}
+use Rattle.mig_base.specs.Layouts.{last_target}
+use Rattle.mig_base.specs.Readiness.{IsShifted}
 
 -- a shift of the plan is one of a round
 in_round : (plan : List (List Shift)) (s : Shift) → Contains (shifts_of plan) s → (i : ℕ) × (i < length plan) × Contains (get_or plan i []) s

@@ -1,27 +1,17 @@
 -- The lines of an audit.
 use Rattle.std.proofs.Common.{◌≡◌, ◌+◌, ◌-◌, ◌<◌, ◌≤◌, Bool, true, false, ℕ, zero, suc, List, [], ◌++◌, MatchBool, IfSome, Option, Some, None, length, take, refl, sym, subst, ◌∙◌}
 use Rattle.std.proofs.Common.{append_assoc, append-nil, arith, if◌then◌else◌}
-use Rattle.std.specs.Prelude.{bytes_eq}
-use Rattle.std.proofs.lemmas.Bool.{false≢true}
+use Rattle.mig_top.proofs.Common.{AuditStops, Cell, Extends, Flight, HasHeader, HavePutSights, IsAudit, IsMoving, IsTargetOf, Lists, Looks, NoCell, SinkState, State, Stop, bytes_eq, changes_then}
+use Rattle.mig_top.proofs.Common.{changes_wider, false≢true, item_cell, item_name, sight_count, then_begins, then_extends}
 use Rattle.std.proofs.lemmas.Slice.Eq.{bytes_eq-Decides}
 use Rattle.sha2.specs.Sha256.{sha256}
-use Rattle.mig_base.specs.declared.cells.Cell.{Cell}
-use Rattle.mig_base.specs.declared.cells.Flight.{Flight}
-use Rattle.mig_base.specs.Flights.{IsTargetOf}
-use Rattle.mig_base.specs.InputLists.{Lists}
-use Rattle.mig_base.specs.Slots.{HasHeader, header_of, item_cell}
-use Rattle.mig_base.specs.Stores.{State, IsMoving, Looks}
-use Rattle.mig_base.specs.Texts.{item_name}
-use Rattle.mig_base.specs.Images.{NoCell}
+use Rattle.mig_base.specs.Slots.{header_of}
 use Rattle.mig_base.proofs.Landing.{flights_same}
-use Rattle.mig_base.proofs.StoreSteps.{changes_then, changes_wider}
-use Rattle.mig_io.specs.Held.{SinkState, Extends}
 use Rattle.mig_mover.specs.declared.sights.Sight.{Sight}
-use Rattle.mig_top.specs.Audits.{AuditStops, HasPutSight, HavePutSights, SightStops}
-use Rattle.mig_top.specs.declared.audit_command.Stop.{Stop}
+use Rattle.mig_top.specs.Audits.{HasPutSight, SightStops}
 use Rattle.mig_top.specs.declared.audit_command.Stop.TheVariants as stop
-use Rattle.mig_top.specs.Sights.{AreSightLines, IsAudit, IsSightOf, sight_count, sight_line}
-use Rattle.mig_words.proofs.PutTexts.{puts_nothing, then_begins, then_extends}
+use Rattle.mig_top.specs.Sights.{AreSightLines, IsSightOf, sight_line}
+use Rattle.mig_words.proofs.PutTexts.{puts_nothing}
 
 -- what is seen of an item is seen at the beginning, where nothing was written since
 module _ (old mid : State) (looks : Looks old mid) where

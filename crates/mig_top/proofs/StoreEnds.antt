@@ -1,28 +1,14 @@
 -- What the ends of commands say of the store.
 use Rattle.std.proofs.Common.{◌≡◌, ◌≢◌, inl, inr, ⊎_elim, ℕ, List, [], ◌∷◌, refl, sym, subst, ◌∙◌, arith}
 use Rattle.std.specs.Option.{IfSome}
-use Rattle.mig_base.specs.declared.cells.Cell.{Cell}
-use Rattle.mig_base.specs.declared.cells.Event.{Event}
-use Rattle.mig_base.specs.Flights.{AreFlights, IsTargetOf}
-use Rattle.mig_base.specs.Images.{Image, NoCell, SameBut}
-use Rattle.mig_base.specs.InputLists.{Lists}
-use Rattle.mig_base.specs.Stores.{State, IsState, Changes, IsMoving, Looks, flights}
-use Rattle.mig_base.proofs.StoreSteps.{changes_none, same_image}
-use Rattle.mig_io.specs.Files.{Files}
-use Rattle.mig_mover.specs.Moves.{Settles}
-use Rattle.mig_mover.specs.Tasks.{Task}
-use Rattle.mig_words.specs.declared.endings.Ending.{Ending}
+use Rattle.mig_top.proofs.Common.{AreFlights, Audit, Call, CauseIn, Cell, Ending, EndsAs, Event, Files, Fill, FolderLeaves, Form, Halt, HasFiles, Image, IsEndOf, IsMoving, IsOrNotPut, IsState}
+use Rattle.mig_top.proofs.Common.{IsTargetOf, IsUntouched, IsUnwritten, Lists, Looks, Move, MoveLeaves, Names, NoCell, Outcome, Resume, Settles, State, Step, StopsFrom, StoreLeaves, Task}
+use Rattle.mig_top.proofs.Common.{WorldEnds, WroteNothing, after, code, flights, four_and, layout_in, outcome_of, same_image, task_in}
+use Rattle.mig_base.specs.Images.{SameBut}
+use Rattle.mig_base.specs.Stores.{Changes}
+use Rattle.mig_base.proofs.StoreSteps.{changes_none}
 use Rattle.mig_words.specs.Outcomes as out
-use Rattle.mig_words.specs.Outcomes.{Outcome, code, outcome_of}
-use Rattle.mig_words.specs.Words.{Form, Names, Fill, Audit, Move, Resume, Halt, four_and}
-use Rattle.mig_top.specs.Calls.{Call}
-use Rattle.mig_top.specs.Ends.{CauseIn, EndsAs, FolderLeaves, HasFiles, IsOrNotPut, StoreLeaves, WorldEnds}
-use Rattle.mig_top.specs.HaltLeaves.{IsUnwritten}
 use Rattle.mig_top.specs.Headline.{WritesLast}
-use Rattle.mig_top.specs.MoveLeaves.{MoveLeaves}
-use Rattle.mig_top.specs.Loads.{layout_in, task_in}
-use Rattle.mig_top.specs.Steps.{Step, after, IsEndOf, StopsFrom}
-use Rattle.mig_top.specs.StoreLeaves.{IsUntouched, WroteNothing}
 use Rattle.mig_top.proofs.EndsOf.{IsUnread, files_cause, files_unread, is_unread}
 use Rattle.mig_top.proofs.Steps.{stops_first}
 

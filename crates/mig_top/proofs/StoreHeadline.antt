@@ -1,17 +1,9 @@
 -- What `fill` and `audit` promise, from the causes of their outcomes and what they leave.
 use Rattle.std.proofs.Common.{◌≡◌, ℕ, List, [], ◌++◌, Some, refl, subst, arith}
-use Rattle.mig_base.specs.InputLists.{Lists}
-use Rattle.mig_io.specs.Files.{Files}
-use Rattle.mig_words.specs.Outcomes.{Done}
-use Rattle.mig_words.specs.Words.{Fill, Audit, IsListed}
-use Rattle.mig_top.specs.Calls.{Call}
-use Rattle.mig_top.specs.Ends.{EndsAs, WorldEnds}
+use Rattle.mig_top.proofs.Common.{Audit, Call, Done, EndsAs, Files, Fill, IsAudit, IsFillCell, IsListed, Lists, TellsStill, WorldEnds, filled_text, finds, layout_in}
 use Rattle.mig_top.specs.Headline.{AuditsWell, FillsWell}
-use Rattle.mig_top.specs.Loads.{HoldsLayout, layout_in}
-use Rattle.mig_top.specs.Sights.{IsAudit}
-use Rattle.mig_top.specs.Steps.{finds}
+use Rattle.mig_top.specs.Loads.{HoldsLayout}
 use Rattle.mig_top.specs.StoreLeaves.{IsFilled}
-use Rattle.mig_top.specs.StoreLooks.{IsFillCell, TellsStill, filled_text}
 use Rattle.mig_top.proofs.EndsOf.{cause_at, done_by, ends_of, put_by, told_at}
 use Rattle.mig_top.proofs.Exactness.{comes_exactly, layout_in_exact}
 use Rattle.mig_top.proofs.Filling.{fill_rest}

@@ -1,14 +1,5 @@
 use Rattle.std.proofs.Common.{◌-◌, [], ◌∷◌, ℕ, codes, refl, subst}
-use Rattle.std.specs.Fmt.{decimal}
-use Rattle.mig_top.specs.declared.audit_command.Stop.{Stop}
-use Rattle.mig_top.specs.Audits.{AuditStops}
-use Rattle.mig_top.specs.Calls.{Call, call, world}
-use Rattle.mig_words.specs.Outcomes.{joined}
-use Rattle.mig_words.specs.Puts.{Shows}
-use Rattle.mig_words.specs.Words.{Audit}
-use Rattle.mig_top.specs.Ends.{WorldEnds}
-use Rattle.mig_top.specs.Sights.{IsAudit}
-use Rattle.mig_top.specs.Steps.{finds}
+use Rattle.mig_top.proofs.Common.{Audit, AuditStops, Call, IsAudit, Shows, Stop, WorldEnds, call, decimal, finds, joined, world}
 use Rattle.mig_top.proofs.EndsOf.{told}
 use Rattle.mig_top.proofs.StoreEnds.{layout_unread, untouched}
 use Rattle.mig_top.proofs.Auditing.{lines_end, sink_stops, store_stops}

@@ -1,11 +1,6 @@
 use Rattle.std.proofs.Common.{[], ◌∷◌, inl, inr, refl, subst, Option}
 use Rattle.std.specs.Option.{IfSome}
-use Rattle.mig_io.specs.Files.{Files}
-use Rattle.mig_words.specs.Commands.{names_in}
-use Rattle.mig_words.specs.Words.{four_and}
-use Rattle.mig_top.specs.Bodies.{plan_bodies_of}
-use Rattle.mig_top.specs.Causes.{checks, reads_verdict}
-use Rattle.mig_top.specs.Loads.{HoldsFirst, loads, loads_plan}
+use Rattle.mig_top.proofs.Common.{Files, HoldsFirst, checks, four_and, loads, loads_plan, names_in, plan_bodies_of, reads_verdict}
 use Rattle.mig_top.proofs.Steps.{answers_in, handed_from, if_both, stops_first, stops_later}
 use Rattle.mig_top.proofs.check_command.check.Goals as goal
 

@@ -1,7 +1,6 @@
 use Rattle.std.proofs.Common.{inl, inr}
-use Rattle.mig_top.specs.Bodies.{plan_bodies_of}
-use Rattle.mig_top.specs.Causes.{judges, reads_verdict}
-use Rattle.mig_top.specs.Loads.{IsNoCert, IsNoPlan, IsRefusal}
+use Rattle.mig_top.proofs.Common.{IsNoCert, IsNoPlan, judges, plan_bodies_of, reads_verdict}
+use Rattle.mig_top.specs.Loads.{IsRefusal}
 use Rattle.mig_top.proofs.Steps.{answers, handed_on, within}
 use Rattle.mig_top.proofs.check_command.verdict.Goals as goal
 

@@ -1,13 +1,5 @@
 use Rattle.std.proofs.Common.{◌≤◌, [], inl, inr, length, sym, ap, subst}
-use Rattle.mig_base.specs.Readiness.{shifts_of}
-use Rattle.mig_drill.specs.Drills.{drill_text}
-use Rattle.mig_drill.specs.declared.limits.TheConstants.{MAX_DRILL_SHIFTS}
-use Rattle.mig_mover.specs.Tasks.{Task}
-use Rattle.mig_words.specs.Commands.{names_in}
-use Rattle.mig_words.specs.Words.{four_and}
-use Rattle.mig_top.specs.Bodies.{task_read}
-use Rattle.mig_top.specs.Causes.{IsTooLarge, drills}
-use Rattle.mig_top.specs.Loads.{task_in}
+use Rattle.mig_top.proofs.Common.{IsTooLarge, MAX_DRILL_SHIFTS, Task, drill_text, drills, four_and, names_in, shifts_of, task_in, task_read}
 use Rattle.mig_top.proofs.Steps.{handed_from, if_map, stops_first, stops_in}
 use Rattle.mig_top.proofs.drill_command.load_small_job.Goals as goal
 

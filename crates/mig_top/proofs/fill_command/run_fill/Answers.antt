@@ -1,11 +1,5 @@
 use Rattle.std.proofs.Common.{[], ◌∷◌, ℕ, codes, refl, subst}
-use Rattle.std.specs.Fmt.{decimal}
-use Rattle.mig_top.specs.Calls.{Call, call, world}
-use Rattle.mig_words.specs.Outcomes.{joined}
-use Rattle.mig_words.specs.Puts.{Shows}
-use Rattle.mig_top.specs.StoreLooks.{filled_text}
-use Rattle.mig_words.specs.Words.{Fill}
-use Rattle.mig_top.specs.Ends.{WorldEnds}
+use Rattle.mig_top.proofs.Common.{Call, Fill, Shows, WorldEnds, call, decimal, filled_text, joined, world}
 use Rattle.mig_top.proofs.Filling.{fill_done, fill_refused, fill_rest}
 use Rattle.mig_top.proofs.EndsOf.{refused, shown, told}
 use Rattle.mig_top.proofs.StoreEnds.{layout_unread, untouched}

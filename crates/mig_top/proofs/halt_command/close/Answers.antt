@@ -1,12 +1,5 @@
 use Rattle.std.proofs.Common.{[], ◌∷◌, ℕ, codes, subst, arith}
-use Rattle.std.specs.Fmt.{decimal}
-use Rattle.mig_top.specs.Calls.{Call, call, world}
-use Rattle.mig_top.specs.HaltLooks.{halted_text}
-use Rattle.mig_words.specs.Outcomes.{joined}
-use Rattle.mig_words.specs.Puts.{Shows}
-use Rattle.mig_words.specs.Commands.{names_in}
-use Rattle.mig_words.specs.Words.{Halt, four_and}
-use Rattle.mig_top.specs.Ends.{WorldEnds}
+use Rattle.mig_top.proofs.Common.{Call, Halt, Shows, WorldEnds, call, decimal, four_and, halted_text, joined, names_in, world}
 use Rattle.mig_top.proofs.Halting.{halt_done, halt_failed, halt_refused, halt_unsaved, in_part, in_whole, is_standing}
 use Rattle.mig_top.proofs.EndsOf.{refused, shown, told}
 use Rattle.mig_top.proofs.halt_command.close.Goals as goal

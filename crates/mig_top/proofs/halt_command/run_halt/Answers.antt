@@ -1,8 +1,5 @@
 use Rattle.std.proofs.Common.{[]}
-use Rattle.mig_words.specs.Commands.{names_in}
-use Rattle.mig_words.specs.Words.{Halt, four_and}
-use Rattle.mig_top.specs.Calls.{Call, call, world}
-use Rattle.mig_top.specs.Ends.{WorldEnds}
+use Rattle.mig_top.proofs.Common.{Call, Halt, WorldEnds, call, four_and, names_in, world}
 use Rattle.mig_top.proofs.EndsOf.{told}
 use Rattle.mig_top.proofs.Halting.{halt_rest, unread_saves}
 use Rattle.mig_top.proofs.StoreEnds.{task_unread, untouched}

@@ -1,8 +1,6 @@
-use Rattle.mig_top.specs.Bodies.{two_bodies_of}
-use Rattle.mig_top.specs.Loads.{IsLayoutRefusal, reads_layout}
+use Rattle.mig_top.proofs.Common.{IsLayoutRefusal, ending_of, reads_layout, two_bodies_of}
 use Rattle.mig_top.proofs.Results.{layout_ends}
 use Rattle.mig_top.proofs.Steps.{handed_on}
-use Rattle.mig_words.specs.Endings.{ending_of}
 use Rattle.mig_top.proofs.layout_reads.layout_of.Goals as goal
 
 pub returns-in_err-read_layout : goal.returns-in_err-read_layout

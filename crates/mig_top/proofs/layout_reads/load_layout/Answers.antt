@@ -1,7 +1,5 @@
 use Rattle.std.proofs.Common.{[], ◌∷◌, inl, inr}
-use Rattle.mig_base.specs.InputLists.{Lists}
-use Rattle.mig_top.specs.Bodies.{two_bodies_of}
-use Rattle.mig_top.specs.Loads.{layout_in, loads_layout, reads_layout}
+use Rattle.mig_top.proofs.Common.{Lists, layout_in, loads_layout, reads_layout, two_bodies_of}
 use Rattle.mig_top.proofs.Steps.{answers_in, handed_from, stops_first}
 use Rattle.mig_top.proofs.layout_reads.load_layout.Goals as goal
 

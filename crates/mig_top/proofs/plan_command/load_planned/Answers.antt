@@ -1,9 +1,5 @@
 use Rattle.std.proofs.Common.{[], inl, inr, ⊎_elim}
-use Rattle.mig_words.specs.Commands.{names_in}
-use Rattle.mig_words.specs.Words.{four_and}
-use Rattle.mig_top.specs.Bodies.{bodies_of, texts_of}
-use Rattle.mig_top.specs.Causes.{makes_texts, plans_texts}
-use Rattle.mig_top.specs.Loads.{loads_input}
+use Rattle.mig_top.proofs.Common.{bodies_of, four_and, loads_input, makes_texts, names_in, plans_texts, texts_of}
 use Rattle.mig_top.proofs.Steps.{answers_in, handed_from, stops_first}
 use Rattle.mig_top.proofs.plan_command.load_planned.Goals as goal
 

@@ -1,13 +1,7 @@
 use Rattle.std.proofs.Common.{[], inl, inr, arith, subst, Option}
-use Rattle.std.specs.Option.{IfSome, IsSomeAnd}
-use Rattle.mig_io.specs.Files.{Files, OthersStay}
-use Rattle.mig_words.specs.Commands.{names_in}
-use Rattle.mig_words.specs.Outcomes.{Done, outcome_of}
-use Rattle.mig_words.specs.Words.{four_and}
+use Rattle.mig_top.proofs.Common.{Done, Files, FolderEnds, IsSomeAnd, OthersStay, PlanLeaves, four_and, names_in, outcome_of, plans, plans_texts, texts_of}
+use Rattle.std.specs.Option.{IfSome}
 use Rattle.mig_words.specs.declared.endings.Ending.TheVariants.{FolderFault}
-use Rattle.mig_top.specs.Bodies.{texts_of}
-use Rattle.mig_top.specs.Causes.{plans, plans_texts}
-use Rattle.mig_top.specs.Ends.{FolderEnds, PlanLeaves}
 use Rattle.mig_top.proofs.EndsOf.{files_unread, is_unread}
 use Rattle.mig_top.proofs.PlanSaves.{are_saved, half_saved, unread_saves}
 use Rattle.mig_top.proofs.Results.{handed_end}

@@ -3,16 +3,11 @@ use Rattle.std.specs.Prelude.{IfOk}
 use Rattle.std.specs.String.{string_bytes}
 use Rattle.std.specs.declared.alloc.AllocError.{AllocError}
 use Rattle.std.specs.declared.alloc.Global.{Global}
-use Rattle.std.proofs.lemmas.List.{length-map}
-use Rattle.mig_base.specs.Bounding.{bound_value, quotient}
-use Rattle.mig_base.specs.InputLists.{Lists}
-use Rattle.mig_base.specs.Texts.{text_of_lines}
-use Rattle.mig_base.specs.Transfers.{Transfers, moves, transfers, trip}
-use Rattle.mig_base.specs.declared.certs.Cert.{Cert}
-use Rattle.mig_base.specs.declared.ids.Shift.{Shift}
+use Rattle.mig_top.proofs.Common.{Cert, IsRehearsed, Lists, Shift, Transfers, bound_value, length-map, quotient, text_of_lines, transfers}
+use Rattle.mig_base.specs.Transfers.{moves, trip}
 use Rattle.mig_top.specs.declared.rehearse_command.Numbers.{Numbers}
 use Rattle.mig_top.specs.Planned.{IsCertified}
-use Rattle.mig_top.specs.Rehearsed.{IsPlanDigest, IsRehearsed, eight_lines, verdict_word}
+use Rattle.mig_top.specs.Rehearsed.{IsPlanDigest, eight_lines, verdict_word}
 use Rattle.mig_top.proofs.rehearse_command.rehearse_input.Goals as goal
 
 -- the lines are those of the input and of its certified plan

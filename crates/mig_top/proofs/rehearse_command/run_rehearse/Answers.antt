@@ -1,7 +1,6 @@
 use Rattle.std.proofs.Common.{[]}
 use Rattle.mig_words.specs.declared.endings.Ending.TheVariants as ending
-use Rattle.mig_top.specs.Ends.{IsRehearsalEnd}
-use Rattle.mig_top.specs.Rehearsed.{case_in}
+use Rattle.mig_top.proofs.Common.{IsRehearsalEnd, case_in}
 use Rattle.mig_top.proofs.EndsOf.{shown, told}
 use Rattle.mig_top.proofs.rehearse_command.run_rehearse.Goals as goal
 

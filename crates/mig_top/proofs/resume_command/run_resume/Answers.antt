@@ -1,13 +1,5 @@
 use Rattle.std.proofs.Common.{[], ◌∷◌, ℕ, codes, subst}
-use Rattle.std.specs.Fmt.{decimal}
-use Rattle.mig_top.specs.Calls.{Call, call, world}
-use Rattle.mig_top.specs.MoveLeaves.{Carries}
-use Rattle.mig_top.specs.MoveLooks.{done_text}
-use Rattle.mig_words.specs.Outcomes.{joined}
-use Rattle.mig_words.specs.Puts.{Shows}
-use Rattle.mig_words.specs.Commands.{names_in}
-use Rattle.mig_words.specs.Words.{Resume, four_and}
-use Rattle.mig_top.specs.Ends.{WorldEnds}
+use Rattle.mig_top.proofs.Common.{Call, Carries, Resume, Shows, WorldEnds, call, decimal, done_text, four_and, joined, names_in, world}
 use Rattle.mig_top.proofs.Moving.{resume_done, resume_refused, resume_rest}
 use Rattle.mig_top.proofs.EndsOf.{refused, shown, told}
 use Rattle.mig_top.proofs.StoreEnds.{no_flights, task_unread, untouched}

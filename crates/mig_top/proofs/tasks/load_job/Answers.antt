@@ -1,10 +1,7 @@
 use Rattle.std.proofs.Common.{◌≡◌, ℕ, List, [], ap, sym, subst, ◌∙◌}
 use Rattle.std.specs.Option.{IfSome}
-use Rattle.mig_mover.specs.Tasks.{Task}
-use Rattle.mig_words.specs.Commands.{names_in}
-use Rattle.mig_words.specs.Words.{four_and}
-use Rattle.mig_top.specs.Bodies.{task_read}
-use Rattle.mig_top.specs.Loads.{task_in, task_of}
+use Rattle.mig_top.proofs.Common.{Task, four_and, names_in, task_in, task_read}
+use Rattle.mig_top.specs.Loads.{task_of}
 use Rattle.mig_top.proofs.Steps.{handed_from}
 use Rattle.mig_top.proofs.tasks.load_job.Goals as goal
 

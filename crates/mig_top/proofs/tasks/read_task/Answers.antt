@@ -1,6 +1,6 @@
 use Rattle.std.proofs.Common.{inl, inr, refl}
-use Rattle.mig_top.specs.Bodies.{plan_bodies_of, task_read}
-use Rattle.mig_top.specs.Loads.{DoesNotRun, IsNoPlan, IsRefusal, reads_task}
+use Rattle.mig_top.proofs.Common.{DoesNotRun, IsNoPlan, plan_bodies_of, reads_task, task_read}
+use Rattle.mig_top.specs.Loads.{IsRefusal}
 use Rattle.mig_top.proofs.Steps.{handed_on}
 use Rattle.mig_top.proofs.tasks.read_task.Goals as goal
 

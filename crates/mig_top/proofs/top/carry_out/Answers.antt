@@ -1,8 +1,8 @@
 use Rattle.std.proofs.Common.{refl, subst}
 use Rattle.mig_words.specs.declared.words.Command.{Command}
-use Rattle.mig_words.specs.Commands.{form_of, names_in}
-use Rattle.mig_words.specs.Words.{IsListed, texts}
-use Rattle.mig_top.specs.Calls.{Call, call, world}
+use Rattle.mig_top.proofs.Common.{Call, IsListed, call, names_in, world}
+use Rattle.mig_words.specs.Commands.{form_of}
+use Rattle.mig_words.specs.Words.{texts}
 use Rattle.mig_top.proofs.Known.{after_known, check_known, drill_known, plan_known, rehearsal_known}
 use Rattle.mig_top.proofs.StoreEnds.{untouched}
 use Rattle.mig_top.proofs.top.carry_out.Goals as goal
