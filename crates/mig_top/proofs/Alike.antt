@@ -1,25 +1,19 @@
 -- Bytes that are alike are read alike: where a file is too long, that is the first thing that is wrong with it.
 use Rattle.std.proofs.Common.{◌+◌, ◌≡◌, ◌⊎◌, inl, inr, ℕ, zero, suc, ◌<◌, ◌≤◌, List, length, take, refl, sym, ap, subst, ◌∙◌, arith, length-take}
 use Rattle.std.proofs.lemmas.Bool.{cases_lt}
-use Rattle.std.proofs.lemmas.List.{take_all}
-use Rattle.mig_base.specs.declared.limits.TheConstants.{MAX_FILE_BYTES}
-use Rattle.mig_base.specs.CertLines.{CertLine}
-use Rattle.mig_base.specs.InputLists.{Lists}
-use Rattle.mig_base.specs.PlanLines.{PlanLine}
+use Rattle.mig_top.proofs.Common.{Accepted, Bodies, CertLine, FileKind, IsLayoutRefusal, IsListing, IsNoCert, IsNoPlan, LayoutBodies, Lists, MAX_FILE_BYTES, Outcome, PlanLine, Step, Why}
+use Rattle.mig_top.proofs.Common.{reads_cert, reads_input, reads_layout, reads_plan, take_all}
 use Rattle.mig_base.specs.Texts.{CertText, PlanText}
-use Rattle.mig_base.specs.Rows.{Bodies, file_of}
-use Rattle.mig_base.specs.Refusals.{Accepted, Fault, Precedes, RefusedAs, stage_of, rank_of}
-use Rattle.mig_base.specs.declared.faults.FileKind.{FileKind}
+use Rattle.mig_base.specs.Rows.{file_of}
+use Rattle.mig_base.specs.Refusals.{Fault, Precedes, RefusedAs, stage_of, rank_of}
 use Rattle.mig_base.specs.declared.faults.FileKind.TheVariants.{Disks, Now, Next}
-use Rattle.mig_base.specs.declared.faults.Why.{Why}
 use Rattle.mig_base.specs.declared.faults.Why.TheVariants as why
 use Rattle.mig_base.proofs.Listed.{Accepted-short}
-use Rattle.mig_csv.specs.Listings.{IsListing, ListingFault, ListingRefusedAs}
-use Rattle.mig_words.specs.Outcomes.{Outcome, Refused, NotSpelled}
+use Rattle.mig_csv.specs.Listings.{ListingFault, ListingRefusedAs}
+use Rattle.mig_words.specs.Outcomes.{Refused, NotSpelled}
 use Rattle.mig_words.specs.declared.endings.TextFile.TheVariants as text_file
 use Rattle.mig_top.specs.Alike.{Alike, AreReadAlike, IsSame}
-use Rattle.mig_top.specs.Loads.{IsLayoutRefusal, IsNoCert, IsNoPlan, IsRefusal, LayoutBodies, reads_cert, reads_input, reads_layout, reads_plan}
-use Rattle.mig_top.specs.Steps.{Step}
+use Rattle.mig_top.specs.Loads.{IsRefusal}
 
 alike_sym : (a b : List ℕ) → Alike a b → Alike b a
 alike_sym a b (inl same) = inl (sym same)
@@ -135,7 +129,8 @@ abbrev three : (disks now next : List ℕ) → Bodies
 three disks now next = record { disks = disks; now = now; next = next }
 
 refused : (d n x e m y : List ℕ) → Alike d e → Alike n m → Alike x y → (f : FileKind) (r : ℕ) (w : Why) → RefusedAs (three d n x) f r w → RefusedAs (three e m y) f r w
-refused d n x e m y (inr long) second third f r w h = carried (three d n x) (three e m y) Disks (λ k i v lt q. absurd (omega (arith, lt))) (λ k i v lt q. absurd (omega (arith, lt))) long.0 long.1 f r w h
+refused d n x e m y (inr long) second third f r w h =
+    carried (three d n x) (three e m y) Disks (λ k i v lt q. absurd (omega (arith, lt))) (λ k i v lt q. absurd (omega (arith, lt))) long.0 long.1 f r w h
 refused d n x e m y (inl same) (inr long) third f r w h = subst (λ (b : List ℕ). RefusedAs (three b m y) f r w) same
     (carried (three d n x) (three d m y) Now (λ k i v lt q. disks_alone d n x m y k i v lt q) (λ k i v lt q. disks_alone d m y n x k i v lt q) long.0 long.1 f r w h)
 refused d n x e m y (inl same) (inl also) (inr long) f r w h = subst (λ (b : List ℕ). RefusedAs (three b m y) f r w) same (subst (λ (b : List ℕ). RefusedAs (three d b y) f r w) also
@@ -183,13 +178,15 @@ listing_carried d n e m g to back long_a long_b f r w h =
     record { fault = first.fault; first = first.first }
 
 listing_refused : (d n e m : List ℕ) → Alike d e → Alike n m → (f : FileKind) (r : ℕ) (w : Why) → ListingRefusedAs d n f r w → ListingRefusedAs e m f r w
-listing_refused d n e m (inr long) second f r w h = listing_carried d n e m Disks (λ k i v lt q. absurd (omega (arith, lt))) (λ k i v lt q. absurd (omega (arith, lt))) (refl, long.0) (refl, long.1) f r w h
+listing_refused d n e m (inr long) second f r w h =
+    listing_carried d n e m Disks (λ k i v lt q. absurd (omega (arith, lt))) (λ k i v lt q. absurd (omega (arith, lt))) (refl, long.0) (refl, long.1) f r w h
 listing_refused d n e m (inl same) (inr long) f r w h = subst (λ (b : List ℕ). ListingRefusedAs b m f r w) same
     (listing_carried d n d m Now (λ k i v lt q. disks_apart d n m k i v lt q) (λ k i v lt q. disks_apart d m n k i v lt q) (refl, long.0) (refl, long.1) f r w h)
 listing_refused d n e m (inl same) (inl also) f r w h = subst (λ (b : List ℕ). ListingRefusedAs b m f r w) same (subst (λ (b : List ℕ). ListingRefusedAs d b f r w) also h)
 
 module _ (a b : LayoutBodies) (disks : Alike a.disks b.disks) (now : Alike a.now b.now) where
-  short_listed : (input : Lists) (f : FileKind) (bytes : List ℕ) → IsListing a.disks a.now input → (MAX_FILE_BYTES < length bytes → ListingFault a.disks a.now f 0 why.TooLong) → length bytes ≤ MAX_FILE_BYTES
+  short_listed : (input : Lists) (f : FileKind) (bytes : List ℕ) → IsListing a.disks a.now input → (MAX_FILE_BYTES < length bytes → ListingFault a.disks a.now f 0 why.TooLong)
+      → length bytes ≤ MAX_FILE_BYTES
   short_listed input f bytes h fault = elim (cases_lt MAX_FILE_BYTES (length bytes)) [ inl long ↦ absurd (h.sound f 0 why.TooLong (fault long)) | inr short ↦ short ]
 
   layout_passes : (input : Lists) → IsListing a.disks a.now input → IsListing b.disks b.now input
@@ -234,7 +231,10 @@ short_passes Spells a b same x h = subst (λ (t : List ℕ). Spells x t × (leng
 plans : (a b : List ℕ) (input : Lists) → Alike a b → IsSame (reads_plan a input) (reads_plan b input)
 plans a b input same =
     let back = alike_sym a b same in
-    record { passes = λ rounds. (short_passes (PlanText input) a b same rounds, short_passes (PlanText input) b a back rounds); stops = λ o. (plan_stops a b input same o, plan_stops b a input back o) }
+    record {
+      passes = λ rounds. (short_passes (PlanText input) a b same rounds, short_passes (PlanText input) b a back rounds);
+      stops = λ o. (plan_stops a b input same o, plan_stops b a input back o);
+    }
 
 certs : (a b : List ℕ) (input : Lists) → Alike a b → IsSame (reads_cert a input) (reads_cert b input)
 certs a b input same =

@@ -1,18 +1,10 @@
 -- How `audit` ends.
 use Rattle.std.proofs.Common.{◌≡◌, ◌⊎◌, ◌≤◌, inl, inr, ℕ, List, ◌++◌, length, refl, arith, codes}
-use Rattle.mig_base.specs.FaultCounts.{Rose}
-use Rattle.mig_base.specs.InputLists.{Lists}
-use Rattle.mig_base.specs.Stores.{Looks}
-use Rattle.mig_io.specs.Held.{SinkState, Extends, ExtendsInPart}
-use Rattle.mig_top.specs.Audits.{HavePutSights, SinkStops, StoreStops}
-use Rattle.mig_top.specs.Calls.{Call, Untouched}
-use Rattle.mig_top.specs.Ends.{FormEndsAs, WorldEnds}
-use Rattle.mig_words.specs.Outcomes.{Done, SinkFault, StoreFault}
-use Rattle.mig_words.specs.Puts.{Shows}
-use Rattle.mig_top.specs.Sights.{IsAudit, sight_count}
-use Rattle.mig_top.specs.StoreLeaves.{AreOfLayout}
-use Rattle.mig_words.specs.Words.{Form, Audit}
-use Rattle.mig_words.proofs.PutTexts.{begins_more, then_begins, then_extends}
+use Rattle.mig_top.proofs.Common.{AreOfLayout, Audit, Call, Done, Extends, ExtendsInPart, Form, FormEndsAs, HavePutSights, IsAudit, Lists, Looks, Rose, Shows, SinkState, StoreFault, Untouched}
+use Rattle.mig_top.proofs.Common.{WorldEnds, sight_count, then_begins, then_extends}
+use Rattle.mig_top.specs.Audits.{SinkStops, StoreStops}
+use Rattle.mig_words.specs.Outcomes.{SinkFault}
+use Rattle.mig_words.proofs.PutTexts.{begins_more}
 use Rattle.mig_top.proofs.Sightings.{whole_audit}
 use Rattle.mig_top.proofs.Steps.{if_map}
 

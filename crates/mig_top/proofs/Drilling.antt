@@ -1,20 +1,9 @@
 -- What `drill` promises, from the causes of its outcomes and what it leaves.
 use Rattle.std.proofs.Common.{◌≡◌, ◌<◌, inl, inr, ℕ, List, Some, length, refl, subst, arith}
-use Rattle.mig_base.specs.Readiness.{shifts_of}
-use Rattle.mig_drill.specs.Drills.{drill_text}
-use Rattle.mig_drill.specs.declared.limits.TheConstants.{MAX_DRILL_SHIFTS}
-use Rattle.mig_io.specs.Files.{Files}
-use Rattle.mig_io.specs.Held.{Extends}
-use Rattle.mig_mover.specs.Tasks.{Task}
-use Rattle.mig_words.specs.Outcomes.{Outcome, Done, TooLarge, code}
-use Rattle.mig_words.specs.Words.{Form, Names, Drill, IsListed}
-use Rattle.mig_top.specs.Calls.{Call, Untouched}
-use Rattle.mig_top.specs.Causes.{FormCause, fits_drill}
-use Rattle.mig_top.specs.Ends.{EndsAs, FormEndsAs, IsOrNotPut, WorldEnds}
+use Rattle.mig_top.proofs.Common.{Call, Done, Drill, EndsAs, Extends, Files, Form, FormCause, FormEndsAs, IsEndOf, IsListed, IsOrNotPut, IsTaskOf, IsUntouched, MAX_DRILL_SHIFTS, Names, Outcome}
+use Rattle.mig_top.proofs.Common.{Step, Task, Untouched, WorldEnds, after, code, drill_text, finds, fits_drill, shifts_of, task_in}
+use Rattle.mig_words.specs.Outcomes.{TooLarge}
 use Rattle.mig_top.specs.Headline.{DrillsWell}
-use Rattle.mig_top.specs.Loads.{IsTaskOf, task_in}
-use Rattle.mig_top.specs.Steps.{Step, after, finds, IsEndOf}
-use Rattle.mig_top.specs.StoreLeaves.{IsUntouched}
 use Rattle.mig_top.proofs.EndsOf.{cause_at, ends_of, holds_by, put_by}
 use Rattle.mig_top.proofs.Exactness.{comes_exactly, task_in_exact}
 use Rattle.mig_top.proofs.Steps.{follow, lead}
@@ -58,7 +47,9 @@ module _ (k : Call) (words : List (List ℕ)) (status : ℕ) (ends : EndsAs k wo
   drills_well = record {
     told = told;
     drills = λ fits fine quiet. comes_exactly k words status ends files form is l (Done (drill_text task.plan)) (comes (Done (drill_text task.plan)) (tt, fits, refl)) fine quiet tt;
-    refuses = λ more fine quiet. comes_exactly k words status ends files form is l (TooLarge (length (shifts_of task.plan))) (comes (TooLarge (length (shifts_of task.plan))) (inl (more, refl))) fine quiet tt;
+    refuses =
+        λ more fine quiet. comes_exactly k words status ends files form is l (TooLarge (length (shifts_of task.plan)))
+        (comes (TooLarge (length (shifts_of task.plan))) (inl (more, refl))) fine quiet tt;
     large = large;
     files = holds_by (WorldEnds k form) k.before.sink k.after.sink status e (Untouched k.before.folder k.after.folder) (λ o h. h.leaves);
     store = holds_by (WorldEnds k form) k.before.sink k.after.sink status e (IsUntouched k.before.store k.after.store) (λ o h. h.store);

@@ -1,21 +1,13 @@
 -- From what a command finds, does and puts to its status, and back.
 use Rattle.std.proofs.Common.{◌≡◌, ◌⊎◌, inl, inr, ℕ, List, Option, Some, None, refl, sym, subst, ◌∙◌, arith}
-use Rattle.std.specs.Option.{IfSome, IsSomeAnd}
-use Rattle.mig_base.specs.FaultCounts.{Rose}
-use Rattle.mig_base.specs.InputLists.{Lists}
-use Rattle.mig_io.specs.Files.{Files, FolderState, OthersStay}
-use Rattle.mig_io.specs.Held.{SinkState, Extends, ExtendsInPart}
-use Rattle.mig_mover.specs.declared.faults.MoveFault.{MoveFault}
-use Rattle.mig_words.specs.declared.endings.Ending.{Ending}
+use Rattle.mig_top.proofs.Common.{Call, CauseIn, Done, Ending, EndsAs, EndsBy, Extends, ExtendsInPart, Files, FolderState, Form, FormCause, FormEndsAs, HasFiles, IsEndOf, IsListed, IsOrNotPut}
+use Rattle.mig_top.proofs.Common.{IsSomeAnd, Lists, MoveFault, OthersStay, Outcome, Rehearse, Rose, Says, Shows, SinkFault, SinkState, Step, StopsFrom, Untouched, code, fault_outcome, outcome_of}
+use Rattle.mig_top.proofs.Common.{text_of}
+use Rattle.std.specs.Option.{IfSome}
 use Rattle.mig_words.specs.declared.endings.Ending.TheVariants.{Blamed, Unlisted, Refused, FolderFault, Memory, NotSpelled, TooLarge, NoFile}
 use Rattle.mig_words.specs.Outcomes as out
-use Rattle.mig_words.specs.Outcomes.{Outcome, Done, SinkFault, code, fault_outcome, outcome_of, text_of}
-use Rattle.mig_words.specs.Puts.{Shows}
-use Rattle.mig_words.specs.Words.{Form, IsListed, Rehearse}
-use Rattle.mig_top.specs.Calls.{Call, Changes, Untouched}
-use Rattle.mig_top.specs.Causes.{FormCause}
-use Rattle.mig_top.specs.Ends.{CauseIn, CauseOf, EndsAs, EndsBy, FilesCause, FormEndsAs, HasFiles, IsOrNotPut, Says}
-use Rattle.mig_top.specs.Steps.{Step, IsEndOf, StopsFrom}
+use Rattle.mig_top.specs.Calls.{Changes}
+use Rattle.mig_top.specs.Ends.{CauseOf, FilesCause}
 use Rattle.mig_top.proofs.Forms.{one_form}
 
 -- An outcome and its text
@@ -32,7 +24,8 @@ module _ (Is : Outcome → Type 0) (old new : SinkState) (status : ℕ) where
       by e is h begun whole = (outcome_of names e, is, h, record { begun = begun; whole = whole; done = λ zero. absurd (omega (arith, zero)) })
 
   -- one that the layer below refuses
-  pub refused : (names : List (List ℕ)) (e : Ending) (given input : Lists) (f : MoveFault) → outcome_of names e ≡ fault_outcome given f → given ≡ input → Is (fault_outcome input f) → status ≡ code (outcome_of names e)
+  pub refused : (names : List (List ℕ)) (e : Ending) (given input : Lists) (f : MoveFault) → outcome_of names e ≡ fault_outcome given f → given ≡ input → Is (fault_outcome input f)
+      → status ≡ code (outcome_of names e)
       → ExtendsInPart (text_of (outcome_of names e)) old new → ((Rose old.faults new.faults → ⊥) → Extends (text_of (outcome_of names e)) old new) → EndsBy Is old new status
   refused names e given input f named same h is = told names e is (subst Is (sym named) (subst (λ (i : Lists). Is (fault_outcome i f)) (sym same) h))
 
@@ -116,7 +109,8 @@ module _ (names : List (List ℕ)) where
   files_unread old new steps (TooLarge shifts) h = h
   files_unread old new steps _ h = absurd h
 
-  module _ (k : Call) (form : Form) (has : HasFiles form) (Stops : Files → Outcome → Type 0) (to : (o : Outcome) → IfSome k.before.folder.files (λ files. Stops files o) → CauseIn k.before form o) where
+  module _ (k : Call) (form : Form) (has : HasFiles form) (Stops : Files → Outcome → Type 0)
+      (to : (o : Outcome) → IfSome k.before.folder.files (λ files. Stops files o) → CauseIn k.before form o) where
     pub world_unread : (e : Ending) → StopsFrom k.before.folder k.after.folder names Stops e → CauseOf k form (outcome_of names e)
     world_unread FolderFault h = (h, has)
     world_unread Memory h = tt

@@ -1,32 +1,20 @@
 -- Each step of a command is exact, so what the cause of an outcome holds for comes.
 use Rattle.std.proofs.Common.{◌≡◌, ◌⊎◌, ◌+◌, inl, inr, ℕ, List, Option, Some, None, refl, sym, ◌∙◌, subst, arith, take}
-use Rattle.std.specs.Option.{IsSomeAnd}
-use Rattle.mig_base.specs.InputLists.{Lists, IsInput}
-use Rattle.mig_base.specs.Rows.{Bodies}
-use Rattle.mig_base.specs.Running.{Runs}
-use Rattle.mig_base.specs.declared.certs.Cert.{Cert}
-use Rattle.mig_base.specs.declared.ids.Shift.{Shift}
-use Rattle.mig_base.specs.declared.limits.TheConstants.{MAX_FILE_BYTES}
+use Rattle.mig_top.proofs.Common.{After, Audit, Bodies, Call, Cert, Check, DoesNotRun, Drill, EndsAs, Files, Fill, Form, FormCause, Halt, HoldsFirst, IsAudit, IsInput, IsLayoutRefusal, IsListed}
+use Rattle.mig_top.proofs.Common.{IsMissing, IsNoCert, IsNoPlan, IsOrNotPut, IsRehearsed, IsSomeAnd, IsTaskOf, IsTooLarge, LayoutBodies, Lists, MAX_FILE_BYTES, Move, Names, Outcome, Plan}
+use Rattle.mig_top.proofs.Common.{Rehearse, Resume, Runs, Shift, SinkFault, StoreFailed, StoreFault, Task, WorldEnds, case_in, checks, code, done_text, drills, file, filled_text, finds}
+use Rattle.mig_top.proofs.Common.{fits_drill, halted_text, judges, layout_in, loads, loads_input, loads_layout, loads_plan, reads_cert, reads_input, reads_layout, reads_plan, reads_task, task_in}
 use Rattle.mig_base.proofs.Listed.{one_input, Accepted-IsInput}
 use Rattle.mig_base.proofs.Spelling.{same_plan}
 use Rattle.mig_base.proofs.CertSpelling.{same_cert}
 use Rattle.mig_base.proofs.BlameOrder.{right_is_blameless}
 use Rattle.mig_check.proofs.BlameCases.{runs_blameless}
-use Rattle.mig_io.specs.Files.{Files, file}
-use Rattle.mig_mover.specs.Tasks.{Task}
 use Rattle.mig_words.specs.declared.endings.TextFile.TheVariants as text_file
-use Rattle.mig_words.specs.Outcomes.{Outcome, Blamed, Unlisted, Refused, FolderFault, StoreFault, SinkFault, Memory, NotSpelled, TooLarge, NoFile, code}
-use Rattle.mig_words.specs.Words.{Form, Names, Plan, Check, After, Fill, Audit, Rehearse, Move, Resume, Drill, Halt, IsListed}
-use Rattle.mig_top.specs.Calls.{Call, StoreFailed}
-use Rattle.mig_top.specs.Causes.{FormCause, IsLastLayout, IsTooLarge, IsWrong, checks, drills, fits_drill, judges}
-use Rattle.mig_top.specs.Ends.{EndsAs, IsBegun, IsOrNotPut, ComesExactly, Serves, WorldEnds}
-use Rattle.mig_top.specs.Loads.{DoesNotRun, HoldsFirst, IsLayoutRefusal, IsMissing, IsNoCert, IsNoPlan, IsRefusal, IsTaskOf, LayoutBodies, PlanBodies, Stands, input_in, layout_in, loads, loads_input, loads_layout, loads_plan, reads_cert, reads_input, reads_layout, reads_plan, reads_task, runs, task_in}
-use Rattle.mig_top.specs.HaltLooks.{halted_text}
-use Rattle.mig_top.specs.MoveLooks.{done_text}
-use Rattle.mig_top.specs.Rehearsed.{IsRehearsed, case_in}
-use Rattle.mig_top.specs.Sights.{IsAudit}
-use Rattle.mig_top.specs.Steps.{finds}
-use Rattle.mig_top.specs.StoreLooks.{filled_text}
+use Rattle.mig_words.specs.Outcomes.{Blamed, Unlisted, Refused, FolderFault, Memory, NotSpelled, TooLarge, NoFile}
+use Rattle.mig_top.specs.Causes.{IsLastLayout, IsWrong}
+use Rattle.mig_top.specs.Ends.{IsBegun, ComesExactly, Serves}
+use Rattle.mig_top.specs.Loads.{IsRefusal, PlanBodies, Stands, input_in}
+use Rattle.mig_top.specs.Loads.{runs}
 use Rattle.mig_top.proofs.EndsOf.{cause_at, ends_of}
 use Rattle.mig_top.proofs.HaltExact.{stands_exact}
 use Rattle.mig_top.proofs.Layouts.{one_listing}
@@ -235,7 +223,8 @@ served k files (Halt names layout) before serves h = serves.0 h.0
 served k files _ before serves h = h.1
 
 -- as a clause of the top call
-pub comes_exactly : (k : Call) (words : List (List ℕ)) (status : ℕ) → EndsAs k words status → (files : Files) (form : Form) → k.before.folder.files ≡ Some files → IsListed words form → ComesExactly k files form status
+pub comes_exactly : (k : Call) (words : List (List ℕ)) (status : ℕ) → EndsAs k words status → (files : Files) (form : Form) → k.before.folder.files ≡ Some files → IsListed words form
+    → ComesExactly k files form status
 comes_exactly k words status ends files form is l p cause fine quiet serves = let e = ends_of k words status ends form l in by e.0 e.1 e.2
   where
     by : (o : Outcome) → status ≡ code o → IsOrNotPut (WorldEnds k form) k.before.sink k.after.sink o → (status ≡ code p) ⊎ (status ≡ 7)

@@ -1,19 +1,10 @@
 -- How `fill` ends.
 use Rattle.std.proofs.Common.{◌≡◌, inl, ℕ, List, [], refl}
-use Rattle.mig_base.specs.InputLists.{Lists}
-use Rattle.mig_base.specs.Stores.{State, IsSettled, flights}
-use Rattle.mig_mover.specs.Fillings.{HasMade, IsFillable, IsFillFault, IsFillRefusal}
-use Rattle.mig_mover.specs.Moves.{Settles}
-use Rattle.mig_mover.specs.declared.faults.MoveFault.{MoveFault}
+use Rattle.mig_top.proofs.Common.{AreOfLayout, Call, CauseIn, Done, Fill, Form, IsEndOf, IsFillRefusal, IsFillable, IsSettled, IsShown, Lists, MoveFault, Outcome, Settles, State, Step, Untouched}
+use Rattle.mig_top.proofs.Common.{WorldEnds, after, fault_outcome, filled_text, fills, finds, flights, layout_in}
+use Rattle.mig_mover.specs.Fillings.{HasMade, IsFillFault}
 use Rattle.mig_mover.specs.declared.faults.MoveFault.TheVariants as fault
-use Rattle.mig_words.specs.Outcomes.{Outcome, Done, fault_outcome}
-use Rattle.mig_words.specs.Words.{Form, Fill}
-use Rattle.mig_top.specs.Calls.{Call, Untouched}
-use Rattle.mig_top.specs.Ends.{CauseIn, WorldEnds}
-use Rattle.mig_top.specs.Loads.{layout_in}
-use Rattle.mig_top.specs.Steps.{Step, after, finds, IsEndOf}
-use Rattle.mig_top.specs.StoreLeaves.{AreOfLayout, WritesListed}
-use Rattle.mig_top.specs.StoreLooks.{IsShown, fills, filled_text}
+use Rattle.mig_top.specs.StoreLeaves.{WritesListed}
 use Rattle.mig_top.proofs.Steps.{if_map, lead}
 use Rattle.mig_top.proofs.StoreEnds.{settled_left}
 
@@ -21,7 +12,8 @@ use Rattle.mig_top.proofs.StoreEnds.{settled_left}
 abbrev pub fill_rest : State → Lists → Step (List ℕ)
 fill_rest store input = after (fills input store) (λ _. finds (λ text. text ≡ filled_text input))
 
-module _ (k : Call) (disks now : List ℕ) (same : Untouched k.before.folder k.after.folder) (input : Lists) (layout : AreOfLayout k.before.folder disks now input) (writes : WritesListed input k.before.store k.after.store) where
+module _ (k : Call) (disks now : List ℕ) (same : Untouched k.before.folder k.after.folder) (input : Lists) (layout : AreOfLayout k.before.folder disks now input)
+    (writes : WritesListed input k.before.store k.after.store) where
   abbrev form : Form
   form = Fill disks now
 
@@ -35,11 +27,13 @@ module _ (k : Call) (disks now : List ℕ) (same : Untouched k.before.folder k.a
   pub fill_refused : (f : MoveFault) → IsFillFault input k.before.store k.after.store f → WorldEnds k form (fault_outcome input f)
   fill_refused fault.Store h = record { cause = (h, refl); leaves = same; store = (input, layout, writes) }
   fill_refused fault.Started h = record { cause = fill_cause (fault_outcome input fault.Started) (inl (shows fault.Started h.0 h.1)); leaves = same; store = h.0 }
-  fill_refused (fault.Occupied disk slot) h = record { cause = fill_cause (fault_outcome input (fault.Occupied disk slot)) (inl (shows (fault.Occupied disk slot) h.0 h.1)); leaves = same; store = h.0 }
+  fill_refused (fault.Occupied disk slot) h =
+      record { cause = fill_cause (fault_outcome input (fault.Occupied disk slot)) (inl (shows (fault.Occupied disk slot) h.0 h.1)); leaves = same; store = h.0 }
   fill_refused _ h = absurd h.1
 
   -- it is done
-  pub fill_done : HasMade input k.after.store.reads → IsSettled k.after.store → flights k.after.store ≡ [] → (flights k.before.store ≡ [] → IsFillable input k.before.store.reads) → WorldEnds k form (Done (filled_text input))
+  pub fill_done : HasMade input k.after.store.reads → IsSettled k.after.store → flights k.after.store ≡ [] → (flights k.before.store ≡ [] → IsFillable input k.before.store.reads)
+      → WorldEnds k form (Done (filled_text input))
   fill_done made settled landed fillable = record {
     cause = fill_cause (Done (filled_text input)) (tt, fillable, refl);
     leaves = same;

@@ -1,7 +1,7 @@
 -- Words are those of one command.
 use Rattle.std.proofs.Common.{◌≡◌, ℕ, List, [], ◌∷◌, Option, Some, None, refl, sym, ◌∙◌, ap, if◌then◌else◌, codes}
-use Rattle.std.specs.Prelude.{bytes_eq}
-use Rattle.mig_words.specs.Words.{Form, Names, Plan, Check, After, Fill, Audit, Rehearse, Move, Resume, Drill, Halt, words_of}
+use Rattle.mig_top.proofs.Common.{After, Audit, Check, Drill, Fill, Form, Halt, Move, Names, Plan, Rehearse, Resume, bytes_eq}
+use Rattle.mig_words.specs.Words.{words_of}
 
 abbrev four : (disks now next plan : List ℕ) → Names
 four disks now next plan = record { disks = disks; now = now; next = next; plan = plan }

@@ -1,19 +1,9 @@
 -- The step of `halt` at the store is exact, where it tells the cells of its task and has no copy in flight.
 use Rattle.std.proofs.Common.{◌≡◌, inl, inr, true, ℕ, IfSome, IsSome, refl, sym, ◌∙◌, subst}
-use Rattle.std.proofs.lemmas.Bool.{false≢true}
-use Rattle.mig_base.specs.declared.cells.Cell.TheVariants.{Gate, Head}
-use Rattle.mig_base.specs.Flights.{AreFlights}
-use Rattle.mig_base.specs.Images.{Image}
-use Rattle.mig_base.specs.JobCells.{IsJobCell}
-use Rattle.mig_base.specs.Journals.{is_armed}
-use Rattle.mig_base.specs.Stores.{State, flights}
+use Rattle.mig_top.proofs.Common.{AreFlights, Gate, Head, Image, IsJobCell, IsStandRefusal, MoveFault, Outcome, State, Task, TellsStill, code, false≢true, fault_outcome, flights, is_armed}
+use Rattle.mig_top.proofs.Common.{stands}
 use Rattle.mig_base.proofs.Landing.{flights_none}
-use Rattle.mig_mover.specs.Tasks.{Task}
-use Rattle.mig_mover.specs.declared.faults.MoveFault.{MoveFault}
 use Rattle.mig_mover.specs.declared.faults.MoveFault.TheVariants as fault
-use Rattle.mig_top.specs.HaltLooks.{IsStandRefusal, stands}
-use Rattle.mig_words.specs.Outcomes.{Outcome, code, fault_outcome}
-use Rattle.mig_top.specs.StoreLooks.{TellsStill}
 use Rattle.mig_top.proofs.Steps.{IsExact}
 use Rattle.mig_top.proofs.StoreExact.{shown_one, shown_reads, told_apart}
 
@@ -36,7 +26,12 @@ module _ (task : Task) (store : State) (tells : TellsStill (IsJobCell task.input
   one_stand f g h k = status f h ∙ sym (status g k)
 
   pub stands_exact : IsExact (stands task store)
-  stands_exact = record { one_found = λ a b h k. h.found.found tells.cells slots ∙ sym (k.found.found tells.cells slots); not_both = apart; one_stop = shown_one task.input store (IsStandRefusal task) tells.none one_stand }
+  stands_exact =
+      record {
+        one_found = λ a b h k. h.found.found tells.cells slots ∙ sym (k.found.found tells.cells slots);
+        not_both = apart;
+        one_stop = shown_one task.input store (IsStandRefusal task) tells.none one_stand;
+      }
     where
       apart : (k : ℕ) (o : Outcome) → (stands task store).Passes k → (stands task store).Stops o → ⊥
       apart k o passes h = named_refused task store.reads (passes.running slots (tells.cells Gate (inl (inr (inl refl))))) (tells.cells Head (inl (inl refl))) (passes.ours slots)

@@ -1,42 +1,22 @@
 -- What `halt` promises, from the causes of its outcomes and what they leave.
 use Rattle.std.proofs.Common.{◌≡◌, ◌⊎◌, inl, inr, ⊎_elim, true, ℕ, length, List, [], Option, Some, IfSome, IsSome, append-nil, map, refl, sym, ◌∙◌, ap, subst, arith}
 use Rattle.std.proofs.lemmas.List.Sorted.{IsPermutation-refl}
-use Rattle.std.specs.Option.{IsSomeAnd}
-use Rattle.mig_base.specs.declared.cells.Cell.{Cell}
-use Rattle.mig_base.specs.declared.cells.Cell.TheVariants.{Gate, Head, Slot}
-use Rattle.mig_base.specs.declared.ids.Spot.{Spot}
-use Rattle.mig_base.specs.declared.inputs.Disk.{Disk}
+use Rattle.mig_top.proofs.Common.{AreFlights, AreOfTask, At, Call, Cell, ChangedOnly, Contents, Disk, Done, EndsAs, Extends, Files, FolderFailed, Form, Gate, Halt, HaltsAll, HaltsInPart, Head}
+use Rattle.mig_top.proofs.Common.{Image, IsClosingCell, IsHaltCell, IsLayoutSaved, IsListed, IsOrNotPut, IsShown, IsSomeAnd, IsSound, IsStandRefusal, IsState, IsTargetOf, IsTaskOf, IsUntouched}
+use Rattle.mig_top.proofs.Common.{IsUnwritten, Lands, Lists, MayHalt, Names, OtherPlan, OthersStay, Outcome, SavesLayout, Says, Settles, SinkFailed, SinkFault, Spot, State, StoreFailed}
+use Rattle.mig_top.proofs.Common.{StoreFault, Task, WorldEnds, WroteNothing, code, count_most, count_of, flights, halted_text, is_armed, is_one, same_image, same_wider, settles_land, slot_of}
+use Rattle.mig_top.proofs.Common.{stands, task_in}
+use Rattle.mig_base.specs.declared.cells.Cell.TheVariants.{Slot}
 use Rattle.mig_base.specs.Arrivals.{IsHalted}
-use Rattle.mig_base.specs.Flights.{AreFlights, IsTargetOf, ended}
-use Rattle.mig_base.specs.Images.{Image}
-use Rattle.mig_base.specs.InputLists.{Lists, disk_at}
-use Rattle.mig_base.specs.JobCells.{IsHaltCell}
-use Rattle.mig_base.specs.Journals.{count_of, is_armed, is_one}
-use Rattle.mig_base.specs.Layouts.{At}
+use Rattle.mig_base.specs.Flights.{ended}
+use Rattle.mig_base.specs.InputLists.{disk_at}
 use Rattle.mig_base.specs.RoundEvents.{Adds, BeginsRun}
-use Rattle.mig_base.specs.Safety.{Contents, HasContents, IsSound}
-use Rattle.mig_base.specs.Slots.{slot_of}
-use Rattle.mig_base.specs.Stores.{State, IsState, flights}
+use Rattle.mig_base.specs.Safety.{HasContents}
 use Rattle.mig_base.proofs.ArrivalLaws.{idle_sound}
-use Rattle.mig_base.proofs.MarkCounts.{count_most}
-use Rattle.mig_base.proofs.StoreSteps.{events_none, same_image, same_none, same_wider}
-use Rattle.mig_io.specs.Files.{Files, ChangedOnly, OthersStay}
-use Rattle.mig_io.specs.Held.{Extends}
-use Rattle.mig_mover.specs.Halts.{IsClosingCell}
-use Rattle.mig_mover.specs.Moves.{Lands, Settles}
-use Rattle.mig_mover.specs.Tasks.{Task}
-use Rattle.mig_mover.proofs.Settling.{settles_land}
-use Rattle.mig_words.specs.Outcomes.{Outcome, Done, FolderFault, StoreFault, SinkFault, Memory, NotStarted, OtherPlan, code}
-use Rattle.mig_words.specs.Words.{Form, Names, Halt, IsListed}
-use Rattle.mig_top.specs.Calls.{Call, FolderFailed, SinkFailed, StoreFailed}
-use Rattle.mig_top.specs.Ends.{EndsAs, IsOrNotPut, Says, WorldEnds}
+use Rattle.mig_base.proofs.StoreSteps.{events_none, same_none}
+use Rattle.mig_words.specs.Outcomes.{FolderFault, Memory, NotStarted}
 use Rattle.mig_top.specs.HaltHeadline.{BeginsAfter, HaltsWell}
-use Rattle.mig_top.specs.HaltLeaves.{AllMayHalt, HaltLeaves, HaltsAll, HaltsInPart, IsLayoutSaved, IsUnwritten, MayHalt, SavesLayout}
-use Rattle.mig_top.specs.HaltLooks.{IsStandRefusal, halted_text, stands}
-use Rattle.mig_top.specs.Loads.{IsTaskOf, task_in}
-use Rattle.mig_top.specs.MoveLeaves.{AreOfTask}
-use Rattle.mig_top.specs.StoreLeaves.{IsUntouched, WroteNothing}
-use Rattle.mig_top.specs.StoreLooks.{IsShown}
+use Rattle.mig_top.specs.HaltLeaves.{AllMayHalt, HaltLeaves}
 use Rattle.mig_top.proofs.EndsOf.{ends_of, one_changed, told_at}
 use Rattle.mig_top.proofs.Exactness.{task_in_exact}
 use Rattle.mig_top.proofs.HaltExact.{named_refused}
@@ -80,7 +60,8 @@ same_slot : (a b : Lists) → a.disks ≡ b.disks → (spot : Spot) → slot_of 
 same_slot a b e spot = ap (λ (disks : List Disk). Slot (disk_at disks spot.disk.0).name spot.slot) e
 
 -- where a plan is halted, a migration over the layout there begins well
-begins_well : (task : Task) (rounds : ℕ) (contents : Contents) (image : Image) → IsHalted task.input task.plan contents image rounds → (begun : Task) → BeginsAfter task rounds begun → IsSound true begun.input begun.plan begun.digest contents image
+begins_well : (task : Task) (rounds : ℕ) (contents : Contents) (image : Image) → IsHalted task.input task.plan contents image rounds → (begun : Task) → BeginsAfter task rounds begun
+    → IsSound true begun.input begun.plan begun.digest contents image
 begins_well task rounds contents image halted begun after = idle_sound true begun.input begun.plan begun.digest contents image stand halted.idle
   where
     stand : HasContents begun.input (At begun.input begun.plan 0) contents image
@@ -150,7 +131,8 @@ module _ (k : Call) (files : Files) (task : Task) (layout : List ℕ) (status : 
       first = inr is_saved;
       others = others_kept (saved_only task layout rounds k.before.folder k.after.folder saves);
       cells = λ image left. ⊎_elim (λ past. (image, law.only_now image past, same_none (IsHaltCell task.input task.plan) image))
-          (λ from. (from.0, from.1, same_wider (IsClosingCell task rounds) (IsHaltCell task.input task.plan) (closing_cell task rounds) from.0 image from.2)) (part.change.2.time.since old.moment image (omega arith) left);
+          (λ from. (from.0, from.1, same_wider (IsClosingCell task rounds) (IsHaltCell task.input task.plan) (closing_cell task rounds) from.0 image from.2))
+          (part.change.2.time.since old.moment image (omega arith) left);
       ended = λ some. (part.change.0, part.change.1, part.change.2.events);
       told = said;
       halts = halts;
@@ -164,10 +146,12 @@ module _ (k : Call) (words : List (List ℕ)) (status : ℕ) (ends : EndsAs k wo
 
   -- Completeness
 
-  unrefused : AreFlights (flights k.before.store) → is_armed k.before.store.reads ≡ true → k.before.store.reads Head ≡ Some task.digest → (o : Outcome) → IsShown task.input k.before.store (IsStandRefusal task) o → ⊥
+  unrefused : AreFlights (flights k.before.store) → is_armed k.before.store.reads ≡ true → k.before.store.reads Head ≡ Some task.digest → (o : Outcome)
+      → IsShown task.input k.before.store (IsStandRefusal task) o → ⊥
   unrefused are armed named o h =
       let same : h.image Head ≡ Some task.digest = journal_found k.before.store h.image are h.found Head refl ∙ named in
-      named_refused task h.image (ap is_one (journal_found k.before.store h.image are h.found Gate refl) ∙ armed) (subst IsSome (sym same) refl) (subst (λ (o : Option (List ℕ)). IfSome o (λ kept. kept ≡ task.digest)) (sym same) refl) h.fault h.shows
+      named_refused task h.image (ap is_one (journal_found k.before.store h.image are h.found Gate refl) ∙ armed)
+      (subst IsSome (sym same) refl) (subst (λ (o : Option (List ℕ)). IfSome o (λ kept. kept ≡ task.digest)) (sym same) refl) h.fault h.shows
 
   completes : Completes k task status
   completes are armed named =
@@ -190,11 +174,16 @@ module _ (k : Call) (words : List (List ℕ)) (status : ℕ) (ends : EndsAs k wo
       let h = subst (λ (u : Task). Written u found) (same t are) w in
       written_well k files task layout status law is completes found h.0 h.1 (λ done. absurd (not done)) (λ zero. absurd (not (inl zero)))
 
+  -- it is done, the layout is saved, and with status 0 its text was put
+  abbrev Ended : ℕ → Task → Type 0
+  Ended found t = HaltsAll t k.before.store k.after.store found × SavesLayout t layout found k.before.folder k.after.folder
+      × (status ≡ 0 → Extends (halted_text t.plan found) k.before.sink k.after.sink)
+
   done_end : (t : Task) → AreOfTask k.before.folder names t → (found : ℕ) → HaltsAll t k.before.store k.after.store found → SavesLayout t layout found k.before.folder k.after.folder
       → (status ≡ 0 → Extends (halted_text t.plan found) k.before.sink k.after.sink) → HaltsWell k files task layout status
-  done_end t are found all saves said = by (subst (λ (u : Task). HaltsAll u k.before.store k.after.store found × SavesLayout u layout found k.before.folder k.after.folder × (status ≡ 0 → Extends (halted_text u.plan found) k.before.sink k.after.sink)) (same t are) (all, saves, said))
+  done_end t are found all saves said = by (subst (Ended found) (same t are) (all, saves, said))
     where
-      by : HaltsAll task k.before.store k.after.store found × SavesLayout task layout found k.before.folder k.after.folder × (status ≡ 0 → Extends (halted_text task.plan found) k.before.sink k.after.sink) → HaltsWell k files task layout status
+      by : Ended found task → HaltsWell k files task layout status
       by h = written_well k files task layout status law is completes found h.0.part h.1 (λ done. h.0) h.2
 
   unwritten_end : IsUnwritten k.before.store k.after.store → IsQuiet k.before.store k.after.store
@@ -218,8 +207,11 @@ module _ (k : Call) (words : List (List ℕ)) (status : ℕ) (ends : EndsAs k wo
   well_at FolderFault at h says = quiet_end (unwritten_end h.store) h.leaves (neither 4 at (λ e. cc) (λ e. cc))
   well_at Memory at h says = quiet_end (unwritten_end h.store) (one_changed k.before.folder k.after.folder layout h.leaves) (neither 7 at (λ e. cc) (λ e. cc))
   well_at NotStarted at h says = quiet_end (by_settles k.before.store k.after.store law h.store) (one_changed k.before.folder k.after.folder layout h.leaves) (neither 8 at (λ e. cc) (λ e. cc))
-  well_at (OtherPlan kept ours) at h says = quiet_end (by_settles k.before.store k.after.store law h.store) (one_changed k.before.folder k.after.folder layout h.leaves) (neither 8 at (λ e. cc) (λ e. cc))
-  well_at o at h says = quiet_end (by_untouched k.before.store k.after.store law h.store) (one_changed k.before.folder k.after.folder layout h.leaves) (neither (code o) at (λ e. omega (arith, e)) (λ e. omega (arith, e)))
+  well_at (OtherPlan kept ours) at h says =
+      quiet_end (by_settles k.before.store k.after.store law h.store) (one_changed k.before.folder k.after.folder layout h.leaves) (neither 8 at (λ e. cc) (λ e. cc))
+  well_at o at h says =
+      quiet_end (by_untouched k.before.store k.after.store law h.store) (one_changed k.before.folder k.after.folder layout h.leaves)
+      (neither (code o) at (λ e. omega (arith, e)) (λ e. omega (arith, e)))
 
   pub halts_well : HaltsWell k files task layout status
   halts_well = let e = ends_of k words status ends form l in well_at e.0 e.1 e.2 e.3

@@ -1,39 +1,23 @@
 -- How `halt` ends.
 use Rattle.std.proofs.Common.{◌≡◌, ◌⊎◌, ◌≤◌, None, Some, inl, inr, ℕ, List, [], Option, IfSome, IsSome, length, refl, sym, ◌∙◌, subst, arith, append-nil}
-use Rattle.std.proofs.lemmas.Bool.{false≢true}
-use Rattle.std.specs.Option.{IsSomeAnd}
-use Rattle.mig_base.specs.declared.cells.Cell.{Cell}
-use Rattle.mig_base.specs.declared.cells.Cell.TheVariants.{Gate, Head}
-use Rattle.mig_base.specs.declared.cells.Event.{Event}
+use Rattle.mig_top.proofs.Common.{AreOfTask, Call, CauseIn, Cell, ChangedOnly, Contents, Done, Ending, Event, Files, FolderState, Form, Gate, Halt, HaltsAll, HaltsInPart, Head, Image}
+use Rattle.mig_top.proofs.Common.{IsClosingCell, IsEndOf, IsHaltCell, IsLayoutSaved, IsSafe, IsSettled, IsSomeAnd, IsStandRefusal, IsState, IsTargetOf, Lands, LeavesOnly, MayHalt, MoveFault}
+use Rattle.mig_top.proofs.Common.{Names, NoCell, OthersStay, Outcome, Rose, SavesLayout, Settles, State, Step, Task, Tells, Untouched, WorldEnds, after, changes_then, changes_wider, count_of}
+use Rattle.mig_top.proofs.Common.{false≢true, fault_outcome, finds, flights, four_and, halted_text, outcome_of, same_image, settles_land, stands}
 use Rattle.mig_base.specs.Arrivals.{IsHaltSafe}
-use Rattle.mig_base.specs.FaultCounts.{Rose}
-use Rattle.mig_base.specs.Flights.{IsTargetOf}
-use Rattle.mig_base.specs.Images.{Image, NoCell}
-use Rattle.mig_base.specs.JobCells.{IsHaltCell, Tells}
-use Rattle.mig_base.specs.Journals.{count_of}
-use Rattle.mig_base.specs.Safety.{Contents, IsSafe, IsSafeAt}
-use Rattle.mig_base.specs.Stores.{State, IsState, Changes, ChangesOnly, IsSettled, LeavesOnly, flights}
-use Rattle.mig_base.proofs.StoreSteps.{changes_then, changes_wider, leaves_then, quiet_leaves, same_image}
-use Rattle.mig_io.specs.Files.{Files, FolderState, ChangedOnly, OthersStay}
-use Rattle.mig_mover.specs.Halts.{EndsHalted, IsClosingCell, KeepsHaltSafe}
-use Rattle.mig_mover.specs.Moves.{Lands, Settles}
+use Rattle.mig_base.specs.Safety.{IsSafeAt}
+use Rattle.mig_base.specs.Stores.{Changes, ChangesOnly}
+use Rattle.mig_base.proofs.StoreSteps.{leaves_then, quiet_leaves}
+use Rattle.mig_mover.specs.Halts.{EndsHalted, KeepsHaltSafe}
 use Rattle.mig_mover.specs.Stands.{IsStandFault, Stands}
-use Rattle.mig_mover.specs.Tasks.{Task}
-use Rattle.mig_mover.specs.declared.faults.MoveFault.{MoveFault}
 use Rattle.mig_mover.specs.declared.faults.MoveFault.TheVariants as fault
-use Rattle.mig_mover.proofs.Settling.{gate_kept, journal_kept, settled_reads, settles_land, tells_more}
-use Rattle.mig_words.specs.declared.endings.Ending.{Ending}
+use Rattle.mig_mover.proofs.Settling.{gate_kept, journal_kept, settled_reads, tells_more}
 use Rattle.mig_words.specs.declared.endings.Ending.TheVariants as ending
 use Rattle.mig_words.specs.Outcomes as out
-use Rattle.mig_words.specs.Outcomes.{Outcome, Done, fault_outcome, outcome_of}
-use Rattle.mig_words.specs.Words.{Form, Names, Halt, four_and}
-use Rattle.mig_top.specs.Calls.{Call, Untouched}
 use Rattle.mig_top.specs.Calls as calls
-use Rattle.mig_top.specs.Ends.{CauseIn, WorldEnds}
-use Rattle.mig_top.specs.HaltLeaves.{HaltSaves, HaltsAll, HaltsInPart, IsLayoutSaved, MayHalt, SaveEnds, SavesLayout}
-use Rattle.mig_top.specs.HaltLooks.{IsStanding, IsStandRefusal, halted_text, stands}
-use Rattle.mig_top.specs.MoveLeaves.{AreOfTask, HasFound}
-use Rattle.mig_top.specs.Steps.{Step, after, finds, IsEndOf}
+use Rattle.mig_top.specs.HaltLeaves.{HaltSaves, SaveEnds}
+use Rattle.mig_top.specs.HaltLooks.{IsStanding}
+use Rattle.mig_top.specs.MoveLeaves.{HasFound}
 use Rattle.mig_top.proofs.EndsOf.{IsUnread, one_changed}
 use Rattle.mig_top.proofs.Moving.{shown, task_cause}
 use Rattle.mig_top.proofs.Steps.{if_map}
@@ -98,7 +82,9 @@ module _ (task : Task) (old mid : State) (k : ℕ) (stood : Stands task old mid 
     pub in_part : HaltsInPart task old new k
     in_part = record {
       found = has_found;
-      safe = λ contents tells may. leaves_then (HaltSafe contents) old mid new (quiet_leaves (HaltSafe contents) (IsTargetOf (flights old)) settling.added old mid law settling.change) (closing contents tells may);
+      safe =
+          λ contents tells may. leaves_then (HaltSafe contents) old mid new (quiet_leaves (HaltSafe contents) (IsTargetOf (flights old)) settling.added old mid law settling.change)
+          (closing contents tells may);
       again = λ contents tells may image left.
           let run = closing contents tells may in
           now contents tells may image (run.since mid.moment image (omega arith) (law_new.counts_now mid.moment image run.later left));
@@ -112,7 +98,8 @@ module _ (task : Task) (old mid : State) (k : ℕ) (stood : Stands task old mid 
       );
     }
       where
-        now : (contents : Contents) → Tells (IsHaltCell task.input task.plan) old.reads → MayHalt task contents old → (image : Image) → mid.left_since mid.moment image ⊎ HaltSafe contents image → HaltSafe contents image
+        now : (contents : Contents) → Tells (IsHaltCell task.input task.plan) old.reads → MayHalt task contents old → (image : Image) → mid.left_since mid.moment image ⊎ HaltSafe contents image
+            → HaltSafe contents image
         now contents tells may image (inl past) = at_mid contents tells may image (law_mid.only_now image past)
         now contents tells may image (inr safe) = safe
 
@@ -152,14 +139,18 @@ module _ (k : Call) (names : Names) (layout : List ℕ) where
     halt_cause = task_cause k names task are (halt_rest k.before.store)
 
     -- it isn't known where the plan stands
-    pub halt_refused : Untouched k.before.folder k.after.folder → Lands k.before.store k.after.store → (f : MoveFault) → IsStandFault task k.before.store k.after.store f → WorldEnds k form (fault_outcome task.input f)
+    pub halt_refused : Untouched k.before.folder k.after.folder → Lands k.before.store k.after.store → (f : MoveFault) → IsStandFault task k.before.store k.after.store f
+        → WorldEnds k form (fault_outcome task.input f)
     halt_refused same lands fault.Store h = record { cause = (h, refl); leaves = one_changed k.before.folder k.after.folder layout same; store = inl (lands, same) }
-    halt_refused same lands fault.NotStarted h = record { cause = halt_cause (fault_outcome task.input fault.NotStarted) (inl (shown task k fault.NotStarted h.0 IsStandRefusal h.1)); leaves = same; store = h.0 }
-    halt_refused same lands (fault.OtherPlan kept ours) h = record { cause = halt_cause (fault_outcome task.input (fault.OtherPlan kept ours)) (inl (shown task k (fault.OtherPlan kept ours) h.0 IsStandRefusal h.1)); leaves = same; store = h.0 }
+    halt_refused same lands fault.NotStarted h =
+        record { cause = halt_cause (fault_outcome task.input fault.NotStarted) (inl (shown task k fault.NotStarted h.0 IsStandRefusal h.1)); leaves = same; store = h.0 }
+    halt_refused same lands (fault.OtherPlan kept ours) h =
+        record { cause = halt_cause (fault_outcome task.input (fault.OtherPlan kept ours)) (inl (shown task k (fault.OtherPlan kept ours) h.0 IsStandRefusal h.1)); leaves = same; store = h.0 }
     halt_refused same lands _ h = absurd h
 
   -- the layout isn't saved
-  pub halt_unsaved : (loaded : FolderState) → loaded.files ≡ k.before.folder.files → k.before.folder.faults ≤ loaded.faults → Settles k.before.store k.after.store → (e : Ending) → SaveEnds layout loaded k.after.folder e
+  pub halt_unsaved : (loaded : FolderState) → loaded.files ≡ k.before.folder.files → k.before.folder.faults ≤ loaded.faults → Settles k.before.store k.after.store → (e : Ending)
+      → SaveEnds layout loaded k.after.folder e
       → WorldEnds k form (outcome_of four e)
   halt_unsaved loaded same later settles ending.FolderFault h = record {
     cause = (let rose = h.0 in omega (arith, later, rose), tt);
@@ -169,12 +160,14 @@ module _ (k : Call) (names : Names) (layout : List ℕ) where
   halt_unsaved loaded same later settles ending.Memory h = record { cause = tt; leaves = h ∙ same; store = inr settles }
   halt_unsaved loaded same later settles _ h = absurd h
 
-  module _ (task : Task) (are : AreOfTask k.before.folder names task) (loaded : FolderState) (same : loaded.files ≡ k.before.folder.files) (found : ℕ) (saves : SavesLayout task layout found loaded k.after.folder) where
+  module _ (task : Task) (are : AreOfTask k.before.folder names task) (loaded : FolderState) (same : loaded.files ≡ k.before.folder.files) (found : ℕ)
+      (saves : SavesLayout task layout found loaded k.after.folder) where
     saved : SavesLayout task layout found k.before.folder k.after.folder
     saved = changes_before (IsLayoutSaved task layout found) k.before.folder loaded k.after.folder same saves
 
     -- the store fails while the plan is closed
-    pub halt_failed : HaltsInPart task k.before.store k.after.store found → Rose k.before.store.faults k.after.store.faults → (f : MoveFault) → f ≡ fault.Store → WorldEnds k form (fault_outcome task.input f)
+    pub halt_failed : HaltsInPart task k.before.store k.after.store found → Rose k.before.store.faults k.after.store.faults → (f : MoveFault) → f ≡ fault.Store
+        → WorldEnds k form (fault_outcome task.input f)
     halt_failed part rose f is = subst (λ (f : MoveFault). WorldEnds k form (fault_outcome task.input f)) (sym is) (record {
       cause = (rose, refl);
       leaves = saved_only task layout found k.before.folder k.after.folder saved;

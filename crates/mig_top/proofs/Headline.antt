@@ -1,30 +1,16 @@
 -- What `plan` promises, from the causes of its outcomes and what they leave; and what `check` says of what it saved.
 use Rattle.std.proofs.Common.{◌≡◌, ◌≢◌, ◌⊎◌, ◌+◌, ◌≤◌, inl, inr, ℕ, List, Option, Some, None, refl, sym, ◌∙◌, ap, subst, arith, if◌then◌else◌, codes, take, length}
-use Rattle.std.specs.Option.{IsSomeAnd}
+use Rattle.mig_top.proofs.Common.{Accepted, AreSaved, Bodies, Bound, Call, CauseIn, Check, Done, EndsAs, Extends, FileKind, Files, FolderFailed, Form, FormCause, HoldsFirst, IsDiskBound, IsEven}
+use Rattle.mig_top.proofs.Common.{IsInput, IsListed, IsMissing, IsOrNotPut, IsPlanSaved, IsSomeAnd, Lists, MAX_FILE_BYTES, Names, Nothing, OfDisk, OfSet, Outcome, Plan, SinkFailed, SinkFault}
+use Rattle.mig_top.proofs.Common.{StoreFault, Why, WorldEnds, bound_value, checks, code, file, loads_input, quotient, take_all, transfers}
 use Rattle.std.proofs.lemmas.Bool.{eq-eqb}
-use Rattle.std.proofs.lemmas.List.{take_all}
-use Rattle.mig_base.specs.InputLists.{IsInput, Lists}
-use Rattle.mig_base.specs.Transfers.{transfers}
-use Rattle.mig_base.specs.Bounding.{IsEven, bound_value, quotient}
-use Rattle.mig_base.specs.Rows.{Bodies}
-use Rattle.mig_base.specs.Refusals.{Accepted}
-use Rattle.mig_base.specs.declared.certs.Bound.{Bound}
-use Rattle.mig_base.specs.declared.certs.Bound.TheVariants.{Nothing, OfDisk, OfSet}
-use Rattle.mig_base.specs.declared.faults.FileKind.{FileKind}
-use Rattle.mig_base.specs.declared.faults.Why.{Why}
-use Rattle.mig_base.specs.declared.limits.TheConstants.{MAX_FILE_BYTES}
 use Rattle.mig_text.proofs.ShiftCounts as plan_lengths
 use Rattle.mig_cert.proofs.CertLengths as cert_lengths
-use Rattle.mig_io.specs.Files.{Files, file}
-use Rattle.mig_io.specs.Held.{Extends}
-use Rattle.mig_words.specs.Outcomes.{Outcome, Done, Unlisted, Refused, FolderFault, StoreFault, SinkFault, Memory, NoFile, code}
-use Rattle.mig_words.specs.Words.{Form, Names, Plan, Check, IsListed, WritesApart}
-use Rattle.mig_top.specs.Calls.{Call, FolderFailed, SinkFailed}
-use Rattle.mig_top.specs.Causes.{FormCause, checks, verdict_text}
-use Rattle.mig_top.specs.Ends.{AreSaved, CauseIn, EndsAs, IsOrNotPut, IsPlanSaved, WorldEnds}
+use Rattle.mig_words.specs.Outcomes.{Unlisted, Refused, FolderFault, Memory, NoFile}
+use Rattle.mig_words.specs.Words.{WritesApart}
+use Rattle.mig_top.specs.Causes.{verdict_text}
 use Rattle.mig_top.specs.Headline.{HasPlanned, PlansWell, ChecksSaved}
-use Rattle.mig_top.specs.Loads.{AreRefused, AreThere, HoldsFirst, IsMissing, Stands, StandsForNone, loads_input}
-use Rattle.mig_top.specs.Planned.{IsDiskBound}
+use Rattle.mig_top.specs.Loads.{AreRefused, AreThere, Stands, StandsForNone}
 use Rattle.mig_top.proofs.EndsOf.{cause_at, ends_of, put_by, told_at}
 use Rattle.mig_top.proofs.Exactness.{checks_exact, comes_exactly, input_loads, is_input}
 
@@ -78,7 +64,8 @@ module _ (k : Call) (names : Names) (cert : List ℕ) (files : Files) (is : k.be
       by (input, (bodies, there, accepted)) = none.none input (subst (λ (b : Bodies). Accepted b input) ((input_loads names files).one_found bodies none.bodies there none.there) accepted)
 
   module _ (status : ℕ) where
-    ends_by : (o : Outcome) → status ≡ code o → IsOrNotPut (WorldEnds k form) k.before.sink k.after.sink o → (bodies : Bodies) → AreThere files names bodies → (FolderFailed k → ⊥) → (SinkFailed k → ⊥) → (status ≡ 0) ⊎ (status ≡ 3) ⊎ (status ≡ 7)
+    ends_by : (o : Outcome) → status ≡ code o → IsOrNotPut (WorldEnds k form) k.before.sink k.after.sink o → (bodies : Bodies) → AreThere files names bodies → (FolderFailed k → ⊥)
+        → (SinkFailed k → ⊥) → (status ≡ 0) ⊎ (status ≡ 3) ⊎ (status ≡ 7)
     ends_by (Done text) at h bodies there fine quiet = inl at
     ends_by (Refused f n w) at h bodies there fine quiet = inr (inl at)
     ends_by Memory at h bodies there fine quiet = inr (inr at)
@@ -119,7 +106,8 @@ module _ (k : Call) (names : Names) (cert : List ℕ) (files : Files) (is : k.be
 
 -- `check` of what `plan` saved
 
-module _ (names : Names) (cert text : List ℕ) (old files : Files) (apart : WritesApart (Plan names cert)) (saved : IsPlanSaved names cert text old files) (cert_saved : file files cert ≡ Some text) where
+module _ (names : Names) (cert text : List ℕ) (old files : Files) (apart : WritesApart (Plan names cert)) (saved : IsPlanSaved names cert text old files)
+    (cert_saved : file files cert ≡ Some text) where
   -- the three files are as they were
   kept : (name bytes : List ℕ) → name ≢ names.plan → name ≢ cert → HoldsFirst old name bytes → HoldsFirst files name bytes
   kept name bytes p c = subst (λ (o : Option (List ℕ)). IsSomeAnd o (λ whole. bytes ≡ take (MAX_FILE_BYTES + 1) whole)) (sym (saved.others name p c))

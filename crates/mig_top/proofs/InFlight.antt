@@ -1,32 +1,15 @@
 -- `move` and `resume` where copies may be in flight: no refusal comes where each image whose gate isn't 1 is ready.
 use Rattle.std.proofs.Common.{◌≡◌, ◌≢◌, ◌⊎◌, inl, inr, true, false, ℕ, List, Option, Some, IfSome, refl, sym, ◌∙◌, ap, subst}
 use Rattle.std.proofs.lemmas.Bool.{cases_Bool, false≢true}
-use Rattle.mig_base.specs.declared.cells.Cell.{Cell}
-use Rattle.mig_base.specs.declared.cells.Cell.TheVariants.{Gate, Head}
-use Rattle.mig_base.specs.declared.cells.Flight.{Flight}
+use Rattle.mig_top.proofs.Common.{AreFlights, Call, Cell, EndsAs, Files, Flight, FolderFailed, Form, FormCause, Gate, Head, Image, IsFound, IsInput, IsJobCell, IsListed, IsOrNotPut}
+use Rattle.mig_top.proofs.Common.{IsResumeRefusal, IsShown, IsStartRefusal, IsTargetOf, IsTaskOf, Move, MoveFault, Names, Outcome, Resume, Runs, SinkFailed, SinkFault, State, StoreFailed}
+use Rattle.mig_top.proofs.Common.{StoreFault, Task, Tells, WorldEnds, code, done_text, flights, is_armed, is_one, resumes, starts, task_in}
 use Rattle.mig_base.specs.Cells.{is_slot}
-use Rattle.mig_base.specs.Flights.{AreFlights, IsTargetOf}
-use Rattle.mig_base.specs.Images.{Image}
-use Rattle.mig_base.specs.InputLists.{IsInput}
-use Rattle.mig_base.specs.JobCells.{IsJobCell, Tells}
-use Rattle.mig_base.specs.Journals.{is_armed, is_one}
-use Rattle.mig_base.specs.Running.{Runs}
-use Rattle.mig_base.specs.Stores.{State, flights}
 use Rattle.mig_base.proofs.StoreSteps.{told_kept}
-use Rattle.mig_io.specs.Files.{Files}
 use Rattle.mig_mover.specs.Moves.{IsRefusal}
-use Rattle.mig_mover.specs.Tasks.{Task}
-use Rattle.mig_mover.specs.declared.faults.MoveFault.{MoveFault}
 use Rattle.mig_mover.specs.declared.faults.MoveFault.TheVariants as fault
-use Rattle.mig_words.specs.Outcomes.{Outcome, Unlisted, FolderFault, StoreFault, SinkFault, Memory, code}
-use Rattle.mig_words.specs.Words.{Form, Names, Move, Resume, IsListed}
-use Rattle.mig_top.specs.Calls.{Call, FolderFailed, SinkFailed, StoreFailed}
-use Rattle.mig_top.specs.Causes.{FormCause}
-use Rattle.mig_top.specs.Ends.{EndsAs, IsOrNotPut, WorldEnds}
+use Rattle.mig_words.specs.Outcomes.{Unlisted, FolderFault, Memory}
 use Rattle.mig_top.specs.Headline.{IsReadyInFlight, ResumesInFlight, StartsInFlight}
-use Rattle.mig_top.specs.Loads.{IsTaskOf, task_in}
-use Rattle.mig_top.specs.MoveLooks.{IsResumeRefusal, IsStartRefusal, done_text, resumes, starts}
-use Rattle.mig_top.specs.StoreLooks.{IsFound, IsShown}
 use Rattle.mig_top.proofs.EndsOf.{cause_at, ends_of}
 use Rattle.mig_top.proofs.Exactness.{is_task, task_in_exact}
 use Rattle.mig_top.proofs.MoveExact.{not_other, ready_refused, resume_refusal, start_refusal}
@@ -85,7 +68,8 @@ status_so k words status ends files is form l done fine quiet sound = let e = en
     by Memory at h = inr at
     by o at h = inl (at ∙ done o (cause_at k files is form o h.cause))
 
-module _ (k : Call) (words : List (List ℕ)) (status : ℕ) (ends : EndsAs k words status) (files : Files) (names : Names) (task : Task) (is : k.before.folder.files ≡ Some files) (holds : IsTaskOf files names task) where
+module _ (k : Call) (words : List (List ℕ)) (status : ℕ) (ends : EndsAs k words status) (files : Files) (names : Names) (task : Task) (is : k.before.folder.files ≡ Some files)
+    (holds : IsTaskOf files names task) where
   pub starts_in_flight : IsListed words (Move names) → StartsInFlight k task status
   starts_in_flight l ready idle =
       let valid = is_task files names task holds in

@@ -1,19 +1,14 @@
 -- Two files list one layout at most.
 use Rattle.std.proofs.Common.{◌+◌, ◌≡◌, ℕ, ◌<◌, List, [], ◌∷◌, Contains, get_or, length, map, slice_get, take, refl, sym, ap, subst, ◌∙◌, arith, Some}
 use Rattle.std.specs.List.{AllZip}
-use Rattle.std.specs.Option.{IsSomeAnd}
+use Rattle.mig_top.proofs.Common.{Disk, DiskId, IsListing, IsSomeAnd, Lists, Spot, get_or_from_slice_get, one_place, slice_get-get_or}
 use Rattle.std.proofs.lemmas.List.{get_or-take, length-take, take-map}
-use Rattle.std.proofs.lemmas.Option.{get_or_from_slice_get, slice_get-get_or}
-use Rattle.mig_base.specs.InputLists.{AreDifferent, Lists}
+use Rattle.mig_base.specs.InputLists.{AreDifferent}
 use Rattle.mig_base.specs.Refusals.{IsSpotNamed}
 use Rattle.mig_base.specs.Rows.{Row, first, rows_of, second}
 use Rattle.mig_base.specs.declared.faults.FileKind.TheVariants as file_kind
 use Rattle.mig_base.specs.declared.faults.Why.TheVariants as why
-use Rattle.mig_base.specs.declared.ids.DiskId.{DiskId}
-use Rattle.mig_base.specs.declared.ids.Spot.{Spot}
-use Rattle.mig_base.specs.declared.inputs.Disk.{Disk}
-use Rattle.mig_base.proofs.Listed.{at_map, map-name, name_at, one_place, some_and, some_map}
-use Rattle.mig_csv.specs.Listings.{IsListing}
+use Rattle.mig_base.proofs.Listed.{at_map, map-name, name_at, some_and, some_map}
 
 -- elements that are not among those before them are different
 different_from : {X : Type 0} (xs : List X) → ((j : ℕ) (x : X) → slice_get xs j ≡ Some x → ¬ (Contains (take j xs) x)) → AreDifferent xs
@@ -26,10 +21,12 @@ different_from xs new i j d lt within same =
 names_differ : (disks now : List ℕ) (i : Lists) → IsListing disks now i → AreDifferent (map first (rows_of disks))
 names_differ disks now i a = different_from (map first (rows_of disks)) (λ j x e c.
     let r = some_map first (rows_of disks) j x e in
-    a.sound file_kind.Disks (j + 1) why.DuplicateDisk (record { place = j; row = r.0; number = refl; at = r.1; holds = subst (λ y. Contains (map first (take j (rows_of disks))) y) r.2 (rw take-map at c) }))
+    a.sound file_kind.Disks (j + 1) why.DuplicateDisk
+    (record { place = j; row = r.0; number = refl; at = r.1; holds = subst (λ y. Contains (map first (take j (rows_of disks))) y) r.2 (rw take-map at c) }))
 
 -- two disks of one name are one
-one_disk : (disks : List Disk) (a b : DiskId) (n : List ℕ) → AreDifferent (map name_at disks) → IsSomeAnd (slice_get disks a.0) (λ d. d.name ≡ n) → IsSomeAnd (slice_get disks b.0) (λ d. d.name ≡ n) → a ≡ b
+one_disk : (disks : List Disk) (a b : DiskId) (n : List ℕ) → AreDifferent (map name_at disks) → IsSomeAnd (slice_get disks a.0) (λ d. d.name ≡ n)
+    → IsSomeAnd (slice_get disks b.0) (λ d. d.name ≡ n) → a ≡ b
 one_disk disks a b n ne p q =
     let (d, at, name) = some_and (λ (d : Disk). d.name ≡ n) (slice_get disks a.0) p in
     let (e, bt, name2) = some_and (λ (d : Disk). d.name ≡ n) (slice_get disks b.0) q in

@@ -1,6 +1,7 @@
 pub mod Alike
 pub mod Auditing
 pub mod BestFits
+pub mod Common
 pub mod Drilling
 pub mod EightLines
 pub mod EvenBound

@@ -1,26 +1,12 @@
 -- The steps of `move` and `resume` at the store are exact, where it tells the cells of their task and has no copy in flight.
 use Rattle.std.proofs.Common.{◌≡◌, ◌≢◌, ◌<◌, inl, inr, ℕ, List, Contains, IfSome, IsSome, get_or, length, refl, sym, ◌∙◌, subst, arith}
-use Rattle.std.proofs.lemmas.Bool.{false≢true}
-use Rattle.std.proofs.lemmas.List.Elements.{All-contains}
-use Rattle.std.proofs.lemmas.Option.{get_or_from_slice_get, slice_get-get_or, slice_get_within}
-use Rattle.mig_base.specs.declared.cells.Cell.TheVariants.{Gate, Head}
-use Rattle.mig_base.specs.declared.ids.Spot.{Spot}
-use Rattle.mig_base.specs.Arrivals.{IsPlanSpot}
-use Rattle.mig_base.specs.Images.{Image}
-use Rattle.mig_base.specs.InputLists.{IsInput, no_spot}
-use Rattle.mig_base.specs.JobCells.{IsJobCell, Tells}
-use Rattle.mig_base.specs.Readiness.{CanTake, IsFirstLost, IsFirstUsed, IsReady, shifts_of}
-use Rattle.mig_base.specs.Running.{Runs}
-use Rattle.mig_base.specs.Slots.{HasHeader, IsUnused, first_byte, item_cell, slot_of}
-use Rattle.mig_base.specs.Stores.{State}
-use Rattle.mig_base.specs.Texts.{item_name}
+use Rattle.mig_top.proofs.Common.{All-contains, Gate, HasHeader, Head, Image, IsInput, IsJobCell, IsPlanSpot, IsReady, IsResumable, IsResumeRefusal, IsStartRefusal, IsUnused, MoveFault, Outcome}
+use Rattle.mig_top.proofs.Common.{Runs, Spot, State, Task, Tells, TellsStill, code, false≢true, fault_outcome, first_byte, get_or_from_slice_get, item_cell, item_name, resumes, shifts_of}
+use Rattle.mig_top.proofs.Common.{slice_get-get_or, slice_get_within, slot_of, starts}
+use Rattle.mig_base.specs.InputLists.{no_spot}
+use Rattle.mig_base.specs.Readiness.{CanTake, IsFirstLost, IsFirstUsed}
 use Rattle.mig_mover.specs.Moves.{IsRefusal}
-use Rattle.mig_mover.specs.Tasks.{Task}
-use Rattle.mig_mover.specs.declared.faults.MoveFault.{MoveFault}
 use Rattle.mig_mover.specs.declared.faults.MoveFault.TheVariants as fault
-use Rattle.mig_top.specs.MoveLooks.{IsResumable, IsResumeRefusal, IsStartRefusal, resumes, starts}
-use Rattle.mig_words.specs.Outcomes.{Outcome, code, fault_outcome}
-use Rattle.mig_top.specs.StoreLooks.{TellsStill}
 use Rattle.mig_top.proofs.ShiftedSlots.{shifted_named, target_named}
 use Rattle.mig_top.proofs.Steps.{IsExact}
 use Rattle.mig_top.proofs.StoreExact.{shown_one, shown_reads, told_apart}
@@ -38,7 +24,8 @@ module _ (task : Task) (valid : IsInput task.input) (runs : Runs task.input task
       let within : item < length task.input.spots = omega (arith, lost.in_range, valid.spots_len) in
       let spot = get_or task.input.spots item no_spot in
       let named = shifted_named task.input task.plan runs item spot (slice_get-get_or task.input.spots item no_spot within) lost.shifted in
-      told_apart (image (item_cell task.input item)) (HasHeader (item_name task.input item)) (λ slot. ¬ HasHeader (item_name task.input item) slot) (told (item_cell task.input item) (inr (spot, named, refl))) (λ slot p q. q p)
+      told_apart (image (item_cell task.input item)) (HasHeader (item_name task.input item)) (λ slot. ¬ HasHeader (item_name task.input item) slot)
+      (told (item_cell task.input item) (inr (spot, named, refl))) (λ slot p q. q p)
       (ready.there item lost.in_range lost.shifted) lost.lost
 
   -- a target that can be taken isn't used
@@ -138,7 +125,12 @@ module _ (task : Task) (store : State) (valid : IsInput task.input) (runs : Runs
   resumable_refused k h (fault.Occupied disk slot) p q r = ready_refused task valid runs store.reads tells.cells (fault.Occupied disk slot) p (h.ready tells.none r.0 gate_told) r
 
   pub resumes_exact : IsExact (resumes task store)
-  resumes_exact = record { one_found = λ a b h k. h.found tells.cells tells.none ∙ sym (k.found tells.cells tells.none); not_both = apart; one_stop = shown_one task.input store (IsResumeRefusal task) tells.none one_resume }
+  resumes_exact =
+      record {
+        one_found = λ a b h k. h.found tells.cells tells.none ∙ sym (k.found tells.cells tells.none);
+        not_both = apart;
+        one_stop = shown_one task.input store (IsResumeRefusal task) tells.none one_resume;
+      }
     where
       apart : (k : ℕ) (o : Outcome) → (resumes task store).Passes k → (resumes task store).Stops o → ⊥
       apart k o passes h =

@@ -1,29 +1,15 @@
 -- What `move` and `resume` promise, from the causes of their outcomes and what they leave.
 use Rattle.std.proofs.Common.{◌≡◌, ◌⊎◌, inl, inr, ⊎_elim, Bool, true, false, length, ℕ, List, Option, Some, refl, sym, ◌∙◌, subst, arith}
-use Rattle.std.proofs.lemmas.Bool.{false≢true}
+use Rattle.mig_top.proofs.Common.{AreOfTask, Call, Carries, Contents, Done, EndsAs, Files, Form, FormEndsAs, Head, Image, IsJobCell, IsListed, IsReady, IsResumable, IsSound, IsState, IsTaskOf}
+use Rattle.mig_top.proofs.Common.{IsUntouched, LeavesOnly, Move, MoveLeaves, Names, OtherPlan, Outcome, Resume, ResumesHalting, State, StoreFault, StoreLeaves, Task, Tells, TellsStill, WorldEnds}
+use Rattle.mig_top.proofs.Common.{count_most, count_of, done_text, false≢true, is_armed, task_in}
 use Rattle.std.specs.Option.{IfSome}
-use Rattle.mig_base.specs.declared.cells.Cell.TheVariants.{Head}
-use Rattle.mig_base.specs.Images.{Image}
-use Rattle.mig_base.specs.JobCells.{IsJobCell, SettlesTo, Tells}
-use Rattle.mig_base.specs.Journals.{count_of, is_armed}
-use Rattle.mig_base.specs.Readiness.{IsReady}
-use Rattle.mig_base.specs.Safety.{Contents, IsSound}
-use Rattle.mig_base.specs.Stores.{State, IsState, LeavesOnly}
-use Rattle.mig_base.proofs.MarkCounts.{count_most}
-use Rattle.mig_io.specs.Files.{Files}
+use Rattle.mig_base.specs.JobCells.{SettlesTo}
 use Rattle.mig_lanes.specs.Runs.{Finishes}
 use Rattle.mig_mover.specs.Moves.{IsReadyIdle, StaysArmed}
-use Rattle.mig_mover.specs.Tasks.{Task}
-use Rattle.mig_words.specs.Outcomes.{Outcome, Done, StoreFault, Started, OtherPlan, NotThere, Occupied}
-use Rattle.mig_words.specs.Words.{Form, Names, Move, Resume, IsListed}
-use Rattle.mig_top.specs.Calls.{Call}
-use Rattle.mig_top.specs.Ends.{EndsAs, FormEndsAs, StoreLeaves, WorldEnds}
-use Rattle.mig_top.specs.Headline.{MovesWell, ResumesHalting, ResumesWell, StartsWell}
-use Rattle.mig_top.specs.Loads.{IsTaskOf, task_in}
-use Rattle.mig_top.specs.MoveLeaves.{AreOfTask, Carries, MoveLeaves, ResumeLeaves}
-use Rattle.mig_top.specs.MoveLooks.{IsResumable, done_text}
-use Rattle.mig_top.specs.StoreLeaves.{IsUntouched}
-use Rattle.mig_top.specs.StoreLooks.{TellsStill}
+use Rattle.mig_words.specs.Outcomes.{Started, NotThere, Occupied}
+use Rattle.mig_top.specs.Headline.{MovesWell, ResumesWell, StartsWell}
+use Rattle.mig_top.specs.MoveLeaves.{ResumeLeaves}
 use Rattle.mig_top.proofs.EndsOf.{done_by, ends_of, holds_by, told_at}
 use Rattle.mig_top.proofs.Exactness.{comes_exactly, task_in_exact}
 use Rattle.mig_top.proofs.Moving.{move_rest, resume_rest}
@@ -40,7 +26,8 @@ same_task k files names task is holds t are = one_task files names t task (told_
 
 -- what holds whatever the outcome
 pub record AreKept (task : Task) (old new : State) : Type 0 where
-  pub sound : (asked : Bool) (contents : Contents) → Tells (IsJobCell task.input task.plan) old.reads → SettlesTo (IsSound asked task.input task.plan task.digest contents) old → LeavesOnly (IsSound asked task.input task.plan task.digest contents) old new
+  pub sound : (asked : Bool) (contents : Contents) → Tells (IsJobCell task.input task.plan) old.reads → SettlesTo (IsSound asked task.input task.plan task.digest contents) old
+      → LeavesOnly (IsSound asked task.input task.plan task.digest contents) old new
   pub ready : Tells (IsJobCell task.input task.plan) old.reads → SettlesTo (IsReadyIdle task) old → LeavesOnly (IsReadyIdle task) old new
   pub armed : StaysArmed old new
 
@@ -48,12 +35,14 @@ leaves_same : (P : Image → Type 0) (old new : State) → IsUntouched old new �
 leaves_same P old new same = record { later = omega (arith, same.moment); since = λ t image le left. inl (same.since t image left) }
 
 untouched_kept : (task : Task) (old new : State) → IsUntouched old new → AreKept task old new
-untouched_kept task old new same = record { sound = λ asked contents tells before. leaves_same _ old new same; ready = λ tells before. leaves_same _ old new same; armed = λ before. leaves_same _ old new same }
+untouched_kept task old new same =
+    record { sound = λ asked contents tells before. leaves_same _ old new same; ready = λ tells before. leaves_same _ old new same; armed = λ before. leaves_same _ old new same }
 
 module _ (k : Call) (status : ℕ) (task : Task) (law : IsState k.before.store) (kept : AreKept task k.before.store k.after.store)
     (finished : (status ≡ 0) ⊎ (status ≡ 6) → (found : ℕ) × Finishes task k.before.store k.after.store found) where
   -- each image since the beginning
-  since : (P : Image → Type 0) → LeavesOnly P k.before.store k.after.store → ((image : Image) → k.before.store.may_leave image → P image) → (image : Image) → k.after.store.left_since k.before.store.moment image → P image
+  since : (P : Image → Type 0) → LeavesOnly P k.before.store k.after.store → ((image : Image) → k.before.store.may_leave image → P image) → (image : Image)
+      → k.after.store.left_since k.before.store.moment image → P image
   since P leaves all image left = ⊎_elim (λ past. all image (law.only_now image past)) (λ p. p) (leaves.since k.before.store.moment image (omega arith) left)
 
   moves_well : MovesWell k task status
@@ -97,7 +86,8 @@ module _ (k : Call) (words : List (List ℕ)) (status : ℕ) (ends : EndsAs k wo
   resume_kept (StoreFault before) h = kept_of h.0 h.1 h.2.0.2.carries
   resume_kept o h = move_kept o h
 
-  module _ (form : Form) (l : IsListed words form) (form_kept : (o : Outcome) → StoreLeaves k form o → AreKept task old new) (form_finished : (text : List ℕ) → StoreLeaves k form (Done text) → (found : ℕ) × Finishes task old new found) where
+  module _ (form : Form) (l : IsListed words form) (form_kept : (o : Outcome) → StoreLeaves k form o → AreKept task old new)
+      (form_finished : (text : List ℕ) → StoreLeaves k form (Done text) → (found : ℕ) × Finishes task old new found) where
     e : FormEndsAs k form status
     e = ends_of k words status ends form l
 
@@ -119,12 +109,14 @@ module _ (k : Call) (words : List (List ℕ)) (status : ℕ) (ends : EndsAs k wo
 
   pub starts_well : IsListed words (Move names) → StartsWell k task status
   starts_well l tells ready fine quiet sound =
-      comes_exactly k words status ends files (Move names) is l (Done (done_text task.plan 0)) (lead (task_in names files) (move_rest old) task holds (Done (done_text task.plan 0)) (tt, λ none gate. ready, refl))
+      comes_exactly k words status ends files (Move names) is l
+      (Done (done_text task.plan 0)) (lead (task_in names files) (move_rest old) task holds (Done (done_text task.plan 0)) (tt, λ none gate. ready, refl))
       fine quiet (sound, still tells)
 
   pub resumes_well : IsListed words (Resume names) → ResumesWell k task status
   resumes_well l tells before fine quiet sound =
-      comes_exactly k words status ends files (Resume names) is l (Done (done_text task.plan found)) (lead (task_in names files) (resume_rest old) task holds (Done (done_text task.plan found)) (found, resumable, refl))
+      comes_exactly k words status ends files (Resume names) is l
+      (Done (done_text task.plan found)) (lead (task_in names files) (resume_rest old) task holds (Done (done_text task.plan found)) (found, resumable, refl))
       fine quiet (sound, still tells)
     where
       found : ℕ
@@ -133,7 +125,8 @@ module _ (k : Call) (words : List (List ℕ)) (status : ℕ) (ends : EndsAs k wo
       resumable : IsResumable task old found
       resumable = record { most = count_most (length task.plan) old.reads; found = λ tells none. refl; ours = λ none gate armed. ours armed before; ready = λ none idle gate. ready idle before }
         where
-          ours : is_armed old.reads ≡ true → IsReady task.input task.plan old.reads ⊎ ((is_armed old.reads ≡ true) × (old.reads Head ≡ Some task.digest)) → IfSome (old.reads Head) (λ kept. kept ≡ task.digest)
+          ours : is_armed old.reads ≡ true → IsReady task.input task.plan old.reads ⊎ ((is_armed old.reads ≡ true) × (old.reads Head ≡ Some task.digest))
+              → IfSome (old.reads Head) (λ kept. kept ≡ task.digest)
           ours armed (inl r) = absurd (false≢true (sym r.idle ∙ armed))
           ours armed (inr (a, named)) = subst (λ (o : Option (List ℕ)). IfSome o (λ kept. kept ≡ task.digest)) (sym named) refl
 

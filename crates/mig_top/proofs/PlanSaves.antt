@@ -1,12 +1,9 @@
 -- The two saves of `plan`.
 use Rattle.std.proofs.Common.{◌≡◌, ◌≢◌, inl, ℕ, List, Option, Some, None, ◌∙◌, subst}
-use Rattle.std.specs.Option.{IfSome, IsSomeAnd}
-use Rattle.mig_io.specs.Files.{Files, FolderState, OthersStay, Saves}
-use Rattle.mig_words.specs.Outcomes.{Outcome, Done, FolderFault}
-use Rattle.mig_words.specs.Words.{Names}
-use Rattle.mig_top.specs.Calls.{Untouched}
-use Rattle.mig_top.specs.Causes.{plans_texts}
-use Rattle.mig_top.specs.Ends.{AreSaved, IsPlanSaved, PlanLeaves}
+use Rattle.mig_top.proofs.Common.{AreSaved, Done, Files, FolderState, IsPlanSaved, IsSomeAnd, Names, OthersStay, Outcome, PlanLeaves, Untouched, plans_texts}
+use Rattle.std.specs.Option.{IfSome}
+use Rattle.mig_io.specs.Files.{Saves}
+use Rattle.mig_words.specs.Outcomes.{FolderFault}
 use Rattle.mig_top.specs.Planned.{PlanTexts}
 use Rattle.mig_top.proofs.EndsOf.{IsUnread, one_changed}
 
@@ -28,21 +25,26 @@ module _ (names : Names) (cert : List ℕ) (apart : names.plan ≢ cert) (texts 
   }
 
   -- what the two saves leave, where only the second may have failed
-  module _ (Left : Files → Files → Type 0) (Rest : Files → Files → Type 0) (leaves : (old m new : Files) → (plans_texts names old).Passes texts → Saves names.plan texts.plan old m → Rest m new → Left old new) where
-    by_middle : (old : Files) (middle after : Option Files) → (plans_texts names old).Passes texts → IsSomeAnd middle (Saves names.plan texts.plan old) → IfSome middle (λ m. IsSomeAnd after (Rest m)) → IsSomeAnd after (Left old)
+  module _ (Left : Files → Files → Type 0) (Rest : Files → Files → Type 0)
+      (leaves : (old m new : Files) → (plans_texts names old).Passes texts → Saves names.plan texts.plan old m → Rest m new → Left old new) where
+    by_middle : (old : Files) (middle after : Option Files) → (plans_texts names old).Passes texts → IsSomeAnd middle (Saves names.plan texts.plan old)
+        → IfSome middle (λ m. IsSomeAnd after (Rest m)) → IsSomeAnd after (Left old)
     by_middle old None after h a b = absurd a
     by_middle old (Some m) None h a b = absurd b
     by_middle old (Some m) (Some new) h a b = leaves old m new h a b
 
-    saves_leave : (before loaded middle after : Option Files) → loaded ≡ before → IfSome before (λ files. (plans_texts names files).Passes texts) → IfSome loaded (λ old. IsSomeAnd middle (Saves names.plan texts.plan old))
+    saves_leave : (before loaded middle after : Option Files) → loaded ≡ before → IfSome before (λ files. (plans_texts names files).Passes texts)
+        → IfSome loaded (λ old. IsSomeAnd middle (Saves names.plan texts.plan old))
         → IfSome middle (λ m. IsSomeAnd after (Rest m)) → IfSome before (λ old. IsSomeAnd after (Left old))
     saves_leave None loaded middle after same h a b = tt
     saves_leave (Some old) loaded middle after same h a b = by_middle old middle after h (subst (λ (o : Option Files). IfSome o (λ f. IsSomeAnd middle (Saves names.plan texts.plan f))) same a) b
 
-  pub are_saved : (before loaded middle after : Option Files) → loaded ≡ before → IfSome before (λ files. (plans_texts names files).Passes texts) → IfSome loaded (λ old. IsSomeAnd middle (Saves names.plan texts.plan old))
+  pub are_saved : (before loaded middle after : Option Files) → loaded ≡ before → IfSome before (λ files. (plans_texts names files).Passes texts)
+      → IfSome loaded (λ old. IsSomeAnd middle (Saves names.plan texts.plan old))
       → IfSome middle (λ m. IsSomeAnd after (Saves cert texts.cert m)) → IfSome before (λ old. IsSomeAnd after (AreSaved names cert texts.cert old))
   are_saved = saves_leave (AreSaved names cert texts.cert) (Saves cert texts.cert) (λ old m new h a b. (is_saved old m new h a b.others, b.saved))
 
-  pub half_saved : (before loaded middle after : Option Files) → loaded ≡ before → IfSome before (λ files. (plans_texts names files).Passes texts) → IfSome loaded (λ old. IsSomeAnd middle (Saves names.plan texts.plan old))
+  pub half_saved : (before loaded middle after : Option Files) → loaded ≡ before → IfSome before (λ files. (plans_texts names files).Passes texts)
+      → IfSome loaded (λ old. IsSomeAnd middle (Saves names.plan texts.plan old))
       → IfSome middle (λ m. IsSomeAnd after (OthersStay cert m)) → IfSome before (λ old. IsSomeAnd after (λ new. (text : List ℕ) × IsPlanSaved names cert text old new))
   half_saved = saves_leave (λ old new. (text : List ℕ) × IsPlanSaved names cert text old new) (OthersStay cert) (λ old m new h a b. (texts.cert, is_saved old m new h a b))

@@ -1,14 +1,11 @@
 -- Results that a `?` hands on, and the endings that errors of the readers are.
 use Rattle.std.proofs.Common.{◌≡◌, sym, subst, Result, Ok, Err, IfErr, MatchResult}
-use Rattle.std.specs.Result.{IsErrAnd}
-use Rattle.mig_base.specs.Rows.{Bodies}
+use Rattle.mig_top.proofs.Common.{Bodies, EndsWithin, IsErrAnd, IsLayoutRefusal, LayoutBodies, ending_of}
 use Rattle.mig_csv.specs.Listings.{IsListingRefusal}
 use Rattle.mig_csv.specs.Refusals as csv
 use Rattle.mig_csv.specs.declared.errors.InputError.{InputError}
 use Rattle.mig_csv.specs.declared.errors.InputError.TheVariants as error
-use Rattle.mig_words.specs.Endings.{ending_of}
-use Rattle.mig_top.specs.Loads.{IsLayoutRefusal, IsRefusal, LayoutBodies}
-use Rattle.mig_top.specs.Steps.{EndsWithin}
+use Rattle.mig_top.specs.Loads.{IsRefusal}
 
 pub handed_on : {T E : Type 0} (result : Result T E) (e : E) (P : E → Type 0) → IsErrAnd result (λ x. x ≡ e) → P e → IfErr result P
 handed_on (Ok x) e P is h = absurd is

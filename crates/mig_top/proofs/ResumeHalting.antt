@@ -1,22 +1,14 @@
 -- What `resume` promises where closing the plan early was stopped.
 use Rattle.std.proofs.Common.{◌≡◌, ◌⊎◌, inl, inr, ⊎_elim, ℕ, List, subst, arith}
 use Rattle.mig_base.specs.Arrivals.{IsArrived}
-use Rattle.mig_base.specs.Images.{Image}
-use Rattle.mig_base.specs.JobCells.{IsJobCell, Tells}
-use Rattle.mig_base.specs.Safety.{Contents, IsSafe}
-use Rattle.mig_base.specs.Stores.{State, IsState}
+use Rattle.mig_top.proofs.Common.{AreOfTask, Call, Contents, Done, Form, FormEndsAs, Image, IsJobCell, IsSafe, IsState, KeepsHalting, Names, Outcome, Resume, ResumesHalting, State, StoreFault}
+use Rattle.mig_top.proofs.Common.{StoreLeaves, Task, Tells, WorldEnds}
 use Rattle.mig_mover.specs.Moves.{MayBeHalting}
-use Rattle.mig_mover.specs.Tasks.{Task}
-use Rattle.mig_words.specs.Outcomes.{Outcome, Done, StoreFault}
-use Rattle.mig_words.specs.Words.{Form, Names, Resume}
-use Rattle.mig_top.specs.Calls.{Call}
-use Rattle.mig_top.specs.Ends.{FormEndsAs, StoreLeaves, WorldEnds}
-use Rattle.mig_top.specs.Headline.{ResumesHalting}
-use Rattle.mig_top.specs.MoveLeaves.{AreOfTask, KeepsHalting}
 use Rattle.mig_top.proofs.EndsOf.{done_by, holds_by}
 use Rattle.mig_top.proofs.StoreEnds.{form_quiet}
 
-module _ (k : Call) (status : ℕ) (law : IsState k.before.store) (names : Names) (task : Task) (ends : FormEndsAs k (Resume names) status) (same_task : (t : Task) → AreOfTask k.before.folder names t → t ≡ task) where
+module _ (k : Call) (status : ℕ) (law : IsState k.before.store) (names : Names) (task : Task) (ends : FormEndsAs k (Resume names) status)
+    (same_task : (t : Task) → AreOfTask k.before.folder names t → t ≡ task) where
   abbrev old : State
   old = k.before.store
 

@@ -1,15 +1,12 @@
 -- An item that a plan shifts is where its first shift leaves it: at a slot that the plan names.
-use Rattle.std.proofs.Common.{◌≡◌, ◌⊎◌, ◌<◌, ◌≤◌, inl, inr, ⊎_elim, Bool, true, false, ℕ, zero, suc, List, [], ◌∷◌, Option, Some, None, Contains, get_or, length, eqb, slice_get, refl, sym, ◌∙◌, ap, arith, if◌then◌else◌}
+use Rattle.std.proofs.Common.{◌≡◌, ◌⊎◌, ◌<◌, ◌≤◌, inl, inr, ⊎_elim, Bool, true, false, ℕ, zero, suc, List, [], ◌∷◌, Option, Some, None, Contains, get_or, length, eqb, slice_get, refl, sym}
+use Rattle.std.proofs.Common.{◌∙◌, ap, arith, if◌then◌else◌}
 use Rattle.std.specs.Option.{option_or}
 use Rattle.std.proofs.lemmas.Bool.{eqb-true}
-use Rattle.std.proofs.lemmas.List.Elements.{All-contains, Contains-append_cases}
-use Rattle.mig_base.specs.declared.ids.Shift.{Shift}
-use Rattle.mig_base.specs.declared.ids.Spot.{Spot}
-use Rattle.mig_base.specs.Arrivals.{IsPlanSpot}
-use Rattle.mig_base.specs.InputLists.{Lists}
-use Rattle.mig_base.specs.Layouts.{At, last_target, round_at}
-use Rattle.mig_base.specs.Readiness.{IsShifted, shifts_of}
-use Rattle.mig_base.specs.Running.{Runs}
+use Rattle.mig_top.proofs.Common.{All-contains, At, IsPlanSpot, Lists, Runs, Shift, Spot, round_at, shifts_of}
+use Rattle.std.proofs.lemmas.List.Elements.{Contains-append_cases}
+use Rattle.mig_base.specs.Layouts.{last_target}
+use Rattle.mig_base.specs.Readiness.{IsShifted}
 
 -- a shift of the plan is one of a round
 in_round : (plan : List (List Shift)) (s : Shift) → Contains (shifts_of plan) s → (i : ℕ) × (i < length plan) × Contains (get_or plan i []) s
@@ -21,7 +18,8 @@ last_shift : (shifts : List Shift) (item : ℕ) (t : Spot) → last_target shift
 last_shift [] item t e = absurd cc
 last_shift (s ∷ shifts) item t e = by (last_shift shifts item) (last_target shifts item) refl (eqb s.item.0 item) refl
   where
-    by : ((u : Spot) → last_target shifts item ≡ Some u → (x : Shift) × Contains shifts x × (x.item.0 ≡ item)) → (o : Option Spot) → last_target shifts item ≡ o → (b : Bool) → eqb s.item.0 item ≡ b → (x : Shift) × Contains (s ∷ shifts) x × (x.item.0 ≡ item)
+    by : ((u : Spot) → last_target shifts item ≡ Some u → (x : Shift) × Contains shifts x × (x.item.0 ≡ item)) → (o : Option Spot) → last_target shifts item ≡ o → (b : Bool)
+        → eqb s.item.0 item ≡ b → (x : Shift) × Contains (s ∷ shifts) x × (x.item.0 ≡ item)
     by more (Some u) later b here = let found = more u later in (found.0, (suc found.1.0, let lt = found.1.1 in omega arith, found.1.2), found.2)
     by more None later true here = (s, (0, omega arith, refl), eqb-true s.item.0 item here)
     by more None later false here =

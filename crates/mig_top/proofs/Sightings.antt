@@ -1,26 +1,17 @@
 -- The lines of an audit.
-use Rattle.std.proofs.Common.{◌≡◌, ◌+◌, ◌-◌, ◌<◌, ◌≤◌, Bool, true, false, ℕ, zero, suc, List, [], ◌++◌, MatchBool, IfSome, Option, Some, None, length, take, refl, sym, subst, ◌∙◌, append_assoc, append-nil, arith, if◌then◌else◌}
-use Rattle.std.specs.Prelude.{bytes_eq}
-use Rattle.std.proofs.lemmas.Bool.{false≢true}
+use Rattle.std.proofs.Common.{◌≡◌, ◌+◌, ◌-◌, ◌<◌, ◌≤◌, Bool, true, false, ℕ, zero, suc, List, [], ◌++◌, MatchBool, IfSome, Option, Some, None, length, take, refl, sym, subst, ◌∙◌}
+use Rattle.std.proofs.Common.{append_assoc, append-nil, arith, if◌then◌else◌}
+use Rattle.mig_top.proofs.Common.{AuditStops, Cell, Extends, Flight, HasHeader, HavePutSights, IsAudit, IsMoving, IsTargetOf, Lists, Looks, NoCell, SinkState, State, Stop, bytes_eq, changes_then}
+use Rattle.mig_top.proofs.Common.{changes_wider, false≢true, item_cell, item_name, sight_count, then_begins, then_extends}
 use Rattle.std.proofs.lemmas.Slice.Eq.{bytes_eq-Decides}
 use Rattle.sha2.specs.Sha256.{sha256}
-use Rattle.mig_base.specs.declared.cells.Cell.{Cell}
-use Rattle.mig_base.specs.declared.cells.Flight.{Flight}
-use Rattle.mig_base.specs.Flights.{IsTargetOf}
-use Rattle.mig_base.specs.InputLists.{Lists}
-use Rattle.mig_base.specs.Slots.{HasHeader, header_of, item_cell}
-use Rattle.mig_base.specs.Stores.{State, IsMoving, Looks}
-use Rattle.mig_base.specs.Texts.{item_name}
-use Rattle.mig_base.specs.Images.{NoCell}
+use Rattle.mig_base.specs.Slots.{header_of}
 use Rattle.mig_base.proofs.Landing.{flights_same}
-use Rattle.mig_base.proofs.StoreSteps.{changes_then, changes_wider}
-use Rattle.mig_io.specs.Held.{SinkState, Extends}
 use Rattle.mig_mover.specs.declared.sights.Sight.{Sight}
-use Rattle.mig_top.specs.Audits.{AuditStops, HasPutSight, HavePutSights, SightStops}
-use Rattle.mig_top.specs.declared.audit_command.Stop.{Stop}
+use Rattle.mig_top.specs.Audits.{HasPutSight, SightStops}
 use Rattle.mig_top.specs.declared.audit_command.Stop.TheVariants as stop
-use Rattle.mig_top.specs.Sights.{AreSightLines, IsAudit, IsSightOf, sight_count, sight_line}
-use Rattle.mig_words.proofs.PutTexts.{puts_nothing, then_begins, then_extends}
+use Rattle.mig_top.specs.Sights.{AreSightLines, IsSightOf, sight_line}
+use Rattle.mig_words.proofs.PutTexts.{puts_nothing}
 
 -- what is seen of an item is seen at the beginning, where nothing was written since
 module _ (old mid : State) (looks : Looks old mid) where
@@ -109,7 +100,9 @@ some_sight input store item = by (store.reads (item_cell input item)) refl
     by (Some slot) e = (
       record { named = bytes_eq (take 34 slot) (header_of name); digest = sha256 slot },
       record {
-        named = λ still. subst (λ (o : Option (List ℕ)). IfSome o (λ s. MatchBool (bytes_eq (take 34 slot) (header_of name)) (HasHeader name s) (¬ HasHeader name s))) (sym e) (tell slot (bytes_eq (take 34 slot) (header_of name)) refl);
+        named =
+            λ still. subst (λ (o : Option (List ℕ)). IfSome o (λ s. MatchBool (bytes_eq (take 34 slot) (header_of name)) (HasHeader name s) (¬ HasHeader name s)))
+            (sym e) (tell slot (bytes_eq (take 34 slot) (header_of name)) refl);
         digest = λ still. subst (λ (o : Option (List ℕ)). IfSome o (λ s. sha256 slot ≡ sha256 s)) (sym e) refl;
       },
     )
@@ -121,14 +114,22 @@ pub record GoesOn (input : Lists) (store : State) (item : ℕ) (lines : List ℕ
   pub are : AreSightLines input store item (lines ++ rest) here
 
 more_lines : (input : Lists) (store : State) (more item : ℕ) (lines : List ℕ) (here : ℕ) → AreSightLines input store item lines here → GoesOn input store (more + item) lines
-more_lines input store zero item lines here are = record { rest = []; here = here; are = subst (λ (n : ℕ). AreSightLines input store n (lines ++ []) here) (let e : item ≡ 0 + item = omega arith in e) (subst (λ (l : List ℕ). AreSightLines input store item l here) (sym (append-nil lines)) are) }
+more_lines input store zero item lines here are =
+    record {
+      rest = [];
+      here = here;
+      are = subst (λ (n : ℕ). AreSightLines input store n (lines ++ []) here) (let e : item ≡ 0 + item = omega arith in e)
+          (subst (λ (l : List ℕ). AreSightLines input store item l here) (sym (append-nil lines)) are);
+    }
 more_lines input store (suc more) item lines here are =
     let go = more_lines input store more item lines here are in
     let next = some_sight input store (more + item) in
     record {
       rest = go.rest ++ sight_line input (more + item) next.0;
       here = go.here + (if next.0.named then 1 else 0);
-      are = subst (λ (n : ℕ). AreSightLines input store n (lines ++ (go.rest ++ sight_line input (more + item) next.0)) (go.here + (if next.0.named then 1 else 0))) (let e : suc (more + item) ≡ suc more + item = omega arith in e)
+      are =
+          subst (λ (n : ℕ). AreSightLines input store n (lines ++ (go.rest ++ sight_line input (more + item) next.0)) (go.here + (if next.0.named then 1 else 0)))
+          (let e : suc (more + item) ≡ suc more + item = omega arith in e)
           (lines ++ go.rest, go.here, next.0, go.are, next.1, sym (append_assoc lines go.rest (sight_line input (more + item) next.0)), refl);
     }
 
@@ -142,5 +143,11 @@ whole_audit input store item lines here most are =
     let go = more_lines input store (length input.items - item) item lines here are in
     record {
       rest = go.rest ++ sight_count input go.here;
-      audit = (lines ++ go.rest, go.here, subst (λ (n : ℕ). AreSightLines input store n (lines ++ go.rest) go.here) (let e : length input.items - item + item ≡ length input.items = omega (arith, most) in e) go.are, sym (append_assoc lines go.rest (sight_count input go.here)));
+      audit = (
+        lines ++ go.rest,
+        go.here,
+        subst (λ (n : ℕ). AreSightLines input store n (lines ++ go.rest) go.here)
+            (let e : length input.items - item + item ≡ length input.items = omega (arith, most) in e) go.are,
+        sym (append_assoc lines go.rest (sight_count input go.here)),
+      );
     }

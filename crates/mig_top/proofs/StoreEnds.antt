@@ -1,34 +1,21 @@
 -- What the ends of commands say of the store.
 use Rattle.std.proofs.Common.{◌≡◌, ◌≢◌, inl, inr, ⊎_elim, ℕ, List, [], ◌∷◌, refl, sym, subst, ◌∙◌, arith}
 use Rattle.std.specs.Option.{IfSome}
-use Rattle.mig_base.specs.declared.cells.Cell.{Cell}
-use Rattle.mig_base.specs.declared.cells.Event.{Event}
-use Rattle.mig_base.specs.Flights.{AreFlights, IsTargetOf}
-use Rattle.mig_base.specs.Images.{Image, NoCell, SameBut}
-use Rattle.mig_base.specs.InputLists.{Lists}
-use Rattle.mig_base.specs.Stores.{State, IsState, Changes, IsMoving, Looks, flights}
-use Rattle.mig_base.proofs.StoreSteps.{changes_none, same_image}
-use Rattle.mig_io.specs.Files.{Files}
-use Rattle.mig_mover.specs.Moves.{Settles}
-use Rattle.mig_mover.specs.Tasks.{Task}
-use Rattle.mig_words.specs.declared.endings.Ending.{Ending}
+use Rattle.mig_top.proofs.Common.{AreFlights, Audit, Call, CauseIn, Cell, Ending, EndsAs, Event, Files, Fill, FolderLeaves, Form, Halt, HasFiles, Image, IsEndOf, IsMoving, IsOrNotPut, IsState}
+use Rattle.mig_top.proofs.Common.{IsTargetOf, IsUntouched, IsUnwritten, Lists, Looks, Move, MoveLeaves, Names, NoCell, Outcome, Resume, Settles, State, Step, StopsFrom, StoreLeaves, Task}
+use Rattle.mig_top.proofs.Common.{WorldEnds, WroteNothing, after, code, flights, four_and, layout_in, outcome_of, same_image, task_in}
+use Rattle.mig_base.specs.Images.{SameBut}
+use Rattle.mig_base.specs.Stores.{Changes}
+use Rattle.mig_base.proofs.StoreSteps.{changes_none}
 use Rattle.mig_words.specs.Outcomes as out
-use Rattle.mig_words.specs.Outcomes.{Outcome, code, outcome_of}
-use Rattle.mig_words.specs.Words.{Form, Names, Fill, Audit, Move, Resume, Halt, four_and}
-use Rattle.mig_top.specs.Calls.{Call}
-use Rattle.mig_top.specs.Ends.{CauseIn, EndsAs, FolderLeaves, HasFiles, IsOrNotPut, StoreLeaves, WorldEnds}
-use Rattle.mig_top.specs.HaltLeaves.{IsUnwritten}
 use Rattle.mig_top.specs.Headline.{WritesLast}
-use Rattle.mig_top.specs.MoveLeaves.{MoveLeaves}
-use Rattle.mig_top.specs.Loads.{layout_in, task_in}
-use Rattle.mig_top.specs.Steps.{Step, after, IsEndOf, StopsFrom}
-use Rattle.mig_top.specs.StoreLeaves.{IsUntouched, WroteNothing}
 use Rattle.mig_top.proofs.EndsOf.{IsUnread, files_cause, files_unread, is_unread}
 use Rattle.mig_top.proofs.Steps.{stops_first}
 
 -- a store that no call was made of
 pub untouched : (store : State) → IsUntouched store store
-untouched store = record { reads = refl; leaves = λ image left. left; left = λ image left. left; moment = refl; since = λ t image left. left; left_since = λ t image left. left; events = refl; faults = refl }
+untouched store =
+    record { reads = refl; leaves = λ image left. left; left = λ image left. left; moment = refl; since = λ t image left. left; left_since = λ t image left. left; events = refl; faults = refl }
 
 pub looks_none : (store : State) → Looks store store
 looks_none store = changes_none (IsMoving store) NoCell store
@@ -53,7 +40,8 @@ settled_left old new settles told =
 
 -- no copies are copies between slots
 pub no_flights : (store : State) → flights store ≡ [] → AreFlights (flights store)
-no_flights store none = subst AreFlights (sym none) (record { slots = λ k d lt. absurd (omega (arith, lt)); apart = λ i j d lt within. absurd (omega (arith, within)); still = λ k d lt. absurd (omega (arith, lt)) })
+no_flights store none =
+    subst AreFlights (sym none) (record { slots = λ k d lt. absurd (omega (arith, lt)); apart = λ i j d lt within. absurd (omega (arith, within)); still = λ k d lt. absurd (omega (arith, lt)) })
 
 -- a command whose files weren't loaded or read leaves the store as it was
 pub unread_store : (k : Call) (form : Form) (o : Outcome) → IsUnread o → IsUntouched k.before.store k.after.store → StoreLeaves k form o
@@ -99,7 +87,8 @@ unread_store k (Halt names layout) o u kept = by o u
 unread_store k form o u kept = kept
 
 -- how such a command ends: one over a task, and one over a layout
-module _ (k : Call) (form : Form) (names : List (List ℕ)) (has : HasFiles form) (leaves : (o : Outcome) → IsUnread o → FolderLeaves k.before.folder k.after.folder form o) (kept : IsUntouched k.before.store k.after.store) where
+module _ (k : Call) (form : Form) (names : List (List ℕ)) (has : HasFiles form) (leaves : (o : Outcome) → IsUnread o → FolderLeaves k.before.folder k.after.folder form o)
+    (kept : IsUntouched k.before.store k.after.store) where
   unread_ends : (steps : Files → Step (List ℕ)) → ((o : Outcome) → IfSome k.before.folder.files (λ files. IsEndOf (steps files) o) → CauseIn k.before form o)
       → (e : Ending) → StopsFrom k.before.folder k.after.folder names (λ files. (steps files).Stops) e → WorldEnds k form (outcome_of names e)
   unread_ends steps to e h =
@@ -110,17 +99,20 @@ module _ (k : Call) (form : Form) (names : List (List ℕ)) (has : HasFiles form
         store = unread_store k form (outcome_of names e) u kept;
       }
 
-  pub first_unread : {A : Type 0} (first : Files → Step A) (rest : A → Step (List ℕ)) → ((o : Outcome) → IfSome k.before.folder.files (λ files. IsEndOf (after (first files) rest) o) → CauseIn k.before form o)
+  pub first_unread : {A : Type 0} (first : Files → Step A) (rest : A → Step (List ℕ))
+      → ((o : Outcome) → IfSome k.before.folder.files (λ files. IsEndOf (after (first files) rest) o) → CauseIn k.before form o)
       → (e : Ending) → StopsFrom k.before.folder k.after.folder names (λ files. (first files).Stops) e → WorldEnds k form (outcome_of names e)
   first_unread first rest to e h = unread_ends (λ files. after (first files) rest) to e
       (stops_first k.before.folder k.after.folder names (λ files. (first files).Stops) (λ files. (after (first files) rest).Stops) (λ files o s. inl s) e h)
 
-pub task_unread : (k : Call) (form : Form) (names : Names) (rest : Task → Step (List ℕ)) → ((o : Outcome) → IfSome k.before.folder.files (λ files. IsEndOf (after (task_in names files) rest) o) → CauseIn k.before form o)
+pub task_unread : (k : Call) (form : Form) (names : Names) (rest : Task → Step (List ℕ))
+    → ((o : Outcome) → IfSome k.before.folder.files (λ files. IsEndOf (after (task_in names files) rest) o) → CauseIn k.before form o)
     → HasFiles form → ((o : Outcome) → IsUnread o → FolderLeaves k.before.folder k.after.folder form o) → IsUntouched k.before.store k.after.store
     → (e : Ending) → StopsFrom k.before.folder k.after.folder (four_and names []) (λ files. (task_in names files).Stops) e → WorldEnds k form (outcome_of (four_and names []) e)
 task_unread k form names rest to has leaves kept = first_unread k form (four_and names []) has leaves kept (task_in names) rest to
 
-pub layout_unread : (k : Call) (form : Form) (disks now : List ℕ) (rest : Lists → Step (List ℕ)) → ((o : Outcome) → IfSome k.before.folder.files (λ files. IsEndOf (after (layout_in disks now files) rest) o) → CauseIn k.before form o)
+pub layout_unread : (k : Call) (form : Form) (disks now : List ℕ) (rest : Lists → Step (List ℕ))
+    → ((o : Outcome) → IfSome k.before.folder.files (λ files. IsEndOf (after (layout_in disks now files) rest) o) → CauseIn k.before form o)
     → HasFiles form → ((o : Outcome) → IsUnread o → FolderLeaves k.before.folder k.after.folder form o) → IsUntouched k.before.store k.after.store
     → (e : Ending) → StopsFrom k.before.folder k.after.folder (disks ∷ now ∷ []) (λ files. (layout_in disks now files).Stops) e → WorldEnds k form (outcome_of (disks ∷ now ∷ []) e)
 layout_unread k form disks now rest to has leaves kept = first_unread k form (disks ∷ now ∷ []) has leaves kept (layout_in disks now) rest to

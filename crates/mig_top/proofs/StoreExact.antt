@@ -1,21 +1,10 @@
 -- The steps of commands over a store are exact, where it tells the cells that decide and has no copy in flight.
 use Rattle.std.proofs.Common.{◌≡◌, ◌≢◌, inl, inr, ℕ, List, [], Option, Some, None, IfSome, IsSome, refl, sym, ◌∙◌, ap, subst}
-use Rattle.std.proofs.lemmas.Bool.{false≢true}
-use Rattle.std.proofs.lemmas.Option.{slice_get_within, get_or_from_slice_get}
-use Rattle.mig_base.specs.declared.ids.Spot.{Spot}
-use Rattle.mig_base.specs.Flights.{IsTargetOf}
-use Rattle.mig_base.specs.Images.{Image, NoCell}
-use Rattle.mig_base.specs.InputLists.{Lists}
-use Rattle.mig_base.specs.JobCells.{Tells}
-use Rattle.mig_base.specs.Slots.{IsUnused, first_byte, slot_of}
-use Rattle.mig_base.specs.Stores.{State, flights}
+use Rattle.mig_top.proofs.Common.{Image, IsFillCell, IsFillRefusal, IsFillable, IsFound, IsShown, IsTargetOf, IsUnused, Lists, MoveFault, NoCell, Outcome, Spot, State, Tells, TellsStill, code}
+use Rattle.mig_top.proofs.Common.{false≢true, fault_outcome, fills, first_byte, flights, get_or_from_slice_get, same_image, same_wider, slice_get_within, slot_of}
 use Rattle.mig_base.proofs.Landing.{no_target}
-use Rattle.mig_base.proofs.StoreSteps.{same_image, same_wider}
-use Rattle.mig_mover.specs.Fillings.{IsFillable, IsFillRefusal, IsFirstTaken}
-use Rattle.mig_mover.specs.declared.faults.MoveFault.{MoveFault}
+use Rattle.mig_mover.specs.Fillings.{IsFirstTaken}
 use Rattle.mig_mover.specs.declared.faults.MoveFault.TheVariants.{Started, Occupied}
-use Rattle.mig_words.specs.Outcomes.{Outcome, code, fault_outcome}
-use Rattle.mig_top.specs.StoreLooks.{IsFillCell, IsFound, IsShown, TellsStill, fills}
 use Rattle.mig_top.proofs.Steps.{IsExact}
 
 -- without a copy in flight reads are what is found
@@ -44,7 +33,8 @@ module _ (input : Lists) (image : Image) (told : Tells (IsFillCell input) image)
       let within = slice_get_within input.spots taken.item spot taken.listed in
       let here = get_or_from_slice_get input.spots taken.item spot spot taken.listed in
       let unused : IsUnused input image spot = subst (λ (s : Spot). IsUnused input image s) here (fillable.unused taken.item spot within) in
-      told_apart (image (slot_of input spot)) (λ slot. first_byte slot ≡ 1) (λ slot. first_byte slot ≢ 1) (told (slot_of input spot) (inr (spot, (taken.item, within, here), refl))) (λ slot p q. q p) taken.used unused
+      told_apart (image (slot_of input spot)) (λ slot. first_byte slot ≡ 1) (λ slot. first_byte slot ≢ 1) (told (slot_of input spot) (inr (spot, (taken.item, within, here), refl)))
+      (λ slot p q. q p) taken.used unused
 
   fill_not_both : (fault : MoveFault) → IsFillable input image → IsFillRefusal input image fault → ⊥
   fill_not_both Started fillable running = false≢true (sym fillable.idle ∙ running (told _ (inl refl)))

@@ -1,17 +1,9 @@
 -- What `fill` and `audit` promise, from the causes of their outcomes and what they leave.
 use Rattle.std.proofs.Common.{◌≡◌, ℕ, List, [], ◌++◌, Some, refl, subst, arith}
-use Rattle.mig_base.specs.InputLists.{Lists}
-use Rattle.mig_io.specs.Files.{Files}
-use Rattle.mig_words.specs.Outcomes.{Done}
-use Rattle.mig_words.specs.Words.{Fill, Audit, IsListed}
-use Rattle.mig_top.specs.Calls.{Call}
-use Rattle.mig_top.specs.Ends.{EndsAs, WorldEnds}
+use Rattle.mig_top.proofs.Common.{Audit, Call, Done, EndsAs, Files, Fill, IsAudit, IsFillCell, IsListed, Lists, TellsStill, WorldEnds, filled_text, finds, layout_in}
 use Rattle.mig_top.specs.Headline.{AuditsWell, FillsWell}
-use Rattle.mig_top.specs.Loads.{HoldsLayout, layout_in}
-use Rattle.mig_top.specs.Sights.{IsAudit}
-use Rattle.mig_top.specs.Steps.{finds}
+use Rattle.mig_top.specs.Loads.{HoldsLayout}
 use Rattle.mig_top.specs.StoreLeaves.{IsFilled}
-use Rattle.mig_top.specs.StoreLooks.{IsFillCell, TellsStill, filled_text}
 use Rattle.mig_top.proofs.EndsOf.{cause_at, done_by, ends_of, put_by, told_at}
 use Rattle.mig_top.proofs.Exactness.{comes_exactly, layout_in_exact}
 use Rattle.mig_top.proofs.Filling.{fill_rest}
@@ -44,8 +36,12 @@ module _ (k : Call) (words : List (List ℕ)) (status : ℕ) (ends : EndsAs k wo
     pub audits_well : AuditsWell k input status
     audits_well = record {
       said = λ zero.
-          let (text, h, put) = put_by (WorldEnds k (Audit disks now)) k.before.sink k.after.sink status (ends_of k words status ends (Audit disks now) l) zero in
-          (text, follow (layout_in disks now files) (layout_in_exact disks now files) (λ i. finds (IsAudit i k.before.store)) input holds (Done text) (cause_at k files is (Audit disks now) (Done text) h.cause), put);
+          let (text, h, put) = put_by (WorldEnds k (Audit disks now)) k.before.sink k.after.sink status (ends_of k words status ends (Audit disks now) l) zero in (
+            text,
+            follow (layout_in disks now files) (layout_in_exact disks now files) (λ i. finds (IsAudit i k.before.store)) input holds
+                (Done text) (cause_at k files is (Audit disks now) (Done text) h.cause),
+            put,
+          );
       audits = λ fine quiet sound.
           let whole = whole_audit input k.before.store 0 [] 0 (omega arith) (refl, refl) in
           comes_exactly k words status ends files (Audit disks now) is l (Done ([] ++ whole.rest)) (input, holds, whole.audit) fine quiet sound;

@@ -89,7 +89,8 @@ pub record HaltsAll (task : Task) (old new : State) (k : ℕ) : Type 0 where
 -- refusal comes from a store that is settled, and so does what ends the command between.
 abbrev pub HaltLeaves : FolderState → FolderState → State → State → Names → List ℕ → Outcome → Type 0
 HaltLeaves from to old new names layout (Done text) = ForTask from names (λ task. (k : ℕ) × HaltsAll task old new k × SavesLayout task layout k from to × (text ≡ halted_text task.plan k))
-HaltLeaves from to old new names layout (StoreFault before) = (Lands old new × calls.Untouched from to) ⊎ ForTask from names (λ task. (k : ℕ) × HaltsInPart task old new k × SavesLayout task layout k from to)
+HaltLeaves from to old new names layout (StoreFault before) =
+    (Lands old new × calls.Untouched from to) ⊎ ForTask from names (λ task. (k : ℕ) × HaltsInPart task old new k × SavesLayout task layout k from to)
 HaltLeaves from to old new names layout FolderFault = IsUnwritten old new
 HaltLeaves from to old new names layout Memory = IsUnwritten old new
 HaltLeaves from to old new names layout NotStarted = Settles old new

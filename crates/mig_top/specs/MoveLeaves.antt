@@ -62,7 +62,8 @@ pub record ResumesAll (task : Task) (old new : State) (k : ℕ) : Type 0 where
   pub moves : MovesAll task old new k
   pub halting : KeepsHalting task old new
   pub halted : (contents : Contents) (n : ℕ) → Tells (IsJobCell task.input task.plan) old.reads → MayBeHalting task contents old n → IsArrived task.input task.plan task.digest contents new.reads
-  pub kept : (contents : Contents) → Tells (IsJobCell task.input task.plan) old.reads → SettlesTo (IsReached task.input task.plan task.digest contents) old → IsReached task.input task.plan task.digest contents new.reads
+  pub kept : (contents : Contents) → Tells (IsJobCell task.input task.plan) old.reads → SettlesTo (IsReached task.input task.plan task.digest contents) old
+      → IsReached task.input task.plan task.digest contents new.reads
 
 -- with some task that the files stand for
 abbrev pub ForTask : FolderState → Names → (Task → Type 0) → Type 0

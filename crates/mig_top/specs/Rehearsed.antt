@@ -52,4 +52,5 @@ pub record IsRehearsed (input : Lists) (text : List ℕ) : Type 0 where
   pub made : IsCertified input rounds certificate
   pub digest : List ℕ
   pub of_plan : IsPlanDigest input rounds digest
-  pub lines : text ≡ text_of_lines (eight_lines (length input.disks) (length input.items) (length (moves input)) (quotient (transfers input)) (length rounds) (bound_value certificate.bound) (verdict_word rounds certificate) digest)
+  pub lines : text ≡ text_of_lines (eight_lines (length input.disks) (length input.items) (length (moves input)) (quotient (transfers input)) (length rounds) (bound_value certificate.bound)
+      (verdict_word rounds certificate) digest)

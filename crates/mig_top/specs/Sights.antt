@@ -13,7 +13,8 @@ use Rattle.mig_words.specs.Outcomes.{joined}
 
 -- where the item's slot is told and no copy to it is in flight: whether its header names the item, and its digest
 pub record IsSightOf (input : Lists) (store : State) (item : ℕ) (sight : Sight) : Type 0 where
-  pub named : ¬ IsMoving store (item_cell input item) → IfSome (store.reads (item_cell input item)) (λ slot. MatchBool sight.named (HasHeader (item_name input item) slot) (¬ HasHeader (item_name input item) slot))
+  pub named : ¬ IsMoving store (item_cell input item)
+      → IfSome (store.reads (item_cell input item)) (λ slot. MatchBool sight.named (HasHeader (item_name input item) slot) (¬ HasHeader (item_name input item) slot))
   pub digest : ¬ IsMoving store (item_cell input item) → IfSome (store.reads (item_cell input item)) (λ slot. sight.digest ≡ sha256 slot)
 
 -- the spot where an item is listed

@@ -1,9 +1,5 @@
 use Rattle.std.proofs.Common.{[], inl}
-use Rattle.mig_words.specs.Commands.{names_in}
-use Rattle.mig_words.specs.Words.{four_and}
-use Rattle.mig_top.specs.Bodies.{task_read}
-use Rattle.mig_top.specs.Causes.{lays_out}
-use Rattle.mig_top.specs.Loads.{task_in}
+use Rattle.mig_top.proofs.Common.{four_and, lays_out, names_in, task_in, task_read}
 use Rattle.mig_top.proofs.Steps.{handed_from, if_map, stops_first}
 use Rattle.mig_top.proofs.after_command.after.Goals as goal
 

@@ -1,5 +1,5 @@
 use Rattle.std.proofs.Common.{◌≡◌, ◌+◌, ℕ, length, sym, subst, arith}
-use Rattle.mig_top.specs.Audits.{AuditStops, HavePutSights}
+use Rattle.mig_top.proofs.Common.{AuditStops, HavePutSights}
 use Rattle.mig_top.proofs.Sightings.{line_more, line_stops, looks_then, no_lines}
 use Rattle.mig_top.proofs.Results.{handed_on}
 use Rattle.mig_top.proofs.StoreEnds.{looks_none}
@@ -38,10 +38,12 @@ returns-in_err-put_sight-clause-stopped g c =
     let first = g.K.Sink.state c.args.out.now in
     let new = g.K.Sink.state c.put_sight.new.out in
     handed_on c.from_residual.result c.in_err-put_sight.field-0.0 (AuditStops input old last first new) c.from_residual.ensures.1
-    (line_stops input old (g.S.Store.state c.loop-item.store) inv.looks c.loop-item.item first (g.K.Sink.state c.loop-item.out) c.loop-item.here inv.put (omega (arith, c.loop-item-test.true, c.item_count-item-end.ensures.count)) last inv.later inv.store_later new c.in_err-put_sight.field-0.0 c.in_err-put_sight.ensures.stopped)
+    (line_stops input old (g.S.Store.state c.loop-item.store) inv.looks c.loop-item.item first (g.K.Sink.state c.loop-item.out) c.loop-item.here inv.put
+    (omega (arith, c.loop-item-test.true, c.item_count-item-end.ensures.count)) last inv.later inv.store_later new c.in_err-put_sight.field-0.0 c.in_err-put_sight.ensures.stopped)
 
 pub returns-in_err-put_sight-clause-looks : goal.returns-in_err-put_sight-clause-looks
-returns-in_err-put_sight-clause-looks g c = looks_then (g.S.Store.state c.args.store.now) (g.S.Store.state c.loop-item.store) c.loop-item.invariant.looks (g.S.Store.state c.put_sight.new.store) c.put_sight.ensures.looks
+returns-in_err-put_sight-clause-looks g c =
+    looks_then (g.S.Store.state c.args.store.now) (g.S.Store.state c.loop-item.store) c.loop-item.invariant.looks (g.S.Store.state c.put_sight.new.store) c.put_sight.ensures.looks
 
 pub returns-in_err-put_sight-clause-later : goal.returns-in_err-put_sight-clause-later
 returns-in_err-put_sight-clause-later g c = omega (arith, c.loop-item.invariant.later, c.put_sight.ensures.later)

@@ -1,6 +1,5 @@
 use Rattle.std.proofs.Common.{◌≤◌}
-use Rattle.mig_base.specs.Stores.{Looks}
-use Rattle.mig_top.specs.Audits.{HavePutSights}
+use Rattle.mig_top.proofs.Common.{HavePutSights, Looks}
 use Rattle.mig_top.proofs.audit_command.put_sights.Given as goal
 
 -- the lines so far were put

@@ -1,11 +1,6 @@
 use Rattle.std.proofs.Common.{[], ◌∷◌, inl, inr, refl, subst, Option}
 use Rattle.std.specs.Option.{IfSome}
-use Rattle.mig_io.specs.Files.{Files}
-use Rattle.mig_words.specs.Commands.{names_in}
-use Rattle.mig_words.specs.Words.{four_and}
-use Rattle.mig_top.specs.Bodies.{plan_bodies_of}
-use Rattle.mig_top.specs.Causes.{checks, reads_verdict}
-use Rattle.mig_top.specs.Loads.{HoldsFirst, loads, loads_plan}
+use Rattle.mig_top.proofs.Common.{Files, HoldsFirst, checks, four_and, loads, loads_plan, names_in, plan_bodies_of, reads_verdict}
 use Rattle.mig_top.proofs.Steps.{answers_in, handed_from, if_both, stops_first, stops_later}
 use Rattle.mig_top.proofs.check_command.check.Goals as goal
 
@@ -43,5 +38,6 @@ returns-clause-takes g c =
     let last = c.in_ok-last.last.items in
     let here = subst (λ (f : Option Files). IfSome f (λ files. HoldsFirst files cert last)) c.load_plan.ensures.same (c.in_ok-last.ensures.takes names refl) in
     answers_in old new names (λ files. (loads_plan n files).Passes bodies × HoldsFirst files cert last) (if_both old.files (λ files one two. (one, two)) (c.in_ok-bytes.ensures.takes (cert ∷ [])) here)
-    (λ text. text.now) (checks n cert) (λ text. text.now) (reads_verdict bodies last) (λ files held text h. (bodies, held.0, (last, held.1, h))) (λ files o held s. inr (bodies, held.0, inr (last, held.1, s)))
+    (λ text. text.now) (checks n cert) (λ text. text.now) (reads_verdict bodies last) (λ files held text h. (bodies, held.0, (last, held.1, h)))
+    (λ files o held s. inr (bodies, held.0, inr (last, held.1, s)))
     c.verdict.result (rw c.deref.ensures.value at c.verdict.ensures)

@@ -1,20 +1,21 @@
 use Rattle.std.proofs.Common.{inl, inr}
-use Rattle.mig_top.specs.Bodies.{plan_bodies_of}
-use Rattle.mig_top.specs.Causes.{judges, reads_verdict}
-use Rattle.mig_top.specs.Loads.{IsNoCert, IsNoPlan, IsRefusal}
+use Rattle.mig_top.proofs.Common.{IsNoCert, IsNoPlan, judges, plan_bodies_of, reads_verdict}
+use Rattle.mig_top.specs.Loads.{IsRefusal}
 use Rattle.mig_top.proofs.Steps.{answers, handed_on, within}
 use Rattle.mig_top.proofs.check_command.verdict.Goals as goal
 
 pub returns-in_err-input : goal.returns-in_err-input
 returns-in_err-input c =
     let b = plan_bodies_of c.args.bytes.now in
-    handed_on (λ text. text.now) (reads_verdict b c.args.cert.now) (IsRefusal b.input) (λ o s. inl s) c.from_residual.result c.in_err-input.field-0.0 c.from_residual.ensures.1 c.in_err-input.ensures.takes
+    handed_on (λ text. text.now) (reads_verdict b c.args.cert.now)
+    (IsRefusal b.input) (λ o s. inl s) c.from_residual.result c.in_err-input.field-0.0 c.from_residual.ensures.1 c.in_err-input.ensures.takes
 
 pub returns-in_err-plan : goal.returns-in_err-plan
 returns-in_err-plan c =
     let b = plan_bodies_of c.args.bytes.now in
     let input = c.in_ok-input.input in
-    handed_on (λ text. text.now) (reads_verdict b c.args.cert.now) (IsNoPlan b.plan input) (λ o s. inr (input, c.in_ok-input.ensures.takes, inl s)) c.from_residual-in_err-plan.result c.in_err-plan.field-0.0
+    handed_on (λ text. text.now) (reads_verdict b c.args.cert.now)
+    (IsNoPlan b.plan input) (λ o s. inr (input, c.in_ok-input.ensures.takes, inl s)) c.from_residual-in_err-plan.result c.in_err-plan.field-0.0
     c.from_residual-in_err-plan.ensures.1 (rw c.deref.ensures.value at c.in_err-plan.ensures.takes)
 
 pub returns-in-Err : goal.returns-in-Err
@@ -32,5 +33,6 @@ returns c =
     let plan = c.in_ok-plan.plan in
     let cert = c.in-Ok.cert in
     let spelled = rw c.deref.ensures.value at c.in_ok-plan.ensures.takes in
-    answers (λ text. text.now) (reads_verdict b c.args.cert.now) (λ text. text.now) (judges input plan cert) (λ text h. (input, c.in_ok-input.ensures.takes, (plan, spelled, (cert, c.in-Ok.ensures.takes, h))))
+    answers (λ text. text.now) (reads_verdict b c.args.cert.now) (λ text. text.now) (judges input plan cert)
+    (λ text h. (input, c.in_ok-input.ensures.takes, (plan, spelled, (cert, c.in-Ok.ensures.takes, h))))
     (λ o s. inr (input, c.in_ok-input.ensures.takes, inr (plan, spelled, inr (cert, c.in-Ok.ensures.takes, s)))) c.verdict_on.result c.verdict_on.ensures

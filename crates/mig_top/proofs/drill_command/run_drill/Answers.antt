@@ -1,16 +1,10 @@
 use Rattle.std.proofs.Common.{◌≡◌, [], inl, inr, refl, subst, arith}
-use Rattle.mig_base.specs.FaultCounts.{Rose}
-use Rattle.mig_drill.specs.Drills.{drill_text, IsDrillFault}
+use Rattle.mig_top.proofs.Common.{Extends, ExtendsInPart, FolderEnds, Rose, SinkState, Untouched, drill_text, drills, four_and, names_in, text_of}
+use Rattle.mig_drill.specs.Drills.{IsDrillFault}
 use Rattle.mig_drill.specs.declared.faults.DrillFault.{DrillFault}
-use Rattle.mig_io.specs.Held.{SinkState, Extends, ExtendsInPart}
-use Rattle.mig_words.specs.Commands.{names_in}
-use Rattle.mig_words.specs.Outcomes.{Memory, text_of}
-use Rattle.mig_words.specs.Words.{four_and}
+use Rattle.mig_words.specs.Outcomes.{Memory}
 use Rattle.mig_words.specs.declared.endings.Ending.TheVariants as ending
 use Rattle.mig_words.proofs.PutTexts.{begins}
-use Rattle.mig_top.specs.Calls.{Untouched}
-use Rattle.mig_top.specs.Causes.{drills}
-use Rattle.mig_top.specs.Ends.{FolderEnds}
 use Rattle.mig_top.proofs.EndsOf.{files_unread, shown, told}
 use Rattle.mig_top.proofs.drill_command.run_drill.Goals as goal
 
@@ -40,7 +34,8 @@ returns-in-Err-Sink g c =
     let old = g.K.Sink.state c.args.out.now in
     let new = g.K.Sink.state c.drill.new.out in
     let failed : Rose old.faults new.faults = subst (λ (f : DrillFault). IsDrillFault old new f) c.in-Err-Sink.field-0-is c.in-Err-Sink.ensures.fault in
-    shown (FolderEnds from to (drills (names_in c.args.files)) (λ o. Untouched from to)) old new 6 (drill_text c.in-Ok.job.plan) (record { cause = c.in-Ok.ensures.takes; leaves = c.load_small_job.ensures.same })
+    shown (FolderEnds from to (drills (names_in c.args.files)) (λ o. Untouched from to)) old new 6
+    (drill_text c.in-Ok.job.plan) (record { cause = c.in-Ok.ensures.takes; leaves = c.load_small_job.ensures.same })
     (record { status = inr (refl, failed); begun = c.in-Err-Sink.ensures.in_part; done = λ zero. absurd (omega (arith, zero)); later = c.drill.ensures.later })
 
 pub returns : goal.returns

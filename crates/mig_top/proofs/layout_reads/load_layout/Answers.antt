@@ -1,7 +1,5 @@
 use Rattle.std.proofs.Common.{[], ◌∷◌, inl, inr}
-use Rattle.mig_base.specs.InputLists.{Lists}
-use Rattle.mig_top.specs.Bodies.{two_bodies_of}
-use Rattle.mig_top.specs.Loads.{layout_in, loads_layout, reads_layout}
+use Rattle.mig_top.proofs.Common.{Lists, layout_in, loads_layout, reads_layout, two_bodies_of}
 use Rattle.mig_top.proofs.Steps.{answers_in, handed_from, stops_first}
 use Rattle.mig_top.proofs.layout_reads.load_layout.Goals as goal
 
@@ -21,5 +19,6 @@ returns-clause-takes g c =
     let old = g.F.Folder.state c.args.folder.now in
     let new = g.F.Folder.state c.load_two.new.folder in
     let bodies = two_bodies_of c.in_ok-bytes.bytes in
-    answers_in old new (d ∷ n ∷ []) (λ files. (loads_layout d n files).Passes bodies) c.in_ok-bytes.ensures.takes (λ (input : Lists). input) (layout_in d n) (λ (input : Lists). input) (reads_layout bodies)
+    answers_in old new (d ∷ n ∷ []) (λ files. (loads_layout d n files).Passes bodies) c.in_ok-bytes.ensures.takes (λ (input : Lists). input) (layout_in d n)
+    (λ (input : Lists). input) (reads_layout bodies)
     (λ files held input h. (bodies, held, h)) (λ files o held s. inr (bodies, held, s)) c.layout_of.result c.layout_of.ensures

@@ -1,10 +1,6 @@
 use Rattle.std.proofs.Common.{inl, inr, refl, subst, ◌∙◌, arith, Option}
 use Rattle.std.specs.Option.{IfSome}
-use Rattle.mig_io.specs.Files.{Files}
-use Rattle.mig_words.specs.Commands.{names_in}
-use Rattle.mig_words.specs.Words.{four_and}
-use Rattle.mig_top.specs.Bodies.{bodies_of}
-use Rattle.mig_top.specs.Loads.{HoldsFirst, loads, loads_input}
+use Rattle.mig_top.proofs.Common.{Files, HoldsFirst, bodies_of, four_and, loads, loads_input, names_in}
 use Rattle.mig_top.proofs.Steps.{handed_from, if_both, stops_first, stops_later}
 use Rattle.mig_top.proofs.loads.load_input.Goals as goal
 
@@ -42,7 +38,8 @@ returns-in_err-next-clause-takes g c = λ others.
     handed_from old new names bodies_of (loads_input n) c.from_residual-in_err-next.result c.in_err-next.field-0.0 c.from_residual-in_err-next.ensures.1
     (stops_later old new names (λ files. HoldsFirst files n.disks first × HoldsFirst files n.now second) (if_both old.files (λ files one two. (one, two)) (c.in_ok-disks.ensures.takes names refl) now)
     mid (c.load_file-2.ensures.same ∙ c.load_file.ensures.same) (omega (arith, c.load_file.ensures.later, c.load_file-2.ensures.later))
-    (λ files. (loads n.next files).Stops) (λ files. (loads_input n files).Stops) (λ files o held s. inr (first, held.0, inr (second, held.1, inl s))) c.in_err-next.field-0.0 (c.in_err-next.ensures.takes names refl))
+    (λ files. (loads n.next files).Stops) (λ files. (loads_input n files).Stops) (λ files o held s. inr (first, held.0, inr (second, held.1, inl s))) c.in_err-next.field-0.0
+    (c.in_err-next.ensures.takes names refl))
 
 pub returns-clause-takes : goal.returns-clause-takes
 returns-clause-takes g c = λ others.

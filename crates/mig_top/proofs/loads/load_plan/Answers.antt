@@ -1,10 +1,6 @@
 use Rattle.std.proofs.Common.{inl, inr, refl, subst, Option}
 use Rattle.std.specs.Option.{IfSome}
-use Rattle.mig_io.specs.Files.{Files}
-use Rattle.mig_words.specs.Commands.{names_in}
-use Rattle.mig_words.specs.Words.{four_and}
-use Rattle.mig_top.specs.Bodies.{bodies_of, plan_bodies_of}
-use Rattle.mig_top.specs.Loads.{HoldsFirst, loads, loads_input, loads_plan}
+use Rattle.mig_top.proofs.Common.{Files, HoldsFirst, bodies_of, four_and, loads, loads_input, loads_plan, names_in, plan_bodies_of}
 use Rattle.mig_top.proofs.Steps.{handed_from, if_both, stops_first, stops_later}
 use Rattle.mig_top.proofs.loads.load_plan.Goals as goal
 

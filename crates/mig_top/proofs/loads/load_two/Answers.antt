@@ -1,8 +1,6 @@
 use Rattle.std.proofs.Common.{[], ◌∷◌, inl, inr, refl, subst, Option}
 use Rattle.std.specs.Option.{IfSome}
-use Rattle.mig_io.specs.Files.{Files}
-use Rattle.mig_top.specs.Bodies.{two_bodies_of}
-use Rattle.mig_top.specs.Loads.{HoldsFirst, loads, loads_layout}
+use Rattle.mig_top.proofs.Common.{Files, HoldsFirst, loads, loads_layout, two_bodies_of}
 use Rattle.mig_top.proofs.Steps.{handed_from, if_both, stops_first, stops_later}
 use Rattle.mig_top.proofs.loads.load_two.Goals as goal
 

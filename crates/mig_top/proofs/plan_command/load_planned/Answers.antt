@@ -1,9 +1,5 @@
 use Rattle.std.proofs.Common.{[], inl, inr, ⊎_elim}
-use Rattle.mig_words.specs.Commands.{names_in}
-use Rattle.mig_words.specs.Words.{four_and}
-use Rattle.mig_top.specs.Bodies.{bodies_of, texts_of}
-use Rattle.mig_top.specs.Causes.{makes_texts, plans_texts}
-use Rattle.mig_top.specs.Loads.{loads_input}
+use Rattle.mig_top.proofs.Common.{bodies_of, four_and, loads_input, makes_texts, names_in, plans_texts, texts_of}
 use Rattle.mig_top.proofs.Steps.{answers_in, handed_from, stops_first}
 use Rattle.mig_top.proofs.plan_command.load_planned.Goals as goal
 
@@ -13,7 +9,8 @@ returns-in_err-bytes-clause-takes g c =
     let old = g.F.Folder.state c.args.folder.now in
     let new = g.F.Folder.state c.load_input.new.folder in
     handed_from old new (four_and n []) texts_of (plans_texts n) c.from_residual.result c.in_err-bytes.field-0.0 c.from_residual.ensures.1
-    (stops_first old new (four_and n []) (λ files. (loads_input n files).Stops) (λ files. (plans_texts n files).Stops) (λ files o s. inl (inl s)) c.in_err-bytes.field-0.0 (c.in_err-bytes.ensures.takes []))
+    (stops_first old new (four_and n []) (λ files. (loads_input n files).Stops) (λ files. (plans_texts n files).Stops) (λ files o s. inl (inl s)) c.in_err-bytes.field-0.0
+    (c.in_err-bytes.ensures.takes []))
 
 pub returns-clause-takes : goal.returns-clause-takes
 returns-clause-takes g c =

@@ -1,13 +1,7 @@
 use Rattle.std.proofs.Common.{[], inl, inr, arith, subst, Option}
-use Rattle.std.specs.Option.{IfSome, IsSomeAnd}
-use Rattle.mig_io.specs.Files.{Files, OthersStay}
-use Rattle.mig_words.specs.Commands.{names_in}
-use Rattle.mig_words.specs.Outcomes.{Done, outcome_of}
-use Rattle.mig_words.specs.Words.{four_and}
+use Rattle.mig_top.proofs.Common.{Done, Files, FolderEnds, IsSomeAnd, OthersStay, PlanLeaves, four_and, names_in, outcome_of, plans, plans_texts, texts_of}
+use Rattle.std.specs.Option.{IfSome}
 use Rattle.mig_words.specs.declared.endings.Ending.TheVariants.{FolderFault}
-use Rattle.mig_top.specs.Bodies.{texts_of}
-use Rattle.mig_top.specs.Causes.{plans, plans_texts}
-use Rattle.mig_top.specs.Ends.{FolderEnds, PlanLeaves}
 use Rattle.mig_top.proofs.EndsOf.{files_unread, is_unread}
 use Rattle.mig_top.proofs.PlanSaves.{are_saved, half_saved, unread_saves}
 use Rattle.mig_top.proofs.Results.{handed_end}
@@ -49,7 +43,9 @@ returns-in_err-save-2 g c =
     handed_end c.from_residual-in_err-save-2.result FolderFault (λ text. Ends (Done text.items)) (λ e. Ends (outcome_of (four_and n []) e)) c.from_residual-in_err-save-2.ensures.1
     (record {
       cause = omega (arith, c.load_planned.ensures.later, c.save.ensures.later, c.in_err-save-2.ensures.failed);
-      leaves = inr (half_saved n c.args.cert.now c.requires (texts_of c.in_ok-texts.texts) old.files mid.files (g.F.Folder.state c.save.new.self).files new.files c.load_planned.ensures.same c.in_ok-texts.ensures.takes
+      leaves =
+          inr (half_saved n c.args.cert.now c.requires (texts_of c.in_ok-texts.texts) old.files mid.files
+          (g.F.Folder.state c.save.new.self).files new.files c.load_planned.ensures.same c.in_ok-texts.ensures.takes
           (rw c.deref.ensures.value at c.in_ok-save.ensures.saved) c.save-2.ensures.others);
     })
 
@@ -61,6 +57,8 @@ returns g c =
     let new = g.F.Folder.state c.save-2.new.self in
     record {
       cause = if_map old.files (λ files made. (made.0, made.1, tt)) c.in_ok-texts.ensures.takes;
-      leaves = are_saved n c.args.cert.now c.requires (texts_of c.in_ok-texts.texts) old.files mid.files (g.F.Folder.state c.save.new.self).files new.files c.load_planned.ensures.same c.in_ok-texts.ensures.takes
+      leaves =
+          are_saved n c.args.cert.now c.requires (texts_of c.in_ok-texts.texts) old.files mid.files
+          (g.F.Folder.state c.save.new.self).files new.files c.load_planned.ensures.same c.in_ok-texts.ensures.takes
           (rw c.deref.ensures.value at c.in_ok-save.ensures.saved) (rw c.deref-2.ensures.value at c.in_ok-save-2.ensures.saved);
     }

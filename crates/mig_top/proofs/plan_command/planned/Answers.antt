@@ -1,6 +1,5 @@
 use Rattle.std.proofs.Common.{inl}
-use Rattle.mig_top.specs.Bodies.{bodies_of, texts_of}
-use Rattle.mig_top.specs.Causes.{makes_texts}
+use Rattle.mig_top.proofs.Common.{bodies_of, makes_texts, texts_of}
 use Rattle.mig_top.specs.Loads.{IsRefusal}
 use Rattle.mig_top.proofs.Steps.{handed_on}
 use Rattle.mig_top.proofs.plan_command.planned.Goals as goal

@@ -1,9 +1,7 @@
-use Rattle.mig_base.specs.InputLists.{Lists}
-use Rattle.mig_top.specs.Bodies.{bodies_of}
-use Rattle.mig_top.specs.Loads.{IsRefusal, reads_input}
+use Rattle.mig_top.proofs.Common.{Lists, bodies_of, ending_of, reads_input}
+use Rattle.mig_top.specs.Loads.{IsRefusal}
 use Rattle.mig_top.proofs.Results.{input_ends}
 use Rattle.mig_top.proofs.Steps.{handed_on}
-use Rattle.mig_words.specs.Endings.{ending_of}
 use Rattle.mig_top.proofs.reads.read_files.Goals as goal
 
 pub returns-in_err-read_input-clause-takes : goal.returns-in_err-read_input-clause-takes

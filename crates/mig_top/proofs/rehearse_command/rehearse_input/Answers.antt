@@ -3,31 +3,38 @@ use Rattle.std.specs.Prelude.{IfOk}
 use Rattle.std.specs.String.{string_bytes}
 use Rattle.std.specs.declared.alloc.AllocError.{AllocError}
 use Rattle.std.specs.declared.alloc.Global.{Global}
-use Rattle.std.proofs.lemmas.List.{length-map}
-use Rattle.mig_base.specs.Bounding.{bound_value, quotient}
-use Rattle.mig_base.specs.InputLists.{Lists}
-use Rattle.mig_base.specs.Texts.{text_of_lines}
-use Rattle.mig_base.specs.Transfers.{Transfers, moves, transfers, trip}
-use Rattle.mig_base.specs.declared.certs.Cert.{Cert}
-use Rattle.mig_base.specs.declared.ids.Shift.{Shift}
+use Rattle.mig_top.proofs.Common.{Cert, IsRehearsed, Lists, Shift, Transfers, bound_value, length-map, quotient, text_of_lines, transfers}
+use Rattle.mig_base.specs.Transfers.{moves, trip}
 use Rattle.mig_top.specs.declared.rehearse_command.Numbers.{Numbers}
 use Rattle.mig_top.specs.Planned.{IsCertified}
-use Rattle.mig_top.specs.Rehearsed.{IsPlanDigest, IsRehearsed, eight_lines, verdict_word}
+use Rattle.mig_top.specs.Rehearsed.{IsPlanDigest, eight_lines, verdict_word}
 use Rattle.mig_top.proofs.rehearse_command.rehearse_input.Goals as goal
 
 -- the lines are those of the input and of its certified plan
-told : (input : Lists) (rounds : List (List Shift)) (certificate : Cert) → IsCertified input rounds certificate → (verdict digest : List ℕ) → verdict ≡ verdict_word rounds certificate → IsPlanDigest input rounds digest
-    → (n : Numbers) → n.disks ≡ length input.disks → n.items ≡ length input.items → n.moves ≡ length (transfers input).trips → n.quotient ≡ certificate.quotient → n.rounds ≡ certificate.rounds → n.bound ≡ bound_value certificate.bound
-    → (r : Result (Vec ℕ Global) AllocError) → IfOk r (λ text. text.items ≡ text_of_lines (eight_lines n.disks n.items n.moves n.quotient n.rounds n.bound verdict digest)) → IfOk r (λ text. IsRehearsed input text.items)
+told : (input : Lists) (rounds : List (List Shift)) (certificate : Cert) → IsCertified input rounds certificate → (verdict digest : List ℕ) → verdict ≡ verdict_word rounds certificate
+    → IsPlanDigest input rounds digest
+    → (n : Numbers) → n.disks ≡ length input.disks → n.items ≡ length input.items → n.moves ≡ length
+    (transfers input).trips → n.quotient ≡ certificate.quotient → n.rounds ≡ certificate.rounds → n.bound ≡ bound_value certificate.bound
+    → (r : Result (Vec ℕ Global) AllocError) → IfOk r (λ text. text.items ≡ text_of_lines (eight_lines n.disks n.items n.moves n.quotient n.rounds n.bound verdict digest)) → IfOk r
+    (λ text. IsRehearsed input text.items)
 told input rounds certificate made verdict digest is of_plan n d i m q r b (Err e) h = tt
 told input rounds certificate made verdict digest is of_plan n d i m q r b (Ok text) h =
     let by_moves : n.moves ≡ length (moves input) = m ∙ length-map (moves input) (trip input) in
     let of_input : n.quotient ≡ quotient (transfers input) = q ∙ made.holds.quotient_is in
     let of_rounds : n.rounds ≡ length rounds = r ∙ made.holds.rounds in
-    record { rounds = rounds; certificate = certificate; made = made; digest = digest; of_plan = of_plan; lines = h ∙ (λ t. text_of_lines (eight_lines (d t) (i t) (by_moves t) (of_input t) (of_rounds t) (b t) (is t) digest)) }
+    record {
+      rounds = rounds;
+      certificate = certificate;
+      made = made;
+      digest = digest;
+      of_plan = of_plan;
+      lines = h ∙ (λ t. text_of_lines (eight_lines (d t) (i t) (by_moves t) (of_input t) (of_rounds t) (b t) (is t) digest));
+    }
 
 pub returns : goal.returns
 returns c =
     let n = c.numbers_of-numbers.ensures in
-    told c.args.input.now c.in_ok-made.made.plan c.in_ok-made.made.cert c.in_ok-made.ensures.made c.in_ok-verdict.verdict.now (string_bytes c.in_ok-digest.digest) c.in_ok-verdict.ensures c.in_ok-digest.ensures
-    c.numbers_of-numbers.result n.disks n.items (n.moves ∙ ap (λ (g : Transfers). length g.trips) c.in_ok-graph.ensures) n.quotient n.rounds n.bound c.lines_of.result (rw c.as_bytes.ensures.value at c.lines_of.ensures)
+    told c.args.input.now c.in_ok-made.made.plan c.in_ok-made.made.cert c.in_ok-made.ensures.made c.in_ok-verdict.verdict.now
+    (string_bytes c.in_ok-digest.digest) c.in_ok-verdict.ensures c.in_ok-digest.ensures
+    c.numbers_of-numbers.result n.disks n.items (n.moves ∙ ap (λ (g : Transfers). length g.trips) c.in_ok-graph.ensures) n.quotient n.rounds n.bound c.lines_of.result
+    (rw c.as_bytes.ensures.value at c.lines_of.ensures)

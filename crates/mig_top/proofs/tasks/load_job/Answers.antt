@@ -1,17 +1,15 @@
 use Rattle.std.proofs.Common.{◌≡◌, ℕ, List, [], ap, sym, subst, ◌∙◌}
 use Rattle.std.specs.Option.{IfSome}
-use Rattle.mig_mover.specs.Tasks.{Task}
-use Rattle.mig_words.specs.Commands.{names_in}
-use Rattle.mig_words.specs.Words.{four_and}
-use Rattle.mig_top.specs.Bodies.{task_read}
-use Rattle.mig_top.specs.Loads.{task_in, task_of}
+use Rattle.mig_top.proofs.Common.{Task, four_and, names_in, task_in, task_read}
+use Rattle.mig_top.specs.Loads.{task_of}
 use Rattle.mig_top.proofs.Steps.{handed_from}
 use Rattle.mig_top.proofs.tasks.load_job.Goals as goal
 
 pub returns-in_err-read-clause-takes : goal.returns-in_err-read-clause-takes
 returns-in_err-read-clause-takes g c =
     let n = names_in c.args.files in
-    handed_from (g.F.Folder.state c.args.folder.now) (g.F.Folder.state c.load_task.new.folder) (four_and n []) (λ (job : Task). job) (task_in n) c.from_residual.result c.in_err-read.field-0.0 c.from_residual.ensures.1 c.in_err-read.ensures.takes
+    handed_from (g.F.Folder.state c.args.folder.now) (g.F.Folder.state c.load_task.new.folder)
+    (four_and n []) (λ (job : Task). job) (task_in n) c.from_residual.result c.in_err-read.field-0.0 c.from_residual.ensures.1 c.in_err-read.ensures.takes
 
 pub returns-clause-takes : goal.returns-clause-takes
 returns-clause-takes g c =

@@ -1,8 +1,5 @@
 use Rattle.std.proofs.Common.{[], inl, inr}
-use Rattle.mig_words.specs.Commands.{names_in}
-use Rattle.mig_words.specs.Words.{four_and}
-use Rattle.mig_top.specs.Bodies.{plan_bodies_of, task_read}
-use Rattle.mig_top.specs.Loads.{loads_plan, reads_task, task_in}
+use Rattle.mig_top.proofs.Common.{four_and, loads_plan, names_in, plan_bodies_of, reads_task, task_in, task_read}
 use Rattle.mig_top.proofs.Steps.{answers_in, handed_from, stops_first}
 use Rattle.mig_top.proofs.tasks.load_task.Goals as goal
 
