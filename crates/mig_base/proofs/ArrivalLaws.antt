@@ -1,23 +1,13 @@
 -- Where a migration begins and ends: images before the first round, after the last, and once it is halted.
-use Rattle.std.proofs.Common.{◌≡◌, ◌⊎◌, inl, inr, ⊎_elim, Bool, true, false, ℕ, zero, suc, ◌+◌, ◌-◌, ◌<◌, ◌≤◌, List, [], ◌∷◌, length, get_or, Option, Some, None, refl, sym, ◌∙◌, ap, subst, arith}
-use Rattle.std.specs.Prelude.{IsTrue, slice_get}
-use Rattle.std.specs.List.{Contains, All, Any}
-use Rattle.std.proofs.lemmas.Bool.{cases_eq, cases_lt, cases_Bool, false≢true}
-use Rattle.std.proofs.lemmas.List.Elements.{All-contains}
-use Rattle.std.proofs.lemmas.Option.{slice_get-get_or}
-use Rattle.mig_base.specs.declared.ids.Spot.{Spot}
+use Rattle.mig_base.proofs.Common.{◌≡◌, ◌⊎◌, inl, inr, ⊎_elim, Bool, true, false, ℕ, zero, suc, ◌+◌, ◌-◌, ◌<◌, ◌≤◌, List, length, Some, refl, sym, ◌∙◌, ap, subst, arith, All, cases_eq, cases_lt}
+use Rattle.mig_base.proofs.Common.{cases_Bool, false≢true, All-contains, slice_get-get_or, Lists, IsInput, round_at, At, IsTaken, Runs, Image, SameBut, is_one, is_armed, is_marked, slot_of, zeros}
+use Rattle.mig_base.proofs.Common.{Contents, IsSafeAt, IsSafe, IsSound, IsSoundAfter, IsFreeSlot}
+use Rattle.mig_base.specs.declared.cells.Cell.TheVariants.{Head, Gate, Mark}
 use Rattle.mig_base.specs.declared.ids.Shift.{Shift}
-use Rattle.mig_base.specs.declared.cells.Cell.{Cell}
-use Rattle.mig_base.specs.declared.cells.Cell.TheVariants.{Slot, Head, Gate, Mark}
-use Rattle.mig_base.specs.InputLists.{Lists, IsInput, no_spot}
-use Rattle.mig_base.specs.Layouts.{round_at, At, IsTaken, IsSource, IsTarget}
-use Rattle.mig_base.specs.Running.{Runs}
-use Rattle.mig_base.specs.Images.{Image, SameBut}
-use Rattle.mig_base.specs.Journals.{is_one, is_armed, is_marked, count_of}
-use Rattle.mig_base.specs.Slots.{slot_of, zeros}
-use Rattle.mig_base.specs.Safety.{Contents, HasContents, IsSafeAt, IsSafe, IsCleanAt, IsSafeAfter, IsSound, IsSoundAfter}
-use Rattle.mig_base.specs.Arrivals.{IsPlanSpot, IsNamed, AreFreeZeros, IsReached, IsHalted, IsHaltSafe}
-use Rattle.mig_base.specs.JobCells.{IsFreeSlot}
+use Rattle.mig_base.specs.declared.ids.Spot.{Spot}
+use Rattle.mig_base.specs.Layouts.{IsSource}
+use Rattle.mig_base.specs.Safety.{HasContents, IsSafeAfter}
+use Rattle.mig_base.specs.Arrivals.{IsNamed, AreFreeZeros, IsReached, IsHaltSafe}
 use Rattle.mig_base.proofs.Rounds.{contains_any, any_contains, in_some, moved_cases, at_target, leaves, cases_source}
 use Rattle.mig_base.proofs.MarkCounts.{AreMarked, counted, count_is, count_idle}
 use Rattle.mig_base.proofs.SafetyLaws.{slot_apart, now_on_disks, layout_at, source_facts, no_round, target_facts}

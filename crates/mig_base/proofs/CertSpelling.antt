@@ -1,22 +1,16 @@
 -- Bytes are the spelling of at most one certificate.
-use Rattle.std.proofs.Common.{◌≡◌, ◌⊎◌, inl, inr, ℕ, suc, ◌+◌, ◌^◌, ◌<◌, ◌≤◌, false, List, [], ◌∷◌, ◌++◌, length, refl, sym, ap, ◌∙◌, arith, map, codes, All}
-use Rattle.std.specs.List.{AllByRecursion, AllPairs}
-use Rattle.std.specs.Fmt.{decimal}
-use Rattle.std.proofs.lemmas.List.{length-map}
-use Rattle.std.proofs.lemmas.Fmt.{decimal_injective}
-use Rattle.std.proofs.lemmas.List.Elements.{recursion_from_All}
-use Rattle.mig_base.specs.Naming.{is_name_byte}
-use Rattle.mig_base.specs.declared.inputs.Disk.{Disk}
-use Rattle.mig_base.specs.declared.ids.DiskId.{DiskId}
-use Rattle.mig_base.specs.declared.certs.Class.{Class}
-use Rattle.mig_base.specs.declared.certs.Class.TheVariants.{Even, General}
+use Rattle.mig_base.proofs.Common.{◌≡◌, ◌⊎◌, inl, inr, ℕ, suc, ◌+◌, ◌^◌, ◌<◌, ◌≤◌, false, List, [], ◌∷◌, ◌++◌, length, refl, sym, ap, ◌∙◌, arith, map, codes, All, AllByRecursion, AllPairs, decimal}
+use Rattle.mig_base.proofs.Common.{length-map, decimal_injective, recursion_from_All, is_name_byte, Lists, IsInput, disk_at, no_disk, transfers, BoundFits, disk_name, words, class_word, bound_lines}
+use Rattle.mig_base.proofs.Common.{bound_set, cert_lines, CertText}
 use Rattle.mig_base.specs.declared.certs.Bound.{Bound}
 use Rattle.mig_base.specs.declared.certs.Bound.TheVariants.{Nothing, OfDisk, OfSet}
 use Rattle.mig_base.specs.declared.certs.Cert.{Cert}
-use Rattle.mig_base.specs.InputLists.{Lists, IsInput, disk_at, no_disk}
-use Rattle.mig_base.specs.Transfers.{transfers}
-use Rattle.mig_base.specs.Bounding.{stated_load, bound_value, BoundFits}
-use Rattle.mig_base.specs.Texts.{disk_name, words, class_word, bound_lines, bound_set, cert_lines, CertText, IsCert}
+use Rattle.mig_base.specs.declared.certs.Class.{Class}
+use Rattle.mig_base.specs.declared.certs.Class.TheVariants.{Even, General}
+use Rattle.mig_base.specs.declared.ids.DiskId.{DiskId}
+use Rattle.mig_base.specs.declared.inputs.Disk.{Disk}
+use Rattle.mig_base.specs.Bounding.{stated_load, bound_value}
+use Rattle.mig_base.specs.Texts.{IsCert}
 use Rattle.mig_base.proofs.Separators.{Lacks, same_lines, same_words, Lacks-words, Lacks-decimal, same_front}
 use Rattle.mig_base.proofs.Spelling.{lacks_test, same_place, rounds_word_lacks, rounds_word_lacks_end, end_lacks, disk_lacks, lines_append}
 

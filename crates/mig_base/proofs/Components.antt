@@ -1,12 +1,8 @@
 -- Components by labels: each disk has the least disk of its component as its label.
-use Rattle.std.proofs.Common.{◌≡◌, ◌⊎◌, ℕ, suc, zero, ◌+◌, ◌<◌, ◌≤◌, Bool, true, false, cond, ◌&&◌, ◌||◌, eqb, List, [], ◌∷◌, length, All, AllPairs, IsTrue, get_or, filter, ap, sym, refl, ◌∙◌, inl, inr, arith, subst}
-use Rattle.std.specs.List.{range_with_len}
-use Rattle.std.proofs.lemmas.Bool.{cases_lt, false≢true}
-use Rattle.std.proofs.lemmas.Bool.Decides.{nat_tests}
-use Rattle.std.proofs.lemmas.List.Elements.{All-filter, filter_passes}
-use Rattle.std.proofs.lemmas.List.FromFn.{get_or-range_with_len, length-range_with_len}
-use Rattle.mig_base.specs.Transfers.{Transfers, takes_part}
-use Rattle.mig_base.specs.Bounding.{has, IsClosed, IsComponent}
+use Rattle.mig_base.proofs.Common.{◌≡◌, ◌⊎◌, ℕ, suc, zero, ◌+◌, ◌<◌, ◌≤◌, Bool, true, false, cond, ◌&&◌, ◌||◌, eqb, List, [], ◌∷◌, length, All, AllPairs, IsTrue, get_or, filter, ap, sym, refl, ◌∙◌}
+use Rattle.mig_base.proofs.Common.{inl, inr, arith, subst, range_with_len, cases_lt, false≢true, eq-eqb, or_right, eqb-true, nat_tests, All-filter, filter_passes, get_or-range_with_len}
+use Rattle.mig_base.proofs.Common.{length-range_with_len, Transfers, takes_part, has}
+use Rattle.mig_base.specs.Bounding.{IsClosed, IsComponent}
 use Rattle.mig_base.proofs.Scheduled.{range_below}
 
 -- the disks with this label
@@ -24,14 +20,8 @@ pub has_kept : (b : Bool) (x : ℕ) (xs : List ℕ) (v : ℕ) → has (cond b (x
 has_kept true x xs v = refl
 has_kept false x xs v = refl
 
-itself : (v : ℕ) → eqb v v ≡ true
-itself v = grind (arith, nat_tests)
-
 apart : (a b : ℕ) → a < b → eqb a b ≡ false
 apart a b h = grind (arith, nat_tests)
-
-same : (a b : ℕ) → eqb a b ≡ true → a ≡ b
-same a b h = grind (arith, nat_tests)
 
 and_cases : (b c d : Bool) → ((b && c) || d) ≡ true → ((b ≡ true) × (c ≡ true)) ⊎ (d ≡ true)
 and_cases true true d h = inl (refl, refl)
@@ -42,22 +32,18 @@ and_cases false c d h = inr h
 pub has_true : (p : ℕ → Bool) (a n v : ℕ) → has (filter p (range_with_len a n)) v ≡ true → (a ≤ v) × (v < a + n) × (p v ≡ true)
 has_true p a zero v h = absurd (false≢true h)
 has_true p a (suc n) v h = elim (and_cases (p a) (eqb a v) (has (filter p (range_with_len (a + 1) n)) v) (sym (has_kept (p a) a (filter p (range_with_len (a + 1) n)) v) ∙ h)) [
-  | inl w ↦ (let e = same a v w.1 in (omega arith, omega arith, ap p (sym e) ∙ w.0))
+  | inl w ↦ (let e = eqb-true a v w.1 in (omega arith, omega arith, ap p (sym e) ∙ w.0))
   | inr w ↦ (let r = has_true p (a + 1) n v w in (omega (arith, r.0), omega (arith, r.1), r.2))
 ]
-
-or_last : (b c : Bool) → c ≡ true → (b || c) ≡ true
-or_last true c h = refl
-or_last false c h = h
 
 pub has_filter : (p : ℕ → Bool) (a n v : ℕ) → a ≤ v → v < a + n → p v ≡ true → has (filter p (range_with_len a n)) v ≡ true
 has_filter p a zero v low high pass = absurd (omega (arith, low, high))
 has_filter p a (suc n) v low high pass = has_kept (p a) a (filter p (range_with_len (a + 1) n)) v ∙ elim (cases_lt a v) [
-  | inl l ↦ or_last (p a && eqb a v) (has (filter p (range_with_len (a + 1) n)) v) (has_filter p (a + 1) n v (omega arith) (omega arith) pass)
-  | inr g ↦ (let e : v ≡ a = omega (arith, low, g) in rw (ap p (sym e) ∙ pass) (rw (ap (λ w. eqb a w) e ∙ itself a) refl))
+  | inl l ↦ or_right (p a && eqb a v) (has (filter p (range_with_len (a + 1) n)) v) (has_filter p (a + 1) n v (omega arith) (omega arith) pass)
+  | inr g ↦ (let e : v ≡ a = omega (arith, low, g) in rw (ap p (sym e) ∙ pass) (rw (ap (λ w. eqb a w) e ∙ eq-eqb a a refl) refl))
 ]
 
-bool_same : (b c : Bool) → (b ≡ true → c ≡ true) → (c ≡ true → b ≡ true) → b ≡ c
+pub bool_same : (b c : Bool) → (b ≡ true → c ≡ true) → (c ≡ true → b ≡ true) → b ≡ c
 bool_same true c f g = sym (f refl)
 bool_same false true f g = g refl
 bool_same false false f g = refl
@@ -85,8 +71,8 @@ filled_set (x ∷ xs) v h = omega arith
 
 pub has_at : (set : List ℕ) (k d : ℕ) → k < length set → has set (get_or set k d) ≡ true
 has_at [] k d h = absurd (omega (arith, h))
-has_at (x ∷ xs) zero d h = rw (itself x) refl
-has_at (x ∷ xs) (suc k) d h = or_last (eqb x (get_or xs k d)) (has xs (get_or xs k d)) (has_at xs k d (omega (arith, h)))
+has_at (x ∷ xs) zero d h = rw (eq-eqb x x refl) refl
+has_at (x ∷ xs) (suc k) d h = or_right (eqb x (get_or xs k d)) (has xs (get_or xs k d)) (has_at xs k d (omega (arith, h)))
 
 -- a label's class is a component
 pub IsComponent-class : (graph : Transfers) (labels : List ℕ) (r : ℕ) → AreLabels graph labels → r < length labels → get_or labels r 0 ≡ r → IsTrue (takes_part graph r) → IsComponent graph (class labels r)
@@ -94,14 +80,14 @@ IsComponent-class graph labels r a there root part =
     let n = length labels in
     let p : ℕ → Bool = λ v. eqb (get_or labels v 0) r in
     let range = range_with_len 0 n in
-    let r_in : p r ≡ true = ap (λ v. eqb v r) root ∙ itself r in
+    let r_in : p r ≡ true = ap (λ v. eqb v r) root ∙ eq-eqb r r refl in
     record {
       increasing = increasing_filter p 0 n;
       filled = filled_set (class labels r) r (has_filter p 0 n r (omega arith) (omega arith) r_in);
       there = λ k d h.
           let v = get_or (class labels r) k d in
           let low = All-filter p (λ w. w < n) range (range_below n) k d h in
-          let is_r = same (get_or labels v 0) r (filter_passes p range k d h) in
+          let is_r = eqb-true (get_or labels v 0) r (filter_passes p range k d h) in
           (omega (arith, low, a.len), elim (a.alone v low) [ inl yes' ↦ yes' | inr alone ↦ (let P : ℕ → Type 0 = λ w. IsTrue (takes_part graph w) in subst P (sym is_r ∙ alone) part) ]);
       closed = λ k d h.
           let t = get_or graph.trips k d in
@@ -112,8 +98,8 @@ IsComponent-class graph labels r a there root part =
       least = λ part' some inside closed k d h.
           let w = get_or part' 0 0 in
           let w_in = has_true p 0 n w (inside 0 0 some) in
-          let has_r : has part' r ≡ true = ap (has part') (sym (same (get_or labels w 0) r w_in.2)) ∙ sym (a.joined w part' (omega (arith, w_in.1)) closed) ∙ has_at part' 0 0 some in
+          let has_r : has part' r ≡ true = ap (has part') (sym (eqb-true (get_or labels w 0) r w_in.2)) ∙ sym (a.joined w part' (omega (arith, w_in.1)) closed) ∙ has_at part' 0 0 some in
           let v = get_or (class labels r) k d in
           let low = All-filter p (λ w. w < n) range (range_below n) k d h in
-          a.joined v part' low closed ∙ ap (has part') (same (get_or labels v 0) r (filter_passes p range k d h)) ∙ has_r;
+          a.joined v part' low closed ∙ ap (has part') (eqb-true (get_or labels v 0) r (filter_passes p range k d h)) ∙ has_r;
     }

@@ -2,9 +2,11 @@ pub mod ArrivalLaws
 pub mod BlameOrder
 pub mod CellTests
 pub mod CertSpelling
+pub mod Common
 pub mod Components
 pub mod Copies
 pub mod Counting
+pub mod Elements
 pub mod Evenness
 pub mod FaultOrder
 pub mod Landing
@@ -17,6 +19,7 @@ pub mod Planned
 pub mod Room
 pub mod Rounds
 pub mod SafetyLaws
+pub mod SameIds
 pub mod Scheduled
 pub mod Separators
 pub mod Spelling

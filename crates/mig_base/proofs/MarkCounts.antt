@@ -1,11 +1,7 @@
 -- What the number of rounds that count says of the marks.
-use Rattle.std.proofs.Common.{◌≡◌, cond, ℕ, zero, suc, ◌+◌, ◌<◌, ◌≤◌, Bool, true, false, length, get_or, sym, ◌∙◌, ap, subst, arith}
-use Rattle.std.specs.List.{prefix_len, range_with_len}
-use Rattle.std.proofs.lemmas.Bool.{cond-true, cond-false}
-use Rattle.std.proofs.lemmas.List.FromFn.{get_or-range_with_len, length-range_with_len}
+use Rattle.mig_base.proofs.Common.{◌≡◌, cond, ℕ, zero, suc, ◌+◌, ◌<◌, ◌≤◌, Bool, true, false, length, get_or, sym, ◌∙◌, ap, subst, arith, prefix_len, range_with_len, cond-true, cond-false}
+use Rattle.mig_base.proofs.Common.{get_or-range_with_len, length-range_with_len, Image, is_armed, is_marked, count_of}
 use Rattle.std.proofs.lemmas.List.Sums.{prefix_len_is, prefix_len_passes, prefix_len_stops, prefix_len-le-length}
-use Rattle.mig_base.specs.Images.{Image}
-use Rattle.mig_base.specs.Journals.{is_armed, is_marked, count_of}
 
 -- the marks 1 to k are 1, and the next isn't
 pub record AreMarked (rounds : ℕ) (image : Image) (k : ℕ) : Type 0 where

@@ -1,30 +1,23 @@
 -- A partition of the moves' shifts into rounds that keep the limits can be carried out, and shifts each relocated item once.
-use Rattle.std.proofs.Common.{◌≡◌, ◌≢◌, ◌⊎◌, ⊎_elim, ℕ, suc, zero, ◌+◌, ◌-◌, ◌<◌, ◌≤◌, Bool, true, false, cond, not, eqb, eq-eqb, List, [], ◌∷◌, ◌++◌, length, map, refl, sym, ap, ◌∙◌, arith, sum_by, count_by, filter, All, AllPairs, get_or, take, drop, inl, inr, subst, Some, None, Option}
-use Rattle.std.specs.Prelude.{slice_get, IsSomeAnd}
-use Rattle.std.specs.Option.{option_or, option_map}
-use Rattle.std.specs.List.{range_with_len, Contains, list_any, position_or_len}
-use Rattle.std.proofs.lemmas.List.Sums.{sum_by-cons, sum_by-take-drop, get_or-le-sum_by}
-use Rattle.std.proofs.lemmas.List.{get_or_default, get_or-take, get_or-drop, length-drop, length-take-le}
-use Rattle.std.proofs.lemmas.List.Elements.{filter_passes, All-contains, All-head, All-tail, Contains-append_left, Contains-append_right}
-use Rattle.std.proofs.lemmas.Bool.{cases_lt, cases_eq, false≢true, ne_eqb}
-use Rattle.std.proofs.lemmas.Bool.Decides.{nat_tests}
-use Rattle.std.proofs.lemmas.List.FromFn.{get_or-range_with_len, length-range_with_len}
-use Rattle.std.proofs.lemmas.Option.{slice_get-get_or}
-use Rattle.mig_base.specs.declared.limits.TheConstants.{MAX_SLOTS}
-use Rattle.mig_base.specs.declared.inputs.Disk.{Disk}
+use Rattle.mig_base.proofs.Common.{◌≡◌, ◌≢◌, ◌⊎◌, ⊎_elim, ℕ, suc, zero, ◌-◌, ◌<◌, ◌≤◌, Bool, true, false, cond, not, eqb, eq-eqb, List, [], ◌∷◌, length, refl, sym, ap, ◌∙◌, arith, sum_by, count_by}
+use Rattle.mig_base.proofs.Common.{filter, All, get_or, take, drop, inl, inr, subst, Some, None, Option, slice_get, IsSomeAnd, option_or, option_map, range_with_len, Contains, list_any, sum_by-cons}
+use Rattle.mig_base.proofs.Common.{get_or-le-sum_by, get_or_default, get_or-take, length-drop, length-take-le, filter_passes, All-contains, All-head, All-tail, Contains-append_left}
+use Rattle.mig_base.proofs.Common.{Contains-append_right, cases_lt, cases_eq, false≢true, ne_eqb, nat_tests, get_or-range_with_len, length-range_with_len, slice_get-get_or, Lists, IsInput, IsSpotOf}
+use Rattle.mig_base.proofs.Common.{IsDiskInRange, no_spot, moves, is_relocated, source, target, AreTargets, IsRoomy, round_at, At, Runs, IsLegal, Once, is_of, shift_count, ShiftFits, PlanFits}
+use Rattle.mig_base.proofs.Common.{no_shift, shift_at, move_at}
 use Rattle.mig_base.specs.declared.ids.DiskId.{DiskId}
-use Rattle.mig_base.specs.declared.ids.Spot.{Spot}
-use Rattle.mig_base.specs.declared.ids.Shift.{Shift}
 use Rattle.mig_base.specs.declared.ids.ItemId.{ItemId}
-use Rattle.mig_base.specs.InputLists.{Lists, IsInput, IsSpotOf, IsDiskInRange, no_spot}
-use Rattle.mig_base.specs.Transfers.{moves, is_relocated, source, target}
-use Rattle.mig_base.specs.Targets.{AreTargets, IsLowestFree, IsRoomy}
-use Rattle.mig_base.specs.Layouts.{round_at, At, last_target, after_shifts, IsTaken}
-use Rattle.mig_base.specs.Running.{Runs, IsLegal, IsFree, IsArrivedAt, Once, is_of, shift_count, ShiftFits, PlanFits}
-use Rattle.mig_base.specs.Judging.{no_shift, shift_at}
-use Rattle.mig_base.specs.Planned.{move_at, target_at, move_shift, IsMoveShift, IsPartition, IsPlan, PartitionIsPlan}
-use Rattle.mig_base.proofs.Counting.{one, sum_by-none, sum_by-le_each, sum_by-swap}
-use Rattle.mig_base.proofs.Rounds.{moved_cases, in_some, spot_disk, contains_any}
+use Rattle.mig_base.specs.declared.ids.Shift.{Shift}
+use Rattle.mig_base.specs.declared.ids.Spot.{Spot}
+use Rattle.mig_base.specs.declared.inputs.Disk.{Disk}
+use Rattle.mig_base.specs.declared.limits.TheConstants.{MAX_SLOTS}
+use Rattle.std.specs.List.{position_or_len}
+use Rattle.std.proofs.lemmas.List.Sums.{sum_by-take-drop}
+use Rattle.std.proofs.lemmas.List.{get_or-drop}
+use Rattle.mig_base.specs.Running.{IsFree, IsArrivedAt}
+use Rattle.mig_base.specs.Planned.{target_at, move_shift, IsMoveShift, IsPartition, IsPlan, PartitionIsPlan}
+use Rattle.mig_base.proofs.Counting.{one, sum_by-none, sum_by-le_each, sum_by-swap, none_pass, at_most_one}
+use Rattle.mig_base.proofs.Rounds.{moved_cases, in_some, spot_disk}
 use Rattle.mig_base.proofs.Scheduled.{IsShiftedAt, shifted_at, shifted_first, shifted_round, spot_before, spot_later, moves_there}
 use Rattle.mig_base.proofs.Room.{lowest_at, target_on_disk}
 
@@ -97,9 +90,6 @@ counted_twice round i j m h l e f =
     let b = counted_in (drop j round) 0 m (omega (arith, l, d)) (ap (λ (s : Shift). s.item.0) (get_or-drop j round 0 no_shift) ∙ ap (λ n. (shift_at round n).item.0) (omega arith) ∙ f) in
     omega (arith, sum_by-take-drop p round j, a, b)
 
-none_passes : {X : Type 0} (p : X → Bool) (xs : List X) → All (λ x. p x ≡ false) xs → count_by p xs ≡ 0
-none_passes p xs h = omega (arith, sum_by-le_each (λ x. one (p x)) (λ x. 0) xs (λ k d l. omega (arith, ap one (h k d l))), sum_by-none xs)
-
 same_disk : (a b : ℕ) → not (eqb a b) ≡ false → a ≡ b
 same_disk a b h = grind (arith, nat_tests)
 
@@ -144,7 +134,7 @@ module _ (input : Lists) (targets : List Spot) (plan : List (List Shift)) (p : I
 
   -- an item that isn't relocated has no shift
   none_in : (i r : ℕ) → is_relocated input i ≡ false → r < length plan → count_by (is_of i) (round_at plan (suc r)) ≡ 0
-  none_in i r f h = none_passes (is_of i) (round_at plan (suc r)) (λ k s l.
+  none_in i r f h = none_pass (is_of i) (round_at plan (suc r)) (λ k s l.
       let m = p.shifts r [] h k s l in
       ne_eqb (get_or (round_at plan (suc r)) k s).item.0 i (λ e. false≢true (sym f ∙ ap (is_relocated input) (sym e ∙ ap (λ (x : Shift). x.item.0) m.2) ∙ move_relocated input m.0 m.1)))
 
@@ -269,17 +259,13 @@ module _ (input : Lists) (targets : List Spot) (plan : List (List Shift)) (p : I
         let items = range_with_len 0 (length input.items) in
         let n = length-range_with_len 0 (length input.items) in
         let most = sum_by-le_each (λ i. shift_count plan i) (λ i. 1) items (λ k d l.
-        at_most_one (get_or items k d) (omega (arith, get_or-range_with_len 0 (length input.items) k d (omega (arith, l, n)), l, n))) in
+        once_at_most (get_or items k d) (omega (arith, get_or-range_with_len 0 (length input.items) k d (omega (arith, l, n)), l, n))) in
         let each = sum_by-le_each (λ (round : List Shift). length round) (λ (round : List Shift). sum_by (λ i. count_by (is_of i) round) items) plan (λ r d h.
         subst (λ (round : List Shift). length round ≤ sum_by (λ i. count_by (is_of i) round) items) (get_or_default plan r [] d h) (counts r h)) in
         omega (arith, each, most, sum_by-swap (λ (round : List Shift) i. count_by (is_of i) round) plan items, ones items, n)
       where
-        at_most_one : (i : ℕ) → i < length input.items → shift_count plan i ≤ 1
-        at_most_one i h = omega (arith, partition_once i h, bit (is_relocated input i))
-          where
-            bit : (b : Bool) → one b ≤ 1
-            bit true = omega arith
-            bit false = omega arith
+        once_at_most : (i : ℕ) → i < length input.items → shift_count plan i ≤ 1
+        once_at_most i h = omega (arith, partition_once i h, at_most_one (is_relocated input i))
 
     fits : PlanFits input plan
     fits = record {

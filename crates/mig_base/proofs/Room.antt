@@ -1,21 +1,14 @@
 -- Where each disk has room, a slot is free for each item that comes: as many slots as a disk has can't all be taken.
-use Rattle.std.proofs.Common.{◌≡◌, ℕ, suc, zero, ◌+◌, ◌<◌, ◌≤◌, Bool, true, false, ◌&&◌, eqb, ltb, eq-eqb, List, [], ◌∷◌, ◌++◌, length, refl, sym, ap, ◌∙◌, subst, arith, count_by, sum_by, get_or, take, inl, inr}
-use Rattle.std.specs.Prelude.{slice_get, Some, IsSomeAnd}
-use Rattle.std.specs.List.{Contains}
-use Rattle.std.proofs.lemmas.List.{length-take-le, get_or-take}
-use Rattle.std.proofs.lemmas.List.Sums.{sum_by-cons, sum_by-append, sum_by-take-drop, sum_by-take-le, get_or-le-sum_by, sum_by_push}
-use Rattle.std.proofs.lemmas.Bool.{cases_lt}
-use Rattle.std.proofs.lemmas.Bool.Decides.{nat_tests}
-use Rattle.std.proofs.lemmas.List.{take_more}
-use Rattle.std.proofs.lemmas.Option.{slice_get-get_or}
-use Rattle.mig_base.specs.declared.inputs.Disk.{Disk}
+use Rattle.mig_base.proofs.Common.{◌≡◌, ℕ, suc, zero, ◌+◌, ◌<◌, ◌≤◌, Bool, true, false, ◌&&◌, eqb, eq-eqb, List, ◌++◌, length, refl, sym, ap, ◌∙◌, subst, arith, count_by, get_or, take, inl, inr}
+use Rattle.mig_base.proofs.Common.{slice_get, IsSomeAnd, Contains, length-take-le, get_or-take, take_more, sum_by-append, get_or-le-sum_by, sum_by_push, cases_lt, nat_tests, slice_get-get_or, Lists}
+use Rattle.mig_base.proofs.Common.{IsInput, IsSpotOf, no_spot, no_disk, disk_at, moves, target, AreTargets, IsRoomy, present, incoming, move_at}
 use Rattle.mig_base.specs.declared.ids.Spot.{Spot}
-use Rattle.mig_base.specs.declared.ids.DiskId.{DiskId}
-use Rattle.mig_base.specs.InputLists.{Lists, IsInput, IsSpotOf, no_spot, no_disk, disk_at}
-use Rattle.mig_base.specs.Transfers.{moves, target}
-use Rattle.mig_base.specs.Targets.{AreTargets, IsLowestFree, IsRoomy, HasRoom, present, incoming}
-use Rattle.mig_base.specs.Planned.{move_at, target_at}
-use Rattle.mig_base.proofs.Counting.{one, sum_by-le_each, sum_by-add}
+use Rattle.mig_base.specs.declared.inputs.Disk.{Disk}
+use Rattle.std.proofs.Common.{ltb}
+use Rattle.std.proofs.lemmas.List.Sums.{sum_by-take-le}
+use Rattle.mig_base.specs.Targets.{IsLowestFree}
+use Rattle.mig_base.specs.Planned.{target_at}
+use Rattle.mig_base.proofs.Counting.{one, sum_by-le_each, sum_by-add, count_same}
 use Rattle.mig_base.proofs.Scheduled.{moves_there}
 
 abbrev pub spot : ℕ → ℕ → Spot
@@ -51,14 +44,6 @@ pigeons d n xs h = omega (arith, fills d n xs h, sum_by-le_each (λ (s : Spot). 
     less true true = omega arith
     less true false = omega arith
     less false b = omega arith
-
--- lists whose elements pass alike, place by place, have one count
-pub count_same : {X Y : Type 0} (p : X → Bool) (q : Y → Bool) (d : X) (e : Y) (xs : List X) (ys : List Y) → length xs ≡ length ys → ((k : ℕ) → k < length xs → p (get_or xs k d) ≡ q (get_or ys k e)) → count_by p xs ≡ count_by q ys
-count_same p q d e [] [] len h = refl
-count_same p q d e [] (y ∷ ys) len h = absurd (omega arith)
-count_same p q d e (x ∷ xs) [] len h = absurd (omega arith)
-count_same p q d e (x ∷ xs) (y ∷ ys) len h =
-    omega (arith, sum_by-cons (λ z. one (p z)) x xs, sum_by-cons (λ z. one (q z)) y ys, ap one (h 0 (omega arith)), count_same p q d e xs ys (omega arith) (λ k l. h (suc k) (omega arith)))
 
 -- The spots that the moves before this one are given, and those that items have, leave one of so many slots of its disk
 pub some_free : (input : Lists) (move : ℕ) (earlier : List Spot) (v slots : ℕ) → present input v + incoming input v ≤ slots → move < length (moves input) → length earlier ≡ move → ((k : ℕ) → k < move → (target_at earlier k).disk.0 ≡ target input (move_at input k)) → target input (move_at input move) ≡ v → ((s : ℕ) → s < slots → Contains (input.spots ++ earlier) (spot v s)) → ⊥

@@ -1,17 +1,12 @@
 -- Where items are after shifts that can be carried out.
-use Rattle.std.proofs.Common.{◌≡◌, ◌≢◌, ◌⊎◌, inl, inr, ⊎_elim, ℕ, zero, suc, ◌<◌, List, [], ◌∷◌, length, get_or, Option, Some, None, refl, sym, ◌∙◌, ap, subst, arith, cond, ◌==◌}
-use Rattle.std.specs.Prelude.{IsSomeAnd, slice_get}
-use Rattle.std.specs.List.{Contains, AllPairs, Any}
-use Rattle.std.specs.Option.{option_or}
-use Rattle.std.proofs.lemmas.Bool.{cases_eq, cases_order, cond-true, cond-false, eq-eqb, ne_eqb}
-use Rattle.std.proofs.lemmas.List.{get_or_default}
-use Rattle.std.proofs.lemmas.List.Elements.{All-contains}
-use Rattle.mig_base.specs.declared.inputs.Disk.{Disk}
-use Rattle.mig_base.specs.declared.ids.Spot.{Spot}
+use Rattle.mig_base.proofs.Common.{◌≡◌, ◌≢◌, ◌⊎◌, inl, inr, ⊎_elim, ℕ, zero, suc, ◌<◌, List, [], ◌∷◌, length, get_or, Option, Some, None, refl, sym, ◌∙◌, ap, subst, arith, cond, ◌==◌, IsSomeAnd}
+use Rattle.mig_base.proofs.Common.{slice_get, Contains, AllPairs, Any, option_or, cases_eq, cond-true, cond-false, eq-eqb, ne_eqb, get_or_default, All-contains, Lists, IsSpotOf, Layout, IsLayout}
+use Rattle.mig_base.proofs.Common.{last_target, after_shifts, IsLegal}
 use Rattle.mig_base.specs.declared.ids.Shift.{Shift}
-use Rattle.mig_base.specs.InputLists.{Lists, IsSpotOf}
-use Rattle.mig_base.specs.Layouts.{Layout, IsLayout, last_target, after_shifts}
-use Rattle.mig_base.specs.Running.{IsLegal, IsFree}
+use Rattle.mig_base.specs.declared.ids.Spot.{Spot}
+use Rattle.mig_base.specs.declared.inputs.Disk.{Disk}
+use Rattle.std.proofs.lemmas.Bool.{cases_order}
+use Rattle.mig_base.specs.Running.{IsFree}
 
 pub here : {X : Type 0} (x : X) (xs : List X) → Contains (x ∷ xs) x
 here x xs = (0, omega arith, refl)

@@ -1,24 +1,13 @@
 -- What the images that a migration may leave keep, round by round, by the definitions alone.
-use Rattle.std.proofs.Common.{◌≡◌, ◌≢◌, ◌⊎◌, inl, inr, ⊎_elim, Bool, true, false, ℕ, zero, suc, ◌+◌, ◌-◌, ◌<◌, ◌≤◌, List, [], ◌∷◌, length, get_or, Option, Some, None, refl, sym, ◌∙◌, ap, subst, arith}
-use Rattle.std.specs.Prelude.{IsTrue, slice_get}
-use Rattle.std.specs.List.{Contains, All, AllPairs, Any}
-use Rattle.std.proofs.lemmas.Bool.{cases_eq, cases_lt, cases_Bool, false≢true}
-use Rattle.std.proofs.lemmas.List.{get_or_default, get_or_past}
-use Rattle.std.proofs.lemmas.List.Elements.{All-contains, Contains-get_or}
-use Rattle.std.proofs.lemmas.Option.{slice_get-get_or, slice_get_within, get_or_from_slice_get}
-use Rattle.mig_base.specs.declared.inputs.Disk.{Disk}
-use Rattle.mig_base.specs.declared.ids.Spot.{Spot}
+use Rattle.mig_base.proofs.Common.{◌≡◌, ◌⊎◌, inl, inr, ⊎_elim, Bool, true, false, ℕ, zero, suc, ◌-◌, ◌<◌, ◌≤◌, List, [], length, Some, sym, ◌∙◌, ap, subst, arith, slice_get, Contains, cases_eq}
+use Rattle.mig_base.proofs.Common.{cases_lt, get_or_past, All-contains, slice_get_within, get_or_from_slice_get, Lists, IsInput, IsSpotOf, disk_at, no_disk, after_shifts, IsLayout, round_at, At}
+use Rattle.mig_base.proofs.Common.{IsTaken, IsLegal, Runs, Image, SameBut, is_one, is_armed, is_marked, slot_of, zeros, Contents, IsSafeAt, IsSound, IsSoundAfter, IsInUse}
+use Rattle.mig_base.specs.declared.cells.Cell.TheVariants.{Head, Gate, Mark}
 use Rattle.mig_base.specs.declared.ids.Shift.{Shift}
-use Rattle.mig_base.specs.declared.cells.Cell.{Cell}
-use Rattle.mig_base.specs.declared.cells.Cell.TheVariants.{Slot, Head, Gate, Mark}
-use Rattle.mig_base.specs.InputLists.{Lists, IsInput, IsSpotOf, disk_at, no_disk}
-use Rattle.mig_base.specs.Layouts.{after_shifts, IsLayout, round_at, At, IsTaken, IsSource, IsTarget}
-use Rattle.mig_base.specs.Running.{IsLegal, Runs}
-use Rattle.mig_base.specs.Images.{Image, SameBut}
-use Rattle.mig_base.specs.Journals.{is_one, is_armed, is_marked, count_of}
-use Rattle.mig_base.specs.Slots.{slot_of, zeros}
-use Rattle.mig_base.specs.Safety.{Contents, HasContents, IsSafeAt, IsVacated, IsCleanAt, IsSafeAfter, IsSound, IsSoundAfter}
-use Rattle.mig_base.specs.RoundStates.{IsSourceSlot, IsTargetSlot, IsInUse, IsCopied}
+use Rattle.mig_base.specs.declared.ids.Spot.{Spot}
+use Rattle.mig_base.specs.Layouts.{IsSource, IsTarget}
+use Rattle.mig_base.specs.Safety.{IsVacated, IsCleanAt}
+use Rattle.mig_base.specs.RoundStates.{IsCopied}
 use Rattle.mig_base.proofs.Listed.{one_place}
 use Rattle.mig_base.proofs.Rounds.{contains_any, any_contains, in_some, spot_disk, moved_cases, at_target, leaves, to_disk, from_disk, source_free, target_free, layout_kept, cases_source}
 use Rattle.mig_base.proofs.MarkCounts.{AreMarked, counted, count_is}

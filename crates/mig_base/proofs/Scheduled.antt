@@ -1,23 +1,16 @@
 -- A plan that runs and moves each relocated item once is a schedule that obeys.
-use Rattle.std.proofs.Common.{◌≡◌, ◌≢◌, ℕ, suc, zero, ◌+◌, ◌-◌, ◌<◌, ◌≤◌, Bool, true, false, cond, not, ◌&&◌, ◌||◌, eqb, List, [], ◌∷◌, length, map, refl, sym, ap, ◌∙◌, arith, sum_by, count_by, filter, All, get_or, inl, inr, subst}
-use Rattle.std.specs.List.{list_any, range_with_len, position_or_len}
-use Rattle.std.proofs.lemmas.List.Sums.{sum_by-cons, get_or-le-sum_by, passes_at_first}
-use Rattle.std.proofs.lemmas.List.Elements.{All-filter, filter_passes}
-use Rattle.std.proofs.lemmas.Bool.Decides.{nat_tests}
-use Rattle.std.proofs.lemmas.Bool.{cases_lt, false≢true}
-use Rattle.std.proofs.lemmas.List.FromFn.{get_or-range_with_len, length-range_with_len}
-use Rattle.std.proofs.lemmas.Option.{slice_get-get_or}
-use Rattle.std.specs.Prelude.{Option, Some, None, slice_get}
-use Rattle.std.specs.Option.{option_or, option_map}
+use Rattle.mig_base.proofs.Common.{◌≡◌, ◌≢◌, ℕ, suc, zero, ◌+◌, ◌-◌, ◌<◌, ◌≤◌, Bool, true, false, cond, not, ◌&&◌, ◌||◌, eqb, List, [], ◌∷◌, length, map, refl, sym, ap, ◌∙◌, arith, sum_by, count_by}
+use Rattle.mig_base.proofs.Common.{filter, All, get_or, inl, inr, subst, list_any, range_with_len, sum_by-cons, get_or-le-sum_by, All-filter, filter_passes, nat_tests, cases_lt, eq-eqb, false≢true}
+use Rattle.mig_base.proofs.Common.{eqb-true, get_or-range_with_len, length-range_with_len, slice_get-get_or, Option, Some, None, slice_get, option_or, option_map, Lists, IsInput, no_spot, Trip}
+use Rattle.mig_base.proofs.Common.{touches, moves, trip, is_relocated, source, target, last_target, round_at, At, Runs, Once, is_of, shift_count, trip_of}
 use Rattle.mig_base.specs.declared.ids.DiskId.{DiskId}
-use Rattle.mig_base.specs.declared.ids.Spot.{Spot}
 use Rattle.mig_base.specs.declared.ids.Shift.{Shift}
-use Rattle.mig_base.specs.InputLists.{Lists, IsInput, no_spot}
-use Rattle.mig_base.specs.Transfers.{Trip, touches, moves, trip, is_relocated, source, target}
+use Rattle.mig_base.specs.declared.ids.Spot.{Spot}
+use Rattle.std.specs.List.{position_or_len}
+use Rattle.std.proofs.lemmas.List.Sums.{passes_at_first}
 use Rattle.mig_base.specs.Schedules.{IsSchedule, Obeys, trips_in}
-use Rattle.mig_base.specs.Layouts.{last_target, round_at, At}
-use Rattle.mig_base.specs.Running.{Runs, Once, round_of, is_of, shift_count, trip_of}
-use Rattle.mig_base.proofs.Counting.{count_by-filter, sum_by-map, sum_by-le_each, sum_by-none, sum_by-swap, one}
+use Rattle.mig_base.specs.Running.{round_of}
+use Rattle.mig_base.proofs.Counting.{sum_by-map, sum_by-le_each, sum_by-none, sum_by-swap, one, count_by-filter-le, at_most_one}
 
 -- each passing number is the key of some passing element, and no number stands twice: then no more numbers pass than elements
 pub count_by-keyed : {Y : Type 0} (p : ℕ → Bool) (q : Y → Bool) (key : Y → ℕ) (ms : List ℕ) (ys : List Y) → ((k : ℕ) → count_by (λ m. eqb m k) ms ≤ 1) → All (λ m. one (p m) ≤ count_by (λ y. eqb m (key y) && q y) ys) ms → count_by p ms ≤ count_by q ys
@@ -67,16 +60,13 @@ pub record ShiftedBy (round : List Shift) (m : ℕ) : Type 0 where
   pub item : shift.item.0 ≡ m
   pub target : last_target round m ≡ Some shift.to
 
-is_same : (i m : ℕ) → eqb i m ≡ true → i ≡ m
-is_same i m h = grind (arith, nat_tests)
-
 shifted_cons : (s : Shift) (ss : List Shift) (m : ℕ) (b : Bool) → is_of m s ≡ b → one b + count_by (is_of m) ss ≡ 1 → (count_by (is_of m) ss ≡ 1 → ShiftedBy ss m) → ShiftedBy (s ∷ ss) m
 shifted_cons s ss m true e once rest = record {
   shift = s;
   index = 0;
   in_round = omega arith;
   is = λ d. refl;
-  item = is_same s.item.0 m e;
+  item = eqb-true s.item.0 m e;
   target = picked (last_target ss m) (is_of m s) s.to (none_counted ss m (omega (arith, once))) e;
 }
 shifted_cons s ss m false e once rest =
@@ -131,9 +121,6 @@ spot_later input plan m (suc n) k (suc j) e none =
     passed (last_target (round_at plan (suc j)) m) (At input plan j m) (none_counted (round_at plan (suc j)) m (none j (omega (arith, e)) (omega arith)))
     ∙ spot_later input plan m n k j (omega (arith, e)) (λ r l h. none r l (omega (arith, h)))
 
-in_some : (x y : Spot) → Some x ≡ Some y → x ≡ y
-in_some x y e = cc
-
 -- what is at a place of a list
 pub is_at : {X : Type 0} (xs : List X) (k : ℕ) (d x : X) → k < length xs → slice_get xs k ≡ Some x → get_or xs k d ≡ x
 is_at xs k d x h e = let f = sym (slice_get-get_or xs k d h) ∙ e in cc
@@ -142,10 +129,7 @@ trip_by : (t u : Trip) → t.leaves ≡ u.leaves → t.reaches ≡ u.reaches →
 trip_by t u e f = ap (λ (n : ℕ). let x : Trip = record { leaves = n; reaches = t.reaches } in x) e ∙ ap (λ (n : ℕ). let x : Trip = record { leaves = u.leaves; reaches = n } in x) f
 
 same_trip : (p : Trip → Bool) (s : Shift) (m : ℕ) (t : Trip) → s.item.0 ≡ m → trip_of s ≡ t → one (p t) ≤ one (eqb m s.item.0 && p (trip_of s))
-same_trip p s m t item same = rw (item, ap p same, itself m) (omega arith)
-  where
-    itself : (m : ℕ) → eqb m m ≡ true
-    itself m = grind (arith, nat_tests)
+same_trip p s m t item same = rw (item, ap p same, eq-eqb m m refl) (omega arith)
 
 -- such an item's shift has the two ends of its move
 shift_ends : (input : Lists) (plan : List (List Shift)) (m k : ℕ) → IsInput input → Runs input plan → m < length input.items → k < length plan → IsShiftedAt plan m k → (by : ShiftedBy (round_at plan (suc k)) m) → (by.shift.from.disk.0 ≡ source input m) × (by.shift.to.disk.0 ≡ target input m)
@@ -205,13 +189,6 @@ shifted_first plan m once =
 pub trip_counted : (input : Lists) (plan : List (List Shift)) (m k : ℕ) → IsInput input → Runs input plan → m < length input.items → k < length plan → IsShiftedAt plan m k → (p : Trip → Bool) → one (p (trip input m)) ≤ count_by (λ s. eqb m s.item.0 && p (trip_of s)) (round_at plan (suc k))
 trip_counted input plan m k valid runs there within at p = counted_shift input plan m k valid runs there within at (shifted_round (round_at plan (suc k)) m at.here) p
 
-pub count_by-filter-le : {X : Type 0} (p q : X → Bool) (xs : List X) → count_by p (filter q xs) ≤ count_by p xs
-count_by-filter-le p q xs = omega (arith, count_by-filter p q xs, sum_by-le_each (λ x. one (q x && p x)) (λ x. one (p x)) xs (λ k d _. less (q (get_or xs k d)) (p (get_or xs k d))))
-  where
-    less : (b c : Bool) → one (b && c) ≤ one c
-    less true c = omega arith
-    less false c = omega arith
-
 not_in_range : (a n k : ℕ) → k < a → count_by (λ m. eqb m k) (range_with_len a n) ≡ 0
 not_in_range a zero k h = refl
 not_in_range a (suc n) k h = omega (arith, sum_by-cons (λ m. one (eqb m k)) a (range_with_len (a + 1) n), not_in_range (a + 1) n k (omega arith), other a k h)
@@ -226,10 +203,6 @@ once_in_range a (suc n) k = elim (cases_lt k (a + 1)) [
   | inr l ↦ omega (arith, sum_by-cons (λ m. one (eqb m k)) a (range_with_len (a + 1) n), once_in_range (a + 1) n k, other a k l)
 ]
   where
-    at_most_one : (b : Bool) → one b ≤ 1
-    at_most_one true = omega arith
-    at_most_one false = omega arith
-
     other : (a k : ℕ) → a + 1 ≤ k → one (eqb a k) ≡ 0
     other a k h = grind (arith, nat_tests)
 
@@ -249,7 +222,7 @@ scheduled input plan once = λ k d h. let at = shifted_first plan (get_or (moves
 counted_in_round : (input : Lists) (plan : List (List Shift)) (m r : ℕ) (p : Trip → Bool) → IsInput input → Runs input plan → m < length input.items → shift_count plan m ≡ 1 → eqb (round_of plan m) (suc r) ≡ true → one (p (trip input m)) ≤ count_by (λ s. eqb m s.item.0 && p (trip_of s)) (round_at plan (suc r))
 counted_in_round input plan m r p valid runs there once same =
     let at = shifted_first plan m once in
-    let e : first plan m ≡ r = omega (arith, is_same (round_of plan m) (suc r) same) in
+    let e : first plan m ≡ r = omega (arith, eqb-true (round_of plan m) (suc r) same) in
     let P : ℕ → Type 0 = λ k. one (p (trip input m)) ≤ count_by (λ s. eqb m s.item.0 && p (trip_of s)) (round_at plan (suc k)) in
     subst P e (trip_counted input plan m (first plan m) valid runs there at.0 at.1 p)
 

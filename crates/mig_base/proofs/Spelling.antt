@@ -1,19 +1,12 @@
 -- Bytes are the spelling of at most one plan.
-use Rattle.std.proofs.Common.{◌≡◌, ◌≢◌, ℕ, ◌+◌, ◌^◌, ◌<◌, ◌≤◌, List, [], ◌∷◌, ◌++◌, length, refl, sym, ap, ◌∙◌, arith, map, codes, true, false, get_or, inl, inr, append_assoc, nat_eq, not}
-use Rattle.std.specs.List.{list_all, AllByRecursion, AllPairs}
-use Rattle.std.specs.Fmt.{decimal}
-use Rattle.std.proofs.lemmas.Bool.{cases_order}
-use Rattle.std.proofs.lemmas.Bool.Decides.{nat_tests}
-use Rattle.std.proofs.lemmas.List.{length-map}
-use Rattle.std.proofs.lemmas.Fmt.{decimal_injective}
-use Rattle.std.proofs.lemmas.List.Elements.{recursion_from_All}
-use Rattle.mig_base.specs.declared.limits.TheConstants.{MAX_ROUNDS, MAX_SHIFTS}
-use Rattle.mig_base.specs.Naming.{IsName, is_name_byte}
-use Rattle.mig_base.specs.declared.inputs.Disk.{Disk}
+use Rattle.mig_base.proofs.Common.{◌≡◌, ◌≢◌, ℕ, ◌+◌, ◌^◌, ◌<◌, ◌≤◌, List, [], ◌∷◌, ◌++◌, length, refl, sym, ap, ◌∙◌, arith, map, codes, true, false, get_or, inl, inr, append_assoc, nat_eq, not}
+use Rattle.mig_base.proofs.Common.{AllByRecursion, AllPairs, decimal, nat_tests, length-map, decimal_injective, recursion_from_All, IsName, is_name_byte, Lists, IsInput, no_disk, ShiftFits, PlanFits}
+use Rattle.mig_base.proofs.Common.{item_name, disk_name, words, shift_line, round_lines, plan_lines, PlanText}
 use Rattle.mig_base.specs.declared.ids.Shift.{Shift}
-use Rattle.mig_base.specs.InputLists.{Lists, IsInput, no_disk}
-use Rattle.mig_base.specs.Running.{ShiftFits, PlanFits}
-use Rattle.mig_base.specs.Texts.{item_name, disk_name, words, shift_line, round_lines, plan_lines, PlanText}
+use Rattle.mig_base.specs.declared.inputs.Disk.{Disk}
+use Rattle.mig_base.specs.declared.limits.TheConstants.{MAX_ROUNDS, MAX_SHIFTS}
+use Rattle.std.specs.List.{list_all}
+use Rattle.std.proofs.lemmas.Bool.{cases_order}
 use Rattle.mig_base.proofs.Separators.{Lacks, same_lines, same_words, Lacks-words, Lacks-decimal, same_front}
 
 -- a byte of a name isn't a blank or an end of a line

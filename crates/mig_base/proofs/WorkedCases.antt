@@ -1,18 +1,14 @@
 -- Worked cases, by computing: loads, quotients, classes and values; a plan's layouts and texts.
-use Rattle.std.proofs.Common.{◌+◌, Some, None, List, length, codes, ◌≡◌, ℕ, [], ◌∷◌, refl}
-use Rattle.std.specs.Fmt.{digits}
-use Rattle.mig_base.specs.declared.inputs.Disk.{Disk}
-use Rattle.mig_base.specs.declared.certs.Class.TheVariants.{Even, General}
+use Rattle.mig_base.proofs.Common.{◌+◌, Some, None, List, length, codes, ◌≡◌, ℕ, [], ◌∷◌, refl, Lists, present, incoming, At, shift_count, text_of_lines, plan_lines, cert_lines, bound_lines, moves}
+use Rattle.mig_base.proofs.Common.{transfers, Trip, load, Transfers, quotient, class_of, set_value}
 use Rattle.mig_base.specs.declared.certs.Bound.TheVariants.{OfDisk, OfSet}
+use Rattle.mig_base.specs.declared.certs.Class.TheVariants.{Even, General}
 use Rattle.mig_base.specs.declared.ids.Shift.{Shift}
 use Rattle.mig_base.specs.declared.ids.Spot.{Spot}
-use Rattle.mig_base.specs.InputLists.{Lists}
-use Rattle.mig_base.specs.Targets.{present, incoming}
-use Rattle.mig_base.specs.Layouts.{At}
-use Rattle.mig_base.specs.Running.{shift_count, round_of}
-use Rattle.mig_base.specs.Texts.{text_of_lines, plan_lines, cert_lines, bound_lines, layout_lines}
-use Rattle.mig_base.specs.Transfers.{moves, transfers, Trip, load, Transfers}
-use Rattle.mig_base.specs.Bounding.{quotient, class_of, set_value}
+use Rattle.mig_base.specs.declared.inputs.Disk.{Disk}
+use Rattle.std.specs.Fmt.{digits}
+use Rattle.mig_base.specs.Running.{round_of}
+use Rattle.mig_base.specs.Texts.{layout_lines}
 
 abbrev disk : ℕ → Disk
 disk n = record { name = 97 ∷ []; limit = n; slots = 9 }

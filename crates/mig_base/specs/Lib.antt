@@ -36,5 +36,6 @@ pub mod Schedules
 pub mod Slots
 pub mod Stores
 pub mod Targets
+pub mod Tasks
 pub mod Texts
 pub mod Transfers

@@ -2,23 +2,30 @@
 use Rattle.std.specs.Prelude.{◌≡◌, ℕ, ◌*◌, ◌≤◌, List, length}
 use Rattle.mig_base.specs.declared.ids.Shift.{Shift}
 use Rattle.mig_base.specs.InputLists.{Lists}
-use Rattle.mig_base.specs.Transfers.{transfers}
+use Rattle.mig_base.specs.Transfers.{Transfers, transfers}
 use Rattle.mig_base.specs.Bounding.{IsEven, IsOneWay, quotient}
 use Rattle.mig_base.specs.Schedules.{Needs}
 use Rattle.mig_base.specs.Running.{Runs, Once, PlanFits}
 use Rattle.mig_base.specs.Planned.{GoesToTargets, IsFilled}
 
--- The rounds run and move each relocated item once, straight to its target spot. Where limits are even, and where each disk only
--- gives items away or only takes them, there are as many rounds as the greatest quotient, and no schedule has fewer; and there are
--- never more than one and a half times that.
+-- why as few rounds as the greatest quotient can do
+pub data Reason : Type 0 where
+  EvenLimits : Reason
+  OneWay : Reason
+
+-- what is so of the transfers then: limits are even; each disk only gives items away or only takes them
+abbrev pub Because : Reason → Transfers → Type 0
+Because EvenLimits graph = IsEven graph
+Because OneWay graph = IsOneWay graph
+
+-- The rounds run and move each relocated item once, straight to its target spot. No schedule has fewer rounds than the greatest
+-- quotient. Where there is a reason why as many can do, there are as many; and there are never more than one and a half times that.
 pub record IsPlanOf (input : Lists) (plan : List (List Shift)) : Type 0 where
   pub fits : PlanFits input plan
   pub runs : Runs input plan
   pub once : Once input plan
   pub targets : GoesToTargets input plan
   pub filled : IsFilled plan
-  pub even_rounds : IsEven (transfers input) → length plan ≡ quotient (transfers input)
-  pub needed : IsEven (transfers input) → Needs input (length plan)
-  pub one_way_rounds : IsOneWay (transfers input) → length plan ≡ quotient (transfers input)
-  pub one_way_needed : IsOneWay (transfers input) → Needs input (length plan)
-  pub few_rounds : 2 * length plan ≤ 3 * quotient (transfers input)
+  pub lower : Needs input (quotient (transfers input))
+  pub tight : (why : Reason) → Because why (transfers input) → length plan ≡ quotient (transfers input)
+  pub most : 2 * length plan ≤ 3 * quotient (transfers input)

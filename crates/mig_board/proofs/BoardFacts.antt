@@ -1,12 +1,10 @@
 -- What the methods of a board know of its fields.
-use Rattle.std.proofs.Common.{◌⊎◌, ◌↔◌, inl, inr, ◌≡◌, ℕ, ◌<◌, ◌*◌, ◌/◌, ◌%◌, ◌+◌, ◌≢◌, ◌≤◌, ◌^◌, sym, ◌∙◌, subst, ap, length, set, get_or, replicate, vec_len, Vec, Global, Some, None, List, Option, arith, refl, MatchOption}
-use Rattle.std.specs.List.{All}
-use Rattle.std.specs.Int.{bit_at}
-use Rattle.std.specs.Prelude.{slice_get}
-use Rattle.mig_base.specs.declared.limits.TheConstants.{MAX_ITEMS}
+use Rattle.mig_base.proofs.Common.{◌⊎◌, ◌↔◌, inl, inr, ◌≡◌, ℕ, ◌<◌, ◌*◌, ◌/◌, ◌%◌, ◌+◌, ◌≢◌, ◌≤◌, ◌^◌, sym, ◌∙◌, subst, ap, length, set, get_or, replicate, vec_len, Vec, Global, Some, None, List}
+use Rattle.mig_base.proofs.Common.{Option, arith, refl, MatchOption, All, bit_at, slice_get, div_ceil_times, same_Some, none-some, slice_get_within, slice_get_read, slice_get-get_or, cases_eq}
+use Rattle.mig_base.specs.declared.ids.Colour.{Colour}
 use Rattle.mig_base.specs.declared.ids.CopyId.{CopyId}
 use Rattle.mig_base.specs.declared.ids.EdgeId.{EdgeId}
-use Rattle.mig_base.specs.declared.ids.Colour.{Colour}
+use Rattle.mig_base.specs.declared.limits.TheConstants.{MAX_ITEMS}
 use Rattle.mig_board.specs.Colouring.{Colouring, Joins, HasColour, Leads, IsMissing, IsPresent, IsFullFrom, IsLeastMissingFrom, HasNoCommon, IsLeastCommon, IsPainted, IsFreeAt, IsProper, AreFreeWords}
 use Rattle.mig_board.specs.Entries.{Entries, with_entry, IsFreeEntry, IsFreeSet}
 use Rattle.mig_board.specs.Words.{words_for, HasBit, HasNoBitFrom, IsFirstBit, HasNoCommonBit, IsFirstCommonBit}
@@ -15,10 +13,7 @@ use Rattle.mig_board.specs.declared.boards.Board.TheInside.{Inside}
 use Rattle.mig_board.proofs.Exchange.{recoloured}
 use Rattle.mig_board.proofs.Tables.{IsTabled, IsTabled-painted, CanPaint, CanPaint-read, IsTabled-blank, IsTabled-cleared, entries_set, place_within}
 use Rattle.mig_board.proofs.Walks.{joins_back}
-use Rattle.std.proofs.lemmas.Grind.{div_ceil_times}
 use Rattle.std.proofs.lemmas.Nat.{mul-le}
-use Rattle.std.proofs.lemmas.Option.{same_Some, none-some, slice_get_within, slice_get_read, slice_get-get_or}
-use Rattle.std.proofs.lemmas.Bool.{cases_eq}
 
 pub tabled_of : (a : Inside) → IsBoard a → IsTabled (colouring_of a) a.table.entries
 tabled_of a b = record { proper = b.proper; table = b.table }

@@ -1,15 +1,14 @@
 -- How many colours are present at a node, against its degree.
-use Rattle.std.proofs.Common.{◌≡◌, ℕ, ◌<◌, ◌≤◌, ◌+◌, ◌*◌, ◌⊎◌, inl, inr, refl, ap, ◌∙◌, List, [], ◌∷◌, zero, suc, Option, Some, None, arith, Bool, true, false, cond, eqb, eq-eqb, count_by}
-use Rattle.std.specs.Prelude.{slice_get, ◌||◌}
-use Rattle.std.proofs.lemmas.Bool.{false≢true}
-use Rattle.std.proofs.lemmas.Option.{same_Some, none-some}
-use Rattle.std.proofs.lemmas.Bool.Decides.{eqb_tells}
-use Rattle.std.proofs.lemmas.List.Sums.{sum_by-cons}
+use Rattle.mig_base.proofs.Common.{◌≡◌, ℕ, ◌<◌, ◌≤◌, ◌+◌, ◌*◌, ◌⊎◌, inl, inr, refl, ap, ◌∙◌, List, [], ◌∷◌, zero, suc, Option, Some, None, arith, Bool, true, false, cond, eqb, eq-eqb, count_by}
+use Rattle.mig_base.proofs.Common.{slice_get, or_right, same_Some, none-some, sum_by-cons}
+use Rattle.mig_base.specs.declared.ids.Colour.{Colour}
 use Rattle.mig_base.specs.declared.ids.CopyId.{CopyId}
 use Rattle.mig_base.specs.declared.ids.EdgeId.{EdgeId}
-use Rattle.mig_base.specs.declared.ids.Colour.{Colour}
+use Rattle.std.proofs.lemmas.Bool.{or_left}
+use Rattle.std.proofs.lemmas.Bool.Decides.{eqb_tells}
 use Rattle.mig_board.specs.Colouring.{Colouring, Joins, IsPresent, IsFull, HasNoCommon, degree_of}
 use Rattle.mig_base.specs.Ends.{is_end}
+use Rattle.mig_base.proofs.Counting.{one}
 
 abbrev pub has_hue : ℕ → Option Colour → Bool
 has_hue k None = false
@@ -44,20 +43,17 @@ pub sum_to-zero : (n : ℕ) → sum_to (λ k. 0) n ≡ 0
 sum_to-zero zero = refl
 sum_to-zero (suc n) = omega (arith, sum_to-zero n)
 
-abbrev bit : Bool → ℕ
-bit t = cond t 1 0
-
 pub sum_to-one : (c n : ℕ) → (sum_to (λ k. cond (eqb c k) 1 0) n ≤ 1) × (n ≤ c → sum_to (λ k. cond (eqb c k) 1 0) n ≡ 0)
 sum_to-one c zero = (omega arith, λ h. refl)
 sum_to-one c (suc n) =
     let r = sum_to-one c n in
     elim (eqb_tells c n) [
       | inl h ↦
-          (let one : ◌≡◌ {A = ℕ} (cond (eqb c n) 1 0) 1 = ap (λ t. bit t) h.0 in
+          (let one : ◌≡◌ {A = ℕ} (cond (eqb c n) 1 0) 1 = ap (λ t. one t) h.0 in
           let none = r.1 (omega (arith, h.1)) in
           (omega (arith, one, none), λ m. absurd (omega (arith, h.1))))
       | inr h ↦
-          (let none : ◌≡◌ {A = ℕ} (cond (eqb c n) 1 0) 0 = ap (λ t. bit t) h.0 in
+          (let none : ◌≡◌ {A = ℕ} (cond (eqb c n) 1 0) 0 = ap (λ t. one t) h.0 in
           (omega (arith, none, r.0), λ m. (let rest = r.1 (omega arith) in omega (arith, none, rest))))
     ]
 
@@ -71,18 +67,10 @@ pub tally_total : (v : CopyId) (ps : List (CopyId × CopyId)) (cs : List (Option
 tally_total v [] cs n = omega (arith, sum_to-zero n)
 tally_total v (p ∷ ps) [] n = omega (arith, sum_to-zero n)
 tally_total v (p ∷ ps) (c ∷ cs) n =
-    let e : ◌≡◌ {A = ℕ} (count_by (is_end v) (p ∷ ps)) (cond (is_end v p) 1 0 + count_by (is_end v) ps) = sum_by-cons (λ x. bit (is_end v x)) p ps in
+    let e : ◌≡◌ {A = ℕ} (count_by (is_end v) (p ∷ ps)) (cond (is_end v p) 1 0 + count_by (is_end v) ps) = sum_by-cons (λ x. one (is_end v x)) p ps in
     omega (arith, sum_to-add (λ k. cond (is_end v p) (cond (has_hue k c) 1 0) 0) (λ k. tally v k ps cs) n, hue_total (is_end v p) c n, tally_total v ps cs n, e)
 
 -- ---- a colour that is present is counted
-
-or_left : (a b : Bool) → a ≡ true → (a || b) ≡ true
-or_left true b h = refl
-or_left false b h = absurd (false≢true h)
-
-or_right : (a b : Bool) → b ≡ true → (a || b) ≡ true
-or_right true b h = refl
-or_right false b h = h
 
 is_end_first : (v w : CopyId) → is_end v (v, w) ≡ true
 is_end_first v w = or_left (eqb v.0 v.0) (eqb w.0 v.0) (eq-eqb v.0 v.0 refl)
@@ -96,7 +84,7 @@ tally_at v k (q ∷ ps) [] i p c hp hc he hh = absurd (none-some c hc)
 tally_at v k (q ∷ ps) (d ∷ cs) zero p c hp hc he hh =
     let e : is_end v q ≡ true = ap (is_end v) (same_Some q p hp) ∙ he in
     let h : has_hue k d ≡ true = ap (has_hue k) (same_Some d c hc) ∙ hh in
-    let one : ◌≡◌ {A = ℕ} (cond (is_end v q) (cond (has_hue k d) 1 0) 0) 1 = ap (λ t. cond {A = ℕ} t (bit (has_hue k d)) 0) e ∙ ap bit h in
+    let one : ◌≡◌ {A = ℕ} (cond (is_end v q) (cond (has_hue k d) 1 0) 0) 1 = ap (λ t. cond {A = ℕ} t (one (has_hue k d)) 0) e ∙ ap one h in
     omega (arith, one)
 tally_at v k (q ∷ ps) (d ∷ cs) (suc i) p c hp hc he hh = omega (arith, tally_at v k ps cs i p c hp hc he hh)
 
@@ -106,7 +94,7 @@ plain_at v (q ∷ ps) [] i p hp hc he = absurd (none-some None hc)
 plain_at v (q ∷ ps) (d ∷ cs) zero p hp hc he =
     let e : is_end v q ≡ true = ap (is_end v) (same_Some q p hp) ∙ he in
     let h : is_plain d ≡ true = ap is_plain (same_Some d None hc) in
-    let one : ◌≡◌ {A = ℕ} (cond (is_end v q) (cond (is_plain d) 1 0) 0) 1 = ap (λ t. cond {A = ℕ} t (bit (is_plain d)) 0) e ∙ ap bit h in
+    let one : ◌≡◌ {A = ℕ} (cond (is_end v q) (cond (is_plain d) 1 0) 0) 1 = ap (λ t. cond {A = ℕ} t (one (is_plain d)) 0) e ∙ ap one h in
     omega (arith, one)
 plain_at v (q ∷ ps) (d ∷ cs) (suc i) p hp hc he = omega (arith, plain_at v ps cs i p hp hc he)
 

@@ -1,17 +1,16 @@
 -- What `exchange` knows of a board's fields.
-use Rattle.std.proofs.Common.{◌⊎◌, inl, inr, ◌^◌, ◌≡◌, ℕ, ◌<◌, ◌≤◌, ◌+◌, ◌*◌, sym, ap, subst, ◌∙◌, refl, length, set, get_or, vec_len, List, Option, Some, None}
-use Rattle.std.specs.Prelude.{slice_get}
-use Rattle.mig_base.specs.declared.limits.TheConstants.{MAX_ITEMS}
+use Rattle.mig_base.proofs.Common.{◌⊎◌, inl, inr, ◌^◌, ◌≡◌, ℕ, ◌<◌, ◌≤◌, ◌+◌, ◌*◌, sym, ap, subst, ◌∙◌, refl, length, set, get_or, vec_len, List, Option, Some, None, slice_get, same_Some, none-some}
+use Rattle.mig_base.proofs.Common.{slice_get_read, slice_get_within}
+use Rattle.mig_base.specs.declared.ids.Colour.{Colour}
 use Rattle.mig_base.specs.declared.ids.CopyId.{CopyId}
 use Rattle.mig_base.specs.declared.ids.EdgeId.{EdgeId}
-use Rattle.mig_base.specs.declared.ids.Colour.{Colour}
+use Rattle.mig_base.specs.declared.limits.TheConstants.{MAX_ITEMS}
 use Rattle.mig_board.specs.Entries.{Entries}
 use Rattle.mig_board.specs.Colouring.{Colouring, Leads, IsMissing, IsPresent}
 use Rattle.mig_board.specs.BoardFields.{colouring_of, IsBoard}
 use Rattle.mig_board.specs.declared.boards.Board.TheInside.{Inside}
 use Rattle.mig_board.proofs.BoardFacts.{tabled_of}
 use Rattle.std.specs.List.{swap}
-use Rattle.std.proofs.lemmas.Option.{same_Some, none-some, slice_get_read, slice_get_within}
 use Rattle.mig_board.proofs.Tables.{place_of, IsTabled}
 use Rattle.mig_board.specs.Walk.{Exchanges}
 use Rattle.mig_board.proofs.Walks.{underway_at, underway_next, underway_pair, same_pair}

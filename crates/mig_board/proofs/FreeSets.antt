@@ -1,20 +1,16 @@
 -- The sets of what is free in a table, beside its entries.
-use Rattle.std.proofs.Common.{◌≡◌, ◌≢◌, ℕ, ◌<◌, ◌≤◌, ◌+◌, ◌*◌, ◌/◌, ◌%◌, ◌⊎◌, ◌↔◌, inl, inr, refl, sym, ap, subst, ◌∙◌, List, length, get_or, take, drop, Option, Some, None, arith, length-set, replicate}
-use Rattle.std.specs.Prelude.{slice_get}
-use Rattle.std.specs.Int.{bit_at}
-use Rattle.std.proofs.lemmas.Bool.{cases_eq, cases_lt}
-use Rattle.std.proofs.lemmas.Grind.{div_ceil_times}
-use Rattle.std.proofs.lemmas.List.{get_or-take, get_or-drop, get_or_past, length-take-le, length-drop, length-replicate}
-use Rattle.std.proofs.lemmas.Nat.{mul-add-lt, mul-le, same_from_place}
-use Rattle.std.proofs.lemmas.Nat.Bits.{bit_at-zero}
-use Rattle.std.proofs.lemmas.Option.{same_Some}
-use Rattle.std.proofs.Math.Nat.{mul_comm}
+use Rattle.mig_base.proofs.Common.{◌≡◌, ◌≢◌, ℕ, ◌<◌, ◌≤◌, ◌+◌, ◌*◌, ◌/◌, ◌%◌, ◌⊎◌, ◌↔◌, inl, inr, refl, sym, ap, subst, ◌∙◌, List, length, get_or, take, drop, Option, Some, None, arith, length-set}
+use Rattle.mig_base.proofs.Common.{replicate, slice_get, bit_at, cases_eq, cases_lt, div_ceil_times, get_or-take, get_or_past, length-take-le, length-drop, length-replicate, same_Some, mul_comm}
+use Rattle.mig_base.specs.declared.ids.Colour.{Colour}
 use Rattle.mig_base.specs.declared.ids.CopyId.{CopyId}
 use Rattle.mig_base.specs.declared.ids.EdgeId.{EdgeId}
-use Rattle.mig_base.specs.declared.ids.Colour.{Colour}
+use Rattle.std.proofs.lemmas.List.{get_or-drop}
+use Rattle.std.proofs.lemmas.Nat.{mul-add-lt, mul-le, same_from_place}
+use Rattle.std.proofs.lemmas.Nat.Bits.{bit_at-zero}
+use Rattle.mig_base.proofs.Elements.{slice_get-set_same, slice_get-set_other}
 use Rattle.mig_board.specs.Words.{words_for, HasBit, TurnsBit, AreFullSets}
 use Rattle.mig_board.specs.Entries.{Entries, with_entry, IsFreeEntry, IsFreeSet, AreFreeSets}
-use Rattle.mig_board.proofs.Elements.{slice_get-set_same, slice_get-set_other, slice_get-replicate}
+use Rattle.mig_board.proofs.Elements.{slice_get-replicate}
 
 -- ---- places of bits
 

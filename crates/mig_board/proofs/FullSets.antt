@@ -1,12 +1,8 @@
 -- Sets of all numbers below another one, as they are made.
-use Rattle.std.proofs.Common.{◌≡◌, ◌≢◌, ℕ, ◌<◌, ◌≤◌, ◌+◌, ◌-◌, ◌*◌, ◌/◌, ◌%◌, ◌^◌, ◌⊎◌, inl, inr, sym, ap, ◌∙◌, List, length, set, get_or, arith, length-set, replicate}
-use Rattle.std.specs.Int.{bit_at}
-use Rattle.std.proofs.lemmas.Bool.{cases_eq, cases_lt}
-use Rattle.std.proofs.lemmas.Grind.{div_ceil_times}
-use Rattle.std.proofs.lemmas.List.{get_or-replicate, get_or-set_same, get_or-set_other, length-replicate}
+use Rattle.mig_base.proofs.Common.{◌≡◌, ◌≢◌, ℕ, ◌<◌, ◌≤◌, ◌+◌, ◌-◌, ◌*◌, ◌/◌, ◌%◌, ◌^◌, ◌⊎◌, inl, inr, sym, ap, ◌∙◌, List, length, set, get_or, arith, length-set, replicate, bit_at, cases_eq}
+use Rattle.mig_base.proofs.Common.{cases_lt, div_ceil_times, get_or-replicate, get_or-set_same, get_or-set_other, length-replicate, mul_comm}
 use Rattle.std.proofs.lemmas.Nat.{mul-add-lt, same_from_place}
 use Rattle.std.proofs.lemmas.Nat.Bits.{bit_at_ones, bit_at_ones_above}
-use Rattle.std.proofs.Math.Nat.{mul_comm}
 use Rattle.mig_board.specs.Words.{words_for, AreFullSets}
 use Rattle.mig_board.proofs.FreeSets.{bit_word, words_cover}
 

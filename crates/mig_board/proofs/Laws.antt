@@ -1,19 +1,17 @@
 -- Laws of walks and exchanges for callers.
-use Rattle.std.proofs.Common.{◌≡◌, ◌≢◌, ℕ, ◌<◌, ◌≤◌, ◌+◌, ◌⊎◌, inl, inr, refl, sym, ap, subst, ◌∙◌, List, [], ◌∷◌, Some, None, arith, length, replicate, Option}
-use Rattle.std.specs.Prelude.{slice_get}
-use Rattle.std.proofs.lemmas.List.{length-replicate, get_or-replicate}
-use Rattle.std.proofs.lemmas.Option.{slice_get-get_or, same_Some, none-some, slice_get_within}
-use Rattle.std.proofs.lemmas.Bool.{cases_lt, cases_eq}
+use Rattle.mig_base.proofs.Common.{◌≡◌, ◌≢◌, ℕ, ◌<◌, ◌≤◌, ◌+◌, ◌⊎◌, inl, inr, refl, sym, ap, subst, ◌∙◌, List, [], ◌∷◌, Some, None, arith, length, replicate, Option, slice_get, length-replicate}
+use Rattle.mig_base.proofs.Common.{get_or-replicate, slice_get-get_or, same_Some, none-some, slice_get_within, cases_lt, cases_eq}
+use Rattle.mig_base.specs.declared.ids.Colour.{Colour}
 use Rattle.mig_base.specs.declared.ids.CopyId.{CopyId}
 use Rattle.mig_base.specs.declared.ids.EdgeId.{EdgeId}
-use Rattle.mig_base.specs.declared.ids.Colour.{Colour}
+use Rattle.mig_base.proofs.Elements.{slice_get-set_same, slice_get-set_other}
+use Rattle.mig_base.proofs.SameIds.{same_edge}
 use Rattle.mig_board.specs.Colouring.{Colouring, Joins, HasColour, Leads, IsMissing, IsPresent, IsFull, HasNoCommon, IsPainted, IsProper, IsFreeAt, degree_of, painted_with, blank}
 use Rattle.mig_board.specs.Growth.{IsBlank, IsPlain, SameGraph, PaintsOne, Recolours, IsTwoSided}
 use Rattle.mig_board.specs.Walk.{Step, IsWalk, end_of, next_of, backwards, WalksTo, swapped, Exchanges}
 use Rattle.mig_board.proofs.Walks.{IsPath, path_of_walk, path_back, next_pair, missing_differs, end_cases}
 use Rattle.mig_board.proofs.Counting.{degree_of_full}
-use Rattle.mig_board.proofs.Elements.{slice_get-set_same, slice_get-set_other}
-use Rattle.mig_board.proofs.Tables.{edge_cases, same_edge, painted_cases}
+use Rattle.mig_board.proofs.Tables.{edge_cases, painted_cases}
 use Rattle.mig_board.proofs.Exchange.{path_edge_cases, path_edge, swapped_second, swapped_third}
 
 -- ---- what is missing and what is there

@@ -1,16 +1,14 @@
 -- What the methods of a table know of its fields.
-use Rattle.std.proofs.Common.{◌≡◌, ℕ, ◌<◌, ◌+◌, ◌*◌, ◌↔◌, sym, ap, subst, ◌∙◌, refl, List, length, set, get_or, Option, Some, None, Bool, true, false, MatchBool}
-use mathlib.Core.Bool.{not, beq}
-use Rattle.std.specs.Prelude.{slice_get}
-use Rattle.std.specs.List.{swap}
-use Rattle.std.specs.Vec.{with_items}
-use Rattle.std.proofs.lemmas.Bool.{false≢true}
-use Rattle.std.proofs.lemmas.List.{with_items_is, get_or_default}
-use Rattle.std.proofs.lemmas.List.Edits.{swap_is}
-use Rattle.std.proofs.lemmas.Option.{none-some, slice_get_read}
+use Rattle.mig_base.proofs.Common.{◌≡◌, ℕ, ◌<◌, ◌+◌, ◌*◌, ◌↔◌, sym, ap, subst, ◌∙◌, refl, List, length, set, get_or, Option, Some, None, Bool, true, false, MatchBool, slice_get, false≢true}
+use Rattle.mig_base.proofs.Common.{get_or_default, none-some, slice_get_read}
+use Rattle.mig_base.specs.declared.ids.Colour.{Colour}
 use Rattle.mig_base.specs.declared.ids.CopyId.{CopyId}
 use Rattle.mig_base.specs.declared.ids.EdgeId.{EdgeId}
-use Rattle.mig_base.specs.declared.ids.Colour.{Colour}
+use mathlib.Core.Bool.{not, beq}
+use Rattle.std.specs.List.{swap}
+use Rattle.std.specs.Vec.{with_items}
+use Rattle.std.proofs.lemmas.List.{with_items_is}
+use Rattle.std.proofs.lemmas.List.Edits.{swap_is}
 use Rattle.mig_board.specs.Words.{words_for, TurnsBit}
 use Rattle.mig_board.specs.Entries.{Entries, with_entry, AreFreeSets}
 use Rattle.mig_board.specs.TableFields.{entries_of, IsTable}

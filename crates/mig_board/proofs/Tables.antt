@@ -1,28 +1,16 @@
 -- The table of a colouring through a change of one edge's colour.
-use Rattle.std.proofs.Common.{◌≡◌, ◌≢◌, ℕ, ◌<◌, ◌+◌, ◌*◌, ◌⊎◌, ◌↔◌, inl, inr, refl, sym, ap, subst, ◌∙◌, List, length, set, get_or, Option, Some, None, arith, length-set, replicate}
-use Rattle.std.proofs.lemmas.List.{length-replicate, get_or-replicate, set-set}
-use Rattle.std.specs.Prelude.{slice_get}
-use Rattle.std.proofs.lemmas.Bool.{cases_eq}
-use Rattle.std.proofs.lemmas.Nat.{mul-add-lt, same_from_place}
-use Rattle.std.proofs.Math.Nat.{mul_comm}
-use Rattle.std.proofs.lemmas.Option.{same_Some, none-some, slice_get_within, slice_get_read, get_or_from_slice_get}
-use Rattle.std.proofs.lemmas.List.Elements.{All-contains}
-use Rattle.std.specs.List.{All, Contains}
+use Rattle.mig_base.proofs.Common.{◌≡◌, ◌≢◌, ℕ, ◌<◌, ◌+◌, ◌*◌, ◌⊎◌, ◌↔◌, inl, inr, refl, sym, ap, subst, ◌∙◌, List, length, set, get_or, Option, Some, None, arith, length-set, replicate}
+use Rattle.mig_base.proofs.Common.{length-replicate, get_or-replicate, slice_get, cases_eq, mul_comm, same_Some, none-some, slice_get_within, slice_get_read, get_or_from_slice_get, All-contains, All}
+use Rattle.mig_base.proofs.Common.{Contains}
+use Rattle.mig_base.specs.declared.ids.Colour.{Colour}
 use Rattle.mig_base.specs.declared.ids.CopyId.{CopyId}
 use Rattle.mig_base.specs.declared.ids.EdgeId.{EdgeId}
-use Rattle.mig_base.specs.declared.ids.Colour.{Colour}
+use Rattle.std.proofs.lemmas.List.{set-set}
+use Rattle.std.proofs.lemmas.Nat.{mul-add-lt, same_from_place}
+use Rattle.mig_base.proofs.SameIds.{same_edge, same_copy, same_hue}
+use Rattle.mig_base.proofs.Elements.{slice_get-set_same, slice_get-set_other}
 use Rattle.mig_board.specs.Colouring.{Colouring, Joins, HasColour, Leads, IsMissing, IsProper, IsTableOf, IsFreeAt, painted_with, cleared, blank}
-use Rattle.mig_board.proofs.Elements.{slice_get-set_same, slice_get-set_other}
 use Rattle.mig_board.proofs.Walks.{end_cases, same_colour, joins_back}
-
-pub same_copy : (v w : CopyId) → v.0 ≡ w.0 → v ≡ w
-same_copy v w h = let make : ℕ → CopyId = λ n. record { 0 = n } in ap make h
-
-pub same_edge : (v w : EdgeId) → v.0 ≡ w.0 → v ≡ w
-same_edge v w h = let make : ℕ → EdgeId = λ n. record { 0 = n } in ap make h
-
-pub same_hue : (v w : Colour) → v.0 ≡ w.0 → v ≡ w
-same_hue v w h = let make : ℕ → Colour = λ n. record { 0 = n } in ap make h
 
 abbrev pub place_of : Colouring → CopyId → Colour → ℕ
 place_of g v k = v.0 * g.colours + k.0

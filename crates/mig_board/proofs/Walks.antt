@@ -1,18 +1,17 @@
 -- Paths of two colours in a proper colouring: they repeat no node, are unique, and go back the same way.
-use Rattle.std.proofs.Common.{◌≡◌, ◌≢◌, ℕ, ◌<◌, ◌⊎◌, inl, inr, refl, sym, ap, subst, ◌∙◌, List, [], ◌∷◌, ◌++◌, append_assoc, append-nil, Option, Some, arith, ◌+◌, length, length-append, get_or, zero, suc, false, eqb-true}
-use Rattle.std.proofs.lemmas.Option.{some_pair_parts}
+use Rattle.mig_base.proofs.Common.{◌≡◌, ◌≢◌, ℕ, ◌<◌, ◌⊎◌, inl, inr, refl, sym, ap, subst, ◌∙◌, List, [], ◌∷◌, ◌++◌, append_assoc, append-nil, Option, Some, arith, ◌+◌, length, length-append, get_or}
+use Rattle.mig_base.proofs.Common.{zero, suc, false, eqb-true, AllPairs, All, Contains-from_any, All-contains, recursion_from_All, ne_eqb, eqb}
+use Rattle.mig_base.specs.declared.ids.Colour.{Colour}
 use Rattle.mig_base.specs.declared.ids.CopyId.{CopyId}
 use Rattle.mig_base.specs.declared.ids.EdgeId.{EdgeId}
-use Rattle.mig_base.specs.declared.ids.Colour.{Colour}
+use Rattle.std.proofs.lemmas.Option.{some_pair_parts}
 use Rattle.mig_board.specs.Colouring.{Colouring, Joins, HasColour, Leads, IsMissing, IsPresent, IsProper}
 use Rattle.mig_board.specs.Walk.{Step, IsWalk, end_of, next_of, backwards, IsNodeOf, IsEdgeOf, WalkLaw, WalksTo, nodes_of}
-use Rattle.std.specs.List.{AllPairs, All, IsDistinct}
+use Rattle.std.specs.List.{IsDistinct}
 use Rattle.std.proofs.lemmas.Map.Steps.{length-le_from_distinct_below}
 use Rattle.std.proofs.lemmas.Map.Keys.{IsDistinct-cons}
-use Rattle.std.proofs.lemmas.Map.Views.{Contains-from_any}
-use Rattle.std.proofs.lemmas.List.Elements.{All-cons, All-nil, All-contains, recursion_from_All}
-use Rattle.std.proofs.lemmas.Bool.{ne_eqb}
-use Rattle.std.proofs.Math.Dec.{eqb}
+use Rattle.std.proofs.lemmas.List.Elements.{All-cons, All-nil}
+use Rattle.mig_base.proofs.SameIds.{same_copy}
 
 -- a walk that may still go on
 abbrev pub IsPath : Colouring → CopyId → Colour → Colour → List Step → Type 0
@@ -268,13 +267,10 @@ pub length-places : (v : CopyId) (steps : List Step) → length (places v steps)
 length-places v [] = refl
 length-places v (s ∷ rest) = omega (arith, length-places s.to rest)
 
-copy_same : (v w : CopyId) → v.0 ≡ w.0 → v ≡ w
-copy_same v w h = let make : ℕ → CopyId = λ n. record { 0 = n } in ap make h
-
 absent_places : (u v : CopyId) (steps : List Step) → (IsNodeOf u v steps → ⊥) → All (λ n. eqb u.0 n ≡ false) (places v steps)
-absent_places u v [] h = All-cons (λ n. eqb u.0 n ≡ false) v.0 [] (ne_eqb u.0 v.0 (λ e. h (sym (copy_same u v e)))) (All-nil (λ n. eqb u.0 n ≡ false))
+absent_places u v [] h = All-cons (λ n. eqb u.0 n ≡ false) v.0 [] (ne_eqb u.0 v.0 (λ e. h (sym (same_copy u v e)))) (All-nil (λ n. eqb u.0 n ≡ false))
 absent_places u v (s ∷ rest) h =
-    All-cons (λ n. eqb u.0 n ≡ false) v.0 (places s.to rest) (ne_eqb u.0 v.0 (λ e. h (inl (sym (copy_same u v e))))) (absent_places u s.to rest (λ (m : IsNodeOf u s.to rest). h (inr m)))
+    All-cons (λ n. eqb u.0 n ≡ false) v.0 (places s.to rest) (ne_eqb u.0 v.0 (λ e. h (inl (sym (same_copy u v e))))) (absent_places u s.to rest (λ (m : IsNodeOf u s.to rest). h (inr m)))
 
 IsDistinct-places : (v : CopyId) (steps : List Step) → NoRepeat v steps → IsDistinct eqb (places v steps)
 unfolding IsDistinct

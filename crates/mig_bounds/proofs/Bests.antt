@@ -1,9 +1,7 @@
 -- The end of the search.
-use Rattle.std.proofs.Common.{◌≡◌, ℕ, ◌<◌, ◌≤◌, true, not, ◌||◌, eqb, eq-eqb, List, [], ◌∷◌, length, get_or, refl, ap, arith, inl}
-use Rattle.std.proofs.lemmas.Bool.Decides.{nat_tests}
-use Rattle.std.proofs.lemmas.List.Sums.{get_or-le-sum_by}
-use Rattle.mig_base.specs.Transfers.{Transfers, Trip, touches, load}
-use Rattle.mig_base.specs.Bounding.{Candidate, ByDisk, ByTriple, ByComponent, place, IsBelow, IsBest}
+use Rattle.mig_base.proofs.Common.{◌≡◌, ℕ, ◌<◌, ◌≤◌, true, not, ◌||◌, eqb, eq-eqb, List, [], ◌∷◌, length, get_or, refl, ap, arith, inl, nat_tests, get_or-le-sum_by, eqb-true, Transfers, Trip, touches}
+use Rattle.mig_base.proofs.Common.{load, Candidate, ByDisk, ByTriple, ByComponent}
+use Rattle.mig_base.specs.Bounding.{place, IsBelow, IsBest}
 use Rattle.mig_base.proofs.Components.{has_true, has_at}
 use Rattle.mig_base.proofs.Counting.{one}
 use Rattle.mig_graph.specs.Graphs.{IsGraph}
@@ -28,10 +26,7 @@ pub label_there : (graph : Transfers) (labels : List ℕ) (r : ℕ) → IsLabell
 label_there graph labels r is some =
     let w = get_or (labelled labels r) 0 0 in
     let found = has_true (λ v. eqb (get_or labels v 0) r) 0 (length labels) w (has_at (labelled labels r) 0 0 some) in
-    omega (arith, found.1, is.least w (omega (arith, found.1)), is_same (get_or labels w 0) r found.2)
-  where
-    is_same : (a b : ℕ) → eqb a b ≡ true → a ≡ b
-    is_same a b h = grind (arith, nat_tests)
+    omega (arith, found.1, is.least w (omega (arith, found.1)), eqb-true (get_or labels w 0) r found.2)
 
 -- where no disk takes part, there is no move
 pub no_trips : (graph : Transfers) → IsGraph graph → NoneTakesPart graph (length graph.disks) → graph.trips ≡ []

@@ -1,15 +1,10 @@
 -- What is counted for each label: the limits of its disks, and the moves between them.
-use Rattle.std.proofs.Common.{◌≡◌, ℕ, ◌+◌, ◌<◌, ◌≤◌, Bool, true, false, cond, eqb, eq-eqb, List, [], ◌∷◌, ◌++◌, length, filter, Some, slice_get, take, get_or, set, sym, ap, ◌∙◌, arith, inl, inr, count_by, sum_by}
-use Rattle.std.specs.List.{range_with_len}
-use Rattle.std.proofs.lemmas.Bool.{cases_eq, ne_eqb}
-use Rattle.std.proofs.lemmas.List.{length-set, get_or-set_same, get_or-set_other, take_more, map-id}
-use Rattle.std.proofs.lemmas.List.FromFn.{map-range_with_len_more}
-use Rattle.std.proofs.lemmas.List.Sums.{sum_by_push, count_by-le-length}
-use Rattle.std.proofs.lemmas.Option.{slice_get_within, get_or_from_slice_get}
+use Rattle.mig_base.proofs.Common.{◌≡◌, ℕ, ◌+◌, ◌<◌, ◌≤◌, Bool, true, false, cond, eqb, eq-eqb, List, length, filter, Some, slice_get, take, get_or, set, sym, ap, ◌∙◌, arith, inl, inr, count_by}
+use Rattle.mig_base.proofs.Common.{sum_by, range_with_len, cases_eq, ne_eqb, length-set, get_or-set_same, get_or-set_other, take_more, sum_by_push, count_by-le-length, slice_get_within}
+use Rattle.mig_base.proofs.Common.{get_or_from_slice_get, Transfers, Trip, limit, limit_sum}
 use Rattle.mig_base.specs.declared.limits.TheConstants.{MAX_LIMIT}
-use Rattle.mig_base.specs.Transfers.{Transfers, Trip}
-use Rattle.mig_base.specs.Bounding.{limit, limit_sum}
 use Rattle.mig_base.proofs.Counting.{one, sum_by-filter}
+use Rattle.mig_base.proofs.Elements.{range_more}
 use Rattle.mig_bounds.specs.Components.{AreLimitSums, AreInsides}
 
 -- a cell to which something was added
@@ -18,9 +13,6 @@ after_add xs j k n w h is = elim (cases_eq j k) [
   | inl e ↦ ap (λ i. get_or (set xs j n) i 0) (sym e) ∙ get_or-set_same xs j n 0 h ∙ is ∙ ap (λ i. get_or xs i 0 + w) e ∙ ap (λ b. get_or xs k 0 + cond b w 0) (sym (eq-eqb j k e))
   | inr ne ↦ get_or-set_other xs j k n 0 (λ e. ne (sym e)) ∙ omega (arith, ap {B = ℕ} (λ b. cond b w 0) (ne_eqb j k ne))
 ]
-
-pub range_more : (n : ℕ) → range_with_len 0 (n + 1) ≡ range_with_len 0 n ++ n ∷ []
-range_more n = sym (map-id (range_with_len 0 (n + 1))) ∙ map-range_with_len_more (λ x. x) 0 n n (omega arith) ∙ ap (λ (xs : List ℕ). xs ++ n ∷ []) (map-id (range_with_len 0 n))
 
 limit_sum-more : (graph : Transfers) (p : ℕ → Bool) (n : ℕ) → limit_sum graph (filter p (range_with_len 0 (n + 1))) ≡ limit_sum graph (filter p (range_with_len 0 n)) + cond (p n) (limit graph n) 0
 limit_sum-more graph p n =

@@ -1,24 +1,21 @@
 -- The components are the sets of disks with one label.
-use Rattle.std.proofs.Common.{◌≡◌, ◌⊎◌, ℕ, ◌+◌, ◌%◌, ◌<◌, ◌≤◌, Bool, true, false, not, ◌&&◌, ◌||◌, eqb, List, [], ◌∷◌, length, IsTrue, get_or, count_by, refl, sym, ap, ◌∙◌, arith, inl, inr, subst}
-use Rattle.std.proofs.lemmas.Bool.{cases_lt, false≢true}
-use Rattle.std.proofs.lemmas.Bool.Decides.{nat_tests}
-use Rattle.std.proofs.lemmas.List.Sums.{get_or-le-sum_by}
-use Rattle.std.proofs.lemmas.Option.{slice_get-get_or}
-use Rattle.mig_base.specs.Transfers.{Transfers, Trip, touches, load, takes_part, inside, is_inside}
-use Rattle.mig_base.specs.Bounding.{Candidate, ByDisk, ByTriple, ByComponent, IsCandidate, value, limit_sum, place, IsBelow, has, IsClosed, IsPart, IsComponent}
-use Rattle.mig_base.proofs.Components.{AreLabels, IsComponent-class, has_true, has_filter, has_at}
+use Rattle.mig_base.proofs.Common.{◌≡◌, ◌⊎◌, ℕ, ◌+◌, ◌%◌, ◌<◌, ◌≤◌, Bool, true, false, not, ◌&&◌, ◌||◌, eqb, List, [], ◌∷◌, length, IsTrue, get_or, count_by, refl, sym, ap, ◌∙◌, arith, inl, inr}
+use Rattle.mig_base.proofs.Common.{subst, cases_lt, false≢true, eqb-true, nat_tests, get_or-le-sum_by, slice_get-get_or, Transfers, Trip, touches, load, takes_part, inside, is_inside, Candidate}
+use Rattle.mig_base.proofs.Common.{ByDisk, ByTriple, ByComponent, IsCandidate, value, limit_sum, has}
+use Rattle.mig_base.specs.Bounding.{place, IsBelow, IsClosed, IsPart, IsComponent}
+use Rattle.mig_base.proofs.Components.{AreLabels, IsComponent-class, has_true, has_filter, has_at, bool_same}
 use Rattle.mig_base.proofs.Counting.{one, sum_by-same_each}
 use Rattle.mig_graph.specs.Graphs.{IsGraph}
 use Rattle.mig_bounds.specs.Labels.{labelled, IsLabelling}
 use Rattle.mig_bounds.specs.Search.{IsBestBelow}
 use Rattle.mig_bounds.proofs.Steps.{IsBestBelow-moved, IsBestBelow-takes}
-use Rattle.mig_bounds.proofs.IncreasingLists.{same_bools, has_all, has_head, first-le, same_increasing}
+use Rattle.mig_bounds.proofs.IncreasingLists.{has_all, has_head, first-le, same_increasing}
 
 -- the disks with a label are those that have it
 pub has_labelled : (labels : List ℕ) (r v : ℕ) → v < length labels → has (labelled labels r) v ≡ eqb (get_or labels v 0) r
 has_labelled labels r v h =
     let p : ℕ → Bool = λ w. eqb (get_or labels w 0) r in
-    same_bools (has (labelled labels r) v) (p v) (λ e. (has_true p 0 (length labels) v e).2) (λ e. has_filter p 0 (length labels) v (omega arith) (omega (arith, h)) e)
+    bool_same (has (labelled labels r) v) (p v) (λ e. (has_true p 0 (length labels) v e).2) (λ e. has_filter p 0 (length labels) v (omega arith) (omega (arith, h)) e)
 
 shared_at : (graph : Transfers) (labels : List ℕ) (k : ℕ) (d : Trip) → IsLabelling graph labels (length graph.trips) → k < length graph.trips → get_or labels (get_or graph.trips k d).leaves 0 ≡ get_or labels (get_or graph.trips k d).reaches 0
 shared_at graph labels k d is h = is.shared k (get_or graph.trips k d) h (slice_get-get_or graph.trips k d h)
@@ -54,11 +51,8 @@ lonely_closed graph v lonely k d h =
 has_one : (v w : ℕ) → has (v ∷ []) w ≡ true → v ≡ w
 has_one v w h = in_test (eqb v w) refl h
   where
-    is_same : (a b : ℕ) → eqb a b ≡ true → a ≡ b
-    is_same a b h = grind (arith, nat_tests)
-
     in_test : (b : Bool) → eqb v w ≡ b → (b || false) ≡ true → v ≡ w
-    in_test true e t = is_same v w e
+    in_test true e t = eqb-true v w e
     in_test false e t = absurd (false≢true t)
 
 pub are_labels : (graph : Transfers) (labels : List ℕ) → IsGraph graph → IsLabelling graph labels (length graph.trips) → AreLabels graph labels
@@ -94,19 +88,16 @@ component_labelled graph labels (w ∷ rest) valid is component =
     let is_part : IsPart (labelled labels r) set = λ k d h.
     let v = get_or (labelled labels r) k d in
     let found = has_true p 0 (length labels) v (has_at (labelled labels r) k d h) in
-    is.alike v set (omega (arith, found.1)) component.closed ∙ ap (has set) (is_same (get_or labels v 0) r found.2) ∙ has_r in
+    is.alike v set (omega (arith, found.1)) component.closed ∙ ap (has set) (eqb-true (get_or labels v 0) r found.2) ∙ has_r in
     let w_is : r ≡ w = omega (arith, is.least w w_there, first-le w rest r component.increasing has_r) in
     subst (λ v. IsLabelled graph labels set v) w_is (record {
       there = r_there;
       root = is.root w w_there;
       part = r_part;
-      same = same_increasing set (labelled labels r) component.increasing class.increasing (λ v. same_bools (has set v) (has (labelled labels r) v)
+      same = same_increasing set (labelled labels r) component.increasing class.increasing (λ v. bool_same (has set v) (has (labelled labels r) v)
           (λ e. has_all (λ x. IsTrue (has (labelled labels r) x)) set v (component.least (labelled labels r) class.filled is_part class.closed) e)
           (λ e. has_all (λ x. IsTrue (has set x)) (labelled labels r) v is_part e));
     })
-  where
-    is_same : (a b : ℕ) → eqb a b ≡ true → a ≡ b
-    is_same a b h = grind (arith, nat_tests)
 
 -- the components below the next place are those below this one, and that of this label
 pub below_next_component : (graph : Transfers) (labels : List ℕ) (c : Candidate) (r : ℕ) → IsGraph graph → IsLabelling graph labels (length graph.trips) → IsCandidate graph c → IsBelow (place c) (2 ∷ (r + 1) ∷ [])
@@ -134,10 +125,7 @@ first_labelled graph labels r valid is there root part =
     let w = get_or (labelled labels r) 0 0 in
     let p : ℕ → Bool = λ v. eqb (get_or labels v 0) r in
     let in_class = has_true p 0 (length labels) w (has_at (labelled labels r) 0 0 class.filled) in
-    sym found.root ∙ is_same (get_or labels w 0) r in_class.2
-  where
-    is_same : (a b : ℕ) → eqb a b ≡ true → a ≡ b
-    is_same a b h = grind (arith, nat_tests)
+    sym found.root ∙ eqb-true (get_or labels w 0) r in_class.2
 
 -- no better component has this label
 pub IsBestBelow-keeps_label : (graph : Transfers) (labels : List ℕ) (best : Candidate) (rounds r : ℕ) → IsGraph graph → IsLabelling graph labels (length graph.trips)

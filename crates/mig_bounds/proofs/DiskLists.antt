@@ -1,11 +1,9 @@
 -- Disks listed by their numbers.
-use Rattle.std.proofs.Common.{◌≡◌, ℕ, ◌+◌, ◌<◌, Bool, true, false, cond, List, [], ◌∷◌, ◌++◌, filter, AllPairs, ap, ◌∙◌, arith}
-use Rattle.std.specs.List.{range_with_len}
-use Rattle.std.proofs.lemmas.List.{length-map, map-append, append-nil, get_or-map}
-use Rattle.std.proofs.lemmas.List.Elements.{filter-append}
+use Rattle.mig_base.proofs.Common.{◌≡◌, ℕ, ◌+◌, ◌<◌, Bool, true, false, cond, List, [], ◌∷◌, ◌++◌, filter, AllPairs, ap, ◌∙◌, arith, range_with_len, length-map, map-append, append-nil, filter-append}
+use Rattle.mig_base.proofs.Common.{numbers, IsDiskSet}
 use Rattle.mig_base.specs.declared.ids.DiskId.{DiskId}
-use Rattle.mig_base.specs.DiskNumbers.{numbers, IsDiskSet}
-use Rattle.mig_bounds.proofs.ComponentCounts.{range_more}
+use Rattle.std.proofs.lemmas.List.{get_or-map}
+use Rattle.mig_base.proofs.Elements.{range_more}
 
 -- the numbers that pass, up to one that does or doesn't
 pub filter_yes : (p : ℕ → Bool) (n : ℕ) → p n ≡ true → filter p (range_with_len 0 (n + 1)) ≡ filter p (range_with_len 0 n) ++ n ∷ []

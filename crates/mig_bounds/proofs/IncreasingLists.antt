@@ -1,17 +1,6 @@
 -- Lists of numbers in increasing order are told by what they have.
-use Rattle.std.proofs.Common.{◌≡◌, ℕ, suc, zero, ◌<◌, ◌≤◌, Bool, true, false, ◌||◌, eqb, eq-eqb, List, [], ◌∷◌, All, AllPairs, refl, sym, ap, ◌∙◌, arith, inl, inr, subst}
-use Rattle.std.proofs.lemmas.Bool.{cases_eq, ne_eqb, false≢true}
-use Rattle.std.proofs.lemmas.Bool.Decides.{nat_tests}
-use Rattle.std.proofs.lemmas.List.Elements.{All-head, All-tail}
-use Rattle.mig_base.specs.Bounding.{has}
-
-pub same_bools : (b c : Bool) → (b ≡ true → c ≡ true) → (c ≡ true → b ≡ true) → b ≡ c
-same_bools true c f g = sym (f refl)
-same_bools false true f g = g refl
-same_bools false false f g = refl
-
-is_same : (a b : ℕ) → eqb a b ≡ true → a ≡ b
-is_same a b h = grind (arith, nat_tests)
+use Rattle.mig_base.proofs.Common.{◌≡◌, ℕ, suc, zero, ◌<◌, ◌≤◌, Bool, true, false, ◌||◌, eqb, eq-eqb, List, [], ◌∷◌, All, AllPairs, refl, sym, ap, ◌∙◌, arith, inl, inr, subst, cases_eq, ne_eqb}
+use Rattle.mig_base.proofs.Common.{false≢true, eqb-true, All-head, All-tail, has}
 
 -- what holds for each element holds for one that the list has
 pub has_all : (P : ℕ → Type 0) (xs : List ℕ) (v : ℕ) → All P xs → has xs v ≡ true → P v
@@ -23,7 +12,7 @@ has_all P (x ∷ xs) v all h = by_head (eqb x v) refl (has_all P xs v (All-tail 
     rest false e t = t
 
     by_head : (b : Bool) → eqb x v ≡ b → (has xs v ≡ true → P v) → P v
-    by_head true e others = subst P (is_same x v e) (All-head P x xs all)
+    by_head true e others = subst P (eqb-true x v e) (All-head P x xs all)
     by_head false e others = others (rest (eqb x v) e h)
 
 pub has_head : (x : ℕ) (xs : List ℕ) → has (x ∷ xs) x ≡ true

@@ -1,9 +1,7 @@
 -- Labels after one more move.
-use Rattle.std.proofs.Common.{◌≡◌, ◌≢◌, ℕ, ◌+◌, ◌<◌, cond, eqb, eq-eqb, List, length, Some, slice_get, get_or, sym, ap, ◌∙◌, arith, inl, inr, subst}
-use Rattle.std.proofs.lemmas.Bool.{cases_eq, cases_lt, ne_eqb}
-use Rattle.std.proofs.lemmas.Option.{slice_get_within, get_or_from_slice_get}
-use Rattle.mig_base.specs.Transfers.{Transfers, Trip}
-use Rattle.mig_base.specs.Bounding.{has, IsClosed}
+use Rattle.mig_base.proofs.Common.{◌≡◌, ◌≢◌, ℕ, ◌+◌, ◌<◌, cond, eqb, eq-eqb, List, length, Some, slice_get, get_or, sym, ap, ◌∙◌, arith, inl, inr, subst, cases_eq, cases_lt, ne_eqb, slice_get_within}
+use Rattle.mig_base.proofs.Common.{get_or_from_slice_get, Transfers, Trip, has}
+use Rattle.mig_base.specs.Bounding.{IsClosed}
 use Rattle.mig_graph.specs.Graphs.{IsGraph}
 use Rattle.mig_bounds.specs.Labels.{IsLabelling, Relabels}
 use Rattle.mig_bounds.proofs.PairTables.{leaves_below, reaches_below}

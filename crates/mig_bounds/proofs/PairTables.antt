@@ -1,14 +1,9 @@
 -- A table that counts how many trips join each two disks.
-use Rattle.std.proofs.Common.{◌≡◌, ◌≢◌, ℕ, ◌+◌, ◌*◌, ◌/◌, ◌<◌, ◌≤◌, Bool, true, false, ◌&&◌, ◌||◌, eqb, eq-eqb, List, length, Some, slice_get, take, get_or, set, sym, ap, ◌∙◌, arith, inl, inr, subst, All}
-use Rattle.std.proofs.lemmas.Bool.{cases_eq, ne_eqb}
-use Rattle.std.proofs.lemmas.Bool.Decides.{nat_tests}
-use Rattle.std.proofs.lemmas.List.{length-set, get_or-set_same, get_or-set_other, take_more, length-take-le}
-use Rattle.std.proofs.lemmas.List.Sums.{sum_by_push, count_by-le-length}
+use Rattle.mig_base.proofs.Common.{◌≡◌, ◌≢◌, ℕ, ◌+◌, ◌*◌, ◌/◌, ◌<◌, ◌≤◌, true, false, ◌&&◌, ◌||◌, eqb, eq-eqb, List, length, Some, slice_get, take, get_or, set, sym, ap, ◌∙◌, arith, inl, inr, subst}
+use Rattle.mig_base.proofs.Common.{All, cases_eq, ne_eqb, nat_tests, length-set, get_or-set_same, get_or-set_other, take_more, length-take-le, sum_by_push, count_by-le-length, slice_get_within}
+use Rattle.mig_base.proofs.Common.{get_or_from_slice_get, mul-le-mul_right, Trip}
 use Rattle.std.proofs.lemmas.Nat.{div-mul-add}
-use Rattle.std.proofs.lemmas.Option.{slice_get_within, get_or_from_slice_get}
-use Rattle.std.proofs.Math.Nat.{mul-le-mul_right}
-use Rattle.mig_base.specs.Transfers.{Trip}
-use Rattle.mig_base.proofs.Counting.{one}
+use Rattle.mig_base.proofs.Counting.{one, at_most_one}
 use Rattle.mig_bounds.specs.Pairs.{joins, between, CountsPairs}
 
 -- a cell is within the table, and it is the cell of one pair
@@ -43,11 +38,13 @@ cell_test n a b l r hb hr = elim (cases_eq (a * n + b) (l * n + r)) [
         first l a r b f = grind (arith, nat_tests)
 
 -- a cell that is one more
-pub after_one : (xs : List ℕ) (j k n : ℕ) → j < length xs → n ≡ get_or xs j 0 + 1 → get_or (set xs j n) k 0 ≡ get_or xs k 0 + one (eqb k j)
-after_one xs j k n h is = elim (cases_eq k j) [
-  | inl e ↦ ap (λ i. get_or (set xs j n) i 0) e ∙ get_or-set_same xs j n 0 h ∙ is ∙ ap (λ i. get_or xs i 0 + 1) (sym e) ∙ ap (λ m. get_or xs k 0 + m) (sym (ap one (eq-eqb k j e)))
-  | inr ne ↦ get_or-set_other xs j k n 0 ne ∙ omega (arith, ap one (ne_eqb k j ne))
-]
+pub after_one : (xs : List ℕ) (j k : ℕ) → j < length xs → get_or (set xs j (get_or xs j 0 + 1)) k 0 ≡ get_or xs k 0 + one (eqb k j)
+after_one xs j k h =
+    let n = get_or xs j 0 + 1 in
+    elim (cases_eq k j) [
+      | inl e ↦ ap (λ i. get_or (set xs j n) i 0) e ∙ get_or-set_same xs j n 0 h ∙ ap (λ i. get_or xs i 0 + 1) (sym e) ∙ ap (λ m. get_or xs k 0 + m) (sym (ap one (eq-eqb k j e)))
+      | inr ne ↦ get_or-set_other xs j k n 0 ne ∙ omega (arith, ap one (ne_eqb k j ne))
+    ]
 
 one_pair : (a b l r : ℕ) → l ≢ r → one ((eqb l a && eqb r b) || (eqb l b && eqb r a)) ≡ one (eqb l a && eqb r b) + one (eqb r a && eqb l b)
 one_pair a b l r ne = grind (arith, nat_tests)
@@ -58,23 +55,27 @@ between_more trips i a b t at =
     ∙ sum_by_push (λ x. one (joins a b x)) (take i trips) (get_or trips i t)
     ∙ ap (λ (x : Trip). between a b (take i trips) + one (joins a b x)) (get_or_from_slice_get trips i t t at)
 
+-- one more in a cell
+abbrev pub counted : List ℕ → ℕ → List ℕ
+counted pairs cell = set pairs cell (get_or pairs cell 0 + 1)
+
 -- one more trip
-pub CountsPairs-more : (n : ℕ) (trips : List Trip) (pairs : List ℕ) (i m k : ℕ) (t : Trip) → slice_get trips i ≡ Some t → t.leaves < n → t.reaches < n → t.leaves ≢ t.reaches
-    → m ≡ get_or pairs (t.leaves * n + t.reaches) 0 + 1 → k ≡ get_or (set pairs (t.leaves * n + t.reaches) m) (t.reaches * n + t.leaves) 0 + 1
-    → CountsPairs n (take i trips) pairs → CountsPairs n (take (i + 1) trips) (set (set pairs (t.leaves * n + t.reaches) m) (t.reaches * n + t.leaves) k)
-CountsPairs-more n trips pairs i m k t at hl hr ne is_m is_k counts =
+pub CountsPairs-more : (n : ℕ) (trips : List Trip) (pairs : List ℕ) (i : ℕ) (t : Trip) → slice_get trips i ≡ Some t → t.leaves < n → t.reaches < n → t.leaves ≢ t.reaches
+    → CountsPairs n (take i trips) pairs → CountsPairs n (take (i + 1) trips) (counted (counted pairs (t.leaves * n + t.reaches)) (t.reaches * n + t.leaves))
+CountsPairs-more n trips pairs i t at hl hr ne counts =
     let there = t.leaves * n + t.reaches in
     let back = t.reaches * n + t.leaves in
+    let m = get_or pairs there 0 + 1 in
     let long = length-set pairs there m in
     let in_there = cell_within n t.leaves t.reaches hl hr in
     let in_back = cell_within n t.reaches t.leaves hr hl in
     record {
-      len = length-set (set pairs there m) back k ∙ long ∙ counts.len;
+      len = length-set (counted pairs there) back (get_or (counted pairs there) back 0 + 1) ∙ long ∙ counts.len;
       pair = λ a b ha hb.
-          after_one (set pairs there m) back (a * n + b) k (omega (arith, in_back, long, counts.len)) is_k
+          after_one (counted pairs there) back (a * n + b) (omega (arith, in_back, long, counts.len))
           ∙ omega (
             arith,
-            after_one pairs there (a * n + b) m (omega (arith, in_there, counts.len)) is_m,
+            after_one pairs there (a * n + b) (omega (arith, in_there, counts.len)),
             counts.pair a b ha hb,
             between_more trips i a b t at,
             one_pair a b t.leaves t.reaches ne,
@@ -87,12 +88,8 @@ CountsPairs-more n trips pairs i m k t at hl hr ne is_m is_k counts =
 pub cell_small : (n : ℕ) (trips : List Trip) (pairs : List ℕ) (i a b : ℕ) → i ≤ length trips → a < n → b < n → CountsPairs n (take i trips) pairs → get_or pairs (a * n + b) 0 ≤ i
 cell_small n trips pairs i a b h ha hb counts = omega (arith, counts.pair a b ha hb, count_by-le-length (joins a b) (take i trips), length-take-le i trips h)
 
-pub next_small : (xs : List ℕ) (j k n : ℕ) → j < length xs → n ≡ get_or xs j 0 + 1 → get_or (set xs j n) k 0 ≤ get_or xs k 0 + 1
-next_small xs j k n h is = omega (arith, after_one xs j k n h is, at_most (eqb k j))
-  where
-    at_most : (b : Bool) → one b ≤ 1
-    at_most true = omega arith
-    at_most false = omega arith
+pub next_small : (xs : List ℕ) (j k : ℕ) → j < length xs → get_or (counted xs j) k 0 ≤ get_or xs k 0 + 1
+next_small xs j k h = omega (arith, after_one xs j k h, at_most_one (eqb k j))
 
 -- the ends of a trip are there
 pub leaves_below : (n : ℕ) (trips : List Trip) (i : ℕ) (t : Trip) → All (λ t. t.leaves < n) trips → slice_get trips i ≡ Some t → t.leaves < n

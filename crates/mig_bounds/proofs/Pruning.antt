@@ -1,13 +1,9 @@
 -- A triple is no better than its disks where some two of them aren't joined by a move.
-use Rattle.std.proofs.Common.{◌≡◌, ◌≢◌, ◌⊎◌, ℕ, ◌+◌, ◌*◌, ◌/◌, ◌%◌, ◌<◌, ◌≤◌, true, false, cond, not, ◌&&◌, ◌||◌, eqb, List, [], ◌∷◌, length, IsTrue, get_or, arith, inl, inr, min}
-use Rattle.std.proofs.lemmas.Bool.Decides.{nat_tests}
-use Rattle.std.proofs.lemmas.Bool.{cases_lt}
-use Rattle.std.proofs.lemmas.Grind.{div_ceil_times}
-use Rattle.std.proofs.Math.Nat.{mul-le-mul_left, mul-le-mul_right}
-use Rattle.mig_base.specs.InputLists.{no_disk}
-use Rattle.mig_base.specs.Transfers.{Transfers, Trip, touches, load, inside, takes_part}
-use Rattle.mig_base.specs.Bounding.{Candidate, ByDisk, ByTriple, IsCandidate, value, limit, limit_sum, set_value}
-use Rattle.mig_base.proofs.Counting.{div_ceil-le, one, sum_by-same_each, sum_by-add, sum_by-le_each}
+use Rattle.mig_base.proofs.Common.{◌≡◌, ◌≢◌, ◌⊎◌, ℕ, ◌+◌, ◌*◌, ◌/◌, ◌%◌, ◌<◌, ◌≤◌, ◌&&◌, ◌||◌, eqb, List, [], ◌∷◌, length, IsTrue, get_or, arith, inl, inr, nat_tests, cases_lt, div_ceil_times}
+use Rattle.mig_base.proofs.Common.{mul-le-mul_left, mul-le-mul_right, no_disk, Transfers, Trip, touches, load, inside, takes_part, Candidate, ByDisk, ByTriple, IsCandidate, value, limit, limit_sum}
+use Rattle.mig_base.proofs.Common.{set_value}
+use Rattle.mig_base.proofs.Counting.{one, sum_by-same_each, sum_by-add, sum_by-le_each, not_none}
+use Rattle.mig_base.proofs.Needed.{halved_value}
 use Rattle.mig_graph.specs.Graphs.{IsGraph}
 use Rattle.mig_bounds.specs.Pairs.{joins, between, AreTops, IsTooLittle}
 use Rattle.mig_bounds.specs.Search.{IsBestBelow}
@@ -37,24 +33,12 @@ two-le-load x y z ts apart =
 
 -- a disk that a move joins to another takes part
 pub joined_takes_part : (graph : Transfers) (a b : ℕ) → between a b graph.trips ≢ 0 → IsTrue (takes_part graph a)
-joined_takes_part graph a b some = not_zero (load a graph.trips) (λ none. some (omega (arith, none, between-le-load a b graph.trips)))
-  where
-    not_zero : (n : ℕ) → n ≢ 0 → not (eqb n 0) ≡ true
-    not_zero n h = grind (arith, nat_tests)
+joined_takes_part graph a b some = not_none (load a graph.trips) (λ none. some (omega (arith, none, between-le-load a b graph.trips)))
 
 -- a set's value is within a number of rounds where its inside is
 
 pub set_value-le : (graph : Transfers) (set : List ℕ) (rounds : ℕ) → inside set graph.trips ≤ rounds * (limit_sum graph set / 2) → set_value graph set ≤ rounds
-set_value-le graph set rounds h = by_half (limit_sum graph set / 2) (inside set graph.trips) h
-  where
-    by_half : (half i : ℕ) → i ≤ rounds * half → cond (eqb half 0) 0 (i / half + min 1 (i % half)) ≤ rounds
-    by_half half i e = elim (cases_lt 0 half) [ inl p ↦ rw (positive half p) (div_ceil-le i half rounds p e) | inr z ↦ rw (nothing half z) (omega arith) ]
-      where
-        positive : (h : ℕ) → 0 < h → eqb h 0 ≡ false
-        positive h p = grind (arith, nat_tests)
-
-        nothing : (h : ℕ) → h ≤ 0 → eqb h 0 ≡ true
-        nothing h p = grind (arith, nat_tests)
+set_value-le graph set rounds h = halved_value (limit_sum graph set / 2) (inside set graph.trips) rounds h
 
 -- of two parts of an odd sum of limits, one is within half of it
 half_covers : (rounds x y z sum i : ℕ) → sum ≡ x + y + z → sum % 2 ≡ 1 → i ≤ rounds * z → i ≤ rounds * x + rounds * y → i ≤ rounds * (sum / 2)

@@ -1,12 +1,8 @@
 -- Steps of the search.
-use Rattle.std.proofs.Common.{◌≡◌, ◌≢◌, ◌⊎◌, ℕ, ◌+◌, ◌*◌, ◌/◌, ◌%◌, min, ◌<◌, ◌≤◌, false, ◌&&◌, ◌||◌, eqb, List, [], ◌∷◌, All, IsTrue, get_or, refl, sym, ap, inl, inr, arith, subst}
-use Rattle.std.proofs.lemmas.Bool.Decides.{nat_tests}
-use Rattle.std.proofs.lemmas.Bool.{cases_lt}
-use Rattle.std.proofs.lemmas.Grind.{div_ceil_times}
-use Rattle.std.proofs.Math.Nat.{mul-le-mul_left}
-use Rattle.mig_base.specs.Transfers.{Trip, is_inside, inside}
-use Rattle.mig_base.specs.Transfers.{Transfers, takes_part}
-use Rattle.mig_base.specs.Bounding.{Candidate, ByDisk, ByTriple, ByComponent, IsCandidate, value, place, IsBelow, limit_sum, set_value}
+use Rattle.mig_base.proofs.Common.{◌≡◌, ◌≢◌, ◌⊎◌, ℕ, ◌+◌, ◌*◌, ◌/◌, ◌%◌, min, ◌<◌, ◌≤◌, false, ◌&&◌, ◌||◌, eqb, List, [], ◌∷◌, All, IsTrue, get_or, refl, sym, ap, inl, inr, arith, subst, nat_tests}
+use Rattle.mig_base.proofs.Common.{cases_lt, div_ceil_times, mul-le-mul_left, Trip, is_inside, inside, Transfers, takes_part, Candidate, ByDisk, ByTriple, ByComponent, IsCandidate, value, limit_sum}
+use Rattle.mig_base.proofs.Common.{set_value}
+use Rattle.mig_base.specs.Bounding.{place, IsBelow}
 use Rattle.mig_base.proofs.Counting.{one, sum_by-same_each, sum_by-add}
 use Rattle.mig_bounds.specs.Pairs.{joins, between}
 use Rattle.mig_bounds.specs.Search.{IsBestBelow}

@@ -1,5 +1,5 @@
 //! How many moves join two disks.
-ghost use Rattle.std.specs.Prelude.{◌≡◌, ◌<◌, ◌≤◌, ◌↔◌, ℕ, length, IfOk, IsTrue};
+ghost use Rattle.std.specs.Prelude.{◌≡◌, ◌+◌, ◌<◌, ◌≤◌, ◌↔◌, ℕ, length, slice_index, slice_set, IfOk, IsTrue};
 ghost use Rattle.mig_graph.specs.Graphs.{IsGraph};
 ghost use Rattle.mig_bounds.specs.Pairs.{between, IsPairTable, AreTops, IsTooLittle};
 
@@ -15,10 +15,19 @@ pub fn pairs_of(alloc: Global, graph: &Graph) -> Result<Vec<u32>, AllocError>
     let mut pairs = vec![in alloc; 0; count * count]?;
     for edge in 0..graph.edges() {
         let (a, b) = graph.ends(EdgeId(edge));
-        pairs[a.0 as usize * count + b.0 as usize] += 1;
-        pairs[b.0 as usize * count + a.0 as usize] += 1;
+        count_one(&mut pairs, a.0 as usize * count + b.0 as usize);
+        count_one(&mut pairs, b.0 as usize * count + a.0 as usize);
     }
     Ok(pairs)
+}
+
+/// One more in a cell of such a table.
+fn count_one(pairs: &mut Vec<u32>, cell: usize)
+    requires there { cell < length pairs.old.items }
+    requires few { slice_index pairs.old.items cell ≤ MAX_ITEMS }
+    ensures { pairs.new.items ≡ slice_set pairs.old.items cell (slice_index pairs.old.items cell + 1) }
+{
+    pairs[cell] += 1;
 }
 
 /// How many edges join two disks.

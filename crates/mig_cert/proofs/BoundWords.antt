@@ -1,12 +1,8 @@
 -- The line of a bound is read through its words.
-use Rattle.std.proofs.Common.{◌≡◌, ◌≢◌, ◌<◌, ◌∷◌, ℕ, List, [], Option, Some, None, MatchOption, length, codes, arith, ap, sym, refl, subst, ◌∙◌}
-use Rattle.std.specs.List.{AllByRecursion}
-use Rattle.std.specs.Fmt.{decimal}
-use Rattle.std.proofs.lemmas.Fmt.{decimal_injective}
+use Rattle.mig_base.proofs.Common.{◌≡◌, ◌≢◌, ◌<◌, ◌∷◌, ℕ, List, [], Option, Some, None, MatchOption, length, codes, arith, ap, sym, refl, subst, ◌∙◌, AllByRecursion, decimal, decimal_injective, Lists}
+use Rattle.mig_base.proofs.Common.{IsInput, no_disk, disk_name, words, FitsLine}
 use Rattle.mig_base.specs.declared.inputs.Disk.{Disk}
-use Rattle.mig_base.specs.InputLists.{Lists, IsInput, no_disk}
-use Rattle.mig_base.specs.Texts.{disk_name, words, BoundLine, Empty, One, Many, bound_line}
-use Rattle.mig_base.specs.CertLines.{FitsLine}
+use Rattle.mig_base.specs.Texts.{BoundLine, Empty, One, Many, bound_line}
 use Rattle.mig_base.proofs.Separators.{Lacks, same_words, Lacks-decimal}
 use Rattle.mig_base.proofs.Spelling.{lacks_test, same_place}
 use Rattle.mig_base.proofs.CertSpelling.{nothing_lacks, disk_words_lack}
@@ -64,22 +60,17 @@ module _ (input : Lists) (valid : IsInput input) where
 
   same_of_words : (a b : BoundLine) → FitsLine input a → FitsLine input b → bound_words input a ≡ bound_words input b → a ≡ b
   same_of_words Empty Empty fa fb e = refl
-  same_of_words Empty (One d l v) fa fb e = absurd cc
-  same_of_words Empty (Many n i v) fa fb e = absurd cc
-  same_of_words (One d l v) Empty fa fb e = absurd cc
   same_of_words (One d l v) (One d' l' v') fa fb e =
       let x : d ≡ d' = same_disk d d' fa.0 fb.0 cc in
       let y : l ≡ l' = decimal_injective l l' (omega (arith, fa.1)) (omega (arith, fb.1)) cc in
       let z : v ≡ v' = decimal_injective v v' (omega (arith, fa.2)) (omega (arith, fb.2)) cc in
       cc
-  same_of_words (One d l v) (Many n i w) fa fb e = absurd cc
-  same_of_words (Many n i v) Empty fa fb e = absurd cc
-  same_of_words (Many n i v) (One d l w) fa fb e = absurd cc
   same_of_words (Many n i v) (Many n' i' v') fa fb e =
       let x : n ≡ n' = decimal_injective n n' (omega (arith, fa.0)) (omega (arith, fb.0)) cc in
       let y : i ≡ i' = decimal_injective i i' (omega (arith, fa.1)) (omega (arith, fb.1)) cc in
       let z : v ≡ v' = decimal_injective v v' (omega (arith, fa.2)) (omega (arith, fb.2)) cc in
       cc
+  same_of_words _ _ fa fb e = absurd cc
 
   pub same_bound_line : (a b : BoundLine) → FitsLine input a → FitsLine input b → bound_line input a ≡ bound_line input b → a ≡ b
   same_bound_line a b fa fb e = same_of_words a b fa fb (same_bound_words a b fa fb e)

@@ -1,15 +1,12 @@
 -- How long the text of a certificate is.
-use Rattle.std.proofs.Common.{◌≤◌, ◌<◌, ◌^◌, ◌+◌, ◌*◌, ℕ, List, [], ◌∷◌, ◌++◌, length, codes, ap, arith}
-use Rattle.std.specs.Fmt.{decimal}
-use Rattle.std.proofs.lemmas.Fmt.{length-decimal-le}
-use Rattle.mig_base.specs.declared.limits.TheConstants.{MAX_FILE_BYTES}
-use Rattle.mig_base.specs.declared.ids.DiskId.{DiskId}
-use Rattle.mig_base.specs.declared.certs.Class.{Class}
-use Rattle.mig_base.specs.declared.certs.Class.TheVariants as class
+use Rattle.mig_base.proofs.Common.{◌≤◌, ◌<◌, ◌^◌, ◌+◌, ◌*◌, ℕ, List, [], ◌∷◌, ◌++◌, length, codes, ap, arith, decimal, length-decimal-le, Lists, IsInput, no_disk, FitsLine, disk_name, words}
+use Rattle.mig_base.proofs.Common.{text_of_lines, bound_set, class_word, CertText}
 use Rattle.mig_base.specs.declared.certs.Cert.{Cert}
-use Rattle.mig_base.specs.InputLists.{Lists, IsInput, no_disk}
-use Rattle.mig_base.specs.CertLines.{FitsLine}
-use Rattle.mig_base.specs.Texts.{disk_name, words, text_of_lines, BoundLine, Empty, One, Many, bound_line, bound_set, class_word, line_of, CertText}
+use Rattle.mig_base.specs.declared.certs.Class.{Class}
+use Rattle.mig_base.specs.declared.ids.DiskId.{DiskId}
+use Rattle.mig_base.specs.declared.limits.TheConstants.{MAX_FILE_BYTES}
+use Rattle.mig_base.specs.declared.certs.Class.TheVariants as class
+use Rattle.mig_base.specs.Texts.{BoundLine, Empty, One, Many, bound_line, line_of}
 use Rattle.mig_text.proofs.PlanLengths.{text_cons, text_append, word_cons}
 use Rattle.mig_cert.specs.BoundParts.{limit_of}
 use Rattle.mig_cert.specs.Prints.{member_lines}

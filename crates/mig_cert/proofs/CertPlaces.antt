@@ -1,19 +1,15 @@
 -- The lines of a certificate fit their places.
-use Rattle.std.proofs.Common.{◌≡◌, ℕ, suc, ◌+◌, ◌^◌, ◌<◌, ◌≤◌, List, [], ◌∷◌, ◌++◌, length, refl, sym, ap, subst, ◌∙◌, arith, codes, All, get_or, append_assoc, inl, inr}
-use Rattle.std.proofs.lemmas.Bool.{cases_lt}
-use Rattle.mig_base.specs.declared.limits.TheConstants.{MAX_DISKS, MAX_FILE_BYTES}
-use Rattle.mig_base.specs.declared.ids.DiskId.{DiskId}
+use Rattle.mig_base.proofs.Common.{◌≡◌, ℕ, suc, ◌+◌, ◌^◌, ◌<◌, ◌≤◌, List, [], ◌∷◌, ◌++◌, length, refl, sym, ap, subst, ◌∙◌, arith, codes, All, get_or, append_assoc, inl, inr, cases_lt, Lists, IsInput}
+use Rattle.mig_base.proofs.Common.{transfers, BoundFits, IsDiskSet, bound_set, CertText, cert_lines, Leads, IsLine, pieces, FitsLine}
 use Rattle.mig_base.specs.declared.certs.Bound.{Bound}
 use Rattle.mig_base.specs.declared.certs.Bound.TheVariants.{Nothing, OfDisk, OfSet}
 use Rattle.mig_base.specs.declared.certs.Cert.{Cert}
-use Rattle.mig_base.specs.InputLists.{Lists, IsInput}
-use Rattle.mig_base.specs.Transfers.{transfers}
-use Rattle.mig_base.specs.Bounding.{BoundFits, bound_value, stated_load}
+use Rattle.mig_base.specs.declared.ids.DiskId.{DiskId}
+use Rattle.mig_base.specs.declared.limits.TheConstants.{MAX_DISKS, MAX_FILE_BYTES}
+use Rattle.mig_base.specs.Bounding.{bound_value, stated_load}
 use Rattle.mig_base.specs.Certificates.{CertFits}
-use Rattle.mig_base.specs.DiskNumbers.{IsDiskSet}
-use Rattle.mig_base.specs.Texts.{bound_set, line_of, IsCert, CertText, cert_lines}
-use Rattle.mig_base.specs.Misfits.{Leads, IsLine, pieces}
-use Rattle.mig_base.specs.CertLines.{CertPlace, Title, Rounds, Quotient, Kind, Shown, Member, End, Last, Over, before_members, members_after, FitsLine, CertNext}
+use Rattle.mig_base.specs.Texts.{line_of, IsCert}
+use Rattle.mig_base.specs.CertLines.{CertPlace, Title, Rounds, Quotient, Kind, Shown, Member, End, Last, Over, before_members, members_after, CertNext}
 use Rattle.mig_base.proofs.CertSpelling.{cert_lines_lack, spelt}
 use Rattle.mig_text.proofs.Places.{Leads-append, no_misfit, pieces_of_lines}
 use Rattle.mig_cert.specs.Prints.{member_lines}

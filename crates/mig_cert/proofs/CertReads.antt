@@ -1,15 +1,13 @@
 -- The reading of a certificate, part by part.
-use Rattle.std.proofs.Common.{◌≡◌, ◌≢◌, ◌≤◌, ◌<◌, ◌^◌, ◌∷◌, ◌++◌, ℕ, List, [], length, codes, arith, ap, sym, refl, subst, ◌∙◌, Result, Ok, Err, IfOk, inl, inr}
-use Rattle.std.specs.Fmt.{decimal}
-use Rattle.mig_base.specs.declared.limits.TheConstants.{MAX_FILE_BYTES}
-use Rattle.mig_base.specs.declared.certs.Class.{Class}
+use Rattle.mig_base.proofs.Common.{◌≡◌, ◌≢◌, ◌≤◌, ◌<◌, ◌^◌, ◌∷◌, ◌++◌, ℕ, List, [], length, codes, arith, ap, sym, refl, subst, ◌∙◌, Result, Ok, Err, IfOk, inl, inr, decimal, Lists, IsInput, words}
+use Rattle.mig_base.proofs.Common.{class_word, bound_set, bound_lines, cert_lines, CertText, Leads, Stops, IsMisfit, IsLine, pieces, FitsLine}
 use Rattle.mig_base.specs.declared.certs.Bound.{Bound}
 use Rattle.mig_base.specs.declared.certs.Cert.{Cert}
+use Rattle.mig_base.specs.declared.certs.Class.{Class}
+use Rattle.mig_base.specs.declared.limits.TheConstants.{MAX_FILE_BYTES}
 use Rattle.mig_base.specs.Certificates.{CertFits}
-use Rattle.mig_base.specs.InputLists.{Lists, IsInput}
-use Rattle.mig_base.specs.Texts.{words, BoundLine, bound_line, class_word, line_of, bound_set, bound_lines, cert_lines, IsCert, CertText}
-use Rattle.mig_base.specs.Misfits.{Leads, Stops, IsMisfit, IsLine, pieces}
-use Rattle.mig_base.specs.CertLines.{Title, Rounds, Quotient, Kind, Shown, End, Last, Over, before_members, members_after, FitsLine, CertNext, CertLine}
+use Rattle.mig_base.specs.Texts.{BoundLine, bound_line, line_of, IsCert}
+use Rattle.mig_base.specs.CertLines.{Title, Rounds, Quotient, Kind, Shown, End, Last, Over, before_members, members_after, CertNext, CertLine}
 use Rattle.mig_text.specs.declared.errors.TextError.{TextError}
 use Rattle.mig_text.specs.declared.errors.TextError.TheVariants as text_error
 use Rattle.mig_text.specs.Reads.{Left, Took, IsMiss, IsStop, IsCountUpTo, IfLine, EndsWrong}

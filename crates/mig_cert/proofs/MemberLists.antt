@@ -1,15 +1,9 @@
 -- The reading of a set's disks, one by one.
-use Rattle.std.proofs.Common.{◌≡◌, ◌≤◌, ◌<◌, ◌+◌, ◌-◌, ◌∷◌, ◌++◌, ℕ, suc, List, [], length, map, All, get_or, arith, ap, sym, refl, subst, ◌∙◌, length-append, inl, inr}
-use Rattle.std.proofs.lemmas.Bool.{cases_lt}
-use Rattle.std.proofs.lemmas.List as lists
-use Rattle.std.proofs.lemmas.List.Elements.{All-push}
-use Rattle.std.proofs.Math.ListN.{get_or-append}
-use Rattle.std.proofs.Math.Seq.{get_or-append_seam}
+use Rattle.mig_base.proofs.Common.{◌≡◌, ◌≤◌, ◌<◌, ◌+◌, ◌-◌, ◌∷◌, ◌++◌, ℕ, suc, List, [], length, map, All, get_or, arith, ap, sym, refl, subst, ◌∙◌, length-append, inl, inr, cases_lt, All-push}
+use Rattle.mig_base.proofs.Common.{get_or-append_seam, IsDiskSet, Lists, disk_name, Leads}
 use Rattle.mig_base.specs.declared.ids.DiskId.{DiskId}
-use Rattle.mig_base.specs.DiskNumbers.{IsDiskSet}
-use Rattle.mig_base.specs.InputLists.{Lists}
-use Rattle.mig_base.specs.Texts.{disk_name}
-use Rattle.mig_base.specs.Misfits.{Leads}
+use Rattle.std.proofs.lemmas.List as lists
+use Rattle.std.proofs.Math.ListN.{get_or-append}
 use Rattle.mig_base.specs.CertLines.{Member, Over, before_members, CertNext}
 use Rattle.mig_text.specs.declared.errors.TextError.{TextError}
 use Rattle.mig_text.specs.Reads.{Left, Took, TookAll, IsMiss, IsStop}

@@ -1,9 +1,6 @@
 -- The printed text is the text of the lines.
-use Rattle.std.proofs.Common.{◌≡◌, ◌++◌, ◌∷◌, ℕ, List, [], codes, ap, sym, refl, ◌∙◌, append_assoc, append-nil}
-use Rattle.std.specs.Fmt.{decimal}
+use Rattle.mig_base.proofs.Common.{◌≡◌, ◌++◌, ◌∷◌, ℕ, List, [], codes, ap, sym, refl, ◌∙◌, append_assoc, append-nil, decimal, Lists, text_of_lines, words, class_word, bound_lines, cert_lines}
 use Rattle.mig_base.specs.declared.certs.Cert.{Cert}
-use Rattle.mig_base.specs.InputLists.{Lists}
-use Rattle.mig_base.specs.Texts.{text_of_lines, words, class_word, bound_lines, cert_lines}
 use Rattle.mig_cert.specs.Prints.{opening_lines, opening_text, bound_text}
 
 text_both : (ls ms : List (List ℕ)) → text_of_lines (ls ++ ms) ≡ text_of_lines ls ++ text_of_lines ms

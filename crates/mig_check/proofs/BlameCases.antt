@@ -1,25 +1,18 @@
 -- Which blame is the first, behind what was found right.
-use Rattle.std.proofs.Common.{◌≡◌, ◌⊎◌, inl, inr, ⊎_elim, ℕ, suc, ◌+◌, ◌*◌, ◌<◌, ◌≤◌, List, length, arith, refl, subst, Bool, true, false, cond, Result, Ok, Err, IfErr}
-use Rattle.std.specs.Prelude.{IsTrue}
-use Rattle.std.proofs.lemmas.Bool.{cases_lt}
-use Rattle.mig_base.specs.declared.ids.ItemId.{ItemId}
-use Rattle.mig_base.specs.declared.ids.Shift.{Shift}
-use Rattle.mig_base.specs.declared.ids.Spot.{Spot}
+use Rattle.mig_base.proofs.Common.{◌≡◌, ◌⊎◌, inl, inr, ⊎_elim, ℕ, suc, ◌+◌, ◌*◌, ◌<◌, ◌≤◌, List, length, arith, refl, subst, Bool, true, false, cond, Result, Ok, Err, IfErr, IsTrue, cases_lt, Lists}
+use Rattle.mig_base.proofs.Common.{is_relocated, transfers, quotient, class_of, Layout, At, IsListOf, round_at, IsLegal, Once, Runs, shift_count}
+use Rattle.mig_base.specs.declared.certs.Bound.TheVariants.{Nothing}
 use Rattle.mig_base.specs.declared.certs.Cert.{Cert}
 use Rattle.mig_base.specs.declared.certs.Class.TheVariants.{Even}
-use Rattle.mig_base.specs.declared.certs.Bound.TheVariants.{Nothing}
+use Rattle.mig_check.proofs.Common.{ItemId, Shift, Spot, layout_of}
 use Rattle.mig_base.specs.declared.blames.Blame.{Blame}
 use Rattle.mig_base.specs.declared.blames.Blame.TheVariants.{EmptyRound, NotHere, TwiceInRound, SlotNotFree, OverLimit, WrongEnd, MovedTooOften, RoundsDiffer, QuotientDiffers, ClassDiffers, LoadDiffers, ValueDiffers, Memory}
-use Rattle.mig_base.specs.InputLists.{Lists}
-use Rattle.mig_base.specs.Transfers.{is_relocated, transfers}
-use Rattle.mig_base.specs.Bounding.{quotient, class_of, stated_load, counted_load}
-use Rattle.mig_base.specs.Layouts.{Layout, At, IsListOf, round_at}
-use Rattle.mig_base.specs.Running.{IsArrivedAt, IsLegal, Once, Runs, shift_count}
+use Rattle.mig_base.specs.Bounding.{stated_load, counted_load}
+use Rattle.mig_base.specs.Running.{IsArrivedAt}
 use Rattle.mig_base.specs.Judging.{IsLeast, IsSo, order, FirstBlame, IsFirstOfPlan, IsMovedTooOften, IsRunBlame}
 use Rattle.mig_base.specs.Checks.{IsClear, RoundBlame}
 use Rattle.mig_base.proofs.BlameOrder.{later, clear_from_rounds}
 use Rattle.mig_check.specs.Faults.{IsCertBlame, IsOnceBlame}
-use Rattle.mig_check.specs.Tables.{layout_of}
 
 -- each round can be carried out, and what has a number below n is right
 pub record IsRightBelow (input : Lists) (plan : List (List Shift)) (cert : Cert) (n : ℕ) : Type 0 where

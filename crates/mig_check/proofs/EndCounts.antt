@@ -1,18 +1,12 @@
 -- Counts of the ends of a round's shifts.
-use Rattle.std.proofs.Common.{◌≡◌, ℕ, suc, ◌+◌, ◌<◌, ◌≤◌, cond, List, [], ◌∷◌, length, map, drop, All, get_or, set, Some, None, ap, sym, ◌∙◌, inl, inr, arith, subst, add-one, zero-add}
-use Rattle.std.proofs.lemmas.Bool.{cases_lt, cases_eq, ne_eqb}
-use Rattle.std.proofs.lemmas.List.{get_or-set_same, get_or-set_other, length-set, get_or_default, drop_all}
-use Rattle.std.proofs.lemmas.List.Elements.{All-head, All-tail}
-use Rattle.std.proofs.lemmas.List.Sums.{sum_by-cons}
+use Rattle.mig_base.proofs.Common.{◌≡◌, ℕ, suc, ◌+◌, ◌<◌, ◌≤◌, cond, List, [], ◌∷◌, length, map, drop, All, get_or, set, Some, None, ap, sym, ◌∙◌, inl, inr, arith, subst, add-one, cases_lt, cases_eq}
+use Rattle.mig_base.proofs.Common.{ne_eqb, get_or-set_same, get_or-set_other, length-set, get_or_default, All-head, All-tail, sum_by-cons, Lists, disk_at, Trip, touches, load, KeepsLimits, trip_of}
+use Rattle.mig_check.proofs.Common.{DiskId, Shift, Disk, IsCovered}
+use Rattle.std.proofs.Common.{zero-add}
+use Rattle.std.proofs.lemmas.List.{drop_all}
 use Rattle.std.proofs.Math.Seq.{drop-cons}
-use Rattle.mig_base.specs.declared.inputs.Disk.{Disk}
-use Rattle.mig_base.specs.declared.ids.DiskId.{DiskId}
-use Rattle.mig_base.specs.declared.ids.Shift.{Shift}
-use Rattle.mig_base.specs.InputLists.{Lists, disk_at}
-use Rattle.mig_base.specs.Transfers.{Trip, touches, load, KeepsLimits}
-use Rattle.mig_base.specs.Running.{trip_of}
 use Rattle.mig_base.specs.Judging.{IsOver}
-use Rattle.mig_check.specs.Tables.{IsCovered, IsFoundOver}
+use Rattle.mig_check.specs.Tables.{IsFoundOver}
 
 load_cons : (v : ℕ) (s : Shift) (ss : List Shift) → load v (map trip_of (s ∷ ss)) ≡ cond (touches v (trip_of s)) 1 0 + load v (map trip_of ss)
 load_cons v s ss = sum_by-cons (λ (t : Trip). cond (touches v t) 1 0) (trip_of s) (map trip_of ss)

@@ -1,24 +1,12 @@
 -- In how many shifts an item stands.
-use Rattle.std.proofs.Common.{◌≡◌, ◌≢◌, ℕ, suc, ◌+◌, ◌<◌, ◌≤◌, Bool, true, false, List, [], ◌∷◌, length, take, All, AllPairs, get_or, sum_by, count_by, Some, ap, sym, refl, ◌∙◌, inl, inr, arith}
-use Rattle.std.specs.Prelude.{IsTrue, slice_get}
-use Rattle.std.specs.Option.{option_map}
-use Rattle.std.proofs.lemmas.Bool.{cases_lt, cases_eq, eq-eqb, ne_eqb}
-use Rattle.std.proofs.lemmas.List.{take_more}
-use Rattle.std.proofs.lemmas.List.Elements.{All-head, All-tail}
-use Rattle.std.proofs.lemmas.List.Sums.{get_or-le-sum_by, sum_by-append, sum_by-cons}
-use Rattle.std.proofs.lemmas.Option.{slice_get-get_or}
-use Rattle.mig_base.specs.declared.ids.DiskId.{DiskId}
-use Rattle.mig_base.specs.declared.ids.Spot.{Spot}
-use Rattle.mig_base.specs.declared.ids.Shift.{Shift}
-use Rattle.mig_base.specs.InputLists.{Lists, IsInput, no_spot}
-use Rattle.mig_base.specs.Transfers.{is_relocated, source, target}
-use Rattle.mig_base.specs.Layouts.{At, round_at}
-use Rattle.mig_base.specs.Running.{Once, Runs, is_of, shift_count}
+use Rattle.mig_base.proofs.Common.{◌≡◌, ◌≢◌, ℕ, suc, ◌+◌, ◌<◌, ◌≤◌, Bool, true, false, List, [], ◌∷◌, length, take, All, AllPairs, get_or, sum_by, count_by, Some, ap, sym, refl, ◌∙◌, inl, inr, arith}
+use Rattle.mig_base.proofs.Common.{IsTrue, slice_get, option_map, cases_lt, cases_eq, eq-eqb, ne_eqb, cases_Bool, take_more, All-head, All-tail, get_or-le-sum_by, sum_by-append, sum_by-cons}
+use Rattle.mig_base.proofs.Common.{slice_get-get_or, Lists, IsInput, no_spot, is_relocated, source, target, At, round_at, Once, Runs, is_of, shift_count}
+use Rattle.mig_check.proofs.Common.{DiskId, Shift, Spot}
 use Rattle.mig_base.specs.Judging.{IsMovedTooOften}
 use Rattle.mig_base.proofs.Counting.{one}
 use Rattle.mig_base.proofs.Scheduled.{spot_before}
 use Rattle.mig_check.specs.Counts.{IsTooOften}
-use Rattle.mig_check.proofs.Rooms.{either}
 
 count_cons : (item : ℕ) (s : Shift) (ss : List Shift) → count_by (is_of item) (s ∷ ss) ≡ one (is_of item s) + count_by (is_of item) ss
 count_cons item s ss = sum_by-cons (λ (t : Shift). one (is_of item t)) s ss
@@ -69,7 +57,7 @@ moved input plan valid runs item there none =
 
 -- each relocated item once and no other, where none is moved too often
 pub once_from : (input : Lists) (plan : List (List Shift)) (counts : List ℕ) → IsInput input → Runs input plan → length counts ≡ length input.items → ((item : ℕ) → item < length counts → get_or counts item 0 ≡ shift_count plan item) → ((item : ℕ) → ¬ IsTooOften input counts item) → Once input plan
-once_from input plan counts valid runs len counted right item there = elim (either (is_relocated input item)) [
+once_from input plan counts valid runs len counted right item there = elim (cases_Bool (is_relocated input item)) [
   | inl relocated ↦ rw relocated (elim (cases_lt 1 (shift_count plan item)) [
     | inl more ↦ absurd (right item (there, inl (omega (arith, more, is))))
     | inr most ↦ elim (cases_lt 0 (shift_count plan item)) [

@@ -1,13 +1,10 @@
 -- A round over a list of spots and over the layout of the list.
-use Rattle.std.proofs.Common.{◌≡◌, ℕ, suc, ◌<◌, List, length, All, arith, refl, sym, ap, ◌∙◌, [], ◌∷◌, subst, take, get_or}
-use Rattle.std.proofs.lemmas.List.{length-set, get_or_default, length-take, get_or-take}
-use Rattle.mig_base.specs.declared.ids.Spot.{Spot}
-use Rattle.mig_base.specs.declared.ids.Shift.{Shift}
-use Rattle.mig_base.specs.InputLists.{Lists}
-use Rattle.mig_base.specs.Layouts.{At, IsListOf, after_shifts, round_at}
-use Rattle.mig_base.specs.Running.{ShiftFits, Runs, IsLegal}
+use Rattle.mig_base.proofs.Common.{◌≡◌, ℕ, suc, ◌<◌, List, length, All, arith, refl, sym, ap, ◌∙◌, [], ◌∷◌, subst, take, get_or, length-set, get_or_default, get_or-take, Lists, At, IsListOf}
+use Rattle.mig_base.proofs.Common.{after_shifts, round_at, ShiftFits, Runs, IsLegal}
+use Rattle.mig_check.proofs.Common.{Shift, Spot, after_round, layout_of}
+use Rattle.std.proofs.lemmas.List.{length-take}
 use Rattle.mig_base.proofs.LayoutSteps.{At-item, IsListOf-shifts}
-use Rattle.mig_check.specs.Tables.{after_round, after_shift, layout_of}
+use Rattle.mig_check.specs.Tables.{after_shift}
 
 pub length-after_round : (round : List Shift) (spots : List Spot) → length (after_round spots round) ≡ length spots
 length-after_round [] spots = refl

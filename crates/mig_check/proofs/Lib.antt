@@ -1,4 +1,5 @@
 pub mod BlameCases
+pub mod Common
 pub mod EndCounts
 pub mod ItemCounts
 pub mod LayoutLists

@@ -1,28 +1,22 @@
 -- Counts over the moves of an input, item by item and disk by disk.
-use Rattle.std.proofs.Common.{◌≡◌, ℕ, suc, zero, ◌+◌, ◌*◌, ◌<◌, ◌≤◌, max, Bool, true, false, cond, not, ◌&&◌, eqb, List, [], ◌∷◌, length, map, take, All, get_or, count_by, ap, sym, refl, ◌∙◌, inl, inr, arith, ◌^◌}
-use Rattle.std.specs.List.{range_with_len}
-use Rattle.std.proofs.lemmas.Bool.{cases_lt}
-use Rattle.std.proofs.lemmas.List.{get_or_default, map-id, map_more}
-use Rattle.std.proofs.lemmas.Bool.Decides.{nat_tests}
-use Rattle.std.specs.Int as Int
-use Rattle.std.specs.Ordering.{ord_max, nat_cmp}
-use Rattle.std.proofs.lemmas.List.FromFn.{length-range_with_len, map-range_with_len_more, sum_by-map-range_with_len_more}
-use Rattle.std.proofs.lemmas.List.Sums.{count_by-le-length, fold-append, sum_by-append, sum_by-cons}
-use Rattle.mig_base.specs.declared.limits.TheConstants.{MAX_LIMIT}
-use Rattle.mig_base.specs.declared.inputs.Disk.{Disk}
-use Rattle.mig_base.specs.declared.ids.DiskId.{DiskId}
-use Rattle.mig_base.specs.declared.ids.Spot.{Spot}
+use Rattle.mig_base.proofs.Common.{◌≡◌, ℕ, suc, zero, ◌+◌, ◌*◌, ◌<◌, ◌≤◌, Bool, true, false, cond, not, ◌&&◌, eqb, List, [], ◌∷◌, length, map, take, All, get_or, count_by, ap, sym, refl, ◌∙◌, inl}
+use Rattle.mig_base.proofs.Common.{inr, arith, ◌^◌, range_with_len, cases_lt, cases_Bool, get_or_default, nat_tests, length-range_with_len, count_by-le-length, fold-append, sum_by-append, sum_by-cons}
+use Rattle.mig_base.proofs.Common.{IsInput, Lists, no_disk, no_spot, IsDiskSet, numbers, Transfers, Trip, is_inside, is_relocated, load, moves, transfers, trip, trips, IsEven, class_of, disk_value}
+use Rattle.mig_base.proofs.Common.{has, limit, limit_sum}
 use Rattle.mig_base.specs.declared.certs.Class.{Class}
 use Rattle.mig_base.specs.declared.certs.Class.TheVariants.{Even, General}
-use Rattle.mig_base.specs.InputLists.{IsInput, Lists, no_disk, no_spot}
-use Rattle.mig_base.specs.DiskNumbers.{IsDiskSet, numbers}
-use Rattle.mig_base.specs.Transfers.{Transfers, Trip, is_inside, is_relocated, load, moves, transfers, trip, trips}
-use Rattle.mig_base.specs.Bounding.{IsEven, class_of, disk_value, greatest, has, is_even, limit, limit_sum}
+use Rattle.mig_check.proofs.Common.{DiskId, Spot, Disk, passing}
+use Rattle.mig_base.specs.declared.limits.TheConstants.{MAX_LIMIT}
+use Rattle.std.proofs.Common.{max}
+use Rattle.std.proofs.lemmas.List.{map-id, map_more}
+use Rattle.std.specs.Int as Int
+use Rattle.std.specs.Ordering.{ord_max, nat_cmp}
+use Rattle.std.proofs.lemmas.List.FromFn.{map-range_with_len_more, sum_by-map-range_with_len_more}
+use Rattle.mig_base.specs.Bounding.{greatest, is_even}
 use Rattle.mig_base.proofs.Counting.{count_by-filter, one, sum_by-map}
 use Rattle.mig_base.proofs.Rounds.{spot_disk}
 use Rattle.mig_base.proofs.Evenness.{class_is_even}
-use Rattle.mig_check.specs.Counts.{AreLoadsOf, passing}
-use Rattle.mig_check.proofs.Rooms.{either}
+use Rattle.mig_check.specs.Counts.{AreLoadsOf}
 
 -- one item more
 pub passing_more : (input : Lists) (p : Trip → Bool) (n : ℕ) → passing input p (n + 1) ≡ passing input p n + cond (is_relocated input n && p (trip input n)) 1 0
@@ -78,7 +72,7 @@ pub even_class : (graph : Transfers) → IsEven graph → ◌≡◌ {A = Class} 
 even_class graph even = sym ((class_is_even graph).1 even)
 
 pub general_class : (graph : Transfers) → (IsEven graph → ⊥) → ◌≡◌ {A = Class} General (class_of graph)
-general_class graph odd = elim (either (is_even graph)) [ inl even ↦ absurd (odd ((class_is_even graph).0 (rw even refl))) | inr odd_one ↦ rw odd_one refl ]
+general_class graph odd = elim (cases_Bool (is_even graph)) [ inl even ↦ absurd (odd ((class_is_even graph).0 (rw even refl))) | inr odd_one ↦ rw odd_one refl ]
 
 -- Sets of disks
 

@@ -1,11 +1,9 @@
 -- Marks of the items that a round has shifted so far.
-use Rattle.std.proofs.Common.{◌≡◌, ◌≢◌, ℕ, ◌+◌, ◌<◌, ◌≤◌, List, length, All, AllPairs, get_or, set, ap, sym, refl, ◌∙◌, inl, inr, arith, subst}
-use Rattle.mig_base.specs.Judging.{IsFirstShift, RepeatsItem, no_shift, shift_at}
-use Rattle.std.proofs.lemmas.List.{get_or-set_same, get_or-set_other, length-set, get_or_default}
+use Rattle.mig_base.proofs.Common.{◌≡◌, ◌≢◌, ℕ, ◌+◌, ◌<◌, ◌≤◌, List, length, All, AllPairs, get_or, set, ap, sym, refl, ◌∙◌, inl, inr, arith, subst, IsFirstShift, no_shift, shift_at, get_or-set_same}
+use Rattle.mig_base.proofs.Common.{get_or-set_other, length-set, get_or_default, cases_lt, cases_eq}
+use Rattle.mig_check.proofs.Common.{ItemId, Shift}
+use Rattle.mig_base.specs.Judging.{RepeatsItem}
 use Rattle.std.proofs.lemmas.List.Elements.{All-set}
-use Rattle.std.proofs.lemmas.Bool.{cases_lt, cases_eq}
-use Rattle.mig_base.specs.declared.ids.Shift.{Shift}
-use Rattle.mig_base.specs.declared.ids.ItemId.{ItemId}
 
 pub record Marks (seen : List ℕ) (round : List Shift) (i n : ℕ) : Type 0 where
   pub later : All (λ m. m ≤ n) seen

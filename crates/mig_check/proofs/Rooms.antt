@@ -1,16 +1,10 @@
 -- Steps of the search for a target that is no free slot.
-use Rattle.std.proofs.Common.{◌≡◌, ◌⊎◌, ℕ, ◌+◌, ◌<◌, Bool, true, false, ◌&&◌, ◌||◌, eqb, List, length, ap, sym, refl, ◌∙◌, inl, inr, arith, subst}
-use Rattle.mig_base.specs.InputLists.{IsSpotOf}
-use Rattle.mig_base.specs.Judging.{IsFirstShift, shift_at}
-use Rattle.std.proofs.lemmas.Bool.{cases_lt, false≢true}
-use Rattle.std.proofs.lemmas.Bool.Decides.{nat_tests}
-use Rattle.mig_base.specs.declared.ids.Spot.{Spot}
-use Rattle.mig_base.specs.declared.inputs.Disk.{Disk}
-use Rattle.mig_base.specs.declared.ids.Shift.{Shift}
-use Rattle.mig_check.specs.Tables.{SpotSet, same_spot, LacksSlotIn, HaveRoom}
-
-spot_by : (s t : Spot) → s.disk.0 ≡ t.disk.0 → s.slot ≡ t.slot → s ≡ t
-spot_by s t e f = ap (λ (n : ℕ). let x : Spot = record { disk = record { 0 = n }; slot = s.slot } in x) e ∙ ap (λ (n : ℕ). let x : Spot = record { disk = t.disk; slot = n } in x) f
+use Rattle.mig_base.proofs.Common.{◌≡◌, ◌⊎◌, ℕ, ◌+◌, ◌<◌, Bool, true, false, ◌&&◌, ◌||◌, eqb, List, length, ap, sym, refl, ◌∙◌, inl, inr, arith, subst, IsSpotOf, IsFirstShift, shift_at, cases_lt}
+use Rattle.mig_base.proofs.Common.{false≢true, or_right, cases_Bool, nat_tests}
+use Rattle.mig_check.proofs.Common.{Shift, Spot, Disk, same_spot, LacksSlotIn, HaveRoom}
+use Rattle.std.proofs.lemmas.Bool.{or_cases, or_left}
+use Rattle.mig_base.proofs.SameIds.{spot_by}
+use Rattle.mig_check.specs.Tables.{SpotSet}
 
 numbers_same : (a b x y : ℕ) → (eqb a b && eqb x y) ≡ true → (a ≡ b) × (x ≡ y)
 numbers_same a b x y h = grind (arith, nat_tests)
@@ -24,23 +18,8 @@ spot_is s t h = let e = numbers_same s.disk.0 t.disk.0 s.slot t.slot h in spot_b
 pub spot_itself : (s : Spot) → same_spot s s ≡ true
 spot_itself s = numbers_equal s.disk.0 s.slot
 
-pub or_true : (a b : Bool) → (a || b) ≡ true → (a ≡ true) ⊎ (b ≡ true)
-or_true true b h = inl refl
-or_true false b h = inr h
-
-or_right : (a b : Bool) → b ≡ true → (a || b) ≡ true
-or_right true b e = refl
-or_right false b e = e
-
-or_left : (a b : Bool) → a ≡ true → (a || b) ≡ true
-or_left a b e = rw e refl
-
 pub not_both : (b : Bool) → b ≡ true → b ≡ false → ⊥
 not_both b t f = false≢true (sym f ∙ t)
-
-pub either : (b : Bool) → (b ≡ true) ⊎ (b ≡ false)
-either true = inl refl
-either false = inr refl
 
 pub HaveRoom-none : (disks : List Disk) (taken : SpotSet) (round : List Shift) → HaveRoom disks taken round 0 taken
 HaveRoom-none disks taken round = record {
@@ -58,11 +37,11 @@ HaveRoom-more disks taken round i now after slot free adds r =
     let at_i : (k : ℕ) → k < i + 1 → (k < i) ⊎ (k ≡ i) = λ k h. elim (cases_lt k i) [ inl l ↦ inl l | inr g ↦ inr (omega (arith, h, g)) ] in
     record {
       slots = λ k h. elim (at_i k h) [ inl l ↦ r.slots k l | inr e ↦ (let P : ℕ → Type 0 = λ q. IsSpotOf disks (shift_at round q).to in subst P (sym e) slot) ];
-      free = λ k h. elim (at_i k h) [ inl l ↦ r.free k l | inr e ↦ (let P : ℕ → Type 0 = λ q. taken (shift_at round q).to ≡ false in subst P (sym e) (elim (either (taken to)) [ inl t ↦ absurd (not_both (now to) (r.old to t) free) | inr f ↦ f ])) ];
+      free = λ k h. elim (at_i k h) [ inl l ↦ r.free k l | inr e ↦ (let P : ℕ → Type 0 = λ q. taken (shift_at round q).to ≡ false in subst P (sym e) (elim (cases_Bool (taken to)) [ inl t ↦ absurd (not_both (now to) (r.old to t) free) | inr f ↦ f ])) ];
       apart = λ j k l h same. elim (at_i k h) [ inl lt ↦ r.apart j k l lt same | inr e ↦ not_both (now to) (let P : Spot → Type 0 = λ s. now s ≡ true in subst P (same ∙ ap (λ (q : ℕ). (shift_at round q).to) e) (r.targets j (omega (arith, l, e)))) free ];
       old = λ t h. adds t ∙ or_right (same_spot to t) (now t) (r.old t h);
       targets = λ k h. elim (at_i k h) [ inl l ↦ adds (shift_at round k).to ∙ or_right (same_spot to (shift_at round k).to) (now (shift_at round k).to) (r.targets k l) | inr e ↦ (let P : ℕ → Type 0 = λ q. after (shift_at round q).to ≡ true in subst P (sym e) (adds to ∙ or_left (same_spot to to) (now to) (spot_itself to))) ];
-      only = λ t h. elim (or_true (same_spot to t) (now t) (sym (adds t) ∙ h)) [
+      only = λ t h. elim (or_cases (same_spot to t) (now t) (sym (adds t) ∙ h)) [
         | inl same ↦ inr (i, omega arith, spot_is to t same)
         | inr was ↦ elim (r.only t was) [ inl o ↦ inl o | inr w ↦ inr (w.0, omega (arith, w.1), w.2) ]
       ];

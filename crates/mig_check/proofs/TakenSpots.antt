@@ -1,21 +1,17 @@
 -- The taken spots of a list, before a round and after it.
-use Rattle.std.proofs.Common.{◌≡◌, ⊎_elim, ℕ, ◌<◌, Bool, true, false, not, ◌&&◌, List, length, take, Option, Result, Some, None, Ok, Err, IfOk, IfNone, IfSome, ap, sym, refl, ◌∙◌, inl, inr, arith, subst}
-use Rattle.std.specs.List.{list_any, Contains}
+use Rattle.mig_base.proofs.Common.{◌≡◌, ⊎_elim, ℕ, ◌<◌, Bool, true, false, not, ◌&&◌, List, length, take, Option, Result, Some, None, Ok, Err, IfOk, IfSome, ap, sym, refl, ◌∙◌, inl, inr, arith, subst}
+use Rattle.mig_base.proofs.Common.{list_any, Contains, false≢true, cases_Bool, get_or_default, Any-from_list_any, slice_get-get_or, slice_get_within, get_or_from_slice_get, Lists, IsLayout, Layout}
+use Rattle.mig_base.proofs.Common.{IsTaken, after_shifts, IsLegal, IsFirstShift, no_shift, shift_at}
+use Rattle.mig_check.proofs.Common.{Shift, Spot, IsTakenSet, HaveRoom, LacksSlotIn, layout_of, same_spot}
+use Rattle.std.proofs.Common.{IfNone}
 use Rattle.std.proofs.Math.Seq.{take-length}
-use Rattle.std.proofs.lemmas.Bool.{false≢true}
-use Rattle.std.proofs.lemmas.List.{get_or_default}
-use Rattle.std.proofs.lemmas.List.Folds.{Any-from_list_any, list_any-from_Any}
-use Rattle.std.proofs.lemmas.Option.{slice_get-get_or, slice_get_within, get_or_from_slice_get}
-use Rattle.mig_base.specs.declared.ids.Spot.{Spot}
-use Rattle.mig_base.specs.declared.ids.Shift.{Shift}
-use Rattle.mig_base.specs.InputLists.{Lists}
-use Rattle.mig_base.specs.Layouts.{IsLayout, Layout, IsTaken, after_shifts}
-use Rattle.mig_base.specs.Running.{IsLegal, IsFree}
-use Rattle.mig_base.specs.Judging.{IsFirstShift, LacksSlot, no_shift, shift_at}
+use Rattle.std.proofs.lemmas.List.Folds.{list_any-from_Any}
+use Rattle.mig_base.specs.Running.{IsFree}
+use Rattle.mig_base.specs.Judging.{LacksSlot}
 use Rattle.mig_base.specs.Checks.{Passes, Free}
 use Rattle.mig_base.proofs.Rounds.{in_some, moved_cases, leaves, at_target, target_free}
-use Rattle.mig_check.specs.Tables.{SpotSet, IsTakenSet, HaveRoom, LacksSlotIn, is_source, layout_of, same_spot}
-use Rattle.mig_check.proofs.Rooms.{either, not_both, spot_is, spot_itself}
+use Rattle.mig_check.specs.Tables.{SpotSet, is_source}
+use Rattle.mig_check.proofs.Rooms.{not_both, spot_is, spot_itself}
 
 -- all spots of a list
 pub list_taken : (taken : SpotSet) (spots : List Spot) (i : ℕ) → i ≡ length spots → ((t : Spot) → taken t ≡ list_any (λ s. same_spot s t) (take i spots)) → IsTakenSet taken (layout_of spots)
@@ -74,7 +70,7 @@ module _ (input : Lists) (layout : Layout) (round : List Shift) (legal : IsLegal
   ]
 
   kept : (t : Spot) → filled t ≡ true → ((s : Shift) → Contains round s → s.from ≡ t → ⊥) → freed t ≡ true
-  kept t full none = elim (either (is_source round t)) [
+  kept t full none = elim (cases_Bool (is_source round t)) [
     | inl source ↦ (let s = source_of round t source in absurd (none s.0 s.1 s.2))
     | inr not ↦ after t ∙ rw (not, full) refl
   ]

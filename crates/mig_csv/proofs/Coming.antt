@@ -1,10 +1,6 @@
 -- The items that are still to be counted among those that come to a disk.
-use Rattle.std.proofs.Common.{◌≡◌, ℕ, suc, ◌+◌, ◌-◌, ◌<◌, ◌≤◌, ◌==◌, ◌&&◌, Bool, true, false, cond, List, ◌∷◌, length, count_by, filter, arith, ap, ◌∙◌}
-use Rattle.std.specs.List.{range_with_len}
-use Rattle.std.proofs.lemmas.List.Sums.{sum_by-cons}
-use Rattle.mig_base.specs.InputLists.{Lists}
-use Rattle.mig_base.specs.Transfers.{is_relocated, target}
-use Rattle.mig_base.specs.Targets.{incoming}
+use Rattle.mig_base.proofs.Common.{◌≡◌, ℕ, suc, ◌+◌, ◌-◌, ◌<◌, ◌≤◌, ◌==◌, ◌&&◌, Bool, true, false, cond, List, ◌∷◌, length, count_by, filter, arith, ap, ◌∙◌, range_with_len, sum_by-cons, Lists}
+use Rattle.mig_base.proofs.Common.{is_relocated, target, incoming}
 
 -- of the items from this number on
 abbrev pub left_from : Lists → ℕ → ℕ → ℕ

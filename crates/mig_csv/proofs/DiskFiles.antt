@@ -1,17 +1,12 @@
 -- A file that is read row by row.
-use Rattle.std.proofs.Common.{◌≡◌, ◌≤◌, ◌<◌, ◌+◌, ◌++◌, ◌∷◌, [], ℕ, zero, suc, Some, List, length, map, slice_get, take, inl, inr, arith, refl, ap, sym, subst, ◌∙◌, append_assoc}
-use Rattle.std.proofs.lemmas.List.{append-nil, length-append, length-map, take-append-le, map-append}
-use Rattle.std.proofs.lemmas.Bool.{cases_lt}
-use Rattle.std.proofs.lemmas.Option.{slice_get_within}
-use Rattle.std.proofs.Math.Seq.{take-append_seam}
-use Rattle.mig_base.specs.declared.limits.TheConstants.{MAX_DISKS, MAX_FILE_BYTES}
-use Rattle.mig_base.specs.Refusals.{DisksRowFault, FileFault, IsFirstCause, IsFirstFault, IsRowFault, PrecedesInFile}
-use Rattle.mig_base.specs.Rows.{Row, disk_of, first, header_of, records_of, rows_of}
+use Rattle.mig_base.proofs.Common.{◌≡◌, ◌≤◌, ◌<◌, ◌+◌, ◌++◌, ◌∷◌, [], ℕ, zero, suc, Some, List, length, map, slice_get, take, inl, inr, arith, refl, ap, sym, subst, ◌∙◌, append_assoc, append-nil}
+use Rattle.mig_base.proofs.Common.{length-append, length-map, take-append-le, map-append, cases_lt, slice_get_within, take-append_seam, IsFirstFault, Row, disk_of, first, header_of, rows_of}
+use Rattle.mig_csv.proofs.Common.{Why, Disk, MAX_FILE_BYTES, DisksRowFault, IsFirstCause, PrecedesInFile, records_of, DisksFault}
+use Rattle.mig_base.specs.declared.limits.TheConstants.{MAX_DISKS}
+use Rattle.mig_base.specs.Refusals.{FileFault, IsRowFault}
 use Rattle.mig_base.specs.declared.faults.FileKind.TheVariants as file
-use Rattle.mig_base.specs.declared.faults.Why.{Why}
 use Rattle.mig_base.specs.declared.faults.Why.TheVariants as why
-use Rattle.mig_base.specs.declared.inputs.Disk.{Disk}
-use Rattle.mig_csv.specs.Refusals.{DisksFault}
+use Rattle.mig_base.proofs.Listed.{map-name}
 
 slice_get-append_left : {X : Type 0} (xs ys : List X) (k : ℕ) → k < length xs → slice_get (xs ++ ys) k ≡ slice_get xs k
 slice_get-append_left [] ys k h = absurd (omega arith)
@@ -163,10 +158,6 @@ ReadSoFar-start {bytes} left short e = record {
   named = refl;
   listed = refl;
 }
-
-pub map-name : (rs : List Row) → map first rs ≡ map (λ (d : Disk). d.name) (map disk_of rs)
-map-name [] = refl
-map-name (r ∷ rs) = ap (λ ns. first r ∷ ns) (map-name rs)
 
 -- the names are those of the disks
 pub ReadSoFar-names : {bytes : List ℕ} {left : List Row} {names : List (List ℕ)} {disks : List Disk} → ReadSoFar bytes left names disks → names ≡ map (λ (d : Disk). d.name) disks

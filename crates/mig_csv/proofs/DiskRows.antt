@@ -1,14 +1,9 @@
-use Rattle.std.proofs.Common.{◌≡◌, false, sym, ◌<◌, ◌∷◌, [], zero, suc, ℕ, true, List, Contains, Option, Some, None, MatchOption, is_some, slice_get, length, arith, refl}
-use Rattle.std.proofs.lemmas.Bool.{false≢true}
-use Rattle.std.proofs.lemmas.Option.{get_or_from_slice_get, slice_get_within}
-use Rattle.csv.specs.Records.{field_at}
+use Rattle.mig_base.proofs.Common.{◌≡◌, false, sym, ◌<◌, ◌∷◌, [], zero, suc, ℕ, true, List, Contains, Option, Some, None, MatchOption, is_some, slice_get, length, arith, refl, false≢true}
+use Rattle.mig_base.proofs.Common.{get_or_from_slice_get, slice_get_within, IsDiskInRange, IsName, Row, disk_of, first, second, third}
+use Rattle.mig_csv.proofs.Common.{Why, DisksRowFault, rank_of}
 use Rattle.mig_base.specs.declared.limits.TheConstants.{MAX_DISKS}
-use Rattle.mig_base.specs.Refusals.{DisksRowFault, rank_of}
-use Rattle.mig_base.specs.InputLists.{IsDiskInRange}
-use Rattle.mig_base.specs.Naming.{IsName}
+use Rattle.csv.specs.Records.{field_at}
 use Rattle.mig_base.specs.Digits.{IsNumber}
-use Rattle.mig_base.specs.Rows.{Row, disk_of, first, second, third}
-use Rattle.mig_base.specs.declared.faults.Why.{Why}
 use Rattle.mig_base.specs.declared.faults.Why.TheVariants as why
 
 -- no cause before the place n in the order of causes holds of a row of the disks file

@@ -1,12 +1,9 @@
 -- A file that is refused for its length or its header.
-use Rattle.std.proofs.Common.{ℕ, List, inl, inr, arith}
-use Rattle.mig_base.specs.Refusals.{FileFault, PrecedesInFile}
-use Rattle.mig_base.specs.Rows.{Row, header_of}
-use Rattle.mig_base.specs.declared.faults.FileKind.{FileKind}
-use Rattle.mig_base.specs.declared.faults.Why.{Why}
+use Rattle.mig_base.proofs.Common.{ℕ, List, inl, inr, arith, Row, header_of}
+use Rattle.mig_csv.proofs.Common.{FileKind, Why, PrecedesInFile, IsRefusalOf, InputError}
+use Rattle.mig_base.specs.Refusals.{FileFault}
 use Rattle.mig_base.specs.declared.faults.Why.TheVariants as why
-use Rattle.mig_csv.specs.Refusals.{IsRefusalOf, RefusesHeader}
-use Rattle.mig_csv.specs.declared.errors.InputError.{InputError}
+use Rattle.mig_csv.specs.Refusals.{RefusesHeader}
 use Rattle.mig_csv.specs.declared.errors.InputError.TheVariants as error
 
 -- the refusal is the file's first fault, whatever is wrong with its rows

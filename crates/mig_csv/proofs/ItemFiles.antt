@@ -1,23 +1,16 @@
 -- A now file that is read row by row.
-use Rattle.std.proofs.Common.{◌≡◌, ◌≤◌, ◌+◌, ◌++◌, ◌∷◌, [], Contains, ℕ, zero, suc, All, Some, List, length, map, slice_get, arith, refl, ap, sym, subst, ◌∙◌, append_assoc}
-use Rattle.std.specs.List.{AllZip}
-use Rattle.std.proofs.lemmas.List.{append-nil, length-append, length-map, map-append}
-use Rattle.std.proofs.lemmas.List.Elements.{All-append}
+use Rattle.mig_base.proofs.Common.{◌≡◌, ◌≤◌, ◌+◌, ◌++◌, ◌∷◌, [], Contains, ℕ, All, Some, List, length, map, slice_get, arith, refl, ap, sym, subst, ◌∙◌, append_assoc, AllZip, append-nil}
+use Rattle.mig_base.proofs.Common.{length-append, length-map, map-append, All-append, IsFirstFault, IsSpotNamed, IsSpotOf, Row, first, header_of, rows_of, second}
+use Rattle.mig_csv.proofs.Common.{Why, Spot, Disk, MAX_FILE_BYTES, MAX_ITEMS, IsFirstCause, records_of, place_in, NowFault}
 use Rattle.std.proofs.lemmas.Slice.Zip.{all_zipped_more}
-use Rattle.mig_base.specs.declared.limits.TheConstants.{MAX_FILE_BYTES, MAX_ITEMS}
-use Rattle.mig_base.specs.Refusals.{IsFirstCause, IsFirstFault, IsSpotNamed, NowRowFault}
-use Rattle.mig_base.specs.InputLists.{IsSpotOf}
-use Rattle.mig_base.specs.Rows.{Row, first, header_of, place_of, records_of, rows_of, second}
+use Rattle.mig_base.specs.Refusals.{NowRowFault}
+use Rattle.mig_base.specs.Rows.{place_of}
 use Rattle.mig_base.specs.declared.faults.FileKind.TheVariants as file
-use Rattle.mig_base.specs.declared.faults.Why.{Why}
 use Rattle.mig_base.specs.declared.faults.Why.TheVariants as why
-use Rattle.mig_base.specs.declared.ids.Spot.{Spot}
-use Rattle.mig_base.specs.declared.inputs.Disk.{Disk}
 use Rattle.mig_csv.proofs.DiskFiles.{OfRows, Sound, Sound-nil, Sound-push, first_fault, no_fault}
 use Rattle.mig_csv.proofs.ItemRows.{Contains-at, at-Contains, place_at}
 use Rattle.mig_base.proofs.Listed.{at_map, some_and}
-use Rattle.mig_csv.specs.Places.{place_in}
-use Rattle.mig_csv.specs.Refusals.{NowFault}
+use Rattle.mig_base.proofs.Elements.{one_all}
 
 abbrev pub now_has : List Disk → List Row → Row → Why → Type 0
 now_has disks before r w = NowRowFault disks (map first before) (map place_of before) r w
@@ -38,10 +31,6 @@ named_places disks (r ∷ rs) [] z = absurd z
 named_places disks (r ∷ rs) (s ∷ ss) z =
     let f : List ℕ × ℕ → List (List ℕ × ℕ) → List (List ℕ × ℕ) = λ p ps. p ∷ ps in
     ap (λ p. f p (map (place_in disks) ss)) (named_place disks r s z.0) ∙ ap (f (place_of r)) (named_places disks rs ss z.1)
-
-one_all : {X : Type 0} (P : X → Type 0) (x : X) → P x → All P (x ∷ [])
-one_all P x h zero d lt = h
-one_all P x h (suc k) d lt = absurd (omega (arith, lt))
 
 -- the records of the file are its header, rows that are done and those that are left; the items and the spots are those of the rows that are done
 pub record ItemsSoFar (bytes : List ℕ) (disks : List Disk) (left : List Row) (names : List (List ℕ)) (taken : List Spot) (items : List (List ℕ)) (spots : List Spot) : Type 0 where

@@ -1,19 +1,11 @@
-use Rattle.std.proofs.Common.{◌≡◌, ◌<◌, ℕ, List, Contains, All, Some, length, map, slice_get, refl, ap, sym, subst, ◌∙◌, arith}
-use Rattle.std.specs.List.{Any}
-use Rattle.std.proofs.lemmas.Option.{get_or_from_slice_get, slice_get-get_or, slice_get_within}
-use Rattle.mig_base.specs.declared.limits.TheConstants.{MAX_ITEMS}
-use Rattle.mig_base.specs.InputLists.{AreDifferent, IsSpotOf}
-use Rattle.mig_base.specs.Digits.{IsNumber, number_of}
-use Rattle.mig_base.specs.Rows.{Row, first, place_of, second, third}
-use Rattle.mig_base.specs.Naming.{IsName}
-use Rattle.mig_base.specs.Refusals.{NowRowFault, rank_of}
-use Rattle.mig_base.specs.declared.faults.Why.{Why}
+use Rattle.mig_base.proofs.Common.{◌≡◌, ◌<◌, ℕ, List, Contains, All, Some, length, map, slice_get, refl, ap, sym, subst, ◌∙◌, arith, ◌≤◌, Any, get_or_from_slice_get, slice_get-get_or}
+use Rattle.mig_base.proofs.Common.{slice_get_within, AreDifferent, IsSpotOf, number_of, Row, first, second, third, IsName}
+use Rattle.mig_csv.proofs.Common.{Why, Spot, Disk, MAX_ITEMS, rank_of, place_in}
+use Rattle.mig_base.specs.Digits.{IsNumber}
+use Rattle.mig_base.specs.Rows.{place_of}
+use Rattle.mig_base.specs.Refusals.{NowRowFault}
 use Rattle.mig_base.specs.declared.faults.Why.TheVariants as why
-use Rattle.std.proofs.Common.{◌≤◌}
-use Rattle.mig_base.specs.declared.ids.Spot.{Spot}
-use Rattle.mig_base.specs.declared.inputs.Disk.{Disk}
 use Rattle.mig_base.proofs.Listed.{at_map, name_at, one_place, some_and, some_map}
-use Rattle.mig_csv.specs.Places.{place_in}
 
 pub Contains-at : {X : Type 0} (xs : List X) (k : ℕ) (x : X) → slice_get xs k ≡ Some x → Contains xs x
 Contains-at xs k x e = (k, slice_get_within xs k x e, get_or_from_slice_get xs k x x e)

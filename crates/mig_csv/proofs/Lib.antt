@@ -1,4 +1,5 @@
 pub mod Coming
+pub mod Common
 pub mod DiskFiles
 pub mod DiskRows
 pub mod Fields

@@ -1,22 +1,13 @@
 -- What the steps of the reading say of two files.
-use Rattle.std.proofs.Common.{◌≡◌, ◌<◌, [], ℕ, List, All, length, map, get_or, slice_get, sym, subst, ◌∙◌, ap}
-use Rattle.std.specs.List.{AllZip}
-use Rattle.std.proofs.lemmas.List.{length-map, get_or-map}
-use Rattle.std.proofs.lemmas.Option.{slice_get_within}
-use Rattle.mig_base.specs.InputLists.{IsInput, IsSpotOf, Lists}
-use Rattle.mig_base.specs.Refusals.{IsSpotNamed, Precedes, RefusedAs}
-use Rattle.mig_base.specs.Rows.{Bodies, disk_of, first, rows_of}
-use Rattle.mig_base.specs.declared.faults.FileKind.{FileKind}
+use Rattle.mig_base.proofs.Common.{◌≡◌, ◌<◌, [], ℕ, List, All, length, map, get_or, slice_get, sym, subst, ◌∙◌, ap, AllZip, length-map, slice_get_within, IsInput, IsSpotOf, Lists, IsSpotNamed, Bodies}
+use Rattle.mig_base.proofs.Common.{disk_of, first, rows_of}
+use Rattle.mig_csv.proofs.Common.{FileKind, Why, DiskId, Spot, Disk, DisksFault, IsRefusalOf, NowFault, InputError}
+use Rattle.std.proofs.lemmas.List.{get_or-map}
+use Rattle.mig_base.specs.Refusals.{Precedes, RefusedAs}
 use Rattle.mig_base.specs.declared.faults.FileKind.TheVariants as file
-use Rattle.mig_base.specs.declared.faults.Why.{Why}
-use Rattle.mig_base.specs.declared.ids.DiskId.{DiskId}
-use Rattle.mig_base.specs.declared.ids.Spot.{Spot}
-use Rattle.mig_base.specs.declared.inputs.Disk.{Disk}
 use Rattle.mig_base.proofs.FaultOrder.{own_stage}
 use Rattle.mig_base.proofs.Listed.{listed-IsInput, some_and, zip_length}
 use Rattle.mig_csv.specs.Listings.{IsListingRefusal, ListingFault, ListingRefusedAs}
-use Rattle.mig_csv.specs.Refusals.{DisksFault, IsRefusalOf, NowFault}
-use Rattle.mig_csv.specs.declared.errors.InputError.{InputError}
 use Rattle.mig_csv.specs.declared.errors.InputError.TheVariants as error
 use Rattle.mig_csv.proofs.Whole.{clean_now, refusal_of_disks, refusal_of_now}
 

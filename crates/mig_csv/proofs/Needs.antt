@@ -1,17 +1,10 @@
 -- The items that are still to be counted at their disks.
-use Rattle.std.proofs.Common.{◌≡◌, ℕ, ◌+◌, ◌<◌, ◌≤◌, ◌==◌, ◌&&◌, true, false, cond, inl, inr, List, length, count_by, drop, set, get_or, arith, ap, ◌∙◌}
-use Rattle.std.specs.List.{range_with_len}
-use Rattle.std.proofs.lemmas.List.Sums.{count_by-le-length, sum_by-drop_more}
-use Rattle.std.proofs.lemmas.Bool.{cases_eq}
-use Rattle.std.proofs.lemmas.Bool.Decides.{nat_tests}
-use Rattle.std.proofs.lemmas.List.{get_or-set_other, get_or-set_same}
-use Rattle.std.proofs.lemmas.List.FromFn.{length-range_with_len}
+use Rattle.mig_base.proofs.Common.{◌≡◌, ℕ, ◌+◌, ◌<◌, ◌≤◌, ◌==◌, ◌&&◌, true, false, cond, inl, inr, List, length, count_by, drop, set, get_or, arith, ap, ◌∙◌, range_with_len, count_by-le-length}
+use Rattle.mig_base.proofs.Common.{cases_eq, nat_tests, get_or-set_other, get_or-set_same, length-range_with_len, Lists, no_spot, is_relocated, source, target, incoming, present}
+use Rattle.mig_base.specs.declared.ids.Spot.{Spot}
+use Rattle.std.proofs.lemmas.List.Sums.{sum_by-drop_more}
 use Rattle.std.proofs.Math.ListN.{drop_of_length-le}
 use Rattle.mig_base.proofs.Counting.{count_by-filter}
-use Rattle.mig_base.specs.InputLists.{Lists, no_spot}
-use Rattle.mig_base.specs.declared.ids.Spot.{Spot}
-use Rattle.mig_base.specs.Transfers.{is_relocated, source, target}
-use Rattle.mig_base.specs.Targets.{incoming, present}
 use Rattle.mig_csv.proofs.Coming.{left_from, left_from-end, left_from-next, left_from-start}
 use Rattle.mig_csv.specs.Lists.{slots_for}
 

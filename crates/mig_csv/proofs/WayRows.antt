@@ -1,23 +1,13 @@
 -- The rows of a next file.
-use Rattle.std.proofs.Common.{◌≡◌, ◌≢◌, ◌⊎◌, ◌≤◌, ◌<◌, ◌+◌, ◌++◌, ◌∷◌, [], ℕ, zero, suc, Option, Some, None, List, Contains, All, get_or, length, map, replicate, slice_get, inl, inr, arith, refl, ap, sym, subst, ◌∙◌, set, append_assoc}
-use Rattle.std.specs.List.{Any}
-use Rattle.std.specs.Prelude.{MatchOption}
-use Rattle.std.specs.Option.{IsSomeAnd}
-use Rattle.std.proofs.lemmas.Bool.{cases_lt, cases_eq}
-use Rattle.std.proofs.lemmas.List.{append-nil, length-append, length-map, length-set, map-append, get_or-set_same, get_or-set_other}
-use Rattle.std.proofs.lemmas.List.Elements.{All-append}
-use Rattle.std.proofs.lemmas.Option.{get_or_from_slice_get, slice_get-get_or, slice_get_past, slice_get_within}
-use Rattle.mig_base.specs.declared.limits.TheConstants.{MAX_FILE_BYTES, MAX_ITEMS}
-use Rattle.mig_base.specs.Naming.{IsName}
-use Rattle.mig_base.specs.InputLists.{AreDifferent}
-use Rattle.mig_base.specs.Refusals.{IsFirstCause, IsFirstFault, NextRowFault, rank_of}
-use Rattle.mig_base.specs.Rows.{Row, first, header_of, records_of, rows_of, second}
+use Rattle.mig_base.proofs.Common.{◌≡◌, ◌≢◌, ◌⊎◌, ◌≤◌, ◌<◌, ◌+◌, ◌++◌, ◌∷◌, [], ℕ, zero, suc, Option, Some, None, List, Contains, All, get_or, length, map, replicate, slice_get, inl, inr, arith, refl}
+use Rattle.mig_base.proofs.Common.{ap, sym, subst, ◌∙◌, set, append_assoc, Any, MatchOption, IsSomeAnd, cases_eq, append-nil, length-append, length-map, length-set, map-append, All-append}
+use Rattle.mig_base.proofs.Common.{get_or_from_slice_get, slice_get_within, IsName, AreDifferent, IsFirstFault, Row, first, header_of, rows_of, second}
+use Rattle.mig_csv.proofs.Common.{Why, DiskId, Disk, MAX_FILE_BYTES, MAX_ITEMS, IsFirstCause, rank_of, records_of}
+use Rattle.mig_base.specs.Refusals.{NextRowFault}
 use Rattle.mig_base.specs.declared.faults.FileKind.TheVariants as file
-use Rattle.mig_base.specs.declared.faults.Why.{Why}
 use Rattle.mig_base.specs.declared.faults.Why.TheVariants as why
-use Rattle.mig_base.specs.declared.ids.DiskId.{DiskId}
-use Rattle.mig_base.specs.declared.inputs.Disk.{Disk}
 use Rattle.mig_base.proofs.Listed.{one_place, some_and}
+use Rattle.mig_base.proofs.Elements.{slice_get-set_same, slice_get-set_other, one_all}
 use Rattle.mig_csv.proofs.DiskFiles.{OfRows, Sound, Sound-nil, Sound-push, first_fault, no_fault}
 use Rattle.mig_csv.proofs.ItemRows.{Contains-at}
 use Rattle.mig_csv.specs.Lists.{AreNextOf, AreSeen, IsNextOf}
@@ -35,20 +25,6 @@ none_before disks present items r n few width names new known here why.Duplicate
 none_before disks present items r n few width names new known here why.UnknownDisk lt h = h (known lt)
 none_before disks present items r n few width names new known here why.NotInNow lt h = h (here lt)
 none_before disks present items r n few width names new known here _ lt h = h
-
--- one place of a list gets another element
-set_here : {X : Type 0} (xs : List X) (k : ℕ) (x : X) → k < length xs → slice_get (set xs k x) k ≡ Some x
-set_here xs k x lt =
-    let within : k < length (set xs k x) = rw length-set lt in
-    slice_get-get_or (set xs k x) k x within ∙ ap (λ y. Some y) (get_or-set_same xs k x x lt)
-
-set_there : {X : Type 0} (xs : List X) (k j : ℕ) (x : X) → j ≢ k → slice_get (set xs k x) j ≡ slice_get xs j
-set_there xs k j x ne = elim (cases_lt j (length xs)) [
-  | inl lt ↦
-      let within : j < length (set xs k x) = rw length-set lt in
-      slice_get-get_or (set xs k x) j x within ∙ ap (λ y. Some y) (get_or-set_other xs k j x x ne) ∙ sym (slice_get-get_or xs j x lt)
-  | inr ge ↦ let past : length (set xs k x) ≤ j = rw length-set ge in slice_get_past (set xs k x) j past ∙ sym (slice_get_past xs j ge)
-]
 
 -- nothing is known before the first row
 abbrev pub unknown : Option DiskId
@@ -79,10 +55,6 @@ AreNextOf-start disks items = record {
   on_disks = λ k v at. absurd (none_at (length items) k v at);
 }
 
-one_all : {X : Type 0} (P : X → Type 0) (x : X) → P x → All P (x ∷ [])
-one_all P x h zero d lt = h
-one_all P x h (suc k) d lt = absurd (omega (arith, lt))
-
 contains_left : {X : Type 0} (xs ys : List X) (x : X) → Contains xs x → Contains (xs ++ ys) x
 contains_left [] ys x c = absurd (omega (arith, c.1))
 contains_left (z ∷ xs) ys x (zero, lt, is) = (0, omega arith, is)
@@ -103,7 +75,7 @@ pub AreNextOf-push : (disks : List Disk) (items : List (List ℕ)) (done : List 
     → slice_get items k ≡ Some (first r) → IsSomeAnd (slice_get disks v.0) (λ d. d.name ≡ second r) → ¬ (Contains (map first done) (first r)) → AreNextOf disks items (done ++ r ∷ []) (set next k (Some v))
 AreNextOf-push disks items done next r k v a ne at is new = record {
   len = rw length-set a.len;
-  named = All-append (IsNextOf disks items (set next k (Some v))) done (r ∷ []) old (one_all (IsNextOf disks items (set next k (Some v))) r (k, v, at, set_here next k (Some v) within, is));
+  named = All-append (IsNextOf disks items (set next k (Some v))) done (r ∷ []) old (one_all (IsNextOf disks items (set next k (Some v))) r (k, v, at, slice_get-set_same next k (Some v) within, is));
   listed = listed;
   missing = missing;
   on_disks = on_disks;
@@ -116,10 +88,10 @@ AreNextOf-push disks items done next r k v a ne at is new = record {
     on_disks j w e = elim (cases_eq j k) [
       | inl same ↦
           let d = some_and (λ (x : Disk). x.name ≡ second r) (slice_get disks v.0) is in
-          let z : Some (Some v) ≡ Some (Some w) = sym (set_here next k (Some v) within) ∙ ap (slice_get (set next k (Some v))) (sym same) ∙ e in
+          let z : Some (Some v) ≡ Some (Some w) = sym (slice_get-set_same next k (Some v) within) ∙ ap (slice_get (set next k (Some v))) (sym same) ∙ e in
           let one : v ≡ w = cc z in
           subst (λ (x : DiskId). x.0 < length disks) one (slice_get_within disks v.0 d.0 d.1)
-      | inr other ↦ a.on_disks j w (sym (set_there next k j (Some v) other) ∙ e)
+      | inr other ↦ a.on_disks j w (sym (slice_get-set_other next k j (Some v) other) ∙ e)
     ]
 
     rows_of_done : map first (done ++ r ∷ []) ≡ map first done ++ first r ∷ []
@@ -131,7 +103,7 @@ AreNextOf-push disks items done next r k v a ne at is new = record {
         let h = a.named j d lt in
         let there : Contains (map first done) (first q) = let m : slice_get (map first done) j ≡ Some (first q) = mapped done j d lt in Contains-at (map first done) j (first q) m in
         let apart : h.0 ≢ k = λ e. new (subst (λ n. Contains (map first done) n) (let z : Some (first q) ≡ Some (first r) = sym h.2 ∙ ap (slice_get items) e ∙ at in cc z) there) in
-        (h.0, h.1, h.2, set_there next k h.0 (Some v) apart ∙ h.3, h.4)
+        (h.0, h.1, h.2, slice_get-set_other next k h.0 (Some v) apart ∙ h.3, h.4)
       where
         mapped : (rs : List Row) (j : ℕ) (d : Row) → j < length rs → slice_get (map first rs) j ≡ Some (first (get_or rs j d))
         mapped [] j d lt = absurd (omega (arith, lt))
@@ -141,16 +113,16 @@ AreNextOf-push disks items done next r k v a ne at is new = record {
     listed : (j : ℕ) (n : List ℕ) (w : DiskId) → slice_get items j ≡ Some n → slice_get (set next k (Some v)) j ≡ Some (Some w) → Contains (map first (done ++ r ∷ [])) n
     listed j n w here e = rw rows_of_done (elim (cases_eq j k) [
       | inl same ↦ subst (λ m. Contains (map first done ++ first r ∷ []) m) (let z : Some (first r) ≡ Some n = sym at ∙ ap (slice_get items) (sym same) ∙ here in cc z) (contains_last (map first done) (first r))
-      | inr other ↦ contains_left (map first done) (first r ∷ []) n (a.listed j n w here (sym (set_there next k j (Some v) other) ∙ e))
+      | inr other ↦ contains_left (map first done) (first r ∷ []) n (a.listed j n w here (sym (slice_get-set_other next k j (Some v) other) ∙ e))
     ])
 
     missing : (j : ℕ) (n : List ℕ) → slice_get items j ≡ Some n → slice_get (set next k (Some v)) j ≡ Some None → ¬ (Contains (map first (done ++ r ∷ [])) n)
     missing j n here e c = elim (cases_eq j k) [
       | inl same ↦
-          let z : ◌≡◌ {A = Option (Option DiskId)} (Some (Some v)) (Some None) = sym (set_here next k (Some v) within) ∙ ap (slice_get (set next k (Some v))) (sym same) ∙ e in
+          let z : ◌≡◌ {A = Option (Option DiskId)} (Some (Some v)) (Some None) = sym (slice_get-set_same next k (Some v) within) ∙ ap (slice_get (set next k (Some v))) (sym same) ∙ e in
           cc z
       | inr other ↦ elim (contains_cases (map first done) (first r) n (rw rows_of_done at c)) [
-        | inl before ↦ a.missing j n here (sym (set_there next k j (Some v) other) ∙ e) before
+        | inl before ↦ a.missing j n here (sym (slice_get-set_other next k j (Some v) other) ∙ e) before
         | inr is_r ↦ other (one_place items j k n ne here (at ∙ ap (λ m. Some m) is_r))
       ]
     ]

@@ -1,24 +1,13 @@
 -- What the steps of the reading say of the three files.
-use Rattle.std.proofs.lemmas.Option.{get_or_from_slice_get, slice_get-get_or, slice_get-map, slice_get_within}
-use Rattle.std.proofs.lemmas.List.{length-map}
-use Rattle.std.specs.List.{AllZip, All}
-use Rattle.std.specs.Option.{option_map}
-use Rattle.mig_base.specs.Refusals.{IsNextNamed, IsSpotNamed}
-use Rattle.std.proofs.Common.{◌≡◌, get_or, ◌≤◌, ◌<◌, ◌+◌, [], ℕ, Option, Some, None, List, length, map, slice_get, inl, inr, arith, refl, sym, subst, ◌∙◌}
-use Rattle.mig_base.specs.Refusals.{Accepted, AreListed, Fault, IsNotListed, LacksRoom, PrecedesInFile, Precedes, stage_of}
-use Rattle.mig_base.specs.InputLists.{Lists}
-use Rattle.mig_base.specs.Rows.{Bodies, Row, disk_of, first, rows_of}
-use Rattle.mig_base.specs.declared.faults.FileKind.{FileKind}
+use Rattle.mig_base.proofs.Common.{get_or_from_slice_get, slice_get-get_or, slice_get_within, length-map, AllZip, All, option_map, IsSpotNamed, ◌≡◌, get_or, ◌≤◌, ◌<◌, ◌+◌, [], ℕ, Option, Some, None}
+use Rattle.mig_base.proofs.Common.{List, length, map, slice_get, inl, inr, arith, refl, sym, subst, ◌∙◌, Lists, no_disk, Bodies, Row, disk_of, first, rows_of, IsRoomy, incoming, present}
+use Rattle.mig_csv.proofs.Common.{FileKind, Why, DiskId, Disk, PrecedesInFile, DisksFault, IsRefusalOf, NowFault, InputError}
+use Rattle.std.proofs.lemmas.Option.{slice_get-map}
+use Rattle.mig_base.specs.Refusals.{IsNextNamed, Accepted, AreListed, Fault, IsNotListed, LacksRoom, Precedes, stage_of}
 use Rattle.mig_base.specs.declared.faults.FileKind.TheVariants as file
-use Rattle.mig_base.specs.declared.faults.Why.{Why}
 use Rattle.mig_base.specs.declared.faults.Why.TheVariants as why
-use Rattle.mig_base.specs.declared.ids.DiskId.{DiskId}
-use Rattle.mig_base.specs.declared.inputs.Disk.{Disk}
-use Rattle.mig_base.specs.Targets.{IsRoomy, incoming, present}
-use Rattle.mig_base.specs.InputLists.{no_disk}
 use Rattle.mig_csv.specs.Lists.{AreNextOf, RefusesMissing, RefusesRoom}
-use Rattle.mig_csv.specs.Refusals.{DisksFault, IsRefusal, IsRefusalOf, NextFault, NowFault}
-use Rattle.mig_csv.specs.declared.errors.InputError.{InputError}
+use Rattle.mig_csv.specs.Refusals.{IsRefusal, NextFault}
 use Rattle.mig_csv.specs.declared.errors.InputError.TheVariants as error
 use Rattle.mig_base.proofs.FaultOrder.{Accepted-clean, IsClean, refused_in_file, stage_free}
 use Rattle.mig_base.proofs.Listed.{AreListed-unique}
@@ -136,33 +125,40 @@ refusal_of_missing fs disks items next (error.Refused f row why.NotInNext) those
     ]
 refusal_of_missing fs disks items next (error.Refused f row w) those d n x a h = absurd h
 
--- the first disk that lacks room is the first fault, where nothing else is wrong
-pub refusal_of_room : (fs : Bodies) (i : Lists) (e : InputError) → IsClean fs file.Disks → IsClean fs file.Now → IsClean fs file.Next → ((n : ℕ) → ¬ (IsNotListed fs n)) → AreListed fs i
-    → RefusesRoom i e → IsRefusal fs e
-refusal_of_room fs i error.Memory d n x l a h = tt
-refusal_of_room fs i (error.Refused f row (why.NoRoom name needs slots)) d n x l a h =
+-- the files list these, and nothing is wrong with them but that disks may lack room
+pub record AreRead (fs : Bodies) (i : Lists) : Type 0 where
+  pub disks : IsClean fs file.Disks
+  pub now : IsClean fs file.Now
+  pub next : IsClean fs file.Next
+  pub missing : (n : ℕ) → ¬ (IsNotListed fs n)
+  pub listed : AreListed fs i
+
+-- the first disk that lacks room is the first fault then
+pub refusal_of_room : (fs : Bodies) (i : Lists) (e : InputError) → AreRead fs i → RefusesRoom i e → IsRefusal fs e
+refusal_of_room fs i error.Memory r h = tt
+refusal_of_room fs i (error.Refused f row (why.NoRoom name needs slots)) r h =
     rw h.0 (record {
-      fault = (refl, record { lists = i; listed = a; place = h.1; disk = h.2; number = h.3; at = h.4; named = h.5; sum = h.6; kept = h.7; short = h.8 });
+      fault = (refl, record { lists = i; listed = r.listed; place = h.1; disk = h.2; number = h.3; at = h.4; named = h.5; sum = h.6; kept = h.7; short = h.8 });
       first = first;
     })
   where
     at_four : (g : FileKind) (m : ℕ) (v : Why) → stage_of g v ≡ 4 → PrecedesInFile m v row (why.NoRoom name needs slots) → ¬ (Fault fs g m v)
     at_four g m why.NotInNext s o y = absurd (omega (arith, s))
-    at_four g m (why.NoRoom p q r) s o y =
+    at_four g m (why.NoRoom p q has) s o y =
         let z = y.1 in
         let number = z.number in
         let mine = h.3 in
         elim o [
           | inl lt ↦
               let before : z.place < h.1 = omega arith in
-              let same = AreListed-unique fs z.lists i d n x l z.listed a in
+              let same = AreListed-unique fs z.lists i r.disks r.now r.next r.missing z.listed r.listed in
               let at : slice_get i.disks z.place ≡ Some z.disk = subst (λ (j : Lists). slice_get j.disks z.place ≡ Some z.disk) same z.at in
               let sum : q ≡ present i z.place + incoming i z.place = subst (λ (j : Lists). q ≡ present j z.place + incoming j z.place) same z.sum in
               let room = subst (λ (d : Disk). present i z.place + incoming i z.place ≤ d.slots) (get_or_from_slice_get i.disks z.place z.disk no_disk at) (h.9 z.place before) in
               let short = z.short in
               let kept = z.kept in
               absurd (omega (arith, room))
-          | inr eq ↦ let r = eq.1 in absurd (omega arith)
+          | inr eq ↦ let row_is = eq.1 in absurd (omega arith)
         ]
     at_four file.Disks m v s o y = absurd (omega (arith, s))
     at_four file.Now m v s o y = absurd (omega (arith, s))
@@ -170,16 +166,15 @@ refusal_of_room fs i (error.Refused f row (why.NoRoom name needs slots)) d n x l
 
     first : (g : FileKind) (m : ℕ) (v : Why) → Precedes g m v file.Disks row (why.NoRoom name needs slots) → ¬ (Fault fs g m v)
     first g m v p y = elim p [
-      | inl lt ↦ stage_free fs 4 (λ _. d) (λ _. n) (λ _. x) (λ _. l) (λ lt. absurd (omega (arith, lt))) g m v lt y
+      | inl lt ↦ stage_free fs 4 (λ _. r.disks) (λ _. r.now) (λ _. r.next) (λ _. r.missing) (λ lt. absurd (omega (arith, lt))) g m v lt y
       | inr q ↦ at_four g m v q.0 q.1 y
     ]
-refusal_of_room fs i (error.Refused f row w) d n x l a h = absurd h
+refusal_of_room fs i (error.Refused f row w) r h = absurd h
 
 -- a roomy input lacks room nowhere
-pub none_lacks : (fs : Bodies) (i : Lists) → IsClean fs file.Disks → IsClean fs file.Now → IsClean fs file.Next → ((n : ℕ) → ¬ (IsNotListed fs n)) → AreListed fs i → IsRoomy i
-    → (n : ℕ) (name : List ℕ) (needs slots : ℕ) → ¬ (LacksRoom fs n name needs slots)
-none_lacks fs i d n x l a roomy m name needs slots z =
-    let same = AreListed-unique fs z.lists i d n x l z.listed a in
+none_lacks : (fs : Bodies) (i : Lists) → AreRead fs i → IsRoomy i → (n : ℕ) (name : List ℕ) (needs slots : ℕ) → ¬ (LacksRoom fs n name needs slots)
+none_lacks fs i r roomy m name needs slots z =
+    let same = AreListed-unique fs z.lists i r.disks r.now r.next r.missing z.listed r.listed in
     let at : slice_get i.disks z.place ≡ Some z.disk = subst (λ (j : Lists). slice_get j.disks z.place ≡ Some z.disk) same z.at in
     let sum : needs ≡ present i z.place + incoming i z.place = subst (λ (j : Lists). needs ≡ present j z.place + incoming j z.place) same z.sum in
     let room = subst (λ (d : Disk). present i z.place + incoming i z.place ≤ d.slots) (get_or_from_slice_get i.disks z.place z.disk no_disk at) (roomy z.place (slice_get_within i.disks z.place z.disk at)) in
@@ -187,5 +182,5 @@ none_lacks fs i d n x l a roomy m name needs slots z =
     let kept = z.kept in
     absurd (omega (arith, room))
 
-pub Accepted-roomy : (fs : Bodies) (i : Lists) → IsClean fs file.Disks → IsClean fs file.Now → IsClean fs file.Next → ((n : ℕ) → ¬ (IsNotListed fs n)) → AreListed fs i → IsRoomy i → Accepted fs i
-Accepted-roomy fs i d n x l a roomy = Accepted-clean fs i d n x l (none_lacks fs i d n x l a roomy) a
+pub Accepted-roomy : (fs : Bodies) (i : Lists) → AreRead fs i → IsRoomy i → Accepted fs i
+Accepted-roomy fs i r roomy = Accepted-clean fs i r.disks r.now r.next r.missing (none_lacks fs i r roomy) r.listed

@@ -2,7 +2,7 @@
 use Rattle.std.specs.Prelude.{◌≡◌, ⊤, ℕ, List, map}
 use Rattle.std.specs.List.{AllZip}
 use Rattle.mig_base.specs.InputLists.{Lists}
-use Rattle.mig_base.specs.Refusals.{IsSpotNamed, Precedes}
+use Rattle.mig_base.specs.Refusals.{IsFirstOf, IsSpotNamed}
 use Rattle.mig_base.specs.Rows.{disk_of, first, rows_of}
 use Rattle.mig_base.specs.declared.faults.FileKind.{FileKind}
 use Rattle.mig_base.specs.declared.faults.FileKind.TheVariants as file
@@ -25,10 +25,9 @@ pub record IsListing (disks_file now_file : List ℕ) (i : Lists) : Type 0 where
   pub spots : AllZip (IsSpotNamed i.disks) (rows_of now_file) i.spots
   pub next : i.next ≡ map (λ spot. spot.disk) i.spots
 
--- this cause holds at the row of the file, and none that comes before it
-pub record ListingRefusedAs (disks now : List ℕ) (f : FileKind) (n : ℕ) (w : Why) : Type 0 where
-  pub fault : ListingFault disks now f n w
-  pub first : (g : FileKind) (m : ℕ) (v : Why) → Precedes g m v f n w → ¬ (ListingFault disks now g m v)
+-- it is the first thing that is wrong with the two files
+abbrev pub ListingRefusedAs : (disks now : List ℕ) → FileKind → ℕ → Why → Type 0
+ListingRefusedAs disks now f n w = IsFirstOf (ListingFault disks now) f n w
 
 -- a refusal is the first fault of the two files
 abbrev pub IsListingRefusal : (disks now : List ℕ) → InputError → Type 0

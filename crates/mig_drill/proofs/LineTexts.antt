@@ -1,15 +1,10 @@
 -- How the lines of a drill are spelled.
-use Rattle.std.proofs.Common.{◌≡◌, ℕ, ◌+◌, ◌<◌, ◌≤◌, List, [], ◌∷◌, ◌++◌, Bool, true, false, length, map, take, get_or, Ok, refl, sym, ◌∙◌, ap, subst, append_assoc, arith}
-use Rattle.std.specs.Prelude.{codes}
-use Rattle.std.specs.Fmt.{decimal}
+use Rattle.mig_base.proofs.Common.{◌≡◌, ℕ, ◌+◌, ◌<◌, ◌≤◌, List, [], ◌∷◌, ◌++◌, Bool, true, false, length, map, take, get_or, Ok, refl, sym, ◌∙◌, ap, subst, append_assoc, arith, codes, decimal}
+use Rattle.mig_base.proofs.Common.{range_with_len, append-nil, map-append, take_more, get_or-range_with_len, text_of_lines}
 use Rattle.std.specs.Int.{from_bool}
-use Rattle.std.specs.List.{range_with_len}
 use Rattle.std.proofs.lemmas.Grind.{flat_map-append}
-use Rattle.std.proofs.lemmas.List.{append-nil, map-append, take_more}
 use Rattle.std.proofs.lemmas.List.Folds.{flat_map-map}
-use Rattle.std.proofs.lemmas.List.FromFn.{get_or-range_with_len}
 use Rattle.std.proofs.lemmas.List.Sums.{count_by_more_yes, count_by_more_no}
-use Rattle.mig_base.specs.Texts.{text_of_lines}
 use Rattle.mig_io.specs.Held.{SinkState}
 use Rattle.mig_drill.specs.declared.writes.Write.{Write}
 use Rattle.mig_drill.specs.declared.writes.Write.TheVariants.{ClearMark}

@@ -1,14 +1,9 @@
 -- A plan that is started, crashes, and is resumed.
-use Rattle.std.proofs.Common.{◌≡◌, inl, inr, true, ℕ, List, [], length, Option, Some, None, IsSome, Result, Ok, Err, IfOk, is_ok, subst, arith}
-use Rattle.std.specs.Option.{option_map}
+use Rattle.mig_base.proofs.Common.{◌≡◌, inl, inr, true, ℕ, [], Result, Ok, Err, IfOk, is_ok, subst, arith, Image, SettlesTo, Contents, IsSound, State, IsState, flights, LeavesOnly, IsSettled}
 use Rattle.mig_base.specs.Arrivals.{IsReached}
-use Rattle.mig_base.specs.Images.{Image}
-use Rattle.mig_base.specs.JobCells.{SettlesTo}
-use Rattle.mig_base.specs.Safety.{Contents, IsSound}
-use Rattle.mig_base.specs.Stores.{State, IsState, flights, LeavesOnly, IsSettled}
-use Rattle.mig_base.proofs.StoreSteps.{same_image, told_kept}
+use Rattle.mig_base.proofs.StoreSteps.{same_image, told_kept, shape_told}
 use Rattle.mig_mover.specs.Moves.{Keeps}
-use Rattle.mig_mover.specs.Tasks.{Task}
+use Rattle.mig_base.specs.Tasks.{Task}
 use Rattle.mig_lanes.specs.Runs.{Finishes}
 use Rattle.mig_drill.specs.Stops.{LeavesSound}
 
@@ -37,11 +32,6 @@ module _ (task : Task) (contents : Contents) where
     tells = λ cell job. shape_told (old.reads cell) (new.reads cell) (was.shape new.reads left cell) (before.tells cell job);
     sound = λ image may. subst (IsSound true task.input task.plan task.digest contents) (same_image new.reads image (settled image may)) (before.sound new.reads left);
   }
-    where
-      shape_told : (old new : Option (List ℕ)) → option_map length new ≡ option_map length old → IsSome old → IsSome new
-      shape_told (Some a) (Some b) e told = told
-      shape_told (Some a) None e told = cc
-      shape_told None new e told = cc
 
   module _ (first started crashed resumed : State) (at_first : IsState first) (at_started : IsState started) (at_crashed : IsState crashed) (at_resumed : IsState resumed)
       (images : first.may_leave first.reads) (told : crashed.may_leave crashed.reads) (crash : started.may_leave crashed.reads) (settled : IsSettled crashed) (landed : flights crashed ≡ [])

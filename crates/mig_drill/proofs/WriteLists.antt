@@ -1,11 +1,8 @@
 -- The lists of writes.
-use Rattle.std.proofs.Common.{◌≡◌, ℕ, ◌+◌, ◌-◌, ◌*◌, ◌<◌, List, [], ◌∷◌, ◌++◌, length, get_or, take, replicate, refl, sym, ◌∙◌, ap, arith, length-append}
-use Rattle.std.specs.List.{flat_map}
-use Rattle.std.proofs.lemmas.Grind.{flat_map-append}
-use Rattle.std.proofs.lemmas.List.{append-nil, length-replicate, take_more}
+use Rattle.mig_base.proofs.Common.{◌≡◌, ℕ, ◌+◌, ◌-◌, ◌*◌, ◌<◌, List, [], ◌∷◌, ◌++◌, length, get_or, take, replicate, refl, sym, ◌∙◌, ap, arith, length-append, flat_map, append-nil, length-replicate}
+use Rattle.mig_base.proofs.Common.{take_more, round_at, shifts_of}
 use Rattle.mig_base.specs.declared.ids.Shift.{Shift}
-use Rattle.mig_base.specs.Layouts.{round_at}
-use Rattle.mig_base.specs.Readiness.{shifts_of}
+use Rattle.std.proofs.lemmas.Grind.{flat_map-append}
 use Rattle.mig_mover.proofs.JobRounds.{round_is}
 use Rattle.mig_drill.specs.declared.writes.Write.{Write}
 use Rattle.mig_drill.specs.declared.writes.Write.TheVariants.{ClearMark, Head, Gate, Copy, SetMark, Erase}

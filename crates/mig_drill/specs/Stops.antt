@@ -4,7 +4,7 @@ use Rattle.mig_base.specs.Images.{Image}
 use Rattle.mig_base.specs.JobCells.{IsJobCell, Tells}
 use Rattle.mig_base.specs.Safety.{Contents, IsSound}
 use Rattle.mig_base.specs.Stores.{State}
-use Rattle.mig_mover.specs.Tasks.{Task}
+use Rattle.mig_base.specs.Tasks.{Task}
 
 -- the job's cells are told, and each image that a crash may leave is safe and clean for these contents
 pub record LeavesSound (task : Task) (contents : Contents) (s : State) : Type 0 where

@@ -1,29 +1,19 @@
 -- What `follow` keeps.
-use Rattle.std.proofs.Common.{◌≡◌, ◌≢◌, ℕ, ◌<◌, ◌≤◌, ◌⊎◌, inl, inr, refl, sym, ap, subst, ◌∙◌, List, [], ◌∷◌, zero, suc, Option, Some, None, arith, Bool, true, false, length, length-set, set, get_or}
-use Rattle.std.specs.Prelude.{slice_get}
-use Rattle.std.proofs.lemmas.Bool.{cases_eq, ne_eqb}
-use Rattle.std.proofs.lemmas.Option.{same_Some, none-some, slice_get-get_or, slice_get_within, some_pair_parts}
-use Rattle.std.proofs.lemmas.List.{get_or-set_same, get_or-set_other}
+use Rattle.mig_base.proofs.Common.{◌≡◌, ◌≢◌, ℕ, ◌<◌, ◌≤◌, ◌⊎◌, inl, inr, refl, sym, ap, subst, ◌∙◌, List, [], ◌∷◌, zero, suc, Option, Some, None, arith, Bool, true, false, length, length-set, set}
+use Rattle.mig_base.proofs.Common.{get_or, slice_get, cases_eq, ne_eqb, same_Some, none-some, slice_get-get_or, slice_get_within, get_or-set_same, get_or-set_other}
 use Rattle.mig_base.specs.declared.ids.DiskId.{DiskId}
 use Rattle.mig_base.specs.declared.ids.EdgeId.{EdgeId}
+use Rattle.std.proofs.lemmas.Option.{some_pair_parts}
+use Rattle.mig_base.proofs.SameIds.{same_disk}
+use Rattle.mig_base.proofs.Elements.{slice_get-set_other}
 use Rattle.mig_euler.specs.Balance.{IsWaiting, PassedBelow, AllPassed, AllInRange, pair_tail, pair_head}
 use Rattle.mig_euler.specs.Trails.{IsTrail, total, waits, is, bit}
 use Rattle.mig_euler.proofs.Trail.{IsTrail-more, total-set}
-
-pub slice_get-set_other : {A : Type 0} (xs : List A) (i j : ℕ) (y : A) → j ≢ i → slice_get (set xs i y) j ≡ slice_get xs j
-slice_get-set_other [] i j y h = refl
-slice_get-set_other (x ∷ xs) zero zero y h = absurd (h refl)
-slice_get-set_other (x ∷ xs) zero (suc j) y h = refl
-slice_get-set_other (x ∷ xs) (suc i) zero y h = refl
-slice_get-set_other (x ∷ xs) (suc i) (suc j) y h = slice_get-set_other xs i j y (λ e. h (ap suc e))
 
 plain_not_set : (ds : List (Option Bool)) (i : ℕ) (d : Bool) → slice_get (set ds i (Some d)) i ≡ Some None → ⊥
 plain_not_set [] i d h = none-some None h
 plain_not_set (x ∷ ds) zero d h = none-some d (sym (same_Some (Some d) None h))
 plain_not_set (x ∷ ds) (suc i) d h = plain_not_set ds i d h
-
-same_disk : (v w : DiskId) → v.0 ≡ w.0 → v ≡ w
-same_disk v w h = let make : ℕ → DiskId = λ n. record { 0 = n } in ap make h
 
 -- how many edges wait
 abbrev pub counted : DiskId × DiskId → Option Bool → ℕ

@@ -1,11 +1,8 @@
 -- From pairs of disks to the transfer graph.
-use Rattle.std.proofs.Common.{◌≡◌, ◌≢◌, ℕ, suc, zero, ◌<◌, Bool, List, [], ◌∷◌, length, map, refl, sym, ap, ◌∙◌, subst, arith, All, get_or}
-use Rattle.std.specs.Prelude.{slice_get, Some}
-use Rattle.std.proofs.lemmas.List.{get_or_default, same_lists, length-map}
-use Rattle.std.proofs.lemmas.Option.{same_Some, slice_get-get_or, slice_get_within}
+use Rattle.mig_base.proofs.Common.{◌≡◌, ◌≢◌, ℕ, suc, zero, ◌<◌, Bool, List, [], ◌∷◌, length, map, refl, sym, ap, ◌∙◌, subst, arith, All, get_or, slice_get, Some, get_or_default, length-map, same_Some}
+use Rattle.mig_base.proofs.Common.{slice_get-get_or, slice_get_within, Trip, trip_at, Balances}
 use Rattle.mig_base.specs.declared.ids.DiskId.{DiskId}
-use Rattle.mig_base.specs.Transfers.{Trip}
-use Rattle.mig_base.specs.Directions.{trip_at, Balances}
+use Rattle.std.proofs.lemmas.List.{same_lists}
 use Rattle.mig_euler.specs.Balance.{AllInRange}
 use Rattle.mig_euler.specs.Pairs.{ArePairs, pair_trip, pair_at}
 

@@ -1,11 +1,9 @@
 -- Going from an edge of a disk to its next one.
-use Rattle.std.proofs.Common.{◌≡◌, ◌≢◌, ℕ, ◌<◌, ◌≤◌, ◌+◌, ◌-◌, inl, inr, sym, ap, subst, ◌∙◌, List, zero, suc, Option, Some, None, arith, Bool, length, take, get_or, set}
-use Rattle.std.specs.Prelude.{slice_get}
-use Rattle.std.proofs.lemmas.Bool.{cases_eq, cases_lt}
-use Rattle.std.proofs.lemmas.List.{get_or-set_same, get_or-set_other, length-set, get_or_past}
-use Rattle.std.proofs.lemmas.Option.{same_Some, slice_get-get_or, slice_get_within}
+use Rattle.mig_base.proofs.Common.{◌≡◌, ◌≢◌, ℕ, ◌<◌, ◌≤◌, ◌+◌, ◌-◌, inl, inr, sym, ap, subst, ◌∙◌, List, zero, suc, Option, Some, None, arith, Bool, length, take, get_or, set, slice_get, cases_eq}
+use Rattle.mig_base.proofs.Common.{cases_lt, get_or-set_same, get_or-set_other, length-set, get_or_past, same_Some, slice_get-get_or, slice_get_within}
 use Rattle.mig_base.specs.declared.ids.DiskId.{DiskId}
 use Rattle.mig_base.specs.declared.ids.EdgeId.{EdgeId}
+use Rattle.mig_base.proofs.SameIds.{same_edge}
 use Rattle.mig_euler.specs.Balance.{IsWaiting, PassedBelow, AllPassed, AllInRange}
 use Rattle.mig_euler.specs.Trails.{total, waits}
 use Rattle.mig_euler.specs.Pairs.{pair_at}
@@ -21,9 +19,6 @@ not_waiting ends ds v e away w = elim w.at.1 [
   | inl row ↦ away.0 (ap (λ (p : DiskId × DiskId). p.0) (at_pair ends e.0 (v, w.at.0) row))
   | inr row ↦ away.1 (ap (λ (p : DiskId × DiskId). p.1) (at_pair ends e.0 (w.at.0, v) row))
 ]
-
-same_edge : (v w : EdgeId) → v.0 ≡ w.0 → v ≡ w
-same_edge v w h = let make : ℕ → EdgeId = λ n. record { 0 = n } in ap make h
 
 pub PassedBelow-next : (ends : List (DiskId × DiskId)) (ds : List (Option Bool)) (v : DiskId) (i n : ℕ) → PassedBelow ends ds v i → (IsWaiting ends ds v (record { 0 = i }) → ⊥) → IsNextAt ends v (i + 1) n → PassedBelow ends ds v n
 PassedBelow-next ends ds v i n below here x e h w =

@@ -1,12 +1,9 @@
 -- Counting the edges that wait at a disk.
-use Rattle.std.proofs.Common.{◌≡◌, ◌≢◌, ℕ, ◌<◌, ◌+◌, ◌%◌, ◌⊎◌, inl, inr, refl, sym, ap, subst, ◌∙◌, List, [], ◌∷◌, zero, suc, Option, Some, None, arith, Bool, true, false, not, length, take, get_or, add-one}
-use Rattle.std.specs.Prelude.{MatchBool}
-use Rattle.std.proofs.lemmas.Bool.{ne_eqb}
-use Rattle.std.proofs.Common.{eq-eqb}
-use Rattle.std.specs.List.{All}
+use Rattle.mig_base.proofs.Common.{◌≡◌, ◌≢◌, ℕ, ◌<◌, ◌+◌, ◌%◌, ◌⊎◌, inl, inr, refl, sym, ap, subst, ◌∙◌, List, [], ◌∷◌, zero, suc, Option, Some, None, arith, Bool, true, false, not, length, take}
+use Rattle.mig_base.proofs.Common.{get_or, add-one, eq-eqb, MatchBool, ne_eqb, All}
 use Rattle.mig_base.specs.declared.ids.DiskId.{DiskId}
+use Rattle.mig_base.proofs.SameIds.{same_disk}
 use Rattle.mig_euler.specs.Trails.{bit, is, waits, total}
-use Rattle.mig_euler.proofs.Trail.{same_disk}
 
 pub total_take : (f : DiskId × DiskId → Option Bool → ℕ) (ps : List (DiskId × DiskId)) (ds : List (Option Bool)) (i : ℕ) (p : DiskId × DiskId) (d : Option Bool) → i < length ps → i < length ds → total f (take (suc i) ps) (take (suc i) ds) ≡ total f (take i ps) (take i ds) + f (get_or ps i p) (get_or ds i d)
 total_take f [] ds i p d h m = absurd (omega arith)

@@ -1,14 +1,13 @@
 -- All edges directed.
-use Rattle.std.proofs.Common.{◌≡◌, ℕ, ◌<◌, ◌≤◌, ◌+◌, ◌%◌, ◌⊎◌, inl, inr, refl, sym, ap, subst, ◌∙◌, List, [], ◌∷◌, zero, suc, Option, Some, None, arith, Bool, true, false, cond, eqb, map, length, replicate, get_or, eq-eqb}
-use Rattle.std.proofs.lemmas.List.Sums.{sum_by-cons}
-use Rattle.std.proofs.lemmas.Bool.{cases_eq, cases_lt, ne_eqb}
+use Rattle.mig_base.proofs.Common.{◌≡◌, ℕ, ◌<◌, ◌≤◌, ◌+◌, ◌%◌, ◌⊎◌, inl, inr, refl, sym, ap, subst, ◌∙◌, List, [], ◌∷◌, zero, suc, Option, Some, None, arith, Bool, true, false, cond, eqb, map, length}
+use Rattle.mig_base.proofs.Common.{replicate, get_or, eq-eqb, sum_by-cons, cases_eq, cases_lt, ne_eqb, length-replicate}
 use Rattle.mig_base.specs.declared.ids.DiskId.{DiskId}
 use Rattle.mig_base.specs.Directions as base
 use Rattle.mig_euler.specs.Balance.{pair_tail, pair_head, AllPassed, AllInRange}
 use Rattle.mig_euler.specs.Pairs.{pair_trip}
 use Rattle.mig_euler.specs.Trails.{bit, is, leaves, enters, waits, total, EndsTrail, IsBalanced, points_forward}
 use Rattle.mig_euler.specs.Ready.{IsReady}
-use Rattle.std.proofs.lemmas.List.{length-replicate}
+use Rattle.mig_base.proofs.SameIds.{same_disk}
 use Rattle.mig_euler.proofs.Trail.{IsBalanced-trail, even_kept, odd_ended, trail_closed, IsBalanced-none}
 
 -- ---- where no edge waits anywhere, the counts are those of the directions
@@ -75,9 +74,6 @@ ready_after ends old now from from' s r e passed len which =
       passed = passed;
       even = IsBalanced-trail ends old now s e.end r.even e.trail e.stuck which;
     }
-
-same_disk : (v w : DiskId) → v.0 ≡ w.0 → v ≡ w
-same_disk v w h = let make : ℕ → DiskId = λ n. record { 0 = n } in ap make h
 
 pub below_disk : (P : DiskId → Type 0) (i : ℕ) → ((v : DiskId) → v.0 < i → P v) → P (record { 0 = i }) → (v : DiskId) → v.0 < i + 1 → P v
 below_disk P i below here v h =

@@ -1,9 +1,8 @@
 -- Trails that direct edges one after the other.
-use Rattle.std.proofs.Common.{◌≡◌, ◌≢◌, ℕ, ◌≤◌, ◌+◌, ◌%◌, ◌⊎◌, inl, inr, refl, sym, ap, ◌∙◌, List, [], ◌∷◌, zero, suc, Option, Some, None, arith, Bool, true, false, length-set, eq-eqb, set}
-use Rattle.std.specs.Prelude.{slice_get}
-use Rattle.std.proofs.lemmas.Bool.{cases_eq, ne_eqb}
-use Rattle.std.proofs.lemmas.Option.{same_Some, none-some}
+use Rattle.mig_base.proofs.Common.{◌≡◌, ◌≢◌, ℕ, ◌≤◌, ◌+◌, ◌%◌, ◌⊎◌, inl, inr, refl, sym, ap, ◌∙◌, List, [], ◌∷◌, zero, suc, Option, Some, None, arith, Bool, true, false, length-set, eq-eqb, set}
+use Rattle.mig_base.proofs.Common.{slice_get, cases_eq, ne_eqb, same_Some, none-some}
 use Rattle.mig_base.specs.declared.ids.DiskId.{DiskId}
+use Rattle.mig_base.proofs.SameIds.{same_disk}
 use Rattle.mig_euler.specs.Balance.{pair_tail, pair_head}
 use Rattle.mig_euler.specs.Trails.{bit, is, leaves, enters, waits, total, IsTrail, IsBalanced}
 
@@ -44,9 +43,6 @@ IsTrail-more ps old now s t w x i p d hp hd ht hw =
     both v p false = omega arith
 
 -- ---- between the trails
-
-pub same_disk : (v w : DiskId) → v.0 ≡ w.0 → v ≡ w
-same_disk v w h = let make : ℕ → DiskId = λ n. record { 0 = n } in ap make h
 
 is_cases : (v w : DiskId) → ((v ≡ w) × (is v w ≡ 1)) ⊎ ((v ≢ w) × (is v w ≡ 0))
 is_cases v w =

@@ -1,10 +1,9 @@
 -- Edges that wait for a direction.
-use Rattle.std.proofs.Common.{◌≡◌, ℕ, ◌<◌, ◌+◌, ◌⊎◌, inl, inr, sym, ap, subst, ◌∙◌, List, Option, Some, None, arith, Bool, length, get_or}
-use Rattle.std.specs.Prelude.{slice_get}
-use Rattle.std.proofs.lemmas.Bool.{cases_eq}
-use Rattle.std.proofs.lemmas.Option.{same_Some, slice_get-get_or, some_pair_parts}
+use Rattle.mig_base.proofs.Common.{◌≡◌, ℕ, ◌<◌, ◌+◌, ◌⊎◌, inl, inr, sym, ap, subst, ◌∙◌, List, Option, Some, None, arith, Bool, length, get_or, slice_get, cases_eq, same_Some, slice_get-get_or}
 use Rattle.mig_base.specs.declared.ids.DiskId.{DiskId}
 use Rattle.mig_base.specs.declared.ids.EdgeId.{EdgeId}
+use Rattle.std.proofs.lemmas.Option.{some_pair_parts}
+use Rattle.mig_base.proofs.SameIds.{same_edge}
 use Rattle.mig_euler.specs.Balance.{IsWaiting, PassedBelow}
 
 pub waits_found : (ends : List (DiskId × DiskId)) (ds : List (Option Bool)) (v : DiskId) (i : ℕ) (p : DiskId × DiskId) (d : Option Bool) → i < length ends → length ds ≡ length ends → ((get_or ds i d ≡ None) × (((get_or ends i p).0 ≡ v) ⊎ ((get_or ends i p).1 ≡ v))) → IsWaiting ends ds v (record { 0 = i })
@@ -30,9 +29,6 @@ waits_none ends ds v i p d h len never w =
         | inr x ↦ inr (some_pair_parts (get_or ends i p).0 w.at.0 (get_or ends i p).1 v (sym row ∙ x)).1
       ],
     )
-
-same_edge : (v w : EdgeId) → v.0 ≡ w.0 → v ≡ w
-same_edge v w h = let make : ℕ → EdgeId = λ n. record { 0 = n } in ap make h
 
 pub PassedBelow-more : (ends : List (DiskId × DiskId)) (ds : List (Option Bool)) (v : DiskId) (i : ℕ) → PassedBelow ends ds v i → (IsWaiting ends ds v (record { 0 = i }) → ⊥) → PassedBelow ends ds v (i + 1)
 PassedBelow-more ends ds v i below here e h w =

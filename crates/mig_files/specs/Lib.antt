@@ -1,2 +1,4 @@
-pub mod Places
-pub mod Told
+pub mod Derived
+pub mod Tracking
+pub mod Serving
+pub mod Seeing

@@ -2,13 +2,17 @@
 #![tactic(auto)]
 
 mod cells;
-mod disks;
-mod identity;
-mod journal;
-mod kept;
+mod disk_set;
+mod items;
+mod pieces;
 mod places;
+mod renewal;
 mod seen;
 mod store;
+mod syncs;
+mod tracked;
+mod tries;
+mod writes;
 
-pub use disks::MOST_OPEN;
-pub use store::FileStore;
+pub use disk_set::DiskSet;
+pub use store::{FileStore, MOST_OPEN};

@@ -1,117 +1,88 @@
 //! The store over files: disk NAME is the file NAME.disk, slot s at byte 4096 s; the journal is the file journal.mig.
-ghost use Rattle.std.specs.Prelude.{◌≡◌, ◌≤◌};
+ghost use Rattle.std.specs.Prelude.{◌≡◌, ◌≤◌, ℕ, List, Contains, IsTrue, IfOk};
 ghost use Rattle.mig_base.specs.FaultCounts.{Rose};
-ghost use Rattle.mig_files.specs.Told.{untold_state, untold_is_state};
+ghost use Rattle.mig_calls.specs.Files.{FilesLook};
+ghost use Rattle.mig_calls.specs.declared.places.Place.TheVariants.{Disk as DiskFile};
+ghost use Rattle.mig_files.specs.Derived.{ShowsFiles};
+ghost use Rattle.mig_files.specs.Tracking.{IsTracked};
 
-use crate::cells::{Cells, slot_of};
-use crate::places::Failure;
-use mig_base::{Cell, Name};
+mod serving;
+
+use crate::disk_set::DiskSet;
+use crate::seen::Seen;
+use crate::tracked::{Notes, Tracked, refuse_with};
+use lru::LruCache;
+use mig_calls::{Calls, Refusal};
 use mig_store::{Store, StoreFailed};
-use std::alloc::Global;
-use std::fs::File;
-use std::rt::Files;
+use std::alloc::{AllocError, Global};
+use std::num::NonZeroUsize;
 
-/// The store over the working folder. It tells nothing of content. A missing file, and what lies past a file's end, reads as zeros. A copy has ended when `begin` returns; a slot that holds no item isn't copied, and no item is written over or erased that was seen nowhere else. After a sync that failed each call fails. What failed, and why, is said on standard error.
-pub struct FileStore<'a, R: Files<File = File> + Eprint> {
-    rt: &'a R,
-    cells: Cells,
-    faults: u64,
+/// How many files are kept open. Most systems allow 1,024 for a process.
+pub const MOST_OPEN: usize = 900;
+
+/// The store over these calls. It tells of its cells what the files tell of their bytes. A missing file, and what lies past a file's end, reads as zeros. A copy has ended when `begin` returns; a slot that holds no item isn't copied, and no item is written over or erased that was seen nowhere else. After a sync that failed each call fails.
+#[derive(Drop)]
+pub struct FileStore<C: Calls> {
+    calls: C,
+    tracked: Tracked,
+    seen: Seen,
+    ghost tracks: { IsTracked tracked.notes (C.Calls.state calls) },
 }
 
-impl<'a, R: Files<File = File> + Eprint> Drop for FileStore<'a, R> {
-    fn drop(self) {
+impl<C: Calls + Drop> FileStore<C> {
+    /// The store over these calls, which has opened no file. The disks are handed in whose files the device may lack some bytes of, as where an earlier process ended without a sync; all others count so once they are looked at. An error is want of memory.
+    pub fn new(alloc: Global, calls: C, dirty: DiskSet) -> Result<FileStore<C>, AllocError>
+        requires usable { IsTrue (C.Calls.state calls).usable }
+        requires flushed { (disk : List ℕ) → ¬ Contains dirty disk → IsTrue ((C.Calls.state calls).flushed (DiskFile disk)) }
+        requires fresh { (disk : List ℕ) → IsTrue ((C.Calls.state calls).fresh (DiskFile disk)) }
+        ensures shows { IfOk result (λ store. ShowsFiles (C.Calls.state calls) (⟦<FileStore<C> as Store>⟧.state store)) }
+    {
+        let Some(most) = NonZeroUsize::new(MOST_OPEN) else {
+            return Err(AllocError);
+        };
+        Ok(FileStore {
+            calls,
+            tracked: Tracked {
+                notes: Notes {
+                    dirty,
+                    unsynced: true,
+                    renewed: false,
+                    claimed: false,
+                    made: true,
+                    lost: false,
+                },
+                met: DiskSet::new(alloc),
+                open: LruCache::new(alloc, most)?,
+                most: MOST_OPEN,
+            },
+            seen: Seen::new(alloc),
+        })
+    }
+}
+
+impl<C: Calls> FileStore<C> {
+    /// The calls, with the files as the store leaves them. It takes no memory.
+    pub fn into_calls(self) -> C
+        ensures { ShowsFiles (C.Calls.state result) (⟦<FileStore<C> as Store>⟧.state self) }
+    {
         let FileStore {
-            rt: _,
-            cells,
-            faults: _,
+            calls,
+            tracked,
+            seen,
         } = self;
-        drop(cells);
+        drop(tracked);
+        drop(seen);
+        calls
     }
-}
 
-impl<'a, R: Files<File = File> + Eprint> FileStore<'a, R> {
-    /// The store over this runtime's files, without a fault so far.
-    pub fn new(rt: &'a R, alloc: Global) -> Self
-        ensures { result.faults ≡ 0 }
+    /// Refuses since a sync failed before.
+    fn after_sync(&mut self) -> StoreFailed
+        requires { IsTrue self.old.tracked.notes.lost }
+        ensures change { FilesLook (C.Calls.state self.old.calls) (C.Calls.state self.new.calls) }
+        ensures later { (C.Calls.state self.old.calls).faults ≤ (C.Calls.state self.new.calls).faults }
+        ensures rose { Rose (C.Calls.state self.old.calls).faults (C.Calls.state self.new.calls).faults }
+        ensures lost { self.new.tracked.notes.lost ≡ self.old.tracked.notes.lost }
     {
-        FileStore {
-            rt,
-            cells: Cells::new(alloc),
-            faults: 0,
-        }
-    }
-
-    /// Says what failed, and counts it.
-    fn fault(&mut self, failure: Failure) -> StoreFailed
-        ensures rose { Rose self.old.faults self.new.faults }
-        ensures later { self.old.faults ≤ self.new.faults }
-    {
-        let _ = eprintln!(self.rt; "migrate: {failure}");
-        self.faults = self.faults.saturating_add(1);
-        StoreFailed
-    }
-}
-
-impl<'a, R: Files<File = File> + Eprint> Store for FileStore<'a, R> {
-    ghost state = { λ s. untold_state s.faults };
-
-    ghost is_state = { λ s. untold_is_state s.faults };
-
-    fn read(&mut self, cell: &Cell, into: &mut [u8]) -> Result<(), StoreFailed> {
-        match self.cells.read(self.rt, cell, into) {
-            Ok(()) => Ok(()),
-            Err(failure) => Err(self.fault(failure)),
-        }
-    }
-
-    fn expects(&mut self, slot: &Cell, name: &Name) -> Result<(), StoreFailed> {
-        let Some(slot) = slot_of(slot) else {
-            return Ok(());
-        };
-        match self.cells.expects(self.rt, slot, name) {
-            Ok(()) => Ok(()),
-            Err(failure) => Err(self.fault(failure)),
-        }
-    }
-
-    fn expects_free(&mut self, slot: &Cell) -> Result<(), StoreFailed> {
-        let Some(slot) = slot_of(slot) else {
-            return Ok(());
-        };
-        match self.cells.expects_free(self.rt, slot) {
-            Ok(()) => Ok(()),
-            Err(failure) => Err(self.fault(failure)),
-        }
-    }
-
-    fn write(&mut self, cell: &Cell, bytes: &[u8]) -> Result<(), StoreFailed> {
-        match self.cells.write(self.rt, cell, bytes) {
-            Ok(()) => Ok(()),
-            Err(failure) => Err(self.fault(failure)),
-        }
-    }
-
-    fn begin(&mut self, from: &Cell, to: &Cell) -> Result<(), StoreFailed> {
-        let (Some(from), Some(to)) = (slot_of(from), slot_of(to)) else {
-            return Err(self.fault(Failure::no_slot()));
-        };
-        match self.cells.copy(self.rt, from, to) {
-            Ok(()) => Ok(()),
-            Err(failure) => Err(self.fault(failure)),
-        }
-    }
-
-    fn ended(&mut self) -> Result<Option<(Cell, Cell)>, StoreFailed> {
-        match self.cells.usable() {
-            Ok(()) => Ok(None),
-            Err(failure) => Err(self.fault(failure)),
-        }
-    }
-
-    fn sync(&mut self) -> Result<(), StoreFailed> {
-        match self.cells.sync(self.rt) {
-            Ok(()) => Ok(()),
-            Err(failure) => Err(self.fault(failure)),
-        }
+        refuse_with(&mut self.calls, &self.tracked, &Refusal::AfterSync)
     }
 }

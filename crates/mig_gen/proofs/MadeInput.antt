@@ -1,17 +1,12 @@
 -- A made case keeps what every input keeps.
-use Rattle.std.proofs.Common.{◌≡◌, ◌≢◌, ◌<◌, ◌≤◌, ◌-◌, ◌*◌, ◌/◌, ◌%◌, ℕ, Option, Some, List, length, map, arith, refl, sym, ◌∙◌, ap, subst}
-use Rattle.std.specs.List.{range_with_len}
-use Rattle.std.proofs.Math.Nat.{div-add-mod, div-lt_iff_lt-mul, mod-lt, mul-le-mul_left}
-use Rattle.std.specs.Option.{IsSomeAnd}
-use Rattle.std.proofs.lemmas.Option.{slice_get-get_or}
-use Rattle.std.proofs.lemmas.List.FromFn.{get_or-map-range_with_len, length-map-range_with_len}
+use Rattle.mig_base.proofs.Common.{◌≡◌, ◌≢◌, ◌<◌, ◌≤◌, ◌-◌, ◌*◌, ◌/◌, ◌%◌, ℕ, Option, Some, List, length, map, arith, refl, sym, ◌∙◌, ap, subst, range_with_len, mul-le-mul_left, IsSomeAnd}
+use Rattle.mig_base.proofs.Common.{slice_get-get_or, get_or-map-range_with_len, length-map-range_with_len, IsInput, IsDiskInRange, IsSpotOf, Lists, no_disk, IsName}
 use Rattle.mig_base.specs.declared.ids.DiskId.{DiskId}
 use Rattle.mig_base.specs.declared.ids.Spot.{Spot}
 use Rattle.mig_base.specs.declared.inputs.Disk.{Disk}
 use Rattle.mig_base.specs.declared.limits.TheConstants.{MAX_ITEMS, MAX_SLOTS}
+use Rattle.std.proofs.Math.Nat.{div-add-mod, div-lt_iff_lt-mul, mod-lt}
 use Rattle.mig_base.specs.declared.names.Name.{Name}
-use Rattle.mig_base.specs.InputLists.{IsInput, IsDiskInRange, IsSpotOf, Lists, no_disk}
-use Rattle.mig_base.specs.Naming.{IsName}
 use Rattle.mig_gen.specs.ByNumber.{next_at, other, spot_at}
 use Rattle.mig_gen.specs.MadeCases.{IsCaseSize, case_of, items_on, made_disk, made_item}
 use Rattle.mig_gen.proofs.MadeLists.{all_of, other_low_high, pairs_of, next_are, spots_are}

@@ -1,14 +1,13 @@
 -- The lists of a made case by the numbers of their elements.
-use Rattle.std.proofs.Common.{◌≡◌, ◌<◌, ◌≤◌, ◌+◌, ◌-◌, ◌*◌, ◌/◌, ◌∷◌, ◌++◌, ℕ, zero, suc, List, All, length, map, get_or, replicate, cond, arith, inl, inr, refl, sym, ◌∙◌, ap, subst}
-use Rattle.std.specs.Prelude.{AllPairs}
-use Rattle.std.specs.List.{flat_map, range_with_len}
-use Rattle.std.proofs.lemmas.Bool.{cases_lt, lt-ltb, le-ltb}
-use Rattle.std.proofs.lemmas.List.Folds.{flat_map-map}
-use Rattle.std.proofs.lemmas.List.FromFn.{get_or-map-range_with_len, length-map-range_with_len}
+use Rattle.mig_base.proofs.Common.{◌≡◌, ◌<◌, ◌≤◌, ◌+◌, ◌-◌, ◌*◌, ◌/◌, ◌∷◌, ◌++◌, ℕ, zero, suc, List, All, length, map, get_or, replicate, cond, arith, inl, inr, refl, sym, ◌∙◌, ap, subst, AllPairs}
+use Rattle.mig_base.proofs.Common.{flat_map, range_with_len, cases_lt, get_or-map-range_with_len, length-map-range_with_len}
 use Rattle.mig_base.specs.declared.ids.DiskId.{DiskId}
+use Rattle.std.proofs.lemmas.Bool.{lt-ltb, le-ltb}
+use Rattle.std.proofs.lemmas.List.Folds.{flat_map-map}
+use Rattle.mig_base.proofs.Elements.{map_more}
 use Rattle.mig_gen.specs.ByNumber.{next_at, other, spot_at}
 use Rattle.mig_gen.specs.MadeCases.{items_on, next_from, others, spots_on}
-use Rattle.mig_gen.proofs.Grids.{map_more, rows_are}
+use Rattle.mig_gen.proofs.Grids.{rows_are}
 
 -- What is so of each number is so of each element, and the same of two
 

@@ -1,11 +1,8 @@
 -- A letter and a number are a name, and no other number gives the same.
-use Rattle.std.proofs.Common.{◌≡◌, ◌<◌, ◌+◌, ◌%◌, ◌^◌, ◌∷◌, ℕ, List, [], All, IsTrue, arith}
+use Rattle.mig_base.proofs.Common.{◌≡◌, ◌<◌, ◌+◌, ◌%◌, ◌^◌, ◌∷◌, ℕ, List, [], All, IsTrue, arith, decimal, nat_tests, decimal_injective, length-decimal-le, All-push, IsName, is_name_byte}
 use Rattle.std.specs.Char.{is_ascii_alphanumeric}
-use Rattle.std.specs.Fmt.{decimal}
-use Rattle.std.proofs.lemmas.Bool.Decides.{nat_tests}
-use Rattle.std.proofs.lemmas.Fmt.{decimal_by_steps, decimal_injective, length-decimal-le}
-use Rattle.std.proofs.lemmas.List.Elements.{All-nil, All-cons, All-push}
-use Rattle.mig_base.specs.Naming.{IsName, is_name_byte}
+use Rattle.std.proofs.lemmas.Fmt.{decimal_by_steps}
+use Rattle.std.proofs.lemmas.List.Elements.{All-nil, All-cons}
 
 digit_is_plain : (k : ℕ) → k < 10 → IsTrue (is_name_byte (48 + k))
 digit_is_plain k h = grind (arith, nat_tests)

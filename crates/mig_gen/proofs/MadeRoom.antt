@@ -1,28 +1,19 @@
 -- A made case has room for what comes to each disk.
-use Rattle.std.proofs.Common.{◌≡◌, ◌<◌, ◌≤◌, ◌+◌, ◌-◌, ◌*◌, ◌==◌, ◌∷◌, ℕ, Bool, cond, List, [], length, get_or, replicate, arith, refl, sym, ◌∙◌, ap}
-use Rattle.std.specs.Prelude.{count_by}
-use Rattle.std.specs.List.{flat_map, range_with_len, sum_by}
-use Rattle.std.proofs.Math.Nat.{mul-le-mul_left}
-use Rattle.std.proofs.lemmas.Bool.{eq-eqb}
-use Rattle.std.proofs.lemmas.List.Folds.{sum_by-replicate}
-use Rattle.std.proofs.lemmas.List.FromFn.{fill_by_all, get_or-map-range_with_len, length-map-range_with_len, length-range_with_len}
-use Rattle.std.proofs.lemmas.List.Sums.{sum_by-append, sum_by-cons, sum_by-le}
+use Rattle.mig_base.proofs.Common.{◌≡◌, ◌<◌, ◌≤◌, ◌+◌, ◌-◌, ◌*◌, ◌==◌, ◌∷◌, ℕ, Bool, List, [], length, get_or, replicate, arith, refl, sym, ◌∙◌, ap, count_by, flat_map, range_with_len, sum_by}
+use Rattle.mig_base.proofs.Common.{mul-le-mul_left, eq-eqb, fill_by_all, get_or-map-range_with_len, length-map-range_with_len, length-range_with_len, sum_by-append, sum_by-cons, Lists, no_disk}
+use Rattle.mig_base.proofs.Common.{IsRoomy, incoming, is_relocated, target}
 use Rattle.mig_base.specs.declared.ids.DiskId.{DiskId}
 use Rattle.mig_base.specs.declared.ids.Spot.{Spot}
-use Rattle.mig_base.specs.InputLists.{Lists, no_disk}
-use Rattle.mig_base.specs.Targets.{IsRoomy, incoming}
-use Rattle.mig_base.specs.Transfers.{is_relocated, target}
-use Rattle.mig_base.proofs.Counting.{sum_by-add, sum_by-map, sum_by-same_each}
-use Rattle.mig_base.proofs.Scheduled.{count_by-filter-le, once_in_range, range_below}
+use Rattle.std.proofs.lemmas.List.Folds.{sum_by-replicate}
+use Rattle.std.proofs.lemmas.List.Sums.{sum_by-le}
+use Rattle.mig_base.proofs.Counting.{sum_by-add, sum_by-map, sum_by-same_each, one, count_by-filter-le}
+use Rattle.mig_base.proofs.Scheduled.{once_in_range, range_below}
 use Rattle.mig_gen.specs.ByNumber.{next_at}
 use Rattle.mig_gen.specs.MadeCases.{case_of, items_on, made_disk, made_item, next_from, others, spots_on}
 use Rattle.mig_gen.proofs.Grids.{range_split}
 use Rattle.mig_gen.proofs.MadeLists.{next_are}
 
 -- Counts
-
-abbrev one : Bool → ℕ
-one b = cond b 1 0
 
 count_flat : {X Y : Type 0} (p : Y → Bool) (f : X → List Y) (xs : List X) → count_by p (flat_map f xs) ≡ sum_by (λ x. count_by p (f x)) xs
 count_flat p f [] = refl

@@ -1,36 +1,23 @@
 -- What `of` makes.
-use Rattle.std.proofs.Common.{◌≡◌, ◌≢◌, ℕ, suc, zero, ◌+◌, ◌<◌, ◌≤◌, Bool, true, false, cond, not, eqb, eq-eqb, List, [], ◌∷◌, ◌++◌, length, map, refl, sym, ap, ◌∙◌, arith, filter, All, get_or, take, set, inl, inr, subst, max, ◌||◌}
-use Rattle.std.specs.List.{range_with_len}
-use Rattle.std.proofs.lemmas.List.{map-append, map-id, length-map, length-set, get_or-set_same, get_or-set_other, append-nil, take_more, length-take-le}
-use Rattle.std.proofs.lemmas.List.Sums.{fold_push, sum_by_push, count_by-le-length}
-use Rattle.std.proofs.lemmas.List.Elements.{filter-append}
-use Rattle.std.proofs.lemmas.List.FromFn.{map-range_with_len_more}
-use Rattle.std.proofs.lemmas.Bool.{cases_eq, ne_eqb}
-use Rattle.std.proofs.lemmas.Bool.Decides.{nat_tests}
+use Rattle.mig_base.proofs.Common.{◌≡◌, ◌≢◌, ℕ, suc, zero, ◌+◌, ◌<◌, ◌≤◌, Bool, true, false, cond, not, eqb, eq-eqb, List, [], ◌∷◌, ◌++◌, length, map, refl, sym, ap, ◌∙◌, arith, filter, All, get_or}
+use Rattle.mig_base.proofs.Common.{take, set, inl, inr, subst, ◌||◌, range_with_len, map-append, length-map, length-set, get_or-set_same, get_or-set_other, append-nil, take_more, length-take-le}
+use Rattle.mig_base.proofs.Common.{sum_by_push, count_by-le-length, filter-append, All-map, filter_passes, length-range_with_len, cases_eq, ne_eqb, false≢true, nat_tests, Lists, IsInput, no_spot}
+use Rattle.mig_base.proofs.Common.{no_disk, Trip, load, touches, div_ceil, is_relocated, trip, trips, moves, transfers, Transfers, source, target, ◌↔◌, MatchBool, quotient, disk_value, IsEven}
 use Rattle.mig_base.specs.declared.inputs.Disk.{Disk}
-use Rattle.mig_base.specs.declared.ids.Spot.{Spot}
-use Rattle.mig_base.specs.InputLists.{Lists, IsInput, IsSpotOf, no_spot, no_disk}
-use Rattle.mig_base.proofs.Listed.{some_and}
-use Rattle.std.proofs.lemmas.Option.{slice_get_within}
-use Rattle.std.specs.Prelude.{slice_get}
-use Rattle.mig_base.specs.Transfers.{Trip, load, touches, div_ceil}
-use Rattle.mig_base.specs.Transfers.{is_relocated, trip, trips, moves, transfers, Transfers, source, target}
+use Rattle.std.proofs.Common.{max}
+use Rattle.std.proofs.lemmas.List.Sums.{fold_push, length-filter}
+use Rattle.std.proofs.lemmas.List.FromFn.{map-range_with_len_more}
 use Rattle.mig_base.proofs.Scheduled.{moves_there, range_below}
-use Rattle.std.proofs.lemmas.List.Elements.{All-map, All-head, All-tail, filter_passes}
-use Rattle.std.proofs.lemmas.List.Sums.{length-filter}
-use Rattle.std.proofs.lemmas.List.FromFn.{length-range_with_len}
-use Rattle.std.proofs.lemmas.Bool.{false≢true}
-use Rattle.std.specs.Prelude.{◌↔◌, MatchBool}
-use Rattle.mig_base.specs.Bounding.{greatest, quotient, disk_value, IsEven}
+use Rattle.mig_base.specs.Bounding.{greatest}
+use Rattle.mig_base.proofs.Counting.{differ, not_none}
+use Rattle.mig_base.proofs.Rounds.{spot_disk}
+use Rattle.mig_base.proofs.Elements.{range_more, map_same}
 use Rattle.mig_graph.specs.declared.edges.Edge.{Edge}
 use Rattle.mig_graph.specs.Edges.{edge_item, edge_trip}
 use Rattle.mig_graph.specs.Loads.{AreLoads, quotient_by, EvenBy}
 use Rattle.mig_graph.specs.Graphs.{IsGraph}
 use Rattle.mig_graph.specs.Kept.{IsCounted, transfers_of}
 use Rattle.mig_graph.specs.declared.graphs.Graph.TheInside.{Inside}
-
-range_more : (n : ℕ) → range_with_len 0 (n + 1) ≡ range_with_len 0 n ++ n ∷ []
-range_more n = sym (map-id (range_with_len 0 (n + 1))) ∙ map-range_with_len_more (λ x. x) 0 n n (omega arith) ∙ ap (λ (xs : List ℕ). xs ++ n ∷ []) (map-id (range_with_len 0 n))
 
 pub moves_yes : (input : Lists) (i : ℕ) → is_relocated input i ≡ true → filter (is_relocated input) (range_with_len 0 (i + 1)) ≡ filter (is_relocated input) (range_with_len 0 i) ++ i ∷ []
 moves_yes input i t = ap (filter (is_relocated input)) (range_more i) ∙ filter-append (is_relocated input) (range_with_len 0 i) (i ∷ []) ∙ ap (λ b. filter (is_relocated input) (range_with_len 0 i) ++ cond b (i ∷ []) []) t
@@ -105,15 +92,6 @@ get_or-map f (x ∷ xs) (suc k) d = get_or-map f xs k d
 pub All-unmap : {X Y : Type 0} (P : Y → Type 0) (f : X → Y) (xs : List X) → All P (map f xs) → All (λ x. P (f x)) xs
 All-unmap {X} {Y} P f xs a k d h = subst P (get_or-map f xs k d) (a k (f d) (omega (arith, h, length-map xs f)))
 
-moved : (a b : ℕ) → not (eqb a b) ≡ true → a ≢ b
-moved a b h e = absurd (grind (arith, nat_tests))
-
--- a spot's disk is there
-disk_there : (disks : List Disk) (spot : Spot) → IsSpotOf disks spot → spot.disk.0 < length disks
-disk_there disks spot on =
-    let (disk, at, fits) = some_and (λ (disk : Disk). spot.slot < disk.slots) (slice_get disks spot.disk.0) on in
-    slice_get_within disks spot.disk.0 disk at
-
 pub valid_graph : (input : Lists) → IsInput input → IsGraph (transfers input)
 valid_graph input v =
     let n = length input.items in
@@ -126,14 +104,10 @@ valid_graph input v =
       disks_valid = v.disk_ranges;
       edges_most = omega (arith, same, few, v.few_items);
       items_len = sym same;
-      leaves_there = All-map (λ (t : Trip). t.leaves < length input.disks) (trip input) M (λ k d h. disk_there input.disks (get_or input.spots (get_or M k d) no_spot) (v.on_disks (get_or M k d) no_spot (omega (arith, there k d h, v.spots_len))));
+      leaves_there = All-map (λ (t : Trip). t.leaves < length input.disks) (trip input) M (λ k d h. spot_disk input.disks (get_or input.spots (get_or M k d) no_spot) (v.on_disks (get_or M k d) no_spot (omega (arith, there k d h, v.spots_len))));
       reaches_there = All-map (λ (t : Trip). t.reaches < length input.disks) (trip input) M (λ k d h. v.next_disks (get_or M k d) (record { 0 = 0 }) (omega (arith, there k d h, v.next_len)));
-      apart = All-map (λ (t : Trip). t.leaves ≢ t.reaches) (trip input) M (λ k d h. moved (source input (get_or M k d)) (target input (get_or M k d)) (filter_passes (is_relocated input) (range_with_len 0 n) k d h));
+      apart = All-map (λ (t : Trip). t.leaves ≢ t.reaches) (trip input) M (λ k d h. differ (source input (get_or M k d)) (target input (get_or M k d)) (filter_passes (is_relocated input) (range_with_len 0 n) k d h));
     }
-
-map_same : {X Y : Type 0} (f g : X → Y) (xs : List X) → All (λ x. f x ≡ g x) xs → map f xs ≡ map g xs
-map_same f g [] h = refl
-map_same {X} {Y} f g (x ∷ xs) h = ap (λ (y : Y). y ∷ map f xs) (All-head (λ z. f z ≡ g z) x xs h) ∙ ap (λ (ys : List Y). g x ∷ ys) (map_same f g xs (All-tail (λ z. f z ≡ g z) x xs h))
 
 same_quotient : (disks : List Disk) (loads : List ℕ) (trips : List Trip) (items : List ℕ) → AreLoads (length disks) trips loads → quotient_by disks loads (length disks) ≡ quotient (record { disks = disks; items = items; trips = trips })
 same_quotient disks loads ts items a =
@@ -146,13 +120,10 @@ even_cases : (b : Bool) (P Q : Type 0) → (P ↔ Q) → MatchBool b P (P → �
 even_cases true P Q x h = (λ _. x.0 h, λ _. refl)
 even_cases false P Q x h = (λ e. absurd (false≢true e), λ q. absurd (h (x.1 q)))
 
-some_load : (n : ℕ) → n ≢ 0 → not (eqb n 0) ≡ true
-some_load n h = ap not (ne_eqb n 0 h)
-
 even_same : (disks : List Disk) (loads : List ℕ) (trips : List Trip) (items : List ℕ) → AreLoads (length disks) trips loads → EvenBy disks loads ↔ IsEven (record { disks = disks; items = items; trips = trips })
 even_same disks loads ts items a = (
-  λ e v h t. e v h (λ z. moved (load v ts) 0 t (sym (a.counted v h) ∙ z)),
-  λ e v h t. e v h (some_load (load v ts) (λ z. t (a.counted v h ∙ z))),
+  λ e v h t. e v h (λ z. differ (load v ts) 0 t (sym (a.counted v h) ∙ z)),
+  λ e v h t. e v h (not_none (load v ts) (λ z. t (a.counted v h ∙ z))),
 )
 
 pub made_of : (g : Inside) (input : Lists) → g.disks.items ≡ input.disks → map edge_item g.edges.items ≡ moves input → map edge_trip g.edges.items ≡ trips input → transfers_of g ≡ transfers input

@@ -209,7 +209,7 @@ impl Disks {
         rt: &R,
         name: &Name,
     ) -> io::Result<Option<Opened>> {
-        self.check_spare()?;
+        self.check_spare(name)?;
         let path = format!(in self.alloc; "{}", DiskFile(name))?;
         open_to_read(rt, self.alloc, path.as_str())
     }
@@ -219,15 +219,15 @@ impl Disks {
         rt: &R,
         name: &Name,
     ) -> io::Result<(Opened, bool)> {
-        self.check_spare()?;
+        self.check_spare(name)?;
         let path = format!(in self.alloc; "{}", DiskFile(name))?;
         open_to_write(rt, self.alloc, path.as_str())
     }
 
-    /// Two descriptors stay free for another part of the process, where a disk's file is open that could be closed.
-    fn check_spare(&self) -> io::Result<()> {
-        match self.open.values().next() {
-            Some(opened) if !opened.leaves_some() => Err(too_many_open()),
+    /// Two descriptors stay free for another part of the process, where another disk's file is open that could be closed.
+    fn check_spare(&self, name: &Name) -> io::Result<()> {
+        match self.open.iter().find(|(other, _)| *other != name) {
+            Some((_, opened)) if !opened.leaves_some() => Err(too_many_open()),
             _ => Ok(()),
         }
     }

@@ -72,7 +72,7 @@ impl Journal {
         }
     }
 
-    /// Reads some bytes, none where the file isn't there. It takes no lock.
+    /// Reads some bytes, none where the file isn't there. It takes no lock. A copy that is being made is removed where that fails.
     pub fn read_at<R: Files<File = File>>(
         &mut self,
         rt: &R,
@@ -81,10 +81,12 @@ impl Journal {
     ) -> Result<usize, Failure>
         ensures { IfOk result (λ n. n ≤ length into.old) }
     {
-        match self.to_read(rt)? {
+        let read = match self.to_read(rt)? {
             Some(opened) => opened.read_at(offset, into).map_err(Failure::OfJournal),
             None => Ok(0),
-        }
+        };
+        self.keep_whole(rt, read.as_ref().err());
+        read
     }
 
     /// How many bytes the file has.
@@ -138,25 +140,27 @@ impl Journal {
         let path = String::from_str(self.alloc, path.as_str())?;
         let beside = format!(in self.alloc; "{path}{COPY}")?;
         remove_left(rt, beside.as_str())?;
-        let opened = make_new(rt, beside.as_str())?;
-        if let Err(error) = self.dress(&opened) {
-            let _ = fs::remove_file(rt, beside.as_str());
-            return Err(error);
+        match self.open_copy(rt, beside.as_str()) {
+            Ok(opened) => Ok(Copy {
+                opened,
+                beside,
+                path,
+            }),
+            Err(error) => {
+                let _ = fs::remove_file(rt, beside.as_str());
+                Err(error)
+            }
         }
-        Ok(Copy {
-            opened,
-            beside,
-            path,
-        })
     }
 
-    /// Takes a new file for this process alone, and gives it the journal's permissions.
-    fn dress(&self, opened: &Opened) -> io::Result<()> {
+    /// Makes the copy's file, takes it for this process alone, and gives it the journal's permissions.
+    fn open_copy<R: Files<File = File>>(&self, rt: &R, beside: &str) -> io::Result<Opened> {
+        let opened = make_new(rt, beside)?;
         opened.lock()?;
-        match &self.opened {
-            Some(journal) => opened.set_mode(journal.mode),
-            None => Ok(()),
+        if let Some(journal) = &self.opened {
+            opened.set_mode(journal.mode)?;
         }
+        Ok(opened)
     }
 
     /// Writes some of the bytes to the copy, which is removed where that fails.

@@ -1,12 +1,9 @@
 -- What a crash leaves while the journal is armed.
-use Rattle.std.proofs.Common.{◌≡◌, ◌≤◌, ◌⊎◌, inl, inr, ℕ, true, false, List, [], ◌∷◌, Option, IfSome, sym, ◌∙◌, ap, subst, arith}
-use Rattle.std.proofs.lemmas.Bool.{false≢true}
+use Rattle.mig_base.proofs.Common.{◌≡◌, ◌⊎◌, inl, inr, ℕ, true, false, List, [], ◌∷◌, Option, IfSome, sym, ◌∙◌, ap, subst, false≢true, Image, SameBut, is_one, is_armed, IsMark, State, ChangesOnly}
+use Rattle.mig_base.proofs.Common.{LeavesOnly, IsSettled}
 use Rattle.mig_base.specs.declared.cells.Cell.{Cell}
 use Rattle.mig_base.specs.declared.cells.Cell.TheVariants.{Head, Gate, Mark}
-use Rattle.mig_base.specs.Images.{Image, NoCell, SameBut}
-use Rattle.mig_base.specs.Journals.{is_one, is_armed}
-use Rattle.mig_base.specs.JobCells.{IsMark, IsJournal}
-use Rattle.mig_base.specs.Stores.{State, ChangesOnly, LeavesOnly, IsSettled}
+use Rattle.mig_base.specs.JobCells.{IsJournal}
 use Rattle.mig_base.proofs.StoreSteps.{same_wider, same_then, leaves_then, changes_leave, changes_wider, same_image}
 use Rattle.mig_journal.specs.FreshJournals.{AreUnmarked, IsFresh, IsArming}
 use Rattle.mig_journal.proofs.Steps.{then_step}

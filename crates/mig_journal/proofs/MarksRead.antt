@@ -1,11 +1,7 @@
 -- Marks that are read one by one.
-use Rattle.std.proofs.Common.{◌≡◌, ◌≤◌, ◌<◌, ◌+◌, ℕ, suc, Bool, true, false, List, Option, Some, None, IsSome, IfSome, ◌⊎◌, inl, inr, refl, sym, ◌∙◌, ap, subst, arith}
-use Rattle.std.specs.List.{prefix_len, range_with_len}
-use Rattle.std.proofs.lemmas.Bool.{cases_eq}
+use Rattle.mig_base.proofs.Common.{◌≡◌, ◌≤◌, ◌<◌, ◌+◌, ℕ, suc, Bool, true, false, List, Option, Some, None, IsSome, IfSome, ◌⊎◌, inl, inr, refl, sym, ◌∙◌, ap, subst, arith, prefix_len, range_with_len}
+use Rattle.mig_base.proofs.Common.{cases_eq, Image, is_marked, IsMark, Tells}
 use Rattle.mig_base.specs.declared.cells.Cell.TheVariants.{Mark}
-use Rattle.mig_base.specs.Images.{Image}
-use Rattle.mig_base.specs.Journals.{is_marked}
-use Rattle.mig_base.specs.JobCells.{IsMark, Tells}
 use Rattle.mig_base.proofs.MarkCounts.{count_least}
 
 -- what was read of a mark that is told

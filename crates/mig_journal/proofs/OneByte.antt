@@ -1,6 +1,5 @@
 -- What a read of one byte shows.
-use Rattle.std.proofs.Common.{◌≡◌, ℕ, List, [], ◌∷◌, Option, Some, None, Bool, eqb, length, get_or, refl, sym, ◌∙◌, ap, arith, IfSome}
-use Rattle.mig_base.specs.Journals.{is_one}
+use Rattle.mig_base.proofs.Common.{◌≡◌, ℕ, List, [], ◌∷◌, Option, Some, None, eqb, length, get_or, refl, ◌∙◌, ap, arith, IfSome, is_one}
 
 one_of : (into : List ℕ) → length into ≡ 1 → eqb (get_or into 0 0) 1 ≡ is_one (Some into)
 one_of [] one = absurd (omega arith)

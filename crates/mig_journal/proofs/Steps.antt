@@ -1,10 +1,9 @@
 -- The steps of calls on a store with no copy in flight.
-use Rattle.std.proofs.Common.{◌≡◌, ◌≤◌, ℕ, List, [], Option, IfSome, OnOk, Result, Ok, Err, sym, ◌∙◌, subst, ap}
+use Rattle.mig_base.proofs.Common.{◌≡◌, List, [], Result, Ok, Err, ◌∙◌, subst, IsTargetOf, NoCell, State, flights, ChangesOnly, Ends}
 use Rattle.mig_base.specs.declared.cells.Cell.{Cell}
 use Rattle.mig_base.specs.declared.cells.Flight.{Flight}
-use Rattle.mig_base.specs.Flights.{IsTargetOf}
-use Rattle.mig_base.specs.Images.{Image, NoCell}
-use Rattle.mig_base.specs.Stores.{State, flights, IsMoving, Changes, ChangesOnly, Looks, Ends}
+use Rattle.std.proofs.Common.{OnOk}
+use Rattle.mig_base.specs.Stores.{IsMoving, Looks}
 use Rattle.mig_base.proofs.Landing.{flights_same, ends_are_quiet, no_target}
 use Rattle.mig_base.proofs.StoreSteps.{changes_then, changes_wider, same_image}
 

@@ -1,8 +1,8 @@
 -- One edge of a two-sided board, by a walk.
-use Rattle.std.proofs.Common.{ℕ, inl, inr, sym, subst}
+use Rattle.mig_base.proofs.Common.{ℕ, inl, inr, sym, subst}
+use Rattle.mig_base.specs.declared.ids.Colour.{Colour}
 use Rattle.mig_base.specs.declared.ids.CopyId.{CopyId}
 use Rattle.mig_base.specs.declared.ids.EdgeId.{EdgeId}
-use Rattle.mig_base.specs.declared.ids.Colour.{Colour}
 use Rattle.mig_board.specs.Colouring.{Colouring, Joins, IsMissing, IsPresent, IsProper, IsFreeAt}
 use Rattle.mig_board.specs.Growth.{IsTwoSided}
 use Rattle.mig_board.specs.Walk.{Exchanges}

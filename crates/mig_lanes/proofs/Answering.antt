@@ -1,27 +1,16 @@
 -- What is answered where the journal names a plan, and the store doesn't fail.
-use Rattle.std.proofs.Common.{◌≡◌, inl, inr, ℕ, suc, List, true, false, Option, Some, None, IfSome, IsSome, sym, ◌∙◌, subst, refl, arith}
-use Rattle.std.specs.Prelude.{slice_index_or}
-use Rattle.std.specs.List.{Contains}
-use Rattle.std.proofs.lemmas.List.Elements.{All-contains, Contains-get_or}
-use Rattle.std.proofs.lemmas.Option.{get_or_from_slice_get, slice_get_within}
-use Rattle.std.proofs.lemmas.Bool.{false≢true}
+use Rattle.mig_base.proofs.Common.{◌≡◌, inl, inr, ℕ, suc, List, true, false, Option, Some, None, IfSome, IsSome, sym, ◌∙◌, subst, refl, arith, Contains, All-contains, Contains-get_or}
+use Rattle.mig_base.proofs.Common.{get_or_from_slice_get, slice_get_within, false≢true, AreFlights, Image, no_spot, Tells, SettlesTo, is_armed, round_at, shifts_of, slot_of, item_cell, IsUnused}
+use Rattle.mig_base.proofs.Common.{State, flights, item_name}
 use Rattle.mig_base.specs.declared.cells.Cell.TheVariants.{Head, Gate}
-use Rattle.mig_base.specs.declared.ids.Spot.{Spot}
-use Rattle.mig_base.specs.declared.ids.Shift.{Shift}
+use Rattle.mig_lanes.proofs.Common.{Shift, Spot, Task, IsTask}
+use Rattle.std.specs.Prelude.{slice_index_or}
 use Rattle.mig_base.specs.FaultCounts.{Rose}
-use Rattle.mig_base.specs.Flights.{AreFlights}
-use Rattle.mig_base.specs.Images.{Image}
-use Rattle.mig_base.specs.InputLists.{no_spot}
-use Rattle.mig_base.specs.JobCells.{IsHaltCell, Tells, SettlesTo}
-use Rattle.mig_base.specs.Journals.{is_armed}
-use Rattle.mig_base.specs.Layouts.{round_at}
-use Rattle.mig_base.specs.Readiness.{shifts_of, CanTake, IsReady, IsFirstLost, IsFirstUsed}
-use Rattle.mig_base.specs.Slots.{slot_of, item_cell, HasHeader, IsUnused, first_byte}
-use Rattle.mig_base.specs.Stores.{State, flights}
-use Rattle.mig_base.specs.Texts.{item_name}
+use Rattle.mig_base.specs.JobCells.{IsHaltCell}
+use Rattle.mig_base.specs.Readiness.{CanTake, IsReady, IsFirstLost, IsFirstUsed}
+use Rattle.mig_base.specs.Slots.{HasHeader, first_byte}
 use Rattle.mig_base.proofs.Rounds.{any_contains}
 use Rattle.mig_mover.specs.Moves.{Settles, IsRunning, IsFault, IsReadyIdle, IsStartFault, IsResumeFault}
-use Rattle.mig_mover.specs.Tasks.{Task, IsTask}
 use Rattle.mig_mover.specs.declared.faults.MoveFault.{MoveFault}
 use Rattle.mig_mover.specs.declared.faults.MoveFault.TheVariants.{Store, Started, OtherPlan, NotStarted, NotThere, Occupied}
 use Rattle.mig_mover.proofs.Settling.{settled_reads, tells_more, journal_kept, gate_kept}

@@ -1,45 +1,15 @@
 -- The copies of a round, by the laws of safe images.
-use Rattle.std.proofs.Common.{◌≡◌, ◌⊎◌, inl, inr, ⊎_elim, Bool, true, false, ℕ, zero, suc, ◌<◌, ◌≤◌, ◌+◌, ◌++◌, List, [], ◌∷◌, length, get_or, Option, Some, None, IfSome, IsSome, refl, sym, ◌∙◌, ap, subst, arith}
-use Rattle.std.specs.Option.{option_map}
-use Rattle.std.specs.List.{Contains, All, Any}
-use Rattle.std.proofs.lemmas.Bool.{cases_Bool}
-use Rattle.std.proofs.lemmas.List.Elements.{All-contains, Contains-get_or}
-use Rattle.mig_base.specs.declared.ids.Spot.{Spot}
-use Rattle.mig_base.specs.declared.ids.Shift.{Shift}
-use Rattle.mig_base.specs.declared.cells.Cell.{Cell}
-use Rattle.mig_base.specs.declared.cells.Cell.TheVariants.{Head, Gate, Mark}
-use Rattle.mig_base.specs.declared.cells.Event.{Event}
-use Rattle.mig_base.specs.declared.cells.Flight.{Flight}
-use Rattle.mig_base.specs.InputLists.{Lists}
-use Rattle.mig_base.specs.Layouts.{round_at, At, IsTaken, IsSource, IsTarget}
-use Rattle.mig_base.specs.Running.{IsLegal}
-use Rattle.mig_base.specs.Images.{Image, NoCell, SameBut, IsCopy}
-use Rattle.mig_base.specs.Flights.{IsTargetOf}
-use Rattle.mig_base.specs.Stores.{State, Changes, ChangesOnly, LeavesOnly, IsSettled, SettledBut}
-use Rattle.mig_base.specs.Journals.{is_one, is_marked}
-use Rattle.mig_base.specs.Slots.{slot_of, zeros}
-use Rattle.mig_base.specs.Safety.{Contents, IsSound, IsSoundAfter}
-use Rattle.mig_base.specs.JobCells.{IsMark, IsJobCell, IsWorkCell, Tells}
-use Rattle.mig_base.specs.RoundStates.{IsSourceSlot, IsTargetSlot, IsInUse, IsCopied, HasDone}
+use Rattle.mig_base.proofs.Common.{◌≡◌, inl, inr, Bool, ℕ, zero, suc, ◌<◌, ◌≤◌, ◌+◌, ◌++◌, List, [], length, get_or, Option, Some, refl, ◌∙◌, ap, subst, arith, Contains, All, Contains-get_or}
+use Rattle.mig_base.proofs.Common.{round_at, At, IsTaken, IsLegal, Image, SameBut, IsCopy, IsTargetOf, State, Changes, ChangesOnly, LeavesOnly, IsSettled, slot_of, zeros, Contents, IsSound}
+use Rattle.mig_base.proofs.Common.{IsSoundAfter, IsJobCell, IsWorkCell, Tells, IsSourceSlot, IsInUse, HasDone}
+use Rattle.mig_lanes.proofs.Common.{Cell, Event, Shift, Spot, Task, IsTask, copies_of}
+use Rattle.mig_base.specs.RoundStates.{IsTargetSlot, IsCopied}
 use Rattle.mig_base.proofs.Rounds.{contains_any, at_target, leaves}
-use Rattle.mig_base.proofs.SafetyLaws.{slot_apart, other_bytes, marking, unmarked, sound_after}
-use Rattle.mig_base.proofs.StoreSteps.{same_wider, same_then, same_image, told_kept, leaves_then, changes_leave, changes_then, changes_wider, settled_change}
-use Rattle.mig_mover.specs.Erasures.{AreZeros}
-use Rattle.mig_mover.specs.Tasks.{Task, IsTask}
+use Rattle.mig_base.proofs.SafetyLaws.{slot_apart, other_bytes, sound_after}
+use Rattle.mig_base.proofs.StoreSteps.{same_wider, same_then, changes_leave, changes_then, changes_wider, told_is, tells_kept}
 use Rattle.mig_mover.proofs.JobRounds.{on_disks}
-use Rattle.mig_lanes.specs.LaneSteps.{copies_of, HasCopied}
+use Rattle.mig_lanes.specs.LaneSteps.{HasCopied}
 use Rattle.mig_lanes.proofs.RoundCopies.{of_shifts, target_slot}
-
-from_same : (P : Cell → Type 0) (a b c : Image) → SameBut NoCell a b → SameBut P b c → SameBut P a c
-from_same P a b c first second = subst (λ (image : Image). SameBut P image c) (sym (same_image a b first)) second
-
-told_is : (cell : Option (List ℕ)) (bytes : List ℕ) → IsSome cell → IfSome cell (λ told. told ≡ bytes) → cell ≡ Some bytes
-told_is None bytes some is = cc
-told_is (Some told) bytes some is = ap Some is
-
--- cells that are told go on being told
-tells_kept : (P Q : Cell → Type 0) (old new : Image) → SameBut P old new → Tells Q old → Tells Q new
-tells_kept P Q old new same tells cell of = told_kept P old new same cell (tells cell of)
 
 module _ (task : Task) (is : IsTask task) (k : ℕ) (lt : k < length task.plan) where
   legal : IsLegal task.input (At task.input task.plan k) (round_at task.plan (suc k))

@@ -1,23 +1,8 @@
 -- The loop over rounds, and the sync after it.
-use Rattle.std.proofs.Common.{◌≡◌, ◌≤◌, ◌++◌, ◌-◌, ◌+◌, Bool, ℕ, List, [], map, length, get_or, refl, sym, ◌∙◌, subst, ap, arith}
-use Rattle.std.specs.List.{range_with_len}
-use Rattle.mig_base.specs.declared.cells.Cell.{Cell}
-use Rattle.mig_base.specs.declared.cells.Event.{Event}
-use Rattle.mig_base.specs.declared.ids.Shift.{Shift}
-use Rattle.mig_base.specs.declared.cells.Flight.{Flight}
-use Rattle.mig_base.specs.Images.{Image, NoCell}
-use Rattle.mig_base.specs.InputLists.{Lists}
-use Rattle.mig_base.specs.Layouts.{round_at}
-use Rattle.mig_base.specs.JobCells.{IsWorkCell, IsJobCell, Tells}
-use Rattle.mig_base.specs.RoundEvents.{AreRounds, Adds}
-use Rattle.mig_base.specs.RoundStates.{IsSourceSlot, HasDone}
-use Rattle.mig_base.specs.Safety.{Contents, IsSound, IsSoundAfter}
-use Rattle.mig_base.specs.Slots.{slot_of, zeros}
-use Rattle.mig_base.specs.Stores.{State, IsState, flights, Changes, Ends, LeavesOnly, IsSettled}
-use Rattle.mig_base.proofs.Landing.{ends_are_quiet}
-use Rattle.mig_base.proofs.StoreSteps.{same_wider, changes_none, changes_then, changes_wider, leaves_none, leaves_then, quiet_leaves, same_image}
-use Rattle.mig_mover.specs.Tasks.{Task}
-use Rattle.mig_lanes.specs.LaneSteps.{copies_of}
+use Rattle.mig_base.proofs.Common.{◌≡◌, ◌++◌, ◌-◌, ◌+◌, Bool, ℕ, List, [], map, get_or, refl, sym, ◌∙◌, subst, ap, arith, range_with_len, Image, NoCell, round_at, IsJobCell, Tells, AreRounds, Adds}
+use Rattle.mig_base.proofs.Common.{IsSourceSlot, HasDone, Contents, IsSoundAfter, slot_of, State, Changes, IsSettled}
+use Rattle.mig_lanes.proofs.Common.{Cell, Event, Task, copies_of}
+use Rattle.mig_base.proofs.StoreSteps.{same_wider, changes_none, changes_then, changes_wider}
 use Rattle.mig_lanes.proofs.EventSteps.{adds_none}
 
 -- changes of some cells, with events

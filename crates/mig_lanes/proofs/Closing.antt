@@ -1,35 +1,13 @@
 -- The end of a round: its mark, and the erasures after it.
-use Rattle.std.proofs.Common.{◌≡◌, ◌⊎◌, inl, inr, ⊎_elim, Bool, ℕ, suc, ◌<◌, ◌≤◌, ◌+◌, List, [], ◌∷◌, length, get_or, Option, Some, None, IfSome, IsSome, refl, sym, ◌∙◌, ap, subst, arith}
-use Rattle.std.specs.List.{Contains, All}
-use Rattle.std.proofs.lemmas.Bool.{cases_Bool}
-use Rattle.std.proofs.lemmas.List.Elements.{Contains-get_or}
-use Rattle.mig_base.specs.declared.ids.Shift.{Shift}
-use Rattle.mig_base.specs.declared.cells.Cell.{Cell}
+use Rattle.mig_base.proofs.Common.{◌≡◌, ◌⊎◌, inl, inr, ⊎_elim, Bool, ℕ, suc, ◌<◌, ◌≤◌, [], ◌∷◌, length, get_or, Some, IfSome, refl, sym, ◌∙◌, ap, subst, arith, Contains, All, cases_Bool}
+use Rattle.mig_base.proofs.Common.{Contains-get_or, round_at, Image, NoCell, SameBut, State, ChangesOnly, LeavesOnly, IsSettled, is_one, is_marked, slot_of, Contents, IsSound, IsSoundAfter, IsJobCell}
+use Rattle.mig_base.proofs.Common.{IsWorkCell, Tells, IsSourceSlot, IsInUse, HasDone}
+use Rattle.mig_lanes.proofs.Common.{Cell, Shift, Task, IsTask}
 use Rattle.mig_base.specs.declared.cells.Cell.TheVariants.{Mark}
-use Rattle.mig_base.specs.Layouts.{round_at}
-use Rattle.mig_base.specs.Images.{Image, NoCell, SameBut}
-use Rattle.mig_base.specs.Stores.{State, ChangesOnly, LeavesOnly, IsSettled}
-use Rattle.mig_base.specs.Journals.{is_one, is_marked}
-use Rattle.mig_base.specs.Slots.{slot_of, zeros}
-use Rattle.mig_base.specs.Safety.{Contents, IsSound, IsSoundAfter}
-use Rattle.mig_base.specs.JobCells.{IsJobCell, IsWorkCell, Tells}
-use Rattle.mig_base.specs.RoundStates.{IsSourceSlot, IsInUse, HasDone}
 use Rattle.mig_base.proofs.SafetyLaws.{other_bytes, marking, unmarked, sound_after}
-use Rattle.mig_base.proofs.StoreSteps.{same_wider, same_image, told_kept, leaves_then, changes_leave, changes_then, changes_wider, settled_change}
+use Rattle.mig_base.proofs.StoreSteps.{same_wider, leaves_then, changes_leave, changes_then, changes_wider, settled_change, told_is, tells_kept, from_same}
 use Rattle.mig_mover.specs.Erasures.{AreZeros}
-use Rattle.mig_mover.specs.Tasks.{Task, IsTask}
 use Rattle.mig_lanes.specs.LaneSteps.{HasCopied}
-
-from_same : (P : Cell → Type 0) (a b c : Image) → SameBut NoCell a b → SameBut P b c → SameBut P a c
-from_same P a b c first second = subst (λ (image : Image). SameBut P image c) (sym (same_image a b first)) second
-
-told_is : (cell : Option (List ℕ)) (bytes : List ℕ) → IsSome cell → IfSome cell (λ told. told ≡ bytes) → cell ≡ Some bytes
-told_is None bytes some is = cc
-told_is (Some told) bytes some is = ap Some is
-
--- cells that are told go on being told
-tells_kept : (P Q : Cell → Type 0) (old new : Image) → SameBut P old new → Tells Q old → Tells Q new
-tells_kept P Q old new same tells cell of = told_kept P old new same cell (tells cell of)
 
 module _ (task : Task) (is : IsTask task) (k : ℕ) (lt : k < length task.plan) where
   source_job : (s : Shift) → Contains (round_at task.plan (suc k)) s → IsJobCell task.input task.plan (slot_of task.input s.from)

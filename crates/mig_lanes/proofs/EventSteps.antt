@@ -1,10 +1,6 @@
 -- Events that runs of calls add.
-use Rattle.std.proofs.Common.{◌≡◌, ◌++◌, List, [], Option, Some, None, IsSome, refl, sym, ◌∙◌, ap, subst, append-nil, append_assoc}
-use Rattle.std.specs.Option.{option_map}
-use Rattle.std.proofs.lemmas.Bool.{false≢true}
+use Rattle.mig_base.proofs.Common.{◌≡◌, ◌++◌, List, [], Option, Some, None, IsSome, refl, sym, ◌∙◌, ap, subst, option_map, false≢true, Adds, State}
 use Rattle.mig_base.specs.declared.cells.Event.{Event}
-use Rattle.mig_base.specs.RoundEvents.{Adds}
-use Rattle.mig_base.specs.Stores.{State}
 use Rattle.mig_base.proofs.StoreSteps.{events_then, events_none}
 
 told_more : (added : List Event) (old new : Option (List Event)) → new ≡ option_map (λ before. before ++ added) old → IsSome old → IsSome new

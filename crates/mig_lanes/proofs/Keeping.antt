@@ -1,22 +1,12 @@
 -- The copies of a round keep the limits that its shifts keep.
-use Rattle.std.proofs.Common.{◌≡◌, ◌≢◌, ℕ, zero, suc, ◌<◌, ◌≤◌, Bool, true, false, List, [], ◌∷◌, length, get_or, map, refl, sym, ◌∙◌, ap, subst, arith}
-use Rattle.std.specs.List.{All, AllPairs, position_or_len}
-use Rattle.std.specs.Str.{bytes_eq}
-use Rattle.std.specs.Cmp.Lexicographic.{same_text}
-use Rattle.std.proofs.lemmas.Bool.{and_parts, false_from_ne_true}
-use Rattle.std.proofs.lemmas.List.{get_or_default}
-use Rattle.std.proofs.lemmas.List.Sums.{position_or_len_is}  -- the first place that passes
+use Rattle.mig_base.proofs.Common.{◌≡◌, ◌≢◌, ℕ, suc, ◌<◌, true, List, [], ◌∷◌, length, get_or, map, refl, sym, subst, arith, All, AllPairs, same_text, and_parts, false_from_ne_true, Lists, no_disk}
+use Rattle.mig_base.proofs.Common.{Trip, KeepsLimits, trip_of, slot_of, flights_of}
 use Rattle.mig_base.specs.declared.cells.Cell.TheVariants.{Slot}
-use Rattle.mig_base.specs.declared.ids.Shift.{Shift}
-use Rattle.mig_base.specs.declared.ids.Spot.{Spot}
-use Rattle.mig_base.specs.declared.inputs.Disk.{Disk}
-use Rattle.mig_base.specs.InputLists.{Lists, no_disk}
-use Rattle.mig_base.specs.Transfers.{Trip, KeepsLimits}
-use Rattle.mig_base.specs.Running.{trip_of}
-use Rattle.mig_base.specs.Flights.{disk_of_cell, trip_of_flight, AreWithinLimits}
+use Rattle.mig_lanes.proofs.Common.{Shift, Spot, AreWithinLimits}
+use Rattle.std.specs.Str.{bytes_eq}
+use Rattle.std.proofs.lemmas.List.Sums.{position_or_len_is}  -- the first place that passes
+use Rattle.mig_base.specs.Flights.{disk_of_cell, trip_of_flight}
 use Rattle.mig_base.proofs.CellTests.{is_cell-same}
-use Rattle.mig_base.specs.Slots.{slot_of}
-use Rattle.mig_base.specs.RoundEvents.{flight_of, flights_of}
 
 -- each end of each shift is on a disk of the input
 abbrev pub AreOnDisks : Lists → List Shift → Type 0

@@ -11,3 +11,4 @@ mod RoundLists
 mod Rounding
 mod RunLaws
 mod RunLimits
+pub mod Common

@@ -1,18 +1,13 @@
 -- The copies of a round in flight keep the limits of disks.
-use Rattle.std.proofs.Common.{◌≡◌, ◌⊎◌, inl, inr, ⊎_elim, ℕ, zero, suc, ◌<◌, ◌≤◌, ◌+◌, ◌-◌, ◌++◌, Bool, true, false, not, cond, List, [], ◌∷◌, length, get_or, take, map, filter, fold, refl, sym, ◌∙◌, ap, subst, arith}
-use Rattle.std.specs.List.{count_by}
-use Rattle.std.proofs.lemmas.Bool.{cases_lt, cases_Bool, cond-true, cond-false}
-use Rattle.std.proofs.lemmas.List.{take-append-le}
-use Rattle.std.proofs.lemmas.List.Sums.{fold-append, sum_by-append}
+use Rattle.mig_base.proofs.Common.{◌≡◌, inl, inr, ℕ, zero, suc, ◌<◌, ◌≤◌, ◌+◌, ◌-◌, ◌++◌, Bool, not, cond, List, [], ◌∷◌, length, take, map, filter, refl, sym, ◌∙◌, ap, subst, arith, count_by}
+use Rattle.mig_base.proofs.Common.{cases_lt, take-append-le, fold-append, sum_by-append, touches, is_flight, began, ended, after_event, after_events}
+use Rattle.mig_lanes.proofs.Common.{Event, Flight, AreWithinLimits, BeginsRound}
+use Rattle.mig_base.specs.declared.inputs.Disk.{Disk}
 use Rattle.std.specs.List.{take-map}
 use Rattle.std.proofs.Math.Seq.{take-append-add}
-use Rattle.mig_base.specs.declared.cells.Event.{Event}
-use Rattle.mig_base.specs.declared.cells.Flight.{Flight}
-use Rattle.mig_base.specs.declared.inputs.Disk.{Disk}
-use Rattle.mig_base.specs.Transfers.{Trip, touches}
 use Rattle.mig_base.specs.RoundEvents.{StayWithinLimits}
-use Rattle.mig_base.specs.Flights.{is_flight, began, ended, after_event, after_events, trip_of_flight, AreWithinLimits}
-use Rattle.mig_lanes.specs.LaneSteps.{BeginsRound}
+use Rattle.mig_base.specs.Flights.{trip_of_flight}
+use Rattle.mig_base.proofs.Counting.{count_by-filter-le}
 use Rattle.mig_lanes.proofs.Beginning.{flights_all_began}
 
 -- of each kind, the first has no more than the second
@@ -27,18 +22,10 @@ count_take p zero xs = omega arith
 count_take p (suc m) [] = omega arith
 count_take p (suc m) (x ∷ xs) = let rest = count_take p m xs in omega (arith, count_cons p x (take m xs), count_cons p x xs, rest)
 
-count_filter : {X : Type 0} (p q : X → Bool) (xs : List X) → count_by p (filter q xs) ≤ count_by p xs
-count_filter p q [] = omega arith
-count_filter p q (x ∷ xs) = at (q x) (count_filter p q xs)
-  where
-    at : (b : Bool) → count_by p (filter q xs) ≤ count_by p xs → count_by p (cond b (x ∷ filter q xs) (filter q xs)) ≤ count_by p (x ∷ xs)
-    at true rest = omega (arith, count_cons p x (filter q xs), count_cons p x xs, rest)
-    at false rest = omega (arith, count_cons p x xs, rest)
-
 pub count_ended : (p : Flight → Bool) (fs zs : List Flight) → count_by p (after_events fs (map ended zs)) ≤ count_by p fs
 count_ended p fs [] = omega arith
 count_ended p fs (z ∷ zs) =
-    let fewer = count_filter p (λ c. not (is_flight z c)) fs in
+    let fewer = count_by-filter-le p (λ c. not (is_flight z c)) fs in
     let rest = count_ended p (filter (λ c. not (is_flight z c)) fs) zs in
     omega (arith, fewer, rest)
 

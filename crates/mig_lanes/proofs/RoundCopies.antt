@@ -1,26 +1,11 @@
 -- The copies of a job's round.
-use Rattle.std.proofs.Common.{◌≡◌, ◌≢◌, ℕ, zero, suc, ◌+◌, ◌-◌, ◌<◌, ◌≤◌, Bool, true, List, [], ◌∷◌, length, get_or, map, IsTrue, Option, Some, refl, sym, ◌∙◌, ap, subst, arith}
-use Rattle.std.specs.Prelude.{slice_get}
-use Rattle.std.specs.List.{Contains, All, AllPairs, Any}
-use Rattle.std.proofs.lemmas.List.{length-map, get_or_default}
-use Rattle.std.proofs.lemmas.List.Elements.{All-map, Contains-get_or}
-use Rattle.std.proofs.lemmas.Option.{get_or_from_slice_get, slice_get_within}
-use Rattle.mig_base.specs.declared.cells.Cell.{Cell}
-use Rattle.mig_base.specs.declared.cells.Flight.{Flight}
-use Rattle.mig_base.specs.declared.ids.Shift.{Shift}
-use Rattle.mig_base.specs.Cells.{is_slot}
-use Rattle.mig_base.specs.Flights.{IsTargetOf, IsSourceOf, AreFlights}
-use Rattle.mig_base.specs.InputLists.{Lists}
-use Rattle.mig_base.specs.Layouts.{round_at, At}
-use Rattle.mig_base.specs.RoundEvents.{flight_of, flights_of}
-use Rattle.mig_base.specs.RoundStates.{IsSourceSlot, IsTargetSlot}
-use Rattle.mig_base.specs.Running.{IsLegal}
-use Rattle.mig_base.specs.Slots.{slot_of}
+use Rattle.mig_base.proofs.Common.{◌≡◌, ◌≢◌, ℕ, zero, suc, ◌-◌, ◌<◌, ◌≤◌, List, [], ◌∷◌, length, get_or, IsTrue, Some, refl, sym, ◌∙◌, ap, arith, slice_get, Contains, All, AllPairs, Any, All-map}
+use Rattle.mig_base.proofs.Common.{Contains-get_or, get_or_from_slice_get, slice_get_within, is_slot, IsTargetOf, AreFlights, Lists, round_at, At, flight_of, flights_of, IsLegal, slot_of}
+use Rattle.mig_lanes.proofs.Common.{Cell, Flight, Shift, Task, IsTask, copies_of}
+use Rattle.mig_base.specs.RoundStates.{IsTargetSlot}
 use Rattle.mig_base.proofs.Rounds.{contains_any, leaves, target_free}
 use Rattle.mig_base.proofs.SafetyLaws.{slot_apart}
-use Rattle.mig_mover.specs.Tasks.{Task, IsTask}
 use Rattle.mig_mover.proofs.JobRounds.{on_disks}
-use Rattle.mig_lanes.specs.LaneSteps.{copies_of}
 
 module _ (input : Lists) where
   -- a target of the copies is one of the shifts
@@ -44,9 +29,10 @@ module _ (input : Lists) where
   pairs (s ∷ ss) apart (suc i) (suc j) d less lt = pairs ss (λ a b e low high. apart (suc a) (suc b) e (omega arith) (omega arith)) i j d (omega arith) (omega arith)
 
 module _ (task : Task) (is : IsTask task) where
-  apart_at : (round : ℕ) → 1 ≤ round → round ≤ length task.plan → AreFlights (copies_of task round)
-  apart_at zero low high = absurd (omega arith)
-  apart_at (suc k) low high = record {
+  -- a round's copies may be in flight together
+  pub are_flights : (round : ℕ) → 1 ≤ round → round ≤ length task.plan → AreFlights (copies_of task round)
+  are_flights zero low high = absurd (omega arith)
+  are_flights (suc k) low high = record {
     slots = All-map (λ (c : Flight). IsTrue (is_slot c.from) × IsTrue (is_slot c.to)) (flight_of task.input) (round_at task.plan (suc k)) (λ j d lt. (refl, refl));
     apart = pairs task.input (round_at task.plan (suc k)) (λ i j d before lt same.
         legal.apart i j d before lt (slot_apart task.input is.valid _ _ (on i d (omega arith)).1 (on j d lt).1 same));
@@ -66,10 +52,6 @@ module _ (task : Task) (is : IsTask task) where
           let same = slot_apart task.input is.valid _ _ (on_disks task is (suc k) low high to.1 has_t).1 (on_disks task is (suc k) low high s has).0 to.4 in
           target_free task.input (At task.input task.plan k) (round_at task.plan (suc k)) legal to.1 has_t s.item.0
           (leaves task.input (At task.input task.plan k) (round_at task.plan (suc k)) legal s has ∙ ap Some (sym same))
-
-  -- a round's copies may be in flight together
-  pub are_flights : (round : ℕ) → 1 ≤ round → round ≤ length task.plan → AreFlights (copies_of task round)
-  are_flights = apart_at
 
 -- their targets are those of the round
 pub target_slot : (task : Task) (round : ℕ) (cell : Cell) → IsTargetOf (copies_of task round) cell → IsTargetSlot task.input task.plan round cell

@@ -1,15 +1,10 @@
 -- The events of rounds, one after the other.
-use Rattle.std.proofs.Common.{◌≡◌, ◌⊎◌, inl, inr, ⊎_elim, ℕ, zero, suc, ◌<◌, ◌≤◌, ◌+◌, ◌-◌, ◌++◌, List, [], ◌∷◌, length, take, drop, map, refl, sym, ◌∙◌, ap, subst, arith, append-nil, append_assoc}
-use Rattle.std.specs.List.{range_with_len}
-use Rattle.std.specs.List.Sorted.{IsPermutation}
-use Rattle.std.proofs.lemmas.List.{map-append, take_all, take-append-drop}
+use Rattle.mig_base.proofs.Common.{◌≡◌, ◌⊎◌, ⊎_elim, ℕ, suc, ◌<◌, ◌≤◌, ◌+◌, ◌-◌, ◌++◌, List, [], ◌∷◌, length, take, drop, map, refl, sym, ◌∙◌, ap, subst, arith, append-nil, append_assoc}
+use Rattle.mig_base.proofs.Common.{range_with_len, IsPermutation, map-append, take_all, began, ended, IsRound, AreRounds}
+use Rattle.mig_lanes.proofs.Common.{Event, Flight, Task, copies_of, later_rounds, BeginsRound, BeginsRounds}
+use Rattle.std.proofs.lemmas.List.{take-append-drop}
 use Rattle.std.proofs.lemmas.List.Sorted.{IsPermutation-refl}
-use Rattle.mig_base.specs.declared.cells.Event.{Event}
-use Rattle.mig_base.specs.declared.cells.Flight.{Flight}
-use Rattle.mig_base.specs.Flights.{began, ended}
-use Rattle.mig_base.specs.RoundEvents.{IsRound, AreRounds}
-use Rattle.mig_mover.specs.Tasks.{Task}
-use Rattle.mig_lanes.specs.LaneSteps.{copies_of, later_rounds, BeginsRound, BeginsRounds}
+use Rattle.mig_base.proofs.Elements.{map_more}
 
 -- part of a round's events is a prefix of a whole round's
 part_is_prefix : (round : List Flight) (added : List Event) → BeginsRound round added → (more : List Event) × IsRound round (added ++ more)
@@ -70,12 +65,6 @@ part_append xs ys round a b are part =
 rounds_begin : (xs ys : List (List Flight)) (a : List Event) → AreRounds xs a → BeginsRounds (xs ++ ys) a
 rounds_begin xs ys a are = let rest = some_rounds ys in (rest.0, rounds_append xs ys a rest.0 are rest.1)
 
-range_split : {X : Type 0} (f : ℕ → X) (a m n : ℕ) → map f (range_with_len a (m + n)) ≡ map f (range_with_len a m) ++ map f (range_with_len (a + m) n)
-range_split f a zero n = λ i. map f (range_with_len (let e : a ≡ a + zero = omega arith in e i) (let e : zero + n ≡ n = omega arith in e i))
-range_split f a (suc m) n =
-    ap (λ (j : ℕ). map f (range_with_len a j)) (let e : suc m + n ≡ suc (m + n) = omega arith in e)
-    ∙ ap (λ (l : List _). f a ∷ l) (range_split f (a + 1) m n ∙ ap (λ (j : ℕ). map f (range_with_len (a + 1) m) ++ map f (range_with_len j n)) (let e : a + 1 + m ≡ a + suc m = omega arith in e))
-
 module _ (task : Task) (k n : ℕ) (low : k ≤ n) where
   -- the rounds k + 1 to n
   abbrev pub rounds_to : List (List Flight)
@@ -85,7 +74,7 @@ module _ (task : Task) (k n : ℕ) (low : k ≤ n) where
   rounds_next a b are is = subst (λ (l : List (List Flight)). AreRounds l (a ++ b)) (sym next) (rounds_append rounds_to (copies_of task (n + 1) ∷ []) a b are (one_round (copies_of task (n + 1)) b is))
     where
       next : map (copies_of task) (range_with_len (k + 1) (n + 1 - k)) ≡ map (copies_of task) (range_with_len (k + 1) (n - k)) ++ copies_of task (n + 1) ∷ []
-      next = ap (λ (j : ℕ). map (copies_of task) (range_with_len (k + 1) j)) (let e : n + 1 - k ≡ (n - k) + 1 = omega arith in e) ∙ range_split (copies_of task) (k + 1) (n - k) 1
+      next = ap (λ (j : ℕ). map (copies_of task) (range_with_len (k + 1) j)) (let e : n + 1 - k ≡ (n - k) + 1 = omega arith in e) ∙ map_more (copies_of task) (k + 1) (n - k) 1
           ∙ ap (λ (j : ℕ). map (copies_of task) (range_with_len (k + 1) (n - k)) ++ copies_of task j ∷ []) (let e : k + 1 + (n - k) ≡ n + 1 = omega arith in e)
 
   pub rounds_part : n < length task.plan → (a b : List Event) → AreRounds (map (copies_of task) (range_with_len (k + 1) (n - k))) a → BeginsRound (copies_of task (n + 1)) b → BeginsRounds (later_rounds task k) (a ++ b)
@@ -93,7 +82,7 @@ module _ (task : Task) (k n : ℕ) (low : k ≤ n) where
     where
       split : later_rounds task k ≡ map (copies_of task) (range_with_len (k + 1) (n - k)) ++ copies_of task (n + 1) ∷ map (copies_of task) (range_with_len (n + 1 + 1) (length task.plan - n - 1))
       split = ap (λ (j : ℕ). map (copies_of task) (range_with_len (k + 1) j)) (let e : length task.plan - k ≡ (n - k) + suc (length task.plan - n - 1) = omega arith in e)
-          ∙ range_split (copies_of task) (k + 1) (n - k) (suc (length task.plan - n - 1))
+          ∙ map_more (copies_of task) (k + 1) (n - k) (suc (length task.plan - n - 1))
           ∙ ap (λ (j : ℕ). map (copies_of task) (range_with_len (k + 1) (n - k)) ++ copies_of task j ∷ map (copies_of task) (range_with_len (j + 1) (length task.plan - n - 1))) (let e : k + 1 + (n - k) ≡ n + 1 = omega arith in e)
 
 pub all_begin : (task : Task) (k : ℕ) (a : List Event) → AreRounds (later_rounds task k) a → BeginsRounds (later_rounds task k) a

@@ -1,24 +1,14 @@
 -- What a round's copies give once they end.
-use Rattle.std.proofs.Common.{◌≡◌, ◌≢◌, ◌⊎◌, inl, inr, ⊎_elim, ℕ, zero, suc, ◌<◌, ◌≤◌, ◌++◌, List, [], ◌∷◌, length, get_or, take, map, Option, Some, None, IfSome, IsSome, refl, sym, ◌∙◌, ap, subst, arith, append-nil}
-use Rattle.std.specs.Option.{option_map}
-use Rattle.std.specs.List.{All, Contains}
-use Rattle.std.specs.List.Sorted.{IsPermutation}
-use Rattle.std.proofs.lemmas.Bool.{false≢true}
-use Rattle.std.proofs.lemmas.List.{map-append, take_all}
-use Rattle.std.proofs.lemmas.List.Elements.{All-contains, Contains-get_or, Contains-append_left}
+use Rattle.mig_base.proofs.Common.{◌≡◌, ◌≢◌, ◌⊎◌, inl, inr, ⊎_elim, ℕ, zero, suc, ◌<◌, ◌++◌, List, [], ◌∷◌, length, get_or, take, map, Option, None, IsSome, refl, sym, ◌∙◌, ap, subst, arith}
+use Rattle.mig_base.proofs.Common.{append-nil, Contains, IsPermutation, false≢true, take_all, All-contains, Contains-get_or, Contains-append_left, NoCell, IsCopy, began, ended, IsTargetOf, AreFlights}
+use Rattle.mig_base.proofs.Common.{State, flights, Changes, Ends, IsRound}
+use Rattle.mig_lanes.proofs.Common.{Cell, Event, Flight, BeginsRound}
 use Rattle.std.proofs.lemmas.List.Sorted.{IsPermutation-refl, IsPermutation-sym, Contains-permutation}
-use Rattle.mig_base.specs.declared.cells.Cell.{Cell}
-use Rattle.mig_base.specs.declared.cells.Event.{Event}
-use Rattle.mig_base.specs.declared.cells.Flight.{Flight}
-use Rattle.mig_base.specs.Images.{Image, NoCell, SameBut, IsCopy}
-use Rattle.mig_base.specs.Flights.{began, ended, after_events, IsTargetOf, AreFlights}
-use Rattle.mig_base.specs.Stores.{State, flights, Changes, Ends}
 use Rattle.mig_base.proofs.CellTests.{cases_cell}
 use Rattle.mig_base.proofs.Rounds.{any_contains, contains_any, one_by}
-use Rattle.mig_base.proofs.Landing.{flights_none, target_cases, target_left, target_permuted}
+use Rattle.mig_base.proofs.Landing.{flights_none, target_cases, target_permuted}
 use Rattle.mig_base.proofs.StoreSteps.{changes_then, changes_wider}
-use Rattle.mig_base.specs.RoundEvents.{IsRound}
-use Rattle.mig_lanes.specs.LaneSteps.{BeginsRound, HaveLanded}
+use Rattle.mig_lanes.specs.LaneSteps.{HaveLanded}
 use Rattle.mig_lanes.proofs.Beginning.{flights_all_began, flights_after}
 
 pub cases_target : (fs : List Flight) (cell : Cell) → IsTargetOf fs cell ⊎ (IsTargetOf fs cell → ⊥)

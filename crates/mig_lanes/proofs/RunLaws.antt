@@ -1,28 +1,19 @@
 -- A plan that is entered, and whose rounds are then carried out.
-use Rattle.std.proofs.Common.{◌≡◌, ◌⊎◌, inl, inr, Bool, true, false, ℕ, ◌≤◌, ◌++◌, List, [], length, map, Option, Some, None, IsSome, refl, sym, ◌∙◌, ap, subst, arith, append-nil, append_assoc}
-use Rattle.std.proofs.lemmas.Bool.{false≢true}
-use Rattle.mig_base.specs.declared.cells.Cell.{Cell}
+use Rattle.mig_base.proofs.Common.{◌≡◌, ◌⊎◌, inl, inr, Bool, true, false, ℕ, ◌≤◌, ◌++◌, List, [], length, map, refl, sym, ◌∙◌, ap, subst, arith, append-nil, append_assoc, false≢true, ended}
+use Rattle.mig_base.proofs.Common.{IsTargetOf, Image, is_one, is_armed, IsWorkCell, IsJobCell, Tells, SettlesTo, AreRounds, BeginsRun, Adds, HasDone, Contents, IsSafe, IsSound, State, flights}
+use Rattle.mig_base.proofs.Common.{Changes, LeavesOnly, IsSettled}
+use Rattle.mig_lanes.proofs.Common.{Cell, Event, Flight, Task, IsTask, later_rounds, BeginsRounds}
 use Rattle.mig_base.specs.declared.cells.Cell.TheVariants.{Gate}
-use Rattle.mig_base.specs.declared.cells.Event.{Event}
-use Rattle.mig_base.specs.declared.cells.Flight.{Flight}
-use Rattle.mig_base.specs.Arrivals.{IsArrived, IsReached}
-use Rattle.mig_base.specs.Flights.{ended, IsTargetOf, AreWithinLimits}
-use Rattle.mig_base.specs.Images.{Image, SameBut}
-use Rattle.mig_base.specs.Journals.{is_one, is_armed}
-use Rattle.mig_base.specs.JobCells.{IsMark, IsPlanSlot, IsWorkCell, IsJobCell, Tells, SettlesTo}
-use Rattle.mig_base.specs.RoundEvents.{AreRounds, IsRun, BeginsRun, Adds, StayWithinLimits}
-use Rattle.mig_base.specs.RoundStates.{HasDone}
-use Rattle.mig_base.specs.Safety.{Contents, IsSafe, IsSound}
-use Rattle.mig_base.specs.Stores.{State, flights, Changes, LeavesOnly, IsSettled}
+use Rattle.mig_base.specs.Arrivals.{IsReached}
+use Rattle.mig_base.specs.RoundEvents.{IsRun}
 use Rattle.mig_base.proofs.ArrivalLaws.{reached, reached_sound}
 use Rattle.mig_base.proofs.SafetyLaws.{sound_after}
 use Rattle.mig_base.proofs.StoreSteps.{leaves_then, leaves_wider, changes_leave, changes_then, changes_wider}
+use Rattle.mig_mover.proofs.Settling.{armed_told}
 use Rattle.mig_mover.specs.Moves.{IsReadyIdle, StaysArmed, Keeps, Enters}
-use Rattle.mig_mover.specs.Tasks.{Task, IsTask}
-use Rattle.mig_lanes.specs.LaneSteps.{later_rounds, BeginsRounds}
 use Rattle.mig_lanes.specs.Runs.{Finishes, IsPart}
 use Rattle.mig_lanes.proofs.EventSteps.{adds_then, adds_wider}
-use Rattle.mig_lanes.proofs.RoundLists.{some_rounds, all_begin}
+use Rattle.mig_lanes.proofs.RoundLists.{some_rounds}
 use Rattle.mig_lanes.proofs.RunLimits.{job_within}
 
 settles_wider : (P Q : Image → Type 0) (s : State) → ((image : Image) → P image → Q image) → SettlesTo P s → SettlesTo Q s
@@ -40,13 +31,6 @@ work_job task cell (inr slot) = inr slot
 settles_now : (P : Image → Type 0) (s : State) → SettlesTo P s → P s.reads
 settles_now P s (inl now) = now.0
 settles_now P s (inr told) = told.0 s.reads told.1
-
-pub armed_told : (image : Image) → is_armed image ≡ true → IsSome (image Gate)
-armed_told image armed = at (image Gate) armed
-  where
-    at : (cell : Option (List ℕ)) → is_one cell ≡ true → IsSome cell
-    at None one = absurd (false≢true one)
-    at (Some bytes) one = refl
 
 gate_no_work : (task : Task) → IsWorkCell task.input task.plan Gate → ⊥
 gate_no_work task (inl mark) = let e = mark.3 in cc

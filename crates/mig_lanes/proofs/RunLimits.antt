@@ -1,28 +1,18 @@
 -- The copies in flight keep the limits of disks, all through the events of rounds.
-use Rattle.std.proofs.Common.{◌≡◌, ◌⊎◌, inl, inr, ⊎_elim, ℕ, zero, suc, ◌<◌, ◌≤◌, ◌+◌, ◌-◌, ◌++◌, Bool, true, false, not, List, [], ◌∷◌, length, get_or, take, map, filter, fold, refl, sym, ◌∙◌, ap, subst, arith, append-nil, append_assoc}
-use Rattle.std.specs.List.{All, Contains, range_with_len, take-map}
-use Rattle.std.specs.List.Sorted.{IsPermutation}
-use Rattle.std.proofs.lemmas.Bool.{cases_lt, false≢true}
-use Rattle.std.proofs.lemmas.List.{take-append-le, take_all}
-use Rattle.std.proofs.Math.Seq.{take-append-add}
-use Rattle.std.proofs.lemmas.List.FromFn.{get_or-map-range_with_len, length-map-range_with_len}
-use Rattle.std.proofs.lemmas.List.Sums.{fold-append}
-use Rattle.std.proofs.lemmas.List.Elements.{All-contains, Contains-get_or, filter_passes}
-use Rattle.std.proofs.lemmas.List.Sorted.{Contains-permutation}
-use Rattle.mig_base.specs.declared.cells.Event.{Event}
-use Rattle.mig_base.specs.declared.cells.Flight.{Flight}
-use Rattle.mig_base.specs.declared.ids.Shift.{Shift}
+use Rattle.mig_base.proofs.Common.{◌≡◌, inl, inr, ℕ, zero, suc, ◌<◌, ◌≤◌, ◌+◌, ◌-◌, ◌++◌, true, false, not, List, [], ◌∷◌, length, get_or, take, map, filter, refl, sym, ◌∙◌, ap, subst, arith}
+use Rattle.mig_base.proofs.Common.{append-nil, All, Contains, IsPermutation, cases_lt, false≢true, take-append-le, take_all, get_or-map-range_with_len, length-map-range_with_len, fold-append}
+use Rattle.mig_base.proofs.Common.{All-contains, Contains-get_or, filter_passes, is_flight, began, ended, after_event, after_events, round_at, IsRound, AreRounds, BeginsRun}
+use Rattle.mig_lanes.proofs.Common.{Event, Flight, AreWithinLimits, Task, IsTask, copies_of, later_rounds, BeginsRound}
 use Rattle.mig_base.specs.declared.inputs.Disk.{Disk}
-use Rattle.mig_base.specs.Flights.{is_flight, began, ended, after_event, after_events, AreWithinLimits}
-use Rattle.mig_base.specs.Layouts.{round_at}
-use Rattle.mig_base.specs.RoundEvents.{IsRound, AreRounds, IsRun, BeginsRun, StayWithinLimits}
+use Rattle.std.specs.List.{take-map}
+use Rattle.std.proofs.Math.Seq.{take-append-add}
+use Rattle.std.proofs.lemmas.List.Sorted.{Contains-permutation}
+use Rattle.mig_base.specs.RoundEvents.{IsRun, StayWithinLimits}
 use Rattle.mig_base.proofs.Landing.{is_flight-same, contains_kept}
-use Rattle.mig_mover.specs.Tasks.{Task, IsTask}
 use Rattle.mig_mover.proofs.JobRounds.{on_disks}
-use Rattle.mig_lanes.specs.LaneSteps.{copies_of, later_rounds, BeginsRound}
 use Rattle.mig_lanes.proofs.Beginning.{flights_all_began}
 use Rattle.mig_lanes.proofs.Keeping.{copies_within}
-use Rattle.mig_lanes.proofs.Limiting.{AreFewer, count_ended, fewer_within, round_within}
+use Rattle.mig_lanes.proofs.Limiting.{count_ended, fewer_within, round_within}
 
 -- what is left in flight didn't end
 left_over : (fs zs : List Flight) (x : Flight) → Contains (after_events fs (map ended zs)) x → Contains fs x × (Contains zs x → ⊥)

@@ -13,7 +13,7 @@ use Rattle.mig_base.specs.RoundEvents.{flights_of, AreRounds}
 use Rattle.mig_base.specs.RoundStates.{IsCopied}
 use Rattle.mig_base.specs.Safety.{Contents, IsSoundAfter}
 use Rattle.mig_base.specs.Stores.{State, flights, IsSettled}
-use Rattle.mig_mover.specs.Tasks.{Task}
+use Rattle.mig_base.specs.Tasks.{Task}
 
 -- the copies of a job's round
 abbrev pub copies_of : Task → ℕ → List Flight

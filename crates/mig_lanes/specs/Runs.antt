@@ -10,7 +10,7 @@ use Rattle.mig_base.specs.Readiness.{IsReady}
 use Rattle.mig_base.specs.RoundEvents.{BeginsRun, StayWithinLimits}
 use Rattle.mig_base.specs.Safety.{Contents, IsSafe, IsSound}
 use Rattle.mig_base.specs.Stores.{State, flights, IsSettled}
-use Rattle.mig_mover.specs.Tasks.{Task}
+use Rattle.mig_base.specs.Tasks.{Task}
 use Rattle.mig_mover.specs.declared.faults.MoveFault.{MoveFault}
 use Rattle.mig_mover.specs.declared.faults.MoveFault.TheVariants.{NotThere, Occupied}
 use Rattle.mig_lanes.specs.LaneSteps.{later_rounds}

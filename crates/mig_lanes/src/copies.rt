@@ -6,7 +6,7 @@ ghost use Rattle.mig_base.specs.Images.{IsCopy};
 ghost use Rattle.mig_base.specs.Flights.{began, IsTargetOf, AreFlights};
 ghost use Rattle.mig_base.specs.RoundEvents.{IsRound};
 ghost use Rattle.mig_base.specs.Stores.{State, flights, Changes, Ends, IsSettled, HasCause};
-ghost use Rattle.mig_mover.specs.Tasks.{Task};
+ghost use Rattle.mig_base.specs.Tasks.{Task};
 ghost use Rattle.mig_lanes.specs.LaneSteps.{copies_of, BeginsRound, HaveLanded};
 
 use mig_mover::Job;

@@ -11,7 +11,7 @@ ghost use Rattle.mig_base.specs.RoundEvents.{IsRun, Adds};
 ghost use Rattle.mig_base.specs.Safety.{Contents, IsSafe};
 ghost use Rattle.mig_base.specs.Stores.{State, flights, LeavesOnly};
 ghost use Rattle.mig_mover.specs.Moves.{IsFault, IsReadyIdle, IsStartFault, IsResumeFault, Keeps, MayBeHalting, StaysArmed};
-ghost use Rattle.mig_mover.specs.Tasks.{Task};
+ghost use Rattle.mig_base.specs.Tasks.{Task};
 ghost use Rattle.mig_lanes.specs.LaneSteps.{later_rounds};
 ghost use Rattle.mig_lanes.specs.Runs.{Finishes, IsJournalFault, IsPart};
 

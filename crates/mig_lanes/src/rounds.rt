@@ -6,7 +6,7 @@ ghost use Rattle.mig_base.specs.RoundStates.{HasDone};
 ghost use Rattle.mig_base.specs.Safety.{Contents, IsSound};
 ghost use Rattle.mig_base.specs.Stores.{State, flights, Changes, ChangesOnly, LeavesOnly, IsSettled, HasCause};
 ghost use Rattle.mig_base.specs.declared.cells.Event.{Event};
-ghost use Rattle.mig_mover.specs.Tasks.{Task};
+ghost use Rattle.mig_base.specs.Tasks.{Task};
 ghost use Rattle.mig_lanes.specs.LaneSteps.{copies_of, later_rounds, BeginsRound, BeginsRounds, HasCopied};
 
 use crate::copies::run_copies;

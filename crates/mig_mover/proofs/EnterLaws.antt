@@ -1,38 +1,22 @@
 -- How a migration is entered from a settled store.
-use Rattle.std.proofs.Common.{◌≡◌, ◌⊎◌, inl, inr, Bool, true, false, ℕ, zero, suc, ◌<◌, ◌≤◌, List, [], ◌∷◌, length, get_or, Option, Some, None, IfSome, IsSome, refl, sym, ◌∙◌, ap, subst, arith}
-use Rattle.std.specs.List.{All, Contains, prefix_len, range_with_len}
-use Rattle.std.proofs.lemmas.Bool.{cases_Bool, false≢true, cond-true}
-use Rattle.std.proofs.lemmas.List.{get_or_default}
-use Rattle.std.proofs.lemmas.List.Elements.{Contains-get_or}
-use Rattle.mig_base.specs.declared.ids.Spot.{Spot}
-use Rattle.mig_base.specs.declared.ids.Shift.{Shift}
-use Rattle.mig_base.specs.declared.cells.Cell.{Cell}
-use Rattle.mig_base.specs.declared.cells.Cell.TheVariants.{Slot, Head, Gate, Mark}
-use Rattle.mig_base.specs.InputLists.{Lists}
-use Rattle.mig_base.specs.Layouts.{round_at, At}
-use Rattle.mig_base.specs.Images.{Image, NoCell, SameBut}
-use Rattle.mig_base.specs.Journals.{is_one, is_armed, is_marked, count_of}
-use Rattle.mig_base.specs.JobCells.{IsMark, IsJournal, IsPlanSlot, IsJobCell, Tells}
-use Rattle.mig_base.specs.Readiness.{shifts_of, IsReady}
-use Rattle.mig_base.specs.RoundStates.{IsSourceSlot, IsInUse, HasDone}
-use Rattle.mig_base.specs.Safety.{Contents, HasContents, IsSafeAt, IsSafe, IsCleanAt, IsSafeAfter, IsSound, IsSoundAfter}
-use Rattle.mig_base.specs.Slots.{slot_of, zeros, item_cell, header_of, HasHeader, first_byte}
-use Rattle.mig_base.specs.Stores.{State, IsState, flights, Changes, ChangesOnly, LeavesOnly, IsSettled}
-use Rattle.mig_base.specs.Texts.{item_name}
+use Rattle.mig_base.proofs.Common.{◌≡◌, ◌⊎◌, inl, inr, Bool, true, false, ℕ, ◌<◌, ◌≤◌, List, [], ◌∷◌, length, get_or, Option, Some, None, IfSome, IsSome, refl, sym, ◌∙◌, ap, subst, arith, All}
+use Rattle.mig_base.proofs.Common.{prefix_len, range_with_len, cases_Bool, false≢true, cond-true, get_or_default, Lists, round_at, At, Image, NoCell, SameBut, is_one, is_armed, is_marked, count_of}
+use Rattle.mig_base.proofs.Common.{IsMark, IsJobCell, Tells, IsSourceSlot, IsInUse, Contents, IsSafeAt, IsSound, IsSoundAfter, slot_of, State, IsState, flights, ChangesOnly, LeavesOnly, IsSettled}
+use Rattle.mig_base.proofs.Common.{item_name}
+use Rattle.mig_mover.proofs.Common.{Cell, Head, Gate, Shift, Spot, AreZeros, IsRunning, Task, IsTask}
+use Rattle.mig_base.specs.declared.cells.Cell.TheVariants.{Mark}
+use Rattle.mig_base.specs.JobCells.{IsJournal}
+use Rattle.mig_base.specs.Readiness.{IsReady}
+use Rattle.mig_base.specs.Safety.{HasContents, IsCleanAt}
+use Rattle.mig_base.specs.Slots.{HasHeader, first_byte}
 use Rattle.mig_base.proofs.ArrivalLaws.{idle_sound, idle_stand, fresh_sound}
 use Rattle.mig_base.proofs.Landing.{flights_same}
 use Rattle.mig_base.proofs.MarkCounts.{count_idle}
 use Rattle.mig_base.proofs.SafetyLaws.{other_bytes, sound_after}
-use Rattle.mig_base.proofs.StoreSteps.{same_image, same_then, same_wider, told_kept, leaves_then, leaves_wider, changes_leave, changes_then, changes_wider, quiet_leaves, settled_change}
-use Rattle.mig_journal.proofs.Steps.{then_step, then_quiet, quiet_same}
-use Rattle.mig_journal.specs.FreshJournals.{AreUnmarked, IsFresh, IsArming}
-use Rattle.mig_mover.specs.Erasures.{AreZeros}
-use Rattle.mig_mover.specs.Moves.{IsRunning, IsReadyIdle, KeepsOn, EntersOn}
-use Rattle.mig_mover.specs.Tasks.{Task, IsTask}
-
-told_is : (cell : Option (List ℕ)) (bytes : List ℕ) → IsSome cell → IfSome cell (λ told. told ≡ bytes) → cell ≡ Some bytes
-told_is None bytes some is = cc
-told_is (Some told) bytes some is = ap Some is
+use Rattle.mig_base.proofs.StoreSteps.{same_then, same_wider, told_kept, leaves_then, leaves_wider, changes_leave, changes_then, changes_wider, quiet_leaves, settled_change, told_is, tells_kept}
+use Rattle.mig_journal.proofs.Steps.{then_step, quiet_same}
+use Rattle.mig_journal.specs.FreshJournals.{IsFresh, IsArming}
+use Rattle.mig_mover.specs.Moves.{IsReadyIdle, KeepsOn, EntersOn}
 
 zero_mark : (cell : Option (List ℕ)) → IfSome cell (λ bytes. bytes ≡ 0 ∷ []) → is_one cell ≡ false
 zero_mark None is = refl
@@ -45,9 +29,6 @@ slot_no_journal : (input : Lists) (rounds : ℕ) (spot : Spot) → IsJournal rou
 slot_no_journal input rounds spot (inl head) = cc
 slot_no_journal input rounds spot (inr (inl gate)) = cc
 slot_no_journal input rounds spot (inr (inr mark)) = let e = mark.3 in cc
-
-tells_kept : (P Q : Cell → Type 0) (old new : Image) → SameBut P old new → Tells Q old → Tells Q new
-tells_kept P Q old new same tells cell of = told_kept P old new same cell (tells cell of)
 
 module _ (task : Task) where
   head_job : IsJobCell task.input task.plan Head

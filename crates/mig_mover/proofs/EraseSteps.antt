@@ -1,23 +1,9 @@
 -- The steps of a loop over a round that erases what its shifts leave.
-use Rattle.std.proofs.Common.{◌≡◌, ◌⊎◌, inl, inr, ℕ, ◌<◌, ◌≤◌, ◌+◌, List, [], length, get_or, Option, Some, map, refl, sym, ◌∙◌, ap, subst, arith}
-use Rattle.std.specs.Prelude.{IsTrue, slice_get}
-use Rattle.std.specs.List.{AllWithin}
-use Rattle.std.proofs.lemmas.Bool.{cases_eq}
-use Rattle.std.proofs.lemmas.List.{get_or_default}
-use Rattle.std.proofs.lemmas.Option.{slice_get-get_or}
-use Rattle.mig_base.specs.declared.cells.Cell.{Cell}
-use Rattle.mig_base.specs.declared.cells.Flight.{Flight}
-use Rattle.mig_base.specs.declared.ids.Shift.{Shift}
-use Rattle.mig_base.specs.Cells.{is_slot}
-use Rattle.mig_base.specs.Images.{Image, SameBut}
-use Rattle.mig_base.specs.InputLists.{Lists}
-use Rattle.mig_base.specs.Layouts.{round_at, IsSource}
-use Rattle.mig_base.specs.RoundEvents.{flight_of, flights_of}
-use Rattle.mig_base.specs.RoundStates.{IsSourceSlot}
-use Rattle.mig_base.specs.Slots.{slot_of}
+use Rattle.mig_base.proofs.Common.{◌≡◌, ◌⊎◌, inl, inr, ℕ, ◌<◌, ◌+◌, List, length, get_or, Some, refl, sym, ◌∙◌, ap, subst, arith, IsTrue, slice_get, AllWithin, cases_eq, get_or_default}
+use Rattle.mig_base.proofs.Common.{slice_get-get_or, is_slot, Image, SameBut, Lists, round_at, flight_of, flights_of, IsSourceSlot, slot_of}
+use Rattle.mig_mover.proofs.Common.{Cell, Flight, Shift, AreZeros}
 use Rattle.mig_base.proofs.CellTests.{cases_cell}
 use Rattle.mig_base.proofs.Listed.{at_map}
-use Rattle.mig_mover.specs.Erasures.{AreZeros}
 
 in_some : (f g : Flight) → Some f ≡ Some g → f ≡ g
 in_some f g e = cc

@@ -1,38 +1,19 @@
 -- The steps of a filling.
-use Rattle.std.proofs.Common.{◌≡◌, ◌⊎◌, inl, inr, ⊎_elim, ◌<◌, ◌≤◌, ◌+◌, ◌++◌, ℕ, List, [], length, get_or, map, Option, Some, None, Bool, false, Contains, Result, OnOk, IfSome, IsSome, refl, sym, ◌∙◌, ap, subst, arith, append-nil}
-use Rattle.std.specs.Prelude.{All, slice_get}
-use Rattle.std.specs.List.{AllWithin}
-use Rattle.std.proofs.lemmas.Bool.{cases_eq, false≢true}
-use Rattle.std.proofs.lemmas.List.{get_or_default}
-use Rattle.std.proofs.lemmas.List.Elements.{Contains-get_or}
-use Rattle.std.proofs.lemmas.Option.{slice_get-get_or, slice_get_within, get_or_from_slice_get}
-use Rattle.mig_base.specs.declared.cells.Cell.{Cell}
-use Rattle.mig_base.specs.declared.cells.Cell.TheVariants.{Gate}
+use Rattle.mig_base.proofs.Common.{◌≡◌, ◌⊎◌, inl, inr, ◌<◌, ◌≤◌, ◌+◌, ℕ, List, [], length, get_or, Option, Some, false, Result, IfSome, refl, sym, ◌∙◌, ap, subst, arith, append-nil, All, slice_get}
+use Rattle.mig_base.proofs.Common.{AllWithin, cases_eq, get_or_default, Contains-get_or, slice_get-get_or, slice_get_within, get_or_from_slice_get, IsTargetOf, Image, NoCell, SameBut, IsInput, Lists}
+use Rattle.mig_base.proofs.Common.{no_spot, Tells, is_one, is_armed, At, BeginsRun, item_cell, slot_of, IsUsed, IsUnused, State, flights, Changes, ChangesOnly, Ends, item_name}
+use Rattle.mig_mover.proofs.Common.{Cell, Gate, Flight, Shift, Spot, IsListedCell, IsRunning, Settles, MoveFault, Store, Started, OtherPlan, NotStarted, NotThere, Occupied}
 use Rattle.mig_base.specs.declared.cells.Event.{Event}
-use Rattle.mig_base.specs.declared.cells.Flight.{Flight}
-use Rattle.mig_base.specs.declared.ids.Shift.{Shift}
-use Rattle.mig_base.specs.declared.ids.Spot.{Spot}
-use Rattle.mig_base.specs.FaultCounts.{Rose}
-use Rattle.mig_base.specs.Flights.{IsTargetOf}
-use Rattle.mig_base.specs.Images.{Image, NoCell, SameBut}
-use Rattle.mig_base.specs.InputLists.{IsInput, Lists, no_spot}
-use Rattle.mig_base.specs.JobCells.{Tells}
-use Rattle.mig_base.specs.Journals.{is_one, is_armed}
-use Rattle.mig_base.specs.Layouts.{At}
-use Rattle.mig_base.specs.RoundEvents.{BeginsRun}
+use Rattle.std.proofs.Common.{OnOk}
 use Rattle.mig_base.specs.Safety.{HasContents}
-use Rattle.mig_base.specs.Slots.{item_cell, slot_of, made_slot, IsListedCell, IsUsed, IsUnused}
-use Rattle.mig_base.specs.Stores.{State, flights, Changes, ChangesOnly, Ends}
-use Rattle.mig_base.specs.Texts.{item_name}
+use Rattle.mig_base.specs.Slots.{made_slot}
 use Rattle.mig_base.proofs.ArrivalLaws.{idle_sound}
 use Rattle.mig_base.proofs.Rounds.{spot_disk}
 use Rattle.mig_base.proofs.SafetyLaws.{slot_apart}
-use Rattle.mig_base.proofs.StoreSteps.{changes_then, changes_wider}
+use Rattle.mig_base.proofs.StoreSteps.{changes_then, changes_wider, told_is}
 use Rattle.mig_journal.proofs.Steps.{quiet_same, then_step, then_sync, still_none, sync_same}
 use Rattle.mig_mover.specs.Fillings.{IsFillable, IsFillFault, IsFillFaultOn, IsFillRefusal, IsFirstTaken, HasMade, made_contents, IsSoundForAll}
-use Rattle.mig_mover.specs.Moves.{IsRunning, Lands, Settles}
-use Rattle.mig_mover.specs.declared.faults.MoveFault.{MoveFault}
-use Rattle.mig_mover.specs.declared.faults.MoveFault.TheVariants.{Store, Started, OtherPlan, NotStarted, NotThere, Occupied}
+use Rattle.mig_mover.specs.Moves.{Lands}
 use Rattle.mig_mover.proofs.Settling.{settles_land, settles_quiet, reads_kept}
 
 -- Looking at listed spots
@@ -81,16 +62,12 @@ module _ (input : Lists) (valid : IsInput input) (item : ℕ) (lt : item < lengt
 
 -- What is sound once the slots are made
 
-some_is : (told : Option (List ℕ)) (bytes : List ℕ) → IsSome told → IfSome told (λ slot. slot ≡ bytes) → told ≡ Some bytes
-some_is None bytes some is = absurd (false≢true some)
-some_is (Some slot) bytes some is = ap Some is
-
 module _ (input : Lists) (valid : IsInput input) (image : Image) (made : HasMade input image) where
   made_stand : Tells (IsListedCell input) image → (plan : List (List Shift)) → HasContents input (At input plan 0) (made_contents input) image
   made_stand tells plan item spot at =
       let lt : item < length input.items = subst (λ (n : ℕ). item < n) valid.spots_len (slice_get_within input.spots item spot at) in
       let is : get_or input.spots item no_spot ≡ spot = get_or_from_slice_get input.spots item spot no_spot at in
-      sym (ap (λ (p : Spot). image (slot_of input p)) is) ∙ some_is (image (item_cell input item)) (made_slot (item_name input item)) (tells (item_cell input item) (listed_cell input valid item lt (item_cell input item) refl)) (made item lt)
+      sym (ap (λ (p : Spot). image (slot_of input p)) is) ∙ told_is (image (item_cell input item)) (made_slot (item_name input item)) (tells (item_cell input item) (listed_cell input valid item lt (item_cell input item) refl)) (made item lt)
 
   pub made_sound : is_armed image ≡ false → IsSoundForAll input image
   made_sound idle tells asked plan digest = idle_sound asked input plan digest (made_contents input) image (made_stand tells plan) idle

@@ -1,25 +1,15 @@
 -- Closing a migration early: the free slots are erased, the store is synced, and the journal is closed.
-use Rattle.std.proofs.Common.{◌≡◌, inl, inr, ⊎_elim, ℕ, ◌≤◌, List, [], ◌∷◌, length, Option, Some, None, IfSome, IsSome, refl, sym, ◌∙◌, ap, subst}
-use Rattle.std.proofs.lemmas.Bool.{false≢true}
-use Rattle.mig_base.specs.declared.cells.Cell.TheVariants.{Gate}
+use Rattle.mig_base.proofs.Common.{◌≡◌, inl, inr, ⊎_elim, ℕ, ◌≤◌, [], ◌∷◌, length, Some, IfSome, IsSome, refl, sym, ◌∙◌, ap, subst, false≢true, Image, NoCell, is_one, count_of, IsFreeSlot, Tells}
+use Rattle.mig_base.proofs.Common.{Contents, IsSafeAt, IsSafe, slot_of, State, IsState, ChangesOnly, LeavesOnly, IsSettled}
+use Rattle.mig_mover.proofs.Common.{Gate, AreZeros, Task, IsTask}
 use Rattle.mig_base.specs.Arrivals.{AreFreeZeros, IsHalted, IsHaltSafe}
-use Rattle.mig_base.specs.Images.{Image, NoCell}
-use Rattle.mig_base.specs.Journals.{is_one, count_of}
-use Rattle.mig_base.specs.JobCells.{IsFreeSlot, IsHaltCell, Tells}
-use Rattle.mig_base.specs.Safety.{Contents, IsSafeAt, IsSafe, IsSafeAfter}
-use Rattle.mig_base.specs.Slots.{slot_of}
-use Rattle.mig_base.specs.Stores.{State, IsState, ChangesOnly, LeavesOnly, IsSettled}
+use Rattle.mig_base.specs.JobCells.{IsHaltCell}
+use Rattle.mig_base.specs.Safety.{IsSafeAfter}
 use Rattle.mig_base.proofs.ArrivalLaws.{free_bytes, gate_bytes}
-use Rattle.mig_base.proofs.StoreSteps.{same_wider, same_then, told_kept, leaves_then, changes_leave, changes_wider, quiet_leaves}
+use Rattle.mig_base.proofs.StoreSteps.{same_wider, same_then, told_kept, leaves_then, changes_leave, changes_wider, quiet_leaves, told_is}
 use Rattle.mig_journal.proofs.Steps.{then_step, then_quiet, quiet_same}
-use Rattle.mig_mover.specs.Erasures.{AreZeros}
 use Rattle.mig_mover.specs.Halts.{AreErased, IsClosingCell, KeepsHaltSafe, EndsHalted}
 use Rattle.mig_mover.specs.Stands.{IsAt}
-use Rattle.mig_mover.specs.Tasks.{Task, IsTask}
-
-told_is : (cell : Option (List ℕ)) (bytes : List ℕ) → IsSome cell → IfSome cell (λ told. told ≡ bytes) → cell ≡ Some bytes
-told_is None bytes some is = absurd (false≢true some)
-told_is (Some told) bytes some is = ap Some is
 
 module _ (task : Task) (is : IsTask task) (k : ℕ) (most : k ≤ length task.plan) (old erased : State) (erase : ChangesOnly (IsFreeSlot task.input task.plan k) old erased) where
   pub change_erased : ChangesOnly (IsClosingCell task k) old erased

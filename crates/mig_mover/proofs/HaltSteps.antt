@@ -1,21 +1,10 @@
 -- The steps of a loop over vacancies that erases those that last.
-use Rattle.std.proofs.Common.{◌≡◌, ◌⊎◌, inl, inr, ℕ, ◌+◌, ◌<◌, ◌≤◌, List, length, get_or, sym, ◌∙◌, ap, subst, arith}
-use Rattle.std.specs.List.{AllWithin}
-use Rattle.std.proofs.lemmas.Bool.{cases_eq, cases_lt}
-use Rattle.std.proofs.lemmas.List.{get_or_default}
-use Rattle.mig_base.specs.declared.cells.Cell.{Cell}
-use Rattle.mig_base.specs.declared.ids.Spot.{Spot}
-use Rattle.mig_base.specs.InputLists.{no_spot}
-use Rattle.mig_base.specs.Images.{Image, SameBut}
-use Rattle.mig_base.specs.JobCells.{IsFreeSlot}
-use Rattle.mig_base.specs.Slots.{slot_of}
+use Rattle.mig_base.proofs.Common.{◌≡◌, ◌⊎◌, inl, inr, ℕ, ◌+◌, ◌<◌, ◌≤◌, List, length, get_or, sym, ◌∙◌, ap, subst, arith, AllWithin, cases_eq, cases_lt, get_or_default, no_spot, Image, SameBut}
+use Rattle.mig_base.proofs.Common.{IsFreeSlot, slot_of}
+use Rattle.mig_mover.proofs.Common.{Cell, Spot, AreZeros, Task, IsTask, IsVacant, AreVacancies, Vacancy}
 use Rattle.mig_base.proofs.ArrivalLaws.{named_on_disk}
 use Rattle.mig_base.proofs.CellTests.{cases_cell}
-use Rattle.mig_mover.specs.Erasures.{AreZeros}
 use Rattle.mig_mover.specs.Halts.{AreErased}
-use Rattle.mig_mover.specs.Tasks.{Task, IsTask}
-use Rattle.mig_mover.specs.Vacancies.{IsVacant, AreVacancies}
-use Rattle.mig_mover.specs.declared.vacancies.Vacancy.{Vacancy}
 
 -- what a vacancy that isn't there would be
 abbrev pub no_vacancy : Vacancy

@@ -1,25 +1,11 @@
 -- The rounds of a job.
-use Rattle.std.proofs.Common.{◌≡◌, ◌⊎◌, inl, inr, ℕ, zero, suc, ◌+◌, ◌-◌, ◌<◌, ◌≤◌, ◌++◌, List, [], ◌∷◌, length, get_or, take, Option, Some, map, refl, sym, ◌∙◌, ap, subst, arith, length-append}
-use Rattle.std.specs.Prelude.{slice_get}
-use Rattle.std.specs.List.{Contains, All}
-use Rattle.std.proofs.lemmas.List.{get_or_default}
-use Rattle.std.proofs.lemmas.List.Elements.{Contains-get_or}
-use Rattle.std.proofs.lemmas.Option.{slice_get-get_or}
-use Rattle.mig_base.specs.declared.cells.Cell.{Cell}
-use Rattle.mig_base.specs.declared.cells.Flight.{Flight}
-use Rattle.mig_base.specs.declared.ids.Spot.{Spot}
-use Rattle.mig_base.specs.declared.ids.Shift.{Shift}
+use Rattle.mig_base.proofs.Common.{◌≡◌, ℕ, zero, suc, ◌+◌, ◌-◌, ◌<◌, ◌≤◌, List, [], ◌∷◌, length, get_or, take, Some, sym, ◌∙◌, ap, subst, arith, length-append, slice_get, Contains, get_or_default}
+use Rattle.mig_base.proofs.Common.{Contains-get_or, slice_get-get_or, Lists, no_spot, round_at, At, shifts_of, flight_of, flights_of, slot_of}
+use Rattle.mig_mover.proofs.Common.{Cell, Shift, Task, IsTask}
 use Rattle.mig_base.specs.declared.limits.TheConstants.{MAX_FILE_BYTES}
-use Rattle.mig_base.specs.InputLists.{Lists, IsInput, no_spot}
-use Rattle.mig_base.specs.Layouts.{round_at, At}
-use Rattle.mig_base.specs.Readiness.{shifts_of}
-use Rattle.mig_base.specs.RoundEvents.{flight_of, flights_of}
-use Rattle.mig_base.specs.Running.{Runs, IsLegal}
-use Rattle.mig_base.specs.Slots.{slot_of}
 use Rattle.mig_base.proofs.Listed.{at_map}
 use Rattle.mig_base.proofs.Rounds.{to_disk, from_disk}
 use Rattle.mig_base.proofs.SafetyLaws.{layout_at}
-use Rattle.mig_mover.specs.Tasks.{Task, IsTask}
 
 -- a round's shifts come after those of the rounds before it
 pub shifts_counted : (plan : List (List Shift)) (i : ℕ) (d : List Shift) → i < length plan → length (shifts_of (take i plan)) + length (get_or plan i d) ≤ length (shifts_of plan)

@@ -1,11 +1,10 @@
 -- A list that is filled with what stands in its front.
-use Rattle.std.proofs.Common.{◌≡◌, ◌⊎◌, inl, inr, ◌<◌, ◌≤◌, ◌+◌, ◌-◌, ◌%◌, ◌++◌, ◌∷◌, ℕ, zero, suc, List, [], length, get_or, take, drop, map, min, replicate, refl, sym, ◌∙◌, ap, subst, arith, append_assoc, append-nil}
-use Rattle.std.specs.List.{range_with_len}
-use Rattle.std.proofs.lemmas.Bool.{cases_lt}
+use Rattle.mig_base.proofs.Common.{◌≡◌, ◌⊎◌, inl, inr, ◌<◌, ◌≤◌, ◌+◌, ◌-◌, ◌%◌, ◌++◌, ◌∷◌, ℕ, zero, suc, List, [], length, get_or, take, drop, map, min, replicate, refl, sym, ◌∙◌, ap, arith}
+use Rattle.mig_base.proofs.Common.{append_assoc, append-nil, range_with_len, cases_lt, take-append_seam, take-append-le, fill_by_all, length-map-range_with_len}
 use Rattle.std.proofs.Math.Nat.{add-mod_left, mod-eq_of_lt}
-use Rattle.std.proofs.Math.Seq.{take-append_seam, drop-append-add}
-use Rattle.std.proofs.lemmas.List.{drop-replicate, take-append-le}
-use Rattle.std.proofs.lemmas.List.FromFn.{fill_by_all, length-map-range_with_len, map-range_with_len_more, take-map-range_with_len}
+use Rattle.std.proofs.Math.Seq.{drop-append-add}
+use Rattle.std.proofs.lemmas.List.{drop-replicate}
+use Rattle.std.proofs.lemmas.List.FromFn.{map-range_with_len_more, take-map-range_with_len}
 
 module _ (byte : ℕ → ℕ) where
   -- the first n bytes

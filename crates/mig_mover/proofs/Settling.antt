@@ -1,34 +1,20 @@
 -- What the first sync of a call gives.
-use Rattle.std.proofs.Common.{◌≡◌, ◌⊎◌, inl, inr, ⊎_elim, Bool, true, false, ℕ, suc, ◌≤◌, ◌++◌, List, [], length, map, Option, Some, None, Result, Ok, Err, IfOk, IfErr, IfSome, IsSome, refl, sym, ◌∙◌, ap, subst, arith, append-nil}
-use Rattle.std.specs.List.Sorted.{IsPermutation}
-use Rattle.std.proofs.lemmas.List.{map-append}
-use Rattle.std.proofs.lemmas.List.Sorted.{IsPermutation-sym}
-use Rattle.std.proofs.lemmas.Bool.{cases_Bool, false≢true}
-use Rattle.mig_base.specs.declared.cells.Cell.{Cell}
-use Rattle.mig_base.specs.declared.cells.Cell.TheVariants.{Head, Gate, Mark}
+use Rattle.mig_base.proofs.Common.{◌≡◌, ◌⊎◌, inl, inr, true, false, ℕ, suc, ◌≤◌, ◌++◌, List, [], length, map, Option, Some, None, Result, Ok, Err, IfOk, IfErr, IfSome, IsSome, refl, sym, ◌∙◌, ap}
+use Rattle.mig_base.proofs.Common.{subst, arith, append-nil, IsPermutation, map-append, cases_Bool, false≢true, is_slot, ended, IsTargetOf, AreFlights, Image, NoCell, is_one, is_armed, is_marked}
+use Rattle.mig_base.proofs.Common.{count_of, IsJobCell, Tells, SettlesTo, BeginsRun, Adds, Contents, IsSafeAt, IsSound, State, IsState, flights, Changes, ChangesOnly, LeavesOnly, Ends, IsSettled}
+use Rattle.mig_mover.proofs.Common.{Cell, Head, Gate, Flight, is_running, Settles, IsRunning, Task, MoveFault, Store, Started, OtherPlan, NotStarted, NotThere, Occupied}
+use Rattle.mig_base.specs.declared.cells.Cell.TheVariants.{Mark}
 use Rattle.mig_base.specs.declared.cells.Event.{Event}
-use Rattle.mig_base.specs.declared.cells.Flight.{Flight}
-use Rattle.mig_base.specs.Cells.{is_slot}
-use Rattle.mig_base.specs.FaultCounts.{Rose}
+use Rattle.std.proofs.lemmas.List.Sorted.{IsPermutation-sym}
 use Rattle.mig_base.specs.Arrivals.{IsHaltSafe}
-use Rattle.mig_base.specs.Flights.{ended, IsTargetOf, AreFlights}
-use Rattle.mig_base.specs.Images.{Image, NoCell, SameBut}
-use Rattle.mig_base.specs.Journals.{is_one, is_armed, is_marked, count_of}
-use Rattle.mig_base.specs.JobCells.{IsJobCell, Tells, SettlesTo}
 use Rattle.mig_base.specs.Readiness.{IsReady}
-use Rattle.mig_base.specs.RoundEvents.{IsRun, BeginsRun, Adds}
-use Rattle.mig_base.specs.Safety.{Contents, IsSafeAt, IsSound}
-use Rattle.mig_base.specs.Stores.{State, IsState, flights, Changes, ChangesOnly, LeavesOnly, Ends, IsSettled}
+use Rattle.mig_base.specs.RoundEvents.{IsRun}
 use Rattle.mig_base.proofs.Landing.{target_permuted, target_left, no_target, flights_same}
-use Rattle.mig_base.proofs.MarkCounts.{AreMarked, counted, count_is, count_idle}
+use Rattle.mig_base.proofs.MarkCounts.{counted, count_is, count_idle}
 use Rattle.mig_base.proofs.StoreSteps.{same_image, same_wider, told_kept, leaves_then, changes_then, changes_wider, quiet_leaves, settled_change, events_none}
-use Rattle.mig_journal.specs.SeenJournals.{is_running}
 use Rattle.mig_journal.specs.declared.looking.Seen.{Seen}
 use Rattle.mig_journal.specs.declared.looking.Seen.TheVariants.{Idle}
-use Rattle.mig_mover.specs.Moves.{Lands, Settles, IsRunning, IsRefusal, IsPlanFault, IsFault, IsReadyIdle, MayBeHalting, Keeps, Enters, KeepsOn, EntersOn, IsFaultOn}
-use Rattle.mig_mover.specs.Tasks.{Task}
-use Rattle.mig_mover.specs.declared.faults.MoveFault.{MoveFault}
-use Rattle.mig_mover.specs.declared.faults.MoveFault.TheVariants.{Store, Started, OtherPlan, NotStarted, NotThere, Occupied}
+use Rattle.mig_mover.specs.Moves.{Lands, IsRefusal, IsPlanFault, IsFault, IsReadyIdle, MayBeHalting, Keeps, Enters, KeepsOn, EntersOn, IsFaultOn}
 
 module _ (these : List Flight) (old new : State) (ends : Ends these old new) where
   within : (cell : Cell) → IsTargetOf these cell → IsTargetOf (flights old) cell
@@ -203,7 +189,7 @@ if_err (Err e) gives p = gives e p
 
 -- Where the gate is 1
 
-armed_told : (image : Image) → is_armed image ≡ true → IsSome (image Gate)
+pub armed_told : (image : Image) → is_armed image ≡ true → IsSome (image Gate)
 armed_told image armed = at (image Gate) armed
   where
     at : (cell : Option (List ℕ)) → is_one cell ≡ true → IsSome cell

@@ -1,20 +1,13 @@
 -- Where a migration stands: the first sync, and then what looks at a settled store find.
-use Rattle.std.proofs.Common.{◌≡◌, inl, inr, ◌≤◌, true, false, ℕ, List, length, Option, Some, Result, Ok, Err, IfOk, IfErr, IfSome, IsOk, IsSome, refl, sym, ◌∙◌, subst, arith}
-use Rattle.std.specs.List.{prefix_len, range_with_len}
-use Rattle.std.proofs.lemmas.Bool.{cond-true, false≢true}
-use Rattle.mig_base.specs.declared.cells.Cell.TheVariants.{Gate, Head}
+use Rattle.mig_base.proofs.Common.{◌≡◌, inl, inr, ◌≤◌, true, false, ℕ, List, length, Option, Some, Result, Ok, Err, IfOk, IfErr, IfSome, IsSome, refl, sym, ◌∙◌, subst, arith, prefix_len}
+use Rattle.mig_base.proofs.Common.{range_with_len, cond-true, false≢true, AreFlights, Image, NoCell, is_armed, is_marked, count_of, IsMark, IsJobCell, Tells, State, flights, ChangesOnly}
+use Rattle.mig_mover.proofs.Common.{Gate, Head, IsRunning, Settles, Task, MoveFault, Store, Started, OtherPlan, NotStarted, NotThere, Occupied}
+use Rattle.std.proofs.Common.{IsOk}
 use Rattle.mig_base.specs.FaultCounts.{Rose}
-use Rattle.mig_base.specs.Flights.{AreFlights}
-use Rattle.mig_base.specs.Images.{Image, NoCell}
-use Rattle.mig_base.specs.Journals.{is_armed, is_marked, count_of}
-use Rattle.mig_base.specs.JobCells.{IsMark, IsJournal, IsJobCell, Tells}
-use Rattle.mig_base.specs.Stores.{State, flights, ChangesOnly}
+use Rattle.mig_base.specs.JobCells.{IsJournal}
 use Rattle.mig_base.proofs.StoreSteps.{same_image}
-use Rattle.mig_mover.specs.Moves.{IsRunning, IsRefusal, Settles}
+use Rattle.mig_mover.specs.Moves.{IsRefusal}
 use Rattle.mig_mover.specs.Stands.{IsAt, Stands, IsOtherFault, IsStandFault}
-use Rattle.mig_mover.specs.Tasks.{Task}
-use Rattle.mig_mover.specs.declared.faults.MoveFault.{MoveFault}
-use Rattle.mig_mover.specs.declared.faults.MoveFault.TheVariants.{Store, Started, OtherPlan, NotStarted, NotThere, Occupied}
 use Rattle.mig_mover.proofs.Settling.{tells_more, journal_kept, gate_kept, count_kept, settles_quiet, head_is}
 
 module _ (task : Task) (old mid : State) (settles : Settles old mid) (later : old.faults ≤ mid.faults) (running : IsRunning mid.reads)

@@ -1,22 +1,13 @@
 -- How the tables of a job come to be.
-use Rattle.std.proofs.Common.{◌≡◌, ◌⊎◌, inl, inr, ⊎_elim, ℕ, zero, suc, ◌+◌, ◌<◌, ◌≤◌, ◌++◌, ◌==◌, ◌||◌, ◌&&◌, not, Bool, true, false, cond, List, [], ◌∷◌, length, get_or, take, set, map, filter, refl, sym, ◌∙◌, ap, subst, arith, append-nil}
-use Rattle.std.specs.Prelude.{IsTrue, ◌↔◌, slice_get}
-use Rattle.std.specs.List.{All, Any, Contains, list_any, flat_map}
-use Rattle.std.proofs.lemmas.Bool.{cases_eq, cases_Bool, and_parts, eq-eqb, eqb-true, ne_eqb, false≢true, cond-true, cond-false}
-use Rattle.std.proofs.lemmas.List.{get_or-set_same, get_or-set_other, take_more, map-append, get_or_default, get_or-take, length-take}
-use Rattle.std.proofs.lemmas.List.{append_assoc}
-use Rattle.std.proofs.lemmas.List.Elements.{All-contains, Contains-get_or, filter_more, filter-append}
-use Rattle.std.proofs.lemmas.List.Folds.{list_any_more, list_any-append, list_any_at, Any-from_list_any}
+use Rattle.mig_base.proofs.Common.{◌≡◌, inl, inr, ℕ, suc, ◌+◌, ◌<◌, ◌++◌, ◌==◌, ◌&&◌, not, Bool, true, false, cond, List, [], ◌∷◌, length, get_or, take, map, refl, sym, ◌∙◌, ap, arith, append-nil}
+use Rattle.mig_base.proofs.Common.{IsTrue, ◌↔◌, Contains, list_any, cases_Bool, and_parts, eq-eqb, eqb-true, false≢true, take_more, get_or_default, get_or-take, Any-from_list_any, Lists, AreDifferent}
+use Rattle.mig_base.proofs.Common.{At, round_at, shifts_of, Runs}
+use Rattle.mig_mover.proofs.Common.{Shift, Spot, same_spot, free_targets}
+use Rattle.std.proofs.lemmas.List.{length-take}
+use Rattle.std.proofs.lemmas.List.Folds.{list_any_at}
 use Rattle.std.proofs.lemmas.Grind.{flat_map-append}
-use Rattle.mig_base.specs.declared.ids.Spot.{Spot}
-use Rattle.mig_base.specs.declared.ids.Shift.{Shift}
-use Rattle.mig_base.specs.InputLists.{Lists, IsInput, AreDifferent}
-use Rattle.mig_base.specs.Layouts.{At, round_at}
-use Rattle.mig_base.specs.Readiness.{shifts_of}
-use Rattle.mig_base.specs.Running.{Runs, is_of}
 use Rattle.mig_base.proofs.LayoutSteps.{At-item}
 use Rattle.mig_base.proofs.Rounds.{leaves}
-use Rattle.mig_mover.specs.JobTables.{same_spot, free_targets}
 
 -- Rounds
 

@@ -1,22 +1,13 @@
 -- What a plan's free targets say of its shifts.
-use Rattle.std.proofs.Common.{◌≡◌, ◌⊎◌, inl, inr, ⊎_elim, ℕ, zero, suc, ◌+◌, ◌<◌, ◌≤◌, ◌++◌, not, Bool, true, false, cond, MatchBool, List, [], ◌∷◌, length, get_or, take, map, filter, Option, Some, None, IfNone, IfSome, refl, sym, ◌∙◌, ap, subst, arith}
-use Rattle.std.specs.Prelude.{slice_get}
-use Rattle.std.specs.List.{All, AllWithin, Any, Contains, list_any}
-use Rattle.std.proofs.lemmas.Bool.{cases_eq, cases_Bool, eqb-true, false≢true, cond-true, cond-false}
-use Rattle.std.proofs.lemmas.List.{get_or_default}
-use Rattle.std.proofs.lemmas.List.Elements.{Contains-get_or, Contains-append_cases}
-use Rattle.std.proofs.lemmas.List.Folds.{Any-from_list_any}
-use Rattle.mig_base.specs.declared.ids.Spot.{Spot}
-use Rattle.mig_base.specs.declared.ids.Shift.{Shift}
-use Rattle.mig_base.specs.InputLists.{Lists, no_spot}
-use Rattle.mig_base.specs.Images.{Image}
-use Rattle.mig_base.specs.Layouts.{At, round_at}
-use Rattle.mig_base.specs.Readiness.{shifts_of, IsShifted, CanTake, IsFirstUsed}
-use Rattle.mig_base.specs.Running.{is_of}
-use Rattle.mig_base.specs.Slots.{IsThere, IsLost, IsUsed, IsUnused}
+use Rattle.mig_base.proofs.Common.{◌≡◌, ◌⊎◌, inl, inr, ⊎_elim, ℕ, zero, suc, ◌+◌, ◌<◌, not, Bool, true, false, cond, MatchBool, List, [], ◌∷◌, length, get_or, take, map, filter, Option, Some, None}
+use Rattle.mig_base.proofs.Common.{refl, sym, ◌∙◌, ap, subst, arith, slice_get, All, AllWithin, Contains, list_any, cases_eq, cases_Bool, eqb-true, false≢true, get_or_default, Any-from_list_any}
+use Rattle.mig_base.proofs.Common.{Lists, no_spot, Image, At, round_at, shifts_of, IsShifted, is_of, IsThere, IsUsed, IsUnused}
+use Rattle.mig_mover.proofs.Common.{Shift, Spot, same_spot, free_targets, Task, IsTask}
+use Rattle.std.proofs.Common.{IfNone}
+use Rattle.std.proofs.lemmas.List.Elements.{Contains-append_cases}
+use Rattle.mig_base.specs.Readiness.{CanTake, IsFirstUsed}
+use Rattle.mig_base.specs.Slots.{IsLost}
 use Rattle.mig_base.proofs.Rounds.{there, to_disk}
-use Rattle.mig_mover.specs.JobTables.{same_spot, free_targets}
-use Rattle.mig_mover.specs.Tasks.{Task, IsTask}
 use Rattle.mig_mover.proofs.TableSteps.{listed_has, has_listed}
 
 module _ (spots : List Spot) where

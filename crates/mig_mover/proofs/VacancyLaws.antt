@@ -1,22 +1,14 @@
 -- When the spots that a plan names are free.
-use Rattle.std.proofs.Common.{◌≡◌, ◌⊎◌, inl, inr, ⊎_elim, Bool, true, false, ℕ, zero, suc, ◌<◌, ◌≤◌, ◌++◌, List, [], ◌∷◌, length, get_or, map, filter, cond, ◌==◌, Some, refl, sym, ◌∙◌, ap, subst, arith}
-use Rattle.std.specs.List.{All, Any, Contains, list_any}
-use Rattle.std.proofs.lemmas.Bool.{cases_eq, cases_lt, cases_Bool, false≢true, cond-true, cond-false, eq-eqb, eqb-true}
-use Rattle.std.proofs.lemmas.List.{get_or_default}
-use Rattle.std.proofs.lemmas.List.Elements.{All-append, All-map, filter_passes, Contains-get_or, Contains-append_left, Contains-append_right}
-use Rattle.std.proofs.lemmas.List.Folds.{Any-from_list_any, list_any_at}
-use Rattle.std.proofs.lemmas.Option.{slice_get-get_or}
-use Rattle.mig_base.specs.declared.ids.Spot.{Spot}
-use Rattle.mig_base.specs.declared.ids.Shift.{Shift}
-use Rattle.mig_base.specs.InputLists.{Lists, IsInput}
-use Rattle.mig_base.specs.Layouts.{At, IsTaken, IsSource, IsTarget, round_at}
+use Rattle.mig_base.proofs.Common.{◌≡◌, ◌⊎◌, inl, inr, ⊎_elim, Bool, true, false, ℕ, zero, suc, ◌<◌, ◌≤◌, ◌++◌, List, [], ◌∷◌, length, get_or, map, filter, cond, ◌==◌, Some, refl, sym, ◌∙◌, ap, subst}
+use Rattle.mig_base.proofs.Common.{arith, All, Any, Contains, list_any, cases_eq, cases_lt, cases_Bool, false≢true, cond-true, cond-false, eq-eqb, eqb-true, get_or_default, All-append, All-map}
+use Rattle.mig_base.proofs.Common.{filter_passes, Contains-get_or, Contains-append_left, Contains-append_right, Any-from_list_any, slice_get-get_or, Lists, IsInput, At, IsTaken, round_at, Runs}
+use Rattle.mig_mover.proofs.Common.{Shift, Spot, same_spot, left_in, ended_by, ended_in, open_of, open_in, IsVacant, AreVacancies, Vacancy}
+use Rattle.std.proofs.lemmas.List.Folds.{list_any_at}
+use Rattle.mig_base.specs.Layouts.{IsSource, IsTarget}
 use Rattle.mig_base.specs.Arrivals.{IsNamed}
-use Rattle.mig_base.specs.Running.{Runs}
 use Rattle.mig_base.proofs.Rounds.{contains_any, any_contains, in_some, moved_cases, at_target, leaves}
 use Rattle.mig_base.proofs.SafetyLaws.{source_facts, no_round, target_facts}
-use Rattle.mig_mover.specs.JobTables.{same_spot}
-use Rattle.mig_mover.specs.Vacancies.{left_in, ended_by, ended_in, begun_by, open_of, open_in, vacancies_in, IsVacant, AreVacancies}
-use Rattle.mig_mover.specs.declared.vacancies.Vacancy.{Vacancy}
+use Rattle.mig_mover.specs.Vacancies.{begun_by, vacancies_in}
 use Rattle.mig_mover.proofs.TableSteps.{spot_is, spot_same}
 
 -- whether one of the shifts has the spot, as the test says

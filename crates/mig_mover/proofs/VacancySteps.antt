@@ -1,13 +1,8 @@
 -- How the table of a plan's vacancies comes to be.
-use Rattle.std.proofs.Common.{◌≡◌, ℕ, suc, ◌++◌, Bool, true, false, cond, List, [], ◌∷◌, length, map, Option, Some, None, refl, sym, ◌∙◌, ap}
+use Rattle.mig_base.proofs.Common.{◌≡◌, ℕ, suc, ◌++◌, Bool, true, false, cond, List, [], ◌∷◌, length, map, Option, Some, None, refl, sym, ◌∙◌, ap, append_assoc, round_at}
+use Rattle.mig_mover.proofs.Common.{Shift, Spot, same_spot, round_of, left_in, ended_by, ended_in, open_of, open_in, Vacancy}
 use Rattle.std.specs.Map.{lookup}
-use Rattle.std.proofs.lemmas.List.{append_assoc}
-use Rattle.mig_base.specs.declared.ids.Spot.{Spot}
-use Rattle.mig_base.specs.declared.ids.Shift.{Shift}
-use Rattle.mig_base.specs.Layouts.{round_at}
-use Rattle.mig_mover.specs.JobTables.{same_spot}
-use Rattle.mig_mover.specs.Vacancies.{round_of, left_after, left_in, ended_by, ended_in, open_of, open_in}
-use Rattle.mig_mover.specs.declared.vacancies.Vacancy.{Vacancy}
+use Rattle.mig_mover.specs.Vacancies.{left_after}
 
 -- What a table has for a spot
 

@@ -11,7 +11,7 @@ use Rattle.mig_base.specs.Safety.{Contents, IsSafe}
 use Rattle.mig_base.specs.Slots.{slot_of}
 use Rattle.mig_base.specs.Stores.{State, LeavesOnly}
 use Rattle.mig_mover.specs.Erasures.{AreZeros}
-use Rattle.mig_mover.specs.Tasks.{Task}
+use Rattle.mig_base.specs.Tasks.{Task}
 
 -- zeros stand at each named spot that is free after k rounds, where its slot is told
 abbrev pub AreErased : Task → ℕ → Image → Type 0

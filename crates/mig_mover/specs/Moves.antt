@@ -15,7 +15,7 @@ use Rattle.mig_base.specs.RoundStates.{HasDone}
 use Rattle.mig_base.specs.Safety.{Contents, IsSound}
 use Rattle.mig_base.specs.Slots.{IsThere}
 use Rattle.mig_base.specs.Stores.{State, flights, Changes, ChangesOnly, LeavesOnly, IsSettled}
-use Rattle.mig_mover.specs.Tasks.{Task}
+use Rattle.mig_base.specs.Tasks.{Task}
 use Rattle.mig_mover.specs.declared.faults.MoveFault.{MoveFault}
 use Rattle.mig_mover.specs.declared.faults.MoveFault.TheVariants.{Store, Started, OtherPlan, NotStarted, NotThere, Occupied}
 

@@ -8,7 +8,7 @@ use Rattle.mig_base.specs.Journals.{count_of}
 use Rattle.mig_base.specs.JobCells.{IsJournal, IsJobCell, Tells}
 use Rattle.mig_base.specs.Stores.{State, flights}
 use Rattle.mig_mover.specs.Moves.{IsRunning, IsRefusal, Settles}
-use Rattle.mig_mover.specs.Tasks.{Task}
+use Rattle.mig_base.specs.Tasks.{Task}
 use Rattle.mig_mover.specs.declared.faults.MoveFault.{MoveFault}
 use Rattle.mig_mover.specs.declared.faults.MoveFault.TheVariants.{Store, OtherPlan, NotStarted}
 

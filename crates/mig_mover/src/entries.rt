@@ -14,7 +14,7 @@ ghost use Rattle.mig_base.specs.Stores.{State, flights, ChangesOnly, LeavesOnly,
 ghost use Rattle.mig_journal.specs.SeenJournals.{is_running, HasHead};
 ghost use Rattle.mig_mover.specs.Erasures.{AreZeros};
 ghost use Rattle.mig_mover.specs.Moves.{Lands, Settles, IsRunning, IsPlanFault, IsFault, IsStartFault, IsResumeFault, StaysArmed, MayBeHalting, Keeps, Enters, KeepsOn, EntersOn, IsFaultOn};
-ghost use Rattle.mig_mover.specs.Tasks.{Task};
+ghost use Rattle.mig_base.specs.Tasks.{Task};
 
 use crate::erasing::erase_sources;
 use crate::expecting::expect_all;

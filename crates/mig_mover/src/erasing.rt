@@ -5,7 +5,7 @@ ghost use Rattle.mig_base.specs.Slots.{slot_of, zeros};
 ghost use Rattle.mig_base.specs.Cells.{is_slot};
 ghost use Rattle.mig_base.specs.Stores.{State, flights, ChangesOnly, HasCause};
 ghost use Rattle.mig_base.specs.RoundStates.{IsSourceSlot};
-ghost use Rattle.mig_mover.specs.Tasks.{Task};
+ghost use Rattle.mig_base.specs.Tasks.{Task};
 ghost use Rattle.mig_mover.specs.Erasures.{AreZeros};
 
 use crate::jobs::Job;

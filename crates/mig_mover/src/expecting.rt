@@ -4,7 +4,7 @@ ghost use Rattle.mig_base.specs.Images.{NoCell};
 ghost use Rattle.mig_base.specs.Layouts.{At};
 ghost use Rattle.mig_base.specs.Stores.{State, flights, ChangesOnly, HasCause};
 ghost use Rattle.mig_mover.specs.Stays.{IsStay};
-ghost use Rattle.mig_mover.specs.Tasks.{Task, IsTask};
+ghost use Rattle.mig_base.specs.Tasks.{Task, IsTask};
 
 use crate::jobs::{Job, spot_cell};
 use crate::stays::Stay;

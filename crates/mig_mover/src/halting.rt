@@ -8,7 +8,7 @@ ghost use Rattle.mig_base.specs.Stores.{State, flights, ChangesOnly, IsSettled, 
 ghost use Rattle.mig_mover.specs.Erasures.{AreZeros};
 ghost use Rattle.mig_mover.specs.Halts.{AreErased, IsClosingCell, KeepsHaltSafe, EndsHalted};
 ghost use Rattle.mig_mover.specs.Stands.{IsAt};
-ghost use Rattle.mig_mover.specs.Tasks.{Task, IsTask};
+ghost use Rattle.mig_base.specs.Tasks.{Task, IsTask};
 ghost use Rattle.mig_mover.specs.Vacancies.{IsVacant};
 
 use crate::erasing::erase;

@@ -6,7 +6,7 @@ ghost use Rattle.mig_base.specs.Readiness.{shifts_of, IsShifted, CanTake, IsRead
 ghost use Rattle.mig_base.specs.Slots.{IsThere, IsLost};
 ghost use Rattle.mig_base.specs.Stores.{State, flights, ChangesOnly, HasCause};
 ghost use Rattle.mig_mover.specs.Moves.{IsFaultOn, IsResumeFault};
-ghost use Rattle.mig_mover.specs.Tasks.{Task};
+ghost use Rattle.mig_base.specs.Tasks.{Task};
 
 use crate::expecting::expect_all;
 use crate::faults::MoveFault;

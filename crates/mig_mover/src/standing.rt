@@ -10,7 +10,7 @@ ghost use Rattle.mig_base.specs.JobCells.{IsMark, Tells};
 ghost use Rattle.mig_base.specs.Stores.{State, flights, ChangesOnly};
 ghost use Rattle.mig_mover.specs.Moves.{Lands};
 ghost use Rattle.mig_mover.specs.Stands.{IsOtherFault, Stands, IsStandFault};
-ghost use Rattle.mig_mover.specs.Tasks.{Task};
+ghost use Rattle.mig_base.specs.Tasks.{Task};
 
 use crate::entries::{check_plan, settle_and_look};
 use crate::expecting::expect_all;

@@ -1,14 +1,11 @@
 -- Lists of different names.
-use Rattle.std.proofs.Common.{◌≡◌, ◌++◌, ◌∷◌, [], ℕ, Bool, true, false, List, Option, Some, None, Contains, MatchOption, position, slice_get, nat_eq, is_some, cond, ap, sym, ◌∙◌, refl}
-use Rattle.std.specs.Cmp.Lexicographic.{pointwise, same_text, bytes_decides, nat_list_eq_equiv}
-use Rattle.std.specs.List.{list_any}
-use Rattle.std.proofs.lemmas.Bool.{false≢true}
+use Rattle.mig_base.proofs.Common.{◌≡◌, ◌++◌, ◌∷◌, [], ℕ, Bool, true, false, List, Option, Some, None, Contains, MatchOption, slice_get, nat_eq, is_some, cond, ap, sym, ◌∙◌, refl, same_text, list_any}
+use Rattle.mig_base.proofs.Common.{false≢true, Contains-from_any, list_any-from_Contains, slice_get-get_or, AreDifferent}
+use Rattle.std.proofs.Common.{position}
+use Rattle.std.specs.Cmp.Lexicographic.{pointwise, bytes_decides, nat_list_eq_equiv}
 use Rattle.std.proofs.lemmas.List.Quantifiers.{position-Some}
 use Rattle.std.proofs.lemmas.Map.Made.{AllPairs-from_IsDistinct}
-use Rattle.std.proofs.lemmas.Map.Views.{Contains-from_any, list_any-from_Contains}
-use Rattle.std.proofs.lemmas.Option.{slice_get-get_or}
 use Rattle.indexmap.specs.IndexSet.{insert_key, IsUnique, IndexSet}
-use Rattle.mig_base.specs.InputLists.{AreDifferent}
 
 abbrev same : List ℕ → List ℕ → Bool
 same = pointwise nat_eq

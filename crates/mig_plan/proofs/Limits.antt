@@ -1,28 +1,23 @@
 -- From a complete proper colouring of copies to a limited colouring of the transfer graph.
-use Rattle.std.proofs.Common.{◌≡◌, ◌≢◌, ◌⊎◌, ℕ, suc, zero, ◌+◌, ◌-◌, ◌*◌, ◌/◌, ◌%◌, min, ◌<◌, ◌≤◌, Bool, true, false, cond, not, ◌&&◌, ◌||◌, eqb, eq-eqb, List, [], ◌∷◌, ◌++◌, length, map, refl, sym, ap, ◌∙◌, arith, sum_by, count_by, filter, All, get_or, take, drop, inl, inr, subst, Some, None, Option}
-use Rattle.std.specs.Prelude.{slice_get}
-use Rattle.std.specs.List.{list_any, range_with_len}
-use Rattle.std.proofs.lemmas.List.Sums.{sum_by-cons, get_or-le-sum_by, sum_by-take-drop}
-use Rattle.std.proofs.lemmas.List.{get_or_default, length-map}
-use Rattle.std.proofs.lemmas.Option.{slice_get-get_or, slice_get_within, same_Some}
-use Rattle.std.proofs.lemmas.Bool.{cases_Bool, cases_eq, false≢true, ne_eqb}
-use Rattle.std.proofs.lemmas.Bool.Decides.{nat_tests}
-use Rattle.std.proofs.lemmas.Grind.{div_ceil_times}
-use Rattle.std.proofs.Math.Nat.{mul_comm, mul-le-mul_left, mul-le-mul_right}
-use Rattle.mig_base.specs.declared.limits.TheConstants.{MAX_DISKS, MAX_ITEMS}
+use Rattle.mig_base.proofs.Common.{◌≡◌, ◌≢◌, ◌⊎◌, ℕ, suc, zero, ◌+◌, ◌-◌, ◌*◌, min, ◌<◌, ◌≤◌, Bool, true, false, not, ◌||◌, eqb, List, [], ◌∷◌, length, map, refl, sym, ap, ◌∙◌, arith, All, get_or}
+use Rattle.mig_base.proofs.Common.{inl, inr, subst, Some, None, Option, slice_get, list_any, range_with_len, sum_by-cons, get_or_default, length-map, slice_get-get_or, slice_get_within, same_Some}
+use Rattle.mig_base.proofs.Common.{cases_Bool, cases_eq, false≢true, ne_eqb, nat_tests, div_ceil_times, mul_comm, mul-le-mul_left, mul-le-mul_right, Trip, load, touches, div_ceil, Transfers, quotient}
+use Rattle.mig_base.proofs.Common.{limit, IsEven, no_disk, trip_at, is_forward, Balances, IsLimited, colour_at}
 use Rattle.mig_base.specs.declared.ids.Colour.{Colour}
 use Rattle.mig_base.specs.declared.ids.CopyId.{CopyId}
 use Rattle.mig_base.specs.declared.ids.DiskId.{DiskId}
 use Rattle.mig_base.specs.declared.ids.EdgeId.{EdgeId}
-use Rattle.mig_base.specs.Transfers.{Trip, load, touches, div_ceil}
-use Rattle.mig_base.specs.Transfers.{Transfers}
-use Rattle.mig_base.specs.Bounding.{gives, quotient, limit, IsEven, IsOneWay}
-use Rattle.mig_base.specs.InputLists.{no_disk}
-use Rattle.mig_base.specs.Directions.{trip_at, is_forward, tails, heads, tail_of, head_of, out_of, in_of, Balances}
-use Rattle.mig_base.specs.Colourings.{IsLimited, edges_of, colour_at}
-use Rattle.mig_base.proofs.Counting.{one, sum_by-map, count_by-filter}
+use Rattle.mig_base.specs.declared.limits.TheConstants.{MAX_DISKS, MAX_ITEMS}
+use Rattle.std.proofs.lemmas.List.Sums.{sum_by-take-drop}
+use Rattle.std.proofs.lemmas.Bool.{or_parts}
+use Rattle.mig_base.specs.Bounding.{gives, IsOneWay}
+use Rattle.mig_base.specs.Directions.{tails, heads, tail_of, head_of, out_of, in_of}
+use Rattle.mig_base.specs.Colourings.{edges_of}
+use Rattle.mig_base.proofs.Counting.{one, sum_by-map, count_by-filter, ceil_within, ceil_of_none}
 use Rattle.mig_base.proofs.Copies.{Copied, StandsForEnds, IsProper as IsProperCopies, colour_at_disk, copies_of_sides, load_within_quotient, value_within_quotient}
-use Rattle.mig_board.specs.Colouring.{Colouring, Joins, HasColour, Leads, IsProper}
+use Rattle.mig_base.proofs.SameIds.{same_copy}
+use Rattle.mig_split.proofs.Halves.{out_in}
+use Rattle.mig_board.specs.Colouring.{Colouring, Leads, IsProper}
 use Rattle.mig_split.specs.Dealing.{count_of, disk_at}
 use Rattle.mig_board.specs.Growth.{SameGraph}
 use Rattle.mig_split.specs.Copies.{AreSides, AreShares, first_of, second_of}
@@ -33,17 +28,11 @@ use Rattle.mig_plan.specs.Coloured.{AreColours, IsDealtBoard, SidesFit}
 abbrev copied_of : Transfers → List (CopyId × CopyId) → List DiskId → List Colour → Copied
 copied_of graph ends homes colours = record { edges = length graph.trips; homes = map (λ (d : DiskId). d.0) homes; first = first_of ends; second = second_of ends; trip = trip_at graph.trips; colour = colour_at colours }
 
-test_is : (a b : ℕ) → eqb a b ≡ true → a ≡ b
-test_is a b h = grind (arith, nat_tests)
-
 or_cases : (a b k : ℕ) → (eqb a k || eqb b k) ≡ true → (a ≡ k) ⊎ (b ≡ k)
 or_cases a b k h = elim (cases_eq a k) [ inl e ↦ inl e | inr ne ↦ inr (right a b k ne h) ]
   where
     right : (a b k : ℕ) → a ≢ k → (eqb a k || eqb b k) ≡ true → b ≡ k
     right a b k ne h = grind (arith, nat_tests)
-
-same_copy : (c d : CopyId) → c.0 ≡ d.0 → c ≡ d
-same_copy c d h = let make : ℕ → CopyId = λ n. record { 0 = n } in ap make h
 
 -- an edge that meets a copy leads from it
 leads_at : (g : Colouring) (colours : List Colour) (e k : ℕ) → AreColours g colours → e < length g.ends → (eqb (first_of g.ends e) k || eqb (second_of g.ends e) k) ≡ true → (w : CopyId) × Leads g (record { 0 = k }) (record { 0 = colour_at colours e }) (record { 0 = e }) w
@@ -109,9 +98,6 @@ greatest_most a m (x ∷ xs) h all = greatest_most (Rattle.std.proofs.Common.max
 abbrev pub HasLimits : Transfers → Type 0
 HasLimits graph = (v : ℕ) → v < length graph.disks → 1 ≤ limit graph v
 
-ceil_le : (n q : ℕ) → 1 ≤ q → div_ceil n q ≤ n
-ceil_le n q p = Rattle.mig_base.proofs.Counting.div_ceil-le n q n p (omega (arith, mul-le-mul_left n p))
-
 pub quotient_most : (graph : Transfers) → HasLimits graph → quotient graph ≤ length graph.trips
 quotient_most graph limits =
     greatest_most 0 (length graph.trips) (map (Rattle.mig_base.specs.Bounding.disk_value graph) (range_with_len 0 (length graph.disks))) (omega arith)
@@ -119,7 +105,7 @@ quotient_most graph limits =
     (let n = length graph.disks in
     let v = get_or (range_with_len 0 n) k d in
     let is_k : v ≡ k = omega (arith, Rattle.std.proofs.lemmas.List.FromFn.get_or-range_with_len 0 n k d (omega (arith, h, Rattle.std.proofs.lemmas.List.FromFn.length-range_with_len 0 n))) in
-    omega (arith, ceil_le (load v graph.trips) (limit graph v) (limits v (omega (arith, is_k, h, Rattle.std.proofs.lemmas.List.FromFn.length-range_with_len 0 n))), Rattle.std.proofs.lemmas.List.Sums.count_by-le-length (touches v) graph.trips))))
+    omega (arith, ceil_within (load v graph.trips) (limit graph v) (limits v (omega (arith, is_k, h, Rattle.std.proofs.lemmas.List.FromFn.length-range_with_len 0 n))), Rattle.std.proofs.lemmas.List.Sums.count_by-le-length (touches v) graph.trips))))
 
 some_load : (t : Trip) (ts : List Trip) → 1 ≤ load t.leaves (t ∷ ts)
 some_load t ts = omega (arith, sum_by-cons (λ (x : Trip). one (touches t.leaves x)) t ts, itself t.leaves t.reaches)
@@ -197,7 +183,7 @@ pub share_some : (q : ℕ) → 1 ≤ q → 1 ≤ div_ceil q 16
 share_some q h = omega (arith, h, (div_ceil_times q 16 (omega arith)).0)
 
 pub share_most : (q : ℕ) → div_ceil q 16 ≤ q
-share_most q = ceil_le q 16 (omega arith)
+share_most q = ceil_within q 16 (omega arith)
 
 -- the board's size
 pub few_general : (nodes q s c m d : ℕ) → 2 * c ≤ 3 * q → s ≡ div_ceil q 16 → nodes * s ≤ 2 * m + d * s → m ≤ MAX_ITEMS → d ≤ MAX_DISKS → q ≤ MAX_ITEMS → nodes * c ≤ 268435456
@@ -235,39 +221,9 @@ stands_sides q graph ds left ends homes colours a e h =
       reaches = reaches_by t (is_forward ds e) (get_or (map (λ (d : DiskId). d.0) homes) (first_of ends e) 0) (get_or (map (λ (d : DiskId). d.0) homes) (second_of ends e) 0) x y;
     }
 
-ends_of_one : (v : ℕ) (t : Trip) (d : Bool) → t.leaves ≢ t.reaches → one (eqb (tail_of t d) v) + one (eqb (head_of t d) v) ≡ one (touches v t)
-ends_of_one v t true ne = touch v t.leaves t.reaches ne
-  where
-    touch : (v l r : ℕ) → l ≢ r → one (eqb l v) + one (eqb r v) ≡ one (eqb v l || eqb v r)
-    touch v l r ne = grind (arith, nat_tests)
-ends_of_one v t false ne = touch v t.leaves t.reaches ne
-  where
-    touch : (v l r : ℕ) → l ≢ r → one (eqb r v) + one (eqb l v) ≡ one (eqb v l || eqb v r)
-    touch v l r ne = grind (arith, nat_tests)
-
-out_and_in : (v : ℕ) (ts : List Trip) (ds : List Bool) → length ds ≡ length ts → All (λ t. t.leaves ≢ t.reaches) ts → out_of ts ds v + in_of ts ds v ≡ load v ts
-out_and_in v [] ds len h = refl
-out_and_in v (t ∷ ts) [] len h = absurd (omega arith)
-out_and_in v (t ∷ ts) (d ∷ ds) len h =
-    omega (
-      arith,
-      sum_by-cons (λ n. one (eqb n v)) (tail_of t d) (tails ts ds),
-      sum_by-cons (λ n. one (eqb n v)) (head_of t d) (heads ts ds),
-      sum_by-cons (λ x. one (touches v x)) t ts,
-      ends_of_one v t d (Rattle.std.proofs.lemmas.List.Elements.All-head (λ (x : Trip). x.leaves ≢ x.reaches) t ts h),
-      out_and_in v ts ds (omega arith) (Rattle.std.proofs.lemmas.List.Elements.All-tail (λ (x : Trip). x.leaves ≢ x.reaches) t ts h),
-    )
-
-or_none : (a b : Bool) → (a || b) ≡ false → (a ≡ false) × (b ≡ false)
-or_none true b e = absurd (false≢true (sym e))
-or_none false b e = (refl, e)
-
-none_for : (q : ℕ) → 1 ≤ q → div_ceil 0 q ≡ 0
-none_for q p = omega (arith, Rattle.mig_base.proofs.Counting.div_ceil-le 0 q 0 p (omega arith))
-
 most_of_load : (graph : Transfers) (v o i l q : ℕ) → o + i ≡ load v graph.trips → o ≤ i + 1 → i ≤ o + 1 → load v graph.trips ≤ q * limit graph v → 1 ≤ q → IsEven graph → v < length graph.disks → div_ceil o q + div_ceil i q ≤ limit graph v
 most_of_load graph v o i l q total om im within pos even h = elim (cases_eq (load v graph.trips) 0) [
-  | inl e ↦ omega (arith, ap (λ n. div_ceil n q) (zero_left o i (total ∙ e)), ap (λ n. div_ceil n q) (zero_right o i (total ∙ e)), none_for q pos)
+  | inl e ↦ omega (arith, ap (λ n. div_ceil n q) (zero_left o i (total ∙ e)), ap (λ n. div_ceil n q) (zero_right o i (total ∙ e)), ceil_of_none q pos)
   | inr ne ↦ copies_of_sides o i (limit graph v) q pos (omega (arith, total, within)) (even v h (takes graph v ne)) om im
 ]
   where
@@ -283,7 +239,7 @@ most_of_load graph v o i l q total om im within pos even h = elim (cases_eq (loa
 -- where limits are even, by directions that balance
 pub even_fits : (graph : Transfers) (ds : List Bool) → 1 ≤ quotient graph → HasLimits graph → IsEven graph → length ds ≡ length graph.trips → All (λ t. t.leaves ≢ t.reaches) graph.trips → Balances graph.trips ds → SidesFit graph ds
 even_fits graph ds pos limits even len apart b v h =
-    most_of_load graph v (out_of graph.trips ds v) (in_of graph.trips ds v) 0 (quotient graph) (out_and_in v graph.trips ds len apart) (b.out_most v) (b.in_most v) (load_within_quotient graph v h (limits v h)) pos even h
+    most_of_load graph v (out_of graph.trips ds v) (in_of graph.trips ds v) 0 (quotient graph) (out_in graph.trips ds v len apart) (b.out_most v) (b.in_most v) (load_within_quotient graph v h (limits v h)) pos even h
 
 -- where each disk only gives or only takes, by the directions of the transfers
 
@@ -291,7 +247,7 @@ none_out : (v : ℕ) (ts : List Trip) (ds : List Bool) → length ds ≡ length 
 none_out v [] ds len forward none = refl
 none_out v (t ∷ ts) [] len forward none = absurd (omega arith)
 none_out v (t ∷ ts) (d ∷ ds) len forward none =
-    let parts = or_none (eqb t.leaves v) (list_any (λ (u : Trip). eqb u.leaves v) ts) none in
+    let parts = or_parts (eqb t.leaves v) (list_any (λ (u : Trip). eqb u.leaves v) ts) none in
     let tail : tail_of t d ≡ t.leaves = ap (tail_of t) (forward 0 (omega arith)) in
     omega (arith, sum_by-cons (λ n. one (eqb n v)) (tail_of t d) (tails ts ds), ap (λ n. one (eqb n v)) tail, ap one parts.0, none_out v ts ds (omega arith) (λ k l. forward (suc k) (omega (arith, l))) parts.1)
 
@@ -320,13 +276,13 @@ one_way_fits graph ds pos limits one_way len apart forward v h =
     let q = quotient graph in
     let o = out_of graph.trips ds v in
     let i = in_of graph.trips ds v in
-    let total = out_and_in v graph.trips ds len apart in
+    let total = out_in graph.trips ds v len apart in
     let within : div_ceil (load v graph.trips) q ≤ limit graph v = Rattle.mig_base.proofs.Counting.div_ceil-le (load v graph.trips) q (limit graph v) pos (omega (arith, load_within_quotient graph v h (limits v h), mul_comm q (limit graph v))) in
     elim (cases_Bool (gives graph v)) [
       | inl gave ↦ (let none : i ≡ 0 = none_in v graph.trips ds len forward (λ k d l. not_reached graph v (get_or graph.trips k d).reaches gave (one_way k d l)) in
-          omega (arith, within, none_for q pos, ap (λ n. div_ceil n q) none, ap (λ n. div_ceil n q) (all_left o i (load v graph.trips) total none)))
+          omega (arith, within, ceil_of_none q pos, ap (λ n. div_ceil n q) none, ap (λ n. div_ceil n q) (all_left o i (load v graph.trips) total none)))
       | inr kept ↦ (let none : o ≡ 0 = none_out v graph.trips ds len forward kept in
-          omega (arith, within, none_for q pos, ap (λ n. div_ceil n q) none, ap (λ n. div_ceil n q) (all_right o i (load v graph.trips) total none)))
+          omega (arith, within, ceil_of_none q pos, ap (λ n. div_ceil n q) none, ap (λ n. div_ceil n q) (all_right o i (load v graph.trips) total none)))
     ]
   where
     all_left : (o i l : ℕ) → o + i ≡ l → i ≡ 0 → o ≡ l

@@ -1,23 +1,11 @@
 -- Disks that only give items away or only take them.
-use Rattle.std.proofs.Common.{◌≡◌, ℕ, ◌+◌, ◌<◌, Bool, true, false, ◌||◌, eqb, List, [], length, take, set, get_or, All, inl, inr, refl, sym, ap, ◌∙◌, arith, subst, Some, MatchBool}
-use Rattle.std.specs.List.{list_any}
-use Rattle.std.specs.Prelude.{slice_get}
+use Rattle.mig_base.proofs.Common.{◌≡◌, ℕ, ◌+◌, ◌<◌, Bool, true, false, ◌||◌, eqb, List, length, take, set, get_or, All, inl, inr, sym, ap, ◌∙◌, arith, subst, Some, list_any, slice_get, cases_eq}
+use Rattle.mig_base.proofs.Common.{cases_lt, false≢true, ne_eqb, eq-eqb, get_or-set_same, get_or-set_other, get_or_default, length-set, slice_get_within, get_or_from_slice_get, trip_at, Transfers}
+use Rattle.mig_base.proofs.Common.{Trip}
 use Rattle.std.proofs.Math.Seq.{take-length}
-use Rattle.std.proofs.lemmas.Bool.{cases_eq, cases_lt, false≢true, ne_eqb}
-use Rattle.std.proofs.lemmas.List.{get_or-set_same, get_or-set_other, get_or_default, length-set}
 use Rattle.std.proofs.lemmas.List.Folds.{list_any_more}
-use Rattle.std.proofs.lemmas.Option.{slice_get_within, get_or_from_slice_get}
+use Rattle.std.proofs.Math.Bool.{or-true, or-false}
 use Rattle.mig_base.specs.Bounding.{gives, IsOneWay}
-use Rattle.mig_base.specs.Directions.{trip_at}
-use Rattle.mig_base.specs.Transfers.{Transfers, Trip}
-
-or_true : (b : Bool) → (b || true) ≡ true
-or_true true = refl
-or_true false = refl
-
-or_false : (b : Bool) → (b || false) ≡ b
-or_false true = refl
-or_false false = refl
 
 -- the disk is left by one of the first trips
 abbrev pub left_by : ℕ → List Trip → ℕ → Bool
@@ -36,12 +24,9 @@ marks_more trips givers e from to row there marked v h =
     let more : left_by (e + 1) trips v ≡ (left_by e trips v || eqb from v) =
     list_any_more (λ (t : Trip). eqb t.leaves v) trips e (record { leaves = 0; reaches = 0 }) within ∙ ap (λ (t : Trip). left_by e trips v || eqb t.leaves v) (is_trip trips e from to row) in
     elim (cases_eq v from) [
-      | inl e' ↦ ap (λ k. get_or (set givers from true) k false) e' ∙ get_or-set_same givers from true false there ∙ sym (more ∙ ap (λ b. left_by e trips v || b) (same_is from v (sym e')) ∙ or_true (left_by e trips v))
-      | inr ne ↦ get_or-set_other givers from v true false ne ∙ marked v (omega (arith, h, length-set givers from true)) ∙ sym (more ∙ ap (λ b. left_by e trips v || b) (ne_eqb from v (λ q. ne (sym q))) ∙ or_false (left_by e trips v))
+      | inl e' ↦ ap (λ k. get_or (set givers from true) k false) e' ∙ get_or-set_same givers from true false there ∙ sym (more ∙ ap (λ b. left_by e trips v || b) (eq-eqb from v (sym e')) ∙ or-true (left_by e trips v))
+      | inr ne ↦ get_or-set_other givers from v true false ne ∙ marked v (omega (arith, h, length-set givers from true)) ∙ sym (more ∙ ap (λ b. left_by e trips v || b) (ne_eqb from v (λ q. ne (sym q))) ∙ or-false (left_by e trips v))
     ]
-  where
-    same_is : (a b : ℕ) → a ≡ b → eqb a b ≡ true
-    same_is a b q = Rattle.std.proofs.lemmas.Bool.eq-eqb a b q
 
 pub marks_all : (graph : Transfers) (n v : ℕ) → n ≡ length graph.trips → left_by n graph.trips v ≡ gives graph v
 marks_all graph n v whole = ap (λ m. left_by m graph.trips v) whole ∙ ap (list_any (λ (t : Trip). eqb t.leaves v)) (take-length graph.trips)

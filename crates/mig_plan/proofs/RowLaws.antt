@@ -1,33 +1,22 @@
 -- From a limited colouring to a partition into rounds.
-use Rattle.std.proofs.Common.{◌≡◌, ◌≢◌, ℕ, suc, zero, ◌+◌, ◌<◌, ◌≤◌, Bool, true, cond, not, ◌&&◌, eqb, eq-eqb, List, [], ◌∷◌, ◌++◌, length, map, refl, sym, ap, ◌∙◌, arith, sum_by, count_by, filter, All, get_or, set, inl, inr, subst, Vec, Global}
-use Rattle.std.specs.List.{range_with_len}
-use Rattle.std.proofs.lemmas.List.Sums.{sum_by-cons, get_or-le-sum_by, count_by-le-length, length-filter}
-use Rattle.std.proofs.lemmas.List.{get_or-set_same, get_or-set_other, length-set, map-append, map-id, get_or_default, length-map}
-use Rattle.std.proofs.lemmas.List.Elements.{filter-append, filter_passes, All-filter, All-map, All-head, All-tail}
-use Rattle.std.proofs.lemmas.List.FromFn.{map-range_with_len_more, get_or-range_with_len, length-range_with_len, fill_by_all, length-map-range_with_len}
-use Rattle.std.proofs.lemmas.Bool.{cases_eq, cases_lt, ne_eqb}
-use Rattle.std.proofs.lemmas.Bool.Decides.{nat_tests}
+use Rattle.mig_base.proofs.Common.{◌≡◌, ◌≢◌, ℕ, suc, zero, ◌+◌, ◌<◌, ◌≤◌, Bool, true, cond, not, ◌&&◌, eqb, eq-eqb, List, [], ◌∷◌, ◌++◌, length, map, refl, sym, ap, ◌∙◌, arith, sum_by, count_by}
+use Rattle.mig_base.proofs.Common.{filter, All, get_or, set, inl, inr, subst, Vec, Global, range_with_len, sum_by-cons, get_or-le-sum_by, count_by-le-length, get_or-set_same, get_or-set_other}
+use Rattle.mig_base.proofs.Common.{length-set, map-append, get_or_default, length-map, filter-append, filter_passes, All-filter, All-map, length-range_with_len, fill_by_all, length-map-range_with_len}
+use Rattle.mig_base.proofs.Common.{cases_eq, ne_eqb, nat_tests, Lists, Trip, KeepsLimits, moves, transfers, trip, trips, source, is_relocated, trip_at, is_of, shift_count, trip_of, AreTargets}
+use Rattle.mig_base.proofs.Common.{move_at, IsLimited, colour_at}
 use Rattle.mig_base.specs.declared.ids.Colour.{Colour}
-use Rattle.mig_base.specs.declared.ids.Spot.{Spot}
 use Rattle.mig_base.specs.declared.ids.Shift.{Shift}
-use Rattle.mig_base.specs.InputLists.{Lists}
-use Rattle.mig_base.specs.Transfers.{Trip, KeepsLimits}
-use Rattle.mig_base.specs.Transfers.{moves, transfers, trip, trips, source, is_relocated}
-use Rattle.mig_base.specs.Directions.{trip_at}
-use Rattle.mig_base.specs.Running.{is_of, shift_count, trip_of}
-use Rattle.mig_base.specs.Targets.{AreTargets}
-use Rattle.mig_base.specs.Planned.{move_at}
+use Rattle.mig_base.specs.declared.ids.Spot.{Spot}
+use Rattle.std.proofs.lemmas.List.Sums.{length-filter}
 use Rattle.mig_base.specs.Planned.{move_shift, IsMoveShift, IsPartition}
-use Rattle.mig_base.specs.Colourings.{IsLimited, edges_of, colour_at}
-use Rattle.mig_base.proofs.Counting.{one, sum_by-filter, sum_by-map, sum_by-same_each, sum_by-swap, count_by-filter}
-use Rattle.mig_base.proofs.Scheduled.{once_in_range, count_by-filter-le, range_below}
+use Rattle.mig_base.specs.Colourings.{edges_of}
+use Rattle.mig_base.proofs.Counting.{one, sum_by-filter, sum_by-map, sum_by-same_each, sum_by-swap, count_by-filter, count_by-filter-le}
+use Rattle.mig_base.proofs.Scheduled.{once_in_range, range_below}
 use Rattle.mig_base.proofs.Room.{lowest_at}
+use Rattle.mig_base.proofs.Elements.{range_more, in_range, map_same}
 use Rattle.mig_plan.specs.ColourRows.{row_of, AreRows, is_filled, items_of}
 
 -- ---- the loop over the edges
-
-range_more : (n : ℕ) → range_with_len 0 (n + 1) ≡ range_with_len 0 n ++ n ∷ []
-range_more n = sym (map-id (range_with_len 0 (n + 1))) ∙ map-range_with_len_more (λ x. x) 0 n n (omega arith) ∙ ap (λ (xs : List ℕ). xs ++ n ∷ []) (map-id (range_with_len 0 n))
 
 edges_more : (colours : List Colour) (c n : ℕ) → edges_of colours c (n + 1) ≡ edges_of colours c n ++ cond (eqb (colour_at colours n) c) (n ∷ []) []
 edges_more colours c n =
@@ -62,10 +51,6 @@ map_at : {X Y : Type 0} (f : X → Y) (P : Y → Type 0) (xs : List X) (k : ℕ)
 map_at f P [] k e h p = absurd (omega arith)
 map_at f P (x ∷ xs) zero e h p = p x
 map_at f P (x ∷ xs) (suc k) e h p = map_at f P xs k e (omega arith) p
-
-map_same : {X Y : Type 0} (f g : X → Y) (xs : List X) → All (λ x. f x ≡ g x) xs → map f xs ≡ map g xs
-map_same f g [] h = refl
-map_same {X} {Y} f g (x ∷ xs) h = ap (λ (y : Y). y ∷ map f xs) (All-head (λ z. f z ≡ g z) x xs h) ∙ ap (λ (ys : List Y). g x ∷ ys) (map_same f g xs (All-tail (λ z. f z ≡ g z) x xs h))
 
 abbrev pub rows_for : Lists → List Spot → List Colour → ℕ → ℕ → List (List Shift)
 rows_for input targets colours n m = map (λ c. row_of input targets colours c m) (range_with_len 0 n)
@@ -112,9 +97,6 @@ once_in_moves input e h =
     let k = move_at input e in
     let n = length input.items in
     omega (arith, get_or-le-sum_by (λ m. one (eqb m k)) (moves input) e 0 h, ap one (eq-eqb k k refl), count_by-filter-le (λ m. eqb m k) (is_relocated input) (range_with_len 0 n), once_in_range 0 n k)
-
-in_range : (n k d : ℕ) → k < n → get_or (range_with_len 0 n) k d ≡ k
-in_range n k d h = omega (arith, get_or-range_with_len 0 n k d h)
 
 shift_once : (input : Lists) (targets : List Spot) (colours : List Colour) (n e : ℕ) → length colours ≡ length (moves input) → All (λ c. c.0 < n) colours → e < length (moves input) → shift_count (filter is_filled (rows_for input targets colours n (length (moves input)))) (move_at input e) ≡ 1
 shift_once input targets colours n e len below h =

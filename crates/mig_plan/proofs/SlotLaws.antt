@@ -1,19 +1,14 @@
 -- Rows of slots: what one spot more takes, and how long the rows are.
-use Rattle.std.proofs.Common.{◌≡◌, ◌≢◌, ℕ, ◌+◌, ◌<◌, ◌≤◌, Bool, true, false, eqb, List, [], ◌∷◌, ◌++◌, length, map, refl, sym, ap, ◌∙◌, subst, arith, All, get_or, take, set, inl, inr, Vec, Global}
-use Rattle.std.specs.List.{range_with_len, Contains}
-use Rattle.std.proofs.lemmas.List.{take_more, length-set, length-append, length-map, length-replicate, get_or-replicate, get_or-set_same, get_or-set_other, get_or_default, get_or_past}
-use Rattle.std.proofs.lemmas.List.Elements.{All-append, All-map, Contains-append_left, Contains-push, Contains-push_cases}
-use Rattle.std.proofs.lemmas.List.Sums.{sum_by-append, count_by-le-length}
-use Rattle.std.proofs.lemmas.List.FromFn.{fill_by_all}
-use Rattle.std.proofs.lemmas.Bool.{cases_eq, cases_lt, false≢true}
+use Rattle.mig_base.proofs.Common.{◌≡◌, ◌≢◌, ℕ, ◌+◌, ◌<◌, ◌≤◌, Bool, true, false, eqb, List, [], ◌∷◌, ◌++◌, length, map, refl, sym, ap, ◌∙◌, subst, arith, All, get_or, take, set, inl, inr, Vec}
+use Rattle.mig_base.proofs.Common.{Global, range_with_len, Contains, take_more, length-set, length-append, length-map, length-replicate, get_or-replicate, get_or-set_same, get_or-set_other}
+use Rattle.mig_base.proofs.Common.{get_or_default, get_or_past, All-append, All-map, Contains-append_left, sum_by-append, count_by-le-length, fill_by_all, cases_eq, cases_lt, false≢true, Lists}
+use Rattle.mig_base.proofs.Common.{IsInput, is_relocated, target, incoming}
 use Rattle.mig_base.specs.declared.ids.DiskId.{DiskId}
 use Rattle.mig_base.specs.declared.ids.Spot.{Spot}
-use Rattle.mig_base.specs.InputLists.{Lists, IsInput}
-use Rattle.mig_base.specs.Transfers.{is_relocated, target}
-use Rattle.mig_base.specs.Targets.{incoming}
-use Rattle.mig_base.proofs.Counting.{one, sum_by-map}
+use Rattle.std.proofs.lemmas.List.Elements.{Contains-push, Contains-push_cases}
+use Rattle.mig_base.proofs.Counting.{one, sum_by-map, count_by-filter-le}
 use Rattle.mig_base.proofs.Rounds.{spot_disk}
-use Rattle.mig_base.proofs.Scheduled.{count_by-filter-le}
+use Rattle.mig_base.proofs.SameIds.{spot_by}
 use Rattle.mig_split.specs.Dealing.{count_of}
 use Rattle.mig_split.specs.Decks.{AreCounts}
 use Rattle.mig_plan.specs.Cursors.{spot, IsFreeFrom}
@@ -36,9 +31,6 @@ same_slot row slot s e = elim (cases_lt slot (length row)) [
 
 other_slot : (row : List Bool) (slot s : ℕ) → s ≢ slot → is_taken (set row slot true) s ≡ is_taken row s
 other_slot row slot s ne = get_or-set_other row slot s true true ne
-
-spot_by : (s t : Spot) → s.disk.0 ≡ t.disk.0 → s.slot ≡ t.slot → s ≡ t
-spot_by s t e f i = record { disk = record { 0 = e i }; slot = f i }
 
 module _ (widths : List ℕ) (spots : List Spot) (i : ℕ) (d : Spot) (rows : List (Vec Bool Global)) (old new : Vec Bool Global) (h : i < length spots) (there : (get_or spots i d).disk.0 < length rows) (was : old ≡ get_or rows (get_or spots i d).disk.0 old) (is : new.items ≡ set old.items (get_or spots i d).slot true) (a : AreTaken widths (take i spots) rows) where
   abbrev x : Spot

@@ -1,21 +1,17 @@
 -- The spots that relocated items are given, one after the other.
-use Rattle.std.proofs.Common.{◌≡◌, ℕ, ◌+◌, ◌<◌, ◌≤◌, Bool, true, false, cond, List, [], ◌∷◌, ◌++◌, length, refl, sym, ap, ◌∙◌, subst, arith, filter, get_or, take, drop, set, replicate, inl, inr}
-use Rattle.std.specs.List.{range_with_len, Contains}
-use Rattle.std.proofs.lemmas.List.{length-append, get_or_append_left, get_or_push, take-append-le, take_all, length-set, get_or-set_same, get_or-set_other, get_or-replicate, map-id, length-replicate, append-nil, get_or_default, take-append-drop}
-use Rattle.std.proofs.lemmas.List.Elements.{filter-append, Contains-append_left, Contains-append_right, Contains-append_cases, Contains-push}
-use Rattle.std.proofs.lemmas.List.FromFn.{map-range_with_len_more, take-map-range_with_len}
-use Rattle.std.proofs.lemmas.Bool.{cases_eq, cases_lt}
-use Rattle.std.proofs.lemmas.Option.{slice_get-get_or, slice_get_within, same_Some}
+use Rattle.mig_base.proofs.Common.{◌≡◌, ℕ, ◌+◌, ◌<◌, ◌≤◌, Bool, true, false, cond, List, [], ◌∷◌, ◌++◌, length, refl, sym, ap, ◌∙◌, subst, arith, filter, get_or, take, drop, set, replicate, inl, inr}
+use Rattle.mig_base.proofs.Common.{range_with_len, Contains, length-append, get_or_append_left, get_or_push, take-append-le, take_all, length-set, get_or-set_same, get_or-set_other, get_or-replicate}
+use Rattle.mig_base.proofs.Common.{length-replicate, append-nil, get_or_default, filter-append, Contains-append_left, Contains-append_right, cases_eq, cases_lt, slice_get-get_or, slice_get_within}
+use Rattle.mig_base.proofs.Common.{same_Some, Lists, no_spot, is_relocated, moves, target, AreTargets, present, incoming, move_at}
 use Rattle.mig_base.specs.declared.ids.Spot.{Spot}
-use Rattle.mig_base.specs.InputLists.{Lists, no_spot}
-use Rattle.mig_base.specs.Transfers.{is_relocated, moves, target}
-use Rattle.mig_base.specs.Targets.{IsLowestFree, AreTargets, present, incoming}
-use Rattle.mig_base.specs.Planned.{move_at, target_at}
+use Rattle.std.proofs.lemmas.List.{map-id, take-append-drop}
+use Rattle.std.proofs.lemmas.List.Elements.{Contains-append_cases, Contains-push}
+use Rattle.std.proofs.lemmas.List.FromFn.{take-map-range_with_len}
+use Rattle.mig_base.specs.Targets.{IsLowestFree}
+use Rattle.mig_base.specs.Planned.{target_at}
 use Rattle.mig_base.proofs.Room.{some_free}
+use Rattle.mig_base.proofs.Elements.{range_more}
 use Rattle.mig_plan.specs.Cursors.{spot, IsFreeFrom, first_moves, AreFirstTargets}
-
-range_more : (n : ℕ) → range_with_len 0 (n + 1) ≡ range_with_len 0 n ++ n ∷ []
-range_more n = sym (map-id (range_with_len 0 (n + 1))) ∙ map-range_with_len_more (λ x. x) 0 n n (omega arith) ∙ ap (λ (xs : List ℕ). xs ++ n ∷ []) (map-id (range_with_len 0 n))
 
 moves_by : (input : Lists) (i : ℕ) (b : Bool) → is_relocated input i ≡ b → first_moves input (i + 1) ≡ first_moves input i ++ cond b (i ∷ []) []
 moves_by input i b t = ap (filter (is_relocated input)) (range_more i) ∙ filter-append (is_relocated input) (range_with_len 0 i) (i ∷ []) ∙ ap (λ c. first_moves input i ++ cond c (i ∷ []) []) t

@@ -1,7 +1,8 @@
 //! Colourings of a transfer graph, so that the edges of one colour keep each disk's limit.
-ghost use Rattle.std.specs.Prelude.{◌≡◌, ℕ, ◌<◌, ◌≤◌, ◌+◌, ◌*◌, false, length, slice_index_or, vec_len, All, IfOk, IfSome, MatchBool};
-ghost use Rattle.mig_base.specs.Bounding.{gives, quotient, IsEven, IsOneWay};
+ghost use Rattle.std.specs.Prelude.{◌≡◌, ℕ, ◌<◌, ◌≤◌, ◌+◌, ◌*◌, false, length, slice_index_or, vec_len, All, IfNone, IfOk, IfSome, MatchBool};
+ghost use Rattle.mig_base.specs.Bounding.{gives, quotient, IsOneWay};
 ghost use Rattle.mig_base.specs.Colourings.{IsLimited};
+ghost use Rattle.mig_base.specs.MadePlans.{Because, Reason};
 ghost use Rattle.mig_board.specs.Growth.{IsComplete};
 ghost use Rattle.mig_plan.specs.Coloured.{AreColours, IsDealtBoard, SidesFit};
 
@@ -67,29 +68,6 @@ fn colour_directed(
     colours_of(alloc, &board)
 }
 
-/// Colours the edges by as many colours as the quotient, where limits are even. At each disk the directions balance.
-fn colour_even(alloc: Global, graph: &Graph) -> Result<Vec<Colour>, AllocError>
-    requires some { 0 < length graph.now.trips }
-    requires even { IsEven graph.now }
-    ensures { IfOk result (λ v. IsLimited graph.now (quotient graph.now) v.items) }
-{
-    graph.keeps_rules();
-    let directions = orient(alloc, graph)?;
-    colour_directed(alloc, graph, &directions)
-}
-
-/// Colours the edges by as many colours as the quotient, where each disk only gives items away or only takes them. The
-/// directions are those of the transfers.
-fn colour_one_way(alloc: Global, graph: &Graph) -> Result<Vec<Colour>, AllocError>
-    requires some { 0 < length graph.now.trips }
-    requires one_way { IsOneWay graph.now }
-    ensures { IfOk result (λ v. IsLimited graph.now (quotient graph.now) v.items) }
-{
-    graph.keeps_rules();
-    let directions = vec![in alloc; true; graph.edges() as usize]?;
-    colour_directed(alloc, graph, &directions)
-}
-
 /// Marks the disks that transfers leave, where none is marked yet.
 fn mark_givers(graph: &Graph, givers: &mut [bool])
     requires len { length givers.old ≡ length graph.now.disks }
@@ -124,6 +102,26 @@ fn is_one_way(alloc: Global, graph: &Graph) -> Result<bool, AllocError>
     let mut givers = vec![in alloc; false; graph.disks() as usize]?;
     mark_givers(graph, &mut givers);
     Ok(spares(graph, &givers))
+}
+
+/// Directions of the edges by which each disk's limit covers the copies that it needs on its two sides: where limits are
+/// even, directions that balance at each disk; where each disk only gives items away or only takes them, those of the
+/// transfers. None where neither is so.
+fn directions_for(alloc: Global, graph: &Graph) -> Result<Option<Vec<bool>>, AllocError>
+    requires some { 0 < length graph.now.trips }
+    ensures one_each { IfOk result (λ o. IfSome o (λ d. vec_len d ≡ length graph.now.trips)) }
+    ensures fit { IfOk result (λ o. IfSome o (λ d. SidesFit graph.now d.items)) }
+    ensures none { IfOk result (λ o. IfNone o ((why : Reason) → ¬ Because why graph.now)) }
+{
+    graph.keeps_rules();
+    if graph.all_even() {
+        return Ok(Some(orient(alloc, graph)?));
+    }
+    if is_one_way(alloc, graph)? {
+        let directions = vec![in alloc; true; graph.edges() as usize]?;
+        return Ok(Some(directions));
+    }
+    Ok(None)
 }
 
 /// Directions of so many edges for a dealing: those of the transfers for the first one, and others for each other
@@ -239,19 +237,15 @@ pub fn colour_moves(
     start: u32,
 ) -> Result<(Vec<Colour>, u32), AllocError>
     ensures limited { IfOk result (λ r. IsLimited graph.now r.1 r.0.items) }
-    ensures even { IfOk result (λ r. IsEven graph.now → r.1 ≤ quotient graph.now) }
-    ensures one_way { IfOk result (λ r. IsOneWay graph.now → r.1 ≤ quotient graph.now) }
+    ensures tight { IfOk result (λ r. (why : Reason) → Because why graph.now → r.1 ≤ quotient graph.now) }
     ensures most { IfOk result (λ r. 2 * r.1 ≤ 3 * quotient graph.now) }
 {
     if graph.edges() == 0 {
         return Ok((Vec::new(alloc), 0));
     }
     let q = graph.quotient();
-    if graph.all_even() {
-        return Ok((colour_even(alloc, graph)?, q));
-    }
-    if is_one_way(alloc, graph)? {
-        return Ok((colour_one_way(alloc, graph)?, q));
+    if let Some(directions) = directions_for(alloc, graph)? {
+        return Ok((colour_directed(alloc, graph, &directions)?, q));
     }
     let most = 3 * q / 2;
     colour_general(alloc, graph, most, start.max(q).min(most))

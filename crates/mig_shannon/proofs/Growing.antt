@@ -1,12 +1,10 @@
 -- Colourings in which more and more edges have a colour.
-use Rattle.std.proofs.Common.{◌≡◌, ℕ, ◌<◌, ◌+◌, inl, inr, refl, sym, ap, subst, ◌∙◌, Option, Some, None, arith}
-use Rattle.std.specs.Prelude.{slice_get, is_some, true, false}
-use Rattle.std.proofs.lemmas.Bool.{cases_eq}
-use Rattle.mig_base.specs.declared.ids.EdgeId.{EdgeId}
+use Rattle.mig_base.proofs.Common.{◌≡◌, ℕ, ◌<◌, ◌+◌, inl, inr, refl, sym, ap, subst, ◌∙◌, Option, Some, None, arith, slice_get, is_some, true, false, cases_eq}
 use Rattle.mig_base.specs.declared.ids.Colour.{Colour}
+use Rattle.mig_base.specs.declared.ids.EdgeId.{EdgeId}
+use Rattle.mig_base.proofs.SameIds.{same_edge}
 use Rattle.mig_board.specs.Colouring.{Colouring, IsPainted}
 use Rattle.mig_board.specs.Growth.{IsPlain, SameGraph, PaintsOne}
-use Rattle.mig_board.proofs.Tables.{same_edge}
 use Rattle.mig_shannon.specs.Ways.{Grows}
 
 pub Grows-same : (g h : Colouring) → h ≡ g → Grows g h

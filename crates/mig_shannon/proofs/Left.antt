@@ -1,11 +1,10 @@
 -- Counting the edges that are left without a colour.
-use Rattle.std.proofs.Common.{◌≡◌, ◌⊎◌, ℕ, zero, suc, ◌+◌, ◌<◌, ◌≤◌, inl, inr, refl, sym, ap, subst, ◌∙◌, Bool, true, false, List, length, take, get_or, Option, Some, None, count_by, arith}
-use Rattle.std.specs.Prelude.{slice_get, is_none}
-use Rattle.std.proofs.lemmas.List.{take_all}
-use Rattle.std.proofs.lemmas.List.Sums.{sum_by_more, get_or-le-sum_by}
-use Rattle.std.proofs.lemmas.Option.{slice_get-get_or, same_Some}
-use Rattle.mig_base.specs.declared.ids.EdgeId.{EdgeId}
+use Rattle.mig_base.proofs.Common.{◌≡◌, ◌⊎◌, ℕ, zero, suc, ◌+◌, ◌<◌, ◌≤◌, inl, inr, refl, sym, ap, subst, ◌∙◌, Bool, true, false, List, length, take, get_or, Option, Some, None, count_by, arith}
+use Rattle.mig_base.proofs.Common.{add-one, slice_get, take_all, get_or-le-sum_by, slice_get-get_or, same_Some}
 use Rattle.mig_base.specs.declared.ids.Colour.{Colour}
+use Rattle.mig_base.specs.declared.ids.EdgeId.{EdgeId}
+use Rattle.std.specs.Prelude.{is_none}
+use Rattle.std.proofs.lemmas.List.Sums.{sum_by_more}
 use Rattle.mig_base.proofs.Counting.{one}
 use Rattle.mig_board.specs.Colouring.{Colouring, IsPainted, IsProper}
 use Rattle.mig_board.specs.Growth.{IsComplete, IsPlain, PaintsOne, Recolours}
@@ -45,10 +44,7 @@ left_same g h (suc n) l m same =
     let a = sum_by_more (λ (o : Option Colour). one (is_none o)) g.painted n no_colour (omega arith) in
     let b = sum_by_more (λ (o : Option Colour). one (is_none o)) h.painted n no_colour (omega arith) in
     let e = ap one (same n (omega arith)) in
-    subst (λ k. count_by is_none (take k g.painted) ≡ count_by is_none (take k h.painted)) (plus n) (omega (arith, rest, a, b, e))
-  where
-    plus : (n : ℕ) → n + 1 ≡ suc n
-    plus n = omega arith
+    subst (λ k. count_by is_none (take k g.painted) ≡ count_by is_none (take k h.painted)) (add-one n) (omega (arith, rest, a, b, e))
 
 -- the first n edges that are left, and one more
 pub left_more : (g : Colouring) (n : ℕ) (b : Bool) → n < length g.painted → is_none (colour_of g n) ≡ b → count_by is_none (take (n + 1) g.painted) ≡ count_by is_none (take n g.painted) + one b
@@ -85,14 +81,11 @@ complete_left g p none e h =
       | inr x ↦ absurd (omega (arith, none, get_or-le-sum_by (λ (o : Option Colour). one (is_none o)) g.painted e.0 no_colour within, ap one (plain_none g e.0 within x)))
     ]
 
-plus_one : (n : ℕ) → n + 1 ≡ suc n
-plus_one n = omega arith
-
 none_left : (g : Colouring) → IsProper g → IsComplete g → (n : ℕ) → n ≤ length g.painted → count_by is_none (take n g.painted) ≡ 0
 none_left g p all zero h = refl
 none_left g p all (suc n) h =
     let more = left_more g n false (omega arith) (painted_none g n (omega arith) (all (edge n) (omega (arith, p.one_each, h)))) in
-    subst (λ k. count_by is_none (take k g.painted) ≡ 0) (plus_one n) (omega (arith, more, none_left g p all n (omega arith)))
+    subst (λ k. count_by is_none (take k g.painted) ≡ 0) (add-one n) (omega (arith, more, none_left g p all n (omega arith)))
 
 pub left_complete : (g : Colouring) → IsProper g → IsComplete g → edges_left g ≡ 0
 left_complete g p all = sym (left_all g (length g.painted) (omega arith)) ∙ none_left g p all (length g.painted) (omega arith)

@@ -1,8 +1,8 @@
 -- Walks leave an edge open or paint it.
-use Rattle.std.proofs.Common.{◌≢◌, ◌<◌, inl, inr, sym, subst}
+use Rattle.mig_base.proofs.Common.{◌≢◌, ◌<◌, inl, inr, sym, subst}
+use Rattle.mig_base.specs.declared.ids.Colour.{Colour}
 use Rattle.mig_base.specs.declared.ids.CopyId.{CopyId}
 use Rattle.mig_base.specs.declared.ids.EdgeId.{EdgeId}
-use Rattle.mig_base.specs.declared.ids.Colour.{Colour}
 use Rattle.mig_board.specs.Colouring.{Colouring, Joins, IsMissing, IsProper, IsFreeAt}
 use Rattle.mig_board.specs.Growth.{Recolours}
 use Rattle.mig_board.specs.Walk.{Exchanges}

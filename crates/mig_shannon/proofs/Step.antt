@@ -1,9 +1,8 @@
 -- One edge of a board, by a repaint or a walk.
-use Rattle.std.proofs.Common.{◌≡◌, ◌≢◌, ℕ, ◌≤◌, ◌+◌, ◌*◌, inl, inr, refl, sym, ap, subst, ◌∙◌, Some, None, arith}
-use Rattle.std.proofs.lemmas.Option.{slice_get_within}
+use Rattle.mig_base.proofs.Common.{◌≡◌, ◌≢◌, ℕ, ◌≤◌, ◌+◌, ◌*◌, inl, inr, refl, sym, ap, subst, ◌∙◌, Some, None, arith, slice_get_within}
+use Rattle.mig_base.specs.declared.ids.Colour.{Colour}
 use Rattle.mig_base.specs.declared.ids.CopyId.{CopyId}
 use Rattle.mig_base.specs.declared.ids.EdgeId.{EdgeId}
-use Rattle.mig_base.specs.declared.ids.Colour.{Colour}
 use Rattle.mig_board.specs.Colouring.{Colouring, Joins, Leads, IsMissing, IsPresent, IsProper, HasNoCommon, IsFreeAt, IsPainted, degree_of, painted_with}
 use Rattle.mig_board.specs.Growth.{IsPlain, PaintsOne}
 use Rattle.mig_board.specs.Walk.{Exchanges, WalksTo, end_of}

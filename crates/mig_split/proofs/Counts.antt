@@ -1,16 +1,11 @@
 -- Counting the ends of each disk.
-use Rattle.std.proofs.Common.{◌≡◌, ◌≢◌, ℕ, ◌+◌, ◌<◌, ◌≤◌, inl, inr, refl, sym, ap, ◌∙◌, subst, List, true, eqb, length, take, get_or, set, replicate, arith, count_by, eq-eqb}
-use Rattle.std.proofs.lemmas.List.{get_or-set_same, get_or-set_other, length-set, length-replicate, get_or-replicate}
-use Rattle.std.proofs.lemmas.List.Sums.{count_by_more_yes, count_by_more_no, count_by-le-length}
-use Rattle.std.proofs.lemmas.Bool.{cases_eq, ne_eqb}
+use Rattle.mig_base.proofs.Common.{◌≡◌, ◌≢◌, ℕ, ◌+◌, ◌<◌, ◌≤◌, inl, inr, refl, sym, ap, ◌∙◌, subst, List, true, eqb, length, take, get_or, set, replicate, arith, count_by, eq-eqb, map, sum, sum_by}
+use Rattle.mig_base.proofs.Common.{get_or-set_same, get_or-set_other, length-set, length-replicate, get_or-replicate, count_by-le-length, cases_eq, ne_eqb, range_with_len, get_or-range_with_len}
+use Rattle.mig_base.proofs.Common.{length-range_with_len, fill_by_all, nat_tests}
 use Rattle.mig_base.specs.declared.ids.DiskId.{DiskId}
+use Rattle.std.proofs.lemmas.List.Sums.{count_by_more_yes, count_by_more_no, sum-map, sum_by-le}
 use Rattle.mig_split.specs.Dealing.{count_of, disk_at}
 use Rattle.mig_split.specs.Decks.{AreCounts}
-use Rattle.std.proofs.Common.{map, sum, sum_by}
-use Rattle.std.specs.List.{range_with_len}
-use Rattle.std.proofs.lemmas.List.Sums.{sum-map, sum_by-le}
-use Rattle.std.proofs.lemmas.List.FromFn.{get_or-range_with_len, length-range_with_len, fill_by_all}
-use Rattle.std.proofs.lemmas.Bool.Decides.{nat_tests}
 use Rattle.mig_base.proofs.Counting.{sum_by-swap, one}
 use Rattle.mig_base.proofs.Copies.{count_by-le-one}
 

@@ -1,11 +1,10 @@
 -- Nodes that are filled with the ends of copies, one copy after the other.
-use Rattle.std.proofs.Common.{◌≡◌, ◌≢◌, ℕ, ◌+◌, ◌*◌, ◌<◌, ◌≤◌, inl, inr, refl, sym, ap, ◌∙◌, subst, List, [], ◌∷◌, ◌++◌, Bool, true, false, cond, eqb, nat_lt, length, take, get_or, set, replicate, arith, count_by, sum_by, eq-eqb, All, ◌&&◌}
-use Rattle.std.proofs.lemmas.List.{get_or-set_same, get_or-set_other, length-set, length-replicate, get_or-replicate, length-append, get_or_append_left, get_or_push}
-use Rattle.std.proofs.lemmas.List.Sums.{count_by_more_yes, count_by_more_no, count_by-le-length}
-use Rattle.std.proofs.lemmas.Bool.{cases_eq, cases_lt, ne_eqb}
-use Rattle.std.proofs.lemmas.Bool.Decides.{nat_tests}
-use Rattle.std.proofs.Math.Nat.{mul-le-mul_left}
+use Rattle.mig_base.proofs.Common.{◌≡◌, ◌≢◌, ℕ, ◌+◌, ◌*◌, ◌<◌, ◌≤◌, inl, inr, refl, sym, ap, ◌∙◌, subst, List, [], ◌∷◌, ◌++◌, Bool, true, false, cond, eqb, length, take, get_or, set, replicate, arith}
+use Rattle.mig_base.proofs.Common.{count_by, sum_by, eq-eqb, All, ◌&&◌, get_or-set_same, get_or-set_other, length-set, length-replicate, get_or-replicate, length-append, get_or_append_left}
+use Rattle.mig_base.proofs.Common.{get_or_push, count_by-le-length, cases_eq, cases_lt, ne_eqb, nat_tests, mul-le-mul_left}
 use Rattle.mig_base.specs.declared.ids.CopyId.{CopyId}
+use Rattle.std.proofs.Common.{nat_lt}
+use Rattle.std.proofs.lemmas.List.Sums.{count_by_more_yes, count_by_more_no}
 use Rattle.mig_base.proofs.Counting.{one, sum_by-add, sum_by-none, sum_by-same_each}
 use Rattle.mig_split.specs.declared.sharing.Last.{Last}
 use Rattle.mig_split.specs.Dealing.{copy_at, count_at}

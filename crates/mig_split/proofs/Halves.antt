@@ -1,32 +1,19 @@
 -- From dealt ends to the copies of edges.
-use Rattle.std.proofs.Common.{◌≡◌, ◌≢◌, ℕ, suc, zero, ◌+◌, ◌-◌, ◌*◌, ◌<◌, ◌≤◌, inl, inr, refl, sym, ap, ◌∙◌, subst, List, [], ◌∷◌, ◌++◌, Bool, true, false, eqb, length, take, drop, get_or, min, sum, arith, count_by, All, ◌||◌}
-use Rattle.std.proofs.lemmas.List.{length-append, get_or_append_left, get_or-append-add, get_or_default, take_at, drop_at, get_or-take, get_or-drop, length-take-le, length-drop}
-use Rattle.std.proofs.lemmas.List.Sums.{sum_by-cons, sum_by-append, sum_by-take-drop}
-use Rattle.std.proofs.lemmas.List.Elements.{All-head, All-tail}
-use Rattle.std.proofs.lemmas.Bool.{cases_lt}
-use Rattle.std.proofs.lemmas.Bool.Decides.{nat_tests}
-use Rattle.mig_base.specs.declared.ids.DiskId.{DiskId}
+use Rattle.mig_base.proofs.Common.{◌≡◌, ◌≢◌, ℕ, suc, zero, ◌+◌, ◌-◌, ◌*◌, ◌<◌, ◌≤◌, inl, inr, refl, sym, ap, ◌∙◌, subst, List, [], ◌∷◌, ◌++◌, Bool, true, false, eqb, length, take, drop, get_or, min}
+use Rattle.mig_base.proofs.Common.{sum, arith, count_by, All, ◌||◌, length-append, get_or_append_left, get_or_default, get_or-take, length-take-le, length-drop, sum_by-cons, sum_by-append, All-head}
+use Rattle.mig_base.proofs.Common.{All-tail, cases_lt, nat_tests, Trip, div_ceil, load, touches, Transfers, trip_at, is_forward, mul-le-mul_left, mul-le-mul_right, limit, quotient, IsDiskInRange}
+use Rattle.mig_base.proofs.Common.{no_disk}
 use Rattle.mig_base.specs.declared.ids.CopyId.{CopyId}
-use Rattle.mig_base.specs.Transfers.{Trip, div_ceil, load, touches}
-use Rattle.mig_base.specs.Transfers.{Transfers}
+use Rattle.mig_base.specs.declared.ids.DiskId.{DiskId}
+use Rattle.std.proofs.lemmas.List.{get_or-append-add, take_at, drop_at, get_or-drop}
+use Rattle.std.proofs.lemmas.List.Sums.{sum_by-take-drop}
 use Rattle.mig_base.specs.Ends.{is_end, ends_at}
-use Rattle.mig_base.specs.Directions.{tails, heads, tail_of, head_of, trip_at, is_forward, out_of, in_of}
-use Rattle.mig_base.proofs.Counting.{one}
-use Rattle.std.proofs.Math.Nat.{mul-le-mul_left, mul-le-mul_right}
-use Rattle.mig_base.specs.Bounding.{limit, quotient}
+use Rattle.mig_base.specs.Directions.{tails, heads, tail_of, head_of, out_of, in_of}
+use Rattle.mig_base.proofs.Counting.{one, count_same, one_of_two, none_pass, ceil_within}
 use Rattle.mig_split.specs.Dealing.{count_of, count_at, disk_at, copy_at, AreFew, IsDealt, IsDealtBy, IsEnough}
-use Rattle.mig_base.specs.InputLists.{IsDiskInRange, no_disk}
 use Rattle.mig_base.proofs.Copies.{load_within_quotient}
 use Rattle.mig_split.specs.Copies.{AreTails, AreHeads, ArePairs, AreSides, AreStops, AreJoined, AreShared, AreShares, AreCopies, first_of, second_of}
-use Rattle.mig_split.proofs.Numbers.{numbers_room, numbers_few, ceil_most, ceil_within, ceil_enough}
-
--- two lists that pass alike at each place
-pub count_same : {X Y : Type 0} (p : X → Bool) (q : Y → Bool) (d : X) (e : Y) (xs : List X) (ys : List Y) → length xs ≡ length ys → ((k : ℕ) → k < length xs → p (get_or xs k d) ≡ q (get_or ys k e)) → count_by p xs ≡ count_by q ys
-count_same p q d e [] [] len h = refl
-count_same p q d e [] (y ∷ ys) len h = absurd (omega arith)
-count_same p q d e (x ∷ xs) [] len h = absurd (omega arith)
-count_same p q d e (x ∷ xs) (y ∷ ys) len h =
-    omega (arith, sum_by-cons (λ z. one (p z)) x xs, sum_by-cons (λ z. one (q z)) y ys, ap one (h 0 (omega arith)), count_same p q d e xs ys (omega arith) (λ k l. h (suc k) (omega arith)))
+use Rattle.mig_split.proofs.Numbers.{numbers_room, numbers_few, ceil_most, ceil_enough}
 
 get_or-tails : (ts : List Trip) (ds : List Bool) (k n : ℕ) → length ds ≡ length ts → k < length ts → get_or (tails ts ds) k n ≡ tail_of (trip_at ts k) (is_forward ds k)
 get_or-tails [] ds k n len h = absurd (omega arith)
@@ -57,14 +44,10 @@ in_is : (ts : List Trip) (ds : List Bool) (disks : List DiskId) (v : ℕ) → le
 in_is ts ds disks v len a = count_same (λ (d : DiskId). eqb d.0 v) (λ n. eqb n v) (record { 0 = 0 }) 0 disks (heads ts ds) (a.len ∙ sym (length-heads ts ds len)) (λ k h. ap (λ n. eqb n v) (a.known k (omega (arith, h, a.len)) ∙ sym (get_or-heads ts ds k 0 len (omega (arith, h, a.len)))))
 
 -- a copy's ends are first or second ends of edges
-or_most : (a b : Bool) → one (a || b) ≤ one a + one b
-or_most true b = omega arith
-or_most false b = omega arith
-
 pub ends_most : (k : CopyId) (ends : List (CopyId × CopyId)) → ends_at k ends ≤ count_by (λ p. eqb p.0.0 k.0) ends + count_by (λ p. eqb p.1.0 k.0) ends
 ends_most k [] = omega arith
 ends_most k (p ∷ ps) =
-    omega (arith, sum_by-cons (λ q. one (is_end k q)) p ps, sum_by-cons (λ (q : CopyId × CopyId). one (eqb q.0.0 k.0)) p ps, sum_by-cons (λ (q : CopyId × CopyId). one (eqb q.1.0 k.0)) p ps, or_most (eqb p.0.0 k.0) (eqb p.1.0 k.0), ends_most k ps)
+    omega (arith, sum_by-cons (λ q. one (is_end k q)) p ps, sum_by-cons (λ (q : CopyId × CopyId). one (eqb q.0.0 k.0)) p ps, sum_by-cons (λ (q : CopyId × CopyId). one (eqb q.1.0 k.0)) p ps, one_of_two (eqb p.0.0 k.0) (eqb p.1.0 k.0), ends_most k ps)
 
 pub firsts_are : (k : CopyId) (firsts seconds : List CopyId) (from : ℕ) (ends : List (CopyId × CopyId)) → ArePairs firsts seconds from ends → count_by (λ p. eqb p.0.0 k.0) ends ≡ count_at k.0 firsts
 firsts_are k firsts seconds from ends a = count_same (λ (p : CopyId × CopyId). eqb p.0.0 k.0) (λ (c : CopyId). eqb c.0 k.0) (record { 0 = 0 }, record { 0 = 0 }) (record { 0 = 0 }) ends firsts a.len (λ i h. ap (λ n. eqb n k.0) (a.first i (omega (arith, h, a.len))))
@@ -77,10 +60,6 @@ more_not a b h = grind (arith, nat_tests)
 
 moved_test : (from c k : ℕ) → from ≤ k → eqb (from + c) k ≡ eqb c (k - from)
 moved_test from c k h = grind (arith, nat_tests)
-
-none_pass : {X : Type 0} (p : X → Bool) (xs : List X) → All (λ x. p x ≡ false) xs → count_by p xs ≡ 0
-none_pass p [] h = refl
-none_pass {X} p (x ∷ xs) h = omega (arith, sum_by-cons (λ y. one (p y)) x xs, ap one (All-head (λ y. p y ≡ false) x xs h), none_pass p xs (All-tail (λ y. p y ≡ false) x xs h))
 
 pub seconds_are : (k : CopyId) (firsts seconds : List CopyId) (from : ℕ) (ends : List (CopyId × CopyId)) → length firsts ≡ length seconds → from ≤ k.0 → ArePairs firsts seconds from ends → count_by (λ p. eqb p.1.0 k.0) ends ≡ count_at (k.0 - from) seconds
 seconds_are k firsts seconds from ends same h a = count_same (λ (p : CopyId × CopyId). eqb p.1.0 k.0) (λ (c : CopyId). eqb c.0 (k.0 - from)) (record { 0 = 0 }, record { 0 = 0 }) (record { 0 = 0 }) ends seconds (a.len ∙ same) (λ i l. ap (λ n. eqb n k.0) (a.second i (omega (arith, l, a.len))) ∙ moved_test from (copy_at seconds i) k.0 h)
@@ -124,12 +103,12 @@ AreSides-all q graph ds ts hs oh ih oc ic ends len at ah o i p =
 one_touch : (v l r : ℕ) → l ≢ r → one (eqb l v) + one (eqb r v) ≡ one (eqb v l || eqb v r)
 one_touch v l r ne = grind (arith, nat_tests)
 
-one_end : (v : ℕ) (t : Trip) (forward : Bool) → t.leaves ≢ t.reaches → one (eqb (tail_of t forward) v) + one (eqb (head_of t forward) v) ≡ one (touches v t)
+pub one_end : (v : ℕ) (t : Trip) (forward : Bool) → t.leaves ≢ t.reaches → one (eqb (tail_of t forward) v) + one (eqb (head_of t forward) v) ≡ one (touches v t)
 one_end v t true ne = one_touch v t.leaves t.reaches ne
 one_end v t false ne = omega (arith, one_touch v t.leaves t.reaches ne)
 
 -- an edge leaves one of its disks and enters the other, whatever its direction
-out_in : (ts : List Trip) (ds : List Bool) (v : ℕ) → length ds ≡ length ts → All (λ t. t.leaves ≢ t.reaches) ts → out_of ts ds v + in_of ts ds v ≡ load v ts
+pub out_in : (ts : List Trip) (ds : List Bool) (v : ℕ) → length ds ≡ length ts → All (λ t. t.leaves ≢ t.reaches) ts → out_of ts ds v + in_of ts ds v ≡ load v ts
 out_in [] ds v len h = refl
 out_in (t ∷ ts) [] v len h = absurd (omega arith)
 out_in (t ∷ ts) (d ∷ ds) v len h =

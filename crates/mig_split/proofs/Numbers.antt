@@ -1,14 +1,9 @@
 -- How many copies each disk gets, and how many all get.
-use Rattle.std.proofs.Common.{◌≡◌, ℕ, suc, ◌+◌, ◌*◌, ◌<◌, ◌≤◌, sym, ap, ◌∙◌, List, [], ◌∷◌, length, get_or, map, sum, arith}
-use Rattle.std.specs.List.{range_with_len}
-use Rattle.std.proofs.lemmas.List.Sums.{sum_by-cons}
-use Rattle.std.proofs.lemmas.List.FromFn.{length-map-range_with_len, get_or-map-range_with_len}
-use Rattle.std.proofs.lemmas.Grind.{div_ceil_times}
-use Rattle.std.proofs.Math.Nat.{mul-le-mul_left}
-use Rattle.mig_base.specs.declared.ids.DiskId.{DiskId}
+use Rattle.mig_base.proofs.Common.{◌≡◌, ℕ, suc, ◌+◌, ◌*◌, ◌<◌, ◌≤◌, sym, ap, ◌∙◌, List, [], ◌∷◌, length, get_or, map, sum, arith, range_with_len, sum_by-cons, length-map-range_with_len}
+use Rattle.mig_base.proofs.Common.{get_or-map-range_with_len, div_ceil_times, div_ceil}
 use Rattle.mig_base.specs.declared.ids.CopyId.{CopyId}
-use Rattle.mig_base.specs.Transfers.{div_ceil}
-use Rattle.mig_base.proofs.Counting.{div_ceil-le}
+use Rattle.mig_base.specs.declared.ids.DiskId.{DiskId}
+use Rattle.mig_base.proofs.Counting.{ceil_within}
 use Rattle.mig_split.specs.Dealing.{count_of, AreFew, IsDealt, IsDealtBy, IsEnough}
 use Rattle.mig_split.proofs.Counts.{counts_total}
 
@@ -57,9 +52,6 @@ numbers_few disks stops numbers len each =
 
 pub ceil_most : (n q : ℕ) → 1 ≤ q → div_ceil n q * q ≤ n + q
 ceil_most n q pos = omega (arith, (div_ceil_times n q pos).1)
-
-pub ceil_within : (n q : ℕ) → 1 ≤ q → div_ceil n q ≤ n
-ceil_within n q pos = div_ceil-le n q n pos (omega (arith, mul-le-mul_left n pos))
 
 pub ceil_enough : (n q : ℕ) → 1 ≤ q → n ≤ div_ceil n q * q
 ceil_enough n q pos = (div_ceil_times n q pos).0

@@ -1,16 +1,14 @@
 -- From nodes on each side to the nodes of edges.
-use Rattle.std.proofs.Common.{◌≡◌, ℕ, suc, zero, ◌+◌, ◌-◌, ◌*◌, ◌<◌, ◌≤◌, inl, inr, sym, ap, ◌∙◌, subst, List, Bool, true, false, cond, eqb, nat_lt, length, get_or, arith, count_by, All, ◌||◌}
-use Rattle.std.proofs.lemmas.List.{get_or_default}
-use Rattle.std.proofs.lemmas.Bool.{cases_lt}
-use Rattle.std.proofs.lemmas.Bool.Decides.{nat_tests}
-use Rattle.std.proofs.Math.Nat.{mul-le-mul_left}
+use Rattle.mig_base.proofs.Common.{◌≡◌, ℕ, suc, zero, ◌+◌, ◌-◌, ◌*◌, ◌<◌, ◌≤◌, inl, inr, sym, ap, ◌∙◌, subst, List, Bool, true, false, cond, eqb, length, get_or, arith, count_by, All, ◌||◌}
+use Rattle.mig_base.proofs.Common.{get_or_default, cases_lt, nat_tests, mul-le-mul_left}
 use Rattle.mig_base.specs.declared.ids.CopyId.{CopyId}
+use Rattle.std.proofs.Common.{nat_lt}
 use Rattle.mig_base.specs.Ends.{is_end, ends_at}
-use Rattle.mig_base.proofs.Counting.{one, sum_by-le_each}
+use Rattle.mig_base.proofs.Counting.{one, sum_by-le_each, count_same}
 use Rattle.mig_split.specs.Copies.{ArePairs, first_of, second_of}
 use Rattle.mig_split.specs.Dealing.{copy_at, count_at}
 use Rattle.mig_split.specs.Sharing.{AreFilled, AreNodes, AreNodesOf, AreOnSides, IsShared}
-use Rattle.mig_split.proofs.Halves.{count_same, ends_most, firsts_are, firsts_none, seconds_are, seconds_none}
+use Rattle.mig_split.proofs.Halves.{ends_most, firsts_are, firsts_none, seconds_are, seconds_none}
 
 -- ---- one side
 

@@ -1,12 +1,9 @@
 -- Dealing from decks in turn.
-use Rattle.std.proofs.Common.{◌≡◌, ◌≢◌, ℕ, suc, zero, ◌+◌, ◌-◌, ◌*◌, ◌<◌, ◌≤◌, inl, inr, refl, sym, ap, ◌∙◌, subst, List, [], ◌∷◌, ◌++◌, Bool, true, false, cond, eqb, length, take, set, arith, eq-eqb}
-use Rattle.std.proofs.lemmas.List.{get_or-set_same, get_or-set_other, length-set, length-append, get_or_append_left, get_or_push, get_or_default, take_all}
-use Rattle.std.proofs.lemmas.List.Sums.{sum_by_push, get_or-le-sum_by}
-use Rattle.std.proofs.lemmas.Bool.{cases_eq, cases_lt, ne_eqb}
-use Rattle.std.proofs.lemmas.Bool.Decides.{nat_tests}
-use Rattle.std.proofs.Math.Nat.{mul-le-mul_left}
-use Rattle.mig_base.specs.declared.ids.DiskId.{DiskId}
+use Rattle.mig_base.proofs.Common.{◌≡◌, ◌≢◌, ℕ, suc, zero, ◌+◌, ◌-◌, ◌*◌, ◌<◌, ◌≤◌, inl, inr, refl, sym, ap, ◌∙◌, subst, List, [], ◌∷◌, ◌++◌, Bool, true, false, cond, eqb, length, take, set, arith}
+use Rattle.mig_base.proofs.Common.{eq-eqb, get_or-set_same, get_or-set_other, length-set, length-append, get_or_append_left, get_or_push, get_or_default, take_all, sum_by_push, get_or-le-sum_by}
+use Rattle.mig_base.proofs.Common.{cases_eq, cases_lt, ne_eqb, nat_tests, mul-le-mul_left}
 use Rattle.mig_base.specs.declared.ids.CopyId.{CopyId}
+use Rattle.mig_base.specs.declared.ids.DiskId.{DiskId}
 use Rattle.mig_split.specs.declared.decks.Deck.{Deck}
 use Rattle.mig_split.specs.Dealing.{count_of, count_at, disk_at, IsDealtBy, IsEnough}
 use Rattle.mig_split.specs.Decks.{AreDecks, AreFresh, IsAfter, IsTurn, IsDealing, deck_at, gone, is_gone, no_deck, place_after}

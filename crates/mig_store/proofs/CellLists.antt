@@ -1,19 +1,11 @@
 -- Cells that are held in a list.
-use Rattle.std.proofs.Common.{◌≡◌, inl, inr, cond, ℕ, Bool, zero, suc, ◌<◌, ◌≤◌, true, false, List, [], ◌∷◌, length, ◌++◌, get_or, set, take, drop, map, Option, Some, None, IfSome, refl, sym, ◌∙◌, ap, subst, arith}
-use Rattle.std.specs.Option.{option_map}
-use Rattle.std.specs.List.{Contains, slice_get}
-use Rattle.std.proofs.lemmas.Option.{slice_get_within, get_or_from_slice_get}
-use Rattle.std.proofs.lemmas.List.Elements.{Contains-get_or}
-use Rattle.std.proofs.lemmas.Bool.{cases_Bool, cond-true, cond-false, false≢true}
-use Rattle.mig_base.specs.declared.cells.Cell.{Cell}
-use Rattle.std.proofs.lemmas.List.{length-replicate, length-map, get_or-map}
-use Rattle.mig_base.specs.Cells.{is_cell, cell_len}
-use Rattle.mig_base.specs.declared.cells.Cell.TheVariants.{Slot, Head, Gate, Mark}
-use Rattle.mig_base.specs.InputLists.{AreDifferent}
-use Rattle.mig_base.specs.Images.{SameBut}
+use Rattle.mig_base.proofs.Common.{◌≡◌, inl, inr, cond, ℕ, Bool, zero, suc, ◌<◌, ◌≤◌, true, false, List, [], ◌∷◌, length, ◌++◌, get_or, set, take, drop, map, Option, Some, None, IfSome, refl, sym}
+use Rattle.mig_base.proofs.Common.{◌∙◌, ap, subst, arith, option_map, Contains, slice_get, slice_get_within, get_or_from_slice_get, Contains-get_or, cases_Bool, cond-true, cond-false, false≢true}
+use Rattle.mig_base.proofs.Common.{length-replicate, length-map, is_cell, cell_len, AreDifferent, SameBut}
+use Rattle.mig_store.proofs.Common.{Cell, Slot, Head, Gate, Mark, Held, cell_of, held_map, held_at, change_at, HasLengths, zero_held}
+use Rattle.std.proofs.lemmas.List.{get_or-map}
 use Rattle.mig_base.proofs.CellTests.{is_cell-same, is_cell-true, is_cell-other}
-use Rattle.mig_store.specs.declared.held.Held.{Held}
-use Rattle.mig_store.specs.HeldCells.{cell_of, held_map, held_at, change_at, put_at, HasLengths, zero_held}
+use Rattle.mig_store.specs.HeldCells.{put_at}
 
 module _ {T : Type 0} where
   -- the first that is held

@@ -1,18 +1,13 @@
 -- Lists of different cells.
-use Rattle.std.proofs.Common.{◌≡◌, inl, inr, ◌++◌, ◌∷◌, [], ℕ, Bool, true, false, List, Option, Some, None, Contains, MatchOption, position, slice_get, is_some, cond, ap, sym, ◌∙◌, refl}
+use Rattle.mig_base.proofs.Common.{◌≡◌, inl, inr, ◌++◌, ◌∷◌, [], ℕ, Bool, true, false, List, Option, Some, None, Contains, MatchOption, slice_get, is_some, cond, ap, sym, ◌∙◌, refl, AreDifferent}
+use Rattle.mig_base.proofs.Common.{list_any, cases_Bool, false_from_ne_true, false≢true, Contains-from_any, list_any-from_Contains, slice_get-get_or, is_cell}
+use Rattle.mig_store.proofs.Common.{Cell, Slot, Head, Gate, Mark}
+use Rattle.std.proofs.Common.{position}
 use Rattle.std.specs.Bool.{Decides}
 use Rattle.std.specs.Cmp.{IsEquivalence}
 use Rattle.std.proofs.lemmas.Map.Made.{AllPairs-from_IsDistinct}
 use Rattle.indexmap.specs.IndexSet.{insert_key, IsUnique, IndexSet}
-use Rattle.mig_base.specs.InputLists.{AreDifferent}
-use Rattle.std.specs.List.{list_any}
-use Rattle.std.proofs.lemmas.Bool.{cases_Bool, false_from_ne_true, false≢true}
 use Rattle.std.proofs.lemmas.List.Quantifiers.{position-Some}
-use Rattle.std.proofs.lemmas.Map.Views.{Contains-from_any, list_any-from_Contains}
-use Rattle.std.proofs.lemmas.Option.{slice_get-get_or}
-use Rattle.mig_base.specs.declared.cells.Cell.{Cell}
-use Rattle.mig_base.specs.declared.cells.Cell.TheVariants.{Slot, Head, Gate, Mark}
-use Rattle.mig_base.specs.Cells.{is_cell}
 use Rattle.mig_base.specs.contracts.cells.CellPartialEq.TheImpl.{eq-value}
 use Rattle.mig_base.proofs.CellTests.{is_cell-same, is_cell-true}
 
@@ -24,18 +19,7 @@ eq-is (Slot d s) (Slot e t) = refl
 eq-is Head Head = refl
 eq-is Gate Gate = refl
 eq-is (Mark m) (Mark n) = refl
-eq-is (Slot d s) Head = refl
-eq-is (Slot d s) Gate = refl
-eq-is (Slot d s) (Mark n) = refl
-eq-is Head (Slot e t) = refl
-eq-is Head Gate = refl
-eq-is Head (Mark n) = refl
-eq-is Gate (Slot e t) = refl
-eq-is Gate Head = refl
-eq-is Gate (Mark n) = refl
-eq-is (Mark m) (Slot e t) = refl
-eq-is (Mark m) Head = refl
-eq-is (Mark m) Gate = refl
+eq-is _ _ = refl
 
 -- cells that pass the test are the same
 pub eq-same : (a b : Cell) → eq a b ≡ true → a ≡ b

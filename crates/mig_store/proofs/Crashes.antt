@@ -1,21 +1,12 @@
 -- A record without calls, at the beginning and after a crash.
-use Rattle.std.proofs.Common.{◌≡◌, inl, inr, ◌/◌, ℕ, true, List, [], length, take, drop, map, Option, Some, None, IfSome, refl, sym, ◌∙◌, ap, subst, arith, length-append}
-use Rattle.std.specs.Option.{option_map, IsSomeAnd}
-use Rattle.std.proofs.lemmas.List.{length-replicate, length-drop}
+use Rattle.mig_base.proofs.Common.{◌≡◌, inl, inr, ◌/◌, ℕ, true, List, [], length, take, drop, map, Option, Some, None, IfSome, refl, sym, ◌∙◌, ap, subst, arith, length-append, option_map, IsSomeAnd}
+use Rattle.mig_base.proofs.Common.{length-replicate, length-drop, cases_Bool, cond-true, cond-false, cell_len, Image}
+use Rattle.mig_store.proofs.Common.{Cell, Call, Contents, fresh, picked, Pick, Held, held_at, held_map, Moment, IsLog, IsMoment, HaveLength, reads, MayLeave}
 use Rattle.std.proofs.Math.ListN.{length-take}
-use Rattle.std.proofs.lemmas.Bool.{cases_Bool, cond-true, cond-false}
-use Rattle.mig_base.specs.declared.cells.Cell.{Cell}
-use Rattle.mig_base.specs.Cells.{cell_len}
-use Rattle.mig_base.specs.Images.{Image}
 use Rattle.mig_base.proofs.Landing.{flights_none}
-use Rattle.mig_store.specs.Calls.{Call}
-use Rattle.mig_store.specs.Asking.{Contents}
-use Rattle.mig_store.specs.declared.contents.Pick.{Pick}
+use Rattle.mig_store.specs.Asking.{crash, bytes_of}
 use Rattle.mig_store.specs.declared.contents.Pick.TheVariants.{Old, New, Half, Ones}
-use Rattle.mig_store.specs.declared.held.Held.{Held}
-use Rattle.mig_store.specs.Asking.{fresh, picked, crash, bytes_of}
-use Rattle.mig_store.specs.HeldCells.{held_at, held_map}
-use Rattle.mig_store.specs.Ledgers.{Moment, IsLog, IsMoment, HaveLength, begin_with, reads, MayLeave}
+use Rattle.mig_store.specs.Ledgers.{begin_with}
 use Rattle.mig_store.proofs.CellLists.{held_at-map}
 
 -- bytes of the cells' lengths

@@ -1,21 +1,12 @@
 -- What the entries of cells say.
-use Rattle.std.proofs.Common.{◌≡◌, ◌==◌, ◌+◌, ◌++◌, ◌<◌, inl, inr, ℕ, zero, suc, List, [], ◌∷◌, length, get_or, set, map, true, if◌then◌else◌, Option, Some, None, IfSome, All, Contains, refl, sym, ◌∙◌, ap, subst, arith, length-append}
-use Rattle.std.specs.Option.{option_map}
-use Rattle.std.specs.List.{slice_get}
-use Rattle.std.proofs.lemmas.Bool.{cases_Bool, cond-true, cond-false, eqb-true, false_from_ne_true}
-use Rattle.std.proofs.lemmas.List.{map-set, get_or_append_left, length-set}
-use Rattle.std.proofs.lemmas.Option.{slice_get-get_or}
-use Rattle.std.proofs.Math.Seq.{get_or-append_seam}
+use Rattle.mig_base.proofs.Common.{◌≡◌, ◌==◌, ◌+◌, ◌++◌, ◌<◌, inl, inr, ℕ, zero, suc, List, [], ◌∷◌, length, get_or, set, map, true, if◌then◌else◌, Option, Some, None, IfSome, All, Contains, refl}
+use Rattle.mig_base.proofs.Common.{sym, ◌∙◌, ap, subst, arith, length-append, option_map, slice_get, cases_Bool, cond-true, cond-false, eqb-true, false_from_ne_true, get_or_append_left, length-set}
+use Rattle.mig_base.proofs.Common.{slice_get-get_or, get_or-append_seam, AreDifferent}
+use Rattle.mig_store.proofs.Common.{Cell, Call, Held, Entry, Pick, Contents, fresh, settle, asked_by, seen, cell_of, held_at, change_at, held_map, zero_held, first_of, firsts, seen_all, crash_entry}
+use Rattle.mig_store.proofs.Common.{IsWithin, AreWithin, zero_entry}
+use Rattle.std.proofs.lemmas.List.{map-set}
 use Rattle.std.proofs.Math.ListN.{get_or-map}
-use Rattle.mig_base.specs.declared.cells.Cell.{Cell}
-use Rattle.mig_base.specs.InputLists.{AreDifferent}
-use Rattle.mig_store.specs.Calls.{Call}
-use Rattle.mig_store.specs.declared.held.Held.{Held}
-use Rattle.mig_store.specs.declared.contents.Entry.{Entry}
-use Rattle.mig_store.specs.declared.contents.Pick.{Pick}
-use Rattle.mig_store.specs.Asking.{Contents, fresh, settle, crash, asked_by, bytes_at, seen}
-use Rattle.mig_store.specs.HeldCells.{cell_of, held_at, change_at, held_map, zero_held}
-use Rattle.mig_store.specs.Entries.{first_of, firsts, seen_all, crash_entry, IsWithin, AreWithin, zero_entry}
+use Rattle.mig_store.specs.Asking.{crash, bytes_at}
 use Rattle.mig_store.proofs.CellLists.{held_at-change, held_at-absent, held_at-map, change_at-none, cells_of-map}
 
 -- With one call more

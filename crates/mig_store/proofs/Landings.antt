@@ -1,16 +1,12 @@
 -- A loop that ends the copies in flight.
-use Rattle.std.proofs.Common.{◌≡◌, ◌+◌, ◌++◌, ◌∷◌, [], ℕ, suc, List, Some, length, refl, sym, ◌∙◌, ap, arith, length-append}
+use Rattle.mig_base.proofs.Common.{◌≡◌, ◌+◌, ◌++◌, ◌∷◌, [], ℕ, suc, List, Some, length, refl, sym, ◌∙◌, ap, arith, length-append, AreFlights, Ends}
+use Rattle.mig_store.proofs.Common.{Flight, Lands, Log, state_at, flying, moment_of, Memory, pushed, land_many}
 use Rattle.std.proofs.lemmas.List.Sorted.{length_permutation}
-use Rattle.mig_base.specs.declared.cells.Flight.{Flight}
-use Rattle.mig_base.specs.Flights.{AreFlights}
-use Rattle.mig_base.specs.Stores.{Ends}
 use Rattle.mig_base.proofs.Landing.{ends_none, ends_then}
-use Rattle.mig_store.specs.Calls.{Lands}
-use Rattle.mig_store.specs.Ledgers.{Log, state_at, flying, moment_of}
 use Rattle.mig_store.specs.declared.ends.Landing.{Landing}
 use Rattle.mig_store.specs.declared.trouble.Trouble.{Trouble}
 use Rattle.mig_store.specs.Orders.{after_end}
-use Rattle.mig_store.specs.Memories.{Memory, pushed, landed, next_flight, land_many}
+use Rattle.mig_store.specs.Memories.{landed, next_flight}
 
 -- so many copies ended
 pub record HaveLanded (old new : Log) (i : ℕ) : Type 0 where

@@ -1,13 +1,6 @@
 -- A record with one call more.
-use Rattle.std.proofs.Common.{◌≡◌, ◌<◌, ◌≤◌, ◌+◌, ◌++◌, ℕ, List, [], ◌∷◌, length, Option, Some, None, IsSome, IfSome, refl, sym, ◌∙◌, ap, subst, arith, length-append}
-use Rattle.std.specs.Option.{option_map, IsSomeAnd}
-use Rattle.mig_base.specs.declared.cells.Event.{Event}
-use Rattle.mig_base.specs.declared.cells.Flight.{Flight}
-use Rattle.mig_store.specs.Calls.{Call}
-use Rattle.mig_store.specs.Asking.{Contents}
-use Rattle.mig_store.specs.declared.held.Held.{Held}
-use Rattle.mig_store.specs.HeldCells.{held_at}
-use Rattle.mig_store.specs.Ledgers.{Moment, Log, IsLog, HaveLength, after_call, after, flying, moment_of, IsMoment}
+use Rattle.mig_base.proofs.Common.{◌≡◌, ◌<◌, ◌≤◌, ◌+◌, ◌++◌, ℕ, List, [], ◌∷◌, length, Option, Some, None, IsSome, IfSome, refl, sym, ◌∙◌, ap, subst, arith, length-append, option_map, IsSomeAnd}
+use Rattle.mig_store.proofs.Common.{Event, Flight, Call, Contents, Held, held_at, Moment, Log, IsLog, HaveLength, after_call, after, flying, moment_of, IsMoment}
 use Rattle.mig_store.proofs.Moments.{after-push}
 
 -- the moment of a record with one call more

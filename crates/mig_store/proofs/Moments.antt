@@ -1,22 +1,11 @@
 -- What one call more in a record changes.
-use Rattle.std.proofs.Common.{◌≡◌, ◌⊎◌, inl, inr, cond, ℕ, ◌<◌, ◌≤◌, true, not, List, [], ◌∷◌, ◌++◌, length, Option, Some, None, IfSome, refl, sym, ◌∙◌, ap, subst, arith, length-append}
-use Rattle.std.specs.Option.{option_map, IsSomeAnd}
-use Rattle.std.proofs.lemmas.Bool.{cases_lt, cases_Bool, cond-true, cond-false, false≢true}
-use Rattle.std.proofs.lemmas.List.{take_all, take-append-le}
-use Rattle.std.proofs.lemmas.List.Sums.{fold-append}
-use Rattle.mig_base.specs.declared.cells.Cell.{Cell}
-use Rattle.mig_base.specs.declared.cells.Event.{Event}
-use Rattle.mig_base.specs.declared.cells.Flight.{Flight}
-use Rattle.mig_base.specs.Cells.{is_cell, cell_len}
-use Rattle.mig_base.specs.Images.{Image, SameBut}
-use Rattle.mig_base.specs.Stores.{IsLeftBut, Changes}
+use Rattle.mig_base.proofs.Common.{◌≡◌, ◌⊎◌, inl, inr, cond, ℕ, ◌<◌, ◌≤◌, true, not, List, [], ◌∷◌, ◌++◌, length, Option, Some, None, IfSome, refl, sym, ◌∙◌, ap, subst, arith, length-append}
+use Rattle.mig_base.proofs.Common.{option_map, IsSomeAnd, cases_lt, cases_Bool, cond-true, cond-false, false≢true, take_all, take-append-le, fold-append, is_cell, cell_len, Image, SameBut, Changes}
+use Rattle.mig_store.proofs.Common.{Cell, Event, Flight, Call, Contents, Held, change_at, Moment, after_call, after, reads, MayLeave, HaveLength, IsMoment, state_at}
+use Rattle.mig_base.specs.Stores.{IsLeftBut}
 use Rattle.mig_base.proofs.StoreSteps.{same_none, events_none}
 use Rattle.mig_base.proofs.CellTests.{is_cell-same, is_cell-other, cases_cell}
-use Rattle.mig_store.specs.Calls.{Call}
-use Rattle.mig_store.specs.Asking.{Contents}
-use Rattle.mig_store.specs.declared.held.Held.{Held}
-use Rattle.mig_store.specs.HeldCells.{change_at}
-use Rattle.mig_store.specs.Ledgers.{Moment, begin_with, after_call, after, reads, IsUnsettled, MayLeave, LeftSince, HaveLength, IsLaid, IsMoment, state_at}
+use Rattle.mig_store.specs.Ledgers.{begin_with, IsUnsettled, LeftSince, IsLaid}
 use Rattle.mig_store.proofs.CellLists.{change_at-other, change_at-here}
 
 pub after-push : (first : List (Held (List ℕ))) (calls : List Call) (call : Call) → after first (calls ++ call ∷ []) ≡ after_call (after first calls) call

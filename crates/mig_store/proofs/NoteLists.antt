@@ -1,9 +1,8 @@
 -- Calls whose bytes stand in one list.
-use Rattle.std.proofs.Common.{◌≡◌, Bool, ◌≤◌, ◌<◌, ◌+◌, ◌-◌, ◌*◌, ◌++◌, ◌∷◌, [], ℕ, zero, suc, List, length, take, drop, get_or, All, cond, refl, sym, ◌∙◌, ap, subst, arith, length-append, length-drop}
-use Rattle.std.specs.List.{slice_range, count_by}
-use Rattle.std.proofs.lemmas.List.{take-append-le, drop-append-le, take_all, length-map, map-append}
-use Rattle.std.proofs.lemmas.List.Elements.{All-append}
-use Rattle.std.proofs.lemmas.List.Sums.{sum_by-cons}
+use Rattle.mig_base.proofs.Common.{◌≡◌, Bool, ◌≤◌, ◌<◌, ◌+◌, ◌-◌, ◌*◌, ◌++◌, ◌∷◌, [], ℕ, zero, suc, List, length, take, drop, get_or, All, cond, refl, sym, ◌∙◌, ap, subst, arith, length-append}
+use Rattle.mig_base.proofs.Common.{length-drop, count_by, take-append-le, take_all, length-map, map-append, All-append, sum_by-cons}
+use Rattle.std.specs.List.{slice_range}
+use Rattle.std.proofs.lemmas.List.{drop-append-le}
 use Rattle.std.proofs.Math.Seq.{drop-append_seam}
 use Rattle.mig_store.specs.declared.calls.Act.{Act}
 use Rattle.mig_store.specs.declared.calls.Note.{Note}

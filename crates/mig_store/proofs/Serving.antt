@@ -1,20 +1,10 @@
 -- What a store in memory tells after each kind of call.
-use Rattle.std.proofs.Common.{◌≡◌, ◌<◌, ◌++◌, ◌∷◌, [], ℕ, zero, suc, Bool, true, false, not, cond, List, length, get_or, filter, IfSome, refl, sym, ◌∙◌, ap, subst, arith, append-nil}
-use Rattle.std.specs.List.{Contains}
-use Rattle.std.specs.List.Sorted.{IsPermutation}
-use Rattle.mig_base.specs.declared.cells.Cell.{Cell}
-use Rattle.mig_base.specs.declared.cells.Event.{Event}
-use Rattle.mig_base.specs.declared.cells.Flight.{Flight}
-use Rattle.mig_base.specs.Cells.{cell_len}
-use Rattle.mig_base.specs.Images.{Image, NoCell, IsCopy, SameBut}
-use Rattle.mig_base.specs.Flights.{began, ended, is_flight, IsTargetOf}
-use Rattle.mig_base.specs.Stores.{Changes, Ends, IsSettled}
+use Rattle.mig_base.proofs.Common.{◌≡◌, ◌<◌, ◌++◌, ◌∷◌, [], ℕ, zero, suc, Bool, true, false, not, cond, List, length, get_or, filter, IfSome, refl, sym, ◌∙◌, ap, subst, arith, append-nil, Contains}
+use Rattle.mig_base.proofs.Common.{IsPermutation, cell_len, Image, NoCell, IsCopy, SameBut, began, ended, is_flight, IsTargetOf, Changes, Ends, IsSettled}
+use Rattle.mig_store.proofs.Common.{Cell, Event, Flight, Call, Wrote, Copies, Lands, Synced, Held, Moment, Log, after, after_call, reads, MayLeave, flying, moment_of, IsMoment, state_at, Memory}
+use Rattle.mig_store.proofs.Common.{pushed, state_of}
 use Rattle.mig_base.proofs.Landing.{flights_began, ends_one_others, target_here, target_right}
 use Rattle.mig_base.proofs.Rounds.{contains_any}
-use Rattle.mig_store.specs.Calls.{Call, Wrote, Copies, Lands, Synced}
-use Rattle.mig_store.specs.declared.held.Held.{Held}
-use Rattle.mig_store.specs.Ledgers.{Moment, Log, after, after_call, reads, MayLeave, flying, moment_of, IsMoment, state_at}
-use Rattle.mig_store.specs.Memories.{Memory, pushed, state_of}
 use Rattle.mig_store.proofs.Moments.{after-push, unrecorded, recorded}
 use Rattle.mig_store.proofs.Steps.{wrote_told, wrote_crash, wrote_shows, asked_told, asked_crash, landed_told, landed_crash, landed_copied, landed_flights, others_gone, synced_told, synced_crash, synced_settled}
 

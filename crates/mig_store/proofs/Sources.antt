@@ -1,18 +1,7 @@
 -- The bytes that a copy reads.
-use Rattle.std.proofs.Common.{◌≡◌, ◌++◌, ◌∷◌, [], ℕ, Bool, List, length, Option, Some, None, IsSome, IfSome, refl, ◌∙◌, sym, ap, subst}
-use Rattle.std.proofs.lemmas.Bool.{false≢true}
-use Rattle.std.specs.Option.{option_map}
-use Rattle.mig_base.specs.declared.cells.Cell.{Cell}
-use Rattle.mig_base.specs.declared.cells.Flight.{Flight}
-use Rattle.mig_base.specs.Cells.{cell_len}
-use Rattle.mig_store.specs.declared.contents.Entry.{Entry}
-use Rattle.mig_store.specs.declared.held.Held.{Held}
-use Rattle.mig_store.specs.Asking.{Contents, bytes_at}
-use Rattle.mig_store.specs.Calls.{Call, Copies}
-use Rattle.mig_store.specs.Entries.{seen_all}
-use Rattle.mig_store.specs.HeldCells.{held_at}
-use Rattle.mig_store.specs.Ledgers.{Log, IsMoment, moment_of, reads}
-use Rattle.mig_store.specs.Memories.{pushed}
+use Rattle.mig_base.proofs.Common.{◌≡◌, ◌++◌, ◌∷◌, [], ℕ, Bool, List, length, Option, Some, None, IsSome, IfSome, refl, ◌∙◌, sym, ap, subst, false≢true, option_map, cell_len}
+use Rattle.mig_store.proofs.Common.{Cell, Flight, Entry, Held, Contents, Call, Copies, seen_all, held_at, Log, IsMoment, moment_of, reads, pushed}
+use Rattle.mig_store.specs.Asking.{bytes_at}
 use Rattle.mig_store.proofs.EntryLists.{reads_entry, reads_nothing}
 use Rattle.mig_store.proofs.Logs.{shown-length}
 

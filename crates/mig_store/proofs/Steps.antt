@@ -1,23 +1,14 @@
 -- What each kind of call in a record changes.
-use Rattle.std.proofs.Common.{◌≡◌, ◌⊎◌, inl, inr, cond, ℕ, zero, suc, ◌<◌, Bool, true, false, not, List, [], ◌∷◌, ◌++◌, length, get_or, filter, Option, Some, None, IfSome, IsSome, refl, sym, ◌∙◌, ap, subst, arith}
-use Rattle.std.specs.Option.{option_map, IsSomeAnd}
-use Rattle.std.specs.List.{All, Contains}
-use Rattle.std.proofs.lemmas.Bool.{false≢true}
-use Rattle.std.proofs.lemmas.List.Elements.{All-append, All-contains, filter_passes, Contains-get_or}
-use Rattle.mig_base.specs.declared.cells.Cell.{Cell}
+use Rattle.mig_base.proofs.Common.{◌≡◌, ◌⊎◌, inl, inr, cond, ℕ, zero, suc, ◌<◌, Bool, true, false, not, List, [], ◌∷◌, ◌++◌, length, get_or, filter, Option, Some, None, IfSome, IsSome, refl, sym, ◌∙◌}
+use Rattle.mig_base.proofs.Common.{ap, subst, arith, option_map, IsSomeAnd, All, Contains, false≢true, All-append, All-contains, filter_passes, Contains-get_or, cell_len, Image, NoCell, SameBut}
+use Rattle.mig_base.proofs.Common.{IsCopy, is_flight, after_events, AreFlights, IsTargetOf, IsSourceOf}
+use Rattle.mig_store.proofs.Common.{Cell, Flight, Wrote, Copies, Lands, Synced, Contents, ask, land, settle, Moment, after_call, reads, MayLeave, flying, HaveLength, IsMoment}
 use Rattle.mig_base.specs.declared.cells.Event.TheVariants.{Began}
-use Rattle.mig_base.specs.declared.cells.Flight.{Flight}
-use Rattle.mig_base.specs.Cells.{cell_len}
-use Rattle.mig_base.specs.Images.{Image, NoCell, SameBut, IsCopy}
-use Rattle.mig_base.specs.Flights.{is_flight, after_events, AreFlights, IsTargetOf, IsSourceOf}
 use Rattle.mig_base.proofs.StoreSteps.{same_none, same_wider}
 use Rattle.mig_base.proofs.CellTests.{cases_cell}
 use Rattle.mig_base.proofs.Rounds.{any_contains, one_by}
 use Rattle.mig_base.proofs.Landing.{flights_began, flights_ended, flights_push, flights_filter, contains_kept, target_here, is_flight-same}
-use Rattle.mig_store.specs.Calls.{Wrote, Copies, Lands, Synced}
-use Rattle.mig_store.specs.Asking.{Contents}
-use Rattle.mig_store.specs.Asking.{ask, land, settle}
-use Rattle.mig_store.specs.Ledgers.{Moment, after_call, reads, IsUnsettled, MayLeave, flying, HaveLength, IsLaid, IsMoment}
+use Rattle.mig_store.specs.Ledgers.{IsUnsettled, IsLaid}
 use Rattle.mig_store.proofs.CellLists.{change_at-other, change_at-here}
 use Rattle.mig_store.proofs.Moments.{changed_lengths, changed_told, changed_crash, changed_laid}
 

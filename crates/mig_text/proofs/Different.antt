@@ -1,8 +1,6 @@
 -- Elements that are different.
-use Rattle.std.proofs.Common.{◌≡◌, ◌++◌, ◌∷◌, ◌<◌, List, Contains, length, arith, sym, subst, ◌∙◌, length-append}
+use Rattle.mig_base.proofs.Common.{◌≡◌, ◌++◌, ◌∷◌, ◌<◌, List, Contains, length, arith, sym, subst, ◌∙◌, length-append, get_or-append_seam, AreDifferent}
 use Rattle.std.proofs.Math.ListN.{get_or-append}
-use Rattle.std.proofs.Math.Seq.{get_or-append_seam}
-use Rattle.mig_base.specs.InputLists.{AreDifferent}
 
 -- one of them isn't among those before it
 pub not_before : {X : Type 0} (a : List X) (x : X) (rest : List X) → AreDifferent (a ++ x ∷ rest) → Contains a x → ⊥

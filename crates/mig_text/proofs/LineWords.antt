@@ -1,12 +1,9 @@
 -- A line is read through its words.
-use Rattle.std.proofs.Common.{◌≡◌, ◌≢◌, ◌≤◌, ◌<◌, ◌^◌, ◌∷◌, ◌==◌, ℕ, List, [], Option, Some, None, MatchOption, codes, length, arith, ap, sym, refl, ◌∙◌}
-use Rattle.std.specs.List.{slice_split, AllByRecursion}
-use Rattle.std.specs.Fmt.{decimal}
-use Rattle.mig_base.specs.declared.limits.TheConstants.{MAX_SHIFTS, MAX_SLOTS}
+use Rattle.mig_base.proofs.Common.{◌≡◌, ◌≢◌, ◌≤◌, ◌<◌, ◌^◌, ◌∷◌, ◌==◌, ℕ, List, [], Option, Some, None, MatchOption, codes, length, arith, ap, sym, refl, ◌∙◌, AllByRecursion, decimal, Lists, IsInput}
+use Rattle.mig_base.proofs.Common.{disk_name, shift_line, words, ShiftFits}
 use Rattle.mig_base.specs.declared.ids.Shift.{Shift}
-use Rattle.mig_base.specs.InputLists.{Lists, IsInput}
-use Rattle.mig_base.specs.Texts.{disk_name, shift_line, words}
-use Rattle.mig_base.specs.Running.{ShiftFits}
+use Rattle.mig_base.specs.declared.limits.TheConstants.{MAX_SHIFTS, MAX_SLOTS}
+use Rattle.std.specs.List.{slice_split}
 use Rattle.mig_base.proofs.Separators.{Lacks, Lacks-decimal}
 use Rattle.mig_base.proofs.Spelling.{lacks_test, round_lacks, words_lack}
 use Rattle.mig_text.proofs.Places.{split_words, words_split}

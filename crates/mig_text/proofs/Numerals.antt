@@ -1,13 +1,11 @@
 -- The words of numbers.
-use Rattle.std.proofs.Common.{◌≡◌, ◌≢◌, ◌≤◌, ◌<◌, ◌^◌, ◌*◌, ◌+◌, ◌-◌, ℕ, zero, suc, List, [], ◌∷◌, length, get_or, arith, ap, refl, sym, ◌∙◌, ◌++◌, ◌/◌, ◌%◌, append_assoc, fold, IsTrue, subst, All, inl, inr}
+use Rattle.mig_base.proofs.Common.{◌≡◌, ◌≢◌, ◌≤◌, ◌<◌, ◌^◌, ◌*◌, ◌+◌, ◌-◌, ℕ, zero, suc, List, [], ◌∷◌, length, get_or, arith, ap, refl, sym, ◌∙◌, ◌++◌, ◌/◌, ◌%◌, append_assoc, IsTrue, subst, All}
+use Rattle.mig_base.proofs.Common.{inl, inr, decimal, cases_lt, nat_tests, length-decimal-le, number_of}
+use Rattle.std.proofs.Common.{fold}
 use Rattle.std.specs.Char.{is_ascii_digit}
-use Rattle.std.specs.Fmt.{decimal}
 use Rattle.std.specs.Int.{IsInRange}
-use Rattle.std.proofs.lemmas.Bool.{cases_lt}
-use Rattle.std.proofs.lemmas.Bool.Decides.{nat_tests}
 use Rattle.std.proofs.lemmas.Str.Parse.{IsDigitsTest, FoldsDigits, IsNumeralModel, numerals_by_fold}
-use Rattle.std.proofs.lemmas.Fmt.{decimal_step, decimal-digits_value, digits_value-decimal, digits_decimal, decimal_nonempty, length-decimal-le, first_decimal, decimal_digit}
-use Rattle.mig_base.specs.Digits.{IsNumber, number_of}
+use Rattle.std.proofs.lemmas.Fmt.{decimal_step, decimal-digits_value, digits_value-decimal, digits_decimal, decimal_nonempty, first_decimal, decimal_digit}
 use Rattle.mig_text.specs.Digits.{IsNumeralWord}
 
 abbrev AreDigits : List ℕ → Type 0

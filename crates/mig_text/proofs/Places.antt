@@ -1,11 +1,9 @@
 -- A text whose pieces all fit has no misfit.
-use Rattle.std.proofs.Common.{◌≡◌, ◌≢◌, ◌==◌, eqb, ℕ, ◌+◌, true, false, List, [], ◌∷◌, ◌++◌, length, refl, sym, ap, subst, ◌∙◌, arith, append_assoc, length-append}
-use Rattle.std.specs.List.{AllByRecursion, slice_split}
+use Rattle.mig_base.proofs.Common.{◌≡◌, ◌≢◌, ◌==◌, eqb, ℕ, ◌+◌, false, List, [], ◌∷◌, ◌++◌, length, refl, sym, ap, subst, ◌∙◌, arith, append_assoc, length-append, AllByRecursion, nat_tests, eq-eqb}
+use Rattle.mig_base.proofs.Common.{text_of_lines, words, Leads, Stops, IsMisfit, pieces}
+use Rattle.std.specs.List.{slice_split}
 use Rattle.std.proofs.lemmas.List.Splits.{slice_split_none, slice_split_at, join_with_byte-slice_split}
 use Rattle.std.proofs.lemmas.List.Elements.{All-from_recursion}
-use Rattle.std.proofs.lemmas.Bool.Decides.{nat_tests}
-use Rattle.mig_base.specs.Texts.{text_of_lines, words}
-use Rattle.mig_base.specs.Misfits.{Leads, Stops, IsMisfit, pieces}
 use Rattle.mig_base.proofs.Separators.{Lacks, after_line}
 
 module _ {P : Type 0} (Next : P → List ℕ → P → Type 0) where
@@ -48,14 +46,11 @@ differs : (c : ℕ) (xs : List ℕ) → Lacks c xs → AllByRecursion (λ x. eqb
 differs c [] h = tt
 differs c (x ∷ xs) h = (let n : x ≢ c = h.0 in grind (arith, nat_tests), differs c xs h.1)
 
-same_byte : (c : ℕ) → eqb c c ≡ true
-same_byte c = grind (arith, nat_tests)
-
 pub split_last : (c : ℕ) (xs : List ℕ) → Lacks c xs → slice_split (λ b. b == c) xs ≡ xs ∷ []
 split_last c xs h = slice_split_none (λ b. b == c) xs (All-from_recursion (λ x. eqb x c ≡ false) xs (differs c xs h))
 
 pub split_front : (c : ℕ) (xs ys : List ℕ) → Lacks c xs → slice_split (λ b. b == c) (xs ++ c ∷ ys) ≡ xs ∷ slice_split (λ b. b == c) ys
-split_front c xs ys h = slice_split_at (λ b. b == c) xs c ys (All-from_recursion (λ x. eqb x c ≡ false) xs (differs c xs h)) (same_byte c)
+split_front c xs ys h = slice_split_at (λ b. b == c) xs c ys (All-from_recursion (λ x. eqb x c ≡ false) xs (differs c xs h)) (eq-eqb c c refl)
 
 -- the pieces of lines are the lines, and an empty piece after them
 pub pieces_of_lines : (ls : List (List ℕ)) → AllByRecursion (Lacks 10) ls → pieces (text_of_lines ls) ≡ ls ++ [] ∷ []

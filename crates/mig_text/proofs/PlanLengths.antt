@@ -1,14 +1,8 @@
 -- How long the text of a plan is.
-use Rattle.std.proofs.Common.{◌≡◌, ◌≤◌, ◌<◌, ◌^◌, ◌+◌, ◌*◌, ℕ, List, [], ◌∷◌, ◌++◌, length, map, codes, All, ap, ◌∙◌, arith, length-append}
-use Rattle.std.specs.List.{AllByRecursion}
-use Rattle.std.specs.Fmt.{decimal}
-use Rattle.std.proofs.lemmas.Fmt.{length-decimal-le}
-use Rattle.std.proofs.lemmas.List.Elements.{recursion_from_All}
-use Rattle.mig_base.specs.declared.limits.TheConstants.{MAX_ROUNDS}
+use Rattle.mig_base.proofs.Common.{◌≡◌, ◌≤◌, ◌<◌, ◌^◌, ◌+◌, ◌*◌, ℕ, List, [], ◌∷◌, ◌++◌, length, map, codes, All, ap, ◌∙◌, arith, length-append, AllByRecursion, decimal, length-decimal-le}
+use Rattle.mig_base.proofs.Common.{recursion_from_All, Lists, IsInput, no_disk, ShiftFits, PlanText, item_name, disk_name, words, shift_line, round_lines, text_of_lines}
 use Rattle.mig_base.specs.declared.ids.Shift.{Shift}
-use Rattle.mig_base.specs.InputLists.{Lists, IsInput, no_disk}
-use Rattle.mig_base.specs.Running.{ShiftFits}
-use Rattle.mig_base.specs.Texts.{PlanText, item_name, disk_name, words, shift_line, round_lines, text_of_lines}
+use Rattle.mig_base.specs.declared.limits.TheConstants.{MAX_ROUNDS}
 use Rattle.mig_text.specs.PlanParts.{head_line}
 
 pub text_cons : (l : List ℕ) (ls : List (List ℕ)) → length (text_of_lines (l ∷ ls)) ≡ length l + 1 + length (text_of_lines ls)

@@ -1,15 +1,9 @@
 -- The lines of a plan fit their places.
-use Rattle.std.proofs.Common.{◌≡◌, ℕ, suc, ◌+◌, ◌<◌, ◌≤◌, List, [], ◌∷◌, ◌++◌, length, refl, sym, ap, subst, ◌∙◌, arith, map, codes, append_assoc, add-zero, inl, inr}
-use Rattle.std.specs.List.{AllByRecursion}
-use Rattle.std.specs.Fmt.{decimal}
-use Rattle.std.proofs.lemmas.Fmt.{decimal_injective}
-use Rattle.std.proofs.lemmas.Bool.{cases_lt}
-use Rattle.mig_base.specs.declared.limits.TheConstants.{MAX_FILE_BYTES, MAX_ROUNDS, MAX_SHIFTS}
+use Rattle.mig_base.proofs.Common.{◌≡◌, ℕ, suc, ◌+◌, ◌<◌, ◌≤◌, List, [], ◌∷◌, ◌++◌, length, refl, sym, ap, subst, ◌∙◌, arith, map, codes, append_assoc, inl, inr, AllByRecursion, decimal}
+use Rattle.mig_base.proofs.Common.{decimal_injective, cases_lt, Lists, IsInput, words, shift_line, round_lines, plan_lines, PlanText, ShiftFits, PlanFits, Leads, IsLine, pieces}
 use Rattle.mig_base.specs.declared.ids.Shift.{Shift}
-use Rattle.mig_base.specs.InputLists.{Lists, IsInput}
-use Rattle.mig_base.specs.Texts.{words, shift_line, round_lines, plan_lines, PlanText}
-use Rattle.mig_base.specs.Running.{ShiftFits, PlanFits}
-use Rattle.mig_base.specs.Misfits.{Leads, IsLine, pieces}
+use Rattle.mig_base.specs.declared.limits.TheConstants.{MAX_FILE_BYTES, MAX_ROUNDS, MAX_SHIFTS}
+use Rattle.std.proofs.Common.{add-zero}
 use Rattle.mig_base.specs.PlanLines.{PlanPlace, Title, Total, Head, Move, End, Last, Over, before_rounds, before_shifts, PlanNext}
 use Rattle.mig_base.proofs.Separators.{same_words, Lacks-decimal}
 use Rattle.mig_base.proofs.Spelling.{plan_lacks, are_fitting, rounds_word_lacks}

@@ -1,16 +1,11 @@
 -- The reading of a plan, part by part.
-use Rattle.std.proofs.Common.{◌≡◌, ◌≢◌, ◌≤◌, ◌<◌, ◌+◌, ◌-◌, ◌∷◌, ◌++◌, ℕ, suc, List, [], length, map, codes, All, arith, ap, sym, refl, subst, ◌∙◌, append_assoc, append-nil, length-append, Result, Ok, Err, IfOk, inl, inr}
-use Rattle.std.specs.List.{AllByRecursion, join_with_byte}
-use Rattle.std.specs.Fmt.{decimal}
-use Rattle.std.proofs.lemmas.List.Elements.{All-push, recursion_from_All}
-use Rattle.std.proofs.lemmas.List.Splits.{join_with_byte-slice_split}
-use Rattle.std.proofs.lemmas.List.{map-append}
-use Rattle.mig_base.specs.declared.limits.TheConstants.{MAX_FILE_BYTES, MAX_ROUNDS, MAX_SHIFTS}
+use Rattle.mig_base.proofs.Common.{◌≡◌, ◌≢◌, ◌≤◌, ◌<◌, ◌+◌, ◌-◌, ◌∷◌, ◌++◌, ℕ, suc, List, [], length, map, codes, All, arith, ap, sym, refl, subst, ◌∙◌, append_assoc, append-nil, length-append}
+use Rattle.mig_base.proofs.Common.{Result, Ok, Err, IfOk, inl, inr, AllByRecursion, decimal, All-push, recursion_from_All, map-append, Lists, IsInput, PlanText, shift_line, words, round_lines}
+use Rattle.mig_base.proofs.Common.{plan_lines, text_of_lines, ShiftFits, PlanFits, Leads, Stops, IsMisfit, IsLine, pieces}
 use Rattle.mig_base.specs.declared.ids.Shift.{Shift}
-use Rattle.mig_base.specs.InputLists.{Lists, IsInput}
-use Rattle.mig_base.specs.Texts.{PlanText, shift_line, words, round_lines, plan_lines, text_of_lines}
-use Rattle.mig_base.specs.Running.{ShiftFits, PlanFits}
-use Rattle.mig_base.specs.Misfits.{Leads, Stops, IsMisfit, IsLine, pieces}
+use Rattle.mig_base.specs.declared.limits.TheConstants.{MAX_FILE_BYTES, MAX_ROUNDS, MAX_SHIFTS}
+use Rattle.std.specs.List.{join_with_byte}
+use Rattle.std.proofs.lemmas.List.Splits.{join_with_byte-slice_split}
 use Rattle.mig_base.specs.PlanLines.{Title, Total, Head, Move, End, Last, Over, before_rounds, before_shifts, PlanNext, PlanLine}
 use Rattle.mig_base.proofs.Separators.{after_line}
 use Rattle.mig_text.proofs.PlanPlaces.{rounds_lead, line_no_plan}

@@ -1,19 +1,9 @@
 -- A plan that moves each relocated item once has at most as many shifts as there are items.
-use Rattle.std.proofs.Common.{◌≡◌, ◌≤◌, ◌<◌, ◌+◌, eqb, ℕ, zero, suc, Bool, true, false, cond, List, [], ◌∷◌, length, All, get_or, refl, ap, ◌∙◌, arith, sum_by, count_by, inl, inr, subst}
-use Rattle.std.specs.List.{AllByRecursion, range_with_len}
-use Rattle.std.proofs.lemmas.List.FromFn.{length-range_with_len, get_or-range_with_len}
-use Rattle.std.proofs.lemmas.List.{get_or_default}
-use Rattle.std.proofs.lemmas.List.Sums.{sum_by-cons}
-use Rattle.std.proofs.lemmas.Fmt.{length-decimal-le}
-use Rattle.std.proofs.lemmas.List.Elements.{recursion_from_All}
-use Rattle.std.proofs.lemmas.Bool.{cases_lt}
-use Rattle.std.proofs.lemmas.Bool.Decides.{nat_tests}
-use Rattle.mig_base.specs.declared.limits.TheConstants.{MAX_FILE_BYTES}
+use Rattle.mig_base.proofs.Common.{◌≡◌, ◌≤◌, ◌<◌, ◌+◌, eqb, ℕ, zero, suc, Bool, true, false, cond, List, [], ◌∷◌, length, All, get_or, refl, ap, ◌∙◌, arith, sum_by, count_by, inl, inr, subst}
+use Rattle.mig_base.proofs.Common.{AllByRecursion, range_with_len, length-range_with_len, get_or-range_with_len, get_or_default, sum_by-cons, length-decimal-le, recursion_from_All, cases_lt}
+use Rattle.mig_base.proofs.Common.{nat_tests, Lists, IsInput, is_relocated, Runs, Once, ShiftFits, is_of, shift_count, PlanText}
 use Rattle.mig_base.specs.declared.ids.Shift.{Shift}
-use Rattle.mig_base.specs.InputLists.{Lists, IsInput}
-use Rattle.mig_base.specs.Transfers.{is_relocated}
-use Rattle.mig_base.specs.Running.{Runs, Once, ShiftFits, is_of, shift_count}
-use Rattle.mig_base.specs.Texts.{PlanText}
+use Rattle.mig_base.specs.declared.limits.TheConstants.{MAX_FILE_BYTES}
 use Rattle.mig_base.proofs.Counting.{sum_by-le_each, sum_by-swap, one}
 use Rattle.mig_text.proofs.PlanLengths.{shifts_in, plan_length}
 

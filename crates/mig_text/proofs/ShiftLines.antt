@@ -1,10 +1,7 @@
 -- The text of a plan has a line for each shift, and so at least as many bytes as the plan has shifts.
-use Rattle.std.proofs.Common.{◌≡◌, ◌≤◌, ◌+◌, ℕ, List, [], ◌∷◌, ◌++◌, length, map, codes, ap, arith, length-append}
-use Rattle.std.specs.Fmt.{decimal}
+use Rattle.mig_base.proofs.Common.{◌≡◌, ◌≤◌, ◌+◌, ℕ, List, [], ◌∷◌, ◌++◌, length, map, codes, ap, arith, length-append, decimal, Lists, shifts_of, PlanText, words, shift_line, round_lines}
+use Rattle.mig_base.proofs.Common.{text_of_lines}
 use Rattle.mig_base.specs.declared.ids.Shift.{Shift}
-use Rattle.mig_base.specs.InputLists.{Lists}
-use Rattle.mig_base.specs.Readiness.{shifts_of}
-use Rattle.mig_base.specs.Texts.{PlanText, words, shift_line, round_lines, text_of_lines}
 use Rattle.mig_text.specs.PlanParts.{head_line}
 use Rattle.mig_text.proofs.PlanLengths.{text_cons, text_append}
 

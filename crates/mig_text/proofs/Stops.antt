@@ -1,8 +1,7 @@
 -- Where the reading of lines stops.
-use Rattle.std.proofs.Common.{◌≢◌, ◌+◌, ◌∷◌, ◌++◌, ℕ, List, [], length, arith, ap, sym, refl, subst, ◌∙◌, append_assoc, length-append}
+use Rattle.mig_base.proofs.Common.{◌≢◌, ◌+◌, ◌∷◌, ◌++◌, ℕ, List, [], length, arith, ap, sym, refl, subst, ◌∙◌, append_assoc, length-append, Leads, Stops, IsMisfit}
 use Rattle.mig_text.specs.declared.errors.TextError.{TextError}
 use Rattle.mig_text.specs.declared.errors.TextError.TheVariants as text_error
-use Rattle.mig_base.specs.Misfits.{Leads, Stops, IsMisfit}
 use Rattle.mig_text.proofs.Places.{later_misfit}
 use Rattle.mig_text.specs.Reads.{Left, Took, TookAll, Misses, IsMiss, IsStop}
 

@@ -1,15 +1,11 @@
 -- Disks by name.
-use Rattle.std.proofs.Common.{◌≡◌, ◌≢◌, ◌<◌, ◌++◌, ◌∷◌, ℕ, List, [], Some, All, Contains, length, map, slice_get, get_or, drop, suc, arith, ap, sym, ◌∙◌}
+use Rattle.mig_base.proofs.Common.{◌≡◌, ◌≢◌, ◌<◌, ◌++◌, ◌∷◌, ℕ, List, [], Some, All, Contains, length, map, slice_get, get_or, drop, suc, arith, ap, sym, ◌∙◌, length-map, slice_get_within}
+use Rattle.mig_base.proofs.Common.{get_or_from_slice_get, IsName, AreDifferent, Lists, IsInput, no_disk, disk_name}
+use Rattle.mig_base.specs.declared.inputs.Disk.{Disk}
 use Rattle.std.proofs.Math.Seq.{drop-cons}
-use Rattle.std.proofs.lemmas.List.{length-map}
 use Rattle.std.proofs.lemmas.List as lists
 use Rattle.std.proofs.Math.ListN.{get_or-map}
-use Rattle.std.proofs.lemmas.Option.{slice_get_within, get_or_from_slice_get}
-use Rattle.mig_base.specs.declared.inputs.Disk.{Disk}
 use Rattle.mig_base.specs.declared.names.Name.{Name}
-use Rattle.mig_base.specs.Naming.{IsName}
-use Rattle.mig_base.specs.InputLists.{AreDifferent, Lists, IsInput, no_disk}
-use Rattle.mig_base.specs.Texts.{disk_name}
 use Rattle.mig_text.proofs.Different.{not_before_in}
 
 abbrev pub name_of_disk : Disk → Name

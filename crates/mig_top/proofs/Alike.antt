@@ -5,7 +5,7 @@ use Rattle.mig_top.proofs.Common.{Accepted, Bodies, CertLine, FileKind, IsLayout
 use Rattle.mig_top.proofs.Common.{reads_cert, reads_input, reads_layout, reads_plan, take_all}
 use Rattle.mig_base.specs.Texts.{CertText, PlanText}
 use Rattle.mig_base.specs.Rows.{file_of}
-use Rattle.mig_base.specs.Refusals.{Fault, Precedes, RefusedAs, stage_of, rank_of}
+use Rattle.mig_base.specs.Refusals.{Fault, IsFirstOf, Precedes, RefusedAs, stage_of, rank_of}
 use Rattle.mig_base.specs.declared.faults.FileKind.TheVariants.{Disks, Now, Next}
 use Rattle.mig_base.specs.declared.faults.Why.TheVariants as why
 use Rattle.mig_base.proofs.Listed.{Accepted-short}
@@ -60,11 +60,6 @@ same_file _ _ e = absurd (omega (arith, e))
 
 -- Two sets of faults, each with a file that is too long: what is first in the one is first in the other, where they agree before that file.
 
--- this fault is one, and none that comes before it
-pub record IsFirstOf (has : FileKind → ℕ → Why → Type 0) (f : FileKind) (n : ℕ) (w : Why) : Type 0 where
-  pub fault : has f n w
-  pub first : (g : FileKind) (m : ℕ) (v : Why) → Precedes g m v f n w → has g m v → ⊥
-
 module _ (a b : FileKind → ℕ → Why → Type 0) (g : FileKind)
     (to : (k : FileKind) (m : ℕ) (v : Why) → stage_of k v < stage_of g why.TooLong → a k m v → b k m v)
     (back : (k : FileKind) (m : ℕ) (v : Why) → stage_of k v < stage_of g why.TooLong → b k m v → a k m v)
@@ -103,7 +98,7 @@ module _ (a b : FileKind → ℕ → Why → Type 0) (g : FileKind)
       none zero not = refl
       none (suc n) not = absurd (not (omega arith))
 
-  pub carried_first : (f : FileKind) (r : ℕ) (w : Why) → IsFirstOf a f r w → IsFirstOf b f r w
+  carried_first : (f : FileKind) (r : ℕ) (w : Why) → IsFirstOf a f r w → IsFirstOf b f r w
   carried_first f r w h = elim (cases_lt (stage_of f w) (stage_of g why.TooLong)) [
     | inl lt ↦ record {
       fault = to f r w lt h.fault;
@@ -121,9 +116,7 @@ module _ (a b : FileKind → ℕ → Why → Type 0) (g : FileKind)
 carried : (a b : Bodies) (g : FileKind) → ((k : FileKind) (m : ℕ) (v : Why) → stage_of k v < stage_of g why.TooLong → Fault a k m v → Fault b k m v)
     → ((k : FileKind) (m : ℕ) (v : Why) → stage_of k v < stage_of g why.TooLong → Fault b k m v → Fault a k m v)
     → MAX_FILE_BYTES < length (file_of a g) → MAX_FILE_BYTES < length (file_of b g) → (f : FileKind) (r : ℕ) (w : Why) → RefusedAs a f r w → RefusedAs b f r w
-carried a b g to back long_a long_b f r w h =
-    let first = carried_first (Fault a) (Fault b) g to back (refl, long_a) (refl, long_b) f r w (record { fault = h.fault; first = h.first }) in
-    record { fault = first.fault; first = first.first }
+carried a b g to back long_a long_b f r w h = carried_first (Fault a) (Fault b) g to back (refl, long_a) (refl, long_b) f r w h
 
 abbrev three : (disks now next : List ℕ) → Bodies
 three disks now next = record { disks = disks; now = now; next = next }
@@ -170,18 +163,11 @@ disks_apart d n m Disks r w s h = h
 disks_apart d n m Now r w s h = absurd (omega (arith, s, now_stage w))
 disks_apart d n m Next r w s h = absurd h
 
-listing_carried : (d n e m : List ℕ) (g : FileKind) → ((k : FileKind) (i : ℕ) (v : Why) → stage_of k v < stage_of g why.TooLong → ListingFault d n k i v → ListingFault e m k i v)
-    → ((k : FileKind) (i : ℕ) (v : Why) → stage_of k v < stage_of g why.TooLong → ListingFault e m k i v → ListingFault d n k i v)
-    → ListingFault d n g 0 why.TooLong → ListingFault e m g 0 why.TooLong → (f : FileKind) (r : ℕ) (w : Why) → ListingRefusedAs d n f r w → ListingRefusedAs e m f r w
-listing_carried d n e m g to back long_a long_b f r w h =
-    let first = carried_first (ListingFault d n) (ListingFault e m) g to back long_a long_b f r w (record { fault = h.fault; first = h.first }) in
-    record { fault = first.fault; first = first.first }
-
 listing_refused : (d n e m : List ℕ) → Alike d e → Alike n m → (f : FileKind) (r : ℕ) (w : Why) → ListingRefusedAs d n f r w → ListingRefusedAs e m f r w
 listing_refused d n e m (inr long) second f r w h =
-    listing_carried d n e m Disks (λ k i v lt q. absurd (omega (arith, lt))) (λ k i v lt q. absurd (omega (arith, lt))) (refl, long.0) (refl, long.1) f r w h
+    carried_first (ListingFault d n) (ListingFault e m) Disks (λ k i v lt q. absurd (omega (arith, lt))) (λ k i v lt q. absurd (omega (arith, lt))) (refl, long.0) (refl, long.1) f r w h
 listing_refused d n e m (inl same) (inr long) f r w h = subst (λ (b : List ℕ). ListingRefusedAs b m f r w) same
-    (listing_carried d n d m Now (λ k i v lt q. disks_apart d n m k i v lt q) (λ k i v lt q. disks_apart d m n k i v lt q) (refl, long.0) (refl, long.1) f r w h)
+    (carried_first (ListingFault d n) (ListingFault d m) Now (λ k i v lt q. disks_apart d n m k i v lt q) (λ k i v lt q. disks_apart d m n k i v lt q) (refl, long.0) (refl, long.1) f r w h)
 listing_refused d n e m (inl same) (inl also) f r w h = subst (λ (b : List ℕ). ListingRefusedAs b m f r w) same (subst (λ (b : List ℕ). ListingRefusedAs d b f r w) also h)
 
 module _ (a b : LayoutBodies) (disks : Alike a.disks b.disks) (now : Alike a.now b.now) where

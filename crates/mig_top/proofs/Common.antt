@@ -45,7 +45,7 @@ pub use Rattle.mig_mover.proofs.Settling.{settles_land}
 pub use Rattle.mig_mover.specs.Fillings.{IsFillRefusal, IsFillable}
 pub use Rattle.mig_mover.specs.Halts.{IsClosingCell}
 pub use Rattle.mig_mover.specs.Moves.{Lands, Settles}
-pub use Rattle.mig_mover.specs.Tasks.{Task}
+pub use Rattle.mig_base.specs.Tasks.{Task}
 pub use Rattle.mig_mover.specs.declared.faults.MoveFault.{MoveFault}
 pub use Rattle.mig_text.specs.Reads.{IfLine}
 pub use Rattle.mig_top.specs.Audits.{AuditStops, HavePutSights}
@@ -61,7 +61,7 @@ pub use Rattle.mig_top.specs.Loads.{DoesNotRun, HoldsFirst, IsLayoutRefusal, IsM
 pub use Rattle.mig_top.specs.Loads.{reads_cert, reads_input, reads_layout, reads_plan, reads_task, task_in}
 pub use Rattle.mig_top.specs.MoveLeaves.{AreOfTask, Carries, KeepsHalting, MoveLeaves}
 pub use Rattle.mig_top.specs.MoveLooks.{IsResumable, IsResumeRefusal, IsStartRefusal, done_text, resumes, starts}
-pub use Rattle.mig_top.specs.Planned.{IsDiskBound}
+pub use Rattle.mig_best.specs.Certified.{IsDiskBound}
 pub use Rattle.mig_top.specs.Rehearsed.{IsRehearsed, case_in}
 pub use Rattle.mig_top.specs.Sights.{IsAudit, sight_count}
 pub use Rattle.mig_top.specs.Steps.{EndsWithin, IsEndOf, Step, StopsFrom, after, finds}

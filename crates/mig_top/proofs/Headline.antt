@@ -4,6 +4,7 @@ use Rattle.mig_top.proofs.Common.{Accepted, AreSaved, Bodies, Bound, Call, Cause
 use Rattle.mig_top.proofs.Common.{IsInput, IsListed, IsMissing, IsOrNotPut, IsPlanSaved, IsSomeAnd, Lists, MAX_FILE_BYTES, Names, Nothing, OfDisk, OfSet, Outcome, Plan, SinkFailed, SinkFault}
 use Rattle.mig_top.proofs.Common.{StoreFault, Why, WorldEnds, bound_value, checks, code, file, loads_input, quotient, take_all, transfers}
 use Rattle.std.proofs.lemmas.Bool.{eq-eqb}
+use Rattle.mig_base.specs.MadePlans.{EvenLimits}
 use Rattle.mig_text.proofs.ShiftCounts as plan_lengths
 use Rattle.mig_cert.proofs.CertLengths as cert_lengths
 use Rattle.mig_words.specs.Outcomes.{Unlisted, Refused, FolderFault, Memory, NoFile}
@@ -169,7 +170,7 @@ module _ (names : Names) (cert text : List ℕ) (old files : Files) (apart : Wri
   told_optimal even t h =
       let value = disk_value_is saved.texts.certificate.bound (quotient (transfers saved.input)) (saved.texts.made.shown even) in
       (checks_exact names cert files).one_found t (verdict_text saved.texts.rounds saved.texts.certificate) h is_verdict
-      ∙ ap (λ b. if b then codes "optimal\n" else codes "bounded\n") (eq-eqb _ _ (saved.texts.made.planned.even_rounds even ∙ sym value))
+      ∙ ap (λ b. if b then codes "optimal\n" else codes "bounded\n") (eq-eqb _ _ (saved.texts.made.planned.tight EvenLimits even ∙ sym value))
 
   pub checks_saved : (k : Call) (words : List (List ℕ)) (status : ℕ) → EndsAs k words status → k.before.folder.files ≡ Some files → IsListed words (Check names cert) → ChecksSaved k saved.input status
   checks_saved k words status ends is l = record {

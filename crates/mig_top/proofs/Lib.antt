@@ -1,10 +1,8 @@
 pub mod Alike
 pub mod Auditing
-pub mod BestFits
 pub mod Common
 pub mod Drilling
 pub mod EightLines
-pub mod EvenBound
 pub mod EndsOf
 pub mod Exactness
 pub mod Filling

@@ -13,7 +13,7 @@ use Rattle.mig_base.specs.Safety.{Contents, IsSound}
 use Rattle.mig_base.specs.Stores.{IsLeftBut, IsSettled, flights}
 use Rattle.mig_io.specs.Files.{Files, OthersStay}
 use Rattle.mig_io.specs.Held.{Extends}
-use Rattle.mig_mover.specs.Tasks.{Task}
+use Rattle.mig_base.specs.Tasks.{Task}
 use Rattle.mig_top.specs.Calls.{Call, FolderFailed, SinkFailed, StoreFailed}
 use Rattle.mig_top.specs.HaltLeaves.{AllMayHalt, IsLayoutSaved, MayHalt}
 use Rattle.mig_top.specs.HaltLooks.{halted_text}

@@ -12,7 +12,7 @@ use Rattle.mig_base.specs.Stores.{State, Changes, IsSettled, LeavesOnly, flights
 use Rattle.mig_io.specs.Files.{Files, FolderState, ChangedOnly, Saves}
 use Rattle.mig_mover.specs.Halts.{IsClosingCell}
 use Rattle.mig_mover.specs.Moves.{Lands, Settles}
-use Rattle.mig_mover.specs.Tasks.{Task}
+use Rattle.mig_base.specs.Tasks.{Task}
 use Rattle.mig_words.specs.declared.endings.Ending.{Ending}
 use Rattle.mig_words.specs.declared.endings.Ending.TheVariants as ending
 use Rattle.mig_top.specs.Calls as calls

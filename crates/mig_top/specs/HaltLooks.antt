@@ -8,7 +8,7 @@ use Rattle.mig_base.specs.Images.{Image}
 use Rattle.mig_base.specs.Journals.{is_armed}
 use Rattle.mig_base.specs.Stores.{State, flights}
 use Rattle.mig_mover.specs.Moves.{IsRefusal}
-use Rattle.mig_mover.specs.Tasks.{Task}
+use Rattle.mig_base.specs.Tasks.{Task}
 use Rattle.mig_mover.specs.declared.faults.MoveFault.{MoveFault}
 use Rattle.mig_mover.specs.declared.faults.MoveFault.TheVariants.{OtherPlan, NotStarted}
 use Rattle.mig_top.specs.MoveLeaves.{HasFound}

@@ -18,7 +18,7 @@ use Rattle.mig_base.specs.declared.faults.Why.{Why}
 use Rattle.mig_base.specs.declared.ids.Shift.{Shift}
 use Rattle.mig_csv.specs.Listings.{IsListing, ListingRefusedAs}
 use Rattle.mig_io.specs.Files.{Files, file}
-use Rattle.mig_mover.specs.Tasks.{Task}
+use Rattle.mig_base.specs.Tasks.{Task}
 use Rattle.mig_words.specs.declared.endings.TextFile.TheVariants as text_file
 use Rattle.mig_words.specs.Outcomes.{Outcome, Blamed, Refused, NotSpelled, NoFile, named}
 use Rattle.mig_words.specs.Words.{Names}

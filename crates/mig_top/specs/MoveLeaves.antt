@@ -12,7 +12,7 @@ use Rattle.mig_io.specs.Files.{FolderState}
 use Rattle.mig_lanes.specs.LaneSteps.{later_rounds}
 use Rattle.mig_lanes.specs.Runs.{Finishes, IsPart}
 use Rattle.mig_mover.specs.Moves.{Keeps, MayBeHalting, Settles, StaysArmed}
-use Rattle.mig_mover.specs.Tasks.{Task}
+use Rattle.mig_base.specs.Tasks.{Task}
 use Rattle.mig_top.specs.Loads.{IsTaskOf}
 use Rattle.mig_words.specs.Outcomes.{Outcome, Done, StoreFault, Started, OtherPlan, NotThere, Occupied}
 use Rattle.mig_words.specs.Words.{Names}

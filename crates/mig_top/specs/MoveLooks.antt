@@ -9,7 +9,7 @@ use Rattle.mig_base.specs.Journals.{is_armed, count_of}
 use Rattle.mig_base.specs.Readiness.{IsReady}
 use Rattle.mig_base.specs.Stores.{State, flights}
 use Rattle.mig_mover.specs.Moves.{IsRefusal}
-use Rattle.mig_mover.specs.Tasks.{Task}
+use Rattle.mig_base.specs.Tasks.{Task}
 use Rattle.mig_mover.specs.declared.faults.MoveFault.{MoveFault}
 use Rattle.mig_mover.specs.declared.faults.MoveFault.TheVariants.{Started, NotStarted}
 use Rattle.mig_words.specs.Outcomes.{joined}

@@ -11,7 +11,7 @@ use Rattle.mig_base.specs.Transfers.{moves, transfers}
 use Rattle.mig_base.specs.declared.certs.Cert.{Cert}
 use Rattle.mig_base.specs.declared.ids.Shift.{Shift}
 use Rattle.mig_gen.specs.MadeCases.{case_of}
-use Rattle.mig_top.specs.Planned.{IsCertified}
+use Rattle.mig_best.specs.Certified.{IsCertified}
 
 -- the case that is made of three words
 abbrev pub case_in : (disks per_pair limit : List ℕ) → Lists

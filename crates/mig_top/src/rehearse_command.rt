@@ -6,13 +6,13 @@ ghost use Rattle.mig_base.specs.Certificates.{CertFits};
 ghost use Rattle.mig_base.specs.Running.{PlanFits};
 ghost use Rattle.mig_base.specs.Targets.{IsRoomy};
 ghost use Rattle.mig_base.specs.Texts.{text_of_lines, words};
+ghost use Rattle.mig_best.specs.Certified.{IsCertified};
 ghost use Rattle.mig_top.specs.Ends.{EndsBy, IsRehearsalEnd};
-ghost use Rattle.mig_top.specs.Planned.{IsCertified};
 ghost use Rattle.mig_top.specs.Rehearsed.{IsPlanDigest, IsRehearsed, case_in, eight_lines, six_lines, verdict_word};
 ghost use Rattle.mig_words.specs.Words.{AreCaseWords};
 
-use crate::plan_command::{Certified, certified_plan, value_of};
 use mig_base::{Blame, Cert, Input, Plan, Verdict};
+use mig_best::{Certified, certified_plan, value_of};
 use mig_check::judge;
 use mig_gen::make_case;
 use mig_graph::Graph;

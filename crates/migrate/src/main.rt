@@ -1,9 +1,10 @@
 //! Plans the migration of items between storage disks, and carries it out.
 #![tactic(auto)]
 
-use mig_files::FileStore;
+use mig_files::{DiskSet, FileStore};
 use mig_hints::{FORMS, hint};
-use mig_io::{DirFolder, StdSink};
+use mig_host::HostCalls;
+use mig_io::{DirFolder, Sink, StdSink};
 use mig_top::run;
 use std::env;
 use std::fs::File;
@@ -25,7 +26,11 @@ fn carry_out(
 ) -> u8 {
     let mut folder = DirFolder::new(rt, rt.alloc());
     let mut out = StdSink::new(rt);
-    let mut store = FileStore::new(rt, rt.alloc());
+    let calls = HostCalls::new(rt, rt.alloc());
+    let Ok(mut store) = FileStore::new(rt.alloc(), calls, DiskSet::new(rt.alloc())) else {
+        let _ = out.put(b"no memory\n");
+        return NO_MEMORY;
+    };
     run(rt.alloc(), words, &mut folder, &mut out, &mut store)
 }
 

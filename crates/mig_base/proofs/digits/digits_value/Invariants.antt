@@ -1,5 +1,4 @@
-use Rattle.std.proofs.Common.{◌≡◌, ◌<◌, ◌^◌, take}
-use Rattle.mig_base.specs.Digits.{number_of}
+use Rattle.mig_base.proofs.Common.{◌≡◌, ◌<◌, ◌^◌, take, number_of}
 use Rattle.mig_base.proofs.digits.digits_value.Given as goal
 
 abbrev pub invariant-loop-c : goal.invariant-loop-c

@@ -1,8 +1,4 @@
-use Rattle.std.proofs.Common.{◌≡◌, ◌<◌, ◌∷◌, [], ℕ, List, length, sym, ap, ◌∙◌, arith, subst}
-use Rattle.std.proofs.lemmas.List.{get_or_default}
-use Rattle.mig_base.specs.DiskNumbers.{numbers}
-use Rattle.mig_base.specs.Transfers.{inside}
-use Rattle.mig_base.specs.Bounding.{ByComponent, set_value}
+use Rattle.mig_base.proofs.Common.{◌≡◌, ◌<◌, ◌∷◌, [], ℕ, List, length, sym, ap, ◌∙◌, arith, subst, get_or_default, numbers, inside, ByComponent, set_value}
 use Rattle.mig_bounds.specs.declared.best.Witness.{Witness}
 use Rattle.mig_bounds.specs.Labels.{labelled}
 use Rattle.mig_bounds.specs.Components.{candidate_by}

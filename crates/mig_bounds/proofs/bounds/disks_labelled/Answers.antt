@@ -1,7 +1,5 @@
-use Rattle.std.proofs.Common.{◌≡◌, ◌≢◌, ◌++◌, ◌∷◌, [], ℕ, Bool, true, false, eqb, eq-eqb, filter, List, length, get_or, sym, ap, ◌∙◌, arith, Vec, Global, subst}
-use Rattle.std.proofs.lemmas.Bool.{ne_eqb}
+use Rattle.mig_base.proofs.Common.{◌++◌, ◌∷◌, [], ℕ, Bool, true, false, eqb, eq-eqb, List, get_or, sym, ap, ◌∙◌, Vec, Global, subst, ne_eqb, numbers}
 use Rattle.mig_base.specs.declared.ids.DiskId.{DiskId}
-use Rattle.mig_base.specs.DiskNumbers.{numbers}
 use Rattle.mig_base.proofs.Components.{increasing_filter}
 use Rattle.mig_bounds.proofs.DiskLists.{filter_yes, filter_no, numbers_push, IsDiskSet-numbers}
 use Rattle.mig_bounds.proofs.bounds.disks_labelled.Goals as goal

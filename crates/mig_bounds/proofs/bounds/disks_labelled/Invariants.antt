@@ -1,7 +1,5 @@
-use Rattle.std.proofs.Common.{◌≡◌, filter}
-use Rattle.std.specs.Prelude.{slice_index, ◌==◌}
-use Rattle.std.specs.List.{range_with_len}
-use Rattle.mig_base.specs.DiskNumbers.{numbers}
+use Rattle.mig_base.proofs.Common.{◌≡◌, filter, ◌==◌, range_with_len, numbers}
+use Rattle.std.specs.Prelude.{slice_index}
 use Rattle.mig_bounds.proofs.bounds.disks_labelled.Given as goal
 
 abbrev pub invariant-loop-disk : goal.invariant-loop-disk

@@ -1,7 +1,4 @@
-use Rattle.std.proofs.Common.{◌≡◌, ◌∷◌, [], ℕ, List, sym, ap, ◌∙◌, subst}
-use Rattle.mig_base.specs.DiskNumbers.{numbers}
-use Rattle.mig_base.specs.Transfers.{inside}
-use Rattle.mig_base.specs.Bounding.{ByTriple, set_value}
+use Rattle.mig_base.proofs.Common.{◌≡◌, ◌∷◌, [], ℕ, List, sym, ap, ◌∙◌, subst, numbers, inside, ByTriple, set_value}
 use Rattle.mig_bounds.specs.declared.best.SmallSet.{SmallSet}
 use Rattle.mig_bounds.specs.Search.{IsBestBelow, candidate_of}
 use Rattle.mig_bounds.proofs.Bests.{IsBest-whole}

@@ -1,21 +1,12 @@
-use Rattle.std.proofs.Common.{◌≡◌, ◌≢◌, ◌<◌, ◌≤◌, ◌/◌, ℕ, true, not, eqb, List, length, get_or, IsTrue, sym, ap, ◌∙◌, arith, inl, inr}
-use Rattle.std.proofs.lemmas.Bool.Decides.{nat_tests}
-use Rattle.std.proofs.lemmas.List.{get_or_default}
-use Rattle.mig_base.specs.Transfers.{Transfers, load, takes_part, inside}
-use Rattle.mig_base.specs.Bounding.{IsCandidate, ByComponent, value, limit_sum, set_value}
-use Rattle.mig_base.proofs.Counting.{div_ceil-le}
+use Rattle.mig_base.proofs.Common.{◌≡◌, ◌<◌, ◌≤◌, ◌/◌, ℕ, true, List, length, get_or, IsTrue, sym, ap, ◌∙◌, arith, inl, inr, get_or_default, Transfers, load, takes_part, inside, IsCandidate}
+use Rattle.mig_base.proofs.Common.{ByComponent, value, limit_sum, set_value}
+use Rattle.mig_base.proofs.Counting.{div_ceil-le, differ, not_none}
 use Rattle.mig_bounds.specs.Labels.{labelled}
 use Rattle.mig_bounds.specs.Components.{candidate_by}
 use Rattle.mig_bounds.proofs.ComponentSets.{IsBestBelow-keeps_label, IsBestBelow-takes_label}
 use Rattle.mig_bounds.proofs.Steps.{div_ceil-gt, set_value-half}
 use Rattle.mig_bounds.proofs.components.better_component.Goals as goal
-use Rattle.mig_bounds.proofs.components.better_component.Goals.{then-index-root-via-then-index-root, then-index-root-via-else-index-root+then-load-eq0, then-sum-eq0-via-then-sum-eq0, then-sum-eq0-via-else-sum-eq0+then-half-eq0}
-
-unloaded : (n : ℕ) → n ≡ 0 → not (eqb n 0) ≡ true → ⊥
-unloaded n h t = absurd (grind (arith, nat_tests))
-
-loaded : (n : ℕ) → n ≢ 0 → not (eqb n 0) ≡ true
-loaded n h = grind (arith, nat_tests)
+use Rattle.mig_bounds.proofs.components.better_component.Goals.{then-index-root-via-then-index-root, then-index-root-via-else-index-root+then-load-eq0}
 
 -- a set whose limits have no half has the value 0
 halfless : (graph : Transfers) (set : List ℕ) (rounds : ℕ) → limit_sum graph set / 2 ≡ 0 → set_value graph set ≤ rounds
@@ -31,7 +22,7 @@ returns-then-index-root c =
     let label = c.index.ensures ∙ get_or_default labels r c.index.result.now 0 there in
     let none : get_or labels r 0 ≡ r → IsTrue (takes_part g r) → ⊥ = λ root part. elim c.then-index-root.branch [
       | then-index-root-via-then-index-root w ↦ w.if-index-root.true (label ∙ root)
-      | then-index-root-via-else-index-root+then-load-eq0 w ↦ unloaded (load r g.trips) (sym w.load.ensures.load ∙ w.if-load-eq0.true) part
+      | then-index-root-via-else-index-root+then-load-eq0 w ↦ differ (load r g.trips) 0 part (sym w.load.ensures.load ∙ w.if-load-eq0.true)
     ] in
     IsBestBelow-keeps_label g labels (candidate_by labels c.args.best.witness) c.args.best.value r c.requires.valid parts.labelling (λ root part cand. absurd (none root part)) c.requires.before
 
@@ -77,7 +68,7 @@ returns c =
     let set = labelled labels r in
     let there : r < length labels = omega (arith, c.requires.there, parts.labelling.len) in
     let root : get_or labels r 0 ≡ r = sym (c.index.ensures ∙ get_or_default labels r c.index.result.now 0 there) ∙ c.if-index-root.false in
-    let part = loaded (load r g.trips) (λ none. c.if-load-eq0.false (c.load.ensures.load ∙ none)) in
+    let part = not_none (load r g.trips) (λ none. c.if-load-eq0.false (c.load.ensures.load ∙ none)) in
     let sum : c.index-sum.result.now ≡ limit_sum g set = c.index-sum.ensures ∙ get_or_default sums r c.index-sum.result.now 0 (omega (arith, c.requires.there, parts.sums_len)) ∙ parts.sum r c.requires.there in
     let i : c.index-inside.result.now ≡ inside set g.trips = c.index-inside.ensures ∙ get_or_default insides r c.index-inside.result.now 0 (omega (arith, c.requires.there, parts.insides_len)) ∙ parts.inside r c.requires.there in
     let half : 0 < c.index-sum.result.now / 2 = omega (arith, c.if-half-eq0.false) in

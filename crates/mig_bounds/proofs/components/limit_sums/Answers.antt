@@ -1,5 +1,4 @@
-use Rattle.std.proofs.Common.{◌≡◌, ◌<◌, ◌+◌, length, get_or, ◌∙◌, arith}
-use Rattle.std.proofs.lemmas.List.{get_or_default}
+use Rattle.mig_base.proofs.Common.{◌≡◌, ◌<◌, ◌+◌, length, get_or, ◌∙◌, arith, get_or_default}
 use Rattle.mig_bounds.proofs.ComponentCounts.{AreLimitSums-more}
 use Rattle.mig_bounds.proofs.components.limit_sums.Goals as goal
 

@@ -1,8 +1,5 @@
-use Rattle.std.proofs.Common.{◌≡◌, ◌≢◌, ℕ, ◌<◌, ◌≤◌, ◌+◌, ◌∷◌, [], true, not, eqb, Option, sym, ap, ◌∙◌, subst, arith, inl, inr}
-use Rattle.std.proofs.lemmas.Bool.{cases_lt}
-use Rattle.std.proofs.lemmas.Bool.Decides.{nat_tests}
-use Rattle.mig_base.specs.Transfers.{Transfers, load, div_ceil}
-use Rattle.mig_base.specs.Bounding.{ByDisk, disk_value, limit}
+use Rattle.mig_base.proofs.Common.{◌≡◌, ◌≢◌, ℕ, ◌<◌, ◌≤◌, ◌+◌, ◌∷◌, [], true, Option, sym, ap, ◌∙◌, subst, arith, inl, inr, cases_lt, Transfers, load, div_ceil, ByDisk, disk_value, limit}
+use Rattle.mig_base.proofs.Counting.{differ, not_none}
 use Rattle.mig_bounds.specs.declared.best.BestSmall.{BestSmall}
 use Rattle.mig_bounds.specs.Search.{candidate_of, IsBestDisk}
 use Rattle.mig_bounds.proofs.Steps.{IsBestBelow-keeps_disk, IsBestBelow-starts, IsBestBelow-takes, below_next_disk}
@@ -10,12 +7,6 @@ use Rattle.mig_bounds.proofs.disks.better_disk.Goals as goal
 
 value_of : (graph : Transfers) (v l m r : ℕ) → l ≡ load v graph.trips → m ≡ limit graph v → r ≡ div_ceil l m → r ≡ disk_value graph v
 value_of graph v l m r is_load is_limit is = is ∙ ap (λ n. div_ceil n m) is_load ∙ ap (λ n. div_ceil (load v graph.trips) n) is_limit
-
-loaded : (n : ℕ) → n ≢ 0 → not (eqb n 0) ≡ true
-loaded n h = grind (arith, nat_tests)
-
-unloaded : (n : ℕ) → n ≡ 0 → not (eqb n 0) ≡ true → ⊥
-unloaded n h t = absurd (grind (arith, nat_tests))
 
 -- a value above another shows a load
 valued : (l m r : ℕ) → 1 ≤ m → r ≡ div_ceil l m → 0 < r → l ≢ 0
@@ -37,7 +28,7 @@ returns-in-None c v below part =
     let before = subst (λ (o : Option BestSmall). IsBestDisk g o c.args.disk) c.in-None.is c.requires.before in
     elim (cases_lt v c.args.disk) [
       | inl lt ↦ before v lt part
-      | inr ge ↦ (let same : v ≡ c.args.disk = omega (arith, ge, below) in unloaded (load v g.trips) (ap (λ w. load w g.trips) same ∙ sym c.load-load.ensures.load ∙ c.if-load-eq0.true) part)
+      | inr ge ↦ (let same : v ≡ c.args.disk = omega (arith, ge, below) in differ (load v g.trips) 0 part (ap (λ w. load w g.trips) same ∙ sym c.load-load.ensures.load ∙ c.if-load-eq0.true))
     ]
 
 pub returns-in_default : goal.returns-in_default
@@ -48,7 +39,7 @@ returns-in_default c =
     let same = value_of g v c.load-load.result c.limit.result c.div_ceil-value.result c.load-load.ensures.load c.limit.ensures.limit c.div_ceil-value.ensures in
     let some = valued c.load-load.result c.limit.result c.div_ceil-value.result c.limit.ensures.least c.div_ceil-value.ensures (omega (arith, c.if-value-before.false)) in
     IsBestBelow-takes g (candidate_of c.in-Some.before.set) (ByDisk v) c.in-Some.before.value c.div_ceil-value.result (0 ∷ v ∷ []) (0 ∷ (v + 1) ∷ [])
-    (c.requires.there, loaded (load v g.trips) (λ none. some (c.load-load.ensures.load ∙ none)))
+    (c.requires.there, not_none (load v g.trips) (λ none. some (c.load-load.ensures.load ∙ none)))
     same
     c.if-value-before.false
     (λ d is below. below_next_disk d v below)
@@ -61,4 +52,4 @@ returns-in_default-2 c =
     let v = c.args.disk in
     let before = subst (λ (o : Option BestSmall). IsBestDisk g o v) c.in-None.is c.requires.before in
     let same = value_of g v c.load-load.result c.limit.result c.div_ceil-value.result c.load-load.ensures.load c.limit.ensures.limit c.div_ceil-value.ensures in
-    IsBestBelow-starts g v c.div_ceil-value.result before (c.requires.there, loaded (load v g.trips) (λ none. c.if-load-eq0.false (c.load-load.ensures.load ∙ none))) same
+    IsBestBelow-starts g v c.div_ceil-value.result before (c.requires.there, not_none (load v g.trips) (λ none. c.if-load-eq0.false (c.load-load.ensures.load ∙ none))) same

@@ -1,5 +1,4 @@
-use Rattle.std.proofs.Common.{◌≡◌, ◌<◌, length, get_or, sym, ◌∙◌, arith, refl}
-use Rattle.mig_base.specs.Transfers.{Trip}
+use Rattle.mig_base.proofs.Common.{◌≡◌, ◌<◌, length, get_or, sym, ◌∙◌, arith, refl, Trip}
 use Rattle.mig_bounds.proofs.Labelling.{IsLabelling-joined, IsLabelling-same, has_both, changed, kept}
 use Rattle.mig_bounds.proofs.PairTables.{leaves_below, reaches_below}
 use Rattle.mig_bounds.proofs.labels.join_ends.Goals as goal

@@ -1,97 +1,60 @@
-use Rattle.std.proofs.Common.{◌≡◌, ◌<◌, ◌+◌, ◌*◌, length, get_or, set, sym, ap, ◌∙◌, arith, subst, take}
-use Rattle.std.proofs.lemmas.List.{get_or_default, length-set}
-use Rattle.mig_base.specs.Transfers.{Trip}
+use Rattle.mig_base.proofs.Common.{◌≡◌, ◌<◌, ◌≤◌, ◌+◌, ◌*◌, ℕ, List, length, get_or, ap, sym, ◌∙◌, arith, subst, take, Trip, length-set}
 use Rattle.mig_bounds.specs.Pairs.{CountsPairs}
-use Rattle.mig_bounds.proofs.PairTables.{cell_within, cell_small, next_small, CountsPairs-more, leaves_below, reaches_below}
+use Rattle.mig_bounds.proofs.PairTables.{cell_within, cell_small, counted, next_small, CountsPairs-more, leaves_below, reaches_below}
 use Rattle.mig_bounds.proofs.pairs.pairs_of.Goals as goal
+use Rattle.mig_bounds.proofs.pairs.pairs_of.Goals.{After-ends}
 
-pub index_mut-requires : goal.index_mut-requires
-index_mut-requires c =
+-- the disks of an edge
+ends : (c : After-ends) → (c.ends.result.0.0 < c.disks-count.result) × (c.ends.result.1.0 < c.disks-count.result)
+ends c =
     let g = c.args.graph.now in
-    let n = c.disks-count.result in
     let t : Trip = record { leaves = c.ends.result.0.0; reaches = c.ends.result.1.0 } in
     let valid = c.disks-count.ensures.valid in
-    let l : t.leaves < n = omega (arith, leaves_below (length g.disks) g.trips c.loop-edge.edge t valid.leaves_there c.ends.ensures.ends) in
-    let r : t.reaches < n = omega (arith, reaches_below (length g.disks) g.trips c.loop-edge.edge t valid.reaches_there c.ends.ensures.ends) in
-    omega (arith, c.loop-edge.invariant.len, c.loop-edge.pairs.ok, cell_within n t.leaves t.reaches l r, ap (λ k. k * k) c.disks-count.ensures.disks)
+    let n = c.disks-count.ensures.disks in
+    let from = leaves_below (length g.disks) g.trips c.loop-edge.edge t valid.leaves_there c.ends.ensures.ends in
+    let to = reaches_below (length g.disks) g.trips c.loop-edge.edge t valid.reaches_there c.ends.ensures.ends in
+    (omega (arith, n, from), omega (arith, n, to))
 
-pub index_mut-requires-in-loop-edge : goal.index_mut-requires-in-loop-edge
-index_mut-requires-in-loop-edge c =
-    let g = c.args.graph.now in
+-- the table counts the edges before this one
+before : (c : After-ends) → CountsPairs c.disks-count.result (take c.loop-edge.edge c.args.graph.now.trips) c.loop-edge.pairs.items
+before c = subst (λ k. CountsPairs k (take c.loop-edge.edge c.args.graph.now.trips) c.loop-edge.pairs.items) (sym c.disks-count.ensures.disks) c.loop-edge.invariant
+
+-- each cell of two disks is there, and has counted the edges before this one at most
+cell : (c : After-ends) → (a b : ℕ) → a < c.disks-count.result → b < c.disks-count.result
+    → (a * c.disks-count.result + b < length c.loop-edge.pairs.items) × (get_or c.loop-edge.pairs.items (a * c.disks-count.result + b) 0 ≤ c.loop-edge.edge) × (c.loop-edge.edge < length c.args.graph.now.trips)
+cell c a b ha hb =
     let n = c.disks-count.result in
-    let t : Trip = record { leaves = c.ends.result.0.0; reaches = c.ends.result.1.0 } in
-    let valid = c.disks-count.ensures.valid in
-    let l : t.leaves < n = omega (arith, leaves_below (length g.disks) g.trips c.loop-edge.edge t valid.leaves_there c.ends.ensures.ends) in
-    let r : t.reaches < n = omega (arith, reaches_below (length g.disks) g.trips c.loop-edge.edge t valid.reaches_there c.ends.ensures.ends) in
-    omega (arith, c.loop-edge.invariant.len, c.loop-edge.pairs.ok, cell_within n t.reaches t.leaves r l, ap (λ k. k * k) c.disks-count.ensures.disks)
+    let low : c.loop-edge.edge < length c.args.graph.now.trips = omega (arith, c.edges-edge-end.ensures.edges, c.loop-edge-test.true) in
+    (omega (arith, cell_within n a b ha hb, (before c).len), cell_small n c.args.graph.now.trips c.loop-edge.pairs.items c.loop-edge.edge a b (omega (arith, low)) ha hb (before c), low)
 
-pub overflow_add-index_mut : goal.overflow_add-index_mut
-overflow_add-index_mut c =
-    let g = c.args.graph.now in
-    let n = c.disks-count.result in
-    let pairs = c.loop-edge.pairs.items in
-    let t : Trip = record { leaves = c.ends.result.0.0; reaches = c.ends.result.1.0 } in
-    let valid = c.disks-count.ensures.valid in
-    let l : t.leaves < n = omega (arith, leaves_below (length g.disks) g.trips c.loop-edge.edge t valid.leaves_there c.ends.ensures.ends) in
-    let r : t.reaches < n = omega (arith, reaches_below (length g.disks) g.trips c.loop-edge.edge t valid.reaches_there c.ends.ensures.ends) in
-    let counts = subst (λ k. CountsPairs k (take c.loop-edge.edge g.trips) pairs) (sym c.disks-count.ensures.disks) c.loop-edge.invariant in
-    let there = t.leaves * n + t.reaches in
-    let small = cell_small n g.trips pairs c.loop-edge.edge t.leaves t.reaches (omega arith) l r counts in
-    omega (
-      arith,
-      c.index_mut.ensures.value,
-      get_or_default pairs there c.index_mut.result.now 0 (omega (arith, cell_within n t.leaves t.reaches l r, counts.len)),
-      small,
-      c.edges-edge-end.ensures.edges,
-      c.loop-edge-test.true,
-      valid.edges_most,
-    )
+pub count_one-requires : goal.count_one-requires
+count_one-requires c =
+    let at = (goal.at.count_one-requires c).After-ends in
+    let there = cell at c.ends.result.0.0 c.ends.result.1.0 (ends at).0 (ends at).1 in
+    record { there = there.0; few = omega (arith, there.1, there.2, c.disks-count.ensures.valid.edges_most) }
 
-pub overflow_add-index_mut-in-loop-edge : goal.overflow_add-index_mut-in-loop-edge
-overflow_add-index_mut-in-loop-edge c =
-    let g = c.args.graph.now in
+-- also where a cell is the one that has just counted
+pub count_one-requires-in-loop-edge : goal.count_one-requires-in-loop-edge
+count_one-requires-in-loop-edge c =
+    let at = (goal.at.count_one-requires-in-loop-edge c).After-ends in
     let n = c.disks-count.result in
     let pairs = c.loop-edge.pairs.items in
-    let t : Trip = record { leaves = c.ends.result.0.0; reaches = c.ends.result.1.0 } in
-    let valid = c.disks-count.ensures.valid in
-    let l : t.leaves < n = omega (arith, leaves_below (length g.disks) g.trips c.loop-edge.edge t valid.leaves_there c.ends.ensures.ends) in
-    let r : t.reaches < n = omega (arith, reaches_below (length g.disks) g.trips c.loop-edge.edge t valid.reaches_there c.ends.ensures.ends) in
-    let counts = subst (λ k. CountsPairs k (take c.loop-edge.edge g.trips) pairs) (sym c.disks-count.ensures.disks) c.loop-edge.invariant in
-    let there = t.leaves * n + t.reaches in
-    let back = t.reaches * n + t.leaves in
-    let m = c.index_mut.result.now + 1 in
-    let in_there : there < length pairs = omega (arith, cell_within n t.leaves t.reaches l r, counts.len) in
-    let in_back : back < length pairs = omega (arith, cell_within n t.reaches t.leaves r l, counts.len) in
-    let is_m : m ≡ get_or pairs there 0 + 1 = ap (λ k. k + 1) (c.index_mut.ensures.value ∙ get_or_default pairs there c.index_mut.result.now 0 in_there) in
-    let small = cell_small n g.trips pairs c.loop-edge.edge t.reaches t.leaves (omega arith) r l counts in
-    omega (
-      arith,
-      c.index_mut-in-loop-edge.ensures.value,
-      get_or_default (set pairs there m) back c.index_mut-in-loop-edge.result.now 0 (omega (arith, in_back, length-set pairs there m)),
-      next_small pairs there back m in_there is_m,
-      small,
-      c.edges-edge-end.ensures.edges,
-      c.loop-edge-test.true,
-      valid.edges_most,
-    )
+    let there = c.ends.result.0.0 * n + c.ends.result.1.0 in
+    let back = c.ends.result.1.0 * n + c.ends.result.0.0 in
+    let x = cell at c.ends.result.0.0 c.ends.result.1.0 (ends at).0 (ends at).1 in
+    let y = cell at c.ends.result.1.0 c.ends.result.0.0 (ends at).1 (ends at).0 in
+    let long : length c.count_one.new.pairs.items ≡ length pairs = ap (λ (xs : List ℕ). length xs) c.count_one.ensures ∙ length-set pairs there (get_or pairs there 0 + 1) in
+    let small : (k : ℕ) → get_or c.count_one.new.pairs.items k 0 ≤ get_or pairs k 0 + 1 = λ k. subst (λ (xs : List ℕ). get_or xs k 0 ≤ get_or pairs k 0 + 1) (sym c.count_one.ensures) (next_small pairs there k x.0) in
+    record { there = omega (arith, x.0, y.0, long); few = omega (arith, small there, small back, x.1, y.1, y.2, c.disks-count.ensures.valid.edges_most) }
 
 pub loop-edge-preserved : goal.loop-edge-preserved
 loop-edge-preserved c =
+    let at = (goal.at.loop-edge-preserved c).After-ends in
     let g = c.args.graph.now in
     let n = c.disks-count.result in
-    let pairs = c.loop-edge.pairs.items in
     let t : Trip = record { leaves = c.ends.result.0.0; reaches = c.ends.result.1.0 } in
-    let valid = c.disks-count.ensures.valid in
-    let l : t.leaves < n = omega (arith, leaves_below (length g.disks) g.trips c.loop-edge.edge t valid.leaves_there c.ends.ensures.ends) in
-    let r : t.reaches < n = omega (arith, reaches_below (length g.disks) g.trips c.loop-edge.edge t valid.reaches_there c.ends.ensures.ends) in
-    let counts = subst (λ k. CountsPairs k (take c.loop-edge.edge g.trips) pairs) (sym c.disks-count.ensures.disks) c.loop-edge.invariant in
     let there = t.leaves * n + t.reaches in
     let back = t.reaches * n + t.leaves in
-    let m = c.index_mut.result.now + 1 in
-    let k = c.index_mut-in-loop-edge.result.now + 1 in
-    let in_there : there < length pairs = omega (arith, cell_within n t.leaves t.reaches l r, counts.len) in
-    let in_back : back < length pairs = omega (arith, cell_within n t.reaches t.leaves r l, counts.len) in
-    let is_m : m ≡ get_or pairs there 0 + 1 = ap (λ x. x + 1) (c.index_mut.ensures.value ∙ get_or_default pairs there c.index_mut.result.now 0 in_there) in
-    let is_k : k ≡ get_or (set pairs there m) back 0 + 1 = ap (λ x. x + 1) (c.index_mut-in-loop-edge.ensures.value ∙ get_or_default (set pairs there m) back c.index_mut-in-loop-edge.result.now 0 (omega (arith, in_back, length-set pairs there m))) in
-    subst (λ x. CountsPairs x (take (c.loop-edge.edge + 1) g.trips) (set (set pairs there m) back k)) c.disks-count.ensures.disks
-    (CountsPairs-more n g.trips pairs c.loop-edge.edge m k t c.ends.ensures.ends l r c.ends.ensures.apart is_m is_k counts)
+    let both = c.count_one-in-loop-edge.ensures ∙ ap (λ (xs : List ℕ). counted xs back) c.count_one.ensures in
+    rw both (subst (λ x. CountsPairs x (take (c.loop-edge.edge + 1) g.trips) (counted (counted c.loop-edge.pairs.items there) back)) c.disks-count.ensures.disks
+    (CountsPairs-more n g.trips c.loop-edge.pairs.items c.loop-edge.edge t c.ends.ensures.ends (ends at).0 (ends at).1 c.ends.ensures.apart (before at)))

@@ -1,5 +1,4 @@
-use Rattle.std.proofs.Common.{◌≡◌, ◌≤◌, ap, arith, inl, inr}
-use Rattle.std.proofs.lemmas.Bool.{cases_lt}
+use Rattle.mig_base.proofs.Common.{◌≡◌, ◌≤◌, ap, arith, inl, inr, cases_lt}
 use Rattle.mig_base.specs.declared.limits.TheConstants.{MAX_ITEMS}
 use Rattle.mig_bounds.specs.Pairs.{between}
 use Rattle.mig_bounds.proofs.pairs.top_of.Goals as goal

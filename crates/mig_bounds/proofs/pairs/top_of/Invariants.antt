@@ -1,4 +1,4 @@
-use Rattle.std.proofs.Common.{ℕ, ◌<◌, ◌≤◌}
+use Rattle.mig_base.proofs.Common.{ℕ, ◌<◌, ◌≤◌}
 use Rattle.mig_base.specs.declared.limits.TheConstants.{MAX_ITEMS}
 use Rattle.mig_bounds.specs.Pairs.{between}
 use Rattle.mig_bounds.proofs.pairs.top_of.Given as goal

@@ -1,7 +1,4 @@
-use Rattle.std.proofs.Common.{◌≡◌, ℕ, ◌<◌, ◌++◌, ◌∷◌, [], List, length, length-append, get_or, ap, ◌∙◌, sym, arith, inl, inr}
-use Rattle.std.proofs.lemmas.Bool.{cases_lt}
-use Rattle.std.proofs.lemmas.List.{get_or_append_left}
-use Rattle.std.proofs.Math.Seq.{get_or-append_seam}
+use Rattle.mig_base.proofs.Common.{◌≡◌, ℕ, ◌<◌, ◌++◌, ◌∷◌, [], List, length, length-append, get_or, ap, ◌∙◌, sym, arith, inl, inr, cases_lt, get_or_append_left, get_or-append_seam}
 use Rattle.mig_bounds.specs.Pairs.{between}
 use Rattle.mig_bounds.proofs.pairs.tops_of.Goals as goal
 

@@ -1,5 +1,4 @@
-use Rattle.std.proofs.Common.{◌≡◌, ◌⊎◌, ◌<◌, ◌+◌, ◌/◌, ◌∷◌, [], sym, ◌∙◌, arith, inl, inr}
-use Rattle.mig_base.specs.Bounding.{ByTriple}
+use Rattle.mig_base.proofs.Common.{◌≡◌, ◌⊎◌, ◌<◌, ◌+◌, ◌/◌, ◌∷◌, [], sym, ◌∙◌, arith, inl, inr, ByTriple}
 use Rattle.mig_base.proofs.Counting.{div_ceil-le}
 use Rattle.mig_bounds.specs.Pairs.{between}
 use Rattle.mig_bounds.specs.Search.{candidate_of}

@@ -1,6 +1,4 @@
-use Rattle.std.proofs.Common.{◌∷◌, [], List, ℕ, arith}
-use Rattle.std.proofs.lemmas.List.Sums.{count_by-le-length}
-use Rattle.mig_base.specs.Transfers.{is_inside}
+use Rattle.mig_base.proofs.Common.{◌∷◌, [], List, ℕ, arith, count_by-le-length, is_inside}
 use Rattle.mig_bounds.proofs.Steps.{inside_three_is}
 use Rattle.mig_bounds.proofs.triples.inside_three.Goals as goal
 

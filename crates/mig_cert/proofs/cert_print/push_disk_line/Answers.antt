@@ -1,5 +1,4 @@
-use Rattle.std.proofs.Common.{arith}
-use Rattle.std.proofs.lemmas.Grind.{common_steps}
+use Rattle.mig_base.proofs.Common.{arith, common_steps}
 use Rattle.mig_cert.proofs.cert_print.push_disk_line.Goals as goal
 
 pub returns : goal.returns

@@ -1,5 +1,4 @@
-use Rattle.std.proofs.Common.{arith}
-use Rattle.std.proofs.lemmas.Result.{MatchResult-weaker}
+use Rattle.mig_base.proofs.Common.{arith, MatchResult-weaker}
 use Rattle.mig_cert.proofs.CertReads.{cert_line, cert_text}
 use Rattle.mig_cert.proofs.cert_read.read_cert.Goals as goal
 

@@ -1,5 +1,4 @@
-use Rattle.std.proofs.Common.{◌≡◌, ◌∙◌, true, not, ap, is_ok}
-use Rattle.std.proofs.lemmas.Result.{err_from_is_err_and}
+use Rattle.mig_base.proofs.Common.{◌≡◌, ◌∙◌, true, not, ap, is_ok, err_from_is_err_and}
 use Rattle.mig_cert.proofs.MemberLists.{member_stops, members_more}
 use Rattle.mig_cert.proofs.members.take_members.Goals as goal
 

@@ -1,6 +1,4 @@
-use Rattle.std.proofs.Common.{◌≡◌}
-use Rattle.mig_base.specs.DiskNumbers.{numbers}
-use Rattle.mig_base.specs.Transfers.{is_inside}
+use Rattle.mig_base.proofs.Common.{◌≡◌, numbers, is_inside}
 use Rattle.mig_check.specs.Counts.{passing}
 use Rattle.mig_check.proofs.counted.count_inside.Given as goal
 

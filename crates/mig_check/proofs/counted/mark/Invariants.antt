@@ -1,6 +1,4 @@
-use Rattle.std.proofs.Common.{◌≡◌, ℕ, ◌<◌, length, take, get_or, false}
-use Rattle.mig_base.specs.Bounding.{has}
-use Rattle.mig_base.specs.DiskNumbers.{numbers}
+use Rattle.mig_base.proofs.Common.{◌≡◌, ℕ, ◌<◌, length, take, get_or, false, has, numbers}
 use Rattle.mig_check.proofs.counted.mark.Given as goal
 
 abbrev pub invariant-loop-disk : goal.invariant-loop-disk

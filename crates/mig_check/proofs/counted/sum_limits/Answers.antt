@@ -1,9 +1,5 @@
-use Rattle.std.proofs.Common.{◌≡◌, ◌+◌, List, get_or, take, ap, ◌∙◌, arith}
-use Rattle.std.proofs.lemmas.List.{take_all}
+use Rattle.mig_base.proofs.Common.{◌≡◌, ◌+◌, List, get_or, take, ap, ◌∙◌, arith, take_all, limit_sum, numbers, transfers}
 use Rattle.mig_base.specs.declared.ids.DiskId.{DiskId}
-use Rattle.mig_base.specs.Bounding.{limit_sum}
-use Rattle.mig_base.specs.DiskNumbers.{numbers}
-use Rattle.mig_base.specs.Transfers.{transfers}
 use Rattle.mig_check.proofs.MoveCounts.{SumStep, sum_step}
 use Rattle.mig_check.proofs.counted.sum_limits.Goals as goal
 

@@ -1,8 +1,5 @@
-use Rattle.std.proofs.Common.{◌≡◌, ◌≤◌, ◌*◌, take}
+use Rattle.mig_base.proofs.Common.{◌≡◌, ◌≤◌, ◌*◌, take, limit_sum, numbers, transfers}
 use Rattle.mig_base.specs.declared.limits.TheConstants.{MAX_LIMIT}
-use Rattle.mig_base.specs.Bounding.{limit_sum}
-use Rattle.mig_base.specs.DiskNumbers.{numbers}
-use Rattle.mig_base.specs.Transfers.{transfers}
 use Rattle.mig_check.proofs.counted.sum_limits.Given as goal
 
 abbrev pub invariant-loop-disk : goal.invariant-loop-disk

@@ -1,7 +1,5 @@
-use Rattle.std.proofs.Common.{◌≡◌, List, map, subst, sym, length, ap, arith}
+use Rattle.mig_base.proofs.Common.{◌≡◌, List, map, subst, sym, length, ap, arith, KeepsLimits, trip_of}
 use Rattle.mig_base.specs.declared.inputs.Disk.{Disk}
-use Rattle.mig_base.specs.Transfers.{KeepsLimits}
-use Rattle.mig_base.specs.Running.{trip_of}
 use Rattle.mig_check.proofs.EndCounts.{limits_kept, limit_passed}
 use Rattle.mig_check.proofs.ends.check_limits.Goals as goal
 

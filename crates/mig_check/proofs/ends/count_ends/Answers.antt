@@ -1,8 +1,5 @@
-use Rattle.std.proofs.Common.{map, take, arith}
-use Rattle.mig_base.specs.Transfers.{touches}
-use Rattle.mig_base.specs.Running.{trip_of}
-use Rattle.std.proofs.lemmas.List.{get_or_default, length-map, length-take}
-use Rattle.std.proofs.lemmas.List.Sums.{count_by-le-length}
+use Rattle.mig_base.proofs.Common.{map, take, arith, touches, trip_of, get_or_default, length-map, count_by-le-length}
+use Rattle.std.proofs.lemmas.List.{length-take}
 use Rattle.mig_check.proofs.ends.count_ends.Goals as goal
 
 pub count_shift-requires-clause-room : goal.count_shift-requires-clause-room

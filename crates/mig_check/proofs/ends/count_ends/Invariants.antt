@@ -1,6 +1,4 @@
-use Rattle.std.proofs.Common.{◌≡◌, ℕ, ◌<◌, length, map, take, get_or}
-use Rattle.mig_base.specs.Transfers.{load}
-use Rattle.mig_base.specs.Running.{trip_of}
+use Rattle.mig_base.proofs.Common.{◌≡◌, ℕ, ◌<◌, length, map, take, get_or, load, trip_of}
 use Rattle.mig_check.proofs.ends.count_ends.Given as goal
 
 abbrev pub invariant-loop-s : goal.invariant-loop-s

@@ -1,6 +1,5 @@
-use Rattle.mig_base.specs.declared.ids.Shift.{Shift}
-use Rattle.mig_base.specs.Judging.{no_shift}
-use Rattle.mig_check.specs.Tables.{IsCovered}
+use Rattle.mig_base.proofs.Common.{no_shift}
+use Rattle.mig_check.proofs.Common.{Shift, IsCovered}
 use Rattle.mig_check.proofs.EndCounts.{All-more}
 use Rattle.mig_check.proofs.ends.find_over.Goals as goal
 

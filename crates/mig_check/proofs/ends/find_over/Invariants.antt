@@ -1,4 +1,4 @@
-use Rattle.std.proofs.Common.{ℕ, ◌<◌, get_or}
+use Rattle.mig_base.proofs.Common.{ℕ, ◌<◌, get_or}
 use Rattle.mig_base.specs.declared.ids.Shift.{Shift}
 use Rattle.mig_check.specs.Tables.{IsCovered, IsFoundOver}
 use Rattle.mig_check.proofs.ends.find_over.Given as goal

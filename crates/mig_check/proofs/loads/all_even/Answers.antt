@@ -1,5 +1,4 @@
-use Rattle.std.proofs.Common.{arith}
-use Rattle.std.proofs.lemmas.Grind.{common_steps}
+use Rattle.mig_base.proofs.Common.{arith, common_steps}
 use Rattle.mig_check.proofs.loads.all_even.Goals as goal
 
 pub returns-then-disk-ne0 : goal.returns-then-disk-ne0

@@ -1,7 +1,4 @@
-use Rattle.std.proofs.Common.{◌≡◌, ℕ, ◌<◌, ◌%◌}
-use Rattle.std.specs.Prelude.{IsTrue}
-use Rattle.mig_base.specs.Bounding.{limit}
-use Rattle.mig_base.specs.Transfers.{takes_part, transfers}
+use Rattle.mig_base.proofs.Common.{◌≡◌, ℕ, ◌<◌, ◌%◌, IsTrue, limit, takes_part, transfers}
 use Rattle.mig_check.proofs.loads.all_even.Given as goal
 
 abbrev pub invariant-loop-v : goal.invariant-loop-v

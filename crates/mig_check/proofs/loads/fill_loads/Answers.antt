@@ -1,8 +1,5 @@
-use Rattle.std.proofs.Common.{◌≡◌, List, arith, get_or, ap, ◌∙◌, length}
-use Rattle.std.proofs.lemmas.List.{get_or_default}
-use Rattle.mig_base.specs.declared.ids.Spot.{Spot}
-use Rattle.mig_base.specs.Transfers.{touches}
-use Rattle.mig_check.specs.Counts.{passing}
+use Rattle.mig_base.proofs.Common.{◌≡◌, List, arith, get_or, ap, ◌∙◌, length, get_or_default, touches}
+use Rattle.mig_check.proofs.Common.{Spot, passing}
 use Rattle.mig_check.proofs.MoveCounts.{counted_more, passing_all, passing_most}
 use Rattle.mig_check.proofs.loads.fill_loads.Goals as goal
 

@@ -1,5 +1,4 @@
-use Rattle.std.proofs.Common.{◌≡◌, ℕ, ◌<◌, length, get_or}
-use Rattle.mig_base.specs.Transfers.{touches}
+use Rattle.mig_base.proofs.Common.{◌≡◌, ℕ, ◌<◌, length, get_or, touches}
 use Rattle.mig_check.specs.Counts.{passing}
 use Rattle.mig_check.proofs.loads.fill_loads.Given as goal
 

@@ -1,5 +1,4 @@
-use Rattle.std.proofs.Common.{◌≡◌, ℕ, ◌+◌, ◌<◌, length, take, get_or, count_by}
-use Rattle.mig_base.specs.Running.{is_of}
+use Rattle.mig_base.proofs.Common.{◌≡◌, ℕ, ◌+◌, ◌<◌, length, take, get_or, count_by, is_of}
 use Rattle.mig_check.proofs.moved.count_round.Given as goal
 
 abbrev pub invariant-loop-s : goal.invariant-loop-s

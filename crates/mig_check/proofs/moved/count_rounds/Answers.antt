@@ -1,8 +1,5 @@
-use Rattle.std.proofs.Common.{[], suc, List, ap, ◌∙◌, ◌≡◌, arith, count_by}
-use Rattle.std.proofs.lemmas.List.{get_or_default}
+use Rattle.mig_base.proofs.Common.{[], suc, List, ap, ◌∙◌, ◌≡◌, arith, count_by, get_or_default, round_at, is_of}
 use Rattle.mig_base.specs.declared.ids.Shift.{Shift}
-use Rattle.mig_base.specs.Layouts.{round_at}
-use Rattle.mig_base.specs.Running.{is_of}
 use Rattle.mig_check.proofs.ItemCounts.{once_in_round, shift_count_more}
 use Rattle.mig_check.proofs.moved.count_rounds.Goals as goal
 

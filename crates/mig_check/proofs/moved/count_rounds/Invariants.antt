@@ -1,5 +1,4 @@
-use Rattle.std.proofs.Common.{◌≡◌, ℕ, ◌<◌, ◌≤◌, length, take, get_or}
-use Rattle.mig_base.specs.Running.{shift_count}
+use Rattle.mig_base.proofs.Common.{◌≡◌, ℕ, ◌<◌, ◌≤◌, length, take, get_or, shift_count}
 use Rattle.mig_check.proofs.moved.count_rounds.Given as goal
 
 abbrev pub invariant-loop-round : goal.invariant-loop-round

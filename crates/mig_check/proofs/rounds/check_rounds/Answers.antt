@@ -1,13 +1,8 @@
-use Rattle.std.proofs.Common.{[], ◌≡◌, ◌+◌, ◌<◌, ℕ, suc, List, sym, ap, ◌∙◌, subst, arith, below_more, length, All}
-use Rattle.std.proofs.lemmas.List.{get_or_default}
-use Rattle.mig_base.specs.declared.ids.Spot.{Spot}
-use Rattle.mig_base.specs.declared.ids.Shift.{Shift}
-use Rattle.mig_base.specs.InputLists.{Lists}
-use Rattle.mig_base.specs.Layouts.{Layout, At, IsListOf, round_at}
-use Rattle.mig_base.specs.Running.{IsLegal, PlanFits, ShiftFits}
+use Rattle.mig_base.proofs.Common.{[], ◌≡◌, ◌+◌, ◌<◌, ℕ, suc, List, sym, ap, ◌∙◌, subst, arith, length, All, get_or_default, Lists, Layout, At, IsListOf, round_at, IsLegal, PlanFits, ShiftFits}
+use Rattle.mig_check.proofs.Common.{Shift, Spot, after_round, layout_of}
+use Rattle.std.proofs.Common.{below_more}
 use Rattle.mig_base.specs.Checks.{RoundBlame}
 use Rattle.mig_base.proofs.BlameOrder.{FirstBlame-after}
-use Rattle.mig_check.specs.Tables.{after_round, layout_of}
 use Rattle.mig_check.proofs.BlameCases.{run_blame}
 use Rattle.mig_check.proofs.LayoutLists.{IsListOf-next, items_there, length-after_round}
 use Rattle.mig_check.proofs.rounds.check_rounds.Goals as goal

@@ -1,8 +1,5 @@
-use Rattle.std.proofs.Common.{◌≡◌, ℕ, suc, ◌<◌, ◌≤◌, length, All}
-use Rattle.mig_base.specs.Layouts.{At, IsLayout, IsListOf, round_at}
-use Rattle.mig_base.specs.Running.{IsLegal}
-use Rattle.mig_check.specs.SpotSets.{has_spot}
-use Rattle.mig_check.specs.Tables.{IsTakenSet, layout_of}
+use Rattle.mig_base.proofs.Common.{◌≡◌, ℕ, suc, ◌<◌, ◌≤◌, length, All, At, IsLayout, IsListOf, round_at, IsLegal}
+use Rattle.mig_check.proofs.Common.{has_spot, IsTakenSet, layout_of}
 use Rattle.mig_check.proofs.rounds.check_rounds.Given as goal
 
 abbrev pub invariant-loop-k : goal.invariant-loop-k

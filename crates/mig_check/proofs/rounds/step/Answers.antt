@@ -1,9 +1,6 @@
-use Rattle.std.proofs.Common.{◌≡◌, List, ap, sym, ◌∙◌, subst}
-use Rattle.mig_base.specs.declared.ids.Spot.{Spot}
-use Rattle.mig_base.specs.Layouts.{IsLayout, Layout, after_shifts}
+use Rattle.mig_base.proofs.Common.{◌≡◌, List, ap, sym, ◌∙◌, subst, IsLayout, Layout, after_shifts}
+use Rattle.mig_check.proofs.Common.{Spot, has_spot, IsTakenSet, layout_of}
 use Rattle.mig_base.proofs.Rounds.{layout_kept}
-use Rattle.mig_check.specs.SpotSets.{has_spot}
-use Rattle.mig_check.specs.Tables.{IsTakenSet, layout_of}
 use Rattle.mig_check.proofs.LayoutLists.{items_there, layout_after_round}
 use Rattle.mig_check.proofs.TakenSpots.{taken_after}
 use Rattle.mig_check.proofs.rounds.step.Goals as goal

@@ -1,7 +1,5 @@
-use Rattle.std.proofs.Common.{◌≡◌, ◌+◌, ℕ, suc, List, sym, ap, ◌∙◌, subst, arith, length}
-use Rattle.mig_base.specs.declared.ids.Spot.{Spot}
-use Rattle.mig_base.specs.Layouts.{At, IsListOf}
-use Rattle.mig_check.specs.Tables.{after_round}
+use Rattle.mig_base.proofs.Common.{◌≡◌, ◌+◌, ℕ, suc, List, sym, ap, ◌∙◌, subst, arith, length, At, IsListOf}
+use Rattle.mig_check.proofs.Common.{Spot, after_round}
 use Rattle.mig_check.proofs.LayoutLists.{IsListOf-next, items_in_round, length-after_round, round_taken}
 use Rattle.mig_check.proofs.running.carry_out.Goals as goal
 

@@ -1,5 +1,4 @@
-use Rattle.std.proofs.Common.{arith}
-use Rattle.std.proofs.lemmas.Grind.{common_steps}
+use Rattle.mig_base.proofs.Common.{arith, common_steps}
 use Rattle.mig_check.proofs.running.layout_after.Goals as goal
 
 pub returns-clause-layout : goal.returns-clause-layout

@@ -1,4 +1,4 @@
-use Rattle.std.proofs.Common.{List, IfErr, subst}
+use Rattle.mig_base.proofs.Common.{List, IfErr, subst}
 use Rattle.mig_base.specs.declared.ids.Shift.{Shift}
 use Rattle.mig_base.specs.Judging.{IsRunBlame}
 use Rattle.mig_check.proofs.BlameCases.{only_memory}

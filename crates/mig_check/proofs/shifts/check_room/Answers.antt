@@ -1,28 +1,21 @@
-use Rattle.std.proofs.Common.{length, List, subst}
-use Rattle.mig_base.specs.declared.ids.ItemId.{ItemId}
-use Rattle.mig_base.specs.declared.inputs.Disk.{Disk}
+use Rattle.mig_base.proofs.Common.{length, List, subst, IsFirstShift, rules}
+use Rattle.mig_check.proofs.Common.{ItemId, Disk, has_spot, HaveRoom, LacksSlotIn, layout_of}
 use Rattle.mig_base.specs.Checks.{Free, Passes}
-use Rattle.mig_base.specs.Judging.{IsFirstShift, LacksSlot}
-use Rattle.mig_check.specs.SpotSets.{has_spot}
-use Rattle.mig_check.specs.Tables.{HaveRoom, LacksSlotIn, layout_of}
+use Rattle.mig_base.specs.Judging.{LacksSlot}
 use Rattle.mig_check.proofs.TakenSpots.{none_mapped, some_mapped, room_free, room_blame}
 use Rattle.mig_check.proofs.shifts.check_room.Goals as goal
 
-pub returns-clause-none : goal.returns-clause-none
-returns-clause-none c =
+pub returns : goal.returns
+returns c =
     let input = c.args.input.now in
     let layout = layout_of c.args.spots.now in
     let round = c.args.round.now in
     let taken = has_spot c.args.taken.now in
     let filled = has_spot c.find_no_room.new.taken in
-    none_mapped c.find_no_room.result (HaveRoom c.disks.result.now taken round (length round) filled) (Passes input layout round Free)
-    (λ r. room_free input layout taken round c.requires.are filled (subst (λ (d : List Disk). HaveRoom d taken round (length round) filled) c.disks.ensures.value r)) c.find_no_room.ensures.none
-
-pub returns-clause-some : goal.returns-clause-some
-returns-clause-some c =
-    let input = c.args.input.now in
-    let layout = layout_of c.args.spots.now in
-    let round = c.args.round.now in
-    let taken = has_spot c.args.taken.now in
-    some_mapped c.find_no_room.result (λ (i : ItemId). IsFirstShift round (LacksSlotIn c.disks.result.now taken round) i.0) (λ i. IsFirstShift round (LacksSlot input layout round) i.0)
-    (λ i f. room_blame input layout taken round c.requires.are i.0 (subst (λ (d : List Disk). IsFirstShift round (LacksSlotIn d taken round) i.0) c.disks.ensures.value f)) c.find_no_room.ensures.some
+    record {
+      room = search rules;
+      none = none_mapped c.find_no_room.result (HaveRoom c.disks.result.now taken round (length round) filled) (Passes input layout round Free)
+          (λ r. room_free input layout taken round c.requires.are filled (subst (λ (d : List Disk). HaveRoom d taken round (length round) filled) c.disks.ensures.value r)) c.find_no_room.ensures.none;
+      some = some_mapped c.find_no_room.result (λ (i : ItemId). IsFirstShift round (LacksSlotIn c.disks.result.now taken round) i.0) (λ i. IsFirstShift round (LacksSlot input layout round) i.0)
+          (λ i f. room_blame input layout taken round c.requires.are i.0 (subst (λ (d : List Disk). IsFirstShift round (LacksSlotIn d taken round) i.0) c.disks.ensures.value f)) c.find_no_room.ensures.some;
+    }

@@ -1,6 +1,5 @@
-use Rattle.std.proofs.Common.{◌≡◌, ℕ, ◌<◌, get_or, Some}
-use Rattle.mig_base.specs.declared.ids.Shift.{Shift}
-use Rattle.mig_check.specs.Tables.{layout_of}
+use Rattle.mig_base.proofs.Common.{◌≡◌, ℕ, ◌<◌, get_or, Some}
+use Rattle.mig_check.proofs.Common.{Shift, layout_of}
 use Rattle.mig_check.proofs.shifts.find_elsewhere.Given as goal
 
 abbrev pub invariant-loop-s : goal.invariant-loop-s

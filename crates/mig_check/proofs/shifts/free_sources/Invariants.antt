@@ -1,6 +1,5 @@
-use Rattle.std.proofs.Common.{◌≡◌, take, not, ◌&&◌}
-use Rattle.mig_base.specs.declared.ids.Spot.{Spot}
-use Rattle.mig_check.specs.SpotSets.{has_spot}
+use Rattle.mig_base.proofs.Common.{◌≡◌, take, not, ◌&&◌}
+use Rattle.mig_check.proofs.Common.{Spot, has_spot}
 use Rattle.mig_check.specs.Tables.{is_source}
 use Rattle.mig_check.proofs.shifts.free_sources.Given as goal
 

@@ -1,7 +1,5 @@
-use Rattle.std.proofs.Common.{map}
-use Rattle.std.proofs.lemmas.Result.{err_from_is_err_and}
+use Rattle.mig_base.proofs.Common.{map, err_from_is_err_and, first}
 use Rattle.mig_base.specs.Refusals.{DisksRowFault}
-use Rattle.mig_base.specs.Rows.{first}
 use Rattle.mig_base.specs.declared.faults.FileKind.TheVariants as file
 use Rattle.mig_csv.proofs.Headers.{refusal_of_header}
 use Rattle.mig_csv.proofs.disks.read_disks.Goals as goal

@@ -1,13 +1,10 @@
-use Rattle.std.proofs.Common.{◌∙◌, sym, ap, ℕ, List, Option, length, Some}
-use Rattle.std.proofs.lemmas.List.{length-map}
-use Rattle.std.proofs.lemmas.Result.{err_from_is_err_and}
-use Rattle.mig_base.specs.InputLists.{Lists}
-use Rattle.mig_base.specs.Refusals.{IsSpotNamed}
-use Rattle.mig_base.specs.Rows.{Bodies, first, rows_of}
+use Rattle.mig_base.proofs.Common.{◌∙◌, sym, ap, ℕ, List, Option, length, Some, length-map, err_from_is_err_and, Lists, IsSpotNamed, Bodies, first, rows_of}
 use Rattle.mig_base.specs.declared.ids.DiskId.{DiskId}
 use Rattle.mig_base.proofs.Listed.{Accepted-IsInput, zip_length}
-use Rattle.mig_csv.proofs.Whole.{Accepted-roomy, clean_next, clean_now, listed_of, next_within, none_missing, refusal_of_disks, refusal_of_missing, refusal_of_next, refusal_of_now, refusal_of_room}
+use Rattle.mig_csv.proofs.Whole.{Accepted-roomy, AreRead, clean_next, clean_now, listed_of, next_within, none_missing, refusal_of_disks, refusal_of_missing, refusal_of_next, refusal_of_now}
+use Rattle.mig_csv.proofs.Whole.{refusal_of_room}
 use Rattle.mig_csv.proofs.inputs.read_input.Goals as goal
+use Rattle.mig_csv.proofs.inputs.read_input.Goals.{After-check_room}
 
 pub returns-in_err-listed-clause-refused : goal.returns-in_err-listed-clause-refused
 returns-in_err-listed-clause-refused c =
@@ -62,53 +59,44 @@ check_room-requires-clause-next_disks c =
     let filled = sym c.deref.ensures.value ∙ c.in_ok-next.ensures.value in
     rw (c.deref-2.ensures.value, c.deref-5.ensures.value) (next_within c.in_ok-places.places.items c.in_ok-next.next.items c.in_ok-places.ensures.value filled)
 
-pub returns-in_err-check_room-clause-refused : goal.returns-in_err-check_room-clause-refused
-returns-in_err-check_room-clause-refused c =
-    let fs : Bodies = record { disks = c.args.disks.now; now = c.args.now.now; next = c.args.next.now } in
-    let i : Lists = record { disks = c.in_ok-listed.listed.disks.items; items = c.in_ok-layout.layout.items.items; spots = c.in_ok-layout.layout.spots.items; next = c.in_ok-next.next.items } in
+-- what the files list, and that nothing else is wrong with them
+abbrev bodies : goal.After-check_room → Bodies
+bodies c = record { disks = c.args.disks.now; now = c.args.now.now; next = c.args.next.now }
+
+abbrev lists : goal.After-check_room → Lists
+lists c = record { disks = c.in_ok-listed.listed.disks.items; items = c.in_ok-layout.layout.items.items; spots = c.in_ok-layout.layout.spots.items; next = c.in_ok-next.next.items }
+
+read : (c : goal.After-check_room) → AreRead (bodies c) (lists c)
+read c =
+    let fs = bodies c in
+    let i = lists c in
     let d = c.in_ok-listed.ensures in
     let n = c.in_ok-layout.ensures in
     let x = rw (← n.names) at c.in_ok-places.ensures in
     let filled = sym c.deref.ensures.value ∙ c.in_ok-next.ensures.value in
-    let clean_of_next = clean_next fs i.disks i.items d.value n.items x.sound in
-    let clean_of_now = clean_now fs i.disks d.value n.sound in
-    let missing = none_missing fs i.disks i.items c.in_ok-places.places.items i.next n.items x.value filled in
-    let listed = listed_of fs i c.in_ok-places.places.items d.value n.items n.spots x.value filled in
+    record {
+      disks = d.sound;
+      now = clean_now fs i.disks d.value n.sound;
+      next = clean_next fs i.disks i.items d.value n.items x.sound;
+      missing = none_missing fs i.disks i.items c.in_ok-places.places.items i.next n.items x.value filled;
+      listed = listed_of fs i c.in_ok-places.places.items d.value n.items n.spots x.value filled;
+    }
+
+pub returns-in_err-check_room-clause-refused : goal.returns-in_err-check_room-clause-refused
+returns-in_err-check_room-clause-refused c =
+    let at = (goal.at.returns-in_err-check_room-clause-refused c).After-check_room in
     let p = err_from_is_err_and c.from_residual-in_err-check_room.result c.from_residual-in_err-check_room.ensures.1 in
     let lacking = rw (c.deref-2.ensures.value, c.deref-3.ensures.value, c.deref-4.ensures.value, c.deref-5.ensures.value) at c.in_err-check_room.ensures.lacking in
-    rw (p.1, p.2) (refusal_of_room fs i _ d.sound clean_of_now clean_of_next missing listed lacking)
+    rw (p.1, p.2) (refusal_of_room (bodies at) (lists at) _ (read at) lacking)
 
 pub input_of-requires : goal.input_of-requires
 input_of-requires c =
-    let fs : Bodies = record { disks = c.args.disks.now; now = c.args.now.now; next = c.args.next.now } in
-    let i : Lists = record { disks = c.in_ok-listed.listed.disks.items; items = c.in_ok-layout.layout.items.items; spots = c.in_ok-layout.layout.spots.items; next = c.in_ok-next.next.items } in
-    let d = c.in_ok-listed.ensures in
-    let n = c.in_ok-layout.ensures in
-    let x = rw (← n.names) at c.in_ok-places.ensures in
-    let filled = sym c.deref.ensures.value ∙ c.in_ok-next.ensures.value in
-    let clean_of_next = clean_next fs i.disks i.items d.value n.items x.sound in
-    let clean_of_now = clean_now fs i.disks d.value n.sound in
-    let missing = none_missing fs i.disks i.items c.in_ok-places.places.items i.next n.items x.value filled in
-    let listed = listed_of fs i c.in_ok-places.places.items d.value n.items n.spots x.value filled in
+    let at = (goal.at.input_of-requires c).After-check_room in
     let roomy = rw (c.deref-2.ensures.value, c.deref-3.ensures.value, c.deref-4.ensures.value, c.deref-5.ensures.value) at c.in_ok-check_room.ensures.roomy in
-    Accepted-IsInput fs i (Accepted-roomy fs i d.sound clean_of_now clean_of_next missing listed roomy)
+    Accepted-IsInput (bodies at) (lists at) (Accepted-roomy (bodies at) (lists at) (read at) roomy)
 
-pub returns-clause-accepted : goal.returns-clause-accepted
-returns-clause-accepted c =
-    let fs : Bodies = record { disks = c.args.disks.now; now = c.args.now.now; next = c.args.next.now } in
-    let i : Lists = record { disks = c.in_ok-listed.listed.disks.items; items = c.in_ok-layout.layout.items.items; spots = c.in_ok-layout.layout.spots.items; next = c.in_ok-next.next.items } in
-    let d = c.in_ok-listed.ensures in
-    let n = c.in_ok-layout.ensures in
-    let x = rw (← n.names) at c.in_ok-places.ensures in
-    let filled = sym c.deref.ensures.value ∙ c.in_ok-next.ensures.value in
-    let clean_of_next = clean_next fs i.disks i.items d.value n.items x.sound in
-    let clean_of_now = clean_now fs i.disks d.value n.sound in
-    let missing = none_missing fs i.disks i.items c.in_ok-places.places.items i.next n.items x.value filled in
-    let listed = listed_of fs i c.in_ok-places.places.items d.value n.items n.spots x.value filled in
+pub returns : goal.returns
+returns c =
+    let at = (goal.at.returns c).After-check_room in
     let roomy = rw (c.deref-2.ensures.value, c.deref-3.ensures.value, c.deref-4.ensures.value, c.deref-5.ensures.value) at c.in_ok-check_room.ensures.roomy in
-    rw c.input_of.ensures (Accepted-roomy fs i d.sound clean_of_now clean_of_next missing listed roomy)
-
-pub returns-clause-roomy : goal.returns-clause-roomy
-returns-clause-roomy c =
-    let roomy = rw (c.deref-2.ensures.value, c.deref-3.ensures.value, c.deref-4.ensures.value, c.deref-5.ensures.value) at c.in_ok-check_room.ensures.roomy in
-    rw c.input_of.ensures roomy
+    record { accepted = rw c.input_of.ensures (Accepted-roomy (bodies at) (lists at) (read at) roomy); roomy = rw c.input_of.ensures roomy; refused = tt }

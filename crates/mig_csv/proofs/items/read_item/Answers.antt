@@ -1,26 +1,9 @@
-use Rattle.std.proofs.Common.{◌≡◌, ◌≤◌, ◌<◌, ◌∙◌, Contains, ap, arith, map, refl, subst, sym}
-use Rattle.std.proofs.lemmas.Option.{get_or_from_slice_get, slice_get_within}
+use Rattle.mig_base.proofs.Common.{◌≡◌, ◌≤◌, ◌<◌, ◌∙◌, Contains, ap, arith, map, refl, subst, sym, get_or_from_slice_get, slice_get_within, number_of, first, second, third}
+use Rattle.mig_csv.proofs.Common.{Spot, Disk, place_in}
 use Rattle.csv.specs.Records.{fields_of}
-use Rattle.mig_base.specs.Digits.{number_of}
-use Rattle.mig_base.specs.Rows.{first, second, third}
-use Rattle.mig_base.specs.declared.ids.Spot.{Spot}
-use Rattle.mig_base.specs.declared.inputs.Disk.{Disk}
-use Rattle.mig_csv.specs.Places.{place_in}
 use Rattle.mig_csv.proofs.DiskRows.{not_found}
 use Rattle.mig_csv.proofs.ItemRows.{found_disk, no_disk, none_before, not_too_high, place_taken, rank_small, spot_taken, too_high}
 use Rattle.mig_csv.proofs.items.read_item.Goals as goal
-
-pub returns-clause-spot : goal.returns-clause-spot
-returns-clause-spot c =
-    let disks = c.args.disks.now.disks.items in
-    let r = fields_of c.args.row.now in
-    let name = c.in-Some.ensures in
-    let named = c.in-Some-read.ensures in
-    let slot = c.in-Some-read_digits.ensures in
-    let f = found_disk disks c.args.disks.now.names c.in-Some-find.place c.in-Some-read.disk c.requires.named c.in-Some-find.ensures.found in
-    let second_is : second r ≡ f.0.name = sym c.field-2.ensures ∙ sym named.value ∙ f.2 in
-    let slot_is : number_of (third r) ≡ c.in-Some-read_digits.slot = sym (slot.value ∙ ap number_of c.field-3.ensures) in
-    (rw f.1 (sym second_is), sym slot_is)
 
 pub index-requires : goal.index-requires
 index-requires c =
@@ -113,8 +96,8 @@ returns-then-contains-clause-cause c =
           (λ lt. absurd (omega (arith, lt)));
     }
 
-pub returns-clause-sound : goal.returns-clause-sound
-returns-clause-sound c w =
+pub returns : goal.returns
+returns c =
     let disks = c.args.disks.now.disks.items in
     let r = fields_of c.args.row.now in
     let name = c.in-Some.ensures in
@@ -128,7 +111,7 @@ returns-clause-sound c w =
     let index_is : c.index.result.now ≡ f.0 = c.index.ensures ∙ get_or_from_slice_get disks c.in-Some-find.place f.0 c.index.result.now f.1 in
     let below : c.in-Some-read_digits.slot < f.0.slots = subst (λ (d : Disk). c.in-Some-read_digits.slot < d.slots) index_is (rw c.from.ensures at c.if-slot-from.false) in
     let spot : Spot = record { disk = record { 0 = c.in-Some-find.place }; slot = c.in-Some-read_digits.slot } in
-    none_before disks c.args.items.now (map (place_in disks) c.args.taken.now) r 15
+    let none = none_before disks c.args.items.now (map (place_in disks) c.args.taken.now) r 15
     (λ _. omega arith)
     (λ _. sym c.len-2.ensures ∙ c.if-len-ne3.false)
     (λ _. (rw c.field.ensures at (name.valid.0 refl), rw c.field-2.ensures at (named.valid.0 refl)))
@@ -136,22 +119,11 @@ returns-clause-sound c w =
     (λ _. new)
     (λ _. rw second_is (c.in-Some-find.place, f.0, slice_get_within disks c.in-Some-find.place f.0 f.1, get_or_from_slice_get disks c.in-Some-find.place f.0 f.0 f.1, refl))
     (λ _. rw (second_is, slot_is) (not_too_high disks c.in-Some-find.place c.in-Some-read_digits.slot f.0 ne f.1 below))
-    (λ _ taken. let t = spot_taken disks c.args.taken.now spot f.0 ne c.requires.on_disks f.1 (rw (second_is, slot_is) at taken) in cc (c.contains.ensures.1 t, c.if-contains.false))
-    w
-    (rank_small w)
-
-pub returns-clause-on_disk : goal.returns-clause-on_disk
-returns-clause-on_disk c =
-    let disks = c.args.disks.now.disks.items in
-    let r = fields_of c.args.row.now in
-    let name = c.in-Some.ensures in
-    let named = c.in-Some-read.ensures in
-    let slot = c.in-Some-read_digits.ensures in
-    let f = found_disk disks c.args.disks.now.names c.in-Some-find.place c.in-Some-read.disk c.requires.named c.in-Some-find.ensures.found in
-    let second_is : second r ≡ f.0.name = sym c.field-2.ensures ∙ sym named.value ∙ f.2 in
-    let slot_is : number_of (third r) ≡ c.in-Some-read_digits.slot = sym (slot.value ∙ ap number_of c.field-3.ensures) in
-    let ne = rw c.requires.named at c.in-Some-find.ensures.different in
-    let index_is : c.index.result.now ≡ f.0 = c.index.ensures ∙ get_or_from_slice_get disks c.in-Some-find.place f.0 c.index.result.now f.1 in
-    let below : c.in-Some-read_digits.slot < f.0.slots = subst (λ (d : Disk). c.in-Some-read_digits.slot < d.slots) index_is (rw c.from.ensures at c.if-slot-from.false) in
-    let spot : Spot = record { disk = record { 0 = c.in-Some-find.place }; slot = c.in-Some-read_digits.slot } in
-    rw f.1 below
+    (λ _ taken. let t = spot_taken disks c.args.taken.now spot f.0 ne c.requires.on_disks f.1 (rw (second_is, slot_is) at taken) in cc (c.contains.ensures.1 t, c.if-contains.false)) in
+    record {
+      item = name.value ∙ c.field.ensures;
+      spot = (rw f.1 (sym second_is), sym slot_is);
+      on_disk = rw f.1 below;
+      sound = λ w. none w (rank_small w);
+      cause = tt;
+    }

@@ -1,7 +1,5 @@
-use Rattle.std.proofs.Common.{◌≡◌, ◌∙◌, Contains, arith, refl, sym}
-use Rattle.std.proofs.lemmas.Option.{get_or_from_slice_get, slice_get_within}
+use Rattle.mig_base.proofs.Common.{◌≡◌, ◌∙◌, Contains, arith, refl, sym, get_or_from_slice_get, slice_get_within, first, second}
 use Rattle.csv.specs.Records.{fields_of}
-use Rattle.mig_base.specs.Rows.{first, second}
 use Rattle.mig_csv.proofs.WayRows.{none_before, not_seen}
 use Rattle.mig_csv.proofs.ItemRows.{Contains-at, found_disk, no_disk, rank_small}
 use Rattle.mig_csv.proofs.next.read_way.Goals as goal
@@ -21,6 +19,26 @@ returns-clause-disk c =
     let f = found_disk disks c.args.disks.now.names c.in-Some-find.place c.in-Some-read.disk c.requires.named c.in-Some-find.ensures.found in
     let second_is : second r ≡ f.0.name = sym c.field-2.ensures ∙ sym c.in-Some-read.ensures.value ∙ f.2 in
     rw f.1 (sym second_is)
+
+pub returns-clause-sound : goal.returns-clause-sound
+returns-clause-sound c = λ names seen w.
+    let disks = c.args.disks.now.disks.items in
+    let r = fields_of c.args.row.now in
+    let name = c.in-Some.ensures in
+    let named = c.in-Some-read.ensures in
+    let new : ¬ (Contains names (first r)) = rw (← c.field.ensures, ← name.value) (not_seen c.args.present.now c.args.next.now c.args.seen names c.in-Some.name c.find_with_hint-found.result seen c.find_with_hint-found.ensures.found (rw c.if-has_next.false at c.has_next.ensures)) in
+    let f = found_disk disks c.args.disks.now.names c.in-Some-find.place c.in-Some-read.disk c.requires.named c.in-Some-find.ensures.found in
+    let second_is : second r ≡ f.0.name = sym c.field-2.ensures ∙ sym named.value ∙ f.2 in
+    let here : Contains c.args.present.now (first r) = rw (← c.field.ensures, ← name.value) (Contains-at c.args.present.now c.in-Some-found.item c.in-Some.name c.in-Some-found.ensures.found) in
+    none_before disks c.args.present.now names r 15
+    (λ _. let rows = seen.count in omega (arith, rows))
+    (λ _. sym c.len.ensures ∙ c.if-len-ne2.false)
+    (λ _. (rw c.field.ensures at (name.valid.0 refl), rw c.field-2.ensures at (named.valid.0 refl)))
+    (λ _. new)
+    (λ _. rw second_is (c.in-Some-find.place, f.0, slice_get_within disks c.in-Some-find.place f.0 f.1, get_or_from_slice_get disks c.in-Some-find.place f.0 f.0 f.1, refl))
+    (λ _. here)
+    w
+    (rank_small w)
 
 pub returns-in_default-find-clause-cause : goal.returns-in_default-find-clause-cause
 returns-in_default-find-clause-cause c = λ names seen.
@@ -59,23 +77,3 @@ returns-in_default-found-clause-cause c = λ names seen.
           (λ _. rw second_is (c.in-Some-find.place, f.0, slice_get_within disks c.in-Some-find.place f.0 f.1, get_or_from_slice_get disks c.in-Some-find.place f.0 f.0 f.1, refl))
           (λ lt. absurd (omega (arith, lt)));
     }
-
-pub returns-clause-sound : goal.returns-clause-sound
-returns-clause-sound c = λ names seen w.
-    let disks = c.args.disks.now.disks.items in
-    let r = fields_of c.args.row.now in
-    let name = c.in-Some.ensures in
-    let named = c.in-Some-read.ensures in
-    let new : ¬ (Contains names (first r)) = rw (← c.field.ensures, ← name.value) (not_seen c.args.present.now c.args.next.now c.args.seen names c.in-Some.name c.find_with_hint-found.result seen c.find_with_hint-found.ensures.found (rw c.if-has_next.false at c.has_next.ensures)) in
-    let f = found_disk disks c.args.disks.now.names c.in-Some-find.place c.in-Some-read.disk c.requires.named c.in-Some-find.ensures.found in
-    let second_is : second r ≡ f.0.name = sym c.field-2.ensures ∙ sym named.value ∙ f.2 in
-    let here : Contains c.args.present.now (first r) = rw (← c.field.ensures, ← name.value) (Contains-at c.args.present.now c.in-Some-found.item c.in-Some.name c.in-Some-found.ensures.found) in
-    none_before disks c.args.present.now names r 15
-    (λ _. let rows = seen.count in omega (arith, rows))
-    (λ _. sym c.len.ensures ∙ c.if-len-ne2.false)
-    (λ _. (rw c.field.ensures at (name.valid.0 refl), rw c.field-2.ensures at (named.valid.0 refl)))
-    (λ _. new)
-    (λ _. rw second_is (c.in-Some-find.place, f.0, slice_get_within disks c.in-Some-find.place f.0 f.1, get_or_from_slice_get disks c.in-Some-find.place f.0 f.0 f.1, refl))
-    (λ _. here)
-    w
-    (rank_small w)

@@ -1,7 +1,5 @@
-use Rattle.std.proofs.Common.{arith, refl}
-use Rattle.std.proofs.lemmas.Option.{slice_get_within}
+use Rattle.mig_base.proofs.Common.{arith, refl, slice_get_within, first}
 use Rattle.csv.specs.Records.{fields_of}
-use Rattle.mig_base.specs.Rows.{first}
 use Rattle.mig_csv.proofs.WayRows.{WaysSoFar-end, WaysSoFar-fault, WaysSoFar-push, WaysSoFar-start, WaysSoFar-ways}
 use Rattle.mig_csv.proofs.next.set_next.Goals as goal
 

@@ -1,6 +1,4 @@
-use Rattle.std.proofs.Common.{◌≡◌, ◌++◌, ℕ, List, ap, arith, drop, length, take, ◌∙◌}
-use Rattle.std.proofs.Math.Seq.{take-append_seam}
-use Rattle.mig_base.specs.InputLists.{Lists}
+use Rattle.mig_base.proofs.Common.{◌≡◌, ◌++◌, ℕ, List, ap, arith, drop, length, take, ◌∙◌, take-append_seam, Lists}
 use Rattle.mig_csv.proofs.Needs.{incoming-le, left_over-next, present-le}
 use Rattle.mig_csv.proofs.room.count_needs.Goals as goal
 

@@ -1,5 +1,4 @@
-use Rattle.std.proofs.Common.{◌≡◌, suc, ◌+◌, sym, ◌∙◌, ap, arith}
-use Rattle.mig_base.specs.Journals.{is_marked}
+use Rattle.mig_base.proofs.Common.{◌≡◌, suc, ◌+◌, sym, ◌∙◌, ap, arith, is_marked}
 use Rattle.mig_base.proofs.MarkCounts.{count_is}
 use Rattle.mig_store.specs.Memories.{state_of}
 use Rattle.mig_drill.proofs.stops.count_rounds.Goals as goal

@@ -1,5 +1,4 @@
-use Rattle.std.proofs.Common.{◌≡◌, ◌≤◌, ℕ, true}
-use Rattle.mig_base.specs.Journals.{is_armed, is_marked}
+use Rattle.mig_base.proofs.Common.{◌≡◌, ◌≤◌, ℕ, true, is_armed, is_marked}
 use Rattle.mig_store.specs.Memories.{state_of}
 use Rattle.mig_drill.proofs.stops.count_rounds.Given as goal
 

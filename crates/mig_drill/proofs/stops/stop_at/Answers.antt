@@ -1,5 +1,4 @@
-use Rattle.std.proofs.Common.{List, sym, ◌∙◌, ap, subst, arith}
-use Rattle.mig_base.specs.Stores.{flights}
+use Rattle.mig_base.proofs.Common.{List, sym, ◌∙◌, ap, subst, arith, flights}
 use Rattle.mig_base.proofs.MarkCounts.{count_most}
 use Rattle.mig_base.proofs.StoreSteps.{same_none}
 use Rattle.mig_store.specs.Calls.{Call}

@@ -1,10 +1,5 @@
-use Rattle.std.proofs.Common.{◌≡◌, [], suc, ◌<◌, List, length, get_or, ◌∙◌, ap, subst, arith}
-use Rattle.std.proofs.lemmas.List.{get_or_default}
-use Rattle.std.proofs.lemmas.List.Elements.{Contains-get_or}
-use Rattle.std.specs.List.{Contains}
+use Rattle.mig_base.proofs.Common.{◌≡◌, [], suc, ◌<◌, List, length, get_or, ◌∙◌, ap, subst, arith, get_or_default, Contains-get_or, Contains, Lists, round_at}
 use Rattle.mig_base.specs.declared.ids.Shift.{Shift}
-use Rattle.mig_base.specs.InputLists.{Lists}
-use Rattle.mig_base.specs.Layouts.{round_at}
 use Rattle.mig_drill.proofs.ItemLists.{shifted_item}
 use Rattle.mig_drill.proofs.stores.put_items.Goals as goal
 

@@ -1,5 +1,4 @@
-use Rattle.std.proofs.Common.{◌≡◌, []}
-use Rattle.mig_base.specs.Stores.{flights}
+use Rattle.mig_base.proofs.Common.{◌≡◌, [], flights}
 use Rattle.mig_store.specs.Memories.{state_of}
 use Rattle.mig_drill.proofs.stores.put_items.Given as goal
 

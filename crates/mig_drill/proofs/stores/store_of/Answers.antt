@@ -1,6 +1,5 @@
-use Rattle.std.proofs.Common.{List, sym, subst}
+use Rattle.mig_base.proofs.Common.{List, sym, subst, AreDifferent}
 use Rattle.mig_base.specs.declared.cells.Cell.{Cell}
-use Rattle.mig_base.specs.InputLists.{AreDifferent}
 use Rattle.mig_store.proofs.CellTables.{different_cells}
 use Rattle.mig_drill.proofs.stores.store_of.Goals as goal
 

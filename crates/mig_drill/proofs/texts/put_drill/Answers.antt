@@ -1,6 +1,4 @@
-use Rattle.std.proofs.Common.{◌*◌, ◌++◌, ◌∷◌, [], List, ℕ, length, sym, subst}
-use Rattle.std.specs.Prelude.{codes}
-use Rattle.mig_base.specs.Texts.{text_of_lines}
+use Rattle.mig_base.proofs.Common.{◌*◌, ◌++◌, ◌∷◌, [], List, ℕ, length, sym, subst, codes, text_of_lines}
 use Rattle.mig_drill.specs.Drills.{count_line, stop_lines}
 use Rattle.mig_words.specs.Puts.{Puts}
 use Rattle.mig_drill.proofs.LineTexts.{three_parts}

@@ -1,7 +1,4 @@
-use Rattle.std.proofs.Common.{◌≡◌, ◌+◌, ◌++◌, ◌∷◌, [], List, ℕ, length, map, sym, ◌∙◌, ap, subst, Ok, Err, arith}
-use Rattle.std.specs.List.{range_with_len}
-use Rattle.std.proofs.lemmas.List.{take_all}
-use Rattle.std.proofs.lemmas.List.FromFn.{length-range_with_len}
+use Rattle.mig_base.proofs.Common.{◌≡◌, ◌+◌, ◌++◌, ◌∷◌, [], List, ℕ, length, map, sym, ◌∙◌, ap, subst, Ok, Err, arith, range_with_len, take_all, length-range_with_len}
 use Rattle.mig_drill.specs.declared.writes.Write.TheVariants.{ClearMark}
 use Rattle.mig_drill.specs.Drills.{stop_line}
 use Rattle.mig_words.specs.Outcomes.{joined}

@@ -1,5 +1,4 @@
-use Rattle.std.proofs.Common.{◌≡◌, ◌≤◌, ◌++◌, ◌∷◌, [], take, length, map, Ok}
-use Rattle.std.specs.List.{range_with_len}
+use Rattle.mig_base.proofs.Common.{◌≡◌, ◌≤◌, ◌++◌, ◌∷◌, [], take, length, map, Ok, range_with_len}
 use Rattle.mig_drill.specs.Drills.{stop_line}
 use Rattle.mig_words.specs.Outcomes.{joined}
 use Rattle.mig_words.specs.Puts.{Puts}

@@ -1,5 +1,4 @@
-use Rattle.std.proofs.Common.{◌≡◌, ◌++◌, ◌∷◌, List, length, replicate, take}
-use Rattle.std.specs.List.{flat_map}
+use Rattle.mig_base.proofs.Common.{◌≡◌, ◌++◌, ◌∷◌, List, length, replicate, take, flat_map}
 use Rattle.mig_base.specs.declared.ids.Shift.{Shift}
 use Rattle.mig_drill.specs.declared.writes.Write.TheVariants.{ClearMark, Head, Gate}
 use Rattle.mig_drill.specs.Writes.{round_writes}

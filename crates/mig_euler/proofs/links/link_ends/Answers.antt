@@ -1,5 +1,4 @@
-use Rattle.std.proofs.Common.{arith, ◌≡◌, ◌<◌, ◌+◌, ◌-◌, ◌∙◌, sym, subst, ℕ, length, List, refl, set, get_or}
-use Rattle.std.proofs.lemmas.List.{length-set}
+use Rattle.mig_base.proofs.Common.{arith, ◌≡◌, ◌<◌, ◌+◌, ◌-◌, ◌∙◌, sym, subst, ℕ, length, List, refl, set, get_or, length-set}
 use Rattle.mig_base.specs.declared.ids.DiskId.{DiskId}
 use Rattle.mig_euler.specs.Balance.{AllInRange}
 use Rattle.mig_euler.specs.Pairs.{pair_at}

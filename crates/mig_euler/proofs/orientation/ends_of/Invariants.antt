@@ -1,5 +1,4 @@
-use Rattle.std.proofs.Common.{◌≡◌, ◌<◌, ℕ, length}
-use Rattle.mig_base.specs.Directions.{trip_at}
+use Rattle.mig_base.proofs.Common.{◌≡◌, ◌<◌, ℕ, length, trip_at}
 use Rattle.mig_euler.specs.Pairs.{pair_trip, pair_at}
 use Rattle.mig_euler.proofs.orientation.ends_of.Given as goal
 

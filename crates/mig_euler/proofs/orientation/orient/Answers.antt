@@ -1,7 +1,5 @@
-use Rattle.std.proofs.Common.{◌≡◌, ◌∙◌, sym, subst, length, map, List, Bool, Vec, Global}
-use Rattle.std.proofs.lemmas.Result.{IfOk-weaker}
+use Rattle.mig_base.proofs.Common.{◌≡◌, ◌∙◌, sym, subst, length, map, List, Bool, Vec, Global, IfOk-weaker, Balances}
 use Rattle.mig_base.specs.declared.ids.DiskId.{DiskId}
-use Rattle.mig_base.specs.Directions.{Balances}
 use Rattle.mig_euler.specs.Balance.{AllInRange}
 use Rattle.mig_euler.specs.Pairs.{ArePairs, pair_trip}
 use Rattle.mig_euler.proofs.Graphs.{balanced, in_range, no_loop}

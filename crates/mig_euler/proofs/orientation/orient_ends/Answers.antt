@@ -1,12 +1,10 @@
-use Rattle.std.proofs.Common.{◌≡◌, arith, length, sym, subst, ◌∙◌, rules, replicate, None, List, Option, Bool, ℕ, refl, ap, Vec, Global, map}
-use Rattle.mig_base.specs.Directions.{Balances}
+use Rattle.mig_base.proofs.Common.{◌≡◌, arith, length, sym, subst, ◌∙◌, rules, replicate, None, List, Option, Bool, ℕ, refl, ap, Vec, Global, map, Balances, IfOk-weaker}
 use Rattle.mig_euler.specs.Balance.{AllInRange}
 use Rattle.mig_euler.specs.Pairs.{pair_trip}
 use Rattle.mig_euler.specs.Trails.{points_forward}
 use Rattle.mig_euler.specs.Ready.{IsReady}
 use Rattle.mig_euler.proofs.OrientLaws.{ready_first, settled_balances}
 use Rattle.mig_euler.proofs.LinkLaws.{passed_first}
-use Rattle.std.proofs.lemmas.Result.{IfOk-weaker}
 use Rattle.std.proofs.lemmas.List.{take_at}
 use Rattle.mig_euler.proofs.orientation.orient_ends.Goals as goal
 

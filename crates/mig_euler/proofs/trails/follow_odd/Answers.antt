@@ -1,4 +1,4 @@
-use Rattle.std.proofs.Common.{◌≡◌, ◌%◌, ◌<◌, ◌+◌, ℕ, subst, sym, arith, length, List, Option, Bool, inl, ◌∙◌}
+use Rattle.mig_base.proofs.Common.{◌≡◌, ◌%◌, ◌<◌, ◌+◌, ℕ, subst, sym, arith, length, List, Option, Bool, inl, ◌∙◌}
 use Rattle.mig_base.specs.declared.ids.DiskId.{DiskId}
 use Rattle.mig_euler.specs.Trails.{total, waits}
 use Rattle.mig_euler.specs.Ready.{IsReady}

@@ -1,4 +1,4 @@
-use Rattle.std.proofs.Common.{◌≡◌, ◌%◌, ◌<◌, length}
+use Rattle.mig_base.proofs.Common.{◌≡◌, ◌%◌, ◌<◌, length}
 use Rattle.mig_base.specs.declared.ids.DiskId.{DiskId}
 use Rattle.mig_euler.specs.Trails.{total, waits}
 use Rattle.mig_euler.specs.Ready.{IsReady}

@@ -1,5 +1,4 @@
-use Rattle.std.proofs.Common.{◌≡◌, ◌%◌, ◌+◌, subst, sym, take, Bool, arith, ℕ}
-use Rattle.std.specs.Prelude.{MatchBool}
+use Rattle.mig_base.proofs.Common.{◌≡◌, ◌%◌, ◌+◌, subst, sym, take, Bool, arith, ℕ, MatchBool}
 use Rattle.mig_euler.specs.Trails.{total, waits}
 use Rattle.mig_euler.proofs.Odd.{odd_yes, odd_no}
 use Rattle.mig_euler.proofs.LinkLaws.{total-next, total-passed}

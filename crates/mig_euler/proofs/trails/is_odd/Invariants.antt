@@ -1,5 +1,4 @@
-use Rattle.std.proofs.Common.{◌≡◌, ◌%◌, ◌≤◌, ◌-◌, take, length}
-use Rattle.std.specs.Prelude.{MatchBool}
+use Rattle.mig_base.proofs.Common.{◌≡◌, ◌%◌, ◌≤◌, ◌-◌, take, length, MatchBool}
 use Rattle.mig_euler.specs.Trails.{total, waits}
 use Rattle.mig_euler.proofs.trails.is_odd.Given as goal
 

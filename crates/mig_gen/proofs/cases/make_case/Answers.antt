@@ -1,6 +1,4 @@
-use Rattle.std.proofs.Common.{◌∙◌, subst, sym}
-use Rattle.mig_base.specs.InputLists.{IsInput}
-use Rattle.mig_base.specs.Targets.{IsRoomy}
+use Rattle.mig_base.proofs.Common.{◌∙◌, subst, sym, IsInput, IsRoomy}
 use Rattle.mig_gen.proofs.MadeInput.{is_input, made_is}
 use Rattle.mig_gen.proofs.MadeRoom.{has_room}
 use Rattle.mig_gen.proofs.cases.make_case.Goals as goal

@@ -1,6 +1,4 @@
-use Rattle.std.proofs.Common.{arith, subst}
-use Rattle.std.proofs.lemmas.Grind.{common_steps}
-use Rattle.mig_base.specs.Naming.{IsName}
+use Rattle.mig_base.proofs.Common.{arith, subst, common_steps, IsName}
 use Rattle.mig_gen.proofs.MadeNames.{numbered_is_name}
 use Rattle.mig_gen.proofs.lists.numbered.Goals as goal
 

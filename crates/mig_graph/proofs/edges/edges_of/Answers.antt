@@ -1,9 +1,6 @@
-use Rattle.std.proofs.Common.{arith, ◌≡◌, ◌≢◌, ◌∙◌, sym, subst, ap, List, map, get_or, ℕ, ◌++◌, ◌∷◌, [], filter, Vec, Global}
-use Rattle.mig_base.specs.declared.ids.Spot.{Spot}
+use Rattle.mig_base.proofs.Common.{◌≡◌, ◌∙◌, sym, ap, List, map, get_or, ℕ, ◌++◌, ◌∷◌, [], Vec, Global, Trip, source, target, trip, no_spot}
 use Rattle.mig_base.specs.declared.ids.DiskId.{DiskId}
-use Rattle.mig_base.specs.Transfers.{Trip}
-use Rattle.mig_base.specs.Transfers.{source, target, trip}
-use Rattle.mig_base.specs.InputLists.{no_spot}
+use Rattle.mig_base.specs.declared.ids.Spot.{Spot}
 use Rattle.mig_graph.specs.declared.edges.Edge.{Edge}
 use Rattle.mig_graph.specs.Edges.{edge_item, edge_trip}
 use Rattle.mig_graph.proofs.Made.{items_yes, trips_yes, moves_no, differs, same}

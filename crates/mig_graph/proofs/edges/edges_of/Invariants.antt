@@ -1,6 +1,4 @@
-use Rattle.std.proofs.Common.{◌≡◌, map, filter}
-use Rattle.std.specs.List.{range_with_len}
-use Rattle.mig_base.specs.Transfers.{is_relocated, trip}
+use Rattle.mig_base.proofs.Common.{◌≡◌, map, filter, range_with_len, is_relocated, trip}
 use Rattle.mig_graph.specs.Edges.{edge_item, edge_trip}
 use Rattle.mig_graph.proofs.edges.edges_of.Given as goal
 

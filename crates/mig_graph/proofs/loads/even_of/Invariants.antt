@@ -1,5 +1,4 @@
-use Rattle.std.proofs.Common.{◌≡◌, ◌≢◌, ◌<◌, ◌%◌, ℕ, get_or}
-use Rattle.mig_base.specs.InputLists.{no_disk}
+use Rattle.mig_base.proofs.Common.{◌≡◌, ◌≢◌, ◌<◌, ◌%◌, ℕ, get_or, no_disk}
 use Rattle.mig_graph.proofs.loads.even_of.Given as goal
 
 abbrev pub invariant-loop-disk : goal.invariant-loop-disk

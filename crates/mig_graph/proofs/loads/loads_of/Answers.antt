@@ -1,5 +1,4 @@
-use Rattle.std.proofs.Common.{arith, ◌≡◌, ◌∙◌, sym, ap, ◌<◌, get_or, set, ℕ, ◌+◌, ◌≢◌}
-use Rattle.std.proofs.lemmas.List.{get_or_default, length-set}
+use Rattle.mig_base.proofs.Common.{arith, ◌≡◌, ◌∙◌, sym, ap, ◌<◌, get_or, set, ℕ, ◌+◌, ◌≢◌, get_or_default, length-set}
 use Rattle.mig_graph.specs.declared.edges.Edge.{Edge}
 use Rattle.mig_graph.proofs.Made.{AreLoads-more, load_small, after_small}
 use Rattle.mig_graph.proofs.loads.loads_of.Goals as goal

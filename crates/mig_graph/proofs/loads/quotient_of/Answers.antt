@@ -1,8 +1,5 @@
-use Rattle.std.proofs.Common.{arith, ◌≡◌, ◌∙◌, get_or, ap}
-use Rattle.std.proofs.lemmas.List.{get_or_default}
+use Rattle.mig_base.proofs.Common.{arith, ◌≡◌, ◌∙◌, get_or, ap, get_or_default, div_ceil, no_disk}
 use Rattle.mig_base.specs.declared.inputs.Disk.{Disk}
-use Rattle.mig_base.specs.Transfers.{div_ceil}
-use Rattle.mig_base.specs.InputLists.{no_disk}
 use Rattle.mig_graph.proofs.Made.{quotient_more}
 use Rattle.mig_graph.proofs.loads.quotient_of.Goals as goal
 use Rattle.mig_graph.proofs.loads.quotient_of.Goals.{then-greatest-value, else-greatest-value}

@@ -1,4 +1,3 @@
-use Rattle.mig_base.specs.Stores.{State}
 use Rattle.mig_journal.proofs.ArmingLaws.{unmarked_kept, clear_change, clear_leaves, name_change, name_leaves, gate_change, gate_leaves}
 use Rattle.mig_journal.proofs.arming.arm.Goals as goal
 

@@ -1,10 +1,6 @@
-use Rattle.std.proofs.Common.{◌≡◌, ◌<◌, ◌≤◌, ◌+◌, ℕ, List, [], ◌∷◌, Option, ◌⊎◌, inl, inr, IfSome, sym, subst, arith}
-use Rattle.std.proofs.lemmas.Bool.{cases_eq}
+use Rattle.mig_base.proofs.Common.{◌≡◌, ◌<◌, ◌≤◌, ◌+◌, ℕ, List, [], ◌∷◌, Option, ◌⊎◌, inl, inr, IfSome, sym, subst, arith, cases_eq, Image, SameBut, IsMark, flights}
 use Rattle.mig_base.specs.declared.cells.Cell.{Cell}
 use Rattle.mig_base.specs.declared.cells.Cell.TheVariants.{Mark}
-use Rattle.mig_base.specs.Images.{Image, SameBut}
-use Rattle.mig_base.specs.JobCells.{IsMark}
-use Rattle.mig_base.specs.Stores.{State, flights}
 use Rattle.mig_base.proofs.Landing.{no_target, no_source}
 use Rattle.mig_journal.specs.FreshJournals.{AreUnmarked}
 use Rattle.mig_journal.proofs.Steps.{still_none, then_step}

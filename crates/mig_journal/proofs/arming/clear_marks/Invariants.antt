@@ -1,6 +1,4 @@
-use Rattle.std.proofs.Common.{◌≤◌}
-use Rattle.mig_base.specs.JobCells.{IsMark}
-use Rattle.mig_base.specs.Stores.{State, ChangesOnly}
+use Rattle.mig_base.proofs.Common.{◌≤◌, IsMark, ChangesOnly}
 use Rattle.mig_journal.specs.FreshJournals.{AreUnmarked}
 use Rattle.mig_journal.proofs.arming.clear_marks.Given as goal
 

@@ -1,4 +1,3 @@
-use Rattle.mig_base.specs.Stores.{State}
 use Rattle.mig_journal.proofs.Steps.{looks_then}
 use Rattle.mig_journal.proofs.looking.look.Goals as goal
 

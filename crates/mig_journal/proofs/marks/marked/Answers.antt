@@ -1,6 +1,4 @@
-use Rattle.std.proofs.Common.{◌≡◌, ◌≤◌, ◌+◌, ℕ, true, false, arith}
-use Rattle.mig_base.specs.Images.{Image, NoCell}
-use Rattle.mig_base.specs.Stores.{State, flights}
+use Rattle.mig_base.proofs.Common.{true, false, arith, NoCell}
 use Rattle.mig_journal.proofs.MarksRead.{one_more, stops, all_set}
 use Rattle.mig_journal.proofs.Steps.{then_quiet, quiet_same}
 use Rattle.mig_journal.proofs.marks.marked.Goals as goal

@@ -1,8 +1,4 @@
-use Rattle.std.proofs.Common.{◌≡◌, ◌≤◌, ◌+◌, ℕ, true}
-use Rattle.mig_base.specs.JobCells.{IsMark, Tells}
-use Rattle.mig_base.specs.Journals.{is_marked}
-use Rattle.mig_base.specs.Images.{NoCell}
-use Rattle.mig_base.specs.Stores.{State, ChangesOnly}
+use Rattle.mig_base.proofs.Common.{◌≡◌, ◌≤◌, ℕ, true, IsMark, Tells, is_marked, NoCell, ChangesOnly}
 use Rattle.mig_journal.proofs.marks.marked.Given as goal
 
 abbrev pub invariant-loop-n : goal.invariant-loop-n

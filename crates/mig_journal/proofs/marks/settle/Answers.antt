@@ -1,6 +1,4 @@
-use Rattle.std.proofs.Common.{◌≡◌, [], IfSome, subst}
-use Rattle.mig_base.specs.Images.{Image}
-use Rattle.mig_base.specs.Stores.{State, flights, Changes}
+use Rattle.mig_base.proofs.Common.{◌≡◌, IfSome, subst, Image}
 use Rattle.mig_journal.proofs.Steps.{on_ok_is, then_sync, still_none, sync_same}
 use Rattle.mig_journal.proofs.marks.settle.Goals as goal
 

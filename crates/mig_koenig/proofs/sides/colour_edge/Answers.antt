@@ -1,5 +1,4 @@
-use Rattle.std.proofs.Common.{inl, inr, sym, subst}
-use Rattle.std.proofs.lemmas.Option.{slice_get_within}
+use Rattle.mig_base.proofs.Common.{inl, inr, sym, subst, slice_get_within}
 use Rattle.mig_board.specs.Colouring.{Colouring}
 use Rattle.mig_board.specs.Growth.{PaintsOne}
 use Rattle.mig_board.proofs.Laws.{not_full, both_free, PaintsOne-painted, PaintsOne-exchanged, exchanges_plain}

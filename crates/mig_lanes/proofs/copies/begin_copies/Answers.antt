@@ -1,14 +1,5 @@
-use Rattle.std.proofs.Common.{◌≡◌, ◌≢◌, ◌∷◌, [], ℕ, length, take, sym, ◌∙◌, ap, subst, arith, IsTrue, List}
-use Rattle.std.proofs.lemmas.List.{length-map, take_all}
-use Rattle.mig_base.specs.declared.cells.Flight.{Flight}
-use Rattle.mig_base.specs.declared.ids.Shift.{Shift}
-use Rattle.mig_base.specs.Cells.{is_slot}
-use Rattle.mig_base.specs.Images.{IsCopy}
-use Rattle.mig_base.specs.Flights.{began, IsTargetOf, IsSourceOf}
-use Rattle.mig_base.specs.Layouts.{round_at}
-use Rattle.mig_base.specs.RoundEvents.{flight_of}
-use Rattle.mig_base.specs.Stores.{State, flights, Changes}
-use Rattle.mig_lanes.specs.LaneSteps.{copies_of}
+use Rattle.mig_base.proofs.Common.{◌≡◌, ◌≢◌, ◌∷◌, [], take, sym, subst, arith, IsTrue, length-map, is_slot, IsCopy, began, IsTargetOf, IsSourceOf, round_at, flight_of, flights, Changes}
+use Rattle.mig_lanes.proofs.Common.{Flight, copies_of}
 use Rattle.mig_lanes.proofs.Beginning.{cells_apart, from_still, not_target, not_source, landed_more, change_more, change_failed}
 use Rattle.mig_lanes.proofs.RoundCopies.{are_flights, copy_within, copy_here}
 use Rattle.mig_lanes.proofs.copies.begin_copies.Goals as goal

@@ -1,8 +1,4 @@
-use Rattle.std.proofs.Common.{◌≤◌, take, map}
-use Rattle.std.specs.List.{AllWithin}
-use Rattle.mig_base.specs.Images.{IsCopy}
-use Rattle.mig_base.specs.Flights.{began, IsTargetOf}
-use Rattle.mig_base.specs.Stores.{State, flights, Changes}
+use Rattle.mig_base.proofs.Common.{◌≤◌, take, map, AllWithin, IsCopy, began, IsTargetOf, flights, Changes}
 use Rattle.mig_lanes.specs.LaneSteps.{copies_of}
 use Rattle.mig_lanes.proofs.copies.begin_copies.Given as goal
 

@@ -1,5 +1,5 @@
 use Rattle.std.proofs.Common.{◌++◌, arith}
-use Rattle.mig_base.specs.Stores.{State, Ends, named}
+use Rattle.mig_base.specs.Stores.{named}
 use Rattle.mig_base.proofs.Landing.{ends_then}
 use Rattle.mig_lanes.proofs.copies.end_copies.Goals as goal
 

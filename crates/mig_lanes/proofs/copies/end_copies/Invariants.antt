@@ -1,6 +1,5 @@
-use Rattle.std.proofs.Common.{◌≤◌, List}
+use Rattle.mig_base.proofs.Common.{◌≤◌, List, Ends}
 use Rattle.mig_base.specs.declared.cells.Flight.{Flight}
-use Rattle.mig_base.specs.Stores.{State, Ends}
 use Rattle.mig_lanes.proofs.copies.end_copies.Given as goal
 
 abbrev pub invariant-loop : goal.invariant-loop

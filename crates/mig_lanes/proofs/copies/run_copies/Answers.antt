@@ -1,8 +1,4 @@
-use Rattle.std.proofs.Common.{◌≡◌, ◌++◌, ℕ, List, map, take, arith}
-use Rattle.std.proofs.lemmas.Result.{on_ok_weaker}
-use Rattle.mig_base.specs.declared.cells.Flight.{Flight}
-use Rattle.mig_base.specs.Flights.{began, ended, AreFlights, IsTargetOf}
-use Rattle.mig_base.specs.Stores.{State, Ends, flights, Changes}
+use Rattle.mig_base.proofs.Common.{◌++◌, map, take, on_ok_weaker, began, ended, rules}
 use Rattle.mig_base.proofs.Landing.{ends_then}
 use Rattle.mig_lanes.specs.LaneSteps.{copies_of}
 use Rattle.mig_lanes.proofs.RoundCopies.{are_flights}
@@ -36,8 +32,8 @@ returns-in_err-end_copies-clause-change g c =
       ended_change cs are (g.S.Store.state c.args.store.now) (g.S.Store.state c.begin_copies.new.store) c.requires.none c.in_ok-begin_copies.ensures.begun these (g.S.Store.state c.end_copies.new.store) c.end_copies.ensures.ends.1,
     )
 
-pub returns-clause-copied : goal.returns-clause-copied
-returns-clause-copied g c =
+pub returns : goal.returns
+returns g c =
     let cs = copies_of c.args.job.now c.args.round in
     let are = are_flights c.args.job.now c.round_len.ensures.valid c.args.round c.requires.from c.requires.to in
     let first = g.S.Store.state c.args.store.now in
@@ -47,52 +43,14 @@ returns-clause-copied g c =
     let these = c.end_copies.ensures.ends.0 ++ c.settle_copies.ensures.ends.0 in
     let begun = c.in_ok-begin_copies.ensures.begun in
     let ends = ends_then c.end_copies.ensures.ends.0 c.settle_copies.ensures.ends.0 mid late new (mid_are cs are first mid c.requires.none begun) c.end_copies.ensures.ends.1 c.settle_copies.ensures.ends.1 in
-    on_ok_weaker c.settle_copies.result (λ landed. all_copied cs are first mid c.requires.none begun these new ends c.in_ok-begin_copies.ensures.landed landed) c.settle_copies.ensures.landed
-
-pub returns-clause-round : goal.returns-clause-round
-returns-clause-round g c =
-    let cs = copies_of c.args.job.now c.args.round in
-    let are = are_flights c.args.job.now c.round_len.ensures.valid c.args.round c.requires.from c.requires.to in
-    let first = g.S.Store.state c.args.store.now in
-    let mid = g.S.Store.state c.begin_copies.new.store in
-    let late = g.S.Store.state c.end_copies.new.store in
-    let new = g.S.Store.state c.settle_copies.new.store in
-    let these = c.end_copies.ensures.ends.0 ++ c.settle_copies.ensures.ends.0 in
-    let begun = c.in_ok-begin_copies.ensures.begun in
-    let ends = ends_then c.end_copies.ensures.ends.0 c.settle_copies.ensures.ends.0 mid late new (mid_are cs are first mid c.requires.none begun) c.end_copies.ensures.ends.1 c.settle_copies.ensures.ends.1 in
-    on_ok_weaker c.settle_copies.result (λ landed told. (
-      map began cs ++ map ended these,
-      whole_round cs are first mid c.requires.none begun these new ends landed told,
-      ended_change cs are first mid c.requires.none begun these new ends,
-    )) c.settle_copies.ensures.landed
-
-pub returns-clause-part : goal.returns-clause-part
-returns-clause-part g c = λ told.
-    let cs = copies_of c.args.job.now c.args.round in
-    let are = are_flights c.args.job.now c.round_len.ensures.valid c.args.round c.requires.from c.requires.to in
-    let first = g.S.Store.state c.args.store.now in
-    let mid = g.S.Store.state c.begin_copies.new.store in
-    let late = g.S.Store.state c.end_copies.new.store in
-    let new = g.S.Store.state c.settle_copies.new.store in
-    let these = c.end_copies.ensures.ends.0 ++ c.settle_copies.ensures.ends.0 in
-    let begun = c.in_ok-begin_copies.ensures.begun in
-    let ends = ends_then c.end_copies.ensures.ends.0 c.settle_copies.ensures.ends.0 mid late new (mid_are cs are first mid c.requires.none begun) c.end_copies.ensures.ends.1 c.settle_copies.ensures.ends.1 in (
-      map began cs ++ map ended these,
-      part_ended cs are first mid c.requires.none begun these new ends told,
-      ended_change cs are first mid c.requires.none begun these new ends,
-    )
-
-pub returns-clause-change : goal.returns-clause-change
-returns-clause-change g c =
-    let cs = copies_of c.args.job.now c.args.round in
-    let are = are_flights c.args.job.now c.round_len.ensures.valid c.args.round c.requires.from c.requires.to in
-    let first = g.S.Store.state c.args.store.now in
-    let mid = g.S.Store.state c.begin_copies.new.store in
-    let late = g.S.Store.state c.end_copies.new.store in
-    let new = g.S.Store.state c.settle_copies.new.store in
-    let these = c.end_copies.ensures.ends.0 ++ c.settle_copies.ensures.ends.0 in
-    let begun = c.in_ok-begin_copies.ensures.begun in
-    let ends = ends_then c.end_copies.ensures.ends.0 c.settle_copies.ensures.ends.0 mid late new (mid_are cs are first mid c.requires.none begun) c.end_copies.ensures.ends.1 c.settle_copies.ensures.ends.1 in (
-      map began cs ++ map ended these,
-      ended_change cs are first mid c.requires.none begun these new ends,
-    )
+    let added = map began cs ++ map ended these in
+    let change = ended_change cs are first mid c.requires.none begun these new ends in
+    record {
+      copied = on_ok_weaker c.settle_copies.result (λ landed. all_copied cs are first mid c.requires.none begun these new ends c.in_ok-begin_copies.ensures.landed landed) c.settle_copies.ensures.landed;
+      settled = c.settle_copies.ensures.settled;
+      landed = c.settle_copies.ensures.landed;
+      round = on_ok_weaker c.settle_copies.result (λ landed told. (added, whole_round cs are first mid c.requires.none begun these new ends landed told, change)) c.settle_copies.ensures.landed;
+      part = λ told. (added, part_ended cs are first mid c.requires.none begun these new ends told, change);
+      change = (added, change);
+      cause = search rules;
+    }

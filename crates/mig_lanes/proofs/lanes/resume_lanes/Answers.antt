@@ -1,11 +1,9 @@
-use Rattle.std.proofs.Common.{◌≡◌, [], ◌≤◌, ℕ, length, false, Ok, Err, refl, ◌∙◌, ap, arith}
-use Rattle.std.proofs.lemmas.Result.{err_from_is_err_and}
+use Rattle.mig_base.proofs.Common.{◌≡◌, length, false, Ok, Err, refl, ◌∙◌, ap, arith, err_from_is_err_and, count_of, rules}
 use Rattle.mig_base.specs.declared.cells.Cell.TheVariants.{Head}
-use Rattle.mig_base.specs.Journals.{count_of}
-use Rattle.mig_base.specs.Stores.{State, flights}
 use Rattle.mig_base.proofs.MarkCounts.{count_most}
+use Rattle.mig_mover.proofs.Settling.{armed_told}
 use Rattle.mig_lanes.proofs.Answering.{if_some_is, no_resume_fault, other_of, start_of_resume, unrefused_of, no_fault}
-use Rattle.mig_lanes.proofs.RunLaws.{armed_told, run_keeps, run_armed, run_halting, run_finishes, still_reached, enter_part, run_part, run_events}
+use Rattle.mig_lanes.proofs.RunLaws.{run_keeps, run_armed, run_halting, run_finishes, still_reached, enter_part, run_part, run_events}
 use Rattle.mig_lanes.proofs.lanes.resume_lanes.Goals as goal
 
 pub returns-in_err-k-clause-part : goal.returns-in_err-k-clause-part
@@ -30,43 +28,9 @@ returns-in_err-carry_on-clause-part g c = (
   run_part c.args.job.now c.keeps_rules.ensures c.in_ok-k.k c.in_ok-k.ensures.enters.most (g.S.Store.state c.args.store.now) (g.S.Store.state c.enter_resume.new.store) (g.S.Store.state c.carry_on.new.store) c.in_ok-k.ensures.ended c.carry_on.ensures.part,
 )
 
-pub returns-clause-keeps : goal.returns-clause-keeps
-returns-clause-keeps g c = run_keeps c.args.job.now c.keeps_rules.ensures (g.S.Store.state c.args.store.now) (g.S.Store.state c.enter_resume.new.store) (g.S.Store.state c.carry_on.new.store) c.enter_resume.ensures.keeps c.in_ok-k.k c.in_ok-k.ensures.enters
-    c.carry_on.ensures.any_moment c.carry_on.ensures.change c.carry_on.ensures.cause.later
-
-pub returns-clause-finishes : goal.returns-clause-finishes
-returns-clause-finishes g c = run_finishes c.args.job.now c.keeps_rules.ensures (g.S.Store.state c.args.store.now) (g.S.Store.state c.enter_resume.new.store) (g.S.Store.state c.carry_on.new.store) c.enter_resume.ensures.keeps c.in_ok-k.k c.in_ok-k.ensures.enters
-    c.in_ok-carry_on.ensures.done c.in_ok-carry_on.ensures.settled c.in_ok-carry_on.ensures.landed
-
-pub returns-clause-events : goal.returns-clause-events
-returns-clause-events g c = run_events c.args.job.now c.keeps_rules.ensures c.in_ok-k.k c.in_ok-k.ensures.enters.most (g.S.Store.state c.args.store.now) (g.S.Store.state c.enter_resume.new.store) (g.S.Store.state c.carry_on.new.store) c.in_ok-k.ensures.ended c.in_ok-carry_on.ensures.rounds
-
-pub returns-clause-part : goal.returns-clause-part
-returns-clause-part g c = (
-  c.in_ok-k.k,
-  c.in_ok-k.ensures.enters.most,
-  c.in_ok-k.ensures.enters.found,
-  run_part c.args.job.now c.keeps_rules.ensures c.in_ok-k.k c.in_ok-k.ensures.enters.most (g.S.Store.state c.args.store.now) (g.S.Store.state c.enter_resume.new.store) (g.S.Store.state c.carry_on.new.store) c.in_ok-k.ensures.ended c.carry_on.ensures.part,
-)
-
 pub returns-in_err-carry_on-clause-armed : goal.returns-in_err-carry_on-clause-armed
 returns-in_err-carry_on-clause-armed g c = run_armed c.args.job.now c.keeps_rules.ensures (g.S.Store.state c.args.store.now) (g.S.Store.state c.enter_resume.new.store) (g.S.Store.state c.carry_on.new.store) c.enter_resume.ensures.keeps c.in_ok-k.k c.in_ok-k.ensures.enters
     c.carry_on.ensures.any_moment c.carry_on.ensures.change c.carry_on.ensures.cause.later c.enter_resume.ensures.armed
-
-pub returns-clause-armed : goal.returns-clause-armed
-returns-clause-armed g c = run_armed c.args.job.now c.keeps_rules.ensures (g.S.Store.state c.args.store.now) (g.S.Store.state c.enter_resume.new.store) (g.S.Store.state c.carry_on.new.store) c.enter_resume.ensures.keeps c.in_ok-k.k c.in_ok-k.ensures.enters
-    c.carry_on.ensures.any_moment c.carry_on.ensures.change c.carry_on.ensures.cause.later c.enter_resume.ensures.armed
-
-pub returns-in_err-k-clause-resumed : goal.returns-in_err-k-clause-resumed
-returns-in_err-k-clause-resumed g c = λ are armed head calm. absurd (no_resume_fault c.args.job.now (g.S.Store.state c.args.store.now) (g.S.Store.state c.enter_resume.new.store) are armed calm c.args.job.now.digest head refl c.in_err-k.field-0.0 c.in_err-k.ensures.kind c.in_err-k.ensures.fault)
-
-pub returns-in_err-k-clause-other : goal.returns-in_err-k-clause-other
-returns-in_err-k-clause-other g c = λ are armed kept head theirs calm.
-    let p = err_from_is_err_and c.from_residual.result c.from_residual.ensures.1 in
-    p.1 ∙ ap Err (p.2 ∙ other_of c.args.job.now (g.S.Store.state c.args.store.now) (g.S.Store.state c.enter_resume.new.store) are armed calm kept head theirs c.in_err-k.field-0.0 c.in_err-k.ensures.fault (start_of_resume c.in_err-k.field-0.0 c.in_err-k.ensures.kind))
-
-pub returns-in_err-k-clause-reached : goal.returns-in_err-k-clause-reached
-returns-in_err-k-clause-reached g c = λ contents tells are reached calm. absurd (no_resume_fault c.args.job.now (g.S.Store.state c.args.store.now) (g.S.Store.state c.enter_resume.new.store) are reached.arrived.armed calm c.args.job.now.digest (reached.arrived.safe.head reached.arrived.armed) refl c.in_err-k.field-0.0 c.in_err-k.ensures.kind c.in_err-k.ensures.fault)
 
 pub returns-in_err-carry_on-clause-resumed : goal.returns-in_err-carry_on-clause-resumed
 returns-in_err-carry_on-clause-resumed g c = λ are armed head calm. absurd (calm (omega (arith, c.enter_resume.ensures.keeps.later, c.in_err-carry_on.ensures.cause.failed)))
@@ -81,22 +45,53 @@ pub returns-in_err-carry_on-clause-halting : goal.returns-in_err-carry_on-clause
 returns-in_err-carry_on-clause-halting g c = λ contents n tells may. run_halting c.args.job.now c.keeps_rules.ensures (g.S.Store.state c.args.store.now) (g.S.Store.state c.enter_resume.new.store) (g.S.Store.state c.carry_on.new.store) c.enter_resume.ensures.keeps c.in_ok-k.k c.in_ok-k.ensures.enters
     c.carry_on.ensures.any_moment c.carry_on.ensures.change c.carry_on.ensures.cause.later contents (c.enter_resume.ensures.halting contents n tells may) (c.in_ok-k.ensures.halted contents n tells may)
 
-pub returns-clause-halting : goal.returns-clause-halting
-returns-clause-halting g c = λ contents n tells may. run_halting c.args.job.now c.keeps_rules.ensures (g.S.Store.state c.args.store.now) (g.S.Store.state c.enter_resume.new.store) (g.S.Store.state c.carry_on.new.store) c.enter_resume.ensures.keeps c.in_ok-k.k c.in_ok-k.ensures.enters
-    c.carry_on.ensures.any_moment c.carry_on.ensures.change c.carry_on.ensures.cause.later contents (c.enter_resume.ensures.halting contents n tells may) (c.in_ok-k.ensures.halted contents n tells may)
+pub returns-in_err-carry_on-clause-ready : goal.returns-in_err-carry_on-clause-ready
+returns-in_err-carry_on-clause-ready g c = λ tells before calm. absurd (calm (omega (arith, c.enter_resume.ensures.keeps.later, c.in_err-carry_on.ensures.cause.failed)))
 
-pub returns-clause-halted : goal.returns-clause-halted
-returns-clause-halted g c = λ contents n tells may. (c.in_ok-carry_on.ensures.done false contents (c.in_ok-k.ensures.halted contents n tells may)).sound.after
+pub returns : goal.returns
+returns g c =
+    let job = c.args.job.now in
+    let is = c.keeps_rules.ensures in
+    let old = g.S.Store.state c.args.store.now in
+    let mid = g.S.Store.state c.enter_resume.new.store in
+    let new = g.S.Store.state c.carry_on.new.store in
+    let before = c.enter_resume.ensures in
+    let k = c.in_ok-k.k in
+    let entered = c.in_ok-k.ensures in
+    let on = c.carry_on.ensures in
+    let done = c.in_ok-carry_on.ensures in
+    let finishes = run_finishes job is old mid new before.keeps k entered.enters done.done done.settled done.landed in
+    record {
+      keeps = run_keeps job is old mid new before.keeps k entered.enters on.any_moment on.change on.cause.later;
+      finishes = finishes;
+      ours = search rules;
+      events = run_events job is k entered.enters.most old mid new entered.ended done.rounds;
+      part = (k, entered.enters.most, entered.enters.found, run_part job is k entered.enters.most old mid new entered.ended on.part);
+      fault = search rules;
+      kind = search rules;
+      unrefused = search rules;
+      ready = search rules;
+      armed = run_armed job is old mid new before.keeps k entered.enters on.any_moment on.change on.cause.later before.armed;
+      halting = λ contents n tells may. run_halting job is old mid new before.keeps k entered.enters on.any_moment on.change on.cause.later contents
+          (before.halting contents n tells may) (entered.halted contents n tells may);
+      halted = λ contents n tells may. (done.done false contents (entered.halted contents n tells may)).sound.after;
+      resumed = search rules;
+      other = λ are armed kept head theirs calm.
+          absurd (theirs (if_some_is (old.reads Head) kept (λ bytes. bytes ≡ job.digest) head (entered.ours are (armed_told old.reads armed) armed)));
+      reached = λ contents tells are reached calm. ap Ok (entered.enters.found tells are ∙ reached.arrived.count);
+      kept = λ contents tells before. still_reached job is old new k finishes contents tells before;
+    }
 
-pub returns-clause-other : goal.returns-clause-other
-returns-clause-other g c = λ are armed kept head theirs calm. absurd (theirs (if_some_is ((g.S.Store.state c.args.store.now).reads Head) kept (λ bytes. bytes ≡ c.args.job.now.digest) head (c.in_ok-k.ensures.ours are (armed_told (g.S.Store.state c.args.store.now).reads armed) armed)))
+pub returns-in_err-k-clause-resumed : goal.returns-in_err-k-clause-resumed
+returns-in_err-k-clause-resumed g c = λ are armed head calm. absurd (no_resume_fault c.args.job.now (g.S.Store.state c.args.store.now) (g.S.Store.state c.enter_resume.new.store) are armed calm c.args.job.now.digest head refl c.in_err-k.field-0.0 c.in_err-k.ensures.kind c.in_err-k.ensures.fault)
 
-pub returns-clause-reached : goal.returns-clause-reached
-returns-clause-reached g c = λ contents tells are reached calm. ap Ok (c.in_ok-k.ensures.enters.found tells are ∙ reached.arrived.count)
+pub returns-in_err-k-clause-other : goal.returns-in_err-k-clause-other
+returns-in_err-k-clause-other g c = λ are armed kept head theirs calm.
+    let p = err_from_is_err_and c.from_residual.result c.from_residual.ensures.1 in
+    p.1 ∙ ap Err (p.2 ∙ other_of c.args.job.now (g.S.Store.state c.args.store.now) (g.S.Store.state c.enter_resume.new.store) are armed calm kept head theirs c.in_err-k.field-0.0 c.in_err-k.ensures.fault (start_of_resume c.in_err-k.field-0.0 c.in_err-k.ensures.kind))
 
-pub returns-clause-kept : goal.returns-clause-kept
-returns-clause-kept g c = λ contents tells before. still_reached c.args.job.now c.keeps_rules.ensures (g.S.Store.state c.args.store.now) (g.S.Store.state c.carry_on.new.store) c.in_ok-k.k
-    (run_finishes c.args.job.now c.keeps_rules.ensures (g.S.Store.state c.args.store.now) (g.S.Store.state c.enter_resume.new.store) (g.S.Store.state c.carry_on.new.store) c.enter_resume.ensures.keeps c.in_ok-k.k c.in_ok-k.ensures.enters c.in_ok-carry_on.ensures.done c.in_ok-carry_on.ensures.settled c.in_ok-carry_on.ensures.landed) contents tells before
+pub returns-in_err-k-clause-reached : goal.returns-in_err-k-clause-reached
+returns-in_err-k-clause-reached g c = λ contents tells are reached calm. absurd (no_resume_fault c.args.job.now (g.S.Store.state c.args.store.now) (g.S.Store.state c.enter_resume.new.store) are reached.arrived.armed calm c.args.job.now.digest (reached.arrived.safe.head reached.arrived.armed) refl c.in_err-k.field-0.0 c.in_err-k.ensures.kind c.in_err-k.ensures.fault)
 
 pub returns-in_err-k-clause-unrefused : goal.returns-in_err-k-clause-unrefused
 returns-in_err-k-clause-unrefused g c = λ tells before.
@@ -105,6 +100,3 @@ returns-in_err-k-clause-unrefused g c = λ tells before.
 
 pub returns-in_err-k-clause-ready : goal.returns-in_err-k-clause-ready
 returns-in_err-k-clause-ready g c = λ tells before calm. absurd (no_fault c.args.job.now c.keeps_rules.ensures (g.S.Store.state c.args.store.now) (g.S.Store.state c.enter_resume.new.store) tells before calm c.in_err-k.field-0.0 (start_of_resume c.in_err-k.field-0.0 c.in_err-k.ensures.kind) c.in_err-k.ensures.fault)
-
-pub returns-in_err-carry_on-clause-ready : goal.returns-in_err-carry_on-clause-ready
-returns-in_err-carry_on-clause-ready g c = λ tells before calm. absurd (calm (omega (arith, c.enter_resume.ensures.keeps.later, c.in_err-carry_on.ensures.cause.failed)))

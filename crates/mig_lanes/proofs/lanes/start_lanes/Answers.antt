@@ -1,9 +1,7 @@
-use Rattle.std.proofs.Common.{◌≡◌, [], ◌≤◌, ℕ, length, Err, refl, sym, ◌∙◌, ap, arith}
-use Rattle.std.proofs.lemmas.Bool.{false≢true}
-use Rattle.std.proofs.lemmas.Result.{err_from_is_err_and}
-use Rattle.mig_base.specs.Stores.{State, flights}
+use Rattle.mig_base.proofs.Common.{Err, refl, sym, ◌∙◌, ap, arith, false≢true, err_from_is_err_and, rules}
+use Rattle.mig_mover.proofs.Settling.{armed_told}
 use Rattle.mig_lanes.proofs.Answering.{started_of, other_of, unrefused_of, no_fault}
-use Rattle.mig_lanes.proofs.RunLaws.{armed_told, run_keeps, run_armed, run_finishes, enter_part, run_part, run_events}
+use Rattle.mig_lanes.proofs.RunLaws.{run_keeps, run_armed, run_finishes, enter_part, run_part, run_events}
 use Rattle.mig_lanes.proofs.lanes.start_lanes.Goals as goal
 
 pub returns-in_err-enter_start-clause-part : goal.returns-in_err-enter_start-clause-part
@@ -16,27 +14,48 @@ returns-in_err-carry_on-clause-keeps g c = run_keeps c.args.job.now c.keeps_rule
 pub returns-in_err-carry_on-clause-part : goal.returns-in_err-carry_on-clause-part
 returns-in_err-carry_on-clause-part g c = run_part c.args.job.now c.keeps_rules.ensures 0 (omega arith) (g.S.Store.state c.args.store.now) (g.S.Store.state c.enter_start.new.store) (g.S.Store.state c.carry_on.new.store) c.in_ok-enter_start.ensures.ended c.carry_on.ensures.part
 
-pub returns-clause-keeps : goal.returns-clause-keeps
-returns-clause-keeps g c = run_keeps c.args.job.now c.keeps_rules.ensures (g.S.Store.state c.args.store.now) (g.S.Store.state c.enter_start.new.store) (g.S.Store.state c.carry_on.new.store) c.enter_start.ensures.keeps 0 c.in_ok-enter_start.ensures.enters
-    c.carry_on.ensures.any_moment c.carry_on.ensures.change c.carry_on.ensures.cause.later
-
-pub returns-clause-finishes : goal.returns-clause-finishes
-returns-clause-finishes g c = run_finishes c.args.job.now c.keeps_rules.ensures (g.S.Store.state c.args.store.now) (g.S.Store.state c.enter_start.new.store) (g.S.Store.state c.carry_on.new.store) c.enter_start.ensures.keeps 0 c.in_ok-enter_start.ensures.enters
-    c.in_ok-carry_on.ensures.done c.in_ok-carry_on.ensures.settled c.in_ok-carry_on.ensures.landed
-
-pub returns-clause-events : goal.returns-clause-events
-returns-clause-events g c = run_events c.args.job.now c.keeps_rules.ensures 0 (omega arith) (g.S.Store.state c.args.store.now) (g.S.Store.state c.enter_start.new.store) (g.S.Store.state c.carry_on.new.store) c.in_ok-enter_start.ensures.ended c.in_ok-carry_on.ensures.rounds
-
-pub returns-clause-part : goal.returns-clause-part
-returns-clause-part g c = run_part c.args.job.now c.keeps_rules.ensures 0 (omega arith) (g.S.Store.state c.args.store.now) (g.S.Store.state c.enter_start.new.store) (g.S.Store.state c.carry_on.new.store) c.in_ok-enter_start.ensures.ended c.carry_on.ensures.part
-
 pub returns-in_err-carry_on-clause-armed : goal.returns-in_err-carry_on-clause-armed
 returns-in_err-carry_on-clause-armed g c = run_armed c.args.job.now c.keeps_rules.ensures (g.S.Store.state c.args.store.now) (g.S.Store.state c.enter_start.new.store) (g.S.Store.state c.carry_on.new.store) c.enter_start.ensures.keeps 0 c.in_ok-enter_start.ensures.enters
     c.carry_on.ensures.any_moment c.carry_on.ensures.change c.carry_on.ensures.cause.later c.enter_start.ensures.armed
 
-pub returns-clause-armed : goal.returns-clause-armed
-returns-clause-armed g c = run_armed c.args.job.now c.keeps_rules.ensures (g.S.Store.state c.args.store.now) (g.S.Store.state c.enter_start.new.store) (g.S.Store.state c.carry_on.new.store) c.enter_start.ensures.keeps 0 c.in_ok-enter_start.ensures.enters
-    c.carry_on.ensures.any_moment c.carry_on.ensures.change c.carry_on.ensures.cause.later c.enter_start.ensures.armed
+pub returns-in_err-carry_on-clause-started : goal.returns-in_err-carry_on-clause-started
+returns-in_err-carry_on-clause-started g c = λ are armed head calm. absurd (calm (omega (arith, c.enter_start.ensures.keeps.later, c.in_err-carry_on.ensures.cause.failed)))
+
+pub returns-in_err-carry_on-clause-other : goal.returns-in_err-carry_on-clause-other
+returns-in_err-carry_on-clause-other g c = λ are armed kept head theirs calm. absurd (calm (omega (arith, c.enter_start.ensures.keeps.later, c.in_err-carry_on.ensures.cause.failed)))
+
+pub returns-in_err-carry_on-clause-reached : goal.returns-in_err-carry_on-clause-reached
+returns-in_err-carry_on-clause-reached g c = λ contents are reached calm. absurd (calm (omega (arith, c.enter_start.ensures.keeps.later, c.in_err-carry_on.ensures.cause.failed)))
+
+pub returns-in_err-carry_on-clause-ready : goal.returns-in_err-carry_on-clause-ready
+returns-in_err-carry_on-clause-ready g c = λ tells before calm. absurd (calm (omega (arith, c.enter_start.ensures.keeps.later, c.in_err-carry_on.ensures.cause.failed)))
+
+pub returns : goal.returns
+returns g c =
+    let job = c.args.job.now in
+    let is = c.keeps_rules.ensures in
+    let old = g.S.Store.state c.args.store.now in
+    let mid = g.S.Store.state c.enter_start.new.store in
+    let new = g.S.Store.state c.carry_on.new.store in
+    let before = c.enter_start.ensures in
+    let entered = c.in_ok-enter_start.ensures in
+    let on = c.carry_on.ensures in
+    let done = c.in_ok-carry_on.ensures in
+    record {
+      keeps = run_keeps job is old mid new before.keeps 0 entered.enters on.any_moment on.change on.cause.later;
+      finishes = run_finishes job is old mid new before.keeps 0 entered.enters done.done done.settled done.landed;
+      idle = search rules;
+      events = run_events job is 0 (omega arith) old mid new entered.ended done.rounds;
+      part = run_part job is 0 (omega arith) old mid new entered.ended on.part;
+      fault = search rules;
+      kind = search rules;
+      unrefused = search rules;
+      ready = search rules;
+      armed = run_armed job is old mid new before.keeps 0 entered.enters on.any_moment on.change on.cause.later before.armed;
+      started = λ are armed head calm. absurd (false≢true (sym (entered.idle are (armed_told old.reads armed)) ∙ armed));
+      other = λ are armed kept head theirs calm. absurd (false≢true (sym (entered.idle are (armed_told old.reads armed)) ∙ armed));
+      reached = λ contents are reached calm. absurd (false≢true (sym (entered.idle are (armed_told old.reads reached.arrived.armed)) ∙ reached.arrived.armed));
+    }
 
 pub returns-in_err-enter_start-clause-started : goal.returns-in_err-enter_start-clause-started
 returns-in_err-enter_start-clause-started g c = λ are armed head calm.
@@ -53,24 +72,6 @@ returns-in_err-enter_start-clause-reached g c = λ contents are reached calm.
     let p = err_from_is_err_and c.from_residual.result c.from_residual.ensures.1 in
     p.1 ∙ ap Err (p.2 ∙ started_of c.args.job.now (g.S.Store.state c.args.store.now) (g.S.Store.state c.enter_start.new.store) are reached.arrived.armed calm c.args.job.now.digest (reached.arrived.safe.head reached.arrived.armed) refl c.in_err-enter_start.field-0.0 c.in_err-enter_start.ensures.kind c.in_err-enter_start.ensures.fault)
 
-pub returns-in_err-carry_on-clause-started : goal.returns-in_err-carry_on-clause-started
-returns-in_err-carry_on-clause-started g c = λ are armed head calm. absurd (calm (omega (arith, c.enter_start.ensures.keeps.later, c.in_err-carry_on.ensures.cause.failed)))
-
-pub returns-in_err-carry_on-clause-other : goal.returns-in_err-carry_on-clause-other
-returns-in_err-carry_on-clause-other g c = λ are armed kept head theirs calm. absurd (calm (omega (arith, c.enter_start.ensures.keeps.later, c.in_err-carry_on.ensures.cause.failed)))
-
-pub returns-in_err-carry_on-clause-reached : goal.returns-in_err-carry_on-clause-reached
-returns-in_err-carry_on-clause-reached g c = λ contents are reached calm. absurd (calm (omega (arith, c.enter_start.ensures.keeps.later, c.in_err-carry_on.ensures.cause.failed)))
-
-pub returns-clause-started : goal.returns-clause-started
-returns-clause-started g c = λ are armed head calm. absurd (false≢true (sym (c.in_ok-enter_start.ensures.idle are (armed_told (g.S.Store.state c.args.store.now).reads armed)) ∙ armed))
-
-pub returns-clause-other : goal.returns-clause-other
-returns-clause-other g c = λ are armed kept head theirs calm. absurd (false≢true (sym (c.in_ok-enter_start.ensures.idle are (armed_told (g.S.Store.state c.args.store.now).reads armed)) ∙ armed))
-
-pub returns-clause-reached : goal.returns-clause-reached
-returns-clause-reached g c = λ contents are reached calm. absurd (false≢true (sym (c.in_ok-enter_start.ensures.idle are (armed_told (g.S.Store.state c.args.store.now).reads reached.arrived.armed)) ∙ reached.arrived.armed))
-
 pub returns-in_err-enter_start-clause-unrefused : goal.returns-in_err-enter_start-clause-unrefused
 returns-in_err-enter_start-clause-unrefused g c = λ tells before.
     let p = err_from_is_err_and c.from_residual.result c.from_residual.ensures.1 in
@@ -78,6 +79,3 @@ returns-in_err-enter_start-clause-unrefused g c = λ tells before.
 
 pub returns-in_err-enter_start-clause-ready : goal.returns-in_err-enter_start-clause-ready
 returns-in_err-enter_start-clause-ready g c = λ tells before calm. absurd (no_fault c.args.job.now c.keeps_rules.ensures (g.S.Store.state c.args.store.now) (g.S.Store.state c.enter_start.new.store) tells before calm c.in_err-enter_start.field-0.0 c.in_err-enter_start.ensures.kind c.in_err-enter_start.ensures.fault)
-
-pub returns-in_err-carry_on-clause-ready : goal.returns-in_err-carry_on-clause-ready
-returns-in_err-carry_on-clause-ready g c = λ tells before calm. absurd (calm (omega (arith, c.enter_start.ensures.keeps.later, c.in_err-carry_on.ensures.cause.failed)))

@@ -1,13 +1,4 @@
-use Rattle.std.proofs.Common.{◌≡◌, ◌+◌, ◌-◌, ◌++◌, Bool, [], ℕ, List, map, length, sym, subst, arith}
-use Rattle.std.specs.List.{range_with_len}
-use Rattle.std.proofs.lemmas.Result.{on_ok_weaker}
-use Rattle.mig_base.specs.declared.cells.Event.{Event}
-use Rattle.mig_base.specs.JobCells.{IsWorkCell}
-use Rattle.mig_base.specs.Images.{NoCell}
-use Rattle.mig_base.specs.RoundEvents.{IsRound, AreRounds, Adds}
-use Rattle.mig_base.specs.RoundStates.{HasDone}
-use Rattle.mig_base.specs.Safety.{Contents, IsSound}
-use Rattle.mig_base.specs.Stores.{State, flights, Changes, LeavesOnly}
+use Rattle.mig_base.proofs.Common.{◌≡◌, ◌+◌, ◌-◌, [], ℕ, map, length, subst, arith, range_with_len, on_ok_weaker, IsWorkCell, NoCell, IsRound, AreRounds, Adds, HasDone, IsSound, rules}
 use Rattle.mig_base.proofs.Landing.{ends_are_quiet}
 use Rattle.mig_base.proofs.StoreSteps.{leaves_none, leaves_then, quiet_leaves, same_image}
 use Rattle.mig_journal.proofs.Steps.{on_ok_is}
@@ -64,47 +55,28 @@ loop-done-preserved g c =
       later = omega (arith, c.loop-done.invariant.later, c.carry_out.ensures.cause.later);
     }
 
-pub returns-clause-any_moment : goal.returns-clause-any_moment
-returns-clause-any_moment g c = λ asked contents done.
-    let mid = g.S.Store.state c.loop-done.store in
-    let new = g.S.Store.state c.sync.new.self in
-    let sound = IsSound asked c.args.job.now.input c.args.job.now.plan c.args.job.now.digest contents in
-    leaves_then sound (g.S.Store.state c.args.store.now) mid new (c.loop-done.invariant.any_moment asked contents done)
-    (quiet_leaves sound NoCell [] mid new (g.met.S.Store.is_state c.loop-done.store) (ends_are_quiet mid new c.loop-done.invariant.landed c.sync.ensures.ends.0 c.sync.ensures.ends.1))
-
-pub returns-clause-done : goal.returns-clause-done
-returns-clause-done g c =
-    let mid = g.S.Store.state c.loop-done.store in
-    let new = g.S.Store.state c.sync.new.self in
-    let quiet = ends_are_quiet mid new c.loop-done.invariant.landed c.sync.ensures.ends.0 c.sync.ensures.ends.1 in
-    let end : c.loop-done.done ≡ length c.args.job.now.plan = omega (arith, c.loop-done-test.false, c.loop-done.auto.done-end, c.rounds-done-end.ensures.count, c.loop-done.invariant.low, c.requires.most) in
-    on_ok_weaker c.sync.result (λ settled asked contents done.
-    subst (HasDone asked c.args.job.now.input c.args.job.now.plan c.args.job.now.digest contents new) end
-    (done_synced asked c.args.job.now contents c.loop-done.done mid new (same_image mid.reads new.reads quiet.told) settled (c.loop-done.invariant.done asked contents done))) c.sync.ensures.settled
-
-pub returns-clause-rounds : goal.returns-clause-rounds
-returns-clause-rounds g c =
-    let mid = g.S.Store.state c.loop-done.store in
-    let new = g.S.Store.state c.sync.new.self in
-    let quiet = ends_are_quiet mid new c.loop-done.invariant.landed c.sync.ensures.ends.0 c.sync.ensures.ends.1 in
-    let end : c.loop-done.done ≡ length c.args.job.now.plan = omega (arith, c.loop-done-test.false, c.loop-done.auto.done-end, c.rounds-done-end.ensures.count, c.loop-done.invariant.low, c.requires.most) in
-    on_ok_is c.sync.result (adds_kept (AreRounds (later_rounds c.args.job.now c.args.k)) (g.S.Store.state c.args.store.now) mid new
-    (subst (λ (n : ℕ). Adds (AreRounds (map (copies_of c.args.job.now) (range_with_len (c.args.k + 1) (n - c.args.k)))) (g.S.Store.state c.args.store.now) mid) end c.loop-done.invariant.rounds) quiet.events)
-
-pub returns-clause-part : goal.returns-clause-part
-returns-clause-part g c =
+pub returns : goal.returns
+returns g c =
     let old = g.S.Store.state c.args.store.now in
     let mid = g.S.Store.state c.loop-done.store in
     let new = g.S.Store.state c.sync.new.self in
-    let quiet = ends_are_quiet mid new c.loop-done.invariant.landed c.sync.ensures.ends.0 c.sync.ensures.ends.1 in
-    let end : c.loop-done.done ≡ length c.args.job.now.plan = omega (arith, c.loop-done-test.false, c.loop-done.auto.done-end, c.rounds-done-end.ensures.count, c.loop-done.invariant.low, c.requires.most) in
-    adds_wider (AreRounds (later_rounds c.args.job.now c.args.k)) (BeginsRounds (later_rounds c.args.job.now c.args.k)) old new (all_begin c.args.job.now c.args.k)
-    (adds_kept (AreRounds (later_rounds c.args.job.now c.args.k)) old mid new
-    (subst (λ (n : ℕ). Adds (AreRounds (map (copies_of c.args.job.now) (range_with_len (c.args.k + 1) (n - c.args.k)))) old mid) end c.loop-done.invariant.rounds) quiet.events)
-
-pub returns-clause-change : goal.returns-clause-change
-returns-clause-change g c =
-    let mid = g.S.Store.state c.loop-done.store in
-    let new = g.S.Store.state c.sync.new.self in
-    change_quiet (IsWorkCell c.args.job.now.input c.args.job.now.plan) (g.S.Store.state c.args.store.now) mid new c.loop-done.invariant.change
-    (ends_are_quiet mid new c.loop-done.invariant.landed c.sync.ensures.ends.0 c.sync.ensures.ends.1)
+    let l = c.loop-done.invariant in
+    let quiet = ends_are_quiet mid new l.landed c.sync.ensures.ends.0 c.sync.ensures.ends.1 in
+    let end : c.loop-done.done ≡ length c.args.job.now.plan = omega (arith, c.loop-done-test.false, c.loop-done.auto.done-end, c.rounds-done-end.ensures.count, l.low, c.requires.most) in
+    let all = AreRounds (later_rounds c.args.job.now c.args.k) in
+    let rounds = adds_kept all old mid new
+    (subst (λ (n : ℕ). Adds (AreRounds (map (copies_of c.args.job.now) (range_with_len (c.args.k + 1) (n - c.args.k)))) old mid) end l.rounds) quiet.events in
+    record {
+      any_moment = λ asked contents done.
+          (let sound = IsSound asked c.args.job.now.input c.args.job.now.plan c.args.job.now.digest contents in
+          leaves_then sound old mid new (l.any_moment asked contents done) (quiet_leaves sound NoCell [] mid new (g.met.S.Store.is_state c.loop-done.store) quiet));
+      done = on_ok_weaker c.sync.result (λ settled asked contents done.
+          subst (HasDone asked c.args.job.now.input c.args.job.now.plan c.args.job.now.digest contents new) end
+          (done_synced asked c.args.job.now contents c.loop-done.done mid new (same_image mid.reads new.reads quiet.told) settled (l.done asked contents done))) c.sync.ensures.settled;
+      settled = search rules;
+      landed = search rules;
+      rounds = on_ok_is c.sync.result rounds;
+      part = adds_wider all (BeginsRounds (later_rounds c.args.job.now c.args.k)) old new (all_begin c.args.job.now c.args.k) rounds;
+      change = change_quiet (IsWorkCell c.args.job.now.input c.args.job.now.plan) old mid new l.change quiet;
+      cause = search rules;
+    }

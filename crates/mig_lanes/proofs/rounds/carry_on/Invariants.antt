@@ -1,12 +1,5 @@
-use Rattle.std.proofs.Common.{◌≡◌, ◌≤◌, ◌+◌, ◌-◌, Bool, List, [], map}
-use Rattle.std.specs.List.{range_with_len}
-use Rattle.mig_base.specs.declared.cells.Event.{Event}
-use Rattle.mig_base.specs.JobCells.{IsWorkCell}
-use Rattle.mig_base.specs.RoundEvents.{AreRounds, Adds}
-use Rattle.mig_base.specs.RoundStates.{HasDone}
-use Rattle.mig_base.specs.Safety.{Contents, IsSound}
-use Rattle.mig_base.specs.Stores.{State, flights, Changes, LeavesOnly}
-use Rattle.mig_lanes.specs.LaneSteps.{copies_of}
+use Rattle.mig_base.proofs.Common.{◌≡◌, ◌≤◌, ◌+◌, ◌-◌, Bool, List, [], map, range_with_len, IsWorkCell, AreRounds, Adds, HasDone, Contents, IsSound, flights, Changes, LeavesOnly}
+use Rattle.mig_lanes.proofs.Common.{Event, copies_of}
 use Rattle.mig_lanes.proofs.rounds.carry_on.Given as goal
 
 abbrev pub invariant-loop-done : goal.invariant-loop-done

@@ -1,7 +1,4 @@
-use Rattle.std.proofs.Common.{◌+◌, ◌++◌, [], arith}
-use Rattle.std.proofs.lemmas.Result.{on_ok_weaker}
-use Rattle.mig_base.specs.Safety.{IsSound}
-use Rattle.mig_base.specs.Stores.{State}
+use Rattle.mig_base.proofs.Common.{◌+◌, ◌++◌, [], arith, on_ok_weaker, IsSound}
 use Rattle.mig_base.proofs.StoreSteps.{leaves_then}
 use Rattle.mig_lanes.proofs.Carrying.{exit_copy, has_copied, copy_work, closed_work}
 use Rattle.mig_lanes.proofs.rounds.carry_out.Goals as goal

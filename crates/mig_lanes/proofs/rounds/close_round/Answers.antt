@@ -1,6 +1,4 @@
-use Rattle.std.proofs.Common.{◌+◌, arith}
-use Rattle.std.proofs.lemmas.Result.{on_ok_weaker}
-use Rattle.mig_base.specs.Stores.{State}
+use Rattle.mig_base.proofs.Common.{◌+◌, arith, on_ok_weaker}
 use Rattle.mig_lanes.proofs.Closing.{exit_mark, exit_erase, done_next, set_work, erased_work}
 use Rattle.mig_lanes.proofs.rounds.close_round.Goals as goal
 

@@ -1,4 +1,3 @@
-use Rattle.mig_base.specs.Stores.{State}
 use Rattle.mig_mover.proofs.EnterLaws.{on_quiet, arm_keeps, arm_enters}
 use Rattle.mig_mover.proofs.entries.enter_idle.Goals as goal
 

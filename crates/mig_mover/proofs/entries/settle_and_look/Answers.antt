@@ -1,41 +1,23 @@
-use Rattle.std.proofs.Common.{◌≡◌, [], List, ℕ, Bool, Result, IfOk, IsSome, subst}
+use Rattle.mig_base.proofs.Common.{◌≡◌, IfOk, IsSome, subst, Image, is_armed, rules}
 use Rattle.mig_base.specs.declared.cells.Cell.TheVariants.{Gate, Head}
-use Rattle.mig_base.specs.Images.{Image}
-use Rattle.mig_base.specs.Journals.{is_armed}
-use Rattle.mig_base.specs.Stores.{State, flights}
 use Rattle.mig_journal.specs.SeenJournals.{is_running, HasHead}
 use Rattle.mig_journal.proofs.Steps.{look_quiet, quiet_same}
-use Rattle.mig_mover.specs.Moves.{Settles}
 use Rattle.mig_mover.proofs.Settling.{if_ok_is, ends_land, ends_settle, settles_quiet, settles_land}
 use Rattle.mig_mover.proofs.entries.settle_and_look.Goals as goal
 
 pub returns-in_err-sync-clause-lands : goal.returns-in_err-sync-clause-lands
 returns-in_err-sync-clause-lands g c = ends_land c.sync.ensures.ends.0 (g.S.Store.state c.args.store.now) (g.S.Store.state c.sync.new.self) c.sync.ensures.ends.1
 
-pub returns-clause-settles : goal.returns-clause-settles
-returns-clause-settles g c =
+pub returns : goal.returns
+returns g c =
     let old = g.S.Store.state c.args.store.now in
     let mid = g.S.Store.state c.sync.new.self in
     let new = g.S.Store.state c.look.new.store in
     let settles = ends_settle c.sync.ensures.ends.0 old mid c.sync.ensures.ends.1 c.in_ok-sync.ensures.landed c.in_ok-sync.ensures.settled in
-    if_ok_is c.look.result (settles_quiet old mid settles new (look_quiet mid new c.in_ok-sync.ensures.landed c.look.ensures.change))
-
-pub returns-clause-gate : goal.returns-clause-gate
-returns-clause-gate g c =
-    let mid = g.S.Store.state c.sync.new.self in
-    let new = g.S.Store.state c.look.new.store in
-    subst (λ (image : Image). IfOk c.look.result (λ seen. IsSome (image Gate) → is_running seen ≡ is_armed image)) (quiet_same mid new (look_quiet mid new c.in_ok-sync.ensures.landed c.look.ensures.change)) c.look.ensures.gate
-
-pub returns-clause-head : goal.returns-clause-head
-returns-clause-head g c =
-    let mid = g.S.Store.state c.sync.new.self in
-    let new = g.S.Store.state c.look.new.store in
-    subst (λ (image : Image). IfOk c.look.result (λ seen. HasHead seen (image Head))) (quiet_same mid new (look_quiet mid new c.in_ok-sync.ensures.landed c.look.ensures.change)) c.look.ensures.head
-
-pub returns-clause-lands : goal.returns-clause-lands
-returns-clause-lands g c =
-    let old = g.S.Store.state c.args.store.now in
-    let mid = g.S.Store.state c.sync.new.self in
-    let new = g.S.Store.state c.look.new.store in
-    let settles = ends_settle c.sync.ensures.ends.0 old mid c.sync.ensures.ends.1 c.in_ok-sync.ensures.landed c.in_ok-sync.ensures.settled in
-    settles_land old new (settles_quiet old mid settles new (look_quiet mid new c.in_ok-sync.ensures.landed c.look.ensures.change))
+    record {
+      settles = if_ok_is c.look.result (settles_quiet old mid settles new (look_quiet mid new c.in_ok-sync.ensures.landed c.look.ensures.change));
+      gate = subst (λ (image : Image). IfOk c.look.result (λ seen. IsSome (image Gate) → is_running seen ≡ is_armed image)) (quiet_same mid new (look_quiet mid new c.in_ok-sync.ensures.landed c.look.ensures.change)) c.look.ensures.gate;
+      head = subst (λ (image : Image). IfOk c.look.result (λ seen. HasHead seen (image Head))) (quiet_same mid new (look_quiet mid new c.in_ok-sync.ensures.landed c.look.ensures.change)) c.look.ensures.head;
+      lands = settles_land old new (settles_quiet old mid settles new (look_quiet mid new c.in_ok-sync.ensures.landed c.look.ensures.change));
+      cause = search rules;
+    }

@@ -1,7 +1,5 @@
-use Rattle.std.proofs.Common.{◌≡◌, arith}
+use Rattle.mig_base.proofs.Common.{◌≡◌, arith, IsSourceSlot}
 use Rattle.mig_base.specs.declared.cells.Flight.{Flight}
-use Rattle.mig_base.specs.Stores.{State}
-use Rattle.mig_base.specs.RoundStates.{IsSourceSlot}
 use Rattle.mig_journal.proofs.Steps.{then_step}
 use Rattle.mig_mover.proofs.EraseSteps.{from_slot, from_source, erased_more}
 use Rattle.mig_mover.proofs.JobRounds.{no_shift}

@@ -1,9 +1,4 @@
-use Rattle.std.proofs.Common.{◌≤◌}
-use Rattle.std.specs.List.{AllWithin}
-use Rattle.mig_base.specs.Layouts.{round_at}
-use Rattle.mig_base.specs.RoundStates.{IsSourceSlot}
-use Rattle.mig_base.specs.Slots.{slot_of}
-use Rattle.mig_base.specs.Stores.{State, ChangesOnly}
+use Rattle.mig_base.proofs.Common.{◌≤◌, AllWithin, round_at, IsSourceSlot, slot_of, ChangesOnly}
 use Rattle.mig_mover.specs.Erasures.{AreZeros}
 use Rattle.mig_mover.proofs.erasing.erase_sources.Given as goal
 

@@ -1,6 +1,4 @@
-use Rattle.std.proofs.Common.{◌≤◌}
-use Rattle.mig_base.specs.Images.{NoCell}
-use Rattle.mig_base.specs.Stores.{State, ChangesOnly}
+use Rattle.mig_base.proofs.Common.{◌≤◌, NoCell, ChangesOnly}
 use Rattle.mig_mover.proofs.expecting.expect_free.Given as goal
 
 abbrev pub invariant-loop-v : goal.invariant-loop-v

@@ -1,6 +1,3 @@
-use Rattle.std.proofs.Common.{◌≡◌}
-use Rattle.mig_base.specs.Images.{NoCell}
-use Rattle.mig_base.specs.Stores.{State}
 use Rattle.mig_mover.proofs.FillSteps.{found_none, found_listed, put_listed, synced_listed, synced_made, synced_idle, made_sound}
 use Rattle.mig_mover.proofs.filling.fill_idle.Goals as goal
 

@@ -1,9 +1,4 @@
-use Rattle.std.proofs.Common.{◌≡◌, ◌≤◌, List, length, get_or, sym, subst, arith}
-use Rattle.mig_base.specs.declared.ids.Spot.{Spot}
-use Rattle.mig_base.specs.InputLists.{no_spot}
-use Rattle.mig_base.specs.Images.{Image, NoCell}
-use Rattle.mig_base.specs.Slots.{IsUsed, IsUnused}
-use Rattle.mig_base.specs.Stores.{State}
+use Rattle.mig_base.proofs.Common.{get_or, sym, subst, arith, no_spot, Image, NoCell, IsUsed, IsUnused}
 use Rattle.mig_journal.proofs.Steps.{then_quiet, quiet_same, still_none}
 use Rattle.mig_mover.proofs.FillSteps.{first_taken, none_taken, spot_known}
 use Rattle.mig_mover.proofs.TargetLaws.{next_within, match_false, match_true}

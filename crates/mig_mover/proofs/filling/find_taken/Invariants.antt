@@ -1,8 +1,4 @@
-use Rattle.std.proofs.Common.{◌≤◌}
-use Rattle.std.specs.List.{AllWithin}
-use Rattle.mig_base.specs.Images.{NoCell}
-use Rattle.mig_base.specs.Slots.{IsUnused}
-use Rattle.mig_base.specs.Stores.{State, ChangesOnly}
+use Rattle.mig_base.proofs.Common.{◌≤◌, AllWithin, NoCell, IsUnused, ChangesOnly}
 use Rattle.mig_mover.proofs.filling.find_taken.Given as goal
 
 abbrev pub invariant-loop-spot : goal.invariant-loop-spot

@@ -1,5 +1,3 @@
-use Rattle.std.proofs.Common.{◌≡◌}
-use Rattle.mig_base.specs.Stores.{State}
 use Rattle.mig_mover.proofs.FillSteps.{put_change, put_made}
 use Rattle.mig_mover.proofs.filling.put_item.Goals as goal
 

@@ -1,6 +1,5 @@
 use Rattle.std.proofs.Common.{◌≡◌, ◌<◌, ℕ, List, length, subst, arith}
 use Rattle.mig_base.specs.Slots.{IsListedCell, item_cell}
-use Rattle.mig_base.specs.Stores.{State}
 use Rattle.mig_journal.proofs.Steps.{then_step, still_none}
 use Rattle.mig_mover.proofs.FillSteps.{listed_cell, made_more}
 use Rattle.mig_mover.proofs.filling.put_items.Goals as goal

@@ -1,7 +1,5 @@
-use Rattle.std.proofs.Common.{◌≡◌, ◌<◌, ◌≤◌, ℕ, IfSome}
-use Rattle.mig_base.specs.Slots.{IsListedCell, item_cell, made_slot}
-use Rattle.mig_base.specs.Stores.{State, ChangesOnly}
-use Rattle.mig_base.specs.Texts.{item_name}
+use Rattle.mig_base.proofs.Common.{◌≡◌, ◌<◌, ◌≤◌, ℕ, IfSome, item_cell, ChangesOnly, item_name}
+use Rattle.mig_base.specs.Slots.{IsListedCell, made_slot}
 use Rattle.mig_mover.proofs.filling.put_items.Given as goal
 
 abbrev pub invariant-loop-item : goal.invariant-loop-item

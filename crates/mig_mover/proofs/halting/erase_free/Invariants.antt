@@ -1,10 +1,5 @@
-use Rattle.std.proofs.Common.{◌≤◌}
-use Rattle.mig_base.specs.JobCells.{IsFreeSlot}
-use Rattle.mig_base.specs.Stores.{ChangesOnly}
-use Rattle.mig_base.specs.Slots.{slot_of}
-use Rattle.std.specs.List.{AllWithin}
-use Rattle.mig_mover.specs.Erasures.{AreZeros}
-use Rattle.mig_mover.specs.Vacancies.{IsVacant}
+use Rattle.mig_base.proofs.Common.{◌≤◌, IsFreeSlot, ChangesOnly, slot_of, AllWithin}
+use Rattle.mig_mover.proofs.Common.{AreZeros, IsVacant}
 use Rattle.mig_mover.proofs.halting.erase_free.Given as goal
 
 abbrev pub invariant-loop-v : goal.invariant-loop-v

@@ -1,12 +1,35 @@
+use Rattle.mig_base.specs.Images.{NoCell}
 use Rattle.mig_base.specs.JobCells.{IsFreeSlot}
+use Rattle.mig_base.specs.Stores.{ChangesOnly}
 use Rattle.mig_base.proofs.Landing.{ends_are_quiet}
 use Rattle.mig_journal.proofs.Steps.{still_none}
+use Rattle.mig_mover.specs.Halts.{KeepsHaltSafe}
 use Rattle.mig_mover.proofs.HaltLaws.{change_erased, change_synced, change_closed, erased_closed, keeps_erased, keeps_synced, keeps_closed, ends_closed}
+use Rattle.mig_mover.proofs.halting.halt.Given as given
 use Rattle.mig_mover.proofs.halting.halt.Goals as goal
+use Rattle.mig_mover.proofs.halting.halt.Goals.{After-disarm, After-sync}
+
+-- the sync changes nothing
+quiet : (g : given.Over) (c : goal.After-sync g) → ChangesOnly NoCell (g.S.Store.state c.erase_free.new.store) (g.S.Store.state c.sync.new.self)
+quiet g c =
+    let old = g.S.Store.state c.args.store.now in
+    let erased = g.S.Store.state c.erase_free.new.store in
+    let none = still_none (IsFreeSlot c.args.job.now.input c.args.job.now.plan c.args.found) old erased c.requires.none c.erase_free.ensures.change in
+    ends_are_quiet erased (g.S.Store.state c.sync.new.self) none c.sync.ensures.ends.0 c.sync.ensures.ends.1
+
+-- what is safe until the gate is 0
+kept : (g : given.Over) (c : goal.After-disarm g) → (quiet : ChangesOnly NoCell (g.S.Store.state c.erase_free.new.store) (g.S.Store.state c.sync.new.self))
+    → KeepsHaltSafe c.args.job.now c.args.found (g.S.Store.state c.args.store.now) (g.S.Store.state c.disarm.new.store)
+kept g c quiet =
+    let e = c.erase_free.ensures in
+    keeps_closed c.args.job.now e.valid c.args.found c.requires.most (g.S.Store.state c.args.store.now) (g.S.Store.state c.erase_free.new.store) e.change c.requires.settled c.requires.at
+    (g.met.S.Store.is_state c.erase_free.new.store) (g.S.Store.state c.sync.new.self) quiet c.in_ok-sync.ensures.settled c.in_ok-erase_free.ensures.erased
+    (g.S.Store.state c.disarm.new.store) c.disarm.ensures.change
 
 pub returns-in_err-erase_free-clause-any_moment : goal.returns-in_err-erase_free-clause-any_moment
 returns-in_err-erase_free-clause-any_moment g c =
-    keeps_erased c.args.job.now c.erase_free.ensures.valid c.args.found c.requires.most (g.S.Store.state c.args.store.now) (g.S.Store.state c.erase_free.new.store) c.erase_free.ensures.change c.requires.settled c.requires.at
+    let e = c.erase_free.ensures in
+    keeps_erased c.args.job.now e.valid c.args.found c.requires.most (g.S.Store.state c.args.store.now) (g.S.Store.state c.erase_free.new.store) e.change c.requires.settled c.requires.at
 
 pub returns-in_err-erase_free-clause-change : goal.returns-in_err-erase_free-clause-change
 returns-in_err-erase_free-clause-change g c =
@@ -14,72 +37,43 @@ returns-in_err-erase_free-clause-change g c =
 
 pub returns-in_err-sync-clause-any_moment : goal.returns-in_err-sync-clause-any_moment
 returns-in_err-sync-clause-any_moment g c =
-    let old = g.S.Store.state c.args.store.now in
-    let erased = g.S.Store.state c.erase_free.new.store in
-    let synced = g.S.Store.state c.sync.new.self in
-    let none = still_none (IsFreeSlot c.args.job.now.input c.args.job.now.plan c.args.found) old erased c.requires.none c.erase_free.ensures.change in
-    let quiet = ends_are_quiet erased synced none c.sync.ensures.ends.0 c.sync.ensures.ends.1 in
-    keeps_synced c.args.job.now c.erase_free.ensures.valid c.args.found c.requires.most (g.S.Store.state c.args.store.now) (g.S.Store.state c.erase_free.new.store) c.erase_free.ensures.change c.requires.settled c.requires.at (g.met.S.Store.is_state c.erase_free.new.store) synced quiet
+    let e = c.erase_free.ensures in
+    keeps_synced c.args.job.now e.valid c.args.found c.requires.most (g.S.Store.state c.args.store.now) (g.S.Store.state c.erase_free.new.store) e.change c.requires.settled c.requires.at
+    (g.met.S.Store.is_state c.erase_free.new.store) (g.S.Store.state c.sync.new.self) (quiet g (goal.at.returns-in_err-sync-clause-any_moment g c).After-sync)
 
 pub returns-in_err-sync-clause-change : goal.returns-in_err-sync-clause-change
 returns-in_err-sync-clause-change g c =
-    let old = g.S.Store.state c.args.store.now in
-    let erased = g.S.Store.state c.erase_free.new.store in
-    let synced = g.S.Store.state c.sync.new.self in
-    let none = still_none (IsFreeSlot c.args.job.now.input c.args.job.now.plan c.args.found) old erased c.requires.none c.erase_free.ensures.change in
-    let quiet = ends_are_quiet erased synced none c.sync.ensures.ends.0 c.sync.ensures.ends.1 in
-    change_synced c.args.job.now c.erase_free.ensures.valid c.args.found c.requires.most (g.S.Store.state c.args.store.now) (g.S.Store.state c.erase_free.new.store) c.erase_free.ensures.change synced quiet
+    let e = c.erase_free.ensures in
+    change_synced c.args.job.now e.valid c.args.found c.requires.most (g.S.Store.state c.args.store.now) (g.S.Store.state c.erase_free.new.store) e.change
+    (g.S.Store.state c.sync.new.self) (quiet g (goal.at.returns-in_err-sync-clause-change g c).After-sync)
 
 pub returns-in_err-disarm-clause-any_moment : goal.returns-in_err-disarm-clause-any_moment
-returns-in_err-disarm-clause-any_moment g c =
-    let old = g.S.Store.state c.args.store.now in
-    let erased = g.S.Store.state c.erase_free.new.store in
-    let synced = g.S.Store.state c.sync.new.self in
-    let none = still_none (IsFreeSlot c.args.job.now.input c.args.job.now.plan c.args.found) old erased c.requires.none c.erase_free.ensures.change in
-    let quiet = ends_are_quiet erased synced none c.sync.ensures.ends.0 c.sync.ensures.ends.1 in
-    keeps_closed c.args.job.now c.erase_free.ensures.valid c.args.found c.requires.most (g.S.Store.state c.args.store.now) (g.S.Store.state c.erase_free.new.store) c.erase_free.ensures.change c.requires.settled c.requires.at (g.met.S.Store.is_state c.erase_free.new.store) synced quiet c.in_ok-sync.ensures.settled c.in_ok-erase_free.ensures.erased (g.S.Store.state c.disarm.new.store) c.disarm.ensures.change
+returns-in_err-disarm-clause-any_moment g c = let at = goal.at.returns-in_err-disarm-clause-any_moment g c in kept g at.After-disarm (quiet g at.After-sync)
 
 pub returns-clause-any_moment : goal.returns-clause-any_moment
-returns-clause-any_moment g c =
-    let old = g.S.Store.state c.args.store.now in
-    let erased = g.S.Store.state c.erase_free.new.store in
-    let synced = g.S.Store.state c.sync.new.self in
-    let none = still_none (IsFreeSlot c.args.job.now.input c.args.job.now.plan c.args.found) old erased c.requires.none c.erase_free.ensures.change in
-    let quiet = ends_are_quiet erased synced none c.sync.ensures.ends.0 c.sync.ensures.ends.1 in
-    keeps_closed c.args.job.now c.erase_free.ensures.valid c.args.found c.requires.most (g.S.Store.state c.args.store.now) (g.S.Store.state c.erase_free.new.store) c.erase_free.ensures.change c.requires.settled c.requires.at (g.met.S.Store.is_state c.erase_free.new.store) synced quiet c.in_ok-sync.ensures.settled c.in_ok-erase_free.ensures.erased (g.S.Store.state c.disarm.new.store) c.disarm.ensures.change
+returns-clause-any_moment g c = let at = goal.at.returns-clause-any_moment g c in kept g at.After-disarm (quiet g at.After-sync)
 
 pub returns-in_err-disarm-clause-change : goal.returns-in_err-disarm-clause-change
 returns-in_err-disarm-clause-change g c =
-    let old = g.S.Store.state c.args.store.now in
-    let erased = g.S.Store.state c.erase_free.new.store in
-    let synced = g.S.Store.state c.sync.new.self in
-    let none = still_none (IsFreeSlot c.args.job.now.input c.args.job.now.plan c.args.found) old erased c.requires.none c.erase_free.ensures.change in
-    let quiet = ends_are_quiet erased synced none c.sync.ensures.ends.0 c.sync.ensures.ends.1 in
-    change_closed c.args.job.now c.erase_free.ensures.valid c.args.found c.requires.most (g.S.Store.state c.args.store.now) (g.S.Store.state c.erase_free.new.store) c.erase_free.ensures.change synced quiet (g.S.Store.state c.disarm.new.store) c.disarm.ensures.change
+    let e = c.erase_free.ensures in
+    change_closed c.args.job.now e.valid c.args.found c.requires.most (g.S.Store.state c.args.store.now) (g.S.Store.state c.erase_free.new.store) e.change
+    (g.S.Store.state c.sync.new.self) (quiet g (goal.at.returns-in_err-disarm-clause-change g c).After-sync) (g.S.Store.state c.disarm.new.store) c.disarm.ensures.change
 
 pub returns-clause-change : goal.returns-clause-change
 returns-clause-change g c =
-    let old = g.S.Store.state c.args.store.now in
-    let erased = g.S.Store.state c.erase_free.new.store in
-    let synced = g.S.Store.state c.sync.new.self in
-    let none = still_none (IsFreeSlot c.args.job.now.input c.args.job.now.plan c.args.found) old erased c.requires.none c.erase_free.ensures.change in
-    let quiet = ends_are_quiet erased synced none c.sync.ensures.ends.0 c.sync.ensures.ends.1 in
-    change_closed c.args.job.now c.erase_free.ensures.valid c.args.found c.requires.most (g.S.Store.state c.args.store.now) (g.S.Store.state c.erase_free.new.store) c.erase_free.ensures.change synced quiet (g.S.Store.state c.disarm.new.store) c.disarm.ensures.change
+    let e = c.erase_free.ensures in
+    change_closed c.args.job.now e.valid c.args.found c.requires.most (g.S.Store.state c.args.store.now) (g.S.Store.state c.erase_free.new.store) e.change
+    (g.S.Store.state c.sync.new.self) (quiet g (goal.at.returns-clause-change g c).After-sync) (g.S.Store.state c.disarm.new.store) c.disarm.ensures.change
 
 pub returns-clause-halted : goal.returns-clause-halted
 returns-clause-halted g c =
-    let old = g.S.Store.state c.args.store.now in
-    let erased = g.S.Store.state c.erase_free.new.store in
-    let synced = g.S.Store.state c.sync.new.self in
-    let none = still_none (IsFreeSlot c.args.job.now.input c.args.job.now.plan c.args.found) old erased c.requires.none c.erase_free.ensures.change in
-    let quiet = ends_are_quiet erased synced none c.sync.ensures.ends.0 c.sync.ensures.ends.1 in
-    ends_closed c.args.job.now c.erase_free.ensures.valid c.args.found c.requires.most (g.S.Store.state c.args.store.now) (g.S.Store.state c.erase_free.new.store) c.erase_free.ensures.change c.requires.settled c.requires.at (g.met.S.Store.is_state c.erase_free.new.store) synced quiet c.in_ok-sync.ensures.settled c.in_ok-erase_free.ensures.erased (g.S.Store.state c.disarm.new.store) c.disarm.ensures.change c.in_ok-disarm.ensures.closed
+    let e = c.erase_free.ensures in
+    ends_closed c.args.job.now e.valid c.args.found c.requires.most (g.S.Store.state c.args.store.now) (g.S.Store.state c.erase_free.new.store) e.change c.requires.settled c.requires.at
+    (g.met.S.Store.is_state c.erase_free.new.store) (g.S.Store.state c.sync.new.self) (quiet g (goal.at.returns-clause-halted g c).After-sync) c.in_ok-sync.ensures.settled
+    c.in_ok-erase_free.ensures.erased (g.S.Store.state c.disarm.new.store) c.disarm.ensures.change c.in_ok-disarm.ensures.closed
 
 pub returns-clause-erased : goal.returns-clause-erased
 returns-clause-erased g c =
-    let old = g.S.Store.state c.args.store.now in
-    let erased = g.S.Store.state c.erase_free.new.store in
-    let synced = g.S.Store.state c.sync.new.self in
-    let none = still_none (IsFreeSlot c.args.job.now.input c.args.job.now.plan c.args.found) old erased c.requires.none c.erase_free.ensures.change in
-    let quiet = ends_are_quiet erased synced none c.sync.ensures.ends.0 c.sync.ensures.ends.1 in
-    erased_closed c.args.job.now c.erase_free.ensures.valid c.args.found c.requires.most (g.S.Store.state c.args.store.now) (g.S.Store.state c.erase_free.new.store) c.erase_free.ensures.change c.in_ok-erase_free.ensures.erased synced quiet (g.S.Store.state c.disarm.new.store) c.disarm.ensures.change
+    let e = c.erase_free.ensures in
+    erased_closed c.args.job.now e.valid c.args.found c.requires.most (g.S.Store.state c.args.store.now) (g.S.Store.state c.erase_free.new.store) e.change c.in_ok-erase_free.ensures.erased
+    (g.S.Store.state c.sync.new.self) (quiet g (goal.at.returns-clause-erased g c).After-sync) (g.S.Store.state c.disarm.new.store) c.disarm.ensures.change

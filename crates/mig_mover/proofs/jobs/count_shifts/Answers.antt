@@ -1,6 +1,5 @@
-use Rattle.std.proofs.Common.{arith, ap, length, List, sym, ◌∙◌}
+use Rattle.mig_base.proofs.Common.{arith, ap, length, List, ◌∙◌, shifts_of}
 use Rattle.mig_base.specs.declared.ids.Shift.{Shift}
-use Rattle.mig_base.specs.Readiness.{shifts_of}
 use Rattle.mig_mover.proofs.JobRounds.{shifts_counted}
 use Rattle.mig_mover.proofs.jobs.count_shifts.Goals as goal
 

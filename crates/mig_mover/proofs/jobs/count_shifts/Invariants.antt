@@ -1,5 +1,4 @@
-use Rattle.std.proofs.Common.{◌≡◌, take, length}
-use Rattle.mig_base.specs.Readiness.{shifts_of}
+use Rattle.mig_base.proofs.Common.{◌≡◌, take, length, shifts_of}
 use Rattle.mig_mover.proofs.jobs.count_shifts.Given as goal
 
 abbrev pub invariant-loop-round : goal.invariant-loop-round

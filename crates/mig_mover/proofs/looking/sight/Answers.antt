@@ -1,5 +1,4 @@
-use Rattle.std.proofs.Common.{arith, rules}
-use Rattle.std.proofs.lemmas.Grind.{common_steps}
+use Rattle.mig_base.proofs.Common.{arith, rules, common_steps}
 use Rattle.mig_mover.proofs.looking.sight.Goals as goal
 
 pub returns-clause-named : goal.returns-clause-named

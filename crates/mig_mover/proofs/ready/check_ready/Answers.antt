@@ -1,9 +1,6 @@
-use Rattle.std.proofs.Common.{◌≡◌, ◌<◌, ℕ, length, Option, IfSome, sym, subst}
+use Rattle.mig_base.proofs.Common.{◌<◌, ℕ, length, Option, IfSome, sym, subst, Image, NoCell, IsShifted, IsThere}
 use Rattle.mig_base.specs.declared.ids.Spot.{Spot}
-use Rattle.mig_base.specs.Images.{Image, NoCell}
-use Rattle.mig_base.specs.Readiness.{IsShifted, IsFirstUsed}
-use Rattle.mig_base.specs.Slots.{IsThere}
-use Rattle.mig_base.specs.Stores.{State}
+use Rattle.mig_base.specs.Readiness.{IsFirstUsed}
 use Rattle.mig_journal.proofs.Steps.{then_quiet, quiet_same}
 use Rattle.mig_mover.proofs.TargetLaws.{none_of}
 use Rattle.mig_mover.proofs.ready.check_ready.Goals as goal

@@ -1,8 +1,5 @@
-use Rattle.std.proofs.Common.{◌≡◌, ◌<◌, ℕ, sym, subst, arith}
-use Rattle.mig_base.specs.Images.{Image, NoCell}
-use Rattle.mig_base.specs.Readiness.{IsShifted}
-use Rattle.mig_base.specs.Slots.{IsThere, IsLost}
-use Rattle.mig_base.specs.Stores.{State}
+use Rattle.mig_base.proofs.Common.{sym, subst, arith, Image, NoCell, IsShifted, IsThere}
+use Rattle.mig_base.specs.Slots.{IsLost}
 use Rattle.mig_journal.proofs.Steps.{then_quiet, quiet_same}
 use Rattle.mig_mover.proofs.TargetLaws.{next_item, match_false}
 use Rattle.mig_mover.proofs.ready.find_lost.Goals as goal

@@ -1,8 +1,4 @@
-use Rattle.std.proofs.Common.{◌≡◌, ◌<◌, ◌≤◌, ℕ}
-use Rattle.mig_base.specs.Images.{NoCell}
-use Rattle.mig_base.specs.Readiness.{IsShifted}
-use Rattle.mig_base.specs.Slots.{IsThere}
-use Rattle.mig_base.specs.Stores.{State, ChangesOnly}
+use Rattle.mig_base.proofs.Common.{◌<◌, ◌≤◌, ℕ, NoCell, IsShifted, IsThere, ChangesOnly}
 use Rattle.mig_mover.proofs.ready.find_lost.Given as goal
 
 abbrev pub invariant-loop-item : goal.invariant-loop-item

@@ -1,10 +1,4 @@
-use Rattle.std.proofs.Common.{◌≡◌, ◌<◌, ◌≤◌, ℕ, List, length, get_or, sym, ◌∙◌, ap, subst, arith}
-use Rattle.std.specs.List.{AllWithin}
-use Rattle.mig_base.specs.declared.ids.Spot.{Spot}
-use Rattle.mig_base.specs.InputLists.{Lists, no_spot}
-use Rattle.mig_base.specs.Images.{Image, NoCell}
-use Rattle.mig_base.specs.Slots.{IsUsed, IsUnused}
-use Rattle.mig_base.specs.Stores.{State}
+use Rattle.mig_base.proofs.Common.{◌<◌, length, get_or, sym, subst, arith, Lists, no_spot, Image, NoCell, IsUsed, IsUnused}
 use Rattle.mig_journal.proofs.Steps.{then_quiet, quiet_same}
 use Rattle.mig_mover.proofs.TargetLaws.{target_disk, first_used, none_used, next_within, match_false, match_true}
 use Rattle.mig_mover.proofs.ready.find_used.Goals as goal

@@ -1,5 +1,4 @@
-use Rattle.std.proofs.Common.{◌≡◌, true, sym, ◌∙◌}
-use Rattle.mig_base.specs.Stores.{State}
+use Rattle.std.proofs.Common.{sym, ◌∙◌}
 use Rattle.mig_mover.proofs.TargetLaws.{lost_answer}
 use Rattle.mig_mover.proofs.ready.is_lost.Goals as goal
 

@@ -1,5 +1,4 @@
-use Rattle.std.proofs.Common.{rules}
-use Rattle.mig_base.specs.Images.{NoCell}
+use Rattle.mig_base.proofs.Common.{rules, NoCell}
 use Rattle.mig_journal.proofs.Steps.{then_quiet}
 use Rattle.mig_mover.proofs.standing.stand_running.Goals as goal
 

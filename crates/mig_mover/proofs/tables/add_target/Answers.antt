@@ -1,4 +1,4 @@
-use Rattle.std.proofs.Common.{◌≡◌, ◌++◌, List, sym, ◌∙◌, ap, append-nil}
+use Rattle.mig_base.proofs.Common.{◌++◌, List, sym, ◌∙◌, ap, append-nil}
 use Rattle.mig_base.specs.declared.ids.Spot.{Spot}
 use Rattle.mig_mover.proofs.TableSteps.{target_added, target_passed}
 use Rattle.mig_mover.proofs.tables.add_target.Goals as goal

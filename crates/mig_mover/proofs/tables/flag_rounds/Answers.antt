@@ -1,9 +1,5 @@
-use Rattle.std.proofs.Common.{◌≡◌, [], suc, ◌<◌, List, length, get_or, sym, ◌∙◌, subst, arith}
-use Rattle.std.proofs.lemmas.List.{get_or_default}
-use Rattle.std.proofs.lemmas.List.Elements.{Contains-get_or}
-use Rattle.std.specs.List.{All, Contains}
+use Rattle.mig_base.proofs.Common.{◌≡◌, [], suc, List, length, get_or, ◌∙◌, subst, arith, get_or_default, Contains-get_or, Contains, round_at}
 use Rattle.mig_base.specs.declared.ids.Shift.{Shift}
-use Rattle.mig_base.specs.Layouts.{round_at}
 use Rattle.mig_mover.proofs.TableSteps.{shifted_item}
 use Rattle.mig_mover.proofs.tables.flag_rounds.Goals as goal
 

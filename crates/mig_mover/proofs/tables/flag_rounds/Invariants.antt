@@ -1,7 +1,4 @@
-use Rattle.std.proofs.Common.{◌≡◌, ◌<◌, ℕ, false, length, get_or, take}
-use Rattle.std.specs.List.{list_any}
-use Rattle.mig_base.specs.Readiness.{shifts_of}
-use Rattle.mig_base.specs.Running.{is_of}
+use Rattle.mig_base.proofs.Common.{◌≡◌, ◌<◌, ℕ, false, length, get_or, take, list_any, shifts_of, is_of}
 use Rattle.mig_mover.proofs.tables.flag_rounds.Given as goal
 
 abbrev pub invariant-loop-round : goal.invariant-loop-round

@@ -1,6 +1,4 @@
-use Rattle.std.proofs.Common.{◌≡◌, ◌<◌, ◌||◌, ℕ, false, length, get_or, take}
-use Rattle.std.specs.List.{list_any}
-use Rattle.mig_base.specs.Running.{is_of}
+use Rattle.mig_base.proofs.Common.{◌≡◌, ◌<◌, ◌||◌, ℕ, false, length, get_or, take, list_any, is_of}
 use Rattle.mig_mover.proofs.tables.flag_shifts.Given as goal
 
 abbrev pub invariant-loop-s : goal.invariant-loop-s

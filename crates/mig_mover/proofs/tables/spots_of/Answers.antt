@@ -1,7 +1,4 @@
-use Rattle.std.proofs.Common.{◌<◌, sym, subst, arith, get_or, length, List}
-use Rattle.std.specs.List.{Contains}
-use Rattle.std.proofs.lemmas.List.{get_or_default}
-use Rattle.mig_base.specs.InputLists.{AreDifferent, no_spot}
+use Rattle.mig_base.proofs.Common.{◌<◌, sym, subst, arith, get_or, length, List, Contains, get_or_default, AreDifferent, no_spot}
 use Rattle.mig_base.specs.declared.ids.Spot.{Spot}
 use Rattle.mig_mover.proofs.TableSteps.{not_before}
 use Rattle.mig_mover.proofs.tables.spots_of.Goals as goal

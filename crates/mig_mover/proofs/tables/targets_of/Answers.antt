@@ -1,5 +1,4 @@
-use Rattle.std.proofs.Common.{arith}
-use Rattle.std.proofs.lemmas.Grind.{common_steps}
+use Rattle.mig_base.proofs.Common.{arith, common_steps}
 use Rattle.mig_mover.proofs.tables.targets_of.Goals as goal
 
 pub loop-round-preserved : goal.loop-round-preserved

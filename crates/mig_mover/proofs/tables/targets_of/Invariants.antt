@@ -1,5 +1,4 @@
-use Rattle.std.proofs.Common.{◌≡◌, take}
-use Rattle.mig_base.specs.Readiness.{shifts_of}
+use Rattle.mig_base.proofs.Common.{◌≡◌, take, shifts_of}
 use Rattle.mig_mover.specs.JobTables.{free_targets}
 use Rattle.mig_mover.proofs.tables.targets_of.Given as goal
 

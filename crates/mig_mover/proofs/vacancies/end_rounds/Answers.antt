@@ -1,6 +1,4 @@
-use Rattle.std.proofs.Common.{◌≡◌, [], suc, ◌+◌, ◌∙◌, arith}
-use Rattle.std.proofs.lemmas.List.{get_or_default}
-use Rattle.mig_base.specs.Layouts.{round_at}
+use Rattle.mig_base.proofs.Common.{◌≡◌, [], suc, ◌+◌, ◌∙◌, arith, get_or_default, round_at}
 use Rattle.mig_mover.proofs.VacancySteps.{left_more, ended_more}
 use Rattle.mig_mover.proofs.vacancies.end_rounds.Goals as goal
 

@@ -1,6 +1,5 @@
-use Rattle.std.proofs.Common.{◌≡◌, ◌++◌}
-use Rattle.mig_base.specs.declared.ids.Spot.{Spot}
-use Rattle.mig_mover.specs.Vacancies.{round_of, left_in, ended_in}
+use Rattle.mig_base.proofs.Common.{◌≡◌, ◌++◌}
+use Rattle.mig_mover.proofs.Common.{Spot, round_of, left_in, ended_in}
 use Rattle.mig_mover.proofs.vacancies.end_rounds.Given as goal
 
 abbrev pub invariant-loop-k : goal.invariant-loop-k

@@ -1,9 +1,6 @@
-use Rattle.std.proofs.Common.{arith, ◌≡◌, ℕ, ◌≤◌, ◌<◌, ◌*◌, ◌∙◌, ap, sym, subst, length, List, Vec, Global, Bool}
-use Rattle.std.proofs.lemmas.Result.{IfOk-weaker}
+use Rattle.mig_base.proofs.Common.{arith, ◌≡◌, ℕ, ◌≤◌, ◌<◌, ◌∙◌, ap, sym, subst, length, List, Vec, Global, IfOk-weaker, quotient, IsLimited}
 use Rattle.mig_base.specs.declared.ids.Colour.{Colour}
 use Rattle.mig_base.specs.declared.ids.CopyId.{CopyId}
-use Rattle.mig_base.specs.Bounding.{quotient}
-use Rattle.mig_base.specs.Colourings.{IsLimited}
 use Rattle.mig_board.specs.Colouring.{Colouring, degree_of}
 use Rattle.mig_plan.specs.Coloured.{AreColours}
 use Rattle.mig_split.specs.Sharing.{AreOnSides, AreThrough}
@@ -19,26 +16,18 @@ split_sides-requires-clause-q c =
 sides_there : (n left nodes : ℕ) (ends : List (CopyId × CopyId)) → n ≡ nodes → AreOnSides left n ends → AreOnSides left nodes ends
 sides_there n left nodes ends same a = subst (λ m. AreOnSides left m ends) same a
 
-pub share_nodes-requires-clause-q : goal.share_nodes-requires-clause-q
-share_nodes-requires-clause-q c =
+pub share_nodes-requires : goal.share_nodes-requires
+share_nodes-requires c =
     let valid = c.keeps_rules.ensures in
-    omega (arith, quotient_some c.args.graph.now (has_limits c.args.graph.now valid.disks_valid) valid.leaves_there c.requires.some, c.quotient-q.ensures)
-
-pub share_nodes-requires-clause-left : goal.share_nodes-requires-clause-left
-share_nodes-requires-clause-left c =
     let a = c.in_ok-sides.ensures.sides in
-    omega (arith, a.there 0 (omega (arith, a.one_each, c.requires.some)), c.in_ok-sides.ensures.nodes)
-
-pub share_nodes-requires-clause-sides : goal.share_nodes-requires-clause-sides
-share_nodes-requires-clause-sides c =
     let s = c.in_ok-sides.sides in
-    sides_there (length s.homes.items) s.left s.nodes s.ends.items (omega (arith, c.in_ok-sides.ensures.nodes)) c.in_ok-sides.ensures.sides.there
-
-pub share_nodes-requires-clause-most : goal.share_nodes-requires-clause-most
-share_nodes-requires-clause-most c = λ k h. c.in_ok-sides.ensures.sides.most k (omega (arith, h, c.in_ok-sides.ensures.nodes))
-
-pub share_nodes-requires-clause-few : goal.share_nodes-requires-clause-few
-share_nodes-requires-clause-few c = omega (arith, c.in_ok-sides.ensures.sides.one_each, c.keeps_rules.ensures.edges_most)
+    record {
+      q = omega (arith, quotient_some c.args.graph.now (has_limits c.args.graph.now valid.disks_valid) valid.leaves_there c.requires.some, c.quotient-q.ensures);
+      left = omega (arith, a.there 0 (omega (arith, a.one_each, c.requires.some)), c.in_ok-sides.ensures.nodes);
+      sides = sides_there (length s.homes.items) s.left s.nodes s.ends.items (omega (arith, c.in_ok-sides.ensures.nodes)) c.in_ok-sides.ensures.sides.there;
+      most = λ k h. c.in_ok-sides.ensures.sides.most k (omega (arith, h, c.in_ok-sides.ensures.nodes));
+      few = omega (arith, c.in_ok-sides.ensures.sides.one_each, c.keeps_rules.ensures.edges_most);
+    }
 
 pub new-requires-clause-in_range : goal.new-requires-clause-in_range
 new-requires-clause-in_range c =

@@ -1,7 +1,5 @@
-use Rattle.std.proofs.Common.{Vec, Global, ◌<◌, ◌≤◌, sym, subst}
-use Rattle.std.proofs.lemmas.Result.{IfOk-weaker}
+use Rattle.mig_base.proofs.Common.{Vec, Global, ◌<◌, ◌≤◌, sym, subst, IfOk-weaker, IsLimited}
 use Rattle.mig_base.specs.declared.ids.Colour.{Colour}
-use Rattle.mig_base.specs.Colourings.{IsLimited}
 use Rattle.mig_board.specs.Colouring.{Colouring, degree_of}
 use Rattle.mig_plan.specs.Coloured.{AreColours}
 use Rattle.mig_plan.proofs.Limits.{blank_plain, dealt_limited}

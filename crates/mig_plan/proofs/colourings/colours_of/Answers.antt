@@ -1,5 +1,4 @@
-use Rattle.std.proofs.Common.{arith, ◌≡◌, ◌∙◌, sym, Some, None, Option}
-use Rattle.std.proofs.lemmas.Option.{same_Some, none-some}
+use Rattle.mig_base.proofs.Common.{arith, ◌≡◌, ◌∙◌, sym, Some, None, Option, same_Some, none-some}
 use Rattle.mig_base.specs.declared.ids.Colour.{Colour}
 use Rattle.mig_plan.proofs.colourings.colours_of.Goals as goal
 

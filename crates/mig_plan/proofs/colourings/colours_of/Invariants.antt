@@ -1,6 +1,5 @@
-use Rattle.std.proofs.Common.{◌≡◌, ◌<◌, ℕ, length}
+use Rattle.mig_base.proofs.Common.{◌≡◌, ◌<◌, ℕ, length, colour_at}
 use Rattle.mig_board.specs.Colouring.{HasColour}
-use Rattle.mig_base.specs.Colourings.{colour_at}
 use Rattle.mig_plan.proofs.colourings.colours_of.Given as goal
 
 abbrev pub invariant-loop-edge : goal.invariant-loop-edge

@@ -1,9 +1,5 @@
-use Rattle.std.proofs.Common.{ℕ, ◌≤◌, List, length, Ok, Err}
-use Rattle.std.specs.Result.{IfOk}
-use Rattle.std.specs.Prelude.{Result}
+use Rattle.mig_base.proofs.Common.{ℕ, ◌≤◌, List, length, Ok, Err, IfOk, Result, Lists, Runs, Once, PlanFits}
 use Rattle.mig_base.specs.declared.ids.Shift.{Shift}
-use Rattle.mig_base.specs.InputLists.{Lists}
-use Rattle.mig_base.specs.Running.{Runs, Once, PlanFits}
 use Rattle.mig_base.specs.Planned.{GoesToTargets, IsFilled}
 use Rattle.mig_base.specs.MadePlans.{IsPlanOf}
 use Rattle.mig_plan.proofs.Least.{plan_made}
@@ -20,6 +16,6 @@ returns c =
     let e = c.plan_of.ensures in
     record {
       planned = if_made input c.in_ok-colours.count c.plan_of.result
-          (λ p fits runs once targets filled few. plan_made input c.args.graph.now p c.in_ok-colours.count c.keeps_rules.ensures c.requires.graph fits runs once targets filled few c.in_ok-colours.ensures.even c.in_ok-colours.ensures.one_way c.in_ok-colours.ensures.most)
+          (λ p fits runs once targets filled few. plan_made input c.args.graph.now p c.in_ok-colours.count c.keeps_rules.ensures c.requires.graph fits runs once targets filled few c.in_ok-colours.ensures.tight c.in_ok-colours.ensures.most)
           e.fits e.runs e.once e.targets e.filled e.few;
     }

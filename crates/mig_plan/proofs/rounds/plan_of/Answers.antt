@@ -1,12 +1,6 @@
-use Rattle.std.proofs.Common.{arith, ◌≡◌, ◌≤◌, ◌∙◌, ap, sym, subst, length, List, filter, map}
-use Rattle.std.proofs.lemmas.List.{length-map}
-use Rattle.std.proofs.lemmas.Result.{IfOk-weaker}
+use Rattle.mig_base.proofs.Common.{arith, ◌≡◌, ◌≤◌, ◌∙◌, ap, sym, subst, length, List, filter, map, length-map, IfOk-weaker, Transfers, moves, trip, IfOk, Runs, Once, PlanFits, IsLimited}
 use Rattle.mig_base.specs.declared.ids.Shift.{Shift}
-use Rattle.mig_base.specs.Transfers.{Transfers, moves, trip}
-use Rattle.std.specs.Result.{IfOk}
-use Rattle.mig_base.specs.Running.{Runs, Once, PlanFits}
 use Rattle.mig_base.specs.Planned.{IsPartition, IsPlan, GoesToTargets, IsFilled}
-use Rattle.mig_base.specs.Colourings.{IsLimited}
 use Rattle.mig_base.proofs.Planned.{partition_is_plan}
 use Rattle.mig_plan.specs.ColourRows.{is_filled, items_of}
 use Rattle.mig_plan.proofs.RowLaws.{is_partition, few_rounds, rows_are, rows_for}
@@ -31,20 +25,13 @@ planned c = partition_is_plan c.args.input.now c.args.targets.now _ c.keeps_rule
 pub holds : (c : goal.After-rounds_of) (P : List (List Shift) → Type 0) → P (filter is_filled (rows_for c.args.input.now c.args.targets.now c.args.colours.now c.args.count (length (moves c.args.input.now)))) → IfOk c.rounds_of.result P
 holds c P p = IfOk-weaker c.rounds_of.result (λ (p : List (List Shift)). p ≡ filter is_filled (map items_of c.in_ok-rows.rows.items)) P (λ x e. subst P (sym (e ∙ made c)) p) c.rounds_of.ensures
 
-pub returns-clause-fits : goal.returns-clause-fits
-returns-clause-fits c = holds c (λ (p : List (List Shift)). PlanFits c.args.input.now p) (planned c).fits
-
-pub returns-clause-runs : goal.returns-clause-runs
-returns-clause-runs c = holds c (λ (p : List (List Shift)). Runs c.args.input.now p) (planned c).runs
-
-pub returns-clause-once : goal.returns-clause-once
-returns-clause-once c = holds c (λ (p : List (List Shift)). Once c.args.input.now p) (planned c).once
-
-pub returns-clause-targets : goal.returns-clause-targets
-returns-clause-targets c = holds c (λ (p : List (List Shift)). GoesToTargets c.args.input.now p) (c.args.targets.now, c.requires.targets, (parts c).shifts)
-
-pub returns-clause-filled : goal.returns-clause-filled
-returns-clause-filled c = holds c (λ (p : List (List Shift)). IsFilled p) (parts c).filled
-
-pub returns-clause-few : goal.returns-clause-few
-returns-clause-few c = holds c (λ (p : List (List Shift)). length p ≤ c.args.count) (few_rounds c.args.input.now c.args.targets.now c.args.colours.now c.args.count (length (moves c.args.input.now)))
+pub returns : goal.returns
+returns c =
+    record {
+      fits = holds c (λ (p : List (List Shift)). PlanFits c.args.input.now p) (planned c).fits;
+      runs = holds c (λ (p : List (List Shift)). Runs c.args.input.now p) (planned c).runs;
+      once = holds c (λ (p : List (List Shift)). Once c.args.input.now p) (planned c).once;
+      targets = holds c (λ (p : List (List Shift)). GoesToTargets c.args.input.now p) (c.args.targets.now, c.requires.targets, (parts c).shifts);
+      filled = holds c (λ (p : List (List Shift)). IsFilled p) (parts c).filled;
+      few = holds c (λ (p : List (List Shift)). length p ≤ c.args.count) (few_rounds c.args.input.now c.args.targets.now c.args.colours.now c.args.count (length (moves c.args.input.now)));
+    }

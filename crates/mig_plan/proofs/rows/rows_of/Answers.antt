@@ -1,7 +1,5 @@
-use Rattle.std.proofs.Common.{arith, ◌∙◌, ap, length, ◌<◌, ◌++◌, ◌∷◌, []}
-use Rattle.std.proofs.lemmas.List.{length-set}
+use Rattle.mig_base.proofs.Common.{arith, ◌∙◌, ap, length, ◌<◌, ◌++◌, ◌∷◌, [], length-set, colour_at}
 use Rattle.mig_base.specs.declared.ids.Shift.{Shift}
-use Rattle.mig_base.specs.Colourings.{colour_at}
 use Rattle.mig_plan.proofs.RowLaws.{AreRows-more}
 use Rattle.mig_plan.proofs.rows.rows_of.Goals as goal
 

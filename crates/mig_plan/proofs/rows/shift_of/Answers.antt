@@ -1,7 +1,5 @@
-use Rattle.std.proofs.Common.{arith, ap, length, List, ℕ, ◌≡◌, ◌∙◌, ◌<◌}
+use Rattle.mig_base.proofs.Common.{arith, ap, length, List, ◌≡◌, ◌∙◌, ◌<◌, Transfers, moves, move_at}
 use Rattle.mig_base.specs.declared.ids.Spot.{Spot}
-use Rattle.mig_base.specs.Transfers.{Transfers, moves}
-use Rattle.mig_base.specs.Planned.{move_at}
 use Rattle.mig_base.proofs.Planned.{move_there}
 use Rattle.mig_plan.proofs.rows.shift_of.Goals as goal
 

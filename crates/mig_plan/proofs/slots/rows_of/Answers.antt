@@ -1,7 +1,6 @@
-use Rattle.std.proofs.Common.{arith, rules, ◌<◌, ◌∙◌, ap, Bool, List, true, length, get_or, set}
+use Rattle.mig_base.proofs.Common.{arith, rules, ◌<◌, ◌∙◌, ap, Bool, List, true, length, get_or, set, no_spot}
 use Rattle.std.specs.Vec.{with_items}
 use Rattle.std.proofs.lemmas.List.{with_items_is, places}
-use Rattle.mig_base.specs.InputLists.{no_spot}
 use Rattle.mig_plan.proofs.SlotLaws.{AreTaken-more}
 use Rattle.mig_plan.proofs.slots.rows_of.Goals as goal
 

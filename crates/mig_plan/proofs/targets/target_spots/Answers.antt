@@ -1,9 +1,6 @@
-use Rattle.std.proofs.Common.{arith, ◌≡◌, ◌<◌, ◌+◌, ◌∙◌, ap, sym, subst, Bool, List, ℕ, length, get_or, set, Vec, Global}
-use Rattle.std.proofs.lemmas.List.{get_or_default}
-use Rattle.mig_base.specs.declared.ids.Spot.{Spot}
+use Rattle.mig_base.proofs.Common.{arith, ◌≡◌, ◌<◌, ◌+◌, ◌∙◌, ap, sym, subst, Bool, List, ℕ, length, get_or, set, Vec, Global, get_or_default, Lists, IsInput, target}
 use Rattle.mig_base.specs.declared.ids.DiskId.{DiskId}
-use Rattle.mig_base.specs.InputLists.{Lists, IsInput}
-use Rattle.mig_base.specs.Transfers.{target}
+use Rattle.mig_base.specs.declared.ids.Spot.{Spot}
 use Rattle.mig_plan.specs.Cursors.{AreFirstTargets, IsFreeFrom}
 use Rattle.mig_plan.specs.TakenSlots.{AreTakenSlots, IsFirstFree, is_taken, row_at}
 use Rattle.mig_plan.proofs.SlotLaws.{free_from}

@@ -1,5 +1,4 @@
-use Rattle.std.proofs.Common.{◌≡◌, ◌∙◌, eq-eqb}
-use Rattle.std.proofs.lemmas.Bool.{eqb-true}
+use Rattle.mig_base.proofs.Common.{◌∙◌, eq-eqb, eqb-true}
 use Rattle.mig_shannon.proofs.Left.{complete_left, left_complete}
 use Rattle.mig_shannon.proofs.colourings.colour_within.Goals as goal
 

@@ -1,9 +1,8 @@
-use Rattle.std.proofs.Common.{arith, rules, inl, inr, sym, subst, ap}
-use Rattle.std.proofs.lemmas.Option.{slice_get_within}
-use Rattle.mig_board.specs.Colouring.{Colouring, IsProper}
-use Rattle.mig_board.proofs.Tables.{same_copy}
+use Rattle.mig_base.proofs.Common.{arith, rules, inl, inr, sym, subst, ap, slice_get_within, eqb-true}
 use Rattle.mig_base.specs.declared.ids.CopyId.{CopyId}
-use Rattle.std.proofs.lemmas.Bool.{eqb-true, eqb-false}
+use Rattle.mig_board.specs.Colouring.{Colouring, IsProper}
+use Rattle.std.proofs.lemmas.Bool.{eqb-false}
+use Rattle.mig_base.proofs.SameIds.{same_copy}
 use Rattle.mig_board.specs.Growth.{PaintsOne}
 use Rattle.mig_board.proofs.Laws.{not_full, not_both, present_at_first, present_at_second, PaintsOne-painted, PaintsOne-exchanged, PaintsOne-after, Recolours-exchanged, exchanges_plain}
 use Rattle.mig_shannon.proofs.Step.{IsFan, fan_common, free_by_walk, beside_by_walk}

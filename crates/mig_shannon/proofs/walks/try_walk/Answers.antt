@@ -1,7 +1,6 @@
-use Rattle.std.proofs.Common.{sym, subst, ap}
-use Rattle.std.proofs.lemmas.Bool.{eqb-false}
-use Rattle.std.proofs.lemmas.Option.{slice_get_within}
+use Rattle.mig_base.proofs.Common.{sym, subst, ap, slice_get_within}
 use Rattle.mig_base.specs.declared.ids.CopyId.{CopyId}
+use Rattle.std.proofs.lemmas.Bool.{eqb-false}
 use Rattle.mig_board.specs.Colouring.{Colouring}
 use Rattle.mig_board.specs.Growth.{PaintsOne}
 use Rattle.mig_board.proofs.Laws.{PaintsOne-painted, PaintsOne-exchanged, Recolours-exchanged, both_free, exchanges_plain}

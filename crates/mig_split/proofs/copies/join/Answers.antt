@@ -1,4 +1,4 @@
-use Rattle.std.proofs.Common.{◌≡◌, ◌∙◌, ap, subst, List, take, drop}
+use Rattle.mig_base.proofs.Common.{◌≡◌, ◌∙◌, ap, subst, List, take, drop}
 use Rattle.mig_base.specs.declared.ids.CopyId.{CopyId}
 use Rattle.mig_split.specs.Copies.{ArePairs}
 use Rattle.mig_split.proofs.Halves.{AreJoined-all}

@@ -1,5 +1,4 @@
-use Rattle.std.proofs.Common.{arith, ◌≡◌, ◌<◌, ◌∙◌, ap, sym, subst, ℕ, List, length, sum, All}
-use Rattle.std.proofs.lemmas.Result.{IfOk-weaker}
+use Rattle.mig_base.proofs.Common.{arith, ◌≡◌, ◌<◌, ◌∙◌, ap, sym, subst, ℕ, List, length, sum, All, IfOk-weaker}
 use Rattle.mig_base.specs.declared.ids.DiskId.{DiskId}
 use Rattle.mig_split.specs.declared.copies.Copies.{Copies}
 use Rattle.mig_split.specs.Dealing.{IsEnough}

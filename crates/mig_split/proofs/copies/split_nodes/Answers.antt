@@ -1,8 +1,5 @@
-use Rattle.std.proofs.Common.{arith, ◌≡◌, ◌<◌, ◌∙◌, ap, subst, List, ℕ, length, Bool, true, false, replicate, rules}
-use Rattle.std.proofs.lemmas.List.{get_or-replicate}
-use Rattle.std.proofs.lemmas.Result.{IfOk-weaker}
+use Rattle.mig_base.proofs.Common.{arith, ◌≡◌, ◌<◌, ◌∙◌, ap, subst, List, ℕ, length, Bool, true, false, replicate, rules, get_or-replicate, IfOk-weaker, is_forward}
 use Rattle.mig_base.specs.declared.ids.DiskId.{DiskId}
-use Rattle.mig_base.specs.Directions.{is_forward}
 use Rattle.mig_split.specs.declared.copies.Copies.{Copies}
 use Rattle.mig_split.specs.Dealing.{AreFew}
 use Rattle.mig_split.specs.Copies.{AreCopies, AreJoined}

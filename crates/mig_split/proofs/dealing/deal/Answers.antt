@@ -1,5 +1,4 @@
-use Rattle.std.proofs.Common.{sym, subst, ℕ, List}
-use Rattle.std.proofs.lemmas.Result.{IfOk-weaker}
+use Rattle.mig_base.proofs.Common.{sym, subst, ℕ, List, IfOk-weaker}
 use Rattle.mig_split.specs.declared.dealing.Dealt.{Dealt}
 use Rattle.mig_split.specs.Dealing.{IsDealt, IsDealtBy, IsEnough}
 use Rattle.mig_split.proofs.Numbers.{few_enough, IsDealt-few}

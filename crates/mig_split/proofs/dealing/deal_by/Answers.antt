@@ -1,7 +1,7 @@
-use Rattle.std.proofs.Common.{arith, nat_le, ◌≡◌, ◌∙◌, ap, sym, subst, List, ℕ, length, ◌<◌, ◌+◌, ◌++◌, ◌∷◌, [], set, get_or, All}
-use Rattle.std.proofs.lemmas.List.{get_or_default}
+use Rattle.mig_base.proofs.Common.{arith, ◌≡◌, ◌∙◌, ap, sym, subst, List, ℕ, length, ◌<◌, ◌+◌, ◌++◌, ◌∷◌, [], set, get_or, All, get_or_default}
 use Rattle.mig_base.specs.declared.ids.CopyId.{CopyId}
 use Rattle.mig_base.specs.declared.ids.DiskId.{DiskId}
+use Rattle.std.proofs.Common.{nat_le}
 use Rattle.mig_split.specs.declared.decks.Deck.{Deck}
 use Rattle.mig_split.specs.Dealing.{IsEnough, disk_at}
 use Rattle.mig_split.specs.Decks.{AreDecks, IsAfter, IsDealing, deck_at, no_deck}

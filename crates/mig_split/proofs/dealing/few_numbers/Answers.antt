@@ -1,7 +1,5 @@
-use Rattle.std.proofs.Common.{arith, ◌≡◌, ◌∙◌, ap, ℕ, List, length, map, get_or, Vec, Global}
-use Rattle.std.proofs.lemmas.List.{get_or-map, length-map}
-use Rattle.std.proofs.lemmas.Result.{IfOk-weaker}
-use Rattle.mig_base.specs.Transfers.{div_ceil}
+use Rattle.mig_base.proofs.Common.{arith, ◌≡◌, ◌∙◌, ap, ℕ, List, length, map, get_or, Vec, Global, length-map, IfOk-weaker, div_ceil}
+use Rattle.std.proofs.lemmas.List.{get_or-map}
 use Rattle.mig_split.specs.Dealing.{AreFew}
 use Rattle.mig_split.proofs.Numbers.{AreFew-all}
 use Rattle.mig_split.proofs.dealing.few_numbers.Goals as goal

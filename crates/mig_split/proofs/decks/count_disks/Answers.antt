@@ -1,5 +1,4 @@
-use Rattle.std.proofs.Common.{arith, ◌<◌, ◌∙◌, ap, ◌+◌, ℕ}
-use Rattle.std.proofs.lemmas.List.{length-take-le, get_or_default}
+use Rattle.mig_base.proofs.Common.{arith, ◌<◌, ◌∙◌, ap, ◌+◌, ℕ, length-take-le, get_or_default}
 use Rattle.mig_split.specs.Dealing.{disk_at}
 use Rattle.mig_split.proofs.Counts.{AreCounts-more, AreCounts-few}
 use Rattle.mig_split.proofs.decks.count_disks.Goals as goal

@@ -1,5 +1,4 @@
-use Rattle.std.proofs.Common.{arith, ◌≡◌, ◌∙◌, ◌++◌, ◌+◌, ◌-◌, ap, sym, subst, refl, List, ℕ, replicate, take, length, get_or, [], ◌∷◌}
-use Rattle.std.proofs.lemmas.List.{take_all}
+use Rattle.mig_base.proofs.Common.{arith, ◌≡◌, ◌∙◌, ◌++◌, ◌+◌, ◌-◌, ap, sym, subst, refl, List, ℕ, replicate, take, length, get_or, [], ◌∷◌, take_all}
 use Rattle.mig_base.specs.declared.ids.DiskId.{DiskId}
 use Rattle.mig_split.specs.declared.decks.Deck.{Deck}
 use Rattle.mig_split.specs.Decks.{AreDecks, AreFresh}

@@ -1,5 +1,4 @@
-use Rattle.std.proofs.Common.{arith, ◌<◌, ◌∙◌, ap, ◌+◌, ℕ}
-use Rattle.std.proofs.lemmas.List.{length-take-le, get_or_default}
+use Rattle.mig_base.proofs.Common.{arith, ◌<◌, ◌∙◌, ap, ◌+◌, ℕ, length-take-le, get_or_default}
 use Rattle.mig_split.specs.Dealing.{copy_at}
 use Rattle.mig_split.proofs.Filling.{AreCopyCounts-more, AreCopyCounts-few}
 use Rattle.mig_split.proofs.sharing.count_copies.Goals as goal

@@ -1,6 +1,6 @@
-use Rattle.std.proofs.Common.{arith, ◌≡◌, ◌≤◌, ◌<◌, ◌∙◌, ◌+◌, ◌++◌, ◌∷◌, [], sym, subst, ℕ, List}
-use Rattle.std.proofs.lemmas.List.{get_or_read}
+use Rattle.mig_base.proofs.Common.{arith, ◌≡◌, ◌<◌, ◌∙◌, ◌+◌, sym, subst, ℕ, List}
 use Rattle.mig_base.specs.declared.ids.CopyId.{CopyId}
+use Rattle.std.proofs.lemmas.List.{get_or_read}
 use Rattle.mig_split.specs.Dealing.{count_at}
 use Rattle.mig_split.specs.Sharing.{AreCopyCounts, IsFilling}
 use Rattle.mig_split.proofs.Filling.{AreFilled-all, IsFilling-more, IsFilling-start, filling_most, filling_small}

@@ -1,4 +1,4 @@
-use Rattle.std.proofs.Common.{subst, List}
+use Rattle.mig_base.proofs.Common.{subst, List}
 use Rattle.mig_base.specs.declared.ids.CopyId.{CopyId}
 use Rattle.mig_split.specs.Sharing.{AreNodesOf}
 use Rattle.mig_split.proofs.Shared.{IsShared-all}

@@ -1,12 +1,6 @@
-use Rattle.std.proofs.Common.{◌+◌, ℕ, List, sym, ◌∙◌, ap, subst}
-use Rattle.std.specs.List.{slice_get}
+use Rattle.mig_base.proofs.Common.{◌+◌, ℕ, List, sym, ◌∙◌, ap, subst, slice_get, AreDifferent}
 use Rattle.std.proofs.Math.Seq.{map-set_same}
-use Rattle.mig_base.specs.InputLists.{AreDifferent}
-use Rattle.mig_store.specs.declared.contents.Entry.{Entry}
-use Rattle.mig_store.specs.declared.held.Held.{Held}
-use Rattle.mig_store.specs.Asking.{ask, asked_by, seen}
-use Rattle.mig_store.specs.Entries.{first_of, IsWithin}
-use Rattle.mig_store.specs.HeldCells.{held_map}
+use Rattle.mig_store.proofs.Common.{Entry, Held, ask, asked_by, seen, first_of, IsWithin, held_map}
 use Rattle.mig_store.proofs.EntryLists.{seen_at-set, seen_at-none, set_all, within_one, within_more}
 use Rattle.mig_store.proofs.contents.ask_at.Goals as goal
 

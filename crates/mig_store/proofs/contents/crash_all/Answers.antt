@@ -1,8 +1,5 @@
 use Rattle.std.proofs.Common.{◌≡◌, ◌+◌, ◌++◌, ℕ, suc, List, get_or, set, take, drop, map, ◌∙◌, ap, arith}
-use Rattle.mig_store.specs.Entries.{crash_entry}
-use Rattle.mig_store.specs.HeldCells.{held_map}
-use Rattle.mig_store.specs.declared.contents.Entry.{Entry}
-use Rattle.mig_store.specs.declared.held.Held.{Held}
+use Rattle.mig_store.proofs.Common.{crash_entry, held_map, Entry, Held}
 use Rattle.mig_store.proofs.CellLists.{mapped-more, mapped-next}
 use Rattle.mig_store.proofs.contents.crash_all.Goals as goal
 

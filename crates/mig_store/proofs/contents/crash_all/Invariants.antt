@@ -1,6 +1,5 @@
 use Rattle.std.proofs.Common.{◌≡◌, ◌++◌, take, drop, map}
-use Rattle.mig_store.specs.Entries.{crash_entry}
-use Rattle.mig_store.specs.HeldCells.{held_map}
+use Rattle.mig_store.proofs.Common.{crash_entry, held_map}
 use Rattle.mig_store.proofs.contents.crash_all.Given as goal
 
 abbrev pub invariant-loop-h : goal.invariant-loop-h

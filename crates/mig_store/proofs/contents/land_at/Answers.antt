@@ -1,11 +1,6 @@
-use Rattle.std.proofs.Common.{ℕ, List, sym, ◌∙◌, ap, subst}
+use Rattle.mig_base.proofs.Common.{ℕ, List, sym, ◌∙◌, ap, subst, AreDifferent}
 use Rattle.std.proofs.Math.Seq.{map-set_same}
-use Rattle.mig_base.specs.InputLists.{AreDifferent}
-use Rattle.mig_store.specs.declared.contents.Entry.{Entry}
-use Rattle.mig_store.specs.declared.held.Held.{Held}
-use Rattle.mig_store.specs.Asking.{land, seen}
-use Rattle.mig_store.specs.Entries.{first_of, IsWithin}
-use Rattle.mig_store.specs.HeldCells.{held_map}
+use Rattle.mig_store.proofs.Common.{Entry, Held, land, seen, first_of, IsWithin, held_map}
 use Rattle.mig_store.proofs.EntryLists.{seen_at-set, seen_at-none, set_all}
 use Rattle.mig_store.proofs.contents.land_at.Goals as goal
 

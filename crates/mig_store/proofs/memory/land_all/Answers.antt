@@ -1,7 +1,5 @@
-use Rattle.std.proofs.Common.{◌≡◌, ℕ, List, length, refl, ◌∙◌, ap, arith}
-use Rattle.mig_base.specs.declared.cells.Flight.{Flight}
-use Rattle.mig_store.specs.Ledgers.{flying, moment_of}
-use Rattle.mig_store.specs.Memories.{land_many}
+use Rattle.mig_base.proofs.Common.{◌≡◌, ℕ, List, length, refl, ◌∙◌, ap, arith}
+use Rattle.mig_store.proofs.Common.{Flight, flying, moment_of, land_many}
 use Rattle.mig_store.proofs.Landings.{landed_none, landed_more, landed_next}
 use Rattle.mig_store.proofs.memory.land_all.Goals as goal
 

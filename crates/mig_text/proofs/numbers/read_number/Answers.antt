@@ -1,7 +1,4 @@
-use Rattle.std.proofs.Common.{◌≡◌, ◌≤◌, ◌∙◌, sym, ap, arith, refl, List, ℕ}
-use Rattle.std.specs.Fmt.{decimal}
-use Rattle.std.proofs.lemmas.Bool.{false≢true}
-use Rattle.mig_base.specs.Digits.{number_of}
+use Rattle.mig_base.proofs.Common.{◌≡◌, ◌∙◌, sym, ap, arith, refl, List, ℕ, decimal, false≢true, number_of}
 use Rattle.mig_text.specs.Digits.{IsNumeralWord}
 use Rattle.mig_text.proofs.Numerals.{no_number, no_other, spells_value}
 use Rattle.mig_text.proofs.numbers.read_number.Goals as goal

@@ -1,6 +1,4 @@
-use Rattle.std.proofs.Common.{arith, ap, sym, ◌∙◌, eq-eqb, eqb-true}
-use Rattle.std.specs.Fmt.{decimal}
-use Rattle.std.proofs.lemmas.Fmt.{decimal_injective}
+use Rattle.mig_base.proofs.Common.{arith, ap, sym, ◌∙◌, eq-eqb, eqb-true, decimal, decimal_injective}
 use Rattle.mig_text.proofs.words.is_number.Goals as goal
 
 pub returns-in-Some : goal.returns-in-Some

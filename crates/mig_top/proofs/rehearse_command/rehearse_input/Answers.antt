@@ -6,7 +6,7 @@ use Rattle.std.specs.declared.alloc.Global.{Global}
 use Rattle.mig_top.proofs.Common.{Cert, IsRehearsed, Lists, Shift, Transfers, bound_value, length-map, quotient, text_of_lines, transfers}
 use Rattle.mig_base.specs.Transfers.{moves, trip}
 use Rattle.mig_top.specs.declared.rehearse_command.Numbers.{Numbers}
-use Rattle.mig_top.specs.Planned.{IsCertified}
+use Rattle.mig_best.specs.Certified.{IsCertified}
 use Rattle.mig_top.specs.Rehearsed.{IsPlanDigest, eight_lines, verdict_word}
 use Rattle.mig_top.proofs.rehearse_command.rehearse_input.Goals as goal
 

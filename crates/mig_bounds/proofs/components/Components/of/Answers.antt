@@ -1,6 +1,4 @@
-use Rattle.std.proofs.Common.{ℕ, List, length, filter, eqb, get_or, sym, ap, ◌∙◌, arith, subst}
-use Rattle.std.specs.List.{range_with_len}
-use Rattle.mig_base.specs.Bounding.{limit_sum}
+use Rattle.mig_base.proofs.Common.{ℕ, List, length, filter, eqb, get_or, sym, ap, ◌∙◌, arith, subst, range_with_len, limit_sum}
 use Rattle.mig_bounds.specs.Components.{AreLimitSums, AreInsides}
 use Rattle.mig_bounds.proofs.ComponentCounts.{inside_small}
 use Rattle.mig_bounds.proofs.ComponentSets.{inside_labelled}

@@ -1,9 +1,6 @@
-use Rattle.std.proofs.Common.{◌≡◌, ◌<◌, ℕ, All, List, ap, arith, length, refl, replicate, subst, sym, ◌∙◌}
-use Rattle.std.proofs.lemmas.List.{length-replicate}
+use Rattle.mig_base.proofs.Common.{◌≡◌, ◌<◌, ℕ, All, List, ap, arith, length, refl, replicate, subst, sym, ◌∙◌, length-replicate}
+use Rattle.mig_check.proofs.Common.{Spot, has_spot, IsTakenSet, layout_of}
 use Rattle.std.proofs.lemmas.List.Elements.{All-replicate}
-use Rattle.mig_base.specs.declared.ids.Spot.{Spot}
-use Rattle.mig_check.specs.SpotSets.{has_spot}
-use Rattle.mig_check.specs.Tables.{IsTakenSet, layout_of}
 use Rattle.mig_check.proofs.rounds.Tables.new.Goals as goal
 
 -- a list of so many zeros

@@ -1,9 +1,7 @@
-use Rattle.std.proofs.Common.{◌≢◌, ap, sym, subst, arith, length}
-use Rattle.mig_base.specs.Transfers.{Trip, Transfers}
+use Rattle.mig_base.proofs.Common.{◌≢◌, ap, sym, subst, arith, length, Trip, Transfers, length-map}
 use Rattle.mig_graph.specs.declared.edges.Edge.{Edge}
 use Rattle.mig_graph.specs.Edges.{edge_trip}
 use Rattle.mig_graph.proofs.Made.{All-unmap}
-use Rattle.std.proofs.lemmas.List.{length-map}
 use Rattle.mig_graph.proofs.graphs.Graph.ends.Goals as goal
 
 pub returns-clause-apart : goal.returns-clause-apart

@@ -1,8 +1,4 @@
-use Rattle.std.proofs.Common.{arith, ap, length}
-use Rattle.std.proofs.lemmas.List.{get_or_default}
-use Rattle.std.proofs.lemmas.List.Sums.{count_by-le-length}
-use Rattle.mig_base.specs.Transfers.{touches}
-use Rattle.mig_base.specs.Transfers.{Transfers}
+use Rattle.mig_base.proofs.Common.{arith, ap, length, get_or_default, count_by-le-length, touches, Transfers}
 use Rattle.mig_graph.specs.Kept.{transfers_of}
 use Rattle.mig_graph.proofs.graphs.Graph.load.Goals as goal
 

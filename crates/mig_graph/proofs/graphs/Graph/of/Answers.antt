@@ -1,39 +1,22 @@
-use Rattle.std.proofs.Common.{arith, ◌≡◌, ◌≢◌, ◌<◌, ◌∙◌, ap, sym, subst, List, ℕ, length, map, All}
-use Rattle.std.specs.Prelude.{MatchBool}
-use Rattle.std.proofs.lemmas.List.{length-map}
+use Rattle.mig_base.proofs.Common.{arith, ◌≡◌, ◌≢◌, ◌<◌, ◌∙◌, ap, sym, subst, List, ℕ, length, map, All, MatchBool, length-map, Trip, trips}
 use Rattle.mig_base.specs.declared.inputs.Disk.{Disk}
-use Rattle.mig_base.specs.Transfers.{Trip}
-use Rattle.mig_base.specs.Transfers.{trips}
 use Rattle.mig_graph.specs.declared.edges.Edge.{Edge}
 use Rattle.mig_graph.specs.Edges.{edge_trip}
 use Rattle.mig_graph.specs.Loads.{AreLoads, EvenBy, quotient_by}
 use Rattle.mig_graph.proofs.Made.{valid_graph, All-unmap, is_counted}
 use Rattle.mig_graph.proofs.graphs.Graph.of.Goals as goal
 
-pub loads_of-requires-clause-few : goal.loads_of-requires-clause-few
-loads_of-requires-clause-few c =
+pub loads_of-requires : goal.loads_of-requires
+loads_of-requires c =
     let g = valid_graph c.args.input.now c.disks.ensures.valid in
-    omega (arith, ap (λ (x : List Edge). length x) c.deref.ensures.value, length-map c.in_ok-edges.edges.items edge_trip, ap (λ (x : List Trip). length x) c.in_ok-edges.ensures.trips, g.edges_most)
-
-pub loads_of-requires-clause-from : goal.loads_of-requires-clause-from
-loads_of-requires-clause-from c =
     let n : c.len.result ≡ length c.args.input.now.disks = c.len.ensures ∙ c.in_ok-disks.ensures.len ∙ ap (λ (x : List Disk). length x) c.disks.ensures.value in
-    let g = valid_graph c.args.input.now c.disks.ensures.valid in
     let same : map edge_trip c.deref.result.now ≡ trips c.args.input.now = ap (map edge_trip) c.deref.ensures.value ∙ c.in_ok-edges.ensures.trips in
-    subst (λ m. All (λ (e : Edge). e.from.0 < m) c.deref.result.now) (sym n) (All-unmap (λ (t : Trip). t.leaves < length c.args.input.now.disks) edge_trip c.deref.result.now (subst (λ (x : List Trip). All (λ (t : Trip). t.leaves < length c.args.input.now.disks) x) (sym same) g.leaves_there))
-
-pub loads_of-requires-clause-to : goal.loads_of-requires-clause-to
-loads_of-requires-clause-to c =
-    let n : c.len.result ≡ length c.args.input.now.disks = c.len.ensures ∙ c.in_ok-disks.ensures.len ∙ ap (λ (x : List Disk). length x) c.disks.ensures.value in
-    let g = valid_graph c.args.input.now c.disks.ensures.valid in
-    let same : map edge_trip c.deref.result.now ≡ trips c.args.input.now = ap (map edge_trip) c.deref.ensures.value ∙ c.in_ok-edges.ensures.trips in
-    subst (λ m. All (λ (e : Edge). e.to.0 < m) c.deref.result.now) (sym n) (All-unmap (λ (t : Trip). t.reaches < length c.args.input.now.disks) edge_trip c.deref.result.now (subst (λ (x : List Trip). All (λ (t : Trip). t.reaches < length c.args.input.now.disks) x) (sym same) g.reaches_there))
-
-pub loads_of-requires-clause-apart : goal.loads_of-requires-clause-apart
-loads_of-requires-clause-apart c =
-    let g = valid_graph c.args.input.now c.disks.ensures.valid in
-    let same : map edge_trip c.deref.result.now ≡ trips c.args.input.now = ap (map edge_trip) c.deref.ensures.value ∙ c.in_ok-edges.ensures.trips in
-    All-unmap (λ (t : Trip). t.leaves ≢ t.reaches) edge_trip c.deref.result.now (subst (λ (x : List Trip). All (λ (t : Trip). t.leaves ≢ t.reaches) x) (sym same) g.apart)
+    record {
+      few = omega (arith, ap (λ (x : List Edge). length x) c.deref.ensures.value, length-map c.in_ok-edges.edges.items edge_trip, ap (λ (x : List Trip). length x) c.in_ok-edges.ensures.trips, g.edges_most);
+      from = subst (λ m. All (λ (e : Edge). e.from.0 < m) c.deref.result.now) (sym n) (All-unmap (λ (t : Trip). t.leaves < length c.args.input.now.disks) edge_trip c.deref.result.now (subst (λ (x : List Trip). All (λ (t : Trip). t.leaves < length c.args.input.now.disks) x) (sym same) g.leaves_there));
+      to = subst (λ m. All (λ (e : Edge). e.to.0 < m) c.deref.result.now) (sym n) (All-unmap (λ (t : Trip). t.reaches < length c.args.input.now.disks) edge_trip c.deref.result.now (subst (λ (x : List Trip). All (λ (t : Trip). t.reaches < length c.args.input.now.disks) x) (sym same) g.reaches_there));
+      apart = All-unmap (λ (t : Trip). t.leaves ≢ t.reaches) edge_trip c.deref.result.now (subst (λ (x : List Trip). All (λ (t : Trip). t.leaves ≢ t.reaches) x) (sym same) g.apart);
+    }
 
 pub invariant_of-result : goal.invariant_of-result
 invariant_of-result c =

@@ -1,6 +1,5 @@
-use Rattle.std.proofs.Common.{◌≡◌, ◌∙◌, ap, List}
-use Rattle.mig_base.specs.declared.ids.Shift.{Shift}
-use Rattle.mig_mover.specs.Tasks.{Task}
+use Rattle.std.proofs.Common.{◌∙◌, ap}
+use Rattle.mig_base.specs.Tasks.{Task}
 use Rattle.mig_mover.proofs.JobRounds.{round_here}
 use Rattle.mig_mover.proofs.jobs.Job.round.Goals as goal
 

@@ -1,8 +1,5 @@
-use Rattle.std.proofs.Common.{◌≡◌, cond, take}
-use Rattle.std.specs.List.{list_any}
-use Rattle.mig_base.specs.declared.ids.Spot.{Spot}
-use Rattle.mig_mover.specs.JobTables.{same_spot}
-use Rattle.mig_mover.specs.Vacancies.{round_of}
+use Rattle.mig_base.proofs.Common.{◌≡◌, cond, take, list_any}
+use Rattle.mig_mover.proofs.Common.{Spot, same_spot, round_of}
 use Rattle.mig_mover.proofs.left_rounds.LeftRounds.leave.Given as goal
 
 abbrev pub invariant-loop-s : goal.invariant-loop-s

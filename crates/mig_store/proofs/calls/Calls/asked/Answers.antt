@@ -1,6 +1,5 @@
 use Rattle.std.proofs.Common.{ℕ, List, length, All, sym, subst}
-use Rattle.mig_store.specs.declared.calls.Note.{Note}
-use Rattle.mig_store.specs.Calls.{IsSpan}
+use Rattle.mig_store.proofs.Common.{Note, IsSpan}
 use Rattle.mig_store.proofs.calls.Calls.asked.Goals as goal
 
 pub part-requires : goal.part-requires

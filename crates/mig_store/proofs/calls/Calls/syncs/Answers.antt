@@ -1,8 +1,5 @@
-use Rattle.std.proofs.Common.{List, length, sym, ◌∙◌, ap, arith}
-use Rattle.std.specs.List.{count_by}
-use Rattle.std.proofs.lemmas.List.{take_all}
-use Rattle.mig_store.specs.declared.calls.Note.{Note}
-use Rattle.mig_store.specs.Calls.{Recorded}
+use Rattle.mig_base.proofs.Common.{List, length, sym, ◌∙◌, ap, arith, count_by, take_all}
+use Rattle.mig_store.proofs.Common.{Note, Recorded}
 use Rattle.mig_store.specs.Ledgers.{is_sync}
 use Rattle.mig_store.proofs.NoteLists.{notes_sync, syncs_of}
 use Rattle.mig_store.proofs.calls.Calls.syncs.Goals as goal

@@ -1,5 +1,4 @@
-use Rattle.std.proofs.Common.{◌≡◌, ◌≤◌, take}
-use Rattle.std.specs.List.{count_by}
+use Rattle.mig_base.proofs.Common.{◌≡◌, ◌≤◌, take, count_by}
 use Rattle.mig_store.proofs.NoteLists.{notes_sync}
 use Rattle.mig_store.proofs.calls.Calls.syncs.Given as goal
 

@@ -1,16 +1,7 @@
-use Rattle.std.proofs.Common.{◌≡◌, ◌<◌, ◌+◌, ◌++◌, ◌∷◌, [], ℕ, true, false, List, length, Some, IsSome, refl, sym, ◌∙◌, ap, subst, arith, length-append}
-use Rattle.std.proofs.lemmas.Bool.{cond-true, cond-false}
-use Rattle.mig_base.specs.declared.cells.Event.{Event}
-use Rattle.mig_base.specs.declared.cells.Flight.{Flight}
-use Rattle.mig_base.specs.Cells.{cell_len}
-use Rattle.mig_base.specs.Flights.{began, after_events, IsTargetOf, IsSourceOf}
+use Rattle.mig_base.proofs.Common.{◌≡◌, ◌<◌, ◌+◌, ◌++◌, ◌∷◌, [], ℕ, true, false, List, length, Some, IsSome, refl, sym, ◌∙◌, ap, subst, arith, length-append, cond-true, cond-false, cell_len, began}
+use Rattle.mig_base.proofs.Common.{after_events, IsTargetOf, IsSourceOf}
+use Rattle.mig_store.proofs.Common.{Event, Flight, Copies, Call, Contents, ask, firsts, seen_all, AreWithin, change_at, held_at, Log, flying, reads, moment_of, IsMoment, after_call, Held}
 use Rattle.mig_base.proofs.Landing.{flights_began}
-use Rattle.mig_store.specs.Calls.{Copies, Call}
-use Rattle.mig_store.specs.Asking.{Contents, ask}
-use Rattle.mig_store.specs.Entries.{firsts, seen_all, AreWithin}
-use Rattle.mig_store.specs.HeldCells.{change_at, held_at}
-use Rattle.mig_store.specs.Ledgers.{Log, flying, reads, moment_of, IsMoment, after_call}
-use Rattle.mig_store.specs.declared.held.Held.{Held}
 use Rattle.mig_store.proofs.EntryLists.{asked_last, same_cells, seen_more, within_all}
 use Rattle.mig_store.proofs.Logs.{logged, shown-is, shown-some}
 use Rattle.mig_store.proofs.Sources.{source, source_read, source_held, source_long, source_pushed}

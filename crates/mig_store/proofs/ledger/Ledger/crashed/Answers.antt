@@ -1,15 +1,5 @@
-use Rattle.std.proofs.Common.{◌≡◌, [], ℕ, List, Option, length, map, sym, ◌∙◌, ap, subst, arith}
-use Rattle.std.specs.Option.{option_map}
-use Rattle.mig_base.specs.declared.cells.Cell.{Cell}
-use Rattle.mig_base.specs.declared.cells.Event.{Event}
-use Rattle.mig_base.specs.declared.cells.Flight.{Flight}
-use Rattle.mig_base.specs.Images.{Image}
-use Rattle.mig_store.specs.declared.contents.Entry.{Entry}
-use Rattle.mig_store.specs.declared.held.Held.{Held}
-use Rattle.mig_store.specs.Asking.{Contents, fresh, picked}
-use Rattle.mig_store.specs.Entries.{firsts, seen_all, crash_entry, AreWithin}
-use Rattle.mig_store.specs.HeldCells.{cell_of, held_at, held_map}
-use Rattle.mig_store.specs.Ledgers.{Log, IsLog, moment_of}
+use Rattle.mig_base.proofs.Common.{◌≡◌, [], ℕ, List, Option, length, map, sym, ◌∙◌, ap, subst, arith, option_map, Image}
+use Rattle.mig_store.proofs.Common.{Cell, Event, Flight, Entry, Held, Contents, fresh, picked, firsts, seen_all, crash_entry, AreWithin, cell_of, held_at, held_map, Log, IsLog, moment_of}
 use Rattle.mig_store.proofs.CellLists.{cells_of-map}
 use Rattle.mig_store.proofs.Crashes.{HaveLengths, fresh_log, after_crash, crash_lengths, held_after, first_after, first_is, held_is}
 use Rattle.mig_store.proofs.EntryLists.{seen_crashed, firsts_crashed, within_crashed}

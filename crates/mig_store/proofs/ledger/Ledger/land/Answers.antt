@@ -1,15 +1,7 @@
-use Rattle.std.proofs.Common.{◌≡◌, ◌<◌, ◌++◌, ◌∷◌, [], List, length, get_or, sym, ◌∙◌, ap, subst, arith, length-append}
-use Rattle.std.specs.List.{Contains, remove}
-use Rattle.mig_base.specs.declared.cells.Event.{Event}
-use Rattle.mig_base.specs.declared.cells.Flight.{Flight}
-use Rattle.mig_base.specs.Flights.{ended}
+use Rattle.mig_base.proofs.Common.{◌≡◌, ◌<◌, ◌++◌, ◌∷◌, [], List, length, get_or, sym, ◌∙◌, ap, subst, arith, length-append, Contains, ended}
+use Rattle.mig_store.proofs.Common.{Event, Flight, Lands, Call, Contents, land, firsts, seen_all, change_at, held_at, Log, flying, moment_of, Held}
+use Rattle.std.specs.List.{remove}
 use Rattle.mig_base.proofs.Landing.{flights_remove}
-use Rattle.mig_store.specs.Calls.{Lands, Call}
-use Rattle.mig_store.specs.Asking.{Contents, land}
-use Rattle.mig_store.specs.Entries.{firsts, seen_all}
-use Rattle.mig_store.specs.HeldCells.{change_at, held_at}
-use Rattle.mig_store.specs.Ledgers.{Log, flying, moment_of}
-use Rattle.mig_store.specs.declared.held.Held.{Held}
 use Rattle.mig_store.proofs.EntryLists.{same_cells, seen_more, within_all, within_more}
 use Rattle.mig_store.proofs.Logs.{logged}
 use Rattle.mig_store.proofs.Steps.{landed_moment, landed_flights}

@@ -1,13 +1,5 @@
-use Rattle.std.proofs.Common.{◌≡◌, [], ℕ, List, length, map, sym, ◌∙◌, ap, subst, arith}
-use Rattle.std.specs.Option.{option_map}
-use Rattle.mig_base.specs.declared.cells.Event.{Event}
-use Rattle.mig_base.specs.declared.cells.Flight.{Flight}
-use Rattle.mig_store.specs.declared.contents.Entry.{Entry}
-use Rattle.mig_store.specs.declared.held.Held.{Held}
-use Rattle.mig_store.specs.Asking.{Contents, fresh}
-use Rattle.mig_store.specs.Entries.{firsts, seen_all, AreWithin, zero_entry}
-use Rattle.mig_store.specs.HeldCells.{cell_of, held_at, held_map, zero_held}
-use Rattle.mig_store.specs.Ledgers.{IsLog}
+use Rattle.mig_base.proofs.Common.{◌≡◌, [], ℕ, List, length, map, sym, ◌∙◌, ap, subst, arith, option_map}
+use Rattle.mig_store.proofs.Common.{Event, Flight, Entry, Held, Contents, fresh, firsts, seen_all, AreWithin, zero_entry, cell_of, held_at, held_map, zero_held, IsLog}
 use Rattle.mig_store.proofs.CellLists.{held_at-map, zero-lengths}
 use Rattle.mig_store.proofs.Crashes.{HaveLengths, fresh_log}
 use Rattle.mig_store.proofs.EntryLists.{seen_zero, firsts_zero, within_zero, cells_of-entries}

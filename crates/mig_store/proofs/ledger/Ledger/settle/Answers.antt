@@ -1,13 +1,5 @@
-use Rattle.std.proofs.Common.{◌≡◌, ◌<◌, ◌+◌, ◌∷◌, [], List, length, Option, refl, sym, ◌∙◌, ap, subst, arith, length-append}
-use Rattle.std.specs.Option.{option_map}
-use Rattle.mig_base.specs.declared.cells.Cell.{Cell}
-use Rattle.mig_store.specs.Calls.{Synced, Call}
-use Rattle.mig_store.specs.Asking.{Contents}
-use Rattle.mig_store.specs.declared.held.Held.{Held}
-use Rattle.mig_store.specs.Asking.{settle}
-use Rattle.mig_store.specs.Entries.{firsts, seen_all}
-use Rattle.mig_store.specs.HeldCells.{held_at}
-use Rattle.mig_store.specs.Ledgers.{Log, flying, moment_of}
+use Rattle.mig_base.proofs.Common.{◌≡◌, ◌<◌, ◌+◌, ◌∷◌, [], List, length, Option, refl, sym, ◌∙◌, ap, subst, arith, length-append, option_map}
+use Rattle.mig_store.proofs.Common.{Cell, Synced, Call, Contents, settle, Held, firsts, seen_all, held_at, Log, flying, moment_of}
 use Rattle.mig_store.proofs.CellLists.{held_at-map}
 use Rattle.mig_store.proofs.EntryLists.{seen_more, seen_next, within_all, within_more, within_next}
 use Rattle.mig_store.proofs.Logs.{logged}

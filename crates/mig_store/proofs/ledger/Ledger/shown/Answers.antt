@@ -1,13 +1,5 @@
-use Rattle.std.proofs.Common.{◌≡◌, ℕ, List, Option, Some, None, sym, ◌∙◌, ap, subst}
-use Rattle.std.specs.Option.{option_map}
-use Rattle.mig_base.specs.declared.cells.Cell.{Cell}
-use Rattle.mig_base.specs.Cells.{cell_len}
-use Rattle.mig_store.specs.declared.contents.Entry.{Entry}
-use Rattle.mig_store.specs.declared.held.Held.{Held}
-use Rattle.mig_store.specs.Asking.{Contents}
-use Rattle.mig_store.specs.Entries.{firsts}
-use Rattle.mig_store.specs.HeldCells.{held_at}
-use Rattle.mig_store.specs.Ledgers.{Log, moment_of, reads}
+use Rattle.mig_base.proofs.Common.{◌≡◌, ℕ, List, Option, Some, None, sym, ◌∙◌, ap, subst, option_map, cell_len}
+use Rattle.mig_store.proofs.Common.{Cell, Entry, Held, Contents, firsts, held_at, Log, moment_of, reads}
 use Rattle.mig_store.proofs.EntryLists.{reads_entry, reads_nothing}
 use Rattle.mig_store.proofs.Logs.{shown-length}
 use Rattle.mig_store.proofs.ledger.Ledger.shown.Goals as goal

@@ -1,11 +1,5 @@
-use Rattle.std.proofs.Common.{◌≡◌, ◌<◌, ◌+◌, ◌∷◌, [], ℕ, List, length, sym, ◌∙◌, ap, subst, arith, length-append}
-use Rattle.mig_base.specs.Flights.{IsTargetOf, IsSourceOf}
-use Rattle.mig_store.specs.Calls.{Wrote, Call}
-use Rattle.mig_store.specs.Asking.{Contents, ask}
-use Rattle.mig_store.specs.Entries.{firsts, seen_all, AreWithin}
-use Rattle.mig_store.specs.HeldCells.{change_at, held_at}
-use Rattle.mig_store.specs.Ledgers.{Log, flying, moment_of, IsMoment, after_call}
-use Rattle.mig_store.specs.declared.held.Held.{Held}
+use Rattle.mig_base.proofs.Common.{◌≡◌, ◌<◌, ◌+◌, ◌∷◌, [], ℕ, List, length, sym, ◌∙◌, ap, subst, arith, length-append, IsTargetOf, IsSourceOf}
+use Rattle.mig_store.proofs.Common.{Wrote, Call, Contents, ask, firsts, seen_all, AreWithin, change_at, held_at, Log, flying, moment_of, IsMoment, after_call, Held}
 use Rattle.mig_store.proofs.EntryLists.{asked_last, same_cells, seen_more, within_all}
 use Rattle.mig_store.proofs.Logs.{logged}
 use Rattle.mig_store.proofs.Steps.{wrote_moment}

@@ -1,10 +1,5 @@
-use Rattle.std.proofs.Common.{◌≡◌, ◌∷◌, [], Bool, not, cond, sym, ◌∙◌, ap, subst}
-use Rattle.mig_base.specs.declared.cells.Flight.{Flight}
-use Rattle.mig_base.specs.Flights.{began}
-use Rattle.mig_base.specs.Stores.{Changes}
-use Rattle.mig_store.specs.Calls.{Copies}
-use Rattle.mig_store.specs.Ledgers.{Log, IsMoment, moment_of}
-use Rattle.mig_store.specs.Memories.{Memory, pushed, state_of}
+use Rattle.mig_base.proofs.Common.{◌≡◌, ◌∷◌, [], Bool, not, cond, sym, ◌∙◌, ap, subst, began, Changes}
+use Rattle.mig_store.proofs.Common.{Flight, Copies, Log, IsMoment, moment_of, Memory, pushed, state_of}
 use Rattle.mig_store.proofs.Serving.{mem_still, mem_asked, mem_moving}
 use Rattle.mig_store.proofs.Sources.{copy_recorded}
 use Rattle.mig_store.proofs.SureSteps.{slot_len}

@@ -1,6 +1,4 @@
-use Rattle.std.proofs.Common.{◌≡◌, ◌∷◌, [], Some, ap, subst}
-use Rattle.mig_base.specs.Images.{NoCell}
-use Rattle.mig_base.specs.Stores.{Ends}
+use Rattle.mig_base.proofs.Common.{◌≡◌, ◌∷◌, [], Some, ap, subst, NoCell, Ends}
 use Rattle.mig_base.proofs.Landing.{ends_quiet}
 use Rattle.mig_store.specs.Ledgers.{state_at}
 use Rattle.mig_store.specs.Memories.{Memory, next_flight, state_of}

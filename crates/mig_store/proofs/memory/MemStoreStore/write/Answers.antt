@@ -1,7 +1,5 @@
 use Rattle.std.proofs.Common.{◌≡◌, not, ◌∙◌, ap, subst}
-use Rattle.mig_store.specs.Calls.{Wrote}
-use Rattle.mig_store.specs.Ledgers.{Log, IsMoment, moment_of}
-use Rattle.mig_store.specs.Memories.{Memory, pushed}
+use Rattle.mig_store.proofs.Common.{Wrote, Log, IsMoment, moment_of, Memory, pushed}
 use Rattle.mig_store.proofs.Serving.{mem_still, mem_wrote, mem_written}
 use Rattle.mig_store.proofs.memory.MemStoreStore.write.Goals as goal
 

@@ -1,6 +1,5 @@
 use Rattle.std.proofs.Common.{ℕ, List, map, sym, ◌∙◌, ap, subst}
-use Rattle.mig_store.specs.declared.held.Held.{Held}
-use Rattle.mig_store.specs.HeldCells.{HasLengths, cell_of}
+use Rattle.mig_store.proofs.Common.{Held, HasLengths, cell_of}
 use Rattle.mig_store.proofs.CellLists.{zero-lengths, cells_of-zero}
 use Rattle.mig_store.proofs.sure.SureStore.new.Goals as goal
 

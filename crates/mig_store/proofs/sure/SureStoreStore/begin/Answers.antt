@@ -1,12 +1,5 @@
-use Rattle.std.proofs.Common.{◌≡◌, ℕ, [], ◌∷◌, List, length, Some, sym, ◌∙◌, ap, subst}
-use Rattle.mig_base.specs.declared.cells.Event.{Event}
-use Rattle.mig_base.specs.Cells.{cell_len}
-use Rattle.mig_base.specs.Images.{IsCopy}
-use Rattle.mig_base.specs.Flights.{began}
-use Rattle.mig_base.specs.Stores.{Changes}
-use Rattle.mig_store.specs.declared.held.Held.{Held}
-use Rattle.mig_store.specs.HeldCells.{held_at}
-use Rattle.mig_store.specs.Sure.{sure_state}
+use Rattle.mig_base.proofs.Common.{◌≡◌, ℕ, [], ◌∷◌, List, length, Some, sym, ◌∙◌, ap, subst, cell_len, IsCopy, began, Changes}
+use Rattle.mig_store.proofs.Common.{Event, Held, held_at, sure_state}
 use Rattle.mig_store.proofs.SureSteps.{slot_len, held_len, sure-lengths, sure-changes, sure-copied}
 use Rattle.mig_store.proofs.sure.SureStoreStore.begin.Goals as goal
 

@@ -1,8 +1,5 @@
-use Rattle.std.proofs.Common.{◌≡◌, ℕ, [], List, length, IfSome, sym, ◌∙◌, ap, subst}
-use Rattle.mig_base.specs.Stores.{Changes}
-use Rattle.mig_store.specs.declared.held.Held.{Held}
-use Rattle.mig_store.specs.HeldCells.{held_at}
-use Rattle.mig_store.specs.Sure.{sure_state}
+use Rattle.mig_base.proofs.Common.{◌≡◌, ℕ, [], List, length, IfSome, sym, ◌∙◌, ap, subst, Changes}
+use Rattle.mig_store.proofs.Common.{Held, held_at, sure_state}
 use Rattle.mig_store.proofs.SureSteps.{sure-lengths, sure-changes, sure-written}
 use Rattle.mig_store.proofs.sure.SureStoreStore.write.Goals as goal
 

@@ -1,0 +1,2 @@
+pub mod BestFits
+pub mod EvenBound

@@ -1,0 +1,127 @@
+-- What the first bytes of a slot say.
+use Rattle.std.proofs.Common.{◌≡◌, ◌+◌, ◌-◌, ◌<◌, ◌≤◌, ◌++◌, ℕ, List, Option, Some, None, IsTrue, IfSome, Result, Ok, Err, OnOk, length, replicate, slice_index, slice_range, take, IsSome, ◌↔◌, refl, sym, ◌∙◌, ap, subst, arith, rules}
+use Rattle.std.proofs.Math.Seq.{take-append_seam}
+use Rattle.std.proofs.lemmas.List.{length-append, length-replicate, places}
+use Rattle.mig_base.specs.Naming.{IsName}
+use Rattle.mig_base.specs.declared.cells.Cell.{Cell}
+use Rattle.std.proofs.lemmas.Bool.{false≢true}
+use Rattle.mig_base.specs.declared.cells.Cell.TheVariants.{Slot, Head, Gate, Mark}
+use Rattle.mig_base.specs.Cells.{cell_len, is_slot}
+use Rattle.mig_base.specs.Images.{IsCopy}
+use Rattle.mig_base.specs.Slots.{header_of}
+use Rattle.mig_calls.specs.Places.{file_of, offset_of}
+use Rattle.mig_calls.specs.Files.{FilesState, FilesLook, NoByte, HasBytes, EndsAt}
+use Rattle.mig_calls.specs.Refusals.{HoldsItem, WhereTold}
+use Rattle.mig_files.specs.Derived.{cells_of}
+use Rattle.mig_files.specs.Seeing.{SeesMore, IsElsewhere, IsFree, IsFreeFor}
+use Rattle.mig_files.proofs.Derivation.{window-has, cell_read, cell_written}
+use Rattle.mig_files.proofs.FilesSteps.{told_before, told_after, bytes_after, bytes_before}
+
+header_len : (item : List ℕ) → length item ≤ 32 → length (header_of item) ≡ 34
+header_len item short =
+    let both = length-append item (replicate (32 - length item) 0) in
+    let zeros = length-replicate {A = ℕ} (32 - length item) 0 in
+    omega (arith, short, both, zeros)
+
+-- as many bytes of one place are the same
+pub same_bytes : (f : ℕ → ℕ) (at : ℕ) (a b : List ℕ) → length a ≡ 34 → length b ≡ 34 → HasBytes f at 34 a → HasBytes f at 34 b → a ≡ b
+same_bytes f at a b la lb ha hb = window-has f at 34 a la ha ∙ sym (window-has f at 34 b lb hb)
+
+-- a slot that holds an item begins with its header
+pub held_is : (s : FilesState) (slot : Cell) (first item : List ℕ) → length first ≡ 34 → length item ≤ 32 → HasBytes (s.reads (file_of slot)) (offset_of slot) 34 first → HoldsItem s slot item → first ≡ header_of item
+held_is s slot first item len short has holds = same_bytes (s.reads (file_of slot)) (offset_of slot) first (header_of item) len (header_len item short) has holds
+
+pub header_after : (a b : FilesState) → FilesLook a b → (slot : Cell) (n : ℕ) (first : List ℕ) → WhereTold a slot (HasBytes (a.reads (file_of slot)) (offset_of slot) n first) → WhereTold b slot (HasBytes (b.reads (file_of slot)) (offset_of slot) n first)
+header_after a b look slot n first has told = bytes_after a b look (file_of slot) (offset_of slot) n first (has (told_before NoByte NoByte a b look (file_of slot) told))
+
+pub held_by : (s : FilesState) (slot : Cell) (first item : List ℕ) → first ≡ header_of item → WhereTold s slot (HasBytes (s.reads (file_of slot)) (offset_of slot) 34 first) → WhereTold s slot (HoldsItem s slot item)
+held_by s slot first item is has told = subst (λ (l : List ℕ). HasBytes (s.reads (file_of slot)) (offset_of slot) 34 l) is (has told)
+
+-- the first bytes of these
+pub first_bytes : (f : ℕ → ℕ) (at k n : ℕ) (bytes first : List ℕ) → k ≤ n → n ≤ length bytes → first ≡ slice_range bytes 0 k → HasBytes f at n bytes → HasBytes f at k first
+first_bytes f at k n bytes first le fits same has i lt =
+    let inside : i < n = omega (arith, lt, le) in
+    let read : slice_index (slice_range bytes 0 k) i ≡ slice_index bytes i = search (rules, places) in
+    ap (λ (l : List ℕ). slice_index l i) same ∙ read ∙ has i inside
+
+-- a whole cell that was read
+pub whole_read : (s : FilesState) (cell : Cell) (n : ℕ) (bytes : List ℕ) → n ≡ cell_len cell → length bytes ≡ cell_len cell → WhereTold s cell (HasBytes (s.reads (file_of cell)) (offset_of cell) n bytes)
+    → IfSome (cells_of s.told s.reads cell) (λ told. bytes ≡ told)
+whole_read s cell n bytes is_n len has = cell_read s 0 cell bytes len (λ told. subst (λ (m : ℕ). HasBytes (s.reads (file_of cell)) (offset_of cell) m bytes) is_n (has told))
+
+-- the name in a header
+pub name_range : (item : List ℕ) → slice_range (header_of item) 2 (2 + length item) ≡ item
+name_range item = ap (λ (n : ℕ). take n (item ++ replicate (32 - length item) 0)) (omega arith) ∙ take-append_seam item (replicate (32 - length item) 0)
+
+pub some_of : (r : Option (List ℕ)) (bytes item : List ℕ) → (IsSome r ↔ IsName bytes) → IfSome r (λ n. n ≡ bytes) → bytes ≡ item → IsName item → r ≡ Some item
+some_of None bytes item valid value same name = absurd (false≢true (valid.1 (subst IsName (sym same) name)))
+some_of (Some n) bytes item valid value same name = ap Some (value ∙ same)
+
+pub on_any : {T E A : Type 0} (r : Result T E) → A → OnOk r A
+on_any (Ok x) a = a
+on_any (Err e) a = tt
+
+-- zeros past the end of a file are there already
+pub emptied : (s : FilesState) (cell : Cell) (zeros : List ℕ) (end : ℕ) → length zeros ≡ cell_len cell → ((i : ℕ) → i < length zeros → slice_index zeros i ≡ 0) → end ≤ offset_of cell → WhereTold s cell (EndsAt (s.reads (file_of cell)) end)
+    → IfSome (cells_of s.told s.reads cell) (λ told. told ≡ zeros)
+emptied s cell zeros end len all le ends = cell_written s cell zeros len (λ told i lt. all i (omega (arith, lt, len)) ∙ sym (ends told (offset_of cell + i) (omega (arith, le))))
+
+-- what was read is what was written
+pub copied : (from to : Option (List ℕ)) (bytes : List ℕ) → IfSome from (λ told. bytes ≡ told) → IfSome to (λ told. told ≡ bytes) → IsCopy from to
+copied None to bytes read written = tt
+copied (Some f) None bytes read written = tt
+copied (Some f) (Some t) bytes read written = written ∙ read
+
+pub slot_len : (cell : Cell) → IsTrue (is_slot cell) → cell_len cell ≡ 4096
+slot_len (Slot d s) is = refl
+slot_len Head is = absurd (false≢true is)
+slot_len Gate is = absurd (false≢true is)
+slot_len (Mark n) is = absurd (false≢true is)
+
+-- a slot held the item before it was looked at
+pub held_before : (a b : FilesState) → FilesLook a b → (slot : Cell) (item : List ℕ) → WhereTold b slot (HoldsItem b slot item) → WhereTold a slot (HoldsItem a slot item)
+held_before a b look slot item holds told = bytes_before a b look (file_of slot) (offset_of slot) 34 (header_of item) (holds (told_after NoByte NoByte a b look (file_of slot) told))
+
+-- a slot with other first bytes doesn't hold the item
+pub other_item : (a b : FilesState) → FilesLook a b → (slot : Cell) (item first : List ℕ) → length first ≡ 34 → length item ≤ 32 → WhereTold a slot (HasBytes (a.reads (file_of slot)) (offset_of slot) 34 first) → ¬ (first ≡ header_of item)
+    → WhereTold b slot (¬ HoldsItem b slot item)
+other_item a b look slot item first len short has out told holds = out (held_is b slot first item len short (header_after a b look slot 34 first has told) holds)
+
+-- a header names one item
+pub same_item : (a b : List ℕ) → length a ≤ 32 → header_of a ≡ header_of b → a ≡ b
+same_item a b short same =
+    let count : length a ≡ length b = ap (λ (l : List ℕ). slice_index l 1) same in
+    sym (name_range a) ∙ ap (λ (l : List ℕ). slice_range l 2 (2 + length a)) same ∙ ap (λ (n : ℕ). slice_range (header_of b) 2 (2 + n)) count ∙ name_range b
+
+-- a slot holds the item still
+pub held_after : (a b : FilesState) → FilesLook a b → (slot : Cell) (item : List ℕ) → HoldsItem a slot item → HoldsItem b slot item
+held_after a b look slot item holds = bytes_after a b look (file_of slot) (offset_of slot) 34 (header_of item) holds
+
+-- what is free was so before it was looked at
+pub free_before : (a b : FilesState) → FilesLook a b → (seen : List (List ℕ × Cell)) (slot : Cell) → IsFree b seen slot → IsFree a seen slot
+free_before a b look seen slot free item name told holds = free item name (told_after NoByte NoByte a b look (file_of slot) told) (held_after a b look slot item holds)
+
+-- a slot that is free is free for any item
+pub free_for_any : (s : FilesState) (seen : List (List ℕ × Cell)) (slot : Cell) (item : List ℕ) → IsFree s seen slot → IsFreeFor s seen slot item
+free_for_any s seen slot item free other name apart told holds = free other name told holds
+
+-- with an item's header it holds no other
+pub free_for_own : (s : FilesState) (seen : List (List ℕ × Cell)) (slot : Cell) (item first : List ℕ) → length first ≡ 34 → first ≡ header_of item → WhereTold s slot (HasBytes (s.reads (file_of slot)) (offset_of slot) 34 first) → IsFreeFor s seen slot item
+free_for_own s seen slot item first len is has other name apart told holds =
+    absurd (apart (same_item other item name.short (sym (held_is s slot first other len name.short (has told) holds) ∙ is)))
+
+-- with one that was seen elsewhere it is free
+pub free_by : (s : FilesState) (seen : List (List ℕ × Cell)) (slot : Cell) (item first : List ℕ) → length first ≡ 34 → first ≡ header_of item → WhereTold s slot (HasBytes (s.reads (file_of slot)) (offset_of slot) 34 first) → IsElsewhere seen item slot → IsFree s seen slot
+free_by s seen slot item first len is has elsewhere other name told holds =
+    let same : other ≡ item = same_item other item name.short (sym (held_is s slot first other len name.short (has told) holds) ∙ is) in
+    subst (λ (i : List ℕ). IsElsewhere seen i slot) (sym same) elsewhere
+
+-- with no item's it is
+pub free_none : (s : FilesState) (seen : List (List ℕ × Cell)) (slot : Cell) (first : List ℕ) → length first ≡ 34 → ((item : List ℕ) → IsName item → ¬ (first ≡ header_of item)) → WhereTold s slot (HasBytes (s.reads (file_of slot)) (offset_of slot) 34 first) → IsFree s seen slot
+free_none s seen slot first len none has item name told holds = absurd (none item name (held_is s slot first item len name.short (has told) holds))
+
+-- what is free for an item was so before another slot was looked at, and the item seen there
+pub copy_free : (a b : FilesState) → FilesLook a b → (old new : List (List ℕ × Cell)) (slot : Cell) (item : List ℕ) → SeesMore old new item → IsFreeFor b new slot item → IsFreeFor a old slot item
+copy_free a b look old new slot item more free other name apart told holds =
+    let found = free other name apart (told_after NoByte NoByte a b look (file_of slot) told) (held_after a b look slot other holds) in
+    (found.0, sym (more other apart) ∙ found.1, found.2)

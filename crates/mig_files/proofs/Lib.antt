@@ -1,0 +1,9 @@
+pub mod Apart
+pub mod DiskLists
+pub mod FilesSteps
+pub mod Derivation
+pub mod TrackingSteps
+pub mod CopySteps
+pub mod Headers
+pub mod Errs
+pub mod SeenItems

@@ -1,0 +1,11 @@
+use Rattle.std.proofs.Common.{subst}
+use Rattle.mig_calls.specs.declared.calls.Extent.{Extent}
+use Rattle.mig_calls.specs.Places.{file_of}
+use Rattle.mig_calls.specs.Files.{EndsAt, len_of}
+use Rattle.mig_calls.specs.Refusals.{WhereTold}
+use Rattle.mig_files.proofs.items.check_there.Goals as goal
+
+pub refuse_with-requires-clause-cause : goal.refuse_with-requires-clause-cause
+refuse_with-requires-clause-cause g c =
+    let s = g.C.Calls.state c.args.calls.now in
+    subst (λ (found : Extent). WhereTold s c.args.slot.now (EndsAt (s.reads (file_of c.args.slot.now)) (len_of found))) c.in-Absent.is c.requires.end

@@ -1,0 +1,6 @@
+use Rattle.std.specs.Prelude.{length}
+use Rattle.mig_files.specs.Tracking.{HasSyncedSome}
+use Rattle.mig_files.proofs.syncs.sync_disks.Given as goal
+
+abbrev pub invariant-disks : goal.invariant-disks
+invariant-disks g l = HasSyncedSome (length l.fn.tracked.notes.dirty) l.counter l.tracked.notes (g.C.Calls.state l.fn.calls) (g.C.Calls.state l.calls)

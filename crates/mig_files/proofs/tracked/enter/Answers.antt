@@ -1,0 +1,20 @@
+use Rattle.std.proofs.Common.{sym, ◌∙◌}
+use Rattle.mig_files.proofs.TrackingSteps.{step_then, step_none, alive_none, tracked_more}
+use Rattle.mig_files.proofs.tracked.enter.Goals as goal
+
+pub no_memory-requires : goal.no_memory-requires
+no_memory-requires g c = record { tracked = tracked_more c.args.tracked.now.notes c.meet.new.tracked.notes (g.C.Calls.state c.args.calls.now) c.meet.ensures.notes (λ off. sym c.meet.ensures.unsynced ∙ off) c.meet.ensures.kept c.requires.tracked }
+
+pub make_room-requires-clause-tracked : goal.make_room-requires-clause-tracked
+make_room-requires-clause-tracked g c = tracked_more c.args.tracked.now.notes c.meet.new.tracked.notes (g.C.Calls.state c.args.calls.now) c.meet.ensures.notes (λ off. sym c.meet.ensures.unsynced ∙ off) c.meet.ensures.kept c.requires.tracked
+
+pub returns-in-Err-clause-step : goal.returns-in-Err-clause-step
+returns-in-Err-clause-step g c =
+    let t = c.make_room.new.tracked.notes in
+    step_then t t (g.C.Calls.state c.args.calls.now) (g.C.Calls.state c.make_room.new.calls) (g.C.Calls.state c.no_memory-in-Err.new.calls) c.make_room.ensures.step c.no_memory-in-Err.ensures.step
+
+pub returns-then-promote-clause-step : goal.returns-then-promote-clause-step
+returns-then-promote-clause-step g c = step_none c.args.tracked.now.notes (g.C.Calls.state c.args.calls.now) c.requires.tracked
+
+pub returns-then-promote-clause-kept : goal.returns-then-promote-clause-kept
+returns-then-promote-clause-kept g c = alive_none c.args.tracked.now.notes (g.C.Calls.state c.args.calls.now) c.requires.alive

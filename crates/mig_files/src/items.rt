@@ -1,0 +1,325 @@
+//! Which items slots hold, and what is refused so that none is lost.
+ghost use Rattle.std.specs.Prelude.{◌≡◌, ◌≢◌, Some, ◌≤◌, ◌<◌, ◌+◌, ℕ, List, IsTrue, IsFalse, IfOk, IfSome, IfNone, MatchBool, OnOk, OnErr, length};
+ghost use Rattle.mig_base.specs.FaultCounts.{Rose};
+ghost use Rattle.mig_base.specs.Naming.{IsName};
+ghost use Rattle.mig_base.specs.Cells.{cell_len, is_slot};
+ghost use Rattle.mig_base.specs.Slots.{header_of};
+ghost use Rattle.mig_calls.specs.Places.{file_of, offset_of};
+ghost use Rattle.mig_calls.specs.Files.{EndsAt, HasBytes, len_of};
+ghost use Rattle.mig_calls.specs.Refusals.{HoldsItem, WhereTold};
+ghost use Rattle.mig_files.specs.Seeing.{SeesMore, IsElsewhere, IsFree, IsFreeFor};
+ghost use Rattle.mig_files.specs.Tracking.{IsTracked, IsStep, StaysAlive, StaysSame};
+
+use crate::cells::{open_place, read_part};
+use crate::places::{end_of, place_of};
+use crate::seen::Seen;
+use crate::tracked::{Tracked, no_memory, refuse_with};
+use crate::tries::read_all;
+use mig_base::{Cell, Name};
+use mig_calls::{Calls, Extent, Refusal};
+use mig_store::{StoreFailed, header};
+
+/// How many bytes of a slot say which item it holds.
+pub const HEADER: usize = 34;
+
+/// The first bytes of a slot, and how many bytes its file has.
+fn header_at<C: Calls>(
+    calls: &mut C,
+    tracked: &mut Tracked,
+    slot: &Cell,
+    into: &mut [u8; 34],
+) -> Result<Extent, StoreFailed>
+    requires slot { IsTrue (is_slot slot.now) }
+    requires alive { IsFalse tracked.old.notes.lost }
+    requires tracked { IsTracked tracked.old.notes (C.Calls.state calls.old) }
+    ensures header { OnOk result (WhereTold (C.Calls.state calls.old) slot.now (HasBytes ((C.Calls.state calls.old).reads (file_of slot.now)) (offset_of slot.now) 34 into.new)) }
+    ensures end { IfOk result (λ found. WhereTold (C.Calls.state calls.old) slot.now (EndsAt ((C.Calls.state calls.old).reads (file_of slot.now)) (len_of found))) }
+    ensures step { IsStep tracked.new.notes (C.Calls.state calls.old) (C.Calls.state calls.new) }
+    ensures kept { OnOk result (StaysAlive tracked.new.notes (C.Calls.state calls.old) (C.Calls.state calls.new)) }
+    ensures cause { OnErr result (Rose (C.Calls.state calls.old).faults (C.Calls.state calls.new).faults) }
+{
+    read_part(calls, tracked, slot, into)
+}
+
+/// Whether these are the first bytes of a slot that holds the item.
+fn is_header(first: &[u8; 34], item: &Name) -> bool
+    ensures same { MatchBool result (first.now ≡ header_of item.now) (first.now ≢ header_of item.now) }
+    ensures name { IsName item.now }
+    ensures len { length first.now ≡ 34 }
+{
+    item.keeps_rules();
+    *first == header(item)
+}
+
+/// The name in the first bytes of a slot that holds an item.
+fn name_in(first: &[u8; 34]) -> Option<Name>
+    ensures { (item : List ℕ) → IsName item → first.now ≡ header_of item → result ≡ Some item }
+{
+    let count = first[1] as usize;
+    if count > 32 {
+        return None;
+    }
+    Name::read(&first[2..2 + count])
+}
+
+/// The item that a slot with these first bytes holds.
+pub fn item_of(first: &[u8; 34]) -> Option<Name>
+    ensures some { IfSome result (λ item. first.now ≡ header_of item) }
+    ensures name { IfSome result (λ item. IsName item) }
+    ensures none { IfNone result ((item : List ℕ) → IsName item → first.now ≢ header_of item) }
+    ensures len { length first.now ≡ 34 }
+{
+    match name_in(first) {
+        Some(item) => {
+            if is_header(first, &item) {
+                return Some(item);
+            }
+            None
+        }
+        None => None,
+    }
+}
+
+/// Notes that a slot holds an item. One that its file's end cuts is refused.
+pub fn note_held<C: Calls>(
+    calls: &mut C,
+    tracked: &Tracked,
+    seen: &mut Seen,
+    slot: &Cell,
+    item: &Name,
+    found: &Extent,
+) -> Result<(), StoreFailed>
+    requires slot { IsTrue (is_slot slot.now) }
+    requires tracked { IsTracked tracked.now.notes (C.Calls.state calls.old) }
+    requires end { WhereTold (C.Calls.state calls.old) slot.now (EndsAt ((C.Calls.state calls.old).reads (file_of slot.now)) (len_of found.now)) }
+    ensures others { OnOk result (SeesMore seen.old seen.new item.now) }
+    ensures step { IsStep tracked.now.notes (C.Calls.state calls.old) (C.Calls.state calls.new) }
+    ensures cause { OnErr result (Rose (C.Calls.state calls.old).faults (C.Calls.state calls.new).faults) }
+{
+    if found.len() < end_of(slot) {
+        let slot = *slot;
+        let item = *item;
+        return Err(refuse_with(calls, tracked, &Refusal::Cut { slot, item }));
+    }
+    note_seen(calls, tracked, seen, slot, item)
+}
+
+/// Notes where an item is.
+pub fn note_seen<C: Calls>(
+    calls: &mut C,
+    tracked: &Tracked,
+    seen: &mut Seen,
+    slot: &Cell,
+    item: &Name,
+) -> Result<(), StoreFailed>
+    requires tracked { IsTracked tracked.now.notes (C.Calls.state calls.old) }
+    ensures others { OnOk result (SeesMore seen.old seen.new item.now) }
+    ensures step { IsStep tracked.now.notes (C.Calls.state calls.old) (C.Calls.state calls.new) }
+    ensures cause { OnErr result (Rose (C.Calls.state calls.old).faults (C.Calls.state calls.new).faults) }
+{
+    match seen.note(item, slot) {
+        Ok(()) => Ok(()),
+        Err(_) => {
+            let (place, _) = place_of(slot);
+            Err(no_memory(calls, tracked, &place))
+        }
+    }
+}
+
+/// Refuses a slot that doesn't hold the whole of the item, and notes where it is.
+pub fn expects<C: Calls>(
+    calls: &mut C,
+    tracked: &mut Tracked,
+    seen: &mut Seen,
+    slot: &Cell,
+    item: &Name,
+) -> Result<(), StoreFailed>
+    requires slot { IsTrue (is_slot slot.now) }
+    requires alive { IsFalse tracked.old.notes.lost }
+    requires tracked { IsTracked tracked.old.notes (C.Calls.state calls.old) }
+    ensures held { OnOk result (WhereTold (C.Calls.state calls.old) slot.now (HoldsItem (C.Calls.state calls.old) slot.now item.now)) }
+    ensures step { IsStep tracked.new.notes (C.Calls.state calls.old) (C.Calls.state calls.new) }
+    ensures cause { OnErr result (Rose (C.Calls.state calls.old).faults (C.Calls.state calls.new).faults) }
+{
+    let mut first = [0; HEADER];
+    let found = header_there(calls, tracked, slot, item, &mut first)?;
+    check_held(calls, tracked, slot, item, &first)?;
+    note_held(calls, tracked, seen, slot, item, &found)
+}
+
+/// Refuses a slot whose disk's file isn't there.
+fn check_there<C: Calls>(
+    calls: &mut C,
+    tracked: &Tracked,
+    slot: &Cell,
+    item: &Name,
+    found: &Extent,
+) -> Result<(), StoreFailed>
+    requires tracked { IsTracked tracked.now.notes (C.Calls.state calls.old) }
+    requires end { WhereTold (C.Calls.state calls.old) slot.now (EndsAt ((C.Calls.state calls.old).reads (file_of slot.now)) (len_of found.now)) }
+    ensures step { IsStep tracked.now.notes (C.Calls.state calls.old) (C.Calls.state calls.new) }
+    ensures cause { OnErr result (Rose (C.Calls.state calls.old).faults (C.Calls.state calls.new).faults) }
+{
+    match found {
+        Extent::Absent => {
+            let slot = *slot;
+            let item = *item;
+            Err(refuse_with(calls, tracked, &Refusal::NoDisk { slot, item }))
+        }
+        Extent::File { .. } | Extent::Device { .. } => Ok(()),
+    }
+}
+
+/// Reads the first bytes of a slot that should hold an item, and answers how many bytes its file has. That the file isn't there is refused before it is read.
+fn read_there<C: Calls>(
+    calls: &mut C,
+    tracked: &mut Tracked,
+    slot: &Cell,
+    item: &Name,
+    into: &mut [u8],
+) -> Result<Extent, StoreFailed>
+    requires length { length into.old ≤ cell_len slot.now }
+    requires alive { IsFalse tracked.old.notes.lost }
+    requires tracked { IsTracked tracked.old.notes (C.Calls.state calls.old) }
+    ensures bytes { OnOk result (WhereTold (C.Calls.state calls.old) slot.now (HasBytes ((C.Calls.state calls.old).reads (file_of slot.now)) (offset_of slot.now) (length into.old) into.new)) }
+    ensures end { IfOk result (λ found. WhereTold (C.Calls.state calls.old) slot.now (EndsAt ((C.Calls.state calls.old).reads (file_of slot.now)) (len_of found))) }
+    ensures step { IsStep tracked.new.notes (C.Calls.state calls.old) (C.Calls.state calls.new) }
+    ensures cause { OnErr result (Rose (C.Calls.state calls.old).faults (C.Calls.state calls.new).faults) }
+{
+    let (place, offset) = place_of(slot);
+    let found = open_place(calls, tracked, &place)?;
+    check_there(calls, tracked, slot, item, &found)?;
+    read_all(calls, &place, offset, into)?;
+    Ok(found)
+}
+
+/// The first bytes of a slot that should hold an item, and how many bytes its file has, which is there.
+fn header_there<C: Calls>(
+    calls: &mut C,
+    tracked: &mut Tracked,
+    slot: &Cell,
+    item: &Name,
+    into: &mut [u8; 34],
+) -> Result<Extent, StoreFailed>
+    requires slot { IsTrue (is_slot slot.now) }
+    requires alive { IsFalse tracked.old.notes.lost }
+    requires tracked { IsTracked tracked.old.notes (C.Calls.state calls.old) }
+    ensures header { OnOk result (WhereTold (C.Calls.state calls.old) slot.now (HasBytes ((C.Calls.state calls.old).reads (file_of slot.now)) (offset_of slot.now) 34 into.new)) }
+    ensures end { IfOk result (λ found. WhereTold (C.Calls.state calls.old) slot.now (EndsAt ((C.Calls.state calls.old).reads (file_of slot.now)) (len_of found))) }
+    ensures step { IsStep tracked.new.notes (C.Calls.state calls.old) (C.Calls.state calls.new) }
+    ensures cause { OnErr result (Rose (C.Calls.state calls.old).faults (C.Calls.state calls.new).faults) }
+{
+    read_there(calls, tracked, slot, item, into)
+}
+
+/// Refuses a slot whose first bytes aren't the item's.
+fn check_held<C: Calls>(
+    calls: &mut C,
+    tracked: &Tracked,
+    slot: &Cell,
+    item: &Name,
+    first: &[u8; 34],
+) -> Result<(), StoreFailed>
+    requires tracked { IsTracked tracked.now.notes (C.Calls.state calls.old) }
+    requires header { WhereTold (C.Calls.state calls.old) slot.now (HasBytes ((C.Calls.state calls.old).reads (file_of slot.now)) (offset_of slot.now) 34 first.now) }
+    ensures held { OnOk result (WhereTold (C.Calls.state calls.old) slot.now (HoldsItem (C.Calls.state calls.old) slot.now item.now)) }
+    ensures step { IsStep tracked.now.notes (C.Calls.state calls.old) (C.Calls.state calls.new) }
+    ensures cause { OnErr result (Rose (C.Calls.state calls.old).faults (C.Calls.state calls.new).faults) }
+{
+    if is_header(first, item) {
+        return Ok(());
+    }
+    let slot = *slot;
+    let item = *item;
+    Err(refuse_with(calls, tracked, &Refusal::NotHeld { slot, item }))
+}
+
+/// Refuses a slot that holds this item, unless this process has seen it elsewhere.
+fn check_item<C: Calls>(
+    calls: &mut C,
+    tracked: &Tracked,
+    seen: &Seen,
+    slot: &Cell,
+    item: &Name,
+) -> Result<(), StoreFailed>
+    requires tracked { IsTracked tracked.now.notes (C.Calls.state calls.old) }
+    requires held { WhereTold (C.Calls.state calls.old) slot.now (HoldsItem (C.Calls.state calls.old) slot.now item.now) }
+    ensures elsewhere { OnOk result (IsElsewhere seen.now item.now slot.now) }
+    ensures step { IsStep tracked.now.notes (C.Calls.state calls.old) (C.Calls.state calls.new) }
+    ensures kept { OnOk result (StaysSame (C.Calls.state calls.old) (C.Calls.state calls.new)) }
+    ensures cause { OnErr result (Rose (C.Calls.state calls.old).faults (C.Calls.state calls.new).faults) }
+{
+    if seen.is_elsewhere(item, slot) {
+        return Ok(());
+    }
+    let slot = *slot;
+    let item = *item;
+    Err(refuse_with(calls, tracked, &Refusal::Held { slot, item }))
+}
+
+/// Refuses a slot with these first bytes where they are of an item that this process has seen nowhere else.
+fn check_free<C: Calls>(
+    calls: &mut C,
+    tracked: &Tracked,
+    seen: &Seen,
+    slot: &Cell,
+    first: &[u8; 34],
+) -> Result<(), StoreFailed>
+    requires tracked { IsTracked tracked.now.notes (C.Calls.state calls.old) }
+    requires header { WhereTold (C.Calls.state calls.old) slot.now (HasBytes ((C.Calls.state calls.old).reads (file_of slot.now)) (offset_of slot.now) 34 first.now) }
+    ensures free { OnOk result (IsFree (C.Calls.state calls.old) seen.now slot.now) }
+    ensures step { IsStep tracked.now.notes (C.Calls.state calls.old) (C.Calls.state calls.new) }
+    ensures kept { OnOk result (StaysSame (C.Calls.state calls.old) (C.Calls.state calls.new)) }
+    ensures cause { OnErr result (Rose (C.Calls.state calls.old).faults (C.Calls.state calls.new).faults) }
+{
+    match item_of(first) {
+        Some(item) => check_item(calls, tracked, seen, slot, &item),
+        None => Ok(()),
+    }
+}
+
+/// Refuses a slot that holds an item which this process has seen nowhere else, and answers how many bytes its file has.
+pub fn expects_free<C: Calls>(
+    calls: &mut C,
+    tracked: &mut Tracked,
+    seen: &Seen,
+    slot: &Cell,
+) -> Result<Extent, StoreFailed>
+    requires slot { IsTrue (is_slot slot.now) }
+    requires alive { IsFalse tracked.old.notes.lost }
+    requires tracked { IsTracked tracked.old.notes (C.Calls.state calls.old) }
+    ensures end { IfOk result (λ found. WhereTold (C.Calls.state calls.old) slot.now (EndsAt ((C.Calls.state calls.old).reads (file_of slot.now)) (len_of found))) }
+    ensures free { OnOk result (IsFree (C.Calls.state calls.old) seen.now slot.now) }
+    ensures step { IsStep tracked.new.notes (C.Calls.state calls.old) (C.Calls.state calls.new) }
+    ensures kept { OnOk result (StaysAlive tracked.new.notes (C.Calls.state calls.old) (C.Calls.state calls.new)) }
+    ensures cause { OnErr result (Rose (C.Calls.state calls.old).faults (C.Calls.state calls.new).faults) }
+{
+    let mut first = [0; HEADER];
+    let found = header_at(calls, tracked, slot, &mut first)?;
+    check_free(calls, tracked, seen, slot, &first)?;
+    Ok(found)
+}
+
+/// Refuses a slot that holds another item than this one, which this process has seen nowhere else.
+pub fn expects_free_for<C: Calls>(
+    calls: &mut C,
+    tracked: &mut Tracked,
+    seen: &Seen,
+    slot: &Cell,
+    item: &Name,
+) -> Result<(), StoreFailed>
+    requires slot { IsTrue (is_slot slot.now) }
+    requires alive { IsFalse tracked.old.notes.lost }
+    requires tracked { IsTracked tracked.old.notes (C.Calls.state calls.old) }
+    ensures free { OnOk result (IsFreeFor (C.Calls.state calls.old) seen.now slot.now item.now) }
+    ensures step { IsStep tracked.new.notes (C.Calls.state calls.old) (C.Calls.state calls.new) }
+    ensures kept { OnOk result (StaysAlive tracked.new.notes (C.Calls.state calls.old) (C.Calls.state calls.new)) }
+    ensures cause { OnErr result (Rose (C.Calls.state calls.old).faults (C.Calls.state calls.new).faults) }
+{
+    let mut first = [0; HEADER];
+    header_at(calls, tracked, slot, &mut first)?;
+    if is_header(&first, item) {
+        return Ok(());
+    }
+    check_free(calls, tracked, seen, slot, &first)
+}

@@ -1,0 +1,246 @@
+//! The journal's renewal: a copy that the device has takes its place, since an earlier process may have failed to bring some of it there.
+ghost use Rattle.std.specs.Prelude.{◌≡◌, ◌⊎◌, ◌≤◌, ◌<◌, ◌+◌, ◌-◌, ◌*◌, IsTrue, IsFalse, OnOk, OnErr, length};
+ghost use Rattle.mig_base.specs.FaultCounts.{Rose};
+ghost use Rattle.mig_calls.specs.declared.places.Place.TheVariants.{Journal as JournalFile, Copy as CopyFile};
+ghost use Rattle.mig_calls.specs.Files.{FilesLook, FileChange, EndsAt, KeepsFlushed, KeepsFreshBut, TouchesFile};
+ghost use Rattle.mig_files.specs.Tracking.{IsTracked, IsQuiet, IsCopyStep, WritesAlive, IsCopiedTo, IsWholeCopy};
+
+use crate::pieces::write_all;
+use crate::tracked::{Tracked, extent};
+use crate::tries::{read_all, refuse, sync_file};
+use mig_calls::{CallError, Calls, Place, Refusal};
+use mig_store::StoreFailed;
+
+/// How much is copied at once.
+const PIECE: usize = 16384;
+
+/// Whether the journal is surely fresh. A call that fails says nothing.
+fn is_fresh<C: Calls>(calls: &mut C) -> bool
+    requires { IsTrue (C.Calls.state calls.old).usable }
+    ensures fresh { IsTrue result → IsTrue ((C.Calls.state calls.new).fresh JournalFile) }
+    ensures quiet { IsQuiet (C.Calls.state calls.old) (C.Calls.state calls.new) }
+    ensures usable { IsTrue (C.Calls.state calls.new).usable }
+{
+    match calls.is_fresh() {
+        Ok(sure) => sure,
+        Err(_) => false,
+    }
+}
+
+/// Makes a new file for the copy.
+fn make_copy<C: Calls>(calls: &mut C) -> Result<(), StoreFailed>
+    requires usable { IsTrue (C.Calls.state calls.old).usable }
+    requires claimed { IsTrue (C.Calls.state calls.old).claimed }
+    ensures usable { IsTrue (C.Calls.state calls.new).usable }
+    ensures empty { OnOk result (IsTrue ((C.Calls.state calls.new).told CopyFile) → EndsAt ((C.Calls.state calls.new).reads CopyFile) 0) }
+    ensures new_one { OnOk result (IsTrue ((C.Calls.state calls.new).fresh CopyFile)) }
+    ensures flags { TouchesFile CopyFile (C.Calls.state calls.old) (C.Calls.state calls.new) }
+    ensures fresh { KeepsFreshBut CopyFile (C.Calls.state calls.old) (C.Calls.state calls.new) }
+    ensures change { FileChange CopyFile (C.Calls.state calls.old) (C.Calls.state calls.new) }
+    ensures later { (C.Calls.state calls.old).faults ≤ (C.Calls.state calls.new).faults }
+    ensures more { (C.Calls.state calls.old).unmade ≤ (C.Calls.state calls.new).unmade }
+    ensures cause { OnErr result (Rose (C.Calls.state calls.old).faults (C.Calls.state calls.new).faults) }
+{
+    let place = Place::Copy;
+    'tries: for _ in 0..u64::MAX {
+        match calls.make_copy() {
+            Ok(()) => return Ok(()),
+            Err(CallError::Interrupted) => {}
+            Err(CallError::Full) => return Err(refuse(calls, &Refusal::Full { place })),
+            Err(CallError::Failed) => return Err(StoreFailed),
+        }
+    }
+    Err(refuse(calls, &Refusal::Interrupted { place }))
+}
+
+/// Gives the copy, which the device has whole, the journal's name.
+fn rename<C: Calls>(calls: &mut C) -> Result<(), StoreFailed>
+    requires usable { IsTrue (C.Calls.state calls.old).usable }
+    requires claimed { IsTrue (C.Calls.state calls.old).claimed }
+    requires flushed { IsTrue ((C.Calls.state calls.old).flushed CopyFile) }
+    requires fresh { IsTrue ((C.Calls.state calls.old).fresh CopyFile) }
+    requires same { IsWholeCopy (C.Calls.state calls.old) }
+    ensures usable { IsTrue (C.Calls.state calls.new).usable }
+    ensures renewed { OnOk result (IsTrue ((C.Calls.state calls.new).flushed JournalFile) × IsTrue ((C.Calls.state calls.new).fresh JournalFile)) }
+    ensures claimed { (C.Calls.state calls.new).claimed ≡ (C.Calls.state calls.old).claimed }
+    ensures flushed { KeepsFlushed (C.Calls.state calls.old) (C.Calls.state calls.new) }
+    ensures fresh { KeepsFreshBut JournalFile (C.Calls.state calls.old) (C.Calls.state calls.new) }
+    ensures kept { IsTrue ((C.Calls.state calls.old).fresh JournalFile) → IsTrue ((C.Calls.state calls.new).fresh JournalFile) }
+    ensures change { FileChange CopyFile (C.Calls.state calls.old) (C.Calls.state calls.new) }
+    ensures later { (C.Calls.state calls.old).faults ≤ (C.Calls.state calls.new).faults }
+    ensures more { (C.Calls.state calls.old).unmade ≤ (C.Calls.state calls.new).unmade }
+    ensures cause { OnErr result (Rose (C.Calls.state calls.old).faults (C.Calls.state calls.new).faults) }
+{
+    let place = Place::Journal;
+    'tries: for _ in 0..u64::MAX {
+        match calls.rename() {
+            Ok(()) => return Ok(()),
+            Err(CallError::Interrupted) => {}
+            Err(CallError::Full) => return Err(refuse(calls, &Refusal::Full { place })),
+            Err(CallError::Failed) => return Err(StoreFailed),
+        }
+    }
+    Err(refuse(calls, &Refusal::Interrupted { place }))
+}
+
+/// Copies as many bytes of the journal as this has room for.
+fn copy_part<C: Calls>(
+    calls: &mut C,
+    tracked: &mut Tracked,
+    offset: u64,
+    len: u64,
+    part: &mut [u8],
+) -> Result<(), StoreFailed>
+    requires alive { IsFalse tracked.old.notes.lost }
+    requires tracked { IsTracked tracked.old.notes (C.Calls.state calls.old) }
+    requires claimed { IsTrue (C.Calls.state calls.old).claimed }
+    requires within { offset + length part.old ≤ len }
+    requires whole { (length part.old ≡ 16384) ⊎ (offset + length part.old ≡ len) }
+    requires short { length part.old ≤ 16384 }
+    requires copied { IsCopiedTo offset len (C.Calls.state calls.old) }
+    ensures copied { OnOk result (IsCopiedTo (offset + 16384) len (C.Calls.state calls.new)) }
+    ensures step { IsCopyStep tracked.new.notes (C.Calls.state calls.old) (C.Calls.state calls.new) }
+    ensures kept { OnOk result (WritesAlive tracked.new.notes (C.Calls.state calls.old) (C.Calls.state calls.new)) }
+    ensures cause { OnErr result (Rose (C.Calls.state calls.old).faults (C.Calls.state calls.new).faults) }
+{
+    read_all(calls, &Place::Journal, offset, part)?;
+    write_all(calls, tracked, &Place::Copy, offset, part)
+}
+
+/// Copies a piece of the journal, which ends where the journal does.
+fn copy_piece<C: Calls>(
+    calls: &mut C,
+    tracked: &mut Tracked,
+    offset: u64,
+    len: u64,
+) -> Result<(), StoreFailed>
+    requires alive { IsFalse tracked.old.notes.lost }
+    requires tracked { IsTracked tracked.old.notes (C.Calls.state calls.old) }
+    requires claimed { IsTrue (C.Calls.state calls.old).claimed }
+    requires within { offset < len }
+    requires copied { IsCopiedTo offset len (C.Calls.state calls.old) }
+    ensures copied { OnOk result (IsCopiedTo (offset + 16384) len (C.Calls.state calls.new)) }
+    ensures step { IsCopyStep tracked.new.notes (C.Calls.state calls.old) (C.Calls.state calls.new) }
+    ensures kept { OnOk result (WritesAlive tracked.new.notes (C.Calls.state calls.old) (C.Calls.state calls.new)) }
+    ensures cause { OnErr result (Rose (C.Calls.state calls.old).faults (C.Calls.state calls.new).faults) }
+{
+    let mut piece = [0u8; PIECE];
+    let left = len - offset;
+    if left < PIECE as u64 {
+        return copy_part(calls, tracked, offset, len, &mut piece[..left as usize]);
+    }
+    copy_part(calls, tracked, offset, len, &mut piece)
+}
+
+/// Copies so many bytes of the journal.
+fn copy_pieces<C: Calls>(calls: &mut C, tracked: &mut Tracked, len: u64) -> Result<(), StoreFailed>
+    requires alive { IsFalse tracked.old.notes.lost }
+    requires tracked { IsTracked tracked.old.notes (C.Calls.state calls.old) }
+    requires claimed { IsTrue (C.Calls.state calls.old).claimed }
+    requires copied { IsCopiedTo 0 len (C.Calls.state calls.old) }
+    ensures copied { OnOk result (IsWholeCopy (C.Calls.state calls.new)) }
+    ensures step { IsCopyStep tracked.new.notes (C.Calls.state calls.old) (C.Calls.state calls.new) }
+    ensures kept { OnOk result (WritesAlive tracked.new.notes (C.Calls.state calls.old) (C.Calls.state calls.new)) }
+    ensures cause { OnErr result (Rose (C.Calls.state calls.old).faults (C.Calls.state calls.new).faults) }
+{
+    for i in 0..len.div_ceil(PIECE as u64) {
+        copy_piece(calls, tracked, i * PIECE as u64, len)?;
+    }
+    Ok(())
+}
+
+/// Copies the journal to a new file.
+fn copy_journal<C: Calls>(calls: &mut C, tracked: &mut Tracked) -> Result<(), StoreFailed>
+    requires alive { IsFalse tracked.old.notes.lost }
+    requires tracked { IsTracked tracked.old.notes (C.Calls.state calls.old) }
+    requires claimed { IsTrue (C.Calls.state calls.old).claimed }
+    ensures copied { OnOk result (IsWholeCopy (C.Calls.state calls.new)) }
+    ensures fresh { OnOk result (IsTrue ((C.Calls.state calls.new).fresh CopyFile)) }
+    ensures step { IsCopyStep tracked.new.notes (C.Calls.state calls.old) (C.Calls.state calls.new) }
+    ensures claimed { OnOk result (IsTrue (C.Calls.state calls.new).claimed) }
+    ensures alive { OnOk result (IsFalse tracked.new.notes.lost) }
+    ensures cause { OnErr result (Rose (C.Calls.state calls.old).faults (C.Calls.state calls.new).faults) }
+{
+    tracked.notes.made = true;
+    make_copy(calls)?;
+    let found = extent(calls, tracked, &Place::Journal)?;
+    copy_pieces(calls, tracked, found.len())
+}
+
+/// Brings the copy to the device. Where that fails the files are lost.
+fn sync_copy<C: Calls>(calls: &mut C, tracked: &mut Tracked) -> Result<(), StoreFailed>
+    requires alive { IsFalse tracked.old.notes.lost }
+    requires tracked { IsTracked tracked.old.notes (C.Calls.state calls.old) }
+    ensures flushed { OnOk result (IsTrue ((C.Calls.state calls.new).flushed CopyFile)) }
+    ensures look { FilesLook (C.Calls.state calls.old) (C.Calls.state calls.new) }
+    ensures step { IsCopyStep tracked.new.notes (C.Calls.state calls.old) (C.Calls.state calls.new) }
+    ensures kept { OnOk result (WritesAlive tracked.new.notes (C.Calls.state calls.old) (C.Calls.state calls.new)) }
+    ensures cause { OnErr result (Rose (C.Calls.state calls.old).faults (C.Calls.state calls.new).faults) }
+{
+    match sync_file(calls, &Place::Copy) {
+        Ok(()) => Ok(()),
+        Err(failed) => {
+            tracked.notes.lost = true;
+            Err(failed)
+        }
+    }
+}
+
+/// Gives the copy the journal's name, which may have to be synced from then on.
+fn take_name<C: Calls>(calls: &mut C, tracked: &mut Tracked) -> Result<(), StoreFailed>
+    requires alive { IsFalse tracked.old.notes.lost }
+    requires tracked { IsTracked tracked.old.notes (C.Calls.state calls.old) }
+    requires claimed { IsTrue (C.Calls.state calls.old).claimed }
+    requires flushed { IsTrue ((C.Calls.state calls.old).flushed CopyFile) }
+    requires fresh { IsTrue ((C.Calls.state calls.old).fresh CopyFile) }
+    requires copied { IsWholeCopy (C.Calls.state calls.old) }
+    ensures renewed { OnOk result (IsTrue tracked.new.notes.renewed) }
+    ensures step { IsCopyStep tracked.new.notes (C.Calls.state calls.old) (C.Calls.state calls.new) }
+    ensures alive { OnOk result (IsFalse tracked.new.notes.lost) }
+    ensures cause { OnErr result (Rose (C.Calls.state calls.old).faults (C.Calls.state calls.new).faults) }
+{
+    tracked.notes.made = true;
+    match rename(calls) {
+        Ok(()) => {
+            tracked.notes.renewed = true;
+            tracked.notes.unsynced = false;
+            Ok(())
+        }
+        Err(failed) => Err(failed),
+    }
+}
+
+/// Puts a copy in the journal's place that the device has whole.
+fn replace_journal<C: Calls>(calls: &mut C, tracked: &mut Tracked) -> Result<(), StoreFailed>
+    requires alive { IsFalse tracked.old.notes.lost }
+    requires tracked { IsTracked tracked.old.notes (C.Calls.state calls.old) }
+    requires claimed { IsTrue (C.Calls.state calls.old).claimed }
+    ensures renewed { OnOk result (IsTrue tracked.new.notes.renewed) }
+    ensures step { IsCopyStep tracked.new.notes (C.Calls.state calls.old) (C.Calls.state calls.new) }
+    ensures alive { OnOk result (IsFalse tracked.new.notes.lost) }
+    ensures cause { OnErr result (Rose (C.Calls.state calls.old).faults (C.Calls.state calls.new).faults) }
+{
+    copy_journal(calls, tracked)?;
+    sync_copy(calls, tracked)?;
+    take_name(calls, tracked)
+}
+
+/// Makes sure that what reads of the journal give can be brought to the device: once in a process the journal is replaced by a copy, unless it is surely fresh.
+pub fn renew<C: Calls>(calls: &mut C, tracked: &mut Tracked) -> Result<(), StoreFailed>
+    requires alive { IsFalse tracked.old.notes.lost }
+    requires tracked { IsTracked tracked.old.notes (C.Calls.state calls.old) }
+    requires claimed { IsTrue (C.Calls.state calls.old).claimed }
+    ensures renewed { OnOk result (IsTrue tracked.new.notes.renewed) }
+    ensures step { IsCopyStep tracked.new.notes (C.Calls.state calls.old) (C.Calls.state calls.new) }
+    ensures alive { OnOk result (IsFalse tracked.new.notes.lost) }
+    ensures cause { OnErr result (Rose (C.Calls.state calls.old).faults (C.Calls.state calls.new).faults) }
+{
+    if tracked.notes.renewed {
+        return Ok(());
+    }
+    if is_fresh(calls) {
+        tracked.notes.renewed = true;
+        return Ok(());
+    }
+    replace_journal(calls, tracked)
+}

@@ -1,0 +1,180 @@
+//! Writes of cells and copies of slots, by which no item is lost that was seen nowhere else.
+ghost use Rattle.std.specs.Prelude.{◌≡◌, ◌≤◌, ◌<◌, ◌+◌, ℕ, List, IsTrue, IsFalse, IfOk, IfSome, MatchBool, OnOk, OnErr, length, slice_index, slice_range};
+ghost use Rattle.mig_base.specs.FaultCounts.{Rose};
+ghost use Rattle.mig_base.specs.Cells.{cell_len, is_slot};
+ghost use Rattle.mig_base.specs.Images.{IsCopy};
+ghost use Rattle.mig_base.specs.Naming.{IsName};
+ghost use Rattle.mig_calls.specs.Places.{file_of, offset_of};
+ghost use Rattle.mig_calls.specs.Refusals.{HoldsItem, WhereTold};
+ghost use Rattle.mig_files.specs.Derived.{cells_of};
+ghost use Rattle.mig_files.specs.Seeing.{AreZeros, IsErasure, IsFree, IsFreeFor, SeesMore, MayCopy};
+ghost use Rattle.mig_files.specs.Tracking.{IsTracked, IsStep, IsWriteStep};
+
+use crate::cells::{read_part, write_cell};
+use crate::items::{expects_free, expects_free_for, item_of, note_held, note_seen};
+use crate::places::place_of;
+use crate::seen::Seen;
+use crate::tracked::{Tracked, claim, refuse_with};
+use mig_base::{Cell, Name};
+use mig_calls::{Calls, Refusal};
+use mig_store::StoreFailed;
+
+/// Whether the cell is a slot.
+fn is_slot(cell: &Cell) -> bool
+    ensures { result ≡ is_slot cell.now }
+{
+    match cell {
+        Cell::Slot { .. } => true,
+        Cell::Head | Cell::Gate | Cell::Mark { .. } => false,
+    }
+}
+
+/// Whether all of the bytes are zeros.
+fn is_empty(bytes: &[u8]) -> bool
+    ensures { MatchBool result (AreZeros bytes.now) (¬ (AreZeros bytes.now)) }
+{
+    bytes.iter().all(|byte| *byte == 0)
+}
+
+/// Whether these bytes empty a slot.
+fn empties(cell: &Cell, bytes: &[u8]) -> bool
+    ensures { MatchBool result (IsErasure cell.now bytes.now) (¬ (IsErasure cell.now bytes.now)) }
+{
+    is_slot(cell) && is_empty(bytes)
+}
+
+/// Writes a cell, once the right to write is this process's alone. A slot is emptied only where no item is lost by it.
+pub fn write_item<C: Calls>(
+    calls: &mut C,
+    tracked: &mut Tracked,
+    seen: &Seen,
+    cell: &Cell,
+    bytes: &[u8],
+) -> Result<(), StoreFailed>
+    requires length { length bytes.now ≡ cell_len cell.now }
+    requires alive { IsFalse tracked.old.notes.lost }
+    requires tracked { IsTracked tracked.old.notes (C.Calls.state calls.old) }
+    ensures written { OnOk result (IfSome (cells_of (C.Calls.state calls.new).told (C.Calls.state calls.new).reads cell.now) (λ told. told ≡ bytes.now)) }
+    ensures free { IsErasure cell.now bytes.now → OnOk result (IsFree (C.Calls.state calls.old) seen.now cell.now) }
+    ensures step { IsWriteStep tracked.new.notes (file_of cell.now) (offset_of cell.now) (cell_len cell.now) (C.Calls.state calls.old) (C.Calls.state calls.new) }
+    ensures cause { OnErr result (Rose (C.Calls.state calls.old).faults (C.Calls.state calls.new).faults) }
+{
+    claim(calls, tracked)?;
+    if empties(cell, bytes) {
+        return empty(calls, tracked, seen, cell, bytes);
+    }
+    write_cell(calls, tracked, cell, bytes)
+}
+
+/// Writes zeros to a slot. Past the end of its file, or where there is none, they are there already.
+fn empty<C: Calls>(
+    calls: &mut C,
+    tracked: &mut Tracked,
+    seen: &Seen,
+    slot: &Cell,
+    zeros: &[u8],
+) -> Result<(), StoreFailed>
+    requires slot { IsTrue (is_slot slot.now) }
+    requires length { length zeros.now ≡ cell_len slot.now }
+    requires zeros { AreZeros zeros.now }
+    requires claimed { IsTrue (C.Calls.state calls.old).claimed }
+    requires alive { IsFalse tracked.old.notes.lost }
+    requires tracked { IsTracked tracked.old.notes (C.Calls.state calls.old) }
+    ensures written { OnOk result (IfSome (cells_of (C.Calls.state calls.new).told (C.Calls.state calls.new).reads slot.now) (λ told. told ≡ zeros.now)) }
+    ensures free { OnOk result (IsFree (C.Calls.state calls.old) seen.now slot.now) }
+    ensures step { IsWriteStep tracked.new.notes (file_of slot.now) (offset_of slot.now) (cell_len slot.now) (C.Calls.state calls.old) (C.Calls.state calls.new) }
+    ensures cause { OnErr result (Rose (C.Calls.state calls.old).faults (C.Calls.state calls.new).faults) }
+{
+    let found = expects_free(calls, tracked, seen, slot)?;
+    let (_, offset) = place_of(slot);
+    if found.len() <= offset {
+        return Ok(());
+    }
+    write_cell(calls, tracked, slot, zeros)
+}
+
+/// The first bytes of a slot.
+fn first_of(bytes: &[u8]) -> [u8; 34]
+    requires { 34 ≤ length bytes.now }
+    ensures first { result ≡ slice_range bytes.now 0 34 }
+    ensures len { length result ≡ 34 }
+{
+    let mut first = [0; 34];
+    first.copy_from_slice(&bytes[..34]);
+    first
+}
+
+/// Reads a slot that is to be copied, and answers which item it holds. One that holds none is refused.
+fn read_item<C: Calls>(
+    calls: &mut C,
+    tracked: &mut Tracked,
+    seen: &mut Seen,
+    slot: &Cell,
+    bytes: &mut [u8],
+) -> Result<Name, StoreFailed>
+    requires slot { IsTrue (is_slot slot.now) }
+    requires length { length bytes.old ≡ cell_len slot.now }
+    requires whole { 34 ≤ length bytes.old }
+    requires alive { IsFalse tracked.old.notes.lost }
+    requires tracked { IsTracked tracked.old.notes (C.Calls.state calls.old) }
+    ensures bytes { OnOk result (IfSome (cells_of (C.Calls.state calls.old).told (C.Calls.state calls.old).reads slot.now) (λ told. bytes.new ≡ told)) }
+    ensures held { IfOk result (λ item. IsName item × WhereTold (C.Calls.state calls.old) slot.now (HoldsItem (C.Calls.state calls.old) slot.now item)) }
+    ensures others { IfOk result (λ item. SeesMore seen.old seen.new item) }
+    ensures step { IsStep tracked.new.notes (C.Calls.state calls.old) (C.Calls.state calls.new) }
+    ensures alive { OnOk result (IsFalse tracked.new.notes.lost) }
+    ensures cause { OnErr result (Rose (C.Calls.state calls.old).faults (C.Calls.state calls.new).faults) }
+{
+    let found = read_part(calls, tracked, slot, bytes)?;
+    match item_of(&first_of(bytes)) {
+        Some(item) => {
+            note_held(calls, tracked, seen, slot, &item, &found)?;
+            Ok(item)
+        }
+        None => Err(refuse_with(calls, tracked, &Refusal::NoItem { slot: *slot })),
+    }
+}
+
+/// Writes an item to a slot that doesn't hold another.
+fn put_item<C: Calls>(
+    calls: &mut C,
+    tracked: &mut Tracked,
+    seen: &mut Seen,
+    slot: &Cell,
+    item: &Name,
+    bytes: &[u8],
+) -> Result<(), StoreFailed>
+    requires slot { IsTrue (is_slot slot.now) }
+    requires length { length bytes.now ≡ cell_len slot.now }
+    requires alive { IsFalse tracked.old.notes.lost }
+    requires tracked { IsTracked tracked.old.notes (C.Calls.state calls.old) }
+    ensures written { OnOk result (IfSome (cells_of (C.Calls.state calls.new).told (C.Calls.state calls.new).reads slot.now) (λ told. told ≡ bytes.now)) }
+    ensures free { OnOk result (IsFreeFor (C.Calls.state calls.old) seen.old slot.now item.now) }
+    ensures step { IsWriteStep tracked.new.notes (file_of slot.now) (offset_of slot.now) (cell_len slot.now) (C.Calls.state calls.old) (C.Calls.state calls.new) }
+    ensures cause { OnErr result (Rose (C.Calls.state calls.old).faults (C.Calls.state calls.new).faults) }
+{
+    expects_free_for(calls, tracked, seen, slot, item)?;
+    claim(calls, tracked)?;
+    write_cell(calls, tracked, slot, bytes)?;
+    note_seen(calls, tracked, seen, slot, item)
+}
+
+/// Copies a slot that holds an item to one that doesn't hold another.
+pub fn copy_item<C: Calls>(
+    calls: &mut C,
+    tracked: &mut Tracked,
+    seen: &mut Seen,
+    from: &Cell,
+    to: &Cell,
+) -> Result<(), StoreFailed>
+    requires slots { IsTrue (is_slot from.now) × IsTrue (is_slot to.now) }
+    requires alive { IsFalse tracked.old.notes.lost }
+    requires tracked { IsTracked tracked.old.notes (C.Calls.state calls.old) }
+    ensures copied { OnOk result (IsCopy (cells_of (C.Calls.state calls.old).told (C.Calls.state calls.old).reads from.now) (cells_of (C.Calls.state calls.new).told (C.Calls.state calls.new).reads to.now)) }
+    ensures free { OnOk result ((item : List ℕ) × MayCopy (C.Calls.state calls.old) seen.old from.now to.now item) }
+    ensures step { IsWriteStep tracked.new.notes (file_of to.now) (offset_of to.now) (cell_len to.now) (C.Calls.state calls.old) (C.Calls.state calls.new) }
+    ensures cause { OnErr result (Rose (C.Calls.state calls.old).faults (C.Calls.state calls.new).faults) }
+{
+    let mut bytes = [0u8; 4096];
+    let item = read_item(calls, tracked, seen, from, &mut bytes)?;
+    put_item(calls, tracked, seen, to, &item, &bytes)
+}

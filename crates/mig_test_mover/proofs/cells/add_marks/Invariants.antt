@@ -1,0 +1,5 @@
+use Rattle.mig_base.specs.InputLists.{AreDifferent}
+use Rattle.mig_test_mover.proofs.cells.add_marks.Given as goal
+
+abbrev pub invariant-loop-n : goal.invariant-loop-n
+invariant-loop-n l = AreDifferent l.cells.items

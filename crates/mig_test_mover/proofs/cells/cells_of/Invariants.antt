@@ -1,0 +1,5 @@
+use Rattle.mig_base.specs.InputLists.{AreDifferent}
+use Rattle.mig_test_mover.proofs.cells.cells_of.Given as goal
+
+abbrev pub invariant-loop-disk : goal.invariant-loop-disk
+invariant-loop-disk g l = AreDifferent l.cells.items

@@ -1,0 +1,6 @@
+use Rattle.std.proofs.Common.{◌≡◌, []}
+use Rattle.mig_store.specs.Memories.{aloft}
+use Rattle.mig_test_mover.proofs.stores.fill.Given as goal
+
+abbrev pub invariant-loop-disk : goal.invariant-loop-disk
+invariant-loop-disk g l = aloft l.store ≡ []

@@ -1,0 +1,222 @@
+//! The store over files: what a new store reads, many disks, and what is refused; over real files, and over files in memory.
+
+use crate::file_stores::{RealStore, crashed, mem_store, real_store};
+use crate::work_folder::{enter, leave};
+use mig_base::{Cell, Name};
+use mig_calls::{Calls, MemCalls, Pick, Trouble};
+use mig_files::{FileStore, MOST_OPEN};
+use mig_store::Store;
+use std::fs::{self, File};
+use std::os::unix::fs::symlink;
+use std::panic::Expect;
+use std::process::Abort;
+use std::rt::Files;
+
+/// A slot of the disk with this name.
+fn slot_of(name: &[u8], slot: u32) -> Cell {
+    match Name::read(name) {
+        Some(disk) => Cell::Slot { disk, slot },
+        None => Cell::Head,
+    }
+}
+
+/// Writes a slot whose every byte is this one.
+fn put<C: Calls>(store: &mut FileStore<C>, cell: &Cell, byte: u8) -> bool {
+    cell.len() == 4096 && store.write(cell, &[byte; 4096]).is_ok()
+}
+
+/// Whether every byte of the slot reads as this one.
+fn has<C: Calls>(store: &mut FileStore<C>, cell: &Cell, byte: u8) -> bool {
+    let mut bytes = [byte.wrapping_add(1); 4096];
+    cell.len() == 4096 && store.read(cell, &mut bytes).is_ok() && bytes == [byte; 4096]
+}
+
+/// Writes a slot and the journal, and syncs them. A missing file reads as zeros, and what is written then is read.
+fn expect_written<C: Calls>(rt: &impl Abort, store: &mut FileStore<C>) {
+    assert!(rt; has(store, &slot_of(b"a", 3), 0));
+    assert!(rt; has(store, &slot_of(b"a", 3), 0));
+    assert!(rt; put(store, &slot_of(b"a", 3), 7));
+    assert!(rt; has(store, &slot_of(b"a", 3), 7));
+    assert!(rt; store.write(&Cell::Head, &[5; 32]).is_ok());
+    assert!(rt; store.write(&Cell::Gate, &[1]).is_ok());
+    assert!(rt; store.write(&Cell::Mark { n: 2 }, &[1]).is_ok());
+    assert!(rt; store.sync().is_ok());
+}
+
+/// Asserts that these are read, and zeros beside them.
+fn expect_read_back<C: Calls>(rt: &impl Abort, store: &mut FileStore<C>) {
+    let cells: [(&[u8], u32, u8); 5] = [
+        (b"a", 3, 7),
+        (b"a", 2, 0),
+        (b"a", 9, 0),
+        (b"b", 0, 0),
+        (b"a", 3, 7),
+    ];
+    for (disk, slot, byte) in cells {
+        assert!(rt; has(store, &slot_of(disk, slot), byte));
+    }
+    let mut byte = [9];
+    assert!(rt; store.read(&Cell::Gate, &mut byte).is_ok() && byte == [1]);
+    for (n, mark) in [(1, 0), (2, 1), (3, 0)] {
+        assert!(rt; store.read(&Cell::Mark { n }, &mut byte).is_ok() && byte == [mark]);
+    }
+}
+
+#[test]
+fn a_synced_cell_is_read_by_a_new_store(rt: HostRuntime) {
+    enter(&rt, "synced").expect(&rt, "a folder");
+    let alloc = rt.alloc();
+    expect_written(&rt, &mut real_store(&rt, alloc));
+    expect_read_back(&rt, &mut real_store(&rt, alloc));
+    // the files themselves: slot 3 ends at byte 16,384, and mark 2 stands at byte 1,536
+    let disk = fs::read(&rt, "a.disk").expect(&rt, "a file");
+    assert!(rt; disk.len() == 16384);
+    for (i, byte) in disk.iter().enumerate() {
+        assert!(rt; *byte == if i < 12288 { 0 } else { 7 });
+    }
+    let journal = fs::read(&rt, "journal.mig").expect(&rt, "a file");
+    assert!(rt; journal.len() == 1537);
+    for (i, byte) in journal.iter().enumerate() {
+        let wanted = match i {
+            0..32 => 5,
+            512 | 1536 => 1,
+            _ => 0,
+        };
+        assert!(rt; *byte == wanted);
+    }
+    assert!(rt; fs::exists(&rt, "b.disk").is_ok_and(|is| !is));
+    leave(&rt, "synced").expect(&rt, "a folder");
+}
+
+#[test]
+fn a_synced_cell_is_left_by_a_crash(rt: HostRuntime) {
+    let alloc = rt.alloc();
+    for pick in [Pick::Old, Pick::New, Pick::Front, Pick::Back, Pick::Ones] {
+        let mut store = mem_store(&rt, alloc, MemCalls::new(alloc));
+        expect_written(&rt, &mut store);
+        expect_read_back(&rt, &mut crashed(&rt, alloc, store, pick));
+    }
+}
+
+/// The slot of this number of the disk that this number names.
+fn slot_in(disk: u32, slot: u32) -> Cell {
+    let digit = |n: u32| b'0' + (n % 10) as u8;
+    slot_of(&[digit(disk / 100), digit(disk / 10), digit(disk)], slot)
+}
+
+/// Writes a slot of each of so many disks, and syncs them, twice one of them.
+fn expect_many_written<C: Calls>(rt: &impl Abort, store: &mut FileStore<C>, disks: u32) {
+    for d in 0..disks {
+        assert!(rt; put(store, &slot_in(d, 0), (d % 256) as u8));
+    }
+    assert!(rt; store.sync().is_ok());
+    assert!(rt; put(store, &slot_in(0, 1), 1));
+    assert!(rt; has(store, &slot_in(0, 0), 0));
+    assert!(rt; store.sync().is_ok());
+}
+
+/// Asserts that these are read.
+fn expect_many_read<C: Calls>(rt: &impl Abort, store: &mut FileStore<C>, disks: u32) {
+    for d in 0..disks {
+        assert!(rt; has(store, &slot_in(d, 0), (d % 256) as u8));
+    }
+    assert!(rt; has(store, &slot_in(0, 1), 1));
+    assert!(rt; has(store, &slot_in(1, 1), 0));
+}
+
+#[test]
+fn more_disks_than_open_files(rt: HostRuntime) {
+    enter(&rt, "many").expect(&rt, "a folder");
+    let alloc = rt.alloc();
+    let disks = MOST_OPEN as u32 + 50;
+    expect_many_written(&rt, &mut real_store(&rt, alloc), disks);
+    expect_many_read(&rt, &mut real_store(&rt, alloc), disks);
+    leave(&rt, "many").expect(&rt, "a folder");
+}
+
+#[test]
+fn more_disks_than_may_be_open(rt: HostRuntime) {
+    let alloc = rt.alloc();
+    for most_open in [2, 3, 10] {
+        let mut trouble = Trouble::none(alloc);
+        trouble.most_open = most_open;
+        trouble.most_bytes = 1500;
+        trouble.interrupts = 5;
+        let mut calls = MemCalls::new(alloc);
+        calls.trouble(trouble);
+        let mut store = mem_store(&rt, alloc, calls);
+        expect_many_written(&rt, &mut store, 20);
+        expect_many_read(&rt, &mut store, 20);
+        expect_many_read(&rt, &mut crashed(&rt, alloc, store, Pick::Old), 20);
+    }
+}
+
+/// Asserts that a link which leads nowhere, or to what is neither a file nor a disk, is neither read nor written, and that no file is made through it.
+fn expect_no_disk<H: Abort + AllocGlobal + Files, R: Files<File = File> + Eprint>(
+    rt: &H,
+    store: &mut RealStore<'_, R>,
+    cell: &Cell,
+) {
+    assert!(rt; !has(store, cell, 0));
+    assert!(rt; !put(store, cell, 1));
+    assert!(rt; fs::exists(rt, "nowhere").is_ok_and(|is| !is));
+}
+
+/// Asserts that a store reads a slot that is not there yet, and writes nothing since the journal is another's.
+fn expect_nothing_written<H: Abort + AllocGlobal + Files, R: Files<File = File> + Eprint>(
+    rt: &H,
+    store: &mut RealStore<'_, R>,
+    cell: &Cell,
+) {
+    assert!(rt; has(store, cell, 0));
+    assert!(rt; !put(store, cell, 1));
+    assert!(rt; store.sync().is_err());
+    assert!(rt; fs::exists(rt, "a.disk").is_ok_and(|is| !is));
+}
+
+/// Asserts that a slot is written over, and that each call fails after a sync that does: a folder stands where the journal's copy is to be.
+fn expect_broken<H: Abort + AllocGlobal + Files, R: Files<File = File> + Eprint>(
+    rt: &H,
+    store: &mut RealStore<'_, R>,
+    cell: &Cell,
+) {
+    assert!(rt; put(store, cell, 1));
+    assert!(rt; store.write(&Cell::Gate, &[1]).is_ok());
+    assert!(rt; fs::create_dir(rt, "journal.mig.copy.mig").is_ok());
+    assert!(rt; store.sync().is_err());
+    assert!(rt; fs::remove_dir(rt, "journal.mig.copy.mig").is_ok());
+    assert!(rt; !has(store, cell, 1));
+    assert!(rt; !put(store, cell, 2));
+    assert!(rt; store.ended().is_err());
+    assert!(rt; store.sync().is_err());
+}
+
+/// Asserts that a slot holds what was written, and can be written over.
+fn expect_mended<R: Files<File = File> + Eprint>(
+    rt: &impl Abort,
+    store: &mut RealStore<'_, R>,
+    cell: &Cell,
+) {
+    assert!(rt; has(store, cell, 1));
+    assert!(rt; put(store, cell, 2));
+    assert!(rt; has(store, cell, 2));
+    assert!(rt; store.sync().is_ok());
+}
+
+#[test]
+fn what_is_refused(rt: HostRuntime) {
+    enter(&rt, "refused").expect(&rt, "a folder");
+    let alloc = rt.alloc();
+    let (a, b, c) = (slot_of(b"a", 0), slot_of(b"b", 0), slot_of(b"c", 0));
+    assert!(rt; symlink(&rt, "nowhere", "b.disk").is_ok());
+    assert!(rt; symlink(&rt, "/dev/null", "c.disk").is_ok());
+    let mut store = real_store(&rt, alloc);
+    expect_no_disk(&rt, &mut store, &b);
+    expect_no_disk(&rt, &mut store, &c);
+    // the journal is this store's now
+    expect_nothing_written(&rt, &mut real_store(&rt, alloc), &a);
+    expect_broken(&rt, &mut store, &a);
+    drop(store);
+    expect_mended(&rt, &mut real_store(&rt, alloc), &a);
+    leave(&rt, "refused").expect(&rt, "a folder");
+}

@@ -1,0 +1,45 @@
+//! The store over the working folder, and over files in memory.
+ghost use Rattle.std.specs.Prelude.{IsTrue, ℕ, List};
+ghost use Rattle.mig_calls.specs.declared.places.Place.TheVariants.{Disk as DiskFile};
+ghost use Rattle.mig_calls.specs.Memory.{mem_state};
+
+use mig_calls::{MemCalls, Pick};
+use mig_files::{DiskSet, FileStore};
+use mig_host::HostCalls;
+use std::alloc::Global;
+use std::fs::File;
+use std::panic::Expect;
+use std::process::Abort;
+use std::rt::Files;
+
+/// The store over the working folder, by this runtime's files.
+pub type RealStore<'a, R> = FileStore<HostCalls<'a, R>>;
+
+/// A store over the working folder that has opened no file.
+pub fn real_store<'a, R: Abort + Files<File = File> + Eprint>(
+    rt: &'a R,
+    alloc: Global,
+) -> RealStore<'a, R> {
+    let calls = HostCalls::new(rt, alloc);
+    FileStore::new(alloc, calls, DiskSet::new(alloc)).expect(rt, "ample memory")
+}
+
+/// A store over files in memory that has opened none.
+pub fn mem_store(rt: &impl Abort, alloc: Global, calls: MemCalls) -> FileStore<MemCalls>
+    requires usable { IsTrue (mem_state calls).usable }
+    requires flushed { (disk : List ℕ) → IsTrue ((mem_state calls).flushed (DiskFile disk)) }
+    requires fresh { (disk : List ℕ) → IsTrue ((mem_state calls).fresh (DiskFile disk)) }
+{
+    FileStore::new(alloc, calls, DiskSet::new(alloc)).expect(rt, "ample memory")
+}
+
+/// A store over the files in memory that a crash of this one leaves.
+pub fn crashed(
+    rt: &impl Abort,
+    alloc: Global,
+    store: FileStore<MemCalls>,
+    pick: Pick,
+) -> FileStore<MemCalls> {
+    let calls = store.into_calls().crash(pick).expect(rt, "ample memory");
+    mem_store(rt, alloc, calls)
+}

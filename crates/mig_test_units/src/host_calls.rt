@@ -1,0 +1,220 @@
+//! Each call of a store on its files: over real files, and over files in memory.
+ghost use Rattle.std.specs.Prelude.{◌≡◌, IsTrue};
+
+use crate::work_folder::{enter, leave};
+use mig_base::Name;
+use mig_calls::{CallError, Calls, Extent, MemCalls, Place, Refusal};
+use mig_host::HostCalls;
+use std::fs::{self, File, Permissions};
+use std::os::unix::fs::{MetadataExt, PermissionsExt, symlink};
+use std::panic::Expect;
+use std::process::Abort;
+use std::rt::Files;
+
+/// The disk with this name.
+fn disk_of(name: &[u8]) -> Place {
+    match Name::read(name) {
+        Some(name) => Place::Disk(name),
+        None => Place::Journal,
+    }
+}
+
+/// Whether these bytes, and no more, are read from an offset on.
+fn has<C: Calls>(calls: &mut C, place: &Place, offset: u64, bytes: &[u8]) -> bool
+    requires { IsTrue (C.Calls.state calls.old).usable }
+    ensures usable { IsTrue (C.Calls.state calls.new).usable }
+    ensures claimed { (C.Calls.state calls.new).claimed ≡ (C.Calls.state calls.old).claimed }
+{
+    let mut found = [9; 16];
+    match calls.read_at(place, offset, &mut found) {
+        Ok(count) => count == bytes.len() && found.starts_with(bytes),
+        Err(_) => false,
+    }
+}
+
+/// Whether all of these bytes are written at an offset, and whether the file was made for it as it should.
+fn writes<C: Calls>(calls: &mut C, place: &Place, offset: u64, bytes: &[u8], made: bool) -> bool
+    requires usable { IsTrue (C.Calls.state calls.old).usable }
+    requires claimed { IsTrue (C.Calls.state calls.old).claimed }
+    ensures usable { IsTrue (C.Calls.state calls.new).usable }
+    ensures claimed { IsTrue (C.Calls.state calls.new).claimed }
+{
+    match calls.write_at(place, offset, bytes) {
+        Ok(written) => written.count == bytes.len() && written.made == made,
+        Err(_) => false,
+    }
+}
+
+/// Whether a file has so many bytes, or isn't there.
+fn extends<C: Calls>(calls: &mut C, place: &Place, wanted: Extent) -> bool
+    requires { IsTrue (C.Calls.state calls.old).usable }
+    ensures usable { IsTrue (C.Calls.state calls.new).usable }
+    ensures claimed { (C.Calls.state calls.new).claimed ≡ (C.Calls.state calls.old).claimed }
+{
+    match calls.len(place) {
+        Ok(found) => found == wanted,
+        Err(_) => false,
+    }
+}
+
+/// Asserts that a file isn't there, and has no bytes.
+fn expect_absent<C: Calls>(rt: &impl Abort, calls: &mut C, place: &Place)
+    requires { IsTrue (C.Calls.state calls.old).usable }
+    ensures { IsTrue (C.Calls.state calls.new).usable }
+{
+    assert!(rt; extends(calls, place, Extent::Absent));
+    assert!(rt; has(calls, place, 0, b""));
+}
+
+/// Asserts that no file is there.
+fn expect_none<C: Calls>(rt: &impl Abort, calls: &mut C)
+    requires { IsTrue (C.Calls.state calls.old).usable }
+    ensures { IsTrue (C.Calls.state calls.new).usable }
+{
+    expect_absent(rt, calls, &disk_of(b"a"));
+    expect_absent(rt, calls, &Place::Journal);
+    expect_absent(rt, calls, &Place::Copy);
+    match calls.is_fresh() {
+        Ok(sure) => assert!(rt; sure),
+        Err(_) => assert!(rt; false),
+    }
+}
+
+/// Takes the right to write.
+fn claim<C: Calls>(rt: &impl Abort, calls: &mut C)
+    requires { IsTrue (C.Calls.state calls.old).usable }
+    ensures usable { IsTrue (C.Calls.state calls.new).usable }
+    ensures claimed { IsTrue (C.Calls.state calls.new).claimed }
+{
+    match calls.claim() {
+        Ok(()) => {}
+        Err(_) => assert!(rt; false),
+    }
+}
+
+/// Syncs a file, and closes it.
+fn sync_and_close<C: Calls>(rt: &impl Abort, calls: &mut C, place: &Place)
+    requires { IsTrue (C.Calls.state calls.old).usable }
+    ensures usable { IsTrue (C.Calls.state calls.new).usable }
+    ensures claimed { (C.Calls.state calls.new).claimed ≡ (C.Calls.state calls.old).claimed }
+{
+    match calls.sync(place) {
+        Ok(()) => calls.close(place),
+        Err(_) => assert!(rt; false),
+    }
+}
+
+/// Asserts that a disk's file is made, written, synced, closed and read again.
+fn expect_written<C: Calls>(rt: &impl Abort, calls: &mut C)
+    requires usable { IsTrue (C.Calls.state calls.old).usable }
+    requires claimed { IsTrue (C.Calls.state calls.old).claimed }
+    ensures usable { IsTrue (C.Calls.state calls.new).usable }
+    ensures claimed { IsTrue (C.Calls.state calls.new).claimed }
+{
+    let disk = disk_of(b"a");
+    assert!(rt; writes(calls, &disk, 4096, b"slot 1", true));
+    assert!(rt; writes(calls, &disk, 4102, b"!", false));
+    assert!(rt; extends(calls, &disk, Extent::File { len: 4103 }));
+    sync_and_close(rt, calls, &disk);
+    assert!(rt; has(calls, &disk, 4096, b"slot 1!"));
+    assert!(rt; has(calls, &disk, 4103, b""));
+    // over real files it was opened for reading alone, and is opened anew
+    assert!(rt; writes(calls, &disk, 0, b"slot 0", false));
+    assert!(rt; has(calls, &disk, 0, b"slot 0\0\0\0\0\0\0\0\0\0\0"));
+    assert!(rt; extends(calls, &disk, Extent::File { len: 4103 }));
+}
+
+/// Asserts what is read and written of files that aren't there yet.
+fn expect_files<C: Calls>(rt: &impl Abort, calls: &mut C)
+    requires { IsTrue (C.Calls.state calls.old).usable }
+    ensures { IsTrue (C.Calls.state calls.new).usable }
+{
+    expect_none(rt, calls);
+    claim(rt, calls);
+    claim(rt, calls);
+    assert!(rt; extends(calls, &Place::Journal, Extent::File { len: 0 }));
+    expect_written(rt, calls);
+}
+
+#[test]
+fn each_call_over_files_in_memory(rt: HostRuntime) {
+    expect_files(&rt, &mut MemCalls::new(rt.alloc()));
+}
+
+/// Asserts that the journal is written, that a copy takes its place, and that it is this process's alone all the while.
+fn expect_renewed<H: Abort + AllocGlobal + Files, R: Files<File = File> + Eprint>(
+    rt: &H,
+    calls: &mut HostCalls<'_, R>,
+) {
+    assert!(rt; writes(calls, &Place::Journal, 512, b"gate", false));
+    assert!(rt; calls.sync(&Place::Journal).is_ok());
+    assert!(rt; calls.is_fresh().is_ok_and(|sure| !sure));
+    assert!(rt; fs::set_permissions(rt, "journal.mig", Permissions::from_mode(0o640)).is_ok());
+    assert!(rt; fs::write(rt, "journal.mig.copy.mig", b"left by a crash").is_ok());
+    assert!(rt; calls.make_copy().is_ok());
+    assert!(rt; writes(calls, &Place::Copy, 0, b"a copy", false));
+    assert!(rt; has(calls, &Place::Copy, 0, b"a copy"));
+    assert!(rt; extends(calls, &Place::Copy, Extent::File { len: 6 }));
+    assert!(rt; has(calls, &Place::Journal, 512, b"gate"));
+    assert!(rt; calls.sync(&Place::Copy).is_ok());
+    assert!(rt; calls.rename().is_ok());
+    assert!(rt; calls.sync_names().is_ok());
+    assert!(rt; has(calls, &Place::Journal, 0, b"a copy"));
+    assert!(rt; fs::exists(rt, "journal.mig.copy.mig").is_ok_and(|is| !is));
+    assert!(rt; fs::metadata(rt, "journal.mig").is_ok_and(|found| found.len() == 6));
+}
+
+#[test]
+fn each_call_over_real_files(rt: HostRuntime) {
+    enter(&rt, "host_calls").expect(&rt, "a folder");
+    let alloc = rt.alloc();
+    let mut calls = HostCalls::new(&rt, alloc);
+    // no file is made by a look
+    expect_none(&rt, &mut calls);
+    assert!(rt; fs::exists(&rt, "a.disk").is_ok_and(|is| !is));
+    assert!(rt; fs::exists(&rt, "journal.mig").is_ok_and(|is| !is));
+    expect_files(&rt, &mut calls);
+    assert!(rt; fs::metadata(&rt, "a.disk").is_ok_and(|found| found.len() == 4103));
+    assert!(rt; HostCalls::new(&rt, alloc).claim() == Err(CallError::Failed));
+    expect_renewed(&rt, &mut calls);
+    assert!(rt; HostCalls::new(&rt, alloc).claim() == Err(CallError::Failed));
+    calls.refuse(&Refusal::Memory {
+        place: Place::Journal,
+    });
+    drop(calls);
+    assert!(rt; HostCalls::new(&rt, alloc).claim().is_ok());
+    leave(&rt, "host_calls").expect(&rt, "a folder");
+}
+
+/// Asserts that a place is neither read nor written.
+fn expect_failed<R: Files<File = File> + Eprint>(
+    rt: &impl Abort,
+    calls: &mut HostCalls<'_, R>,
+    place: &Place,
+) {
+    assert!(rt; !has(calls, place, 0, b""));
+    assert!(rt; !writes(calls, place, 0, b"x", true));
+}
+
+#[test]
+fn files_that_are_no_disks(rt: HostRuntime) {
+    enter(&rt, "no_disks").expect(&rt, "a folder");
+    let mut calls = HostCalls::new(&rt, rt.alloc());
+    assert!(rt; calls.claim().is_ok());
+    for (path, to) in [
+        ("b.disk", "nowhere"),
+        ("c.disk", "/dev/null"),
+        ("d.disk", "journal.mig"),
+        ("f.disk", "e.disk"),
+    ] {
+        assert!(rt; symlink(&rt, to, path).is_ok());
+    }
+    assert!(rt; writes(&mut calls, &disk_of(b"e"), 0, b"a disk", true));
+    for name in [b"b".as_slice(), b"c", b"d", b"f"] {
+        expect_failed(&rt, &mut calls, &disk_of(name));
+    }
+    // it is no disk that is to be made
+    assert!(rt; extends(&mut calls, &disk_of(b"b"), Extent::Absent));
+    assert!(rt; has(&mut calls, &disk_of(b"e"), 0, b"a disk"));
+    leave(&rt, "no_disks").expect(&rt, "a folder");
+}

@@ -1,0 +1,34 @@
+//! Tests alone: the calls of single crates below the mover and the planner. They stand apart from these crates, so that each
+//! of them is proved once.
+#![tactic(auto)]
+
+#[cfg(test)]
+mod asked_items;
+#[cfg(test)]
+mod boards;
+#[cfg(test)]
+mod digests;
+#[cfg(test)]
+mod disk_files;
+#[cfg(test)]
+mod file_stores;
+#[cfg(test)]
+mod folders;
+#[cfg(test)]
+mod host_calls;
+#[cfg(test)]
+mod inputs;
+#[cfg(test)]
+mod made_cases;
+#[cfg(test)]
+mod name_tables;
+#[cfg(test)]
+mod saves;
+#[cfg(test)]
+mod shared_nodes;
+#[cfg(test)]
+mod stores;
+#[cfg(test)]
+mod streams;
+#[cfg(test)]
+mod work_folder;
