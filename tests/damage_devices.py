@@ -1,7 +1,8 @@
 """What tests/damage tries with block devices: one that is mounted, one under two names, and one that is too short. They are loop devices,
 which root alone can make; where that fails a line says so, and nothing is counted."""
 import itertools, os, shutil, stat, subprocess, tempfile
-from session_rooms import SLOT, Count, Room, cell, says
+from session_cells import SLOT, cell
+from session_rooms import Count, Room, says
 from damage_names import merged, refused
 from damage_rooms import ENDS, LAYOUT, Store, case, changed, judge, reuse, stages, twins
 from damages import JOURNAL

@@ -1,6 +1,8 @@
 """What tests/damage tries besides: few open files, new disks beside old ones, pipes as disks, two first movers, and fills that were stopped."""
 import itertools, os, resource, stat, time
-from session_rooms import DISKS, PLAN_TEXT, SLOT, Count, Ran, Room, cell, put, says
+from session_cells import SLOT, cell
+from session_inputs import DISKS, PLAN_TEXT, put
+from session_rooms import Count, Ran, Room, says
 from damage_rooms import LEFT, WORDS, Store, ended_well, example, ring, stages
 from damages import JOURNAL, wanted
 

@@ -1,6 +1,8 @@
 """What tests/damage tries with names: one file under two of them, a disk of two folders, and a layout in the place of a disk."""
 import itertools, os, resource, signal, time
-from session_rooms import SLOT, Count, Room, cell, put, says, stores
+from session_cells import SLOT, cell, stores
+from session_inputs import put
+from session_rooms import Count, Room, says
 from damage_rooms import ENDS, LAYOUT, WORDS, Store, case, changed, example, judge, ring, stages, twins
 from damages import JOURNAL, mark
 

@@ -2,7 +2,9 @@
 that is; and what becomes of a mover that is held between two calls. It needs strace; where it isn't there a line says so, and nothing is
 counted."""
 import fcntl, os, re, shutil, time
-from session_rooms import DISKS, PLAN_TEXT, SLOT, Count, Ran, Room, put, says
+from session_cells import SLOT
+from session_inputs import DISKS, PLAN_TEXT, put
+from session_rooms import Count, Ran, Room, says
 from damage_rooms import ENDS, LAYOUT, LEFT, WORDS, Store, example, stages
 from damages import JOURNAL, journal_of, mark
 

@@ -1,7 +1,9 @@
 """What tests/damage stands on: stores whose disks are links to files elsewhere, what may be done to them, and the judgement of what a
 command makes of them, by the model of bench/damages.py."""
 import os
-from session_rooms import BEFORE, FILES, SLOT, Count, cell, page, put, says
+from session_cells import BEFORE, SLOT, cell
+from session_inputs import FILES, put
+from session_rooms import Count, page, says
 from damages import JOURNAL, Case, Slots, journal_of, wanted
 
 OLD = 10**18

@@ -1,11 +1,18 @@
 -- A plan that is started, crashes, and is resumed.
-use Rattle.mig_base.proofs.Common.{◌≡◌, inl, inr, true, ℕ, [], Result, Ok, Err, IfOk, is_ok, subst, arith, Image, SettlesTo, Contents, IsSound, State, IsState, flights, LeavesOnly, IsSettled}
+use Rattle.mig_base.proofs.Common.{◌≡◌, inl, inr, true, ℕ, ◌++◌, List, [], length, Option, Some, IsSome, option_map, Result, Ok, Err, IfOk, is_ok, refl, sym, ◌∙◌, ap, subst, arith, count_of, Adds, AreFlights, Image, SettlesTo, Contents, IsSound, State, IsState, flights, LeavesOnly, IsSettled}
+use Rattle.mig_base.specs.declared.cells.Event.{Event}
+use Rattle.mig_base.specs.declared.cells.Flight.{Flight}
 use Rattle.mig_base.specs.Arrivals.{IsReached}
+use Rattle.mig_base.specs.Flights.{in_flight}
+use Rattle.mig_base.specs.RoundEvents.{IsRun}
+use Rattle.mig_base.proofs.Landing.{flights_none}
 use Rattle.mig_base.proofs.StoreSteps.{same_image, told_kept, shape_told}
 use Rattle.mig_mover.specs.Moves.{Keeps}
 use Rattle.mig_base.specs.Tasks.{Task}
+use Rattle.mig_lanes.specs.LaneSteps.{later_rounds}
 use Rattle.mig_lanes.specs.Runs.{Finishes}
-use Rattle.mig_drill.specs.Stops.{LeavesSound}
+use Rattle.mig_drill.specs.Stops.{HasResumed, LeavesSound}
+use Rattle.mig_drill.specs.Stores.{TellsJob}
 
 -- what every image since a moment has, each image that a crash now may leave has
 left_now : (P : Image → Type 0) (old new : State) → IsState old → IsState new → LeavesOnly P old new → ((image : Image) → old.may_leave image → P image) → (image : Image) → new.may_leave image → P image
@@ -54,3 +61,28 @@ module _ (task : Task) (contents : Contents) where
 pub ended : {T E : Type 0} (r : Result T E) (P : T → Type 0) → IfOk r P → is_ok r ≡ true → (x : T) × P x
 ended (Ok x) P holds ok = (x, holds)
 ended (Err e) P holds ok = cc
+
+ended_both : {T E : Type 0} (r : Result T E) (P Q : T → Type 0) → IfOk r P → IfOk r Q → is_ok r ≡ true → (x : T) × P x × Q x
+ended_both (Ok x) P Q one other ok = (x, one, other)
+ended_both (Err e) P Q one other ok = cc
+
+module _ (task : Task) (first started crashed resumed : State) (at_started : IsState started) (crash : started.may_leave crashed.reads) (start : Keeps task first started) where
+  told_crashed : TellsJob task first → TellsJob task crashed
+  told_crashed tells cell job = shape_told (started.reads cell) (crashed.reads cell) (at_started.shape crashed.reads crash cell) (told_kept _ first.reads started.reads start.change.1.told cell (tells cell job))
+
+  -- the job's cells are told all through a stop
+  pub stop_told : Keeps task crashed resumed → TellsJob task first → TellsJob task resumed
+  stop_told resume tells cell job = told_kept _ crashed.reads resumed.reads resume.change.1.told cell (told_crashed tells cell job)
+
+  -- and the events are those of the rounds that weren't marked
+  pub stop_resumed : crashed.events ≡ Some [] → {E : Type 0} (r : Result ℕ E) → IfOk r (Finishes task crashed resumed) → IfOk r (λ k. Adds (IsRun (flights crashed) (later_rounds task k)) crashed resumed) → is_ok r ≡ true
+      → (marks : ℕ) → marks ≡ count_of (length task.plan) crashed.reads → TellsJob task first → HasResumed task marks resumed
+  stop_resumed none r finishes events ok marks is tells =
+      let both = ended_both r (Finishes task crashed resumed) (λ k. Adds (IsRun (flights crashed) (later_rounds task k)) crashed resumed) finishes events ok in
+      let landed : flights crashed ≡ [] = ap in_flight none in
+      let k_is : both.0 ≡ marks = both.1.found (told_crashed tells) (subst AreFlights (sym landed) flights_none) ∙ sym is in
+      let adds = both.2 (subst (λ (o : Option (List Event)). IsSome o) (sym none) refl) in (
+        adds.0,
+        subst (λ (k : ℕ). IsRun [] (later_rounds task k) adds.0) k_is (subst (λ (fs : List Flight). IsRun fs (later_rounds task both.0) adds.0) landed adds.1),
+        adds.2 ∙ ap (option_map (λ (before : List Event). before ++ adds.0)) none,
+      )

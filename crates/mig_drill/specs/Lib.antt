@@ -1,3 +1,4 @@
 pub mod Drills
 pub mod Stops
+pub mod Stores
 pub mod Writes

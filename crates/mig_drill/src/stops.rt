@@ -4,7 +4,8 @@ ghost use Rattle.mig_base.specs.Arrivals.{IsReached};
 ghost use Rattle.mig_base.specs.Journals.{is_one, count_of};
 ghost use Rattle.mig_base.specs.Safety.{Contents};
 ghost use Rattle.mig_base.specs.Stores.{IsSettled};
-ghost use Rattle.mig_drill.specs.Stops.{LeavesSound};
+ghost use Rattle.mig_drill.specs.Stops.{HasResumed, LeavesSound};
+ghost use Rattle.mig_drill.specs.Stores.{TellsJob};
 ghost use Rattle.mig_store.specs.Memories.{state_of};
 
 use mig_base::Cell;
@@ -50,11 +51,14 @@ fn count_rounds(store: &MemStore, rounds: u32) -> u32
 /// the store as the resumption left it.
 ///
 /// Where each image that a crash of the given store may leave is safe and clean, so is each that a crash of the answered store
-/// may leave; and where the plan was resumed to its end, the answered store shows its target, with nothing unsettled.
+/// may leave; and where the plan was resumed to its end, the answered store shows its target, with nothing unsettled. Its events
+/// are then those of the rounds that weren't marked.
 pub fn stop_at(job: &Job, mut store: MemStore, writes: u32, pick: Pick) -> (Stop, MemStore)
     ensures keeps { (contents : Contents) → LeavesSound job.now contents (state_of store) → LeavesSound job.now contents (state_of result.1) }
     ensures reached { IsTrue result.0.reached → (contents : Contents) → LeavesSound job.now contents (state_of store) → IsReached job.now.input job.now.plan job.now.digest contents (state_of result.1).reads }
     ensures settled { IsTrue result.0.reached → IsSettled (state_of result.1) }
+    ensures told { TellsJob job.now (state_of store) → TellsJob job.now (state_of result.1) }
+    ensures resumed { IsTrue result.0.reached → TellsJob job.now (state_of store) → HasResumed job.now result.0.marks (state_of result.1) }
     ensures marks { result.0.marks ≤ length job.now.plan }
 {
     store.fuse(u64::from(writes));

@@ -1,5 +1,5 @@
 //! The text of a drill.
-ghost use Rattle.std.specs.Prelude.{◌<◌, ◌^◌, ◌∷◌, [], length};
+ghost use Rattle.std.specs.Prelude.{◌≡◌, ◌*◌, ◌<◌, ◌^◌, ◌∷◌, [], length};
 ghost use Rattle.mig_base.specs.Texts.{text_of_lines};
 ghost use Rattle.mig_drill.specs.Drills.{count_line, marks_line, stop_lines, drill_lines};
 ghost use Rattle.mig_words.specs.Puts.{Puts};
@@ -52,13 +52,14 @@ fn put_stops<K: Sink>(out: &mut K, writes: &[Write]) -> Result<(), SinkFailed>
     Ok(())
 }
 
-/// Puts the text of a drill of a plan that is carried out by these writes.
-pub fn put_drill<K: Sink>(out: &mut K, writes: &[Write]) -> Result<(), SinkFailed>
-    requires { length writes.now < 2 ^ 30 }
+/// Puts the text of a drill of a plan that is carried out by these writes, of which so many runs reached their end.
+pub fn put_drill<K: Sink>(out: &mut K, writes: &[Write], runs: u32) -> Result<(), SinkFailed>
+    requires short { length writes.now < 2 ^ 30 }
+    requires all { runs ≡ 4 * length writes.now }
     ensures { Puts (text_of_lines (drill_lines writes.now)) (K.state out.old) (K.state out.new) result }
 {
     let count = writes.len() as u32;
     put_count(out, b"writes", count)?;
     put_stops(out, writes)?;
-    put_count(out, b"reached", 4 * count)
+    put_count(out, b"reached", runs)
 }

@@ -1,63 +1,36 @@
 -- How the journal is renewed.
-use Rattle.std.proofs.Common.{◌≡◌, ◌⊎◌, inl, inr, ◌+◌, ◌-◌, ◌<◌, ◌≤◌, ℕ, Bool, IsTrue, IsFalse, List, slice_index, sym, ◌∙◌, ap, subst, arith}
+use Rattle.std.proofs.Common.{◌≡◌, ◌⊎◌, inl, inr, ◌+◌, ◌-◌, ◌<◌, ◌≤◌, ℕ, IsTrue, List, slice_index, sym, ◌∙◌, ap, subst, arith}
 use Rattle.std.specs.List.{Contains}
-use Rattle.std.proofs.lemmas.Bool.{cases_lt, false≢true}
+use Rattle.std.proofs.lemmas.Bool.{cases_lt}
 use Rattle.mig_base.specs.declared.cells.Cell.{Cell}
 use Rattle.mig_base.specs.declared.cells.Cell.TheVariants.{Slot, Head, Gate, Mark}
 use Rattle.mig_calls.specs.declared.places.Place.{Place}
 use Rattle.mig_calls.specs.declared.places.Place.TheVariants.{Disk, Journal, Copy}
 use Rattle.mig_calls.specs.Places.{file_of}
-use Rattle.mig_calls.specs.Files.{FilesState, IsFilesState, FilesLook, FilesWrite, IsWithin, TouchesFile, KeepsFlushed, KeepsFreshBut, NoByte, HasBytes, EndsAt, IsSettledAt}
+use Rattle.mig_calls.specs.Files.{FilesState, IsFilesState, FilesLook, FilesWrite, IsWithin, HasBytes, EndsAt, IsSettledAt}
 use Rattle.mig_files.specs.declared.tracked.Notes.{Notes}
-use Rattle.mig_files.specs.Tracking.{IsTracked, IsStep, IsCopyStep, IsCopiedTo, IsWholeCopy, IsWriteStep}
+use Rattle.mig_files.specs.Tracking.{IsTracked, IsStep, IsCopyStep, IsCopiedTo, IsWriteStep}
 use Rattle.mig_files.proofs.FilesSteps.{told_before}
 use Rattle.mig_files.proofs.TrackingSteps.{copy_then, look_is_copy, write_is_copy}
 
-pub step_is_copy : (t : Notes) (a b : FilesState) → IsStep t a b → IsCopyStep t a b
-step_is_copy t a b step = record { tracked = step.tracked; change = look_is_copy a b step.change; later = step.later; more = step.more }
+pub step_is_copy : {t : Notes} {a b : FilesState} → IsStep t a b → IsCopyStep t a b
+step_is_copy step = record { tracked = step.tracked; change = look_is_copy step.change; later = step.later; more = step.more }
 
-pub write_step_is_copy : (t : Notes) (at n : ℕ) (a b : FilesState) → IsWriteStep t Copy at n a b → IsCopyStep t a b
-write_step_is_copy t at n a b step = record { tracked = step.tracked; change = write_is_copy at n a b step.change; later = step.later; more = step.more }
+pub write_step_is_copy : {t : Notes} {at n : ℕ} {a b : FilesState} → IsWriteStep t Copy at n a b → IsCopyStep t a b
+write_step_is_copy step = record { tracked = step.tracked; change = write_is_copy step.change; later = step.later; more = step.more }
 
-pub copy_step_then : (t u : Notes) (a b c : FilesState) → IsCopyStep t a b → IsCopyStep u b c → IsCopyStep u a c
-copy_step_then t u a b c first then = record {
+pub copy_step_then : {t u : Notes} {a b c : FilesState} → IsCopyStep t a b → IsCopyStep u b c → IsCopyStep u a c
+copy_step_then first then = record {
   tracked = then.tracked;
-  change = copy_then a b c first.change then.change;
+  change = copy_then first.change then.change;
   later = omega (arith, first.later, then.later);
   more = omega (arith, first.more, then.more);
 }
 
--- a call that touched the journal's copy alone, after which names may have to be synced
-pub copy_touched : (t u : Notes) (a b : FilesState) → IsTracked t a → IsFalse t.lost → u.dirty ≡ t.dirty → u.unsynced ≡ t.unsynced → u.renewed ≡ t.renewed → u.claimed ≡ t.claimed → IsTrue u.made → u.lost ≡ t.lost
-    → TouchesFile Copy a b → KeepsFreshBut Copy a b → IsTrue b.usable → IsTracked u b
-copy_touched t u a b is alive dirty unsynced renewed claimed made lost touch fresh usable = record {
-  usable = λ off. usable;
-  lost = λ on. absurd (false≢true (sym alive ∙ sym lost ∙ on));
-  claimed = λ on. touch.claimed ∙ is.claimed (sym claimed ∙ on);
-  named = λ off. absurd (false≢true (sym off ∙ made));
-  disks = λ disk out. touch.others (Disk disk) (λ e. cc) ∙ is.disks disk (λ has. out (subst (λ (l : List (List ℕ)). Contains l disk) (sym dirty) has));
-  fresh = λ off disk. fresh (Disk disk) (λ e. cc) ∙ is.fresh alive disk;
-  journal = λ off. touch.others Journal (λ e. cc) ∙ is.journal (sym unsynced ∙ off);
-  renewed = λ off on. fresh Journal (λ e. cc) ∙ is.renewed alive (sym renewed ∙ on);
-}
-
--- the copy took the journal's name, or may have
-pub renamed : (t u : Notes) (a b : FilesState) → IsTracked t a → IsFalse t.lost → u.dirty ≡ t.dirty → u.claimed ≡ t.claimed → IsTrue u.made → u.lost ≡ t.lost → b.claimed ≡ a.claimed → KeepsFlushed a b → KeepsFreshBut Journal a b → IsTrue b.usable
-    → (IsFalse u.unsynced → IsTrue (b.flushed Journal)) → (IsTrue u.renewed → IsTrue (b.fresh Journal)) → IsTracked u b
-renamed t u a b is alive dirty claimed made lost same kept fresh usable flushed_journal fresh_journal = record {
-  usable = λ off. usable;
-  lost = λ on. absurd (false≢true (sym alive ∙ sym lost ∙ on));
-  claimed = λ on. same ∙ is.claimed (sym claimed ∙ on);
-  named = λ off. absurd (false≢true (sym off ∙ made));
-  disks = λ disk out. kept (Disk disk) (is.disks disk (λ has. out (subst (λ (l : List (List ℕ)). Contains l disk) (sym dirty) has)));
-  fresh = λ off disk. fresh (Disk disk) (λ e. cc) ∙ is.fresh alive disk;
-  journal = flushed_journal;
-  renewed = λ off on. fresh_journal on;
-}
-
 -- the journal is found to be fresh
-pub found_fresh : (t u : Notes) (s : FilesState) → IsTracked t s → u.dirty ≡ t.dirty → u.unsynced ≡ t.unsynced → u.claimed ≡ t.claimed → u.made ≡ t.made → u.lost ≡ t.lost → IsTrue (s.fresh Journal) → IsTracked u s
-found_fresh t u s is dirty unsynced claimed made lost fresh = record {
+pub found_fresh : {t u : Notes} {s : FilesState} → IsTracked t s → u.dirty ≡ t.dirty → u.unsynced ≡ t.unsynced → u.claimed ≡ t.claimed → u.made ≡ t.made → u.lost ≡ t.lost
+    → IsTrue (s.fresh Journal) → IsTracked u s
+found_fresh is dirty unsynced claimed made lost fresh = record {
   usable = λ off. is.usable (sym lost ∙ off);
   lost = λ on. is.lost (sym lost ∙ on);
   claimed = λ on. is.claimed (sym claimed ∙ on);
@@ -69,25 +42,19 @@ found_fresh t u s is dirty unsynced claimed made lost fresh = record {
 }
 
 -- nothing is copied yet
-pub copied_none : (len : ℕ) (s : FilesState) → (IsTrue (s.told Copy) → EndsAt (s.reads Copy) 0) → (IsTrue (s.told Journal) → EndsAt (s.reads Journal) len) → IsCopiedTo 0 len s
-copied_none len s empty end = record {
+pub copied_none : {len : ℕ} {s : FilesState} → (IsTrue (s.told Copy) → EndsAt (s.reads Copy) 0) → (IsTrue (s.told Journal) → EndsAt (s.reads Journal) len) → IsCopiedTo 0 len s
+copied_none empty end = record {
   same = λ journal copy i lt few. absurd (omega (arith, lt));
   rest = λ copy i le. empty copy i (omega arith);
   over = λ copy i le. empty copy i (omega arith);
   end = end;
 }
 
--- all is copied
-pub copied_all : (n len : ℕ) (s : FilesState) → len ≤ n → IsCopiedTo n len s → IsWholeCopy s
-copied_all n len s all is journal copy i = elim (cases_lt i len) [
-  | inl few ↦ is.same journal copy i (omega (arith, few, all)) few
-  | inr past ↦ is.over copy i (omega (arith, past)) ∙ sym (is.end journal i (omega (arith, past)))
-]
-
 -- one part more is copied
-pub copied_more : (offset len count : ℕ) (bytes : List ℕ) (a b c : FilesState) → offset + count ≤ len → (count ≡ 16384) ⊎ (offset + count ≡ len) → count ≤ 16384 → IsCopiedTo offset len a → FilesLook a b → FilesWrite Copy offset count b c
+pub copied_more : (offset len count : ℕ) (bytes : List ℕ) {a b c : FilesState} → offset + count ≤ len → (count ≡ 16384) ⊎ (offset + count ≡ len) → count ≤ 16384
+    → IsCopiedTo offset len a → FilesLook a b → FilesWrite Copy offset count b c
     → (IsTrue (a.told Journal) → HasBytes (a.reads Journal) offset count bytes) → (IsTrue (c.told Copy) → HasBytes (c.reads Copy) offset count bytes) → IsCopiedTo (offset + 16384) len c
-copied_more offset len count bytes a b c within whole short is look write read written = record {
+copied_more offset len count bytes {a} {b} {c} within whole short is look write read written = record {
   same = λ journal copy i lt few. elim (cases_lt i offset) [
     | inl early ↦ copy_at i (λ part. omega (arith, part.from, early)) ∙ is.same (journal_told journal) (copy_told copy) i early few ∙ sym (journal_at i)
     | inr late ↦
@@ -106,10 +73,10 @@ copied_more offset len count bytes a b c within whole short is look write read w
     W = IsWithin Copy offset count
 
     journal_told : IsTrue (c.told Journal) → IsTrue (a.told Journal)
-    journal_told is = told_before NoByte NoByte a b look Journal (told_before W W b c write Journal is)
+    journal_told is = told_before look Journal (told_before write Journal is)
 
     copy_told : IsTrue (c.told Copy) → IsTrue (a.told Copy)
-    copy_told is = told_before NoByte NoByte a b look Copy (told_before W W b c write Copy is)
+    copy_told is = told_before look Copy (told_before write Copy is)
 
     journal_at : (i : ℕ) → c.reads Journal i ≡ a.reads Journal i
     journal_at i = write.bytes Journal i (λ part. other_place part.in_file) ∙ look.bytes Journal i (λ none. none)
@@ -121,28 +88,10 @@ copied_more offset len count bytes a b c within whole short is look write read w
     copy_at i out = write.bytes Copy i out ∙ look.bytes Copy i (λ none. none)
 
 -- all files of cells are settled
-pub settled_cell : (s : FilesState) → IsFilesState s → IsTrue s.named → ((disk : List ℕ) → IsTrue (s.flushed (Disk disk))) → ((disk : List ℕ) → IsTrue (s.fresh (Disk disk))) → IsTrue (s.flushed Journal) → IsTrue (s.fresh Journal)
+pub settled_cell : {s : FilesState} → IsFilesState s → IsTrue s.named → ((disk : List ℕ) → IsTrue (s.flushed (Disk disk))) → ((disk : List ℕ) → IsTrue (s.fresh (Disk disk)))
+    → IsTrue (s.flushed Journal) → IsTrue (s.fresh Journal)
     → (cell : Cell) → IsSettledAt s (file_of cell)
-settled_cell s law named disks fresh flushed_journal fresh_journal (Slot d t) = law.settled named (Disk d) (disks d) (fresh d)
-settled_cell s law named disks fresh flushed_journal fresh_journal Head = law.settled named Journal flushed_journal fresh_journal
-settled_cell s law named disks fresh flushed_journal fresh_journal Gate = law.settled named Journal flushed_journal fresh_journal
-settled_cell s law named disks fresh flushed_journal fresh_journal (Mark n) = law.settled named Journal flushed_journal fresh_journal
-
-pub not_copy : (d : List ℕ) → ¬ (Disk d ≡ Copy)
-not_copy d is = cc
-
-pub not_copy_journal : ¬ (Journal ≡ Copy)
-not_copy_journal is = cc
-
--- the copy was synced, of which nothing is noted
-pub copy_synced : (t : Notes) (a b : FilesState) → IsTracked t a → IsFalse t.lost → TouchesFile Copy a b → b.named ≡ a.named → b.fresh ≡ a.fresh → IsTrue b.usable → IsTracked t b
-copy_synced t a b is alive touch named fresh usable = record {
-  usable = λ off. usable;
-  lost = λ on. absurd (false≢true (sym alive ∙ on));
-  claimed = λ on. touch.claimed ∙ is.claimed on;
-  named = λ off. named ∙ is.named off;
-  disks = λ disk out. touch.others (Disk disk) (not_copy disk) ∙ is.disks disk out;
-  fresh = λ off disk. ap (λ (f : Place → Bool). f (Disk disk)) fresh ∙ is.fresh alive disk;
-  journal = λ off. touch.others Journal not_copy_journal ∙ is.journal off;
-  renewed = λ off on. ap (λ (f : Place → Bool). f Journal) fresh ∙ is.renewed alive on;
-}
+settled_cell law named disks fresh flushed_journal fresh_journal (Slot d t) = law.settled named (Disk d) (disks d) (fresh d)
+settled_cell law named disks fresh flushed_journal fresh_journal Head = law.settled named Journal flushed_journal fresh_journal
+settled_cell law named disks fresh flushed_journal fresh_journal Gate = law.settled named Journal flushed_journal fresh_journal
+settled_cell law named disks fresh flushed_journal fresh_journal (Mark n) = law.settled named Journal flushed_journal fresh_journal

@@ -1,16 +1,17 @@
 -- A change of files is a change of the cells that are read off them.
-use Rattle.std.proofs.Common.{◌≡◌, inl, inr, ◌+◌, ◌<◌, ℕ, zero, suc, Bool, true, false, List, [], ◌∷◌, length, Option, Some, None, if◌then◌else◌, IsTrue, IfSome, Result, Ok, Err, OnOk, refl, sym, ◌∙◌, ap, subst, arith, rules}
+use Rattle.std.proofs.Common.{◌≡◌, inl, inr, ◌+◌, ◌<◌, ℕ, zero, suc, Bool, true, false, List, [], ◌∷◌, length, Option, Some, None, if◌then◌else◌, IsTrue, IfSome}
+use Rattle.std.proofs.Common.{Result, Ok, Err, OnOk, refl, sym, ◌∙◌, ap, subst, arith, rules}
 use Rattle.mig_base.specs.declared.cells.Cell.{Cell}
 use Rattle.mig_base.specs.declared.cells.Event.{Event}
 use Rattle.mig_base.specs.Cells.{cell_len}
 use Rattle.mig_base.specs.Images.{Image, SameBut, NoCell}
-use Rattle.mig_base.specs.Flights.{IsTargetOf}
 use Rattle.mig_base.specs.Stores.{Changes, IsLeftBut, IsSettled, Ends}
 use Rattle.mig_base.specs.declared.cells.Cell.TheVariants.{Slot, Head, Gate, Mark}
 use Rattle.mig_calls.specs.declared.places.Place.{Place}
 use Rattle.mig_calls.specs.declared.places.Place.TheVariants.{Copy}
 use Rattle.mig_calls.specs.Places.{file_of, offset_of}
-use Rattle.mig_calls.specs.Files.{Files, SameFilesBut, NoByte, IsWithin, InFile, FileChange, FilesState, IsFilesState, IsLeftFilesBut, FilesChange, FilesLook, FilesWrite, HasBytes, EndsAt, IsSettledAt}
+use Rattle.mig_calls.specs.Files.{Files, SameFilesBut, NoByte, IsWithin, InFile, FileChange, FilesState, IsFilesState, IsLeftFilesBut, FilesChange, FilesLook, FilesWrite, HasBytes, EndsAt}
+use Rattle.mig_calls.specs.Files.{IsSettledAt}
 use Rattle.mig_files.specs.Derived.{window, cells_of, cell_state, cells-shape}
 use Rattle.mig_files.proofs.Apart.{apart}
 use Rattle.mig_files.proofs.FilesSteps.{change_then, look_is_write, bytes_before, told_before, told_after}
@@ -21,7 +22,8 @@ window-same f g at zero same = refl
 window-same f g at (suc n) same =
     let here : at + 0 ≡ at = omega arith in
     let first : g at ≡ f at = subst (λ (k : ℕ). g k ≡ f k) here (same 0 (omega arith)) in
-    let rest : window g (suc at) n ≡ window f (suc at) n = window-same f g (suc at) n (λ i lt. let there : at + suc i ≡ suc at + i = omega arith in subst (λ (k : ℕ). g k ≡ f k) there (same (suc i) (omega arith))) in
+    let rest : window g (suc at) n ≡ window f (suc at) n = window-same f g (suc at) n
+    (λ i lt. let there : at + suc i ≡ suc at + i = omega arith in subst (λ (k : ℕ). g k ≡ f k) there (same (suc i) (omega arith))) in
     λ k. first k ∷ rest k
 
 -- so many bytes that are the file's are the window
@@ -33,7 +35,8 @@ window-has f at (suc n) [] len has = cc
 window-has f at (suc n) (b ∷ bytes) len has =
     let here : at + 0 ≡ at = omega arith in
     let first : b ≡ f at = has 0 (omega arith) ∙ ap f here in
-    let rest : bytes ≡ window f (suc at) n = window-has f (suc at) n bytes (omega (arith, len)) (λ i lt. let there : at + suc i ≡ suc at + i = omega arith in has (suc i) (omega arith) ∙ ap f there) in
+    let rest : bytes ≡ window f (suc at) n = window-has f (suc at) n bytes (omega (arith, len))
+    (λ i lt. let there : at + suc i ≡ suc at + i = omega arith in has (suc i) (omega arith) ∙ ap f there) in
     λ k. first k ∷ rest k
 
 -- cells but these have none of the bytes
@@ -61,7 +64,8 @@ module _ (R : Cell → Type 0) (P : Place → ℕ → Type 0) (spares : Spares R
     shape = λ cell. cells-shape told new old cell;
   }
 
-module _ (R S : Cell → Type 0) (P Q : Place → ℕ → Type 0) (spares : Spares R P) (spared : Spares S Q) (added : List Event) (old new : FilesState) (a b : ℕ) (law : IsFilesState old) (change : FilesChange P Q old new) where
+module _ (R S : Cell → Type 0) (P Q : Place → ℕ → Type 0) (spares : Spares R P) (spared : Spares S Q) (added : List Event) (old new : FilesState) (a b : ℕ) (law : IsFilesState old)
+    (change : FilesChange P Q old new) where
   left_before : (image : Image) (files : Files) → IsLeftFilesBut Q old files → image ≡ cells_of new.told files → IsLeftBut S (cell_state old a) image
   left_before image files (before, was, same) is =
       let now : image ≡ cells_of old.told files = is ∙ ap (λ (told : Place → Bool). cells_of told files) change.told in
@@ -84,11 +88,13 @@ module _ (R S : Cell → Type 0) (P Q : Place → ℕ → Type 0) (spares : Spar
   }
 
 -- a cell that was read
-pub cell_read : (s : FilesState) (faults : ℕ) (cell : Cell) (bytes : List ℕ) → length bytes ≡ cell_len cell → (IsTrue (s.told (file_of cell)) → HasBytes (s.reads (file_of cell)) (offset_of cell) (cell_len cell) bytes)
+pub cell_read : (s : FilesState) (faults : ℕ) (cell : Cell) (bytes : List ℕ) → length bytes ≡ cell_len cell
+    → (IsTrue (s.told (file_of cell)) → HasBytes (s.reads (file_of cell)) (offset_of cell) (cell_len cell) bytes)
     → IfSome ((cell_state s faults).reads cell) (λ told. bytes ≡ told)
 cell_read s faults cell bytes len has = at (s.told (file_of cell)) has
   where
-    at : (t : Bool) → (IsTrue t → HasBytes (s.reads (file_of cell)) (offset_of cell) (cell_len cell) bytes) → IfSome (if t then Some (window (s.reads (file_of cell)) (offset_of cell) (cell_len cell)) else None) (λ told. bytes ≡ told)
+    at : (t : Bool) → (IsTrue t → HasBytes (s.reads (file_of cell)) (offset_of cell) (cell_len cell) bytes) → IfSome
+        (if t then Some (window (s.reads (file_of cell)) (offset_of cell) (cell_len cell)) else None) (λ told. bytes ≡ told)
     at true is = window-has (s.reads (file_of cell)) (offset_of cell) (cell_len cell) bytes len (is refl)
     at false is = tt
 
@@ -101,31 +107,34 @@ cells_settled s faults settled image (files, left, is) = subst (λ (all : Image)
 })
 
 -- a cell that was written
-pub cell_written : (s : FilesState) (cell : Cell) (bytes : List ℕ) → length bytes ≡ cell_len cell → (IsTrue (s.told (file_of cell)) → HasBytes (s.reads (file_of cell)) (offset_of cell) (cell_len cell) bytes)
+pub cell_written : (s : FilesState) (cell : Cell) (bytes : List ℕ) → length bytes ≡ cell_len cell
+    → (IsTrue (s.told (file_of cell)) → HasBytes (s.reads (file_of cell)) (offset_of cell) (cell_len cell) bytes)
     → IfSome (cells_of s.told s.reads cell) (λ told. told ≡ bytes)
 cell_written s cell bytes len has = at (s.told (file_of cell)) has
   where
-    at : (t : Bool) → (IsTrue t → HasBytes (s.reads (file_of cell)) (offset_of cell) (cell_len cell) bytes) → IfSome (if t then Some (window (s.reads (file_of cell)) (offset_of cell) (cell_len cell)) else None) (λ told. told ≡ bytes)
+    at : (t : Bool) → (IsTrue t → HasBytes (s.reads (file_of cell)) (offset_of cell) (cell_len cell) bytes) → IfSome
+        (if t then Some (window (s.reads (file_of cell)) (offset_of cell) (cell_len cell)) else None) (λ told. told ≡ bytes)
     at true is = sym (window-has (s.reads (file_of cell)) (offset_of cell) (cell_len cell) bytes len (is refl))
     at false is = tt
 
 -- a write to one cell
-pub cell_changes : (cell : Cell) (added : List Event) (old new : FilesState) (a b : ℕ) → IsFilesState old → FilesWrite (file_of cell) (offset_of cell) (cell_len cell) old new
+pub cell_changes : (cell : Cell) (added : List Event) {old new : FilesState} {a b : ℕ} → IsFilesState old → FilesWrite (file_of cell) (offset_of cell) (cell_len cell) old new
     → Changes (λ c. c ≡ cell) (λ c. c ≡ cell) added (cell_state old a) (cell_state new b)
-cell_changes cell added old new a b law change =
-    lifted (λ c. c ≡ cell) (λ c. c ≡ cell) (IsWithin (file_of cell) (offset_of cell) (cell_len cell)) (IsWithin (file_of cell) (offset_of cell) (cell_len cell)) (spares_cell cell) (spares_cell cell) added old new a b law change
+cell_changes cell added {old} {new} {a} {b} law change =
+    lifted (λ c. c ≡ cell) (λ c. c ≡ cell) (IsWithin (file_of cell) (offset_of cell) (cell_len cell)) (IsWithin (file_of cell) (offset_of cell) (cell_len cell)) (spares_cell cell)
+    (spares_cell cell) added old new a b law change
 
 -- nothing is written
-pub cell_looks : (R : Cell → Type 0) (old new : FilesState) (a b : ℕ) → IsFilesState old → FilesLook old new → Changes R NoCell [] (cell_state old a) (cell_state new b)
-cell_looks R old new a b law look = lifted R NoCell NoByte NoByte (spares_none R) (spares_none NoCell) [] old new a b law look
+pub cell_looks : {R : Cell → Type 0} {old new : FilesState} {a b : ℕ} → IsFilesState old → FilesLook old new → Changes R NoCell [] (cell_state old a) (cell_state new b)
+cell_looks {R} {old} {new} {a} {b} law look = lifted R NoCell NoByte NoByte (spares_none R) (spares_none NoCell) [] old new a b law look
 
 -- only the journal's copy is written
-pub copy_looks : (R : Cell → Type 0) (old new : FilesState) (a b : ℕ) → IsFilesState old → FileChange Copy old new → Changes R NoCell [] (cell_state old a) (cell_state new b)
-copy_looks R old new a b law change = lifted R NoCell (InFile Copy) (InFile Copy) (spares_copy R) (spares_copy NoCell) [] old new a b law change
+pub copy_looks : {R : Cell → Type 0} {old new : FilesState} {a b : ℕ} → IsFilesState old → FileChange Copy old new → Changes R NoCell [] (cell_state old a) (cell_state new b)
+copy_looks {R} {old} {new} {a} {b} law change = lifted R NoCell (InFile Copy) (InFile Copy) (spares_copy R) (spares_copy NoCell) [] old new a b law change
 
-pub ends_none : (old new : FilesState) (a b : ℕ) → IsFilesState old → FileChange Copy old new → Ends [] (cell_state old a) (cell_state new b)
-ends_none old new a b law change = record {
-  change = copy_looks (IsTargetOf []) old new a b law change;
+pub ends_none : {old new : FilesState} {a b : ℕ} → IsFilesState old → FileChange Copy old new → Ends [] (cell_state old a) (cell_state new b)
+ends_none {old} {new} {a} {b} law change = record {
+  change = copy_looks law change;
   copied = λ k d lt. absurd (omega (arith, lt));
   gone = λ k d lt. absurd (omega (arith, lt));
   others = search rules;
@@ -137,36 +146,40 @@ on_ok (Ok x) a f = f a
 on_ok (Err e) a f = tt
 
 -- the first bytes of a cell that were read where other files were looked at before
-pub part_read : (old mid : FilesState) (cell : Cell) (file : Place) (at n : ℕ) (bytes : List ℕ) → FilesLook old mid → file ≡ file_of cell → at ≡ offset_of cell
+pub part_read : {old mid : FilesState} (cell : Cell) {file : Place} {at : ℕ} (n : ℕ) (bytes : List ℕ) → FilesLook old mid → file ≡ file_of cell → at ≡ offset_of cell
     → (IsTrue (mid.told file) → HasBytes (mid.reads file) at n bytes) → IsTrue (old.told (file_of cell)) → HasBytes (old.reads (file_of cell)) (offset_of cell) n bytes
-part_read old mid cell file at n bytes look is_file is_at has told =
+part_read {old} {mid} cell {file} {at} n bytes look is_file is_at has told =
     let Says : Place → ℕ → Type 0 = λ p a. IsTrue (mid.told p) → HasBytes (mid.reads p) a n bytes in
     let here : Says (file_of cell) (offset_of cell) = subst (λ (a : ℕ). Says (file_of cell) a) is_at (subst (λ (p : Place). Says p at) is_file has) in
-    bytes_before old mid look (file_of cell) (offset_of cell) n bytes (here (told_after NoByte NoByte old mid look (file_of cell) told))
+    bytes_before look (file_of cell) (offset_of cell) n bytes (here (told_after look (file_of cell) told))
 
 -- where the file of a cell ends
-pub end_at_cell : (s : FilesState) (cell : Cell) (file : Place) (n : ℕ) → file ≡ file_of cell → (IsTrue (s.told file) → EndsAt (s.reads file) n) → IsTrue (s.told (file_of cell)) → EndsAt (s.reads (file_of cell)) n
-end_at_cell s cell file n is_file ends = subst (λ (p : Place). IsTrue (s.told p) → EndsAt (s.reads p) n) is_file ends
+pub end_at_cell : (s : FilesState) (cell : Cell) {file : Place} (n : ℕ) → file ≡ file_of cell → (IsTrue (s.told file) → EndsAt (s.reads file) n) → IsTrue (s.told (file_of cell))
+    → EndsAt (s.reads (file_of cell)) n
+end_at_cell s cell n is_file ends = subst (λ (p : Place). IsTrue (s.told p) → EndsAt (s.reads p) n) is_file ends
 
 -- it ends there still
-pub end_after : (a b : FilesState) → FilesLook a b → (place : Place) (n : ℕ) → (IsTrue (a.told place) → EndsAt (a.reads place) n) → IsTrue (b.told place) → EndsAt (b.reads place) n
-end_after a b look place n ends told i le = look.bytes place i (λ none. none) ∙ ends (told_before NoByte NoByte a b look place told) i le
+pub end_after : {a b : FilesState} → FilesLook a b → (place : Place) (n : ℕ) → (IsTrue (a.told place) → EndsAt (a.reads place) n) → IsTrue (b.told place) → EndsAt (b.reads place) n
+end_after look place n ends told i le = look.bytes place i (λ none. none) ∙ ends (told_before look place told) i le
 
-pub cell_written_at : (s : FilesState) (cell : Cell) (file : Place) (at : ℕ) (bytes : List ℕ) → file ≡ file_of cell → at ≡ offset_of cell → length bytes ≡ cell_len cell
+pub cell_written_at : (s : FilesState) (cell : Cell) {file : Place} {at : ℕ} (bytes : List ℕ) → file ≡ file_of cell → at ≡ offset_of cell → length bytes ≡ cell_len cell
     → (IsTrue (s.told file) → HasBytes (s.reads file) at (length bytes) bytes) → IfSome (cells_of s.told s.reads cell) (λ told. told ≡ bytes)
-cell_written_at s cell file at bytes is_file is_at is_n has =
+cell_written_at s cell {file} {at} bytes is_file is_at is_n has =
     let Says : Place → ℕ → ℕ → Type 0 = λ p a m. IsTrue (s.told p) → HasBytes (s.reads p) a m bytes in
-    cell_written s cell bytes is_n (subst (λ (m : ℕ). Says (file_of cell) (offset_of cell) m) is_n (subst (λ (a : ℕ). Says (file_of cell) a (length bytes)) is_at (subst (λ (p : Place). Says p at (length bytes)) is_file has)))
+    cell_written s cell bytes is_n (subst (λ (m : ℕ). Says (file_of cell) (offset_of cell) m) is_n
+    (subst (λ (a : ℕ). Says (file_of cell) a (length bytes)) is_at (subst (λ (p : Place). Says p at (length bytes)) is_file has)))
 
-pub write_at_cell : (cell : Cell) (file : Place) (at n : ℕ) (a b c : FilesState) → file ≡ file_of cell → at ≡ offset_of cell → n ≡ cell_len cell → FilesLook a b → FilesWrite file at n b c → FilesWrite (file_of cell) (offset_of cell) (cell_len cell) a c
-write_at_cell cell file at n a b c is_file is_at is_n look write =
-    let P = IsWithin (file_of cell) (offset_of cell) (cell_len cell) in
-    change_then P P a b c (look_is_write (file_of cell) (offset_of cell) (cell_len cell) a b look)
-    (subst (λ (m : ℕ). FilesWrite (file_of cell) (offset_of cell) m b c) is_n (subst (λ (k : ℕ). FilesWrite (file_of cell) k n b c) is_at (subst (λ (p : Place). FilesWrite p at n b c) is_file write)))
+pub write_at_cell : (cell : Cell) {file : Place} {at n : ℕ} {a b c : FilesState} → file ≡ file_of cell → at ≡ offset_of cell → n ≡ cell_len cell → FilesLook a b
+    → FilesWrite file at n b c → FilesWrite (file_of cell) (offset_of cell) (cell_len cell) a c
+write_at_cell cell {file} {at} {n} {a} {b} {c} is_file is_at is_n look write =
+    change_then (look_is_write look)
+    (subst (λ (m : ℕ). FilesWrite (file_of cell) (offset_of cell) m b c) is_n
+    (subst (λ (k : ℕ). FilesWrite (file_of cell) k n b c) is_at (subst (λ (p : Place). FilesWrite p at n b c) is_file write)))
 
 -- what was written is there still
-pub written_after : (a b : FilesState) → FilesLook a b → (cell : Cell) (bytes : List ℕ) → IfSome (cells_of a.told a.reads cell) (λ told. told ≡ bytes) → IfSome (cells_of b.told b.reads cell) (λ told. told ≡ bytes)
-written_after a b look cell bytes is =
+pub written_after : {a b : FilesState} → FilesLook a b → (cell : Cell) (bytes : List ℕ) → IfSome (cells_of a.told a.reads cell) (λ told. told ≡ bytes)
+    → IfSome (cells_of b.told b.reads cell) (λ told. told ≡ bytes)
+written_after {a} {b} look cell bytes is =
     let same : cells_of b.told b.reads cell ≡ cells_of a.told a.reads cell =
     ap (λ (t : Place → Bool). cells_of t b.reads cell) look.told ∙ (cells_same NoCell NoByte (spares_none NoCell) a.told a.reads b.reads look.bytes).same cell (λ none. none) in
     subst (λ (o : Option (List ℕ)). IfSome o (λ told. told ≡ bytes)) (sym same) is

@@ -27,6 +27,7 @@ removed_kept old new n p others out has =
     let apart : same n p ≡ false = false_from_ne_true _ (λ is. out (sym (same_text n p (sym is)))) in
     Contains-from_any (λ x y t. same_text x y (sym t)) p new (others apart ∙ list_any-from_Contains nat_list_eq_equiv p old has)
 
-pub shorter : (old new : List (List ℕ)) (n : List ℕ) (r : Bool) → r ≡ list_any (same n) old → length new + (if r then 1 else 0) ≡ length old → Contains old n → length new + 1 ≤ length old
+pub shorter : (old new : List (List ℕ)) (n : List ℕ) (r : Bool) → r ≡ list_any (same n) old → length new + (if r then 1 else 0) ≡ length old → Contains old n
+    → length new + 1 ≤ length old
 shorter old new n true is len has = omega (arith, len)
 shorter old new n false is len has = absurd (false≢true (is ∙ list_any-from_Contains nat_list_eq_equiv n old has))

@@ -1,9 +1,7 @@
 -- How changes of files go one after another.
-use Rattle.std.proofs.Common.{◌≡◌, ◌+◌, ◌-◌, ◌<◌, ◌≤◌, ℕ, Bool, IsTrue, List, Result, Ok, Err, OnErr, length, slice_index, slice_range, refl, inl, inr, sym, ◌∙◌, ap, arith, rules}
-use Rattle.std.proofs.lemmas.Bool.{cases_lt}
-use Rattle.std.proofs.lemmas.List.{places}
+use Rattle.std.proofs.Common.{◌+◌, ℕ, Bool, IsTrue, List, refl, inl, inr, sym, ◌∙◌, ap, arith}
 use Rattle.mig_calls.specs.declared.places.Place.{Place}
-use Rattle.mig_calls.specs.Files.{Files, SameFilesBut, NoByte, IsWithin, FilesState, IsLeftFilesBut, FilesChange, FilesLook, FilesWrite, IsSettledAt, HasBytes}
+use Rattle.mig_calls.specs.Files.{Files, SameFilesBut, NoByte, IsWithin, FilesState, IsLeftFilesBut, FilesChange, FilesLook, FilesWrite, HasBytes}
 
 pub same_then : (P : Place → ℕ → Type 0) (a b c : Files) → SameFilesBut P a b → SameFilesBut P b c → SameFilesBut P a c
 same_then P a b c first then place i not = then place i not ∙ first place i not
@@ -12,8 +10,8 @@ pub same_wide : (P Q : Place → ℕ → Type 0) → ((place : Place) (i : ℕ) 
 same_wide P Q wide a b same place i not = same place i (λ p. not (wide place i p))
 
 -- nothing happened
-pub no_change : (P Q : Place → ℕ → Type 0) (s : FilesState) → FilesChange P Q s s
-no_change P Q s = record {
+pub no_change : {P Q : Place → ℕ → Type 0} {s : FilesState} → FilesChange P Q s s
+no_change = record {
   told = refl;
   bytes = λ place i not. refl;
   crash = λ files left. (files, left, λ place i not. refl);
@@ -24,8 +22,8 @@ no_change P Q s = record {
 }
 
 -- one change after another
-pub change_then : (P Q : Place → ℕ → Type 0) (a b c : FilesState) → FilesChange P Q a b → FilesChange P Q b c → FilesChange P Q a c
-change_then P Q a b c first then = record {
+pub change_then : {P Q : Place → ℕ → Type 0} {a b c : FilesState} → FilesChange P Q a b → FilesChange P Q b c → FilesChange P Q a c
+change_then {P} {Q} {a} {b} {c} first then = record {
   told = then.told ∙ first.told;
   bytes = same_then P a.reads b.reads c.reads first.bytes then.bytes;
   crash = λ files left. back files (then.crash files left);
@@ -44,7 +42,8 @@ change_then P Q a b c first then = record {
         (before, was, same_then Q before middle files early same)
 
 -- the same change with more offsets allowed
-pub change_wide : (P Q R : Place → ℕ → Type 0) → ((place : Place) (i : ℕ) → P place i → R place i) → ((place : Place) (i : ℕ) → Q place i → R place i) → (a b : FilesState) → FilesChange P Q a b → FilesChange R R a b
+pub change_wide : (P Q R : Place → ℕ → Type 0) → ((place : Place) (i : ℕ) → P place i → R place i) → ((place : Place) (i : ℕ) → Q place i → R place i) → (a b : FilesState)
+    → FilesChange P Q a b → FilesChange R R a b
 change_wide P Q R wide wider a b change = record {
   told = change.told;
   bytes = same_wide P R wide a.reads b.reads change.bytes;
@@ -61,56 +60,22 @@ change_wide P Q R wide wider a b change = record {
     more : (files : Files) → IsLeftFilesBut Q a files → IsLeftFilesBut R a files
     more files (before, left, same) = (before, left, same_wide Q R wider before files same)
 
-pub look_is_write : (file : Place) (at n : ℕ) (a b : FilesState) → FilesLook a b → FilesWrite file at n a b
-look_is_write file at n a b look = change_wide NoByte NoByte (IsWithin file at n) (λ place i none. absurd none) (λ place i none. absurd none) a b look
-
--- what is settled stays so while nothing is written
-pub settled_kept : (a b : FilesState) → FilesLook a b → (place : Place) → IsSettledAt a place → IsSettledAt b place
-settled_kept a b look place settled files left i =
-    let (before, was, same) = look.crash files left in
-    same place i (λ none. none) ∙ settled before was i ∙ sym (look.bytes place i (λ none. none))
+pub look_is_write : {file : Place} {at n : ℕ} {a b : FilesState} → FilesLook a b → FilesWrite file at n a b
+look_is_write {file} {at} {n} {a} {b} look = change_wide NoByte NoByte (IsWithin file at n) (λ place i none. absurd none) (λ place i none. absurd none) a b look
 
 -- a file that is told goes on being told
-pub told_before : (P Q : Place → ℕ → Type 0) (a b : FilesState) → FilesChange P Q a b → (place : Place) → IsTrue (b.told place) → IsTrue (a.told place)
-told_before P Q a b change place is = ap (λ (told : Place → Bool). told place) (sym change.told) ∙ is
+pub told_before : {P Q : Place → ℕ → Type 0} {a b : FilesState} → FilesChange P Q a b → (place : Place) → IsTrue (b.told place) → IsTrue (a.told place)
+told_before change place is = ap (λ (told : Place → Bool). told place) (sym change.told) ∙ is
 
-pub told_after : (P Q : Place → ℕ → Type 0) (a b : FilesState) → FilesChange P Q a b → (place : Place) → IsTrue (a.told place) → IsTrue (b.told place)
-told_after P Q a b change place is = ap (λ (told : Place → Bool). told place) change.told ∙ is
+pub told_after : {P Q : Place → ℕ → Type 0} {a b : FilesState} → FilesChange P Q a b → (place : Place) → IsTrue (a.told place) → IsTrue (b.told place)
+told_after change place is = ap (λ (told : Place → Bool). told place) change.told ∙ is
 
 -- bytes that were read are the file's bytes still
-pub bytes_after : (a b : FilesState) → FilesLook a b → (place : Place) (at n : ℕ) (bytes : List ℕ) → HasBytes (a.reads place) at n bytes → HasBytes (b.reads place) at n bytes
-bytes_after a b look place at n bytes has i lt = has i lt ∙ sym (look.bytes place (at + i) (λ none. none))
+pub bytes_after : {a b : FilesState} → FilesLook a b → (place : Place) (at n : ℕ) (bytes : List ℕ) → HasBytes (a.reads place) at n bytes → HasBytes (b.reads place) at n bytes
+bytes_after look place at n bytes has i lt = has i lt ∙ sym (look.bytes place (at + i) (λ none. none))
 
-pub bytes_before : (a b : FilesState) → FilesLook a b → (place : Place) (at n : ℕ) (bytes : List ℕ) → HasBytes (b.reads place) at n bytes → HasBytes (a.reads place) at n bytes
-bytes_before a b look place at n bytes has i lt = has i lt ∙ look.bytes place (at + i) (λ none. none)
+pub bytes_before : {a b : FilesState} → FilesLook a b → (place : Place) (at n : ℕ) (bytes : List ℕ) → HasBytes (b.reads place) at n bytes → HasBytes (a.reads place) at n bytes
+bytes_before look place at n bytes has i lt = has i lt ∙ look.bytes place (at + i) (λ none. none)
 
--- a write behind bytes that were written
-pub write_behind : (file : Place) (at n done m : ℕ) (a b : FilesState) → done + m ≤ n → FilesWrite file (at + done) m a b → FilesWrite file at n a b
-write_behind file at n done m a b le change = change_wide (IsWithin file (at + done) m) (IsWithin file (at + done) m) (IsWithin file at n) wide wide a b change
-  where
-    wide : (place : Place) (i : ℕ) → IsWithin file (at + done) m place i → IsWithin file at n place i
-    wide place i is = record { in_file = is.in_file; from = omega (arith, is.from); below = omega (arith, is.below) }
-
--- they stay, and those that were written now stand behind them
-pub written_behind : (file : Place) (at done m got : ℕ) (a b : FilesState) (bytes : List ℕ) → done + m ≡ length bytes → got ≤ m → FilesWrite file (at + done) m a b
-    → HasBytes (a.reads file) at done bytes → HasBytes (b.reads file) (at + done) got (slice_range bytes done (length bytes)) → HasBytes (b.reads file) at (done + got) bytes
-written_behind file at done m got a b bytes len few change early late i lt = elim (cases_lt i done) [
-  | inl before ↦ early i before ∙ sym (change.bytes file (at + i) (λ is. absurd (omega (arith, is.from, before))))
-  | inr behind ↦
-      let here : done + (i - done) ≡ i = omega arith in
-      let inside : i - done < got = omega arith in
-      let read : slice_index (slice_range bytes done (length bytes)) (i - done) ≡ slice_index bytes (done + (i - done)) = search (rules, places) in
-      let there : at + done + (i - done) ≡ at + i = omega arith in
-      ap (slice_index bytes) (sym here) ∙ sym read ∙ late (i - done) inside ∙ ap (b.reads file) there
-]
-
-pub look_then : (a b c : FilesState) → FilesLook a b → FilesLook b c → FilesLook a c
-look_then a b c first then = change_then NoByte NoByte a b c first then
-
--- bytes before those that are written stay
-pub written_still : (file : Place) (at done m : ℕ) (a b : FilesState) (bytes : List ℕ) → FilesWrite file (at + done) m a b → HasBytes (a.reads file) at done bytes → HasBytes (b.reads file) at done bytes
-written_still file at done m a b bytes change early i lt = early i lt ∙ sym (change.bytes file (at + i) (λ is. absurd (omega (arith, is.from, lt))))
-
-pub err_any : {T E A : Type 0} (r : Result T E) → A → OnErr r A
-err_any (Ok x) a = tt
-err_any (Err e) a = a
+pub look_then : {a b c : FilesState} → FilesLook a b → FilesLook b c → FilesLook a c
+look_then first then = change_then first then

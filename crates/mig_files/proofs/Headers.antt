@@ -1,5 +1,6 @@
 -- What the first bytes of a slot say.
-use Rattle.std.proofs.Common.{◌≡◌, ◌+◌, ◌-◌, ◌<◌, ◌≤◌, ◌++◌, ℕ, List, Option, Some, None, IsTrue, IfSome, Result, Ok, Err, OnOk, length, replicate, slice_index, slice_range, take, IsSome, ◌↔◌, refl, sym, ◌∙◌, ap, subst, arith, rules}
+use Rattle.std.proofs.Common.{◌≡◌, ◌+◌, ◌-◌, ◌<◌, ◌≤◌, ◌++◌, ℕ, List, Option, Some, None, IsTrue, IfSome, Result, Ok, Err, OnOk, length, replicate, slice_index}
+use Rattle.std.proofs.Common.{slice_range, take, IsSome, ◌↔◌, refl, sym, ◌∙◌, ap, subst, arith, rules}
 use Rattle.std.proofs.Math.Seq.{take-append_seam}
 use Rattle.std.proofs.lemmas.List.{length-append, length-replicate, places}
 use Rattle.mig_base.specs.Naming.{IsName}
@@ -10,7 +11,7 @@ use Rattle.mig_base.specs.Cells.{cell_len, is_slot}
 use Rattle.mig_base.specs.Images.{IsCopy}
 use Rattle.mig_base.specs.Slots.{header_of}
 use Rattle.mig_calls.specs.Places.{file_of, offset_of}
-use Rattle.mig_calls.specs.Files.{FilesState, FilesLook, NoByte, HasBytes, EndsAt}
+use Rattle.mig_calls.specs.Files.{FilesState, FilesLook, HasBytes, EndsAt}
 use Rattle.mig_calls.specs.Refusals.{HoldsItem, WhereTold}
 use Rattle.mig_files.specs.Derived.{cells_of}
 use Rattle.mig_files.specs.Seeing.{SeesMore, IsElsewhere, IsFree, IsFreeFor}
@@ -28,13 +29,16 @@ pub same_bytes : (f : ℕ → ℕ) (at : ℕ) (a b : List ℕ) → length a ≡ 
 same_bytes f at a b la lb ha hb = window-has f at 34 a la ha ∙ sym (window-has f at 34 b lb hb)
 
 -- a slot that holds an item begins with its header
-pub held_is : (s : FilesState) (slot : Cell) (first item : List ℕ) → length first ≡ 34 → length item ≤ 32 → HasBytes (s.reads (file_of slot)) (offset_of slot) 34 first → HoldsItem s slot item → first ≡ header_of item
+pub held_is : (s : FilesState) (slot : Cell) (first item : List ℕ) → length first ≡ 34 → length item ≤ 32 → HasBytes (s.reads (file_of slot)) (offset_of slot) 34 first
+    → HoldsItem s slot item → first ≡ header_of item
 held_is s slot first item len short has holds = same_bytes (s.reads (file_of slot)) (offset_of slot) first (header_of item) len (header_len item short) has holds
 
-pub header_after : (a b : FilesState) → FilesLook a b → (slot : Cell) (n : ℕ) (first : List ℕ) → WhereTold a slot (HasBytes (a.reads (file_of slot)) (offset_of slot) n first) → WhereTold b slot (HasBytes (b.reads (file_of slot)) (offset_of slot) n first)
-header_after a b look slot n first has told = bytes_after a b look (file_of slot) (offset_of slot) n first (has (told_before NoByte NoByte a b look (file_of slot) told))
+pub header_after : {a b : FilesState} → FilesLook a b → (slot : Cell) (n : ℕ) (first : List ℕ) → WhereTold a slot (HasBytes (a.reads (file_of slot)) (offset_of slot) n first)
+    → WhereTold b slot (HasBytes (b.reads (file_of slot)) (offset_of slot) n first)
+header_after look slot n first has told = bytes_after look (file_of slot) (offset_of slot) n first (has (told_before look (file_of slot) told))
 
-pub held_by : (s : FilesState) (slot : Cell) (first item : List ℕ) → first ≡ header_of item → WhereTold s slot (HasBytes (s.reads (file_of slot)) (offset_of slot) 34 first) → WhereTold s slot (HoldsItem s slot item)
+pub held_by : (s : FilesState) (slot : Cell) (first item : List ℕ) → first ≡ header_of item → WhereTold s slot (HasBytes (s.reads (file_of slot)) (offset_of slot) 34 first)
+    → WhereTold s slot (HoldsItem s slot item)
 held_by s slot first item is has told = subst (λ (l : List ℕ). HasBytes (s.reads (file_of slot)) (offset_of slot) 34 l) is (has told)
 
 -- the first bytes of these
@@ -45,7 +49,8 @@ first_bytes f at k n bytes first le fits same has i lt =
     ap (λ (l : List ℕ). slice_index l i) same ∙ read ∙ has i inside
 
 -- a whole cell that was read
-pub whole_read : (s : FilesState) (cell : Cell) (n : ℕ) (bytes : List ℕ) → n ≡ cell_len cell → length bytes ≡ cell_len cell → WhereTold s cell (HasBytes (s.reads (file_of cell)) (offset_of cell) n bytes)
+pub whole_read : (s : FilesState) (cell : Cell) (n : ℕ) (bytes : List ℕ) → n ≡ cell_len cell → length bytes ≡ cell_len cell
+    → WhereTold s cell (HasBytes (s.reads (file_of cell)) (offset_of cell) n bytes)
     → IfSome (cells_of s.told s.reads cell) (λ told. bytes ≡ told)
 whole_read s cell n bytes is_n len has = cell_read s 0 cell bytes len (λ told. subst (λ (m : ℕ). HasBytes (s.reads (file_of cell)) (offset_of cell) m bytes) is_n (has told))
 
@@ -62,7 +67,8 @@ on_any (Ok x) a = a
 on_any (Err e) a = tt
 
 -- zeros past the end of a file are there already
-pub emptied : (s : FilesState) (cell : Cell) (zeros : List ℕ) (end : ℕ) → length zeros ≡ cell_len cell → ((i : ℕ) → i < length zeros → slice_index zeros i ≡ 0) → end ≤ offset_of cell → WhereTold s cell (EndsAt (s.reads (file_of cell)) end)
+pub emptied : (s : FilesState) (cell : Cell) (zeros : List ℕ) (end : ℕ) → length zeros ≡ cell_len cell → ((i : ℕ) → i < length zeros → slice_index zeros i ≡ 0)
+    → end ≤ offset_of cell → WhereTold s cell (EndsAt (s.reads (file_of cell)) end)
     → IfSome (cells_of s.told s.reads cell) (λ told. told ≡ zeros)
 emptied s cell zeros end len all le ends = cell_written s cell zeros len (λ told i lt. all i (omega (arith, lt, len)) ∙ sym (ends told (offset_of cell + i) (omega (arith, le))))
 
@@ -79,13 +85,8 @@ slot_len Gate is = absurd (false≢true is)
 slot_len (Mark n) is = absurd (false≢true is)
 
 -- a slot held the item before it was looked at
-pub held_before : (a b : FilesState) → FilesLook a b → (slot : Cell) (item : List ℕ) → WhereTold b slot (HoldsItem b slot item) → WhereTold a slot (HoldsItem a slot item)
-held_before a b look slot item holds told = bytes_before a b look (file_of slot) (offset_of slot) 34 (header_of item) (holds (told_after NoByte NoByte a b look (file_of slot) told))
-
--- a slot with other first bytes doesn't hold the item
-pub other_item : (a b : FilesState) → FilesLook a b → (slot : Cell) (item first : List ℕ) → length first ≡ 34 → length item ≤ 32 → WhereTold a slot (HasBytes (a.reads (file_of slot)) (offset_of slot) 34 first) → ¬ (first ≡ header_of item)
-    → WhereTold b slot (¬ HoldsItem b slot item)
-other_item a b look slot item first len short has out told holds = out (held_is b slot first item len short (header_after a b look slot 34 first has told) holds)
+pub held_before : {a b : FilesState} → FilesLook a b → (slot : Cell) (item : List ℕ) → WhereTold b slot (HoldsItem b slot item) → WhereTold a slot (HoldsItem a slot item)
+held_before look slot item holds told = bytes_before look (file_of slot) (offset_of slot) 34 (header_of item) (holds (told_after look (file_of slot) told))
 
 -- a header names one item
 pub same_item : (a b : List ℕ) → length a ≤ 32 → header_of a ≡ header_of b → a ≡ b
@@ -94,34 +95,38 @@ same_item a b short same =
     sym (name_range a) ∙ ap (λ (l : List ℕ). slice_range l 2 (2 + length a)) same ∙ ap (λ (n : ℕ). slice_range (header_of b) 2 (2 + n)) count ∙ name_range b
 
 -- a slot holds the item still
-pub held_after : (a b : FilesState) → FilesLook a b → (slot : Cell) (item : List ℕ) → HoldsItem a slot item → HoldsItem b slot item
-held_after a b look slot item holds = bytes_after a b look (file_of slot) (offset_of slot) 34 (header_of item) holds
+pub held_after : {a b : FilesState} → FilesLook a b → (slot : Cell) (item : List ℕ) → HoldsItem a slot item → HoldsItem b slot item
+held_after look slot item holds = bytes_after look (file_of slot) (offset_of slot) 34 (header_of item) holds
 
 -- what is free was so before it was looked at
-pub free_before : (a b : FilesState) → FilesLook a b → (seen : List (List ℕ × Cell)) (slot : Cell) → IsFree b seen slot → IsFree a seen slot
-free_before a b look seen slot free item name told holds = free item name (told_after NoByte NoByte a b look (file_of slot) told) (held_after a b look slot item holds)
+pub free_before : {a b : FilesState} → FilesLook a b → (seen : List (List ℕ × Cell)) (slot : Cell) → IsFree b seen slot → IsFree a seen slot
+free_before {a} {b} look seen slot free item name told holds = free item name (told_after look (file_of slot) told) (held_after look slot item holds)
 
 -- a slot that is free is free for any item
 pub free_for_any : (s : FilesState) (seen : List (List ℕ × Cell)) (slot : Cell) (item : List ℕ) → IsFree s seen slot → IsFreeFor s seen slot item
 free_for_any s seen slot item free other name apart told holds = free other name told holds
 
 -- with an item's header it holds no other
-pub free_for_own : (s : FilesState) (seen : List (List ℕ × Cell)) (slot : Cell) (item first : List ℕ) → length first ≡ 34 → first ≡ header_of item → WhereTold s slot (HasBytes (s.reads (file_of slot)) (offset_of slot) 34 first) → IsFreeFor s seen slot item
+pub free_for_own : (s : FilesState) (seen : List (List ℕ × Cell)) (slot : Cell) (item first : List ℕ) → length first ≡ 34 → first ≡ header_of item
+    → WhereTold s slot (HasBytes (s.reads (file_of slot)) (offset_of slot) 34 first) → IsFreeFor s seen slot item
 free_for_own s seen slot item first len is has other name apart told holds =
     absurd (apart (same_item other item name.short (sym (held_is s slot first other len name.short (has told) holds) ∙ is)))
 
 -- with one that was seen elsewhere it is free
-pub free_by : (s : FilesState) (seen : List (List ℕ × Cell)) (slot : Cell) (item first : List ℕ) → length first ≡ 34 → first ≡ header_of item → WhereTold s slot (HasBytes (s.reads (file_of slot)) (offset_of slot) 34 first) → IsElsewhere seen item slot → IsFree s seen slot
+pub free_by : (s : FilesState) (seen : List (List ℕ × Cell)) (slot : Cell) (item first : List ℕ) → length first ≡ 34 → first ≡ header_of item
+    → WhereTold s slot (HasBytes (s.reads (file_of slot)) (offset_of slot) 34 first) → IsElsewhere seen item slot → IsFree s seen slot
 free_by s seen slot item first len is has elsewhere other name told holds =
     let same : other ≡ item = same_item other item name.short (sym (held_is s slot first other len name.short (has told) holds) ∙ is) in
     subst (λ (i : List ℕ). IsElsewhere seen i slot) (sym same) elsewhere
 
 -- with no item's it is
-pub free_none : (s : FilesState) (seen : List (List ℕ × Cell)) (slot : Cell) (first : List ℕ) → length first ≡ 34 → ((item : List ℕ) → IsName item → ¬ (first ≡ header_of item)) → WhereTold s slot (HasBytes (s.reads (file_of slot)) (offset_of slot) 34 first) → IsFree s seen slot
+pub free_none : (s : FilesState) (seen : List (List ℕ × Cell)) (slot : Cell) (first : List ℕ) → length first ≡ 34 → ((item : List ℕ) → IsName item → ¬ (first ≡ header_of item))
+    → WhereTold s slot (HasBytes (s.reads (file_of slot)) (offset_of slot) 34 first) → IsFree s seen slot
 free_none s seen slot first len none has item name told holds = absurd (none item name (held_is s slot first item len name.short (has told) holds))
 
 -- what is free for an item was so before another slot was looked at, and the item seen there
-pub copy_free : (a b : FilesState) → FilesLook a b → (old new : List (List ℕ × Cell)) (slot : Cell) (item : List ℕ) → SeesMore old new item → IsFreeFor b new slot item → IsFreeFor a old slot item
-copy_free a b look old new slot item more free other name apart told holds =
-    let found = free other name apart (told_after NoByte NoByte a b look (file_of slot) told) (held_after a b look slot other holds) in
+pub copy_free : {a b : FilesState} → FilesLook a b → (old new : List (List ℕ × Cell)) (slot : Cell) (item : List ℕ) → SeesMore old new item → IsFreeFor b new slot item
+    → IsFreeFor a old slot item
+copy_free look old new slot item more free other name apart told holds =
+    let found = free other name apart (told_after look (file_of slot) told) (held_after look slot other holds) in
     (found.0, sym (more other apart) ∙ found.1, found.2)

@@ -3,7 +3,9 @@ pub mod DiskLists
 pub mod FilesSteps
 pub mod Derivation
 pub mod TrackingSteps
+pub mod RestSteps
 pub mod CopySteps
 pub mod Headers
 pub mod Errs
 pub mod SeenItems
+pub mod TaskSteps

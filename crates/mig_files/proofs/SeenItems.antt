@@ -23,7 +23,8 @@ some_same : (a b : Cell) → Some a ≡ Some b → a ≡ b
 some_same a b is = cc
 
 -- whether the slot that an item was seen at is another one
-pub seen_elsewhere : (seen : List (List ℕ × Cell)) (item : List ℕ) (other slot : Cell) (r : Bool) → Some other ≡ seen_at seen item → r ≡ not (eq-value.it other slot) → MatchBool r (IsElsewhere seen item slot) (¬ IsElsewhere seen item slot)
+pub seen_elsewhere : (seen : List (List ℕ × Cell)) (item : List ℕ) (other slot : Cell) (r : Bool) → Some other ≡ seen_at seen item → r ≡ not (eq-value.it other slot)
+    → MatchBool r (IsElsewhere seen item slot) (¬ IsElsewhere seen item slot)
 seen_elsewhere seen item other slot true found is =
     (other, sym found, λ same. false≢true (sym (not_back (eq-value.it other slot) true is) ∙ eq-is other slot ∙ is_cell-same other slot same))
 seen_elsewhere seen item other slot false found is = λ elsewhere.

@@ -57,7 +57,8 @@ window-len file at (suc n) = ap suc (window-len file (suc at) n)
 pub cells-shape : (told : Place → Bool) (a b : Files) (cell : Cell) → option_map length (cells_of told a cell) ≡ option_map length (cells_of told b cell)
 cells-shape told a b cell = at (told (file_of cell))
   where
-    at : (t : Bool) → option_map length (if t then Some (window (a (file_of cell)) (offset_of cell) (cell_len cell)) else None) ≡ option_map length (if t then Some (window (b (file_of cell)) (offset_of cell) (cell_len cell)) else None)
+    at : (t : Bool) → option_map length (if t then Some (window (a (file_of cell)) (offset_of cell) (cell_len cell)) else None) ≡ option_map length
+        (if t then Some (window (b (file_of cell)) (offset_of cell) (cell_len cell)) else None)
     at true = ap Some (window-len (a (file_of cell)) (offset_of cell) (cell_len cell) ∙ sym (window-len (b (file_of cell)) (offset_of cell) (cell_len cell)))
     at false = refl
 

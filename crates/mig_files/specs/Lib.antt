@@ -2,3 +2,4 @@ pub mod Derived
 pub mod Tracking
 pub mod Serving
 pub mod Seeing
+pub mod Tasks

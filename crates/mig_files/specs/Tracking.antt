@@ -2,7 +2,7 @@
 use Rattle.std.specs.Prelude.{◌≡◌, ◌+◌, ◌-◌, ◌<◌, ◌≤◌, ℕ, IsTrue, IsFalse, List, Contains, ⊤, length}
 use Rattle.mig_calls.specs.declared.places.Place.{Place}
 use Rattle.mig_calls.specs.declared.places.Place.TheVariants.{Disk, Journal, Copy}
-use Rattle.mig_calls.specs.Files.{FilesState, FilesLook, FilesWrite, FileChange, KeepsFlags, TouchesFile, KeepsFlushed, KeepsFreshBut, HasBytes, EndsAt}
+use Rattle.mig_calls.specs.Files.{FilesState, FilesLook, FilesWrite, FileChange, KeepsFlags, KeepsFlushed, HasBytes, EndsAt}
 use Rattle.mig_files.specs.declared.tracked.Notes.{Notes}
 
 -- What the store notes is true of the files.
@@ -36,11 +36,15 @@ pub record IsStep (t : Notes) (old new : FilesState) : Type 0 where
   pub later : old.faults ≤ new.faults
   pub more : old.unmade ≤ new.unmade
 
+-- each file is as fresh as it was
+abbrev pub KeepsFresh : FilesState → FilesState → Type 0
+KeepsFresh old new = (file : Place) → IsTrue (old.fresh file) → IsTrue (new.fresh file)
+
 -- no sync failed, and what the device had it has
 pub record StaysAlive (t : Notes) (old new : FilesState) : Type 0 where
   pub alive : IsFalse t.lost
   pub flushed : KeepsFlushed old new
-  pub fresh : new.fresh ≡ old.fresh
+  pub fresh : KeepsFresh old new
   pub claimed : IsTrue old.claimed → IsTrue new.claimed
 
 -- so many tries were not made
@@ -72,7 +76,7 @@ pub record IsWriteStep (t : Notes) (file : Place) (at n : ℕ) (old new : FilesS
 -- no sync failed
 pub record WritesAlive (t : Notes) (old new : FilesState) : Type 0 where
   pub alive : IsFalse t.lost
-  pub fresh : new.fresh ≡ old.fresh
+  pub fresh : KeepsFresh old new
   pub claimed : IsTrue old.claimed → IsTrue new.claimed
 
 -- so many bytes were read by so many tries
@@ -91,39 +95,6 @@ pub record HasWrittenSome (place : Place) (at done tries : ℕ) (bytes : List �
   pub kept : WritesAlive t old new
   pub counted : tries ≤ done + new.unmade
 
--- a file is about to be synced, after so many tries
-pub record HasTouched (place : Place) (tries : ℕ) (old new : FilesState) : Type 0 where
-  pub change : FilesLook old new
-  pub flags : TouchesFile place old new
-  pub named : new.named ≡ old.named
-  pub fresh : new.fresh ≡ old.fresh
-  pub usable : IsTrue new.usable
-  pub later : old.faults ≤ new.faults
-  pub counted : tries ≤ new.unmade
-  pub more : old.unmade ≤ new.unmade
-
--- names are about to be synced, after so many tries
-pub record HasSyncedNames (tries : ℕ) (old new : FilesState) : Type 0 where
-  pub change : FilesLook old new
-  pub claimed : new.claimed ≡ old.claimed
-  pub flushed : new.flushed ≡ old.flushed
-  pub fresh : new.fresh ≡ old.fresh
-  pub usable : IsTrue new.usable
-  pub later : old.faults ≤ new.faults
-  pub counted : tries ≤ new.unmade
-  pub more : old.unmade ≤ new.unmade
-
--- a claim is about to be made, after so many tries
-pub record HasClaimed (tries : ℕ) (old new : FilesState) : Type 0 where
-  pub change : FilesLook old new
-  pub kept : IsTrue old.claimed → IsTrue new.claimed
-  pub flushed : new.flushed ≡ old.flushed
-  pub fresh : new.fresh ≡ old.fresh
-  pub usable : IsTrue new.usable
-  pub later : old.faults ≤ new.faults
-  pub counted : tries ≤ new.unmade
-  pub more : old.unmade ≤ new.unmade
-
 -- other bytes may have come in the journal's copy alone, and what is noted is true
 pub record IsCopyStep (t : Notes) (old new : FilesState) : Type 0 where
   pub tracked : IsTracked t new
@@ -141,28 +112,6 @@ pub record IsCopiedTo (n len : ℕ) (s : FilesState) : Type 0 where
   pub rest : IsTrue (s.told Copy) → (i : ℕ) → n ≤ i → s.reads Copy i ≡ 0
   pub over : IsTrue (s.told Copy) → (i : ℕ) → len ≤ i → s.reads Copy i ≡ 0
   pub end : IsTrue (s.told Journal) → EndsAt (s.reads Journal) len
-
--- the journal's copy is about to be made, after so many tries
-pub record HasMadeCopy (tries : ℕ) (old new : FilesState) : Type 0 where
-  pub change : FileChange Copy old new
-  pub flags : TouchesFile Copy old new
-  pub fresh : KeepsFreshBut Copy old new
-  pub usable : IsTrue new.usable
-  pub later : old.faults ≤ new.faults
-  pub counted : tries ≤ new.unmade
-  pub more : old.unmade ≤ new.unmade
-
--- it is about to take the journal's name, after so many tries
-pub record HasRenamed (tries : ℕ) (old new : FilesState) : Type 0 where
-  pub change : FilesLook old new
-  pub claimed : new.claimed ≡ old.claimed
-  pub flushed : KeepsFlushed old new
-  pub fresh : KeepsFreshBut Journal old new
-  pub kept : IsTrue (old.fresh Journal) → IsTrue (new.fresh Journal)
-  pub usable : IsTrue new.usable
-  pub later : old.faults ≤ new.faults
-  pub counted : tries ≤ new.unmade
-  pub more : old.unmade ≤ new.unmade
 
 -- the first pieces of the journal's copy are written
 pub record HasCopied (n len : ℕ) (t : Notes) (old new : FilesState) : Type 0 where

@@ -8,9 +8,10 @@ ghost use Rattle.mig_calls.specs.Refusals.{WhereTold};
 ghost use Rattle.mig_files.specs.Derived.{cells_of};
 ghost use Rattle.mig_files.specs.Tracking.{IsTracked, IsStep, IsWriteStep, StaysAlive, StaysSame, WritesAlive};
 
+use crate::opening::{enter, extent};
 use crate::pieces::write_all;
 use crate::places::{end_of, place_of};
-use crate::tracked::{Tracked, enter, extent, refuse_with};
+use crate::tracked::{Tracked, refuse_with};
 use crate::tries::read_all;
 use mig_base::Cell;
 use mig_calls::{Calls, Extent, Place, Refusal};

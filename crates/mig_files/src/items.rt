@@ -1,26 +1,22 @@
 //! Which items slots hold, and what is refused so that none is lost.
-ghost use Rattle.std.specs.Prelude.{◌≡◌, ◌≢◌, Some, ◌≤◌, ◌<◌, ◌+◌, ℕ, List, IsTrue, IsFalse, IfOk, IfSome, IfNone, MatchBool, OnOk, OnErr, length};
+ghost use Rattle.std.specs.Prelude.{◌≡◌, ◌≤◌, ◌+◌, Some, IsTrue, IsFalse, IfOk, OnOk, OnErr};
 ghost use Rattle.mig_base.specs.FaultCounts.{Rose};
-ghost use Rattle.mig_base.specs.Naming.{IsName};
 ghost use Rattle.mig_base.specs.Cells.{cell_len, is_slot};
-ghost use Rattle.mig_base.specs.Slots.{header_of};
 ghost use Rattle.mig_calls.specs.Places.{file_of, offset_of};
 ghost use Rattle.mig_calls.specs.Files.{EndsAt, HasBytes, len_of};
 ghost use Rattle.mig_calls.specs.Refusals.{HoldsItem, WhereTold};
-ghost use Rattle.mig_files.specs.Seeing.{SeesMore, IsElsewhere, IsFree, IsFreeFor};
+ghost use Rattle.mig_files.specs.Seeing.{seen_at, SeesMore, IsElsewhere, IsFree, IsFreeFor};
 ghost use Rattle.mig_files.specs.Tracking.{IsTracked, IsStep, StaysAlive, StaysSame};
 
 use crate::cells::{open_place, read_part};
 use crate::places::{end_of, place_of};
 use crate::seen::Seen;
+use crate::slot_header::{HEADER, is_header, item_of};
 use crate::tracked::{Tracked, no_memory, refuse_with};
 use crate::tries::read_all;
 use mig_base::{Cell, Name};
 use mig_calls::{Calls, Extent, Refusal};
-use mig_store::{StoreFailed, header};
-
-/// How many bytes of a slot say which item it holds.
-pub const HEADER: usize = 34;
+use mig_store::StoreFailed;
 
 /// The first bytes of a slot, and how many bytes its file has.
 fn header_at<C: Calls>(
@@ -41,45 +37,6 @@ fn header_at<C: Calls>(
     read_part(calls, tracked, slot, into)
 }
 
-/// Whether these are the first bytes of a slot that holds the item.
-fn is_header(first: &[u8; 34], item: &Name) -> bool
-    ensures same { MatchBool result (first.now ≡ header_of item.now) (first.now ≢ header_of item.now) }
-    ensures name { IsName item.now }
-    ensures len { length first.now ≡ 34 }
-{
-    item.keeps_rules();
-    *first == header(item)
-}
-
-/// The name in the first bytes of a slot that holds an item.
-fn name_in(first: &[u8; 34]) -> Option<Name>
-    ensures { (item : List ℕ) → IsName item → first.now ≡ header_of item → result ≡ Some item }
-{
-    let count = first[1] as usize;
-    if count > 32 {
-        return None;
-    }
-    Name::read(&first[2..2 + count])
-}
-
-/// The item that a slot with these first bytes holds.
-pub fn item_of(first: &[u8; 34]) -> Option<Name>
-    ensures some { IfSome result (λ item. first.now ≡ header_of item) }
-    ensures name { IfSome result (λ item. IsName item) }
-    ensures none { IfNone result ((item : List ℕ) → IsName item → first.now ≢ header_of item) }
-    ensures len { length first.now ≡ 34 }
-{
-    match name_in(first) {
-        Some(item) => {
-            if is_header(first, &item) {
-                return Some(item);
-            }
-            None
-        }
-        None => None,
-    }
-}
-
 /// Notes that a slot holds an item. One that its file's end cuts is refused.
 pub fn note_held<C: Calls>(
     calls: &mut C,
@@ -92,6 +49,8 @@ pub fn note_held<C: Calls>(
     requires slot { IsTrue (is_slot slot.now) }
     requires tracked { IsTracked tracked.now.notes (C.Calls.state calls.old) }
     requires end { WhereTold (C.Calls.state calls.old) slot.now (EndsAt ((C.Calls.state calls.old).reads (file_of slot.now)) (len_of found.now)) }
+    ensures whole { OnOk result (offset_of slot.now + cell_len slot.now ≤ len_of found.now) }
+    ensures noted { OnOk result (seen_at seen.new item.now ≡ Some slot.now) }
     ensures others { OnOk result (SeesMore seen.old seen.new item.now) }
     ensures step { IsStep tracked.now.notes (C.Calls.state calls.old) (C.Calls.state calls.new) }
     ensures cause { OnErr result (Rose (C.Calls.state calls.old).faults (C.Calls.state calls.new).faults) }
@@ -113,6 +72,7 @@ pub fn note_seen<C: Calls>(
     item: &Name,
 ) -> Result<(), StoreFailed>
     requires tracked { IsTracked tracked.now.notes (C.Calls.state calls.old) }
+    ensures noted { OnOk result (seen_at seen.new item.now ≡ Some slot.now) }
     ensures others { OnOk result (SeesMore seen.old seen.new item.now) }
     ensures step { IsStep tracked.now.notes (C.Calls.state calls.old) (C.Calls.state calls.new) }
     ensures cause { OnErr result (Rose (C.Calls.state calls.old).faults (C.Calls.state calls.new).faults) }
@@ -170,30 +130,7 @@ fn check_there<C: Calls>(
     }
 }
 
-/// Reads the first bytes of a slot that should hold an item, and answers how many bytes its file has. That the file isn't there is refused before it is read.
-fn read_there<C: Calls>(
-    calls: &mut C,
-    tracked: &mut Tracked,
-    slot: &Cell,
-    item: &Name,
-    into: &mut [u8],
-) -> Result<Extent, StoreFailed>
-    requires length { length into.old ≤ cell_len slot.now }
-    requires alive { IsFalse tracked.old.notes.lost }
-    requires tracked { IsTracked tracked.old.notes (C.Calls.state calls.old) }
-    ensures bytes { OnOk result (WhereTold (C.Calls.state calls.old) slot.now (HasBytes ((C.Calls.state calls.old).reads (file_of slot.now)) (offset_of slot.now) (length into.old) into.new)) }
-    ensures end { IfOk result (λ found. WhereTold (C.Calls.state calls.old) slot.now (EndsAt ((C.Calls.state calls.old).reads (file_of slot.now)) (len_of found))) }
-    ensures step { IsStep tracked.new.notes (C.Calls.state calls.old) (C.Calls.state calls.new) }
-    ensures cause { OnErr result (Rose (C.Calls.state calls.old).faults (C.Calls.state calls.new).faults) }
-{
-    let (place, offset) = place_of(slot);
-    let found = open_place(calls, tracked, &place)?;
-    check_there(calls, tracked, slot, item, &found)?;
-    read_all(calls, &place, offset, into)?;
-    Ok(found)
-}
-
-/// The first bytes of a slot that should hold an item, and how many bytes its file has, which is there.
+/// The first bytes of a slot that should hold an item, and how many bytes its file has. That the file isn't there is refused before it is read.
 fn header_there<C: Calls>(
     calls: &mut C,
     tracked: &mut Tracked,
@@ -209,7 +146,11 @@ fn header_there<C: Calls>(
     ensures step { IsStep tracked.new.notes (C.Calls.state calls.old) (C.Calls.state calls.new) }
     ensures cause { OnErr result (Rose (C.Calls.state calls.old).faults (C.Calls.state calls.new).faults) }
 {
-    read_there(calls, tracked, slot, item, into)
+    let (place, offset) = place_of(slot);
+    let found = open_place(calls, tracked, &place)?;
+    check_there(calls, tracked, slot, item, &found)?;
+    read_all(calls, &place, offset, into)?;
+    Ok(found)
 }
 
 /// Refuses a slot whose first bytes aren't the item's.

@@ -1,13 +1,15 @@
 //! The store of cells over files of the working folder.
-#![tactic(auto)]
+#![tactic(auto, using(crate::proofs::Errs::err_any))]
 
 mod cells;
 mod disk_set;
 mod items;
+mod opening;
 mod pieces;
 mod places;
 mod renewal;
 mod seen;
+mod slot_header;
 mod store;
 mod syncs;
 mod tracked;

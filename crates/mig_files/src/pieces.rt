@@ -4,7 +4,8 @@ ghost use Rattle.mig_base.specs.FaultCounts.{Rose};
 ghost use Rattle.mig_calls.specs.Files.{HasBytes, HasCallCause};
 ghost use Rattle.mig_files.specs.Tracking.{IsTracked, IsWriteStep, IsNoted, WritesAlive};
 
-use crate::tracked::{Tracked, keep_open, make_way, no_memory, note_write, refuse_with};
+use crate::opening::{keep_open, make_way};
+use crate::tracked::{Tracked, no_memory, note_write, refuse_with};
 use mig_calls::{CallError, Calls, Place, Refusal};
 use mig_store::StoreFailed;
 

@@ -2,13 +2,16 @@
 ghost use Rattle.std.specs.Prelude.{◌≡◌, ◌⊎◌, ◌≤◌, ◌<◌, ◌+◌, ◌-◌, ◌*◌, IsTrue, IsFalse, OnOk, OnErr, length};
 ghost use Rattle.mig_base.specs.FaultCounts.{Rose};
 ghost use Rattle.mig_calls.specs.declared.places.Place.TheVariants.{Journal as JournalFile, Copy as CopyFile};
-ghost use Rattle.mig_calls.specs.Files.{FilesLook, FileChange, EndsAt, KeepsFlushed, KeepsFreshBut, TouchesFile};
+ghost use Rattle.mig_calls.specs.Files.{FilesLook};
+ghost use Rattle.mig_files.specs.declared.tries.Task.TheVariants.{MakeCopy};
+ghost use Rattle.mig_files.specs.Tasks.{IsDone};
 ghost use Rattle.mig_files.specs.Tracking.{IsTracked, IsQuiet, IsCopyStep, WritesAlive, IsCopiedTo, IsWholeCopy};
 
+use crate::opening::extent;
 use crate::pieces::write_all;
-use crate::tracked::{Tracked, extent};
-use crate::tries::{read_all, refuse, sync_file};
-use mig_calls::{CallError, Calls, Place, Refusal};
+use crate::tracked::Tracked;
+use crate::tries::{Task, make, read_all, sync_file};
+use mig_calls::{Calls, Place};
 use mig_store::StoreFailed;
 
 /// How much is copied at once.
@@ -25,62 +28,6 @@ fn is_fresh<C: Calls>(calls: &mut C) -> bool
         Ok(sure) => sure,
         Err(_) => false,
     }
-}
-
-/// Makes a new file for the copy.
-fn make_copy<C: Calls>(calls: &mut C) -> Result<(), StoreFailed>
-    requires usable { IsTrue (C.Calls.state calls.old).usable }
-    requires claimed { IsTrue (C.Calls.state calls.old).claimed }
-    ensures usable { IsTrue (C.Calls.state calls.new).usable }
-    ensures empty { OnOk result (IsTrue ((C.Calls.state calls.new).told CopyFile) → EndsAt ((C.Calls.state calls.new).reads CopyFile) 0) }
-    ensures new_one { OnOk result (IsTrue ((C.Calls.state calls.new).fresh CopyFile)) }
-    ensures flags { TouchesFile CopyFile (C.Calls.state calls.old) (C.Calls.state calls.new) }
-    ensures fresh { KeepsFreshBut CopyFile (C.Calls.state calls.old) (C.Calls.state calls.new) }
-    ensures change { FileChange CopyFile (C.Calls.state calls.old) (C.Calls.state calls.new) }
-    ensures later { (C.Calls.state calls.old).faults ≤ (C.Calls.state calls.new).faults }
-    ensures more { (C.Calls.state calls.old).unmade ≤ (C.Calls.state calls.new).unmade }
-    ensures cause { OnErr result (Rose (C.Calls.state calls.old).faults (C.Calls.state calls.new).faults) }
-{
-    let place = Place::Copy;
-    'tries: for _ in 0..u64::MAX {
-        match calls.make_copy() {
-            Ok(()) => return Ok(()),
-            Err(CallError::Interrupted) => {}
-            Err(CallError::Full) => return Err(refuse(calls, &Refusal::Full { place })),
-            Err(CallError::Failed) => return Err(StoreFailed),
-        }
-    }
-    Err(refuse(calls, &Refusal::Interrupted { place }))
-}
-
-/// Gives the copy, which the device has whole, the journal's name.
-fn rename<C: Calls>(calls: &mut C) -> Result<(), StoreFailed>
-    requires usable { IsTrue (C.Calls.state calls.old).usable }
-    requires claimed { IsTrue (C.Calls.state calls.old).claimed }
-    requires flushed { IsTrue ((C.Calls.state calls.old).flushed CopyFile) }
-    requires fresh { IsTrue ((C.Calls.state calls.old).fresh CopyFile) }
-    requires same { IsWholeCopy (C.Calls.state calls.old) }
-    ensures usable { IsTrue (C.Calls.state calls.new).usable }
-    ensures renewed { OnOk result (IsTrue ((C.Calls.state calls.new).flushed JournalFile) × IsTrue ((C.Calls.state calls.new).fresh JournalFile)) }
-    ensures claimed { (C.Calls.state calls.new).claimed ≡ (C.Calls.state calls.old).claimed }
-    ensures flushed { KeepsFlushed (C.Calls.state calls.old) (C.Calls.state calls.new) }
-    ensures fresh { KeepsFreshBut JournalFile (C.Calls.state calls.old) (C.Calls.state calls.new) }
-    ensures kept { IsTrue ((C.Calls.state calls.old).fresh JournalFile) → IsTrue ((C.Calls.state calls.new).fresh JournalFile) }
-    ensures change { FileChange CopyFile (C.Calls.state calls.old) (C.Calls.state calls.new) }
-    ensures later { (C.Calls.state calls.old).faults ≤ (C.Calls.state calls.new).faults }
-    ensures more { (C.Calls.state calls.old).unmade ≤ (C.Calls.state calls.new).unmade }
-    ensures cause { OnErr result (Rose (C.Calls.state calls.old).faults (C.Calls.state calls.new).faults) }
-{
-    let place = Place::Journal;
-    'tries: for _ in 0..u64::MAX {
-        match calls.rename() {
-            Ok(()) => return Ok(()),
-            Err(CallError::Interrupted) => {}
-            Err(CallError::Full) => return Err(refuse(calls, &Refusal::Full { place })),
-            Err(CallError::Failed) => return Err(StoreFailed),
-        }
-    }
-    Err(refuse(calls, &Refusal::Interrupted { place }))
 }
 
 /// Copies as many bytes of the journal as this has room for.
@@ -149,6 +96,21 @@ fn copy_pieces<C: Calls>(calls: &mut C, tracked: &mut Tracked, len: u64) -> Resu
     Ok(())
 }
 
+/// Makes a new file for the copy.
+fn start_copy<C: Calls>(calls: &mut C, tracked: &mut Tracked) -> Result<(), StoreFailed>
+    requires alive { IsFalse tracked.old.notes.lost }
+    requires tracked { IsTracked tracked.old.notes (C.Calls.state calls.old) }
+    requires claimed { IsTrue (C.Calls.state calls.old).claimed }
+    ensures done { OnOk result (IsDone MakeCopy (C.Calls.state calls.new)) }
+    ensures step { IsCopyStep tracked.new.notes (C.Calls.state calls.old) (C.Calls.state calls.new) }
+    ensures alive { IsFalse tracked.new.notes.lost }
+    ensures claimed { IsTrue (C.Calls.state calls.new).claimed }
+    ensures cause { OnErr result (Rose (C.Calls.state calls.old).faults (C.Calls.state calls.new).faults) }
+{
+    tracked.notes.made = true;
+    make(calls, &Task::MakeCopy)
+}
+
 /// Copies the journal to a new file.
 fn copy_journal<C: Calls>(calls: &mut C, tracked: &mut Tracked) -> Result<(), StoreFailed>
     requires alive { IsFalse tracked.old.notes.lost }
@@ -161,8 +123,7 @@ fn copy_journal<C: Calls>(calls: &mut C, tracked: &mut Tracked) -> Result<(), St
     ensures alive { OnOk result (IsFalse tracked.new.notes.lost) }
     ensures cause { OnErr result (Rose (C.Calls.state calls.old).faults (C.Calls.state calls.new).faults) }
 {
-    tracked.notes.made = true;
-    make_copy(calls)?;
+    start_copy(calls, tracked)?;
     let found = extent(calls, tracked, &Place::Journal)?;
     copy_pieces(calls, tracked, found.len())
 }
@@ -200,7 +161,7 @@ fn take_name<C: Calls>(calls: &mut C, tracked: &mut Tracked) -> Result<(), Store
     ensures cause { OnErr result (Rose (C.Calls.state calls.old).faults (C.Calls.state calls.new).faults) }
 {
     tracked.notes.made = true;
-    match rename(calls) {
+    match make(calls, &Task::Rename) {
         Ok(()) => {
             tracked.notes.renewed = true;
             tracked.notes.unsynced = false;

@@ -1,9 +1,11 @@
 //! Calls that are made again where they were interrupted.
-ghost use Rattle.std.specs.Prelude.{◌≡◌, ◌≤◌, ◌<◌, ◌+◌, ◌^◌, IsTrue, IfOk, OnOk, OnErr, length};
+ghost use Rattle.std.specs.Prelude.{◌≡◌, ◌≤◌, ◌<◌, ◌+◌, ◌^◌, IsTrue, IsFalse, IfOk, OnOk, OnErr, length};
 ghost use Rattle.mig_base.specs.FaultCounts.{Rose};
-ghost use Rattle.mig_calls.specs.Files.{FilesLook, TouchesFile, HasBytes};
+ghost use Rattle.mig_calls.specs.Files.{HasBytes, HasCallCause};
 ghost use Rattle.mig_calls.specs.Refusals.{IsRefusalCause};
 ghost use Rattle.mig_files.specs.Tracking.{IsQuiet};
+ghost use Rattle.mig_files.specs.Tasks.{file_of_task, is_sync, IsReady, IsDone, Leaves, LeavesUsable, CanTryAgain};
+ghost use Rattle.mig_files.specs.declared.tries.Task.TheVariants.{Sync};
 
 use mig_calls::{CallError, Calls, Place, Refusal};
 use mig_store::StoreFailed;
@@ -19,78 +21,85 @@ pub fn refuse<C: Calls>(calls: &mut C, why: &Refusal) -> StoreFailed
     StoreFailed
 }
 
+/// A call that is made again where it was interrupted.
+#[derive(Clone, Copy)]
+pub enum Task {
+    /// Takes the right to write.
+    Claim,
+    /// Brings a file to the device.
+    Sync { place: Place },
+    /// Brings the names of all files to the device.
+    SyncNames,
+    /// Makes a new file for the journal's copy.
+    MakeCopy,
+    /// Gives the copy, which the device has whole, the journal's name.
+    Rename,
+}
+
+impl Task {
+    /// The file that it is about.
+    fn place(&self) -> Place
+        ensures { result ≡ file_of_task self.now }
+    {
+        match self {
+            Task::Sync { place } => *place,
+            Task::MakeCopy => Place::Copy,
+            Task::Claim | Task::SyncNames | Task::Rename => Place::Journal,
+        }
+    }
+}
+
+/// Makes the call once.
+fn try_once<C: Calls>(calls: &mut C, task: &Task) -> Result<(), CallError>
+    requires usable { IsTrue (C.Calls.state calls.old).usable }
+    requires ready { IsReady task.now (C.Calls.state calls.old) }
+    ensures done { OnOk result (IsDone task.now (C.Calls.state calls.new)) }
+    ensures leaves { Leaves task.now (C.Calls.state calls.old) (C.Calls.state calls.new) }
+    ensures usable { OnOk result (LeavesUsable task.now (C.Calls.state calls.old) (C.Calls.state calls.new)) }
+    ensures kept { IsFalse (is_sync task.now) → LeavesUsable task.now (C.Calls.state calls.old) (C.Calls.state calls.new) }
+    ensures again { CanTryAgain task.now (C.Calls.state calls.old) (C.Calls.state calls.new) result }
+    ensures cause { HasCallCause (C.Calls.state calls.old) (C.Calls.state calls.new) result }
+{
+    match task {
+        Task::Claim => calls.claim(),
+        Task::Sync { place } => calls.sync(place),
+        Task::SyncNames => calls.sync_names(),
+        Task::MakeCopy => calls.make_copy(),
+        Task::Rename => calls.rename(),
+    }
+}
+
+/// Makes the call until it is not interrupted.
+pub fn make<C: Calls>(calls: &mut C, task: &Task) -> Result<(), StoreFailed>
+    requires usable { IsTrue (C.Calls.state calls.old).usable }
+    requires ready { IsReady task.now (C.Calls.state calls.old) }
+    ensures done { OnOk result (IsDone task.now (C.Calls.state calls.new)) }
+    ensures leaves { Leaves task.now (C.Calls.state calls.old) (C.Calls.state calls.new) }
+    ensures usable { OnOk result (LeavesUsable task.now (C.Calls.state calls.old) (C.Calls.state calls.new)) }
+    ensures kept { IsFalse (is_sync task.now) → LeavesUsable task.now (C.Calls.state calls.old) (C.Calls.state calls.new) }
+    ensures cause { OnErr result (Rose (C.Calls.state calls.old).faults (C.Calls.state calls.new).faults) }
+{
+    let place = task.place();
+    'tries: for _ in 0..u64::MAX {
+        match try_once(calls, task) {
+            Ok(()) => return Ok(()),
+            Err(CallError::Interrupted) => {}
+            Err(CallError::Full) => return Err(refuse(calls, &Refusal::Full { place })),
+            Err(CallError::Failed) => return Err(StoreFailed),
+        }
+    }
+    Err(refuse(calls, &Refusal::Interrupted { place }))
+}
+
 /// Syncs a file that is open.
 pub fn sync_file<C: Calls>(calls: &mut C, place: &Place) -> Result<(), StoreFailed>
     requires { IsTrue (C.Calls.state calls.old).usable }
     ensures flushed { OnOk result (IsTrue ((C.Calls.state calls.new).flushed place.now)) }
-    ensures named { (C.Calls.state calls.new).named ≡ (C.Calls.state calls.old).named }
-    ensures flags { TouchesFile place.now (C.Calls.state calls.old) (C.Calls.state calls.new) }
-    ensures change { FilesLook (C.Calls.state calls.old) (C.Calls.state calls.new) }
-    ensures usable { OnOk result (IsTrue (C.Calls.state calls.new).usable) }
-    ensures fresh { OnOk result ((C.Calls.state calls.new).fresh ≡ (C.Calls.state calls.old).fresh) }
-    ensures later { (C.Calls.state calls.old).faults ≤ (C.Calls.state calls.new).faults }
-    ensures more { (C.Calls.state calls.old).unmade ≤ (C.Calls.state calls.new).unmade }
+    ensures leaves { Leaves (Sync place.now) (C.Calls.state calls.old) (C.Calls.state calls.new) }
+    ensures usable { OnOk result (LeavesUsable (Sync place.now) (C.Calls.state calls.old) (C.Calls.state calls.new)) }
     ensures cause { OnErr result (Rose (C.Calls.state calls.old).faults (C.Calls.state calls.new).faults) }
 {
-    'tries: for _ in 0..u64::MAX {
-        match calls.sync(place) {
-            Ok(()) => return Ok(()),
-            Err(CallError::Interrupted) => {}
-            Err(CallError::Full) => return Err(refuse(calls, &Refusal::Full { place: *place })),
-            Err(CallError::Failed) => return Err(StoreFailed),
-        }
-    }
-    Err(refuse(calls, &Refusal::Interrupted { place: *place }))
-}
-
-/// Syncs the names of all files.
-pub fn sync_all_names<C: Calls>(calls: &mut C) -> Result<(), StoreFailed>
-    requires { IsTrue (C.Calls.state calls.old).usable }
-    ensures named { OnOk result (IsTrue (C.Calls.state calls.new).named) }
-    ensures claimed { (C.Calls.state calls.new).claimed ≡ (C.Calls.state calls.old).claimed }
-    ensures flushed { (C.Calls.state calls.new).flushed ≡ (C.Calls.state calls.old).flushed }
-    ensures change { FilesLook (C.Calls.state calls.old) (C.Calls.state calls.new) }
-    ensures usable { OnOk result (IsTrue (C.Calls.state calls.new).usable) }
-    ensures fresh { OnOk result ((C.Calls.state calls.new).fresh ≡ (C.Calls.state calls.old).fresh) }
-    ensures later { (C.Calls.state calls.old).faults ≤ (C.Calls.state calls.new).faults }
-    ensures more { (C.Calls.state calls.old).unmade ≤ (C.Calls.state calls.new).unmade }
-    ensures cause { OnErr result (Rose (C.Calls.state calls.old).faults (C.Calls.state calls.new).faults) }
-{
-    let place = Place::Journal;
-    'tries: for _ in 0..u64::MAX {
-        match calls.sync_names() {
-            Ok(()) => return Ok(()),
-            Err(CallError::Interrupted) => {}
-            Err(CallError::Full) => return Err(refuse(calls, &Refusal::Full { place })),
-            Err(CallError::Failed) => return Err(StoreFailed),
-        }
-    }
-    Err(refuse(calls, &Refusal::Interrupted { place }))
-}
-
-/// Claims the right to write.
-pub fn claim_all<C: Calls>(calls: &mut C) -> Result<(), StoreFailed>
-    requires { IsTrue (C.Calls.state calls.old).usable }
-    ensures claimed { OnOk result (IsTrue (C.Calls.state calls.new).claimed) }
-    ensures kept { IsTrue (C.Calls.state calls.old).claimed → IsTrue (C.Calls.state calls.new).claimed }
-    ensures flushed { (C.Calls.state calls.new).flushed ≡ (C.Calls.state calls.old).flushed }
-    ensures fresh { (C.Calls.state calls.new).fresh ≡ (C.Calls.state calls.old).fresh }
-    ensures change { FilesLook (C.Calls.state calls.old) (C.Calls.state calls.new) }
-    ensures usable { IsTrue (C.Calls.state calls.new).usable }
-    ensures later { (C.Calls.state calls.old).faults ≤ (C.Calls.state calls.new).faults }
-    ensures more { (C.Calls.state calls.old).unmade ≤ (C.Calls.state calls.new).unmade }
-    ensures cause { OnErr result (Rose (C.Calls.state calls.old).faults (C.Calls.state calls.new).faults) }
-{
-    let place = Place::Journal;
-    'tries: for _ in 0..u64::MAX {
-        match calls.claim() {
-            Ok(()) => return Ok(()),
-            Err(CallError::Interrupted) => {}
-            Err(CallError::Full) => return Err(refuse(calls, &Refusal::Full { place })),
-            Err(CallError::Failed) => return Err(StoreFailed),
-        }
-    }
-    Err(refuse(calls, &Refusal::Interrupted { place }))
+    make(calls, &Task::Sync { place: *place })
 }
 
 /// Reads more bytes of a file, behind those that were read, and answers how many were read by now. What lies past the end is zeros.

@@ -11,23 +11,14 @@ ghost use Rattle.mig_files.specs.Seeing.{AreZeros, IsErasure, IsFree, IsFreeFor,
 ghost use Rattle.mig_files.specs.Tracking.{IsTracked, IsStep, IsWriteStep};
 
 use crate::cells::{read_part, write_cell};
-use crate::items::{expects_free, expects_free_for, item_of, note_held, note_seen};
+use crate::items::{expects_free, expects_free_for, note_held, note_seen};
 use crate::places::place_of;
 use crate::seen::Seen;
+use crate::slot_header::item_of;
 use crate::tracked::{Tracked, claim, refuse_with};
 use mig_base::{Cell, Name};
 use mig_calls::{Calls, Refusal};
 use mig_store::StoreFailed;
-
-/// Whether the cell is a slot.
-fn is_slot(cell: &Cell) -> bool
-    ensures { result ≡ is_slot cell.now }
-{
-    match cell {
-        Cell::Slot { .. } => true,
-        Cell::Head | Cell::Gate | Cell::Mark { .. } => false,
-    }
-}
 
 /// Whether all of the bytes are zeros.
 fn is_empty(bytes: &[u8]) -> bool
@@ -40,7 +31,10 @@ fn is_empty(bytes: &[u8]) -> bool
 fn empties(cell: &Cell, bytes: &[u8]) -> bool
     ensures { MatchBool result (IsErasure cell.now bytes.now) (¬ (IsErasure cell.now bytes.now)) }
 {
-    is_slot(cell) && is_empty(bytes)
+    match cell {
+        Cell::Slot { .. } => is_empty(bytes),
+        Cell::Head | Cell::Gate | Cell::Mark { .. } => false,
+    }
 }
 
 /// Writes a cell, once the right to write is this process's alone. A slot is emptied only where no item is lost by it.

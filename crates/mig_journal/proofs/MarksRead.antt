@@ -1,6 +1,6 @@
 -- Marks that are read one by one.
 use Rattle.mig_base.proofs.Common.{◌≡◌, ◌≤◌, ◌<◌, ◌+◌, ℕ, suc, Bool, true, false, List, Option, Some, None, IsSome, IfSome, ◌⊎◌, inl, inr, refl, sym, ◌∙◌, ap, subst, arith, prefix_len, range_with_len}
-use Rattle.mig_base.proofs.Common.{cases_eq, Image, is_marked, IsMark, Tells}
+use Rattle.mig_base.proofs.Common.{cases_eq, Image, is_one, is_marked, IsMark, Tells}
 use Rattle.mig_base.specs.declared.cells.Cell.TheVariants.{Mark}
 use Rattle.mig_base.proofs.MarkCounts.{count_least}
 
@@ -9,10 +9,10 @@ pub of_told : (cell : Option (List ℕ)) (P : Type 0) → IsSome cell → IfSome
 of_told (Some bytes) P told is = is
 of_told None P told is = cc
 
-module _ (rounds k : ℕ) (first now : Image) (same : first ≡ now) (yes : Bool) (is : IfSome (now (Mark (k + 1))) (λ bytes. yes ≡ is_marked now (k + 1))) where
+module _ (rounds k : ℕ) (first now : Image) (same : (n : ℕ) → first (Mark n) ≡ now (Mark n)) (yes : Bool) (is : IfSome (now (Mark (k + 1))) (λ bytes. yes ≡ is_marked now (k + 1))) where
   read : k < rounds → Tells (IsMark rounds) first → yes ≡ is_marked first (k + 1)
   read lt told = of_told (first (Mark (k + 1))) (yes ≡ is_marked first (k + 1)) (told (Mark (k + 1)) (k + 1, omega arith, omega arith, refl))
-      (subst (λ (image : Image). IfSome (image (Mark (k + 1))) (λ bytes. yes ≡ is_marked image (k + 1))) (sym same) is)
+      (subst (λ (cell : Option (List ℕ)). IfSome cell (λ bytes. yes ≡ is_one cell)) (sym (same (k + 1))) is)
 
   -- one mark more
   pub one_more : k < rounds → yes ≡ true → (Tells (IsMark rounds) first → (m : ℕ) → 1 ≤ m → m ≤ k → is_marked first m ≡ true) → Tells (IsMark rounds) first → (m : ℕ) → 1 ≤ m → m ≤ k + 1 → is_marked first m ≡ true

@@ -1,6 +1,7 @@
 -- The steps of calls on a store with no copy in flight.
-use Rattle.mig_base.proofs.Common.{◌≡◌, List, [], Result, Ok, Err, ◌∙◌, subst, IsTargetOf, NoCell, State, flights, ChangesOnly, Ends}
+use Rattle.mig_base.proofs.Common.{◌≡◌, ℕ, List, [], Result, Ok, Err, sym, ◌∙◌, subst, false≢true, IsTargetOf, NoCell, State, flights, ChangesOnly, Ends}
 use Rattle.mig_base.specs.declared.cells.Cell.{Cell}
+use Rattle.mig_base.specs.declared.cells.Cell.TheVariants.{Mark}
 use Rattle.mig_base.specs.declared.cells.Flight.{Flight}
 use Rattle.std.proofs.Common.{OnOk}
 use Rattle.mig_base.specs.Stores.{IsMoving, Looks}
@@ -36,6 +37,10 @@ sync_same mid new none these ends = quiet_same mid new (ends_are_quiet mid new n
 pub on_ok_is : {T E : Type 0} {P : Type 0} (r : Result T E) → P → OnOk r P
 on_ok_is (Ok x) p = p
 on_ok_is (Err e) p = tt
+
+-- a look leaves what reads give of marks
+pub look_mark : (old new : State) → Looks old new → (n : ℕ) → old.reads (Mark n) ≡ new.reads (Mark n)
+look_mark old new look n = sym (look.told.same (Mark n) (λ moving. false≢true moving.0))
 
 -- two looks are one
 pub looks_then : (old mid new : State) → Looks old mid → Looks mid new → Looks old new

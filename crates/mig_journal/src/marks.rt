@@ -6,17 +6,15 @@ ghost use Rattle.mig_base.specs.declared.cells.Cell.TheVariants.{Mark};
 ghost use Rattle.mig_base.specs.Cells.{cell_len};
 ghost use Rattle.mig_base.specs.Journals.{is_marked};
 ghost use Rattle.mig_base.specs.JobCells.{IsMark, Tells};
-ghost use Rattle.mig_base.specs.Stores.{State, flights, ChangesOnly, IsSettled, HasCause};
-ghost use Rattle.mig_base.specs.Images.{NoCell};
+ghost use Rattle.mig_base.specs.Stores.{State, flights, ChangesOnly, Looks, IsSettled, HasCause};
 
 use mig_base::Cell;
 use mig_store::{Store, StoreFailed};
 
 // Whether a mark reads 1.
 fn is_set<S: Store>(store: &mut S, round: u32) -> Result<bool, StoreFailed>
-    requires none { flights (S.state store.old) ≡ [] }
     ensures set { IfOk result (λ yes. IfSome ((S.state store.old).reads (Mark round)) (λ bytes. yes ≡ is_marked (S.state store.old).reads round)) }
-    ensures change { ChangesOnly NoCell (S.state store.old) (S.state store.new) }
+    ensures change { Looks (S.state store.old) (S.state store.new) }
     ensures cause { HasCause (S.state store.old) (S.state store.new) result }
 {
     let mut byte = [0u8; 1];
@@ -24,12 +22,11 @@ fn is_set<S: Store>(store: &mut S, round: u32) -> Result<bool, StoreFailed>
     Ok(byte[0] == 1)
 }
 
-/// How many of the marks 1 to `rounds` read 1, from the first on. It writes nothing.
+/// How many of the marks 1 to `rounds` read 1, from the first on. It writes nothing, and copies may be in flight.
 pub fn marked<S: Store>(store: &mut S, rounds: u32) -> Result<u32, StoreFailed>
-    requires none { flights (S.state store.old) ≡ [] }
     ensures most { IfOk result (λ count. count ≤ rounds) }
     ensures count { IfOk result (λ count. Tells (IsMark rounds) (S.state store.old).reads → count ≡ prefix_len (is_marked (S.state store.old).reads) (range_with_len 1 rounds)) }
-    ensures change { ChangesOnly NoCell (S.state store.old) (S.state store.new) }
+    ensures change { Looks (S.state store.old) (S.state store.new) }
     ensures cause { HasCause (S.state store.old) (S.state store.new) result }
 {
     for n in 0..rounds {

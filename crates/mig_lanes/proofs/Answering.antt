@@ -1,21 +1,20 @@
 -- What is answered where the journal names a plan, and the store doesn't fail.
-use Rattle.mig_base.proofs.Common.{◌≡◌, inl, inr, ℕ, suc, List, true, false, Option, Some, None, IfSome, IsSome, sym, ◌∙◌, subst, refl, arith, Contains, All-contains, Contains-get_or}
+use Rattle.mig_base.proofs.Common.{◌≡◌, inl, inr, ℕ, suc, List, true, false, Option, Some, None, IfSome, IsSome, sym, ◌∙◌, subst, refl, arith, Contains, All-contains, get_or, slice_get-get_or}
 use Rattle.mig_base.proofs.Common.{get_or_from_slice_get, slice_get_within, false≢true, AreFlights, Image, no_spot, Tells, SettlesTo, is_armed, round_at, shifts_of, slot_of, item_cell, IsUnused}
 use Rattle.mig_base.proofs.Common.{State, flights, item_name}
 use Rattle.mig_base.specs.declared.cells.Cell.TheVariants.{Head, Gate}
 use Rattle.mig_lanes.proofs.Common.{Shift, Spot, Task, IsTask}
-use Rattle.std.specs.Prelude.{slice_index_or}
+use Rattle.mig_base.specs.Arrivals.{IsPlanSpot}
 use Rattle.mig_base.specs.FaultCounts.{Rose}
-use Rattle.mig_base.specs.JobCells.{IsHaltCell}
+use Rattle.mig_base.specs.JobCells.{IsJobCell}
 use Rattle.mig_base.specs.Readiness.{CanTake, IsReady, IsFirstLost, IsFirstUsed}
 use Rattle.mig_base.specs.Slots.{HasHeader, first_byte}
-use Rattle.mig_base.proofs.Rounds.{any_contains}
 use Rattle.mig_mover.specs.Moves.{Settles, IsRunning, IsFault, IsReadyIdle, IsStartFault, IsResumeFault}
 use Rattle.mig_mover.specs.declared.faults.MoveFault.{MoveFault}
 use Rattle.mig_mover.specs.declared.faults.MoveFault.TheVariants.{Store, Started, OtherPlan, NotStarted, NotThere, Occupied}
 use Rattle.mig_mover.proofs.Settling.{settled_reads, tells_more, journal_kept, gate_kept}
-use Rattle.mig_mover.proofs.TargetLaws.{in_round}
 use Rattle.mig_lanes.specs.Runs.{IsJournalFault}
+use Rattle.mig_lanes.proofs.ShiftedSlots.{shifted_named, target_named}
 
 pub if_some_is : (cell : Option (List ℕ)) (bytes : List ℕ) (P : List ℕ → Type 0) → cell ≡ Some bytes → IfSome cell P → P bytes
 if_some_is cell bytes P is holds = subst (λ (o : Option (List ℕ)). IfSome o P) is holds
@@ -73,13 +72,16 @@ both_none : (cell : Option (List ℕ)) (P : List ℕ → Type 0) → IsSome cell
 both_none None P some has out = false≢true some
 both_none (Some slot) P some has out = out has
 
-module _ (task : Task) (is : IsTask task) (image : Image) (tells : Tells (IsHaltCell task.input task.plan) image) (ready : IsReady task.input task.plan image) where
+module _ (task : Task) (is : IsTask task) (image : Image) (tells : Tells (IsJobCell task.input task.plan) image) (ready : IsReady task.input task.plan image) where
   -- an image that is ready shows no item to be lost, and no target to be used
   not_lost : (item : ℕ) → IsFirstLost task.input task.plan image item → ⊥
   not_lost item lost = both_none (image (item_cell task.input item)) (HasHeader (item_name task.input item)) told (ready.there item lost.in_range lost.shifted) lost.lost
     where
       told : IsSome (image (item_cell task.input item))
-      told = tells (item_cell task.input item) (inr (slice_index_or task.input.spots item no_spot, inl (Contains-get_or task.input.spots item no_spot (omega (arith, lost.in_range, is.valid.spots_len))), refl))
+      told =
+          let spot = get_or task.input.spots item no_spot in
+          let here = slice_get-get_or task.input.spots item no_spot (omega (arith, lost.in_range, is.valid.spots_len)) in
+          tells (item_cell task.input item) (inr (spot, shifted_named task.input task.plan is.runs item spot here lost.shifted, refl))
 
   not_used : (spot : Spot) → IsFirstUsed task.input task.plan image spot → ⊥
   not_used spot used = both_none (image (slot_of task.input spot)) (λ slot. first_byte slot ≡ 1) told used.used
@@ -89,14 +91,12 @@ module _ (task : Task) (is : IsTask task) (image : Image) (tells : Tells (IsHalt
       has = (used.place, slice_get_within (shifts_of task.plan) used.place used.shift used.at, get_or_from_slice_get (shifts_of task.plan) used.place used.shift used.shift used.at)
 
       told : IsSome (image (slot_of task.input spot))
-      told =
-          let at = in_round task.plan used.shift has in
-          tells (slot_of task.input spot) (inr (spot, inr (suc at.0, inr (any_contains (λ (s : Shift). s.to ≡ spot) (round_at task.plan (suc at.0)) used.shift at.2 used.target)), refl))
+      told = tells (slot_of task.input spot) (inr (spot, subst (IsPlanSpot task.plan) used.target (target_named task.plan used.shift has), refl))
 
   gate_there : IsSome (image Gate)
   gate_there = tells Gate (inl (inr (inl refl)))
 
-module _ (task : Task) (is : IsTask task) (old new : State) (tells : Tells (IsHaltCell task.input task.plan) old.reads) where
+module _ (task : Task) (is : IsTask task) (old new : State) (tells : Tells (IsJobCell task.input task.plan) old.reads) where
   module _ (before : SettlesTo (IsReadyIdle task) old) where
     -- where each image whose gate isn't 1 is ready
     pub unrefused_of : (fault : MoveFault) → IsFault task old new fault → IsJournalFault fault
@@ -104,15 +104,15 @@ module _ (task : Task) (is : IsTask task) (old new : State) (tells : Tells (IsHa
     unrefused_of Started fault = tt
     unrefused_of (OtherPlan kept ours) fault = tt
     unrefused_of NotStarted fault = tt
-    unrefused_of (NotThere item) fault = not_lost task is new.reads (tells_more old new fault.0 (IsHaltCell task.input task.plan) tells) (settled_reads old new fault.0 (IsReadyIdle task) before fault.1.0) item.0 fault.1.1
-    unrefused_of (Occupied disk slot) fault = not_used task is new.reads (tells_more old new fault.0 (IsHaltCell task.input task.plan) tells) (settled_reads old new fault.0 (IsReadyIdle task) before fault.1.0) (record { disk = disk; slot = slot }) fault.1.2
+    unrefused_of (NotThere item) fault = not_lost task is new.reads (tells_more old new fault.0 (IsJobCell task.input task.plan) tells) (settled_reads old new fault.0 (IsReadyIdle task) before fault.1.0) item.0 fault.1.1
+    unrefused_of (Occupied disk slot) fault = not_used task is new.reads (tells_more old new fault.0 (IsJobCell task.input task.plan) tells) (settled_reads old new fault.0 (IsReadyIdle task) before fault.1.0) (record { disk = disk; slot = slot }) fault.1.2
 
   module _ (before : SettlesTo (IsReady task.input task.plan) old) (calm : Rose old.faults new.faults → ⊥) where
     ready_now : Settles old new → IsReady task.input task.plan new.reads
     ready_now settles = settled_reads old new settles (IsReady task.input task.plan) before
 
     not_running : Settles old new → IsRunning new.reads → ⊥
-    not_running settles running = false≢true (sym (ready_now settles).idle ∙ running (gate_there task is new.reads (tells_more old new settles (IsHaltCell task.input task.plan) tells) (ready_now settles)))
+    not_running settles running = false≢true (sym (ready_now settles).idle ∙ running (gate_there task is new.reads (tells_more old new settles (IsJobCell task.input task.plan) tells) (ready_now settles)))
 
     -- a store that is ready isn't refused
     pub no_fault : (fault : MoveFault) → IsStartFault fault → IsFault task old new fault → ⊥
@@ -120,5 +120,5 @@ module _ (task : Task) (is : IsTask task) (old new : State) (tells : Tells (IsHa
     no_fault Started kind fault = not_running fault.0 fault.1.0
     no_fault (OtherPlan kept ours) kind fault = not_running fault.0 fault.1.0
     no_fault NotStarted kind fault = kind
-    no_fault (NotThere item) kind fault = not_lost task is new.reads (tells_more old new fault.0 (IsHaltCell task.input task.plan) tells) (ready_now fault.0) item.0 fault.1.1
-    no_fault (Occupied disk slot) kind fault = not_used task is new.reads (tells_more old new fault.0 (IsHaltCell task.input task.plan) tells) (ready_now fault.0) (record { disk = disk; slot = slot }) fault.1.2
+    no_fault (NotThere item) kind fault = not_lost task is new.reads (tells_more old new fault.0 (IsJobCell task.input task.plan) tells) (ready_now fault.0) item.0 fault.1.1
+    no_fault (Occupied disk slot) kind fault = not_used task is new.reads (tells_more old new fault.0 (IsJobCell task.input task.plan) tells) (ready_now fault.0) (record { disk = disk; slot = slot }) fault.1.2

@@ -9,6 +9,8 @@ mod Limiting
 mod RoundCopies
 mod RoundLists
 mod Rounding
+mod RunFlights
 mod RunLaws
 mod RunLimits
 pub mod Common
+pub mod ShiftedSlots

@@ -14,6 +14,7 @@ use Rattle.mig_mover.specs.Moves.{IsReadyIdle, StaysArmed, Keeps, Enters}
 use Rattle.mig_lanes.specs.Runs.{Finishes, IsPart}
 use Rattle.mig_lanes.proofs.EventSteps.{adds_then, adds_wider}
 use Rattle.mig_lanes.proofs.RoundLists.{some_rounds}
+use Rattle.mig_lanes.proofs.RunFlights.{job_flights}
 use Rattle.mig_lanes.proofs.RunLimits.{job_within}
 
 settles_wider : (P Q : Image → Type 0) (s : State) → ((image : Image) → P image → Q image) → SettlesTo P s → SettlesTo Q s
@@ -107,7 +108,11 @@ begins_only before rounds a begins =
 
 module _ (task : Task) (is : IsTask task) (k : ℕ) (most : k ≤ length task.plan) (old mid : State) where
   part : (added : List Event) → BeginsRun (flights old) (later_rounds task k) added → IsPart task old k added
-  part added begins = record { begins = begins; within = job_within task is (flights old) k most added begins }
+  part added begins = record {
+    begins = begins;
+    within = job_within task is (flights old) k most added begins;
+    slots = job_flights task is (flights old) k most added begins;
+  }
 
   pub enter_part : Adds (BeginsRun (flights old) []) old mid → Adds (IsPart task old k) old mid
   enter_part = adds_wider (BeginsRun (flights old) []) (IsPart task old k) old mid (λ added begins. part added (begins_only (flights old) (later_rounds task k) added begins))

@@ -34,10 +34,10 @@ empty [] none = refl
 empty (f ∷ fs) none = absurd (none f (0, omega arith, refl))
 
 -- once each copy has ended none is in flight
-all_landed : (fs order : List Flight) → IsPermutation fs order → after_events fs (map ended order) ≡ []
+pub all_landed : (fs order : List Flight) → IsPermutation fs order → after_events fs (map ended order) ≡ []
 all_landed fs order same = empty (after_events fs (map ended order)) (λ x has. let rest = left_over fs order x has in rest.1 (Contains-permutation fs order x same rest.0))
 
-round_lands : (round : List Flight) (added : List Event) → IsRound round added → after_events [] added ≡ []
+pub round_lands : (round : List Flight) (added : List Event) → IsRound round added → after_events [] added ≡ []
 round_lands round added is = ap (after_events []) is.is ∙ fold-append after_event [] (map began round) (map ended is.order) ∙ ap (λ (l : List Flight). after_events l (map ended is.order)) (flights_all_began [] round) ∙ all_landed round is.order is.each_once
 
 whole_begins : (round : List Flight) (added : List Event) → IsRound round added → BeginsRound round added

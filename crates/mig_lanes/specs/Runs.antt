@@ -1,16 +1,15 @@
 -- What carrying out a plan gives.
-use Rattle.std.specs.Prelude.{◌≡◌, ◌≤◌, true, false, ℕ, List, [], IsSome, length}
-use Rattle.mig_base.specs.declared.cells.Cell.TheVariants.{Gate}
+use Rattle.std.specs.Prelude.{◌≡◌, ◌≤◌, true, ℕ, List, [], length}
 use Rattle.mig_base.specs.declared.cells.Event.{Event}
 use Rattle.mig_base.specs.Arrivals.{IsArrived, IsReached}
-use Rattle.mig_base.specs.Flights.{AreFlights, AreWithinLimits}
-use Rattle.mig_base.specs.Journals.{is_armed, count_of}
+use Rattle.mig_base.specs.Flights.{after_events, AreFlights, AreWithinLimits}
+use Rattle.mig_base.specs.Journals.{count_of}
 use Rattle.mig_base.specs.JobCells.{IsJobCell, Tells, SettlesTo}
-use Rattle.mig_base.specs.Readiness.{IsReady}
 use Rattle.mig_base.specs.RoundEvents.{BeginsRun, StayWithinLimits}
 use Rattle.mig_base.specs.Safety.{Contents, IsSafe, IsSound}
 use Rattle.mig_base.specs.Stores.{State, flights, IsSettled}
 use Rattle.mig_base.specs.Tasks.{Task}
+use Rattle.mig_mover.specs.Moves.{WasReady}
 use Rattle.mig_mover.specs.declared.faults.MoveFault.{MoveFault}
 use Rattle.mig_mover.specs.declared.faults.MoveFault.TheVariants.{NotThere, Occupied}
 use Rattle.mig_lanes.specs.LaneSteps.{later_rounds}
@@ -24,13 +23,14 @@ pub record Finishes (task : Task) (old new : State) (k : ℕ) : Type 0 where
   pub landed : flights new ≡ []
   pub most : k ≤ length task.plan
   pub found : Tells (IsJobCell task.input task.plan) old.reads → AreFlights (flights old) → k ≡ count_of (length task.plan) old.reads
-  -- where the gate wasn't 1, the store was ready
-  pub ready : flights old ≡ [] → is_armed old.reads ≡ false → IsSome (old.reads Gate) → IsReady task.input task.plan old.reads
+  pub ready : WasReady task old
 
--- The events are the first of those that carrying out the rounds after the first k adds, and keep limits.
+-- The events are the first of those that carrying out the rounds after the first k adds, and keep limits. The copies that are then in flight are as those before:
+-- between slots, to different ones, and none reads another's target.
 pub record IsPart (task : Task) (old : State) (k : ℕ) (added : List Event) : Type 0 where
   pub begins : BeginsRun (flights old) (later_rounds task k) added
   pub within : AreWithinLimits task.input.disks (flights old) → StayWithinLimits task.input.disks (flights old) added
+  pub slots : AreFlights (flights old) → AreFlights (after_events (flights old) added)
 
 -- the fault is the store's, or what the journal shows
 abbrev pub IsJournalFault : MoveFault → Type 0

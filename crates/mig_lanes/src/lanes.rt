@@ -4,7 +4,7 @@ ghost use Rattle.mig_base.specs.declared.cells.Cell.TheVariants.{Gate, Head};
 ghost use Rattle.mig_base.specs.Arrivals.{IsArrived, IsReached};
 ghost use Rattle.mig_base.specs.FaultCounts.{Rose};
 ghost use Rattle.mig_base.specs.Flights.{AreFlights};
-ghost use Rattle.mig_base.specs.JobCells.{IsHaltCell, IsJobCell, Tells, SettlesTo};
+ghost use Rattle.mig_base.specs.JobCells.{IsJobCell, Tells, SettlesTo};
 ghost use Rattle.mig_base.specs.Journals.{is_armed, count_of};
 ghost use Rattle.mig_base.specs.Readiness.{IsReady};
 ghost use Rattle.mig_base.specs.RoundEvents.{IsRun, Adds};
@@ -30,8 +30,8 @@ pub fn start_lanes<S: Store>(job: &Job, store: &mut S) -> Result<(), MoveFault>
     ensures fault { IfErr result (IsFault job.now (S.state store.old) (S.state store.new)) }
     ensures kind { IfErr result IsStartFault }
     // Where each image whose gate isn't 1 is ready, what slots show is never a reason; and a store that is ready isn't refused.
-    ensures unrefused { Tells (IsHaltCell job.now.input job.now.plan) (S.state store.old).reads → SettlesTo (IsReadyIdle job.now) (S.state store.old) → IfErr result IsJournalFault }
-    ensures ready { Tells (IsHaltCell job.now.input job.now.plan) (S.state store.old).reads → SettlesTo (IsReady job.now.input job.now.plan) (S.state store.old) → ¬ Rose (S.state store.old).faults (S.state store.new).faults → IsOk result }
+    ensures unrefused { Tells (IsJobCell job.now.input job.now.plan) (S.state store.old).reads → SettlesTo (IsReadyIdle job.now) (S.state store.old) → IfErr result IsJournalFault }
+    ensures ready { Tells (IsJobCell job.now.input job.now.plan) (S.state store.old).reads → SettlesTo (IsReady job.now.input job.now.plan) (S.state store.old) → ¬ Rose (S.state store.old).faults (S.state store.new).faults → IsOk result }
     ensures armed { StaysArmed (S.state store.old) (S.state store.new) }
     // Where the gate is 1 and the store doesn't fail, the plan is refused as started, or for another one. So it is once its target is reached.
     ensures started { AreFlights (flights (S.state store.old)) → is_armed (S.state store.old).reads ≡ true → (S.state store.old).reads Head ≡ Some job.now.digest → ¬ Rose (S.state store.old).faults (S.state store.new).faults → result ≡ Err MoveFault.Started }
@@ -56,11 +56,12 @@ pub fn resume_lanes<S: Store>(job: &Job, store: &mut S) -> Result<u32, MoveFault
     ensures events { IfOk result (λ k. Adds (IsRun (flights (S.state store.old)) (later_rounds job.now k)) (S.state store.old) (S.state store.new)) }
     ensures part { (k : ℕ) × (k ≤ length job.now.plan) × (Tells (IsJobCell job.now.input job.now.plan) (S.state store.old).reads → AreFlights (flights (S.state store.old)) → k ≡ count_of (length job.now.plan) (S.state store.old).reads)
         × Adds (IsPart job.now (S.state store.old) k) (S.state store.old) (S.state store.new) }
+    ensures within { IfOk result (λ k. Adds (IsPart job.now (S.state store.old) k) (S.state store.old) (S.state store.new)) }
     ensures fault { IfErr result (IsFault job.now (S.state store.old) (S.state store.new)) }
     ensures kind { IfErr result IsResumeFault }
     // Where each image whose gate isn't 1 is ready, what slots show is never a reason; and a store that is ready isn't refused.
-    ensures unrefused { Tells (IsHaltCell job.now.input job.now.plan) (S.state store.old).reads → SettlesTo (IsReadyIdle job.now) (S.state store.old) → IfErr result IsJournalFault }
-    ensures ready { Tells (IsHaltCell job.now.input job.now.plan) (S.state store.old).reads → SettlesTo (IsReady job.now.input job.now.plan) (S.state store.old) → ¬ Rose (S.state store.old).faults (S.state store.new).faults → IsOk result }
+    ensures unrefused { Tells (IsJobCell job.now.input job.now.plan) (S.state store.old).reads → SettlesTo (IsReadyIdle job.now) (S.state store.old) → IfErr result IsJournalFault }
+    ensures ready { Tells (IsJobCell job.now.input job.now.plan) (S.state store.old).reads → SettlesTo (IsReady job.now.input job.now.plan) (S.state store.old) → ¬ Rose (S.state store.old).faults (S.state store.new).faults → IsOk result }
     ensures armed { StaysArmed (S.state store.old) (S.state store.new) }
     // The same where closing the plan early was stopped.
     ensures halting { (contents : Contents) (n : ℕ) → Tells (IsJobCell job.now.input job.now.plan) (S.state store.old).reads → MayBeHalting job.now contents (S.state store.old) n →

@@ -12,9 +12,9 @@ use Rattle.mig_base.proofs.Rounds.{spot_disk}
 use Rattle.mig_base.proofs.SafetyLaws.{slot_apart}
 use Rattle.mig_base.proofs.StoreSteps.{changes_then, changes_wider, told_is}
 use Rattle.mig_journal.proofs.Steps.{quiet_same, then_step, then_sync, still_none, sync_same}
-use Rattle.mig_mover.specs.Fillings.{IsFillable, IsFillFault, IsFillFaultOn, IsFillRefusal, IsFirstTaken, HasMade, made_contents, IsSoundForAll}
+use Rattle.mig_mover.specs.Fillings.{IsFillable, WasFillable, IsFillFault, IsFillFaultOn, IsFillRefusal, IsFirstTaken, HasMade, made_contents, IsSoundForAll}
 use Rattle.mig_mover.specs.Moves.{Lands}
-use Rattle.mig_mover.proofs.Settling.{settles_land, settles_quiet, reads_kept}
+use Rattle.mig_mover.proofs.Settling.{settles_land, settles_landed, settles_quiet}
 
 -- Looking at listed spots
 
@@ -121,8 +121,8 @@ module _ (input : Lists) (old mid new : State) where
             (changes_wider P (IsListedCell input) (IsListedCell input) (IsListedCell input) (λ cell listed. inr listed) (λ cell listed. listed) [] mid new change)),
       )
 
-  pub fillable_more : Settles old mid → IsFillable input mid.reads → flights old ≡ [] → IsFillable input old.reads
-  fillable_more settles fillable none = subst (IsFillable input) (sym (reads_kept old mid settles none)) fillable
+  pub fillable_more : Settles old mid → IsFillable input mid.reads → WasFillable input old
+  fillable_more settles fillable = (mid.reads, settles_landed old mid settles, fillable)
 
 -- Filling a store with no copy in flight
 

@@ -1,11 +1,11 @@
 -- What the first sync of a call gives.
 use Rattle.mig_base.proofs.Common.{◌≡◌, ◌⊎◌, inl, inr, true, false, ℕ, suc, ◌≤◌, ◌++◌, List, [], length, map, Option, Some, None, Result, Ok, Err, IfOk, IfErr, IfSome, IsSome, refl, sym, ◌∙◌, ap}
-use Rattle.mig_base.proofs.Common.{subst, arith, append-nil, IsPermutation, map-append, cases_Bool, false≢true, is_slot, ended, IsTargetOf, AreFlights, Image, NoCell, is_one, is_armed, is_marked}
+use Rattle.mig_base.proofs.Common.{subst, arith, append-nil, IsPermutation, map-append, cases_Bool, false≢true, is_slot, ended, IsTargetOf, AreFlights, All, All-contains, Contains-get_or, get_or, IsCopy, Image, NoCell, is_one, is_armed, is_marked}
 use Rattle.mig_base.proofs.Common.{count_of, IsJobCell, Tells, SettlesTo, BeginsRun, Adds, Contents, IsSafeAt, IsSound, State, IsState, flights, Changes, ChangesOnly, LeavesOnly, Ends, IsSettled}
 use Rattle.mig_mover.proofs.Common.{Cell, Head, Gate, Flight, is_running, Settles, IsRunning, Task, MoveFault, Store, Started, OtherPlan, NotStarted, NotThere, Occupied}
 use Rattle.mig_base.specs.declared.cells.Cell.TheVariants.{Mark}
 use Rattle.mig_base.specs.declared.cells.Event.{Event}
-use Rattle.std.proofs.lemmas.List.Sorted.{IsPermutation-sym}
+use Rattle.std.proofs.lemmas.List.Sorted.{Contains-permutation, IsPermutation-sym}
 use Rattle.mig_base.specs.Arrivals.{IsHaltSafe}
 use Rattle.mig_base.specs.Readiness.{IsReady}
 use Rattle.mig_base.specs.RoundEvents.{IsRun}
@@ -14,7 +14,7 @@ use Rattle.mig_base.proofs.MarkCounts.{counted, count_is, count_idle}
 use Rattle.mig_base.proofs.StoreSteps.{same_image, same_wider, told_kept, leaves_then, changes_then, changes_wider, quiet_leaves, settled_change, events_none}
 use Rattle.mig_journal.specs.declared.looking.Seen.{Seen}
 use Rattle.mig_journal.specs.declared.looking.Seen.TheVariants.{Idle}
-use Rattle.mig_mover.specs.Moves.{Lands, IsRefusal, IsPlanFault, IsFault, IsReadyIdle, MayBeHalting, Keeps, Enters, KeepsOn, EntersOn, IsFaultOn}
+use Rattle.mig_mover.specs.Moves.{IsLanded, Lands, IsRefusal, IsPlanFault, IsFault, IsReadyIdle, MayBeHalting, Keeps, Enters, KeepsOn, EntersOn, IsFaultOn}
 
 module _ (these : List Flight) (old new : State) (ends : Ends these old new) where
   within : (cell : Cell) → IsTargetOf these cell → IsTargetOf (flights old) cell
@@ -40,19 +40,23 @@ module _ (these : List Flight) (old new : State) (ends : Ends these old new) whe
   }
 
   pub ends_settle : flights new ≡ [] → IsSettled new → Settles old new
-  ends_settle none settled = record {
-    added = map ended these;
-    ended = record {
-      order = these;
-      rest = [];
-      each_once = subst (IsPermutation (flights old)) (ap (λ (l : List Flight). these ++ l) none ∙ append-nil these) ends.others;
-      is = sym (append-nil (map ended these));
-      then_rounds = refl;
-    };
-    change = landing;
-    landed = none;
-    settled = settled;
-  }
+  ends_settle none settled =
+      let all : IsPermutation (flights old) these = subst (IsPermutation (flights old)) (ap (λ (l : List Flight). these ++ l) none ∙ append-nil these) ends.others in
+      record {
+        added = map ended these;
+        ended = record {
+          order = these;
+          rest = [];
+          each_once = all;
+          is = sym (append-nil (map ended these));
+          then_rounds = refl;
+        };
+        change = landing;
+        copied = λ k d lt. All-contains (λ (c : Flight). IsCopy (old.reads c.from) (new.reads c.to)) these (get_or (flights old) k d) ends.copied
+            (Contains-permutation (flights old) these (get_or (flights old) k d) all (Contains-get_or (flights old) k d lt));
+        landed = none;
+        settled = settled;
+      }
 
 run_begins : (before : List Flight) (added : List Event) → IsRun before [] added → BeginsRun before [] added
 run_begins before added is = ([], subst (IsRun before []) (sym (append-nil added)) is)
@@ -60,6 +64,9 @@ run_begins before added is = ([], subst (IsRun before []) (sym (append-nil added
 -- Where no copy is in flight, or images are told
 
 module _ (old mid : State) (settles : Settles old mid) where
+  pub settles_landed : IsLanded old mid.reads
+  settles_landed = record { others = settles.change.told; copied = settles.copied }
+
   pub settles_land : Lands old mid
   settles_land = record { added = settles.added; part = run_begins (flights old) settles.added settles.ended; change = settles.change }
 
@@ -101,10 +108,6 @@ module _ (old mid : State) (settles : Settles old mid) where
           })
       at (inr idle) = count_idle rounds mid.reads (gate_kept are ∙ idle) ∙ sym (count_idle rounds old.reads idle)
 
-  -- without a copy in flight nothing changes
-  pub reads_kept : flights old ≡ [] → old.reads ≡ mid.reads
-  reads_kept none = same_image old.reads mid.reads (same_wider (IsTargetOf (flights old)) NoCell (λ cell any. no_target (flights old) cell none any) old.reads mid.reads settles.change.told)
-
   pub settles_quiet : (new : State) → ChangesOnly NoCell mid new → Settles old new
   settles_quiet new quiet = record {
     added = settles.added;
@@ -112,6 +115,7 @@ module _ (old mid : State) (settles : Settles old mid) where
     change = subst (λ (l : List Event). Changes (IsTargetOf (flights old)) NoCell l old new) (append-nil settles.added)
         (changes_then (IsTargetOf (flights old)) NoCell settles.added [] old mid new settles.change
         (changes_wider (IsTargetOf (flights old)) NoCell NoCell NoCell (λ cell out. absurd out) (λ cell out. out) [] mid new quiet));
+    copied = subst (λ (image : Image). All (λ c. IsCopy (old.reads c.from) (image c.to)) (flights old)) (same_image mid.reads new.reads quiet.told) settles.copied;
     landed = flights_same mid new quiet.events ∙ settles.landed;
     settled = settled_change NoCell [] mid new quiet settles.settled;
   }
@@ -160,8 +164,11 @@ module _ (task : Task) (old : State) (law : IsState old) where
       most = enters.most;
       found = λ tells are. enters.found (tells_more old mid settles (IsJobCell task.input task.plan) tells) ∙ count_kept old mid settles are (length task.plan);
       armed = λ told. enters.armed (told_kept (IsTargetOf (flights old)) old.reads mid.reads settles.change.told Gate told);
-      ready = λ none idle told. subst (IsReady task.input task.plan) (sym (reads_kept old mid settles none))
-          (enters.ready (subst (λ (image : Image). is_armed image ≡ false) (reads_kept old mid settles none) idle) (subst (λ (image : Image). IsSome (image Gate)) (reads_kept old mid settles none) told));
+      ready = λ are idle told. (
+        mid.reads,
+        settles_landed old mid settles,
+        enters.ready (gate_kept old mid settles are ∙ idle) (told_kept (IsTargetOf (flights old)) old.reads mid.reads settles.change.told Gate told),
+      );
     }
 
     refused : (fault : MoveFault) → ChangesOnly NoCell mid new × IsRefusal task mid.reads fault → Settles old new × IsRefusal task new.reads fault

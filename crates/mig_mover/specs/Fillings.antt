@@ -12,7 +12,7 @@ use Rattle.mig_base.specs.Safety.{Contents, IsSound}
 use Rattle.mig_base.specs.Slots.{item_cell, made_slot, IsListedCell, IsUsed, IsUnused}
 use Rattle.mig_base.specs.Stores.{State, ChangesOnly}
 use Rattle.mig_base.specs.Texts.{item_name}
-use Rattle.mig_mover.specs.Moves.{IsRunning, Settles}
+use Rattle.mig_mover.specs.Moves.{IsLanded, IsRunning, Settles}
 use Rattle.mig_mover.specs.declared.faults.MoveFault.{MoveFault}
 use Rattle.mig_mover.specs.declared.faults.MoveFault.TheVariants.{Store, Started, OtherPlan, NotStarted, NotThere, Occupied}
 
@@ -20,6 +20,10 @@ use Rattle.mig_mover.specs.declared.faults.MoveFault.TheVariants.{Store, Started
 pub record IsFillable (input : Lists) (image : Image) : Type 0 where
   pub idle : is_armed image ≡ false
   pub unused : All (IsUnused input image) input.spots
+
+-- so it was once each copy in flight had ended
+abbrev pub WasFillable : Lists → State → Type 0
+WasFillable input old = (image : Image) × IsLanded old image × IsFillable input image
 
 -- the spot is the first where an item is listed and the slot is used
 pub record IsFirstTaken (input : Lists) (image : Image) (spot : Spot) : Type 0 where

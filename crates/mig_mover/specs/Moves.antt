@@ -1,12 +1,12 @@
 -- What a mover promises, whatever it answers.
-use Rattle.std.specs.Prelude.{◌≡◌, ◌≢◌, ◌⊎◌, ◌<◌, ◌≤◌, Bool, true, false, ℕ, List, [], IfSome, IsSome, length}
+use Rattle.std.specs.Prelude.{◌≡◌, ◌≢◌, ◌⊎◌, ◌<◌, ◌≤◌, Bool, true, false, ℕ, List, [], All, IfSome, IsSome, length}
 use Rattle.mig_base.specs.declared.cells.Cell.{Cell}
 use Rattle.mig_base.specs.declared.cells.Cell.TheVariants.{Head, Gate}
 use Rattle.mig_base.specs.declared.cells.Event.{Event}
 use Rattle.mig_base.specs.Arrivals.{IsHaltSafe}
 use Rattle.mig_base.specs.FaultCounts.{Rose}
 use Rattle.mig_base.specs.Flights.{IsTargetOf, AreFlights}
-use Rattle.mig_base.specs.Images.{Image, NoCell}
+use Rattle.mig_base.specs.Images.{Image, SameBut, NoCell, IsCopy}
 use Rattle.mig_base.specs.Journals.{is_armed, count_of}
 use Rattle.mig_base.specs.JobCells.{IsJobCell, Tells, SettlesTo}
 use Rattle.mig_base.specs.Readiness.{IsShifted, IsReady, IsFirstLost, IsFirstUsed}
@@ -19,6 +19,11 @@ use Rattle.mig_base.specs.Tasks.{Task}
 use Rattle.mig_mover.specs.declared.faults.MoveFault.{MoveFault}
 use Rattle.mig_mover.specs.declared.faults.MoveFault.TheVariants.{Store, Started, OtherPlan, NotStarted, NotThere, Occupied}
 
+-- what reads may give once each copy in flight has ended: its target holds what its source held, and nothing else has changed
+pub record IsLanded (s : State) (image : Image) : Type 0 where
+  pub others : SameBut (IsTargetOf (flights s)) s.reads image
+  pub copied : All (λ c. IsCopy (s.reads c.from) (image c.to)) (flights s)
+
 -- some of the copies in flight have ended, and nothing else has changed
 pub record Lands (old new : State) : Type 0 where
   pub added : List Event
@@ -30,6 +35,7 @@ pub record Settles (old new : State) : Type 0 where
   pub added : List Event
   pub ended : IsRun (flights old) [] added
   pub change : Changes (IsTargetOf (flights old)) NoCell added old new
+  pub copied : All (λ c. IsCopy (old.reads c.from) (new.reads c.to)) (flights old)
   pub landed : flights new ≡ []
   pub settled : IsSettled new
 
@@ -88,6 +94,14 @@ pub record MayBeHalting (task : Task) (contents : Contents) (s : State) (n : ℕ
   pub slots : AreFlights (flights s)
   pub images : SettlesTo (λ image. IsHaltSafe task.input task.plan task.digest contents image n) s
 
+-- what reads give is ready once each copy in flight has ended
+abbrev pub IsReadyOnceLanded : Task → State → Type 0
+IsReadyOnceLanded task s = (image : Image) × IsLanded s image × IsReady task.input task.plan image
+
+-- where the gate wasn't 1, the store was ready
+abbrev pub WasReady : Task → State → Type 0
+WasReady task old = AreFlights (flights old) → is_armed old.reads ≡ false → IsSome (old.reads Gate) → IsReadyOnceLanded task old
+
 -- what every call of a mover keeps
 pub record Keeps (task : Task) (old new : State) : Type 0 where
   -- where what reads give once it is settled is sound, a crash leaves nothing else that is new
@@ -109,8 +123,7 @@ pub record Enters (task : Task) (old new : State) (k : ℕ) : Type 0 where
   pub found : Tells (IsJobCell task.input task.plan) old.reads → AreFlights (flights old) → k ≡ count_of (length task.plan) old.reads
   -- the gate stays 1, where it is told
   pub armed : IsSome (old.reads Gate) → (image : Image) → new.may_leave image → is_armed image ≡ true
-  -- where the gate wasn't 1, the store was ready
-  pub ready : flights old ≡ [] → is_armed old.reads ≡ false → IsSome (old.reads Gate) → IsReady task.input task.plan old.reads
+  pub ready : WasReady task old
 
 -- The same from a store with nothing unsettled and no copy in flight
 

@@ -8,7 +8,7 @@ ghost use Rattle.mig_base.specs.RoundEvents.{BeginsRun};
 ghost use Rattle.mig_base.specs.Slots.{item_cell, made_slot, IsListedCell, IsUnused};
 ghost use Rattle.mig_base.specs.Stores.{State, flights, Changes, ChangesOnly, HasCause, IsSettled};
 ghost use Rattle.mig_base.specs.Texts.{item_name};
-ghost use Rattle.mig_mover.specs.Fillings.{HasMade, IsFillable, IsFillFault, IsFillFaultOn, IsFirstTaken, IsSoundForAll};
+ghost use Rattle.mig_mover.specs.Fillings.{HasMade, IsFillable, IsFillFault, IsFillFaultOn, IsFirstTaken, IsSoundForAll, WasFillable};
 
 use crate::entries::settle_and_look;
 use crate::faults::MoveFault;
@@ -104,7 +104,7 @@ pub fn fill<S: Store>(input: &Input, store: &mut S) -> Result<(), MoveFault>
     ensures landed { OnOk result (flights (S.state store.new) ≡ []) }
     ensures idle { OnOk result (is_armed (S.state store.new).reads ≡ false) }
     ensures sound { OnOk result (IsSoundForAll input.now (S.state store.new).reads) }
-    ensures fillable { OnOk result (flights (S.state store.old) ≡ [] → IsFillable input.now (S.state store.old).reads) }
+    ensures fillable { OnOk result (WasFillable input.now (S.state store.old)) }
     ensures fault { IfErr result (IsFillFault input.now (S.state store.old) (S.state store.new)) }
     ensures change { (added : List Event) × BeginsRun (flights (S.state store.old)) [] added
         × Changes (λ cell. IsTargetOf (flights (S.state store.old)) cell ⊎ IsListedCell input.now cell) (IsListedCell input.now) added (S.state store.old) (S.state store.new) }

@@ -1,5 +1,5 @@
 //! A store in memory, which keeps a record of its calls.
-ghost use Rattle.std.specs.Prelude.{◌≡◌, ◌≢◌, ◌↔◌, ◌≤◌, ◌<◌, ◌+◌, ◌++◌, ◌∷◌, [], ℕ, List, IsTrue, IfSome, IfNone, IfOk, OnOk, OnErr, IsOk, is_ok, None, Some, true, false, map, length, take, count_by};
+ghost use Rattle.std.specs.Prelude.{◌≡◌, ◌≢◌, ◌↔◌, ◌≤◌, ◌<◌, ◌+◌, ◌++◌, ◌∷◌, [], ℕ, List, IsTrue, IfSome, IfNone, IsSome, IfOk, OnOk, OnErr, IsOk, is_ok, None, Some, true, false, map, length, take, count_by};
 ghost use Rattle.std.specs.Option.{option_map};
 ghost use Rattle.mig_base.specs.declared.cells.Flight.{Flight};
 ghost use Rattle.mig_base.specs.Images.{IsCopy};
@@ -290,7 +290,7 @@ impl Store for MemStore {
         ensures failed { OnErr result (self.new ≡ record self.old { trouble = faulted result (next_number self.old.trouble) }) }
         ensures ends { Ends (named (state_of self.old) result) (state_of self.old) (state_of self.new) }
         ensures none { IfOk result (λ answer. IfNone answer (flights (state_of self.old) ≡ [])) }
-        ensures some { IfOk result (λ answer. IfSome answer (λ _. flights (state_of self.old) ≢ [])) }
+        ensures some { IsSome (state_of self.old).events → IfOk result (λ answer. IfSome answer (λ _. flights (state_of self.old) ≢ [])) }
         ensures cause { HasCause (state_of self.old) (state_of self.new) result }
     {
         if self.trouble.next() {

@@ -1,5 +1,5 @@
 //! A store of cells: what its reads give, which copies are in flight, and what a crash may leave.
-ghost use Rattle.std.specs.Prelude.{◌≡◌, ◌≢◌, ◌≤◌, ℕ, List, [], ◌∷◌, IsTrue, IfOk, OnOk, IfSome, IfNone, length, take};
+ghost use Rattle.std.specs.Prelude.{◌≡◌, ◌≢◌, ◌≤◌, ℕ, List, [], ◌∷◌, IsTrue, IfOk, OnOk, IfSome, IfNone, IsSome, length, take};
 ghost use Rattle.mig_base.specs.Cells.{cell_len, is_slot};
 ghost use Rattle.mig_base.specs.Images.{NoCell, IsCopy};
 ghost use Rattle.mig_base.specs.declared.cells.Flight.{Flight};
@@ -60,11 +60,11 @@ pub trait Store {
         ensures change { (n : ℕ) × Changes (λ c. c ≡ to.now) (λ c. c ≡ to.now) (take n (began (record { from = from.now; to = to.now }) ∷ [])) (state self.old) (state self.new) }
         ensures cause { HasCause (state self.old) (state self.new) result };
 
-    /// Ends a copy in flight and names it; None where none is in flight.
+    /// Ends a copy in flight and names it; None where none is in flight. What a store names that doesn't tell its events says nothing.
     fn ended(&mut self) -> Result<Option<(Cell, Cell)>, StoreFailed>
         ensures ends { Ends (named (state self.old) result) (state self.old) (state self.new) }
         ensures none { IfOk result (λ answer. IfNone answer (flights (state self.old) ≡ [])) }
-        ensures some { IfOk result (λ answer. IfSome answer (λ _. flights (state self.old) ≢ [])) }
+        ensures some { IsSome (state self.old).events → IfOk result (λ answer. IfSome answer (λ _. flights (state self.old) ≢ [])) }
         ensures cause { HasCause (state self.old) (state self.new) result };
 
     /// Ends each copy in flight; after it a crash leaves what reads give. Where it fails it may have ended some copies.

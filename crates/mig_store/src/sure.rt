@@ -1,6 +1,7 @@
 //! A store in memory that never fails. It tells its cells, no images and no events.
-ghost use Rattle.std.specs.Prelude.{◌≡◌, IfSome, IfNone, IfOk, Some, None, map};
+ghost use Rattle.std.specs.Prelude.{◌≡◌, ◌≢◌, [], IfSome, IfNone, IfOk, IsSome, Ok, Some, None, map};
 ghost use Rattle.mig_base.specs.InputLists.{AreDifferent};
+ghost use Rattle.mig_base.specs.Stores.{State, flights, Ends, named, HasCause};
 ghost use Rattle.mig_store.specs.HeldCells.{held_at, zero_held};
 ghost use Rattle.mig_store.specs.Sure.{sure_state, sure_is_state};
 
@@ -88,7 +89,14 @@ impl Store for SureStore {
         Ok(())
     }
 
-    fn ended(&mut self) -> Result<Option<(Cell, Cell)>, StoreFailed> {
+    /// Names none.
+    fn ended(&mut self) -> Result<Option<(Cell, Cell)>, StoreFailed>
+        ensures answer { result ≡ Ok None }
+        ensures ends { Ends (named (sure_state self.old) result) (sure_state self.old) (sure_state self.new) }
+        ensures none { IfOk result (λ answer. IfNone answer (flights (sure_state self.old) ≡ [])) }
+        ensures some { IsSome (sure_state self.old).events → IfOk result (λ answer. IfSome answer (λ _. flights (sure_state self.old) ≢ [])) }
+        ensures cause { HasCause (sure_state self.old) (sure_state self.new) result }
+    {
         Ok(None)
     }
 

@@ -135,36 +135,41 @@ struct Texts {
     plan: String,
 }
 
-/// Adds so many items that go from one disk to another, one in each round.
-fn add_items(rt: &impl Abort, texts: &mut Texts, items: u32) {
+/// Adds so many items that go from one disk to another, all in one round or one in each.
+fn add_items(rt: &impl Abort, texts: &mut Texts, items: u32, together: bool) {
     for i in 0..items {
         let round = i.saturating_add(1);
         write!(texts.now, "i{i},a,{i}\n").expect(rt, "ample memory");
         write!(texts.next, "i{i},b\n").expect(rt, "ample memory");
-        write!(texts.plan, "round {round} 1\ni{i} a {i} b {i}\n").expect(rt, "ample memory");
+        if !together {
+            write!(texts.plan, "round {round} 1\n").expect(rt, "ample memory");
+        }
+        write!(texts.plan, "i{i} a {i} b {i}\n").expect(rt, "ample memory");
     }
 }
 
-/// The texts of 257 items that go from one disk to another, one in each round.
-fn one_by_one(rt: &impl Abort, alloc: Global) -> Texts {
+/// The texts of so many items that go from one disk to another: of two disks, and of a plan that begins so.
+fn texts_of(
+    rt: &impl Abort,
+    alloc: Global,
+    disks: &str,
+    plan: &str,
+    items: u32,
+    together: bool,
+) -> Texts {
     let mut texts = Texts {
-        disks: String::from_str(alloc, "disk,limit,slots\na,1,257\nb,1,257\n").expect(
-            rt,
-            "ample memory",
-        ),
+        disks: String::from_str(alloc, disks).expect(rt, "ample memory"),
         now: String::from_str(alloc, "item,disk,slot\n").expect(rt, "ample memory"),
         next: String::from_str(alloc, "item,disk\n").expect(rt, "ample memory"),
-        plan: String::from_str(alloc, "migration-plan 1\nrounds 257\n").expect(rt, "ample memory"),
+        plan: String::from_str(alloc, plan).expect(rt, "ample memory"),
     };
-    add_items(rt, &mut texts, 257);
+    add_items(rt, &mut texts, items, together);
     write!(texts.plan, "end\n").expect(rt, "ample memory");
     texts
 }
 
-#[test]
-fn a_large_plan_is_not_drilled(rt: HostRuntime) {
-    let alloc = rt.alloc();
-    let texts = one_by_one(&rt, alloc);
+/// Drills the plan of these texts, and asserts its status and what is put.
+fn expect_texts(rt: &impl Abort, alloc: Global, texts: &Texts, status: u8, text: &str) {
     let cluster = Cluster {
         disks: texts.disks.as_str(),
         now: texts.now.as_str(),
@@ -172,15 +177,44 @@ fn a_large_plan_is_not_drilled(rt: HostRuntime) {
     };
     let none = Vec::new(alloc);
     let mut folder = planned(alloc, &cluster, texts.plan.as_str(), "", none).expect(
-        &rt,
+        rt,
         "ample memory",
     );
-    expect(
-        &rt,
-        alloc,
-        &mut folder,
-        DRILL,
-        11,
-        "too large for a drill 257\n",
-    );
+    expect(rt, alloc, &mut folder, DRILL, status, text);
+}
+
+// One item more than are drilled, each in a round of its own.
+#[test]
+fn a_large_plan_is_not_drilled(rt: HostRuntime) {
+    let alloc = rt.alloc();
+    let disks = "disk,limit,slots\na,1,257\nb,1,257\n";
+    let plan = "migration-plan 1\nrounds 257\n";
+    let texts = texts_of(&rt, alloc, disks, plan, 257, false);
+    expect_texts(&rt, alloc, &texts, 11, "too large for a drill 257\n");
+}
+
+/// What is put of 256 items in one round: the mark is zeroed, the head, the gate, the items and then the mark are written, and
+/// the sources are erased.
+fn most_drilled(rt: &impl Abort, alloc: Global) -> String {
+    let mut text = String::from_str(alloc, "writes 516\n").expect(rt, "ample memory");
+    for n in 0..516 {
+        let before = u32::from(n > 259);
+        let after = u32::from(n >= 259);
+        write!(text, "stop {n} marks {before} {after} {before} {after}\n").expect(
+            rt,
+            "ample memory",
+        );
+    }
+    write!(text, "reached 2064\n").expect(rt, "ample memory");
+    text
+}
+
+// As many items as are drilled, in one round.
+#[test]
+fn the_largest_plan_is_drilled(rt: HostRuntime) {
+    let alloc = rt.alloc();
+    let disks = "disk,limit,slots\na,256,256\nb,256,256\n";
+    let plan = "migration-plan 1\nrounds 1\nround 1 256\n";
+    let texts = texts_of(&rt, alloc, disks, plan, 256, true);
+    expect_texts(&rt, alloc, &texts, 0, &most_drilled(&rt, alloc));
 }

@@ -218,7 +218,7 @@ const NO_PLAN: Judged<'static> = Judged {
     ..THREE_JUDGED
 };
 
-static NO_PLANS: [Judged<'static>; 14] = [
+static NO_PLANS: [Judged<'static>; 17] = [
     Judged {
         plan: "",
         text: "refused plan line 1\n",
@@ -227,6 +227,12 @@ static NO_PLANS: [Judged<'static>; 14] = [
     Judged {
         plan: "migration-plan 1\nrounds 131073\nround 1 1\nx a 0 b 0\n",
         text: "refused plan line 2\n",
+        ..NO_PLAN
+    },
+    // as many rounds as there may be, of which the first is missing
+    Judged {
+        plan: "migration-plan 1\nrounds 131072\nend\n",
+        text: "refused plan line 3\n",
         ..NO_PLAN
     },
     Judged {
@@ -252,6 +258,18 @@ static NO_PLANS: [Judged<'static>; 14] = [
     Judged {
         plan: "migration-plan 1\nrounds 1\nround 1 65537\nx a 0 b 0\n",
         text: "refused plan line 3\n",
+        ..NO_PLAN
+    },
+    // as many shifts as there may be, of which the second is missing
+    Judged {
+        plan: "migration-plan 1\nrounds 1\nround 1 65536\nx a 0 b 0\nend\n",
+        text: "refused plan line 5\n",
+        ..NO_PLAN
+    },
+    // a slot as great as there may be; the next line is another item's
+    Judged {
+        plan: "migration-plan 1\nrounds 1\nround 1 2\nx a 0 b 65535\nw a 1 b 1\nend\n",
+        text: "refused plan line 5\n",
         ..NO_PLAN
     },
     Judged {

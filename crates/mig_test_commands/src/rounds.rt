@@ -163,3 +163,24 @@ fn the_search_for_few_rounds_goes_up(rt: HostRuntime) {
         assert_eq!(rt; plan.rounds().len(), exchange.rounds);
     }
 }
+
+// Each disk needs three rounds. Dealt as the transfers go, the ends of copies leave a fourth one over.
+static DEALT_AGAIN: Cluster<'static> = Cluster {
+    disks: "disk,limit,slots\nd0,1,8\nd1,2,8\nd2,1,8\nd3,2,8\n",
+    now: "item,disk,slot\ni0,d3,0\ni1,d0,0\ni2,d3,1\ni3,d2,0\ni4,d1,0\ni5,d1,1\ni6,d1,2\ni7,d3,2\ni8,d1,3\n",
+    next: "item,disk\ni0,d0\ni1,d3\ni2,d2\ni3,d1\ni4,d2\ni5,d0\ni6,d3\ni7,d1\ni8,d3\n",
+};
+
+#[test]
+fn ends_are_dealt_again_where_few_rounds_are_needed(rt: HostRuntime) {
+    let alloc = rt.alloc();
+    let read = read_input(
+        alloc,
+        DEALT_AGAIN.disks.as_bytes(),
+        DEALT_AGAIN.now.as_bytes(),
+        DEALT_AGAIN.next.as_bytes(),
+    );
+    let input = read.expect(&rt, "an input");
+    let plan = make_plan(alloc, &input).expect(&rt, "ample memory");
+    assert_eq!(rt; plan.rounds().len(), 3);
+}

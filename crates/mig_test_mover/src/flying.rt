@@ -95,3 +95,19 @@ fn a_copy_that_cannot_begin_is_made_up_for(rt: HostRuntime) {
     let mut store = newest_first(&rt, alloc, &[SECOND_BEGIN]);
     expect_made_up_for(&rt, &job, &mut store);
 }
+
+// The number of the call that syncs the first round, after both of its copies were waited for.
+const ROUND_SYNC: u64 = 25;
+
+// Had fewer copies been waited for, this would be a later call, and the round synced before it.
+#[test]
+fn each_copy_of_a_round_is_waited_for(rt: HostRuntime) {
+    let alloc = rt.alloc();
+    let job = job_of(&rt, alloc, &THREE_ITEMS);
+    let mut store = newest_first(&rt, alloc, &[ROUND_SYNC]);
+    let syncs = store.syncs();
+    assert!(rt; start_lanes(&job, &mut store) == Err(MoveFault::Store));
+    assert!(rt; tells(&store, &[(true, 0), (true, 1), (false, 1), (false, 0)]));
+    // It synced at its beginning, and twice where it armed the journal.
+    assert!(rt; store.syncs() >= syncs && store.syncs() - syncs == 3);
+}

@@ -1,5 +1,5 @@
-//! Tests alone: the calls of the mover over stores in memory, and plans that are carried out on them, stopped anywhere, resumed
-//! and drilled. They stand apart from the mover and the drill, so that each is proved once.
+//! Tests alone: the calls of the mover over stores in memory, and plans that are carried out on them and on files in memory, stopped
+//! anywhere, resumed and drilled. They stand apart from the mover and the drill, so that each is proved once.
 #![tactic(auto)]
 
 #[cfg(test)]
@@ -8,6 +8,8 @@ mod cases;
 mod cells;
 #[cfg(test)]
 mod drilling;
+#[cfg(test)]
+mod file_stops;
 #[cfg(test)]
 mod filling;
 #[cfg(test)]

@@ -14,8 +14,8 @@ use std::process::Abort;
 // How many calls a store has room for.
 const ROOM: u32 = 200;
 
-// The slot of the item that the letter names, or an erased slot for 0.
-fn made(item: u8) -> [u8; 4096] {
+/// The slot of the item that the letter names, or an erased slot for 0.
+pub fn made(item: u8) -> [u8; 4096] {
     if item == 0 {
         return [0; 4096];
     }

@@ -7,6 +7,8 @@ mod expecting;
 #[cfg(test)]
 mod filling;
 #[cfg(test)]
+mod flying;
+#[cfg(test)]
 mod halting;
 #[cfg(test)]
 mod journals;

@@ -1,5 +1,7 @@
 //! Stores in memory for small clusters.
+ghost use Rattle.std.specs.Prelude.{◌≡◌, []};
 ghost use Rattle.mig_base.specs.InputLists.{AreDifferent};
+ghost use Rattle.mig_store.specs.Memories.{aloft};
 
 use mig_base::{Cell, Name};
 use mig_store::{MemStore, SureStore};
@@ -67,7 +69,9 @@ pub fn failing_at(rt: &impl Abort, alloc: Global, call: u64) -> Vec<u64> {
 }
 
 /// A store of these cells, all zeros. Its calls with these numbers fail.
-pub fn store_of(rt: &impl Abort, alloc: Global, failing: Vec<u64>) -> MemStore {
+pub fn store_of(rt: &impl Abort, alloc: Global, failing: Vec<u64>) -> MemStore
+    ensures { aloft result ≡ [] }
+{
     let cells = two_disks(rt, alloc);
     MemStore::new(alloc, &cells.list, 200, failing).expect(rt, "ample memory")
 }

@@ -1,19 +1,13 @@
 -- Bytes that are alike are read alike: where a file is too long, that is the first thing that is wrong with it.
-use Rattle.std.proofs.Common.{◌+◌, ◌≡◌, ◌⊎◌, inl, inr, ℕ, zero, suc, ◌<◌, ◌≤◌, List, length, take, refl, sym, ap, subst, ◌∙◌, arith, length-take}
-use Rattle.std.proofs.lemmas.Bool.{cases_lt}
-use Rattle.mig_top.proofs.Common.{Accepted, Bodies, CertLine, FileKind, IsLayoutRefusal, IsListing, IsNoCert, IsNoPlan, LayoutBodies, Lists, MAX_FILE_BYTES, Outcome, PlanLine, Step, Why}
-use Rattle.mig_top.proofs.Common.{reads_cert, reads_input, reads_layout, reads_plan, take_all}
-use Rattle.mig_base.specs.Texts.{CertText, PlanText}
-use Rattle.mig_base.specs.Rows.{file_of}
-use Rattle.mig_base.specs.Refusals.{Fault, IsFirstOf, Precedes, RefusedAs, stage_of, rank_of}
+use Rattle.std.proofs.Common.{length-take}
+use Rattle.mig_top.proofs.Common.{Accepted, Accepted-short, Bodies, CertLine, CertText, Fault, FileKind, Found, IsFinding, IsFirstOf, IsRefusalBy, Step, IsListing, IsNoCert, IsNoPlan, LayoutBodies}
+use Rattle.mig_top.proofs.Common.{List, ListingFault, ListingRefusedAs, Lists, MAX_FILE_BYTES, NotSpelled, Outcome, PlanLine, PlanText, Precedes, Reader, Refused, RefusedAs, Roomy, Why, ap, arith}
+use Rattle.mig_top.proofs.Common.{cases_lt, file_of, inl, inr, length, rank_of, reads_cert, reads_input, reads_layout, reads_plan, refl, stage_of, subst, suc, sym, take, take_all, zero, ℕ, ◌+◌, ◌<◌}
+use Rattle.mig_top.proofs.Common.{◌∙◌, ◌≡◌, ◌≤◌}
 use Rattle.mig_base.specs.declared.faults.FileKind.TheVariants.{Disks, Now, Next}
 use Rattle.mig_base.specs.declared.faults.Why.TheVariants as why
-use Rattle.mig_base.proofs.Listed.{Accepted-short}
-use Rattle.mig_csv.specs.Listings.{ListingFault, ListingRefusedAs}
-use Rattle.mig_words.specs.Outcomes.{Refused, NotSpelled}
 use Rattle.mig_words.specs.declared.endings.TextFile.TheVariants as text_file
 use Rattle.mig_top.specs.Alike.{Alike, AreReadAlike, IsSame}
-use Rattle.mig_top.specs.Loads.{IsRefusal}
 
 alike_sym : (a b : List ℕ) → Alike a b → Alike b a
 alike_sym a b (inl same) = inl (sym same)
@@ -131,24 +125,35 @@ refused d n x e m y (inl same) (inl also) (inr long) f r w h = subst (λ (b : Li
 refused d n x e m y (inl same) (inl also) (inl too) f r w h =
     subst (λ (b : List ℕ). RefusedAs (three b m y) f r w) same (subst (λ (b : List ℕ). RefusedAs (three d b y) f r w) also (subst (λ (b : List ℕ). RefusedAs (three d n b) f r w) too h))
 
-module _ (a b : Bodies) (disks : Alike a.disks b.disks) (now : Alike a.now b.now) (next : Alike a.next b.next) where
-  input_passes : (input : Lists) → Accepted a input → Accepted b input
-  input_passes input h =
-      let d = short_same a.disks b.disks disks (Accepted-short a input h Disks) in
-      let n = short_same a.now b.now now (Accepted-short a input h Now) in
-      let x = short_same a.next b.next next (Accepted-short a input h Next) in
-      subst (λ (c : Bodies). Accepted c input) (λ i. three (d i) (n i) (x i)) h
+-- the three files of two inputs are alike
+abbrev AreAlike : Bodies → Bodies → Type 0
+AreAlike a b = Alike a.disks b.disks × Alike a.now b.now × Alike a.next b.next
 
-  input_stops : (o : Outcome) → IsRefusal a o → IsRefusal b o
-  input_stops (Refused f r w) h = refused a.disks a.now a.next b.disks b.now b.next disks now next f r w h
-  input_stops _ h = absurd h
+input_passes : (a b : Bodies) → AreAlike a b → (input : Lists) → Accepted a input → Accepted b input
+input_passes a b like input h =
+    let d = short_same a.disks b.disks like.0 (Accepted-short a input h Disks) in
+    let n = short_same a.now b.now like.1 (Accepted-short a input h Now) in
+    let x = short_same a.next b.next like.2 (Accepted-short a input h Next) in
+    subst (λ (c : Bodies). Accepted c input) (λ i. three (d i) (n i) (x i)) h
 
-inputs : (a b : Bodies) → Alike a.disks b.disks → Alike a.now b.now → Alike a.next b.next → IsSame (reads_input a) (reads_input b)
-inputs a b d n x =
-    let e = alike_sym a.disks b.disks d in
-    let m = alike_sym a.now b.now n in
-    let y = alike_sym a.next b.next x in
-    record { passes = λ input. (input_passes a b d n x input, input_passes b a e m y input); stops = λ o. (input_stops a b d n x o, input_stops b a e m y o) }
+-- what holds of all that is alike holds both ways
+same_by : {X A : Type 0} (Like : X → X → Type 0) → ((a b : X) → Like a b → Like b a) → (reads : X → Step A) → ((a b : X) → Like a b → (v : A) → (reads a).Passes v → (reads b).Passes v)
+    → ((a b : X) → Like a b → (o : Outcome) → (reads a).Stops o → (reads b).Stops o) → (a b : X) → Like a b → IsSame (reads a) (reads b)
+same_by Like back reads passes stops a b like =
+    let other = back a b like in
+    record { passes = λ v. (passes a b like v, passes b a other v); stops = λ o. (stops a b like o, stops b a other o) }
+
+refusal_stops : (R S : FileKind → ℕ → Why → Type 0) → ((f : FileKind) (r : ℕ) (w : Why) → R f r w → S f r w) → (o : Outcome) → IsFinding (IsRefusalBy R) o → IsFinding (IsRefusalBy S) o
+refusal_stops R S to (Found (Refused f r w)) h = to f r w h
+refusal_stops R S to _ h = absurd h
+
+inputs_by : (reads : Bodies → Step Lists) → ((a b : Bodies) → AreAlike a b → (v : Lists) → (reads a).Passes v → (reads b).Passes v)
+    → ((a b : Bodies) → AreAlike a b → (o : Outcome) → (reads a).Stops o → (reads b).Stops o) → (a b : Bodies) → AreAlike a b → IsSame (reads a) (reads b)
+inputs_by = same_by AreAlike (λ a b like. (alike_sym a.disks b.disks like.0, alike_sym a.now b.now like.1, alike_sym a.next b.next like.2))
+
+inputs : (reader : Reader) (a b : Bodies) → AreAlike a b → IsSame (reads_input reader a) (reads_input reader b)
+inputs Roomy = inputs_by (reads_input Roomy) input_passes
+    (λ a b like. refusal_stops (RefusedAs a) (RefusedAs b) (refused a.disks a.now a.next b.disks b.now b.next like.0 like.1 like.2))
 
 -- Layouts
 
@@ -181,29 +186,26 @@ module _ (a b : LayoutBodies) (disks : Alike a.disks b.disks) (now : Alike a.now
       let n = short_same a.now b.now now (short_listed input Now a.now h (λ long. (refl, long))) in
       subst (λ (e : List ℕ). IsListing e b.now input) d (subst (λ (m : List ℕ). IsListing a.disks m input) n h)
 
-  layout_stops : (o : Outcome) → IsLayoutRefusal a o → IsLayoutRefusal b o
-  layout_stops (Refused f r w) h = listing_refused a.disks a.now b.disks b.now disks now f r w h
-  layout_stops _ h = absurd h
+abbrev AreLayoutsAlike : LayoutBodies → LayoutBodies → Type 0
+AreLayoutsAlike a b = Alike a.disks b.disks × Alike a.now b.now
 
-layouts : (a b : LayoutBodies) → Alike a.disks b.disks → Alike a.now b.now → IsSame (reads_layout a) (reads_layout b)
-layouts a b d n =
-    let e = alike_sym a.disks b.disks d in
-    let m = alike_sym a.now b.now n in
-    record { passes = λ input. (layout_passes a b d n input, layout_passes b a e m input); stops = λ o. (layout_stops a b d n o, layout_stops b a e m o) }
+layouts : (a b : LayoutBodies) → AreLayoutsAlike a b → IsSame (reads_layout a) (reads_layout b)
+layouts = same_by AreLayoutsAlike (λ a b like. (alike_sym a.disks b.disks like.0, alike_sym a.now b.now like.1)) reads_layout (λ a b like. layout_passes a b like.0 like.1)
+    (λ a b like. refusal_stops (ListingRefusedAs a.disks a.now) (ListingRefusedAs b.disks b.now) (listing_refused a.disks a.now b.disks b.now like.0 like.1))
 
 -- Texts
 
 module _ (a b : List ℕ) (input : Lists) (same : Alike a b) where
-  plan_stops : (o : Outcome) → IsNoPlan a input o → IsNoPlan b input o
-  plan_stops (NotSpelled text_file.Plan line) h = by same
+  plan_stops : (o : Outcome) → IsFinding (IsNoPlan a input) o → IsFinding (IsNoPlan b input) o
+  plan_stops (Found (NotSpelled text_file.Plan line)) h = by same
     where
       by : Alike a b → PlanLine input b line
       by (inl is) = subst (λ (t : List ℕ). PlanLine input t line) is h
       by (inr long) = record { no_plan = λ plan text. long.1; line = record { long = λ _. h.line.long long.0; short = λ le. absurd (let more = long.1 in omega (arith, le, more)) } }
   plan_stops _ h = absurd h
 
-  cert_stops : (o : Outcome) → IsNoCert a input o → IsNoCert b input o
-  cert_stops (NotSpelled text_file.Cert line) h = by same
+  cert_stops : (o : Outcome) → IsFinding (IsNoCert a input) o → IsFinding (IsNoCert b input) o
+  cert_stops (Found (NotSpelled text_file.Cert line)) h = by same
     where
       by : Alike a b → CertLine input b line
       by (inl is) = subst (λ (t : List ℕ). CertLine input t line) is h
@@ -214,18 +216,17 @@ module _ (a b : List ℕ) (input : Lists) (same : Alike a b) where
 short_passes : {X : Type 0} (Spells : X → List ℕ → Type 0) (a b : List ℕ) → Alike a b → (x : X) → Spells x a × (length a ≤ MAX_FILE_BYTES) → Spells x b × (length b ≤ MAX_FILE_BYTES)
 short_passes Spells a b same x h = subst (λ (t : List ℕ). Spells x t × (length t ≤ MAX_FILE_BYTES)) (short_same a b same h.1) h
 
-plans : (a b : List ℕ) (input : Lists) → Alike a b → IsSame (reads_plan a input) (reads_plan b input)
-plans a b input same =
-    let back = alike_sym a b same in
-    record {
-      passes = λ rounds. (short_passes (PlanText input) a b same rounds, short_passes (PlanText input) b a back rounds);
-      stops = λ o. (plan_stops a b input same o, plan_stops b a input back o);
-    }
+plans : (input : Lists) (a b : List ℕ) → Alike a b → IsSame (reads_plan a input) (reads_plan b input)
+plans input = same_by Alike alike_sym (λ bytes. reads_plan bytes input) (short_passes (PlanText input)) (λ a b. plan_stops a b input)
 
-certs : (a b : List ℕ) (input : Lists) → Alike a b → IsSame (reads_cert a input) (reads_cert b input)
-certs a b input same =
-    let back = alike_sym a b same in
-    record { passes = λ cert. (short_passes (CertText input) a b same cert, short_passes (CertText input) b a back cert); stops = λ o. (cert_stops a b input same o, cert_stops b a input back o) }
+certs : (input : Lists) (a b : List ℕ) → Alike a b → IsSame (reads_cert a input) (reads_cert b input)
+certs input = same_by Alike alike_sym (λ bytes. reads_cert bytes input) (short_passes (CertText input)) (λ a b. cert_stops a b input)
 
 pub read_alike : AreReadAlike
-read_alike = record { begins = begins; inputs = inputs; layouts = layouts; plans = plans; certs = certs }
+read_alike = record {
+  begins = begins;
+  inputs = λ reader a b d n x. inputs reader a b (d, n, x);
+  layouts = λ a b d n. layouts a b (d, n);
+  plans = λ a b input. plans input a b;
+  certs = λ a b input. certs input a b;
+}

@@ -1,7 +1,5 @@
 -- Lines that are added one by one.
-use Rattle.std.proofs.Common.{◌≡◌, ◌∷◌, ◌++◌, ℕ, List, [], sym, ◌∙◌, ap, append-nil}
-use Rattle.std.proofs.lemmas.List.{flat_map_more}
-use Rattle.mig_top.proofs.Common.{text_of_lines}
+use Rattle.mig_top.proofs.Common.{List, [], ap, append-nil, flat_map_more, sym, text_of_lines, ℕ, ◌++◌, ◌∙◌, ◌∷◌, ◌≡◌}
 
 pub no_line : (old : List ℕ) → old ≡ old ++ text_of_lines []
 no_line old = sym (append-nil old)

@@ -1,27 +1,52 @@
 -- From what a command finds, does and puts to its status, and back.
-use Rattle.std.proofs.Common.{◌≡◌, ◌⊎◌, inl, inr, ℕ, List, Option, Some, None, refl, sym, subst, ◌∙◌, arith}
-use Rattle.mig_top.proofs.Common.{Call, CauseIn, Done, Ending, EndsAs, EndsBy, Extends, ExtendsInPart, Files, FolderState, Form, FormCause, FormEndsAs, HasFiles, IsEndOf, IsListed, IsOrNotPut}
-use Rattle.mig_top.proofs.Common.{IsSomeAnd, Lists, MoveFault, OthersStay, Outcome, Rehearse, Rose, Says, Shows, SinkFault, SinkState, Step, StopsFrom, Untouched, code, fault_outcome, outcome_of}
-use Rattle.mig_top.proofs.Common.{text_of}
-use Rattle.std.specs.Option.{IfSome}
-use Rattle.mig_words.specs.declared.endings.Ending.TheVariants.{Blamed, Unlisted, Refused, FolderFault, Memory, NotSpelled, TooLarge, NoFile}
+use Rattle.mig_top.proofs.Common.{Call, CauseIn, CauseOf, Done, Ending, EndsAs, EndsBy, Extends, ExtendsInPart, Files, FilesCause, Finding, FolderFailed, FolderState, Form, FormCause, FormEndsAs}
+use Rattle.mig_top.proofs.Common.{HasFiles, IfSome, IsBegun, IsEndOf, IsListed, IsOrNotPut, IsSomeAnd, List, Lists, MoveFault, None, Option, OthersStay, Outcome, Rehearse, Rose, Shows, SinkFailed}
+use Rattle.mig_top.proofs.Common.{SinkFault, SinkState, Some, Step, StopsFrom, StoreFailed, StoreFault, Untouched, WorldEnds, arith, code, fault_outcome, inl, inr, outcome_of, refl, subst, sym}
+use Rattle.mig_top.proofs.Common.{text_of, ℕ, ◌∙◌, ◌≡◌, ◌≢◌, ◌≤◌, ◌⊎◌}
+use Rattle.mig_words.specs.declared.endings.Ending.TheVariants.{FolderFault, Found, Memory, NoFile, Refusal}
+use Rattle.mig_words.specs.declared.endings.Finding.TheVariants as finding
+use Rattle.mig_words.specs.declared.endings.StoreRefusal.{StoreRefusal}
+use Rattle.mig_words.specs.declared.endings.StoreRefusal.TheVariants as refusal
 use Rattle.mig_words.specs.Outcomes as out
 use Rattle.mig_top.specs.Calls.{Changes}
-use Rattle.mig_top.specs.Ends.{CauseOf, FilesCause}
 use Rattle.mig_top.proofs.Forms.{one_form}
+
+-- Statuses
+
+pub finding_apart : (f : Finding) → (out.finding_code f ≢ 0) × (out.finding_code f ≢ 6)
+finding_apart (finding.Blamed b name) = (λ e. cc, λ e. cc)
+finding_apart _ = (λ e. cc, λ e. cc)
+
+pub refusal_between : (r : StoreRefusal) → (8 ≤ out.store_code r) × (out.store_code r ≤ 9)
+refusal_between (refusal.NotThere item) = (omega arith, omega arith)
+refusal_between _ = (omega arith, omega arith)
+
+-- the outcomes with status 0, and with 6
+zero_done : (o : Outcome) → code o ≡ 0 → (text : List ℕ) × (o ≡ Done text)
+zero_done (Done text) e = (text, refl)
+zero_done (out.Found f) e = absurd ((finding_apart f).0 e)
+zero_done (out.Refusal r) e = absurd (omega (arith, e, (refusal_between r).0))
+zero_done _ e = absurd cc
+
+six_unput : (o : Outcome) → code o ≡ 6 → (text : List ℕ) × (o ≡ SinkFault text)
+six_unput (SinkFault text) e = (text, refl)
+six_unput (out.Found f) e = absurd ((finding_apart f).1 e)
+six_unput (out.Refusal r) e = absurd (omega (arith, e, (refusal_between r).0))
+six_unput _ e = absurd cc
 
 -- An outcome and its text
 
-module _ (Is : Outcome → Type 0) (old new : SinkState) (status : ℕ) where
-  -- a command that isn't done
+module _ {Is : Outcome → Type 0} {old new : SinkState} {status : ℕ} where
   pub told : (names : List (List ℕ)) (e : Ending) → status ≡ code (outcome_of names e) → Is (outcome_of names e)
       → ExtendsInPart (text_of (outcome_of names e)) old new → ((Rose old.faults new.faults → ⊥) → Extends (text_of (outcome_of names e)) old new) → EndsBy Is old new status
-  told names e is h begun whole = by e is h begun whole
+  told names e is h begun whole =
+      let so = ending_is e h in record { outcome = outcome_of names e; is = is; so = so.0; says = record { begun = begun; whole = whole; done = λ zero. absurd (so.1 zero) } }
     where
-      by : (e : Ending) → status ≡ code (outcome_of names e) → Is (outcome_of names e) → ExtendsInPart (text_of (outcome_of names e)) old new
-          → ((Rose old.faults new.faults → ⊥) → Extends (text_of (outcome_of names e)) old new) → EndsBy Is old new status
-      by Unlisted is h begun whole = (out.Unlisted, is, h, record { begun = begun; whole = whole; done = λ zero. absurd (omega (arith, zero)) })
-      by e is h begun whole = (outcome_of names e, is, h, record { begun = begun; whole = whole; done = λ zero. absurd (omega (arith, zero)) })
+      -- an ending is the outcome of a command that isn't done
+      ending_is : (e : Ending) → Is (outcome_of names e) → IsOrNotPut Is old new (outcome_of names e) × (code (outcome_of names e) ≢ 0)
+      ending_is (Found f) h = (h, (finding_apart f).0)
+      ending_is (Refusal r) h = (h, λ zero. omega (arith, zero, (refusal_between r).0))
+      ending_is _ h = (h, λ zero. cc)
 
   -- one that the layer below refuses
   pub refused : (names : List (List ℕ)) (e : Ending) (given input : Lists) (f : MoveFault) → outcome_of names e ≡ fault_outcome given f → given ≡ input → Is (fault_outcome input f)
@@ -34,45 +59,41 @@ module _ (Is : Outcome → Type 0) (old new : SinkState) (status : ℕ) where
   shown text h shows = by shows.status
     where
       by : (status ≡ 0) ⊎ ((status ≡ 6) × Rose old.faults new.faults) → EndsBy Is old new status
-      by (inl is) = (Done text, is, h, record { begun = shows.begun; whole = λ fine. shows.done is; done = λ zero. shows.done is })
-      by (inr (is, failed)) = (SinkFault text, is, (failed, h), record { begun = shows.begun; whole = λ fine. absurd (fine failed); done = λ zero. absurd (omega (arith, zero)) })
+      by (inl is) = record { outcome = Done text; is = is; so = h; says = record { begun = shows.begun; whole = λ fine. shows.done is; done = λ zero. shows.done is } }
+      by (inr (is, failed)) = record {
+        outcome = SinkFault text;
+        is = is;
+        so = (failed, h);
+        says = record { begun = shows.begun; whole = λ fine. absurd (fine failed); done = λ zero. absurd (omega (arith, zero)) };
+      }
 
-  -- Back
+  -- Back: what holds of each outcome
+  pub holds_by : EndsBy Is old new status → (P : Type 0) → ((o : Outcome) → Is o → P) → P
+  holds_by ends P to = by ends.outcome ends.so
+    where
+      by : (o : Outcome) → IsOrNotPut Is old new o → P
+      by (SinkFault text) h = to (Done text) h.1
+      by o h = to o h
 
-  module _ (ends : EndsBy Is old new status) where
-    -- what holds of each outcome
-    pub holds_by : (P : Type 0) → ((o : Outcome) → Is o → P) → P
-    holds_by P to = by ends.0 ends.2
-      where
-        by : (o : Outcome) → IsOrNotPut Is old new o → P
-        by (SinkFault text) h = to (Done text) h.1
-        by o h = to o h
+  -- with status 0, and with 6, it is done
+  pub done_by : EndsBy Is old new status → (status ≡ 0) ⊎ (status ≡ 6) → (text : List ℕ) × Is (Done text)
+  done_by ends (inl zero) = let (text, is) = zero_done ends.outcome (sym ends.is ∙ zero) in (text, subst (IsOrNotPut Is old new) is ends.so)
+  done_by ends (inr six) = let (text, is) = six_unput ends.outcome (sym ends.is ∙ six) in (text, (subst (IsOrNotPut Is old new) is ends.so).1)
 
-    -- with status 0, and with 6, it is done
-    pub done_by : (status ≡ 0) ⊎ (status ≡ 6) → (text : List ℕ) × Is (Done text)
-    done_by done = by ends.0 ends.1 ends.2 done
-      where
-        by : (o : Outcome) → status ≡ code o → IsOrNotPut Is old new o → (status ≡ 0) ⊎ (status ≡ 6) → (text : List ℕ) × Is (Done text)
-        by (Done text) at h done = (text, h)
-        by (SinkFault text) at h done = (text, h.1)
-        by o at h (inl zero) = absurd (omega (arith, at, zero))
-        by o at h (inr six) = absurd (omega (arith, at, six))
+  -- and with status 0 its text was put
+  pub put_by : EndsBy Is old new status → status ≡ 0 → (text : List ℕ) × Is (Done text) × Extends text old new
+  put_by ends zero =
+      let at : code ends.outcome ≡ 0 = sym ends.is ∙ zero in
+      let (text, is) = zero_done ends.outcome at in
+      (text, subst (IsOrNotPut Is old new) is ends.so, subst (λ (o : Outcome). Extends (text_of o) old new) is (ends.says.done at))
 
-    -- and with status 0 its text was put
-    pub put_by : status ≡ 0 → (text : List ℕ) × Is (Done text) × Extends text old new
-    put_by zero = by ends.0 ends.1 ends.2 ends.3
-      where
-        by : (o : Outcome) → status ≡ code o → IsOrNotPut Is old new o → Says old new o → (text : List ℕ) × Is (Done text) × Extends text old new
-        by (Done text) at h says = (text, h, says.done refl)
-        by o at h says = absurd (omega (arith, at, zero))
-
--- what is so for one reason is so for another
-pub ends_map : (Is So : Outcome → Type 0) (old new : SinkState) (status : ℕ) → ((o : Outcome) → Is o → So o) → EndsBy Is old new status → EndsBy So old new status
-ends_map Is So old new status to (o, at, h, says) = (o, at, by o h, says)
-  where
-    by : (o : Outcome) → IsOrNotPut Is old new o → IsOrNotPut So old new o
-    by (SinkFault text) h = (h.0, to (Done text) h.1)
-    by o h = to o h
+  -- what is so for one reason is so for another
+  pub ends_map : {So : Outcome → Type 0} → ((o : Outcome) → Is o → So o) → EndsBy Is old new status → EndsBy So old new status
+  ends_map {So = So} to ends = record { outcome = ends.outcome; is = ends.is; so = by ends.outcome ends.so; says = ends.says }
+    where
+      by : (o : Outcome) → IsOrNotPut Is old new o → IsOrNotPut So old new o
+      by (SinkFault text) h = (h.0, to (Done text) h.1)
+      by o h = to o h
 
 -- From files
 
@@ -81,10 +102,7 @@ abbrev pub IsUnread : Outcome → Type 0
 IsUnread out.FolderFault = Unit {0}
 IsUnread out.Memory = Unit {0}
 IsUnread (out.NoFile word) = Unit {0}
-IsUnread (out.Blamed b name) = Unit {0}
-IsUnread (out.Refused f r w) = Unit {0}
-IsUnread (out.NotSpelled f line) = Unit {0}
-IsUnread (out.TooLarge shifts) = Unit {0}
+IsUnread (out.Found f) = Unit {0}
 IsUnread _ = ⊥
 
 module _ (names : List (List ℕ)) where
@@ -92,10 +110,7 @@ module _ (names : List (List ℕ)) where
   is_unread old new Stops FolderFault h = tt
   is_unread old new Stops Memory h = tt
   is_unread old new Stops (NoFile place) h = tt
-  is_unread old new Stops (Blamed b name) h = tt
-  is_unread old new Stops (Refused f r w) h = tt
-  is_unread old new Stops (NotSpelled f line) h = tt
-  is_unread old new Stops (TooLarge shifts) h = tt
+  is_unread old new Stops (Found f) h = tt
   is_unread old new Stops _ h = absurd h
 
   -- what stops a function over files is the cause of a command's outcome
@@ -103,23 +118,8 @@ module _ (names : List (List ℕ)) where
   files_unread old new steps FolderFault h = h
   files_unread old new steps Memory h = tt
   files_unread old new steps (NoFile place) h = h
-  files_unread old new steps (Blamed b name) h = h
-  files_unread old new steps (Refused f r w) h = h
-  files_unread old new steps (NotSpelled f line) h = h
-  files_unread old new steps (TooLarge shifts) h = h
+  files_unread old new steps (Found f) h = h
   files_unread old new steps _ h = absurd h
-
-  module _ (k : Call) (form : Form) (has : HasFiles form) (Stops : Files → Outcome → Type 0)
-      (to : (o : Outcome) → IfSome k.before.folder.files (λ files. Stops files o) → CauseIn k.before form o) where
-    pub world_unread : (e : Ending) → StopsFrom k.before.folder k.after.folder names Stops e → CauseOf k form (outcome_of names e)
-    world_unread FolderFault h = (h, has)
-    world_unread Memory h = tt
-    world_unread (NoFile place) h = to (out.NoFile _) h
-    world_unread (Blamed b name) h = to (out.Blamed b _) h
-    world_unread (Refused f r w) h = to (out.Refused f r w) h
-    world_unread (NotSpelled f line) h = to (out.NotSpelled f line) h
-    world_unread (TooLarge shifts) h = to (out.TooLarge shifts) h
-    world_unread _ h = absurd h
 
 -- a command over files alone is one of all
 pub files_cause : (k : Call) (form : Form) (steps : Files → Step (List ℕ)) → HasFiles form → ((o : Outcome) → IfSome k.before.folder.files (λ files. IsEndOf (steps files) o) → CauseIn k.before form o)
@@ -141,16 +141,29 @@ one_changed old new name same = subst (λ (after : Option Files). IfSome old.fil
 -- Words
 
 -- the words are those of one command
-pub ends_of : (k : Call) (words : List (List ℕ)) (status : ℕ) → EndsAs k words status → (form : Form) → IsListed words form → FormEndsAs k form status
-ends_of k words status (inl unknown) form l = absurd (unknown.unlisted form l)
-ends_of k words status (inr (other, m, ends)) form l = subst (λ (f : Form). FormEndsAs k f status) (one_form other form (sym m.spelled ∙ l.spelled)) ends
+pub ends_of : {k : Call} {words : List (List ℕ)} {status : ℕ} → EndsAs k words status → (form : Form) → IsListed words form → FormEndsAs k form status
+ends_of (inl unknown) form l = absurd (unknown.unlisted form l)
+ends_of {k = k} {status = status} (inr (other, m, ends)) form l = subst (λ (f : Form). FormEndsAs k f status) (one_form other form (sym m.spelled ∙ l.spelled)) ends
 
 -- where the files are told, so is the cause
 pub told_at : (P : Files → Type 0) (before : Option Files) (files : Files) → before ≡ Some files → IfSome before P → P files
 told_at P None files e h = absurd cc
 told_at P (Some f) files e h = let g : f ≡ files = cc in subst P g h
 
-module _ (k : Call) (files : Files) (is : k.before.folder.files ≡ Some files) where
-  pub cause_at : (form : Form) (o : Outcome) → CauseIn k.before form o → FormCause files k.before.store form o
-  cause_at (Rehearse disks per_pair limit) o h = h
-  cause_at form o h = told_at (λ f. FormCause f k.before.store form o) k.before.folder.files files is h
+pub cause_at : (k : Call) (files : Files) → k.before.folder.files ≡ Some files → (form : Form) (o : Outcome) → CauseIn k.before form o → FormCause files k.before.store form o
+cause_at k files is (Rehearse disks per_pair limit) o h = h
+cause_at k files is form o h = told_at (λ f. FormCause f k.before.store form o) k.before.folder.files files is h
+
+-- How a command ends where neither folder nor sink nor store fails: by an outcome whose cause holds, or for want of memory
+pub ends_so : {k : Call} {words : List (List ℕ)} {status : ℕ} → EndsAs k words status → (files : Files) → k.before.folder.files ≡ Some files → (form : Form) → IsListed words form
+    → (FolderFailed k → ⊥) → (SinkFailed k → ⊥) → ((before : List ℕ) → StoreFailed k × IsBegun k form before → ⊥)
+    → ((o : Outcome) × FormCause files k.before.store form o × (status ≡ code o)) ⊎ (status ≡ 7)
+ends_so {k = k} {status = status} ends files is form l fine quiet sound = let e = ends_of ends form l in by e.outcome e.is e.so
+  where
+    by : (o : Outcome) → status ≡ code o → IsOrNotPut (WorldEnds k form) k.before.sink k.after.sink o → ((o : Outcome) × FormCause files k.before.store form o × (status ≡ code o)) ⊎ (status ≡ 7)
+    by out.Unlisted at h = absurd h.cause
+    by out.FolderFault at h = absurd (fine h.cause.0)
+    by (StoreFault before) at h = absurd (sound before h.cause)
+    by (SinkFault text) at h = absurd (quiet h.0)
+    by out.Memory at h = inr at
+    by o at h = inl (o, cause_at k files is form o h.cause, at)

@@ -1,26 +1,20 @@
 -- Each step of a command is exact, so what the cause of an outcome holds for comes.
-use Rattle.std.proofs.Common.{◌≡◌, ◌⊎◌, ◌+◌, inl, inr, ℕ, List, Option, Some, None, refl, sym, ◌∙◌, subst, arith, take}
-use Rattle.mig_top.proofs.Common.{After, Audit, Bodies, Call, Cert, Check, DoesNotRun, Drill, EndsAs, Files, Fill, Form, FormCause, Halt, HoldsFirst, IsAudit, IsInput, IsLayoutRefusal, IsListed}
-use Rattle.mig_top.proofs.Common.{IsMissing, IsNoCert, IsNoPlan, IsOrNotPut, IsRehearsed, IsSomeAnd, IsTaskOf, IsTooLarge, LayoutBodies, Lists, MAX_FILE_BYTES, Move, Names, Outcome, Plan}
-use Rattle.mig_top.proofs.Common.{Rehearse, Resume, Runs, Shift, SinkFault, StoreFailed, StoreFault, Task, WorldEnds, case_in, checks, code, done_text, drills, file, filled_text, finds}
-use Rattle.mig_top.proofs.Common.{fits_drill, halted_text, judges, layout_in, loads, loads_input, loads_layout, loads_plan, reads_cert, reads_input, reads_layout, reads_plan, reads_task, task_in}
-use Rattle.mig_base.proofs.Listed.{one_input, Accepted-IsInput}
+use Rattle.mig_top.proofs.Common.{Accepted, Accepted-IsInput, After, Audit, Blamed, Bodies, Call, Cert, Check, ComesExactly, DoesNotRun, Drill, EndsAs, FileKind, Files, Fill, Finding, FindsTask, Form}
+use Rattle.mig_top.proofs.Common.{FormCause, Halt, HoldsFirst, IsAudit, IsBegun, IsInput, IsLastLayout, IsListed, IsListing, IsMissing, IsNoCert, IsNoPlan, IsRefusalBy, IsRehearsed, IsRight}
+use Rattle.mig_top.proofs.Common.{IsSomeAnd, IsTooLarge, IsWrong, LayoutBodies, List, ListingRefusedAs, Lists, MAX_DRILL_SHIFTS, MAX_FILE_BYTES, Move, Names, NoFile, None, NotSpelled, Option, Outcome}
+use Rattle.mig_top.proofs.Common.{Plan, PlanBodies, Reader, Refused, RefusedAs, Rehearse, Resume, Roomy, Runs, Serves, Shift, Some, Stands, StoreFailed, Task, TaskNames, TooLarge, Why, arith, case_in}
+use Rattle.mig_top.proofs.Common.{checks, code, done_text, drills, file, filled_text, finding_code, finds, finds_or, fits_drill, halted_text, inl, input_in, inr, judges, layout_in, length, loads}
+use Rattle.mig_top.proofs.Common.{loads_input, loads_layout, loads_plan, one_input, reads_cert, reads_input, reads_layout, reads_plan, reads_task, refl, roomy, runs, shifts_of, subst, sym, take}
+use Rattle.mig_top.proofs.Common.{task_in, ℕ, ⊎_elim, ◌+◌, ◌∙◌, ◌≡◌, ◌≤◌}
 use Rattle.mig_base.proofs.Spelling.{same_plan}
 use Rattle.mig_base.proofs.CertSpelling.{same_cert}
 use Rattle.mig_base.proofs.BlameOrder.{right_is_blameless}
 use Rattle.mig_check.proofs.BlameCases.{runs_blameless}
 use Rattle.mig_words.specs.declared.endings.TextFile.TheVariants as text_file
-use Rattle.mig_words.specs.Outcomes.{Blamed, Unlisted, Refused, FolderFault, Memory, NotSpelled, TooLarge, NoFile}
-use Rattle.mig_top.specs.Causes.{IsLastLayout, IsWrong}
-use Rattle.mig_top.specs.Ends.{IsBegun, ComesExactly, Serves}
-use Rattle.mig_top.specs.Loads.{IsRefusal, PlanBodies, Stands, input_in}
-use Rattle.mig_top.specs.Loads.{runs}
-use Rattle.mig_top.proofs.EndsOf.{cause_at, ends_of}
-use Rattle.mig_top.proofs.HaltExact.{stands_exact}
+use Rattle.mig_top.proofs.EndsOf.{ends_so}
+use Rattle.mig_top.proofs.StoreExact.{fills_exact, resumes_exact, stands_exact, starts_exact}
 use Rattle.mig_top.proofs.Layouts.{one_listing}
-use Rattle.mig_top.proofs.MoveExact.{resumes_exact, starts_exact}
-use Rattle.mig_top.proofs.StoreExact.{fills_exact}
-use Rattle.mig_top.proofs.Steps.{IsExact, HaveOneStatus, by_status, done_one, exact_one, one_value, then_exact, then_one}
+use Rattle.mig_top.proofs.Steps.{IsExact, HaveOneStatus, by_status, done_one, exact_one, one_value, or_exact, then_exact, then_one}
 
 -- Loading
 
@@ -63,124 +57,102 @@ plan_loads names files =
 
 -- Reading
 
-input_exact : (bodies : Bodies) → IsExact (reads_input bodies)
-input_exact bodies = record { one_found = one_input bodies; not_both = apart; one_stop = by_status (IsRefusal bodies) 3 status }
+-- one that finds what files stand for, or refuses one of them
+refused_exact : (Is : Lists → Type 0) (IsRefused : FileKind → ℕ → Why → Type 0) → ((a b : Lists) → Is a → Is b → a ≡ b)
+    → ((f : FileKind) (n : ℕ) (w : Why) → IsRefused f n w → (input : Lists) → Is input → ⊥) → IsExact (finds_or Is (IsRefusalBy IsRefused))
+refused_exact Is IsRefused one apart = or_exact Is (IsRefusalBy IsRefused) 3 one wrong
   where
-    apart : (input : Lists) (o : Outcome) → (reads_input bodies).Passes input → IsRefusal bodies o → ⊥
-    apart input (Refused f n w) h k = h.sound f n w k.fault
-    apart input _ h k = k
+    wrong : (f : Finding) → IsRefusalBy IsRefused f → (finding_code f ≡ 3) × ((input : Lists) → Is input → ⊥)
+    wrong (Refused f n w) h = (refl, apart f n w h)
+    wrong _ h = absurd h
 
-    status : (o : Outcome) → IsRefusal bodies o → code o ≡ 3
-    status (Refused f n w) h = refl
-    status _ h = absurd h
+input_exact : (reader : Reader) (bodies : Bodies) → IsExact (reads_input reader bodies)
+input_exact Roomy bodies = refused_exact (Accepted bodies) (RefusedAs bodies) (one_input bodies) (λ f n w h input k. k.sound f n w h.fault)
+
+-- and what they read is as every input is
+accepted_valid : (reader : Reader) (bodies : Bodies) (input : Lists) → (reads_input reader bodies).Passes input → IsInput input
+accepted_valid Roomy bodies input accepted = Accepted-IsInput bodies input accepted
 
 layout_exact : (bodies : LayoutBodies) → IsExact (reads_layout bodies)
-layout_exact bodies = record { one_found = one_listing bodies.disks bodies.now; not_both = apart; one_stop = by_status (IsLayoutRefusal bodies) 3 status }
-  where
-    apart : (input : Lists) (o : Outcome) → (reads_layout bodies).Passes input → IsLayoutRefusal bodies o → ⊥
-    apart input (Refused f n w) h k = h.sound f n w k.fault
-    apart input _ h k = k
-
-    status : (o : Outcome) → IsLayoutRefusal bodies o → code o ≡ 3
-    status (Refused f n w) h = refl
-    status _ h = absurd h
+layout_exact bodies =
+    refused_exact (IsListing bodies.disks bodies.now) (ListingRefusedAs bodies.disks bodies.now) (one_listing bodies.disks bodies.now) (λ f n w h input k. k.sound f n w h.fault)
 
 module _ (bytes : List ℕ) (input : Lists) (valid : IsInput input) where
   plan_exact : IsExact (reads_plan bytes input)
-  plan_exact = record { one_found = λ a b h k. same_plan input valid a b bytes h.0 k.0; not_both = apart; one_stop = by_status (IsNoPlan bytes input) 10 status }
+  plan_exact = or_exact (reads_plan bytes input).Passes (IsNoPlan bytes input) 10 (λ a b h k. same_plan input valid a b bytes h.0 k.0) wrong
     where
-      apart : (rounds : List (List Shift)) (o : Outcome) → (reads_plan bytes input).Passes rounds → IsNoPlan bytes input o → ⊥
-      apart rounds (NotSpelled text_file.Plan line) h k = let long = k.no_plan rounds h.0 in omega (arith, long, h.1)
-      apart rounds _ h k = k
-
-      status : (o : Outcome) → IsNoPlan bytes input o → code o ≡ 10
-      status (NotSpelled text_file.Plan line) h = refl
-      status _ h = absurd h
+      wrong : (f : Finding) → IsNoPlan bytes input f → (finding_code f ≡ 10) × ((rounds : List (List Shift)) → (reads_plan bytes input).Passes rounds → ⊥)
+      wrong (NotSpelled text_file.Plan line) h = (refl, λ rounds k. let long = h.no_plan rounds k.0 in omega (arith, long, k.1))
+      wrong _ h = absurd h
 
   cert_exact : IsExact (reads_cert bytes input)
-  cert_exact = record { one_found = λ a b h k. same_cert input valid a b bytes h.0 k.0; not_both = apart; one_stop = by_status (IsNoCert bytes input) 10 status }
+  cert_exact = or_exact (reads_cert bytes input).Passes (IsNoCert bytes input) 10 (λ a b h k. same_cert input valid a b bytes h.0 k.0) wrong
     where
-      apart : (cert : Cert) (o : Outcome) → (reads_cert bytes input).Passes cert → IsNoCert bytes input o → ⊥
-      apart cert (NotSpelled text_file.Cert line) h k = let long = k.no_cert cert h.0 in omega (arith, long, h.1)
-      apart cert _ h k = k
-
-      status : (o : Outcome) → IsNoCert bytes input o → code o ≡ 10
-      status (NotSpelled text_file.Cert line) h = refl
-      status _ h = absurd h
+      wrong : (f : Finding) → IsNoCert bytes input f → (finding_code f ≡ 10) × ((cert : Cert) → (reads_cert bytes input).Passes cert → ⊥)
+      wrong (NotSpelled text_file.Cert line) h = (refl, λ cert k. let long = h.no_cert cert k.0 in omega (arith, long, k.1))
+      wrong _ h = absurd h
 
 runs_exact : (input : Lists) (rounds : List (List Shift)) → IsExact (runs input rounds)
-runs_exact input rounds = record { one_found = λ a b h k. refl; not_both = apart; one_stop = by_status (DoesNotRun input rounds) 1 status }
+runs_exact input rounds = or_exact (λ _. Runs input rounds) (DoesNotRun input rounds) 1 (λ a b h k. refl) wrong
   where
-    apart : (u : Unit {0}) (o : Outcome) → (runs input rounds).Passes u → DoesNotRun input rounds o → ⊥
-    apart u (Blamed b name) h k = k.1 (runs_blameless input rounds h b k.0)
-    apart u _ h k = k
+    wrong : (f : Finding) → DoesNotRun input rounds f → (finding_code f ≡ 1) × ((u : Unit {0}) → Runs input rounds → ⊥)
+    wrong (Blamed b name) h = (refl, λ u ran. h.1 (runs_blameless input rounds ran b h.0))
+    wrong _ h = absurd h
 
-    status : (o : Outcome) → DoesNotRun input rounds o → code o ≡ 1
-    status (Blamed b name) h = refl
-    status _ h = absurd h
-
-task_exact : (bodies : PlanBodies) → IsExact (reads_task bodies)
-task_exact bodies =
-    then_exact _ (input_exact bodies.input) _ (λ input accepted.
-    then_exact _ (plan_exact bodies.plan input (Accepted-IsInput bodies.input input accepted)) _ (λ rounds _.
+task_exact : (reader : Reader) (bodies : PlanBodies) → IsExact (reads_task reader bodies)
+task_exact reader bodies =
+    then_exact _ (input_exact reader bodies.input) _ (λ input accepted.
+    then_exact _ (plan_exact bodies.plan input (accepted_valid reader bodies.input input accepted)) _ (λ rounds _.
     then_exact _ (runs_exact input rounds) _ (λ _ _.
     one_value _)))
 
 -- In a folder
 
 pub input_in_exact : (names : Names) (files : Files) → IsExact (input_in names files)
-input_in_exact names files = then_exact _ (input_loads names files) _ (λ bodies _. input_exact bodies)
+input_in_exact names files = then_exact _ (input_loads names files) _ (λ bodies _. input_exact Roomy bodies)
 
 pub layout_in_exact : (disks now : List ℕ) (files : Files) → IsExact (layout_in disks now files)
 layout_in_exact disks now files = then_exact _ (layout_loads disks now files) _ (λ bodies _. layout_exact bodies)
 
-pub task_in_exact : (names : Names) (files : Files) → IsExact (task_in names files)
-task_in_exact names files = then_exact _ (plan_loads names files) _ (λ bodies _. task_exact bodies)
+pub task_in_exact : (names : TaskNames) (files : Files) → IsExact (task_in names files)
+task_in_exact names files = then_exact _ (plan_loads names.files files) _ (λ bodies _. task_exact names.reader bodies)
 
 -- what files stand for is as every input is, and the plan of a task runs
 pub is_input : (files : Files) (names : Names) (input : Lists) → Stands files names input → IsInput input
-is_input files names input h = Accepted-IsInput h.0 input h.2
+is_input files names input h = Accepted-IsInput h.bodies input h.accepted
 
-pub is_task : (files : Files) (names : Names) (task : Task) → IsTaskOf files names task → IsInput task.input × Runs task.input task.plan
+pub is_task : (files : Files) (names : TaskNames) (task : Task) → FindsTask files names task → IsInput task.input × Runs task.input task.plan
 is_task files names task (bodies, there, (input, accepted, (rounds, spelled, (u, ran, is)))) =
-    subst (λ (t : Task). IsInput t.input × Runs t.input t.plan) (sym is) (Accepted-IsInput bodies.input input accepted, ran)
+    subst (λ (t : Task). IsInput t.input × Runs t.input t.plan) (sym is) (accepted_valid names.reader bodies.input input accepted, ran)
 
 -- The other steps
 
 drill_exact : (rounds : List (List Shift)) → IsExact (fits_drill rounds)
-drill_exact rounds = record { one_found = λ a b h k. refl; not_both = apart; one_stop = by_status (IsTooLarge rounds) 11 status }
+drill_exact rounds = or_exact (λ _. length (shifts_of rounds) ≤ MAX_DRILL_SHIFTS) (IsTooLarge rounds) 11 (λ a b h k. refl) wrong
   where
-    apart : (u : Unit {0}) (o : Outcome) → (fits_drill rounds).Passes u → IsTooLarge rounds o → ⊥
-    apart u (TooLarge shifts) h k = omega (arith, h, k.0)
-    apart u _ h k = k
-
-    status : (o : Outcome) → IsTooLarge rounds o → code o ≡ 11
-    status (TooLarge shifts) h = refl
-    status _ h = absurd h
+    wrong : (f : Finding) → IsTooLarge rounds f → (finding_code f ≡ 11) × ((u : Unit {0}) → length (shifts_of rounds) ≤ MAX_DRILL_SHIFTS → ⊥)
+    wrong (TooLarge shifts) h = (refl, λ u few. omega (arith, few, h.0))
+    wrong _ h = absurd h
 
 judges_exact : (input : Lists) (rounds : List (List Shift)) (cert : Cert) → IsExact (judges input rounds cert)
-judges_exact input rounds cert = record { one_found = λ a b h k. h.says ∙ sym k.says; not_both = apart; one_stop = by_status (IsWrong input rounds cert) 1 status }
+judges_exact input rounds cert = or_exact (IsRight input rounds cert) (IsWrong input rounds cert) 1 (λ a b h k. h.says ∙ sym k.says) wrong
   where
-    apart : (text : List ℕ) (o : Outcome) → (judges input rounds cert).Passes text → IsWrong input rounds cert o → ⊥
-    apart text (Blamed b name) h k = right_is_blameless input rounds cert h.runs h.once h.holds b k.0.so
-    apart text _ h k = k
-
-    status : (o : Outcome) → IsWrong input rounds cert o → code o ≡ 1
-    status (Blamed b name) h = refl
-    status _ h = absurd h
+    wrong : (f : Finding) → IsWrong input rounds cert f → (finding_code f ≡ 1) × ((text : List ℕ) → IsRight input rounds cert text → ⊥)
+    wrong (Blamed b name) h = (refl, λ text right. right_is_blameless input rounds cert right.runs right.once right.holds b h.0.so)
+    wrong _ h = absurd h
 
 pub checks_exact : (names : Names) (cert : List ℕ) (files : Files) → IsExact (checks names cert files)
 checks_exact names cert files =
     then_exact _ (plan_loads names files) _ (λ bodies _.
     then_exact _ (loads_exact cert files) _ (λ last _.
-    then_exact _ (input_exact bodies.input) _ (λ input accepted. let valid = Accepted-IsInput bodies.input input accepted in
+    then_exact _ (input_exact Roomy bodies.input) _ (λ input accepted. let valid = Accepted-IsInput bodies.input input accepted in
     then_exact _ (plan_exact bodies.plan input valid) _ (λ rounds _.
     then_exact _ (cert_exact last input valid) _ (λ certificate _.
     judges_exact input rounds certificate)))))
 
 pub drills_exact : (names : Names) (files : Files) → IsExact (drills names files)
 drills_exact names files =
-    then_exact _ (task_in_exact names files) _ (λ task _.
+    then_exact _ (task_in_exact (roomy names) files) _ (λ task _.
     then_exact _ (drill_exact task.plan) _ (λ _ _.
     one_value _))
 
@@ -223,14 +195,7 @@ served k files (Halt names layout) before serves h = serves.0 h.0
 served k files _ before serves h = h.1
 
 -- as a clause of the top call
-pub comes_exactly : (k : Call) (words : List (List ℕ)) (status : ℕ) → EndsAs k words status → (files : Files) (form : Form) → k.before.folder.files ≡ Some files → IsListed words form
+pub comes_exactly : {k : Call} {words : List (List ℕ)} {status : ℕ} → EndsAs k words status → (files : Files) (form : Form) → k.before.folder.files ≡ Some files → IsListed words form
     → ComesExactly k files form status
-comes_exactly k words status ends files form is l p cause fine quiet serves = let e = ends_of k words status ends form l in by e.0 e.1 e.2
-  where
-    by : (o : Outcome) → status ≡ code o → IsOrNotPut (WorldEnds k form) k.before.sink k.after.sink o → (status ≡ code p) ⊎ (status ≡ 7)
-    by Unlisted at h = absurd h.cause
-    by FolderFault at h = absurd (fine h.cause.0)
-    by (StoreFault before) at h = absurd (served k files form before serves h.cause)
-    by (SinkFault text) at h = absurd (quiet h.0)
-    by Memory at h = inr at
-    by o at h = inl (at ∙ forms_exact k files form serves o p (cause_at k files is form o h.cause) cause)
+comes_exactly {k = k} ends files form is l p cause fine quiet serves =
+    ⊎_elim (λ e. inl (e.2 ∙ forms_exact k files form serves e.0 p e.1 cause)) (λ seven. inr seven) (ends_so ends files is form l fine quiet (λ before. served k files form before serves))

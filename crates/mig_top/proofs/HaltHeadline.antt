@@ -1,30 +1,24 @@
 -- What `halt` promises, from the causes of its outcomes and what they leave.
-use Rattle.std.proofs.Common.{◌≡◌, ◌⊎◌, inl, inr, ⊎_elim, true, ℕ, length, List, [], Option, Some, IfSome, IsSome, append-nil, map, refl, sym, ◌∙◌, ap, subst, arith}
+use Rattle.mig_top.proofs.Common.{AllMayHalt, AreFlights, AreOfTask, At, Call, Cell, ChangedOnly, Contents, Disk, Done, EndsAs, Extends, Files, FindsTask, FolderFailed, FolderFault, Found, Gate}
+use Rattle.mig_top.proofs.Common.{Halt, HaltLeaves, HaltsAll, HaltsInPart, HasContents, Head, Image, IsClosingCell, IsHaltCell, IsHalted, IsLayoutSaved, IsListed, IsOrNotPut, IsShown}
+use Rattle.mig_top.proofs.Common.{IsSomeAnd, IsSound, IsStandRefusal, IsState, IsTargetOf, IsUntouched, IsUnwritten, Lands, List, Lists, MayHalt, Memory, OthersStay, Outcome, Refusal}
+use Rattle.mig_top.proofs.Common.{SavesLayout, Says, Settles, SinkFailed, SinkFault, Slot, Some, Spot, State, StoreFailed, StoreFault, Task, TaskNames, WorldEnds, WroteNothing, [], ap, append-nil}
+use Rattle.mig_top.proofs.Common.{arith, code, count_most, count_of, disk_at, ended, events_none, flights, halted_text, inl, inr, is_armed, is_one, length, map, refl, same_image, same_none}
+use Rattle.mig_top.proofs.Common.{same_wider, settles_land, slot_of, stands, subst, sym, task_in, true, ℕ, ⊎_elim, ◌∙◌, ◌≡◌, ◌⊎◌}
 use Rattle.std.proofs.lemmas.List.Sorted.{IsPermutation-refl}
-use Rattle.mig_top.proofs.Common.{AreFlights, AreOfTask, At, Call, Cell, ChangedOnly, Contents, Disk, Done, EndsAs, Extends, Files, FolderFailed, Form, Gate, Halt, HaltsAll, HaltsInPart, Head}
-use Rattle.mig_top.proofs.Common.{Image, IsClosingCell, IsHaltCell, IsLayoutSaved, IsListed, IsOrNotPut, IsShown, IsSomeAnd, IsSound, IsStandRefusal, IsState, IsTargetOf, IsTaskOf, IsUntouched}
-use Rattle.mig_top.proofs.Common.{IsUnwritten, Lands, Lists, MayHalt, Names, OtherPlan, OthersStay, Outcome, SavesLayout, Says, Settles, SinkFailed, SinkFault, Spot, State, StoreFailed}
-use Rattle.mig_top.proofs.Common.{StoreFault, Task, WorldEnds, WroteNothing, code, count_most, count_of, flights, halted_text, is_armed, is_one, same_image, same_wider, settles_land, slot_of}
-use Rattle.mig_top.proofs.Common.{stands, task_in}
-use Rattle.mig_base.specs.declared.cells.Cell.TheVariants.{Slot}
-use Rattle.mig_base.specs.Arrivals.{IsHalted}
-use Rattle.mig_base.specs.Flights.{ended}
-use Rattle.mig_base.specs.InputLists.{disk_at}
 use Rattle.mig_base.specs.RoundEvents.{Adds, BeginsRun}
-use Rattle.mig_base.specs.Safety.{HasContents}
 use Rattle.mig_base.proofs.ArrivalLaws.{idle_sound}
-use Rattle.mig_base.proofs.StoreSteps.{events_none, same_none}
-use Rattle.mig_words.specs.Outcomes.{FolderFault, Memory, NotStarted}
 use Rattle.mig_top.specs.HaltHeadline.{BeginsAfter, HaltsWell}
-use Rattle.mig_top.specs.HaltLeaves.{AllMayHalt, HaltLeaves}
-use Rattle.mig_top.proofs.EndsOf.{ends_of, one_changed, told_at}
+use Rattle.mig_top.proofs.EndsOf.{ends_of, finding_apart, one_changed, refusal_between, told_at}
 use Rattle.mig_top.proofs.Exactness.{task_in_exact}
-use Rattle.mig_top.proofs.HaltExact.{named_refused}
+use Rattle.mig_top.proofs.StoreExact.{named_refused}
 use Rattle.mig_top.proofs.Halting.{halt_rest, saved_only}
-use Rattle.mig_top.proofs.InFlight.{journal_found, status_so}
+use Rattle.mig_top.proofs.MoveHeadline.{status_so}
+use Rattle.mig_top.proofs.StoreExact.{journal_landed}
 use Rattle.mig_top.proofs.MoveHeadline.{same_task}
 use Rattle.mig_top.proofs.Steps.{follow, only_done}
 use Rattle.mig_top.proofs.StoreEnds.{quiet, untouched_quiet}
+use Rattle.mig_words.specs.declared.endings.StoreRefusal.TheVariants as refusal
 
 -- Where nothing was written
 
@@ -80,24 +74,34 @@ closing_cell : (task : Task) (k : ℕ) (cell : Cell) → IsClosingCell task k ce
 closing_cell task k cell (inl gate) = inl (inr (inl gate))
 closing_cell task k cell (inr free) = inr (free.0, free.1, free.3)
 
--- The promise, by what is left
-
-abbrev pub Completes : Call → Task → ℕ → Type 0
-Completes k task status = AreFlights (flights k.before.store) → is_armed k.before.store.reads ≡ true → k.before.store.reads Head ≡ Some task.digest
-    → (FolderFailed k → ⊥) → (SinkFailed k → ⊥) → (StoreFailed k → ⊥) → (status ≡ 0) ⊎ (status ≡ 7)
-
-module _ (k : Call) (files : Files) (task : Task) (layout : List ℕ) (status : ℕ) (law : IsState k.before.store) (is : k.before.folder.files ≡ Some files) (halts : Completes k task status) where
+module _ {k : Call} {words : List (List ℕ)} {status : ℕ} (ends : EndsAs k words status) (law : IsState k.before.store) (files : Files) (names : TaskNames) (layout : List ℕ) (task : Task)
+    (is : k.before.folder.files ≡ Some files) (l : IsListed words (Halt names layout)) (holds : FindsTask files names task) where
   abbrev old : State
   old = k.before.store
 
   abbrev new : State
   new = k.after.store
 
+  -- Completeness
+
+  unrefused : AreFlights (flights old) → is_armed old.reads ≡ true → old.reads Head ≡ Some task.digest → (o : Outcome) → IsShown task.input old (IsStandRefusal task) o → ⊥
+  unrefused are armed named o h =
+      let same : h.image Head ≡ Some task.digest = journal_landed old h.image h.landed are Head refl ∙ named in
+      named_refused task h.image (ap is_one (journal_landed old h.image h.landed are Gate refl) ∙ armed)
+      (rw same refl) (rw same refl) h.fault h.shows
+
+  completes : AreFlights (flights old) → is_armed old.reads ≡ true → old.reads Head ≡ Some task.digest → (FolderFailed k → ⊥) → (SinkFailed k → ⊥) → (StoreFailed k → ⊥) → (status ≡ 0) ⊎ (status ≡ 7)
+  completes are armed named =
+      status_so ends files is (Halt names layout) l (λ o h. only_done (stands task old) (λ found text. text ≡ halted_text task.plan found)
+      (unrefused are armed named) o (follow (task_in names files) (task_in_exact names files) (halt_rest old) task holds o h))
+
+  -- The promise, by what is left
+
   others_kept : ChangedOnly layout k.before.folder k.after.folder → IsSomeAnd k.after.folder.files (OthersStay layout files)
   others_kept changed = told_at (λ f. IsSomeAnd k.after.folder.files (OthersStay layout f)) k.before.folder.files files is changed
 
-  quiet_well : IsQuiet old new → ChangedOnly layout k.before.folder k.after.folder → ((status ≡ 0) ⊎ (status ≡ 6) → ⊥) → HaltsWell k files task layout status
-  quiet_well q changed not = record {
+  quiet_end : IsQuiet old new → ChangedOnly layout k.before.folder k.after.folder → ((status ≡ 0) ⊎ (status ≡ 6) → ⊥) → HaltsWell k files task layout status
+  quiet_end q changed not = record {
     rounds = count_of (length task.plan) old.reads;
     found = record { most = count_most (length task.plan) old.reads; found = λ tells are. refl };
     safe = λ contents tells may image left. inl (q.wrote image left);
@@ -110,108 +114,80 @@ module _ (k : Call) (files : Files) (task : Task) (layout : List ℕ) (status : 
     cells = λ image left. (image, q.wrote image left, same_none (IsHaltCell task.input task.plan) image);
     ended = q.ended;
     told = λ zero. absurd (not (inl zero));
-    halts = halts;
+    halts = completes;
     next = λ done. absurd (not done);
   }
 
-  module _ (rounds : ℕ) (part : HaltsInPart task old new rounds) (saves : SavesLayout task layout rounds k.before.folder k.after.folder)
-      (whole : (status ≡ 0) ⊎ (status ≡ 6) → HaltsAll task old new rounds) (said : status ≡ 0 → Extends (halted_text task.plan rounds) k.before.sink k.after.sink) where
-    is_saved : IsSomeAnd k.after.folder.files (IsLayoutSaved task layout rounds files)
-    is_saved = told_at (λ f. IsSomeAnd k.after.folder.files (IsLayoutSaved task layout rounds f)) k.before.folder.files files is saves
+  -- the plan was closed in part, or whole, where the command is done; and with status 0 its text was put
+  pub record Closes (t : Task) (rounds : ℕ) : Type 0 where
+    pub part : HaltsInPart t old new rounds
+    pub saves : SavesLayout t layout rounds k.before.folder k.after.folder
+    pub whole : (status ≡ 0) ⊎ (status ≡ 6) → HaltsAll t old new rounds
+    pub said : status ≡ 0 → Extends (halted_text t.plan rounds) k.before.sink k.after.sink
 
-    written_well : HaltsWell k files task layout status
-    written_well = record {
-      rounds = rounds;
-      found = part.found;
-      safe = λ contents tells may image left. ⊎_elim (λ past. inl (law.only_now image past)) (λ safe. inr safe) ((part.safe contents tells may).since old.moment image (omega arith) left);
-      again = λ contents tells images all. inr (rounds, part.again contents tells (all_settle task contents old images all));
-      halted = λ done contents tells may. (whole done).halted contents tells may;
-      settled = λ done. (whole done).settled;
-      saved = λ done. is_saved;
-      first = inr is_saved;
-      others = others_kept (saved_only task layout rounds k.before.folder k.after.folder saves);
-      cells = λ image left. ⊎_elim (λ past. (image, law.only_now image past, same_none (IsHaltCell task.input task.plan) image))
-          (λ from. (from.0, from.1, same_wider (IsClosingCell task rounds) (IsHaltCell task.input task.plan) (closing_cell task rounds) from.0 image from.2))
-          (part.change.2.time.since old.moment image (omega arith) left);
-      ended = λ some. (part.change.0, part.change.1, part.change.2.events);
-      told = said;
-      halts = halts;
-      next = λ done contents tells may begun after. begins_well task rounds contents new.reads ((whole done).halted contents tells may) begun after;
-    }
-
-module _ (k : Call) (words : List (List ℕ)) (status : ℕ) (ends : EndsAs k words status) (law : IsState k.before.store) (files : Files) (names : Names) (layout : List ℕ) (task : Task)
-    (is : k.before.folder.files ≡ Some files) (l : IsListed words (Halt names layout)) (holds : IsTaskOf files names task) where
-  abbrev form : Form
-  form = Halt names layout
-
-  -- Completeness
-
-  unrefused : AreFlights (flights k.before.store) → is_armed k.before.store.reads ≡ true → k.before.store.reads Head ≡ Some task.digest → (o : Outcome)
-      → IsShown task.input k.before.store (IsStandRefusal task) o → ⊥
-  unrefused are armed named o h =
-      let same : h.image Head ≡ Some task.digest = journal_found k.before.store h.image are h.found Head refl ∙ named in
-      named_refused task h.image (ap is_one (journal_found k.before.store h.image are h.found Gate refl) ∙ armed)
-      (subst IsSome (sym same) refl) (subst (λ (o : Option (List ℕ)). IfSome o (λ kept. kept ≡ task.digest)) (sym same) refl) h.fault h.shows
-
-  completes : Completes k task status
-  completes are armed named =
-      status_so k words status ends files is form l (λ o h. only_done (stands task k.before.store) (λ found text. text ≡ halted_text task.plan found)
-      (unrefused are armed named) o (follow (task_in names files) (task_in_exact names files) (halt_rest k.before.store) task holds o h))
+  written_well : (rounds : ℕ) → Closes task rounds → HaltsWell k files task layout status
+  written_well rounds c =
+      let saved = told_at (λ f. IsSomeAnd k.after.folder.files (IsLayoutSaved task layout rounds f)) k.before.folder.files files is c.saves in
+      record {
+        rounds = rounds;
+        found = c.part.found;
+        safe = λ contents tells may image left. ⊎_elim (λ past. inl (law.only_now image past)) (λ safe. inr safe) ((c.part.safe contents tells may).since old.moment image (omega arith) left);
+        again = λ contents tells images all. inr (rounds, c.part.again contents tells (all_settle task contents old images all));
+        halted = λ done contents tells may. (c.whole done).halted contents tells may;
+        settled = λ done. (c.whole done).settled;
+        saved = λ done. saved;
+        first = inr saved;
+        others = others_kept (saved_only task layout rounds k.before.folder k.after.folder c.saves);
+        cells = λ image left. ⊎_elim (λ past. (image, law.only_now image past, same_none (IsHaltCell task.input task.plan) image))
+            (λ from. (from.0, from.1, same_wider (IsClosingCell task rounds) (IsHaltCell task.input task.plan) (closing_cell task rounds) from.0 image from.2))
+            (c.part.change.2.time.since old.moment image (omega arith) left);
+        ended = λ some. (c.part.change.0, c.part.change.1, c.part.change.2.events);
+        told = c.said;
+        halts = completes;
+        next = λ done contents tells may begun after. begins_well task rounds contents new.reads ((c.whole done).halted contents tells may) begun after;
+      }
 
   -- The ends
 
-  same : (t : Task) → AreOfTask k.before.folder names t → t ≡ task
-  same = same_task k files names task is holds
+  written_end : (t : Task) → AreOfTask k.before.folder names t → (rounds : ℕ) → Closes t rounds → HaltsWell k files task layout status
+  written_end t are rounds c = written_well rounds (subst (λ (u : Task). Closes u rounds) (same_task k files names task is holds t are) c)
 
-  abbrev Written : Task → ℕ → Type 0
-  Written t found = HaltsInPart t k.before.store k.after.store found × SavesLayout t layout found k.before.folder k.after.folder
-
-  quiet_end : IsQuiet k.before.store k.after.store → ChangedOnly layout k.before.folder k.after.folder → ((status ≡ 0) ⊎ (status ≡ 6) → ⊥) → HaltsWell k files task layout status
-  quiet_end = quiet_well k files task layout status law is completes
-
-  written_end : (t : Task) → AreOfTask k.before.folder names t → (found : ℕ) → Written t found → ((status ≡ 0) ⊎ (status ≡ 6) → ⊥) → HaltsWell k files task layout status
-  written_end t are found w not =
-      let h = subst (λ (u : Task). Written u found) (same t are) w in
-      written_well k files task layout status law is completes found h.0 h.1 (λ done. absurd (not done)) (λ zero. absurd (not (inl zero)))
-
-  -- it is done, the layout is saved, and with status 0 its text was put
-  abbrev Ended : ℕ → Task → Type 0
-  Ended found t = HaltsAll t k.before.store k.after.store found × SavesLayout t layout found k.before.folder k.after.folder
-      × (status ≡ 0 → Extends (halted_text t.plan found) k.before.sink k.after.sink)
-
-  done_end : (t : Task) → AreOfTask k.before.folder names t → (found : ℕ) → HaltsAll t k.before.store k.after.store found → SavesLayout t layout found k.before.folder k.after.folder
-      → (status ≡ 0 → Extends (halted_text t.plan found) k.before.sink k.after.sink) → HaltsWell k files task layout status
-  done_end t are found all saves said = by (subst (Ended found) (same t are) (all, saves, said))
-    where
-      by : Ended found task → HaltsWell k files task layout status
-      by h = written_well k files task layout status law is completes found h.0.part h.1 (λ done. h.0) h.2
-
-  unwritten_end : IsUnwritten k.before.store k.after.store → IsQuiet k.before.store k.after.store
-  unwritten_end = ⊎_elim (by_untouched k.before.store k.after.store law) (by_settles k.before.store k.after.store law)
+  unwritten_end : IsUnwritten old new → IsQuiet old new
+  unwritten_end = ⊎_elim (by_untouched old new law) (by_settles old new law)
 
   neither : (n : ℕ) → status ≡ n → (n ≡ 0 → ⊥) → (n ≡ 6 → ⊥) → (status ≡ 0) ⊎ (status ≡ 6) → ⊥
   neither n at zero six (inl e) = zero (sym at ∙ e)
   neither n at zero six (inr e) = six (sym at ∙ e)
 
-  well_at : (o : Outcome) → status ≡ code o → IsOrNotPut (WorldEnds k form) k.before.sink k.after.sink o → Says k.before.sink k.after.sink o → HaltsWell k files task layout status
-  well_at (Done text) at h says = let s = h.store in done_end s.0 s.1 s.2.0 s.2.1 s.2.2 (λ zero. subst (λ (t : List ℕ). Extends t k.before.sink k.after.sink) s.2.3 (says.done refl))
-  well_at (SinkFault text) at h says = let s = h.1.store in done_end s.0 s.1 s.2.0 s.2.1 s.2.2 (λ zero. absurd (omega (arith, at, zero)))
+  well_at : (o : Outcome) → status ≡ code o → IsOrNotPut (WorldEnds k (Halt names layout)) k.before.sink k.after.sink o → Says k.before.sink k.after.sink o → HaltsWell k files task layout status
+  well_at (Done text) at h says =
+      let s = h.store in
+      let said = λ (zero : status ≡ 0). subst (λ (t : List ℕ). Extends t k.before.sink k.after.sink) s.2.3 (says.done refl) in
+      written_end s.0 s.1 s.2.0 (record { part = s.2.1.part; saves = s.2.2; whole = λ done. s.2.1; said = said })
+  well_at (SinkFault text) at h says =
+      let s = h.1.store in
+      written_end s.0 s.1 s.2.0 (record { part = s.2.1.part; saves = s.2.2; whole = λ done. s.2.1; said = λ zero. absurd (omega (arith, at, zero)) })
   well_at (StoreFault before) at h says = by h.store
     where
       not : (status ≡ 0) ⊎ (status ≡ 6) → ⊥
       not = neither 5 at (λ e. cc) (λ e. cc)
 
-      by : HaltLeaves k.before.folder k.after.folder k.before.store k.after.store names layout (StoreFault before) → HaltsWell k files task layout status
-      by (inl quiet) = quiet_end (by_lands k.before.store k.after.store law quiet.0) h.leaves not
-      by (inr w) = written_end w.0 w.1 w.2.0 (w.2.1, w.2.2) not
+      by : HaltLeaves k.before.folder k.after.folder old new names layout (StoreFault before) → HaltsWell k files task layout status
+      by (inl quiet) = quiet_end (by_lands old new law quiet.0) h.leaves not
+      by (inr w) = written_end w.0 w.1 w.2.0 (record { part = w.2.1; saves = w.2.2; whole = λ done. absurd (not done); said = λ zero. absurd (not (inl zero)) })
   well_at FolderFault at h says = quiet_end (unwritten_end h.store) h.leaves (neither 4 at (λ e. cc) (λ e. cc))
   well_at Memory at h says = quiet_end (unwritten_end h.store) (one_changed k.before.folder k.after.folder layout h.leaves) (neither 7 at (λ e. cc) (λ e. cc))
-  well_at NotStarted at h says = quiet_end (by_settles k.before.store k.after.store law h.store) (one_changed k.before.folder k.after.folder layout h.leaves) (neither 8 at (λ e. cc) (λ e. cc))
-  well_at (OtherPlan kept ours) at h says =
-      quiet_end (by_settles k.before.store k.after.store law h.store) (one_changed k.before.folder k.after.folder layout h.leaves) (neither 8 at (λ e. cc) (λ e. cc))
-  well_at o at h says =
-      quiet_end (by_untouched k.before.store k.after.store law h.store) (one_changed k.before.folder k.after.folder layout h.leaves)
+  well_at (Refusal refusal.NotStarted) at h says = quiet_end (by_settles old new law h.store) (one_changed k.before.folder k.after.folder layout h.leaves) (neither 8 at (λ e. cc) (λ e. cc))
+  well_at (Refusal (refusal.OtherPlan kept ours)) at h says =
+      quiet_end (by_settles old new law h.store) (one_changed k.before.folder k.after.folder layout h.leaves) (neither 8 at (λ e. cc) (λ e. cc))
+  well_at (Refusal r) at h says =
+      let many = (refusal_between r).0 in
+      quiet_end (by_untouched old new law h.store) (one_changed k.before.folder k.after.folder layout h.leaves)
+      (neither (code (Refusal r)) at (λ e. omega (arith, e, many)) (λ e. omega (arith, e, many)))
+  well_at (Found f) at h says = quiet_end (by_untouched old new law h.store) (one_changed k.before.folder k.after.folder layout h.leaves)
+      (neither (code (Found f)) at (finding_apart f).0 (finding_apart f).1)
+  well_at o at h says = quiet_end (by_untouched old new law h.store) (one_changed k.before.folder k.after.folder layout h.leaves)
       (neither (code o) at (λ e. omega (arith, e)) (λ e. omega (arith, e)))
 
   pub halts_well : HaltsWell k files task layout status
-  halts_well = let e = ends_of k words status ends form l in well_at e.0 e.1 e.2 e.3
+  halts_well = let e = ends_of ends (Halt names layout) l in well_at e.outcome e.is e.so e.says

@@ -1,23 +1,16 @@
 -- How `halt` ends.
-use Rattle.std.proofs.Common.{◌≡◌, ◌⊎◌, ◌≤◌, None, Some, inl, inr, ℕ, List, [], Option, IfSome, IsSome, length, refl, sym, ◌∙◌, subst, arith, append-nil}
-use Rattle.mig_top.proofs.Common.{AreOfTask, Call, CauseIn, Cell, ChangedOnly, Contents, Done, Ending, Event, Files, FolderState, Form, Gate, Halt, HaltsAll, HaltsInPart, Head, Image}
-use Rattle.mig_top.proofs.Common.{IsClosingCell, IsEndOf, IsHaltCell, IsLayoutSaved, IsSafe, IsSettled, IsSomeAnd, IsStandRefusal, IsState, IsTargetOf, Lands, LeavesOnly, MayHalt, MoveFault}
-use Rattle.mig_top.proofs.Common.{Names, NoCell, OthersStay, Outcome, Rose, SavesLayout, Settles, State, Step, Task, Tells, Untouched, WorldEnds, after, changes_then, changes_wider, count_of}
-use Rattle.mig_top.proofs.Common.{false≢true, fault_outcome, finds, flights, four_and, halted_text, outcome_of, same_image, settles_land, stands}
-use Rattle.mig_base.specs.Arrivals.{IsHaltSafe}
-use Rattle.mig_base.specs.Safety.{IsSafeAt}
-use Rattle.mig_base.specs.Stores.{Changes, ChangesOnly}
-use Rattle.mig_base.proofs.StoreSteps.{leaves_then, quiet_leaves}
-use Rattle.mig_mover.specs.Halts.{EndsHalted, KeepsHaltSafe}
+use Rattle.mig_top.proofs.Common.{AreOfTask, Call, Cell, ChangedOnly, ChangesOnly, Contents, Done, Ending, EndsHalted, Event, Files, FolderState, Gate, Halt, HaltSaves, HaltsAll}
+use Rattle.mig_top.proofs.Common.{HaltsInPart, HasFound, Head, IfSome, Image, IsClosingCell, IsHaltCell, IsHaltSafe, IsLayoutSaved, IsSafe, IsSafeAt, IsSettled, IsSome, IsSomeAnd}
+use Rattle.mig_top.proofs.Common.{IsStandRefusal, IsStanding, IsState, IsTargetOf, KeepsHaltSafe, Lands, LeavesOnly, List, MayHalt, MoveFault, NoCell, None, Option, OthersStay, Outcome, Rose}
+use Rattle.mig_top.proofs.Common.{SaveEnds, SavesLayout, Settles, Some, State, Step, Task, TaskNames, Tells, Untouched, WorldEnds, [], after, append-nil, arith, changes_then, changes_wider, count_of}
+use Rattle.mig_top.proofs.Common.{false≢true, fault_outcome, finds, flights, four_and, gate_kept, halted_text, inl, inr, journal_kept, leaves_then, length, outcome_of, quiet_leaves, refl, same_image}
+use Rattle.mig_top.proofs.Common.{settled_reads, settles_land, stands, subst, sym, tells_more, ℕ, ◌∙◌, ◌≡◌, ◌≤◌, ◌⊎◌}
+use Rattle.mig_base.specs.Stores.{Changes}
 use Rattle.mig_mover.specs.Stands.{IsStandFault, Stands}
 use Rattle.mig_mover.specs.declared.faults.MoveFault.TheVariants as fault
-use Rattle.mig_mover.proofs.Settling.{gate_kept, journal_kept, settled_reads, tells_more}
 use Rattle.mig_words.specs.declared.endings.Ending.TheVariants as ending
 use Rattle.mig_words.specs.Outcomes as out
 use Rattle.mig_top.specs.Calls as calls
-use Rattle.mig_top.specs.HaltLeaves.{HaltSaves, SaveEnds}
-use Rattle.mig_top.specs.HaltLooks.{IsStanding}
-use Rattle.mig_top.specs.MoveLeaves.{HasFound}
 use Rattle.mig_top.proofs.EndsOf.{IsUnread, one_changed}
 use Rattle.mig_top.proofs.Moving.{shown, task_cause}
 use Rattle.mig_top.proofs.Steps.{if_map}
@@ -127,31 +120,23 @@ unread_saves old new layout (out.StoreFault before) u same = absurd u
 unread_saves old new layout out.FolderFault u same = one_changed old new layout same
 unread_saves old new layout o u same = same
 
-module _ (k : Call) (names : Names) (layout : List ℕ) where
-  abbrev form : Form
-  form = Halt names layout
-
-  abbrev four : List (List ℕ)
-  four = four_and names []
-
-  module _ (task : Task) (are : AreOfTask k.before.folder names task) where
-    halt_cause : (o : Outcome) → IsEndOf (halt_rest k.before.store task) o → CauseIn k.before form o
-    halt_cause = task_cause k names task are (halt_rest k.before.store)
-
-    -- it isn't known where the plan stands
-    pub halt_refused : Untouched k.before.folder k.after.folder → Lands k.before.store k.after.store → (f : MoveFault) → IsStandFault task k.before.store k.after.store f
-        → WorldEnds k form (fault_outcome task.input f)
-    halt_refused same lands fault.Store h = record { cause = (h, refl); leaves = one_changed k.before.folder k.after.folder layout same; store = inl (lands, same) }
-    halt_refused same lands fault.NotStarted h =
-        record { cause = halt_cause (fault_outcome task.input fault.NotStarted) (inl (shown task k fault.NotStarted h.0 IsStandRefusal h.1)); leaves = same; store = h.0 }
-    halt_refused same lands (fault.OtherPlan kept ours) h =
-        record { cause = halt_cause (fault_outcome task.input (fault.OtherPlan kept ours)) (inl (shown task k (fault.OtherPlan kept ours) h.0 IsStandRefusal h.1)); leaves = same; store = h.0 }
-    halt_refused same lands _ h = absurd h
+module _ {k : Call} {names : TaskNames} {layout : List ℕ} where
+  -- it isn't known where the plan stands
+  pub halt_refused : (task : Task) → AreOfTask k.before.folder names task → Untouched k.before.folder k.after.folder → Lands k.before.store k.after.store → (f : MoveFault)
+      → IsStandFault task k.before.store k.after.store f → WorldEnds k (Halt names layout) (fault_outcome task.input f)
+  halt_refused task are same lands fault.Store h = record { cause = (h, refl); leaves = one_changed k.before.folder k.after.folder layout same; store = inl (lands, same) }
+  halt_refused task are same lands fault.NotStarted h =
+      let f = fault.NotStarted in
+      record { cause = task_cause k names task are (halt_rest k.before.store) (fault_outcome task.input f) (inl (shown task k f h.0 IsStandRefusal h.1)); leaves = same; store = h.0 }
+  halt_refused task are same lands (fault.OtherPlan kept ours) h =
+      let f = fault.OtherPlan kept ours in
+      record { cause = task_cause k names task are (halt_rest k.before.store) (fault_outcome task.input f) (inl (shown task k f h.0 IsStandRefusal h.1)); leaves = same; store = h.0 }
+  halt_refused task are same lands _ h = absurd h
 
   -- the layout isn't saved
   pub halt_unsaved : (loaded : FolderState) → loaded.files ≡ k.before.folder.files → k.before.folder.faults ≤ loaded.faults → Settles k.before.store k.after.store → (e : Ending)
       → SaveEnds layout loaded k.after.folder e
-      → WorldEnds k form (outcome_of four e)
+      → WorldEnds k (Halt names layout) (outcome_of (four_and names.files []) e)
   halt_unsaved loaded same later settles ending.FolderFault h = record {
     cause = (let rose = h.0 in omega (arith, later, rose), tt);
     leaves = changes_before (OthersStay layout) k.before.folder loaded k.after.folder same h.1;
@@ -162,22 +147,23 @@ module _ (k : Call) (names : Names) (layout : List ℕ) where
 
   module _ (task : Task) (are : AreOfTask k.before.folder names task) (loaded : FolderState) (same : loaded.files ≡ k.before.folder.files) (found : ℕ)
       (saves : SavesLayout task layout found loaded k.after.folder) where
-    saved : SavesLayout task layout found k.before.folder k.after.folder
-    saved = changes_before (IsLayoutSaved task layout found) k.before.folder loaded k.after.folder same saves
-
     -- the store fails while the plan is closed
     pub halt_failed : HaltsInPart task k.before.store k.after.store found → Rose k.before.store.faults k.after.store.faults → (f : MoveFault) → f ≡ fault.Store
-        → WorldEnds k form (fault_outcome task.input f)
-    halt_failed part rose f is = subst (λ (f : MoveFault). WorldEnds k form (fault_outcome task.input f)) (sym is) (record {
-      cause = (rose, refl);
-      leaves = saved_only task layout found k.before.folder k.after.folder saved;
-      store = inr (task, are, (found, part, saved));
-    })
+        → WorldEnds k (Halt names layout) (fault_outcome task.input f)
+    halt_failed part rose f is =
+        let saved = changes_before (IsLayoutSaved task layout found) k.before.folder loaded k.after.folder same saves in
+        subst (λ (f : MoveFault). WorldEnds k (Halt names layout) (fault_outcome task.input f)) (sym is) (record {
+          cause = (rose, refl);
+          leaves = saved_only task layout found k.before.folder k.after.folder saved;
+          store = inr (task, are, (found, part, saved));
+        })
 
     -- it is closed
-    pub halt_done : HaltsAll task k.before.store k.after.store found → IsStanding task k.before.store found → WorldEnds k form (Done (halted_text task.plan found))
-    halt_done all standing = record {
-      cause = halt_cause task are (Done (halted_text task.plan found)) (found, standing, refl);
-      leaves = saved_only task layout found k.before.folder k.after.folder saved;
-      store = (task, are, (found, all, saved, refl));
-    }
+    pub halt_done : HaltsAll task k.before.store k.after.store found → IsStanding task k.before.store found → WorldEnds k (Halt names layout) (Done (halted_text task.plan found))
+    halt_done all standing =
+        let saved = changes_before (IsLayoutSaved task layout found) k.before.folder loaded k.after.folder same saves in
+        record {
+          cause = task_cause k names task are (halt_rest k.before.store) (Done (halted_text task.plan found)) (found, standing, refl);
+          leaves = saved_only task layout found k.before.folder k.after.folder saved;
+          store = (task, are, (found, all, saved, refl));
+        }

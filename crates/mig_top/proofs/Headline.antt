@@ -1,18 +1,14 @@
 -- What `plan` promises, from the causes of its outcomes and what they leave; and what `check` says of what it saved.
-use Rattle.std.proofs.Common.{◌≡◌, ◌≢◌, ◌⊎◌, ◌+◌, ◌≤◌, inl, inr, ℕ, List, Option, Some, None, refl, sym, ◌∙◌, ap, subst, arith, if◌then◌else◌, codes, take, length}
-use Rattle.mig_top.proofs.Common.{Accepted, AreSaved, Bodies, Bound, Call, CauseIn, Check, Done, EndsAs, Extends, FileKind, Files, FolderFailed, Form, FormCause, HoldsFirst, IsDiskBound, IsEven}
-use Rattle.mig_top.proofs.Common.{IsInput, IsListed, IsMissing, IsOrNotPut, IsPlanSaved, IsSomeAnd, Lists, MAX_FILE_BYTES, Names, Nothing, OfDisk, OfSet, Outcome, Plan, SinkFailed, SinkFault}
-use Rattle.mig_top.proofs.Common.{StoreFault, Why, WorldEnds, bound_value, checks, code, file, loads_input, quotient, take_all, transfers}
-use Rattle.std.proofs.lemmas.Bool.{eq-eqb}
+use Rattle.mig_top.proofs.Common.{Accepted, AreRefused, AreSaved, AreThere, Bodies, Bound, Call, CauseIn, Check, ChecksSaved, Done, EndsAs, Extends, FileKind, Files, FolderFailed, FolderFault, Form}
+use Rattle.mig_top.proofs.Common.{FormCause, Found, HasPlanned, HoldsFirst, IsDiskBound, IsEven, IsInput, IsListed, IsMissing, IsOrNotPut, IsPlanSaved, IsSomeAnd, List, Lists, MAX_FILE_BYTES, Memory}
+use Rattle.mig_top.proofs.Common.{Names, NoFile, None, Nothing, OfDisk, OfSet, Option, Outcome, Plan, PlansWell, Refusal, Refused, SinkFault, Some, Stands, StandsForNone, StoreFault, Unlisted, Why}
+use Rattle.mig_top.proofs.Common.{WorldEnds, WritesApart, ap, arith, bound_value, checks, code, codes, eq-eqb, file, if◌then◌else◌, inl, inr, length, loads_input, quotient, refl, subst, sym, take}
+use Rattle.mig_top.proofs.Common.{take_all, transfers, verdict_text, ℕ, ⊎_elim, ◌+◌, ◌∙◌, ◌≡◌, ◌≢◌, ◌≤◌, ◌⊎◌}
 use Rattle.mig_base.specs.MadePlans.{EvenLimits}
 use Rattle.mig_text.proofs.ShiftCounts as plan_lengths
 use Rattle.mig_cert.proofs.CertLengths as cert_lengths
-use Rattle.mig_words.specs.Outcomes.{Unlisted, Refused, FolderFault, Memory, NoFile}
-use Rattle.mig_words.specs.Words.{WritesApart}
-use Rattle.mig_top.specs.Causes.{verdict_text}
-use Rattle.mig_top.specs.Headline.{HasPlanned, PlansWell, ChecksSaved}
-use Rattle.mig_top.specs.Loads.{AreRefused, AreThere, Stands, StandsForNone}
-use Rattle.mig_top.proofs.EndsOf.{cause_at, ends_of, put_by, told_at}
+use Rattle.mig_top.proofs.Plainly.{found_input, loads_there, there_loads}
+use Rattle.mig_top.proofs.EndsOf.{cause_at, ends_of, ends_so, put_by, refusal_between, told_at}
 use Rattle.mig_top.proofs.Exactness.{checks_exact, comes_exactly, input_loads, is_input}
 
 some_and_map : {X : Type 0} (P Q : X → Type 0) (o : Option X) → ((x : X) → P x → Q x) → IsSomeAnd o P → IsSomeAnd o Q
@@ -42,15 +38,15 @@ module _ (k : Call) (names : Names) (cert : List ℕ) (files : Files) (is : k.be
   -- the cause of each outcome of `plan`
   abbrev Means : Outcome → Type 0
   Means (Done text) = (input : Lists) × Stands files names input
-  Means (Refused f n w) = AreRefused files names f n w
+  Means (Found (Refused f n w)) = AreRefused files names f n w
   Means (NoFile word) = (bodies : Bodies) → AreThere files names bodies → ⊥
   Means _ = ⊥
 
   means : (o : Outcome) → FormCause files k.before.store form o → Means o
-  means (Done text) h = (h.0, h.1)
-  means (Refused f n w) (inl (inl h)) = absurd (loads_stop (Refused f n w) h)
-  means (Refused f n w) (inl (inr (bodies, there, refused))) = record { bodies = bodies; there = there; refused = refused }
-  means (NoFile word) (inl (inl h)) = λ bodies there. (input_loads names files).not_both bodies (NoFile word) there h
+  means (Done text) h = (h.0, found_input files names h.0 h.1)
+  means (Found (Refused f n w)) (inl (inl h)) = absurd (loads_stop (Found (Refused f n w)) h)
+  means (Found (Refused f n w)) (inl (inr (bodies, there, refused))) = record { bodies = bodies; there = loads_there files names bodies there; refused = refused }
+  means (NoFile word) (inl (inl h)) = λ bodies there. (input_loads names files).not_both bodies (NoFile word) (there_loads files names bodies there) h
   means o (inl (inl h)) = absurd (loads_stop o h)
   means o (inl (inr (bodies, there, none))) = absurd none
   means o (inr (input, stands, none)) = absurd none
@@ -62,29 +58,27 @@ module _ (k : Call) (names : Names) (cert : List ℕ) (files : Files) (is : k.be
   none_stands none text h = by (told_cause (Done text) h.cause)
     where
       by : (input : Lists) × Stands files names input → ⊥
-      by (input, (bodies, there, accepted)) = none.none input (subst (λ (b : Bodies). Accepted b input) ((input_loads names files).one_found bodies none.bodies there none.there) accepted)
+      by (input, s) =
+          let loads = there_loads files names in
+          let same = (input_loads names files).one_found s.bodies none.bodies (loads s.bodies s.there) (loads none.bodies none.there) in
+          none.none input (subst (λ (b : Bodies). Accepted b input) same s.accepted)
 
-  module _ (status : ℕ) where
-    ends_by : (o : Outcome) → status ≡ code o → IsOrNotPut (WorldEnds k form) k.before.sink k.after.sink o → (bodies : Bodies) → AreThere files names bodies → (FolderFailed k → ⊥)
-        → (SinkFailed k → ⊥) → (status ≡ 0) ⊎ (status ≡ 3) ⊎ (status ≡ 7)
-    ends_by (Done text) at h bodies there fine quiet = inl at
-    ends_by (Refused f n w) at h bodies there fine quiet = inr (inl at)
-    ends_by Memory at h bodies there fine quiet = inr (inr at)
-    ends_by FolderFault at h bodies there fine quiet = absurd (fine h.cause.0)
-    ends_by (SinkFault text) at h bodies there fine quiet = absurd (quiet h.0)
-    ends_by (NoFile word) at h bodies there fine quiet = absurd (told_cause (NoFile word) h.cause bodies there)
-    ends_by (StoreFault before) at h bodies there fine quiet = absurd h.cause.1
-    ends_by Unlisted at h bodies there fine quiet = absurd h.cause
-    ends_by o at h bodies there fine quiet = absurd (told_cause o h.cause)
+  module _ {status : ℕ} where
+    ends_by : (o : Outcome) → Means o → status ≡ code o → (bodies : Bodies) → AreThere files names bodies → (status ≡ 0) ⊎ (status ≡ 3) ⊎ (status ≡ 7)
+    ends_by (Done text) means at bodies there = inl at
+    ends_by (Found (Refused f n w)) means at bodies there = inr (inl at)
+    ends_by (NoFile word) means at bodies there = absurd (means bodies there)
+    ends_by _ means at bodies there = absurd means
 
     refused_by : (o : Outcome) → status ≡ code o → IsOrNotPut (WorldEnds k form) k.before.sink k.after.sink o → status ≡ 3 → (f : FileKind) × (n : ℕ) × (w : Why) × AreRefused files names f n w
-    refused_by (Refused f n w) at h three = (f, n, w, told_cause (Refused f n w) h.cause)
+    refused_by (Found (Refused f n w)) at h three = (f, n, w, told_cause (Found (Refused f n w)) h.cause)
+    refused_by (Refusal r) at h three = absurd (omega (arith, at, three, (refusal_between r).0))
     refused_by o at h three = absurd (omega (arith, at, three))
 
     refuses_by : (o : Outcome) → status ≡ code o → IsOrNotPut (WorldEnds k form) k.before.sink k.after.sink o → StandsForNone files names → (FolderFailed k → ⊥) → (status ≡ 3) ⊎ (status ≡ 7)
     refuses_by (Done text) at h none fine = absurd (none_stands none text h)
     refuses_by (SinkFault text) at h none fine = absurd (none_stands none text h.1)
-    refuses_by (Refused f n w) at h none fine = inl at
+    refuses_by (Found (Refused f n w)) at h none fine = inl at
     refuses_by Memory at h none fine = inr at
     refuses_by FolderFault at h none fine = absurd (fine h.cause.0)
     refuses_by (NoFile word) at h none fine = absurd (told_cause (NoFile word) h.cause none.bodies none.there)
@@ -92,15 +86,16 @@ module _ (k : Call) (names : Names) (cert : List ℕ) (files : Files) (is : k.be
     refuses_by Unlisted at h none fine = absurd h.cause
     refuses_by o at h none fine = absurd (told_cause o h.cause)
 
-    pub plans_well : (words : List (List ℕ)) → EndsAs k words status → IsListed words form → PlansWell k files names cert status
-    plans_well words ends l =
-        let e = ends_of k words status ends form l in
+    pub plans_well : {words : List (List ℕ)} → EndsAs k words status → IsListed words form → PlansWell k files names cert status
+    plans_well ends l =
+        let e = ends_of ends form l in
         record {
-          ends = ends_by e.0 e.1 e.2;
-          refused = refused_by e.0 e.1 e.2;
-          refuses = refuses_by e.0 e.1 e.2;
+          ends = λ bodies there fine quiet. ⊎_elim (λ so. ends_by so.0 (means so.0 so.1) so.2 bodies there) (λ seven. inr (inr seven))
+              (ends_so ends files is form l fine quiet (λ before h. h.1));
+          refused = refused_by e.outcome e.is e.so;
+          refuses = refuses_by e.outcome e.is e.so;
           planned = λ zero.
-              let (text, h, put) = put_by (WorldEnds k form) k.before.sink k.after.sink status e zero in
+              let (text, h, put) = put_by e zero in
               some_and_map (AreSaved names cert text files) (HasPlanned k names cert files) k.after.folder.files (λ new saved. (text, saved, put))
               (told_at (λ old. IsSomeAnd k.after.folder.files (AreSaved names cert text old)) k.before.folder.files files is h.leaves);
         }
@@ -114,11 +109,11 @@ module _ (names : Names) (cert text : List ℕ) (old files : Files) (apart : Wri
   kept name bytes p c = subst (λ (o : Option (List ℕ)). IsSomeAnd o (λ whole. bytes ≡ take (MAX_FILE_BYTES + 1) whole)) (sym (saved.others name p c))
 
   still_there : (bodies : Bodies) → AreThere old names bodies → AreThere files names bodies
-  still_there bodies (d, first, (n, second, (x, third, are))) = (
-    d,
-    kept names.disks d (λ e. apart.0.0 (sym e)) (λ e. apart.1.0 (sym e)) first,
-    (n, kept names.now n (λ e. apart.0.1.0 (sym e)) (λ e. apart.1.1.0 (sym e)) second, (x, kept names.next x (λ e. apart.0.1.1.0 (sym e)) (λ e. apart.1.1.1.0 (sym e)) third, are)),
-  )
+  still_there bodies h = record {
+    disks = kept names.disks bodies.disks (λ e. apart.0.0 (sym e)) (λ e. apart.1.0 (sym e)) h.disks;
+    now = kept names.now bodies.now (λ e. apart.0.1.0 (sym e)) (λ e. apart.1.1.0 (sym e)) h.now;
+    next = kept names.next bodies.next (λ e. apart.0.1.1.0 (sym e)) (λ e. apart.1.1.1.0 (sym e)) h.next;
+  }
 
   -- the two others are short enough to be read
   whole : (name bytes : List ℕ) → file files name ≡ Some bytes → length bytes ≤ MAX_FILE_BYTES → HoldsFirst files name bytes
@@ -135,26 +130,21 @@ module _ (names : Names) (cert text : List ℕ) (old files : Files) (apart : Wri
 
   -- `check` puts the verdict on what was saved
   is_verdict : (checks names cert files).Passes (verdict_text saved.texts.rounds saved.texts.certificate)
-  is_verdict = by saved.stands
-    where
-      by : Stands old names saved.input → (checks names cert files).Passes (verdict_text saved.texts.rounds saved.texts.certificate)
-      by (bodies, there, accepted) = (
-        record { input = bodies; plan = saved.plan_text },
-        (bodies, still_there bodies there, (saved.plan_text, whole names.plan saved.plan_text saved.saved short_plan, refl)),
+  is_verdict =
+      let s = saved.stands in
+      let made = saved.texts.made in (
+        record { input = s.bodies; plan = saved.plan_text },
+        (s.bodies, there_loads files names s.bodies (still_there s.bodies s.there), (saved.plan_text, whole names.plan saved.plan_text saved.saved short_plan, refl)),
         (
           text,
           whole cert text cert_saved short_cert,
           (
             saved.input,
-            accepted,
+            s.accepted,
             (
               saved.texts.rounds,
               (saved.texts.plan_spelled, short_plan),
-              (
-                saved.texts.certificate,
-                (saved.texts.cert_spelled, short_cert),
-                record { runs = saved.texts.made.planned.runs; once = saved.texts.made.planned.once; holds = saved.texts.made.holds; says = refl },
-              ),
+              (saved.texts.certificate, (saved.texts.cert_spelled, short_cert), record { runs = made.planned.runs; once = made.planned.once; holds = made.holds; says = refl }),
             ),
           ),
         ),
@@ -172,10 +162,11 @@ module _ (names : Names) (cert text : List ℕ) (old files : Files) (apart : Wri
       (checks_exact names cert files).one_found t (verdict_text saved.texts.rounds saved.texts.certificate) h is_verdict
       ∙ ap (λ b. if b then codes "optimal\n" else codes "bounded\n") (eq-eqb _ _ (saved.texts.made.planned.tight EvenLimits even ∙ sym value))
 
-  pub checks_saved : (k : Call) (words : List (List ℕ)) (status : ℕ) → EndsAs k words status → k.before.folder.files ≡ Some files → IsListed words (Check names cert) → ChecksSaved k saved.input status
-  checks_saved k words status ends is l = record {
-    right = λ fine quiet. comes_exactly k words status ends files (Check names cert) is l (Done (verdict_text saved.texts.rounds saved.texts.certificate)) is_verdict fine quiet tt;
+  pub checks_saved : {k : Call} {words : List (List ℕ)} {status : ℕ} → EndsAs k words status → k.before.folder.files ≡ Some files → IsListed words (Check names cert)
+      → ChecksSaved k saved.input status
+  checks_saved {k = k} ends is l = record {
+    right = λ fine quiet. comes_exactly ends files (Check names cert) is l (Done (verdict_text saved.texts.rounds saved.texts.certificate)) is_verdict fine quiet tt;
     optimal = λ zero even.
-        let (t, h, put) = put_by (WorldEnds k (Check names cert)) k.before.sink k.after.sink status (ends_of k words status ends (Check names cert) l) zero in
+        let (t, h, put) = put_by (ends_of ends (Check names cert) l) zero in
         subst (λ (said : List ℕ). Extends said k.before.sink k.after.sink) (told_optimal even t (cause_at k files is (Check names cert) (Done t) h.cause)) put;
   }

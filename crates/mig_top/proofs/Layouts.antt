@@ -1,14 +1,11 @@
 -- Two files list one layout at most.
-use Rattle.std.proofs.Common.{◌+◌, ◌≡◌, ℕ, ◌<◌, List, [], ◌∷◌, Contains, get_or, length, map, slice_get, take, refl, sym, ap, subst, ◌∙◌, arith, Some}
+use Rattle.std.proofs.Common.{slice_get}
+use Rattle.mig_top.proofs.Common.{AreDifferent, Contains, Disk, DiskId, IsListing, IsSomeAnd, IsSpotNamed, List, Lists, Row, Some, Spot, [], ap, arith, at_map, first, get_or, get_or-take}
+use Rattle.mig_top.proofs.Common.{get_or_from_slice_get, length, length-take, map, map-name, name_at, one_place, refl, rows_of, second, slice_get-get_or, some_and, some_map, subst, sym, take}
+use Rattle.mig_top.proofs.Common.{take-map, ℕ, ◌+◌, ◌<◌, ◌∙◌, ◌∷◌, ◌≡◌}
 use Rattle.std.specs.List.{AllZip}
-use Rattle.mig_top.proofs.Common.{Disk, DiskId, IsListing, IsSomeAnd, Lists, Spot, get_or_from_slice_get, one_place, slice_get-get_or}
-use Rattle.std.proofs.lemmas.List.{get_or-take, length-take, take-map}
-use Rattle.mig_base.specs.InputLists.{AreDifferent}
-use Rattle.mig_base.specs.Refusals.{IsSpotNamed}
-use Rattle.mig_base.specs.Rows.{Row, first, rows_of, second}
 use Rattle.mig_base.specs.declared.faults.FileKind.TheVariants as file_kind
 use Rattle.mig_base.specs.declared.faults.Why.TheVariants as why
-use Rattle.mig_base.proofs.Listed.{at_map, map-name, name_at, some_and, some_map}
 
 -- elements that are not among those before them are different
 different_from : {X : Type 0} (xs : List X) → ((j : ℕ) (x : X) → slice_get xs j ≡ Some x → ¬ (Contains (take j xs) x)) → AreDifferent xs

@@ -1,10 +1,8 @@
 -- The two saves of `plan`.
-use Rattle.std.proofs.Common.{◌≡◌, ◌≢◌, inl, ℕ, List, Option, Some, None, ◌∙◌, subst}
-use Rattle.mig_top.proofs.Common.{AreSaved, Done, Files, FolderState, IsPlanSaved, IsSomeAnd, Names, OthersStay, Outcome, PlanLeaves, Untouched, plans_texts}
-use Rattle.std.specs.Option.{IfSome}
-use Rattle.mig_io.specs.Files.{Saves}
-use Rattle.mig_words.specs.Outcomes.{FolderFault}
+use Rattle.mig_top.proofs.Common.{AreSaved, Done, Files, FolderFault, FolderState, IfSome, IsPlanSaved, IsSomeAnd, List, Names, None, Option, OthersStay, Outcome, PlanLeaves, Saves, Some, Untouched}
+use Rattle.mig_top.proofs.Common.{inl, plans_texts, subst, ℕ, ◌∙◌, ◌≡◌, ◌≢◌}
 use Rattle.mig_top.specs.Planned.{PlanTexts}
+use Rattle.mig_top.proofs.Plainly.{found_input}
 use Rattle.mig_top.proofs.EndsOf.{IsUnread, one_changed}
 
 -- a plan that wasn't made isn't saved
@@ -17,7 +15,7 @@ module _ (names : Names) (cert : List ℕ) (apart : names.plan ≢ cert) (texts 
   is_saved : (old m new : Files) → (plans_texts names old).Passes texts → Saves names.plan texts.plan old m → OthersStay cert m new → IsPlanSaved names cert texts.cert old new
   is_saved old m new made a others = record {
     input = made.0;
-    stands = made.1;
+    stands = found_input old names made.0 made.1;
     plan_text = texts.plan;
     texts = made.2;
     saved = others names.plan apart ∙ a.saved;

@@ -1,8 +1,6 @@
 -- How a rehearsal ends, as a call of the program and as its promise.
-use Rattle.std.proofs.Common.{◌≡◌, ◌⊎◌, inl, inr, ℕ, List}
-use Rattle.mig_top.proofs.Common.{Call, Done, EndsAs, IsListed, IsOrNotPut, IsRehearsalEnd, IsUntouched, Outcome, Rehearse, Rose, SinkFault, StoreFault, Untouched, WorldEnds, case_in, code}
-use Rattle.mig_words.specs.Outcomes.{FolderFault, Memory}
-use Rattle.mig_top.specs.Headline.{RehearsesWell}
+use Rattle.mig_top.proofs.Common.{Call, Done, EndsAs, FolderFault, IsListed, IsOrNotPut, IsRehearsalEnd, IsUntouched, List, Memory, Outcome, Rehearse, RehearsesWell, Rose, SinkFault, StoreFault}
+use Rattle.mig_top.proofs.Common.{Untouched, WorldEnds, case_in, code, inl, inr, ℕ, ◌≡◌, ◌⊎◌}
 use Rattle.mig_top.proofs.EndsOf.{ends_of, put_by}
 
 module _ (k : Call) (disks per_pair limit : List ℕ) where
@@ -13,14 +11,11 @@ module _ (k : Call) (disks per_pair limit : List ℕ) where
   rehearsal_ends same kept Memory h = record { cause = tt; leaves = same; store = kept }
   rehearsal_ends same kept _ h = absurd h
 
-  pub rehearses_well : (words : List (List ℕ)) (status : ℕ) → EndsAs k words status → IsListed words (Rehearse disks per_pair limit)
+  pub rehearses_well : {words : List (List ℕ)} {status : ℕ} → EndsAs k words status → IsListed words (Rehearse disks per_pair limit)
       → RehearsesWell k.before.sink k.after.sink (case_in disks per_pair limit) status
-  rehearses_well words status ends l =
-      let e = ends_of k words status ends (Rehearse disks per_pair limit) l in
-      record {
-        ends = by e.0 e.1 e.2;
-        rehearsed = λ zero. let p = put_by (WorldEnds k (Rehearse disks per_pair limit)) k.before.sink k.after.sink status e zero in (p.0, p.1.cause, p.2);
-      }
+  rehearses_well {status = status} ends l =
+      let e = ends_of ends (Rehearse disks per_pair limit) l in
+      record { ends = by e.outcome e.is e.so; rehearsed = λ zero. let p = put_by e zero in (p.0, p.1.cause, p.2) }
     where
       by : (o : Outcome) → status ≡ code o → IsOrNotPut (WorldEnds k (Rehearse disks per_pair limit)) k.before.sink k.after.sink o
           → (status ≡ 0) ⊎ ((status ≡ 6) × Rose k.before.sink.faults k.after.sink.faults) ⊎ (status ≡ 7)

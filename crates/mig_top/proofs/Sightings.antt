@@ -1,17 +1,12 @@
 -- The lines of an audit.
-use Rattle.std.proofs.Common.{◌≡◌, ◌+◌, ◌-◌, ◌<◌, ◌≤◌, Bool, true, false, ℕ, zero, suc, List, [], ◌++◌, MatchBool, IfSome, Option, Some, None, length, take, refl, sym, subst, ◌∙◌}
-use Rattle.std.proofs.Common.{append_assoc, append-nil, arith, if◌then◌else◌}
-use Rattle.mig_top.proofs.Common.{AuditStops, Cell, Extends, Flight, HasHeader, HavePutSights, IsAudit, IsMoving, IsTargetOf, Lists, Looks, NoCell, SinkState, State, Stop, bytes_eq, changes_then}
-use Rattle.mig_top.proofs.Common.{changes_wider, false≢true, item_cell, item_name, sight_count, then_begins, then_extends}
+use Rattle.mig_top.proofs.Common.{AreSightLines, AuditStops, Bool, Cell, Extends, Flight, HasHeader, HasPutSight, HavePutSights, IfSome, IsAudit, IsMoving, IsSightOf, IsTargetOf, List, Lists, Looks}
+use Rattle.mig_top.proofs.Common.{MatchBool, NoCell, None, Option, SightStops, SinkState, Some, State, Stop, [], append-nil, append_assoc, arith, bytes_eq, changes_then, changes_wider, false}
+use Rattle.mig_top.proofs.Common.{false≢true, flights_same, header_of, if◌then◌else◌, item_cell, item_name, length, puts_nothing, refl, sight_count, sight_line, subst, suc, sym, take, then_begins}
+use Rattle.mig_top.proofs.Common.{then_extends, true, zero, ℕ, ◌++◌, ◌+◌, ◌-◌, ◌<◌, ◌∙◌, ◌≡◌, ◌≤◌}
 use Rattle.std.proofs.lemmas.Slice.Eq.{bytes_eq-Decides}
 use Rattle.sha2.specs.Sha256.{sha256}
-use Rattle.mig_base.specs.Slots.{header_of}
-use Rattle.mig_base.proofs.Landing.{flights_same}
 use Rattle.mig_mover.specs.declared.sights.Sight.{Sight}
-use Rattle.mig_top.specs.Audits.{HasPutSight, SightStops}
 use Rattle.mig_top.specs.declared.audit_command.Stop.TheVariants as stop
-use Rattle.mig_top.specs.Sights.{AreSightLines, IsSightOf, sight_line}
-use Rattle.mig_words.proofs.PutTexts.{puts_nothing}
 
 -- what is seen of an item is seen at the beginning, where nothing was written since
 module _ (old mid : State) (looks : Looks old mid) where
@@ -20,10 +15,8 @@ module _ (old mid : State) (looks : Looks old mid) where
 
   pub seen_before : (input : Lists) (item : ℕ) (sight : Sight) → IsSightOf input mid item sight → IsSightOf input old item sight
   seen_before input item sight h = record {
-    named = λ still. subst (λ (o : Option (List ℕ)). IfSome o (λ slot. MatchBool sight.named (HasHeader (item_name input item) slot) (¬ HasHeader (item_name input item) slot)))
-        (looks.told.same (item_cell input item) still) (h.named (λ m. still (moving (item_cell input item) m)));
-    digest = λ still. subst (λ (o : Option (List ℕ)). IfSome o (λ slot. sight.digest ≡ sha256 slot))
-        (looks.told.same (item_cell input item) still) (h.digest (λ m. still (moving (item_cell input item) m)));
+    named = λ still. rw (looks.told.same (item_cell input item) still) at (h.named (λ m. still (moving (item_cell input item) m)));
+    digest = λ still. rw (looks.told.same (item_cell input item) still) at (h.digest (λ m. still (moving (item_cell input item) m)));
   }
 
   pub looks_then : (new : State) → Looks mid new → Looks old new
@@ -93,61 +86,40 @@ some_sight input store item = by (store.reads (item_cell input item)) refl
     by None e = (
       record { named = false; digest = [] },
       record {
-        named = λ still. subst (λ (o : Option (List ℕ)). IfSome o (λ slot. MatchBool false (HasHeader name slot) (¬ HasHeader name slot))) (sym e) tt;
-        digest = λ still. subst (λ (o : Option (List ℕ)). IfSome o (λ slot. [] ≡ sha256 slot)) (sym e) tt;
+        named = λ still. rw e tt;
+        digest = λ still. rw e tt;
       },
     )
     by (Some slot) e = (
       record { named = bytes_eq (take 34 slot) (header_of name); digest = sha256 slot },
       record {
-        named =
-            λ still. subst (λ (o : Option (List ℕ)). IfSome o (λ s. MatchBool (bytes_eq (take 34 slot) (header_of name)) (HasHeader name s) (¬ HasHeader name s)))
-            (sym e) (tell slot (bytes_eq (take 34 slot) (header_of name)) refl);
-        digest = λ still. subst (λ (o : Option (List ℕ)). IfSome o (λ s. sha256 slot ≡ sha256 s)) (sym e) refl;
+        named = λ still. rw e (tell slot (bytes_eq (take 34 slot) (header_of name)) refl);
+        digest = λ still. rw e refl;
       },
     )
 
 -- lines can be gone on with
-pub record GoesOn (input : Lists) (store : State) (item : ℕ) (lines : List ℕ) : Type 0 where
-  pub rest : List ℕ
-  pub here : ℕ
-  pub are : AreSightLines input store item (lines ++ rest) here
-
-more_lines : (input : Lists) (store : State) (more item : ℕ) (lines : List ℕ) (here : ℕ) → AreSightLines input store item lines here → GoesOn input store (more + item) lines
+more_lines : (input : Lists) (store : State) (more item : ℕ) (lines : List ℕ) (here : ℕ) → AreSightLines input store item lines here
+    → (rest : List ℕ) × (count : ℕ) × AreSightLines input store (more + item) (lines ++ rest) count
 more_lines input store zero item lines here are =
-    record {
-      rest = [];
-      here = here;
-      are = subst (λ (n : ℕ). AreSightLines input store n (lines ++ []) here) (let e : item ≡ 0 + item = omega arith in e)
-          (subst (λ (l : List ℕ). AreSightLines input store item l here) (sym (append-nil lines)) are);
-    }
+    let e : item ≡ 0 + item = omega arith in
+    ([], here, subst (λ (n : ℕ). AreSightLines input store n (lines ++ []) here) e (subst (λ (l : List ℕ). AreSightLines input store item l here) (sym (append-nil lines)) are))
 more_lines input store (suc more) item lines here are =
-    let go = more_lines input store more item lines here are in
-    let next = some_sight input store (more + item) in
-    record {
-      rest = go.rest ++ sight_line input (more + item) next.0;
-      here = go.here + (if next.0.named then 1 else 0);
-      are =
-          subst (λ (n : ℕ). AreSightLines input store n (lines ++ (go.rest ++ sight_line input (more + item) next.0)) (go.here + (if next.0.named then 1 else 0)))
-          (let e : suc (more + item) ≡ suc more + item = omega arith in e)
-          (lines ++ go.rest, go.here, next.0, go.are, next.1, sym (append_assoc lines go.rest (sight_line input (more + item) next.0)), refl);
-    }
-
-pub record Completes (input : Lists) (store : State) (lines : List ℕ) : Type 0 where
-  pub rest : List ℕ
-  pub audit : IsAudit input store (lines ++ rest)
+    let (rest, count, so) = more_lines input store more item lines here are in
+    let (sight, seen) = some_sight input store (more + item) in
+    let line = sight_line input (more + item) sight in
+    let e : suc (more + item) ≡ suc more + item = omega arith in (
+      rest ++ line,
+      count + (if sight.named then 1 else 0),
+      subst (λ (n : ℕ). AreSightLines input store n (lines ++ (rest ++ line)) (count + (if sight.named then 1 else 0))) e
+          (lines ++ rest, count, sight, so, seen, sym (append_assoc lines rest line), refl),
+    )
 
 -- up to a whole text
-pub whole_audit : (input : Lists) (store : State) (item : ℕ) (lines : List ℕ) (here : ℕ) → item ≤ length input.items → AreSightLines input store item lines here → Completes input store lines
+pub whole_audit : (input : Lists) (store : State) (item : ℕ) (lines : List ℕ) (here : ℕ) → item ≤ length input.items → AreSightLines input store item lines here
+    → (rest : List ℕ) × IsAudit input store (lines ++ rest)
 whole_audit input store item lines here most are =
-    let go = more_lines input store (length input.items - item) item lines here are in
-    record {
-      rest = go.rest ++ sight_count input go.here;
-      audit = (
-        lines ++ go.rest,
-        go.here,
-        subst (λ (n : ℕ). AreSightLines input store n (lines ++ go.rest) go.here)
-            (let e : length input.items - item + item ≡ length input.items = omega (arith, most) in e) go.are,
-        sym (append_assoc lines go.rest (sight_count input go.here)),
-      );
-    }
+    let (rest, count, so) = more_lines input store (length input.items - item) item lines here are in
+    let e : length input.items - item + item ≡ length input.items = omega (arith, most) in
+    let all = subst (λ (n : ℕ). AreSightLines input store n (lines ++ rest) count) e so in
+    (rest ++ sight_count input count, (lines ++ rest, count, all, sym (append_assoc lines rest (sight_count input count))))

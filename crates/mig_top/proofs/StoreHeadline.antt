@@ -1,16 +1,13 @@
 -- What `fill` and `audit` promise, from the causes of their outcomes and what they leave.
-use Rattle.std.proofs.Common.{◌≡◌, ℕ, List, [], ◌++◌, Some, refl, subst, arith}
-use Rattle.mig_top.proofs.Common.{Audit, Call, Done, EndsAs, Files, Fill, IsAudit, IsFillCell, IsListed, Lists, TellsStill, WorldEnds, filled_text, finds, layout_in}
-use Rattle.mig_top.specs.Headline.{AuditsWell, FillsWell}
-use Rattle.mig_top.specs.Loads.{HoldsLayout}
-use Rattle.mig_top.specs.StoreLeaves.{IsFilled}
+use Rattle.mig_top.proofs.Common.{Audit, AuditsWell, Call, Done, EndsAs, Files, Fill, FillsWell, HoldsLayout, IsAudit, IsFillCell, IsFilled, IsListed, List, Lists, Some, TellsStill, WorldEnds, []}
+use Rattle.mig_top.proofs.Common.{arith, filled_text, finds, layout_in, refl, subst, ℕ, ◌++◌, ◌≡◌}
 use Rattle.mig_top.proofs.EndsOf.{cause_at, done_by, ends_of, put_by, told_at}
 use Rattle.mig_top.proofs.Exactness.{comes_exactly, layout_in_exact}
 use Rattle.mig_top.proofs.Filling.{fill_rest}
 use Rattle.mig_top.proofs.Sightings.{whole_audit}
 use Rattle.mig_top.proofs.Steps.{follow, lead}
 
-module _ (k : Call) (words : List (List ℕ)) (status : ℕ) (ends : EndsAs k words status) (files : Files) (disks : List ℕ) (now : List ℕ) (input : Lists) (is : k.before.folder.files ≡ Some files) where
+module _ {k : Call} {words : List (List ℕ)} {status : ℕ} (ends : EndsAs k words status) (files : Files) (disks : List ℕ) (now : List ℕ) (input : Lists) (is : k.before.folder.files ≡ Some files) where
   -- `fill`
 
   module _ (l : IsListed words (Fill disks now)) (holds : HoldsLayout files disks now input) where
@@ -24,9 +21,9 @@ module _ (k : Call) (words : List (List ℕ)) (status : ℕ) (ends : EndsAs k wo
 
     pub fills_well : FillsWell k input status
     fills_well = record {
-      filled = λ done. let d = done_by (WorldEnds k (Fill disks now)) k.before.sink k.after.sink status (ends_of k words status ends (Fill disks now) l) done in filled_by d.0 d.1;
-      fills = λ tells fillable fine quiet sound. comes_exactly k words status ends files (Fill disks now) is l (Done (filled_text input))
-          (lead (layout_in disks now files) (fill_rest k.before.store) input holds (Done (filled_text input)) (tt, λ none. fillable, refl)) fine quiet
+      filled = λ done. let d = done_by (ends_of ends (Fill disks now) l) done in filled_by d.0 d.1;
+      fills = λ tells fillable fine quiet sound. comes_exactly ends files (Fill disks now) is l (Done (filled_text input))
+          (lead (layout_in disks now files) (fill_rest k.before.store) input holds (Done (filled_text input)) (tt, fillable, refl)) fine quiet
           (sound, λ other same. subst (λ (i : Lists). TellsStill (IsFillCell i) k.before.store) (one_layout input other holds same) tells);
     }
 
@@ -36,7 +33,7 @@ module _ (k : Call) (words : List (List ℕ)) (status : ℕ) (ends : EndsAs k wo
     pub audits_well : AuditsWell k input status
     audits_well = record {
       said = λ zero.
-          let (text, h, put) = put_by (WorldEnds k (Audit disks now)) k.before.sink k.after.sink status (ends_of k words status ends (Audit disks now) l) zero in (
+          let (text, h, put) = put_by (ends_of ends (Audit disks now) l) zero in (
             text,
             follow (layout_in disks now files) (layout_in_exact disks now files) (λ i. finds (IsAudit i k.before.store)) input holds
                 (Done text) (cause_at k files is (Audit disks now) (Done text) h.cause),
@@ -44,5 +41,5 @@ module _ (k : Call) (words : List (List ℕ)) (status : ℕ) (ends : EndsAs k wo
           );
       audits = λ fine quiet sound.
           let whole = whole_audit input k.before.store 0 [] 0 (omega arith) (refl, refl) in
-          comes_exactly k words status ends files (Audit disks now) is l (Done ([] ++ whole.rest)) (input, holds, whole.audit) fine quiet sound;
+          comes_exactly ends files (Audit disks now) is l (Done ([] ++ whole.0)) (input, holds, whole.1) fine quiet sound;
     }

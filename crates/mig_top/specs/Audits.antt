@@ -1,10 +1,6 @@
 -- What the parts of an audit give.
-use Rattle.std.specs.Prelude.{◌≡◌, ◌<◌, ◌≤◌, Bool, ℕ, suc, List, length}
-use Rattle.mig_base.specs.FaultCounts.{Rose}
-use Rattle.mig_base.specs.InputLists.{Lists}
-use Rattle.mig_base.specs.Stores.{State}
-use Rattle.mig_io.specs.Held.{SinkState, Extends, ExtendsInPart}
-use Rattle.mig_mover.specs.declared.sights.Sight.{Sight}
+use Rattle.std.specs.Prelude.{Bool, List, length, suc, ℕ, ◌<◌, ◌≡◌, ◌≤◌}
+use Rattle.mig_top.specs.Common.{Extends, ExtendsInPart, Lists, Rose, Sight, SinkState, State}
 use Rattle.mig_top.specs.Sights.{AreSightLines, IsSightOf, sight_line}
 use Rattle.mig_top.specs.declared.audit_command.Stop.{Stop}
 use Rattle.mig_top.specs.declared.audit_command.Stop.TheVariants as stop

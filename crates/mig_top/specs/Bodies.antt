@@ -1,6 +1,5 @@
 -- What contracts see of the bytes that were loaded, and of what was read.
-use Rattle.mig_base.specs.Rows.{Bodies}
-use Rattle.mig_base.specs.Tasks.{Task}
+use Rattle.mig_top.specs.Common.{Bodies, Task}
 use Rattle.mig_top.specs.declared.loads.InputBytes.{InputBytes}
 use Rattle.mig_top.specs.declared.loads.LayoutBytes.{LayoutBytes}
 use Rattle.mig_top.specs.declared.loads.PlanBytes.{PlanBytes}

@@ -1,30 +1,14 @@
 -- Why a command ends as it does: its steps over the files and the store that it finds.
-use Rattle.std.specs.Prelude.{◌≡◌, ◌<◌, ◌≤◌, ℕ, ◌==◌, List, codes, if◌then◌else◌, length}
-use Rattle.mig_base.specs.InputLists.{Lists}
-use Rattle.mig_base.specs.Rows.{Bodies}
-use Rattle.mig_base.specs.Running.{Runs, Once}
-use Rattle.mig_base.specs.Layouts.{At, IsListOf}
-use Rattle.mig_base.specs.Bounding.{bound_value}
-use Rattle.mig_base.specs.Certificates.{CertHolds}
-use Rattle.mig_base.specs.Judging.{FirstBlame}
-use Rattle.mig_base.specs.Texts.{LayoutText}
-use Rattle.mig_base.specs.declared.certs.Cert.{Cert}
-use Rattle.mig_base.specs.declared.ids.Shift.{Shift}
-use Rattle.mig_base.specs.declared.ids.Spot.{Spot}
-use Rattle.mig_base.specs.Readiness.{shifts_of}
-use Rattle.mig_base.specs.Stores.{State}
-use Rattle.mig_drill.specs.Drills.{drill_text}
-use Rattle.mig_drill.specs.declared.limits.TheConstants.{MAX_DRILL_SHIFTS}
-use Rattle.mig_io.specs.Files.{Files}
-use Rattle.mig_words.specs.Outcomes.{Outcome, Blamed, TooLarge, named}
-use Rattle.mig_words.specs.Words.{Form, Names, Plan, Check, After, Fill, Audit, Rehearse, Move, Resume, Drill, Halt}
+use Rattle.std.specs.Prelude.{List, codes, if◌then◌else◌, length, ℕ, ◌<◌, ◌==◌, ◌≡◌, ◌≤◌}
+use Rattle.mig_top.specs.Common.{After, At, Audit, Blamed, Bodies, Cert, CertHolds, Check, Drill, Files, Fill, Finding, FirstBlame, Form, Halt, IsListOf, LayoutText, Lists, MAX_DRILL_SHIFTS}
+use Rattle.mig_top.specs.Common.{Move, Names, Once, Outcome, Plan, Rehearse, Resume, Roomy, Runs, Shift, Spot, State, TaskNames, TooLarge, bound_value, drill_text, named, roomy, shifts_of}
 use Rattle.mig_top.specs.HaltLooks.{halted_text, stands}
 use Rattle.mig_top.specs.Loads.{PlanBodies, input_in, layout_in, loads, loads_plan, reads_cert, reads_input, reads_plan, task_in}
 use Rattle.mig_top.specs.MoveLooks.{done_text, resumes, starts}
 use Rattle.mig_top.specs.Planned.{AreTextsOf, PlanTexts}
 use Rattle.mig_top.specs.Rehearsed.{IsRehearsed, case_in}
 use Rattle.mig_top.specs.Sights.{IsAudit}
-use Rattle.mig_top.specs.Steps.{Step, after, finds, IsEndOf}
+use Rattle.mig_top.specs.Steps.{Step, after, finds, finds_or, IsEndOf}
 use Rattle.mig_top.specs.StoreLooks.{fills, filled_text}
 
 -- The steps of `check`, of `after` and of `drill` once their files are read
@@ -41,20 +25,20 @@ pub record IsRight (input : Lists) (rounds : List (List Shift)) (cert : Cert) (t
   pub says : text ≡ verdict_text rounds cert
 
 -- the first thing that is wrong with the plan or its certificate
-abbrev pub IsWrong : Lists → List (List Shift) → Cert → Outcome → Type 0
+abbrev pub IsWrong : Lists → List (List Shift) → Cert → Finding → Type 0
 IsWrong input rounds cert (Blamed b name) = FirstBlame input rounds cert b × (name ≡ named input b)
 IsWrong input rounds cert _ = ⊥
 
 abbrev pub judges : Lists → List (List Shift) → Cert → Step (List ℕ)
-judges input rounds cert = record { Passes = IsRight input rounds cert; Stops = IsWrong input rounds cert }
+judges input rounds cert = finds_or (IsRight input rounds cert) (IsWrong input rounds cert)
 
 -- the plan has this many shifts, more than a drill takes
-abbrev pub IsTooLarge : List (List Shift) → Outcome → Type 0
+abbrev pub IsTooLarge : List (List Shift) → Finding → Type 0
 IsTooLarge rounds (TooLarge shifts) = (MAX_DRILL_SHIFTS < length (shifts_of rounds)) × (shifts ≡ length (shifts_of rounds))
 IsTooLarge rounds _ = ⊥
 
 abbrev pub fits_drill : List (List Shift) → Step (Unit {0})
-fits_drill rounds = record { Passes = λ _. length (shifts_of rounds) ≤ MAX_DRILL_SHIFTS; Stops = IsTooLarge rounds }
+fits_drill rounds = finds_or (λ _. length (shifts_of rounds) ≤ MAX_DRILL_SHIFTS) (IsTooLarge rounds)
 
 -- this is the text of the layout after the first k rounds
 abbrev pub IsLayoutAfter : Lists → List (List Shift) → ℕ → List ℕ → Type 0
@@ -68,7 +52,7 @@ IsLastLayout input rounds text = IsLayoutAfter input rounds (length rounds) text
 
 -- `plan`, up to its texts, and as a command; what it saves is said by what it leaves
 abbrev pub makes_texts : Bodies → Step PlanTexts
-makes_texts bodies = after (reads_input bodies) (λ input. finds (AreTextsOf input))
+makes_texts bodies = after (reads_input Roomy bodies) (λ input. finds (AreTextsOf input))
 
 abbrev pub plans_texts : Names → Files → Step PlanTexts
 plans_texts names files = after (input_in names files) (λ input. finds (AreTextsOf input))
@@ -79,7 +63,7 @@ plans names files = after (input_in names files) (λ input. finds (λ text. Unit
 -- `check`, once its files are loaded, and as a command
 abbrev pub reads_verdict : PlanBodies → List ℕ → Step (List ℕ)
 reads_verdict bodies cert =
-    after (reads_input bodies.input) (λ input.
+    after (reads_input Roomy bodies.input) (λ input.
     after (reads_plan bodies.plan input) (λ rounds.
     after (reads_cert cert input) (λ certificate.
     judges input rounds certificate)))
@@ -91,13 +75,13 @@ checks names cert files =
     reads_verdict bodies last))
 
 -- `after`
-abbrev pub lays_out : Names → Files → Step (List ℕ)
+abbrev pub lays_out : TaskNames → Files → Step (List ℕ)
 lays_out names files = after (task_in names files) (λ task. finds (IsLastLayout task.input task.plan))
 
 -- `drill`
 abbrev pub drills : Names → Files → Step (List ℕ)
 drills names files =
-    after (task_in names files) (λ task.
+    after (task_in (roomy names) files) (λ task.
     after (fits_drill task.plan) (λ _.
     finds (λ text. text ≡ drill_text task.plan)))
 

@@ -1,19 +1,7 @@
 -- What `halt` promises.
-use Rattle.std.specs.Prelude.{◌≡◌, ◌⊎◌, true, ℕ, List, [], Some}
-use Rattle.std.specs.Option.{IsSomeAnd}
-use Rattle.mig_base.specs.declared.cells.Cell.TheVariants.{Head}
-use Rattle.mig_base.specs.Arrivals.{IsHalted, IsHaltSafe}
-use Rattle.mig_base.specs.Flights.{AreFlights}
-use Rattle.mig_base.specs.Images.{Image}
-use Rattle.mig_base.specs.JobCells.{IsHaltCell, Tells}
-use Rattle.mig_base.specs.Journals.{is_armed}
-use Rattle.mig_base.specs.Layouts.{At, IsListOf}
-use Rattle.mig_base.specs.RoundEvents.{Adds, BeginsRun}
-use Rattle.mig_base.specs.Safety.{Contents, IsSound}
-use Rattle.mig_base.specs.Stores.{IsLeftBut, IsSettled, flights}
-use Rattle.mig_io.specs.Files.{Files, OthersStay}
-use Rattle.mig_io.specs.Held.{Extends}
-use Rattle.mig_base.specs.Tasks.{Task}
+use Rattle.std.specs.Prelude.{List, Some, [], true, ℕ, ◌≡◌, ◌⊎◌}
+use Rattle.mig_top.specs.Common.{Adds, AreFlights, At, BeginsRun, Contents, Extends, Files, Head, Image, IsHaltCell, IsHaltSafe, IsHalted, IsLeftBut, IsListOf, IsSettled, IsSomeAnd, IsSound}
+use Rattle.mig_top.specs.Common.{OthersStay, Task, Tells, flights, is_armed}
 use Rattle.mig_top.specs.Calls.{Call, FolderFailed, SinkFailed, StoreFailed}
 use Rattle.mig_top.specs.HaltLeaves.{AllMayHalt, IsLayoutSaved, MayHalt}
 use Rattle.mig_top.specs.HaltLooks.{halted_text}

@@ -1,27 +1,15 @@
 -- What `halt` leaves in a folder and in a store.
-use Rattle.std.specs.Prelude.{◌≡◌, ◌⊎◌, ℕ, List, []}
-use Rattle.mig_base.specs.declared.cells.Event.{Event}
-use Rattle.mig_base.specs.Arrivals.{IsHalted, IsHaltSafe}
-use Rattle.mig_base.specs.FaultCounts.{Rose}
-use Rattle.mig_base.specs.Flights.{IsTargetOf}
-use Rattle.mig_base.specs.Images.{Image}
-use Rattle.mig_base.specs.JobCells.{IsHaltCell, SettlesTo, Tells}
-use Rattle.mig_base.specs.RoundEvents.{BeginsRun}
-use Rattle.mig_base.specs.Safety.{Contents, IsSafe}
-use Rattle.mig_base.specs.Stores.{State, Changes, IsSettled, LeavesOnly, flights}
-use Rattle.mig_io.specs.Files.{Files, FolderState, ChangedOnly, Saves}
-use Rattle.mig_mover.specs.Halts.{IsClosingCell}
-use Rattle.mig_mover.specs.Moves.{Lands, Settles}
-use Rattle.mig_base.specs.Tasks.{Task}
-use Rattle.mig_words.specs.declared.endings.Ending.{Ending}
+use Rattle.std.specs.Prelude.{List, [], ℕ, ◌≡◌, ◌⊎◌}
+use Rattle.mig_top.specs.Common.{BeginsRun, ChangedOnly, Changes, Contents, Done, Ending, Event, Files, FolderState, Image, IsClosingCell, IsHaltCell, IsHaltSafe, IsHalted, IsSafe, IsSettled}
+use Rattle.mig_top.specs.Common.{IsTargetOf, Lands, LeavesOnly, Outcome, Refusal, Rose, Saves, Settles, SettlesTo, State, StoreFault, Task, TaskNames, Tells, flights}
 use Rattle.mig_words.specs.declared.endings.Ending.TheVariants as ending
 use Rattle.mig_top.specs.Calls as calls
 use Rattle.mig_top.specs.Causes.{IsLayoutAfter}
 use Rattle.mig_top.specs.HaltLooks.{halted_text}
 use Rattle.mig_top.specs.MoveLeaves.{ForTask, HasFound}
-use Rattle.mig_words.specs.Outcomes.{Outcome, Done, FolderFault, StoreFault, Memory, NotStarted, OtherPlan}
-use Rattle.mig_words.specs.Words.{Names}
+use Rattle.mig_words.specs.Outcomes.{FolderFault, Memory}
 use Rattle.mig_top.specs.StoreLeaves.{IsUntouched}
+use Rattle.mig_words.specs.declared.endings.StoreRefusal.TheVariants as refusal
 
 -- In the folder
 
@@ -87,12 +75,12 @@ pub record HaltsAll (task : Task) (old new : State) (k : ℕ) : Type 0 where
 
 -- The layout is saved before the store is written: a fault of the store comes before that, with nothing written and no file changed, or after it. A
 -- refusal comes from a store that is settled, and so does what ends the command between.
-abbrev pub HaltLeaves : FolderState → FolderState → State → State → Names → List ℕ → Outcome → Type 0
+abbrev pub HaltLeaves : FolderState → FolderState → State → State → TaskNames → List ℕ → Outcome → Type 0
 HaltLeaves from to old new names layout (Done text) = ForTask from names (λ task. (k : ℕ) × HaltsAll task old new k × SavesLayout task layout k from to × (text ≡ halted_text task.plan k))
 HaltLeaves from to old new names layout (StoreFault before) =
     (Lands old new × calls.Untouched from to) ⊎ ForTask from names (λ task. (k : ℕ) × HaltsInPart task old new k × SavesLayout task layout k from to)
 HaltLeaves from to old new names layout FolderFault = IsUnwritten old new
 HaltLeaves from to old new names layout Memory = IsUnwritten old new
-HaltLeaves from to old new names layout NotStarted = Settles old new
-HaltLeaves from to old new names layout (OtherPlan kept ours) = Settles old new
+HaltLeaves from to old new names layout (Refusal refusal.NotStarted) = Settles old new
+HaltLeaves from to old new names layout (Refusal (refusal.OtherPlan kept ours)) = Settles old new
 HaltLeaves from to old new names layout o = IsUntouched old new

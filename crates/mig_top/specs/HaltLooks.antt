@@ -1,18 +1,7 @@
 -- What `halt` finds in a store, and how that ends it.
-use Rattle.std.specs.Prelude.{◌≡◌, true, ℕ, List, [], ◌∷◌, IfSome, IsSome, codes, length}
-use Rattle.std.specs.Fmt.{decimal}
-use Rattle.mig_base.specs.declared.cells.Cell.TheVariants.{Gate, Head}
-use Rattle.mig_base.specs.declared.ids.Shift.{Shift}
-use Rattle.mig_base.specs.Flights.{AreFlights}
-use Rattle.mig_base.specs.Images.{Image}
-use Rattle.mig_base.specs.Journals.{is_armed}
-use Rattle.mig_base.specs.Stores.{State, flights}
-use Rattle.mig_mover.specs.Moves.{IsRefusal}
-use Rattle.mig_base.specs.Tasks.{Task}
-use Rattle.mig_mover.specs.declared.faults.MoveFault.{MoveFault}
-use Rattle.mig_mover.specs.declared.faults.MoveFault.TheVariants.{OtherPlan, NotStarted}
+use Rattle.std.specs.Prelude.{IsSome, List, [], codes, length, true, ℕ, ◌∷◌, ◌≡◌}
+use Rattle.mig_top.specs.Common.{AreFlights, Gate, Head, IfSome, Image, IsRefusal, MoveFault, NotStarted, OtherPlan, Shift, State, Task, decimal, flights, is_armed, joined}
 use Rattle.mig_top.specs.MoveLeaves.{HasFound}
-use Rattle.mig_words.specs.Outcomes.{joined}
 use Rattle.mig_top.specs.Steps.{Step}
 use Rattle.mig_top.specs.StoreLooks.{IsShown}
 

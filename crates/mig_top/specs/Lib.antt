@@ -3,6 +3,7 @@ pub mod Audits
 pub mod Bodies
 pub mod Calls
 pub mod Causes
+pub mod Common
 pub mod Ends
 pub mod HaltHeadline
 pub mod HaltLeaves
@@ -12,8 +13,8 @@ pub mod Loads
 pub mod MoveLeaves
 pub mod MoveLooks
 pub mod Planned
-pub mod Sights
 pub mod Rehearsed
+pub mod Sights
 pub mod Steps
 pub mod StoreLeaves
 pub mod StoreLooks

@@ -1,28 +1,11 @@
 -- What the files of a command stand for: how they begin, and the reading of an input, of a layout, of a plan, of a certificate and of a task.
-use Rattle.std.specs.Prelude.{◌≡◌, ◌≢◌, ◌+◌, ◌≤◌, ℕ, List, None, length, take}
-use Rattle.std.specs.Option.{IsSomeAnd}
-use Rattle.sha2.specs.Sha256.{sha256}
-use Rattle.mig_base.specs.declared.limits.TheConstants.{MAX_FILE_BYTES}
-use Rattle.mig_base.specs.InputLists.{Lists}
-use Rattle.mig_base.specs.Judging.{IsRunBlame}
-use Rattle.mig_base.specs.Rows.{Bodies}
-use Rattle.mig_base.specs.Running.{Runs}
-use Rattle.mig_base.specs.Refusals.{Accepted, RefusedAs}
-use Rattle.mig_base.specs.Texts.{PlanText, CertText}
-use Rattle.mig_base.specs.PlanLines.{PlanLine}
-use Rattle.mig_base.specs.CertLines.{CertLine}
+use Rattle.std.specs.Prelude.{List, None, length, take, ℕ, ◌+◌, ◌≡◌, ◌≢◌, ◌≤◌}
+use Rattle.mig_top.specs.Common.{Accepted, Blamed, Bodies, Cert, CertLine, CertText, FileKind, Files, Finding, IsListing, IsRunBlame, IsSomeAnd, ListingRefusedAs, Lists, MAX_FILE_BYTES, Names}
+use Rattle.mig_top.specs.Common.{NotSpelled, Outcome, PlanLine, PlanText, Reader, Refused, RefusedAs, Roomy, Runs, Shift, Task, TaskNames, Why, file, named, sha256}
 use Rattle.mig_base.specs.declared.blames.Blame.TheVariants as blame
-use Rattle.mig_base.specs.declared.certs.Cert.{Cert}
-use Rattle.mig_base.specs.declared.faults.FileKind.{FileKind}
-use Rattle.mig_base.specs.declared.faults.Why.{Why}
-use Rattle.mig_base.specs.declared.ids.Shift.{Shift}
-use Rattle.mig_csv.specs.Listings.{IsListing, ListingRefusedAs}
-use Rattle.mig_io.specs.Files.{Files, file}
-use Rattle.mig_base.specs.Tasks.{Task}
 use Rattle.mig_words.specs.declared.endings.TextFile.TheVariants as text_file
-use Rattle.mig_words.specs.Outcomes.{Outcome, Blamed, Refused, NotSpelled, NoFile, named}
-use Rattle.mig_words.specs.Words.{Names}
-use Rattle.mig_top.specs.Steps.{Step, after, finds}
+use Rattle.mig_words.specs.Outcomes.{NoFile}
+use Rattle.mig_top.specs.Steps.{Step, after, finds, finds_or}
 
 -- Loading
 
@@ -71,53 +54,56 @@ loads_plan names files =
 
 -- Reading
 
--- the first thing that is wrong with the bytes of an input, and of a layout
-abbrev pub IsRefusal : Bodies → Outcome → Type 0
-IsRefusal bodies (Refused f n w) = RefusedAs bodies f n w
-IsRefusal bodies _ = ⊥
+-- what the bytes of an input stand for by each reader, and the first thing that is wrong with them: in which file, in which row, and why
+abbrev pub IsReadBy : Reader → Bodies → Lists → Type 0
+IsReadBy Roomy bodies input = Accepted bodies input
 
-abbrev pub IsLayoutRefusal : LayoutBodies → Outcome → Type 0
-IsLayoutRefusal bodies (Refused f n w) = ListingRefusedAs bodies.disks bodies.now f n w
-IsLayoutRefusal bodies _ = ⊥
+abbrev pub IsRefusedBy : Reader → Bodies → FileKind → ℕ → Why → Type 0
+IsRefusedBy Roomy bodies f n w = RefusedAs bodies f n w
+
+-- a file is refused so
+abbrev pub IsRefusalBy : (FileKind → ℕ → Why → Type 0) → Finding → Type 0
+IsRefusalBy IsRefused (Refused f n w) = IsRefused f n w
+IsRefusalBy IsRefused _ = ⊥
 
 -- the bytes are no spelling of a plan, and of a certificate, by the number of a line
-abbrev pub IsNoPlan : List ℕ → Lists → Outcome → Type 0
+abbrev pub IsNoPlan : List ℕ → Lists → Finding → Type 0
 IsNoPlan bytes input (NotSpelled text_file.Plan line) = PlanLine input bytes line
 IsNoPlan bytes input _ = ⊥
 
-abbrev pub IsNoCert : List ℕ → Lists → Outcome → Type 0
+abbrev pub IsNoCert : List ℕ → Lists → Finding → Type 0
 IsNoCert bytes input (NotSpelled text_file.Cert line) = CertLine input bytes line
 IsNoCert bytes input _ = ⊥
 
 -- the first reason why the plan doesn't run
-abbrev pub DoesNotRun : Lists → List (List Shift) → Outcome → Type 0
+abbrev pub DoesNotRun : Lists → List (List Shift) → Finding → Type 0
 DoesNotRun input rounds (Blamed b name) = IsRunBlame input rounds b × (b ≢ blame.Memory) × (name ≡ named input b)
 DoesNotRun input rounds _ = ⊥
 
 -- the steps that read an input, a layout, a plan and a certificate, and that the plan runs
-abbrev pub reads_input : Bodies → Step Lists
-reads_input bodies = record { Passes = Accepted bodies; Stops = IsRefusal bodies }
+abbrev pub reads_input : Reader → Bodies → Step Lists
+reads_input reader bodies = finds_or (IsReadBy reader bodies) (IsRefusalBy (IsRefusedBy reader bodies))
 
 abbrev pub reads_layout : LayoutBodies → Step Lists
-reads_layout bodies = record { Passes = IsListing bodies.disks bodies.now; Stops = IsLayoutRefusal bodies }
+reads_layout bodies = finds_or (IsListing bodies.disks bodies.now) (IsRefusalBy (ListingRefusedAs bodies.disks bodies.now))
 
 abbrev pub reads_plan : List ℕ → Lists → Step (List (List Shift))
-reads_plan bytes input = record { Passes = λ rounds. PlanText input rounds bytes × (length bytes ≤ MAX_FILE_BYTES); Stops = IsNoPlan bytes input }
+reads_plan bytes input = finds_or (λ rounds. PlanText input rounds bytes × (length bytes ≤ MAX_FILE_BYTES)) (IsNoPlan bytes input)
 
 abbrev pub reads_cert : List ℕ → Lists → Step Cert
-reads_cert bytes input = record { Passes = λ cert. CertText input cert bytes × (length bytes ≤ MAX_FILE_BYTES); Stops = IsNoCert bytes input }
+reads_cert bytes input = finds_or (λ cert. CertText input cert bytes × (length bytes ≤ MAX_FILE_BYTES)) (IsNoCert bytes input)
 
 abbrev pub runs : Lists → List (List Shift) → Step (Unit {0})
-runs input rounds = record { Passes = λ _. Runs input rounds; Stops = DoesNotRun input rounds }
+runs input rounds = finds_or (λ _. Runs input rounds) (DoesNotRun input rounds)
 
 -- what is to be carried out: the input, its plan, and the digest of the plan's file
 abbrev pub task_of : List ℕ → Lists → List (List Shift) → Task
 task_of text input rounds = record { input = input; plan = rounds; digest = sha256 text }
 
 -- the step that reads a task: an input, and a plan that runs on it
-abbrev pub reads_task : PlanBodies → Step Task
-reads_task bodies =
-    after (reads_input bodies.input) (λ input.
+abbrev pub reads_task : Reader → PlanBodies → Step Task
+reads_task reader bodies =
+    after (reads_input reader bodies.input) (λ input.
     after (reads_plan bodies.plan input) (λ rounds.
     after (runs input rounds) (λ _.
     finds (λ task. task ≡ task_of bodies.plan input rounds))))
@@ -125,29 +111,46 @@ reads_task bodies =
 -- In a folder: all files are loaded, and then they are read
 
 abbrev pub input_in : Names → Files → Step Lists
-input_in names files = after (loads_input names files) reads_input
+input_in names files = after (loads_input names files) (reads_input Roomy)
 
 abbrev pub layout_in : List ℕ → List ℕ → Files → Step Lists
 layout_in disks now files = after (loads_layout disks now files) reads_layout
 
-abbrev pub task_in : Names → Files → Step Task
-task_in names files = after (loads_plan names files) reads_task
-
--- the three files stand for this input
-abbrev pub Stands : Files → Names → Lists → Type 0
-Stands files names = (input_in names files).Passes
+abbrev pub task_in : TaskNames → Files → Step Task
+task_in task files = after (loads_plan task.files files) (reads_task task.reader)
 
 -- the two files stand for this layout; each item is to stay on its disk
 abbrev pub HoldsLayout : Files → List ℕ → List ℕ → Lists → Type 0
 HoldsLayout files disks now = (layout_in disks now files).Passes
 
--- the four files stand for this: an input, and a plan that runs
-abbrev pub IsTaskOf : Files → Names → Task → Type 0
-IsTaskOf files names = (task_in names files).Passes
+-- Plainly
 
--- the three files are there
-abbrev pub AreThere : Files → Names → Bodies → Type 0
-AreThere files names = (loads_input names files).Passes
+-- the three files begin with these bytes
+pub record AreThere (files : Files) (names : Names) (bodies : Bodies) : Type 0 where
+  pub disks : HoldsFirst files names.disks bodies.disks
+  pub now : HoldsFirst files names.now bodies.now
+  pub next : HoldsFirst files names.next bodies.next
+
+-- they stand for this input
+pub record Stands (files : Files) (names : Names) (input : Lists) : Type 0 where
+  pub bodies : Bodies
+  pub there : AreThere files names bodies
+  pub accepted : Accepted bodies input
+
+-- the four files stand for this: an input, and a plan that runs
+pub record IsTaskOf (files : Files) (names : TaskNames) (task : Task) : Type 0 where
+  pub bodies : PlanBodies
+  pub there : AreThere files names.files bodies.input
+  pub plan : HoldsFirst files names.files.plan bodies.plan
+  pub input : IsReadBy names.reader bodies.input task.input
+  pub spelled : PlanText task.input task.plan bodies.plan
+  pub short : length bodies.plan ≤ MAX_FILE_BYTES
+  pub ran : Runs task.input task.plan
+  pub digest : task.digest ≡ sha256 bodies.plan
+
+-- the same, by the steps that load and read them
+abbrev pub FindsTask : Files → TaskNames → Task → Type 0
+FindsTask files names = (task_in names files).Passes
 
 -- they are there, and this is the first thing that is wrong with them
 pub record AreRefused (files : Files) (names : Names) (f : FileKind) (n : ℕ) (w : Why) : Type 0 where

@@ -1,26 +1,15 @@
 -- What `move` and `resume` leave in a store.
-use Rattle.std.specs.Prelude.{◌≡◌, ◌≤◌, ℕ, length}
-use Rattle.std.specs.Option.{IfSome}
-use Rattle.mig_base.specs.Arrivals.{IsArrived, IsReached}
-use Rattle.mig_base.specs.Flights.{AreFlights}
-use Rattle.mig_base.specs.JobCells.{IsJobCell, SettlesTo, Tells}
-use Rattle.mig_base.specs.Journals.{count_of}
-use Rattle.mig_base.specs.RoundEvents.{Adds, IsRun}
-use Rattle.mig_base.specs.Safety.{Contents, IsSafe}
-use Rattle.mig_base.specs.Stores.{State, LeavesOnly, flights}
-use Rattle.mig_io.specs.Files.{FolderState}
-use Rattle.mig_lanes.specs.LaneSteps.{later_rounds}
-use Rattle.mig_lanes.specs.Runs.{Finishes, IsPart}
-use Rattle.mig_mover.specs.Moves.{Keeps, MayBeHalting, Settles, StaysArmed}
-use Rattle.mig_base.specs.Tasks.{Task}
-use Rattle.mig_top.specs.Loads.{IsTaskOf}
-use Rattle.mig_words.specs.Outcomes.{Outcome, Done, StoreFault, Started, OtherPlan, NotThere, Occupied}
-use Rattle.mig_words.specs.Words.{Names}
+use Rattle.std.specs.Prelude.{length, ℕ, ◌≡◌, ◌≤◌}
+use Rattle.mig_top.specs.Common.{Adds, AreFlights, Contents, Done, Finishes, FolderState, IfSome, IsArrived, IsJobCell, IsPart, IsReached, IsRun, IsSafe, Keeps, LeavesOnly, MayBeHalting, Outcome}
+use Rattle.mig_top.specs.Common.{Refusal, Settles, SettlesTo, State, StaysArmed, StoreFault, Task, TaskNames, Tells, count_of, flights, later_rounds}
+use Rattle.mig_top.specs.Loads.{FindsTask}
+use Rattle.mig_top.specs.MoveLooks.{done_text}
 use Rattle.mig_top.specs.StoreLeaves.{IsUntouched}
+use Rattle.mig_words.specs.declared.endings.StoreRefusal.TheVariants as refusal
 
 -- the four files, where they are told, stand for this task
-abbrev pub AreOfTask : FolderState → Names → Task → Type 0
-AreOfTask folder names task = IfSome folder.files (λ files. IsTaskOf files names task)
+abbrev pub AreOfTask : FolderState → TaskNames → Task → Type 0
+AreOfTask folder names task = IfSome folder.files (λ files. FindsTask files names task)
 
 -- what holds whatever is answered; the gate stays 1 once it is
 pub record Carries (task : Task) (old new : State) : Type 0 where
@@ -66,20 +55,18 @@ pub record ResumesAll (task : Task) (old new : State) (k : ℕ) : Type 0 where
       → IsReached task.input task.plan task.digest contents new.reads
 
 -- with some task that the files stand for
-abbrev pub ForTask : FolderState → Names → (Task → Type 0) → Type 0
+abbrev pub ForTask : FolderState → TaskNames → (Task → Type 0) → Type 0
 ForTask folder names P = (task : Task) × AreOfTask folder names task × P task
 
--- what `move` and `resume` leave with each outcome
-abbrev pub MoveLeaves : FolderState → State → State → Names → Outcome → Type 0
+-- what `move` and `resume` leave with each outcome; the number of rounds that a resumption found is the one that its text tells
+abbrev pub MoveLeaves : FolderState → State → State → TaskNames → Outcome → Type 0
 MoveLeaves folder old new names (Done text) = ForTask folder names (λ task. MovesAll task old new 0 × MovesInPart task old new 0)
 MoveLeaves folder old new names (StoreFault before) = ForTask folder names (λ task. MovesInPart task old new 0)
-MoveLeaves folder old new names Started = ForTask folder names (λ task. Refuses task old new)
-MoveLeaves folder old new names (OtherPlan kept ours) = ForTask folder names (λ task. Refuses task old new)
-MoveLeaves folder old new names (NotThere item) = ForTask folder names (λ task. Refuses task old new)
-MoveLeaves folder old new names (Occupied disk slot) = ForTask folder names (λ task. Refuses task old new)
+MoveLeaves folder old new names (Refusal refusal.NotStarted) = IsUntouched old new
+MoveLeaves folder old new names (Refusal r) = ForTask folder names (λ task. Refuses task old new)
 MoveLeaves folder old new names o = IsUntouched old new
 
-abbrev pub ResumeLeaves : FolderState → State → State → Names → Outcome → Type 0
-ResumeLeaves folder old new names (Done text) = ForTask folder names (λ task. (k : ℕ) × ResumesAll task old new k × ResumesInPart task old new)
+abbrev pub ResumeLeaves : FolderState → State → State → TaskNames → Outcome → Type 0
+ResumeLeaves folder old new names (Done text) = ForTask folder names (λ task. (k : ℕ) × ResumesAll task old new k × MovesInPart task old new k × (text ≡ done_text task.plan k))
 ResumeLeaves folder old new names (StoreFault before) = ForTask folder names (λ task. ResumesInPart task old new × KeepsHalting task old new)
 ResumeLeaves folder old new names o = MoveLeaves folder old new names o

@@ -1,18 +1,8 @@
 -- What `move` and `resume` find in a store, and how that ends them.
-use Rattle.std.specs.Prelude.{◌≡◌, ◌≤◌, true, false, ℕ, List, [], ◌∷◌, IfSome, IsSome, codes, length}
-use Rattle.std.specs.Fmt.{decimal}
-use Rattle.mig_base.specs.declared.cells.Cell.TheVariants.{Gate, Head}
-use Rattle.mig_base.specs.declared.ids.Shift.{Shift}
-use Rattle.mig_base.specs.Images.{Image}
-use Rattle.mig_base.specs.JobCells.{IsJobCell, Tells}
-use Rattle.mig_base.specs.Journals.{is_armed, count_of}
-use Rattle.mig_base.specs.Readiness.{IsReady}
-use Rattle.mig_base.specs.Stores.{State, flights}
-use Rattle.mig_mover.specs.Moves.{IsRefusal}
-use Rattle.mig_base.specs.Tasks.{Task}
-use Rattle.mig_mover.specs.declared.faults.MoveFault.{MoveFault}
-use Rattle.mig_mover.specs.declared.faults.MoveFault.TheVariants.{Started, NotStarted}
-use Rattle.mig_words.specs.Outcomes.{joined}
+use Rattle.std.specs.Prelude.{IsSome, List, [], codes, length, true, ℕ, ◌∷◌, ◌≡◌, ◌≤◌}
+use Rattle.mig_top.specs.Common.{Gate, Head, IfSome, Image, IsJobCell, IsRefusal, MoveFault, NotStarted, Shift, Started, State, Task, Tells, count_of, decimal, flights, is_armed, joined}
+use Rattle.mig_base.specs.Flights.{AreFlights}
+use Rattle.mig_mover.specs.Moves.{IsReadyOnceLanded, WasReady}
 use Rattle.mig_top.specs.Steps.{Step}
 use Rattle.mig_top.specs.StoreLooks.{IsShown}
 
@@ -26,16 +16,16 @@ IsResumeRefusal task image Started = ⊥
 IsResumeRefusal task image NotStarted = ⊥
 IsResumeRefusal task image fault = IsRefusal task image fault
 
--- where nothing was in flight: the store was ready
+-- the store was ready, where its gate is told
 abbrev pub IsStartable : Task → State → Type 0
-IsStartable task store = flights store ≡ [] → IsSome (store.reads Gate) → IsReady task.input task.plan store.reads
+IsStartable task store = AreFlights (flights store) → IsSome (store.reads Gate) → IsReadyOnceLanded task store
 
--- so many rounds were marked; where nothing was in flight the journal named the plan, or the store was ready
+-- so many rounds were marked; where the gate was 1 the journal named the plan, and else the store was ready
 pub record IsResumable (task : Task) (store : State) (k : ℕ) : Type 0 where
   pub most : k ≤ length task.plan
-  pub found : Tells (IsJobCell task.input task.plan) store.reads → flights store ≡ [] → k ≡ count_of (length task.plan) store.reads
-  pub ours : flights store ≡ [] → IsSome (store.reads Gate) → is_armed store.reads ≡ true → IfSome (store.reads Head) (λ kept. kept ≡ task.digest)
-  pub ready : flights store ≡ [] → is_armed store.reads ≡ false → IsSome (store.reads Gate) → IsReady task.input task.plan store.reads
+  pub found : Tells (IsJobCell task.input task.plan) store.reads → AreFlights (flights store) → k ≡ count_of (length task.plan) store.reads
+  pub ours : AreFlights (flights store) → IsSome (store.reads Gate) → is_armed store.reads ≡ true → IfSome (store.reads Head) (λ kept. kept ≡ task.digest)
+  pub ready : WasReady task store
 
 -- the steps of `move` and `resume` at the store
 abbrev pub starts : Task → State → Step (Unit {0})

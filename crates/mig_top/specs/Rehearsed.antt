@@ -1,17 +1,6 @@
 -- What `rehearse` reads and prints.
-use Rattle.std.specs.Prelude.{◌≡◌, ℕ, ◌==◌, List, [], ◌∷◌, ◌++◌, codes, if◌then◌else◌, length}
-use Rattle.std.specs.Fmt.{decimal}
-use Rattle.hex.specs.Hex.{encode_lower}
-use Rattle.sha2.specs.Sha256.{sha256}
-use Rattle.mig_base.specs.Bounding.{bound_value, quotient}
-use Rattle.mig_base.specs.Digits.{number_of}
-use Rattle.mig_base.specs.InputLists.{Lists}
-use Rattle.mig_base.specs.Texts.{PlanText, text_of_lines, words}
-use Rattle.mig_base.specs.Transfers.{moves, transfers}
-use Rattle.mig_base.specs.declared.certs.Cert.{Cert}
-use Rattle.mig_base.specs.declared.ids.Shift.{Shift}
-use Rattle.mig_gen.specs.MadeCases.{case_of}
-use Rattle.mig_best.specs.Certified.{IsCertified}
+use Rattle.std.specs.Prelude.{List, [], codes, if◌then◌else◌, length, ℕ, ◌++◌, ◌==◌, ◌∷◌, ◌≡◌}
+use Rattle.mig_top.specs.Common.{Cert, IsCertified, Lists, PlanText, Shift, bound_value, case_of, decimal, encode_lower, moves, number_of, quotient, sha256, text_of_lines, transfers, words}
 
 -- the case that is made of three words
 abbrev pub case_in : (disks per_pair limit : List ℕ) → Lists

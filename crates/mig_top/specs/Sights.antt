@@ -1,15 +1,6 @@
 -- What `audit` says of the slots where items are listed.
-use Rattle.std.specs.Prelude.{◌≡◌, ◌+◌, ◌-◌, ◌<◌, ◌++◌, ℕ, suc, zero, List, [], ◌∷◌, IfSome, MatchBool, codes, if◌then◌else◌, length, slice_index_or}
-use Rattle.std.specs.Fmt.{decimal}
-use Rattle.hex.specs.Hex.{encode_lower}
-use Rattle.sha2.specs.Sha256.{sha256}
-use Rattle.mig_base.specs.InputLists.{Lists, no_spot}
-use Rattle.mig_base.specs.Slots.{HasHeader, item_cell}
-use Rattle.mig_base.specs.Stores.{State, IsMoving}
-use Rattle.mig_base.specs.Texts.{disk_name, item_name}
-use Rattle.mig_base.specs.declared.ids.Spot.{Spot}
-use Rattle.mig_mover.specs.declared.sights.Sight.{Sight}
-use Rattle.mig_words.specs.Outcomes.{joined}
+use Rattle.std.specs.Prelude.{List, MatchBool, [], codes, if◌then◌else◌, length, slice_index_or, suc, zero, ℕ, ◌++◌, ◌+◌, ◌-◌, ◌<◌, ◌∷◌, ◌≡◌}
+use Rattle.mig_top.specs.Common.{HasHeader, IfSome, IsMoving, Lists, Sight, Spot, State, decimal, disk_name, encode_lower, item_cell, item_name, joined, no_spot, sha256}
 
 -- where the item's slot is told and no copy to it is in flight: whether its header names the item, and its digest
 pub record IsSightOf (input : Lists) (store : State) (item : ℕ) (sight : Sight) : Type 0 where

@@ -1,18 +1,10 @@
 -- What is left in a store by a command that does nothing with it, and by `fill`.
-use Rattle.std.specs.Prelude.{◌≡◌, ◌⊎◌, ℕ, List, []}
-use Rattle.std.specs.Option.{IfSome}
-use Rattle.mig_base.specs.declared.cells.Event.{Event}
-use Rattle.mig_base.specs.Flights.{IsTargetOf}
-use Rattle.mig_base.specs.Images.{Image}
-use Rattle.mig_base.specs.InputLists.{Lists}
-use Rattle.mig_base.specs.RoundEvents.{BeginsRun}
-use Rattle.mig_base.specs.Slots.{IsListedCell}
-use Rattle.mig_base.specs.Stores.{State, Changes, IsSettled, flights}
-use Rattle.mig_io.specs.Files.{FolderState}
-use Rattle.mig_mover.specs.Fillings.{HasMade}
-use Rattle.mig_mover.specs.Moves.{Settles}
+use Rattle.std.specs.Prelude.{List, [], ℕ, ◌≡◌, ◌⊎◌, false}
+use Rattle.mig_top.specs.Common.{BeginsRun, Changes, Done, Event, FolderState, HasMade, IfSome, Image, IsListedCell, IsSettled, IsTargetOf, Lists, Outcome, Refusal, Settles, State, StoreFault}
+use Rattle.mig_top.specs.Common.{flights}
+use Rattle.mig_base.specs.Journals.{is_armed}
 use Rattle.mig_top.specs.Loads.{HoldsLayout}
-use Rattle.mig_words.specs.Outcomes.{Outcome, Done, StoreFault, Started, Occupied}
+use Rattle.mig_words.specs.declared.endings.StoreRefusal.TheVariants as refusal
 
 -- the store is as it was
 pub record IsUntouched (old new : State) : Type 0 where
@@ -38,17 +30,19 @@ abbrev pub WritesListed : Lists → State → State → Type 0
 WritesListed input old new = (added : List Event) × BeginsRun (flights old) [] added
     × Changes (λ cell. IsTargetOf (flights old) cell ⊎ IsListedCell input cell) (IsListedCell input) added old new
 
--- the slots that are made for the items stand where the items are listed, and a crash leaves them
+-- the slots that are made for the items stand where the items are listed, a crash leaves them, and the gate isn't 1
 pub record IsFilled (input : Lists) (old new : State) : Type 0 where
   pub made : HasMade input new.reads
   pub settled : IsSettled new
   pub landed : flights new ≡ []
+  -- no plan is carried out
+  pub idle : is_armed new.reads ≡ false
   pub writes : WritesListed input old new
 
 -- A refusal of the store settled it, and a fault of it may leave anything at listed slots; before that nothing is done with it.
 abbrev pub FillLeaves : FolderState → State → State → List ℕ → List ℕ → Outcome → Type 0
 FillLeaves folder old new disks now (Done text) = (input : Lists) × AreOfLayout folder disks now input × IsFilled input old new
 FillLeaves folder old new disks now (StoreFault before) = (input : Lists) × AreOfLayout folder disks now input × WritesListed input old new
-FillLeaves folder old new disks now Started = Settles old new
-FillLeaves folder old new disks now (Occupied disk slot) = Settles old new
+FillLeaves folder old new disks now (Refusal refusal.Started) = Settles old new
+FillLeaves folder old new disks now (Refusal (refusal.Occupied disk slot)) = Settles old new
 FillLeaves folder old new disks now o = IsUntouched old new

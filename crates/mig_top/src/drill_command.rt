@@ -14,7 +14,7 @@ use mig_base::{MAX_FILE_BYTES, Plan};
 use mig_drill::{DrillFault, MAX_DRILL_SHIFTS, drill};
 use mig_io::{Folder, Sink};
 use mig_mover::{Job, count_shifts, prepare};
-use mig_words::{Ending, PlanFiles, tell};
+use mig_words::{Ending, Finding, PlanFiles, Reader, TaskFiles, tell};
 use std::alloc::Global;
 
 /// Refuses a plan that is too large for a drill.
@@ -24,7 +24,7 @@ fn check_size(plan: &Plan) -> Result<(), Ending>
 {
     let shifts = count_shifts(plan);
     if shifts > MAX_DRILL_SHIFTS {
-        return Err(Ending::TooLarge { shifts });
+        return Err(Ending::Found(Finding::TooLarge { shifts }));
     }
     Ok(())
 }
@@ -40,7 +40,11 @@ fn load_small_job<F: Folder>(
     ensures same { (F.state folder.new).files ≡ (F.state folder.old).files }
     ensures later { (F.state folder.old).faults ≤ (F.state folder.new).faults }
 {
-    let read = load_task(alloc, folder, files)?;
+    let task = TaskFiles {
+        reader: Reader::Roomy,
+        files,
+    };
+    let read = load_task(alloc, folder, task)?;
     check_size(&read.plan)?;
     Ok(prepare(alloc, &read.input, &read.plan, &read.text)?)
 }

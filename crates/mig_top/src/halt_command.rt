@@ -5,7 +5,7 @@ ghost use Rattle.mig_top.specs.Calls.{call, world};
 ghost use Rattle.mig_top.specs.Ends.{FormEndsAs};
 ghost use Rattle.mig_top.specs.HaltLeaves.{SaveEnds, SavesLayout};
 ghost use Rattle.mig_top.specs.MoveLeaves.{AreOfTask};
-ghost use Rattle.mig_words.specs.Commands.{names_in};
+ghost use Rattle.mig_words.specs.Commands.{task_names};
 ghost use Rattle.mig_words.specs.Words.{Halt};
 
 use crate::layout_texts::layout_text;
@@ -13,7 +13,7 @@ use crate::tasks::load_job;
 use mig_io::{Folder, Sink};
 use mig_mover::{Job, halt, stand};
 use mig_store::Store;
-use mig_words::{Ending, PlanFiles, fault_ending, show_halted, tell};
+use mig_words::{Ending, TaskFiles, fault_ending, show_halted, tell};
 use std::alloc::Global;
 
 /// Saves the layout after the first rounds of a job.
@@ -41,12 +41,13 @@ fn close<F: Folder, K: Sink, S: Store>(
     out: &mut K,
     store: &mut S,
     job: &Job,
-    files: PlanFiles<'_>,
+    task: TaskFiles<'_>,
     layout: &str,
 ) -> u8
-    ensures { (before : FolderState) → AreOfTask before (names_in files.entry) job.now → (F.state folder.old).files ≡ before.files → before.faults ≤ (F.state folder.old).faults
-        → FormEndsAs (call (world before (K.state out.old) (S.state store.old)) (world (F.state folder.new) (K.state out.new) (S.state store.new))) (Halt (names_in files.entry) layout.now) result }
+    ensures { (before : FolderState) → AreOfTask before (task_names task.entry) job.now → (F.state folder.old).files ≡ before.files → before.faults ≤ (F.state folder.old).faults
+        → FormEndsAs (call (world before (K.state out.old) (S.state store.old)) (world (F.state folder.new) (K.state out.new) (S.state store.new))) (Halt (task_names task.entry) layout.now) result }
 {
+    let files = task.files;
     let names = [files.disks, files.now, files.next, files.plan];
     let found = match stand(job, store) {
         Ok(found) => found,
@@ -67,17 +68,22 @@ pub fn run_halt<F: Folder, K: Sink, S: Store>(
     folder: &mut F,
     out: &mut K,
     store: &mut S,
-    files: PlanFiles<'_>,
+    task: TaskFiles<'_>,
     layout: &str,
 ) -> u8
-    ensures { FormEndsAs (call (world (F.state folder.old) (K.state out.old) (S.state store.old)) (world (F.state folder.new) (K.state out.new) (S.state store.new))) (Halt (names_in files.entry) layout.now) result }
+    ensures { FormEndsAs (call (world (F.state folder.old) (K.state out.old) (S.state store.old)) (world (F.state folder.new) (K.state out.new) (S.state store.new))) (Halt (task_names task.entry) layout.now) result }
 {
-    match load_job(alloc, folder, files) {
-        Ok(job) => close(alloc, folder, out, store, &job, files, layout),
+    match load_job(alloc, folder, task) {
+        Ok(job) => close(alloc, folder, out, store, &job, task, layout),
         Err(ending) => tell(
             out,
             ending,
-            &[files.disks, files.now, files.next, files.plan],
+            &[
+                task.files.disks,
+                task.files.now,
+                task.files.next,
+                task.files.plan,
+            ],
         ),
     }
 }

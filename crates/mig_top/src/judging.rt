@@ -7,7 +7,7 @@ ghost use Rattle.mig_top.specs.Steps.{Takes, TakesAs};
 
 use mig_base::{Blame, Cert, Input, Plan, Verdict};
 use mig_check::{judge, runs};
-use mig_words::{Ending, name_in};
+use mig_words::{Ending, Finding, name_in};
 use std::alloc::Global;
 
 /// Whether the plan runs.
@@ -20,7 +20,7 @@ pub fn check_runs(alloc: Global, input: &Input, plan: &Plan) -> Result<(), Endin
         Err(Blame::Memory) => Err(Ending::Memory),
         Err(blame) => {
             let name = name_in(input, &blame);
-            Err(Ending::Blamed { blame, name })
+            Err(Ending::Found(Finding::Blamed { blame, name }))
         }
     }
 }
@@ -42,7 +42,7 @@ pub fn verdict_on(
         Err(Blame::Memory) => Err(Ending::Memory),
         Err(blame) => {
             let name = name_in(input, &blame);
-            Err(Ending::Blamed { blame, name })
+            Err(Ending::Found(Finding::Blamed { blame, name }))
         }
     }
 }

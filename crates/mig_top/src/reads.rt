@@ -8,21 +8,31 @@ ghost use Rattle.mig_base.specs.Targets.{IsRoomy};
 ghost use Rattle.mig_top.specs.Bodies.{bodies_of};
 ghost use Rattle.mig_top.specs.Loads.{reads_cert, reads_input, reads_plan};
 ghost use Rattle.mig_top.specs.Steps.{Takes};
+ghost use Rattle.mig_words.specs.declared.words.Reader.TheVariants.{Roomy};
 
 use crate::loads::InputBytes;
 use mig_base::{Cert, Input, Plan};
 use mig_cert::read_cert;
 use mig_csv::read_input;
 use mig_text::{TextError, read_plan};
-use mig_words::{Ending, TextFile};
+use mig_words::{Ending, Finding, Reader, TextFile};
 use std::alloc::Global;
 
-/// The input that the bytes of the three files stand for.
-pub fn read_files(alloc: Global, bytes: &InputBytes) -> Result<Input, Ending>
-    ensures takes { Takes (reads_input (bodies_of bytes.entry.now)) result }
+/// The input that the bytes of the three files stand for, where each disk has room for what comes to it.
+pub fn read_roomy(alloc: Global, bytes: &InputBytes) -> Result<Input, Ending>
+    ensures takes { Takes (reads_input Roomy (bodies_of bytes.entry.now)) result }
     ensures roomy { IfOk result IsRoomy }
 {
     Ok(read_input(alloc, &bytes.disks, &bytes.now, &bytes.next)?)
+}
+
+/// The input that the bytes of the three files stand for, as this reader reads them.
+pub fn read_files(alloc: Global, reader: Reader, bytes: &InputBytes) -> Result<Input, Ending>
+    ensures { Takes (reads_input reader (bodies_of bytes.entry.now)) result }
+{
+    match reader {
+        Reader::Roomy => read_roomy(alloc, bytes),
+    }
 }
 
 /// The plan whose spelling the bytes are.
@@ -33,10 +43,10 @@ pub fn read_plan_text(alloc: Global, input: &Input, bytes: &[u8]) -> Result<Plan
 {
     match read_plan(alloc, input, bytes) {
         Ok(plan) => Ok(plan),
-        Err(TextError::Line { number }) => Err(Ending::NotSpelled {
+        Err(TextError::Line { number }) => Err(Ending::Found(Finding::NotSpelled {
             text: TextFile::Plan,
             line: number,
-        }),
+        })),
         Err(TextError::Memory) => Err(Ending::Memory),
     }
 }
@@ -48,10 +58,10 @@ pub fn read_cert_text(alloc: Global, input: &Input, bytes: &[u8]) -> Result<Cert
 {
     match read_cert(alloc, input, bytes) {
         Ok(cert) => Ok(cert),
-        Err(TextError::Line { number }) => Err(Ending::NotSpelled {
+        Err(TextError::Line { number }) => Err(Ending::Found(Finding::NotSpelled {
             text: TextFile::Cert,
             line: number,
-        }),
+        })),
         Err(TextError::Memory) => Err(Ending::Memory),
     }
 }

@@ -1,14 +1,14 @@
 //! `resume`: carries out what is left of a plan.
 ghost use Rattle.mig_top.specs.Calls.{call, world};
 ghost use Rattle.mig_top.specs.Ends.{FormEndsAs};
-ghost use Rattle.mig_words.specs.Commands.{names_in};
+ghost use Rattle.mig_words.specs.Commands.{task_names};
 ghost use Rattle.mig_words.specs.Words.{Resume};
 
 use crate::tasks::load_job;
 use mig_io::{Folder, Sink};
 use mig_lanes::resume_lanes;
 use mig_store::Store;
-use mig_words::{PlanFiles, fault_ending, show_rounds, tell};
+use mig_words::{TaskFiles, fault_ending, show_rounds, tell};
 use std::alloc::Global;
 
 /// `resume`, with its text. Once the job is made it takes no memory.
@@ -17,12 +17,13 @@ pub fn run_resume<F: Folder, K: Sink, S: Store>(
     folder: &mut F,
     out: &mut K,
     store: &mut S,
-    files: PlanFiles<'_>,
+    task: TaskFiles<'_>,
 ) -> u8
-    ensures { FormEndsAs (call (world (F.state folder.old) (K.state out.old) (S.state store.old)) (world (F.state folder.new) (K.state out.new) (S.state store.new))) (Resume (names_in files.entry)) result }
+    ensures { FormEndsAs (call (world (F.state folder.old) (K.state out.old) (S.state store.old)) (world (F.state folder.new) (K.state out.new) (S.state store.new))) (Resume (task_names task.entry)) result }
 {
+    let files = task.files;
     let names = [files.disks, files.now, files.next, files.plan];
-    let job = match load_job(alloc, folder, files) {
+    let job = match load_job(alloc, folder, task) {
         Ok(job) => job,
         Err(ending) => return tell(out, ending, &names),
     };

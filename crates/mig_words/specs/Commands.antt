@@ -2,21 +2,25 @@
 use Rattle.mig_words.specs.declared.words.Command.{Command}
 use Rattle.mig_words.specs.declared.words.Command.TheVariants as command
 use Rattle.mig_words.specs.declared.words.PlanFiles.{PlanFiles}
-use Rattle.mig_words.specs.Words.{Form, Names, Plan, Check, After, Fill, Audit, Rehearse, Move, Resume, Drill, Halt}
+use Rattle.mig_words.specs.declared.words.TaskFiles.{TaskFiles}
+use Rattle.mig_words.specs.Words.{Form, Names, TaskNames, Plan, Check, After, Fill, Audit, Rehearse, Move, Resume, Drill, Halt}
 
 -- the names that words are
 abbrev pub names_in : PlanFiles → Names
 names_in files = record { disks = files.disks.now; now = files.now.now; next = files.next.now; plan = files.plan.now }
 
+abbrev pub task_names : TaskFiles → TaskNames
+task_names task = record { reader = task.reader; files = names_in task.files }
+
 -- the form of a command that was read
 abbrev pub form_of : Command → Form
 form_of (command.Plan files cert) = Plan (names_in files) cert.now
 form_of (command.Check files cert) = Check (names_in files) cert.now
-form_of (command.After files) = After (names_in files)
+form_of (command.After task) = After (task_names task)
 form_of (command.Fill disks now) = Fill disks.now now.now
 form_of (command.Audit disks now) = Audit disks.now now.now
 form_of (command.Rehearse case) = Rehearse case.disks.now case.per_pair.now case.limit.now
-form_of (command.Move files) = Move (names_in files)
-form_of (command.Resume files) = Resume (names_in files)
+form_of (command.Move task) = Move (task_names task)
+form_of (command.Resume task) = Resume (task_names task)
 form_of (command.Drill files) = Drill (names_in files)
-form_of (command.Halt files layout) = Halt (names_in files) layout.now
+form_of (command.Halt task layout) = Halt (task_names task) layout.now

@@ -1,5 +1,5 @@
 -- How a call of the program may end, with the numbers of the statuses and the texts.
-use Rattle.std.specs.Prelude.{ℕ, List, [], ◌∷◌, ◌++◌, codes, slice_index_or, unwrap_or}
+use Rattle.std.specs.Prelude.{ℕ, List, [], ◌∷◌, ◌++◌, Option, Some, None, codes, slice_get, slice_index_or, unwrap_or}
 use Rattle.std.specs.List.{flat_map}
 use Rattle.std.specs.Fmt.{decimal}
 use Rattle.mig_base.specs.declared.blames.Blame.{Blame}
@@ -9,12 +9,16 @@ use Rattle.mig_base.specs.declared.faults.FileKind.TheVariants as file
 use Rattle.mig_base.specs.declared.faults.Why.{Why}
 use Rattle.mig_base.specs.declared.faults.Why.TheVariants as why
 use Rattle.mig_base.specs.InputLists.{Lists}
-use Rattle.mig_base.specs.Texts.{disk_name, item_name}
+use Rattle.mig_base.specs.declared.inputs.Disk.{Disk}
 use Rattle.mig_mover.specs.declared.faults.MoveFault.{MoveFault}
 use Rattle.mig_mover.specs.declared.faults.MoveFault.TheVariants as fault
 use Rattle.hex.specs.Hex.{encode_lower}
 use Rattle.mig_words.specs.declared.endings.Ending.{Ending}
 use Rattle.mig_words.specs.declared.endings.Ending.TheVariants as ending
+use Rattle.mig_words.specs.declared.endings.Finding.{Finding}
+use Rattle.mig_words.specs.declared.endings.Finding.TheVariants as finding
+use Rattle.mig_words.specs.declared.endings.StoreRefusal.{StoreRefusal}
+use Rattle.mig_words.specs.declared.endings.StoreRefusal.TheVariants as refusal
 use Rattle.mig_words.specs.declared.endings.TextFile.{TextFile}
 use Rattle.mig_words.specs.declared.endings.TextFile.TheVariants as text_file
 
@@ -22,86 +26,84 @@ use Rattle.mig_words.specs.declared.endings.TextFile.TheVariants as text_file
 pub data Outcome : Type 0 where
   -- what the command means was done, and this text was put
   Done : (text : List ℕ) → Outcome
-  -- the plan or its certificate is blamed; the name is that of the item or the disk that the blame names
-  Blamed : (blame : Blame) (name : List ℕ) → Outcome
   Unlisted : Outcome
-  Refused : (file : FileKind) (row : ℕ) (why : Why) → Outcome
   FolderFault : Outcome
   -- the store failed; this had been put before
   StoreFault : (before : List ℕ) → Outcome
   -- the command was done, but this text wasn't put whole
   SinkFault : (text : List ℕ) → Outcome
   Memory : Outcome
-  -- the journal says that this plan was started, that another was, or that none was
-  Started : Outcome
-  OtherPlan : (kept ours : List ℕ) → Outcome
-  NotStarted : Outcome
-  -- a slot doesn't name its item, or is used that should be free
-  NotThere : (item : List ℕ) → Outcome
-  Occupied : (disk : List ℕ) (slot : ℕ) → Outcome
-  NotSpelled : (file : TextFile) (line : ℕ) → Outcome
-  -- the plan runs, but has this many shifts, more than a drill takes
-  TooLarge : (shifts : ℕ) → Outcome
   NoFile : (word : List ℕ) → Outcome
+  -- the plan, its certificate or a file of the command is wrong
+  Found : (finding : Finding) → Outcome
+  -- what the store holds doesn't let the command begin
+  Refusal : (refusal : StoreRefusal) → Outcome
 
 -- the outcome of an ending, where the command loads the files of these names
 abbrev pub outcome_of : List (List ℕ) → Ending → Outcome
-outcome_of names (ending.Blamed b name) = Blamed b (unwrap_or name [])
 outcome_of names ending.Unlisted = Unlisted
-outcome_of names (ending.Refused f row w) = Refused f row w
 outcome_of names ending.FolderFault = FolderFault
 outcome_of names ending.StoreFault = StoreFault []
 outcome_of names ending.Memory = Memory
-outcome_of names ending.Started = Started
-outcome_of names (ending.OtherPlan kept ours) = OtherPlan kept ours
-outcome_of names ending.NotStarted = NotStarted
-outcome_of names (ending.NotThere item) = NotThere (unwrap_or item [])
-outcome_of names (ending.Occupied disk slot) = Occupied (unwrap_or disk []) slot
-outcome_of names (ending.NotSpelled f line) = NotSpelled f line
-outcome_of names (ending.TooLarge shifts) = TooLarge shifts
 outcome_of names (ending.NoFile place) = NoFile (slice_index_or names place [])
+outcome_of names (ending.Found f) = Found f
+outcome_of names (ending.Refusal r) = Refusal r
+
+-- the name of the disk with this number, if there is one
+abbrev pub name_if : Option Disk → Option (List ℕ)
+name_if (Some disk) = Some disk.name
+name_if None = None
+
+abbrev pub disk_listed : Lists → ℕ → Option (List ℕ)
+disk_listed input disk = name_if (slice_get input.disks disk)
 
 -- the outcome of a mover's fault
 abbrev pub fault_outcome : Lists → MoveFault → Outcome
 fault_outcome input fault.Store = StoreFault []
-fault_outcome input fault.Started = Started
-fault_outcome input (fault.OtherPlan kept ours) = OtherPlan kept ours
-fault_outcome input fault.NotStarted = NotStarted
-fault_outcome input (fault.NotThere item) = NotThere (item_name input item.0)
-fault_outcome input (fault.Occupied disk slot) = Occupied (disk_name input disk.0) slot
+fault_outcome input fault.Started = Refusal refusal.Started
+fault_outcome input (fault.OtherPlan kept ours) = Refusal (refusal.OtherPlan kept ours)
+fault_outcome input fault.NotStarted = Refusal refusal.NotStarted
+fault_outcome input (fault.NotThere item) = Refusal (refusal.NotThere (slice_get input.items item.0))
+fault_outcome input (fault.Occupied disk slot) = Refusal (refusal.Occupied (disk_listed input disk.0) slot)
 
 -- the number of the status
+abbrev pub finding_code : Finding → ℕ
+finding_code (finding.Blamed b name) = 1
+finding_code (finding.Refused f row w) = 3
+finding_code (finding.NotSpelled f line) = 10
+finding_code (finding.TooLarge shifts) = 11
+
+abbrev pub store_code : StoreRefusal → ℕ
+store_code refusal.Started = 8
+store_code (refusal.OtherPlan kept ours) = 8
+store_code refusal.NotStarted = 8
+store_code (refusal.NotThere item) = 9
+store_code (refusal.Occupied disk slot) = 9
+
 abbrev pub code : Outcome → ℕ
 code (Done text) = 0
-code (Blamed b name) = 1
 code Unlisted = 2
-code (Refused f row w) = 3
 code FolderFault = 4
 code (StoreFault before) = 5
 code (SinkFault text) = 6
 code Memory = 7
-code Started = 8
-code (OtherPlan kept ours) = 8
-code NotStarted = 8
-code (NotThere item) = 9
-code (Occupied disk slot) = 9
-code (NotSpelled f line) = 10
-code (TooLarge shifts) = 11
 code (NoFile word) = 16
+code (Found f) = finding_code f
+code (Refusal r) = store_code r
 
 -- the pieces of a text, one after the other
 abbrev pub joined : List (List ℕ) → List ℕ
 joined = flat_map (λ piece. piece)
 
--- the name of the item or the disk that a blame names
-abbrev pub named : Lists → Blame → List ℕ
-named input (blame.NotHere r item) = item_name input item.0
-named input (blame.TwiceInRound r item) = item_name input item.0
-named input (blame.SlotNotFree r item) = item_name input item.0
-named input (blame.OverLimit r disk count) = disk_name input disk.0
-named input (blame.WrongEnd item) = item_name input item.0
-named input (blame.MovedTooOften item count) = item_name input item.0
-named input _ = []
+-- the name of the item or the disk that a blame names, if it names one
+abbrev pub named : Lists → Blame → Option (List ℕ)
+named input (blame.NotHere r item) = slice_get input.items item.0
+named input (blame.TwiceInRound r item) = slice_get input.items item.0
+named input (blame.SlotNotFree r item) = slice_get input.items item.0
+named input (blame.OverLimit r disk count) = disk_listed input disk.0
+named input (blame.WrongEnd item) = slice_get input.items item.0
+named input (blame.MovedTooOften item count) = slice_get input.items item.0
+named input _ = None
 
 -- two numbers that differ
 abbrev pub kept_counted : ℕ → ℕ → List (List ℕ)
@@ -164,21 +166,27 @@ abbrev pub text_word : TextFile → List ℕ
 text_word text_file.Plan = codes "plan"
 text_word text_file.Cert = codes "certificate"
 
--- the text that is put with each outcome
+-- the text that is put with what was found wrong, with what a store refuses, and with each outcome
+abbrev pub finding_text : Finding → List ℕ
+finding_text (finding.Blamed b name) = joined (blame_pieces b (unwrap_or name []))
+finding_text (finding.Refused f row w) = refusal_text f row w
+finding_text (finding.NotSpelled f line) = joined (codes "refused " ∷ text_word f ∷ codes " line " ∷ decimal line ∷ codes "\n" ∷ [])
+finding_text (finding.TooLarge shifts) = joined (codes "too large for a drill " ∷ decimal shifts ∷ codes "\n" ∷ [])
+
+abbrev pub store_text : StoreRefusal → List ℕ
+store_text refusal.Started = codes "journal started\n"
+store_text (refusal.OtherPlan kept ours) = joined (codes "journal started with another plan " ∷ encode_lower kept ∷ codes ", ours " ∷ encode_lower ours ∷ codes "\n" ∷ [])
+store_text refusal.NotStarted = codes "journal not started\n"
+store_text (refusal.NotThere item) = joined (codes "not there " ∷ unwrap_or item [] ∷ codes "\n" ∷ [])
+store_text (refusal.Occupied disk slot) = joined (codes "occupied " ∷ unwrap_or disk [] ∷ codes " " ∷ decimal slot ∷ codes "\n" ∷ [])
+
 abbrev pub text_of : Outcome → List ℕ
 text_of (Done text) = text
-text_of (Blamed b name) = joined (blame_pieces b name)
 text_of Unlisted = codes "words not understood\n"
-text_of (Refused f row w) = refusal_text f row w
 text_of FolderFault = codes "folder fault\n"
 text_of (StoreFault before) = before ++ codes "store fault\n"
 text_of (SinkFault text) = text
 text_of Memory = codes "no memory\n"
-text_of Started = codes "journal started\n"
-text_of (OtherPlan kept ours) = joined (codes "journal started with another plan " ∷ encode_lower kept ∷ codes ", ours " ∷ encode_lower ours ∷ codes "\n" ∷ [])
-text_of NotStarted = codes "journal not started\n"
-text_of (NotThere item) = joined (codes "not there " ∷ item ∷ codes "\n" ∷ [])
-text_of (Occupied disk slot) = joined (codes "occupied " ∷ disk ∷ codes " " ∷ decimal slot ∷ codes "\n" ∷ [])
-text_of (NotSpelled f line) = joined (codes "refused " ∷ text_word f ∷ codes " line " ∷ decimal line ∷ codes "\n" ∷ [])
-text_of (TooLarge shifts) = joined (codes "too large for a drill " ∷ decimal shifts ∷ codes "\n" ∷ [])
 text_of (NoFile word) = joined (codes "no file " ∷ word ∷ codes "\n" ∷ [])
+text_of (Found f) = finding_text f
+text_of (Refusal r) = store_text r

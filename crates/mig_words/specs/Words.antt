@@ -6,6 +6,8 @@ use Rattle.std.specs.declared.string.String.{String}
 use Rattle.std.specs.declared.alloc.Global.{Global}
 use Rattle.mig_base.specs.Digits.{IsNumber, number_of}
 use Rattle.mig_gen.specs.MadeCases.{IsCaseSize}
+use Rattle.mig_words.specs.declared.words.Reader.{Reader}
+use Rattle.mig_words.specs.declared.words.Reader.TheVariants.{Roomy}
 
 -- the names of the three files of an input, and of a plan for it
 pub record Names : Type 0 where
@@ -13,6 +15,18 @@ pub record Names : Type 0 where
   pub now : List ℕ
   pub next : List ℕ
   pub plan : List ℕ
+
+-- the names of the files of a task, and how its input is read
+pub record TaskNames : Type 0 where
+  pub reader : Reader
+  pub files : Names
+
+abbrev pub roomy : Names → TaskNames
+roomy names = record { reader = Roomy; files = names }
+
+-- the word of a command over a task whose input is read so
+abbrev pub word_by : Reader → List ℕ → List ℕ
+word_by Roomy word = word
 
 -- these four, and then others
 abbrev pub four_and : Names → List (List ℕ) → List (List ℕ)
@@ -22,14 +36,14 @@ four_and names others = names.disks ∷ names.now ∷ names.next ∷ names.plan 
 pub data Form : Type 0 where
   Plan : (names : Names) (cert : List ℕ) → Form
   Check : (names : Names) (cert : List ℕ) → Form
-  After : (names : Names) → Form
+  After : (task : TaskNames) → Form
   Fill : (disks now : List ℕ) → Form
   Audit : (disks now : List ℕ) → Form
   -- no files, but three numbers
   Rehearse : (disks per_pair limit : List ℕ) → Form
-  Move : (names : Names) → Form
-  Resume : (names : Names) → Form
-  Halt : (names : Names) (layout : List ℕ) → Form
+  Move : (task : TaskNames) → Form
+  Resume : (task : TaskNames) → Form
+  Halt : (task : TaskNames) (layout : List ℕ) → Form
   Drill : (names : Names) → Form
 
 -- the words of a command line, as lists of bytes
@@ -40,13 +54,13 @@ texts words = map string_bytes words
 abbrev pub names_of : Form → List (List ℕ)
 names_of (Plan names cert) = four_and names (cert ∷ [])
 names_of (Check names cert) = four_and names (cert ∷ [])
-names_of (After names) = four_and names []
+names_of (After task) = four_and task.files []
 names_of (Fill disks now) = disks ∷ now ∷ []
 names_of (Audit disks now) = disks ∷ now ∷ []
 names_of (Rehearse disks per_pair limit) = []
-names_of (Move names) = four_and names []
-names_of (Resume names) = four_and names []
-names_of (Halt names layout) = four_and names (layout ∷ [])
+names_of (Move task) = four_and task.files []
+names_of (Resume task) = four_and task.files []
+names_of (Halt task layout) = four_and task.files (layout ∷ [])
 names_of (Drill names) = four_and names []
 
 -- `plan DISKS NOW NEXT PLAN CERT`, `check DISKS NOW NEXT PLAN CERT`, `after DISKS NOW NEXT PLAN`, `fill DISKS NOW`, `audit DISKS NOW`,
@@ -55,13 +69,13 @@ names_of (Drill names) = four_and names []
 abbrev pub words_of : Form → List (List ℕ)
 words_of (Plan names cert) = codes "plan" ∷ names_of (Plan names cert)
 words_of (Check names cert) = codes "check" ∷ names_of (Check names cert)
-words_of (After names) = codes "after" ∷ names_of (After names)
+words_of (After task) = word_by task.reader (codes "after") ∷ names_of (After task)
 words_of (Fill disks now) = codes "fill" ∷ names_of (Fill disks now)
 words_of (Audit disks now) = codes "audit" ∷ names_of (Audit disks now)
 words_of (Rehearse disks per_pair limit) = codes "rehearse" ∷ disks ∷ per_pair ∷ limit ∷ []
-words_of (Move names) = codes "move" ∷ names_of (Move names)
-words_of (Resume names) = codes "resume" ∷ names_of (Resume names)
-words_of (Halt names layout) = codes "halt" ∷ names_of (Halt names layout)
+words_of (Move task) = word_by task.reader (codes "move") ∷ names_of (Move task)
+words_of (Resume task) = word_by task.reader (codes "resume") ∷ names_of (Resume task)
+words_of (Halt task layout) = word_by task.reader (codes "halt") ∷ names_of (Halt task layout)
 words_of (Drill names) = codes "drill" ∷ names_of (Drill names)
 
 -- a word that may name a file: 1 to 255 bytes that don't end in `.disk` or `.mig`
@@ -78,7 +92,7 @@ DiffersFrom word others = AllByRecursion (λ other. word ≢ other) others
 -- the names of the files that a command writes differ from its other names
 abbrev pub WritesApart : Form → Type 0
 WritesApart (Plan names cert) = DiffersFrom names.plan (names.disks ∷ names.now ∷ names.next ∷ cert ∷ []) × DiffersFrom cert (names.disks ∷ names.now ∷ names.next ∷ [])
-WritesApart (Halt names layout) = DiffersFrom layout (four_and names [])
+WritesApart (Halt task layout) = DiffersFrom layout (four_and task.files [])
 WritesApart form = Unit {0}
 
 -- the words are numbers of which a case can be made

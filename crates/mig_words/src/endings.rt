@@ -13,21 +13,42 @@ pub enum TextFile {
     Cert,
 }
 
-/// Why a command isn't done, with what its text shows.
+/// What is found wrong with what a command was given, with what its text shows.
 #[derive(Clone, Copy, Debug, PartialEq, Eq)]
-pub enum Ending {
+pub enum Finding {
     /// The plan or its certificate is blamed. The name is that of the item or the disk that the blame names, if it names one.
     Blamed { blame: Blame, name: Option<Name> },
-    /// The words are no command in its listed form.
-    Unlisted,
     /// The three files stand for no input. Row 0 is the header.
     Refused { file: FileKind, row: u32, why: Why },
-    /// A load or a save failed.
-    FolderFault,
-    /// The store failed.
-    StoreFault,
-    /// Memory was refused.
-    Memory,
+    /// A text is no spelling. Lines count from 1; 0 says that the text is too long.
+    NotSpelled { text: TextFile, line: u32 },
+    /// The plan runs, but has this many shifts, more than a drill takes.
+    TooLarge { shifts: u32 },
+}
+
+impl Finding {
+    ghost use Rattle.mig_words.specs.Outcomes.{finding_code};
+
+    /// The number of the status.
+    fn code(&self) -> u8
+        ensures { result ≡ finding_code self.now }
+    {
+        match self {
+            Finding::Blamed { blame: _, name: _ } => 1,
+            Finding::Refused {
+                file: _,
+                row: _,
+                why: _,
+            } => 3,
+            Finding::NotSpelled { text: _, line: _ } => 10,
+            Finding::TooLarge { shifts: _ } => 11,
+        }
+    }
+}
+
+/// Why what a store holds doesn't let a command begin, with what its text shows.
+#[derive(Clone, Copy, Debug, PartialEq, Eq)]
+pub enum StoreRefusal {
     /// The journal says that this plan is being carried out, or was; for `fill`, that any is.
     Started,
     /// The journal says so of another plan: `kept` is its digest, `ours` that of this plan.
@@ -38,12 +59,42 @@ pub enum Ending {
     NotThere { item: Option<Name> },
     /// A slot of this disk is used that should be free. Slots count from 0.
     Occupied { disk: Option<Name>, slot: u32 },
-    /// A text is no spelling. Lines count from 1; 0 says that the text is too long.
-    NotSpelled { text: TextFile, line: u32 },
-    /// The plan runs, but has this many shifts, more than a drill takes.
-    TooLarge { shifts: u32 },
+}
+
+impl StoreRefusal {
+    ghost use Rattle.mig_words.specs.Outcomes.{store_code};
+
+    /// The number of the status.
+    fn code(&self) -> u8
+        ensures { result ≡ store_code self.now }
+    {
+        match self {
+            StoreRefusal::Started => 8,
+            StoreRefusal::OtherPlan { kept: _, ours: _ } => 8,
+            StoreRefusal::NotStarted => 8,
+            StoreRefusal::NotThere { item: _ } => 9,
+            StoreRefusal::Occupied { disk: _, slot: _ } => 9,
+        }
+    }
+}
+
+/// Why a command isn't done.
+#[derive(Clone, Copy, Debug, PartialEq, Eq)]
+pub enum Ending {
+    /// The words are no command in its listed form.
+    Unlisted,
+    /// A load or a save failed.
+    FolderFault,
+    /// The store failed.
+    StoreFault,
+    /// Memory was refused.
+    Memory,
     /// A file isn't there: that of the word with this place among those that the command loads, from 0.
     NoFile { place: usize },
+    /// Something is wrong with what the command was given.
+    Found(Finding),
+    /// What the store holds doesn't let the command begin.
+    Refusal(StoreRefusal),
 }
 
 impl Ending {
@@ -55,24 +106,13 @@ impl Ending {
         ensures { (names : List (List ℕ)) → result ≡ code (outcome_of names self.now) }
     {
         match self {
-            Ending::Blamed { blame: _, name: _ } => 1,
             Ending::Unlisted => 2,
-            Ending::Refused {
-                file: _,
-                row: _,
-                why: _,
-            } => 3,
             Ending::FolderFault => 4,
             Ending::StoreFault => 5,
             Ending::Memory => 7,
-            Ending::Started => 8,
-            Ending::OtherPlan { kept: _, ours: _ } => 8,
-            Ending::NotStarted => 8,
-            Ending::NotThere { item: _ } => 9,
-            Ending::Occupied { disk: _, slot: _ } => 9,
-            Ending::NotSpelled { text: _, line: _ } => 10,
-            Ending::TooLarge { shifts: _ } => 11,
             Ending::NoFile { place: _ } => 16,
+            Ending::Found(finding) => finding.code(),
+            Ending::Refusal(refusal) => refusal.code(),
         }
     }
 }
@@ -114,7 +154,9 @@ impl From<InputError> for Ending {
 
     fn from(error: InputError) -> Self {
         match error {
-            InputError::Refused { file, row, why } => Ending::Refused { file, row, why },
+            InputError::Refused { file, row, why } => {
+                Ending::Found(Finding::Refused { file, row, why })
+            }
             InputError::Memory => Ending::Memory,
         }
     }

@@ -1,22 +1,21 @@
 //! The names of items and disks.
-ghost use Rattle.std.specs.Prelude.{◌≡◌, [], ℕ, List, unwrap_or};
-ghost use Rattle.mig_base.specs.Texts.{disk_name, item_name};
-ghost use Rattle.mig_words.specs.Outcomes.{fault_outcome, named, outcome_of};
+ghost use Rattle.std.specs.Prelude.{◌≡◌, ℕ, List, slice_get};
+ghost use Rattle.mig_words.specs.Outcomes.{disk_listed, fault_outcome, named, outcome_of};
 
-use crate::endings::Ending;
+use crate::endings::{Ending, StoreRefusal};
 use mig_base::{Blame, DiskId, Input, ItemId, Name};
 use mig_mover::MoveFault;
 
 /// An item's name.
 fn item_in(input: &Input, item: ItemId) -> Option<Name>
-    ensures { unwrap_or result [] ≡ item_name input.now item.0 }
+    ensures { result ≡ slice_get input.now.items item.0 }
 {
     input.items().get(item.0 as usize).copied()
 }
 
 /// A disk's name.
 fn disk_in(input: &Input, disk: DiskId) -> Option<Name>
-    ensures { unwrap_or result [] ≡ disk_name input.now disk.0 }
+    ensures { result ≡ disk_listed input.now disk.0 }
 {
     match input.disks().get(disk.0 as usize) {
         Some(disk) => Some(disk.name),
@@ -26,7 +25,7 @@ fn disk_in(input: &Input, disk: DiskId) -> Option<Name>
 
 /// The name of the item or the disk that a blame names, if it names one.
 pub fn name_in(input: &Input, blame: &Blame) -> Option<Name>
-    ensures { unwrap_or result [] ≡ named input.now blame.now }
+    ensures { result ≡ named input.now blame.now }
 {
     match blame {
         Blame::NotHere { round: _, item } => item_in(input, *item),
@@ -49,15 +48,17 @@ pub fn fault_ending(input: &Input, fault: MoveFault) -> Ending
 {
     match fault {
         MoveFault::Store => Ending::StoreFault,
-        MoveFault::Started => Ending::Started,
-        MoveFault::OtherPlan { kept, ours } => Ending::OtherPlan { kept, ours },
-        MoveFault::NotStarted => Ending::NotStarted,
-        MoveFault::NotThere { item } => Ending::NotThere {
+        MoveFault::Started => Ending::Refusal(StoreRefusal::Started),
+        MoveFault::OtherPlan { kept, ours } => {
+            Ending::Refusal(StoreRefusal::OtherPlan { kept, ours })
+        }
+        MoveFault::NotStarted => Ending::Refusal(StoreRefusal::NotStarted),
+        MoveFault::NotThere { item } => Ending::Refusal(StoreRefusal::NotThere {
             item: item_in(input, item),
-        },
-        MoveFault::Occupied { disk, slot } => Ending::Occupied {
+        }),
+        MoveFault::Occupied { disk, slot } => Ending::Refusal(StoreRefusal::Occupied {
             disk: disk_in(input, disk),
             slot,
-        },
+        }),
     }
 }

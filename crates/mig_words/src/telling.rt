@@ -3,10 +3,12 @@ ghost use Rattle.std.specs.Prelude.{◌≡◌, ◌≤◌, ◌∷◌, [], codes, 
 ghost use Rattle.std.specs.Fmt.{decimal};
 ghost use Rattle.mig_base.specs.FaultCounts.{Rose};
 ghost use Rattle.mig_io.specs.Held.{Extends, ExtendsInPart};
-ghost use Rattle.mig_words.specs.Outcomes.{NotThere, Occupied, OtherPlan, TooLarge, code, file_word, joined, outcome_of, refusal_text, text_of, text_word};
+ghost use Rattle.mig_words.specs.Outcomes.{code, file_word, finding_text, joined, outcome_of, refusal_text, store_text, text_of, text_word};
+ghost use Rattle.mig_words.specs.declared.endings.Finding.TheVariants as finding;
+ghost use Rattle.mig_words.specs.declared.endings.StoreRefusal.TheVariants as refusal;
 ghost use Rattle.mig_words.specs.Puts.{Puts, Shows, part_text};
 
-use crate::endings::{Ending, TextFile};
+use crate::endings::{Ending, Finding, StoreRefusal, TextFile};
 use crate::fault_texts::{put_blame, put_cause};
 use crate::putting::Part::{Hex, Number, Text};
 use crate::putting::{Part, put_parts};
@@ -74,7 +76,7 @@ fn put_other_plan<'a, K: Sink>(
     kept: &'a [u8; 32],
     ours: &'a [u8; 32],
 ) -> Result<(), SinkFailed>
-    ensures { Puts (text_of (OtherPlan kept.now ours.now)) (K.state out.old) (K.state out.new) result }
+    ensures { Puts (store_text (refusal.OtherPlan kept.now ours.now)) (K.state out.old) (K.state out.new) result }
 {
     put_parts(
         out,
@@ -89,21 +91,24 @@ fn put_other_plan<'a, K: Sink>(
 }
 
 /// Puts the item that a slot doesn't name.
-fn put_not_there<K: Sink>(out: &mut K, item: &[u8]) -> Result<(), SinkFailed>
-    ensures { Puts (text_of (NotThere item.now)) (K.state out.old) (K.state out.new) result }
+fn put_not_there<K: Sink>(out: &mut K, item: &Option<Name>) -> Result<(), SinkFailed>
+    ensures { Puts (store_text (refusal.NotThere item.now)) (K.state out.old) (K.state out.new) result }
 {
-    put_parts(out, &[Text(b"not there "), Text(item), Text(b"\n")])
+    put_parts(
+        out,
+        &[Text(b"not there "), Text(name_bytes(item)), Text(b"\n")],
+    )
 }
 
 /// Puts the slot that is used.
-fn put_occupied<K: Sink>(out: &mut K, disk: &[u8], slot: u32) -> Result<(), SinkFailed>
-    ensures { Puts (text_of (Occupied disk.now slot)) (K.state out.old) (K.state out.new) result }
+fn put_occupied<K: Sink>(out: &mut K, disk: &Option<Name>, slot: u32) -> Result<(), SinkFailed>
+    ensures { Puts (store_text (refusal.Occupied disk.now slot)) (K.state out.old) (K.state out.new) result }
 {
     put_parts(
         out,
         &[
             Text(b"occupied "),
-            Text(disk),
+            Text(name_bytes(disk)),
             Text(b" "),
             Number(slot),
             Text(b"\n"),
@@ -113,7 +118,7 @@ fn put_occupied<K: Sink>(out: &mut K, disk: &[u8], slot: u32) -> Result<(), Sink
 
 /// Puts how many shifts a plan has that is too large for a drill.
 fn put_too_large<K: Sink>(out: &mut K, shifts: u32) -> Result<(), SinkFailed>
-    ensures { Puts (text_of (TooLarge shifts)) (K.state out.old) (K.state out.new) result }
+    ensures { Puts (finding_text (finding.TooLarge shifts)) (K.state out.old) (K.state out.new) result }
 {
     put_parts(
         out,
@@ -142,24 +147,40 @@ fn name_at<'a>(names: &[&'a str], place: usize) -> &'a str
     }
 }
 
+/// Puts the text of what was found wrong.
+fn put_finding<K: Sink>(out: &mut K, finding: &Finding) -> Result<(), SinkFailed>
+    ensures { Puts (finding_text finding.now) (K.state out.old) (K.state out.new) result }
+{
+    match finding {
+        Finding::Blamed { blame, name } => put_blame(out, blame, name_bytes(name)),
+        Finding::Refused { file, row, why } => put_refusal(out, *file, *row, why),
+        Finding::NotSpelled { text, line } => put_misfit(out, *text, *line),
+        Finding::TooLarge { shifts } => put_too_large(out, *shifts),
+    }
+}
+
+/// Puts the text of what a store refuses.
+fn put_store_refusal<K: Sink>(out: &mut K, refusal: &StoreRefusal) -> Result<(), SinkFailed>
+    ensures { Puts (store_text refusal.now) (K.state out.old) (K.state out.new) result }
+{
+    match refusal {
+        StoreRefusal::Started => out.put(b"journal started\n"),
+        StoreRefusal::OtherPlan { kept, ours } => put_other_plan(out, kept, ours),
+        StoreRefusal::NotStarted => out.put(b"journal not started\n"),
+        StoreRefusal::NotThere { item } => put_not_there(out, item),
+        StoreRefusal::Occupied { disk, slot } => put_occupied(out, disk, *slot),
+    }
+}
+
 /// Puts the text of an ending of a command that loads the files of these names.
 fn put_text<K: Sink>(out: &mut K, ending: &Ending, names: &[&str]) -> Result<(), SinkFailed>
     ensures { Puts (text_of (outcome_of (map (λ n. n.now) names.now) ending.now)) (K.state out.old) (K.state out.new) result }
 {
     match ending {
-        Ending::Blamed { blame, name } => put_blame(out, blame, name_bytes(name)),
         Ending::Unlisted => out.put(b"words not understood\n"),
-        Ending::Refused { file, row, why } => put_refusal(out, *file, *row, why),
         Ending::FolderFault => out.put(b"folder fault\n"),
         Ending::StoreFault => out.put(b"store fault\n"),
         Ending::Memory => out.put(b"no memory\n"),
-        Ending::Started => out.put(b"journal started\n"),
-        Ending::OtherPlan { kept, ours } => put_other_plan(out, kept, ours),
-        Ending::NotStarted => out.put(b"journal not started\n"),
-        Ending::NotThere { item } => put_not_there(out, name_bytes(item)),
-        Ending::Occupied { disk, slot } => put_occupied(out, name_bytes(disk), *slot),
-        Ending::NotSpelled { text, line } => put_misfit(out, *text, *line),
-        Ending::TooLarge { shifts } => put_too_large(out, *shifts),
         Ending::NoFile { place } => {
             let word = name_at(names, *place);
             put_parts(
@@ -167,6 +188,8 @@ fn put_text<K: Sink>(out: &mut K, ending: &Ending, names: &[&str]) -> Result<(),
                 &[Text(b"no file "), Text(word.as_bytes()), Text(b"\n")],
             )
         }
+        Ending::Found(finding) => put_finding(out, finding),
+        Ending::Refusal(refusal) => put_store_refusal(out, refusal),
     }
 }
 

@@ -2,7 +2,7 @@
 ghost use Rattle.std.specs.List.{AllByRecursion};
 ghost use Rattle.std.specs.Prelude.{◌≡◌, ◌↔◌, ◌∷◌, [], IsTrue, MatchOption, length, map};
 ghost use Rattle.mig_words.specs.Commands.{form_of, names_in};
-ghost use Rattle.mig_words.specs.Words.{DiffersFrom, Form, Halt, IsFileWord, IsListed, Plan, WritesApart, four_and, texts};
+ghost use Rattle.mig_words.specs.Words.{DiffersFrom, Form, IsFileWord, IsListed, Plan, WritesApart, four_and, texts};
 
 use crate::case_words::over_three_numbers;
 
@@ -13,6 +13,20 @@ pub struct PlanFiles<'a> {
     pub now: &'a str,
     pub next: &'a str,
     pub plan: &'a str,
+}
+
+/// How the three files of an input are read.
+#[derive(Clone, Copy, Debug, PartialEq, Eq)]
+pub enum Reader {
+    /// Each disk must have room for what comes to it.
+    Roomy,
+}
+
+/// The words that name the files of a task, and how its input is read.
+#[derive(Clone, Copy)]
+pub struct TaskFiles<'a> {
+    pub reader: Reader,
+    pub files: PlanFiles<'a>,
 }
 
 /// The words of a rehearsal after its name, each the digits of a number.
@@ -35,7 +49,7 @@ pub enum Command<'a> {
         cert: &'a str,
     },
     After {
-        files: PlanFiles<'a>,
+        task: TaskFiles<'a>,
     },
     Fill {
         disks: &'a str,
@@ -49,13 +63,13 @@ pub enum Command<'a> {
         case: CaseWords<'a>,
     },
     Move {
-        files: PlanFiles<'a>,
+        task: TaskFiles<'a>,
     },
     Resume {
-        files: PlanFiles<'a>,
+        task: TaskFiles<'a>,
     },
     Halt {
-        files: PlanFiles<'a>,
+        task: TaskFiles<'a>,
         layout: &'a str,
     },
     Drill {
@@ -108,7 +122,7 @@ fn writes_apart(files: PlanFiles<'_>, cert: &str) -> bool
 
 /// Whether the file that `halt` writes differs from all its others.
 fn saves_apart(files: PlanFiles<'_>, layout: &str) -> bool
-    ensures { IsTrue result ↔ WritesApart (Halt (names_in files.entry) layout.now) }
+    ensures { IsTrue result ↔ DiffersFrom layout.now (four_and (names_in files.entry) []) }
 {
     differs_from(layout, &[files.disks, files.now, files.next, files.plan])
 }
@@ -138,10 +152,14 @@ fn over_four_files<'a>(command: &str, files: PlanFiles<'a>) -> Option<Command<'a
     if !are_file_words(&[files.disks, files.now, files.next, files.plan]) {
         return None;
     }
+    let roomy = TaskFiles {
+        reader: Reader::Roomy,
+        files,
+    };
     match command {
-        "after" => Some(Command::After { files }),
-        "move" => Some(Command::Move { files }),
-        "resume" => Some(Command::Resume { files }),
+        "after" => Some(Command::After { task: roomy }),
+        "move" => Some(Command::Move { task: roomy }),
+        "resume" => Some(Command::Resume { task: roomy }),
         "drill" => Some(Command::Drill { files }),
         _ => None,
     }
@@ -160,7 +178,10 @@ fn over_five_files<'a>(command: &str, files: PlanFiles<'a>, last: &'a str) -> Op
         "plan" if writes_apart(files, last) => Some(Command::Plan { files, cert: last }),
         "check" => Some(Command::Check { files, cert: last }),
         "halt" if saves_apart(files, last) => Some(Command::Halt {
-            files,
+            task: TaskFiles {
+                reader: Reader::Roomy,
+                files,
+            },
             layout: last,
         }),
         _ => None,

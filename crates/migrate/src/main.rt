@@ -18,6 +18,18 @@ const NO_COMMAND: u8 = 2;
 /// The status where memory is refused.
 const NO_MEMORY: u8 = 7;
 
+/// More bytes of stack than any command needs.
+const STACK_ROOM: usize = 160 << 10;
+
+/// Uses the stack once, so that there is room for it before the heap may take what memory there is: the system kills a
+/// process whose stack can't grow, while a refused allocation is answered. The result depends on the place, so that no
+/// compiler leaves it out.
+#[inline(never)]
+fn use_stack(place: usize) -> u8 {
+    let room = [1; STACK_ROOM];
+    room[place % STACK_ROOM]
+}
+
 /// Carries out the command of these words over the working folder, standard output and the disks and the journal in the
 /// working folder, and answers the status.
 fn carry_out(
@@ -50,6 +62,9 @@ fn answer(rt: &(impl AllocGlobal + Env + Files<File = File> + Print + Eprint)) -
         if words.push(word).is_err() {
             return NO_MEMORY;
         }
+    }
+    if use_stack(words.len()) == 0 {
+        return NO_MEMORY;
     }
     let status = carry_out(rt, &words);
     hint(rt, &words, status);

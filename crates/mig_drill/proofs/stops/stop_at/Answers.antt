@@ -1,11 +1,12 @@
-use Rattle.mig_base.proofs.Common.{List, sym, ◌∙◌, ap, subst, arith, flights}
+use Rattle.mig_base.proofs.Common.{ℕ, List, count_of, sym, ◌∙◌, ap, subst, arith, flights}
 use Rattle.mig_base.proofs.MarkCounts.{count_most}
 use Rattle.mig_base.proofs.StoreSteps.{same_none}
 use Rattle.mig_store.specs.Calls.{Call}
 use Rattle.mig_store.specs.Ledgers.{state_at}
 use Rattle.mig_store.specs.Memories.{state_of, mem_is_state}
 use Rattle.mig_drill.specs.Stops.{LeavesSound}
-use Rattle.mig_drill.proofs.StopSteps.{ended, stop_keeps, stop_reaches}
+use Rattle.mig_drill.specs.Stores.{TellsJob}
+use Rattle.mig_drill.proofs.StopSteps.{ended, stop_keeps, stop_reaches, stop_told, stop_resumed}
 use Rattle.mig_drill.proofs.stops.stop_at.Goals as goal
 
 pub returns-clause-keeps : goal.returns-clause-keeps
@@ -34,3 +35,21 @@ returns-clause-reached c done contents before =
 
 pub returns-clause-marks : goal.returns-clause-marks
 returns-clause-marks c = omega (arith, c.count_rounds-marks.ensures, c.rounds.ensures.count, count_most c.rounds.result (state_of c.crash-left.result).reads)
+
+pub returns-clause-told : goal.returns-clause-told
+returns-clause-told c tells =
+    let first = c.fuse.new.self in
+    let started = c.start_lanes.new.store in
+    let left = c.crash-left.result in
+    stop_told c.args.job.now (state_of first) (state_of started) (state_of left) (state_of c.resume_lanes.new.store) (mem_is_state started) c.crash-left.ensures.left c.start_lanes.ensures.keeps c.resume_lanes.ensures.keeps
+    (subst (TellsJob c.args.job.now) (sym (ap state_of c.fuse.ensures)) tells)
+
+pub returns-clause-resumed : goal.returns-clause-resumed
+returns-clause-resumed c done tells =
+    let first = c.fuse.new.self in
+    let started = c.start_lanes.new.store in
+    let left = c.crash-left.result in
+    stop_resumed c.args.job.now (state_of first) (state_of started) (state_of left) (state_of c.resume_lanes.new.store) (mem_is_state started) c.crash-left.ensures.left c.start_lanes.ensures.keeps
+    (ap (λ (calls : List Call). (state_at left.log.first calls left.trouble.faults).events) c.crash-left.ensures.calls) c.resume_lanes.result c.resume_lanes.ensures.finishes c.resume_lanes.ensures.events
+    (sym c.is_ok-reached.ensures.value ∙ done) c.count_rounds-marks.result (c.count_rounds-marks.ensures ∙ ap (λ (n : ℕ). count_of n (state_of left).reads) c.rounds.ensures.count)
+    (subst (TellsJob c.args.job.now) (sym (ap state_of c.fuse.ensures)) tells)

@@ -1,6 +1,12 @@
-use Rattle.mig_base.proofs.Common.{◌≡◌, [], flights}
+use Rattle.mig_base.proofs.Common.{◌≡◌, [], AllWithin, flights}
 use Rattle.mig_store.specs.Memories.{state_of}
+use Rattle.mig_drill.specs.Stores.{IsClear, StaysTold}
 use Rattle.mig_drill.proofs.stores.clear_all.Given as goal
 
+-- the first cells are clear
 abbrev pub invariant-loop-cell : goal.invariant-loop-cell
-invariant-loop-cell l = flights (state_of l.store) ≡ []
+invariant-loop-cell l = record {
+  clear : AllWithin (IsClear (state_of l.store).reads) l.cells 0 l.cell-index;
+  none : flights (state_of l.store) ≡ [];
+  told : StaysTold (state_of l.initial.store).reads (state_of l.store).reads;
+}

@@ -28,6 +28,7 @@ returns g c =
     let writes = c.args.writes.now in
     let first = count_line (codes "writes") (length writes) in
     let last = count_line (codes "reached") (4 * length writes) in
+    let told = subst (λ (n : ℕ). Puts (text_of_lines (count_line (codes "reached") n ∷ [])) (g.K.Sink.state c.put_stops.new.out) (g.K.Sink.state c.put_count-2.new.out) c.put_count-2.result) c.requires.all c.put_count-2.ensures in
     subst (λ (text : List ℕ). Puts text (g.K.Sink.state c.args.out.now) (g.K.Sink.state c.put_count-2.new.out) c.put_count-2.result) (sym (three_parts first (stop_lines writes) last))
     (puts_then (text_of_lines (first ∷ [])) (text_of_lines (stop_lines writes) ++ text_of_lines (last ∷ [])) _ (g.K.Sink.state c.put_count.new.out) _ c.put_count-2.result c.in_ok-put_count.ensures
-    (puts_then (text_of_lines (stop_lines writes)) (text_of_lines (last ∷ [])) _ (g.K.Sink.state c.put_stops.new.out) _ c.put_count-2.result c.in_ok-put_stops.ensures c.put_count-2.ensures))
+    (puts_then (text_of_lines (stop_lines writes)) (text_of_lines (last ∷ [])) _ (g.K.Sink.state c.put_stops.new.out) _ c.put_count-2.result c.in_ok-put_stops.ensures told))

@@ -3,13 +3,13 @@ use Rattle.mig_files.proofs.Derivation.{part_read, end_at_cell}
 use Rattle.mig_files.proofs.cells.read_part.Goals as goal
 
 pub returns-clause-bytes : goal.returns-clause-bytes
-returns-clause-bytes g c = part_read (g.C.Calls.state c.args.calls.now) (g.C.Calls.state c.open_place.new.calls) c.args.cell.now c.place_of-place.result.0 c.place_of-place.result.1 _ c.read_all.new.into c.open_place.ensures.step.change c.place_of-place.ensures.file c.place_of-place.ensures.offset c.in_ok-read_all.ensures.bytes
+returns-clause-bytes g c = part_read c.args.cell.now _ c.read_all.new.into c.open_place.ensures.step.change c.place_of-place.ensures.file c.place_of-place.ensures.offset c.in_ok-read_all.ensures.bytes
 
 pub returns-clause-end : goal.returns-clause-end
-returns-clause-end g c = end_at_cell (g.C.Calls.state c.args.calls.now) c.args.cell.now c.place_of-place.result.0 _ c.place_of-place.ensures.file c.in_ok-found.ensures.end
+returns-clause-end g c = end_at_cell (g.C.Calls.state c.args.calls.now) c.args.cell.now _ c.place_of-place.ensures.file c.in_ok-found.ensures.end
 
 pub returns-clause-step : goal.returns-clause-step
-returns-clause-step g c = step_then c.open_place.new.tracked.notes c.open_place.new.tracked.notes (g.C.Calls.state c.args.calls.now) (g.C.Calls.state c.open_place.new.calls) (g.C.Calls.state c.read_all.new.calls) c.open_place.ensures.step (quiet_step c.open_place.new.tracked.notes (g.C.Calls.state c.open_place.new.calls) (g.C.Calls.state c.read_all.new.calls) c.open_place.ensures.step.tracked c.read_all.ensures.quiet (λ off. c.read_all.ensures.usable))
+returns-clause-step g c = step_then c.open_place.ensures.step (quiet_step c.open_place.ensures.step.tracked c.read_all.ensures.quiet (λ off. c.read_all.ensures.usable))
 
 pub returns-in_err-read_all-clause-step : goal.returns-in_err-read_all-clause-step
-returns-in_err-read_all-clause-step g c = step_then c.open_place.new.tracked.notes c.open_place.new.tracked.notes (g.C.Calls.state c.args.calls.now) (g.C.Calls.state c.open_place.new.calls) (g.C.Calls.state c.read_all.new.calls) c.open_place.ensures.step (quiet_step c.open_place.new.tracked.notes (g.C.Calls.state c.open_place.new.calls) (g.C.Calls.state c.read_all.new.calls) c.open_place.ensures.step.tracked c.read_all.ensures.quiet (λ off. c.read_all.ensures.usable))
+returns-in_err-read_all-clause-step g c = step_then c.open_place.ensures.step (quiet_step c.open_place.ensures.step.tracked c.read_all.ensures.quiet (λ off. c.read_all.ensures.usable))

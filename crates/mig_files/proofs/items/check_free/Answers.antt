@@ -6,7 +6,9 @@ pub check_item-requires-clause-held : goal.check_item-requires-clause-held
 check_item-requires-clause-held g c = held_by (g.C.Calls.state c.args.calls.now) c.args.slot.now c.args.first.now c.in-Some.item c.in-Some.ensures.some c.requires.header
 
 pub returns-in-Some-clause-free : goal.returns-in-Some-clause-free
-returns-in-Some-clause-free g c = on_ok c.check_item.result c.check_item.ensures.elsewhere (free_by (g.C.Calls.state c.args.calls.now) c.args.seen.now c.args.slot.now c.in-Some.item c.args.first.now c.item_of.ensures.len c.in-Some.ensures.some c.requires.header)
+returns-in-Some-clause-free g c =
+    on_ok c.check_item.result c.check_item.ensures.elsewhere (free_by
+    (g.C.Calls.state c.args.calls.now) c.args.seen.now c.args.slot.now c.in-Some.item c.args.first.now c.item_of.ensures.len c.in-Some.ensures.some c.requires.header)
 
 pub returns-in-None-clause-free : goal.returns-in-None-clause-free
 returns-in-None-clause-free g c = free_none (g.C.Calls.state c.args.calls.now) c.args.seen.now c.args.slot.now c.args.first.now c.item_of.ensures.len c.in-None.ensures.none c.requires.header

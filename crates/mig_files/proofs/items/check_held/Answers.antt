@@ -3,7 +3,8 @@ use Rattle.mig_files.proofs.items.check_held.Goals as goal
 
 pub refuse_with-requires-clause-cause : goal.refuse_with-requires-clause-cause
 refuse_with-requires-clause-cause g c = λ told holds.
-    c.if-is_header.ensures.same (held_is (g.C.Calls.state c.args.calls.now) c.args.slot.now c.args.first.now c.args.item.now c.is_header.ensures.len c.is_header.ensures.name.short (c.requires.header told) holds)
+    c.if-is_header.ensures.same (held_is (g.C.Calls.state c.args.calls.now) c.args.slot.now c.args.first.now c.args.item.now c.is_header.ensures.len c.is_header.ensures.name.short
+    (c.requires.header told) holds)
 
 pub returns-then-is_header-clause-held : goal.returns-then-is_header-clause-held
 returns-then-is_header-clause-held g c = held_by (g.C.Calls.state c.args.calls.now) c.args.slot.now c.args.first.now c.args.item.now c.if-is_header.ensures.same c.requires.header

@@ -1,23 +1,18 @@
-use Rattle.mig_files.proofs.Errs.{err_rose}
 use Rattle.mig_files.proofs.TrackingSteps.{step_then, alive_then, alive_same}
-use Rattle.std.proofs.Common.{arith}
 use Rattle.mig_files.proofs.Headers.{header_after, free_before}
 use Rattle.mig_files.proofs.items.expects_free.Goals as goal
 
 pub returns-clause-step : goal.returns-clause-step
-returns-clause-step g c = step_then c.header_at.new.tracked.notes c.header_at.new.tracked.notes (g.C.Calls.state c.args.calls.now) (g.C.Calls.state c.header_at.new.calls) (g.C.Calls.state c.check_free.new.calls) c.header_at.ensures.step c.check_free.ensures.step
+returns-clause-step g c = step_then c.header_at.ensures.step c.check_free.ensures.step
 
 pub returns-in_err-check_free-clause-step : goal.returns-in_err-check_free-clause-step
-returns-in_err-check_free-clause-step g c = step_then c.header_at.new.tracked.notes c.header_at.new.tracked.notes (g.C.Calls.state c.args.calls.now) (g.C.Calls.state c.header_at.new.calls) (g.C.Calls.state c.check_free.new.calls) c.header_at.ensures.step c.check_free.ensures.step
-
-pub returns-in_err-check_free-clause-cause : goal.returns-in_err-check_free-clause-cause
-returns-in_err-check_free-clause-cause g c = err_rose _ (g.C.Calls.state c.args.calls.now) (g.C.Calls.state c.check_free.new.calls) (omega (arith, c.header_at.ensures.step.later, c.in_err-check_free.ensures.cause))
+returns-in_err-check_free-clause-step g c = step_then c.header_at.ensures.step c.check_free.ensures.step
 
 pub returns-clause-kept : goal.returns-clause-kept
-returns-clause-kept g c = alive_then c.header_at.new.tracked.notes c.header_at.new.tracked.notes (g.C.Calls.state c.args.calls.now) (g.C.Calls.state c.header_at.new.calls) (g.C.Calls.state c.check_free.new.calls) c.in_ok-found.ensures.kept (alive_same c.header_at.new.tracked.notes (g.C.Calls.state c.header_at.new.calls) (g.C.Calls.state c.check_free.new.calls) c.in_ok-check_free.ensures.kept c.in_ok-found.ensures.kept.alive)
+returns-clause-kept g c = alive_then c.in_ok-found.ensures.kept (alive_same c.in_ok-check_free.ensures.kept c.in_ok-found.ensures.kept.alive)
 
 pub check_free-requires-clause-header : goal.check_free-requires-clause-header
-check_free-requires-clause-header g c = header_after (g.C.Calls.state c.args.calls.now) (g.C.Calls.state c.header_at.new.calls) c.header_at.ensures.step.change c.args.slot.now 34 _ c.in_ok-found.ensures.header
+check_free-requires-clause-header g c = header_after c.header_at.ensures.step.change c.args.slot.now 34 _ c.in_ok-found.ensures.header
 
 pub returns-clause-free : goal.returns-clause-free
-returns-clause-free g c = free_before (g.C.Calls.state c.args.calls.now) (g.C.Calls.state c.header_at.new.calls) c.header_at.ensures.step.change c.args.seen.now c.args.slot.now c.in_ok-check_free.ensures.free
+returns-clause-free g c = free_before c.header_at.ensures.step.change c.args.seen.now c.args.slot.now c.in_ok-check_free.ensures.free

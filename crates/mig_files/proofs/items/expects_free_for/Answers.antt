@@ -4,18 +4,21 @@ use Rattle.mig_files.proofs.Headers.{header_after, free_before, free_for_own, fr
 use Rattle.mig_files.proofs.items.expects_free_for.Goals as goal
 
 pub returns-clause-step : goal.returns-clause-step
-returns-clause-step g c = step_then c.header_at.new.tracked.notes c.header_at.new.tracked.notes (g.C.Calls.state c.args.calls.now) (g.C.Calls.state c.header_at.new.calls) (g.C.Calls.state c.check_free.new.calls) c.header_at.ensures.step c.check_free.ensures.step
+returns-clause-step g c = step_then c.header_at.ensures.step c.check_free.ensures.step
 
 pub returns-clause-kept : goal.returns-clause-kept
-returns-clause-kept g c = on_ok c.check_free.result c.check_free.ensures.kept (λ same. alive_then c.header_at.new.tracked.notes c.header_at.new.tracked.notes (g.C.Calls.state c.args.calls.now) (g.C.Calls.state c.header_at.new.calls) (g.C.Calls.state c.check_free.new.calls) c.in_ok-header_at.ensures.kept (alive_same c.header_at.new.tracked.notes (g.C.Calls.state c.header_at.new.calls) (g.C.Calls.state c.check_free.new.calls) same c.in_ok-header_at.ensures.kept.alive))
+returns-clause-kept g c = on_ok c.check_free.result c.check_free.ensures.kept (λ same. alive_then c.in_ok-header_at.ensures.kept (alive_same same c.in_ok-header_at.ensures.kept.alive))
 
 pub check_free-requires-clause-header : goal.check_free-requires-clause-header
-check_free-requires-clause-header g c = header_after (g.C.Calls.state c.args.calls.now) (g.C.Calls.state c.header_at.new.calls) c.header_at.ensures.step.change c.args.slot.now 34 _ c.in_ok-header_at.ensures.header
+check_free-requires-clause-header g c = header_after c.header_at.ensures.step.change c.args.slot.now 34 _ c.in_ok-header_at.ensures.header
 
 pub returns-then-is_header-clause-free : goal.returns-then-is_header-clause-free
-returns-then-is_header-clause-free g c = free_for_own (g.C.Calls.state c.args.calls.now) c.args.seen.now c.args.slot.now c.args.item.now c.header_at.new.into c.is_header.ensures.len c.if-is_header.ensures.same c.in_ok-header_at.ensures.header
+returns-then-is_header-clause-free g c =
+    let a = g.C.Calls.state c.args.calls.now in
+    free_for_own a c.args.seen.now c.args.slot.now c.args.item.now c.header_at.new.into c.is_header.ensures.len c.if-is_header.ensures.same c.in_ok-header_at.ensures.header
 
 pub returns-clause-free : goal.returns-clause-free
 returns-clause-free g c =
     let a = g.C.Calls.state c.args.calls.now in
-    on_ok c.check_free.result c.check_free.ensures.free (λ free. free_for_any a c.args.seen.now c.args.slot.now c.args.item.now (free_before a (g.C.Calls.state c.header_at.new.calls) c.header_at.ensures.step.change c.args.seen.now c.args.slot.now free))
+    on_ok c.check_free.result c.check_free.ensures.free (λ free. free_for_any a c.args.seen.now c.args.slot.now c.args.item.now
+    (free_before c.header_at.ensures.step.change c.args.seen.now c.args.slot.now free))

@@ -1,19 +1,20 @@
-use Rattle.std.proofs.Common.{length, ◌∙◌}
+use Rattle.std.proofs.Common.{Bool, ◌∙◌, ap}
+use Rattle.mig_calls.specs.declared.places.Place.{Place}
 use Rattle.mig_files.proofs.TrackingSteps.{tracked_more, step_is_write, unsynced_back}
 use Rattle.mig_files.proofs.pieces.try_write.Goals as goal
 
 pub no_memory-requires : goal.no_memory-requires
-no_memory-requires g c = record { tracked = tracked_more c.args.tracked.now.notes c.note_write.new.tracked.notes (g.C.Calls.state c.args.calls.now) c.note_write.ensures.notes (unsynced_back _ _ c.note_write.ensures.unsynced) c.note_write.ensures.kept c.requires.tracked }
+no_memory-requires g c = record { tracked = tracked_more c.note_write.ensures.notes (unsynced_back _ _ c.note_write.ensures.unsynced) c.note_write.ensures.kept c.requires.tracked }
 
 pub write_noted-requires-clause-tracked : goal.write_noted-requires-clause-tracked
-write_noted-requires-clause-tracked g c = tracked_more c.args.tracked.now.notes c.note_write.new.tracked.notes (g.C.Calls.state c.args.calls.now) c.note_write.ensures.notes (unsynced_back _ _ c.note_write.ensures.unsynced) c.note_write.ensures.kept c.requires.tracked
+write_noted-requires-clause-tracked g c = tracked_more c.note_write.ensures.notes (unsynced_back _ _ c.note_write.ensures.unsynced) c.note_write.ensures.kept c.requires.tracked
 
 pub returns-in-Err-clause-step : goal.returns-in-Err-clause-step
-returns-in-Err-clause-step g c = step_is_write c.note_write.new.tracked.notes c.args.place.now c.args.offset (length c.args.bytes.now) (g.C.Calls.state c.args.calls.now) (g.C.Calls.state c.no_memory.new.calls) c.no_memory.ensures.step
+returns-in-Err-clause-step g c = step_is_write c.no_memory.ensures.step
 
 pub returns-in-Err-clause-kept : goal.returns-in-Err-clause-kept
 returns-in-Err-clause-kept g c = record {
   alive = c.note_write.ensures.notes.lost ∙ c.requires.alive;
-  fresh = c.no_memory.ensures.flags.fresh;
+  fresh = λ file is. ap (λ (f : Place → Bool). f file) c.no_memory.ensures.flags.fresh ∙ is;
   claimed = λ is. c.no_memory.ensures.flags.claimed ∙ is;
 }

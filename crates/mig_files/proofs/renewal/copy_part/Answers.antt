@@ -10,13 +10,13 @@ pub write_all-requires-clause-claimed : goal.write_all-requires-clause-claimed
 write_all-requires-clause-claimed g c = c.read_all.ensures.quiet.flags.claimed ∙ c.requires.claimed
 
 pub write_all-requires-clause-tracked : goal.write_all-requires-clause-tracked
-write_all-requires-clause-tracked g c = (quiet_step c.args.tracked.now.notes (g.C.Calls.state c.args.calls.now) (g.C.Calls.state c.read_all.new.calls) c.requires.tracked c.read_all.ensures.quiet (λ off. c.read_all.ensures.usable)).tracked
+write_all-requires-clause-tracked g c = (quiet_step c.requires.tracked c.read_all.ensures.quiet (λ off. c.read_all.ensures.usable)).tracked
 
 pub returns-in_err-read_all-clause-step : goal.returns-in_err-read_all-clause-step
-returns-in_err-read_all-clause-step g c = step_is_copy c.args.tracked.now.notes (g.C.Calls.state c.args.calls.now) (g.C.Calls.state c.read_all.new.calls) (quiet_step c.args.tracked.now.notes (g.C.Calls.state c.args.calls.now) (g.C.Calls.state c.read_all.new.calls) c.requires.tracked c.read_all.ensures.quiet (λ off. c.read_all.ensures.usable))
+returns-in_err-read_all-clause-step g c = step_is_copy (quiet_step c.requires.tracked c.read_all.ensures.quiet (λ off. c.read_all.ensures.usable))
 
 pub returns-clause-step : goal.returns-clause-step
-returns-clause-step g c = copy_step_then c.args.tracked.now.notes c.write_all.new.tracked.notes (g.C.Calls.state c.args.calls.now) (g.C.Calls.state c.read_all.new.calls) (g.C.Calls.state c.write_all.new.calls) (step_is_copy c.args.tracked.now.notes (g.C.Calls.state c.args.calls.now) (g.C.Calls.state c.read_all.new.calls) (quiet_step c.args.tracked.now.notes (g.C.Calls.state c.args.calls.now) (g.C.Calls.state c.read_all.new.calls) c.requires.tracked c.read_all.ensures.quiet (λ off. c.read_all.ensures.usable))) (write_step_is_copy c.write_all.new.tracked.notes c.args.offset _ (g.C.Calls.state c.read_all.new.calls) (g.C.Calls.state c.write_all.new.calls) c.write_all.ensures.step)
+returns-clause-step g c = copy_step_then (step_is_copy (quiet_step c.requires.tracked c.read_all.ensures.quiet (λ off. c.read_all.ensures.usable))) (write_step_is_copy c.write_all.ensures.step)
 
 pub returns-clause-copied : goal.returns-clause-copied
 returns-clause-copied g c =
@@ -28,4 +28,4 @@ returns-clause-copied g c =
     let whole = subst (λ (n : ℕ). (n ≡ 16384) ⊎ (c.args.offset + n ≡ c.args.len)) same c.requires.whole in
     let read = subst (λ (n : ℕ). IsTrue (a.told Journal) → HasBytes (a.reads Journal) c.args.offset n part) same c.in_ok-read_all.ensures.bytes in
     on_ok c.write_all.result c.write_all.ensures.written (λ has.
-    copied_more c.args.offset c.args.len (length part) part a (g.C.Calls.state c.read_all.new.calls) (g.C.Calls.state c.write_all.new.calls) within whole short c.requires.copied c.read_all.ensures.quiet.change c.write_all.ensures.step.change read has)
+    copied_more c.args.offset c.args.len (length part) part within whole short c.requires.copied c.read_all.ensures.quiet.change c.write_all.ensures.step.change read has)

@@ -1,4 +1,3 @@
-use Rattle.mig_files.proofs.Errs.{err_rose}
 use Rattle.std.proofs.Common.{◌+◌, ◌*◌, ℕ, arith, subst, ◌≡◌}
 use Rattle.mig_files.specs.Tracking.{IsCopiedTo}
 use Rattle.mig_files.proofs.TrackingSteps.{writes_then, writes_none, step_none}
@@ -8,24 +7,21 @@ use Rattle.mig_files.proofs.renewal.copy_pieces.Goals as goal
 pub loop-i-init : goal.loop-i-init
 loop-i-init g c = record {
   copied = c.requires.copied;
-  step = step_is_copy c.args.tracked.now.notes (g.C.Calls.state c.args.calls.now) (g.C.Calls.state c.args.calls.now) (step_none c.args.tracked.now.notes (g.C.Calls.state c.args.calls.now) c.requires.tracked);
-  kept = writes_none c.args.tracked.now.notes (g.C.Calls.state c.args.calls.now) c.requires.alive;
+  step = step_is_copy (step_none c.requires.tracked);
+  kept = writes_none c.requires.alive;
 }
 
 pub copy_piece-requires-clause-claimed : goal.copy_piece-requires-clause-claimed
 copy_piece-requires-clause-claimed g c = c.loop-i.invariant.kept.claimed c.requires.claimed
 
 pub returns-in_err-copy_piece-clause-step : goal.returns-in_err-copy_piece-clause-step
-returns-in_err-copy_piece-clause-step g c = copy_step_then c.loop-i.tracked.notes c.copy_piece.new.tracked.notes (g.C.Calls.state c.args.calls.now) (g.C.Calls.state c.loop-i.calls) (g.C.Calls.state c.copy_piece.new.calls) c.loop-i.invariant.step c.copy_piece.ensures.step
-
-pub returns-in_err-copy_piece-clause-cause : goal.returns-in_err-copy_piece-clause-cause
-returns-in_err-copy_piece-clause-cause g c = err_rose _ (g.C.Calls.state c.args.calls.now) (g.C.Calls.state c.copy_piece.new.calls) (omega (arith, c.loop-i.invariant.step.later, c.in_err-copy_piece.ensures.cause))
+returns-in_err-copy_piece-clause-step g c = copy_step_then c.loop-i.invariant.step c.copy_piece.ensures.step
 
 pub loop-i-preserved : goal.loop-i-preserved
 loop-i-preserved g c =
     let next : c.loop-i.i * 16384 + 16384 ≡ (c.loop-i.i + 1) * 16384 = omega arith in
     record {
       copied = subst (λ (n : ℕ). IsCopiedTo n c.args.len (g.C.Calls.state c.copy_piece.new.calls)) next c.in_ok-copy_piece.ensures.copied;
-      step = copy_step_then c.loop-i.tracked.notes c.copy_piece.new.tracked.notes (g.C.Calls.state c.args.calls.now) (g.C.Calls.state c.loop-i.calls) (g.C.Calls.state c.copy_piece.new.calls) c.loop-i.invariant.step c.copy_piece.ensures.step;
-      kept = writes_then c.loop-i.tracked.notes c.copy_piece.new.tracked.notes (g.C.Calls.state c.args.calls.now) (g.C.Calls.state c.loop-i.calls) (g.C.Calls.state c.copy_piece.new.calls) c.loop-i.invariant.kept c.in_ok-copy_piece.ensures.kept;
+      step = copy_step_then c.loop-i.invariant.step c.copy_piece.ensures.step;
+      kept = writes_then c.loop-i.invariant.kept c.in_ok-copy_piece.ensures.kept;
     }

@@ -1,20 +1,30 @@
-use Rattle.std.proofs.Common.{refl}
+use Rattle.std.proofs.Common.{refl, sym}
+use Rattle.std.proofs.lemmas.Bool.{false≢true}
 use Rattle.mig_calls.specs.declared.places.Place.TheVariants.{Journal}
-use Rattle.mig_files.proofs.CopySteps.{renamed}
+use Rattle.mig_files.proofs.TrackingSteps.{task_made}
 use Rattle.mig_files.proofs.renewal.take_name.Goals as goal
 
 pub returns-in-Ok-clause-step : goal.returns-in-Ok-clause-step
-returns-in-Ok-clause-step g c = record {
-  tracked = renamed c.args.tracked.now.notes _ (g.C.Calls.state c.args.calls.now) (g.C.Calls.state c.rename.new.calls) c.requires.tracked c.requires.alive refl refl refl refl c.rename.ensures.claimed c.rename.ensures.flushed c.rename.ensures.fresh c.rename.ensures.usable (λ off. c.in-Ok.ensures.renewed.0) (λ on. c.in-Ok.ensures.renewed.1);
-  change = c.rename.ensures.change;
-  later = c.rename.ensures.later;
-  more = c.rename.ensures.more;
-}
+returns-in-Ok-clause-step g c =
+    let leaves = c.make.ensures.leaves in
+    record {
+      tracked = task_made c.requires.tracked c.requires.alive refl refl leaves c.in-Ok.ensures.usable (λ file lacks. absurd lacks) (λ on. leaves.claimed (c.requires.tracked.claimed on))
+          (λ off. absurd (false≢true (sym off)))
+          (λ off. c.in-Ok.ensures.done.0) (λ on. c.in-Ok.ensures.done.1);
+      change = leaves.change;
+      later = leaves.later;
+      more = leaves.more;
+    }
 
 pub returns-in-Err-clause-step : goal.returns-in-Err-clause-step
-returns-in-Err-clause-step g c = record {
-  tracked = renamed c.args.tracked.now.notes _ (g.C.Calls.state c.args.calls.now) (g.C.Calls.state c.rename.new.calls) c.requires.tracked c.requires.alive refl refl refl refl c.rename.ensures.claimed c.rename.ensures.flushed c.rename.ensures.fresh c.rename.ensures.usable (λ off. c.rename.ensures.flushed Journal (c.requires.tracked.journal off)) (λ on. c.rename.ensures.kept (c.requires.tracked.renewed c.requires.alive on));
-  change = c.rename.ensures.change;
-  later = c.rename.ensures.later;
-  more = c.rename.ensures.more;
-}
+returns-in-Err-clause-step g c =
+    let leaves = c.make.ensures.leaves in
+    let usable = c.make.ensures.kept refl in
+    record {
+      tracked = task_made c.requires.tracked c.requires.alive refl refl leaves usable (λ file lacks. absurd lacks) (λ on. leaves.claimed (c.requires.tracked.claimed on))
+          (λ off. absurd (false≢true (sym off)))
+          (λ off. leaves.flushed Journal (λ none. none) (c.requires.tracked.journal off)) (λ on. usable.fresh Journal (λ none. none) (c.requires.tracked.renewed c.requires.alive on));
+      change = leaves.change;
+      later = leaves.later;
+      more = leaves.more;
+    }

@@ -1,4 +1,3 @@
-use Rattle.mig_files.proofs.Errs.{err_rose}
 use Rattle.std.proofs.Common.{arith}
 use Rattle.mig_files.proofs.TrackingSteps.{step_then, step_none, alive_then, alive_none}
 use Rattle.mig_files.proofs.syncs.sync_disks.Goals as goal
@@ -6,21 +5,18 @@ use Rattle.mig_files.proofs.syncs.sync_disks.Goals as goal
 pub disks-init : goal.disks-init
 disks-init g c = record {
   left = omega arith;
-  step = step_none c.args.tracked.now.notes (g.C.Calls.state c.args.calls.now) c.requires.tracked;
-  kept = alive_none c.args.tracked.now.notes (g.C.Calls.state c.args.calls.now) c.requires.alive;
+  step = step_none c.requires.tracked;
+  kept = alive_none c.requires.alive;
 }
 
 pub returns-in_err-sync_last-clause-step : goal.returns-in_err-sync_last-clause-step
-returns-in_err-sync_last-clause-step g c = step_then c.disks.tracked.notes c.sync_last.new.tracked.notes (g.C.Calls.state c.args.calls.now) (g.C.Calls.state c.disks.calls) (g.C.Calls.state c.sync_last.new.calls) c.disks.invariant.step c.sync_last.ensures.step
-
-pub returns-in_err-sync_last-clause-cause : goal.returns-in_err-sync_last-clause-cause
-returns-in_err-sync_last-clause-cause g c = err_rose _ (g.C.Calls.state c.args.calls.now) (g.C.Calls.state c.sync_last.new.calls) (omega (arith, c.disks.invariant.step.later, c.in_err-sync_last.ensures.cause))
+returns-in_err-sync_last-clause-step g c = step_then c.disks.invariant.step c.sync_last.ensures.step
 
 pub disks-preserved : goal.disks-preserved
 disks-preserved g c = record {
   left = omega (arith, c.disks.invariant.left, c.in_ok-sync_last.ensures.less);
-  step = step_then c.disks.tracked.notes c.sync_last.new.tracked.notes (g.C.Calls.state c.args.calls.now) (g.C.Calls.state c.disks.calls) (g.C.Calls.state c.sync_last.new.calls) c.disks.invariant.step c.sync_last.ensures.step;
-  kept = alive_then c.disks.tracked.notes c.sync_last.new.tracked.notes (g.C.Calls.state c.args.calls.now) (g.C.Calls.state c.disks.calls) (g.C.Calls.state c.sync_last.new.calls) c.disks.invariant.kept c.in_ok-sync_last.ensures.kept;
+  step = step_then c.disks.invariant.step c.sync_last.ensures.step;
+  kept = alive_then c.disks.invariant.kept c.in_ok-sync_last.ensures.kept;
 }
 
 pub returns-clause-flushed : goal.returns-clause-flushed

@@ -1,19 +1,17 @@
 use Rattle.std.proofs.Common.{refl}
-use Rattle.mig_base.specs.Cells.{cell_len}
-use Rattle.mig_calls.specs.Places.{file_of, offset_of}
 use Rattle.mig_files.proofs.TrackingSteps.{step_at_cell, step_is_write}
 use Rattle.mig_files.proofs.Derivation.{on_ok}
 use Rattle.mig_files.proofs.Headers.{copied, copy_free}
 use Rattle.mig_files.proofs.writes.copy_item.Goals as goal
 
 pub returns-clause-step : goal.returns-clause-step
-returns-clause-step g c = step_at_cell c.read_item.new.tracked.notes c.put_item.new.tracked.notes c.args.to.now (file_of c.args.to.now) (offset_of c.args.to.now) (cell_len c.args.to.now) (g.C.Calls.state c.args.calls.now) (g.C.Calls.state c.read_item.new.calls) (g.C.Calls.state c.put_item.new.calls) refl refl refl c.read_item.ensures.step c.put_item.ensures.step
+returns-clause-step g c = step_at_cell c.args.to.now refl refl refl c.read_item.ensures.step c.put_item.ensures.step
 
 pub returns-clause-copied : goal.returns-clause-copied
 returns-clause-copied g c = on_ok c.put_item.result c.put_item.ensures.written (λ written. copied _ _ _ c.in_ok-item.ensures.bytes written)
 
 pub returns-in_err-item-clause-step : goal.returns-in_err-item-clause-step
-returns-in_err-item-clause-step g c = step_is_write c.read_item.new.tracked.notes (file_of c.args.to.now) (offset_of c.args.to.now) (cell_len c.args.to.now) (g.C.Calls.state c.args.calls.now) (g.C.Calls.state c.read_item.new.calls) c.read_item.ensures.step
+returns-in_err-item-clause-step g c = step_is_write c.read_item.ensures.step
 
 pub returns-clause-free : goal.returns-clause-free
 returns-clause-free g c = on_ok c.put_item.result c.put_item.ensures.free (λ free. (
@@ -21,6 +19,6 @@ returns-clause-free g c = on_ok c.put_item.result c.put_item.ensures.free (λ fr
   record {
     name = c.in_ok-item.ensures.held.0;
     held = c.in_ok-item.ensures.held.1;
-    free = copy_free (g.C.Calls.state c.args.calls.now) (g.C.Calls.state c.read_item.new.calls) c.read_item.ensures.step.change c.args.seen.now c.read_item.new.seen c.args.to.now c.in_ok-item.item c.in_ok-item.ensures.others free;
+    free = copy_free c.read_item.ensures.step.change c.args.seen.now c.read_item.new.seen c.args.to.now c.in_ok-item.item c.in_ok-item.ensures.others free;
   },
 ))

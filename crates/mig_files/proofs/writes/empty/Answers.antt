@@ -1,6 +1,5 @@
 use Rattle.std.proofs.Common.{refl, arith}
-use Rattle.mig_base.specs.Cells.{cell_len}
-use Rattle.mig_calls.specs.Places.{file_of, offset_of}
+use Rattle.mig_calls.specs.Places.{file_of}
 use Rattle.mig_calls.specs.Files.{len_of}
 use Rattle.mig_files.proofs.TrackingSteps.{step_at_cell, step_is_write}
 use Rattle.mig_files.proofs.Headers.{emptied, on_any}
@@ -11,19 +10,19 @@ pub write_cell-requires-clause-claimed : goal.write_cell-requires-clause-claimed
 write_cell-requires-clause-claimed g c = c.in_ok-found.ensures.kept.claimed c.requires.claimed
 
 pub returns-in_err-found-clause-step : goal.returns-in_err-found-clause-step
-returns-in_err-found-clause-step g c = step_is_write c.expects_free.new.tracked.notes (file_of c.args.slot.now) (offset_of c.args.slot.now) (cell_len c.args.slot.now) (g.C.Calls.state c.args.calls.now) (g.C.Calls.state c.expects_free.new.calls) c.expects_free.ensures.step
+returns-in_err-found-clause-step g c = step_is_write c.expects_free.ensures.step
 
 pub returns-clause-step : goal.returns-clause-step
-returns-clause-step g c = step_at_cell c.expects_free.new.tracked.notes c.write_cell.new.tracked.notes c.args.slot.now (file_of c.args.slot.now) (offset_of c.args.slot.now) (cell_len c.args.slot.now) (g.C.Calls.state c.args.calls.now) (g.C.Calls.state c.expects_free.new.calls) (g.C.Calls.state c.write_cell.new.calls) refl refl refl c.expects_free.ensures.step c.write_cell.ensures.step
+returns-clause-step g c = step_at_cell c.args.slot.now refl refl refl c.expects_free.ensures.step c.write_cell.ensures.step
 
 pub returns-then-len-offset-clause-written : goal.returns-then-len-offset-clause-written
 returns-then-len-offset-clause-written g c =
-    let a = g.C.Calls.state c.args.calls.now in
     let b = g.C.Calls.state c.expects_free.new.calls in
-    emptied b c.args.slot.now c.args.zeros.now (len_of c.in_ok-found.found) c.requires.length c.requires.zeros (omega arith) (end_after a b c.expects_free.ensures.step.change (file_of c.args.slot.now) _ c.in_ok-found.ensures.end)
+    emptied b c.args.slot.now c.args.zeros.now (len_of c.in_ok-found.found) c.requires.length c.requires.zeros (omega arith)
+    (end_after c.expects_free.ensures.step.change (file_of c.args.slot.now) _ c.in_ok-found.ensures.end)
 
 pub returns-then-len-offset-clause-step : goal.returns-then-len-offset-clause-step
-returns-then-len-offset-clause-step g c = step_is_write c.expects_free.new.tracked.notes (file_of c.args.slot.now) (offset_of c.args.slot.now) (cell_len c.args.slot.now) (g.C.Calls.state c.args.calls.now) (g.C.Calls.state c.expects_free.new.calls) c.expects_free.ensures.step
+returns-then-len-offset-clause-step g c = step_is_write c.expects_free.ensures.step
 
 pub returns-clause-free : goal.returns-clause-free
 returns-clause-free g c = on_any c.write_cell.result c.in_ok-found.ensures.free

@@ -1,4 +1,3 @@
-use Rattle.mig_files.proofs.Errs.{err_rose}
 use Rattle.std.proofs.Common.{length, arith, ◌∙◌}
 use Rattle.mig_calls.specs.Places.{file_of, offset_of}
 use Rattle.mig_files.proofs.TrackingSteps.{step_then}
@@ -7,34 +6,35 @@ use Rattle.mig_files.proofs.Derivation.{end_after}
 use Rattle.mig_files.proofs.writes.read_item.Goals as goal
 
 pub note_held-requires-clause-end : goal.note_held-requires-clause-end
-note_held-requires-clause-end g c = end_after (g.C.Calls.state c.args.calls.now) (g.C.Calls.state c.read_part.new.calls) c.read_part.ensures.step.change (file_of c.args.slot.now) _ c.in_ok-found.ensures.end
+note_held-requires-clause-end g c = end_after c.read_part.ensures.step.change (file_of c.args.slot.now) _ c.in_ok-found.ensures.end
 
 pub refuse_with-requires-clause-cause : goal.refuse_with-requires-clause-cause
 refuse_with-requires-clause-cause g c = λ item name told holds.
     let b = g.C.Calls.state c.read_part.new.calls in
-    let has = header_after (g.C.Calls.state c.args.calls.now) b c.read_part.ensures.step.change c.args.slot.now (length c.args.bytes.now) c.read_part.new.into c.in_ok-found.ensures.bytes told in
+    let has = header_after c.read_part.ensures.step.change c.args.slot.now (length c.args.bytes.now) c.read_part.new.into c.in_ok-found.ensures.bytes told in
     c.in-None.ensures.none item name (held_is b c.args.slot.now c.first_of.result item c.first_of.ensures.len name.short
-    (first_bytes (b.reads (file_of c.args.slot.now)) (offset_of c.args.slot.now) 34 (length c.args.bytes.now) c.read_part.new.into c.first_of.result c.requires.whole (omega (arith, c.read_part.auto.into)) c.first_of.ensures.first has) holds)
+    (first_bytes (b.reads (file_of c.args.slot.now)) (offset_of c.args.slot.now) 34 (length c.args.bytes.now) c.read_part.new.into c.first_of.result c.requires.whole
+    (omega (arith, c.read_part.auto.into)) c.first_of.ensures.first has) holds)
 
 pub returns-in_ok-note_held-in-Some-clause-bytes : goal.returns-in_ok-note_held-in-Some-clause-bytes
-returns-in_ok-note_held-in-Some-clause-bytes g c = whole_read (g.C.Calls.state c.args.calls.now) c.args.slot.now (length c.args.bytes.now) c.read_part.new.into c.requires.length (c.read_part.auto.into ∙ c.requires.length) c.in_ok-found.ensures.bytes
+returns-in_ok-note_held-in-Some-clause-bytes g c =
+    whole_read (g.C.Calls.state c.args.calls.now) c.args.slot.now (length c.args.bytes.now) c.read_part.new.into c.requires.length
+    (c.read_part.auto.into ∙ c.requires.length) c.in_ok-found.ensures.bytes
 
 pub returns-in_ok-note_held-in-Some-clause-step : goal.returns-in_ok-note_held-in-Some-clause-step
-returns-in_ok-note_held-in-Some-clause-step g c = step_then c.read_part.new.tracked.notes c.read_part.new.tracked.notes (g.C.Calls.state c.args.calls.now) (g.C.Calls.state c.read_part.new.calls) (g.C.Calls.state c.note_held.new.calls) c.read_part.ensures.step c.note_held.ensures.step
+returns-in_ok-note_held-in-Some-clause-step g c = step_then c.read_part.ensures.step c.note_held.ensures.step
 
 pub returns-in_err-note_held-in-Some-clause-step : goal.returns-in_err-note_held-in-Some-clause-step
-returns-in_err-note_held-in-Some-clause-step g c = step_then c.read_part.new.tracked.notes c.read_part.new.tracked.notes (g.C.Calls.state c.args.calls.now) (g.C.Calls.state c.read_part.new.calls) (g.C.Calls.state c.note_held.new.calls) c.read_part.ensures.step c.note_held.ensures.step
-
-pub returns-in_err-note_held-in-Some-clause-cause : goal.returns-in_err-note_held-in-Some-clause-cause
-returns-in_err-note_held-in-Some-clause-cause g c = err_rose _ (g.C.Calls.state c.args.calls.now) (g.C.Calls.state c.note_held.new.calls) (omega (arith, c.read_part.ensures.step.later, c.in_err-note_held-in-Some.ensures.cause))
+returns-in_err-note_held-in-Some-clause-step g c = step_then c.read_part.ensures.step c.note_held.ensures.step
 
 pub returns-in-None-clause-step : goal.returns-in-None-clause-step
-returns-in-None-clause-step g c = step_then c.read_part.new.tracked.notes c.read_part.new.tracked.notes (g.C.Calls.state c.args.calls.now) (g.C.Calls.state c.read_part.new.calls) (g.C.Calls.state c.refuse_with.new.calls) c.read_part.ensures.step c.refuse_with.ensures.step
+returns-in-None-clause-step g c = step_then c.read_part.ensures.step c.refuse_with.ensures.step
 
 pub returns-in_ok-note_held-in-Some-clause-held : goal.returns-in_ok-note_held-in-Some-clause-held
 returns-in_ok-note_held-in-Some-clause-held g c =
     let a = g.C.Calls.state c.args.calls.now in (
       c.in-Some.ensures.name,
       held_by a c.args.slot.now c.first_of.result c.in-Some.item c.in-Some.ensures.some
-          (λ told. first_bytes (a.reads (file_of c.args.slot.now)) (offset_of c.args.slot.now) 34 (length c.args.bytes.now) c.read_part.new.into c.first_of.result c.requires.whole (omega (arith, c.read_part.auto.into)) c.first_of.ensures.first (c.in_ok-found.ensures.bytes told)),
+          (λ told. first_bytes (a.reads (file_of c.args.slot.now)) (offset_of c.args.slot.now) 34 (length c.args.bytes.now) c.read_part.new.into c.first_of.result c.requires.whole
+          (omega (arith, c.read_part.auto.into)) c.first_of.ensures.first (c.in_ok-found.ensures.bytes told)),
     )

@@ -1,22 +1,20 @@
 use Rattle.std.proofs.Common.{refl}
-use Rattle.mig_base.specs.Cells.{cell_len}
-use Rattle.mig_calls.specs.Places.{file_of, offset_of}
 use Rattle.mig_files.proofs.TrackingSteps.{step_at_cell, step_is_write}
 use Rattle.mig_files.proofs.Derivation.{on_ok}
 use Rattle.mig_files.proofs.Headers.{free_before}
 use Rattle.mig_files.proofs.writes.write_item.Goals as goal
 
 pub returns-in_err-claim-clause-step : goal.returns-in_err-claim-clause-step
-returns-in_err-claim-clause-step g c = step_is_write c.claim.new.tracked.notes (file_of c.args.cell.now) (offset_of c.args.cell.now) (cell_len c.args.cell.now) (g.C.Calls.state c.args.calls.now) (g.C.Calls.state c.claim.new.calls) c.claim.ensures.step
+returns-in_err-claim-clause-step g c = step_is_write c.claim.ensures.step
 
 pub returns-clause-step : goal.returns-clause-step
-returns-clause-step g c = step_at_cell c.claim.new.tracked.notes c.write_cell.new.tracked.notes c.args.cell.now (file_of c.args.cell.now) (offset_of c.args.cell.now) (cell_len c.args.cell.now) (g.C.Calls.state c.args.calls.now) (g.C.Calls.state c.claim.new.calls) (g.C.Calls.state c.write_cell.new.calls) refl refl refl c.claim.ensures.step c.write_cell.ensures.step
+returns-clause-step g c = step_at_cell c.args.cell.now refl refl refl c.claim.ensures.step c.write_cell.ensures.step
 
 pub returns-then-empties-clause-step : goal.returns-then-empties-clause-step
-returns-then-empties-clause-step g c = step_at_cell c.claim.new.tracked.notes c.empty.new.tracked.notes c.args.cell.now (file_of c.args.cell.now) (offset_of c.args.cell.now) (cell_len c.args.cell.now) (g.C.Calls.state c.args.calls.now) (g.C.Calls.state c.claim.new.calls) (g.C.Calls.state c.empty.new.calls) refl refl refl c.claim.ensures.step c.empty.ensures.step
+returns-then-empties-clause-step g c = step_at_cell c.args.cell.now refl refl refl c.claim.ensures.step c.empty.ensures.step
 
 pub returns-then-empties-clause-free : goal.returns-then-empties-clause-free
-returns-then-empties-clause-free g c = λ erases. on_ok c.empty.result c.empty.ensures.free (free_before (g.C.Calls.state c.args.calls.now) (g.C.Calls.state c.claim.new.calls) c.claim.ensures.step.change c.args.seen.now c.args.cell.now)
+returns-then-empties-clause-free g c = λ erases. on_ok c.empty.result c.empty.ensures.free (free_before c.claim.ensures.step.change c.args.seen.now c.args.cell.now)
 
 pub returns-clause-free : goal.returns-clause-free
 returns-clause-free g c = λ erases. absurd (c.if-empties.ensures erases)

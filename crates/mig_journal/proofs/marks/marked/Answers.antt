@@ -1,28 +1,28 @@
-use Rattle.mig_base.proofs.Common.{true, false, arith, NoCell}
+use Rattle.mig_base.proofs.Common.{true, false, arith}
 use Rattle.mig_journal.proofs.MarksRead.{one_more, stops, all_set}
-use Rattle.mig_journal.proofs.Steps.{then_quiet, quiet_same}
+use Rattle.mig_journal.proofs.Steps.{looks_then, look_mark}
 use Rattle.mig_journal.proofs.marks.marked.Goals as goal
 
 pub returns-in_err-is_set-clause-change : goal.returns-in_err-is_set-clause-change
-returns-in_err-is_set-clause-change g c = then_quiet NoCell (g.S.Store.state c.args.store.now) (g.S.Store.state c.loop-n.store) (g.S.Store.state c.is_set.new.store) c.loop-n.invariant.change c.is_set.ensures.change
+returns-in_err-is_set-clause-change g c = looks_then (g.S.Store.state c.args.store.now) (g.S.Store.state c.loop-n.store) (g.S.Store.state c.is_set.new.store) c.loop-n.invariant.change c.is_set.ensures.change
 
 pub returns-then-not-branch-clause-change : goal.returns-then-not-branch-clause-change
-returns-then-not-branch-clause-change g c = then_quiet NoCell (g.S.Store.state c.args.store.now) (g.S.Store.state c.loop-n.store) (g.S.Store.state c.is_set.new.store) c.loop-n.invariant.change c.is_set.ensures.change
+returns-then-not-branch-clause-change g c = looks_then (g.S.Store.state c.args.store.now) (g.S.Store.state c.loop-n.store) (g.S.Store.state c.is_set.new.store) c.loop-n.invariant.change c.is_set.ensures.change
 
 pub returns-then-not-branch-clause-count : goal.returns-then-not-branch-clause-count
 returns-then-not-branch-clause-count g c =
     let first = g.S.Store.state c.args.store.now in
     let now = g.S.Store.state c.loop-n.store in
-    stops c.args.rounds c.loop-n.n first.reads now.reads (quiet_same first now c.loop-n.invariant.change) c.in_ok-is_set.field-0 c.in_ok-is_set.ensures.set c.loop-n-test.true c.if-not-branch.true c.loop-n.invariant.ones
+    stops c.args.rounds c.loop-n.n first.reads now.reads (look_mark first now c.loop-n.invariant.change) c.in_ok-is_set.field-0 c.in_ok-is_set.ensures.set c.loop-n-test.true c.if-not-branch.true c.loop-n.invariant.ones
 
 pub loop-n-preserved : goal.loop-n-preserved
 loop-n-preserved g c =
     let first = g.S.Store.state c.args.store.now in
     let now = g.S.Store.state c.loop-n.store in
     record {
-      change = then_quiet NoCell first now (g.S.Store.state c.is_set.new.store) c.loop-n.invariant.change c.is_set.ensures.change;
+      change = looks_then first now (g.S.Store.state c.is_set.new.store) c.loop-n.invariant.change c.is_set.ensures.change;
       later = omega (arith, c.loop-n.invariant.later, c.is_set.ensures.cause.later);
-      ones = one_more c.args.rounds c.loop-n.n first.reads now.reads (quiet_same first now c.loop-n.invariant.change) c.in_ok-is_set.field-0 c.in_ok-is_set.ensures.set c.loop-n-test.true c.if-not-branch.false c.loop-n.invariant.ones;
+      ones = one_more c.args.rounds c.loop-n.n first.reads now.reads (look_mark first now c.loop-n.invariant.change) c.in_ok-is_set.field-0 c.in_ok-is_set.ensures.set c.loop-n-test.true c.if-not-branch.false c.loop-n.invariant.ones;
     }
 
 pub returns-clause-count : goal.returns-clause-count

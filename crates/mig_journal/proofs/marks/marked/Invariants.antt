@@ -1,9 +1,10 @@
-use Rattle.mig_base.proofs.Common.{◌≡◌, ◌≤◌, ℕ, true, IsMark, Tells, is_marked, NoCell, ChangesOnly}
+use Rattle.mig_base.proofs.Common.{◌≡◌, ◌≤◌, ℕ, true, IsMark, Tells, is_marked}
+use Rattle.mig_base.specs.Stores.{Looks}
 use Rattle.mig_journal.proofs.marks.marked.Given as goal
 
 abbrev pub invariant-loop-n : goal.invariant-loop-n
 invariant-loop-n g l = record {
-  change : ChangesOnly NoCell (g.S.Store.state l.initial.store) (g.S.Store.state l.store);
+  change : Looks (g.S.Store.state l.initial.store) (g.S.Store.state l.store);
   later : (g.S.Store.state l.initial.store).faults ≤ (g.S.Store.state l.store).faults;
   ones : Tells (IsMark l.rounds) (g.S.Store.state l.initial.store).reads → (m : ℕ) → 1 ≤ m → m ≤ l.n → is_marked (g.S.Store.state l.initial.store).reads m ≡ true;
 }

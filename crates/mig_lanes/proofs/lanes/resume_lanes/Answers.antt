@@ -67,6 +67,7 @@ returns g c =
       ours = search rules;
       events = run_events job is k entered.enters.most old mid new entered.ended done.rounds;
       part = (k, entered.enters.most, entered.enters.found, run_part job is k entered.enters.most old mid new entered.ended on.part);
+      within = run_part job is k entered.enters.most old mid new entered.ended on.part;
       fault = search rules;
       kind = search rules;
       unrefused = search rules;

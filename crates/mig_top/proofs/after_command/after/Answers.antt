@@ -1,15 +1,12 @@
-use Rattle.std.proofs.Common.{[], inl}
-use Rattle.mig_top.proofs.Common.{four_and, lays_out, names_in, task_in, task_read}
-use Rattle.mig_top.proofs.Steps.{handed_from, if_map, stops_first}
+use Rattle.mig_top.proofs.Common.{[], four_and, inl, lays_out, task_in, task_names, task_read}
+use Rattle.mig_top.proofs.Steps.{fails_first, if_map}
 use Rattle.mig_top.proofs.after_command.after.Goals as goal
 
 pub returns-in_err-read-clause-takes : goal.returns-in_err-read-clause-takes
 returns-in_err-read-clause-takes g c =
-    let n = names_in c.args.files in
-    let old = g.F.Folder.state c.args.folder.now in
-    let new = g.F.Folder.state c.load_task.new.folder in
-    handed_from old new (four_and n []) (λ text. text.items) (lays_out n) c.from_residual.result c.in_err-read.field-0.0 c.from_residual.ensures.1
-    (stops_first old new (four_and n []) (λ files. (task_in n files).Stops) (λ files. (lays_out n files).Stops) (λ files o s. inl s) c.in_err-read.field-0.0 c.in_err-read.ensures.takes)
+    let n = task_names c.args.task in
+    fails_first (g.F.Folder.state c.args.folder.now) (g.F.Folder.state c.load_task.new.folder) (four_and n.files []) _ (λ text. text.items) (lays_out n)
+    c.in_err-read.field-0.0 c.from_residual.ensures.1 (task_in n) (λ files o s. inl s) c.in_err-read.ensures.takes
 
 pub returns-clause-takes : goal.returns-clause-takes
 returns-clause-takes g c = if_map (g.F.Folder.state c.args.folder.now).files (λ files holds. (task_read c.in_ok-read.read, holds, c.in_ok-last_layout.ensures)) c.in_ok-read.ensures.takes

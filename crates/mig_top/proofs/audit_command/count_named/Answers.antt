@@ -1,4 +1,4 @@
-use Rattle.std.proofs.Common.{rules}
+use Rattle.mig_top.proofs.Common.{rules}
 use Rattle.mig_top.proofs.audit_command.count_named.Goals as goal
 
 pub returns-then-named : goal.returns-then-named

@@ -1,5 +1,4 @@
-use Rattle.std.proofs.Common.{◌≡◌, ◌+◌, ℕ, length, sym, subst, arith}
-use Rattle.mig_top.proofs.Common.{AuditStops, HavePutSights}
+use Rattle.mig_top.proofs.Common.{AuditStops, HavePutSights, arith, length, subst, sym, ℕ, ◌+◌, ◌≡◌}
 use Rattle.mig_top.proofs.Sightings.{line_more, line_stops, looks_then, no_lines}
 use Rattle.mig_top.proofs.Results.{handed_on}
 use Rattle.mig_top.proofs.StoreEnds.{looks_none}

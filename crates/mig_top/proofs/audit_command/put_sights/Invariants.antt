@@ -1,5 +1,4 @@
-use Rattle.std.proofs.Common.{◌≤◌}
-use Rattle.mig_top.proofs.Common.{HavePutSights, Looks}
+use Rattle.mig_top.proofs.Common.{HavePutSights, Looks, ◌≤◌}
 use Rattle.mig_top.proofs.audit_command.put_sights.Given as goal
 
 -- the lines so far were put

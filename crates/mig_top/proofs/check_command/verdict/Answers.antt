@@ -1,6 +1,4 @@
-use Rattle.std.proofs.Common.{inl, inr}
-use Rattle.mig_top.proofs.Common.{IsNoCert, IsNoPlan, judges, plan_bodies_of, reads_verdict}
-use Rattle.mig_top.specs.Loads.{IsRefusal}
+use Rattle.mig_top.proofs.Common.{Roomy, inl, inr, judges, plan_bodies_of, reads_cert, reads_input, reads_plan, reads_verdict}
 use Rattle.mig_top.proofs.Steps.{answers, handed_on, within}
 use Rattle.mig_top.proofs.check_command.verdict.Goals as goal
 
@@ -8,14 +6,14 @@ pub returns-in_err-input : goal.returns-in_err-input
 returns-in_err-input c =
     let b = plan_bodies_of c.args.bytes.now in
     handed_on (λ text. text.now) (reads_verdict b c.args.cert.now)
-    (IsRefusal b.input) (λ o s. inl s) c.from_residual.result c.in_err-input.field-0.0 c.from_residual.ensures.1 c.in_err-input.ensures.takes
+    (reads_input Roomy b.input).Stops (λ o s. inl s) c.from_residual.result c.in_err-input.field-0.0 c.from_residual.ensures.1 c.in_err-input.ensures.takes
 
 pub returns-in_err-plan : goal.returns-in_err-plan
 returns-in_err-plan c =
     let b = plan_bodies_of c.args.bytes.now in
     let input = c.in_ok-input.input in
     handed_on (λ text. text.now) (reads_verdict b c.args.cert.now)
-    (IsNoPlan b.plan input) (λ o s. inr (input, c.in_ok-input.ensures.takes, inl s)) c.from_residual-in_err-plan.result c.in_err-plan.field-0.0
+    (reads_plan b.plan input).Stops (λ o s. inr (input, c.in_ok-input.ensures.takes, inl s)) c.from_residual-in_err-plan.result c.in_err-plan.field-0.0
     c.from_residual-in_err-plan.ensures.1 (rw c.deref.ensures.value at c.in_err-plan.ensures.takes)
 
 pub returns-in-Err : goal.returns-in-Err
@@ -24,7 +22,8 @@ returns-in-Err c =
     let input = c.in_ok-input.input in
     let plan = c.in_ok-plan.plan in
     let spelled = rw c.deref.ensures.value at c.in_ok-plan.ensures.takes in
-    within (IsNoCert c.args.cert.now input) (reads_verdict b c.args.cert.now).Stops (λ o s. inr (input, c.in_ok-input.ensures.takes, inr (plan, spelled, inl s))) c.in-Err.ending c.in-Err.ensures.takes
+    within (reads_cert c.args.cert.now input).Stops (reads_verdict b c.args.cert.now).Stops
+    (λ o s. inr (input, c.in_ok-input.ensures.takes, inr (plan, spelled, inl s))) c.in-Err.ending c.in-Err.ensures.takes
 
 pub returns : goal.returns
 returns c =

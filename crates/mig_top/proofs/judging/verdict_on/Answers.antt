@@ -1,4 +1,4 @@
-use Rattle.std.proofs.Common.{rules}
+use Rattle.mig_top.proofs.Common.{rules}
 use Rattle.mig_top.proofs.judging.verdict_on.Goals as goal
 
 pub returns-in-Ok-Bounded : goal.returns-in-Ok-Bounded

@@ -1,16 +1,13 @@
-use Rattle.std.proofs.Common.{[], ◌∷◌, inl, inr}
-use Rattle.mig_top.proofs.Common.{Lists, layout_in, loads_layout, reads_layout, two_bodies_of}
-use Rattle.mig_top.proofs.Steps.{answers_in, handed_from, stops_first}
+use Rattle.mig_top.proofs.Common.{Lists, [], inl, inr, layout_in, loads_layout, reads_layout, two_bodies_of, ◌∷◌}
+use Rattle.mig_top.proofs.Steps.{answers_in, fails_first}
 use Rattle.mig_top.proofs.layout_reads.load_layout.Goals as goal
 
 pub returns-in_err-bytes-clause-takes : goal.returns-in_err-bytes-clause-takes
 returns-in_err-bytes-clause-takes g c =
     let d = c.args.disks.now in
     let n = c.args.now.now in
-    let old = g.F.Folder.state c.args.folder.now in
-    let new = g.F.Folder.state c.load_two.new.folder in
-    handed_from old new (d ∷ n ∷ []) (λ (input : Lists). input) (layout_in d n) c.from_residual.result c.in_err-bytes.field-0.0 c.from_residual.ensures.1
-    (stops_first old new (d ∷ n ∷ []) (λ files. (loads_layout d n files).Stops) (λ files. (layout_in d n files).Stops) (λ files o s. inl s) c.in_err-bytes.field-0.0 c.in_err-bytes.ensures.takes)
+    fails_first (g.F.Folder.state c.args.folder.now) (g.F.Folder.state c.load_two.new.folder) (d ∷ n ∷ []) _ (λ (input : Lists). input) (layout_in d n)
+    c.in_err-bytes.field-0.0 c.from_residual.ensures.1 (loads_layout d n) (λ files o s. inl s) c.in_err-bytes.ensures.takes
 
 pub returns-clause-takes : goal.returns-clause-takes
 returns-clause-takes g c =

@@ -1,44 +1,35 @@
-use Rattle.std.proofs.Common.{[], ◌∷◌, ℕ, codes, subst}
-use Rattle.mig_top.proofs.Common.{Call, Carries, Move, Shows, WorldEnds, call, decimal, done_text, four_and, joined, names_in, world}
+use Rattle.mig_top.proofs.Common.{Carries, [], done_text, four_and, task_in, task_names}
 use Rattle.mig_top.proofs.Moving.{move_done, move_refused, move_rest}
 use Rattle.mig_top.proofs.EndsOf.{refused, shown, told}
-use Rattle.mig_top.proofs.StoreEnds.{no_flights, task_unread, untouched}
+use Rattle.mig_top.proofs.StoreEnds.{unread, untouched}
 use Rattle.mig_top.proofs.move_command.run_move.Goals as goal
 
 pub returns-in-Err : goal.returns-in-Err
 returns-in-Err g c =
-    let k : Call = call (world (g.F.Folder.state c.args.folder.now) (g.K.Sink.state c.args.out.now) (g.S.Store.state c.args.store.now))
-    (world (g.F.Folder.state c.load_job.new.folder) (g.K.Sink.state c.tell.new.out) (g.S.Store.state c.args.store.now)) in
-    told (WorldEnds k (Move (names_in c.args.files))) k.before.sink k.after.sink c.tell.result (four_and (names_in c.args.files) []) c.in-Err.ending c.tell.ensures.status
-    (task_unread k (Move (names_in c.args.files)) (names_in c.args.files) (move_rest k.before.store) (λ o h. h) tt (λ o u. c.load_job.ensures.same)
-    (untouched k.before.store) c.in-Err.ending c.in-Err.ensures.takes) c.tell.ensures.begun c.tell.ensures.whole
+    let n = task_names c.args.task in
+    told (four_and n.files []) c.in-Err.ending c.tell.ensures.status
+    (unread (four_and n.files []) (task_in n) (move_rest (g.S.Store.state c.args.store.now)) (λ o h. h) tt (λ o u. c.load_job.ensures.same) untouched c.in-Err.ending c.in-Err.ensures.takes)
+    c.tell.ensures.begun c.tell.ensures.whole
 
 pub returns-in-Ok-start_lanes : goal.returns-in-Ok-start_lanes
 returns-in-Ok-start_lanes g c =
-    let k : Call = call (world (g.F.Folder.state c.args.folder.now) (g.K.Sink.state c.args.out.now) (g.S.Store.state c.args.store.now))
-    (world (g.F.Folder.state c.load_job.new.folder) (g.K.Sink.state c.show_rounds.new.out) (g.S.Store.state c.start_lanes.new.store)) in
+    let old = g.S.Store.state c.args.store.now in
     let task = c.in-Ok.job in
     let e = c.start_lanes.ensures in
     let ok = c.in-Ok-start_lanes.ensures in
-    let carries : Carries task k.before.store k.after.store = record { keeps = e.keeps; armed = e.armed } in
-    shown (WorldEnds k (Move (names_in c.args.files))) k.before.sink k.after.sink c.show_rounds.result (done_text task.plan 0)
-    (move_done k (names_in c.args.files) c.load_job.ensures.same task c.in-Ok.ensures.takes carries (record { carries = carries; finishes = ok.finishes; events = ok.events })
-    (record { carries = carries; part = e.part }) (λ none gate. ok.finishes.ready none (ok.idle (no_flights k.before.store none) gate) gate))
-    (subst (λ (n : ℕ). Shows (joined (codes "done " ∷ decimal n ∷ codes " rounds, found " ∷ decimal 0 ∷ codes "\n" ∷ []))
-    k.before.sink k.after.sink c.show_rounds.result) c.rounds.ensures.count c.show_rounds.ensures)
+    let carries : Carries task old (g.S.Store.state c.start_lanes.new.store) = record { keeps = e.keeps; armed = e.armed } in
+    shown (done_text task.plan 0)
+    (move_done c.load_job.ensures.same c.in-Ok.ensures.takes carries (record { carries = carries; finishes = ok.finishes; events = ok.events })
+    (record { carries = carries; part = e.part }) (λ are gate. ok.finishes.ready are (ok.idle are gate) gate))
+    (rw c.rounds.ensures.count at c.show_rounds.ensures)
 
 pub returns : goal.returns
 returns g c =
-    let k : Call = call (world (g.F.Folder.state c.args.folder.now) (g.K.Sink.state c.args.out.now) (g.S.Store.state c.args.store.now))
-    (world (g.F.Folder.state c.load_job.new.folder) (g.K.Sink.state c.tell-in-Err-start_lanes.new.out) (g.S.Store.state c.start_lanes.new.store)) in
     let task = c.in-Ok.job in
-    let form = Move (names_in c.args.files) in
-    let names = four_and (names_in c.args.files) [] in
+    let names = four_and (task_names c.args.task).files [] in
     let e = c.start_lanes.ensures in
     let bad = c.in-Err-start_lanes.ensures in
     let t = c.tell-in-Err-start_lanes.ensures in
-    let carries : Carries task k.before.store k.after.store = record { keeps = e.keeps; armed = e.armed } in
-    refused (WorldEnds k form) k.before.sink k.after.sink c.tell-in-Err-start_lanes.result names c.fault_ending.result c.input.result.now task.input c.in-Err-start_lanes.fault
-    (c.fault_ending.ensures names) c.input.ensures.value
-    (move_refused k (names_in c.args.files) c.load_job.ensures.same task c.in-Ok.ensures.takes carries
-    (record { carries = carries; part = e.part }) c.in-Err-start_lanes.fault bad.fault bad.kind) t.status t.begun t.whole
+    let carries : Carries task (g.S.Store.state c.args.store.now) (g.S.Store.state c.start_lanes.new.store) = record { keeps = e.keeps; armed = e.armed } in
+    refused names c.fault_ending.result c.input.result.now task.input c.in-Err-start_lanes.fault (c.fault_ending.ensures names) c.input.ensures.value
+    (move_refused c.load_job.ensures.same c.in-Ok.ensures.takes carries (record { carries = carries; part = e.part }) c.in-Err-start_lanes.fault bad.fault bad.kind) t.status t.begun t.whole

@@ -1,16 +1,12 @@
-use Rattle.std.proofs.Common.{[], inl, inr, ⊎_elim}
-use Rattle.mig_top.proofs.Common.{bodies_of, four_and, loads_input, makes_texts, names_in, plans_texts, texts_of}
-use Rattle.mig_top.proofs.Steps.{answers_in, handed_from, stops_first}
+use Rattle.mig_top.proofs.Common.{[], bodies_of, four_and, inl, inr, loads_input, makes_texts, names_in, plans_texts, texts_of, ⊎_elim}
+use Rattle.mig_top.proofs.Steps.{answers_in, fails_first}
 use Rattle.mig_top.proofs.plan_command.load_planned.Goals as goal
 
 pub returns-in_err-bytes-clause-takes : goal.returns-in_err-bytes-clause-takes
 returns-in_err-bytes-clause-takes g c =
     let n = names_in c.args.files in
-    let old = g.F.Folder.state c.args.folder.now in
-    let new = g.F.Folder.state c.load_input.new.folder in
-    handed_from old new (four_and n []) texts_of (plans_texts n) c.from_residual.result c.in_err-bytes.field-0.0 c.from_residual.ensures.1
-    (stops_first old new (four_and n []) (λ files. (loads_input n files).Stops) (λ files. (plans_texts n files).Stops) (λ files o s. inl (inl s)) c.in_err-bytes.field-0.0
-    (c.in_err-bytes.ensures.takes []))
+    fails_first (g.F.Folder.state c.args.folder.now) (g.F.Folder.state c.load_input.new.folder) (four_and n []) _ texts_of (plans_texts n)
+    c.in_err-bytes.field-0.0 c.from_residual.ensures.1 (loads_input n) (λ files o s. inl (inl s)) (c.in_err-bytes.ensures.takes [])
 
 pub returns-clause-takes : goal.returns-clause-takes
 returns-clause-takes g c =

@@ -1,6 +1,4 @@
-use Rattle.std.proofs.Common.{[], inl, inr, arith, subst, Option}
-use Rattle.mig_top.proofs.Common.{Done, Files, FolderEnds, IsSomeAnd, OthersStay, PlanLeaves, four_and, names_in, outcome_of, plans, plans_texts, texts_of}
-use Rattle.std.specs.Option.{IfSome}
+use Rattle.mig_top.proofs.Common.{Done, Files, FolderEnds, IfSome, IsSomeAnd, Option, OthersStay, PlanLeaves, [], arith, four_and, inl, inr, names_in, outcome_of, plans, plans_texts, subst, texts_of}
 use Rattle.mig_words.specs.declared.endings.Ending.TheVariants.{FolderFault}
 use Rattle.mig_top.proofs.EndsOf.{files_unread, is_unread}
 use Rattle.mig_top.proofs.PlanSaves.{are_saved, half_saved, unread_saves}

@@ -1,7 +1,4 @@
-use Rattle.std.proofs.Common.{◌∷◌, ◌++◌, List, ℕ, [], ap, codes, ◌∙◌}
-use Rattle.mig_top.proofs.Common.{text_of_lines}
-use Rattle.mig_base.specs.Texts.{words}
-use Rattle.mig_top.specs.Rehearsed.{six_lines}
+use Rattle.mig_top.proofs.Common.{List, [], ap, codes, six_lines, text_of_lines, words, ℕ, ◌++◌, ◌∙◌, ◌∷◌}
 use Rattle.mig_top.proofs.EightLines.{one_line}
 use Rattle.mig_top.proofs.rehearse_command.lines_of.Goals as goal
 

@@ -1,5 +1,4 @@
-use Rattle.std.proofs.Common.{[], codes, ◌∷◌}
-use Rattle.mig_top.specs.Rehearsed.{count_line}
+use Rattle.mig_top.proofs.Common.{[], codes, count_line, ◌∷◌}
 use Rattle.mig_top.proofs.EightLines.{no_line, one_line}
 use Rattle.mig_top.proofs.rehearse_command.push_numbers.Goals as goal
 

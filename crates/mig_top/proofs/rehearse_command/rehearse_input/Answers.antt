@@ -1,13 +1,9 @@
-use Rattle.std.proofs.Common.{◌≡◌, ℕ, List, Result, Ok, Err, Vec, length, ◌∙◌, ap}
-use Rattle.std.specs.Prelude.{IfOk}
+use Rattle.mig_top.proofs.Common.{Cert, Err, IfOk, IsCertified, IsPlanDigest, IsRehearsed, List, Lists, Ok, Result, Shift, Transfers, Vec, ap, bound_value, eight_lines, length, length-map, moves}
+use Rattle.mig_top.proofs.Common.{quotient, text_of_lines, transfers, trip, verdict_word, ℕ, ◌∙◌, ◌≡◌}
 use Rattle.std.specs.String.{string_bytes}
 use Rattle.std.specs.declared.alloc.AllocError.{AllocError}
 use Rattle.std.specs.declared.alloc.Global.{Global}
-use Rattle.mig_top.proofs.Common.{Cert, IsRehearsed, Lists, Shift, Transfers, bound_value, length-map, quotient, text_of_lines, transfers}
-use Rattle.mig_base.specs.Transfers.{moves, trip}
 use Rattle.mig_top.specs.declared.rehearse_command.Numbers.{Numbers}
-use Rattle.mig_best.specs.Certified.{IsCertified}
-use Rattle.mig_top.specs.Rehearsed.{IsPlanDigest, eight_lines, verdict_word}
 use Rattle.mig_top.proofs.rehearse_command.rehearse_input.Goals as goal
 
 -- the lines are those of the input and of its certified plan

@@ -1,17 +1,19 @@
 use Rattle.std.proofs.Common.{[], ◌∷◌}
-use Rattle.mig_base.specs.Cells.{cell_len}
 use Rattle.mig_base.specs.Flights.{began}
-use Rattle.mig_calls.specs.Places.{file_of, offset_of}
 use Rattle.mig_files.proofs.FilesSteps.{look_is_write}
 use Rattle.mig_files.proofs.Derivation.{cell_changes}
 use Rattle.mig_files.proofs.Headers.{on_any}
 use Rattle.mig_files.proofs.store.serving.FileStoreStore.begin.Goals as goal
 
 pub returns-then-self-clause-change : goal.returns-then-self-clause-change
-returns-then-self-clause-change g c = (1, cell_changes c.args.to.now (began (record { from = c.args.from.now; to = c.args.to.now }) ∷ []) (g.C.Calls.state c.args.self.now.calls) (g.C.Calls.state c.after_sync.new.self.calls) _ _ (g.met.C.Calls.is_state c.args.self.now.calls) (look_is_write (file_of c.args.to.now) (offset_of c.args.to.now) (cell_len c.args.to.now) (g.C.Calls.state c.args.self.now.calls) (g.C.Calls.state c.after_sync.new.self.calls) c.after_sync.ensures.change))
+returns-then-self-clause-change g c =
+    (1, cell_changes c.args.to.now (began (record { from = c.args.from.now; to = c.args.to.now }) ∷ []) (g.met.C.Calls.is_state c.args.self.now.calls) (look_is_write c.after_sync.ensures.change))
 
 pub returns-clause-begun : goal.returns-clause-begun
-returns-clause-begun g c = on_any c.copy_item.result (cell_changes c.args.to.now (began (record { from = c.args.from.now; to = c.args.to.now }) ∷ []) (g.C.Calls.state c.args.self.now.calls) (g.C.Calls.state c.copy_item.new.calls) _ _ (g.met.C.Calls.is_state c.args.self.now.calls) c.copy_item.ensures.step.change)
+returns-clause-begun g c =
+    on_any c.copy_item.result (cell_changes c.args.to.now (began (record { from = c.args.from.now; to = c.args.to.now }) ∷ [])
+    (g.met.C.Calls.is_state c.args.self.now.calls) c.copy_item.ensures.step.change)
 
 pub returns-clause-change : goal.returns-clause-change
-returns-clause-change g c = (1, cell_changes c.args.to.now (began (record { from = c.args.from.now; to = c.args.to.now }) ∷ []) (g.C.Calls.state c.args.self.now.calls) (g.C.Calls.state c.copy_item.new.calls) _ _ (g.met.C.Calls.is_state c.args.self.now.calls) c.copy_item.ensures.step.change)
+returns-clause-change g c =
+    (1, cell_changes c.args.to.now (began (record { from = c.args.from.now; to = c.args.to.now }) ∷ []) (g.met.C.Calls.is_state c.args.self.now.calls) c.copy_item.ensures.step.change)

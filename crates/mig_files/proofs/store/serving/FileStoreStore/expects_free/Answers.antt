@@ -2,10 +2,10 @@ use Rattle.mig_files.proofs.Derivation.{cell_looks}
 use Rattle.mig_files.proofs.store.serving.FileStoreStore.expects_free.Goals as goal
 
 pub returns-then-self-clause-change : goal.returns-then-self-clause-change
-returns-then-self-clause-change g c = cell_looks _ (g.C.Calls.state c.args.self.now.calls) (g.C.Calls.state c.after_sync.new.self.calls) _ _ (g.met.C.Calls.is_state c.args.self.now.calls) c.after_sync.ensures.change
+returns-then-self-clause-change g c = cell_looks (g.met.C.Calls.is_state c.args.self.now.calls) c.after_sync.ensures.change
 
 pub returns-in-Ok-clause-change : goal.returns-in-Ok-clause-change
-returns-in-Ok-clause-change g c = cell_looks _ (g.C.Calls.state c.args.self.now.calls) (g.C.Calls.state c.expects_free.new.calls) _ _ (g.met.C.Calls.is_state c.args.self.now.calls) c.expects_free.ensures.step.change
+returns-in-Ok-clause-change g c = cell_looks (g.met.C.Calls.is_state c.args.self.now.calls) c.expects_free.ensures.step.change
 
 pub returns-in-Err-clause-change : goal.returns-in-Err-clause-change
-returns-in-Err-clause-change g c = cell_looks _ (g.C.Calls.state c.args.self.now.calls) (g.C.Calls.state c.expects_free.new.calls) _ _ (g.met.C.Calls.is_state c.args.self.now.calls) c.expects_free.ensures.step.change
+returns-in-Err-clause-change g c = cell_looks (g.met.C.Calls.is_state c.args.self.now.calls) c.expects_free.ensures.step.change

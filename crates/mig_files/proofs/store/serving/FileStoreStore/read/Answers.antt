@@ -2,7 +2,7 @@ use Rattle.mig_files.proofs.Derivation.{cell_looks}
 use Rattle.mig_files.proofs.store.serving.FileStoreStore.read.Goals as goal
 
 pub returns-then-self-clause-change : goal.returns-then-self-clause-change
-returns-then-self-clause-change g c = cell_looks _ (g.C.Calls.state c.args.self.now.calls) (g.C.Calls.state c.after_sync.new.self.calls) _ _ (g.met.C.Calls.is_state c.args.self.now.calls) c.after_sync.ensures.change
+returns-then-self-clause-change g c = cell_looks (g.met.C.Calls.is_state c.args.self.now.calls) c.after_sync.ensures.change
 
 pub returns-clause-change : goal.returns-clause-change
-returns-clause-change g c = cell_looks _ (g.C.Calls.state c.args.self.now.calls) (g.C.Calls.state c.read_cell.new.calls) _ _ (g.met.C.Calls.is_state c.args.self.now.calls) c.read_cell.ensures.step.change
+returns-clause-change g c = cell_looks (g.met.C.Calls.is_state c.args.self.now.calls) c.read_cell.ensures.step.change

@@ -1,5 +1,0 @@
-use Rattle.mig_files.specs.Tracking.{HasTried}
-use Rattle.mig_files.proofs.tracked.extent.Given as goal
-
-abbrev pub invariant-tries : goal.invariant-tries
-invariant-tries g l = HasTried l.counter l.tracked.notes (g.C.Calls.state l.fn.calls) (g.C.Calls.state l.calls)

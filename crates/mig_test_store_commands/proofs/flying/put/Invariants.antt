@@ -1,0 +1,6 @@
+use Rattle.std.proofs.Common.{◌≡◌, []}
+use Rattle.mig_store.specs.Memories.{aloft}
+use Rattle.mig_test_store_commands.proofs.flying.put.Given as goal
+
+abbrev pub invariant-loop-slot : goal.invariant-loop-slot
+invariant-loop-slot g l = aloft l.store ≡ []

@@ -1,0 +1,33 @@
+-- What files stand for, told plainly, is what the steps find that load and read them.
+use Rattle.mig_top.proofs.Common.{AreThere, Bodies, Files, FindsTask, HoldsFirst, IsTaskOf, List, Lists, Names, PlanBodies, Stands, Task, TaskNames, ap, input_in, loads_input, refl, subst, sym, ℕ}
+
+pub there_loads : (files : Files) (names : Names) (bodies : Bodies) → AreThere files names bodies → (loads_input names files).Passes bodies
+there_loads files names bodies h = (bodies.disks, h.disks, (bodies.now, h.now, (bodies.next, h.next, refl)))
+
+pub loads_there : (files : Files) (names : Names) (bodies : Bodies) → (loads_input names files).Passes bodies → AreThere files names bodies
+loads_there files names bodies (d, disks, (n, now, (x, next, is))) = subst (AreThere files names) (sym is) (record { disks = disks; now = now; next = next })
+
+pub input_found : (files : Files) (names : Names) (input : Lists) → Stands files names input → (input_in names files).Passes input
+input_found files names input h = (h.bodies, there_loads files names h.bodies h.there, h.accepted)
+
+pub found_input : (files : Files) (names : Names) (input : Lists) → (input_in names files).Passes input → Stands files names input
+found_input files names input (bodies, there, accepted) = record { bodies = bodies; there = loads_there files names bodies there; accepted = accepted }
+
+pub task_found : (files : Files) (names : TaskNames) (task : Task) → IsTaskOf files names task → FindsTask files names task
+task_found files names task h =
+    let b = h.bodies in
+    let of : List ℕ → Task = λ digest. record { input = task.input; plan = task.plan; digest = digest } in
+    (b, (b.input, there_loads files names.files b.input h.there, (b.plan, h.plan, refl)), (task.input, h.input, (task.plan, (h.spelled, h.short), (tt, h.ran, ap of h.digest))))
+
+pub found_task : (files : Files) (names : TaskNames) (task : Task) → FindsTask files names task → IsTaskOf files names task
+found_task files names task (bodies, (i, there, (p, plan, is)), (input, read, (rounds, spelled, (u, ran, is_task)))) =
+    subst (IsTaskOf files names) (sym is_task) (record {
+      bodies = bodies;
+      there = subst (λ (b : PlanBodies). AreThere files names.files b.input) (sym is) (loads_there files names.files i there);
+      plan = subst (λ (b : PlanBodies). HoldsFirst files names.files.plan b.plan) (sym is) plan;
+      input = read;
+      spelled = spelled.0;
+      short = spelled.1;
+      ran = ran;
+      digest = refl;
+    })

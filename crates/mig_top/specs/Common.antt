@@ -1,0 +1,62 @@
+-- The names of other crates that the definitions of this one cite, passed on from one place. Declares nothing.
+pub use Rattle.hex.specs.Hex.{encode_lower}
+pub use Rattle.mig_base.specs.Arrivals.{IsArrived, IsHaltSafe, IsHalted, IsReached}
+pub use Rattle.mig_base.specs.Bounding.{IsEven, bound_value, quotient}
+pub use Rattle.mig_base.specs.CertLines.{CertLine}
+pub use Rattle.mig_base.specs.Certificates.{CertHolds}
+pub use Rattle.mig_base.specs.Digits.{number_of}
+pub use Rattle.mig_base.specs.FaultCounts.{Rose}
+pub use Rattle.mig_base.specs.Flights.{AreFlights, IsTargetOf}
+pub use Rattle.mig_base.specs.Images.{Image, SameBut}
+pub use Rattle.mig_base.specs.InputLists.{Lists, no_spot}
+pub use Rattle.mig_base.specs.JobCells.{IsHaltCell, IsJobCell, SettlesTo, Tells}
+pub use Rattle.mig_base.specs.Journals.{count_of, is_armed}
+pub use Rattle.mig_base.specs.Judging.{FirstBlame, IsRunBlame}
+pub use Rattle.mig_base.specs.Layouts.{At, IsListOf}
+pub use Rattle.mig_base.specs.PlanLines.{PlanLine}
+pub use Rattle.mig_base.specs.Readiness.{IsReady, shifts_of}
+pub use Rattle.mig_base.specs.Refusals.{Accepted, RefusedAs}
+pub use Rattle.mig_base.specs.RoundEvents.{Adds, BeginsRun, IsRun}
+pub use Rattle.mig_base.specs.Rows.{Bodies}
+pub use Rattle.mig_base.specs.Running.{Once, Runs}
+pub use Rattle.mig_base.specs.Safety.{Contents, IsSafe, IsSound}
+pub use Rattle.mig_base.specs.Slots.{HasHeader, IsListedCell, item_cell}
+pub use Rattle.mig_base.specs.Stores.{Changes, IsLeftBut, IsMoving, IsSettled, LeavesOnly, Looks, State, flights}
+pub use Rattle.mig_base.specs.Tasks.{Task}
+pub use Rattle.mig_base.specs.Texts.{CertText, LayoutText, PlanText, disk_name, item_name, text_of_lines, words}
+pub use Rattle.mig_base.specs.Transfers.{moves, transfers}
+pub use Rattle.mig_base.specs.declared.cells.Cell.{Cell}
+pub use Rattle.mig_base.specs.declared.cells.Cell.TheVariants.{Gate, Head}
+pub use Rattle.mig_base.specs.declared.cells.Event.{Event}
+pub use Rattle.mig_base.specs.declared.certs.Cert.{Cert}
+pub use Rattle.mig_base.specs.declared.faults.FileKind.{FileKind}
+pub use Rattle.mig_base.specs.declared.faults.Why.{Why}
+pub use Rattle.mig_base.specs.declared.ids.Shift.{Shift}
+pub use Rattle.mig_base.specs.declared.ids.Spot.{Spot}
+pub use Rattle.mig_base.specs.declared.limits.TheConstants.{MAX_FILE_BYTES}
+pub use Rattle.mig_best.specs.Certified.{IsCertified}
+pub use Rattle.mig_csv.specs.Listings.{IsListing, ListingRefusedAs}
+pub use Rattle.mig_drill.specs.Drills.{drill_text}
+pub use Rattle.mig_drill.specs.declared.limits.TheConstants.{MAX_DRILL_SHIFTS}
+pub use Rattle.mig_gen.specs.MadeCases.{case_of}
+pub use Rattle.mig_io.specs.Files.{ChangedOnly, Files, FolderState, OthersStay, Saves, file}
+pub use Rattle.mig_io.specs.Held.{Extends, ExtendsInPart, SinkState}
+pub use Rattle.mig_lanes.specs.LaneSteps.{later_rounds}
+pub use Rattle.mig_lanes.specs.Runs.{Finishes, IsPart}
+pub use Rattle.mig_mover.specs.Fillings.{HasMade, IsFillRefusal, IsFillable}
+pub use Rattle.mig_mover.specs.Halts.{IsClosingCell}
+pub use Rattle.mig_mover.specs.Moves.{IsReadyIdle, IsRefusal, Keeps, Lands, MayBeHalting, Settles, StaysArmed}
+pub use Rattle.mig_mover.specs.declared.faults.MoveFault.{MoveFault}
+pub use Rattle.mig_mover.specs.declared.faults.MoveFault.TheVariants.{NotStarted, OtherPlan, Started}
+pub use Rattle.mig_mover.specs.declared.sights.Sight.{Sight}
+pub use Rattle.mig_words.specs.Outcomes.{Done, Outcome, Refusal, SinkFault, StoreFault, Unlisted, code, fault_outcome, joined, named, text_of}
+pub use Rattle.mig_words.specs.Words.{After, Audit, Check, Drill, Fill, Form, Halt, IsListed, Move, Names, Plan, Rehearse, Resume, TaskNames, roomy}
+pub use Rattle.mig_words.specs.declared.endings.Ending.{Ending}
+pub use Rattle.mig_words.specs.declared.endings.Ending.TheVariants.{Found}
+pub use Rattle.mig_words.specs.declared.endings.Finding.{Finding}
+pub use Rattle.mig_words.specs.declared.endings.Finding.TheVariants.{Blamed, NotSpelled, Refused, TooLarge}
+pub use Rattle.mig_words.specs.declared.words.Reader.{Reader}
+pub use Rattle.mig_words.specs.declared.words.Reader.TheVariants.{Roomy}
+pub use Rattle.sha2.specs.Sha256.{sha256}
+pub use Rattle.std.specs.Fmt.{decimal}
+pub use Rattle.std.specs.Option.{IfSome, IsSomeAnd}

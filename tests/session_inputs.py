@@ -1,0 +1,40 @@
+"""What the tests of the program hand to it: the words of its commands, and small and large inputs."""
+
+FILES = ["disks.csv", "now.csv", "next.csv"]
+PLAN = ["plan", *FILES, "plan.txt", "cert.txt"]
+CHECK = ["check", *FILES, "plan.txt", "cert.txt"]
+AFTER = ["after", *FILES, "plan.txt"]
+FILL, AUDIT = ["fill", *FILES[:2]], ["audit", *FILES[:2]]
+MOVE, RESUME = ["move", *FILES, "plan.txt"], ["resume", *FILES, "plan.txt"]
+DRILL = ["drill", *FILES, "plan.txt"]
+HALT = ["halt", *FILES, "plan.txt", "layout.csv"]
+
+# docs/FORMATS.md's example of the three files, and that of the two texts
+SMALL = ["disk,limit,slots\nssd,2,4\nhdd,1,8\n", "item,disk,slot\nmail,ssd,0\nweb,ssd,1\n", "item,disk\nmail,hdd\nweb,ssd\n"]
+DISKS = ["disk,limit,slots\nleft,2,4\nright,2,4\n", "item,disk,slot\np,left,0\nq,left,1\nr,left,2\n", "item,disk\np,right\nq,right\nr,right\n"]
+HEAD = "migration-plan 1\nrounds 2\n"
+FIRST, SECOND = "round 1 2\np left 0 right 0\nq left 1 right 1\n", "round 2 1\nr left 2 right 2\n"
+PLAN_TEXT = f"{HEAD}{FIRST}{SECOND}end\n"
+CERT_TEXT = "migration-certificate 1\nrounds 2\nquotient 2\nclass even\nbound disk left 3 2 2\nend\n"
+LAYOUT_TEXT = "item,disk,slot\np,right,0\nq,right,1\nr,right,2\n"
+HALF_TEXT = "item,disk,slot\np,right,0\nq,right,1\nr,left,2\n"
+
+
+def put(room, files, plan=None, cert=None):
+    for name, text in zip([*FILES, "plan.txt", "cert.txt"], [*files, plan, cert]):
+        if text is not None:
+            room.write(name, text)
+
+
+def many(count):
+    """So many items that go from one disk to another, two in each round."""
+    names = [f"item{i}" for i in range(count)]
+    return [f"disk,limit,slots\na,2,{count}\nb,2,{count}\n",
+            "item,disk,slot\n" + "".join(f"{name},a,{i}\n" for i, name in enumerate(names)),
+            "item,disk\n" + "".join(f"{name},b\n" for name in names)]
+
+
+def many_saved(count):
+    """The certificate of their plan, and their last layout."""
+    cert = f"migration-certificate 1\nrounds {count // 2}\nquotient {count // 2}\nclass even\nbound disk a {count} 2 {count // 2}\nend\n"
+    return cert, "item,disk,slot\n" + "".join(f"item{i},b,{i}\n" for i in range(count))

@@ -1,0 +1,109 @@
+"""What tests/session follows byte by byte: the sessions of README.md and docs/SESSION.md, the first table of docs/MEASURED.md, and the
+example of docs/FORMATS.md. So no page can say what the program doesn't do.
+
+A session is read from its page: in a block of the kind 'console' a line '$ COMMAND', and under it what COMMAND prints."""
+import os, re
+from session_inputs import AFTER, CERT_TEXT, CHECK, DISKS, LAYOUT_TEXT, PLAN, PLAN_TEXT, SMALL, put
+from session_rooms import TOP, Count, Room, page
+from cases import write_case
+from first_come import of_files
+
+COMMANDS = ("plan", "check", "after", "fill", "audit", "move", "resume", "halt", "drill", "rehearse")
+# each page with a session: commands that it has to show, the files that it shows whole, and the other ones that it makes
+SESSIONS = [
+    ("README.md", ("plan", "check", "fill", "move", "resume"), ["cert.txt"], ["plan.txt", "later.csv"]),
+    ("docs/SESSION.md", COMMANDS, ["plan.txt", "cert.txt"],
+     ["later.csv", "layout.csv", "back.csv", "back.txt", "back-cert.txt", "there.csv", "layout2.csv", "rest.txt", "rest-cert.txt", "end.csv"]),
+]
+
+
+# The sessions
+
+def steps_of(text):
+    """The commands of a page, each with what it prints."""
+    blocks = re.findall(r"^```console\n(.*?)^```$", text, re.M | re.S)
+    steps = [step.partition("\n") for block in blocks for step in re.split(r"^\$ ", block, flags=re.M)[1:]]
+    return [(command, printed) for command, _, printed in steps]
+
+
+def follow(room, name, steps):
+    """Runs the commands of a page over the examples, which stay as they are."""
+    room.mkdir("examples")
+    for it in os.listdir(f"{TOP}/examples"):
+        room.write(f"examples/{it}", page(f"examples/{it}"))
+    for command, printed in steps:
+        ran = room.run(command, shell=True)
+        Count.that(f"{name}: {command}", (ran.status, ran.out.decode(errors="replace")) == (0, printed), f"{ran}; the page has {printed!r}")
+    for it in os.listdir(f"{TOP}/examples"):
+        Count.same(f"{name}: {it} stays", room.read(f"examples/{it}"), page(f"examples/{it}").encode())
+
+
+def the_sessions(program):
+    """The session of each page, byte by byte, and nothing in the folder beside what it makes."""
+    disks = [f"{row.split(',')[0]}.disk" for row in page("examples/disks.csv").split("\n")[1:-1]]
+    for name, commands, shown, made in SESSIONS:
+        steps = steps_of(page(name))
+        for word in commands:
+            Count.that(f"{name} shows {word}", any(f"./migrate {word} " in command for command, _ in steps))
+        with Room(program) as room:
+            follow(room, name, steps)
+            wanted = ["examples", "journal.mig", "migrate", *shown, *made, *disks]
+            Count.same(f"{name}: files of the folder", sorted(os.listdir(room.at)), sorted(wanted))
+            for it in shown:
+                held = (room.read(it) or b"").decode(errors="replace")
+                Count.that(f"{name}: {it} is shown as it was saved", held and held in dict(steps).values(), repr(held[:300]))
+
+
+# The numbers, and the example of the formats
+
+# how the README calls a row of docs/MEASURED.md, and how that row begins
+NAMES = [
+    (r"(\d+) disks of limit (\d+), (\d+) items? for each ordered pair", r"| \1 | \3 | \2 |"),
+    (r"(\d+) rings, in which each disk passes items on to the next one", r"| ring | \1 |"),
+    (r"(\d+) migrations onto added disks", r"| adding | \1 |"),
+    (r"(\d+) migrations from disks that are emptied", r"| removing | \1 |"),
+    (r"all (\d+) migrations of these kinds and of four more", r"| all | \1 |"),
+    (r"one disk and 1023 others, limit 2, (\d+) items", r"| a star of 1,024 disks, limit 2 | \1 |"),
+]
+
+
+def stands_in(measured, name, numbers):
+    """Whether docs/MEASURED.md has a row with this name of the README's, and with these numbers."""
+    plain = re.sub(r"(?<=\d),(?=\d)", "", name).replace("one item", "1 item")
+    starts = [re.sub(called, start, plain) for called, start in NAMES if re.fullmatch(called, plain)]
+    return any(row.startswith(start) and numbers in row for start in starts for row in measured.split("\n"))
+
+
+def the_measured(program):
+    """The rounds of docs/MEASURED.md's first table, which `rehearse` and bench/first_come.py count again, and what the README has of it."""
+    measured = page("docs/MEASURED.md")
+    rows = re.findall(r"^" + r"\| (\d+) " * 8 + r"\| [\d.]+ \| \d+ \|$", measured, re.M)
+    Count.that("MEASURED has its cases of one limit", len(rows) == 8, rows)
+    with Room(program) as room:
+        for disks, per_pair, limit, *wanted in rows:
+            told = dict(line.split(" ", 1) for line in room.run("rehearse", disks, per_pair, limit).out.decode().splitlines())
+            write_case(room.at, int(disks), int(per_pair), int(limit))
+            found = [told.get("quotient"), told.get("bound"), told.get("rounds"), *map(str, of_files(room.at))]
+            Count.same(f"MEASURED: {disks} disks, {per_pair} items, limit {limit}", found, wanted)
+    rows = re.findall(r"^\| (.+) (\| \d+ \| \d+ \| \d+ \|)$", page("README.md"), re.M)
+    missing = [row for row in rows if not stands_in(measured, *row)]
+    Count.that("the README has rows of MEASURED", len(rows) == 8 and not missing, missing)
+
+
+def the_example_of_formats(program):
+    """docs/FORMATS.md shows the small inputs, and the program makes of them what it shows."""
+    formats = page("docs/FORMATS.md")
+    for text in (*SMALL, PLAN_TEXT, CERT_TEXT, LAYOUT_TEXT):
+        Count.that("FORMATS shows the example", f"```\n{text}```" in formats, text)
+    with Room(program) as room:
+        put(room, DISKS, PLAN_TEXT, CERT_TEXT)
+        Count.ended("check of FORMATS' plan", room.run(*CHECK), 0, "optimal\n")
+        Count.ended("after of FORMATS' plan", room.run(*AFTER), 0, LAYOUT_TEXT)
+        Count.ended("plan for FORMATS' files", room.run(*PLAN), 0, CERT_TEXT)
+        Count.same("the certificate is saved as it is printed", room.read("cert.txt"), CERT_TEXT.encode())
+        Count.ended("check of its own plan", room.run(*CHECK), 0, "optimal\n")
+
+
+CASES = [the_sessions, the_example_of_formats]
+# the rounds are the same for each build of the program
+ONCE = [the_measured]
