@@ -1,14 +1,12 @@
-"""The case of N disks and K items per ordered pair of disks: three files, each disk with one limit."""
+"""Cases of migrations, as three files. A limit is a number, or the outgoing and the incoming one as a pair of numbers; all limits of
+a case are of one kind."""
 import os
 
 
 def write_case(folder, disks, per_pair, limits):
-    """Writes disks.csv, now.csv and next.csv. `limits` is one limit, or a list of one for each disk."""
+    """The case of so many disks and items per ordered pair of disks. `limits` is one limit, or a list of one for each disk."""
     slots = 2 * (disks - 1) * per_pair
-    limit_of = (lambda v: limits) if isinstance(limits, int) else (lambda v: limits[v])
-    with open(os.path.join(folder, "disks.csv"), "w") as f:
-        f.write("disk,limit,slots\n")
-        f.writelines(f"d{v},{limit_of(v)},{slots}\n" for v in range(disks))
+    write_disks(folder, limits if isinstance(limits, list) else [limits] * disks, [slots] * disks)
     now, next_ = ["item,disk,slot\n"], ["item,disk\n"]
     item = 0
     for source in range(disks):
@@ -22,7 +20,7 @@ def write_case(folder, disks, per_pair, limits):
 
 
 def write_random(folder, disks, items, limits, seed):
-    """As above, with so many items on random disks that go to random disks."""
+    """As above, with so many items on random disks that go to random disks. The limits are those of the list, again and again."""
     state = seed
 
     def draw(n):
@@ -30,9 +28,7 @@ def write_random(folder, disks, items, limits, seed):
         state = (state * 6364136223846793005 + 1442695040888963407) % 2**64
         return (state >> 33) % n
 
-    with open(os.path.join(folder, "disks.csv"), "w") as f:
-        f.write("disk,limit,slots\n")
-        f.writelines(f"d{v},{limits[v % len(limits)]},65536\n" for v in range(disks))
+    write_disks(folder, [limits[v % len(limits)] for v in range(disks)], [65536] * disks)
     used = [0] * disks
     now, next_ = ["item,disk,slot\n"], ["item,disk\n"]
     for item in range(items):
@@ -53,10 +49,17 @@ def write_moves(folder, limits, moves):
         next_.append(f"i{item},d{target}\n")
         used[source] += 1
         arriving[target] += 1
-    with open(os.path.join(folder, "disks.csv"), "w") as f:
-        f.write("disk,limit,slots\n")
-        f.writelines(f"d{v},{limit},{max(1, used[v] + arriving[v])}\n" for v, limit in enumerate(limits))
+    write_disks(folder, limits, [max(1, used[v] + arriving[v]) for v in range(len(limits))])
     write_items(folder, now, next_)
+
+
+def write_disks(folder, limits, slots):
+    """A row for each disk, below the header for joint limits, or that for an outgoing and an incoming one."""
+    pairs = [limit if isinstance(limit, tuple) else (limit,) for limit in limits]
+    header = {1: "disk,limit,slots", 2: "disk,out,in,slots"}[max(map(len, pairs))]
+    with open(os.path.join(folder, "disks.csv"), "w") as f:
+        f.write(f"{header}\n")
+        f.writelines(f"d{v},{','.join(map(str, limit))},{most}\n" for v, (limit, most) in enumerate(zip(pairs, slots)))
 
 
 def write_items(folder, now, next_):

@@ -5,18 +5,20 @@ from operators import generator
 
 def rounds_of(limits, moves):
     """Each move, in the order in which they are given, goes into the first round in which both of its disks have a place: a disk
-    takes part in at most its limit of moves of a round. The answer is the number of the last round with a move."""
-    full = {disk: 0 for disk in limits}  # the rounds in which a disk has no place left, as the bits of a number
-    taken = {disk: {} for disk in limits}  # how many moves of a round a disk takes part in
+    takes part in at most its limit of moves of a round, or where it has two, in at most so many that leave it and so many that reach
+    it. The answer is the number of the last round with a move."""
+    full = {side: 0 for side in limits}  # the rounds in which a disk, or a side of it, has no place left, as the bits of a number
+    taken = {side: {} for side in limits}  # how many moves of a round count there
     last = 0
-    for ends in moves:
+    for source, target in moves:
+        ends = (source, target) if source in limits else ((source, "out"), (target, "in"))
         blocked = full[ends[0]] | full[ends[1]]
         at = (~blocked & (blocked + 1)).bit_length()  # the lowest bit that is 0
         last = max(last, at)
-        for disk in ends:
-            taken[disk][at] = taken[disk].get(at, 0) + 1
-            if taken[disk][at] == limits[disk]:
-                full[disk] |= 1 << (at - 1)
+        for side in ends:
+            taken[side][at] = taken[side].get(at, 0) + 1
+            if taken[side][at] == limits[side]:
+                full[side] |= 1 << (at - 1)
     return last
 
 
@@ -31,11 +33,14 @@ def shuffled(moves, seed=1):
 
 def of_files(folder):
     """The rounds for disks.csv, now.csv and next.csv of a folder: in the order of the now file, and in a random order."""
+
     def rows(name):
         with open(os.path.join(folder, name), newline="") as file:
             return list(csv.reader(file))[1:]
 
     target = dict(rows("next.csv"))
     moves = [(disk, target[item]) for item, disk, _ in rows("now.csv") if disk != target[item]]
-    limits = {disk: int(limit) for disk, limit, _ in rows("disks.csv")}
+    limits = {}
+    for disk, *most, _ in rows("disks.csv"):
+        limits |= {disk: int(most[0])} if len(most) == 1 else {(disk, "out"): int(most[0]), (disk, "in"): int(most[1])}
     return rounds_of(limits, moves), rounds_of(limits, shuffled(moves))

@@ -1,4 +1,4 @@
-"""What the scripts of this folder read: plans, and CSV files of disks and of other tables."""
+"""What the scripts of this folder read: plans, and CSV files."""
 import csv, hashlib, io, re
 from typing import NamedTuple
 from common import fail, read_bytes, read_text
@@ -26,13 +26,8 @@ class Plan(NamedTuple):
         return [shift for round_ in self.rounds for shift in round_]
 
 
-class Disk(NamedTuple):
-    limit: int
-    slots: int
-
-
 def read_rows(path, *headers):
-    """The header of a CSV file, which must be one of these, and its rows with their numbers."""
+    """The rows of a CSV file, whose header must be one of these, with their numbers. Each has as many fields as the header."""
     text = read_text(path)
     if len(text) > MOST_BYTES:
         fail(f"{path} has more than {MOST_BYTES} bytes")
@@ -56,17 +51,6 @@ def number(text, least, most, where):
     if not (re.fullmatch(r"[0-9]{1,10}", text, re.ASCII) and least <= int(text) <= most):
         fail(f"{where}: '{text}' is no number from {least} to {most}")
     return int(text)
-
-
-def read_disks(path):
-    """The disks of a disks file by their names, in its order."""
-    disks = {}
-    for at, (name, limit, slots) in read_rows(path, "disk,limit,slots"):
-        where = f"{path} row {at}"
-        if not NAME.fullmatch(name) or name in disks or at > MOST_DISKS:
-            fail(f"{where}: '{name}' is no name, is listed twice, or is one of more than {MOST_DISKS} disks")
-        disks[name] = Disk(number(limit, 1, MOST_LIMIT, where), number(slots, 1, MOST_SLOTS, where))
-    return disks
 
 
 def read_plan(path):

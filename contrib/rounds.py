@@ -1,4 +1,4 @@
-"""How run-plan carries out a round: commands side by side, and what of them counts."""
+"""How run-plan runs commands side by side, and what of them counts."""
 import collections, ctypes, os, shlex, signal
 from typing import NamedTuple
 from common import fail, note
@@ -7,7 +7,8 @@ LIBC = ctypes.CDLL(None, use_errno=True)
 
 
 class Job(NamedTuple):
-    """A command for one transfer: its round and item, its two disks, its words."""
+    """A command for one transfer: what it is to be (copied, verified, erased), its round and item, its two disks, its words."""
+    kind: str
     line: str
     disks: tuple
     words: list
@@ -19,10 +20,11 @@ def spawn(words):
 
 
 class Runner:
-    """Runs commands side by side, at most so many, and waits for each that it began. More begin as long as `status` is 0."""
+    """Runs commands side by side, at most so many, and waits for each that it began. More begin as long as `status` is 0. Where one
+    fails, those that were handed over with it begin all the same, unless `is_strict`."""
 
-    def __init__(self, most, guards):
-        self.most, self.guards, self.place, self.status = most, guards, None, 0
+    def __init__(self, most, guards, is_strict=False):
+        self.most, self.guards, self.is_strict, self.place, self.status = most, guards, is_strict, None, 0
         self.handles, self.broken = {}, set()
         signal.signal(signal.SIGINT, self.stop)
         signal.signal(signal.SIGTERM, self.stop)
@@ -53,53 +55,59 @@ class Runner:
                 return False
         return True
 
-    def run(self, kind, jobs):
-        """Runs each of these jobs, and keeps which end well. Answers whether all do."""
-        waiting, running, fresh, kept = collections.deque(jobs), {}, [], 0
+    def run(self, jobs, then=lambda kept: []):
+        """Runs these jobs, and those that `then` answers to some that ended well; keeps which end well. Answers whether all do."""
+        waiting, running, fresh, left = collections.deque(jobs), {}, [], len(jobs)
         while waiting and not self.status or running:
             if waiting and not self.status and len(running) < self.most:
                 if self.guarded(*waiting[0].disks):
-                    self.begin(kind, waiting.popleft(), running)
+                    self.begin(waiting.popleft(), running)
                 continue
             pid, status = os.wait()
             job = running.pop(pid, None)  # none of these where whoever began run-plan had begun it
-            if job and self.ends_well(kind, job, os.waitstatus_to_exitcode(status)):
+            if job and self.ends_well(job, os.waitstatus_to_exitcode(status)):
                 fresh.append(job)
             if not (running and os.waitid(os.P_ALL, 0, os.WEXITED | os.WNOHANG | os.WNOWAIT)):  # what ended at once is kept at once
-                kept, fresh = kept + self.keep(kind, fresh), []
-        if waiting:
+                kept, fresh = self.keep(fresh), []
+                more = then(kept)
+                waiting.extendleft(reversed(more))
+                left += len(more) - len(kept)
+        if waiting and not self.is_strict:
             note(f"not begun: {len(waiting)} more")
-        return kept == len(jobs)
+        return left == 0
 
-    def begin(self, kind, job, running):
-        if kind == "erased":
+    def failed(self, text):
+        note(text)
+        self.status = self.status or int(self.is_strict)
+
+    def begin(self, job, running):
+        if job.kind == "erased":
             self.place.add(f"erasing {job.line}")
         try:
             running[spawn(job.words)] = job
         except OSError as error:
-            note(f"not {kind} {job.line}: {error.strerror}: {shlex.join(job.words)}")
+            self.failed(f"not {job.kind} {job.line}: {error.strerror}: {shlex.join(job.words)}")
 
-    def ends_well(self, kind, job, code):
+    def ends_well(self, job, code):
         """Whether what ended counts: its disks are still as they should be, and its status is 0. A copy that fails --verify counts no more."""
         if not self.guarded(*job.disks):
             return False
         if code:
-            note(f"not {kind} {job.line}: status {code}: {shlex.join(job.words)}")
-            if kind == "verified":
+            self.failed(f"not {job.kind} {job.line}: status {code}: {shlex.join(job.words)}")
+            if job.kind == "verified":
                 self.place.add(f"not copied {job.line}")
         return not code
 
-    def keep(self, kind, jobs):
-        """Keeps that these ended well, and what they wrote is on the disks; answers how many. What is verified is so for this run alone."""
-        if kind == "verified":
-            return len(jobs)
-        written = [it.disks[kind == "copied"] for it in jobs]
+    def keep(self, jobs):
+        """Keeps those of these that ended well and whose disks have what they wrote. What is verified is so for this run alone."""
+        written = [it.disks[it.kind == "copied"] for it in jobs if it.kind != "verified"]
         if not self.handles.keys() >= set(written):
             os.sync()
-        kept = [f"{kind} {it.line}" for it, disk in zip(jobs, written) if self.reached(disk)]
-        if kept:
-            self.place.add(*kept)
-        return len(kept)
+        kept = [it for it in jobs if it.kind == "verified" or self.reached(it.disks[it.kind == "copied"])]
+        lines = [f"{it.kind} {it.line}" for it in kept if it.kind != "verified"]
+        if lines:
+            self.place.add(*lines)
+        return kept
 
     def reached(self, disk):
         """Whether all that was written to a disk reached it. A copy ends with status 0 before that, and what is read again is memory."""

@@ -58,13 +58,13 @@ def follow(name, cluster, chosen, pairs, room, said, hold):
     return pairs
 
 
-def change(name, room, cluster, hold, plan=None):
+def change(name, room, cluster, hold, plan=None, words=""):
     """From the four files to the commands and their end. Gives the exceptions at the end, and the groups that were refused."""
     before, after = groups_in(room.read("before")), groups_in(room.read("after"))
     flag, chosen = "--hold" if hold else "", {it: chosen for it, (chosen, _) in (after if hold else before).items()}
     for path in ("plan.txt", "upmaps.sh"):
         os.path.exists(room.path(path)) and os.unlink(room.path(path))
-    ran = room.run(f"contrib/from-ceph {FOUR} --leave-out {flag}")
+    ran = room.run(f"contrib/from-ceph {FOUR} --leave-out {flag} {words}")
     refused = dict(re.findall(r"placement group ([0-9]\S*) (.*)", ran.stderr))
     if not Count.that(f"{name}: from-ceph", ran.returncode == 0 or "no placement group is left" in ran.stderr, ran.stderr[-900:]):
         return {}, refused, []
@@ -158,7 +158,8 @@ def changed(made, rnd, hold):
 
 
 def made_ceph():
-    """Changes of made clusters with 4 to 40 hosts. Every second plan is the program's, the others are at random."""
+    """Changes of made clusters with 4 to 40 hosts. Every second plan is the program's, some for backfills that are counted at both
+    ends apart; the others are at random."""
     ended = refusals = waits = 0
     with Room() as room:
         for seed in range(CHANGES):
@@ -171,7 +172,8 @@ def made_ceph():
             for path, text in (("before", made.groups(6)), ("after", new.groups(6)), ("dump", (new if hold else made).dump()), ("crush", (new if hold else made).crush())):
                 room.write(path, text)
             cluster, after, last = (new if hold else made).cluster(), groups_in(room.read("after")), new.cluster()
-            pairs, refused, moving = change(name, room, cluster, hold, None if seed % 2 else at_random(rnd))
+            words = f"--backfills {rnd.randrange(1, 4)},{rnd.randrange(1, 4)}" if seed % 4 == 1 else ""
+            pairs, refused, moving = change(name, room, cluster, hold, None if seed % 2 else at_random(rnd), words)
             for group in moving:
                 there = up_of(after[group][0], last.kept(group, after[group][0], pairs.get(group, [])), new.out)
                 Count.that(f"{name}: {group} stays where AFTER has it once the change is made", cluster.same(group, there, after[group][1]), (there, after[group], pairs.get(group)))

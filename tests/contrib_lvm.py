@@ -76,7 +76,8 @@ def carry_out(room, name, wish, unit, volumes, devices, look):
 def recorded_lvm():
     devices, volumes = sizes_of(), dict(volumes_of())
     wishes = [("--empty /dev/loop0", 1), ("--empty loop0 --limit 2", 16), ("--empty /dev/loop0 --limit 4 --limit /dev/loop1=1", 32), ("--spread", 4),
-              ("--spread --empty loop2 --limit 3", 32), ("--move db=loop2 --move web=/dev/loop1", 4), ("--move mail=loop0 --spread", 1)]
+              ("--spread --empty loop2 --limit 3", 32), ("--move db=loop2 --move web=/dev/loop1", 4), ("--move mail=loop0 --spread", 1),
+              ("--empty loop0 --limit 1,2", 16), ("--spread --empty loop2 --limit 2,1 --limit loop0=1,3", 32)]
     for wish, unit in wishes:
         name = f"from-lvm {wish}, unit {unit}"
         with Room() as room:
@@ -148,7 +149,7 @@ def lvm_of_parts():
         room.good("parts", "cp contrib/samples/lvm/parts/plan.txt . && contrib/to-lvm plan.txt names.csv --out moves.sh")
         printed = room.good("parts", "sh moves.sh -n")
         Count.same("the recorded plan leads to what lvs said after it", sorted_extents(after_pvmoves(volumes, printed, devices)), sorted_extents(volumes_of("parts/after.json")))
-    for wish, unit in (("--empty loop0 --limit 2", 4), ("--empty loop0 --empty loop1", 4), ("--empty loop1 --limit 3", 16), ("--spread --empty loop2", 2), ("--spread", 1),
+    for wish, unit in (("--empty loop0 --limit 2", 4), ("--empty loop0 --empty loop1", 4), ("--empty loop1 --limit 3", 16), ("--empty loop1 --limit 1,4", 16), ("--spread --empty loop2", 2), ("--spread", 1),
                        ("--move r_rimage_0=loop3 --move [r_rmeta_0]=loop4", 1), ("--move stripes=loop3 --move db=loop4", 1)):
         name = f"parts, {wish}"
         with Room() as room:

@@ -1,15 +1,16 @@
 """What tests/session looks for on standard error where a file is wrong (statuses 3, 10, 1, 11 and 16): which line it is, and what was
 expected there. Standard output and the status are as ever."""
-from session_inputs import (AFTER, AUDIT, CERT_TEXT, CHECK, DISKS, DRILL, FILES, FILL, FIRST, HALT, HEAD, MOVE, PLAN, PLAN_TEXT, RESUME, SECOND, many,
-                            put)
+from session_inputs import (AFTER, APART, AT_ONCE, AUDIT, CERT_TEXT, CHECK, DISKS, DRILL, FILES, FILL, FIRST, HALT, HEAD, MOVE, PLAN, PLAN_TEXT, RESUME,
+                            SECOND, TEXT_2, THREE, many, put)
 from session_rooms import Count, Room
 
 disks, now, next_ = DISKS
+apart = APART[0]
 LONG = "n" * 33
 
 # the file that is changed, its text, what is printed, and each piece that is said
 REFUSALS = [
-    ("disks.csv", "", "disks row 0: bad header", ["disks.csv: the file is empty; its first line must be disk,limit,slots"]),
+    ("disks.csv", "", "disks row 0: bad header", ["disks.csv: the file is empty; its first line must be disk,limit,slots", "disk,out,in,slots"]),
     ("disks.csv", "\ufeff\n\n", "disks row 0: bad header", ["disks.csv: the file is empty"]),
     ("disks.csv", disks.encode("utf-16"), "disks row 0: bad header", ["disks.csv, line 1: ", "UTF-16; save it as CSV UTF-8"]),
     ("disks.csv", disks.encode("utf-16-le"), "disks row 0: bad header", ["UTF-16; save it as CSV UTF-8"]),
@@ -89,6 +90,58 @@ BLAMES = [
 ]
 
 
+# the same with disks that have an outgoing and an incoming limit, of THREE and TEXT_2
+APART_REFUSALS = [
+    ("disks.csv", apart.replace("left,2,2,4", "left,2,4"), "disks row 1: bad width", ["disks.csv, line 2: left,2,4\n", "4 fields, separated by commas: the disk's name, its outgoing limit, its incoming limit and its number of slots; here are 3"]),
+    ("disks.csv", apart.replace("right,2,1,4", "right,2,1,4,4"), "disks row 2: bad width", ["disks.csv, line 3: right,2,1,4,4\n", "4 fields", "here are 5"]),
+    ("disks.csv", apart.replace("right,2,1,4", "right;2;1;4"), "disks row 2: bad width", ["disks.csv, line 3: right;2;1;4\n", "semicolons; separate by commas"]),
+    ("disks.csv", apart.replace("disk,out,in,slots", "disk,limit,slots"), "disks row 1: bad width", ["disks.csv, line 2: left,2,2,4\n", "3 fields, separated by commas: the disk's name, its limit and its number of slots; here are 4"]),
+    ("disks.csv", disks.replace("disk,limit,slots", "disk,out,in,slots"), "disks row 1: bad width", ["disks.csv, line 2: left,2,4\n", "4 fields", "here are 3"]),
+    ("disks.csv", apart.replace("left", "my disk"), "disks row 1: bad name", ["disks.csv, line 2: my disk,2,2,4\n", "byte 3 of `my disk`, the name of the disk, is a blank"]),
+    ("disks.csv", apart.replace("right,2,1", "right,two,1"), "disks row 2: bad number", ["disks.csv, line 3: right,two,1,4\n", "the outgoing limit is `two`; 1 to 10 digits are wanted"]),
+    ("disks.csv", apart.replace("right,2,1", "right,2,"), "disks row 2: bad number", ["the incoming limit is empty; 1 to 10 digits are wanted"]),
+    ("disks.csv", apart.replace("left,2,2,4", "left,2,2,-4"), "disks row 1: bad number", ["the number of slots is `-4`; 1 to 10 digits are wanted"]),
+    ("disks.csv", apart.replace("left,2,2,4", "left,,x,4"), "disks row 1: bad number", ["the outgoing limit is empty"]),
+    ("disks.csv", apart.replace("left,2,2,4", "left,0,x,4"), "disks row 1: bad number", ["the incoming limit is `x`; 1 to 10 digits are wanted"]),
+    ("disks.csv", apart.replace("left,2,2,4", "left,0,2,4"), "disks row 1: out of range", ["disks.csv, line 2: left,0,2,4\n", "the outgoing limit is 0, and must be 1 to 1024"]),
+    ("disks.csv", apart.replace("left,2,2,4", "left,2,1025,4"), "disks row 1: out of range", ["the incoming limit is 1025, and must be 1 to 1024", "a greater one is written as 1024"]),
+    ("disks.csv", apart.replace("left,2,2,4", "left,2,2,65537"), "disks row 1: out of range", ["the number of slots is 65537, and must be 1 to 65536"]),
+    ("disks.csv", apart.replace("right,2,1,4", "left,2,1,4"), "disks row 2: disk listed twice", ["disks.csv, line 3: left,2,1,4\n", "`left` is listed before, in line 2"]),
+    ("disks.csv", "disk,out,in,slots\n" + "".join(f"d{i},1,1,1\n" for i in range(1025)), "disks row 1025: too many rows", ["disks.csv, line 1026: d1024,1,1,1\n", "at most 1024 disks"]),
+    ("disks.csv", apart.replace("right,2,1,4", "right,2,1,2"), "disks row 2: no room on right, needs 3, has 2", ["disks.csv, line 3: right,2,1,2\n", "3 slots are wanted of the 2"]),
+    ("disks.csv", ("\ufeff\n" + apart.replace(",", '","').replace("\n", '"\n"')[:-1].replace("disk", '"disk', 1)).replace("\n", "\r\n").replace("2", "x", 1), "disks row 1: bad number", ["disks.csv, line 3: ", "the outgoing limit is `x`"]),
+    ("now.csv", now.replace("left,1", "left,4"), "now row 2: slot too high", ["the last slot of `left`, which has 4 by disks.csv, is 3"]),
+    ("now.csv", now.replace("q,left", "q,Left"), "now row 2: unknown disk", ["disks.csv lists no disk `Left`, but `left`: capitals count"]),
+    ("disks.csv", apart.replace("out,in", "in,out"), "disks row 0: bad header", ["disks.csv, line 1: disk,in,out,slots\n", "the first line must be disk,limit,slots, or disk,out,in,slots"]),
+    ("disks.csv", apart.replace("in,", "", 1), "disks row 0: bad header", ["disks.csv, line 1: disk,out,slots\n", "the first line must be disk,limit,slots, or disk,out,in,slots"]),
+    ("disks.csv", apart.replace(",", ";"), "disks row 0: bad header", ["disks.csv, line 1: disk;out;in;slots\n", "semicolons; separate by commas: disk,out,in,slots\n"]),
+    ("disks.csv", apart.replace(",", "\t"), "disks row 0: bad header", ["tabs; separate by commas: disk,out,in,slots\n"]),
+    ("disks.csv", apart.replace("disk,out,in", "Disk, Out, In"), "disks row 0: bad header", ["disks.csv, line 1: Disk, Out, In,slots\n", "small letters and no blanks are wanted: disk,out,in,slots\n"]),
+    ("disks.csv", now, "disks row 0: bad header", ["the header of NOW", "stands for DISKS, whose header is disk,limit,slots, or disk,out,in,slots"]),
+    ("now.csv", apart, "now row 0: bad header", ["now.csv, line 1: disk,out,in,slots\n", "the header of DISKS", "stands for NOW, whose header is item,disk,slot"]),
+    ("next.csv", apart, "next row 0: bad header", ["the header of DISKS", "stands for NEXT"]),
+]
+
+APART_MISFITS = [
+    ("cert.txt", CERT_TEXT, "certificate line 1", ["cert.txt, line 1: migration-certificate 1\n", "`migration-certificate 2` where disks have two limits"]),
+    ("cert.txt", TEXT_2.replace("duplex", "even"), "certificate line 4", ["cert.txt, line 4: class even\n", "`class duplex` where disks have two limits"]),
+    ("cert.txt", TEXT_2.replace("in 3 1 3", "out 3 1 3"), "certificate line 5", ["cert.txt, line 5: bound side right out 3 1 3\n", "`bound side NAME out LOAD LIMIT VALUE` or the same with `in`"]),
+    ("cert.txt", TEXT_2.replace("side right in", "disk right"), "certificate line 5", ["cert.txt, line 5: bound disk right 3 1 3\n", "where disks have two limits"]),
+    ("cert.txt", TEXT_2.replace("end", "right\nend"), "certificate line 6", ["wanted is the line `end`"]),
+    ("disks.csv", disks, "certificate line 1", ["cert.txt, line 1: migration-certificate 2\n", "a certificate begins with the line `migration-certificate 1`"]),
+]
+
+APART_BLAMES = [
+    ("plan.txt", AT_ONCE, "over limit round 1 disk left count 3", ["plan.txt, line 3: round 1 3\n", "3 shifts of this round leave `left`, and its outgoing limit is 2\n"]),
+    ("plan.txt", PLAN_TEXT, "over limit round 1 disk right count 2", ["plan.txt, line 3: round 1 2\n", "2 shifts of this round reach `right`, and its incoming limit is 1\n"]),
+    ("cert.txt", TEXT_2.replace("rounds 3", "rounds 2"), "rounds differ kept 2 counted 3", ["cert.txt, line 2: rounds 2\n", "are PLAN and CERT of one `plan`?"]),
+    ("cert.txt", TEXT_2.replace("quotient 3", "quotient 2"), "quotient differs kept 2 counted 3", ["cert.txt, line 3: quotient 2\n", "was a file changed since `plan`?"]),
+    ("cert.txt", TEXT_2.replace("in 3 1 3", "in 2 1 3"), "load differs kept 2 counted 3", ["cert.txt, line 5: bound side right in 2 1 3\n", "counted from the three files"]),
+    ("cert.txt", TEXT_2.replace("in 3 1 3", "in 3 1 2"), "value differs kept 2 counted 3", ["cert.txt, line 5: bound side right in 3 1 2\n"]),
+    ("next.csv", next_.replace("r,right", "r,left"), "wrong end item r", ["plan.txt, line 8: r left 2 right 2\n", "no later line moves `r`, and next.csv wants it on `left`"]),
+]
+
+
 def tells(name, ran, status, out, pieces):
     """The run ended with this status and printed just this; standard error begins with our name and has each of the pieces."""
     Count.ended(name, ran, status, out)
@@ -99,10 +152,13 @@ def tells(name, ran, status, out, pieces):
 
 def of_files(program):
     """Statuses 3, 10 and 1: each file changed in each way."""
-    for table, status, words, before in ((REFUSALS, 3, PLAN, "refused "), (MISFITS, 10, CHECK, "refused "), (BLAMES, 1, CHECK, "")):
+    joint, split = (DISKS, PLAN_TEXT, CERT_TEXT), (APART, THREE, TEXT_2)
+    tables = [(REFUSALS, joint, 3, PLAN, "refused "), (MISFITS, joint, 10, CHECK, "refused "), (BLAMES, joint, 1, CHECK, ""),
+              (APART_REFUSALS, split, 3, PLAN, "refused "), (APART_MISFITS, split, 10, CHECK, "refused "), (APART_BLAMES, split, 1, CHECK, "")]
+    for table, files, status, words, before in tables:
         for name, text, out, pieces in table:
             with Room(program) as room:
-                put(room, DISKS, PLAN_TEXT, CERT_TEXT)
+                put(room, *files)
                 room.write(name, text)
                 tells(f"{out} by {str(text)[:30]!r}", room.run(*words), status, f"{before}{out}\n", pieces)
 

@@ -18,6 +18,11 @@ PLAN_TEXT = f"{HEAD}{FIRST}{SECOND}end\n"
 CERT_TEXT = "migration-certificate 1\nrounds 2\nquotient 2\nclass even\nbound disk left 3 2 2\nend\n"
 LAYOUT_TEXT = "item,disk,slot\np,right,0\nq,right,1\nr,right,2\n"
 HALF_TEXT = "item,disk,slot\np,right,0\nq,right,1\nr,left,2\n"
+# its example of certificate text 2: the same three items go from left, whose outgoing limit is 2, to right, whose incoming limit is 1
+APART = ["disk,out,in,slots\nleft,2,2,4\nright,2,1,4\n", *DISKS[1:]]
+THREE = "migration-plan 1\nrounds 3\nround 1 1\np left 0 right 0\nround 2 1\nq left 1 right 1\nround 3 1\nr left 2 right 2\nend\n"
+AT_ONCE = "migration-plan 1\nrounds 1\nround 1 3\np left 0 right 0\nq left 1 right 1\nr left 2 right 2\nend\n"
+TEXT_2 = "migration-certificate 2\nrounds 3\nquotient 3\nclass duplex\nbound side right in 3 1 3\nend\n"
 
 
 def put(room, files, plan=None, cert=None):

@@ -63,6 +63,7 @@ NAMES = [
     (r"(\d+) migrations onto added disks", r"| adding | \1 |"),
     (r"(\d+) migrations from disks that are emptied", r"| removing | \1 |"),
     (r"all (\d+) migrations of these kinds and of four more", r"| all | \1 |"),
+    (r"the same (\d+), each disk with .+", r"| all | \1 |"),
     (r"one disk and 1023 others, limit 2, (\d+) items", r"| a star of 1,024 disks, limit 2 | \1 |"),
 ]
 
@@ -87,7 +88,7 @@ def the_measured(program):
             Count.same(f"MEASURED: {disks} disks, {per_pair} items, limit {limit}", found, wanted)
     rows = re.findall(r"^\| (.+) (\| \d+ \| \d+ \| \d+ \|)$", page("README.md"), re.M)
     missing = [row for row in rows if not stands_in(measured, *row)]
-    Count.that("the README has rows of MEASURED", len(rows) == 8 and not missing, missing)
+    Count.that("the README has rows of MEASURED", len(rows) == 10 and not missing, missing)
 
 
 def the_example_of_formats(program):

@@ -1,13 +1,8 @@
 -- Where a migration begins and ends: images before the first round, after the last, and once it is halted.
-use Rattle.mig_base.proofs.Common.{◌≡◌, ◌⊎◌, inl, inr, ⊎_elim, Bool, true, false, ℕ, zero, suc, ◌+◌, ◌-◌, ◌<◌, ◌≤◌, List, length, Some, refl, sym, ◌∙◌, ap, subst, arith, All, cases_eq, cases_lt}
-use Rattle.mig_base.proofs.Common.{cases_Bool, false≢true, All-contains, slice_get-get_or, Lists, IsInput, round_at, At, IsTaken, Runs, Image, SameBut, is_one, is_armed, is_marked, slot_of, zeros}
-use Rattle.mig_base.proofs.Common.{Contents, IsSafeAt, IsSafe, IsSound, IsSoundAfter, IsFreeSlot}
-use Rattle.mig_base.specs.declared.cells.Cell.TheVariants.{Head, Gate, Mark}
-use Rattle.mig_base.specs.declared.ids.Shift.{Shift}
-use Rattle.mig_base.specs.declared.ids.Spot.{Spot}
-use Rattle.mig_base.specs.Layouts.{IsSource}
-use Rattle.mig_base.specs.Safety.{HasContents, IsSafeAfter}
-use Rattle.mig_base.specs.Arrivals.{IsNamed, AreFreeZeros, IsReached, IsHaltSafe}
+use Rattle.mig_base.proofs.Common.{All, All-contains, AreFreeZeros, At, Bool, Contents, Gate, HasContents, Head, Image, IsFreeSlot, IsHaltSafe, IsInput, IsNamed, IsReached, IsSafe, IsSafeAfter}
+use Rattle.mig_base.proofs.Common.{IsSafeAt, IsSound, IsSoundAfter, IsSource, IsTaken, List, Lists, Mark, Runs, SameBut, Shift, Some, Spot, ap, arith, cases_Bool, cases_eq, cases_lt, false}
+use Rattle.mig_base.proofs.Common.{false≢true, inl, inr, is_armed, is_marked, is_one, length, refl, round_at, slice_get-get_or, slot_of, subst, suc, sym, true, zero, zeros, ℕ, ⊎_elim, ◌+◌, ◌-◌}
+use Rattle.mig_base.proofs.Common.{◌<◌, ◌∙◌, ◌≡◌, ◌≤◌, ◌⊎◌}
 use Rattle.mig_base.proofs.Rounds.{contains_any, any_contains, in_some, moved_cases, at_target, leaves, cases_source}
 use Rattle.mig_base.proofs.MarkCounts.{AreMarked, counted, count_is, count_idle}
 use Rattle.mig_base.proofs.SafetyLaws.{slot_apart, now_on_disks, layout_at, source_facts, no_round, target_facts}

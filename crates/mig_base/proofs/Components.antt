@@ -1,8 +1,7 @@
 -- Components by labels: each disk has the least disk of its component as its label.
-use Rattle.mig_base.proofs.Common.{◌≡◌, ◌⊎◌, ℕ, suc, zero, ◌+◌, ◌<◌, ◌≤◌, Bool, true, false, cond, ◌&&◌, ◌||◌, eqb, List, [], ◌∷◌, length, All, AllPairs, IsTrue, get_or, filter, ap, sym, refl, ◌∙◌}
-use Rattle.mig_base.proofs.Common.{inl, inr, arith, subst, range_with_len, cases_lt, false≢true, eq-eqb, or_right, eqb-true, nat_tests, All-filter, filter_passes, get_or-range_with_len}
-use Rattle.mig_base.proofs.Common.{length-range_with_len, Transfers, takes_part, has}
-use Rattle.mig_base.specs.Bounding.{IsClosed, IsComponent}
+use Rattle.mig_base.proofs.Common.{All, All-filter, AllPairs, Bool, IsClosed, IsComponent, IsTrue, List, Transfers, [], ap, arith, cases_lt, cond, eq-eqb, eqb, eqb-true, false, false≢true}
+use Rattle.mig_base.proofs.Common.{filter, filter_passes, get_or, get_or-range_with_len, has, inl, inr, length, length-range_with_len, nat_tests, or_right, range_with_len, refl, subst, suc, sym}
+use Rattle.mig_base.proofs.Common.{takes_part, true, zero, ℕ, ◌&&◌, ◌+◌, ◌<◌, ◌||◌, ◌∙◌, ◌∷◌, ◌≡◌, ◌≤◌, ◌⊎◌}
 use Rattle.mig_base.proofs.Scheduled.{range_below}
 
 -- the disks with this label

@@ -1,6 +1,6 @@
 -- Lists by their elements.
-use Rattle.mig_base.proofs.Common.{◌≡◌, ◌≢◌, ℕ, zero, suc, ◌+◌, ◌<◌, List, [], ◌∷◌, ◌++◌, length, map, get_or, set, Some, All, add-one, refl, ap, ◌∙◌, arith, slice_get, range_with_len, map-append}
-use Rattle.mig_base.proofs.Common.{All-head, All-tail, get_or-range_with_len}
+use Rattle.mig_base.proofs.Common.{All, All-head, All-tail, List, Some, [], add-one, ap, arith, get_or, get_or-range_with_len, length, map, map-append, range_with_len, refl, set, slice_get, suc}
+use Rattle.mig_base.proofs.Common.{zero, ℕ, ◌++◌, ◌+◌, ◌<◌, ◌∙◌, ◌∷◌, ◌≡◌, ◌≢◌}
 
 -- numbers in a row, and one more
 pub in_range : (n k d : ℕ) → k < n → get_or (range_with_len 0 n) k d ≡ k

@@ -1,5 +1,6 @@
 pub mod ArrivalLaws
 pub mod BlameOrder
+pub mod Candidates
 pub mod CellTests
 pub mod CertSpelling
 pub mod Common
@@ -9,6 +10,7 @@ pub mod Counting
 pub mod Elements
 pub mod Evenness
 pub mod FaultOrder
+pub mod KeptLimits
 pub mod Landing
 pub mod LayoutSteps
 pub mod Listed

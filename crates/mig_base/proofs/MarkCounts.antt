@@ -1,7 +1,6 @@
 -- What the number of rounds that count says of the marks.
-use Rattle.mig_base.proofs.Common.{◌≡◌, cond, ℕ, zero, suc, ◌+◌, ◌<◌, ◌≤◌, Bool, true, false, length, get_or, sym, ◌∙◌, ap, subst, arith, prefix_len, range_with_len, cond-true, cond-false}
-use Rattle.mig_base.proofs.Common.{get_or-range_with_len, length-range_with_len, Image, is_armed, is_marked, count_of}
-use Rattle.std.proofs.lemmas.List.Sums.{prefix_len_is, prefix_len_passes, prefix_len_stops, prefix_len-le-length}
+use Rattle.mig_base.proofs.Common.{Bool, Image, ap, arith, cond, cond-false, cond-true, count_of, false, get_or, get_or-range_with_len, is_armed, is_marked, length, length-range_with_len}
+use Rattle.mig_base.proofs.Common.{prefix_len, prefix_len-le-length, prefix_len_is, prefix_len_passes, prefix_len_stops, range_with_len, subst, suc, sym, true, zero, ℕ, ◌+◌, ◌<◌, ◌∙◌, ◌≡◌, ◌≤◌}
 
 -- the marks 1 to k are 1, and the next isn't
 pub record AreMarked (rounds : ℕ) (image : Image) (k : ℕ) : Type 0 where

@@ -1,21 +1,11 @@
 -- A partition of the moves' shifts into rounds that keep the limits can be carried out, and shifts each relocated item once.
-use Rattle.mig_base.proofs.Common.{◌≡◌, ◌≢◌, ◌⊎◌, ⊎_elim, ℕ, suc, zero, ◌-◌, ◌<◌, ◌≤◌, Bool, true, false, cond, not, eqb, eq-eqb, List, [], ◌∷◌, length, refl, sym, ap, ◌∙◌, arith, sum_by, count_by}
-use Rattle.mig_base.proofs.Common.{filter, All, get_or, take, drop, inl, inr, subst, Some, None, Option, slice_get, IsSomeAnd, option_or, option_map, range_with_len, Contains, list_any, sum_by-cons}
-use Rattle.mig_base.proofs.Common.{get_or-le-sum_by, get_or_default, get_or-take, length-drop, length-take-le, filter_passes, All-contains, All-head, All-tail, Contains-append_left}
-use Rattle.mig_base.proofs.Common.{Contains-append_right, cases_lt, cases_eq, false≢true, ne_eqb, nat_tests, get_or-range_with_len, length-range_with_len, slice_get-get_or, Lists, IsInput, IsSpotOf}
-use Rattle.mig_base.proofs.Common.{IsDiskInRange, no_spot, moves, is_relocated, source, target, AreTargets, IsRoomy, round_at, At, Runs, IsLegal, Once, is_of, shift_count, ShiftFits, PlanFits}
-use Rattle.mig_base.proofs.Common.{no_shift, shift_at, move_at}
-use Rattle.mig_base.specs.declared.ids.DiskId.{DiskId}
-use Rattle.mig_base.specs.declared.ids.ItemId.{ItemId}
-use Rattle.mig_base.specs.declared.ids.Shift.{Shift}
-use Rattle.mig_base.specs.declared.ids.Spot.{Spot}
-use Rattle.mig_base.specs.declared.inputs.Disk.{Disk}
-use Rattle.mig_base.specs.declared.limits.TheConstants.{MAX_SLOTS}
-use Rattle.std.specs.List.{position_or_len}
-use Rattle.std.proofs.lemmas.List.Sums.{sum_by-take-drop}
-use Rattle.std.proofs.lemmas.List.{get_or-drop}
-use Rattle.mig_base.specs.Running.{IsFree, IsArrivedAt}
-use Rattle.mig_base.specs.Planned.{target_at, move_shift, IsMoveShift, IsPartition, IsPlan, PartitionIsPlan}
+use Rattle.mig_base.proofs.Common.{All, All-contains, All-head, All-tail, AreTargets, At, Bool, Contains, Contains-append_left, Contains-append_right, Disk, DiskId, IsArrivedAt, IsDiskInRange}
+use Rattle.mig_base.proofs.Common.{IsFree, IsInput, IsLegal, IsMoveShift, IsPartition, IsPlan, IsRoomy, IsSomeAnd, IsSpotOf, ItemId, List, Lists, MAX_SLOTS, None, Once, Option, PartitionIsPlan}
+use Rattle.mig_base.proofs.Common.{PlanFits, Runs, Shift, ShiftFits, Some, Spot, [], ap, arith, cases_eq, cases_lt, cond, count_by, drop, eq-eqb, eqb, false, false≢true, filter, filter_passes}
+use Rattle.mig_base.proofs.Common.{get_or, get_or-drop, get_or-le-sum_by, get_or-range_with_len, get_or-take, get_or_default, inl, inr, is_of, is_relocated, length, length-drop}
+use Rattle.mig_base.proofs.Common.{length-range_with_len, length-take-le, list_any, move_at, move_shift, moves, nat_tests, ne_eqb, no_shift, no_spot, not, option_map, option_or, position_or_len}
+use Rattle.mig_base.proofs.Common.{range_with_len, refl, round_at, shift_at, shift_count, slice_get, slice_get-get_or, source, subst, suc, sum_by, sum_by-cons, sum_by-take-drop, sym, take}
+use Rattle.mig_base.proofs.Common.{target, target_at, true, zero, ℕ, ⊎_elim, ◌-◌, ◌<◌, ◌∙◌, ◌∷◌, ◌≡◌, ◌≢◌, ◌≤◌, ◌⊎◌}
 use Rattle.mig_base.proofs.Counting.{one, sum_by-none, sum_by-le_each, sum_by-swap, none_pass, at_most_one}
 use Rattle.mig_base.proofs.Rounds.{moved_cases, in_some, spot_disk}
 use Rattle.mig_base.proofs.Scheduled.{IsShiftedAt, shifted_at, shifted_first, shifted_round, spot_before, spot_later, moves_there}
@@ -279,7 +269,7 @@ module _ (input : Lists) (targets : List Spot) (plan : List (List Shift)) (p : I
           where
             slots_at : (ds : List Disk) (k : ℕ) → All IsDiskInRange ds → IsSomeAnd (slice_get ds k) (λ (d : Disk). s.slot < d.slots) → s.slot < MAX_SLOTS
             slots_at [] k all has = absurd has
-            slots_at (d ∷ ds) zero all has = omega (arith, has, (All-head IsDiskInRange d ds all).3)
+            slots_at (d ∷ ds) zero all has = omega (arith, has, (All-head IsDiskInRange d ds all).2)
             slots_at (d ∷ ds) (suc k) all has = slots_at ds k (All-tail IsDiskInRange d ds all) has
 
         shift_fits : (s : Shift) → IsMoveShift input targets s → ShiftFits input s

@@ -1,13 +1,8 @@
 -- Where each disk has room, a slot is free for each item that comes: as many slots as a disk has can't all be taken.
-use Rattle.mig_base.proofs.Common.{◌≡◌, ℕ, suc, zero, ◌+◌, ◌<◌, ◌≤◌, Bool, true, false, ◌&&◌, eqb, eq-eqb, List, ◌++◌, length, refl, sym, ap, ◌∙◌, subst, arith, count_by, get_or, take, inl, inr}
-use Rattle.mig_base.proofs.Common.{slice_get, IsSomeAnd, Contains, length-take-le, get_or-take, take_more, sum_by-append, get_or-le-sum_by, sum_by_push, cases_lt, nat_tests, slice_get-get_or, Lists}
-use Rattle.mig_base.proofs.Common.{IsInput, IsSpotOf, no_spot, no_disk, disk_at, moves, target, AreTargets, IsRoomy, present, incoming, move_at}
-use Rattle.mig_base.specs.declared.ids.Spot.{Spot}
-use Rattle.mig_base.specs.declared.inputs.Disk.{Disk}
-use Rattle.std.proofs.Common.{ltb}
-use Rattle.std.proofs.lemmas.List.Sums.{sum_by-take-le}
-use Rattle.mig_base.specs.Targets.{IsLowestFree}
-use Rattle.mig_base.specs.Planned.{target_at}
+use Rattle.mig_base.proofs.Common.{AreTargets, Bool, Contains, Disk, IsInput, IsLowestFree, IsRoomy, IsSomeAnd, IsSpotOf, List, Lists, Spot, ap, arith, cases_lt, count_by, disk_at, eq-eqb, eqb}
+use Rattle.mig_base.proofs.Common.{false, get_or, get_or-le-sum_by, get_or-take, incoming, inl, inr, length, length-take-le, ltb, move_at, moves, nat_tests, no_disk, no_spot, present, refl}
+use Rattle.mig_base.proofs.Common.{slice_get, slice_get-get_or, subst, suc, sum_by-append, sum_by-take-le, sum_by_push, sym, take, take_more, target, target_at, true, zero, ℕ, ◌&&◌, ◌++◌, ◌+◌}
+use Rattle.mig_base.proofs.Common.{◌<◌, ◌∙◌, ◌≡◌, ◌≤◌}
 use Rattle.mig_base.proofs.Counting.{one, sum_by-le_each, sum_by-add, count_same}
 use Rattle.mig_base.proofs.Scheduled.{moves_there}
 

@@ -1,12 +1,7 @@
 -- Where items are after shifts that can be carried out.
-use Rattle.mig_base.proofs.Common.{◌≡◌, ◌≢◌, ◌⊎◌, inl, inr, ⊎_elim, ℕ, zero, suc, ◌<◌, List, [], ◌∷◌, length, get_or, Option, Some, None, refl, sym, ◌∙◌, ap, subst, arith, cond, ◌==◌, IsSomeAnd}
-use Rattle.mig_base.proofs.Common.{slice_get, Contains, AllPairs, Any, option_or, cases_eq, cond-true, cond-false, eq-eqb, ne_eqb, get_or_default, All-contains, Lists, IsSpotOf, Layout, IsLayout}
-use Rattle.mig_base.proofs.Common.{last_target, after_shifts, IsLegal}
-use Rattle.mig_base.specs.declared.ids.Shift.{Shift}
-use Rattle.mig_base.specs.declared.ids.Spot.{Spot}
-use Rattle.mig_base.specs.declared.inputs.Disk.{Disk}
-use Rattle.std.proofs.lemmas.Bool.{cases_order}
-use Rattle.mig_base.specs.Running.{IsFree}
+use Rattle.mig_base.proofs.Common.{All-contains, AllPairs, Any, Contains, Disk, IsFree, IsLayout, IsLegal, IsSomeAnd, IsSpotOf, Layout, List, Lists, None, Option, Shift, Some, Spot, []}
+use Rattle.mig_base.proofs.Common.{after_shifts, ap, arith, cases_eq, cases_order, cond, cond-false, cond-true, eq-eqb, get_or, get_or_default, inl, inr, last_target, length, ne_eqb, option_or}
+use Rattle.mig_base.proofs.Common.{refl, slice_get, subst, suc, sym, zero, ℕ, ⊎_elim, ◌<◌, ◌==◌, ◌∙◌, ◌∷◌, ◌≡◌, ◌≢◌, ◌⊎◌}
 
 pub here : {X : Type 0} (x : X) (xs : List X) → Contains (x ∷ xs) x
 here x xs = (0, omega arith, refl)

@@ -1,13 +1,8 @@
 -- What the images that a migration may leave keep, round by round, by the definitions alone.
-use Rattle.mig_base.proofs.Common.{◌≡◌, ◌⊎◌, inl, inr, ⊎_elim, Bool, true, false, ℕ, zero, suc, ◌-◌, ◌<◌, ◌≤◌, List, [], length, Some, sym, ◌∙◌, ap, subst, arith, slice_get, Contains, cases_eq}
-use Rattle.mig_base.proofs.Common.{cases_lt, get_or_past, All-contains, slice_get_within, get_or_from_slice_get, Lists, IsInput, IsSpotOf, disk_at, no_disk, after_shifts, IsLayout, round_at, At}
-use Rattle.mig_base.proofs.Common.{IsTaken, IsLegal, Runs, Image, SameBut, is_one, is_armed, is_marked, slot_of, zeros, Contents, IsSafeAt, IsSound, IsSoundAfter, IsInUse}
-use Rattle.mig_base.specs.declared.cells.Cell.TheVariants.{Head, Gate, Mark}
-use Rattle.mig_base.specs.declared.ids.Shift.{Shift}
-use Rattle.mig_base.specs.declared.ids.Spot.{Spot}
-use Rattle.mig_base.specs.Layouts.{IsSource, IsTarget}
-use Rattle.mig_base.specs.Safety.{IsVacated, IsCleanAt}
-use Rattle.mig_base.specs.RoundStates.{IsCopied}
+use Rattle.mig_base.proofs.Common.{All-contains, At, Bool, Contains, Contents, Gate, Head, Image, IsCleanAt, IsCopied, IsInUse, IsInput, IsLayout, IsLegal, IsSafeAt, IsSound, IsSoundAfter}
+use Rattle.mig_base.proofs.Common.{IsSource, IsSpotOf, IsTaken, IsTarget, IsVacated, List, Lists, Mark, Runs, SameBut, Shift, Some, Spot, [], after_shifts, ap, arith, cases_eq, cases_lt, disk_at}
+use Rattle.mig_base.proofs.Common.{false, get_or_from_slice_get, get_or_past, inl, inr, is_armed, is_marked, is_one, length, no_disk, round_at, slice_get, slice_get_within, slot_of, subst, suc}
+use Rattle.mig_base.proofs.Common.{sym, true, zero, zeros, ℕ, ⊎_elim, ◌-◌, ◌<◌, ◌∙◌, ◌≡◌, ◌≤◌, ◌⊎◌}
 use Rattle.mig_base.proofs.Listed.{one_place}
 use Rattle.mig_base.proofs.Rounds.{contains_any, any_contains, in_some, spot_disk, moved_cases, at_target, leaves, to_disk, from_disk, source_free, target_free, layout_kept, cases_source}
 use Rattle.mig_base.proofs.MarkCounts.{AreMarked, counted, count_is}

@@ -1,10 +1,5 @@
 -- Disks, edges, copies, colours and spots are told by their numbers.
-use Rattle.mig_base.proofs.Common.{◌≡◌}
-use Rattle.mig_base.specs.declared.ids.Colour.{Colour}
-use Rattle.mig_base.specs.declared.ids.CopyId.{CopyId}
-use Rattle.mig_base.specs.declared.ids.DiskId.{DiskId}
-use Rattle.mig_base.specs.declared.ids.EdgeId.{EdgeId}
-use Rattle.mig_base.specs.declared.ids.Spot.{Spot}
+use Rattle.mig_base.proofs.Common.{Colour, CopyId, DiskId, EdgeId, Spot, ◌≡◌}
 
 pub same_disk : (v w : DiskId) → v.0 ≡ w.0 → v ≡ w
 same_disk v w e i = record { 0 = e i }

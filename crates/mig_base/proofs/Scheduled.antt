@@ -1,15 +1,10 @@
 -- A plan that runs and moves each relocated item once is a schedule that obeys.
-use Rattle.mig_base.proofs.Common.{◌≡◌, ◌≢◌, ℕ, suc, zero, ◌+◌, ◌-◌, ◌<◌, ◌≤◌, Bool, true, false, cond, not, ◌&&◌, ◌||◌, eqb, List, [], ◌∷◌, length, map, refl, sym, ap, ◌∙◌, arith, sum_by, count_by}
-use Rattle.mig_base.proofs.Common.{filter, All, get_or, inl, inr, subst, list_any, range_with_len, sum_by-cons, get_or-le-sum_by, All-filter, filter_passes, nat_tests, cases_lt, eq-eqb, false≢true}
-use Rattle.mig_base.proofs.Common.{eqb-true, get_or-range_with_len, length-range_with_len, slice_get-get_or, Option, Some, None, slice_get, option_or, option_map, Lists, IsInput, no_spot, Trip}
-use Rattle.mig_base.proofs.Common.{touches, moves, trip, is_relocated, source, target, last_target, round_at, At, Runs, Once, is_of, shift_count, trip_of}
-use Rattle.mig_base.specs.declared.ids.DiskId.{DiskId}
-use Rattle.mig_base.specs.declared.ids.Shift.{Shift}
-use Rattle.mig_base.specs.declared.ids.Spot.{Spot}
-use Rattle.std.specs.List.{position_or_len}
-use Rattle.std.proofs.lemmas.List.Sums.{passes_at_first}
-use Rattle.mig_base.specs.Schedules.{IsSchedule, Obeys, trips_in}
-use Rattle.mig_base.specs.Running.{round_of}
+use Rattle.mig_base.proofs.Common.{All, All-filter, At, Bool, DiskId, IsInput, IsSchedule, List, Lists, None, Obeys, Once, Option, Runs, Shift, Some, Spot, Trip, [], ap, arith, cases_lt, cond}
+use Rattle.mig_base.proofs.Common.{count_by, eq-eqb, eqb, eqb-true, false, false≢true, filter, filter_passes, get_or, get_or-le-sum_by, get_or-range_with_len, inl, inr, is_of, is_relocated}
+use Rattle.mig_base.proofs.Common.{last_target, length, length-range_with_len, list_any, map, moves, nat_tests, no_spot, not, option_map, option_or, passes_at_first, position_or_len}
+use Rattle.mig_base.proofs.Common.{range_with_len, refl, round_at, round_of, shift_count, slice_get, slice_get-get_or, source, subst, suc, sum_by, sum_by-cons, sym, target, touches, trip}
+use Rattle.mig_base.proofs.Common.{trip_of, trips_in, true, zero, ℕ, ◌&&◌, ◌+◌, ◌-◌, ◌<◌, ◌||◌, ◌∙◌, ◌∷◌, ◌≡◌, ◌≢◌, ◌≤◌}
+use Rattle.mig_base.proofs.KeptLimits.{keeps_fewer}
 use Rattle.mig_base.proofs.Counting.{sum_by-map, sum_by-le_each, sum_by-none, sum_by-swap, one, count_by-filter-le, at_most_one}
 
 -- each passing number is the key of some passing element, and no number stands twice: then no more numbers pass than elements
@@ -242,4 +237,4 @@ trips_counted input plan p r valid runs once =
 pub obeys : (input : Lists) (plan : List (List Shift)) → IsInput input → Runs input plan → Once input plan → Obeys input (length plan) (round_of plan)
 obeys input plan valid runs once zero least most v there = absurd (omega (arith, least))
 obeys input plan valid runs once (suc r) least most v there =
-    omega (arith, trips_counted input plan (touches v) r valid runs once, (runs.rounds r (omega (arith, most))).limits v there)
+    keeps_fewer _ v (trips_in input (round_of plan) (suc r)) (map trip_of (round_at plan (suc r))) (λ p. trips_counted input plan p r valid runs once) ((runs.rounds r (omega (arith, most))).limits v there)

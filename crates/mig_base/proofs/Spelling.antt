@@ -1,12 +1,7 @@
 -- Bytes are the spelling of at most one plan.
-use Rattle.mig_base.proofs.Common.{◌≡◌, ◌≢◌, ℕ, ◌+◌, ◌^◌, ◌<◌, ◌≤◌, List, [], ◌∷◌, ◌++◌, length, refl, sym, ap, ◌∙◌, arith, map, codes, true, false, get_or, inl, inr, append_assoc, nat_eq, not}
-use Rattle.mig_base.proofs.Common.{AllByRecursion, AllPairs, decimal, nat_tests, length-map, decimal_injective, recursion_from_All, IsName, is_name_byte, Lists, IsInput, no_disk, ShiftFits, PlanFits}
-use Rattle.mig_base.proofs.Common.{item_name, disk_name, words, shift_line, round_lines, plan_lines, PlanText}
-use Rattle.mig_base.specs.declared.ids.Shift.{Shift}
-use Rattle.mig_base.specs.declared.inputs.Disk.{Disk}
-use Rattle.mig_base.specs.declared.limits.TheConstants.{MAX_ROUNDS, MAX_SHIFTS}
-use Rattle.std.specs.List.{list_all}
-use Rattle.std.proofs.lemmas.Bool.{cases_order}
+use Rattle.mig_base.proofs.Common.{AllByRecursion, AllPairs, Disk, IsInput, IsName, List, Lists, MAX_ROUNDS, MAX_SHIFTS, PlanFits, PlanText, Shift, ShiftFits, [], ap, append_assoc, arith}
+use Rattle.mig_base.proofs.Common.{cases_order, codes, decimal, decimal_injective, disk_name, false, get_or, inl, inr, is_name_byte, item_name, length, length-map, list_all, map, nat_eq}
+use Rattle.mig_base.proofs.Common.{nat_tests, no_disk, not, plan_lines, recursion_from_All, refl, round_lines, shift_line, sym, true, words, ℕ, ◌++◌, ◌+◌, ◌<◌, ◌^◌, ◌∙◌, ◌∷◌, ◌≡◌, ◌≢◌, ◌≤◌}
 use Rattle.mig_base.proofs.Separators.{Lacks, same_lines, same_words, Lacks-words, Lacks-decimal, same_front}
 
 -- a byte of a name isn't a blank or an end of a line

@@ -1,17 +1,11 @@
 -- Worked cases, by computing: loads, quotients, classes and values; a plan's layouts and texts.
-use Rattle.mig_base.proofs.Common.{◌+◌, Some, None, List, length, codes, ◌≡◌, ℕ, [], ◌∷◌, refl, Lists, present, incoming, At, shift_count, text_of_lines, plan_lines, cert_lines, bound_lines, moves}
-use Rattle.mig_base.proofs.Common.{transfers, Trip, load, Transfers, quotient, class_of, set_value}
-use Rattle.mig_base.specs.declared.certs.Bound.TheVariants.{OfDisk, OfSet}
-use Rattle.mig_base.specs.declared.certs.Class.TheVariants.{Even, General}
-use Rattle.mig_base.specs.declared.ids.Shift.{Shift}
-use Rattle.mig_base.specs.declared.ids.Spot.{Spot}
-use Rattle.mig_base.specs.declared.inputs.Disk.{Disk}
+use Rattle.mig_base.proofs.Common.{At, Disk, Duplex, Even, General, Incoming, Joint, List, Lists, None, OfDisk, OfSet, OfSide, Outgoing, Shift, Some, Split, Spot, Transfers, Trip, []}
+use Rattle.mig_base.proofs.Common.{bound_lines, cert_lines, class_of, codes, incoming, layout_lines, length, load, moves, plan_lines, present, quotient, refl, round_of, set_value}
 use Rattle.std.specs.Fmt.{digits}
-use Rattle.mig_base.specs.Running.{round_of}
-use Rattle.mig_base.specs.Texts.{layout_lines}
+use Rattle.mig_base.proofs.Common.{shift_count, text_of_lines, transfers, ℕ, ◌+◌, ◌∷◌, ◌≡◌}
 
 abbrev disk : ℕ → Disk
-disk n = record { name = 97 ∷ []; limit = n; slots = 9 }
+disk n = record { name = 97 ∷ []; limits = Joint n; slots = 9 }
 
 abbrev trip : ℕ → ℕ → Trip
 trip a b = record { leaves = a; reaches = b }
@@ -65,7 +59,7 @@ spot d s = record { disk = record { 0 = d }; slot = s }
 
 abbrev two : Lists
 two = record {
-  disks = record { name = name 97; limit = 2; slots = 4 } ∷ record { name = name 98; limit = 2; slots = 4 } ∷ [];
+  disks = record { name = name 97; limits = Joint 2; slots = 4 } ∷ record { name = name 98; limits = Joint 2; slots = 4 } ∷ [];
   items = name 120 ∷ name 121 ∷ name 122 ∷ [];
   spots = spot 0 0 ∷ spot 0 1 ∷ spot 0 2 ∷ [];
   next = record { 0 = 1 } ∷ record { 0 = 1 } ∷ record { 0 = 1 } ∷ [];
@@ -126,3 +120,28 @@ text_of_set = refl
 text_of_layout : text_of_lines (layout_lines two (spot 1 0 ∷ spot 1 1 ∷ spot 0 2 ∷ [])) ≡ codes "item,disk,slot\nx,b,0\ny,b,1\nz,a,2\n"
 unfolding digits
 text_of_layout = refl
+
+-- the same three items between disks with two limits
+
+abbrev duplex : Lists
+duplex = record {
+  disks = record { name = name 97; limits = Split 2 1; slots = 4 } ∷ record { name = name 98; limits = Split 1 1; slots = 4 } ∷ [];
+  items = two.items;
+  spots = two.spots;
+  next = two.next;
+}
+
+quotient_of_duplex : quotient (transfers duplex) ≡ 3
+quotient_of_duplex = refl
+
+class_of_duplex : class_of (transfers duplex) ≡ Duplex
+class_of_duplex = refl
+
+text_of_duplex : text_of_lines (cert_lines duplex (record { rounds = 3; quotient = 3; class = Duplex; bound = OfSide (record { 0 = 1 }) Incoming 3 3 }))
+    ≡ codes "migration-certificate 2\nrounds 3\nquotient 3\nclass duplex\nbound side b in 3 1 3\nend\n"
+unfolding digits
+text_of_duplex = refl
+
+text_of_out : text_of_lines (bound_lines duplex (OfSide (record { 0 = 0 }) Outgoing 3 2)) ≡ codes "bound side a out 3 2 2\n"
+unfolding digits
+text_of_out = refl

@@ -1,7 +1,7 @@
 -- What is promised of the plan that is made for an input.
-use Rattle.std.specs.Prelude.{◌≡◌, ℕ, ◌*◌, ◌≤◌, List, length}
+use Rattle.std.specs.Prelude.{◌≡◌, ℕ, ◌*◌, ◌≤◌, true, List, length}
 use Rattle.mig_base.specs.declared.ids.Shift.{Shift}
-use Rattle.mig_base.specs.InputLists.{Lists}
+use Rattle.mig_base.specs.InputLists.{Lists, is_duplex}
 use Rattle.mig_base.specs.Transfers.{Transfers, transfers}
 use Rattle.mig_base.specs.Bounding.{IsEven, IsOneWay, quotient}
 use Rattle.mig_base.specs.Schedules.{Needs}
@@ -10,11 +10,13 @@ use Rattle.mig_base.specs.Planned.{GoesToTargets, IsFilled}
 
 -- why as few rounds as the greatest quotient can do
 pub data Reason : Type 0 where
+  SplitLimits : Reason
   EvenLimits : Reason
   OneWay : Reason
 
--- what is so of the transfers then: limits are even; each disk only gives items away or only takes them
+-- what is so of the transfers then: limits are split; limits are even; each disk only gives items away or only takes them
 abbrev pub Because : Reason → Transfers → Type 0
+Because SplitLimits graph = is_duplex graph.disks ≡ true
 Because EvenLimits graph = IsEven graph
 Because OneWay graph = IsOneWay graph
 

@@ -35,7 +35,8 @@ pub enum Blame {
         round: u32,
         item: ItemId,
     },
-    /// So many shifts of the round have the disk as an end, more than its limit.
+    /// So many shifts of the round have the disk as an end, more than its joint limit; or so many leave it, or reach it,
+    /// more than its limit on that side, the outgoing one first.
     OverLimit {
         round: u32,
         disk: DiskId,
@@ -55,14 +56,14 @@ pub enum Blame {
         kept: u32,
         counted: u32,
     },
-    /// The greatest load over limit, rounded up.
+    /// The greatest load over limit, or of a side over its limit, rounded up.
     QuotientDiffers {
         kept: u32,
         counted: u32,
     },
-    /// Whether the limits of the disks that take part are even.
+    /// Whether the limits are split, or those of the disks that take part even.
     ClassDiffers,
-    /// The moves of the bound's disk, or inside its set.
+    /// The moves of the bound's disk or side, or inside its set.
     LoadDiffers {
         kept: u32,
         counted: u32,

@@ -3,13 +3,24 @@
 use crate::ids::DiskId;
 use crate::plans::DiskSet;
 
-/// Whether each disk that takes part has an even limit.
+/// Whether limits are split, and if not, whether each disk that takes part has an even limit.
 #[derive(Clone, Copy, Debug, PartialEq, Eq)]
 pub enum Class {
     /// Each disk that takes part has an even limit.
     Even,
     /// Some disk that takes part has an odd limit.
     General,
+    /// The disks have an outgoing and an incoming limit.
+    Duplex,
+}
+
+/// A side of a disk with split limits.
+#[derive(Clone, Copy, Debug, PartialEq, Eq)]
+pub enum Side {
+    /// The transfers that leave the disk.
+    Outgoing,
+    /// The transfers that reach it.
+    Incoming,
 }
 
 /// A number of rounds that every schedule needs, and the disks that show it.
@@ -20,6 +31,13 @@ pub enum Bound {
     /// The disk is an end of `load` moves, and needs `value` rounds for them.
     OfDisk {
         disk: DiskId,
+        load: u32,
+        value: u32,
+    },
+    /// So many moves leave the disk, or reach it, and its limit on that side needs `value` rounds for them.
+    OfSide {
+        disk: DiskId,
+        side: Side,
         load: u32,
         value: u32,
     },

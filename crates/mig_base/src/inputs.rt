@@ -1,15 +1,45 @@
 //! The input of a migration.
 ghost use Rattle.std.specs.Prelude.{◌≡◌, ◌<◌, length};
+ghost use Rattle.mig_base.specs.InputLists.{IsInRange, is_split, most_ends};
 
 use crate::ids::{DiskId, ItemId, Spot};
 use crate::names::Name;
 use std::marker::Model;
 
-/// A disk: at most `limit` transfers touch it in one round, and it has so many slots.
+/// How many transfers of one round a disk may have.
+#[derive(Clone, Copy, Debug, PartialEq, Eq)]
+pub enum Limits {
+    /// At most so many have the disk as an end; one inside the disk counts once.
+    Joint { limit: u32 },
+    /// At most so many leave the disk, and at most so many reach it.
+    Split { outgoing: u32, incoming: u32 },
+}
+
+impl Limits {
+    /// Whether the limits are split.
+    pub fn is_split(self) -> bool
+        ensures { result ≡ is_split self }
+    {
+        matches!(self, Limits::Split { .. })
+    }
+
+    /// How many transfers of a round may have the disk as an end: its joint limit, or its two limits together.
+    pub fn most_ends(self) -> u32
+        requires { IsInRange self }
+        ensures { result ≡ most_ends self }
+    {
+        match self {
+            Limits::Joint { limit } => limit,
+            Limits::Split { outgoing, incoming } => outgoing + incoming,
+        }
+    }
+}
+
+/// A disk: its limits in a round, and it has so many slots.
 #[derive(Clone, Copy, Debug, PartialEq, Eq)]
 pub struct Disk {
     pub name: Name,
-    pub limit: u32,
+    pub limits: Limits,
     pub slots: u32,
 }
 
@@ -35,7 +65,7 @@ impl Model for Input {
 }
 
 impl Input {
-    ghost use Rattle.mig_base.specs.InputLists.{IsInput};
+    ghost use Rattle.mig_base.specs.InputLists.{IsInput, is_duplex};
     ghost use Rattle.mig_base.specs.Transfers.{is_relocated};
 
     /// The input of these lists.
@@ -88,6 +118,16 @@ impl Input {
         ensures valid { IsInput self.now }
     {
         self.next.as_slice()
+    }
+
+    /// Whether there is a disk and its limits are split. All disks have limits of one kind.
+    pub fn duplex(&self) -> bool
+        ensures { result ≡ is_duplex self.now.disks }
+    {
+        match self.disks.first() {
+            Some(disk) => disk.limits.is_split(),
+            None => false,
+        }
     }
 
     /// Whether the item is to go to another disk.

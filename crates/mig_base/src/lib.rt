@@ -15,11 +15,11 @@ mod plans;
 
 pub use blames::{Blame, Verdict};
 pub use cells::{Cell, Event, Flight};
-pub use certs::{Bound, Cert, Class};
+pub use certs::{Bound, Cert, Class, Side};
 pub use digits::read_digits;
 pub use faults::{FileKind, Why};
 pub use ids::{Colour, CopyId, DiskId, EdgeId, ItemId, Shift, Spot};
-pub use inputs::{Disk, Input};
+pub use inputs::{Disk, Input, Limits};
 pub use laws::{
     accepted_is_input, accepted_is_one, bound_is_needed, class_tells, one_cert_for_a_text,
     one_plan_for_a_text, partition_is_plan, plan_is_schedule, right_is_blameless, targets_are_one,

@@ -6,7 +6,7 @@ pub const MAX_FILE_BYTES: usize = 16_777_216;
 /// The most disks of an input.
 pub const MAX_DISKS: usize = 1_024;
 
-/// The greatest limit of a disk in a round.
+/// The greatest limit of a disk in a round: of a joint one, and of each of two.
 pub const MAX_LIMIT: u32 = 1_024;
 
 /// The most slots of a disk. Slots count from 0.

@@ -1,2 +1,3 @@
 pub mod BestFits
-pub mod EvenBound
+pub mod TightBound
+pub mod Common

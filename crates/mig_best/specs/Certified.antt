@@ -2,26 +2,27 @@
 use Rattle.std.specs.Prelude.{◌≡◌, ℕ, List}
 use Rattle.mig_base.specs.InputLists.{Lists}
 use Rattle.mig_base.specs.Transfers.{transfers}
-use Rattle.mig_base.specs.Bounding.{Best, IsEven, bound_value, quotient}
+use Rattle.mig_base.specs.Bounding.{Best, bound_value, quotient}
 use Rattle.mig_base.specs.Schedules.{Needs}
 use Rattle.mig_base.specs.Certificates.{CertHolds}
-use Rattle.mig_base.specs.MadePlans.{IsPlanOf}
+use Rattle.mig_base.specs.MadePlans.{Because, IsPlanOf, Reason}
 use Rattle.mig_base.specs.declared.certs.Bound.{Bound}
-use Rattle.mig_base.specs.declared.certs.Bound.TheVariants.{Nothing, OfDisk, OfSet}
+use Rattle.mig_base.specs.declared.certs.Bound.TheVariants.{Nothing, OfDisk, OfSide, OfSet}
 use Rattle.mig_base.specs.declared.certs.Cert.{Cert}
 use Rattle.mig_base.specs.declared.ids.Shift.{Shift}
 
--- the bound is a disk with this value, or nothing where that is 0
+-- the bound is a disk or a side of one with this value, or nothing where that is 0
 abbrev pub IsDiskBound : Bound → ℕ → Type 0
 IsDiskBound Nothing q = q ≡ 0
 IsDiskBound (OfDisk disk l x) q = x ≡ q
+IsDiskBound (OfSide disk side l x) q = x ≡ q
 IsDiskBound (OfSet set i x) q = ⊥
 
 -- a plan for the input, as is promised of it, and its certificate, whose bound is the first best one: every schedule needs its value,
--- and where limits are even it is a disk that shows the plan to be optimal
+-- and where there is a reason why the plan has no more rounds than the quotient it is a disk or a side that shows the plan to be optimal
 pub record IsCertified (input : Lists) (rounds : List (List Shift)) (certificate : Cert) : Type 0 where
   pub planned : IsPlanOf input rounds
   pub holds : CertHolds input rounds certificate
   pub best : Best (transfers input) certificate.bound
   pub needs : Needs input (bound_value certificate.bound)
-  pub shown : IsEven (transfers input) → IsDiskBound certificate.bound (quotient (transfers input))
+  pub shown : (why : Reason) → Because why (transfers input) → IsDiskBound certificate.bound (quotient (transfers input))

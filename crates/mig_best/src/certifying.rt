@@ -23,7 +23,9 @@ pub struct Certified {
 fn class_in(graph: &Graph) -> Class
     ensures { result ≡ class_of graph.now }
 {
-    if graph.all_even() {
+    if graph.duplex() {
+        Class::Duplex
+    } else if graph.all_even() {
         Class::Even
     } else {
         Class::General
@@ -36,7 +38,8 @@ pub fn value_of(bound: &Bound) -> u32
 {
     match bound {
         Bound::Nothing => 0,
-        Bound::OfDisk { value, .. } | Bound::OfSet { value, .. } => *value,
+        Bound::OfDisk { value, .. } | Bound::OfSide { value, .. } | Bound::OfSet { value, .. } =>
+            *value,
     }
 }
 

@@ -1,12 +1,8 @@
 -- Sets of numbers by words: one bit, and the lowest one.
-use Rattle.std.proofs.Common.{◌≡◌, ◌≢◌, ℕ, ◌<◌, ◌≤◌, ◌+◌, ◌-◌, ◌*◌, ◌/◌, ◌%◌, ◌^◌, ◌↔◌, inl, inr, sym, ap, subst, ◌∙◌, List, length, set, get_or, arith, length-set, bit_and, min}
-use Rattle.std.specs.Int.{bit_at, w64, trailing_zeros}
-use Rattle.std.specs.Int.RustNames.{bit_xor}
-use Rattle.std.proofs.lemmas.Bool.{cases_eq, cases_lt}
-use Rattle.std.proofs.lemmas.List.{get_or-set_same, get_or-set_other, get_or_past}
-use Rattle.std.proofs.lemmas.Nat.{one_shl}
-use Rattle.std.proofs.lemmas.Nat.Bits.{bit_at-lt, bit_at-zero, bit_at_and, bit_at_xor, bit_at-pow_same, bit_at-pow_other, bit_at_mask_inside, bit_at_mask_below, ones_shl, bit_at-trailing_zeros}
-use Rattle.mig_board.specs.Words.{HasBit, HasNoBitFrom, IsFirstBit, HasNoCommonBit, IsFirstCommonBit, TurnsBit}
+use Rattle.mig_board.proofs.Common.{HasBit, HasNoBitFrom, HasNoCommonBit, IsFirstBit, IsFirstCommonBit, List, TurnsBit, ap, arith, bit_and, bit_at, bit_at-lt, bit_at-pow_other, bit_at-pow_same}
+use Rattle.mig_board.proofs.Common.{bit_at-trailing_zeros, bit_at-zero, bit_at_and, bit_at_mask_below, bit_at_mask_inside, bit_at_xor, bit_xor, cases_eq, cases_lt, get_or, get_or-set_other}
+use Rattle.mig_board.proofs.Common.{get_or-set_same, get_or_past, inl, inr, length, length-set, min, one_shl, ones_shl, set, subst, sym, trailing_zeros, w64, ℕ, ◌%◌, ◌*◌, ◌+◌, ◌-◌, ◌/◌, ◌<◌, ◌^◌}
+use Rattle.mig_board.proofs.Common.{◌↔◌, ◌∙◌, ◌≡◌, ◌≢◌, ◌≤◌}
 
 -- ---- one word
 

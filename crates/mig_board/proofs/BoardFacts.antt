@@ -1,19 +1,13 @@
 -- What the methods of a board know of its fields.
-use Rattle.mig_base.proofs.Common.{◌⊎◌, ◌↔◌, inl, inr, ◌≡◌, ℕ, ◌<◌, ◌*◌, ◌/◌, ◌%◌, ◌+◌, ◌≢◌, ◌≤◌, ◌^◌, sym, ◌∙◌, subst, ap, length, set, get_or, replicate, vec_len, Vec, Global, Some, None, List}
-use Rattle.mig_base.proofs.Common.{Option, arith, refl, MatchOption, All, bit_at, slice_get, div_ceil_times, same_Some, none-some, slice_get_within, slice_get_read, slice_get-get_or, cases_eq}
-use Rattle.mig_base.specs.declared.ids.Colour.{Colour}
-use Rattle.mig_base.specs.declared.ids.CopyId.{CopyId}
-use Rattle.mig_base.specs.declared.ids.EdgeId.{EdgeId}
-use Rattle.mig_base.specs.declared.limits.TheConstants.{MAX_ITEMS}
-use Rattle.mig_board.specs.Colouring.{Colouring, Joins, HasColour, Leads, IsMissing, IsPresent, IsFullFrom, IsLeastMissingFrom, HasNoCommon, IsLeastCommon, IsPainted, IsFreeAt, IsProper, AreFreeWords}
-use Rattle.mig_board.specs.Entries.{Entries, with_entry, IsFreeEntry, IsFreeSet}
-use Rattle.mig_board.specs.Words.{words_for, HasBit, HasNoBitFrom, IsFirstBit, HasNoCommonBit, IsFirstCommonBit}
-use Rattle.mig_board.specs.BoardFields.{colouring_of, IsBoard}
+use Rattle.mig_board.proofs.Common.{All, AreFreeWords, Colour, Colouring, CopyId, EdgeId, Entries, Global, HasBit, HasColour, HasNoBitFrom, HasNoCommon, HasNoCommonBit, IsBoard, IsFirstBit}
+use Rattle.mig_board.proofs.Common.{IsFirstCommonBit, IsFreeAt, IsFreeEntry, IsFreeSet, IsFullFrom, IsLeastCommon, IsLeastMissingFrom, IsMissing, IsPainted, IsPresent, IsProper, Joins, Leads}
+use Rattle.mig_board.proofs.Common.{List, MAX_ITEMS, MatchOption, None, Option, Some, Vec, ap, arith, bit_at, cases_eq, colouring_of, div_ceil_times, get_or, inl, inr, length, mul-le, none-some}
+use Rattle.mig_board.proofs.Common.{refl, replicate, same_Some, set, slice_get, slice_get-get_or, slice_get_read, slice_get_within, subst, sym, vec_len, with_entry, words_for, ℕ, ◌%◌, ◌*◌, ◌+◌}
+use Rattle.mig_board.proofs.Common.{◌/◌, ◌<◌, ◌^◌, ◌↔◌, ◌∙◌, ◌≡◌, ◌≢◌, ◌≤◌, ◌⊎◌}
 use Rattle.mig_board.specs.declared.boards.Board.TheInside.{Inside}
 use Rattle.mig_board.proofs.Exchange.{recoloured}
 use Rattle.mig_board.proofs.Tables.{IsTabled, IsTabled-painted, CanPaint, CanPaint-read, IsTabled-blank, IsTabled-cleared, entries_set, place_within}
 use Rattle.mig_board.proofs.Walks.{joins_back}
-use Rattle.std.proofs.lemmas.Nat.{mul-le}
 
 pub tabled_of : (a : Inside) → IsBoard a → IsTabled (colouring_of a) a.table.entries
 tabled_of a b = record { proper = b.proper; table = b.table }

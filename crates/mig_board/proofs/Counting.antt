@@ -1,14 +1,7 @@
 -- How many colours are present at a node, against its degree.
-use Rattle.mig_base.proofs.Common.{◌≡◌, ℕ, ◌<◌, ◌≤◌, ◌+◌, ◌*◌, ◌⊎◌, inl, inr, refl, ap, ◌∙◌, List, [], ◌∷◌, zero, suc, Option, Some, None, arith, Bool, true, false, cond, eqb, eq-eqb, count_by}
-use Rattle.mig_base.proofs.Common.{slice_get, or_right, same_Some, none-some, sum_by-cons}
-use Rattle.mig_base.specs.declared.ids.Colour.{Colour}
-use Rattle.mig_base.specs.declared.ids.CopyId.{CopyId}
-use Rattle.mig_base.specs.declared.ids.EdgeId.{EdgeId}
-use Rattle.std.proofs.lemmas.Bool.{or_left}
-use Rattle.std.proofs.lemmas.Bool.Decides.{eqb_tells}
-use Rattle.mig_board.specs.Colouring.{Colouring, Joins, IsPresent, IsFull, HasNoCommon, degree_of}
-use Rattle.mig_base.specs.Ends.{is_end}
-use Rattle.mig_base.proofs.Counting.{one}
+use Rattle.mig_board.proofs.Common.{Bool, Colour, Colouring, CopyId, EdgeId, HasNoCommon, IsFull, IsPresent, Joins, List, None, Option, Some, [], ap, arith, cond, count_by, degree_of, eq-eqb}
+use Rattle.mig_board.proofs.Common.{eqb, eqb_tells, false, inl, inr, is_end, none-some, one, or_left, or_right, refl, same_Some, slice_get, suc, sum_by-cons, true, zero, ℕ, ◌*◌, ◌+◌, ◌<◌, ◌∙◌}
+use Rattle.mig_board.proofs.Common.{◌∷◌, ◌≡◌, ◌≤◌, ◌⊎◌}
 
 abbrev pub has_hue : ℕ → Option Colour → Bool
 has_hue k None = false

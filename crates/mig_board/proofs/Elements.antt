@@ -1,5 +1,5 @@
 -- One element of a list, by its place.
-use Rattle.mig_base.proofs.Common.{◌≡◌, ℕ, ◌<◌, refl, zero, suc, replicate, Some, arith, slice_get}
+use Rattle.mig_board.proofs.Common.{Some, arith, refl, replicate, slice_get, suc, zero, ℕ, ◌<◌, ◌≡◌}
 
 -- of one element many times
 pub slice_get-replicate : {A : Type 0} (n i : ℕ) (y : A) → i < n → slice_get (replicate n y) i ≡ Some y

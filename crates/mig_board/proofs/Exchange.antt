@@ -1,16 +1,8 @@
 -- The exchange of two colours along a walk, step by step.
-use Rattle.mig_base.proofs.Common.{◌≡◌, ◌≢◌, ℕ, ◌<◌, ◌+◌, ◌*◌, ◌⊎◌, ◌↔◌, inl, inr, refl, sym, ap, subst, ◌∙◌, List, [], ◌∷◌, ◌++◌, length, set, get_or, Option, Some, arith, length-set, Bool, true}
-use Rattle.mig_base.proofs.Common.{false, cond, eqb, slice_get, cases_eq, same_Some, slice_get_within, slice_get-get_or}
-use Rattle.mig_base.specs.declared.ids.Colour.{Colour}
-use Rattle.mig_base.specs.declared.ids.CopyId.{CopyId}
-use Rattle.mig_base.specs.declared.ids.EdgeId.{EdgeId}
-use Rattle.std.specs.List.{swap}
-use Rattle.std.proofs.lemmas.Bool.Decides.{eqb_tells}
-use Rattle.std.proofs.lemmas.List.Edits.{length-swap}
-use Rattle.mig_base.proofs.Elements.{slice_get-set_same, slice_get-set_other}
-use Rattle.mig_base.proofs.SameIds.{same_copy, same_edge, same_hue}
-use Rattle.mig_board.specs.Colouring.{Colouring, Joins, HasColour, Leads, IsMissing, IsPresent, IsProper, IsTableOf}
-use Rattle.mig_board.specs.Walk.{Step, IsWalk, end_of, next_of, IsNodeOf, IsEdgeOf, swapped, Exchanges}
+use Rattle.mig_board.proofs.Common.{Bool, Colour, Colouring, CopyId, EdgeId, Exchanges, HasColour, IsEdgeOf, IsMissing, IsNodeOf, IsPresent, IsProper, IsTableOf, IsWalk, Joins, Leads, List}
+use Rattle.mig_board.proofs.Common.{Option, Some, Step, [], ap, arith, cases_eq, cond, end_of, eqb, eqb_tells, false, get_or, inl, inr, length, length-set, length-swap, next_of, refl, same_Some}
+use Rattle.mig_board.proofs.Common.{same_copy, same_edge, same_hue, set, slice_get, slice_get-get_or, slice_get-set_other, slice_get-set_same, slice_get_within, subst, swap, swapped, sym, true}
+use Rattle.mig_board.proofs.Common.{ℕ, ◌*◌, ◌++◌, ◌+◌, ◌<◌, ◌↔◌, ◌∙◌, ◌∷◌, ◌≡◌, ◌≢◌, ◌⊎◌}
 use Rattle.mig_board.proofs.Walks
 use Rattle.mig_board.proofs.Walks.{IsPath, NoRepeat, IsUnderway, edge_on, last_edge, fresh, path_of_walk, path_no_repeat, missing_differs, underway_more, underway_next, next_differs, leads_back}
 use Rattle.mig_board.proofs.Walks.{end_cases, same_colour, IsNodeOf-push_cases, IsNodeOf-push, IsEdgeOf-push_cases, IsEdgeOf-push, IsNodeOf-end_of, IsNodeOf-start, step_of, underway_pair}

@@ -1,18 +1,10 @@
 -- What `exchange` knows of a board's fields.
-use Rattle.mig_base.proofs.Common.{◌⊎◌, inl, inr, ◌^◌, ◌≡◌, ℕ, ◌<◌, ◌≤◌, ◌+◌, ◌*◌, sym, ap, subst, ◌∙◌, refl, length, set, get_or, vec_len, List, Option, Some, None, slice_get, same_Some, none-some}
-use Rattle.mig_base.proofs.Common.{slice_get_read, slice_get_within}
-use Rattle.mig_base.specs.declared.ids.Colour.{Colour}
-use Rattle.mig_base.specs.declared.ids.CopyId.{CopyId}
-use Rattle.mig_base.specs.declared.ids.EdgeId.{EdgeId}
-use Rattle.mig_base.specs.declared.limits.TheConstants.{MAX_ITEMS}
-use Rattle.mig_board.specs.Entries.{Entries}
-use Rattle.mig_board.specs.Colouring.{Colouring, Leads, IsMissing, IsPresent}
-use Rattle.mig_board.specs.BoardFields.{colouring_of, IsBoard}
+use Rattle.mig_board.proofs.Common.{Colour, Colouring, CopyId, EdgeId, Entries, Exchanges, IsBoard, IsMissing, IsPresent, Leads, List, MAX_ITEMS, None, Option, Some, ap, colouring_of, get_or}
+use Rattle.mig_board.proofs.Common.{inl, inr, length, none-some, refl, same_Some, set, slice_get, slice_get_read, slice_get_within, subst, swap, sym, vec_len, ℕ, ◌*◌, ◌+◌, ◌<◌, ◌^◌, ◌∙◌, ◌≡◌}
+use Rattle.mig_board.proofs.Common.{◌≤◌, ◌⊎◌}
 use Rattle.mig_board.specs.declared.boards.Board.TheInside.{Inside}
 use Rattle.mig_board.proofs.BoardFacts.{tabled_of}
-use Rattle.std.specs.List.{swap}
 use Rattle.mig_board.proofs.Tables.{place_of, IsTabled}
-use Rattle.mig_board.specs.Walk.{Exchanges}
 use Rattle.mig_board.proofs.Walks.{underway_at, underway_next, underway_pair, same_pair}
 use Rattle.mig_board.proofs.Exchange.{CanExchange, IsExchanging, IsTurned, exchanging_start, exchanging_more, exchanging_read, turned_by_swap, has_in_range, IsExchanged, exchanging_end, recoloured, IsTabled-exchanged, Exchanges-from}
 

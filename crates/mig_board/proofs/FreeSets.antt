@@ -1,15 +1,8 @@
 -- The sets of what is free in a table, beside its entries.
-use Rattle.mig_base.proofs.Common.{◌≡◌, ◌≢◌, ℕ, ◌<◌, ◌≤◌, ◌+◌, ◌*◌, ◌/◌, ◌%◌, ◌⊎◌, ◌↔◌, inl, inr, refl, sym, ap, subst, ◌∙◌, List, length, get_or, take, drop, Option, Some, None, arith, length-set}
-use Rattle.mig_base.proofs.Common.{replicate, slice_get, bit_at, cases_eq, cases_lt, div_ceil_times, get_or-take, get_or_past, length-take-le, length-drop, length-replicate, same_Some, mul_comm}
-use Rattle.mig_base.specs.declared.ids.Colour.{Colour}
-use Rattle.mig_base.specs.declared.ids.CopyId.{CopyId}
-use Rattle.mig_base.specs.declared.ids.EdgeId.{EdgeId}
-use Rattle.std.proofs.lemmas.List.{get_or-drop}
-use Rattle.std.proofs.lemmas.Nat.{mul-add-lt, mul-le, same_from_place}
-use Rattle.std.proofs.lemmas.Nat.Bits.{bit_at-zero}
-use Rattle.mig_base.proofs.Elements.{slice_get-set_same, slice_get-set_other}
-use Rattle.mig_board.specs.Words.{words_for, HasBit, TurnsBit, AreFullSets}
-use Rattle.mig_board.specs.Entries.{Entries, with_entry, IsFreeEntry, IsFreeSet, AreFreeSets}
+use Rattle.mig_board.proofs.Common.{AreFreeSets, AreFullSets, Colour, CopyId, EdgeId, Entries, HasBit, IsFreeEntry, IsFreeSet, List, None, Option, Some, TurnsBit, ap, arith, bit_at, bit_at-zero}
+use Rattle.mig_board.proofs.Common.{cases_eq, cases_lt, div_ceil_times, drop, get_or, get_or-drop, get_or-take, get_or_past, inl, inr, length, length-drop, length-replicate, length-set}
+use Rattle.mig_board.proofs.Common.{length-take-le, mul-add-lt, mul-le, mul_comm, refl, replicate, same_Some, same_from_place, slice_get, slice_get-set_other, slice_get-set_same, subst, sym}
+use Rattle.mig_board.proofs.Common.{take, with_entry, words_for, ℕ, ◌%◌, ◌*◌, ◌+◌, ◌/◌, ◌<◌, ◌↔◌, ◌∙◌, ◌≡◌, ◌≢◌, ◌≤◌, ◌⊎◌}
 use Rattle.mig_board.proofs.Elements.{slice_get-replicate}
 
 -- ---- places of bits

@@ -1,9 +1,7 @@
 -- Sets of all numbers below another one, as they are made.
-use Rattle.mig_base.proofs.Common.{◌≡◌, ◌≢◌, ℕ, ◌<◌, ◌≤◌, ◌+◌, ◌-◌, ◌*◌, ◌/◌, ◌%◌, ◌^◌, ◌⊎◌, inl, inr, sym, ap, ◌∙◌, List, length, set, get_or, arith, length-set, replicate, bit_at, cases_eq}
-use Rattle.mig_base.proofs.Common.{cases_lt, div_ceil_times, get_or-replicate, get_or-set_same, get_or-set_other, length-replicate, mul_comm}
-use Rattle.std.proofs.lemmas.Nat.{mul-add-lt, same_from_place}
-use Rattle.std.proofs.lemmas.Nat.Bits.{bit_at_ones, bit_at_ones_above}
-use Rattle.mig_board.specs.Words.{words_for, AreFullSets}
+use Rattle.mig_board.proofs.Common.{AreFullSets, List, ap, arith, bit_at, bit_at_ones, bit_at_ones_above, cases_eq, cases_lt, div_ceil_times, get_or, get_or-replicate, get_or-set_other}
+use Rattle.mig_board.proofs.Common.{get_or-set_same, inl, inr, length, length-replicate, length-set, mul-add-lt, mul_comm, replicate, same_from_place, set, sym, words_for, ℕ, ◌%◌, ◌*◌, ◌+◌, ◌-◌}
+use Rattle.mig_board.proofs.Common.{◌/◌, ◌<◌, ◌^◌, ◌∙◌, ◌≡◌, ◌≢◌, ◌≤◌, ◌⊎◌}
 use Rattle.mig_board.proofs.FreeSets.{bit_word, words_cover}
 
 abbrev ones : ℕ

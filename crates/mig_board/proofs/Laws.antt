@@ -1,14 +1,8 @@
 -- Laws of walks and exchanges for callers.
-use Rattle.mig_base.proofs.Common.{◌≡◌, ◌≢◌, ℕ, ◌<◌, ◌≤◌, ◌+◌, ◌⊎◌, inl, inr, refl, sym, ap, subst, ◌∙◌, List, [], ◌∷◌, Some, None, arith, length, replicate, Option, slice_get, length-replicate}
-use Rattle.mig_base.proofs.Common.{get_or-replicate, slice_get-get_or, same_Some, none-some, slice_get_within, cases_lt, cases_eq}
-use Rattle.mig_base.specs.declared.ids.Colour.{Colour}
-use Rattle.mig_base.specs.declared.ids.CopyId.{CopyId}
-use Rattle.mig_base.specs.declared.ids.EdgeId.{EdgeId}
-use Rattle.mig_base.proofs.Elements.{slice_get-set_same, slice_get-set_other}
-use Rattle.mig_base.proofs.SameIds.{same_edge}
-use Rattle.mig_board.specs.Colouring.{Colouring, Joins, HasColour, Leads, IsMissing, IsPresent, IsFull, HasNoCommon, IsPainted, IsProper, IsFreeAt, degree_of, painted_with, blank}
-use Rattle.mig_board.specs.Growth.{IsBlank, IsPlain, SameGraph, PaintsOne, Recolours, IsTwoSided}
-use Rattle.mig_board.specs.Walk.{Step, IsWalk, end_of, next_of, backwards, WalksTo, swapped, Exchanges}
+use Rattle.mig_board.proofs.Common.{Colour, Colouring, CopyId, EdgeId, Exchanges, HasColour, HasNoCommon, IsBlank, IsFreeAt, IsFull, IsMissing, IsPainted, IsPlain, IsPresent, IsProper}
+use Rattle.mig_board.proofs.Common.{IsTwoSided, IsWalk, Joins, Leads, List, None, Option, PaintsOne, Recolours, SameGraph, Some, Step, WalksTo, [], ap, arith, backwards, blank, cases_eq}
+use Rattle.mig_board.proofs.Common.{cases_lt, degree_of, end_of, get_or-replicate, inl, inr, length, length-replicate, next_of, none-some, painted_with, refl, replicate, same_Some, same_edge}
+use Rattle.mig_board.proofs.Common.{slice_get, slice_get-get_or, slice_get-set_other, slice_get-set_same, slice_get_within, subst, swapped, sym, ℕ, ◌+◌, ◌<◌, ◌∙◌, ◌∷◌, ◌≡◌, ◌≢◌, ◌≤◌, ◌⊎◌}
 use Rattle.mig_board.proofs.Walks.{IsPath, path_of_walk, path_back, next_pair, missing_differs, end_cases}
 use Rattle.mig_board.proofs.Counting.{degree_of_full}
 use Rattle.mig_board.proofs.Tables.{edge_cases, painted_cases}

@@ -10,3 +10,4 @@ pub mod Elements
 pub mod FreeSets
 pub mod TableFacts
 pub mod FullSets
+pub mod Common

@@ -1,17 +1,7 @@
 -- What the methods of a table know of its fields.
-use Rattle.mig_base.proofs.Common.{◌≡◌, ℕ, ◌<◌, ◌+◌, ◌*◌, ◌↔◌, sym, ap, subst, ◌∙◌, refl, List, length, set, get_or, Option, Some, None, Bool, true, false, MatchBool, slice_get, false≢true}
-use Rattle.mig_base.proofs.Common.{get_or_default, none-some, slice_get_read}
-use Rattle.mig_base.specs.declared.ids.Colour.{Colour}
-use Rattle.mig_base.specs.declared.ids.CopyId.{CopyId}
-use Rattle.mig_base.specs.declared.ids.EdgeId.{EdgeId}
-use mathlib.Core.Bool.{not, beq}
-use Rattle.std.specs.List.{swap}
-use Rattle.std.specs.Vec.{with_items}
-use Rattle.std.proofs.lemmas.List.{with_items_is}
-use Rattle.std.proofs.lemmas.List.Edits.{swap_is}
-use Rattle.mig_board.specs.Words.{words_for, TurnsBit}
-use Rattle.mig_board.specs.Entries.{Entries, with_entry, AreFreeSets}
-use Rattle.mig_board.specs.TableFields.{entries_of, IsTable}
+use Rattle.mig_board.proofs.Common.{AreFreeSets, Bool, Colour, CopyId, EdgeId, Entries, IsTable, List, MatchBool, None, Option, Some, TurnsBit, ap, beq, entries_of, false, false≢true, get_or}
+use Rattle.mig_board.proofs.Common.{get_or_default, length, none-some, not, refl, set, slice_get, slice_get_read, subst, swap, swap_is, sym, true, with_entry, with_items, with_items_is}
+use Rattle.mig_board.proofs.Common.{words_for, ℕ, ◌*◌, ◌+◌, ◌<◌, ◌↔◌, ◌∙◌, ◌≡◌}
 use Rattle.mig_board.specs.declared.table.Table.TheInside.{Inside}
 use Rattle.mig_board.proofs.FreeSets.{AreFreeSets-same, AreFreeSets-turned, place_in_entries}
 

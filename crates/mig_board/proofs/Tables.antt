@@ -1,15 +1,8 @@
 -- The table of a colouring through a change of one edge's colour.
-use Rattle.mig_base.proofs.Common.{◌≡◌, ◌≢◌, ℕ, ◌<◌, ◌+◌, ◌*◌, ◌⊎◌, ◌↔◌, inl, inr, refl, sym, ap, subst, ◌∙◌, List, length, set, get_or, Option, Some, None, arith, length-set, replicate}
-use Rattle.mig_base.proofs.Common.{length-replicate, get_or-replicate, slice_get, cases_eq, mul_comm, same_Some, none-some, slice_get_within, slice_get_read, get_or_from_slice_get, All-contains, All}
-use Rattle.mig_base.proofs.Common.{Contains}
-use Rattle.mig_base.specs.declared.ids.Colour.{Colour}
-use Rattle.mig_base.specs.declared.ids.CopyId.{CopyId}
-use Rattle.mig_base.specs.declared.ids.EdgeId.{EdgeId}
-use Rattle.std.proofs.lemmas.List.{set-set}
-use Rattle.std.proofs.lemmas.Nat.{mul-add-lt, same_from_place}
-use Rattle.mig_base.proofs.SameIds.{same_edge, same_copy, same_hue}
-use Rattle.mig_base.proofs.Elements.{slice_get-set_same, slice_get-set_other}
-use Rattle.mig_board.specs.Colouring.{Colouring, Joins, HasColour, Leads, IsMissing, IsProper, IsTableOf, IsFreeAt, painted_with, cleared, blank}
+use Rattle.mig_board.proofs.Common.{All, All-contains, Colour, Colouring, Contains, CopyId, EdgeId, HasColour, IsFreeAt, IsMissing, IsProper, IsTableOf, Joins, Leads, List, None, Option, Some}
+use Rattle.mig_board.proofs.Common.{ap, arith, blank, cases_eq, cleared, get_or, get_or-replicate, get_or_from_slice_get, inl, inr, length, length-replicate, length-set, mul-add-lt, mul_comm}
+use Rattle.mig_board.proofs.Common.{none-some, painted_with, refl, replicate, same_Some, same_copy, same_edge, same_from_place, same_hue, set, set-set, slice_get, slice_get-set_other}
+use Rattle.mig_board.proofs.Common.{slice_get-set_same, slice_get_read, slice_get_within, subst, sym, ℕ, ◌*◌, ◌+◌, ◌<◌, ◌↔◌, ◌∙◌, ◌≡◌, ◌≢◌, ◌⊎◌}
 use Rattle.mig_board.proofs.Walks.{end_cases, same_colour, joins_back}
 
 abbrev pub place_of : Colouring → CopyId → Colour → ℕ

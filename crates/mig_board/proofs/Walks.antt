@@ -1,17 +1,9 @@
 -- Paths of two colours in a proper colouring: they repeat no node, are unique, and go back the same way.
-use Rattle.mig_base.proofs.Common.{◌≡◌, ◌≢◌, ℕ, ◌<◌, ◌⊎◌, inl, inr, refl, sym, ap, subst, ◌∙◌, List, [], ◌∷◌, ◌++◌, append_assoc, append-nil, Option, Some, arith, ◌+◌, length, length-append, get_or}
-use Rattle.mig_base.proofs.Common.{zero, suc, false, eqb-true, AllPairs, All, Contains-from_any, All-contains, recursion_from_All, ne_eqb, eqb}
-use Rattle.mig_base.specs.declared.ids.Colour.{Colour}
-use Rattle.mig_base.specs.declared.ids.CopyId.{CopyId}
-use Rattle.mig_base.specs.declared.ids.EdgeId.{EdgeId}
-use Rattle.std.proofs.lemmas.Option.{some_pair_parts}
-use Rattle.mig_board.specs.Colouring.{Colouring, Joins, HasColour, Leads, IsMissing, IsPresent, IsProper}
-use Rattle.mig_board.specs.Walk.{Step, IsWalk, end_of, next_of, backwards, IsNodeOf, IsEdgeOf, WalkLaw, WalksTo, nodes_of}
+use Rattle.mig_board.proofs.Common.{All, All-cons, All-contains, All-nil, AllPairs, Colour, Colouring, Contains-from_any, CopyId, EdgeId, HasColour, IsDistinct-cons, IsEdgeOf}
 use Rattle.std.specs.List.{IsDistinct}
-use Rattle.std.proofs.lemmas.Map.Steps.{length-le_from_distinct_below}
-use Rattle.std.proofs.lemmas.Map.Keys.{IsDistinct-cons}
-use Rattle.std.proofs.lemmas.List.Elements.{All-cons, All-nil}
-use Rattle.mig_base.proofs.SameIds.{same_copy}
+use Rattle.mig_board.proofs.Common.{IsMissing, IsNodeOf, IsPresent, IsProper, IsWalk, Joins, Leads, List, Option, Some, Step, WalkLaw, WalksTo, [], ap, append-nil, append_assoc, arith, backwards}
+use Rattle.mig_board.proofs.Common.{end_of, eqb, eqb-true, false, get_or, inl, inr, length, length-append, length-le_from_distinct_below, ne_eqb, next_of, nodes_of, recursion_from_All, refl}
+use Rattle.mig_board.proofs.Common.{same_copy, some_pair_parts, subst, suc, sym, zero, ℕ, ◌++◌, ◌+◌, ◌<◌, ◌∙◌, ◌∷◌, ◌≡◌, ◌≢◌, ◌⊎◌}
 
 -- a walk that may still go on
 abbrev pub IsPath : Colouring → CopyId → Colour → Colour → List Step → Type 0

@@ -1,24 +1,20 @@
 -- The end of the search.
-use Rattle.mig_base.proofs.Common.{◌≡◌, ℕ, ◌<◌, ◌≤◌, true, not, ◌||◌, eqb, eq-eqb, List, [], ◌∷◌, length, get_or, refl, ap, arith, inl, nat_tests, get_or-le-sum_by, eqb-true, Transfers, Trip, touches}
-use Rattle.mig_base.proofs.Common.{load, Candidate, ByDisk, ByTriple, ByComponent}
-use Rattle.mig_base.specs.Bounding.{place, IsBelow, IsBest}
-use Rattle.mig_base.proofs.Components.{has_true, has_at}
-use Rattle.mig_base.proofs.Counting.{one}
-use Rattle.mig_graph.specs.Graphs.{IsGraph}
-use Rattle.mig_bounds.specs.Labels.{labelled, IsLabelling}
-use Rattle.mig_bounds.specs.Search.{IsBestBelow, NoneTakesPart}
+use Rattle.mig_bounds.proofs.Common.{ByComponent, ByDisk, BySide, ByTriple, Candidate, IsBelow, IsBest, IsBestBelow, IsGraph, IsLabelling, List, NoneTakesPart, Transfers, Trip, [], ap, arith}
+use Rattle.mig_bounds.proofs.Common.{candidate_joint, eq-eqb, eqb, eqb-true, false, get_or, get_or-le-sum_by, has_at, has_true, inl, is_duplex, joint_candidate, labelled, length, load, nat_tests}
+use Rattle.mig_bounds.proofs.Common.{not, one, place, refl, set, touches, true, ℕ, ◌<◌, ◌||◌, ◌∷◌, ◌≡◌, ◌≤◌}
 
 -- every candidate is below the end
 all_below : (c : Candidate) → IsBelow (place c) (3 ∷ [])
 all_below (ByDisk v) = inl (omega arith)
+all_below (BySide v side) = inl (omega arith)
 all_below (ByTriple a b c) = inl (omega arith)
 all_below (ByComponent set) = inl (omega arith)
 
-pub IsBest-whole : (graph : Transfers) (best : Candidate) (rounds : ℕ) → IsBestBelow graph best rounds (3 ∷ []) → IsBest graph best
-IsBest-whole graph best rounds b = record {
-  candidate = b.candidate;
-  greatest = λ c cand. omega (arith, b.greatest c cand (all_below c), b.value_is);
-  first = λ c cand below. omega (arith, b.first c cand below, b.value_is);
+pub IsBest-whole : (graph : Transfers) (best : Candidate) (rounds : ℕ) → is_duplex graph.disks ≡ false → IsBestBelow graph best rounds (3 ∷ []) → IsBest graph best
+IsBest-whole graph best rounds joint b = record {
+  candidate = candidate_joint graph joint best b.candidate;
+  greatest = λ c cand. omega (arith, b.greatest c (joint_candidate graph joint c cand) (all_below c), b.value_is);
+  first = λ c cand below. omega (arith, b.first c (joint_candidate graph joint c cand) below, b.value_is);
 }
 
 -- a label that some disk has is that of a disk

@@ -1,11 +1,7 @@
 -- What is counted for each label: the limits of its disks, and the moves between them.
-use Rattle.mig_base.proofs.Common.{◌≡◌, ℕ, ◌+◌, ◌<◌, ◌≤◌, Bool, true, false, cond, eqb, eq-eqb, List, length, filter, Some, slice_get, take, get_or, set, sym, ap, ◌∙◌, arith, inl, inr, count_by}
-use Rattle.mig_base.proofs.Common.{sum_by, range_with_len, cases_eq, ne_eqb, length-set, get_or-set_same, get_or-set_other, take_more, sum_by_push, count_by-le-length, slice_get_within}
-use Rattle.mig_base.proofs.Common.{get_or_from_slice_get, Transfers, Trip, limit, limit_sum}
-use Rattle.mig_base.specs.declared.limits.TheConstants.{MAX_LIMIT}
-use Rattle.mig_base.proofs.Counting.{one, sum_by-filter}
-use Rattle.mig_base.proofs.Elements.{range_more}
-use Rattle.mig_bounds.specs.Components.{AreLimitSums, AreInsides}
+use Rattle.mig_bounds.proofs.Common.{AreInsides, AreLimitSums, Bool, List, MAX_LIMIT, Some, Transfers, Trip, ap, arith, cases_eq, cond, count_by, count_by-le-length, eq-eqb, eqb, false, filter}
+use Rattle.mig_bounds.proofs.Common.{get_or, get_or-set_other, get_or-set_same, get_or_from_slice_get, inl, inr, length, length-set, limit, limit_sum, ne_eqb, one, range_more, range_with_len}
+use Rattle.mig_bounds.proofs.Common.{set, slice_get, slice_get_within, sum_by, sum_by-filter, sum_by_push, sym, take, take_more, true, ℕ, ◌+◌, ◌<◌, ◌∙◌, ◌≡◌, ◌≤◌}
 
 -- a cell to which something was added
 pub after_add : (xs : List ℕ) (j k n w : ℕ) → j < length xs → n ≡ get_or xs j 0 + w → get_or (set xs j n) k 0 ≡ get_or xs k 0 + cond (eqb j k) w 0

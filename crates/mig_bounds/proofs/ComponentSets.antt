@@ -1,13 +1,8 @@
 -- The components are the sets of disks with one label.
-use Rattle.mig_base.proofs.Common.{◌≡◌, ◌⊎◌, ℕ, ◌+◌, ◌%◌, ◌<◌, ◌≤◌, Bool, true, false, not, ◌&&◌, ◌||◌, eqb, List, [], ◌∷◌, length, IsTrue, get_or, count_by, refl, sym, ap, ◌∙◌, arith, inl, inr}
-use Rattle.mig_base.proofs.Common.{subst, cases_lt, false≢true, eqb-true, nat_tests, get_or-le-sum_by, slice_get-get_or, Transfers, Trip, touches, load, takes_part, inside, is_inside, Candidate}
-use Rattle.mig_base.proofs.Common.{ByDisk, ByTriple, ByComponent, IsCandidate, value, limit_sum, has}
-use Rattle.mig_base.specs.Bounding.{place, IsBelow, IsClosed, IsPart, IsComponent}
-use Rattle.mig_base.proofs.Components.{AreLabels, IsComponent-class, has_true, has_filter, has_at, bool_same}
-use Rattle.mig_base.proofs.Counting.{one, sum_by-same_each}
-use Rattle.mig_graph.specs.Graphs.{IsGraph}
-use Rattle.mig_bounds.specs.Labels.{labelled, IsLabelling}
-use Rattle.mig_bounds.specs.Search.{IsBestBelow}
+use Rattle.mig_bounds.proofs.Common.{AreLabels, Bool, ByComponent, ByDisk, BySide, ByTriple, Candidate, IsBelow, IsBestBelow, IsClosed, IsComponent, IsComponent-class, IsGraph, IsJointCandidate}
+use Rattle.mig_bounds.proofs.Common.{IsLabelling, IsPart, IsTrue, List, Transfers, Trip, [], ap, arith, bool_same, cases_lt, count_by, eqb, eqb-true, false, false≢true, get_or, get_or-le-sum_by}
+use Rattle.mig_bounds.proofs.Common.{has, has_at, has_filter, has_true, inl, inr, inside, is_inside, labelled, length, limit_sum, load, nat_tests, not, one, place, refl, set, slice_get-get_or}
+use Rattle.mig_bounds.proofs.Common.{subst, sum_by-same_each, sym, takes_part, touches, true, value, ℕ, ◌%◌, ◌&&◌, ◌+◌, ◌<◌, ◌||◌, ◌∙◌, ◌∷◌, ◌≡◌, ◌≤◌, ◌⊎◌}
 use Rattle.mig_bounds.proofs.Steps.{IsBestBelow-moved, IsBestBelow-takes}
 use Rattle.mig_bounds.proofs.IncreasingLists.{has_all, has_head, first-le, same_increasing}
 
@@ -100,9 +95,10 @@ component_labelled graph labels (w ∷ rest) valid is component =
     })
 
 -- the components below the next place are those below this one, and that of this label
-pub below_next_component : (graph : Transfers) (labels : List ℕ) (c : Candidate) (r : ℕ) → IsGraph graph → IsLabelling graph labels (length graph.trips) → IsCandidate graph c → IsBelow (place c) (2 ∷ (r + 1) ∷ [])
+pub below_next_component : (graph : Transfers) (labels : List ℕ) (c : Candidate) (r : ℕ) → IsGraph graph → IsLabelling graph labels (length graph.trips) → IsJointCandidate graph c → IsBelow (place c) (2 ∷ (r + 1) ∷ [])
     → IsBelow (place c) (2 ∷ r ∷ []) ⊎ ((get_or labels r 0 ≡ r) × IsTrue (takes_part graph r) × (c ≡ ByComponent (labelled labels r)))
 below_next_component graph labels (ByDisk v) r valid is cand h = inl (inl (omega arith))
+below_next_component graph labels (BySide v side) r valid is cand h = inl (inl (omega arith))
 below_next_component graph labels (ByTriple x y z) r valid is cand h = inl (inl (omega arith))
 below_next_component graph labels (ByComponent set) r valid is cand h = elim h [
   | inl l ↦ absurd (omega (arith, l))
@@ -129,11 +125,11 @@ first_labelled graph labels r valid is there root part =
 
 -- no better component has this label
 pub IsBestBelow-keeps_label : (graph : Transfers) (labels : List ℕ) (best : Candidate) (rounds r : ℕ) → IsGraph graph → IsLabelling graph labels (length graph.trips)
-    → (get_or labels r 0 ≡ r → IsTrue (takes_part graph r) → IsCandidate graph (ByComponent (labelled labels r)) → value graph (ByComponent (labelled labels r)) ≤ rounds)
+    → (get_or labels r 0 ≡ r → IsTrue (takes_part graph r) → IsJointCandidate graph (ByComponent (labelled labels r)) → value graph (ByComponent (labelled labels r)) ≤ rounds)
     → IsBestBelow graph best rounds (2 ∷ r ∷ []) → IsBestBelow graph best rounds (2 ∷ (r + 1) ∷ [])
 IsBestBelow-keeps_label graph labels best rounds r valid is no_better before = IsBestBelow-moved graph best rounds (2 ∷ r ∷ []) (2 ∷ (r + 1) ∷ []) (λ c cand below. elim (below_next_component graph labels c r valid is cand below) [
   | inl old ↦ inl old
-  | inr found ↦ inr (let P : Candidate → Type 0 = λ d. IsCandidate graph d → value graph d ≤ rounds in subst P (sym found.2) (no_better found.0 found.1) cand)
+  | inr found ↦ inr (let P : Candidate → Type 0 = λ d. IsJointCandidate graph d → value graph d ≤ rounds in subst P (sym found.2) (no_better found.0 found.1) cand)
 ]) before
 
 -- a better one has

@@ -1,9 +1,6 @@
 -- Disks listed by their numbers.
-use Rattle.mig_base.proofs.Common.{◌≡◌, ℕ, ◌+◌, ◌<◌, Bool, true, false, cond, List, [], ◌∷◌, ◌++◌, filter, AllPairs, ap, ◌∙◌, arith, range_with_len, length-map, map-append, append-nil, filter-append}
-use Rattle.mig_base.proofs.Common.{numbers, IsDiskSet}
-use Rattle.mig_base.specs.declared.ids.DiskId.{DiskId}
-use Rattle.std.proofs.lemmas.List.{get_or-map}
-use Rattle.mig_base.proofs.Elements.{range_more}
+use Rattle.mig_bounds.proofs.Common.{AllPairs, Bool, DiskId, IsDiskSet, List, [], ap, append-nil, arith, cond, false, filter, filter-append, get_or-map, length-map, map-append, numbers}
+use Rattle.mig_bounds.proofs.Common.{range_more, range_with_len, true, ℕ, ◌++◌, ◌+◌, ◌<◌, ◌∙◌, ◌∷◌, ◌≡◌}
 
 -- the numbers that pass, up to one that does or doesn't
 pub filter_yes : (p : ℕ → Bool) (n : ℕ) → p n ≡ true → filter p (range_with_len 0 (n + 1)) ≡ filter p (range_with_len 0 n) ++ n ∷ []

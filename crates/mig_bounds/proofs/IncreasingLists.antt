@@ -1,6 +1,6 @@
 -- Lists of numbers in increasing order are told by what they have.
-use Rattle.mig_base.proofs.Common.{◌≡◌, ℕ, suc, zero, ◌<◌, ◌≤◌, Bool, true, false, ◌||◌, eqb, eq-eqb, List, [], ◌∷◌, All, AllPairs, refl, sym, ap, ◌∙◌, arith, inl, inr, subst, cases_eq, ne_eqb}
-use Rattle.mig_base.proofs.Common.{false≢true, eqb-true, All-head, All-tail, has}
+use Rattle.mig_bounds.proofs.Common.{All, All-head, All-tail, AllPairs, Bool, List, [], ap, arith, cases_eq, eq-eqb, eqb, eqb-true, false, false≢true, has, inl, inr, ne_eqb, refl, subst, suc}
+use Rattle.mig_bounds.proofs.Common.{sym, true, zero, ℕ, ◌<◌, ◌||◌, ◌∙◌, ◌∷◌, ◌≡◌, ◌≤◌}
 
 -- what holds for each element holds for one that the list has
 pub has_all : (P : ℕ → Type 0) (xs : List ℕ) (v : ℕ) → All P xs → has xs v ≡ true → P v

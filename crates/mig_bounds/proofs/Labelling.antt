@@ -1,9 +1,6 @@
 -- Labels after one more move.
-use Rattle.mig_base.proofs.Common.{◌≡◌, ◌≢◌, ℕ, ◌+◌, ◌<◌, cond, eqb, eq-eqb, List, length, Some, slice_get, get_or, sym, ap, ◌∙◌, arith, inl, inr, subst, cases_eq, cases_lt, ne_eqb, slice_get_within}
-use Rattle.mig_base.proofs.Common.{get_or_from_slice_get, Transfers, Trip, has}
-use Rattle.mig_base.specs.Bounding.{IsClosed}
-use Rattle.mig_graph.specs.Graphs.{IsGraph}
-use Rattle.mig_bounds.specs.Labels.{IsLabelling, Relabels}
+use Rattle.mig_bounds.proofs.Common.{IsClosed, IsGraph, IsLabelling, List, Relabels, Some, Transfers, Trip, ap, arith, cases_eq, cases_lt, cond, eq-eqb, eqb, get_or, get_or_from_slice_get, has}
+use Rattle.mig_bounds.proofs.Common.{inl, inr, length, ne_eqb, slice_get, slice_get_within, subst, sym, ℕ, ◌+◌, ◌<◌, ◌∙◌, ◌≡◌, ◌≢◌}
 use Rattle.mig_bounds.proofs.PairTables.{leaves_below, reaches_below}
 
 -- a disk has another label where it had this one

@@ -7,3 +7,5 @@ pub mod Labelling
 pub mod PairTables
 pub mod Pruning
 pub mod Steps
+pub mod Common
+pub mod SideSteps

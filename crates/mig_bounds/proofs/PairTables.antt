@@ -1,10 +1,7 @@
 -- A table that counts how many trips join each two disks.
-use Rattle.mig_base.proofs.Common.{◌≡◌, ◌≢◌, ℕ, ◌+◌, ◌*◌, ◌/◌, ◌<◌, ◌≤◌, true, false, ◌&&◌, ◌||◌, eqb, eq-eqb, List, length, Some, slice_get, take, get_or, set, sym, ap, ◌∙◌, arith, inl, inr, subst}
-use Rattle.mig_base.proofs.Common.{All, cases_eq, ne_eqb, nat_tests, length-set, get_or-set_same, get_or-set_other, take_more, length-take-le, sum_by_push, count_by-le-length, slice_get_within}
-use Rattle.mig_base.proofs.Common.{get_or_from_slice_get, mul-le-mul_right, Trip}
-use Rattle.std.proofs.lemmas.Nat.{div-mul-add}
-use Rattle.mig_base.proofs.Counting.{one, at_most_one}
-use Rattle.mig_bounds.specs.Pairs.{joins, between, CountsPairs}
+use Rattle.mig_bounds.proofs.Common.{All, CountsPairs, List, Some, Trip, ap, arith, at_most_one, between, cases_eq, count_by-le-length, div-mul-add, eq-eqb, eqb, false, get_or, get_or-set_other}
+use Rattle.mig_bounds.proofs.Common.{get_or-set_same, get_or_from_slice_get, inl, inr, joins, length, length-set, length-take-le, mul-le-mul_right, nat_tests, ne_eqb, one, set, slice_get}
+use Rattle.mig_bounds.proofs.Common.{slice_get_within, subst, sum_by_push, sym, take, take_more, true, ℕ, ◌&&◌, ◌*◌, ◌+◌, ◌/◌, ◌<◌, ◌||◌, ◌∙◌, ◌≡◌, ◌≢◌, ◌≤◌}
 
 -- a cell is within the table, and it is the cell of one pair
 pub cell_within : (n a b : ℕ) → a < n → b < n → a * n + b < n * n

@@ -1,12 +1,8 @@
 -- A triple is no better than its disks where some two of them aren't joined by a move.
-use Rattle.mig_base.proofs.Common.{◌≡◌, ◌≢◌, ◌⊎◌, ℕ, ◌+◌, ◌*◌, ◌/◌, ◌%◌, ◌<◌, ◌≤◌, ◌&&◌, ◌||◌, eqb, List, [], ◌∷◌, length, IsTrue, get_or, arith, inl, inr, nat_tests, cases_lt, div_ceil_times}
-use Rattle.mig_base.proofs.Common.{mul-le-mul_left, mul-le-mul_right, no_disk, Transfers, Trip, touches, load, inside, takes_part, Candidate, ByDisk, ByTriple, IsCandidate, value, limit, limit_sum}
-use Rattle.mig_base.proofs.Common.{set_value}
-use Rattle.mig_base.proofs.Counting.{one, sum_by-same_each, sum_by-add, sum_by-le_each, not_none}
-use Rattle.mig_base.proofs.Needed.{halved_value}
-use Rattle.mig_graph.specs.Graphs.{IsGraph}
-use Rattle.mig_bounds.specs.Pairs.{joins, between, AreTops, IsTooLittle}
-use Rattle.mig_bounds.specs.Search.{IsBestBelow}
+use Rattle.mig_bounds.proofs.Common.{AreTops, ByDisk, ByTriple, Candidate, IsBestBelow, IsGraph, IsJointCandidate, IsTooLittle, IsTrue, List, Transfers, Trip, [], arith, between, cases_lt}
+use Rattle.mig_bounds.proofs.Common.{disk_at, ends_positive, eqb, get_or, halved_value, inl, inr, inside, joins, length, limit, limit_sum, load, load_within_rounds, mul-le-mul_left}
+use Rattle.mig_bounds.proofs.Common.{mul-le-mul_right, nat_tests, no_disk, not_none, one, set, set_value, sum_by-add, sum_by-le_each, sum_by-same_each, takes_part, touches, value, ℕ, ◌%◌, ◌&&◌}
+use Rattle.mig_bounds.proofs.Common.{◌*◌, ◌+◌, ◌/◌, ◌<◌, ◌||◌, ◌∷◌, ◌≡◌, ◌≢◌, ◌≤◌, ◌⊎◌}
 use Rattle.mig_bounds.proofs.Steps.{inside_three_is}
 
 -- how many moves join two disks, and the disks' loads
@@ -51,11 +47,10 @@ half_covers rounds x y z sum i is odd last others = elim (cases_lt z (x + y)) [
 pub load_within : (graph : Transfers) (best : Candidate) (rounds v : ℕ) (rest : List ℕ) → IsGraph graph → IsBestBelow graph best rounds (1 ∷ rest) → v < length graph.disks → IsTrue (takes_part graph v) → load v graph.trips ≤ rounds * limit graph v
 load_within graph best rounds v rest kept before there part =
     let most = before.greatest (ByDisk v) (there, part) (inl (omega arith)) in
-    let some : 0 < limit graph v = omega (arith, (kept.disks_valid v no_disk there).0) in
-    omega (arith, (div_ceil_times (load v graph.trips) (limit graph v) some).0, mul-le-mul_right (limit graph v) most)
+    omega (arith, load_within_rounds (disk_at graph.disks v).limits v graph.trips (kept.disks_valid v no_disk there).0, mul-le-mul_right (limit graph v) most)
 
 -- no triple is better of which two disks aren't joined
-pub no_better_triple : (graph : Transfers) (best : Candidate) (rounds a b c : ℕ) (rest : List ℕ) → IsGraph graph → IsBestBelow graph best rounds (1 ∷ rest) → (between a b graph.trips ≡ 0) ⊎ ((between a c graph.trips ≡ 0) ⊎ (between b c graph.trips ≡ 0)) → IsCandidate graph (ByTriple a b c) → value graph (ByTriple a b c) ≤ rounds
+pub no_better_triple : (graph : Transfers) (best : Candidate) (rounds a b c : ℕ) (rest : List ℕ) → IsGraph graph → IsBestBelow graph best rounds (1 ∷ rest) → (between a b graph.trips ≡ 0) ⊎ ((between a c graph.trips ≡ 0) ⊎ (between b c graph.trips ≡ 0)) → IsJointCandidate graph (ByTriple a b c) → value graph (ByTriple a b c) ≤ rounds
 no_better_triple graph best rounds a b c rest kept before apart (ab, bc, there, part_a, part_b, part_c, odd) =
     let ts = graph.trips in
     let sum = limit_sum graph (a ∷ b ∷ c ∷ []) in
@@ -87,11 +82,11 @@ no_better_triple graph best rounds a b c rest kept before apart (ab, bc, there, 
     in_c = load_within graph best rounds c rest kept before there part_c
 
 -- no triple is better that begins with two disks that are joined too little
-pub no_better_third : (graph : Transfers) (best : Candidate) (tops : List ℕ) (rounds a b c : ℕ) (rest : List ℕ) → IsGraph graph → IsBestBelow graph best rounds (1 ∷ rest) → AreTops graph tops → IsTooLittle graph tops a b rounds → IsCandidate graph (ByTriple a b c) → value graph (ByTriple a b c) ≤ rounds
+pub no_better_third : (graph : Transfers) (best : Candidate) (tops : List ℕ) (rounds a b c : ℕ) (rest : List ℕ) → IsGraph graph → IsBestBelow graph best rounds (1 ∷ rest) → AreTops graph tops → IsTooLittle graph tops a b rounds → IsJointCandidate graph (ByTriple a b c) → value graph (ByTriple a b c) ≤ rounds
 no_better_third graph best tops rounds a b c rest kept before are little cand = elim little [
   | inl none ↦ no_better_triple graph best rounds a b c rest kept before (inl none) cand
   | inr few ↦ set_value-le graph (a ∷ b ∷ c ∷ []) rounds (
-      let low : (limit graph a + limit graph b + 1) / 2 ≤ limit_sum graph (a ∷ b ∷ c ∷ []) / 2 = omega (arith, (kept.disks_valid c no_disk cand.2).0) in
+      let low : (limit graph a + limit graph b + 1) / 2 ≤ limit_sum graph (a ∷ b ∷ c ∷ []) / 2 = omega (arith, ends_positive (disk_at graph.disks c).limits (kept.disks_valid c no_disk cand.2).0) in
       omega (
         arith,
         few,

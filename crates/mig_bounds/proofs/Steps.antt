@@ -1,15 +1,12 @@
 -- Steps of the search.
-use Rattle.mig_base.proofs.Common.{◌≡◌, ◌≢◌, ◌⊎◌, ℕ, ◌+◌, ◌*◌, ◌/◌, ◌%◌, min, ◌<◌, ◌≤◌, false, ◌&&◌, ◌||◌, eqb, List, [], ◌∷◌, All, IsTrue, get_or, refl, sym, ap, inl, inr, arith, subst, nat_tests}
-use Rattle.mig_base.proofs.Common.{cases_lt, div_ceil_times, mul-le-mul_left, Trip, is_inside, inside, Transfers, takes_part, Candidate, ByDisk, ByTriple, ByComponent, IsCandidate, value, limit_sum}
-use Rattle.mig_base.proofs.Common.{set_value}
-use Rattle.mig_base.specs.Bounding.{place, IsBelow}
-use Rattle.mig_base.proofs.Counting.{one, sum_by-same_each, sum_by-add}
-use Rattle.mig_bounds.specs.Pairs.{joins, between}
-use Rattle.mig_bounds.specs.Search.{IsBestBelow}
+use Rattle.mig_bounds.proofs.Common.{All, ByComponent, ByDisk, BySide, ByTriple, Candidate, IsBelow, IsBestBelow, IsJointCandidate, IsTrue, List, Transfers, Trip, [], ap, arith, between}
+use Rattle.mig_bounds.proofs.Common.{cases_lt, div_ceil_times, eqb, false, get_or, inl, inr, inside, is_inside, joins, limit_sum, min, mul-le-mul_left, nat_tests, one, place, refl, set}
+use Rattle.mig_bounds.proofs.Common.{set_value, subst, sum_by-add, sum_by-same_each, sym, takes_part, value, ℕ, ◌%◌, ◌&&◌, ◌*◌, ◌+◌, ◌/◌, ◌<◌, ◌||◌, ◌∷◌, ◌≡◌, ◌≢◌, ◌≤◌, ◌⊎◌}
 
 -- a candidate below the next place is below this one, or at it
 pub below_next : (c : Candidate) (x y z : ℕ) → IsBelow (place c) (1 ∷ x ∷ y ∷ (z + 1) ∷ []) → IsBelow (place c) (1 ∷ x ∷ y ∷ z ∷ []) ⊎ (c ≡ ByTriple x y z)
 below_next (ByDisk v) x y z h = inl (inl (omega arith))
+below_next (BySide v side) x y z h = inl (inl (omega arith))
 below_next (ByComponent set) x y z h = absurd (elim h [ inl l ↦ omega (arith, l) | inr r ↦ omega (arith, r.0) ])
 below_next (ByTriple p q r) x y z h = elim h [ inl l ↦ absurd (omega (arith, l)) | inr t ↦ third t.0 t.1 ]
   where
@@ -26,7 +23,7 @@ below_next (ByTriple p q r) x y z h = elim h [ inl l ↦ absurd (omega (arith, l
     third e t = elim t [ inl l ↦ inl (inr (e, inl l)) | inr u ↦ second e u.0 u.1 ]
 
 -- the candidates below a place are also those below another, but for some that are no better
-pub IsBestBelow-moved : (graph : Transfers) (best : Candidate) (rounds : ℕ) (from to : List ℕ) → ((c : Candidate) → IsCandidate graph c → IsBelow (place c) to → IsBelow (place c) from ⊎ (value graph c ≤ rounds)) → IsBestBelow graph best rounds from → IsBestBelow graph best rounds to
+pub IsBestBelow-moved : (graph : Transfers) (best : Candidate) (rounds : ℕ) (from to : List ℕ) → ((c : Candidate) → IsJointCandidate graph c → IsBelow (place c) to → IsBelow (place c) from ⊎ (value graph c ≤ rounds)) → IsBestBelow graph best rounds from → IsBestBelow graph best rounds to
 IsBestBelow-moved graph best rounds from to covered b = record {
   candidate = b.candidate;
   value_is = b.value_is;
@@ -35,14 +32,14 @@ IsBestBelow-moved graph best rounds from to covered b = record {
 }
 
 -- no better triple stands here
-pub IsBestBelow-keeps : (graph : Transfers) (best : Candidate) (rounds x y z : ℕ) → (IsCandidate graph (ByTriple x y z) → value graph (ByTriple x y z) ≤ rounds) → IsBestBelow graph best rounds (1 ∷ x ∷ y ∷ z ∷ []) → IsBestBelow graph best rounds (1 ∷ x ∷ y ∷ (z + 1) ∷ [])
+pub IsBestBelow-keeps : (graph : Transfers) (best : Candidate) (rounds x y z : ℕ) → (IsJointCandidate graph (ByTriple x y z) → value graph (ByTriple x y z) ≤ rounds) → IsBestBelow graph best rounds (1 ∷ x ∷ y ∷ z ∷ []) → IsBestBelow graph best rounds (1 ∷ x ∷ y ∷ (z + 1) ∷ [])
 IsBestBelow-keeps graph best rounds x y z no_better b = IsBestBelow-moved graph best rounds (1 ∷ x ∷ y ∷ z ∷ []) (1 ∷ x ∷ y ∷ (z + 1) ∷ []) (λ c is below. elim (below_next c x y z below) [
   | inl old ↦ inl old
-  | inr same ↦ inr (let P : Candidate → Type 0 = λ d. IsCandidate graph d → value graph d ≤ rounds in subst P (sym same) no_better is)
+  | inr same ↦ inr (let P : Candidate → Type 0 = λ d. IsJointCandidate graph d → value graph d ≤ rounds in subst P (sym same) no_better is)
 ]) b
 
 -- a better candidate comes next
-pub IsBestBelow-takes : (graph : Transfers) (best next : Candidate) (rounds more : ℕ) (from to : List ℕ) → IsCandidate graph next → more ≡ value graph next → rounds < more → ((c : Candidate) → IsCandidate graph c → IsBelow (place c) to → IsBelow (place c) from ⊎ (c ≡ next)) → ((c : Candidate) → IsBelow (place c) (place next) → IsBelow (place c) from) → IsBestBelow graph best rounds from → IsBestBelow graph next more to
+pub IsBestBelow-takes : (graph : Transfers) (best next : Candidate) (rounds more : ℕ) (from to : List ℕ) → IsJointCandidate graph next → more ≡ value graph next → rounds < more → ((c : Candidate) → IsJointCandidate graph c → IsBelow (place c) to → IsBelow (place c) from ⊎ (c ≡ next)) → ((c : Candidate) → IsBelow (place c) (place next) → IsBelow (place c) from) → IsBestBelow graph best rounds from → IsBestBelow graph next more to
 IsBestBelow-takes graph best next rounds more from to is value_is better covered before b = record {
   candidate = is;
   value_is = value_is;
@@ -76,35 +73,38 @@ set_value-half graph set sum i is_sum is_inside some = rw (← is_sum, ← is_in
     positive h p = grind (arith, nat_tests)
 
 -- the disks below the next place are those below this one, and this one
-pub below_next_disk : (c : Candidate) (v : ℕ) → IsBelow (place c) (0 ∷ (v + 1) ∷ []) → IsBelow (place c) (0 ∷ v ∷ []) ⊎ (c ≡ ByDisk v)
-below_next_disk (ByDisk w) v h = elim h [
+pub below_next_disk : (graph : Transfers) (c : Candidate) (v : ℕ) → IsJointCandidate graph c → IsBelow (place c) (0 ∷ (v + 1) ∷ []) → IsBelow (place c) (0 ∷ v ∷ []) ⊎ (c ≡ ByDisk v)
+below_next_disk graph (ByDisk w) v is h = elim h [
   | inl l ↦ absurd (omega (arith, l))
   | inr t ↦ elim t.1 [
     | inl l ↦ elim (cases_lt w v) [ inl lt ↦ inl (inr (t.0, inl lt)) | inr ge ↦ inr (let same : w ≡ v = omega (arith, l, ge) in ap ByDisk same) ]
     | inr u ↦ absurd u.1
   ]
 ]
-below_next_disk (ByTriple p q r) v h = absurd (elim h [ inl l ↦ omega (arith, l) | inr t ↦ omega (arith, t.0) ])
-below_next_disk (ByComponent set) v h = absurd (elim h [ inl l ↦ omega (arith, l) | inr t ↦ omega (arith, t.0) ])
+below_next_disk graph (BySide w side) v is h = absurd is
+below_next_disk graph (ByTriple p q r) v is h = absurd (elim h [ inl l ↦ omega (arith, l) | inr t ↦ omega (arith, t.0) ])
+below_next_disk graph (ByComponent set) v is h = absurd (elim h [ inl l ↦ omega (arith, l) | inr t ↦ omega (arith, t.0) ])
 
 -- no candidate comes before the first disk
 pub none_below_first : (c : Candidate) → IsBelow (place c) (0 ∷ 0 ∷ []) → ⊥
 none_below_first (ByDisk w) h = elim h [ inl l ↦ omega (arith, l) | inr t ↦ elim t.1 [ inl l ↦ omega (arith, l) | inr u ↦ u.1 ] ]
+none_below_first (BySide w side) h = elim h [ inl l ↦ omega (arith, l) | inr t ↦ elim t.1 [ inl l ↦ omega (arith, l) | inr u ↦ u.1 ] ]
 none_below_first (ByTriple p q r) h = elim h [ inl l ↦ omega (arith, l) | inr t ↦ omega (arith, t.0) ]
 none_below_first (ByComponent set) h = elim h [ inl l ↦ omega (arith, l) | inr t ↦ omega (arith, t.0) ]
 
 -- where no disk before this one takes part, no candidate is below it
-pub none_below_disk : (graph : Transfers) (c : Candidate) (v : ℕ) → ((w : ℕ) → w < v → IsTrue (takes_part graph w) → ⊥) → IsCandidate graph c → IsBelow (place c) (0 ∷ v ∷ []) → ⊥
+pub none_below_disk : (graph : Transfers) (c : Candidate) (v : ℕ) → ((w : ℕ) → w < v → IsTrue (takes_part graph w) → ⊥) → IsJointCandidate graph c → IsBelow (place c) (0 ∷ v ∷ []) → ⊥
 none_below_disk graph (ByDisk w) v none is h = elim h [ inl l ↦ omega (arith, l) | inr t ↦ elim t.1 [ inl l ↦ none w l is.1 | inr u ↦ u.1 ] ]
+none_below_disk graph (BySide w side) v none is h = absurd is
 none_below_disk graph (ByTriple p q r) v none is h = elim h [ inl l ↦ omega (arith, l) | inr t ↦ omega (arith, t.0) ]
 none_below_disk graph (ByComponent set) v none is h = elim h [ inl l ↦ omega (arith, l) | inr t ↦ omega (arith, t.0) ]
 
 -- the first candidate of all
-pub IsBestBelow-starts : (graph : Transfers) (v rounds : ℕ) → ((w : ℕ) → w < v → IsTrue (takes_part graph w) → ⊥) → IsCandidate graph (ByDisk v) → rounds ≡ value graph (ByDisk v) → IsBestBelow graph (ByDisk v) rounds (0 ∷ (v + 1) ∷ [])
+pub IsBestBelow-starts : (graph : Transfers) (v rounds : ℕ) → ((w : ℕ) → w < v → IsTrue (takes_part graph w) → ⊥) → IsJointCandidate graph (ByDisk v) → rounds ≡ value graph (ByDisk v) → IsBestBelow graph (ByDisk v) rounds (0 ∷ (v + 1) ∷ [])
 IsBestBelow-starts graph v rounds none is value_is = record {
   candidate = is;
   value_is = value_is;
-  greatest = λ c cand below. elim (below_next_disk c v below) [
+  greatest = λ c cand below. elim (below_next_disk graph c v cand below) [
     | inl old ↦ absurd (none_below_disk graph c v none cand old)
     | inr same ↦ omega (arith, ap (value graph) same, value_is)
   ];
@@ -113,7 +113,7 @@ IsBestBelow-starts graph v rounds none is value_is = record {
 
 -- where this disk is no candidate, or no better
 pub IsBestBelow-keeps_disk : (graph : Transfers) (best : Candidate) (rounds v : ℕ) → value graph (ByDisk v) ≤ rounds → IsBestBelow graph best rounds (0 ∷ v ∷ []) → IsBestBelow graph best rounds (0 ∷ (v + 1) ∷ [])
-IsBestBelow-keeps_disk graph best rounds v no_better b = IsBestBelow-moved graph best rounds (0 ∷ v ∷ []) (0 ∷ (v + 1) ∷ []) (λ c is below. elim (below_next_disk c v below) [
+IsBestBelow-keeps_disk graph best rounds v no_better b = IsBestBelow-moved graph best rounds (0 ∷ v ∷ []) (0 ∷ (v + 1) ∷ []) (λ c is below. elim (below_next_disk graph c v is below) [
   | inl old ↦ inl old
   | inr same ↦ inr (omega (arith, ap (value graph) same, no_better))
 ]) b
@@ -121,6 +121,7 @@ IsBestBelow-keeps_disk graph best rounds v no_better b = IsBestBelow-moved graph
 -- the triples below the next pair are those below this one, and those that begin with it
 pub below_next_pair : (c : Candidate) (x y : ℕ) → IsBelow (place c) (1 ∷ x ∷ (y + 1) ∷ []) → IsBelow (place c) (1 ∷ x ∷ y ∷ []) ⊎ ((z : ℕ) × (c ≡ ByTriple x y z))
 below_next_pair (ByDisk v) x y h = inl (inl (omega arith))
+below_next_pair (BySide v side) x y h = inl (inl (omega arith))
 below_next_pair (ByComponent set) x y h = absurd (elim h [ inl l ↦ omega (arith, l) | inr r ↦ omega (arith, r.0) ])
 below_next_pair (ByTriple p q r) x y h = elim h [ inl l ↦ absurd (omega (arith, l)) | inr t ↦ first t.0 t.1 ]
   where
@@ -134,8 +135,8 @@ below_next_pair (ByTriple p q r) x y h = elim h [ inl l ↦ absurd (omega (arith
     first e t = elim t [ inl l ↦ inl (inr (e, inl l)) | inr u ↦ second e u.0 u.1 ]
 
 -- no triple that begins with these two is better
-pub IsBestBelow-skips : (graph : Transfers) (best : Candidate) (rounds x y : ℕ) → ((z : ℕ) → IsCandidate graph (ByTriple x y z) → value graph (ByTriple x y z) ≤ rounds) → IsBestBelow graph best rounds (1 ∷ x ∷ y ∷ []) → IsBestBelow graph best rounds (1 ∷ x ∷ (y + 1) ∷ [])
+pub IsBestBelow-skips : (graph : Transfers) (best : Candidate) (rounds x y : ℕ) → ((z : ℕ) → IsJointCandidate graph (ByTriple x y z) → value graph (ByTriple x y z) ≤ rounds) → IsBestBelow graph best rounds (1 ∷ x ∷ y ∷ []) → IsBestBelow graph best rounds (1 ∷ x ∷ (y + 1) ∷ [])
 IsBestBelow-skips graph best rounds x y no_better b = IsBestBelow-moved graph best rounds (1 ∷ x ∷ y ∷ []) (1 ∷ x ∷ (y + 1) ∷ []) (λ c is below. elim (below_next_pair c x y below) [
   | inl old ↦ inl old
-  | inr same ↦ inr (let P : Candidate → Type 0 = λ d. IsCandidate graph d → value graph d ≤ rounds in subst P (sym same.1) (no_better same.0) is)
+  | inr same ↦ inr (let P : Candidate → Type 0 = λ d. IsJointCandidate graph d → value graph d ≤ rounds in subst P (sym same.1) (no_better same.0) is)
 ]) b

@@ -2,3 +2,4 @@ pub mod Components
 pub mod Labels
 pub mod Pairs
 pub mod Search
+pub mod Sides

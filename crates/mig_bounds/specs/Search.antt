@@ -1,7 +1,7 @@
 -- A search of the candidates in their order.
 use Rattle.std.specs.Prelude.{◌≡◌, ℕ, ◌<◌, ◌≤◌, ◌∷◌, [], IsTrue, List, Option, MatchOption}
 use Rattle.mig_base.specs.Transfers.{Transfers, takes_part}
-use Rattle.mig_base.specs.Bounding.{Candidate, ByDisk, ByTriple, IsCandidate, value, place, IsBelow}
+use Rattle.mig_base.specs.Bounding.{Candidate, ByDisk, ByTriple, IsJointCandidate, value, place, IsBelow}
 use Rattle.mig_bounds.specs.declared.best.BestSmall.{BestSmall}
 use Rattle.mig_bounds.specs.declared.best.SmallSet.{SmallSet}
 use Rattle.mig_bounds.specs.declared.best.SmallSet.TheVariants.{Disk, Triple}
@@ -13,10 +13,10 @@ candidate_of (Triple a b c) = ByTriple a.0 b.0 c.0
 
 -- the first best of the candidates below a place, and its value
 pub record IsBestBelow (graph : Transfers) (best : Candidate) (rounds : ℕ) (upto : List ℕ) : Type 0 where
-  pub candidate : IsCandidate graph best
+  pub candidate : IsJointCandidate graph best
   pub value_is : rounds ≡ value graph best
-  pub greatest : (c : Candidate) → IsCandidate graph c → IsBelow (place c) upto → value graph c ≤ rounds
-  pub first : (c : Candidate) → IsCandidate graph c → IsBelow (place c) (place best) → value graph c < rounds
+  pub greatest : (c : Candidate) → IsJointCandidate graph c → IsBelow (place c) upto → value graph c ≤ rounds
+  pub first : (c : Candidate) → IsJointCandidate graph c → IsBelow (place c) (place best) → value graph c < rounds
 
 -- the same of disks and triples
 abbrev pub IsBestSmall : Transfers → BestSmall → List ℕ → Type 0

@@ -1,6 +1,6 @@
 //! The best candidate so far.
 
-use mig_base::DiskId;
+use mig_base::{DiskId, Side};
 
 /// A disk or a triple of disks.
 #[derive(Clone, Copy)]
@@ -27,5 +27,14 @@ pub enum Witness {
 #[derive(Clone, Copy)]
 pub struct BestWitness {
     pub witness: Witness,
+    pub value: u32,
+}
+
+/// The first of the best sides that a search has met, its load, and its value in rounds.
+#[derive(Clone, Copy)]
+pub struct BestSide {
+    pub disk: DiskId,
+    pub side: Side,
+    pub load: u32,
     pub value: u32,
 }

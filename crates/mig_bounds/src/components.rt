@@ -1,5 +1,6 @@
 //! Components, and the best of them.
-ghost use Rattle.std.specs.Prelude.{◌≡◌, ◌+◌, ◌<◌, ◌∷◌, [], length, IfOk};
+ghost use Rattle.std.specs.Prelude.{◌≡◌, ◌+◌, ◌<◌, ◌∷◌, [], length, IfOk, false};
+ghost use Rattle.mig_base.specs.InputLists.{is_duplex};
 ghost use Rattle.mig_graph.specs.Graphs.{IsGraph};
 ghost use Rattle.mig_bounds.specs.Labels.{IsLabelling};
 ghost use Rattle.mig_bounds.specs.Search.{IsBestSmall};
@@ -24,7 +25,8 @@ impl Components {
 
     /// The components of the graph.
     pub fn of(alloc: Global, graph: &Graph) -> Result<Components, AllocError>
-        requires { IsGraph graph.now }
+        requires joint { is_duplex graph.now.disks ≡ false }
+        requires valid { IsGraph graph.now }
         ensures { IfOk result (λ components. AreComponents graph.now components) }
     {
         let labels = labels_of(alloc, graph)?;
@@ -42,7 +44,8 @@ ghost use Rattle.mig_bounds.specs.Components.{AreLimitSums, AreInsides, AreCompo
 
 /// For each label, the sum of the limits of the disks that have it.
 fn limit_sums(alloc: Global, graph: &Graph, labels: &[u32]) -> Result<Vec<u32>, AllocError>
-    requires { IsLabelling graph.now labels.now (length graph.now.trips) }
+    requires joint { is_duplex graph.now.disks ≡ false }
+    requires labelling { IsLabelling graph.now labels.now (length graph.now.trips) }
     ensures { IfOk result (λ sums. AreLimitSums graph.now labels.now (length graph.now.disks) sums.items) }
 {
     let mut sums = vec![in alloc; 0; labels.len()]?;

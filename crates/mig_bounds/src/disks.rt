@@ -1,5 +1,6 @@
 //! The best disk.
-ghost use Rattle.std.specs.Prelude.{◌+◌, ◌<◌, length};
+ghost use Rattle.std.specs.Prelude.{◌+◌, ◌<◌, length, ◌≡◌, false};
+ghost use Rattle.mig_base.specs.InputLists.{is_duplex};
 ghost use Rattle.mig_graph.specs.Graphs.{IsGraph};
 ghost use Rattle.mig_bounds.specs.Search.{IsBestDisk};
 
@@ -7,8 +8,9 @@ use crate::best::{BestSmall, SmallSet};
 use mig_base::DiskId;
 use mig_graph::Graph;
 
-/// The first disk of the greatest value, where some disk has a load.
+/// The first disk of the greatest value by joint limits, where some disk has a load.
 pub fn best_disk(graph: &Graph) -> Option<BestSmall>
+    requires { is_duplex graph.now.disks ≡ false }
     ensures best { IsBestDisk graph.now result (length graph.now.disks) }
     ensures valid { IsGraph graph.now }
 {
@@ -21,6 +23,7 @@ pub fn best_disk(graph: &Graph) -> Option<BestSmall>
 
 /// The disk, if it has a load and a greater value than the best disk before it.
 fn better_disk(graph: &Graph, disk: u32, best: Option<BestSmall>) -> Option<BestSmall>
+    requires joint { is_duplex graph.now.disks ≡ false }
     requires there { disk < length graph.now.disks }
     requires before { IsBestDisk graph.now best disk }
     ensures { IsBestDisk graph.now result (disk + 1) }

@@ -7,6 +7,7 @@ mod components;
 mod disks;
 mod labels;
 mod pairs;
+mod sides;
 mod triples;
 
 pub use bounds::best_bound;

@@ -1,5 +1,6 @@
 //! How many moves join two disks.
-ghost use Rattle.std.specs.Prelude.{◌≡◌, ◌+◌, ◌<◌, ◌≤◌, ◌↔◌, ℕ, length, slice_index, slice_set, IfOk, IsTrue};
+ghost use Rattle.std.specs.Prelude.{◌≡◌, ◌+◌, ◌<◌, ◌≤◌, ◌↔◌, ℕ, length, slice_index, slice_set, IfOk, IsTrue, false};
+ghost use Rattle.mig_base.specs.InputLists.{is_duplex};
 ghost use Rattle.mig_graph.specs.Graphs.{IsGraph};
 ghost use Rattle.mig_bounds.specs.Pairs.{between, IsPairTable, AreTops, IsTooLittle};
 
@@ -81,6 +82,7 @@ pub fn is_too_little(
     b: u32,
     rounds: u32,
 ) -> bool
+    requires joint { is_duplex graph.now.disks ≡ false }
     requires table { IsPairTable graph.now pairs.now }
     requires tops { AreTops graph.now tops.now }
     requires a_there { a < length graph.now.disks }

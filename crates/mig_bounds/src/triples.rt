@@ -1,5 +1,6 @@
 //! The best triple.
-ghost use Rattle.std.specs.Prelude.{◌≡◌, ◌+◌, ◌*◌, ◌<◌, ◌≤◌, ◌∷◌, [], length, IsTrue, ◌↔◌};
+ghost use Rattle.std.specs.Prelude.{◌≡◌, ◌+◌, ◌*◌, ◌<◌, ◌≤◌, ◌∷◌, [], length, IsTrue, ◌↔◌, false};
+ghost use Rattle.mig_base.specs.InputLists.{is_duplex};
 ghost use Rattle.mig_base.specs.Transfers.{inside, takes_part};
 ghost use Rattle.mig_base.specs.Bounding.{limit_sum};
 ghost use Rattle.mig_bounds.specs.Pairs.{IsPairTable, AreTops};
@@ -12,6 +13,7 @@ use mig_graph::Graph;
 
 /// The first best triple, if it is better.
 pub fn best_triple(graph: &Graph, pairs: &[u32], tops: &[u32], mut best: BestSmall) -> BestSmall
+    requires joint { is_duplex graph.now.disks ≡ false }
     requires table { IsPairTable graph.now pairs.now }
     requires tops { AreTops graph.now tops.now }
     requires before { IsBestSmall graph.now best (1 ∷ []) }
@@ -25,6 +27,7 @@ pub fn best_triple(graph: &Graph, pairs: &[u32], tops: &[u32], mut best: BestSma
 
 /// The first best triple with this disk as its first, if it is better.
 fn best_pair(graph: &Graph, pairs: &[u32], tops: &[u32], a: u32, mut best: BestSmall) -> BestSmall
+    requires joint { is_duplex graph.now.disks ≡ false }
     requires table { IsPairTable graph.now pairs.now }
     requires tops { AreTops graph.now tops.now }
     requires there { a < length graph.now.disks }
@@ -46,6 +49,7 @@ fn best_third(
     b: u32,
     mut best: BestSmall,
 ) -> BestSmall
+    requires joint { is_duplex graph.now.disks ≡ false }
     requires table { IsPairTable graph.now pairs.now }
     requires tops { AreTops graph.now tops.now }
     requires order { a < b }
@@ -64,6 +68,7 @@ fn best_third(
 
 /// The triple, if it is better: it isn't where no edge joins its third disk to one of the other two.
 fn better_triple(graph: &Graph, pairs: &[u32], a: u32, b: u32, c: u32, best: BestSmall) -> BestSmall
+    requires joint { is_duplex graph.now.disks ≡ false }
     requires table { IsPairTable graph.now pairs.now }
     requires order_ab { a < b }
     requires order_bc { b < c }
@@ -91,6 +96,7 @@ fn better_triple(graph: &Graph, pairs: &[u32], a: u32, b: u32, c: u32, best: Bes
 
 /// The sum of three disks' limits.
 fn sum_of_three(graph: &Graph, a: u32, b: u32, c: u32) -> u32
+    requires joint { is_duplex graph.now.disks ≡ false }
     requires a_there { a < length graph.now.disks }
     requires b_there { b < length graph.now.disks }
     requires c_there { c < length graph.now.disks }

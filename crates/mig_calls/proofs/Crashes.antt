@@ -1,15 +1,6 @@
 -- What a crash leaves of files in memory.
-use Rattle.std.proofs.Common.{◌≡◌, inl, inr, true, false, Bool, not, ℕ, List, [], ◌∷◌, ◌++◌, cond, sym, ◌∙◌, ap, subst}
-use Rattle.std.specs.Prelude.{IsTrue}
-use Rattle.std.proofs.lemmas.Bool.{cond-false}
-use Rattle.mig_calls.specs.declared.places.Place.{Place}
-use Rattle.mig_calls.specs.declared.file_bytes.Byte.{Byte}
-use Rattle.mig_calls.specs.declared.mem_disk.Step.TheVariants.{Crashed}
-use Rattle.mig_calls.specs.declared.pick.Pick.{Pick}
-use Rattle.mig_calls.specs.FileBytes.{picked}
-use Rattle.mig_calls.specs.Files.{IsSettledAt}
-use Rattle.mig_calls.specs.MemFiles.{FileMoment, takes_old, first_or, left_file}
-use Rattle.mig_calls.specs.Memory.{Moment, Memory, Fits, FitsOne, MayHold, MayLeave, after_step, after, reads_of, mem_state, mem_is_state}
+use Rattle.mig_calls.proofs.Common.{Bool, Byte, Crashed, FileMoment, Fits, FitsOne, IsSettledAt, IsTrue, List, MayHold, MayLeave, Memory, Moment, Pick, Place, [], after, after_step, ap, cond}
+use Rattle.mig_calls.proofs.Common.{cond-false, false, first_or, inl, inr, left_file, mem_is_state, mem_state, not, picked, reads_of, subst, sym, takes_old, true, ℕ, ◌++◌, ◌∙◌, ◌∷◌, ◌≡◌}
 use Rattle.mig_calls.proofs.Disks.{after-push}
 
 -- what is left under a name may be left

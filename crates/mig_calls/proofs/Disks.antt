@@ -1,15 +1,6 @@
 -- What steps make of the lists that are kept.
-use Rattle.std.proofs.Common.{◌≡◌, List, [], ◌∷◌, ◌++◌, map, refl, sym, ◌∙◌, ap}
-use Rattle.std.proofs.lemmas.List.{map-append}
-use Rattle.std.proofs.lemmas.List.Sums.{fold-append}
-use Rattle.mig_calls.specs.declared.places.Place.{Place}
-use Rattle.mig_calls.specs.declared.mem_disk.Step.{Step}
-use Rattle.mig_calls.specs.declared.mem_disk.Step.TheVariants.{Changed, Named, Crashed}
-use Rattle.mig_calls.specs.declared.mem_file.Change.{Change}
-use Rattle.mig_calls.specs.declared.pick.Pick.{Pick}
-use Rattle.mig_calls.specs.declared.pick.Pick.TheVariants.{Old, New, Front, Back, Ones}
-use Rattle.mig_calls.specs.MemFiles.{FileMoment, Seen, no_file, place_of, look, change_at, on_file, changed, with_name, crashed}
-use Rattle.mig_calls.specs.Memory.{Moment, after_step, blank, after, IsDisk}
+use Rattle.mig_calls.proofs.Common.{Back, Change, Changed, Crashed, FileMoment, Front, IsDisk, List, Moment, Named, New, Old, Ones, Pick, Place, Seen, Step, [], after, after_step, ap, blank}
+use Rattle.mig_calls.proofs.Common.{change_at, changed, crashed, fold-append, look, map, map-append, no_file, on_file, place_of, refl, sym, with_name, ◌++◌, ◌∙◌, ◌∷◌, ◌≡◌}
 use Rattle.mig_calls.proofs.FileLists.{look-map, places-map, look-push}
 
 pub after-push : (steps : List Step) (step : Step) → after (steps ++ step ∷ []) ≡ after_step (after steps) step

@@ -1,20 +1,10 @@
 -- Files that are held in a list.
-use Rattle.std.proofs.Common.{◌≡◌, inl, inr, cond, ℕ, zero, suc, ◌+◌, ◌<◌, ◌≤◌, true, false}
-use Rattle.std.proofs.Common.{List, [], ◌∷◌, ◌++◌, length, get_or, set, take, drop, map, Some, Result, Ok, Err, OnOk, OnErr, refl, sym, ◌∙◌, ap, subst, arith}
-use Rattle.std.specs.List.{Contains, slice_get}
-use Rattle.std.proofs.lemmas.Option.{slice_get_within, get_or_from_slice_get}
-use Rattle.std.proofs.lemmas.List.Elements.{Contains-get_or}
-use Rattle.std.proofs.lemmas.Bool.{cases_Bool, cond-true, cond-false, false≢true}
-use Rattle.std.proofs.lemmas.List.{length-map, get_or-map, map-set}
-use Rattle.std.proofs.lemmas.List.Edits.{map_over_more}
+use Rattle.mig_calls.proofs.Common.{AreDifferent, Contains, Contains-get_or, Err, FileMoment, List, MemFile, Ok, OnErr, OnOk, Place, Result, Seen, Some, [], ap, arith, cases_Bool, change_at}
+use Rattle.mig_calls.proofs.Common.{cond, cond-false, cond-true, drop, false, false≢true, get_or, get_or_from_slice_get, inl, inr, is_place, length, length-map, length-take, look, map, map-set}
+use Rattle.mig_calls.proofs.Common.{map-set_same, map_over_more, moment_of, no_file, on_file, place_of, refl, seen_all, seen_of, set, slice_get, slice_get_within, subst, suc, sym, take, true}
+use Rattle.mig_calls.proofs.Common.{zero, ℕ, ◌++◌, ◌+◌, ◌<◌, ◌∙◌, ◌∷◌, ◌≡◌, ◌≤◌}
+use Rattle.std.proofs.lemmas.List.{get_or-map}
 use Rattle.std.proofs.Math.ListN as listn
-use Rattle.std.proofs.Math.ListN.{length-take}
-use Rattle.std.proofs.Math.Seq.{map-set_same}
-use Rattle.mig_base.specs.InputLists.{AreDifferent}
-use Rattle.mig_calls.specs.declared.places.Place.{Place}
-use Rattle.mig_calls.specs.Places.{is_place}
-use Rattle.mig_calls.specs.declared.mem_file.MemFile.{MemFile}
-use Rattle.mig_calls.specs.MemFiles.{FileMoment, Seen, no_file, moment_of, seen_of, seen_all, place_of, look, change_at, on_file}
 use Rattle.mig_calls.proofs.PlaceTests.{is_place-same, is_place-true, is_place-other}
 
 -- the first file of a place

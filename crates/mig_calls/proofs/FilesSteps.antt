@@ -1,7 +1,6 @@
 -- One change of files after another.
-use Rattle.std.proofs.Common.{◌≡◌, ◌⊎◌, inl, inr, ◌≤◌, ℕ, Bool, Result, Ok, Err, OnOk, OnErr, ◌∙◌, arith}
-use Rattle.mig_calls.specs.declared.places.Place.{Place}
-use Rattle.mig_calls.specs.Files.{Files, FilesState, IsLeftFilesBut, FilesChange, FilesLook, KeepsFlags, TouchesFile, IsWithin}
+use Rattle.mig_calls.proofs.Common.{Bool, Err, Files, FilesChange, FilesLook, FilesState, IsLeftFilesBut, IsWithin, KeepsFlags, Ok, OnErr, OnOk, Place, Result, TouchesFile, arith, inl, inr, ℕ}
+use Rattle.mig_calls.proofs.Common.{◌∙◌, ◌≡◌, ◌≤◌, ◌⊎◌}
 
 module _ {P : Place → ℕ → Type 0} {a b c : FilesState} (first : FilesChange P P a b) (second : FilesChange P P b c) where
   back_two : (files : Files) → IsLeftFilesBut P b files → IsLeftFilesBut P a files

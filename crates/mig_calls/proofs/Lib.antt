@@ -4,3 +4,4 @@ pub mod Disks
 pub mod FilesSteps
 pub mod MemorySteps
 pub mod Crashes
+pub mod Common

@@ -1,22 +1,9 @@
 -- What steps change of files in memory.
-use Rattle.std.proofs.Common.{◌≡◌, ◌⊎◌, inl, inr, cond, ◌+◌, ◌-◌, ◌<◌, ◌≤◌, ◌&&◌, Bool, true, false, not, ℕ}
-use Rattle.std.proofs.Common.{List, [], ◌∷◌, ◌++◌, Option, length, refl, sym, ◌∙◌, ap, subst, arith, length-append}
-use Rattle.std.specs.Prelude.{nat_lt, slice_get, slice_index}
-use Rattle.std.proofs.Math.Bool.{and-false}
-use Rattle.std.proofs.lemmas.Bool.{cases_lt, cases_Bool, cond-true, cond-false, and_from, false≢true, lt-ltb, le-ltb}
-use Rattle.std.proofs.lemmas.Option.{slice_get_past, slice_get-get_or}
-use Rattle.std.proofs.lemmas.List.{take_all, take-append-le}
-use Rattle.mig_calls.specs.declared.places.Place.{Place}
-use Rattle.mig_calls.specs.declared.file_bytes.Byte.{Byte}
-use Rattle.mig_calls.specs.declared.mem_file.Change.{Change}
-use Rattle.mig_calls.specs.declared.mem_file.Change.TheVariants.{Made, Wrote, Synced, Lost, Emptied, Took}
-use Rattle.mig_calls.specs.declared.mem_disk.Step.{Step}
-use Rattle.mig_calls.specs.declared.mem_disk.Step.TheVariants.{Changed, Named}
-use Rattle.mig_calls.specs.Places.{is_place}
-use Rattle.mig_calls.specs.FileBytes.{written_over, with_written, byte_at, settled}
-use Rattle.mig_calls.specs.Files.{Files, SameFilesBut, NoByte, IsWithin, InFile, IsLeftFilesBut, FilesChange, FilesLook, FilesWrite, FileChange, KeepsFlags, TouchesFile, HasBytes}
-use Rattle.mig_calls.specs.MemFiles.{FileMoment, changed, after_write, with_name}
-use Rattle.mig_calls.specs.Memory.{Moment, Memory, Fits, MayHold, MayLeave, LeftSince, after_step, after, reads_of, mem_state}
+use Rattle.mig_calls.proofs.Common.{Bool, Byte, Change, Changed, Emptied, FileChange, FileMoment, Files, FilesChange, FilesLook, FilesWrite, Fits, HasBytes, InFile, IsLeftFilesBut, IsWithin}
+use Rattle.mig_calls.proofs.Common.{KeepsFlags, LeftSince, List, Lost, Made, MayHold, MayLeave, Memory, Moment, Named, NoByte, Option, Place, SameFilesBut, Step, Synced, Took, TouchesFile, Wrote}
+use Rattle.mig_calls.proofs.Common.{[], after, after_step, after_write, and-false, and_from, ap, arith, byte_at, cases_Bool, cases_lt, changed, cond, cond-false, cond-true, false, false≢true}
+use Rattle.mig_calls.proofs.Common.{inl, inr, is_place, le-ltb, length, length-append, lt-ltb, mem_state, nat_lt, not, reads_of, refl, settled, slice_get, slice_get-get_or, slice_get_past}
+use Rattle.mig_calls.proofs.Common.{slice_index, subst, sym, take-append-le, take_all, true, with_name, with_written, written_over, ℕ, ◌&&◌, ◌++◌, ◌+◌, ◌-◌, ◌<◌, ◌∙◌, ◌∷◌, ◌≡◌, ◌≤◌, ◌⊎◌}
 use Rattle.mig_calls.proofs.PlaceTests.{is_place-true, is_place-itself, is_place-other}
 use Rattle.mig_calls.proofs.Disks.{after-push}
 

@@ -1,21 +1,7 @@
 -- Whether files are the same, and lists of different files.
-use Rattle.std.proofs.Common.{◌≡◌, inl, inr, ◌++◌, ◌∷◌, [], ℕ, Bool, true, false, List, Option, Some, None, Contains, MatchOption, position, slice_get, is_some, cond, ap, sym, ◌∙◌, refl}
-use Rattle.std.specs.Bool.{Decides}
-use Rattle.std.specs.List.{list_any}
-use Rattle.std.specs.Str.{bytes_eq}
-use Rattle.std.specs.Cmp.{IsEquivalence}
-use Rattle.std.specs.Cmp.Lexicographic.{same_text, other_text}
-use Rattle.std.proofs.lemmas.Bool.{cases_Bool, false_from_ne_true, false≢true}
-use Rattle.std.proofs.lemmas.List.Quantifiers.{position-Some}
-use Rattle.std.proofs.lemmas.Map.Made.{AllPairs-from_IsDistinct}
-use Rattle.std.proofs.lemmas.Map.Views.{Contains-from_any, list_any-from_Contains}
-use Rattle.std.proofs.lemmas.Option.{slice_get-get_or}
-use Rattle.indexmap.specs.IndexSet.{insert_key, IsUnique, IndexSet}
-use Rattle.mig_base.specs.InputLists.{AreDifferent}
-use Rattle.mig_calls.specs.declared.places.Place.{Place}
-use Rattle.mig_calls.specs.declared.places.Place.TheVariants.{Disk, Journal, Copy}
-use Rattle.mig_calls.specs.Places.{is_place}
-use Rattle.mig_calls.specs.contracts.places.PlacePartialEq.TheImpl.{eq-value}
+use Rattle.mig_calls.proofs.Common.{AllPairs-from_IsDistinct, AreDifferent, Bool, Contains, Contains-from_any, Copy, Decides, Disk, IndexSet, IsEquivalence, IsUnique, Journal, List, MatchOption}
+use Rattle.mig_calls.proofs.Common.{None, Option, Place, Some, [], ap, bytes_eq, cases_Bool, cond, eq-value, false, false_from_ne_true, false≢true, inl, inr, insert_key, is_place, is_some}
+use Rattle.mig_calls.proofs.Common.{list_any, list_any-from_Contains, other_text, position, position-Some, refl, same_text, slice_get, slice_get-get_or, sym, true, ℕ, ◌++◌, ◌∙◌, ◌∷◌, ◌≡◌}
 
 pub is_place-true : (p q : Place) → is_place p q ≡ true → p ≡ q
 is_place-true (Disk d) (Disk e) is = ap Disk (same_text d e (sym is))

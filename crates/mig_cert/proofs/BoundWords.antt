@@ -1,31 +1,28 @@
 -- The line of a bound is read through its words.
-use Rattle.mig_base.proofs.Common.{◌≡◌, ◌≢◌, ◌<◌, ◌∷◌, ℕ, List, [], Option, Some, None, MatchOption, length, codes, arith, ap, sym, refl, subst, ◌∙◌, AllByRecursion, decimal, decimal_injective, Lists}
-use Rattle.mig_base.proofs.Common.{IsInput, no_disk, disk_name, words, FitsLine}
-use Rattle.mig_base.specs.declared.inputs.Disk.{Disk}
-use Rattle.mig_base.specs.Texts.{BoundLine, Empty, One, Many, bound_line}
-use Rattle.mig_base.proofs.Separators.{Lacks, same_words, Lacks-decimal}
-use Rattle.mig_base.proofs.Spelling.{lacks_test, same_place}
-use Rattle.mig_base.proofs.CertSpelling.{nothing_lacks, disk_words_lack}
-use Rattle.mig_text.proofs.LineWords.{words_of, line_is, words_are}
-use Rattle.mig_cert.specs.declared.bounds.Head.{Head}
-use Rattle.mig_cert.specs.BoundParts.{bound_words, line_of_head, limit_of}
+use Rattle.mig_cert.proofs.Common.{AllByRecursion, BoundLine, Disk, Empty, FitsLine, Head, IsInput, Lacks, Lacks-decimal, List, Lists, Many, MatchOption, None, One, OneSide, Option, Some, [], ap}
+use Rattle.mig_cert.proofs.Common.{arith, bound_line, bound_words, codes, decimal, decimal_injective, disk_name, disk_words_lack, lacks_test, length, limit_of, line_is, line_of_head, no_disk}
+use Rattle.mig_cert.proofs.Common.{nothing_lacks, refl, same_place, same_side_word, same_words, side_limit_of, side_word, side_words_lack, subst, sym, words, words_are, words_of, ℕ, ◌<◌, ◌∙◌}
+use Rattle.mig_cert.proofs.Common.{◌∷◌, ◌≡◌, ◌≢◌}
 
 module _ (input : Lists) where
   pub line_of_words : (b : BoundLine) → words (bound_words input b) ≡ bound_line input b
   line_of_words Empty = refl
   line_of_words (One d l v) = refl
+  line_of_words (OneSide d side l v) = refl
   line_of_words (Many n i v) = refl
 
   -- the first word, and the others
   bound_first : (b : BoundLine) → (rest : List (List ℕ)) × (bound_words input b ≡ codes "bound" ∷ rest)
   bound_first Empty = (codes "nothing" ∷ [], refl)
   bound_first (One d l v) = (codes "disk" ∷ disk_name input d ∷ decimal l ∷ decimal (limit_of input d) ∷ decimal v ∷ [], refl)
+  bound_first (OneSide d side l v) = (codes "side" ∷ disk_name input d ∷ side_word side ∷ decimal l ∷ decimal (side_limit_of input side d) ∷ decimal v ∷ [], refl)
   bound_first (Many n i v) = (codes "set" ∷ decimal n ∷ decimal i ∷ decimal v ∷ [], refl)
 
 module _ (input : Lists) (valid : IsInput input) where
   bound_words_lack : (b : BoundLine) → FitsLine input b → AllByRecursion (Lacks 32) (bound_words input b)
   bound_words_lack Empty fits = nothing_lacks input valid 32 (omega arith)
   bound_words_lack (One d l v) fits = disk_words_lack input valid 32 (omega arith) refl (record { 0 = d }) l v fits.0 fits.1 fits.2
+  bound_words_lack (OneSide d side l v) fits = side_words_lack input valid 32 (omega arith) refl (record { 0 = d }) side l v fits.0 fits.1 fits.2
   bound_words_lack (Many n i v) fits = (
     lacks_test 32 (codes "bound") refl,
     (
@@ -62,6 +59,12 @@ module _ (input : Lists) (valid : IsInput input) where
   same_of_words Empty Empty fa fb e = refl
   same_of_words (One d l v) (One d' l' v') fa fb e =
       let x : d ≡ d' = same_disk d d' fa.0 fb.0 cc in
+      let y : l ≡ l' = decimal_injective l l' (omega (arith, fa.1)) (omega (arith, fb.1)) cc in
+      let z : v ≡ v' = decimal_injective v v' (omega (arith, fa.2)) (omega (arith, fb.2)) cc in
+      cc
+  same_of_words (OneSide d side l v) (OneSide d' side' l' v') fa fb e =
+      let x : d ≡ d' = same_disk d d' fa.0 fb.0 cc in
+      let w : side ≡ side' = same_side_word side side' cc in
       let y : l ≡ l' = decimal_injective l l' (omega (arith, fa.1)) (omega (arith, fb.1)) cc in
       let z : v ≡ v' = decimal_injective v v' (omega (arith, fa.2)) (omega (arith, fb.2)) cc in
       cc

@@ -1,15 +1,9 @@
 -- How long the text of a certificate is.
-use Rattle.mig_base.proofs.Common.{◌≤◌, ◌<◌, ◌^◌, ◌+◌, ◌*◌, ℕ, List, [], ◌∷◌, ◌++◌, length, codes, ap, arith, decimal, length-decimal-le, Lists, IsInput, no_disk, FitsLine, disk_name, words}
-use Rattle.mig_base.proofs.Common.{text_of_lines, bound_set, class_word, CertText}
-use Rattle.mig_base.specs.declared.certs.Cert.{Cert}
-use Rattle.mig_base.specs.declared.certs.Class.{Class}
-use Rattle.mig_base.specs.declared.ids.DiskId.{DiskId}
-use Rattle.mig_base.specs.declared.limits.TheConstants.{MAX_FILE_BYTES}
+use Rattle.mig_cert.proofs.Common.{Bool, BoundLine, Cert, CertText, Class, DiskId, Empty, FitsLine, Incoming, IsInput, List, Lists, MAX_FILE_BYTES, Many, One, OneSide, Outgoing, Side, [], ap}
+use Rattle.mig_cert.proofs.Common.{arith, bound_line, bound_set, cert_title, class_word, codes, cond, decimal, disk_name, ends_small, false, is_duplex, length, length-decimal-le, limit_of}
+use Rattle.mig_cert.proofs.Common.{limits_at, line_of, member_lines, no_disk, refl, side_limit_of, side_small, side_word, text_append, text_cons, text_of_lines, true, word_cons, words, ℕ, ◌*◌}
+use Rattle.mig_cert.proofs.Common.{◌++◌, ◌+◌, ◌<◌, ◌^◌, ◌∷◌, ◌≡◌, ◌≤◌}
 use Rattle.mig_base.specs.declared.certs.Class.TheVariants as class
-use Rattle.mig_base.specs.Texts.{BoundLine, Empty, One, Many, bound_line, line_of}
-use Rattle.mig_text.proofs.PlanLengths.{text_cons, text_append, word_cons}
-use Rattle.mig_cert.specs.BoundParts.{limit_of}
-use Rattle.mig_cert.specs.Prints.{member_lines}
 use Rattle.mig_cert.proofs.CertPlaces.{Ascends, ascends_len, line_fits, set_ascends}
 
 digits_length : (n : ℕ) → n < 2 ^ 32 → length (decimal n) ≤ 10
@@ -18,9 +12,18 @@ digits_length n h = length-decimal-le 10 n (omega arith) (omega arith) (omega ar
 class_length : (k : Class) → length (words (codes "class" ∷ class_word k ∷ [])) ≤ 13
 class_length class.Even = omega arith
 class_length class.General = omega arith
+class_length class.Duplex = omega arith
+
+title_length : (b : Bool) → length (cond b (codes "migration-certificate 2") (codes "migration-certificate 1")) ≡ 23
+title_length true = refl
+title_length false = refl
+
+side_length : (side : Side) → length (side_word side) ≤ 3
+side_length Outgoing = omega arith
+side_length Incoming = omega arith
 
 module _ (input : Lists) (valid : IsInput input) where
-  bound_length : (b : BoundLine) → FitsLine input b → length (bound_line input b) ≤ 76
+  bound_length : (b : BoundLine) → FitsLine input b → length (bound_line input b) ≤ 80
   bound_length Empty fits = omega arith
   bound_length (One d l v) fits =
       let name : length (disk_name input d) ≤ 32 = (valid.named_disks d no_disk fits.0).short in
@@ -33,7 +36,22 @@ module _ (input : Lists) (valid : IsInput input) where
         word_cons (decimal (limit_of input d)) (decimal v) [],
         digits_length l fits.1,
         digits_length v fits.2,
-        digits_length (limit_of input d) (omega (arith, (valid.disk_ranges d no_disk fits.0).1)),
+        digits_length (limit_of input d) (omega (arith, ends_small _ (limits_at input valid d fits.0))),
+      )
+  bound_length (OneSide d side l v) fits =
+      let name : length (disk_name input d) ≤ 32 = (valid.named_disks d no_disk fits.0).short in
+      omega (
+        arith,
+        word_cons (codes "bound") (codes "side") (disk_name input d ∷ side_word side ∷ decimal l ∷ decimal (side_limit_of input side d) ∷ decimal v ∷ []),
+        word_cons (codes "side") (disk_name input d) (side_word side ∷ decimal l ∷ decimal (side_limit_of input side d) ∷ decimal v ∷ []),
+        word_cons (disk_name input d) (side_word side) (decimal l ∷ decimal (side_limit_of input side d) ∷ decimal v ∷ []),
+        word_cons (side_word side) (decimal l) (decimal (side_limit_of input side d) ∷ decimal v ∷ []),
+        word_cons (decimal l) (decimal (side_limit_of input side d)) (decimal v ∷ []),
+        word_cons (decimal (side_limit_of input side d)) (decimal v) [],
+        side_length side,
+        digits_length l fits.1,
+        digits_length v fits.2,
+        digits_length (side_limit_of input side d) (omega (arith, side_small side _ (limits_at input valid d fits.0))),
       )
   bound_length (Many n i v) fits =
       omega (
@@ -60,12 +78,13 @@ module _ (input : Lists) (valid : IsInput input) where
       let k : List ℕ = words (codes "class" ∷ class_word cert.class ∷ []) in
       let b : List ℕ = bound_line input (line_of cert.bound) in
       let names : List (List ℕ) = member_lines input (bound_set cert.bound) in
-      let up = set_ascends input valid cert.bound text.fits text.kept.set in
+      let up = set_ascends input valid cert.bound text.fits.disks text.kept.set in
       let few = ascends_len (length input.disks) 0 (bound_set cert.bound) up (omega arith) in
       omega (
         arith,
         ap length text.lines,
-        text_cons (codes "migration-certificate 1") (r ∷ q ∷ k ∷ b ∷ names ++ codes "end" ∷ []),
+        text_cons (cert_title input) (r ∷ q ∷ k ∷ b ∷ names ++ codes "end" ∷ []),
+        title_length (is_duplex input.disks),
         text_cons r (q ∷ k ∷ b ∷ names ++ codes "end" ∷ []),
         text_cons q (k ∷ b ∷ names ++ codes "end" ∷ []),
         text_cons k (b ∷ names ++ codes "end" ∷ []),
@@ -76,7 +95,7 @@ module _ (input : Lists) (valid : IsInput input) where
         digits_length cert.rounds text.kept.rounds,
         digits_length cert.quotient text.kept.quotient,
         class_length cert.class,
-        bound_length (line_of cert.bound) (line_fits input valid cert.bound text.fits text.kept.load text.kept.value text.kept.set),
+        bound_length (line_of cert.bound) (line_fits input valid cert text.fits text.kept),
         members_length 0 (bound_set cert.bound) up,
         few,
         valid.few_disks,

@@ -1,18 +1,8 @@
 -- The lines of a certificate fit their places.
-use Rattle.mig_base.proofs.Common.{◌≡◌, ℕ, suc, ◌+◌, ◌^◌, ◌<◌, ◌≤◌, List, [], ◌∷◌, ◌++◌, length, refl, sym, ap, subst, ◌∙◌, arith, codes, All, get_or, append_assoc, inl, inr, cases_lt, Lists, IsInput}
-use Rattle.mig_base.proofs.Common.{transfers, BoundFits, IsDiskSet, bound_set, CertText, cert_lines, Leads, IsLine, pieces, FitsLine}
-use Rattle.mig_base.specs.declared.certs.Bound.{Bound}
-use Rattle.mig_base.specs.declared.certs.Bound.TheVariants.{Nothing, OfDisk, OfSet}
-use Rattle.mig_base.specs.declared.certs.Cert.{Cert}
-use Rattle.mig_base.specs.declared.ids.DiskId.{DiskId}
-use Rattle.mig_base.specs.declared.limits.TheConstants.{MAX_DISKS, MAX_FILE_BYTES}
-use Rattle.mig_base.specs.Bounding.{bound_value, stated_load}
-use Rattle.mig_base.specs.Certificates.{CertFits}
-use Rattle.mig_base.specs.Texts.{line_of, IsCert}
-use Rattle.mig_base.specs.CertLines.{CertPlace, Title, Rounds, Quotient, Kind, Shown, Member, End, Last, Over, before_members, members_after, CertNext}
-use Rattle.mig_base.proofs.CertSpelling.{cert_lines_lack, spelt}
-use Rattle.mig_text.proofs.Places.{Leads-append, no_misfit, pieces_of_lines}
-use Rattle.mig_cert.specs.Prints.{member_lines}
+use Rattle.mig_cert.proofs.Common.{All, Bound, BoundFits, Cert, CertFits, CertNext, CertPlace, CertText, DiskId, End, FitsLine, IsCert, IsDiskSet, IsInput, IsLine, IsOfKind, Kind, Last, Leads}
+use Rattle.mig_cert.proofs.Common.{Leads-append, List, Lists, MAX_DISKS, MAX_FILE_BYTES, Member, Nothing, OfDisk, OfSet, OfSide, Over, Quotient, Rounds, Shown, Title, [], ap, append_assoc, arith}
+use Rattle.mig_cert.proofs.Common.{before_members, bound_set, bound_value, cases_lt, cert_lines, cert_lines_lack, codes, get_or, inl, inr, is_duplex, length, line_of, member_lines, members_after}
+use Rattle.mig_cert.proofs.Common.{no_misfit, pieces, pieces_of_lines, refl, spelt, stated_load, subst, suc, sym, transfers, ℕ, ◌++◌, ◌+◌, ◌<◌, ◌^◌, ◌∙◌, ◌∷◌, ◌≡◌, ◌≤◌}
 use Rattle.mig_cert.proofs.BoundWords.{same_bound_line, same_disk}
 
 -- the ids rise from a number on, and are below another
@@ -38,6 +28,7 @@ ascends_len n from (d ∷ ds) h le = omega (arith, h.0, ascends_len n (d.0 + 1) 
 pub as_many : (b : Bound) → length (bound_set b) ≡ members_after (line_of b)
 as_many Nothing = refl
 as_many (OfDisk disk load value) = refl
+as_many (OfSide disk side load value) = refl
 as_many (OfSet disks inside value) = refl
 
 module _ (input : Lists) (valid : IsInput input) where
@@ -45,7 +36,7 @@ module _ (input : Lists) (valid : IsInput input) where
   one_next Title piece b c h k = h.1 ∙ sym k.1
   one_next Rounds piece b c h k = h.1 ∙ sym k.1
   one_next Quotient piece b c h k = h.1 ∙ sym k.1
-  one_next Kind piece b c h k = h.1.1 ∙ sym k.1.1
+  one_next Kind piece b c h k = h.1.2 ∙ sym k.1.2
   one_next Shown piece b c h k =
       let same : h.0 ≡ k.0 = same_bound_line input valid h.0 k.0 h.1.0 k.1.0 (sym h.1.1 ∙ k.1.1) in
       h.1.2 ∙ ap (λ x. before_members (members_after x) 0) same ∙ sym k.1.2
@@ -66,6 +57,7 @@ module _ (input : Lists) (valid : IsInput input) where
   pub set_fits : (b : Bound) → BoundFits (transfers input) b → All (λ (d : DiskId). d.0 < length input.disks) (bound_set b)
   set_fits Nothing fits = λ k d h. absurd (omega arith)
   set_fits (OfDisk disk load value) fits = λ k d h. absurd (omega arith)
+  set_fits (OfSide disk side load value) fits = λ k d h. absurd (omega arith)
   set_fits (OfSet disks inside value) fits = fits
 
   pub set_ascends : (b : Bound) → BoundFits (transfers input) b → IsDiskSet (bound_set b) → Ascends (length input.disks) 0 (bound_set b)
@@ -74,10 +66,14 @@ module _ (input : Lists) (valid : IsInput input) where
   pub few_in_set : (ds : List DiskId) → IsDiskSet ds → All (λ (d : DiskId). d.0 < length input.disks) ds → length ds ≤ MAX_DISKS
   few_in_set ds rising below = omega (arith, ascends_len (length input.disks) 0 ds (ascends_from (length input.disks) ds rising below) (omega arith), valid.few_disks)
 
-  pub line_fits : (b : Bound) → BoundFits (transfers input) b → stated_load b < 2 ^ 32 → bound_value b < 2 ^ 32 → IsDiskSet (bound_set b) → FitsLine input (line_of b)
-  line_fits Nothing fits small low set = tt
-  line_fits (OfDisk disk load value) fits small low set = (fits, small, low)
-  line_fits (OfSet disks inside value) fits small low set = (few_in_set disks set fits, small, low)
+  pub bound_line_fits : (b : Bound) → BoundFits (transfers input) b → IsOfKind (is_duplex input.disks) b → stated_load b < 2 ^ 32 → bound_value b < 2 ^ 32 → IsDiskSet (bound_set b) → FitsLine input (line_of b)
+  bound_line_fits Nothing fits kind small low set = tt
+  bound_line_fits (OfDisk disk load value) fits kind small low set = (fits, small, low, kind)
+  bound_line_fits (OfSide disk side load value) fits kind small low set = (fits, small, low, kind)
+  bound_line_fits (OfSet disks inside value) fits kind small low set = (few_in_set disks set fits, small, low, kind)
+
+  pub line_fits : (cert : Cert) → CertFits input cert → IsCert cert → FitsLine input (line_of cert.bound)
+  line_fits cert fits kept = bound_line_fits cert.bound fits.disks fits.kind kept.load kept.value kept.set
 
   bound_leads : (b : Bound) → BoundFits (transfers input) b → IsDiskSet (bound_set b) → Leads (CertNext input) (before_members (members_after (line_of b)) 0) ((member_lines input (bound_set b) ++ codes "end" ∷ []) ++ [] ∷ []) Over
   bound_leads b fits set =
@@ -104,8 +100,8 @@ module _ (input : Lists) (valid : IsInput input) where
                   (
                     Shown,
                     (
-                      (cert.class, (refl, refl)),
-                      (before_members (members_after (line_of b)) 0, ((line_of b, (line_fits b fits kept.load kept.value kept.set, refl, refl)), bound_leads b fits kept.set)),
+                      (cert.class, (fits.class, refl, refl)),
+                      (before_members (members_after (line_of b)) 0, ((line_of b, (line_fits cert fits kept, refl, refl)), bound_leads b fits.disks kept.set)),
                     ),
                   ),
                 ),

@@ -4,3 +4,4 @@ pub mod CertPlaces
 pub mod CertReads
 pub mod MemberLists
 pub mod Printed
+pub mod Common

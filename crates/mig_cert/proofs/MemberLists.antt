@@ -1,17 +1,8 @@
 -- The reading of a set's disks, one by one.
-use Rattle.mig_base.proofs.Common.{◌≡◌, ◌≤◌, ◌<◌, ◌+◌, ◌-◌, ◌∷◌, ◌++◌, ℕ, suc, List, [], length, map, All, get_or, arith, ap, sym, refl, subst, ◌∙◌, length-append, inl, inr, cases_lt, All-push}
-use Rattle.mig_base.proofs.Common.{get_or-append_seam, IsDiskSet, Lists, disk_name, Leads}
-use Rattle.mig_base.specs.declared.ids.DiskId.{DiskId}
+use Rattle.mig_cert.proofs.Common.{All, All-push, AreMembersPart, CertNext, DiskId, IsDiskSet, IsMemberLine, IsMiss, IsStop, Leads, Leads-append, Left, List, Lists, Member, Over, TextError, Took}
+use Rattle.mig_cert.proofs.Common.{TookAll, [], ap, arith, before_members, cases_lt, disk_name, get_or, get_or-append, get_or-append_seam, inl, inr, later_stops, length, length-append, map}
+use Rattle.mig_cert.proofs.Common.{member_lines, miss_stops, refl, subst, suc, sym, took_next, took_none, ℕ, ◌++◌, ◌+◌, ◌-◌, ◌<◌, ◌∙◌, ◌∷◌, ◌≡◌, ◌≤◌}
 use Rattle.std.proofs.lemmas.List as lists
-use Rattle.std.proofs.Math.ListN.{get_or-append}
-use Rattle.mig_base.specs.CertLines.{Member, Over, before_members, CertNext}
-use Rattle.mig_text.specs.declared.errors.TextError.{TextError}
-use Rattle.mig_text.specs.Reads.{Left, Took, TookAll, IsMiss, IsStop}
-use Rattle.mig_text.proofs.Places.{Leads-append}
-use Rattle.mig_text.proofs.Stops.{took_none, took_next, miss_stops, later_stops}
-use Rattle.mig_cert.specs.Prints.{member_lines}
-use Rattle.mig_cert.specs.BoundParts.{IsMemberLine}
-use Rattle.mig_cert.specs.MemberParts.{AreMembersPart}
 
 map_push : {X Y : Type 0} (f : X → Y) (xs : List X) (x : X) → map f (xs ++ x ∷ []) ≡ map f xs ++ f x ∷ []
 map_push f xs x = lists.map-append f xs (x ∷ [])

@@ -5,7 +5,7 @@ use Rattle.mig_base.specs.declared.ids.DiskId.{DiskId}
 use Rattle.mig_base.specs.declared.certs.Bound.{Bound}
 use Rattle.mig_base.specs.declared.certs.Cert.{Cert}
 use Rattle.mig_base.specs.InputLists.{Lists}
-use Rattle.mig_base.specs.Texts.{disk_name, text_of_lines, words, class_word, bound_lines}
+use Rattle.mig_base.specs.Texts.{cert_title, disk_name, text_of_lines, words, class_word, bound_lines}
 
 -- a blank and a number
 abbrev pub blank_number : ℕ → List ℕ
@@ -20,14 +20,14 @@ abbrev pub bound_text : Lists → Bound → List ℕ
 bound_text input b = text_of_lines (bound_lines input b)
 
 -- the first four lines
-abbrev pub opening_lines : ℕ → ℕ → List ℕ → List (List ℕ)
-opening_lines rounds quotient class =
-    codes "migration-certificate 1"
+abbrev pub opening_lines : List ℕ → ℕ → ℕ → List ℕ → List (List ℕ)
+opening_lines title rounds quotient class =
+    title
     ∷ words (codes "rounds" ∷ decimal rounds ∷ [])
     ∷ words (codes "quotient" ∷ decimal quotient ∷ [])
     ∷ words (codes "class" ∷ class ∷ [])
     ∷ []
 
 -- the text of these of a certificate
-abbrev pub opening_text : Cert → List ℕ
-opening_text cert = text_of_lines (opening_lines cert.rounds cert.quotient (class_word cert.class))
+abbrev pub opening_text : Lists → Cert → List ℕ
+opening_text input cert = text_of_lines (opening_lines (cert_title input) cert.rounds cert.quotient (class_word cert.class))

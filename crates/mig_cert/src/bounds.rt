@@ -3,19 +3,35 @@ ghost use Rattle.std.specs.Prelude.{◌≡◌, ◌≢◌, ◌≤◌, ◌<◌, �
 ghost use Rattle.std.specs.Fmt.{decimal};
 ghost use Rattle.mig_base.specs.CertLines.{FitsLine};
 ghost use Rattle.mig_base.specs.InputLists.{IsInput};
-ghost use Rattle.mig_base.specs.Texts.{BoundLine, bound_line, disk_name};
+ghost use Rattle.mig_base.specs.Transfers.{side_limit};
+ghost use Rattle.mig_base.specs.Texts.{BoundLine, bound_line, disk_name, side_word};
+ghost use Rattle.mig_base.specs.declared.certs.Side.{Side};
 ghost use Rattle.mig_text.specs.Reads.{IsMiss, Took};
-ghost use Rattle.mig_cert.specs.BoundParts.{bound_words, line_of_head, IsBoundLine, limit_of};
+ghost use Rattle.mig_cert.specs.BoundParts.{bound_words, line_of_head, IsBoundLine, limit_of, side_limit_of};
 
-use mig_base::{DiskId, MAX_DISKS};
+use mig_base::{DiskId, Limits, MAX_DISKS, Side};
 use mig_text::{Finder, Lines, Parts, TextError, is_number, last_number, read_number};
 
 /// What the line of a bound says: all but the disks of a set.
 #[derive(Clone, Copy)]
 pub(crate) enum Head {
     Nothing,
-    OfDisk { disk: DiskId, load: u32, value: u32 },
-    OfSet { count: u32, inside: u32, value: u32 },
+    OfDisk {
+        disk: DiskId,
+        load: u32,
+        value: u32,
+    },
+    OfSide {
+        disk: DiskId,
+        side: Side,
+        load: u32,
+        value: u32,
+    },
+    OfSet {
+        count: u32,
+        inside: u32,
+        value: u32,
+    },
 }
 
 /// Takes the line of a bound.
@@ -53,6 +69,9 @@ fn bound_of(finder: &Finder<'_>, mut parts: Parts<'_>) -> Option<Head>
     if kind == b"disk".as_slice() {
         return disk_of(finder, parts);
     }
+    if kind == b"side".as_slice() {
+        return side_of(finder, parts);
+    }
     if kind == b"set".as_slice() {
         return set_of(finder, parts);
     }
@@ -76,8 +95,28 @@ fn disk_of(finder: &Finder<'_>, parts: Parts<'_>) -> Option<Head>
     ensures { MatchOption result ((b : BoundLine) → FitsLine finder.now b → codes "bound" ∷ codes "disk" ∷ parts.entry ≢ bound_words finder.now b)
         (λ h. FitsLine finder.now (line_of_head h) × (codes "bound" ∷ codes "disk" ∷ parts.entry ≡ bound_words finder.now (line_of_head h))) }
 {
+    if finder.input().duplex() {
+        return None;
+    }
     let (disk, load, value) = disk_fields(finder, parts)?;
     Some(Head::OfDisk { disk, load, value })
+}
+
+/// The same of the words after `bound side`.
+fn side_of(finder: &Finder<'_>, parts: Parts<'_>) -> Option<Head>
+    ensures { MatchOption result ((b : BoundLine) → FitsLine finder.now b → codes "bound" ∷ codes "side" ∷ parts.entry ≢ bound_words finder.now b)
+        (λ h. FitsLine finder.now (line_of_head h) × (codes "bound" ∷ codes "side" ∷ parts.entry ≡ bound_words finder.now (line_of_head h))) }
+{
+    if !finder.input().duplex() {
+        return None;
+    }
+    let (disk, side, load, value) = side_fields(finder, parts)?;
+    Some(Head::OfSide {
+        disk,
+        side,
+        load,
+        value,
+    })
 }
 
 /// The same of the words after `bound set`.
@@ -85,6 +124,9 @@ fn set_of(finder: &Finder<'_>, parts: Parts<'_>) -> Option<Head>
     ensures { MatchOption result ((b : BoundLine) → FitsLine finder.now b → codes "bound" ∷ codes "set" ∷ parts.entry ≢ bound_words finder.now b)
         (λ h. FitsLine finder.now (line_of_head h) × (codes "bound" ∷ codes "set" ∷ parts.entry ≡ bound_words finder.now (line_of_head h))) }
 {
+    if finder.input().duplex() {
+        return None;
+    }
     let (count, inside, value) = set_fields(parts)?;
     Some(Head::OfSet {
         count,
@@ -110,13 +152,66 @@ fn disk_fields(finder: &Finder<'_>, mut parts: Parts<'_>) -> Option<(DiskId, u32
     Some((disk, load, value))
 }
 
+/// NAME, the side, LOAD and VALUE of `NAME out LOAD LIMIT VALUE`, or of the same with `in`.
+fn side_fields(finder: &Finder<'_>, mut parts: Parts<'_>) -> Option<(DiskId, Side, u32, u32)>
+    ensures { MatchOption result
+        ((d : ℕ) (side : Side) (load : ℕ) (value : ℕ) → d < length finder.now.disks → load < 2 ^ 32 → value < 2 ^ 32
+        → parts.entry ≢ disk_name finder.now d ∷ side_word side ∷ decimal load ∷ decimal (side_limit_of finder.now side d) ∷ decimal value ∷ [])
+        (λ r. (r.0.0 < length finder.now.disks) × (r.2 < 2 ^ 32) × (r.3 < 2 ^ 32)
+        × (parts.entry ≡ disk_name finder.now r.0.0 ∷ side_word r.1 ∷ decimal r.2 ∷ decimal (side_limit_of finder.now r.1 r.0.0) ∷ decimal r.3 ∷ [])) }
+{
+    let disk = finder.disk(parts.take_part()?)?;
+    let side = read_side(parts.take_part()?)?;
+    let load = read_number(parts.take_part()?, u32::MAX)?;
+    if !is_number(parts.take_part()?, side_limit_of(finder, side, disk)) {
+        return None;
+    }
+    let value = last_number(parts, u32::MAX)?;
+    Some((disk, side, load, value))
+}
+
+/// The side that a word names.
+fn read_side(word: &[u8]) -> Option<Side>
+    ensures { MatchOption result ((side : Side) → word.now ≢ side_word side) (λ side. word.now ≡ side_word side) }
+{
+    if word == b"out".as_slice() {
+        return Some(Side::Outgoing);
+    }
+    if word == b"in".as_slice() {
+        return Some(Side::Incoming);
+    }
+    None
+}
+
+/// The limit of a side of a disk.
+fn side_limit_of(finder: &Finder<'_>, side: Side, disk: DiskId) -> u32
+    requires { disk.0 < length finder.now.disks }
+    ensures limit { result ≡ side_limit_of finder.now side disk.0 }
+    ensures valid { IsInput finder.now }
+{
+    on_side(finder.input().disks()[disk.0 as usize].limits, side)
+}
+
+/// The limit on a side. A joint limit holds for each.
+pub(crate) fn on_side(limits: Limits, side: Side) -> u32
+    ensures { result ≡ side_limit side limits }
+{
+    match limits {
+        Limits::Joint { limit } => limit,
+        Limits::Split { outgoing, incoming } => match side {
+            Side::Outgoing => outgoing,
+            Side::Incoming => incoming,
+        },
+    }
+}
+
 /// The limit of a disk.
 fn limit_of(finder: &Finder<'_>, disk: DiskId) -> u32
     requires { disk.0 < length finder.now.disks }
     ensures limit { result ≡ limit_of finder.now disk.0 }
     ensures valid { IsInput finder.now }
 {
-    finder.input().disks()[disk.0 as usize].limit
+    finder.input().disks()[disk.0 as usize].limits.most_ends()
 }
 
 /// COUNT, INSIDE and VALUE.

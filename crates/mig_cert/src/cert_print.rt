@@ -4,12 +4,13 @@ ghost use Rattle.mig_base.specs.declared.ids.DiskId.{DiskId};
 ghost use Rattle.mig_base.specs.Bounding.{BoundFits, bound_value, stated_load};
 ghost use Rattle.mig_base.specs.Certificates.{CertFits};
 ghost use Rattle.mig_base.specs.DiskNumbers.{IsDiskSet};
-ghost use Rattle.mig_base.specs.Texts.{bound_set, CertText, class_word, disk_name, text_of_lines, words};
+ghost use Rattle.mig_base.specs.Texts.{bound_set, cert_title, CertText, class_word, disk_name, side_word, text_of_lines, words};
 ghost use Rattle.mig_base.specs.Transfers.{transfers};
-ghost use Rattle.mig_cert.specs.BoundParts.{limit_of};
+ghost use Rattle.mig_cert.specs.BoundParts.{limit_of, side_limit_of};
 ghost use Rattle.mig_cert.specs.Prints.{blank_number, bound_text, member_lines, opening_text};
 
-use mig_base::{Bound, Cert, Class, DiskId, Input};
+use crate::bounds::on_side;
+use mig_base::{Bound, Cert, Class, DiskId, Input, Side};
 use mig_text::{push_count, push_disk, push_number};
 use std::alloc::{AllocError, Global};
 
@@ -19,25 +20,37 @@ pub fn print_cert(alloc: Global, input: &Input, cert: &Cert) -> Result<Vec<u8>, 
     ensures { IfOk result (λ text. CertText input.now cert.now text.items) }
 {
     let mut out = Vec::new(alloc);
-    push_opening(&mut out, cert)?;
+    push_opening(&mut out, input, cert)?;
     push_bound(&mut out, input, &cert.bound)?;
     out.extend_from_slice(b"end\n")?;
     Ok(out)
 }
 
 /// Adds the first four lines.
-fn push_opening(out: &mut Vec<u8>, cert: &Cert) -> Result<(), AllocError>
-    ensures text { OnOk result (out.new.items ≡ out.old.items ++ opening_text cert.now) }
+fn push_opening(out: &mut Vec<u8>, input: &Input, cert: &Cert) -> Result<(), AllocError>
+    ensures text { OnOk result (out.new.items ≡ out.old.items ++ opening_text input.now cert.now) }
     ensures rounds { cert.now.rounds < 2 ^ 32 }
     ensures quotient { cert.now.quotient < 2 ^ 32 }
 {
     let rounds = cert.rounds;
     let quotient = cert.quotient;
-    out.extend_from_slice(b"migration-certificate 1\n")?;
+    out.extend_from_slice(title_of(input))?;
+    out.push(b'\n')?;
     push_count(out, b"rounds", rounds)?;
     push_count(out, b"quotient", quotient)?;
     push_class(out, cert.class)?;
     Ok(())
+}
+
+/// The first line: the second text is that of disks with an outgoing and an incoming limit.
+pub(crate) fn title_of(input: &Input) -> &'static [u8]
+    ensures { result.now ≡ cert_title input.now }
+{
+    if input.duplex() {
+        b"migration-certificate 2".as_slice()
+    } else {
+        b"migration-certificate 1".as_slice()
+    }
 }
 
 /// Adds the line of a class.
@@ -47,6 +60,7 @@ fn push_class(out: &mut Vec<u8>, class: Class) -> Result<(), AllocError>
     match class {
         Class::Even => out.extend_from_slice(b"class even\n"),
         Class::General => out.extend_from_slice(b"class general\n"),
+        Class::Duplex => out.extend_from_slice(b"class duplex\n"),
     }
 }
 
@@ -61,6 +75,12 @@ fn push_bound(out: &mut Vec<u8>, input: &Input, bound: &Bound) -> Result<(), All
     match bound {
         Bound::Nothing => out.extend_from_slice(b"bound nothing\n"),
         Bound::OfDisk { disk, load, value } => push_disk_line(out, input, *disk, *load, *value),
+        Bound::OfSide {
+            disk,
+            side,
+            load,
+            value,
+        } => push_side_line(out, input, *disk, *side, *load, *value),
         Bound::OfSet {
             disks,
             inside,
@@ -89,8 +109,40 @@ fn push_disk_line(
     out.extend_from_slice(b"bound disk ")?;
     push_disk(out, input, disk)?;
     push_blank_number(out, load)?;
-    push_blank_number(out, input.disks()[disk.0 as usize].limit)?;
+    push_blank_number(out, input.disks()[disk.0 as usize].limits.most_ends())?;
     push_last_number(out, value)
+}
+
+/// Adds `bound side NAME out LOAD LIMIT VALUE`, or the same with `in`.
+fn push_side_line(
+    out: &mut Vec<u8>,
+    input: &Input,
+    disk: DiskId,
+    side: Side,
+    load: u32,
+    value: u32,
+) -> Result<(), AllocError>
+    requires { disk.0 < length input.now.disks }
+    ensures { OnOk result (out.new.items ≡ out.old.items
+        ++ (codes "bound side " ++ (disk_name input.now disk.0 ++ (32 ∷ side_word side ++ (blank_number load ++ (blank_number (side_limit_of input.now side disk.0) ++ (blank_number value ++ 10 ∷ []))))))) }
+{
+    out.extend_from_slice(b"bound side ")?;
+    push_disk(out, input, disk)?;
+    out.push(b' ')?;
+    push_side(out, side)?;
+    push_blank_number(out, load)?;
+    push_blank_number(out, on_side(input.disks()[disk.0 as usize].limits, side))?;
+    push_last_number(out, value)
+}
+
+/// Adds the word of a side.
+fn push_side(out: &mut Vec<u8>, side: Side) -> Result<(), AllocError>
+    ensures { OnOk result (out.new.items ≡ out.old.items ++ side_word side) }
+{
+    match side {
+        Side::Outgoing => out.extend_from_slice(b"out"),
+        Side::Incoming => out.extend_from_slice(b"in"),
+    }
 }
 
 /// Adds `bound set COUNT INSIDE VALUE`.

@@ -1,14 +1,15 @@
 //! Reading the text of a certificate.
-ghost use Rattle.std.specs.Prelude.{◌≡◌, ◌≢◌, ◌≤◌, ◌++◌, ◌∷◌, [], codes, length, IfErr, IfOk, MatchOption};
+ghost use Rattle.std.specs.Prelude.{◌≡◌, ◌≢◌, ◌≤◌, ◌++◌, ◌∷◌, [], true, codes, length, IfErr, IfOk, MatchOption};
 ghost use Rattle.mig_base.specs.declared.certs.Class.{Class};
-ghost use Rattle.mig_base.specs.Certificates.{CertFits};
+ghost use Rattle.mig_base.specs.Certificates.{CertFits, is_duplex_class};
 ghost use Rattle.mig_base.specs.CertLines.{before_members, CertLine, CertNext, Over, Shown, Title};
-ghost use Rattle.mig_base.specs.InputLists.{Lists};
+ghost use Rattle.mig_base.specs.InputLists.{is_duplex};
 ghost use Rattle.mig_base.specs.Texts.{cert_lines, CertText, class_word, IsCert, words};
 ghost use Rattle.mig_text.specs.Reads.{IfLine, IsMiss, IsStop, Took};
 ghost use Rattle.mig_cert.specs.CertParts.{IsBoundRead, IsClassLine, IsCertOpened};
 
 use crate::bounds::{Head, take_head};
+use crate::cert_print::title_of;
 use crate::members::take_members;
 use mig_base::{Bound, Cert, Class, DiskSet, Input, MAX_FILE_BYTES};
 use mig_text::{Finder, Lines, TextError};
@@ -38,7 +39,7 @@ fn read_lines(alloc: Global, finder: &Finder<'_>, mut lines: Lines<'_>) -> Resul
     ensures line { IfErr result (IsStop (CertNext finder.now) Title Over lines.entry) }
 {
     finder.keeps_rules();
-    let opening = take_opening(&mut lines)?;
+    let opening = take_opening(&mut lines, finder)?;
     let bound = take_bound(alloc, &mut lines, finder)?;
     lines.take_closing()?;
     Ok(Cert {
@@ -58,14 +59,14 @@ struct Opening {
 }
 
 /// Takes the first four lines.
-fn take_opening(lines: &mut Lines<'_>) -> Result<Opening, TextError>
-    ensures ok { IfOk result (λ o. IsCertOpened o.rounds o.quotient o.class lines.old lines.new) }
-    ensures line { IfErr result (λ e. (input : Lists) → IsStop (CertNext input) Title Over lines.old e) }
+fn take_opening(lines: &mut Lines<'_>, finder: &Finder<'_>) -> Result<Opening, TextError>
+    ensures ok { IfOk result (λ o. IsCertOpened finder.now o.rounds o.quotient o.class lines.old lines.new) }
+    ensures line { IfErr result (IsStop (CertNext finder.now) Title Over lines.old) }
 {
-    lines.take_fixed(b"migration-certificate 1")?;
+    lines.take_fixed(title_of(finder.input()))?;
     let rounds = lines.take_count(b"rounds", u32::MAX)?;
     let quotient = lines.take_count(b"quotient", u32::MAX)?;
-    let class = take_class(lines)?;
+    let class = take_class(lines, finder)?;
     Ok(Opening {
         rounds,
         quotient,
@@ -74,26 +75,40 @@ fn take_opening(lines: &mut Lines<'_>) -> Result<Opening, TextError>
 }
 
 /// Takes the line of a class.
-fn take_class(lines: &mut Lines<'_>) -> Result<Class, TextError>
-    ensures ok { IfOk result (λ k. Took lines.old (words (codes "class" ∷ class_word k ∷ [])) lines.new) }
-    ensures err { IfErr result (IsMiss IsClassLine lines.old) }
+fn take_class(lines: &mut Lines<'_>, finder: &Finder<'_>) -> Result<Class, TextError>
+    ensures ok { IfOk result (λ k. (is_duplex_class k ≡ is_duplex finder.now.disks) × Took lines.old (words (codes "class" ∷ class_word k ∷ [])) lines.new) }
+    ensures err { IfErr result (IsMiss (IsClassLine finder.now) lines.old) }
 {
-    match read_class(lines.take_line()?) {
+    match read_class(finder.input().duplex(), lines.take_line()?) {
         Some(class) => Ok(class),
         None => Err(lines.misfit()),
     }
 }
 
-/// The class that a line spells.
-fn read_class(line: &[u8]) -> Option<Class>
-    ensures { MatchOption result ((k : Class) → line.now ≢ words (codes "class" ∷ class_word k ∷ []))
-        (λ k. line.now ≡ words (codes "class" ∷ class_word k ∷ [])) }
+/// The class that a line spells, where it is one of limits of this kind.
+fn read_class(duplex: bool, line: &[u8]) -> Option<Class>
+    ensures { MatchOption result ((k : Class) → is_duplex_class k ≡ duplex → line.now ≢ words (codes "class" ∷ class_word k ∷ []))
+        (λ k. (is_duplex_class k ≡ duplex) × (line.now ≡ words (codes "class" ∷ class_word k ∷ []))) }
 {
+    if duplex {
+        return duplex_class(line);
+    }
     if line == b"class even".as_slice() {
         return Some(Class::Even);
     }
     if line == b"class general".as_slice() {
         return Some(Class::General);
+    }
+    None
+}
+
+/// The class of split limits, where a line spells it.
+fn duplex_class(line: &[u8]) -> Option<Class>
+    ensures { MatchOption result ((k : Class) → is_duplex_class k ≡ true → line.now ≢ words (codes "class" ∷ class_word k ∷ []))
+        (λ k. (is_duplex_class k ≡ true) × (line.now ≡ words (codes "class" ∷ class_word k ∷ []))) }
+{
+    if line == b"class duplex".as_slice() {
+        return Some(Class::Duplex);
     }
     None
 }
@@ -106,6 +121,17 @@ fn take_bound(alloc: Global, lines: &mut Lines<'_>, finder: &Finder<'_>) -> Resu
     match take_head(lines, finder)? {
         Head::Nothing => Ok(Bound::Nothing),
         Head::OfDisk { disk, load, value } => Ok(Bound::OfDisk { disk, load, value }),
+        Head::OfSide {
+            disk,
+            side,
+            load,
+            value,
+        } => Ok(Bound::OfSide {
+            disk,
+            side,
+            load,
+            value,
+        }),
         Head::OfSet {
             count,
             inside,

@@ -1,18 +1,9 @@
 -- Which blame is the first, behind what was found right.
-use Rattle.mig_base.proofs.Common.{◌≡◌, ◌⊎◌, inl, inr, ⊎_elim, ℕ, suc, ◌+◌, ◌*◌, ◌<◌, ◌≤◌, List, length, arith, refl, subst, Bool, true, false, cond, Result, Ok, Err, IfErr, IsTrue, cases_lt, Lists}
-use Rattle.mig_base.proofs.Common.{is_relocated, transfers, quotient, class_of, Layout, At, IsListOf, round_at, IsLegal, Once, Runs, shift_count}
-use Rattle.mig_base.specs.declared.certs.Bound.TheVariants.{Nothing}
-use Rattle.mig_base.specs.declared.certs.Cert.{Cert}
-use Rattle.mig_base.specs.declared.certs.Class.TheVariants.{Even}
-use Rattle.mig_check.proofs.Common.{ItemId, Shift, Spot, layout_of}
-use Rattle.mig_base.specs.declared.blames.Blame.{Blame}
-use Rattle.mig_base.specs.declared.blames.Blame.TheVariants.{EmptyRound, NotHere, TwiceInRound, SlotNotFree, OverLimit, WrongEnd, MovedTooOften, RoundsDiffer, QuotientDiffers, ClassDiffers, LoadDiffers, ValueDiffers, Memory}
-use Rattle.mig_base.specs.Bounding.{stated_load, counted_load}
-use Rattle.mig_base.specs.Running.{IsArrivedAt}
-use Rattle.mig_base.specs.Judging.{IsLeast, IsSo, order, FirstBlame, IsFirstOfPlan, IsMovedTooOften, IsRunBlame}
-use Rattle.mig_base.specs.Checks.{IsClear, RoundBlame}
-use Rattle.mig_base.proofs.BlameOrder.{later, clear_from_rounds}
-use Rattle.mig_check.specs.Faults.{IsCertBlame, IsOnceBlame}
+use Rattle.mig_check.proofs.Common.{At, Blame, Bool, Cert, ClassDiffers, EmptyRound, Err, Even, FirstBlame, IfErr, IsArrivedAt, IsCertBlame, IsClear, IsFirstOfPlan, IsLeast, IsLegal, IsListOf}
+use Rattle.mig_check.proofs.Common.{IsMovedTooOften, IsOnceBlame, IsRunBlame, IsSo, IsTrue, ItemId, Layout, List, Lists, LoadDiffers, Memory, MovedTooOften, NotHere, Nothing, Ok, Once, OverLimit}
+use Rattle.mig_check.proofs.Common.{QuotientDiffers, Result, RoundBlame, RoundsDiffer, Runs, Shift, SlotNotFree, Spot, TwiceInRound, ValueDiffers, WrongEnd, arith, cases_lt, class_of}
+use Rattle.mig_check.proofs.Common.{clear_from_rounds, cond, counted_load, false, inl, inr, is_relocated, later, layout_of, length, order, quotient, refl, round_at, shift_count, stated_load}
+use Rattle.mig_check.proofs.Common.{subst, suc, transfers, true, ℕ, ⊎_elim, ◌*◌, ◌+◌, ◌<◌, ◌≡◌, ◌≤◌, ◌⊎◌}
 
 -- each round can be carried out, and what has a number below n is right
 pub record IsRightBelow (input : Lists) (plan : List (List Shift)) (cert : Cert) (n : ℕ) : Type 0 where

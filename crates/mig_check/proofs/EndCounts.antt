@@ -1,12 +1,8 @@
 -- Counts of the ends of a round's shifts.
-use Rattle.mig_base.proofs.Common.{◌≡◌, ℕ, suc, ◌+◌, ◌<◌, ◌≤◌, cond, List, [], ◌∷◌, length, map, drop, All, get_or, set, Some, None, ap, sym, ◌∙◌, inl, inr, arith, subst, add-one, cases_lt, cases_eq}
-use Rattle.mig_base.proofs.Common.{ne_eqb, get_or-set_same, get_or-set_other, length-set, get_or_default, All-head, All-tail, sum_by-cons, Lists, disk_at, Trip, touches, load, KeepsLimits, trip_of}
-use Rattle.mig_check.proofs.Common.{DiskId, Shift, Disk, IsCovered}
-use Rattle.std.proofs.Common.{zero-add}
-use Rattle.std.proofs.lemmas.List.{drop_all}
-use Rattle.std.proofs.Math.Seq.{drop-cons}
-use Rattle.mig_base.specs.Judging.{IsOver}
-use Rattle.mig_check.specs.Tables.{IsFoundOver}
+use Rattle.mig_check.proofs.Common.{All, All-head, All-tail, Disk, DiskId, IsCovered, IsFoundOver, IsLeastOver, IsPartOver, KeepsPart, List, None, Part, Shift, Some, Trip, [], add-one, ap, arith}
+use Rattle.mig_check.proofs.Common.{cases_eq, cases_lt, cond, drop, drop-cons, drop_all, get_or, get_or-set_other, get_or-set_same, get_or_default, inl, inr, length, length-set, load, map}
+use Rattle.mig_check.proofs.Common.{ne_eqb, part_load, set, subst, suc, sum_by-cons, sym, touches, trip_of, zero-add, ℕ, ◌+◌, ◌<◌, ◌∙◌, ◌∷◌, ◌≡◌, ◌≤◌}
+use Rattle.mig_check.proofs.PartLimits.{part_in_load}
 
 load_cons : (v : ℕ) (s : Shift) (ss : List Shift) → load v (map trip_of (s ∷ ss)) ≡ cond (touches v (trip_of s)) 1 0 + load v (map trip_of ss)
 load_cons v s ss = sum_by-cons (λ (t : Trip). cond (touches v t) 1 0) (trip_of s) (map trip_of ss)
@@ -67,22 +63,25 @@ All-more P xs i e within this before k d lt = elim (cases_lt k i) [
   | inr g ↦ (let same : k ≡ i = omega arith in subst P (get_or_default xs i e d within ∙ ap (λ (n : ℕ). get_or xs n d) (sym same)) this)
 ]
 
-module _ (disks : List Disk) (counts : List ℕ) (round : List Shift) (len : length counts ≡ length disks) (counted : (v : ℕ) → v < length counts → get_or counts v 0 ≡ load v (map trip_of round)) where
-  pub limits_kept : All (λ s. IsCovered disks counts None s.from.disk.0 × IsCovered disks counts None s.to.disk.0) round → KeepsLimits disks (map trip_of round)
-  limits_kept covered v there = elim (cases_lt 0 (load v (map trip_of round))) [
-    | inl some ↦ elim (touched (IsCovered disks counts None) v round covered some) [
+module _ (part : Part) (disks : List Disk) (counts : List ℕ) (round : List Shift) (len : length counts ≡ length disks) (counted : (v : ℕ) → v < length counts → get_or counts v 0 ≡ part_load part v (map trip_of round)) where
+  some_end : (v : ℕ) → 0 < part_load part v (map trip_of round) → 0 < load v (map trip_of round)
+  some_end v some = omega (arith, some, part_in_load part v (map trip_of round))
+
+  pub part_kept : All (λ s. IsCovered part disks counts None s.from.disk.0 × IsCovered part disks counts None s.to.disk.0) round → KeepsPart part disks (map trip_of round)
+  part_kept covered v there = elim (cases_lt 0 (part_load part v (map trip_of round))) [
+    | inl some ↦ elim (touched (IsCovered part disks counts None) v round covered (some_end v some)) [
       | inl keeps ↦ omega (arith, keeps, counted v (omega (arith, len, there)))
       | inr h ↦ absurd h
     ]
     | inr none ↦ omega (arith, none)
   ]
 
-  pub limit_passed : (input : Lists) → input.disks ≡ disks → (disk : DiskId) → IsFoundOver disks counts (Some disk) → All (λ s. IsCovered disks counts (Some disk) s.from.disk.0 × IsCovered disks counts (Some disk) s.to.disk.0) round
-      → (disk.0 < length input.disks) × IsOver input round disk.0 (get_or counts disk.0 0) × ((v c : ℕ) → v < disk.0 → ¬ IsOver input round v c)
-  limit_passed input same disk found covered = rw same (found.0, (found.1, counted disk.0 (omega (arith, len, found.0))), λ v c before over. least v c before over)
+  pub part_passed : (disk : DiskId) → IsFoundOver part disks counts (Some disk) → All (λ s. IsCovered part disks counts (Some disk) s.from.disk.0 × IsCovered part disks counts (Some disk) s.to.disk.0) round
+      → IsLeastOver part disks round disk.0 (get_or counts disk.0 0)
+  part_passed disk found covered = (found.0, (found.1, counted disk.0 (omega (arith, len, found.0))), λ v c before over. least v c before over)
     where
-      least : (v c : ℕ) → v < disk.0 → ((disk_at disks v).limit < c) × (c ≡ load v (map trip_of round)) → ⊥
-      least v c before over = elim (touched (IsCovered disks counts (Some disk)) v round covered (omega (arith, over.0, over.1))) [
+      least : (v c : ℕ) → v < disk.0 → IsPartOver part disks round v c → ⊥
+      least v c before over = elim (touched (IsCovered part disks counts (Some disk)) v round covered (some_end v (omega (arith, over.0, over.1)))) [
         | inl keeps ↦ omega (arith, keeps, over.0, over.1, counted v (omega (arith, len, found.0, before)))
         | inr behind ↦ omega (arith, behind, before)
       ]

@@ -1,12 +1,8 @@
 -- In how many shifts an item stands.
-use Rattle.mig_base.proofs.Common.{◌≡◌, ◌≢◌, ℕ, suc, ◌+◌, ◌<◌, ◌≤◌, Bool, true, false, List, [], ◌∷◌, length, take, All, AllPairs, get_or, sum_by, count_by, Some, ap, sym, refl, ◌∙◌, inl, inr, arith}
-use Rattle.mig_base.proofs.Common.{IsTrue, slice_get, option_map, cases_lt, cases_eq, eq-eqb, ne_eqb, cases_Bool, take_more, All-head, All-tail, get_or-le-sum_by, sum_by-append, sum_by-cons}
-use Rattle.mig_base.proofs.Common.{slice_get-get_or, Lists, IsInput, no_spot, is_relocated, source, target, At, round_at, Once, Runs, is_of, shift_count}
-use Rattle.mig_check.proofs.Common.{DiskId, Shift, Spot}
-use Rattle.mig_base.specs.Judging.{IsMovedTooOften}
-use Rattle.mig_base.proofs.Counting.{one}
-use Rattle.mig_base.proofs.Scheduled.{spot_before}
-use Rattle.mig_check.specs.Counts.{IsTooOften}
+use Rattle.mig_check.proofs.Common.{All, All-head, All-tail, AllPairs, At, Bool, DiskId, IsInput, IsMovedTooOften, IsTooOften, IsTrue, List, Lists, Once, Runs, Shift, Some, Spot, [], ap, arith}
+use Rattle.mig_check.proofs.Common.{cases_Bool, cases_eq, cases_lt, count_by, eq-eqb, false, get_or, get_or-le-sum_by, inl, inr, is_of, is_relocated, length, ne_eqb, no_spot, one, option_map}
+use Rattle.mig_check.proofs.Common.{refl, round_at, shift_count, slice_get, slice_get-get_or, source, spot_before, suc, sum_by, sum_by-append, sum_by-cons, sym, take, take_more, target, true, ℕ}
+use Rattle.mig_check.proofs.Common.{◌+◌, ◌<◌, ◌∙◌, ◌∷◌, ◌≡◌, ◌≢◌, ◌≤◌}
 
 count_cons : (item : ℕ) (s : Shift) (ss : List Shift) → count_by (is_of item) (s ∷ ss) ≡ one (is_of item s) + count_by (is_of item) ss
 count_cons item s ss = sum_by-cons (λ (t : Shift). one (is_of item t)) s ss

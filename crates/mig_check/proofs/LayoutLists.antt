@@ -1,10 +1,6 @@
 -- A round over a list of spots and over the layout of the list.
-use Rattle.mig_base.proofs.Common.{◌≡◌, ℕ, suc, ◌<◌, List, length, All, arith, refl, sym, ap, ◌∙◌, [], ◌∷◌, subst, take, get_or, length-set, get_or_default, get_or-take, Lists, At, IsListOf}
-use Rattle.mig_base.proofs.Common.{after_shifts, round_at, ShiftFits, Runs, IsLegal}
-use Rattle.mig_check.proofs.Common.{Shift, Spot, after_round, layout_of}
-use Rattle.std.proofs.lemmas.List.{length-take}
-use Rattle.mig_base.proofs.LayoutSteps.{At-item, IsListOf-shifts}
-use Rattle.mig_check.specs.Tables.{after_shift}
+use Rattle.mig_check.proofs.Common.{All, At, At-item, IsLegal, IsListOf, IsListOf-shifts, List, Lists, Runs, Shift, ShiftFits, Spot, [], after_round, after_shift, after_shifts, ap, arith, get_or}
+use Rattle.mig_check.proofs.Common.{get_or-take, get_or_default, layout_of, length, length-set, length-take, refl, round_at, subst, suc, sym, take, ℕ, ◌<◌, ◌∙◌, ◌∷◌, ◌≡◌}
 
 pub length-after_round : (round : List Shift) (spots : List Spot) → length (after_round spots round) ≡ length spots
 length-after_round [] spots = refl

@@ -7,3 +7,4 @@ pub mod MoveCounts
 pub mod Repeats
 pub mod Rooms
 pub mod TakenSpots
+pub mod PartLimits

@@ -1,22 +1,11 @@
 -- Counts over the moves of an input, item by item and disk by disk.
-use Rattle.mig_base.proofs.Common.{◌≡◌, ℕ, suc, zero, ◌+◌, ◌*◌, ◌<◌, ◌≤◌, Bool, true, false, cond, not, ◌&&◌, eqb, List, [], ◌∷◌, length, map, take, All, get_or, count_by, ap, sym, refl, ◌∙◌, inl}
-use Rattle.mig_base.proofs.Common.{inr, arith, ◌^◌, range_with_len, cases_lt, cases_Bool, get_or_default, nat_tests, length-range_with_len, count_by-le-length, fold-append, sum_by-append, sum_by-cons}
-use Rattle.mig_base.proofs.Common.{IsInput, Lists, no_disk, no_spot, IsDiskSet, numbers, Transfers, Trip, is_inside, is_relocated, load, moves, transfers, trip, trips, IsEven, class_of, disk_value}
-use Rattle.mig_base.proofs.Common.{has, limit, limit_sum}
-use Rattle.mig_base.specs.declared.certs.Class.{Class}
-use Rattle.mig_base.specs.declared.certs.Class.TheVariants.{Even, General}
-use Rattle.mig_check.proofs.Common.{DiskId, Spot, Disk, passing}
-use Rattle.mig_base.specs.declared.limits.TheConstants.{MAX_LIMIT}
-use Rattle.std.proofs.Common.{max}
-use Rattle.std.proofs.lemmas.List.{map-id, map_more}
+use Rattle.mig_check.proofs.Common.{All, AreLoadsOf, Bool, Both, Class, Disk, DiskId, Duplex, Even, General, IsDiskSet, IsEven, IsInput, List, Lists, Part, Spot, Transfers, Trip, [], ap, arith}
+use Rattle.mig_check.proofs.Common.{cases_lt, class_is_duplex, class_is_even, class_of, cond, count_by, count_by-filter, count_by-le-length, disk_at, ends_small, eqb, false, false≢true}
+use Rattle.mig_check.proofs.Common.{fold-append, get_or, get_or_default, greatest, has, inl, inr, is_duplex, is_inside, is_relocated, length, length-range_with_len, limit, limit_sum, limits_at}
+use Rattle.mig_check.proofs.Common.{load, map, map-id, map-range_with_len_more, map_more, max, most_ends, moves, nat_cmp, nat_tests, ne_eqb, no_disk, no_spot, not, numbers, one, ord_max}
+use Rattle.mig_check.proofs.Common.{part_limit, part_load, part_value, passing, range_with_len, refl, spot_disk, suc, sum_by-append, sum_by-cons, sum_by-map, sum_by-map-range_with_len_more, sym}
+use Rattle.mig_check.proofs.Common.{take, transfers, trip, trips, true, zero, ℕ, ◌%◌, ◌&&◌, ◌*◌, ◌+◌, ◌<◌, ◌^◌, ◌∙◌, ◌∷◌, ◌≡◌, ◌≢◌, ◌≤◌}
 use Rattle.std.specs.Int as Int
-use Rattle.std.specs.Ordering.{ord_max, nat_cmp}
-use Rattle.std.proofs.lemmas.List.FromFn.{map-range_with_len_more, sum_by-map-range_with_len_more}
-use Rattle.mig_base.specs.Bounding.{greatest, is_even}
-use Rattle.mig_base.proofs.Counting.{count_by-filter, one, sum_by-map}
-use Rattle.mig_base.proofs.Rounds.{spot_disk}
-use Rattle.mig_base.proofs.Evenness.{class_is_even}
-use Rattle.mig_check.specs.Counts.{AreLoadsOf}
 
 -- one item more
 pub passing_more : (input : Lists) (p : Trip → Bool) (n : ℕ) → passing input p (n + 1) ≡ passing input p n + cond (is_relocated input n && p (trip input n)) 1 0
@@ -55,24 +44,41 @@ pub no_more : (r p : Bool) (new old : ℕ) → r ≡ p → r ≡ false → new �
 no_more r p new old same not' step = let e : one p ≡ 0 = ap one (sym same ∙ not') in omega (arith, step, e)
 
 -- the rounds that a disk needs, as the code counts them
-pub need_is : (input : Lists) (loads : List ℕ) (disks : List Disk) (v need : ℕ) (disk : Disk) → AreLoadsOf input loads → disks ≡ input.disks → v < length disks → disk ≡ get_or disks v disk → need ≡ Int.div_ceil (get_or loads v 0) disk.limit → need ≡ disk_value (transfers input) v
-need_is input loads disks v need disk are same there is h =
+pub need_is : (part : Part) (input : Lists) (loads : List ℕ) (disks : List Disk) (v limit need : ℕ) (disk : Disk) → AreLoadsOf part input loads → disks ≡ input.disks → v < length disks → disk ≡ get_or disks v disk → limit ≡ part_limit part disk.limits → need ≡ Int.div_ceil (get_or loads v 0) limit → need ≡ part_value part (transfers input) v
+need_is part input loads disks v limit need disk are same there is is_limit h =
     let within : v < length input.disks = omega (arith, there, ap (λ (d : List Disk). length d) same) in
-    let e : disk.limit ≡ limit (transfers input) v = ap (λ (d : Disk). d.limit) (is ∙ get_or_default disks v disk no_disk there ∙ ap (λ (d : List Disk). get_or d v no_disk) same) in
-    h ∙ ap (λ (n : ℕ). Int.div_ceil n disk.limit) (are.each v (omega (arith, within, are.len))) ∙ ap (λ (n : ℕ). Int.div_ceil (load v (trips input)) n) e
+    let e : limit ≡ part_limit part (disk_at input.disks v).limits = is_limit ∙ ap (λ (d : Disk). part_limit part d.limits) (is ∙ get_or_default disks v disk no_disk there ∙ ap (λ (d : List Disk). get_or d v no_disk) same) in
+    h ∙ ap (λ (n : ℕ). Int.div_ceil n limit) (are.each v (omega (arith, within, are.len))) ∙ ap (λ (n : ℕ). Int.div_ceil (part_load part v (trips input)) n) e
 
 max_is : (a b : ℕ) → ord_max nat_cmp a b ≡ max a b
 max_is a b = grind (arith, nat_tests)
 
-pub quotient_more : (graph : Transfers) (v old need new : ℕ) → old ≡ greatest (map (disk_value graph) (range_with_len 0 v)) → need ≡ disk_value graph v → new ≡ ord_max nat_cmp old need → new ≡ greatest (map (disk_value graph) (range_with_len 0 (v + 1)))
-quotient_more graph v old need new was is h = h ∙ max_is old need ∙ ap (λ (n : ℕ). max n need) was ∙ ap (λ (n : ℕ). max (greatest (map (disk_value graph) (range_with_len 0 v))) n) is ∙ sym (greatest_more (disk_value graph) v)
+pub quotient_more : (value : ℕ → ℕ) (v old need new : ℕ) → old ≡ greatest (map value (range_with_len 0 v)) → need ≡ value v → new ≡ ord_max nat_cmp old need → new ≡ greatest (map value (range_with_len 0 (v + 1)))
+quotient_more value v old need new was is h = h ∙ max_is old need ∙ ap (λ (n : ℕ). max n need) was ∙ ap (λ (n : ℕ). max (greatest (map value (range_with_len 0 v))) n) is ∙ sym (greatest_more value v)
+
+-- a disk with a load and an odd limit
+pub odd_breaks : (input : Lists) (loads : List ℕ) (disks : List Disk) (v limit : ℕ) (disk : Disk) → AreLoadsOf Both input loads → disks ≡ input.disks → v < length disks → disk ≡ get_or disks v disk → limit ≡ most_ends disk.limits
+    → 0 < get_or loads v 0 → limit % 2 ≢ 0 → IsEven (transfers input) → ⊥
+odd_breaks input loads disks v limit disk are same there is is_limit some odd even =
+    let within : v < length input.disks = omega (arith, there, ap (λ (d : List Disk). length d) same) in
+    let e : limit ≡ most_ends (disk_at input.disks v).limits = is_limit ∙ ap (λ (d : Disk). most_ends d.limits) (is ∙ get_or_default disks v disk no_disk there ∙ ap (λ (d : List Disk). get_or d v no_disk) same) in
+    let loaded : load v (trips input) ≢ 0 = λ none. omega (arith, none, some, are.each v (omega (arith, within, are.len))) in
+    odd (ap (λ n. n % 2) e ∙ even.1 v within (ap not (ne_eqb (load v (trips input)) 0 loaded)))
 
 -- the class, by whether limits are even
 pub even_class : (graph : Transfers) → IsEven graph → ◌≡◌ {A = Class} Even (class_of graph)
 even_class graph even = sym ((class_is_even graph).1 even)
 
-pub general_class : (graph : Transfers) → (IsEven graph → ⊥) → ◌≡◌ {A = Class} General (class_of graph)
-general_class graph odd = elim (cases_Bool (is_even graph)) [ inl even ↦ absurd (odd ((class_is_even graph).0 (rw even refl))) | inr odd_one ↦ rw odd_one refl ]
+pub general_class : (graph : Transfers) → is_duplex graph.disks ≡ false → (IsEven graph → ⊥) → ◌≡◌ {A = Class} General (class_of graph)
+general_class graph joint odd = by_class (class_of graph) refl
+  where
+    by_class : (c : Class) → class_of graph ≡ c → ◌≡◌ {A = Class} General (class_of graph)
+    by_class Even e = absurd (odd ((class_is_even graph).0 e))
+    by_class General e = sym e
+    by_class Duplex e = absurd (false≢true (sym joint ∙ (class_is_duplex graph).0 e))
+
+pub duplex_class : (graph : Transfers) → is_duplex graph.disks ≡ true → ◌≡◌ {A = Class} Duplex (class_of graph)
+duplex_class graph duplex = sym ((class_is_duplex graph).1 duplex)
 
 -- Sets of disks
 
@@ -96,21 +102,21 @@ limit_sum_more graph set i d there =
 pub record SumStep (input : Lists) (items : List DiskId) (i sum : ℕ) : Type 0 where
   pub fits : sum < 2 ^ 32
   pub is : sum ≡ limit_sum (transfers input) (numbers (take (i + 1) items))
-  pub most : sum ≤ (i + 1) * MAX_LIMIT
+  pub most : sum ≤ (i + 1) * 2048
 
-pub sum_step : (input : Lists) (set items : List DiskId) (disks : List Disk) (i old : ℕ) (d : DiskId) (e : Disk) → IsInput input → disks ≡ input.disks → items ≡ set → All (λ disk. disk.0 < length input.disks) set → IsDiskSet set → i < length items → old ≡ limit_sum (transfers input) (numbers (take i items)) → old ≤ i * MAX_LIMIT
-    → SumStep input items i (old + (get_or disks (get_or items i d).0 e).limit)
+pub sum_step : (input : Lists) (set items : List DiskId) (disks : List Disk) (i old : ℕ) (d : DiskId) (e : Disk) → IsInput input → disks ≡ input.disks → items ≡ set → All (λ disk. disk.0 < length input.disks) set → IsDiskSet set → i < length items → old ≡ limit_sum (transfers input) (numbers (take i items)) → old ≤ i * 2048
+    → SumStep input items i (old + most_ends (get_or disks (get_or items i d).0 e).limits)
 sum_step input set items disks i old d e valid same_disks same_items there increasing within is most =
     let n = (get_or items i d).0 in
     let lens : length items ≡ length set = ap (λ (x : List DiskId). length x) same_items in
     let inside : n < length input.disks = omega (arith, there i d (omega (arith, within, lens)), ap (λ (x : List DiskId). (get_or x i d).0) same_items) in
-    let at : (get_or disks n e).limit ≡ limit (transfers input) n = ap (λ (x : Disk). x.limit) (ap (λ (x : List Disk). get_or x n e) same_disks ∙ get_or_default input.disks n e no_disk inside) in
-    let range = valid.disk_ranges n no_disk inside in
+    let at : most_ends (get_or disks n e).limits ≡ limit (transfers input) n = ap (λ (x : Disk). most_ends x.limits) (ap (λ (x : List Disk). get_or x n e) same_disks ∙ get_or_default input.disks n e no_disk inside) in
+    let small = ends_small (disk_at input.disks n).limits (limits_at input valid n inside) in
     let few = short_set set (length input.disks) increasing there in
     record {
-      fits = omega (arith, most, at, range.1, few, valid.few_disks, within, lens);
+      fits = omega (arith, most, at, small, few, valid.few_disks, within, lens);
       is = omega (arith, is, at, limit_sum_more (transfers input) items i d within);
-      most = omega (arith, most, at, range.1);
+      most = omega (arith, most, at, small);
     }
 
 -- the disks that the code reads of an item are there

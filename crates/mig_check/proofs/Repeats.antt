@@ -1,9 +1,6 @@
 -- Marks of the items that a round has shifted so far.
-use Rattle.mig_base.proofs.Common.{◌≡◌, ◌≢◌, ℕ, ◌+◌, ◌<◌, ◌≤◌, List, length, All, AllPairs, get_or, set, ap, sym, refl, ◌∙◌, inl, inr, arith, subst, IsFirstShift, no_shift, shift_at, get_or-set_same}
-use Rattle.mig_base.proofs.Common.{get_or-set_other, length-set, get_or_default, cases_lt, cases_eq}
-use Rattle.mig_check.proofs.Common.{ItemId, Shift}
-use Rattle.mig_base.specs.Judging.{RepeatsItem}
-use Rattle.std.proofs.lemmas.List.Elements.{All-set}
+use Rattle.mig_check.proofs.Common.{All, All-set, AllPairs, IsFirstShift, ItemId, List, RepeatsItem, Shift, ap, arith, cases_eq, cases_lt, get_or, get_or-set_other, get_or-set_same}
+use Rattle.mig_check.proofs.Common.{get_or_default, inl, inr, length, length-set, no_shift, refl, set, shift_at, subst, sym, ℕ, ◌+◌, ◌<◌, ◌∙◌, ◌≡◌, ◌≢◌, ◌≤◌}
 
 pub record Marks (seen : List ℕ) (round : List Shift) (i n : ℕ) : Type 0 where
   pub later : All (λ m. m ≤ n) seen

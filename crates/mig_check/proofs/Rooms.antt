@@ -1,10 +1,6 @@
 -- Steps of the search for a target that is no free slot.
-use Rattle.mig_base.proofs.Common.{◌≡◌, ◌⊎◌, ℕ, ◌+◌, ◌<◌, Bool, true, false, ◌&&◌, ◌||◌, eqb, List, length, ap, sym, refl, ◌∙◌, inl, inr, arith, subst, IsSpotOf, IsFirstShift, shift_at, cases_lt}
-use Rattle.mig_base.proofs.Common.{false≢true, or_right, cases_Bool, nat_tests}
-use Rattle.mig_check.proofs.Common.{Shift, Spot, Disk, same_spot, LacksSlotIn, HaveRoom}
-use Rattle.std.proofs.lemmas.Bool.{or_cases, or_left}
-use Rattle.mig_base.proofs.SameIds.{spot_by}
-use Rattle.mig_check.specs.Tables.{SpotSet}
+use Rattle.mig_check.proofs.Common.{Bool, Disk, HaveRoom, IsFirstShift, IsSpotOf, LacksSlotIn, List, Shift, Spot, SpotSet, ap, arith, cases_Bool, cases_lt, eqb, false, false≢true, inl, inr}
+use Rattle.mig_check.proofs.Common.{length, nat_tests, or_cases, or_left, or_right, refl, same_spot, shift_at, spot_by, subst, sym, true, ℕ, ◌&&◌, ◌+◌, ◌<◌, ◌||◌, ◌∙◌, ◌≡◌, ◌⊎◌}
 
 numbers_same : (a b x y : ℕ) → (eqb a b && eqb x y) ≡ true → (a ≡ b) × (x ≡ y)
 numbers_same a b x y h = grind (arith, nat_tests)

@@ -1,16 +1,8 @@
 -- The taken spots of a list, before a round and after it.
-use Rattle.mig_base.proofs.Common.{◌≡◌, ⊎_elim, ℕ, ◌<◌, Bool, true, false, not, ◌&&◌, List, length, take, Option, Result, Some, None, Ok, Err, IfOk, IfSome, ap, sym, refl, ◌∙◌, inl, inr, arith, subst}
-use Rattle.mig_base.proofs.Common.{list_any, Contains, false≢true, cases_Bool, get_or_default, Any-from_list_any, slice_get-get_or, slice_get_within, get_or_from_slice_get, Lists, IsLayout, Layout}
-use Rattle.mig_base.proofs.Common.{IsTaken, after_shifts, IsLegal, IsFirstShift, no_shift, shift_at}
-use Rattle.mig_check.proofs.Common.{Shift, Spot, IsTakenSet, HaveRoom, LacksSlotIn, layout_of, same_spot}
-use Rattle.std.proofs.Common.{IfNone}
-use Rattle.std.proofs.Math.Seq.{take-length}
-use Rattle.std.proofs.lemmas.List.Folds.{list_any-from_Any}
-use Rattle.mig_base.specs.Running.{IsFree}
-use Rattle.mig_base.specs.Judging.{LacksSlot}
-use Rattle.mig_base.specs.Checks.{Passes, Free}
-use Rattle.mig_base.proofs.Rounds.{in_some, moved_cases, leaves, at_target, target_free}
-use Rattle.mig_check.specs.Tables.{SpotSet, is_source}
+use Rattle.mig_check.proofs.Common.{Any-from_list_any, Bool, Contains, Err, Free, HaveRoom, IfNone, IfOk, IfSome, IsFirstShift, IsFree, IsLayout, IsLegal, IsTaken, IsTakenSet, LacksSlot}
+use Rattle.mig_check.proofs.Common.{LacksSlotIn, Layout, List, Lists, None, Ok, Option, Passes, Result, Shift, Some, Spot, SpotSet, after_shifts, ap, arith, at_target, cases_Bool, false}
+use Rattle.mig_check.proofs.Common.{false≢true, get_or_default, get_or_from_slice_get, in_some, inl, inr, is_source, layout_of, leaves, length, list_any, list_any-from_Any, moved_cases, no_shift}
+use Rattle.mig_check.proofs.Common.{not, refl, same_spot, shift_at, slice_get-get_or, slice_get_within, subst, sym, take, take-length, target_free, true, ℕ, ⊎_elim, ◌&&◌, ◌<◌, ◌∙◌, ◌≡◌}
 use Rattle.mig_check.proofs.Rooms.{not_both, spot_is, spot_itself}
 
 -- all spots of a list

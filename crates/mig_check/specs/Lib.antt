@@ -3,3 +3,4 @@ pub mod Faults
 pub mod SpotSets
 pub mod Start
 pub mod Tables
+pub mod Parts

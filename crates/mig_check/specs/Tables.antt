@@ -8,6 +8,8 @@ use Rattle.mig_base.specs.declared.inputs.Disk.{Disk}
 use Rattle.mig_base.specs.InputLists.{IsSpotOf, disk_at}
 use Rattle.mig_base.specs.Layouts.{Layout, IsTaken}
 use Rattle.mig_base.specs.Judging.{shift_at}
+use Rattle.mig_check.specs.declared.parts.Part.{Part}
+use Rattle.mig_check.specs.Parts.{part_limit}
 
 -- the layout of a list of spots, one for each item
 abbrev pub layout_of : List Spot → Layout
@@ -54,13 +56,13 @@ pub record HaveRoom (disks : List Disk) (taken : SpotSet) (round : List Shift) (
 -- Counts of ends
 
 -- so many ends as are counted at the disk keep its limit
-abbrev pub Keeps : List Disk → List ℕ → ℕ → Type 0
-Keeps disks counts v = slice_index counts v ≤ (disk_at disks v).limit
+abbrev pub Keeps : Part → List Disk → List ℕ → ℕ → Type 0
+Keeps part disks counts v = slice_index counts v ≤ part_limit part (disk_at disks v).limits
 
 -- the disk keeps its limit, or the disk that was found isn't behind it
-abbrev pub IsCovered : List Disk → List ℕ → Option DiskId → ℕ → Type 0
-IsCovered disks counts found v = Keeps disks counts v ⊎ IsSomeAnd found (λ d. d.0 ≤ v)
+abbrev pub IsCovered : Part → List Disk → List ℕ → Option DiskId → ℕ → Type 0
+IsCovered part disks counts found v = Keeps part disks counts v ⊎ IsSomeAnd found (λ d. d.0 ≤ v)
 
 -- a disk that was found is there and has more ends than its limit
-abbrev pub IsFoundOver : List Disk → List ℕ → Option DiskId → Type 0
-IsFoundOver disks counts found = IfSome found (λ d. (d.0 < length disks) × ((disk_at disks d.0).limit < slice_index counts d.0))
+abbrev pub IsFoundOver : Part → List Disk → List ℕ → Option DiskId → Type 0
+IsFoundOver part disks counts found = IfSome found (λ d. (d.0 < length disks) × (part_limit part (disk_at disks d.0).limits < slice_index counts d.0))

@@ -1,13 +1,18 @@
 //! What a certificate states, counted again.
-ghost use Rattle.std.specs.Prelude.{◌≡◌, ◌&&◌, ℕ, ◌+◌, ◌<◌, ◌≤◌, ◌==◌, All, Bool, IfOk, false, length, not, slice_index_or};
+ghost use Rattle.std.specs.Prelude.{◌≡◌, ◌&&◌, ℕ, ◌+◌, ◌<◌, ◌≤◌, ◌==◌, All, Bool, IfOk, false, true, length, not, slice_index_or};
 ghost use Rattle.std.specs.List.{list_any};
-ghost use Rattle.mig_base.specs.Bounding.{BoundFits, bound_value, class_of, counted_load, counted_value, disk_value, has, limit_sum, quotient, set_value, stated_load};
+ghost use Rattle.mig_base.specs.Bounding.{BoundFits, bound_value, class_of, counted_load, counted_value, has, limit_sum, quotient, set_value, stated_load};
+ghost use Rattle.mig_base.specs.Certificates.{IsOfKind};
 ghost use Rattle.mig_base.specs.DiskNumbers.{IsDiskSet, numbers};
-ghost use Rattle.mig_base.specs.Transfers.{inside, load, transfers, trips};
+ghost use Rattle.mig_base.specs.InputLists.{is_duplex};
+ghost use Rattle.mig_base.specs.Transfers.{inside, transfers, trips};
 ghost use Rattle.mig_check.specs.Counts.{AreLoadsOf};
+ghost use Rattle.mig_check.specs.Parts.{part_load, part_value};
+ghost use Rattle.mig_check.specs.declared.parts.Part.TheVariants.{Both, Leaving, Reaching};
 
 use crate::loads::{count_loads, find_class, find_quotient};
-use mig_base::{Bound, Class, DiskId, DiskSet, Input};
+use crate::parts::{Part, part_limit};
+use mig_base::{Bound, Class, DiskId, DiskSet, Input, Side};
 use std::alloc::{AllocError, Global};
 
 /// The load or the inside of a bound, and its value.
@@ -32,7 +37,7 @@ pub fn stated(bound: &Bound) -> Shown
 {
     match bound {
         Bound::Nothing => Shown { load: 0, value: 0 },
-        Bound::OfDisk { load, value, .. } => Shown {
+        Bound::OfDisk { load, value, .. } | Bound::OfSide { load, value, .. } => Shown {
             load: *load,
             value: *value,
         },
@@ -45,51 +50,103 @@ pub fn stated(bound: &Bound) -> Shown
 
 /// What is counted of the input, and of the disks that the bound names.
 pub fn count_cert(alloc: Global, input: &Input, bound: &Bound) -> Result<Counted, AllocError>
-    requires { BoundFits (transfers input.now) bound.now }
+    requires fits { BoundFits (transfers input.now) bound.now }
+    requires kind { IsOfKind (is_duplex input.now.disks) bound.now }
     ensures quotient { IfOk result (λ c. c.quotient ≡ quotient (transfers input.now)) }
     ensures class { IfOk result (λ c. c.class ≡ class_of (transfers input.now)) }
     ensures load { IfOk result (λ c. c.shown.load ≡ counted_load (transfers input.now) bound.now) }
     ensures value { IfOk result (λ c. c.shown.value ≡ counted_value (transfers input.now) bound.now) }
 {
-    let loads = count_loads(alloc, input)?;
+    input.keeps_rules();
+    if input.duplex() {
+        return count_duplex(alloc, input, bound);
+    }
+    let loads = count_loads(alloc, Part::Both, input)?;
     let shown = count_bound(alloc, input, &loads, bound)?;
     Ok(Counted {
-        quotient: find_quotient(input, &loads),
+        quotient: find_quotient(Part::Both, input, &loads),
         class: find_class(input, &loads),
         shown,
     })
 }
 
-/// What is counted of the disks that the bound names.
+/// The same of an input whose disks have an outgoing and an incoming limit.
+fn count_duplex(alloc: Global, input: &Input, bound: &Bound) -> Result<Counted, AllocError>
+    requires duplex { is_duplex input.now.disks ≡ true }
+    requires fits { BoundFits (transfers input.now) bound.now }
+    requires kind { IsOfKind true bound.now }
+    ensures quotient { IfOk result (λ c. c.quotient ≡ quotient (transfers input.now)) }
+    ensures class { IfOk result (λ c. c.class ≡ class_of (transfers input.now)) }
+    ensures load { IfOk result (λ c. c.shown.load ≡ counted_load (transfers input.now) bound.now) }
+    ensures value { IfOk result (λ c. c.shown.value ≡ counted_value (transfers input.now) bound.now) }
+{
+    input.keeps_rules();
+    let outgoing = count_loads(alloc, Part::Leaving, input)?;
+    let incoming = count_loads(alloc, Part::Reaching, input)?;
+    let leaving = find_quotient(Part::Leaving, input, &outgoing);
+    let reaching = find_quotient(Part::Reaching, input, &incoming);
+    Ok(Counted {
+        quotient: leaving.max(reaching),
+        class: Class::Duplex,
+        shown: count_side(input, &outgoing, &incoming, bound),
+    })
+}
+
+/// What is counted of the side that a bound names.
+fn count_side(input: &Input, outgoing: &[u32], incoming: &[u32], bound: &Bound) -> Shown
+    requires fits { BoundFits (transfers input.now) bound.now }
+    requires kind { IsOfKind true bound.now }
+    requires outgoing { AreLoadsOf Leaving input.now outgoing.now }
+    requires incoming { AreLoadsOf Reaching input.now incoming.now }
+    ensures load { result.load ≡ counted_load (transfers input.now) bound.now }
+    ensures value { result.value ≡ counted_value (transfers input.now) bound.now }
+{
+    match bound {
+        Bound::Nothing => Shown { load: 0, value: 0 },
+        Bound::OfSide { disk, side, .. } => match side {
+            Side::Outgoing => count_disk(Part::Leaving, input, outgoing, *disk),
+            Side::Incoming => count_disk(Part::Reaching, input, incoming, *disk),
+        },
+        Bound::OfDisk { .. } => unreachable!(),
+        Bound::OfSet { .. } => unreachable!(),
+    }
+}
+
+/// What is counted of the disks that the bound names, where limits are joint.
 fn count_bound(
     alloc: Global,
     input: &Input,
     loads: &[u32],
     bound: &Bound,
 ) -> Result<Shown, AllocError>
+    requires joint { is_duplex input.now.disks ≡ false }
     requires fits { BoundFits (transfers input.now) bound.now }
-    requires loads { AreLoadsOf input.now loads.now }
+    requires kind { IsOfKind false bound.now }
+    requires loads { AreLoadsOf Both input.now loads.now }
     ensures load { IfOk result (λ s. s.load ≡ counted_load (transfers input.now) bound.now) }
     ensures value { IfOk result (λ s. s.value ≡ counted_value (transfers input.now) bound.now) }
 {
+    input.keeps_rules();
     match bound {
         Bound::Nothing => Ok(Shown { load: 0, value: 0 }),
-        Bound::OfDisk { disk, .. } => Ok(count_disk(input, loads, *disk)),
+        Bound::OfDisk { disk, .. } => Ok(count_disk(Part::Both, input, loads, *disk)),
+        Bound::OfSide { .. } => unreachable!(),
         Bound::OfSet { disks, .. } => count_set(alloc, input, disks),
     }
 }
 
-/// A disk's load, and the rounds that it needs.
-fn count_disk(input: &Input, loads: &[u32], disk: DiskId) -> Shown
+/// How many moves count at a disk, and the rounds that it needs for them.
+fn count_disk(part: Part, input: &Input, loads: &[u32], disk: DiskId) -> Shown
     requires there { disk.0 < length input.now.disks }
-    requires loads { AreLoadsOf input.now loads.now }
-    ensures load { result.load ≡ load disk.0 (trips input.now) }
-    ensures value { result.value ≡ disk_value (transfers input.now) disk.0 }
+    requires loads { AreLoadsOf part input.now loads.now }
+    ensures load { result.load ≡ part_load part disk.0 (trips input.now) }
+    ensures value { result.value ≡ part_value part (transfers input.now) disk.0 }
 {
+    input.keeps_rules();
     let load = loads[disk.0 as usize];
     Shown {
         load,
-        value: load.div_ceil(input.disks()[disk.0 as usize].limit),
+        value: load.div_ceil(part_limit(part, input.disks()[disk.0 as usize].limits)),
     }
 }
 
@@ -154,7 +211,7 @@ fn sum_limits(input: &Input, set: &DiskSet) -> u32
     let disks = input.disks();
     let mut sum = 0;
     for disk in set.ids() {
-        sum += disks[disk.0 as usize].limit;
+        sum += disks[disk.0 as usize].limits.most_ends();
     }
     sum
 }

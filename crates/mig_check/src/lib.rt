@@ -7,6 +7,7 @@ mod ends;
 mod judging;
 mod loads;
 mod moved;
+mod parts;
 mod rounds;
 mod running;
 mod shifts;

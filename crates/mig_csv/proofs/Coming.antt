@@ -1,6 +1,6 @@
 -- The items that are still to be counted among those that come to a disk.
-use Rattle.mig_base.proofs.Common.{◌≡◌, ℕ, suc, ◌+◌, ◌-◌, ◌<◌, ◌≤◌, ◌==◌, ◌&&◌, Bool, true, false, cond, List, ◌∷◌, length, count_by, filter, arith, ap, ◌∙◌, range_with_len, sum_by-cons, Lists}
-use Rattle.mig_base.proofs.Common.{is_relocated, target, incoming}
+use Rattle.mig_csv.proofs.Common.{Bool, List, Lists, ap, arith, cond, count_by, false, filter, incoming, is_relocated, length, range_with_len, suc, sum_by-cons, target, true, ℕ, ◌&&◌, ◌+◌, ◌-◌}
+use Rattle.mig_csv.proofs.Common.{◌<◌, ◌==◌, ◌∙◌, ◌∷◌, ◌≡◌, ◌≤◌}
 
 -- of the items from this number on
 abbrev pub left_from : Lists → ℕ → ℕ → ℕ

@@ -1,12 +1,10 @@
 -- A file that is read row by row.
-use Rattle.mig_base.proofs.Common.{◌≡◌, ◌≤◌, ◌<◌, ◌+◌, ◌++◌, ◌∷◌, [], ℕ, zero, suc, Some, List, length, map, slice_get, take, inl, inr, arith, refl, ap, sym, subst, ◌∙◌, append_assoc, append-nil}
-use Rattle.mig_base.proofs.Common.{length-append, length-map, take-append-le, map-append, cases_lt, slice_get_within, take-append_seam, IsFirstFault, Row, disk_of, first, header_of, rows_of}
-use Rattle.mig_csv.proofs.Common.{Why, Disk, MAX_FILE_BYTES, DisksRowFault, IsFirstCause, PrecedesInFile, records_of, DisksFault}
-use Rattle.mig_base.specs.declared.limits.TheConstants.{MAX_DISKS}
-use Rattle.mig_base.specs.Refusals.{FileFault, IsRowFault}
+use Rattle.mig_csv.proofs.Common.{Bool, Disk, DisksFault, DisksRowFault, FileFault, IsFirstCause, IsFirstFault, IsRowFault, List, MAX_DISKS, MAX_FILE_BYTES, PrecedesInFile, Row, Some, Why, []}
+use Rattle.mig_csv.proofs.Common.{ap, append-nil, append_assoc, arith, cases_lt, disk_of, disks_of, first, has_sides, header_of, inl, inr, length, length-append, length-map, map, map-append}
+use Rattle.mig_csv.proofs.Common.{map-name, name_in_row, records_of, refl, rows_of, slice_get, slice_get_within, subst, suc, sym, take, take-append-le, take-append_seam, zero, ℕ, ◌++◌, ◌+◌, ◌<◌}
+use Rattle.mig_csv.proofs.Common.{◌∙◌, ◌∷◌, ◌≡◌, ◌≤◌}
 use Rattle.mig_base.specs.declared.faults.FileKind.TheVariants as file
 use Rattle.mig_base.specs.declared.faults.Why.TheVariants as why
-use Rattle.mig_base.proofs.Listed.{map-name}
 
 slice_get-append_left : {X : Type 0} (xs ys : List X) (k : ℕ) → k < length xs → slice_get (xs ++ ys) k ≡ slice_get xs k
 slice_get-append_left [] ys k h = absurd (omega arith)
@@ -105,55 +103,55 @@ first_fault has header bytes done left r w o short e s f = record { holds = row_
     first m why.BadHeader p h = h.1 (rw e refl)
     first m v p h = none_earlier has done left r w s f m v p (subst (λ rs. IsRowFault has rs m v) (rows header bytes _ e) h)
 
+abbrev has_fault : Bool → List Row → Row → Why → Type 0
+has_fault sides before r w = DisksRowFault sides (map first before) r w
+
 -- the records of the file are its header, rows that are done and those that are left; the disks are those of the rows that are done
 pub record ReadSoFar (bytes : List ℕ) (left : List Row) (names : List (List ℕ)) (disks : List Disk) : Type 0 where
   pub short : length bytes ≤ MAX_FILE_BYTES
   pub done : List Row
-  pub records : records_of bytes ≡ header_of file.Disks ∷ (done ++ left)
-  pub sound : Sound (λ before. DisksRowFault (map first before)) done
+  pub records : records_of bytes ≡ header_of file.Disks (has_sides bytes) ∷ (done ++ left)
+  pub sound : Sound (has_fault (has_sides bytes)) done
   pub few : length done ≤ MAX_DISKS
   pub named : names ≡ map first done
-  pub listed : disks ≡ map disk_of done
+  pub listed : disks ≡ map (disk_of (has_sides bytes)) done
 
-abbrev has_fault : List Row → Row → Why → Type 0
-has_fault before r w = DisksRowFault (map first before) r w
-
-of_rows : OfRows has_fault
-of_rows = record { long = λ before r h. h; head = λ before r h. h }
+of_rows : (sides : Bool) → OfRows (has_fault sides)
+of_rows sides = record { long = λ before r h. h; head = λ before r h. h }
 
 -- a file that was read to its end has no fault
 pub ReadSoFar-end : {bytes : List ℕ} {left : List Row} {names : List (List ℕ)} {disks : List Disk} → ReadSoFar bytes left names disks → left ≡ [] → (n : ℕ) (w : Why) → ¬ (DisksFault bytes n w)
-ReadSoFar-end {bytes} s e = no_fault has_fault (header_of file.Disks) bytes s.done s.short (rw (e, append-nil) at s.records) s.sound
+ReadSoFar-end {bytes} s e = no_fault (has_fault (has_sides bytes)) (header_of file.Disks (has_sides bytes)) bytes s.done s.short (rw (e, append-nil) at s.records) s.sound
 
 -- one more row of which no cause holds
 pub ReadSoFar-push : {bytes : List ℕ} {left : List Row} {names : List (List ℕ)} {disks : List Disk} → ReadSoFar bytes left names disks → (r : Row) (rest : List Row) (d : Disk)
-    → left ≡ r ∷ rest → d ≡ disk_of r → ((w : Why) → ¬ (DisksRowFault names r w)) → ReadSoFar bytes rest (names ++ d.name ∷ []) (disks ++ d ∷ [])
+    → left ≡ r ∷ rest → d ≡ disk_of (has_sides bytes) r → ((w : Why) → ¬ (DisksRowFault (has_sides bytes) names r w)) → ReadSoFar bytes rest (names ++ d.name ∷ []) (disks ++ d ∷ [])
 ReadSoFar-push {bytes} {left} {names} s r rest d e listed new =
-    let new_here : (w : Why) → ¬ (has_fault s.done r w) = rw s.named at new in
+    let new_here : (w : Why) → ¬ (has_fault (has_sides bytes) s.done r w) = rw s.named at new in
     let room : ¬ (MAX_DISKS ≤ length names) = new why.TooManyRows in
     record {
       short = s.short;
       done = s.done ++ r ∷ [];
       records = rw (append_assoc, ← e) s.records;
-      sound = Sound-push has_fault s.done r s.sound new_here;
+      sound = Sound-push (has_fault (has_sides bytes)) s.done r s.sound new_here;
       few = let n : length names ≡ length s.done = rw (s.named, length-map) refl in omega (arith, length-append s.done (r ∷ []));
-      named = rw (listed, map-append, ← s.named) refl;
+      named = rw (listed, name_in_row, map-append, ← s.named) refl;
       listed = rw (listed, map-append, ← s.listed) refl;
     }
 
 -- the first cause that holds of the next row is the file's first fault
 pub ReadSoFar-fault : {bytes : List ℕ} {left : List Row} {names : List (List ℕ)} {disks : List Disk} → ReadSoFar bytes left names disks → (r : Row) (rest : List Row) (w : Why)
-    → left ≡ r ∷ rest → IsFirstCause (DisksRowFault names r) w → IsFirstFault (DisksFault bytes) (length names + 1) w
+    → left ≡ r ∷ rest → IsFirstCause (DisksRowFault (has_sides bytes) names r) w → IsFirstFault (DisksFault bytes) (length names + 1) w
 ReadSoFar-fault {bytes} {left} {names} s r rest w e f =
-    rw (s.named, length-map) (first_fault has_fault (header_of file.Disks) bytes s.done rest r w of_rows s.short (rw e at s.records) s.sound (rw s.named at f))
+    rw (s.named, length-map) (first_fault (has_fault (has_sides bytes)) (header_of file.Disks (has_sides bytes)) bytes s.done rest r w (of_rows (has_sides bytes)) s.short (rw e at s.records) s.sound (rw s.named at f))
 
 -- a file whose header was read
-pub ReadSoFar-start : {bytes : List ℕ} (left : List Row) → length bytes ≤ MAX_FILE_BYTES → records_of bytes ≡ header_of file.Disks ∷ left → ReadSoFar bytes left [] []
+pub ReadSoFar-start : {bytes : List ℕ} (left : List Row) → length bytes ≤ MAX_FILE_BYTES → records_of bytes ≡ header_of file.Disks (has_sides bytes) ∷ left → ReadSoFar bytes left [] []
 ReadSoFar-start {bytes} left short e = record {
   short = short;
   done = [];
   records = e;
-  sound = Sound-nil has_fault;
+  sound = Sound-nil (has_fault (has_sides bytes));
   few = omega arith;
   named = refl;
   listed = refl;
@@ -161,11 +159,11 @@ ReadSoFar-start {bytes} left short e = record {
 
 -- the names are those of the disks
 pub ReadSoFar-names : {bytes : List ℕ} {left : List Row} {names : List (List ℕ)} {disks : List Disk} → ReadSoFar bytes left names disks → names ≡ map (λ (d : Disk). d.name) disks
-ReadSoFar-names s = s.named ∙ map-name s.done ∙ ap (map (λ (d : Disk). d.name)) (sym s.listed)
+ReadSoFar-names {bytes} s = s.named ∙ map-name (has_sides bytes) s.done ∙ ap (map (λ (d : Disk). d.name)) (sym s.listed)
 
 -- the disks are those of the rows of a file that was read to its end
-pub ReadSoFar-value : {bytes : List ℕ} {left : List Row} {names : List (List ℕ)} {disks : List Disk} → ReadSoFar bytes left names disks → left ≡ [] → disks ≡ map disk_of (rows_of bytes)
-ReadSoFar-value {bytes} s e = s.listed ∙ ap (map disk_of) (sym (rows (header_of file.Disks) bytes s.done (rw (e, append-nil) at s.records)))
+pub ReadSoFar-value : {bytes : List ℕ} {left : List Row} {names : List (List ℕ)} {disks : List Disk} → ReadSoFar bytes left names disks → left ≡ [] → disks ≡ disks_of bytes
+ReadSoFar-value {bytes} s e = s.listed ∙ ap (map (disk_of (has_sides bytes))) (sym (rows (header_of file.Disks (has_sides bytes)) bytes s.done (rw (e, append-nil) at s.records)))
 
 pub ReadSoFar-few : {bytes : List ℕ} {left : List Row} {names : List (List ℕ)} {disks : List Disk} → ReadSoFar bytes left names disks → length disks ≤ MAX_DISKS
 ReadSoFar-few s = rw (s.listed, length-map) s.few

@@ -1,23 +1,21 @@
-use Rattle.mig_base.proofs.Common.{◌≡◌, false, sym, ◌<◌, ◌∷◌, [], zero, suc, ℕ, true, List, Contains, Option, Some, None, MatchOption, is_some, slice_get, length, arith, refl, false≢true}
-use Rattle.mig_base.proofs.Common.{get_or_from_slice_get, slice_get_within, IsDiskInRange, IsName, Row, disk_of, first, second, third}
-use Rattle.mig_csv.proofs.Common.{Why, DisksRowFault, rank_of}
-use Rattle.mig_base.specs.declared.limits.TheConstants.{MAX_DISKS}
+use Rattle.mig_csv.proofs.Common.{AreInRange, AreNumbersOf, Bool, Contains, Disk, DisksRowFault, HasNumbers, IsDiskInRange, IsLimit, IsName, IsNumber, Joint, Limits, List, MAX_DISKS, MatchOption}
+use Rattle.mig_csv.proofs.Common.{None, Numbers, Option, Row, Some, Split, Why, [], ap, arith, disk_of, disk_width, false, false≢true, first, fourth, get_or_from_slice_get, is_some}
 use Rattle.csv.specs.Records.{field_at}
-use Rattle.mig_base.specs.Digits.{IsNumber}
+use Rattle.mig_csv.proofs.Common.{length, limits_by, rank_of, refl, second, slice_get, slice_get_within, subst, suc, sym, third, true, zero, ℕ, ◌<◌, ◌↔◌, ◌∙◌, ◌∷◌, ◌≡◌, ◌≤◌}
 use Rattle.mig_base.specs.declared.faults.Why.TheVariants as why
 
 -- no cause before the place n in the order of causes holds of a row of the disks file
-pub none_before : (names : List (List ℕ)) (r : Row) (n : ℕ)
-    → (2 < n → length names < MAX_DISKS) → (3 < n → length r ≡ 3) → (4 < n → IsName (first r)) → (5 < n → IsNumber (second r) × IsNumber (third r))
-    → (6 < n → IsDiskInRange (disk_of r)) → (7 < n → ¬ (Contains names (first r)))
-    → (w : Why) → rank_of w < n → ¬ (DisksRowFault names r w)
-none_before names r n few width name numbers range new why.TooManyRows lt h = let f = few lt in omega arith
-none_before names r n few width name numbers range new why.BadWidth lt h = h (width lt)
-none_before names r n few width name numbers range new why.BadName lt h = h (name lt)
-none_before names r n few width name numbers range new why.BadNumber lt h = h (numbers lt)
-none_before names r n few width name numbers range new why.OutOfRange lt h = h (range lt)
-none_before names r n few width name numbers range new why.DuplicateDisk lt h = new lt h
-none_before names r n few width name numbers range new _ lt h = h
+pub none_before : (sides : Bool) (names : List (List ℕ)) (r : Row) (n : ℕ)
+    → (2 < n → length names < MAX_DISKS) → (3 < n → length r ≡ disk_width sides) → (4 < n → IsName (first r)) → (5 < n → HasNumbers sides r)
+    → (6 < n → IsDiskInRange (disk_of sides r)) → (7 < n → ¬ (Contains names (first r)))
+    → (w : Why) → rank_of w < n → ¬ (DisksRowFault sides names r w)
+none_before sides names r n few width name numbers range new why.TooManyRows lt h = let f = few lt in omega arith
+none_before sides names r n few width name numbers range new why.BadWidth lt h = h (width lt)
+none_before sides names r n few width name numbers range new why.BadName lt h = h (name lt)
+none_before sides names r n few width name numbers range new why.BadNumber lt h = h (numbers lt)
+none_before sides names r n few width name numbers range new why.OutOfRange lt h = h (range lt)
+none_before sides names r n few width name numbers range new why.DuplicateDisk lt h = new lt h
+none_before sides names r n few width name numbers range new _ lt h = h
 
 -- the two words for the field at a place
 pub field_at-slice_get : (fs : List (List ℕ)) (i : ℕ) → field_at fs i ≡ slice_get fs i
@@ -35,3 +33,19 @@ Contains-found names n (Some k) m e = (k, slice_get_within names k n m, get_or_f
 pub not_found : (names : List (List ℕ)) (n : List ℕ) (o : Option ℕ) → MatchOption o (¬ (Contains names n)) (λ k. slice_get names k ≡ Some n) → is_some o ≡ false → ¬ (Contains names n)
 not_found names n None m e = m
 not_found names n (Some k) m e = absurd (false≢true (sym e))
+
+-- numbers are in range exactly where the row's disk is
+pub range_of : (sides : Bool) (r : Row) (n : Numbers) → AreNumbersOf sides r n → AreInRange n ↔ IsDiskInRange (disk_of sides r)
+range_of false r n a = (
+  λ h. (subst IsLimit a.outgoing_is h.0, subst (λ k. 1 ≤ k) a.slots_is h.2, subst (λ k. k ≤ 65536) a.slots_is h.3),
+  λ h. (subst IsLimit (sym a.outgoing_is) h.0, subst IsLimit (sym a.incoming_is) h.0, subst (λ k. 1 ≤ k) (sym a.slots_is) h.1, subst (λ k. k ≤ 65536) (sym a.slots_is) h.2),
+)
+range_of true r n a = (
+  λ h. ((subst IsLimit a.outgoing_is h.0, subst IsLimit a.incoming_is h.1), subst (λ k. 1 ≤ k) a.slots_is h.2, subst (λ k. k ≤ 65536) a.slots_is h.3),
+  λ h. (subst IsLimit (sym a.outgoing_is) h.0.0, subst IsLimit (sym a.incoming_is) h.0.1, subst (λ k. 1 ≤ k) (sym a.slots_is) h.1, subst (λ k. k ≤ 65536) (sym a.slots_is) h.2),
+)
+
+-- they make the row's disk
+pub disk_by : (sides : Bool) (r : Row) (n : Numbers) → AreNumbersOf sides r n → (name : List ℕ) → name ≡ first r → ◌≡◌ {A = Disk} (record { name = name; limits = limits_by sides n; slots = n.slots }) (disk_of sides r)
+disk_by false r n a name e = λ i. record { name = e i; limits = Joint (a.outgoing_is i); slots = a.slots_is i }
+disk_by true r n a name e = λ i. record { name = e i; limits = Split (a.outgoing_is i) (a.incoming_is i); slots = a.slots_is i }

@@ -1,11 +1,6 @@
 -- The fields of a row beside those that are wanted.
-use Rattle.std.proofs.Common.{◌≡◌, ◌<◌, ◌+◌, ◌∙◌, ℕ, List, [], true, false, not, IsTrue, length, map, get_or, arith, ap, sym, subst, inl, inr, nat_eq, Bor}
-use Rattle.std.specs.Prelude.{slice_get, unwrap_or}
-use Rattle.std.specs.Cmp.Lexicographic.{pointwise, same_text, nat_list_eq_equiv}
-use Rattle.std.proofs.lemmas.Bool.{cases_lt, false≢true, not-false, not-true}
-use Rattle.std.proofs.lemmas.List.{ext_get_or, get_or-map, length-map}
-use Rattle.std.proofs.lemmas.Option.{slice_get-get_or}
-use Rattle.mig_base.specs.Rows.{Row}
+use Rattle.mig_csv.proofs.Common.{Bor, IsTrue, List, Row, [], ap, arith, cases_lt, ext_get_or, false, false≢true, get_or, get_or-map, inl, inr, length, length-map, map, nat_eq, nat_list_eq_equiv}
+use Rattle.mig_csv.proofs.Common.{not, not-false, not-true, pointwise, same_text, slice_get, slice_get-get_or, subst, sym, true, unwrap_or, ℕ, ◌+◌, ◌<◌, ◌∙◌, ◌≡◌}
 
 abbrev pub field_at : Row → ℕ → List ℕ
 field_at r i = unwrap_or (slice_get r i) []

@@ -1,16 +1,11 @@
 -- A now file that is read row by row.
-use Rattle.mig_base.proofs.Common.{◌≡◌, ◌≤◌, ◌+◌, ◌++◌, ◌∷◌, [], Contains, ℕ, All, Some, List, length, map, slice_get, arith, refl, ap, sym, subst, ◌∙◌, append_assoc, AllZip, append-nil}
-use Rattle.mig_base.proofs.Common.{length-append, length-map, map-append, All-append, IsFirstFault, IsSpotNamed, IsSpotOf, Row, first, header_of, rows_of, second}
-use Rattle.mig_csv.proofs.Common.{Why, Spot, Disk, MAX_FILE_BYTES, MAX_ITEMS, IsFirstCause, records_of, place_in, NowFault}
-use Rattle.std.proofs.lemmas.Slice.Zip.{all_zipped_more}
-use Rattle.mig_base.specs.Refusals.{NowRowFault}
-use Rattle.mig_base.specs.Rows.{place_of}
+use Rattle.mig_csv.proofs.Common.{All, All-append, AllZip, Contains, Disk, IsFirstCause, IsFirstFault, IsSpotNamed, IsSpotOf, List, MAX_FILE_BYTES, MAX_ITEMS, NowFault, NowRowFault, Row, Some}
+use Rattle.mig_csv.proofs.Common.{Spot, Why, [], all_zipped_more, ap, append-nil, append_assoc, arith, at_map, first, has_sides, header_of, length, length-append, length-map, map, map-append}
+use Rattle.mig_csv.proofs.Common.{one_all, place_in, place_of, records_of, refl, rows_of, second, slice_get, some_and, subst, sym, ℕ, ◌++◌, ◌+◌, ◌∙◌, ◌∷◌, ◌≡◌, ◌≤◌}
 use Rattle.mig_base.specs.declared.faults.FileKind.TheVariants as file
 use Rattle.mig_base.specs.declared.faults.Why.TheVariants as why
 use Rattle.mig_csv.proofs.DiskFiles.{OfRows, Sound, Sound-nil, Sound-push, first_fault, no_fault}
 use Rattle.mig_csv.proofs.ItemRows.{Contains-at, at-Contains, place_at}
-use Rattle.mig_base.proofs.Listed.{at_map, some_and}
-use Rattle.mig_base.proofs.Elements.{one_all}
 
 abbrev pub now_has : List Disk → List Row → Row → Why → Type 0
 now_has disks before r w = NowRowFault disks (map first before) (map place_of before) r w
@@ -36,7 +31,7 @@ named_places disks (r ∷ rs) (s ∷ ss) z =
 pub record ItemsSoFar (bytes : List ℕ) (disks : List Disk) (left : List Row) (names : List (List ℕ)) (taken : List Spot) (items : List (List ℕ)) (spots : List Spot) : Type 0 where
   pub short : length bytes ≤ MAX_FILE_BYTES
   pub done : List Row
-  pub records : records_of bytes ≡ header_of file.Now ∷ (done ++ left)
+  pub records : records_of bytes ≡ header_of file.Now (has_sides bytes) ∷ (done ++ left)
   pub sound : Sound (now_has disks) done
   pub few : length done ≤ MAX_ITEMS
   pub named : names ≡ map first done
@@ -45,7 +40,7 @@ pub record ItemsSoFar (bytes : List ℕ) (disks : List Disk) (left : List Row) (
   pub spotted : AllZip (IsSpotNamed disks) done taken
   pub valid : All (IsSpotOf disks) taken
 
-pub ItemsSoFar-start : {bytes : List ℕ} {disks : List Disk} (left : List Row) → length bytes ≤ MAX_FILE_BYTES → records_of bytes ≡ header_of file.Now ∷ left → ItemsSoFar bytes disks left [] [] [] []
+pub ItemsSoFar-start : {bytes : List ℕ} {disks : List Disk} (left : List Row) → length bytes ≤ MAX_FILE_BYTES → records_of bytes ≡ header_of file.Now (has_sides bytes) ∷ left → ItemsSoFar bytes disks left [] [] [] []
 ItemsSoFar-start {bytes} {disks} left short e = record {
   short = short;
   done = [];
@@ -61,7 +56,7 @@ ItemsSoFar-start {bytes} {disks} left short e = record {
 
 pub ItemsSoFar-end : {bytes : List ℕ} {disks : List Disk} {left : List Row} {names : List (List ℕ)} {taken : List Spot} {items : List (List ℕ)} {spots : List Spot}
     → ItemsSoFar bytes disks left names taken items spots → left ≡ [] → (n : ℕ) (w : Why) → ¬ (NowFault disks bytes n w)
-ItemsSoFar-end {bytes} {disks} s e = no_fault (now_has disks) (header_of file.Now) bytes s.done s.short (rw (e, append-nil) at s.records) s.sound
+ItemsSoFar-end {bytes} {disks} s e = no_fault (now_has disks) (header_of file.Now (has_sides bytes)) bytes s.done s.short (rw (e, append-nil) at s.records) s.sound
 
 rows_are : {bytes : List ℕ} {disks : List Disk} {left : List Row} {names : List (List ℕ)} {taken : List Spot} {items : List (List ℕ)} {spots : List Spot}
     → (s : ItemsSoFar bytes disks left names taken items spots) → left ≡ [] → rows_of bytes ≡ s.done
@@ -98,7 +93,7 @@ pub ItemsSoFar-fault : {bytes : List ℕ} {disks : List Disk} {left : List Row} 
     → ItemsSoFar bytes disks left names taken items spots → (r : Row) (rest : List Row) (w : Why) → left ≡ r ∷ rest → IsFirstCause (NowRowFault disks names (map (place_in disks) taken) r) w
     → IsFirstFault (NowFault disks bytes) (length names + 1) w
 ItemsSoFar-fault {bytes} {disks} {left} {names} {taken} s r rest w e f =
-    rw (s.named, length-map) (first_fault (now_has disks) (header_of file.Now) bytes s.done rest r w (now_rows disks) s.short (rw e at s.records) s.sound
+    rw (s.named, length-map) (first_fault (now_has disks) (header_of file.Now (has_sides bytes)) bytes s.done rest r w (now_rows disks) s.short (rw e at s.records) s.sound
     (rw (s.named, named_places disks s.done taken s.spotted) at f))
 
 -- the spot of a row whose place no row before named is not taken

@@ -1,11 +1,7 @@
-use Rattle.mig_base.proofs.Common.{◌≡◌, ◌<◌, ℕ, List, Contains, All, Some, length, map, slice_get, refl, ap, sym, subst, ◌∙◌, arith, ◌≤◌, Any, get_or_from_slice_get, slice_get-get_or}
-use Rattle.mig_base.proofs.Common.{slice_get_within, AreDifferent, IsSpotOf, number_of, Row, first, second, third, IsName}
-use Rattle.mig_csv.proofs.Common.{Why, Spot, Disk, MAX_ITEMS, rank_of, place_in}
-use Rattle.mig_base.specs.Digits.{IsNumber}
-use Rattle.mig_base.specs.Rows.{place_of}
-use Rattle.mig_base.specs.Refusals.{NowRowFault}
+use Rattle.mig_csv.proofs.Common.{All, Any, AreDifferent, Contains, Disk, IsName, IsNumber, IsSpotOf, List, MAX_ITEMS, NowRowFault, Row, Some, Spot, Why, ap, arith, at_map, first}
+use Rattle.mig_csv.proofs.Common.{get_or_from_slice_get, length, map, name_at, number_of, one_place, place_in, place_of, rank_of, refl, second, slice_get, slice_get-get_or, slice_get_within}
+use Rattle.mig_csv.proofs.Common.{some_and, some_map, subst, sym, third, ℕ, ◌<◌, ◌∙◌, ◌≡◌, ◌≤◌}
 use Rattle.mig_base.specs.declared.faults.Why.TheVariants as why
-use Rattle.mig_base.proofs.Listed.{at_map, name_at, one_place, some_and, some_map}
 
 pub Contains-at : {X : Type 0} (xs : List X) (k : ℕ) (x : X) → slice_get xs k ≡ Some x → Contains xs x
 Contains-at xs k x e = (k, slice_get_within xs k x e, get_or_from_slice_get xs k x x e)

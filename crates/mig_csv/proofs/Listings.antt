@@ -1,13 +1,8 @@
 -- What the steps of the reading say of two files.
-use Rattle.mig_base.proofs.Common.{◌≡◌, ◌<◌, [], ℕ, List, All, length, map, get_or, slice_get, sym, subst, ◌∙◌, ap, AllZip, length-map, slice_get_within, IsInput, IsSpotOf, Lists, IsSpotNamed, Bodies}
-use Rattle.mig_base.proofs.Common.{disk_of, first, rows_of}
-use Rattle.mig_csv.proofs.Common.{FileKind, Why, DiskId, Spot, Disk, DisksFault, IsRefusalOf, NowFault, InputError}
-use Rattle.std.proofs.lemmas.List.{get_or-map}
-use Rattle.mig_base.specs.Refusals.{Precedes, RefusedAs}
+use Rattle.mig_csv.proofs.Common.{All, AllZip, Bodies, Disk, DiskId, DisksFault, FileKind, InputError, IsInput, IsListingRefusal, IsRefusalOf, IsSpotNamed, IsSpotOf, List, ListingFault}
+use Rattle.mig_csv.proofs.Common.{ListingRefusedAs, Lists, NowFault, Precedes, RefusedAs, Spot, Why, [], ap, disks_of, first, get_or, get_or-map, length, length-map, listed-IsInput, map}
+use Rattle.mig_csv.proofs.Common.{own_stage, rows_of, slice_get, slice_get_within, some_and, subst, sym, zip_length, ℕ, ◌<◌, ◌∙◌, ◌≡◌}
 use Rattle.mig_base.specs.declared.faults.FileKind.TheVariants as file
-use Rattle.mig_base.proofs.FaultOrder.{own_stage}
-use Rattle.mig_base.proofs.Listed.{listed-IsInput, some_and, zip_length}
-use Rattle.mig_csv.specs.Listings.{IsListingRefusal, ListingFault, ListingRefusedAs}
 use Rattle.mig_csv.specs.declared.errors.InputError.TheVariants as error
 use Rattle.mig_csv.proofs.Whole.{clean_now, refusal_of_disks, refusal_of_now}
 
@@ -28,7 +23,7 @@ module _ (disks now : List ℕ) where
   listing_of_disks (error.Refused f n w) h = refused f n w (refusal_of_disks both (error.Refused f n w) h) (subst (λ (g : FileKind). ListingFault disks now g n w) (sym h.0) h.1.holds)
   listing_of_disks error.Memory h = tt
 
-  module _ (items : List Disk) (at : items ≡ map disk_of (rows_of disks)) (clean : (n : ℕ) (w : Why) → ¬ (DisksFault disks n w)) where
+  module _ (items : List Disk) (at : items ≡ disks_of disks) (clean : (n : ℕ) (w : Why) → ¬ (DisksFault disks n w)) where
     pub listing_of_now : (e : InputError) → IsRefusalOf file.Now (NowFault items now) e → IsListingRefusal disks now e
     listing_of_now (error.Refused f n w) h = refused f n w (refusal_of_now both items (error.Refused f n w) at clean h)
         (subst (λ (g : FileKind). ListingFault disks now g n w) (sym h.0) (subst (λ (ds : List Disk). NowFault ds now n w) at h.1.holds))

@@ -1,12 +1,8 @@
 -- The items that are still to be counted at their disks.
-use Rattle.mig_base.proofs.Common.{◌≡◌, ℕ, ◌+◌, ◌<◌, ◌≤◌, ◌==◌, ◌&&◌, true, false, cond, inl, inr, List, length, count_by, drop, set, get_or, arith, ap, ◌∙◌, range_with_len, count_by-le-length}
-use Rattle.mig_base.proofs.Common.{cases_eq, nat_tests, get_or-set_other, get_or-set_same, length-range_with_len, Lists, no_spot, is_relocated, source, target, incoming, present}
-use Rattle.mig_base.specs.declared.ids.Spot.{Spot}
-use Rattle.std.proofs.lemmas.List.Sums.{sum_by-drop_more}
-use Rattle.std.proofs.Math.ListN.{drop_of_length-le}
-use Rattle.mig_base.proofs.Counting.{count_by-filter}
+use Rattle.mig_csv.proofs.Common.{List, Lists, Spot, ap, arith, cases_eq, cond, count_by, count_by-filter, count_by-le-length, drop, drop_of_length-le, false, get_or, get_or-set_other}
+use Rattle.mig_csv.proofs.Common.{get_or-set_same, incoming, inl, inr, is_relocated, length, length-range_with_len, nat_tests, no_spot, present, range_with_len, set, slots_for, source}
+use Rattle.mig_csv.proofs.Common.{sum_by-drop_more, target, true, ℕ, ◌&&◌, ◌+◌, ◌<◌, ◌==◌, ◌∙◌, ◌≡◌, ◌≤◌}
 use Rattle.mig_csv.proofs.Coming.{left_from, left_from-end, left_from-next, left_from-start}
-use Rattle.mig_csv.specs.Lists.{slots_for}
 
 -- of the items from this number on, those that are on the disk, and those that are relocated and come to it
 abbrev pub left_over : Lists → ℕ → ℕ → ℕ

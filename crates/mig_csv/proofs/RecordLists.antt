@@ -1,16 +1,13 @@
 -- The records of a text, one after the other.
-use Rattle.std.proofs.Common.{◌≡◌, ◌<◌, ◌≤◌, ◌+◌, ◌∷◌, [], ◌==◌, ◌||◌, ℕ, zero, suc, Bool, true, false, cond, List, Option, Some, None, MatchBool, Bor, inl, length, arith, refl, ap, sym, subst, ◌∙◌}
-use Rattle.std.proofs.lemmas.Bool.{false≢true}
-use Rattle.csv.specs.Machine.{Read, ends_at_end, is_end, next_record, step, after_end, in_field, start_field, start_record, fields_after, field_after}
-use Rattle.csv.specs.Reading.{ReadRecord, ReadsOn, Ready, stops_reader, Reached, default_config, has_failed, is_flexible, reader_trim, records, records_from, records_next, took_first}
-use Rattle.csv.specs.declared.reader.Reader.{Reader}
-use Rattle.csv.specs.declared.error.ErrorKind.{ErrorKind}
+use Rattle.mig_csv.proofs.Common.{Action, Bool, Bor, ErrorKind, List, MatchBool, None, Option, Read, ReadRecord, Reader, ReadsOn, ReadsRecords, ReadsWithDefaults, Ready, Some, State, []}
+use Rattle.csv.specs.Reading.{Reached}
+use Rattle.mig_csv.proofs.Common.{after_end, all_from, ap, arith, cond, default_config, ends_at_end, false, false≢true, field_after, fields_after, has_failed, in_field, inl, is_end, is_flexible}
+use Rattle.mig_csv.proofs.Common.{length, reader_trim, records, records_next, refl, rows-end, rows-more, start_field, start_record, step, stops_reader, subst, suc, sym}
+use Rattle.csv.specs.Machine.{next_record}
+use Rattle.csv.specs.Reading.{records_from}
+use Rattle.mig_csv.proofs.Common.{took_first, true, unread_bytes, unread_records, zero, ℕ, ◌+◌, ◌<◌, ◌==◌, ◌||◌, ◌∙◌, ◌∷◌, ◌≡◌, ◌≤◌}
 use Rattle.csv.specs.declared.reader.Trim.TheVariants as trim
-use Rattle.csv.proofs.ReadFacts.{rows-end, rows-more}
-use Rattle.mig_csv.specs.Unread.{ReadsRecords, ReadsWithDefaults, all_from, unread_bytes, unread_records}
-use Rattle.csv.specs.declared.parser.State.{State}
 use Rattle.csv.specs.declared.parser.State.TheVariants as st
-use Rattle.csv.specs.declared.parser.Action.{Action}
 use Rattle.csv.specs.declared.parser.Action.TheVariants as act
 use Rattle.csv.specs.declared.parser.Terminator.TheVariants as term
 

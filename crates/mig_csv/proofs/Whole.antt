@@ -1,23 +1,19 @@
 -- What the steps of the reading say of the three files.
-use Rattle.mig_base.proofs.Common.{get_or_from_slice_get, slice_get-get_or, slice_get_within, length-map, AllZip, All, option_map, IsSpotNamed, ◌≡◌, get_or, ◌≤◌, ◌<◌, ◌+◌, [], ℕ, Option, Some, None}
-use Rattle.mig_base.proofs.Common.{List, length, map, slice_get, inl, inr, arith, refl, sym, subst, ◌∙◌, Lists, no_disk, Bodies, Row, disk_of, first, rows_of, IsRoomy, incoming, present}
-use Rattle.mig_csv.proofs.Common.{FileKind, Why, DiskId, Disk, PrecedesInFile, DisksFault, IsRefusalOf, NowFault, InputError}
-use Rattle.std.proofs.lemmas.Option.{slice_get-map}
-use Rattle.mig_base.specs.Refusals.{IsNextNamed, Accepted, AreListed, Fault, IsNotListed, LacksRoom, Precedes, stage_of}
+use Rattle.mig_csv.proofs.Common.{Accepted, Accepted-clean, All, AllZip, AreListed, AreListed-unique, AreNextOf, Bodies, Disk, DiskId, DisksFault, Fault, FileKind, InputError, IsClean}
+use Rattle.mig_csv.proofs.Common.{IsNextNamed, IsNotListed, IsRefusal, IsRefusalOf, IsRoomy, IsSpotNamed, LacksRoom, List, Lists, NextFault, None, NowFault, Option, Precedes, PrecedesInFile}
+use Rattle.mig_csv.proofs.Common.{RefusesMissing, RefusesRoom, Row, Some, Why, [], arith, disks_of, first, get_or, get_or_from_slice_get, incoming, inl, inr, length, length-map, map, no_disk}
+use Rattle.mig_csv.proofs.Common.{option_map, present, refl, refused_in_file, rows_of, slice_get, slice_get-get_or, slice_get-map, slice_get_within, stage_free, stage_of, subst, sym, ℕ, ◌+◌, ◌<◌}
+use Rattle.mig_csv.proofs.Common.{◌∙◌, ◌≡◌, ◌≤◌}
 use Rattle.mig_base.specs.declared.faults.FileKind.TheVariants as file
 use Rattle.mig_base.specs.declared.faults.Why.TheVariants as why
-use Rattle.mig_csv.specs.Lists.{AreNextOf, RefusesMissing, RefusesRoom}
-use Rattle.mig_csv.specs.Refusals.{IsRefusal, NextFault}
 use Rattle.mig_csv.specs.declared.errors.InputError.TheVariants as error
-use Rattle.mig_base.proofs.FaultOrder.{Accepted-clean, IsClean, refused_in_file, stage_free}
-use Rattle.mig_base.proofs.Listed.{AreListed-unique}
 
 -- a refusal of each file refuses the three
 pub refusal_of_disks : (fs : Bodies) (e : InputError) → IsRefusalOf file.Disks (DisksFault fs.disks) e → IsRefusal fs e
 refusal_of_disks fs (error.Refused f n w) h = rw h.0 (refused_in_file fs file.Disks n w (λ g m v lt. absurd (omega (arith, lt))) h.1)
 refusal_of_disks fs error.Memory h = tt
 
-pub refusal_of_now : (fs : Bodies) (disks : List Disk) (e : InputError) → disks ≡ map disk_of (rows_of fs.disks) → IsClean fs file.Disks
+pub refusal_of_now : (fs : Bodies) (disks : List Disk) (e : InputError) → disks ≡ disks_of fs.disks → IsClean fs file.Disks
     → IsRefusalOf file.Now (NowFault disks fs.now) e → IsRefusal fs e
 refusal_of_now fs disks (error.Refused f n w) at d h =
     rw h.0 (refused_in_file fs file.Now n w
@@ -25,7 +21,7 @@ refusal_of_now fs disks (error.Refused f n w) at d h =
     (rw at at h.1))
 refusal_of_now fs disks error.Memory at d h = tt
 
-pub refusal_of_next : (fs : Bodies) (disks : List Disk) (items : List (List ℕ)) (e : InputError) → disks ≡ map disk_of (rows_of fs.disks) → items ≡ map first (rows_of fs.now)
+pub refusal_of_next : (fs : Bodies) (disks : List Disk) (items : List (List ℕ)) (e : InputError) → disks ≡ disks_of fs.disks → items ≡ map first (rows_of fs.now)
     → IsClean fs file.Disks → IsClean fs file.Now → IsRefusalOf file.Next (NextFault disks items fs.next) e → IsRefusal fs e
 refusal_of_next fs disks items (error.Refused f n w) at those d now h =
     rw h.0 (refused_in_file fs file.Next n w
@@ -33,10 +29,10 @@ refusal_of_next fs disks items (error.Refused f n w) at those d now h =
     (rw (at, those) at h.1))
 refusal_of_next fs disks items error.Memory at those d now h = tt
 
-pub clean_now : (fs : Bodies) (disks : List Disk) → disks ≡ map disk_of (rows_of fs.disks) → ((n : ℕ) (w : Why) → ¬ (NowFault disks fs.now n w)) → IsClean fs file.Now
+pub clean_now : (fs : Bodies) (disks : List Disk) → disks ≡ disks_of fs.disks → ((n : ℕ) (w : Why) → ¬ (NowFault disks fs.now n w)) → IsClean fs file.Now
 clean_now fs disks at s = rw at at s
 
-pub clean_next : (fs : Bodies) (disks : List Disk) (items : List (List ℕ)) → disks ≡ map disk_of (rows_of fs.disks) → items ≡ map first (rows_of fs.now)
+pub clean_next : (fs : Bodies) (disks : List Disk) (items : List (List ℕ)) → disks ≡ disks_of fs.disks → items ≡ map first (rows_of fs.now)
     → ((n : ℕ) (w : Why) → ¬ (NextFault disks items fs.next n w)) → IsClean fs file.Next
 clean_next fs disks items at those s = rw (at, those) at s
 
@@ -67,7 +63,7 @@ next_within {disks} next ds a e k d lt =
     a.on_disks k (get_or ds k d) here
 
 -- the lists that were made are those that the rows list
-pub listed_of : (fs : Bodies) (i : Lists) (next : List (Option DiskId)) → i.disks ≡ map disk_of (rows_of fs.disks) → i.items ≡ map first (rows_of fs.now)
+pub listed_of : (fs : Bodies) (i : Lists) (next : List (Option DiskId)) → i.disks ≡ disks_of fs.disks → i.items ≡ map first (rows_of fs.now)
     → AllZip (IsSpotNamed i.disks) (rows_of fs.now) i.spots → AreNextOf i.disks i.items (rows_of fs.next) next → next ≡ map (λ (d : DiskId). Some d) i.next → AreListed fs i
 listed_of fs i next at those spots a e = record {
   disks = at;

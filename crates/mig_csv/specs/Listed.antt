@@ -7,7 +7,7 @@ use Rattle.mig_base.specs.declared.inputs.Disk.{Disk}
 use Rattle.mig_base.specs.declared.limits.TheConstants.{MAX_DISKS, MAX_ITEMS}
 use Rattle.mig_base.specs.InputLists.{IsSpotOf}
 use Rattle.mig_base.specs.Refusals.{IsSpotNamed}
-use Rattle.mig_base.specs.Rows.{disk_of, first, rows_of}
+use Rattle.mig_base.specs.Rows.{disks_of, first, rows_of}
 use Rattle.mig_csv.specs.declared.disks.DiskList.{DiskList}
 use Rattle.mig_csv.specs.declared.items.Layout.{Layout}
 use Rattle.mig_csv.specs.Lists.{AreNextOf}
@@ -15,7 +15,7 @@ use Rattle.mig_csv.specs.Refusals.{DisksFault, NextFault, NowFault}
 
 -- the list has the disks of the file, and nothing is wrong with the file
 pub record ListsDisks (bytes : List ℕ) (r : DiskList) : Type 0 where
-  pub value : r.disks.items ≡ map disk_of (rows_of bytes)
+  pub value : r.disks.items ≡ disks_of bytes
   pub few : length r.disks.items ≤ MAX_DISKS
   pub names : r.names ≡ map (λ d. d.name) r.disks.items
   pub sound : (n : ℕ) (w : Why) → ¬ (DisksFault bytes n w)

@@ -2,7 +2,7 @@
 use Rattle.std.specs.Prelude.{◌≡◌, ◌≢◌, ◌≤◌, ◌<◌, ⊤, ℕ, List, Some, length, map, slice_get}
 use Rattle.mig_base.specs.declared.limits.TheConstants.{MAX_FILE_BYTES}
 use Rattle.mig_base.specs.Refusals.{DisksRowFault, FileFault, IsFirstFault, NextRowFault, NowRowFault, RefusedAs}
-use Rattle.mig_base.specs.Rows.{Bodies, first, header_of, place_of, records_of}
+use Rattle.mig_base.specs.Rows.{Bodies, first, has_sides, header_of, place_of, records_of}
 use Rattle.mig_base.specs.declared.faults.FileKind.{FileKind}
 use Rattle.mig_base.specs.declared.faults.FileKind.TheVariants as file
 use Rattle.mig_base.specs.declared.faults.Why.{Why}
@@ -13,15 +13,15 @@ use Rattle.mig_csv.specs.declared.errors.InputError.TheVariants.{Refused, Memory
 
 -- a cause holds at a row of a disks file with these bytes
 abbrev pub DisksFault : List ℕ → ℕ → Why → Type 0
-DisksFault bytes n w = FileFault (λ before. DisksRowFault (map first before)) (header_of file.Disks) bytes n w
+DisksFault bytes n w = FileFault (λ before. DisksRowFault (has_sides bytes) (map first before)) (header_of file.Disks (has_sides bytes)) bytes n w
 
 -- the same of a now file, beside these disks
 abbrev pub NowFault : List Disk → List ℕ → ℕ → Why → Type 0
-NowFault disks bytes n w = FileFault (λ before. NowRowFault disks (map first before) (map place_of before)) (header_of file.Now) bytes n w
+NowFault disks bytes n w = FileFault (λ before. NowRowFault disks (map first before) (map place_of before)) (header_of file.Now (has_sides bytes)) bytes n w
 
 -- the same of a next file, beside these disks and these items of the now file
 abbrev pub NextFault : List Disk → List (List ℕ) → List ℕ → ℕ → Why → Type 0
-NextFault disks present bytes n w = FileFault (λ before. NextRowFault disks present (map first before)) (header_of file.Next) bytes n w
+NextFault disks present bytes n w = FileFault (λ before. NextRowFault disks present (map first before)) (header_of file.Next (has_sides bytes)) bytes n w
 
 -- a refusal names the file and its first fault
 abbrev pub IsRefusalOf : FileKind → (ℕ → Why → Type 0) → InputError → Type 0
@@ -31,7 +31,7 @@ IsRefusalOf f has Memory = ⊤
 -- a file is refused for its length or its header
 abbrev pub RefusesHeader : FileKind → List ℕ → InputError → Type 0
 RefusesHeader f bytes (Refused g n why.TooLong) = (g ≡ f) × (n ≡ 0) × (MAX_FILE_BYTES < length bytes)
-RefusesHeader f bytes (Refused g n why.BadHeader) = (g ≡ f) × (n ≡ 0) × (length bytes ≤ MAX_FILE_BYTES) × (slice_get (records_of bytes) 0 ≢ Some (header_of f))
+RefusesHeader f bytes (Refused g n why.BadHeader) = (g ≡ f) × (n ≡ 0) × (length bytes ≤ MAX_FILE_BYTES) × (slice_get (records_of bytes) 0 ≢ Some (header_of f (has_sides bytes)))
 RefusesHeader f bytes (Refused g n w) = ⊥
 RefusesHeader f bytes Memory = ⊤
 

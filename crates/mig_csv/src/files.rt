@@ -1,7 +1,7 @@
 //! The header of a file, and what comes after it.
-ghost use Rattle.std.specs.Prelude.{◌≡◌, ◌↔◌, IfErr, IfOk, IsTrue, map};
+ghost use Rattle.std.specs.Prelude.{◌≡◌, ◌↔◌, ◌==◌, IfErr, IfOk, IsTrue, Some, length, map, slice_get};
 ghost use Rattle.csv.specs.Records.{fields_of};
-ghost use Rattle.mig_base.specs.Rows.{header_of};
+ghost use Rattle.mig_base.specs.Rows.{header_of, records_of};
 ghost use Rattle.mig_csv.specs.Opened.{IsOpened};
 ghost use Rattle.mig_csv.specs.Refusals.{RefusesHeader};
 
@@ -19,6 +19,7 @@ pub(crate) fn rows_after_header<'a>(
     row: &mut ByteRecord,
 ) -> Result<Records<'a>, InputError>
     ensures opened { IfOk result (IsOpened file bytes.now) }
+    ensures header { IfOk result (λ _. slice_get (records_of bytes.now) 0 ≡ Some (fields_of row.new)) }
     ensures refused { IfErr result (RefusesHeader file bytes.now) }
 {
     if bytes.len() > MAX_FILE_BYTES {
@@ -32,11 +33,19 @@ pub(crate) fn rows_after_header<'a>(
     Ok(records)
 }
 
-/// Whether the row is the header of the file.
+/// Whether the row has four fields: a disks file that begins so has two limits in each row.
+pub(crate) fn has_sides(row: &ByteRecord) -> bool
+    ensures { result ≡ (length (fields_of row.now) == 4) }
+{
+    row.len() == 4
+}
+
+/// Whether the row is the header of the file. A disks file has one of two.
 fn is_header(file: FileKind, row: &ByteRecord) -> bool
-    ensures { IsTrue result ↔ (fields_of row.now ≡ header_of file) }
+    ensures { IsTrue result ↔ (fields_of row.now ≡ header_of file (length (fields_of row.now) == 4)) }
 {
     match file {
+        FileKind::Disks if has_sides(row) => has_fields(row, &[b"disk", b"out", b"in", b"slots"]),
         FileKind::Disks => has_fields(row, &[b"disk", b"limit", b"slots"]),
         FileKind::Now => has_fields(row, &[b"item", b"disk", b"slot"]),
         FileKind::Next => has_fields(row, &[b"item", b"disk"]),

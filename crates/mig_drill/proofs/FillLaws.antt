@@ -1,26 +1,10 @@
 -- How a store is filled, write by write.
-use Rattle.mig_base.proofs.Common.{◌≡◌, ◌⊎◌, inl, inr, ⊎_elim, ◌<◌, ◌≤◌, ◌+◌, ℕ, zero, suc, Bool, true, false, cond, List, [], ◌∷◌, length, map, Option, Some, None, option_map, Result, Ok, Err, IfSome, IsSome, false≢true, is_cell, get_or, refl, sym, ◌∙◌, ap, subst, arith}
-use Rattle.mig_base.proofs.Common.{All, AllWithin, All-contains, Contains, Contains-get_or, cases_eq, cases_lt, get_or_default, Image, SameBut, IsInput, Lists, no_spot, round_at, IsShifted, IsJobCell, item_cell, slot_of}
-use Rattle.mig_base.specs.declared.cells.Cell.{Cell}
-use Rattle.mig_base.specs.declared.ids.Shift.{Shift}
-use Rattle.mig_base.specs.Slots.{made_slot, IsListedCell}
-use Rattle.mig_base.specs.Stores.{State, IsState}
-use Rattle.mig_base.specs.Tasks.{Task, IsTask}
-use Rattle.mig_base.specs.Texts.{item_name}
-use Rattle.std.proofs.Common.{OnOk}
-use Rattle.mig_base.proofs.CellTests.{cases_cell, is_cell-same}
-use Rattle.mig_base.proofs.StoreSteps.{shape_told}
-use Rattle.mig_store.specs.Asking.{Contents, fresh}
-use Rattle.mig_store.specs.Calls.{Call}
-use Rattle.mig_store.specs.HeldCells.{held_at, zero_bytes, zero_held}
-use Rattle.mig_store.specs.Ledgers.{state_at}
-use Rattle.mig_store.specs.Memories.{Memory, state_of}
-use Rattle.mig_store.specs.declared.held.Held.{Held}
-use Rattle.mig_base.proofs.Rounds.{spot_disk}
-use Rattle.mig_base.proofs.SafetyLaws.{slot_apart}
-use Rattle.mig_mover.proofs.TargetLaws.{in_round}
+use Rattle.mig_drill.proofs.Common.{All, All-contains, AllWithin, AreJobCells, Bool, Call, Cell, Contains, Contains-get_or, Contents, Err, Held, IfSome, Image, IsClear, IsFilled, IsInput}
+use Rattle.mig_drill.proofs.Common.{IsJobCell, IsListedCell, IsMade, IsShifted, IsSome, IsState, IsTask, List, Lists, Memory, None, Ok, OnOk, Option, Result, SameBut, Shift, Some, State}
+use Rattle.mig_drill.proofs.Common.{StaysTold, Task, TellsJob, [], ap, arith, cases_cell, cases_eq, cases_lt, cond, false, false≢true, fresh, get_or, get_or_default, held_at, in_round, inl, inr}
+use Rattle.mig_drill.proofs.Common.{is_cell, is_cell-same, item_cell, item_name, length, made_slot, map, no_spot, option_map, refl, round_at, shape_told, slot_apart, slot_of, spot_disk, state_at}
+use Rattle.mig_drill.proofs.Common.{state_of, subst, suc, sym, true, zero, zero_bytes, zero_held, ℕ, ⊎_elim, ◌+◌, ◌<◌, ◌∙◌, ◌∷◌, ◌≡◌, ◌≤◌, ◌⊎◌}
 use Rattle.mig_drill.proofs.ItemLists.{shifted_item}
-use Rattle.mig_drill.specs.Stores.{AreJobCells, IsClear, IsMade, IsFilled, StaysTold, TellsJob}
 
 -- Cells that are told
 

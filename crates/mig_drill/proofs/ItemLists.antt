@@ -1,12 +1,5 @@
 -- The items that a plan shifts.
-use Rattle.std.proofs.Common.{ℕ, suc, ◌<◌, List, length, arith}
-use Rattle.std.specs.List.{Contains}
-use Rattle.mig_base.specs.declared.ids.Shift.{Shift}
-use Rattle.mig_base.specs.InputLists.{Lists}
-use Rattle.mig_base.specs.Layouts.{At, round_at}
-use Rattle.mig_base.specs.Running.{Runs}
-use Rattle.mig_base.proofs.LayoutSteps.{At-item}
-use Rattle.mig_base.proofs.Rounds.{leaves}
+use Rattle.mig_drill.proofs.Common.{At, At-item, Contains, List, Lists, Runs, Shift, arith, leaves, length, round_at, suc, ℕ, ◌<◌}
 
 -- a shifted item is one of the input's
 pub shifted_item : (input : Lists) (plan : List (List Shift)) → Runs input plan → (i : ℕ) → i < length plan → (s : Shift) → Contains (round_at plan (suc i)) s → s.item.0 < length input.spots

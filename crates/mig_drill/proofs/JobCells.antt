@@ -1,24 +1,10 @@
 -- The cells by which a plan is carried out, gathered one by one.
-use Rattle.mig_base.proofs.Common.{◌≡◌, ◌⊎◌, inl, inr, ⊎_elim, ◌↔◌, ◌<◌, ◌≤◌, ◌+◌, ◌++◌, ℕ, zero, suc, Bool, true, false, List, [], ◌∷◌, length, Option, Some, map, cond, get_or, slice_get, refl, sym, ◌∙◌, ap, subst, arith}
-use Rattle.mig_base.proofs.Common.{Contains, list_any, None, cases_eq, cases_lt, get_or_past, get_or_from_slice_get, slice_get-get_or, slice_get_within, Contains-append_left, Contains-append_right, Contains-from_any, option_map, Lists, round_at, flight_of, flights_of, IsMark, IsJobCell, slot_of}
-use Rattle.mig_base.specs.declared.cells.Cell.{Cell}
-use Rattle.mig_base.specs.declared.cells.Cell.TheVariants.{Head, Gate, Mark}
-use Rattle.mig_base.specs.declared.cells.Flight.{Flight}
-use Rattle.mig_base.specs.declared.ids.Shift.{Shift}
-use Rattle.mig_base.specs.declared.ids.Spot.{Spot}
-use Rattle.mig_base.specs.contracts.cells.CellPartialEq.TheImpl.{eq-value}
-use Rattle.std.specs.List.{Any}
-use Rattle.std.proofs.lemmas.List.Elements.{Contains-push_cases, Contains-push}
-use Rattle.std.proofs.lemmas.List.{length-map}
-use Rattle.std.proofs.lemmas.Option.{slice_get-map}
-use Rattle.indexmap.specs.IndexSet.{insert_key}
-use Rattle.mig_base.specs.Arrivals.{IsPlanSpot}
-use Rattle.mig_base.specs.Tasks.{Task}
-use Rattle.mig_base.proofs.Rounds.{any_contains}
-use Rattle.mig_base.specs.JobCells.{IsPlanSlot}
-use Rattle.mig_base.specs.Layouts.{IsSource, IsTarget}
-use Rattle.mig_store.proofs.CellTables.{eq-same}
-use Rattle.mig_drill.specs.Stores.{AreJobCells, IsEndOf, Joins}
+use Rattle.mig_drill.proofs.Common.{Any, AreJobCells, Bool, Cell, Contains, Contains-append_left, Contains-append_right, Contains-from_any, Contains-push, Contains-push_cases, Flight, IsEndOf}
+use Rattle.mig_drill.proofs.Common.{IsJobCell, IsMark, IsPlanSlot, IsPlanSpot, IsSource, IsTarget, Joins, List, Lists, Mark, None, Option, Shift, Some, Spot, Task, [], any_contains, ap, arith}
+use Rattle.mig_drill.proofs.Common.{cases_eq, cases_lt, cond, eq-same, eq-value, false, flight_of, flights_of, get_or, get_or_from_slice_get, get_or_past, inl, inr, insert_key, length}
+use Rattle.mig_drill.proofs.Common.{length-map, list_any, map, option_map, refl, round_at, slice_get, slice_get-get_or, slice_get-map, slice_get_within, slot_of, subst, suc, sym, true, zero, ℕ}
+use Rattle.mig_drill.proofs.Common.{⊎_elim, ◌++◌, ◌+◌, ◌<◌, ◌↔◌, ◌∙◌, ◌∷◌, ◌≡◌, ◌≤◌, ◌⊎◌}
+use Rattle.mig_base.specs.declared.cells.Cell.TheVariants.{Head, Gate}
 
 abbrev eq : Cell → Cell → Bool
 eq = eq-value.it

@@ -4,3 +4,4 @@ pub mod JobCells
 pub mod LineTexts
 pub mod StopSteps
 pub mod WriteLists
+pub mod Common

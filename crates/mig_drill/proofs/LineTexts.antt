@@ -1,18 +1,7 @@
 -- How the lines of a drill are spelled.
-use Rattle.mig_base.proofs.Common.{◌≡◌, ℕ, ◌+◌, ◌<◌, ◌≤◌, List, [], ◌∷◌, ◌++◌, Bool, true, false, length, map, take, get_or, Ok, refl, sym, ◌∙◌, ap, subst, append_assoc, arith, codes, decimal}
-use Rattle.mig_base.proofs.Common.{range_with_len, append-nil, map-append, take_more, get_or-range_with_len, text_of_lines}
-use Rattle.std.specs.Int.{from_bool}
-use Rattle.std.proofs.lemmas.Grind.{flat_map-append}
-use Rattle.std.proofs.lemmas.List.Folds.{flat_map-map}
-use Rattle.std.proofs.lemmas.List.Sums.{count_by_more_yes, count_by_more_no}
-use Rattle.mig_io.specs.Held.{SinkState}
-use Rattle.mig_drill.specs.declared.writes.Write.{Write}
-use Rattle.mig_drill.specs.declared.writes.Write.TheVariants.{ClearMark}
-use Rattle.mig_drill.specs.Writes.{sets_mark, marks_after}
-use Rattle.mig_drill.specs.Drills.{marks_line, count_line, stop_line, stop_lines}
-use Rattle.mig_words.specs.Outcomes.{joined}
-use Rattle.mig_words.specs.Puts.{Puts}
-use Rattle.mig_words.proofs.PutTexts.{puts_then}
+use Rattle.mig_drill.proofs.Common.{Bool, ClearMark, List, Ok, Puts, SinkState, Write, [], ap, append-nil, append_assoc, arith, codes, count_by_more_no, count_by_more_yes, count_line, decimal}
+use Rattle.mig_drill.proofs.Common.{false, flat_map-append, flat_map-map, from_bool, get_or, get_or-range_with_len, joined, length, map, map-append, marks_after, marks_line, puts_then}
+use Rattle.mig_drill.proofs.Common.{range_with_len, refl, sets_mark, stop_line, stop_lines, subst, sym, take, take_more, text_of_lines, true, ℕ, ◌++◌, ◌+◌, ◌<◌, ◌∙◌, ◌∷◌, ◌≡◌, ◌≤◌}
 
 -- the pieces of a line with one number
 pub count_spelled : (what : List ℕ) (n : ℕ) → what ++ (codes " " ++ (decimal n ++ (codes "\n" ++ []))) ≡ text_of_lines (count_line what n ∷ [])

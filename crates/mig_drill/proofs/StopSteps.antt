@@ -1,18 +1,8 @@
 -- A plan that is started, crashes, and is resumed.
-use Rattle.mig_base.proofs.Common.{◌≡◌, inl, inr, true, ℕ, ◌++◌, List, [], length, Option, Some, IsSome, option_map, Result, Ok, Err, IfOk, is_ok, refl, sym, ◌∙◌, ap, subst, arith, count_of, Adds, AreFlights, Image, SettlesTo, Contents, IsSound, State, IsState, flights, LeavesOnly, IsSettled}
-use Rattle.mig_base.specs.declared.cells.Event.{Event}
-use Rattle.mig_base.specs.declared.cells.Flight.{Flight}
-use Rattle.mig_base.specs.Arrivals.{IsReached}
-use Rattle.mig_base.specs.Flights.{in_flight}
-use Rattle.mig_base.specs.RoundEvents.{IsRun}
-use Rattle.mig_base.proofs.Landing.{flights_none}
-use Rattle.mig_base.proofs.StoreSteps.{same_image, told_kept, shape_told}
-use Rattle.mig_mover.specs.Moves.{Keeps}
-use Rattle.mig_base.specs.Tasks.{Task}
-use Rattle.mig_lanes.specs.LaneSteps.{later_rounds}
-use Rattle.mig_lanes.specs.Runs.{Finishes}
-use Rattle.mig_drill.specs.Stops.{HasResumed, LeavesSound}
-use Rattle.mig_drill.specs.Stores.{TellsJob}
+use Rattle.mig_drill.proofs.Common.{Adds, AreFlights, Err, Event, Finishes, Flight, HasResumed, IfOk, Image, IsReached, IsRun, IsSettled, IsSome, IsSound, IsState, Keeps, LeavesOnly}
+use Rattle.mig_base.proofs.Common.{Contents}
+use Rattle.mig_drill.proofs.Common.{LeavesSound, List, Ok, Option, Result, SettlesTo, Some, State, Task, TellsJob, [], ap, arith, count_of, flights, flights_none, in_flight, inl, inr, is_ok}
+use Rattle.mig_drill.proofs.Common.{later_rounds, length, option_map, refl, same_image, shape_told, subst, sym, told_kept, true, ℕ, ◌++◌, ◌∙◌, ◌≡◌}
 
 -- what every image since a moment has, each image that a crash now may leave has
 left_now : (P : Image → Type 0) (old new : State) → IsState old → IsState new → LeavesOnly P old new → ((image : Image) → old.may_leave image → P image) → (image : Image) → new.may_leave image → P image

@@ -1,12 +1,7 @@
 -- The lists of writes.
-use Rattle.mig_base.proofs.Common.{◌≡◌, ℕ, ◌+◌, ◌-◌, ◌*◌, ◌<◌, List, [], ◌∷◌, ◌++◌, length, get_or, take, replicate, refl, sym, ◌∙◌, ap, arith, length-append, flat_map, append-nil, length-replicate}
-use Rattle.mig_base.proofs.Common.{take_more, round_at, shifts_of}
-use Rattle.mig_base.specs.declared.ids.Shift.{Shift}
-use Rattle.std.proofs.lemmas.Grind.{flat_map-append}
-use Rattle.mig_mover.proofs.JobRounds.{round_is}
-use Rattle.mig_drill.specs.declared.writes.Write.{Write}
-use Rattle.mig_drill.specs.declared.writes.Write.TheVariants.{ClearMark, Head, Gate, Copy, SetMark, Erase}
-use Rattle.mig_drill.specs.Writes.{round_writes, writes_of}
+use Rattle.mig_drill.proofs.Common.{ClearMark, Copy, Erase, List, SetMark, Shift, Write, [], ap, append-nil, arith, flat_map, flat_map-append, get_or, length, length-append, length-replicate}
+use Rattle.mig_drill.proofs.Common.{refl, replicate, round_at, round_is, round_writes, shifts_of, sym, take, take_more, writes_of, ℕ, ◌*◌, ◌++◌, ◌+◌, ◌-◌, ◌<◌, ◌∙◌, ◌∷◌, ◌≡◌}
+use Rattle.mig_drill.specs.declared.writes.Write.TheVariants.{Head, Gate}
 
 round_length : (n : ℕ) → length (round_writes n) ≡ 2 * n + 1
 round_length n = omega (arith, length-append (replicate n Copy) (SetMark ∷ replicate n Erase), length-replicate n Copy, length-replicate n Erase)

@@ -1,13 +1,7 @@
 -- What `follow` keeps.
-use Rattle.mig_base.proofs.Common.{◌≡◌, ◌≢◌, ℕ, ◌<◌, ◌≤◌, ◌⊎◌, inl, inr, refl, sym, ap, subst, ◌∙◌, List, [], ◌∷◌, zero, suc, Option, Some, None, arith, Bool, true, false, length, length-set, set}
-use Rattle.mig_base.proofs.Common.{get_or, slice_get, cases_eq, ne_eqb, same_Some, none-some, slice_get-get_or, slice_get_within, get_or-set_same, get_or-set_other}
-use Rattle.mig_base.specs.declared.ids.DiskId.{DiskId}
-use Rattle.mig_base.specs.declared.ids.EdgeId.{EdgeId}
-use Rattle.std.proofs.lemmas.Option.{some_pair_parts}
-use Rattle.mig_base.proofs.SameIds.{same_disk}
-use Rattle.mig_base.proofs.Elements.{slice_get-set_other}
-use Rattle.mig_euler.specs.Balance.{IsWaiting, PassedBelow, AllPassed, AllInRange, pair_tail, pair_head}
-use Rattle.mig_euler.specs.Trails.{IsTrail, total, waits, is, bit}
+use Rattle.mig_euler.proofs.Common.{AllInRange, AllPassed, Bool, DiskId, EdgeId, IsTrail, IsWaiting, List, None, Option, PassedBelow, Some, [], ap, arith, bit, cases_eq, false, get_or}
+use Rattle.mig_euler.proofs.Common.{get_or-set_other, get_or-set_same, inl, inr, is, length, length-set, ne_eqb, none-some, pair_head, pair_tail, refl, same_Some, same_disk, set, slice_get}
+use Rattle.mig_euler.proofs.Common.{slice_get-get_or, slice_get-set_other, slice_get_within, some_pair_parts, subst, suc, sym, total, true, waits, zero, ℕ, ◌<◌, ◌∙◌, ◌∷◌, ◌≡◌, ◌≢◌, ◌≤◌, ◌⊎◌}
 use Rattle.mig_euler.proofs.Trail.{IsTrail-more, total-set}
 
 plain_not_set : (ds : List (Option Bool)) (i : ℕ) (d : Bool) → slice_get (set ds i (Some d)) i ≡ Some None → ⊥

@@ -1,10 +1,6 @@
 -- From pairs of disks to the transfer graph.
-use Rattle.mig_base.proofs.Common.{◌≡◌, ◌≢◌, ℕ, suc, zero, ◌<◌, Bool, List, [], ◌∷◌, length, map, refl, sym, ap, ◌∙◌, subst, arith, All, get_or, slice_get, Some, get_or_default, length-map, same_Some}
-use Rattle.mig_base.proofs.Common.{slice_get-get_or, slice_get_within, Trip, trip_at, Balances}
-use Rattle.mig_base.specs.declared.ids.DiskId.{DiskId}
-use Rattle.std.proofs.lemmas.List.{same_lists}
-use Rattle.mig_euler.specs.Balance.{AllInRange}
-use Rattle.mig_euler.specs.Pairs.{ArePairs, pair_trip, pair_at}
+use Rattle.mig_euler.proofs.Common.{All, AllInRange, ArePairs, Balances, Bool, DiskId, List, Some, Trip, [], ap, arith, get_or, get_or_default, length, length-map, map, pair_at, pair_trip, refl}
+use Rattle.mig_euler.proofs.Common.{same_Some, same_lists, slice_get, slice_get-get_or, slice_get_within, subst, suc, sym, trip_at, zero, ℕ, ◌<◌, ◌∙◌, ◌∷◌, ◌≡◌, ◌≢◌}
 
 map_get : (ps : List (DiskId × DiskId)) (k : ℕ) (t : Trip) → k < length ps → get_or (map pair_trip ps) k t ≡ pair_trip (pair_at ps k)
 map_get [] k t h = absurd (omega arith)

@@ -1,13 +1,7 @@
 -- Going from an edge of a disk to its next one.
-use Rattle.mig_base.proofs.Common.{◌≡◌, ◌≢◌, ℕ, ◌<◌, ◌≤◌, ◌+◌, ◌-◌, inl, inr, sym, ap, subst, ◌∙◌, List, zero, suc, Option, Some, None, arith, Bool, length, take, get_or, set, slice_get, cases_eq}
-use Rattle.mig_base.proofs.Common.{cases_lt, get_or-set_same, get_or-set_other, length-set, get_or_past, same_Some, slice_get-get_or, slice_get_within}
-use Rattle.mig_base.specs.declared.ids.DiskId.{DiskId}
-use Rattle.mig_base.specs.declared.ids.EdgeId.{EdgeId}
-use Rattle.mig_base.proofs.SameIds.{same_edge}
-use Rattle.mig_euler.specs.Balance.{IsWaiting, PassedBelow, AllPassed, AllInRange}
-use Rattle.mig_euler.specs.Trails.{total, waits}
-use Rattle.mig_euler.specs.Pairs.{pair_at}
-use Rattle.mig_euler.specs.Links.{IsNextAt, AreLinksFrom, AreFirst, link_at}
+use Rattle.mig_euler.proofs.Common.{AllInRange, AllPassed, AreFirst, AreLinksFrom, Bool, DiskId, EdgeId, IsNextAt, IsWaiting, List, None, Option, PassedBelow, Some, ap, arith, cases_eq, cases_lt}
+use Rattle.mig_euler.proofs.Common.{get_or, get_or-set_other, get_or-set_same, get_or_past, inl, inr, length, length-set, link_at, pair_at, same_Some, same_edge, set, slice_get, slice_get-get_or}
+use Rattle.mig_euler.proofs.Common.{slice_get_within, subst, suc, sym, take, total, waits, zero, ℕ, ◌+◌, ◌-◌, ◌<◌, ◌∙◌, ◌≡◌, ◌≢◌, ◌≤◌}
 use Rattle.mig_euler.proofs.Waiting.{waits_found}
 use Rattle.mig_euler.proofs.Odd.{total_take, waits_zero}
 

@@ -1,9 +1,6 @@
 -- Counting the edges that wait at a disk.
-use Rattle.mig_base.proofs.Common.{◌≡◌, ◌≢◌, ℕ, ◌<◌, ◌+◌, ◌%◌, ◌⊎◌, inl, inr, refl, sym, ap, subst, ◌∙◌, List, [], ◌∷◌, zero, suc, Option, Some, None, arith, Bool, true, false, not, length, take}
-use Rattle.mig_base.proofs.Common.{get_or, add-one, eq-eqb, MatchBool, ne_eqb, All}
-use Rattle.mig_base.specs.declared.ids.DiskId.{DiskId}
-use Rattle.mig_base.proofs.SameIds.{same_disk}
-use Rattle.mig_euler.specs.Trails.{bit, is, waits, total}
+use Rattle.mig_euler.proofs.Common.{All, Bool, DiskId, List, MatchBool, None, Option, Some, [], add-one, ap, arith, bit, eq-eqb, false, get_or, inl, inr, is, length, ne_eqb, not, refl, same_disk}
+use Rattle.mig_euler.proofs.Common.{subst, suc, sym, take, total, true, waits, zero, ℕ, ◌%◌, ◌+◌, ◌<◌, ◌∙◌, ◌∷◌, ◌≡◌, ◌≢◌, ◌⊎◌}
 
 pub total_take : (f : DiskId × DiskId → Option Bool → ℕ) (ps : List (DiskId × DiskId)) (ds : List (Option Bool)) (i : ℕ) (p : DiskId × DiskId) (d : Option Bool) → i < length ps → i < length ds → total f (take (suc i) ps) (take (suc i) ds) ≡ total f (take i ps) (take i ds) + f (get_or ps i p) (get_or ds i d)
 total_take f [] ds i p d h m = absurd (omega arith)

@@ -1,13 +1,8 @@
 -- All edges directed.
-use Rattle.mig_base.proofs.Common.{◌≡◌, ℕ, ◌<◌, ◌≤◌, ◌+◌, ◌%◌, ◌⊎◌, inl, inr, refl, sym, ap, subst, ◌∙◌, List, [], ◌∷◌, zero, suc, Option, Some, None, arith, Bool, true, false, cond, eqb, map, length}
-use Rattle.mig_base.proofs.Common.{replicate, get_or, eq-eqb, sum_by-cons, cases_eq, cases_lt, ne_eqb, length-replicate}
-use Rattle.mig_base.specs.declared.ids.DiskId.{DiskId}
+use Rattle.mig_euler.proofs.Common.{AllInRange, AllPassed, Bool, DiskId, EndsTrail, IsBalanced, IsReady, List, None, Option, Some, [], ap, arith, bit, cases_eq, cases_lt, cond, enters, eq-eqb}
+use Rattle.mig_euler.proofs.Common.{eqb, false, get_or, inl, inr, is, leaves, length, length-replicate, map, ne_eqb, pair_head, pair_tail, pair_trip, points_forward, refl, replicate, same_disk}
+use Rattle.mig_euler.proofs.Common.{subst, suc, sum_by-cons, sym, total, true, waits, zero, ℕ, ◌%◌, ◌+◌, ◌<◌, ◌∙◌, ◌∷◌, ◌≡◌, ◌≤◌, ◌⊎◌}
 use Rattle.mig_base.specs.Directions as base
-use Rattle.mig_euler.specs.Balance.{pair_tail, pair_head, AllPassed, AllInRange}
-use Rattle.mig_euler.specs.Pairs.{pair_trip}
-use Rattle.mig_euler.specs.Trails.{bit, is, leaves, enters, waits, total, EndsTrail, IsBalanced, points_forward}
-use Rattle.mig_euler.specs.Ready.{IsReady}
-use Rattle.mig_base.proofs.SameIds.{same_disk}
 use Rattle.mig_euler.proofs.Trail.{IsBalanced-trail, even_kept, odd_ended, trail_closed, IsBalanced-none}
 
 -- ---- where no edge waits anywhere, the counts are those of the directions

@@ -1,10 +1,6 @@
 -- Trails that direct edges one after the other.
-use Rattle.mig_base.proofs.Common.{◌≡◌, ◌≢◌, ℕ, ◌≤◌, ◌+◌, ◌%◌, ◌⊎◌, inl, inr, refl, sym, ap, ◌∙◌, List, [], ◌∷◌, zero, suc, Option, Some, None, arith, Bool, true, false, length-set, eq-eqb, set}
-use Rattle.mig_base.proofs.Common.{slice_get, cases_eq, ne_eqb, same_Some, none-some}
-use Rattle.mig_base.specs.declared.ids.DiskId.{DiskId}
-use Rattle.mig_base.proofs.SameIds.{same_disk}
-use Rattle.mig_euler.specs.Balance.{pair_tail, pair_head}
-use Rattle.mig_euler.specs.Trails.{bit, is, leaves, enters, waits, total, IsTrail, IsBalanced}
+use Rattle.mig_euler.proofs.Common.{Bool, DiskId, IsBalanced, IsTrail, List, None, Option, Some, [], ap, arith, bit, cases_eq, enters, eq-eqb, false, inl, inr, is, leaves, length-set, ne_eqb}
+use Rattle.mig_euler.proofs.Common.{none-some, pair_head, pair_tail, refl, same_Some, same_disk, set, slice_get, suc, sym, total, true, waits, zero, ℕ, ◌%◌, ◌+◌, ◌∙◌, ◌∷◌, ◌≡◌, ◌≢◌, ◌≤◌, ◌⊎◌}
 
 -- a total after one direction is set
 pub total-set : (f : DiskId × DiskId → Option Bool → ℕ) (ps : List (DiskId × DiskId)) (ds : List (Option Bool)) (i : ℕ) (p : DiskId × DiskId) (d e : Option Bool) → slice_get ps i ≡ Some p → slice_get ds i ≡ Some d → total f ps (set ds i e) + f p d ≡ total f ps ds + f p e

@@ -1,10 +1,6 @@
 -- Edges that wait for a direction.
-use Rattle.mig_base.proofs.Common.{◌≡◌, ℕ, ◌<◌, ◌+◌, ◌⊎◌, inl, inr, sym, ap, subst, ◌∙◌, List, Option, Some, None, arith, Bool, length, get_or, slice_get, cases_eq, same_Some, slice_get-get_or}
-use Rattle.mig_base.specs.declared.ids.DiskId.{DiskId}
-use Rattle.mig_base.specs.declared.ids.EdgeId.{EdgeId}
-use Rattle.std.proofs.lemmas.Option.{some_pair_parts}
-use Rattle.mig_base.proofs.SameIds.{same_edge}
-use Rattle.mig_euler.specs.Balance.{IsWaiting, PassedBelow}
+use Rattle.mig_euler.proofs.Common.{Bool, DiskId, EdgeId, IsWaiting, List, None, Option, PassedBelow, Some, ap, arith, cases_eq, get_or, inl, inr, length, same_Some, same_edge, slice_get}
+use Rattle.mig_euler.proofs.Common.{slice_get-get_or, some_pair_parts, subst, sym, ℕ, ◌+◌, ◌<◌, ◌∙◌, ◌≡◌, ◌⊎◌}
 
 pub waits_found : (ends : List (DiskId × DiskId)) (ds : List (Option Bool)) (v : DiskId) (i : ℕ) (p : DiskId × DiskId) (d : Option Bool) → i < length ends → length ds ≡ length ends → ((get_or ds i d ≡ None) × (((get_or ends i p).0 ≡ v) ⊎ ((get_or ends i p).1 ≡ v))) → IsWaiting ends ds v (record { 0 = i })
 waits_found ends ds v i p d h len w =

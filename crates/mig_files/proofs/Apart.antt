@@ -1,11 +1,6 @@
 -- No two cells share a byte.
-use Rattle.std.proofs.Common.{◌≡◌, ◌⊎◌, inl, inr, ◌+◌, ◌*◌, ◌<◌, ◌≤◌, ℕ, zero, suc, List, refl, sym, ap, arith}
-use Rattle.mig_base.specs.declared.cells.Cell.{Cell}
-use Rattle.mig_base.specs.declared.cells.Cell.TheVariants.{Slot, Head, Gate, Mark}
-use Rattle.mig_base.specs.Cells.{cell_len}
-use Rattle.mig_calls.specs.declared.places.Place.TheVariants.{Disk, Journal}
-use Rattle.mig_calls.specs.Places.{file_of, offset_of, mark_at}
-use Rattle.mig_calls.specs.Files.{IsWithin}
+use Rattle.mig_files.proofs.Common.{Cell, Disk, Gate, Head, IsWithin, Journal, List, Mark, Slot, ap, arith, cell_len, file_of, inl, inr, mark_at, offset_of, refl, suc, sym, zero, ℕ, ◌*◌, ◌+◌}
+use Rattle.mig_files.proofs.Common.{◌<◌, ◌≡◌, ◌≤◌, ◌⊎◌}
 
 other_file : (d : List ℕ) → Disk d ≡ Journal → ⊥
 other_file d is = cc

@@ -1,15 +1,7 @@
 -- How the journal is renewed.
-use Rattle.std.proofs.Common.{◌≡◌, ◌⊎◌, inl, inr, ◌+◌, ◌-◌, ◌<◌, ◌≤◌, ℕ, IsTrue, List, slice_index, sym, ◌∙◌, ap, subst, arith}
-use Rattle.std.specs.List.{Contains}
-use Rattle.std.proofs.lemmas.Bool.{cases_lt}
-use Rattle.mig_base.specs.declared.cells.Cell.{Cell}
-use Rattle.mig_base.specs.declared.cells.Cell.TheVariants.{Slot, Head, Gate, Mark}
-use Rattle.mig_calls.specs.declared.places.Place.{Place}
-use Rattle.mig_calls.specs.declared.places.Place.TheVariants.{Disk, Journal, Copy}
-use Rattle.mig_calls.specs.Places.{file_of}
-use Rattle.mig_calls.specs.Files.{FilesState, IsFilesState, FilesLook, FilesWrite, IsWithin, HasBytes, EndsAt, IsSettledAt}
-use Rattle.mig_files.specs.declared.tracked.Notes.{Notes}
-use Rattle.mig_files.specs.Tracking.{IsTracked, IsStep, IsCopyStep, IsCopiedTo, IsWriteStep}
+use Rattle.mig_files.proofs.Common.{Cell, Contains, Copy, Disk, EndsAt, FilesLook, FilesState, FilesWrite, Gate, HasBytes, Head, IsCopiedTo, IsCopyStep, IsFilesState, IsSettledAt, IsStep}
+use Rattle.mig_files.proofs.Common.{IsTracked, IsTrue, IsWithin, IsWriteStep, Journal, List, Mark, Notes, Place, Slot, ap, arith, cases_lt, file_of, inl, inr, slice_index, subst, sym, ℕ, ◌+◌}
+use Rattle.mig_files.proofs.Common.{◌-◌, ◌<◌, ◌∙◌, ◌≡◌, ◌≤◌, ◌⊎◌}
 use Rattle.mig_files.proofs.FilesSteps.{told_before}
 use Rattle.mig_files.proofs.TrackingSteps.{copy_then, look_is_copy, write_is_copy}
 

@@ -1,18 +1,9 @@
 -- A change of files is a change of the cells that are read off them.
-use Rattle.std.proofs.Common.{◌≡◌, inl, inr, ◌+◌, ◌<◌, ℕ, zero, suc, Bool, true, false, List, [], ◌∷◌, length, Option, Some, None, if◌then◌else◌, IsTrue, IfSome}
-use Rattle.std.proofs.Common.{Result, Ok, Err, OnOk, refl, sym, ◌∙◌, ap, subst, arith, rules}
-use Rattle.mig_base.specs.declared.cells.Cell.{Cell}
-use Rattle.mig_base.specs.declared.cells.Event.{Event}
-use Rattle.mig_base.specs.Cells.{cell_len}
-use Rattle.mig_base.specs.Images.{Image, SameBut, NoCell}
-use Rattle.mig_base.specs.Stores.{Changes, IsLeftBut, IsSettled, Ends}
-use Rattle.mig_base.specs.declared.cells.Cell.TheVariants.{Slot, Head, Gate, Mark}
-use Rattle.mig_calls.specs.declared.places.Place.{Place}
-use Rattle.mig_calls.specs.declared.places.Place.TheVariants.{Copy}
-use Rattle.mig_calls.specs.Places.{file_of, offset_of}
-use Rattle.mig_calls.specs.Files.{Files, SameFilesBut, NoByte, IsWithin, InFile, FileChange, FilesState, IsFilesState, IsLeftFilesBut, FilesChange, FilesLook, FilesWrite, HasBytes, EndsAt}
-use Rattle.mig_calls.specs.Files.{IsSettledAt}
-use Rattle.mig_files.specs.Derived.{window, cells_of, cell_state, cells-shape}
+use Rattle.mig_files.proofs.Common.{Bool, Cell, Changes, Copy, Ends, EndsAt, Err, Event, FileChange, Files, FilesChange, FilesLook, FilesState, FilesWrite, Gate, HasBytes, Head, IfSome, Image}
+use Rattle.mig_files.proofs.Common.{InFile, IsFilesState, IsLeftBut, IsLeftFilesBut, IsSettled, IsSettledAt, IsTrue, IsWithin, List, Mark, NoByte, NoCell, None, Ok, OnOk, Option, Place, Result}
+use Rattle.mig_files.proofs.Common.{SameBut, SameFilesBut, Slot, Some, [], ap, arith, cell_len, cell_state, cells-shape, cells_of, false, file_of, if◌then◌else◌, inl, inr, length, offset_of}
+use Rattle.mig_files.proofs.Common.{refl, rules, subst, suc, sym, true, zero, ℕ, ◌+◌, ◌<◌, ◌∙◌, ◌∷◌, ◌≡◌}
+use Rattle.mig_files.specs.Derived.{window}
 use Rattle.mig_files.proofs.Apart.{apart}
 use Rattle.mig_files.proofs.FilesSteps.{change_then, look_is_write, bytes_before, told_before, told_after}
 

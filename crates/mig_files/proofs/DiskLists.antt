@@ -1,11 +1,6 @@
 -- Sets of disks.
-use Rattle.std.proofs.Common.{◌≡◌, ◌++◌, ◌∷◌, [], ◌+◌, ◌≤◌, ℕ, Bool, true, false, List, MatchBool, nat_eq, length, cond, if◌then◌else◌, refl, sym, ◌∙◌, arith}
-use Rattle.std.specs.List.{Contains, list_any}
-use Rattle.std.specs.Cmp.Lexicographic.{pointwise, same_text, nat_list_eq_equiv}
-use Rattle.std.proofs.lemmas.Bool.{false_from_ne_true, false≢true}
-use Rattle.std.proofs.lemmas.Map.Views.{Contains-from_any, list_any-from_Contains}
-use Rattle.std.proofs.lemmas.List.Elements.{Contains-append_right}
-use Rattle.indexmap.specs.IndexSet.{insert_key}
+use Rattle.mig_files.proofs.Common.{Bool, Contains, Contains-append_right, Contains-from_any, List, MatchBool, [], arith, cond, false, false_from_ne_true, false≢true, if◌then◌else◌, insert_key}
+use Rattle.mig_files.proofs.Common.{length, list_any, list_any-from_Contains, nat_eq, nat_list_eq_equiv, pointwise, refl, same_text, sym, true, ℕ, ◌++◌, ◌+◌, ◌∙◌, ◌∷◌, ◌≡◌, ◌≤◌}
 
 abbrev same : List ℕ → List ℕ → Bool
 same = pointwise nat_eq

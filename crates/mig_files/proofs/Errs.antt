@@ -1,5 +1,5 @@
 -- What errors and absent values say.
-use Rattle.std.proofs.Common.{◌≡◌, Option, None, IfNone, Result, Ok, Err, OnErr, subst}
+use Rattle.mig_files.proofs.Common.{Err, IfNone, None, Ok, OnErr, Option, Result, subst, ◌≡◌}
 
 -- a fact that each error says
 pub err_any : {T E A : Type 0} (r : Result T E) → A → OnErr r A

@@ -1,7 +1,6 @@
 -- How changes of files go one after another.
-use Rattle.std.proofs.Common.{◌+◌, ℕ, Bool, IsTrue, List, refl, inl, inr, sym, ◌∙◌, ap, arith}
-use Rattle.mig_calls.specs.declared.places.Place.{Place}
-use Rattle.mig_calls.specs.Files.{Files, SameFilesBut, NoByte, IsWithin, FilesState, IsLeftFilesBut, FilesChange, FilesLook, FilesWrite, HasBytes}
+use Rattle.mig_files.proofs.Common.{Bool, Files, FilesChange, FilesLook, FilesState, FilesWrite, HasBytes, IsLeftFilesBut, IsTrue, IsWithin, List, NoByte, Place, SameFilesBut, ap, arith, inl}
+use Rattle.mig_files.proofs.Common.{inr, refl, sym, ℕ, ◌+◌, ◌∙◌}
 
 pub same_then : (P : Place → ℕ → Type 0) (a b c : Files) → SameFilesBut P a b → SameFilesBut P b c → SameFilesBut P a c
 same_then P a b c first then place i not = then place i not ∙ first place i not

@@ -1,20 +1,8 @@
 -- What the first bytes of a slot say.
-use Rattle.std.proofs.Common.{◌≡◌, ◌+◌, ◌-◌, ◌<◌, ◌≤◌, ◌++◌, ℕ, List, Option, Some, None, IsTrue, IfSome, Result, Ok, Err, OnOk, length, replicate, slice_index}
-use Rattle.std.proofs.Common.{slice_range, take, IsSome, ◌↔◌, refl, sym, ◌∙◌, ap, subst, arith, rules}
-use Rattle.std.proofs.Math.Seq.{take-append_seam}
-use Rattle.std.proofs.lemmas.List.{length-append, length-replicate, places}
-use Rattle.mig_base.specs.Naming.{IsName}
-use Rattle.mig_base.specs.declared.cells.Cell.{Cell}
-use Rattle.std.proofs.lemmas.Bool.{false≢true}
-use Rattle.mig_base.specs.declared.cells.Cell.TheVariants.{Slot, Head, Gate, Mark}
-use Rattle.mig_base.specs.Cells.{cell_len, is_slot}
-use Rattle.mig_base.specs.Images.{IsCopy}
-use Rattle.mig_base.specs.Slots.{header_of}
-use Rattle.mig_calls.specs.Places.{file_of, offset_of}
-use Rattle.mig_calls.specs.Files.{FilesState, FilesLook, HasBytes, EndsAt}
-use Rattle.mig_calls.specs.Refusals.{HoldsItem, WhereTold}
-use Rattle.mig_files.specs.Derived.{cells_of}
-use Rattle.mig_files.specs.Seeing.{SeesMore, IsElsewhere, IsFree, IsFreeFor}
+use Rattle.mig_files.proofs.Common.{Cell, EndsAt, Err, FilesLook, FilesState, Gate, HasBytes, Head, HoldsItem, IfSome, IsCopy, IsElsewhere, IsFree, IsFreeFor, IsName, IsSome, IsTrue, List, Mark}
+use Rattle.mig_files.proofs.Common.{None, Ok, OnOk, Option, Result, SeesMore, Slot, Some, WhereTold, ap, arith, cell_len, cells_of, false≢true, file_of, header_of, is_slot, length, length-append}
+use Rattle.mig_files.proofs.Common.{length-replicate, offset_of, places, refl, replicate, rules, slice_index, slice_range, subst, sym, take, take-append_seam, ℕ, ◌++◌, ◌+◌, ◌-◌, ◌<◌, ◌↔◌, ◌∙◌}
+use Rattle.mig_files.proofs.Common.{◌≡◌, ◌≤◌}
 use Rattle.mig_files.proofs.Derivation.{window-has, cell_read, cell_written}
 use Rattle.mig_files.proofs.FilesSteps.{told_before, told_after, bytes_after, bytes_before}
 

@@ -9,3 +9,4 @@ pub mod Headers
 pub mod Errs
 pub mod SeenItems
 pub mod TaskSteps
+pub mod Common

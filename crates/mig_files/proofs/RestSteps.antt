@@ -1,11 +1,6 @@
 -- How bytes are written, some at a time.
-use Rattle.std.proofs.Common.{◌≡◌, ◌+◌, ◌-◌, ◌<◌, ◌≤◌, ℕ, IsTrue, List, length, slice_index, slice_range, inl, inr, sym, ◌∙◌, ap, arith, rules}
-use Rattle.std.proofs.lemmas.Bool.{cases_lt}
-use Rattle.std.proofs.lemmas.List.{places}
-use Rattle.mig_calls.specs.declared.places.Place.{Place}
-use Rattle.mig_calls.specs.Files.{FilesState, IsWithin, HasBytes}
-use Rattle.mig_files.specs.declared.tracked.Notes.{Notes}
-use Rattle.mig_files.specs.Tracking.{IsWriteStep}
+use Rattle.mig_files.proofs.Common.{FilesState, HasBytes, IsTrue, IsWithin, IsWriteStep, List, Notes, Place, ap, arith, cases_lt, inl, inr, length, places, rules, slice_index, slice_range, sym}
+use Rattle.mig_files.proofs.Common.{ℕ, ◌+◌, ◌-◌, ◌<◌, ◌∙◌, ◌≡◌, ◌≤◌}
 use Rattle.mig_files.proofs.FilesSteps.{change_wide, told_before}
 
 -- the bytes behind those that were written

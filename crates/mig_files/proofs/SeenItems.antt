@@ -1,12 +1,6 @@
 -- Where items were seen.
-use Rattle.std.proofs.Common.{◌≡◌, ℕ, Bool, true, false, not, List, Some, MatchBool, refl, sym, ◌∙◌, ap}
-use Rattle.std.proofs.lemmas.Bool.{false≢true}
-use Rattle.mig_base.specs.declared.cells.Cell.{Cell}
-use Rattle.mig_base.specs.declared.cells.Cell.TheVariants.{Slot, Head, Gate, Mark}
-use Rattle.mig_base.specs.Cells.{is_cell}
-use Rattle.mig_base.specs.contracts.cells.CellPartialEq.TheImpl.{eq-value}
-use Rattle.mig_base.proofs.CellTests.{is_cell-same, is_cell-true}
-use Rattle.mig_files.specs.Seeing.{seen_at, IsElsewhere}
+use Rattle.mig_files.proofs.Common.{Bool, Cell, Gate, Head, IsElsewhere, List, Mark, MatchBool, Slot, Some, ap, eq-value, false, false≢true, is_cell, is_cell-same, is_cell-true, not, refl}
+use Rattle.mig_files.proofs.Common.{seen_at, sym, true, ℕ, ◌∙◌, ◌≡◌}
 
 eq-is : (a b : Cell) → eq-value.it a b ≡ is_cell a b
 eq-is (Slot d s) (Slot e t) = refl

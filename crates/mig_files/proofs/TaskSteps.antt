@@ -1,10 +1,5 @@
 -- How what calls leave goes one after another.
-use Rattle.std.proofs.Common.{Bool, ◌∙◌, ap, arith}
-use Rattle.mig_calls.specs.declared.places.Place.{Place}
-use Rattle.mig_calls.specs.Files.{FilesState, NoByte}
-use Rattle.mig_files.specs.declared.tries.Task.{Task}
-use Rattle.mig_files.specs.Tracking.{IsQuiet}
-use Rattle.mig_files.specs.Tasks.{Alters, Leaves}
+use Rattle.mig_files.proofs.Common.{Alters, Bool, FilesState, IsQuiet, Leaves, NoByte, Place, Task, ap, arith, ◌∙◌}
 use Rattle.mig_files.proofs.FilesSteps.{change_then, change_wide}
 
 pub leaves_then : {task : Task} {a b c : FilesState} → Leaves task a b → Leaves task b c → Leaves task a c

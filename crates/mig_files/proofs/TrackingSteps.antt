@@ -1,21 +1,8 @@
 -- How what is noted of files stays true.
-use Rattle.std.proofs.Common.{◌≡◌, inl, inr, ◌≤◌, ℕ, Bool, true, false, IsTrue, IsFalse, List, Err, refl, sym, ◌∙◌, ap, subst, arith}
-use Rattle.std.specs.List.{Contains}
-use Rattle.std.proofs.lemmas.Bool.{cases_Bool, false≢true}
-use Rattle.mig_base.specs.FaultCounts.{Rose}
-use Rattle.mig_calls.specs.declared.places.Place.{Place}
-use Rattle.mig_calls.specs.declared.places.Place.TheVariants.{Disk, Journal, Copy}
-use Rattle.mig_calls.specs.declared.calls.CallError.{CallError}
-use Rattle.mig_calls.specs.declared.calls.CallError.TheVariants.{Interrupted, Full, Failed}
-use Rattle.mig_calls.specs.Files.{FilesState, FilesLook, FilesWrite, FileChange, InFile, IsWithin, KeepsFlags, TouchesFile, KeepsFlushed, NoByte, IsCallCause, HasCallCause}
-use Rattle.mig_files.specs.declared.tracked.Notes.{Notes}
-use Rattle.mig_files.specs.declared.tries.Task.{Task}
-use Rattle.mig_files.specs.declared.tries.Task.TheVariants.{Claim, Sync, SyncNames, MakeCopy, Rename}
-use Rattle.mig_files.specs.Tasks.{Unflushes, Remakes, Leaves, LeavesUsable}
-use Rattle.mig_files.specs.Tracking.{IsTracked, IsQuiet, IsStep, StaysAlive, SameNotes, StaysSame, IsNoted, IsWriteStep, WritesAlive, IsWholeCopy}
-use Rattle.mig_base.specs.declared.cells.Cell.{Cell}
-use Rattle.mig_base.specs.Cells.{cell_len}
-use Rattle.mig_calls.specs.Places.{file_of, offset_of}
+use Rattle.mig_files.proofs.Common.{Bool, CallError, Cell, Claim, Contains, Copy, Disk, Err, Failed, FileChange, FilesLook, FilesState, FilesWrite, Full, HasCallCause, InFile, Interrupted}
+use Rattle.mig_files.proofs.Common.{IsCallCause, IsFalse, IsNoted, IsQuiet, IsStep, IsTracked, IsTrue, IsWholeCopy, IsWithin, IsWriteStep, Journal, KeepsFlags, KeepsFlushed, Leaves, LeavesUsable}
+use Rattle.mig_files.proofs.Common.{List, MakeCopy, NoByte, Notes, Place, Remakes, Rename, Rose, SameNotes, StaysAlive, StaysSame, Sync, SyncNames, Task, TouchesFile, Unflushes, WritesAlive, ap}
+use Rattle.mig_files.proofs.Common.{arith, cases_Bool, cell_len, false, false≢true, file_of, inl, inr, offset_of, refl, subst, sym, true, ℕ, ◌∙◌, ◌≡◌, ◌≤◌}
 use Rattle.mig_files.proofs.Derivation.{write_at_cell}
 use Rattle.mig_files.proofs.FilesSteps.{look_then, look_is_write, no_change, change_then, change_wide, told_before}
 

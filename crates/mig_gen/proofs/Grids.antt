@@ -1,9 +1,6 @@
 -- Rows of one length, one after the other, read by the place in the whole.
-use Rattle.mig_base.proofs.Common.{◌≡◌, ◌<◌, ◌+◌, ◌-◌, ◌*◌, ◌/◌, ◌%◌, ◌∷◌, ◌++◌, ℕ, zero, suc, List, [], map, arith, refl, sym, ◌∙◌, ap, append-nil, flat_map, range_with_len, fill_by_all}
-use Rattle.mig_base.proofs.Common.{get_or-map-range_with_len, length-map-range_with_len}
-use Rattle.std.proofs.lemmas.List.Concat.{flat_map-append}
-use Rattle.std.proofs.lemmas.Nat.{div-mul-add, mod-mul-add}
-use Rattle.mig_base.proofs.Elements.{range_next, range_append, map_more}
+use Rattle.mig_gen.proofs.Common.{List, [], ap, append-nil, arith, div-mul-add, fill_by_all, flat_map, flat_map-append, get_or-map-range_with_len, length-map-range_with_len, map, map_more}
+use Rattle.mig_gen.proofs.Common.{mod-mul-add, range_append, range_next, range_with_len, refl, suc, sym, zero, ℕ, ◌%◌, ◌*◌, ◌++◌, ◌+◌, ◌-◌, ◌/◌, ◌<◌, ◌∙◌, ◌∷◌, ◌≡◌}
 
 -- the numbers before one of them, that one, and those after it
 pub range_split : (n v : ℕ) → v < n → range_with_len 0 n ≡ range_with_len 0 v ++ v ∷ range_with_len (v + 1) (n - (v + 1))

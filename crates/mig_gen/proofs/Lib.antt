@@ -3,3 +3,4 @@ pub mod MadeInput
 mod MadeLists
 pub mod MadeNames
 pub mod MadeRoom
+pub mod Common

@@ -1,14 +1,8 @@
 -- A made case keeps what every input keeps.
-use Rattle.mig_base.proofs.Common.{◌≡◌, ◌≢◌, ◌<◌, ◌≤◌, ◌-◌, ◌*◌, ◌/◌, ◌%◌, ℕ, Option, Some, List, length, map, arith, refl, sym, ◌∙◌, ap, subst, range_with_len, mul-le-mul_left, IsSomeAnd}
-use Rattle.mig_base.proofs.Common.{slice_get-get_or, get_or-map-range_with_len, length-map-range_with_len, IsInput, IsDiskInRange, IsSpotOf, Lists, no_disk, IsName}
-use Rattle.mig_base.specs.declared.ids.DiskId.{DiskId}
-use Rattle.mig_base.specs.declared.ids.Spot.{Spot}
-use Rattle.mig_base.specs.declared.inputs.Disk.{Disk}
-use Rattle.mig_base.specs.declared.limits.TheConstants.{MAX_ITEMS, MAX_SLOTS}
-use Rattle.std.proofs.Math.Nat.{div-add-mod, div-lt_iff_lt-mul, mod-lt}
-use Rattle.mig_base.specs.declared.names.Name.{Name}
-use Rattle.mig_gen.specs.ByNumber.{next_at, other, spot_at}
-use Rattle.mig_gen.specs.MadeCases.{IsCaseSize, case_of, items_on, made_disk, made_item}
+use Rattle.mig_gen.proofs.Common.{Disk, DiskId, IsCaseSize, IsDiskInRange, IsInput, IsName, IsSomeAnd, IsSpotOf, List, Lists, MAX_ITEMS, MAX_SLOTS, Name, Option, Some, Spot, ap, arith, case_of}
+use Rattle.mig_gen.proofs.Common.{div-add-mod, div-lt_iff_lt-mul, false, get_or-map-range_with_len, is_duplex, is_split, items_on, joint_disks, length, length-map-range_with_len, made_disk}
+use Rattle.mig_gen.proofs.Common.{made_item, map, mod-lt, mul-le-mul_left, next_at, no_disk, other, range_with_len, refl, slice_get-get_or, spot_at, subst, sym, ℕ, ◌%◌, ◌*◌, ◌-◌, ◌/◌, ◌<◌, ◌∙◌}
+use Rattle.mig_gen.proofs.Common.{◌≡◌, ◌≢◌, ◌≤◌}
 use Rattle.mig_gen.proofs.MadeLists.{all_of, other_low_high, pairs_of, next_are, spots_are}
 use Rattle.mig_gen.proofs.MadeNames.{numbered_is_name, same_number}
 
@@ -69,7 +63,8 @@ module _ (disks per_pair limit : ℕ) (size : IsCaseSize disks per_pair limit) w
     few_disks = omega (arith, length-map-range_with_len (made_disk limit (2 * on_each)) 0 disks, size.few_disks);
     named_disks = all_of (made_disk limit (2 * on_each)) disks (λ disk. IsName disk.name) (λ i lt. numbered_is_name 100 i refl (omega (arith, lt, size.few_disks)));
     disk_names = pairs_of (made_disk limit (2 * on_each)) disks (λ a b. a.name ≢ b.name) (λ i j lt below e. let same = same_number 100 i j (omega (arith, lt, below, size.few_disks)) (omega (arith, below, size.few_disks)) e in omega (arith, lt, same));
-    disk_ranges = all_of (made_disk limit (2 * on_each)) disks IsDiskInRange (λ i lt. (size.some_limit, size.low_limit, omega (arith, some_on_each), omega (arith, room)));
+    disk_ranges = all_of (made_disk limit (2 * on_each)) disks IsDiskInRange (λ i lt. ((size.some_limit, size.low_limit), omega (arith, some_on_each), omega (arith, room)));
+    one_kind = all_of (made_disk limit (2 * on_each)) disks (λ disk. is_split disk.limits ≡ is_duplex by_number.disks) (λ i lt. sym (joint_disks by_number.disks (all_of (made_disk limit (2 * on_each)) disks (λ disk. is_split disk.limits ≡ false) (λ j l. refl))));
     few_items = omega (arith, length-map-range_with_len made_item 0 count, few_items);
     named_items = all_of made_item count IsName (λ i lt. numbered_is_name 105 i refl (omega (arith, lt, few_items)));
     item_names = pairs_of made_item count (λ a b. a ≢ b) (λ i j lt below e. let same = same_number 105 i j (omega (arith, lt, below, few_items)) (omega (arith, below, few_items)) e in omega (arith, lt, same));
@@ -82,3 +77,7 @@ module _ (disks per_pair limit : ℕ) (size : IsCaseSize disks per_pair limit) w
 
   pub is_input : IsInput (case_of disks per_pair limit)
   is_input = subst IsInput (made_is by_number.disks by_number.items by_number.spots by_number.next refl refl refl refl) keeps
+
+  -- the disks have joint limits
+  pub is_joint : is_duplex (case_of disks per_pair limit).disks ≡ false
+  is_joint = joint_disks (case_of disks per_pair limit).disks (all_of (made_disk limit (2 * items_on disks per_pair)) disks (λ disk. is_split disk.limits ≡ false) (λ j l. refl))

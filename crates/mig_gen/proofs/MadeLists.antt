@@ -1,12 +1,7 @@
 -- The lists of a made case by the numbers of their elements.
-use Rattle.mig_base.proofs.Common.{◌≡◌, ◌<◌, ◌≤◌, ◌+◌, ◌-◌, ◌*◌, ◌/◌, ◌∷◌, ◌++◌, ℕ, zero, suc, List, All, length, map, get_or, replicate, cond, arith, inl, inr, refl, sym, ◌∙◌, ap, subst, AllPairs}
-use Rattle.mig_base.proofs.Common.{flat_map, range_with_len, cases_lt, get_or-map-range_with_len, length-map-range_with_len}
-use Rattle.mig_base.specs.declared.ids.DiskId.{DiskId}
-use Rattle.std.proofs.lemmas.Bool.{lt-ltb, le-ltb}
-use Rattle.std.proofs.lemmas.List.Folds.{flat_map-map}
-use Rattle.mig_base.proofs.Elements.{map_more}
-use Rattle.mig_gen.specs.ByNumber.{next_at, other, spot_at}
-use Rattle.mig_gen.specs.MadeCases.{items_on, next_from, others, spots_on}
+use Rattle.mig_gen.proofs.Common.{All, AllPairs, DiskId, List, ap, arith, cases_lt, cond, flat_map, flat_map-map, get_or, get_or-map-range_with_len, inl, inr, items_on, le-ltb, length}
+use Rattle.mig_gen.proofs.Common.{length-map-range_with_len, lt-ltb, map, map_more, next_at, next_from, other, others, range_with_len, refl, replicate, spot_at, spots_on, subst, suc, sym, zero}
+use Rattle.mig_gen.proofs.Common.{ℕ, ◌*◌, ◌++◌, ◌+◌, ◌-◌, ◌/◌, ◌<◌, ◌∙◌, ◌∷◌, ◌≡◌, ◌≤◌}
 use Rattle.mig_gen.proofs.Grids.{rows_are}
 
 -- What is so of each number is so of each element, and the same of two

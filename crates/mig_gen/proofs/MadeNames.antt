@@ -1,8 +1,6 @@
 -- A letter and a number are a name, and no other number gives the same.
-use Rattle.mig_base.proofs.Common.{◌≡◌, ◌<◌, ◌+◌, ◌%◌, ◌^◌, ◌∷◌, ℕ, List, [], All, IsTrue, arith, decimal, nat_tests, decimal_injective, length-decimal-le, All-push, IsName, is_name_byte}
-use Rattle.std.specs.Char.{is_ascii_alphanumeric}
-use Rattle.std.proofs.lemmas.Fmt.{decimal_by_steps}
-use Rattle.std.proofs.lemmas.List.Elements.{All-nil, All-cons}
+use Rattle.mig_gen.proofs.Common.{All, All-cons, All-nil, All-push, IsName, IsTrue, List, [], arith, decimal, decimal_by_steps, decimal_injective, is_ascii_alphanumeric, is_name_byte}
+use Rattle.mig_gen.proofs.Common.{length-decimal-le, nat_tests, ℕ, ◌%◌, ◌+◌, ◌<◌, ◌^◌, ◌∷◌, ◌≡◌}
 
 digit_is_plain : (k : ℕ) → k < 10 → IsTrue (is_name_byte (48 + k))
 digit_is_plain k h = grind (arith, nat_tests)

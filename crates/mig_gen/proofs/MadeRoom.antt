@@ -1,15 +1,8 @@
 -- A made case has room for what comes to each disk.
-use Rattle.mig_base.proofs.Common.{◌≡◌, ◌<◌, ◌≤◌, ◌+◌, ◌-◌, ◌*◌, ◌==◌, ◌∷◌, ℕ, Bool, List, [], length, get_or, replicate, arith, refl, sym, ◌∙◌, ap, count_by, flat_map, range_with_len, sum_by}
-use Rattle.mig_base.proofs.Common.{mul-le-mul_left, eq-eqb, fill_by_all, get_or-map-range_with_len, length-map-range_with_len, length-range_with_len, sum_by-append, sum_by-cons, Lists, no_disk}
-use Rattle.mig_base.proofs.Common.{IsRoomy, incoming, is_relocated, target}
-use Rattle.mig_base.specs.declared.ids.DiskId.{DiskId}
-use Rattle.mig_base.specs.declared.ids.Spot.{Spot}
-use Rattle.std.proofs.lemmas.List.Folds.{sum_by-replicate}
-use Rattle.std.proofs.lemmas.List.Sums.{sum_by-le}
-use Rattle.mig_base.proofs.Counting.{sum_by-add, sum_by-map, sum_by-same_each, one, count_by-filter-le}
-use Rattle.mig_base.proofs.Scheduled.{once_in_range, range_below}
-use Rattle.mig_gen.specs.ByNumber.{next_at}
-use Rattle.mig_gen.specs.MadeCases.{case_of, items_on, made_disk, made_item, next_from, others, spots_on}
+use Rattle.mig_gen.proofs.Common.{Bool, DiskId, IsRoomy, List, Lists, Spot, [], ap, arith, case_of, count_by, count_by-filter-le, eq-eqb, fill_by_all, flat_map, get_or, get_or-map-range_with_len}
+use Rattle.mig_gen.proofs.Common.{incoming, is_relocated, items_on, length, length-map-range_with_len, length-range_with_len, made_disk, made_item, mul-le-mul_left, next_at, next_from, no_disk}
+use Rattle.mig_gen.proofs.Common.{once_in_range, one, others, range_below, range_with_len, refl, replicate, spots_on, sum_by, sum_by-add, sum_by-append, sum_by-cons, sum_by-le, sum_by-map}
+use Rattle.mig_gen.proofs.Common.{sum_by-replicate, sum_by-same_each, sym, target, ℕ, ◌*◌, ◌+◌, ◌-◌, ◌<◌, ◌==◌, ◌∙◌, ◌∷◌, ◌≡◌, ◌≤◌}
 use Rattle.mig_gen.proofs.Grids.{range_split}
 use Rattle.mig_gen.proofs.MadeLists.{next_are}
 

@@ -5,6 +5,7 @@ use Rattle.std.specs.Fmt.{decimal}
 use Rattle.mig_base.specs.declared.ids.DiskId.{DiskId}
 use Rattle.mig_base.specs.declared.ids.Spot.{Spot}
 use Rattle.mig_base.specs.declared.inputs.Disk.{Disk}
+use Rattle.mig_base.specs.declared.inputs.Limits.TheVariants.{Joint}
 use Rattle.mig_base.specs.declared.limits.TheConstants.{MAX_DISKS, MAX_ITEMS, MAX_LIMIT}
 use Rattle.mig_base.specs.InputLists.{Lists}
 
@@ -24,7 +25,7 @@ items_on disks per_pair = (disks - 1) * per_pair
 
 -- the disk numbered v, `d0`, `d1` and so on: twice as many slots as items
 abbrev pub made_disk : ℕ → ℕ → ℕ → Disk
-made_disk limit slots v = record { name = codes "d" ++ decimal v; limit = limit; slots = slots }
+made_disk limit slots v = record { name = codes "d" ++ decimal v; limits = Joint limit; slots = slots }
 
 -- the item numbered i, `i0`, `i1` and so on
 abbrev pub made_item : ℕ → List ℕ

@@ -1,5 +1,6 @@
 //! Migrations of three numbers.
-ghost use Rattle.std.specs.Prelude.{◌≡◌, ◌↔◌, IfOk, IsTrue};
+ghost use Rattle.std.specs.Prelude.{◌≡◌, ◌↔◌, IfOk, IsTrue, false};
+ghost use Rattle.mig_base.specs.InputLists.{is_duplex};
 ghost use Rattle.mig_base.specs.Targets.{IsRoomy};
 ghost use Rattle.mig_gen.specs.MadeCases.{IsCaseSize, case_of};
 
@@ -28,6 +29,7 @@ pub fn make_case(alloc: Global, disks: u32, per_pair: u32, limit: u32) -> Result
     requires { IsCaseSize disks per_pair limit }
     ensures case { IfOk result (λ input. input ≡ case_of disks per_pair limit) }
     ensures roomy { IfOk result IsRoomy }
+    ensures joint { IfOk result (λ input. is_duplex input.disks ≡ false) }
 {
     let on_each = (disks - 1) * per_pair;
     let items = disks * on_each;

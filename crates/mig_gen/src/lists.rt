@@ -8,7 +8,7 @@ ghost use Rattle.mig_gen.specs.ByNumber.{next_at, other, spot_at};
 ghost use Rattle.mig_gen.specs.MadeCases.{made_disk, made_item};
 
 use itoa::Buffer;
-use mig_base::{Disk, DiskId, Name, Spot};
+use mig_base::{Disk, DiskId, Limits, Name, Spot};
 use std::alloc::{AllocError, Global};
 
 /// The name with these bytes, which are those of a name.
@@ -46,7 +46,7 @@ pub fn make_disks(
     (0..disks)
         .map(|disk| Disk {
             name: numbered(b'd', disk),
-            limit,
+            limits: Limits::Joint { limit },
             slots,
         })
         .collect(alloc)

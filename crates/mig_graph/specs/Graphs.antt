@@ -1,13 +1,14 @@
 -- What every transfer graph keeps.
 use Rattle.std.specs.Prelude.{◌≡◌, ◌≢◌, ◌<◌, ◌≤◌, length, All}
 use Rattle.mig_base.specs.declared.limits.TheConstants.{MAX_DISKS, MAX_ITEMS}
-use Rattle.mig_base.specs.InputLists.{IsDiskInRange}
+use Rattle.mig_base.specs.InputLists.{IsDiskInRange, is_duplex, is_split}
 use Rattle.mig_base.specs.Transfers.{Transfers}
 
--- its numbers fit their types, and each edge joins two different disks that are there
+-- its numbers fit their types, limits are of one kind, and each edge joins two different disks that are there
 pub record IsGraph (graph : Transfers) : Type 0 where
   pub disks_most : length graph.disks ≤ MAX_DISKS
   pub disks_valid : All IsDiskInRange graph.disks
+  pub one_kind : All (λ disk. is_split disk.limits ≡ is_duplex graph.disks) graph.disks
   pub edges_most : length graph.trips ≤ MAX_ITEMS
   pub items_len : length graph.items ≡ length graph.trips
   pub leaves_there : All (λ t. t.leaves < length graph.disks) graph.trips

@@ -1,11 +1,13 @@
 //! The transfer graph and what is counted of it.
-ghost use Rattle.std.specs.Prelude.{◌≡◌, ◌≢◌, ◌<◌, ◌≤◌, ◌↔◌, IsTrue, IfOk, length, slice_index};
-ghost use Rattle.mig_base.specs.Transfers.{load, transfers};
+ghost use Rattle.std.specs.Prelude.{◌≡◌, ◌≢◌, ◌<◌, ◌≤◌, ◌↔◌, IsTrue, IfOk, true, false, length, slice_index};
+ghost use Rattle.mig_base.specs.declared.certs.Side.TheVariants.{Outgoing, Incoming};
+ghost use Rattle.mig_base.specs.InputLists.{disk_at, is_duplex, is_split};
+ghost use Rattle.mig_base.specs.Transfers.{load, side_load, side_limit, transfers};
 ghost use Rattle.mig_base.specs.Bounding.{quotient, limit, IsEven};
 
 use crate::edges::{Edge, edges_of};
 use crate::loads::{even_of, loads_of, quotient_of};
-use mig_base::{Disk, DiskId, EdgeId, Input, ItemId, MAX_ITEMS, MAX_LIMIT};
+use mig_base::{Disk, DiskId, EdgeId, Input, ItemId, Limits, MAX_ITEMS, MAX_LIMIT, Side};
 use std::alloc::{AllocError, Global};
 use std::marker::Model;
 
@@ -17,8 +19,10 @@ use std::marker::Model;
 pub struct Graph {
     disks: Vec<Disk>,
     edges: Vec<Edge>,
-    loads: Vec<u32>,
+    outgoing: Vec<u32>,
+    incoming: Vec<u32>,
     quotient: u32,
+    duplex: bool,
     even: bool,
 }
 
@@ -46,14 +50,17 @@ impl Graph {
     {
         let edges = edges_of(alloc, input)?;
         let disks = Vec::from_slice(alloc, input.disks())?;
-        let loads = loads_of(alloc, disks.len(), &edges)?;
-        let quotient = quotient_of(&disks, &loads);
-        let even = even_of(&disks, &loads);
+        let outgoing = loads_of(alloc, disks.len(), &edges, Side::Outgoing)?;
+        let incoming = loads_of(alloc, disks.len(), &edges, Side::Incoming)?;
+        let quotient = quotient_of(&disks, &outgoing, &incoming);
+        let even = even_of(&disks, &outgoing, &incoming);
         Ok(Graph {
             disks,
             edges,
-            loads,
+            outgoing,
+            incoming,
             quotient,
+            duplex: input.duplex(),
             even,
         })
     }
@@ -81,14 +88,53 @@ impl Graph {
         self.disks.len() as u32
     }
 
-    /// How many transfers may touch the disk in one round.
+    /// Whether there is a disk and its limits are split. All disks have limits of one kind.
+    pub fn duplex(&self) -> bool
+        ensures { result ≡ is_duplex self.now.disks }
+    {
+        self.duplex
+    }
+
+    /// How many transfers may touch the disk in one round: its joint limit.
     pub fn limit(&self, disk: DiskId) -> u32
-        requires { disk.0 < length self.now.disks }
+        requires there { disk.0 < length self.now.disks }
+        requires joint { is_duplex self.now.disks ≡ false }
         ensures limit { result ≡ limit self.now disk.0 }
+        ensures joint { is_split (disk_at self.now.disks disk.0).limits ≡ false }
         ensures least { 1 ≤ result }
         ensures most { result ≤ MAX_LIMIT }
     {
-        self.disks[disk.0 as usize].limit
+        self.disks[disk.0 as usize].limits.most_ends()
+    }
+
+    /// How many transfers may leave the disk in one round, by its split limits.
+    pub fn out_limit(&self, disk: DiskId) -> u32
+        requires there { disk.0 < length self.now.disks }
+        requires split { is_duplex self.now.disks ≡ true }
+        ensures limit { result ≡ side_limit Outgoing (disk_at self.now.disks disk.0).limits }
+        ensures split { is_split (disk_at self.now.disks disk.0).limits ≡ true }
+        ensures least { 1 ≤ result }
+        ensures most { result ≤ MAX_LIMIT }
+    {
+        match self.disks[disk.0 as usize].limits {
+            Limits::Split { outgoing, .. } => outgoing,
+            Limits::Joint { .. } => unreachable!(),
+        }
+    }
+
+    /// How many transfers may reach the disk in one round, by its split limits.
+    pub fn in_limit(&self, disk: DiskId) -> u32
+        requires there { disk.0 < length self.now.disks }
+        requires split { is_duplex self.now.disks ≡ true }
+        ensures limit { result ≡ side_limit Incoming (disk_at self.now.disks disk.0).limits }
+        ensures split { is_split (disk_at self.now.disks disk.0).limits ≡ true }
+        ensures least { 1 ≤ result }
+        ensures most { result ≤ MAX_LIMIT }
+    {
+        match self.disks[disk.0 as usize].limits {
+            Limits::Split { incoming, .. } => incoming,
+            Limits::Joint { .. } => unreachable!(),
+        }
     }
 
     /// The item that the edge moves.
@@ -115,7 +161,25 @@ impl Graph {
         ensures load { result ≡ load disk.0 self.now.trips }
         ensures most { result ≤ MAX_ITEMS }
     {
-        self.loads[disk.0 as usize]
+        self.outgoing[disk.0 as usize] + self.incoming[disk.0 as usize]
+    }
+
+    /// How many edges leave the disk.
+    pub fn out_load(&self, disk: DiskId) -> u32
+        requires { disk.0 < length self.now.disks }
+        ensures load { result ≡ side_load Outgoing disk.0 self.now.trips }
+        ensures most { result ≤ MAX_ITEMS }
+    {
+        self.outgoing[disk.0 as usize]
+    }
+
+    /// How many edges reach the disk.
+    pub fn in_load(&self, disk: DiskId) -> u32
+        requires { disk.0 < length self.now.disks }
+        ensures load { result ≡ side_load Incoming disk.0 self.now.trips }
+        ensures most { result ≤ MAX_ITEMS }
+    {
+        self.incoming[disk.0 as usize]
     }
 
     /// The greatest number of rounds that a disk needs for its own edges, 0 without edges.
@@ -125,7 +189,7 @@ impl Graph {
         self.quotient
     }
 
-    /// Whether each disk with an edge has an even limit.
+    /// Whether limits are joint and each disk with an edge has an even one.
     pub fn all_even(&self) -> bool
         ensures { IsTrue result ↔ IsEven self.now }
     {

@@ -5,7 +5,7 @@ use crate::places::{Place, point_to};
 use crate::plan_lines::{Step, head_line, last_step, line_at, step_from_elsewhere, step_in_round};
 use crate::refusals::InputFiles;
 use crate::rows::Typed;
-use mig_base::{Blame, DiskId, Input, ItemId, Plan, Spot};
+use mig_base::{Blame, Disk, DiskId, Input, ItemId, Limits, Plan, Spot};
 use mig_cert::read_cert;
 use mig_check::{judge, runs};
 use mig_text::read_plan;
@@ -99,7 +99,7 @@ fn plan_hint(
         ),
         Blame::OverLimit { round, disk, count } => (
             Some(head_line(plan, *round)),
-            limit_hint(alloc, input, *disk, *count)?,
+            limit_hint(alloc, input, plan, *round, *disk, *count)?,
         ),
         Blame::NotHere { round, item } => not_here(alloc, input, plan, *round, *item)?,
         Blame::TwiceInRound { round, item } => twice(alloc, plan, *round, *item)?,
@@ -131,20 +131,53 @@ fn line_in(step: Option<Step>) -> Option<u32> {
     step.map(|step| step.line)
 }
 
+/// How many shifts of a round leave a disk.
+fn leaving(plan: &Plan, round: u32, disk: DiskId) -> usize {
+    match plan.rounds().get(round.saturating_sub(1) as usize) {
+        Some(round) => {
+            let shifts = round.shifts().iter();
+            shifts.filter(|shift| shift.from.disk == disk).count()
+        }
+        None => 0,
+    }
+}
+
 fn limit_hint(
     alloc: Global,
     input: &Input,
+    plan: &Plan,
+    round: u32,
     disk: DiskId,
     count: u32,
 ) -> Result<String, AllocError> {
     let name = Shown(disk_bytes(input, disk));
-    let limit = match input.disks().get(disk.0 as usize) {
-        Some(disk) => disk.limit,
-        None => 0,
-    };
-    format!(in alloc;
-        "`{name}` is an end of {count} shifts of this round, and its limit is {limit}"
-    )
+    match input.disks().get(disk.0 as usize) {
+        Some(
+            Disk {
+                limits: Limits::Split { outgoing, incoming },
+                ..
+            },
+        ) if leaving(plan, round, disk) > *outgoing as usize => format!(in alloc;
+            "{count} shifts of this round leave `{name}`, and its outgoing limit is {outgoing}"
+        ),
+        Some(
+            Disk {
+                limits: Limits::Split { incoming, .. },
+                ..
+            },
+        ) => format!(in alloc;
+            "{count} shifts of this round reach `{name}`, and its incoming limit is {incoming}"
+        ),
+        Some(
+            Disk {
+                limits: Limits::Joint { limit },
+                ..
+            },
+        ) => format!(in alloc;
+            "`{name}` is an end of {count} shifts of this round, and its limit is {limit}"
+        ),
+        None => format!(in alloc; "`{name}` is over its limit"),
+    }
 }
 
 /// Where an item is before a round.

@@ -9,12 +9,13 @@ use std::alloc::{AllocError, Global};
 pub(crate) fn cert_line(alloc: Global, text: &[u8], number: u32) -> Result<String, AllocError> {
     let wanted = match number {
         0 | 1 =>
-            "a certificate begins with the line `migration-certificate 1`: is this the file of CERT?",
+            "a certificate begins with the line `migration-certificate 1`, or `migration-certificate 2` where disks have two limits: is this the file of CERT?",
         2 => "wanted is `rounds N`, the number of the plan's rounds",
         3 => "wanted is `quotient N`",
-        4 => "wanted is `class even` or `class general`",
+        4 =>
+            "wanted is `class even` or `class general`, or `class duplex` where disks have two limits",
         5 =>
-            "wanted is `bound nothing`, `bound disk NAME LOAD LIMIT VALUE` with the disk's limit, or `bound set COUNT INSIDE VALUE`",
+            "wanted is `bound nothing`, `bound disk NAME LOAD LIMIT VALUE` with the disk's limit, or `bound set COUNT INSIDE VALUE`; where disks have two limits `bound nothing`, or `bound side NAME out LOAD LIMIT VALUE` or the same with `in`",
         _ => return member_line(alloc, text, number.saturating_sub(6)),
     };
     String::from_str(alloc, wanted)

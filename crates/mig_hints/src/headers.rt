@@ -5,12 +5,41 @@ use crate::rows::{Typed, without_mark};
 use mig_base::FileKind;
 use std::alloc::{AllocError, Global};
 
-/// The header of a file.
-pub(crate) fn header_of(file: FileKind) -> &'static str {
+/// The header of a disks file with an outgoing and an incoming limit in each row.
+const SIDES: &str = "disk,out,in,slots";
+
+/// The header of a file; of a disks file that of rows with one limit.
+fn header_of(file: FileKind) -> &'static str {
     match file {
         FileKind::Disks => "disk,limit,slots",
         FileKind::Now => "item,disk,slot",
         FileKind::Next => "item,disk",
+    }
+}
+
+/// What the first line of a file may be.
+fn headers_of(file: FileKind) -> &'static str {
+    match file {
+        FileKind::Disks =>
+            "disk,limit,slots, or disk,out,in,slots where a disk has an outgoing and an incoming limit",
+        other => header_of(other),
+    }
+}
+
+/// The header that a line is meant to be: in a disks file the one with as many fields. The line has commas for other marks.
+fn meant_by(file: FileKind, plain: &[u8]) -> &'static str {
+    if file == FileKind::Disks && plain.iter().filter(|b| **b == b',').count() == 3 {
+        return SIDES;
+    }
+    header_of(file)
+}
+
+/// Whether the rows of a disks file with these bytes have two limits: its header has four fields.
+pub(crate) fn has_sides(bytes: &[u8]) -> bool {
+    let bytes = without_mark(bytes);
+    match row_start(bytes, 0) {
+        Some(at) => line_from(bytes, at).iter().filter(|b| **b == b',').count() == 3,
+        None => false,
     }
 }
 
@@ -29,7 +58,6 @@ pub(crate) fn header_hint(
     file: FileKind,
     typed: &Typed<'_>,
 ) -> Result<String, AllocError> {
-    let wanted = header_of(file);
     let bytes = without_mark(typed.bytes);
     if is_utf16(bytes) {
         return String::from_str(alloc, "the file is in UTF-16; save it as CSV UTF-8");
@@ -40,6 +68,7 @@ pub(crate) fn header_hint(
             "this is a spreadsheet or an archive, no text; save it as CSV UTF-8",
         );
     }
+    let wanted = headers_of(file);
     let Some(at) = row_start(bytes, 0) else {
         return format!(in alloc; "the file is empty; its first line must be {wanted}");
     };
@@ -47,13 +76,15 @@ pub(crate) fn header_hint(
     if let Some(other) = other_file(alloc, file, first)? {
         return other_header(alloc, file, other);
     }
+    let plain = plain_text(alloc, first)?;
+    let meant = meant_by(file, plain.as_slice());
     if let Some(marks) = other_marks(first) {
         return format!(in alloc;
-            "the fields are separated by {marks}; separate by commas: {wanted}"
+            "the fields are separated by {marks}; separate by commas: {meant}"
         );
     }
-    if plain_text(alloc, first)?.as_slice() == wanted.as_bytes() {
-        return format!(in alloc; "small letters and no blanks are wanted: {wanted}");
+    if plain.as_slice() == meant.as_bytes() {
+        return format!(in alloc; "small letters and no blanks are wanted: {meant}");
     }
     format!(in alloc; "the first line must be {wanted}")
 }
@@ -98,7 +129,7 @@ fn plain_text(alloc: Global, line: &[u8]) -> Result<Vec<u8>, AllocError> {
 fn other_file(alloc: Global, file: FileKind, line: &[u8]) -> Result<Option<FileKind>, AllocError> {
     let plain = plain_text(alloc, line)?;
     for other in [FileKind::Disks, FileKind::Now, FileKind::Next] {
-        if other != file && plain.as_slice() == header_of(other).as_bytes() {
+        if other != file && plain.as_slice() == meant_by(other, plain.as_slice()).as_bytes() {
             return Ok(Some(other));
         }
     }
@@ -108,7 +139,7 @@ fn other_file(alloc: Global, file: FileKind, line: &[u8]) -> Result<Option<FileK
 fn other_header(alloc: Global, file: FileKind, other: FileKind) -> Result<String, AllocError> {
     let here = role_of(file);
     let there = role_of(other);
-    let wanted = header_of(file);
+    let wanted = headers_of(file);
     format!(in alloc;
         "this is the header of {there}, and this word stands for {here}, whose header is {wanted}: the words come in the order DISKS NOW NEXT"
     )

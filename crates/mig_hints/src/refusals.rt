@@ -1,7 +1,7 @@
 //! Status 3: which line of the three files is refused, and what was expected there.
 
 use crate::excerpts::Shown;
-use crate::headers::header_hint;
+use crate::headers::{has_sides, header_hint};
 use crate::places::{Place, point_to};
 use crate::row_causes::{
     disk_hint, name_hint, number_hint, range_hint, slot_hint, taken_hint, twice_hint, width_hint,
@@ -80,12 +80,13 @@ fn row_hint(
     place: &Place<'_>,
 ) -> Result<String, AllocError> {
     let typed = files.of(file);
+    let sides = file == FileKind::Disks && has_sides(typed.bytes);
     match why {
         Why::BadHeader => header_hint(alloc, file, &typed),
-        Why::BadWidth => width_hint(alloc, file, row, place.text),
+        Why::BadWidth => width_hint(alloc, file, sides, row, place.text),
         Why::BadName => name_hint(alloc, file, row),
-        Why::BadNumber => number_hint(alloc, file, row),
-        Why::OutOfRange => range_hint(alloc, row),
+        Why::BadNumber => number_hint(alloc, file, sides, row),
+        Why::OutOfRange => range_hint(alloc, sides, row),
         Why::DuplicateDisk | Why::DuplicateItem => twice_hint(alloc, &typed, row),
         Why::UnknownDisk => disk_hint(alloc, &files.disks, row),
         Why::SlotTooHigh => slot_hint(alloc, &files.disks, row),

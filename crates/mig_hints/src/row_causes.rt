@@ -1,15 +1,19 @@
 //! What was expected in a row that was refused.
 
 use crate::excerpts::Shown;
+use crate::headers::has_sides;
 use crate::names::name_fault;
 use crate::rows::{Key, Typed, field};
 use csv::ByteRecord;
 use mig_base::{FileKind, MAX_LIMIT, MAX_SLOTS, Name, read_digits};
 use std::alloc::{AllocError, Global};
 
-/// What the fields of a row are, in their order.
-fn field_names(file: FileKind) -> &'static str {
+/// What the fields of a row are, in their order. A disks file with `sides` has two limits in a row.
+fn field_names(file: FileKind, sides: bool) -> &'static str {
     match file {
+        FileKind::Disks if sides => {
+            "the disk's name, its outgoing limit, its incoming limit and its number of slots"
+        }
         FileKind::Disks => "the disk's name, its limit and its number of slots",
         FileKind::Now => "the item's name, its disk and its slot",
         FileKind::Next => "the item's name and its next disk",
@@ -17,8 +21,9 @@ fn field_names(file: FileKind) -> &'static str {
 }
 
 /// How many fields a row has.
-fn width_of(file: FileKind) -> usize {
+fn width_of(file: FileKind, sides: bool) -> usize {
     match file {
+        FileKind::Disks if sides => 4,
         FileKind::Disks | FileKind::Now => 3,
         FileKind::Next => 2,
     }
@@ -28,11 +33,12 @@ fn width_of(file: FileKind) -> usize {
 pub(crate) fn width_hint(
     alloc: Global,
     file: FileKind,
+    sides: bool,
     row: &ByteRecord,
     line: &[u8],
 ) -> Result<String, AllocError> {
-    let wanted = width_of(file);
-    let names = field_names(file);
+    let wanted = width_of(file, sides);
+    let names = field_names(file, sides);
     let found = row.len();
     if line.iter().filter(|b| **b == b'"').count() % 2 == 1 {
         return String::from_str(alloc, "a double quote is opened here and not closed");
@@ -72,11 +78,16 @@ pub(crate) fn name_hint(
 pub(crate) fn number_hint(
     alloc: Global,
     file: FileKind,
+    sides: bool,
     row: &ByteRecord,
 ) -> Result<String, AllocError> {
     let limit = field(row, 1);
-    let last = field(row, 2);
+    let last = field(row, if sides { 3 } else { 2 });
     let (what, wrong) = match file {
+        FileKind::Disks if sides && read_digits(limit).is_none() => ("outgoing limit", limit),
+        FileKind::Disks if sides && read_digits(field(row, 2)).is_none() => {
+            ("incoming limit", field(row, 2))
+        }
         FileKind::Disks if read_digits(limit).is_none() => ("limit", limit),
         FileKind::Disks => ("number of slots", last),
         _ => ("slot", last),
@@ -89,14 +100,26 @@ pub(crate) fn number_hint(
 }
 
 /// A limit or a number of slots out of range.
-pub(crate) fn range_hint(alloc: Global, row: &ByteRecord) -> Result<String, AllocError> {
-    let limit = read_digits(field(row, 1)).unwrap_or(0);
-    if limit < 1 || limit > u64::from(MAX_LIMIT) {
-        return format!(in alloc;
-            "the limit is {limit}, and must be 1 to {MAX_LIMIT}; a greater one is written as {MAX_LIMIT}"
-        );
+pub(crate) fn range_hint(
+    alloc: Global,
+    sides: bool,
+    row: &ByteRecord,
+) -> Result<String, AllocError> {
+    let slots_at = if sides { 3 } else { 2 };
+    for place in 1..slots_at {
+        let limit = read_digits(field(row, place)).unwrap_or(0);
+        if limit < 1 || limit > u64::from(MAX_LIMIT) {
+            let what = match (sides, place) {
+                (false, _) => "limit",
+                (true, 1) => "outgoing limit",
+                (true, _) => "incoming limit",
+            };
+            return format!(in alloc;
+                "the {what} is {limit}, and must be 1 to {MAX_LIMIT}; a greater one is written as {MAX_LIMIT}"
+            );
+        }
     }
-    let slots = read_digits(field(row, 2)).unwrap_or(0);
+    let slots = read_digits(field(row, slots_at)).unwrap_or(0);
     format!(in alloc; "the number of slots is {slots}, and must be 1 to {MAX_SLOTS}")
 }
 
@@ -166,7 +189,8 @@ pub(crate) fn slot_hint(
 fn slots_of(alloc: Global, disks: &Typed<'_>, name: &[u8]) -> Option<u64> {
     let row = disks.find(alloc, &Key::First(name))?;
     let fields = disks.row(alloc, row)?;
-    read_digits(field(&fields, 2))
+    let slots_at = if has_sides(disks.bytes) { 3 } else { 2 };
+    read_digits(field(&fields, slots_at))
 }
 
 /// A spot that an earlier row of the file of now has.

@@ -1,11 +1,7 @@
 -- What a crash leaves while the journal is armed.
-use Rattle.mig_base.proofs.Common.{◌≡◌, ◌⊎◌, inl, inr, ℕ, true, false, List, [], ◌∷◌, Option, IfSome, sym, ◌∙◌, ap, subst, false≢true, Image, SameBut, is_one, is_armed, IsMark, State, ChangesOnly}
-use Rattle.mig_base.proofs.Common.{LeavesOnly, IsSettled}
-use Rattle.mig_base.specs.declared.cells.Cell.{Cell}
-use Rattle.mig_base.specs.declared.cells.Cell.TheVariants.{Head, Gate, Mark}
-use Rattle.mig_base.specs.JobCells.{IsJournal}
-use Rattle.mig_base.proofs.StoreSteps.{same_wider, same_then, leaves_then, changes_leave, changes_wider, same_image}
-use Rattle.mig_journal.specs.FreshJournals.{AreUnmarked, IsFresh, IsArming}
+use Rattle.mig_journal.proofs.Common.{AreUnmarked, Cell, ChangesOnly, Gate, Head, IfSome, Image, IsArming, IsFresh, IsJournal, IsMark, IsSettled, LeavesOnly, List, Mark, Option, SameBut, State}
+use Rattle.mig_journal.proofs.Common.{[], ap, changes_leave, changes_wider, false, false≢true, inl, inr, is_armed, is_one, leaves_then, same_image, same_then, same_wider, subst, sym, true, ℕ}
+use Rattle.mig_journal.proofs.Common.{◌∙◌, ◌∷◌, ◌≡◌, ◌⊎◌}
 use Rattle.mig_journal.proofs.Steps.{then_step}
 
 -- the marks and the head

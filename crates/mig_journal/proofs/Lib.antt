@@ -2,3 +2,4 @@ mod ArmingLaws
 mod MarksRead
 mod OneByte
 pub mod Steps
+pub mod Common

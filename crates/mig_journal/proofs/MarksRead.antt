@@ -1,8 +1,6 @@
 -- Marks that are read one by one.
-use Rattle.mig_base.proofs.Common.{◌≡◌, ◌≤◌, ◌<◌, ◌+◌, ℕ, suc, Bool, true, false, List, Option, Some, None, IsSome, IfSome, ◌⊎◌, inl, inr, refl, sym, ◌∙◌, ap, subst, arith, prefix_len, range_with_len}
-use Rattle.mig_base.proofs.Common.{cases_eq, Image, is_one, is_marked, IsMark, Tells}
-use Rattle.mig_base.specs.declared.cells.Cell.TheVariants.{Mark}
-use Rattle.mig_base.proofs.MarkCounts.{count_least}
+use Rattle.mig_journal.proofs.Common.{Bool, IfSome, Image, IsMark, IsSome, List, Mark, None, Option, Some, Tells, ap, arith, cases_eq, count_least, false, inl, inr, is_marked, is_one, prefix_len}
+use Rattle.mig_journal.proofs.Common.{range_with_len, refl, subst, suc, sym, true, ℕ, ◌+◌, ◌<◌, ◌∙◌, ◌≡◌, ◌≤◌, ◌⊎◌}
 
 -- what was read of a mark that is told
 pub of_told : (cell : Option (List ℕ)) (P : Type 0) → IsSome cell → IfSome cell (λ bytes. P) → P

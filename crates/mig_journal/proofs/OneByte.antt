@@ -1,5 +1,5 @@
 -- What a read of one byte shows.
-use Rattle.mig_base.proofs.Common.{◌≡◌, ℕ, List, [], ◌∷◌, Option, Some, None, eqb, length, get_or, refl, ◌∙◌, ap, arith, IfSome, is_one}
+use Rattle.mig_journal.proofs.Common.{IfSome, List, None, Option, Some, [], ap, arith, eqb, get_or, is_one, length, refl, ℕ, ◌∙◌, ◌∷◌, ◌≡◌}
 
 one_of : (into : List ℕ) → length into ≡ 1 → eqb (get_or into 0 0) 1 ≡ is_one (Some into)
 one_of [] one = absurd (omega arith)

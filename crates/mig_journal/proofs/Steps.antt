@@ -1,12 +1,6 @@
 -- The steps of calls on a store with no copy in flight.
-use Rattle.mig_base.proofs.Common.{◌≡◌, ℕ, List, [], Result, Ok, Err, sym, ◌∙◌, subst, false≢true, IsTargetOf, NoCell, State, flights, ChangesOnly, Ends}
-use Rattle.mig_base.specs.declared.cells.Cell.{Cell}
-use Rattle.mig_base.specs.declared.cells.Cell.TheVariants.{Mark}
-use Rattle.mig_base.specs.declared.cells.Flight.{Flight}
-use Rattle.std.proofs.Common.{OnOk}
-use Rattle.mig_base.specs.Stores.{IsMoving, Looks}
-use Rattle.mig_base.proofs.Landing.{flights_same, ends_are_quiet, no_target}
-use Rattle.mig_base.proofs.StoreSteps.{changes_then, changes_wider, same_image}
+use Rattle.mig_journal.proofs.Common.{Cell, ChangesOnly, Ends, Err, Flight, IsMoving, IsTargetOf, List, Looks, Mark, NoCell, Ok, OnOk, Result, State, [], changes_then, changes_wider}
+use Rattle.mig_journal.proofs.Common.{ends_are_quiet, false≢true, flights, flights_same, no_target, same_image, subst, sym, ℕ, ◌∙◌, ◌≡◌}
 
 module _ (P : Cell → Type 0) (old mid : State) where
   -- one step more

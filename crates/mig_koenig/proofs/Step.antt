@@ -1,13 +1,6 @@
 -- One edge of a two-sided board, by a walk.
-use Rattle.mig_base.proofs.Common.{ℕ, inl, inr, sym, subst}
-use Rattle.mig_base.specs.declared.ids.Colour.{Colour}
-use Rattle.mig_base.specs.declared.ids.CopyId.{CopyId}
-use Rattle.mig_base.specs.declared.ids.EdgeId.{EdgeId}
-use Rattle.mig_board.specs.Colouring.{Colouring, Joins, IsMissing, IsPresent, IsProper, IsFreeAt}
-use Rattle.mig_board.specs.Growth.{IsTwoSided}
-use Rattle.mig_board.specs.Walk.{Exchanges}
-use Rattle.mig_board.proofs.Walks.{end_cases}
-use Rattle.mig_board.proofs.Laws.{ends_elsewhere, exchanges_joins, exchanges_start}
+use Rattle.mig_koenig.proofs.Common.{Colour, Colouring, CopyId, EdgeId, Exchanges, IsFreeAt, IsMissing, IsPresent, IsProper, IsTwoSided, Joins, end_cases, ends_elsewhere, exchanges_joins}
+use Rattle.mig_koenig.proofs.Common.{exchanges_start, inl, inr, subst, sym, ℕ}
 
 -- after the exchange the colour is missing at both ends of the edge
 pub free_after : (g new : Colouring) (left : ℕ) → IsProper g → IsTwoSided g left → (v u : CopyId) (a b : Colour) (w : CopyId) (e : EdgeId) → Joins g e v u → IsMissing g v a → IsPresent g v b → IsMissing g u b → Exchanges g new v a b w → IsFreeAt new e b

@@ -1,19 +1,9 @@
 -- What is answered where the journal names a plan, and the store doesn't fail.
-use Rattle.mig_base.proofs.Common.{◌≡◌, inl, inr, ℕ, suc, List, true, false, Option, Some, None, IfSome, IsSome, sym, ◌∙◌, subst, refl, arith, Contains, All-contains, get_or, slice_get-get_or}
-use Rattle.mig_base.proofs.Common.{get_or_from_slice_get, slice_get_within, false≢true, AreFlights, Image, no_spot, Tells, SettlesTo, is_armed, round_at, shifts_of, slot_of, item_cell, IsUnused}
-use Rattle.mig_base.proofs.Common.{State, flights, item_name}
-use Rattle.mig_base.specs.declared.cells.Cell.TheVariants.{Head, Gate}
-use Rattle.mig_lanes.proofs.Common.{Shift, Spot, Task, IsTask}
-use Rattle.mig_base.specs.Arrivals.{IsPlanSpot}
-use Rattle.mig_base.specs.FaultCounts.{Rose}
-use Rattle.mig_base.specs.JobCells.{IsJobCell}
-use Rattle.mig_base.specs.Readiness.{CanTake, IsReady, IsFirstLost, IsFirstUsed}
-use Rattle.mig_base.specs.Slots.{HasHeader, first_byte}
-use Rattle.mig_mover.specs.Moves.{Settles, IsRunning, IsFault, IsReadyIdle, IsStartFault, IsResumeFault}
-use Rattle.mig_mover.specs.declared.faults.MoveFault.{MoveFault}
-use Rattle.mig_mover.specs.declared.faults.MoveFault.TheVariants.{Store, Started, OtherPlan, NotStarted, NotThere, Occupied}
-use Rattle.mig_mover.proofs.Settling.{settled_reads, tells_more, journal_kept, gate_kept}
-use Rattle.mig_lanes.specs.Runs.{IsJournalFault}
+use Rattle.mig_lanes.proofs.Common.{All-contains, AreFlights, CanTake, Contains, Gate, HasHeader, Head, IfSome, Image, IsFault, IsFirstLost, IsFirstUsed, IsJobCell, IsJournalFault, IsPlanSpot}
+use Rattle.mig_lanes.proofs.Common.{IsReady, IsReadyIdle, IsResumeFault, IsRunning, IsSome, IsStartFault, IsTask, IsUnused, List, MoveFault, None, NotStarted, NotThere, Occupied, Option}
+use Rattle.mig_lanes.proofs.Common.{OtherPlan, Rose, Settles, SettlesTo, Shift, Some, Spot, Started, State, Store, Task, Tells, arith, false, false≢true, first_byte, flights, gate_kept, get_or}
+use Rattle.mig_lanes.proofs.Common.{get_or_from_slice_get, inl, inr, is_armed, item_cell, item_name, journal_kept, no_spot, refl, round_at, settled_reads, shifts_of, slice_get-get_or}
+use Rattle.mig_lanes.proofs.Common.{slice_get_within, slot_of, subst, suc, sym, tells_more, true, ℕ, ◌∙◌, ◌≡◌}
 use Rattle.mig_lanes.proofs.ShiftedSlots.{shifted_named, target_named}
 
 pub if_some_is : (cell : Option (List ℕ)) (bytes : List ℕ) (P : List ℕ → Type 0) → cell ≡ Some bytes → IfSome cell P → P bytes

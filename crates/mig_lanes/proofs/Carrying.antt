@@ -1,14 +1,9 @@
 -- The copies of a round, by the laws of safe images.
-use Rattle.mig_base.proofs.Common.{◌≡◌, inl, inr, Bool, ℕ, zero, suc, ◌<◌, ◌≤◌, ◌+◌, ◌++◌, List, [], length, get_or, Option, Some, refl, ◌∙◌, ap, subst, arith, Contains, All, Contains-get_or}
-use Rattle.mig_base.proofs.Common.{round_at, At, IsTaken, IsLegal, Image, SameBut, IsCopy, IsTargetOf, State, Changes, ChangesOnly, LeavesOnly, IsSettled, slot_of, zeros, Contents, IsSound}
-use Rattle.mig_base.proofs.Common.{IsSoundAfter, IsJobCell, IsWorkCell, Tells, IsSourceSlot, IsInUse, HasDone}
-use Rattle.mig_lanes.proofs.Common.{Cell, Event, Shift, Spot, Task, IsTask, copies_of}
-use Rattle.mig_base.specs.RoundStates.{IsTargetSlot, IsCopied}
-use Rattle.mig_base.proofs.Rounds.{contains_any, at_target, leaves}
-use Rattle.mig_base.proofs.SafetyLaws.{slot_apart, other_bytes, sound_after}
-use Rattle.mig_base.proofs.StoreSteps.{same_wider, same_then, changes_leave, changes_then, changes_wider, told_is, tells_kept}
-use Rattle.mig_mover.proofs.JobRounds.{on_disks}
-use Rattle.mig_lanes.specs.LaneSteps.{HasCopied}
+use Rattle.mig_lanes.proofs.Common.{All, At, Bool, Cell, Changes, ChangesOnly, Contains, Contains-get_or, Contents, Event, HasCopied, HasDone, Image, IsCopied, IsCopy, IsInUse, IsJobCell}
+use Rattle.mig_lanes.proofs.Common.{IsLegal, IsSettled, IsSound, IsSoundAfter, IsSourceSlot, IsTaken, IsTargetOf, IsTargetSlot, IsTask, IsWorkCell, LeavesOnly, List, Option, SameBut, Shift, Some}
+use Rattle.mig_lanes.proofs.Common.{Spot, State, Task, Tells, [], ap, arith, at_target, changes_leave, changes_then, changes_wider, contains_any, copies_of, get_or, inl, inr, leaves, length}
+use Rattle.mig_lanes.proofs.Common.{on_disks, other_bytes, refl, round_at, same_then, same_wider, slot_apart, slot_of, sound_after, subst, suc, tells_kept, told_is, zero, zeros, ℕ, ◌++◌, ◌+◌}
+use Rattle.mig_lanes.proofs.Common.{◌<◌, ◌∙◌, ◌≡◌, ◌≤◌}
 use Rattle.mig_lanes.proofs.RoundCopies.{of_shifts, target_slot}
 
 module _ (task : Task) (is : IsTask task) (k : ℕ) (lt : k < length task.plan) where

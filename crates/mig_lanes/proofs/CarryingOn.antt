@@ -1,8 +1,7 @@
 -- The loop over rounds, and the sync after it.
-use Rattle.mig_base.proofs.Common.{◌≡◌, ◌++◌, ◌-◌, ◌+◌, Bool, ℕ, List, [], map, get_or, refl, sym, ◌∙◌, subst, ap, arith, range_with_len, Image, NoCell, round_at, IsJobCell, Tells, AreRounds, Adds}
-use Rattle.mig_base.proofs.Common.{IsSourceSlot, HasDone, Contents, IsSoundAfter, slot_of, State, Changes, IsSettled}
-use Rattle.mig_lanes.proofs.Common.{Cell, Event, Task, copies_of}
-use Rattle.mig_base.proofs.StoreSteps.{same_wider, changes_none, changes_then, changes_wider}
+use Rattle.mig_lanes.proofs.Common.{Adds, AreRounds, Bool, Cell, Changes, Contents, Event, HasDone, Image, IsJobCell, IsSettled, IsSoundAfter, IsSourceSlot, List, NoCell, State, Task, Tells, []}
+use Rattle.mig_lanes.proofs.Common.{ap, arith, changes_none, changes_then, changes_wider, copies_of, get_or, map, range_with_len, refl, round_at, same_wider, slot_of, subst, sym, ℕ, ◌++◌, ◌+◌}
+use Rattle.mig_lanes.proofs.Common.{◌-◌, ◌∙◌, ◌≡◌}
 use Rattle.mig_lanes.proofs.EventSteps.{adds_none}
 
 -- changes of some cells, with events

@@ -1,13 +1,8 @@
 -- The end of a round: its mark, and the erasures after it.
-use Rattle.mig_base.proofs.Common.{◌≡◌, ◌⊎◌, inl, inr, ⊎_elim, Bool, ℕ, suc, ◌<◌, ◌≤◌, [], ◌∷◌, length, get_or, Some, IfSome, refl, sym, ◌∙◌, ap, subst, arith, Contains, All, cases_Bool}
-use Rattle.mig_base.proofs.Common.{Contains-get_or, round_at, Image, NoCell, SameBut, State, ChangesOnly, LeavesOnly, IsSettled, is_one, is_marked, slot_of, Contents, IsSound, IsSoundAfter, IsJobCell}
-use Rattle.mig_base.proofs.Common.{IsWorkCell, Tells, IsSourceSlot, IsInUse, HasDone}
-use Rattle.mig_lanes.proofs.Common.{Cell, Shift, Task, IsTask}
-use Rattle.mig_base.specs.declared.cells.Cell.TheVariants.{Mark}
-use Rattle.mig_base.proofs.SafetyLaws.{other_bytes, marking, unmarked, sound_after}
-use Rattle.mig_base.proofs.StoreSteps.{same_wider, leaves_then, changes_leave, changes_then, changes_wider, settled_change, told_is, tells_kept, from_same}
-use Rattle.mig_mover.specs.Erasures.{AreZeros}
-use Rattle.mig_lanes.specs.LaneSteps.{HasCopied}
+use Rattle.mig_lanes.proofs.Common.{All, AreZeros, Bool, Cell, ChangesOnly, Contains, Contains-get_or, Contents, HasCopied, HasDone, IfSome, Image, IsInUse, IsJobCell, IsSettled, IsSound}
+use Rattle.mig_lanes.proofs.Common.{IsSoundAfter, IsSourceSlot, IsTask, IsWorkCell, LeavesOnly, Mark, NoCell, SameBut, Shift, Some, State, Task, Tells, [], ap, arith, cases_Bool, changes_leave}
+use Rattle.mig_lanes.proofs.Common.{changes_then, changes_wider, from_same, get_or, inl, inr, is_marked, is_one, leaves_then, length, marking, other_bytes, refl, round_at, same_wider}
+use Rattle.mig_lanes.proofs.Common.{settled_change, slot_of, sound_after, subst, suc, sym, tells_kept, told_is, unmarked, ℕ, ⊎_elim, ◌<◌, ◌∙◌, ◌∷◌, ◌≡◌, ◌≤◌, ◌⊎◌}
 
 module _ (task : Task) (is : IsTask task) (k : ℕ) (lt : k < length task.plan) where
   source_job : (s : Shift) → Contains (round_at task.plan (suc k)) s → IsJobCell task.input task.plan (slot_of task.input s.from)

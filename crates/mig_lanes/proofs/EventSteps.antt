@@ -1,7 +1,5 @@
 -- Events that runs of calls add.
-use Rattle.mig_base.proofs.Common.{◌≡◌, ◌++◌, List, [], Option, Some, None, IsSome, refl, sym, ◌∙◌, ap, subst, option_map, false≢true, Adds, State}
-use Rattle.mig_base.specs.declared.cells.Event.{Event}
-use Rattle.mig_base.proofs.StoreSteps.{events_then, events_none}
+use Rattle.mig_lanes.proofs.Common.{Adds, Event, IsSome, List, None, Option, Some, State, [], ap, events_none, events_then, false≢true, option_map, refl, subst, sym, ◌++◌, ◌∙◌, ◌≡◌}
 
 told_more : (added : List Event) (old new : Option (List Event)) → new ≡ option_map (λ before. before ++ added) old → IsSome old → IsSome new
 told_more added None new e told = absurd (false≢true told)

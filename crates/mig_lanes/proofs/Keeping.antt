@@ -1,12 +1,7 @@
 -- The copies of a round keep the limits that its shifts keep.
-use Rattle.mig_base.proofs.Common.{◌≡◌, ◌≢◌, ℕ, suc, ◌<◌, true, List, [], ◌∷◌, length, get_or, map, refl, sym, subst, arith, All, AllPairs, same_text, and_parts, false_from_ne_true, Lists, no_disk}
-use Rattle.mig_base.proofs.Common.{Trip, KeepsLimits, trip_of, slot_of, flights_of}
-use Rattle.mig_base.specs.declared.cells.Cell.TheVariants.{Slot}
-use Rattle.mig_lanes.proofs.Common.{Shift, Spot, AreWithinLimits}
-use Rattle.std.specs.Str.{bytes_eq}
+use Rattle.mig_lanes.proofs.Common.{All, AllPairs, AreWithinLimits, KeepsLimits, List, Lists, Shift, Slot, Spot, Trip, [], and_parts, arith, bytes_eq, disk_of_cell, false_from_ne_true}
+use Rattle.mig_lanes.proofs.Common.{flights_of, get_or, is_cell-same, length, map, no_disk, refl, same_text, slot_of, subst, suc, sym, trip_of, trip_of_flight, true, ℕ, ◌<◌, ◌∷◌, ◌≡◌, ◌≢◌}
 use Rattle.std.proofs.lemmas.List.Sums.{position_or_len_is}  -- the first place that passes
-use Rattle.mig_base.specs.Flights.{disk_of_cell, trip_of_flight}
-use Rattle.mig_base.proofs.CellTests.{is_cell-same}
 
 -- each end of each shift is on a disk of the input
 abbrev pub AreOnDisks : Lists → List Shift → Type 0

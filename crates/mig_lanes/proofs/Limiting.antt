@@ -1,13 +1,7 @@
 -- The copies of a round in flight keep the limits of disks.
-use Rattle.mig_base.proofs.Common.{◌≡◌, inl, inr, ℕ, zero, suc, ◌<◌, ◌≤◌, ◌+◌, ◌-◌, ◌++◌, Bool, not, cond, List, [], ◌∷◌, length, take, map, filter, refl, sym, ◌∙◌, ap, subst, arith, count_by}
-use Rattle.mig_base.proofs.Common.{cases_lt, take-append-le, fold-append, sum_by-append, touches, is_flight, began, ended, after_event, after_events}
-use Rattle.mig_lanes.proofs.Common.{Event, Flight, AreWithinLimits, BeginsRound}
-use Rattle.mig_base.specs.declared.inputs.Disk.{Disk}
-use Rattle.std.specs.List.{take-map}
-use Rattle.std.proofs.Math.Seq.{take-append-add}
-use Rattle.mig_base.specs.RoundEvents.{StayWithinLimits}
-use Rattle.mig_base.specs.Flights.{trip_of_flight}
-use Rattle.mig_base.proofs.Counting.{count_by-filter-le}
+use Rattle.mig_lanes.proofs.Common.{AreWithinLimits, BeginsRound, Bool, Disk, Event, Flight, List, StayWithinLimits, [], after_event, after_events, ap, arith, began, cases_lt, cond, count_by}
+use Rattle.mig_lanes.proofs.Common.{count_by-filter-le, disk_at, ended, filter, fold-append, inl, inr, is_flight, keeps_fewer, length, map, not, refl, subst, suc, sum_by-append, sym, take}
+use Rattle.mig_lanes.proofs.Common.{take-append-add, take-append-le, take-map, trip_of_flight, zero, ℕ, ◌++◌, ◌+◌, ◌-◌, ◌<◌, ◌∙◌, ◌∷◌, ◌≡◌, ◌≤◌}
 use Rattle.mig_lanes.proofs.Beginning.{flights_all_began}
 
 -- of each kind, the first has no more than the second
@@ -36,9 +30,8 @@ count_map p f (x ∷ xs) = let rest = count_map p f xs in omega (arith, count_co
 -- fewer copies keep the limits, too
 pub fewer_within : (disks : List Disk) (fs gs : List Flight) → AreFewer fs gs → AreWithinLimits disks gs → AreWithinLimits disks fs
 fewer_within disks fs gs fewer within v lt =
-    let all = within v lt in
-    let less = fewer (λ c. touches v (trip_of_flight disks c)) in
-    omega (arith, all, less, count_map (touches v) (trip_of_flight disks) fs, count_map (touches v) (trip_of_flight disks) gs)
+    keeps_fewer (disk_at disks v).limits v (map (trip_of_flight disks) fs) (map (trip_of_flight disks) gs)
+    (λ p. omega (arith, fewer (λ c. p (trip_of_flight disks c)), count_map p (trip_of_flight disks) fs, count_map p (trip_of_flight disks) gs)) (within v lt)
 
 -- after a prefix of such events there are no more copies in flight than the round has
 prefix_fewer : (round : List Flight) (added : List Event) → BeginsRound round added → (m : ℕ) → AreFewer (after_events [] (take m added)) round

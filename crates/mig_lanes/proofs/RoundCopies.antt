@@ -1,11 +1,7 @@
 -- The copies of a job's round.
-use Rattle.mig_base.proofs.Common.{◌≡◌, ◌≢◌, ℕ, zero, suc, ◌-◌, ◌<◌, ◌≤◌, List, [], ◌∷◌, length, get_or, IsTrue, Some, refl, sym, ◌∙◌, ap, arith, slice_get, Contains, All, AllPairs, Any, All-map}
-use Rattle.mig_base.proofs.Common.{Contains-get_or, get_or_from_slice_get, slice_get_within, is_slot, IsTargetOf, AreFlights, Lists, round_at, At, flight_of, flights_of, IsLegal, slot_of}
-use Rattle.mig_lanes.proofs.Common.{Cell, Flight, Shift, Task, IsTask, copies_of}
-use Rattle.mig_base.specs.RoundStates.{IsTargetSlot}
-use Rattle.mig_base.proofs.Rounds.{contains_any, leaves, target_free}
-use Rattle.mig_base.proofs.SafetyLaws.{slot_apart}
-use Rattle.mig_mover.proofs.JobRounds.{on_disks}
+use Rattle.mig_lanes.proofs.Common.{All, All-map, AllPairs, Any, AreFlights, At, Cell, Contains, Contains-get_or, Flight, IsLegal, IsTargetOf, IsTargetSlot, IsTask, IsTrue, List, Lists, Shift}
+use Rattle.mig_lanes.proofs.Common.{Some, Task, [], ap, arith, contains_any, copies_of, flight_of, flights_of, get_or, get_or_from_slice_get, is_slot, leaves, length, on_disks, refl, round_at}
+use Rattle.mig_lanes.proofs.Common.{slice_get, slice_get_within, slot_apart, slot_of, suc, sym, target_free, zero, ℕ, ◌-◌, ◌<◌, ◌∙◌, ◌∷◌, ◌≡◌, ◌≢◌, ◌≤◌}
 
 module _ (input : Lists) where
   -- a target of the copies is one of the shifts

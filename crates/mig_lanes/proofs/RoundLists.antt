@@ -1,10 +1,7 @@
 -- The events of rounds, one after the other.
-use Rattle.mig_base.proofs.Common.{◌≡◌, ◌⊎◌, ⊎_elim, ℕ, suc, ◌<◌, ◌≤◌, ◌+◌, ◌-◌, ◌++◌, List, [], ◌∷◌, length, take, drop, map, refl, sym, ◌∙◌, ap, subst, arith, append-nil, append_assoc}
-use Rattle.mig_base.proofs.Common.{range_with_len, IsPermutation, map-append, take_all, began, ended, IsRound, AreRounds}
-use Rattle.mig_lanes.proofs.Common.{Event, Flight, Task, copies_of, later_rounds, BeginsRound, BeginsRounds}
-use Rattle.std.proofs.lemmas.List.{take-append-drop}
-use Rattle.std.proofs.lemmas.List.Sorted.{IsPermutation-refl}
-use Rattle.mig_base.proofs.Elements.{map_more}
+use Rattle.mig_lanes.proofs.Common.{AreRounds, BeginsRound, BeginsRounds, Event, Flight, IsPermutation, IsPermutation-refl, IsRound, List, Task, [], ap, append-nil, append_assoc, arith, began}
+use Rattle.mig_lanes.proofs.Common.{copies_of, drop, ended, later_rounds, length, map, map-append, map_more, range_with_len, refl, subst, suc, sym, take, take-append-drop, take_all, ℕ, ⊎_elim}
+use Rattle.mig_lanes.proofs.Common.{◌++◌, ◌+◌, ◌-◌, ◌<◌, ◌∙◌, ◌∷◌, ◌≡◌, ◌≤◌, ◌⊎◌}
 
 -- part of a round's events is a prefix of a whole round's
 part_is_prefix : (round : List Flight) (added : List Event) → BeginsRound round added → (more : List Event) × IsRound round (added ++ more)

@@ -1,14 +1,8 @@
 -- What a round's copies give once they end.
-use Rattle.mig_base.proofs.Common.{◌≡◌, ◌≢◌, ◌⊎◌, inl, inr, ⊎_elim, ℕ, zero, suc, ◌<◌, ◌++◌, List, [], ◌∷◌, length, get_or, take, map, Option, None, IsSome, refl, sym, ◌∙◌, ap, subst, arith}
-use Rattle.mig_base.proofs.Common.{append-nil, Contains, IsPermutation, false≢true, take_all, All-contains, Contains-get_or, Contains-append_left, NoCell, IsCopy, began, ended, IsTargetOf, AreFlights}
-use Rattle.mig_base.proofs.Common.{State, flights, Changes, Ends, IsRound}
-use Rattle.mig_lanes.proofs.Common.{Cell, Event, Flight, BeginsRound}
-use Rattle.std.proofs.lemmas.List.Sorted.{IsPermutation-refl, IsPermutation-sym, Contains-permutation}
-use Rattle.mig_base.proofs.CellTests.{cases_cell}
-use Rattle.mig_base.proofs.Rounds.{any_contains, contains_any, one_by}
-use Rattle.mig_base.proofs.Landing.{flights_none, target_cases, target_permuted}
-use Rattle.mig_base.proofs.StoreSteps.{changes_then, changes_wider}
-use Rattle.mig_lanes.specs.LaneSteps.{HaveLanded}
+use Rattle.mig_lanes.proofs.Common.{All-contains, AreFlights, BeginsRound, Cell, Changes, Contains, Contains-append_left, Contains-get_or, Contains-permutation, Ends, Event, Flight, HaveLanded}
+use Rattle.mig_lanes.proofs.Common.{IsCopy, IsPermutation, IsPermutation-refl, IsPermutation-sym, IsRound, IsSome, IsTargetOf, List, NoCell, None, Option, State, [], any_contains, ap, append-nil}
+use Rattle.mig_lanes.proofs.Common.{arith, began, cases_cell, changes_then, changes_wider, contains_any, ended, false≢true, flights, flights_none, get_or, inl, inr, length, map, one_by, refl}
+use Rattle.mig_lanes.proofs.Common.{subst, suc, sym, take, take_all, target_cases, target_permuted, zero, ℕ, ⊎_elim, ◌++◌, ◌<◌, ◌∙◌, ◌∷◌, ◌≡◌, ◌≢◌, ◌⊎◌}
 use Rattle.mig_lanes.proofs.Beginning.{flights_all_began, flights_after}
 
 pub cases_target : (fs : List Flight) (cell : Cell) → IsTargetOf fs cell ⊎ (IsTargetOf fs cell → ⊥)

@@ -1,13 +1,8 @@
 -- The copies in flight stay between slots, to different ones, and none reads another's target, all through the events of rounds.
-use Rattle.mig_base.proofs.Common.{◌≡◌, inl, inr, ℕ, zero, suc, ◌<◌, ◌≤◌, ◌+◌, ◌-◌, ◌++◌, not, List, [], ◌∷◌, length, get_or, take, map, filter, IsTrue, refl, sym, ◌∙◌, ap, subst, arith}
-use Rattle.mig_base.proofs.Common.{All, cases_lt, take-append-le, take_all, get_or-take, get_or-map-range_with_len, length-map-range_with_len, length-map, fold-append, is_slot, is_flight, IsTargetOf, AreFlights}
-use Rattle.mig_base.proofs.Common.{began, ended, after_event, after_events, IsRound, AreRounds, BeginsRun}
-use Rattle.mig_lanes.proofs.Common.{Event, Flight, Task, IsTask, copies_of, later_rounds}
-use Rattle.std.specs.List.{take-map}
-use Rattle.std.proofs.Math.Seq.{take-append-add}
-use Rattle.std.proofs.lemmas.List.{length-take}
-use Rattle.mig_base.specs.RoundEvents.{IsRun}
-use Rattle.mig_base.proofs.Landing.{flights_none, flights_filter}
+use Rattle.mig_lanes.proofs.Common.{All, AreFlights, AreRounds, BeginsRun, Event, Flight, IsRound, IsRun, IsTargetOf, IsTask, IsTrue, List, Task, [], after_event, after_events, ap, arith, began}
+use Rattle.mig_lanes.proofs.Common.{cases_lt, copies_of, ended, filter, flights_filter, flights_none, fold-append, get_or, get_or-map-range_with_len, get_or-take, inl, inr, is_flight, is_slot}
+use Rattle.mig_lanes.proofs.Common.{later_rounds, length, length-map, length-map-range_with_len, length-take, map, not, refl, subst, suc, sym, take, take-append-add, take-append-le, take-map}
+use Rattle.mig_lanes.proofs.Common.{take_all, zero, ℕ, ◌++◌, ◌+◌, ◌-◌, ◌<◌, ◌∙◌, ◌∷◌, ◌≡◌, ◌≤◌}
 use Rattle.mig_lanes.proofs.Beginning.{flights_all_began}
 use Rattle.mig_lanes.proofs.RoundCopies.{are_flights}
 use Rattle.mig_lanes.proofs.RunLimits.{all_landed, round_lands}

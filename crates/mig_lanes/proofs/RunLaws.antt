@@ -1,17 +1,8 @@
 -- A plan that is entered, and whose rounds are then carried out.
-use Rattle.mig_base.proofs.Common.{◌≡◌, ◌⊎◌, inl, inr, Bool, true, false, ℕ, ◌≤◌, ◌++◌, List, [], length, map, refl, sym, ◌∙◌, ap, subst, arith, append-nil, append_assoc, false≢true, ended}
-use Rattle.mig_base.proofs.Common.{IsTargetOf, Image, is_one, is_armed, IsWorkCell, IsJobCell, Tells, SettlesTo, AreRounds, BeginsRun, Adds, HasDone, Contents, IsSafe, IsSound, State, flights}
-use Rattle.mig_base.proofs.Common.{Changes, LeavesOnly, IsSettled}
-use Rattle.mig_lanes.proofs.Common.{Cell, Event, Flight, Task, IsTask, later_rounds, BeginsRounds}
-use Rattle.mig_base.specs.declared.cells.Cell.TheVariants.{Gate}
-use Rattle.mig_base.specs.Arrivals.{IsReached}
-use Rattle.mig_base.specs.RoundEvents.{IsRun}
-use Rattle.mig_base.proofs.ArrivalLaws.{reached, reached_sound}
-use Rattle.mig_base.proofs.SafetyLaws.{sound_after}
-use Rattle.mig_base.proofs.StoreSteps.{leaves_then, leaves_wider, changes_leave, changes_then, changes_wider}
-use Rattle.mig_mover.proofs.Settling.{armed_told}
-use Rattle.mig_mover.specs.Moves.{IsReadyIdle, StaysArmed, Keeps, Enters}
-use Rattle.mig_lanes.specs.Runs.{Finishes, IsPart}
+use Rattle.mig_lanes.proofs.Common.{Adds, AreRounds, BeginsRounds, BeginsRun, Bool, Cell, Changes, Contents, Enters, Event, Finishes, Flight, Gate, HasDone, Image, IsJobCell, IsPart, IsReached}
+use Rattle.mig_lanes.proofs.Common.{IsReadyIdle, IsRun, IsSafe, IsSettled, IsSound, IsTargetOf, IsTask, IsWorkCell, Keeps, LeavesOnly, List, SettlesTo, State, StaysArmed, Task, Tells, [], ap}
+use Rattle.mig_lanes.proofs.Common.{append-nil, append_assoc, arith, armed_told, changes_leave, changes_then, changes_wider, ended, false, false≢true, flights, inl, inr, is_armed, is_one}
+use Rattle.mig_lanes.proofs.Common.{later_rounds, leaves_then, leaves_wider, length, map, reached, reached_sound, refl, sound_after, subst, sym, true, ℕ, ◌++◌, ◌∙◌, ◌≡◌, ◌≤◌, ◌⊎◌}
 use Rattle.mig_lanes.proofs.EventSteps.{adds_then, adds_wider}
 use Rattle.mig_lanes.proofs.RoundLists.{some_rounds}
 use Rattle.mig_lanes.proofs.RunFlights.{job_flights}

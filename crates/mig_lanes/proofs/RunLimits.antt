@@ -1,15 +1,9 @@
 -- The copies in flight keep the limits of disks, all through the events of rounds.
-use Rattle.mig_base.proofs.Common.{◌≡◌, inl, inr, ℕ, zero, suc, ◌<◌, ◌≤◌, ◌+◌, ◌-◌, ◌++◌, true, false, not, List, [], ◌∷◌, length, get_or, take, map, filter, refl, sym, ◌∙◌, ap, subst, arith}
-use Rattle.mig_base.proofs.Common.{append-nil, All, Contains, IsPermutation, cases_lt, false≢true, take-append-le, take_all, get_or-map-range_with_len, length-map-range_with_len, fold-append}
-use Rattle.mig_base.proofs.Common.{All-contains, Contains-get_or, filter_passes, is_flight, began, ended, after_event, after_events, round_at, IsRound, AreRounds, BeginsRun}
-use Rattle.mig_lanes.proofs.Common.{Event, Flight, AreWithinLimits, Task, IsTask, copies_of, later_rounds, BeginsRound}
-use Rattle.mig_base.specs.declared.inputs.Disk.{Disk}
-use Rattle.std.specs.List.{take-map}
-use Rattle.std.proofs.Math.Seq.{take-append-add}
-use Rattle.std.proofs.lemmas.List.Sorted.{Contains-permutation}
-use Rattle.mig_base.specs.RoundEvents.{IsRun, StayWithinLimits}
-use Rattle.mig_base.proofs.Landing.{is_flight-same, contains_kept}
-use Rattle.mig_mover.proofs.JobRounds.{on_disks}
+use Rattle.mig_lanes.proofs.Common.{All, All-contains, AreRounds, AreWithinLimits, BeginsRound, BeginsRun, Contains, Contains-get_or, Contains-permutation, Disk, Event, Flight, IsPermutation}
+use Rattle.mig_lanes.proofs.Common.{IsRound, IsRun, IsTask, List, StayWithinLimits, Task, [], after_event, after_events, ap, append-nil, arith, began, cases_lt, contains_kept, copies_of, disk_at}
+use Rattle.mig_lanes.proofs.Common.{ended, false, false≢true, filter, filter_passes, fold-append, get_or, get_or-map-range_with_len, inl, inr, is_flight, is_flight-same, keeps_none, later_rounds}
+use Rattle.mig_lanes.proofs.Common.{length, length-map-range_with_len, map, not, on_disks, refl, round_at, subst, suc, sym, take, take-append-add, take-append-le, take-map, take_all, true, zero}
+use Rattle.mig_lanes.proofs.Common.{ℕ, ◌++◌, ◌+◌, ◌-◌, ◌<◌, ◌∙◌, ◌∷◌, ◌≡◌, ◌≤◌}
 use Rattle.mig_lanes.proofs.Beginning.{flights_all_began}
 use Rattle.mig_lanes.proofs.Keeping.{copies_within}
 use Rattle.mig_lanes.proofs.Limiting.{count_ended, fewer_within, round_within}
@@ -51,8 +45,8 @@ whole_begins round added is = record {
 }
 
 nothing : (disks : List Disk) (m : ℕ) → AreWithinLimits disks (after_events [] (take m []))
-nothing disks zero v lt = omega arith
-nothing disks (suc m) v lt = omega arith
+nothing disks zero v lt = keeps_none (disk_at disks v).limits v
+nothing disks (suc m) v lt = keeps_none (disk_at disks v).limits v
 
 -- events after which no copy is in flight, and then others
 then_within : (disks : List Disk) (before : List Flight) (a b : List Event) → after_events before a ≡ [] → StayWithinLimits disks before a → StayWithinLimits disks [] b → StayWithinLimits disks before (a ++ b)

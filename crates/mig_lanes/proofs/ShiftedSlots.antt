@@ -1,14 +1,7 @@
 -- An item that a plan shifts is where its first shift leaves it: at a slot that the plan names.
-use Rattle.std.proofs.Common.{◌≡◌, ◌⊎◌, ◌<◌, ◌≤◌, inl, inr, ⊎_elim, Bool, true, false, ℕ, zero, suc, List, [], ◌∷◌, Option, Some, None, Contains, get_or, length, eqb, slice_get, refl, sym}
-use Rattle.std.proofs.Common.{◌∙◌, ap, arith, if◌then◌else◌}
-use Rattle.std.specs.Option.{option_or}
-use Rattle.std.proofs.lemmas.Bool.{eqb-true}
-use Rattle.mig_base.proofs.Common.{All-contains, At, Lists, Runs, round_at, shifts_of}
-use Rattle.mig_base.specs.Arrivals.{IsPlanSpot}
-use Rattle.mig_lanes.proofs.Common.{Shift, Spot}
-use Rattle.mig_base.specs.Layouts.{last_target}
-use Rattle.mig_base.specs.Readiness.{IsShifted}
-use Rattle.mig_mover.proofs.TargetLaws.{in_round}
+use Rattle.mig_lanes.proofs.Common.{All-contains, At, Bool, Contains, IsPlanSpot, IsShifted, List, Lists, None, Option, Runs, Shift, Some, Spot, [], ap, arith, eqb, eqb-true, false, get_or}
+use Rattle.mig_lanes.proofs.Common.{if◌then◌else◌, in_round, inl, inr, last_target, length, option_or, refl, round_at, shifts_of, slice_get, suc, sym, true, zero, ℕ, ⊎_elim, ◌<◌, ◌∙◌, ◌∷◌, ◌≡◌}
+use Rattle.mig_lanes.proofs.Common.{◌≤◌, ◌⊎◌}
 
 -- an item with a last target among shifts has one of these
 last_shift : (shifts : List Shift) (item : ℕ) (t : Spot) → last_target shifts item ≡ Some t → (s : Shift) × Contains shifts s × (s.item.0 ≡ item)

@@ -1,22 +1,11 @@
 -- How a migration is entered from a settled store.
-use Rattle.mig_base.proofs.Common.{◌≡◌, ◌⊎◌, inl, inr, Bool, true, false, ℕ, ◌<◌, ◌≤◌, List, [], ◌∷◌, length, get_or, Option, Some, None, IfSome, IsSome, refl, sym, ◌∙◌, ap, subst, arith, All}
-use Rattle.mig_base.proofs.Common.{prefix_len, range_with_len, cases_Bool, false≢true, cond-true, get_or_default, Lists, round_at, At, Image, NoCell, SameBut, is_one, is_armed, is_marked, count_of}
-use Rattle.mig_base.proofs.Common.{IsMark, IsJobCell, Tells, IsSourceSlot, IsInUse, Contents, IsSafeAt, IsSound, IsSoundAfter, slot_of, State, IsState, flights, ChangesOnly, LeavesOnly, IsSettled}
-use Rattle.mig_base.proofs.Common.{item_name}
-use Rattle.mig_mover.proofs.Common.{Cell, Head, Gate, Shift, Spot, AreZeros, IsRunning, Task, IsTask}
-use Rattle.mig_base.specs.declared.cells.Cell.TheVariants.{Mark}
-use Rattle.mig_base.specs.JobCells.{IsJournal}
-use Rattle.mig_base.specs.Readiness.{IsReady}
-use Rattle.mig_base.specs.Safety.{HasContents, IsCleanAt}
-use Rattle.mig_base.specs.Slots.{HasHeader, first_byte}
-use Rattle.mig_base.proofs.ArrivalLaws.{idle_sound, idle_stand, fresh_sound}
-use Rattle.mig_base.proofs.Landing.{flights_same}
-use Rattle.mig_base.proofs.MarkCounts.{count_idle}
-use Rattle.mig_base.proofs.SafetyLaws.{other_bytes, sound_after}
-use Rattle.mig_base.proofs.StoreSteps.{same_then, same_wider, told_kept, leaves_then, leaves_wider, changes_leave, changes_then, changes_wider, quiet_leaves, settled_change, told_is, tells_kept}
-use Rattle.mig_journal.proofs.Steps.{then_step, quiet_same}
-use Rattle.mig_journal.specs.FreshJournals.{IsFresh, IsArming}
-use Rattle.mig_mover.specs.Moves.{IsReadyIdle, KeepsOn, EntersOn}
+use Rattle.mig_mover.proofs.Common.{All, AreZeros, At, Bool, Cell, ChangesOnly, Contents, EntersOn, Gate, HasContents, HasHeader, Head, IfSome, Image, IsArming, IsCleanAt, IsFresh, IsInUse}
+use Rattle.mig_mover.proofs.Common.{IsJobCell, IsJournal, IsMark, IsReady, IsReadyIdle, IsRunning, IsSafeAt, IsSettled, IsSome, IsSound, IsSoundAfter, IsSourceSlot, IsState, IsTask, KeepsOn}
+use Rattle.mig_mover.proofs.Common.{LeavesOnly, List, Lists, Mark, NoCell, None, Option, SameBut, Shift, Some, Spot, State, Task, Tells, [], ap, arith, cases_Bool, changes_leave, changes_then}
+use Rattle.mig_mover.proofs.Common.{changes_wider, cond-true, count_idle, count_of, false, false≢true, first_byte, flights, flights_same, fresh_sound, get_or, get_or_default, idle_sound}
+use Rattle.mig_mover.proofs.Common.{idle_stand, inl, inr, is_armed, is_marked, is_one, item_name, leaves_then, leaves_wider, length, other_bytes, prefix_len, quiet_leaves, quiet_same}
+use Rattle.mig_mover.proofs.Common.{range_with_len, refl, round_at, same_then, same_wider, settled_change, slot_of, sound_after, subst, sym, tells_kept, then_step, told_is, told_kept, true, ℕ}
+use Rattle.mig_mover.proofs.Common.{◌<◌, ◌∙◌, ◌∷◌, ◌≡◌, ◌≤◌, ◌⊎◌}
 
 zero_mark : (cell : Option (List ℕ)) → IfSome cell (λ bytes. bytes ≡ 0 ∷ []) → is_one cell ≡ false
 zero_mark None is = refl

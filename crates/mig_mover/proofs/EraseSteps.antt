@@ -1,9 +1,6 @@
 -- The steps of a loop over a round that erases what its shifts leave.
-use Rattle.mig_base.proofs.Common.{◌≡◌, ◌⊎◌, inl, inr, ℕ, ◌<◌, ◌+◌, List, length, get_or, Some, refl, sym, ◌∙◌, ap, subst, arith, IsTrue, slice_get, AllWithin, cases_eq, get_or_default}
-use Rattle.mig_base.proofs.Common.{slice_get-get_or, is_slot, Image, SameBut, Lists, round_at, flight_of, flights_of, IsSourceSlot, slot_of}
-use Rattle.mig_mover.proofs.Common.{Cell, Flight, Shift, AreZeros}
-use Rattle.mig_base.proofs.CellTests.{cases_cell}
-use Rattle.mig_base.proofs.Listed.{at_map}
+use Rattle.mig_mover.proofs.Common.{AllWithin, AreZeros, Cell, Flight, Image, IsSourceSlot, IsTrue, List, Lists, SameBut, Shift, Some, ap, arith, at_map, cases_cell, cases_eq, flight_of}
+use Rattle.mig_mover.proofs.Common.{flights_of, get_or, get_or_default, inl, inr, is_slot, length, refl, round_at, slice_get, slice_get-get_or, slot_of, subst, sym, ℕ, ◌+◌, ◌<◌, ◌∙◌, ◌≡◌, ◌⊎◌}
 
 in_some : (f g : Flight) → Some f ≡ Some g → f ≡ g
 in_some f g e = cc

@@ -1,19 +1,10 @@
 -- The steps of a filling.
-use Rattle.mig_base.proofs.Common.{◌≡◌, ◌⊎◌, inl, inr, ◌<◌, ◌≤◌, ◌+◌, ℕ, List, [], length, get_or, Option, Some, false, Result, IfSome, refl, sym, ◌∙◌, ap, subst, arith, append-nil, All, slice_get}
-use Rattle.mig_base.proofs.Common.{AllWithin, cases_eq, get_or_default, Contains-get_or, slice_get-get_or, slice_get_within, get_or_from_slice_get, IsTargetOf, Image, NoCell, SameBut, IsInput, Lists}
-use Rattle.mig_base.proofs.Common.{no_spot, Tells, is_one, is_armed, At, BeginsRun, item_cell, slot_of, IsUsed, IsUnused, State, flights, Changes, ChangesOnly, Ends, item_name}
-use Rattle.mig_mover.proofs.Common.{Cell, Gate, Flight, Shift, Spot, IsListedCell, IsRunning, Settles, MoveFault, Store, Started, OtherPlan, NotStarted, NotThere, Occupied}
-use Rattle.mig_base.specs.declared.cells.Event.{Event}
-use Rattle.std.proofs.Common.{OnOk}
-use Rattle.mig_base.specs.Safety.{HasContents}
-use Rattle.mig_base.specs.Slots.{made_slot}
-use Rattle.mig_base.proofs.ArrivalLaws.{idle_sound}
-use Rattle.mig_base.proofs.Rounds.{spot_disk}
-use Rattle.mig_base.proofs.SafetyLaws.{slot_apart}
-use Rattle.mig_base.proofs.StoreSteps.{changes_then, changes_wider, told_is}
-use Rattle.mig_journal.proofs.Steps.{quiet_same, then_step, then_sync, still_none, sync_same}
-use Rattle.mig_mover.specs.Fillings.{IsFillable, WasFillable, IsFillFault, IsFillFaultOn, IsFillRefusal, IsFirstTaken, HasMade, made_contents, IsSoundForAll}
-use Rattle.mig_mover.specs.Moves.{Lands}
+use Rattle.mig_mover.proofs.Common.{All, AllWithin, At, BeginsRun, Cell, Changes, ChangesOnly, Contains-get_or, Ends, Event, Flight, Gate, HasContents, HasMade, IfSome, Image, IsFillFault}
+use Rattle.mig_mover.proofs.Common.{IsFillFaultOn, IsFillRefusal, IsFillable, IsFirstTaken, IsInput, IsListedCell, IsRunning, IsSoundForAll, IsTargetOf, IsUnused, IsUsed, Lands, List, Lists}
+use Rattle.mig_mover.proofs.Common.{MoveFault, NoCell, NotStarted, NotThere, Occupied, OnOk, Option, OtherPlan, Result, SameBut, Settles, Shift, Some, Spot, Started, State, Store, Tells}
+use Rattle.mig_mover.proofs.Common.{WasFillable, [], ap, append-nil, arith, cases_eq, changes_then, changes_wider, false, flights, get_or, get_or_default, get_or_from_slice_get, idle_sound, inl}
+use Rattle.mig_mover.proofs.Common.{inr, is_armed, is_one, item_cell, item_name, length, made_contents, made_slot, no_spot, quiet_same, refl, slice_get, slice_get-get_or, slice_get_within}
+use Rattle.mig_mover.proofs.Common.{slot_apart, slot_of, spot_disk, still_none, subst, sym, sync_same, then_step, then_sync, told_is, ℕ, ◌+◌, ◌<◌, ◌∙◌, ◌≡◌, ◌≤◌, ◌⊎◌}
 use Rattle.mig_mover.proofs.Settling.{settles_land, settles_landed, settles_quiet}
 
 -- Looking at listed spots

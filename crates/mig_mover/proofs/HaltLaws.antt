@@ -1,15 +1,8 @@
 -- Closing a migration early: the free slots are erased, the store is synced, and the journal is closed.
-use Rattle.mig_base.proofs.Common.{◌≡◌, inl, inr, ⊎_elim, ℕ, ◌≤◌, [], ◌∷◌, length, Some, IfSome, IsSome, refl, sym, ◌∙◌, ap, subst, false≢true, Image, NoCell, is_one, count_of, IsFreeSlot, Tells}
-use Rattle.mig_base.proofs.Common.{Contents, IsSafeAt, IsSafe, slot_of, State, IsState, ChangesOnly, LeavesOnly, IsSettled}
-use Rattle.mig_mover.proofs.Common.{Gate, AreZeros, Task, IsTask}
-use Rattle.mig_base.specs.Arrivals.{AreFreeZeros, IsHalted, IsHaltSafe}
-use Rattle.mig_base.specs.JobCells.{IsHaltCell}
-use Rattle.mig_base.specs.Safety.{IsSafeAfter}
-use Rattle.mig_base.proofs.ArrivalLaws.{free_bytes, gate_bytes}
-use Rattle.mig_base.proofs.StoreSteps.{same_wider, same_then, told_kept, leaves_then, changes_leave, changes_wider, quiet_leaves, told_is}
-use Rattle.mig_journal.proofs.Steps.{then_step, then_quiet, quiet_same}
-use Rattle.mig_mover.specs.Halts.{AreErased, IsClosingCell, KeepsHaltSafe, EndsHalted}
-use Rattle.mig_mover.specs.Stands.{IsAt}
+use Rattle.mig_mover.proofs.Common.{AreErased, AreFreeZeros, AreZeros, ChangesOnly, Contents, EndsHalted, Gate, IfSome, Image, IsAt, IsClosingCell, IsFreeSlot, IsHaltCell, IsHaltSafe, IsHalted}
+use Rattle.mig_mover.proofs.Common.{IsSafe, IsSafeAfter, IsSafeAt, IsSettled, IsSome, IsState, IsTask, KeepsHaltSafe, LeavesOnly, NoCell, Some, State, Task, Tells, [], ap, changes_leave}
+use Rattle.mig_mover.proofs.Common.{changes_wider, count_of, false≢true, free_bytes, gate_bytes, inl, inr, is_one, leaves_then, length, quiet_leaves, quiet_same, refl, same_then, same_wider}
+use Rattle.mig_mover.proofs.Common.{slot_of, subst, sym, then_quiet, then_step, told_is, told_kept, ℕ, ⊎_elim, ◌∙◌, ◌∷◌, ◌≡◌, ◌≤◌}
 
 module _ (task : Task) (is : IsTask task) (k : ℕ) (most : k ≤ length task.plan) (old erased : State) (erase : ChangesOnly (IsFreeSlot task.input task.plan k) old erased) where
   pub change_erased : ChangesOnly (IsClosingCell task k) old erased

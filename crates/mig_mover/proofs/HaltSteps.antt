@@ -1,10 +1,6 @@
 -- The steps of a loop over vacancies that erases those that last.
-use Rattle.mig_base.proofs.Common.{◌≡◌, ◌⊎◌, inl, inr, ℕ, ◌+◌, ◌<◌, ◌≤◌, List, length, get_or, sym, ◌∙◌, ap, subst, arith, AllWithin, cases_eq, cases_lt, get_or_default, no_spot, Image, SameBut}
-use Rattle.mig_base.proofs.Common.{IsFreeSlot, slot_of}
-use Rattle.mig_mover.proofs.Common.{Cell, Spot, AreZeros, Task, IsTask, IsVacant, AreVacancies, Vacancy}
-use Rattle.mig_base.proofs.ArrivalLaws.{named_on_disk}
-use Rattle.mig_base.proofs.CellTests.{cases_cell}
-use Rattle.mig_mover.specs.Halts.{AreErased}
+use Rattle.mig_mover.proofs.Common.{AllWithin, AreErased, AreVacancies, AreZeros, Cell, Image, IsFreeSlot, IsTask, IsVacant, List, SameBut, Spot, Task, Vacancy, ap, arith, cases_cell, cases_eq}
+use Rattle.mig_mover.proofs.Common.{cases_lt, get_or, get_or_default, inl, inr, length, named_on_disk, no_spot, slot_of, subst, sym, ℕ, ◌+◌, ◌<◌, ◌∙◌, ◌≡◌, ◌≤◌, ◌⊎◌}
 
 -- what a vacancy that isn't there would be
 abbrev pub no_vacancy : Vacancy

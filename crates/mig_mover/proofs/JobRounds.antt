@@ -1,11 +1,7 @@
 -- The rounds of a job.
-use Rattle.mig_base.proofs.Common.{◌≡◌, ℕ, zero, suc, ◌+◌, ◌-◌, ◌<◌, ◌≤◌, List, [], ◌∷◌, length, get_or, take, Some, sym, ◌∙◌, ap, subst, arith, length-append, slice_get, Contains, get_or_default}
-use Rattle.mig_base.proofs.Common.{Contains-get_or, slice_get-get_or, Lists, no_spot, round_at, At, shifts_of, flight_of, flights_of, slot_of}
-use Rattle.mig_mover.proofs.Common.{Cell, Shift, Task, IsTask}
-use Rattle.mig_base.specs.declared.limits.TheConstants.{MAX_FILE_BYTES}
-use Rattle.mig_base.proofs.Listed.{at_map}
-use Rattle.mig_base.proofs.Rounds.{to_disk, from_disk}
-use Rattle.mig_base.proofs.SafetyLaws.{layout_at}
+use Rattle.mig_mover.proofs.Common.{At, Cell, Contains, Contains-get_or, IsTask, List, Lists, MAX_FILE_BYTES, Shift, Some, Task, [], ap, arith, at_map, flight_of, flights_of, from_disk, get_or}
+use Rattle.mig_mover.proofs.Common.{get_or_default, layout_at, length, length-append, no_spot, round_at, shifts_of, slice_get, slice_get-get_or, slot_of, subst, suc, sym, take, to_disk, zero, ℕ}
+use Rattle.mig_mover.proofs.Common.{◌+◌, ◌-◌, ◌<◌, ◌∙◌, ◌∷◌, ◌≡◌, ◌≤◌}
 
 -- a round's shifts come after those of the rounds before it
 pub shifts_counted : (plan : List (List Shift)) (i : ℕ) (d : List Shift) → i < length plan → length (shifts_of (take i plan)) + length (get_or plan i d) ≤ length (shifts_of plan)

@@ -1,10 +1,7 @@
 -- A list that is filled with what stands in its front.
-use Rattle.mig_base.proofs.Common.{◌≡◌, ◌⊎◌, inl, inr, ◌<◌, ◌≤◌, ◌+◌, ◌-◌, ◌%◌, ◌++◌, ◌∷◌, ℕ, zero, suc, List, [], length, get_or, take, drop, map, min, replicate, refl, sym, ◌∙◌, ap, arith}
-use Rattle.mig_base.proofs.Common.{append_assoc, append-nil, range_with_len, cases_lt, take-append_seam, take-append-le, fill_by_all, length-map-range_with_len}
-use Rattle.std.proofs.Math.Nat.{add-mod_left, mod-eq_of_lt}
-use Rattle.std.proofs.Math.Seq.{drop-append-add}
-use Rattle.std.proofs.lemmas.List.{drop-replicate}
-use Rattle.std.proofs.lemmas.List.FromFn.{map-range_with_len_more, take-map-range_with_len}
+use Rattle.mig_mover.proofs.Common.{List, [], add-mod_left, ap, append-nil, append_assoc, arith, cases_lt, drop, drop-append-add, drop-replicate, fill_by_all, get_or, inl, inr, length}
+use Rattle.mig_mover.proofs.Common.{length-map-range_with_len, map, map-range_with_len_more, min, mod-eq_of_lt, range_with_len, refl, replicate, suc, sym, take, take-append-le, take-append_seam}
+use Rattle.mig_mover.proofs.Common.{take-map-range_with_len, zero, ℕ, ◌%◌, ◌++◌, ◌+◌, ◌-◌, ◌<◌, ◌∙◌, ◌∷◌, ◌≡◌, ◌≤◌, ◌⊎◌}
 
 module _ (byte : ℕ → ℕ) where
   -- the first n bytes

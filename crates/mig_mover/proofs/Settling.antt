@@ -1,20 +1,11 @@
 -- What the first sync of a call gives.
-use Rattle.mig_base.proofs.Common.{◌≡◌, ◌⊎◌, inl, inr, true, false, ℕ, suc, ◌≤◌, ◌++◌, List, [], length, map, Option, Some, None, Result, Ok, Err, IfOk, IfErr, IfSome, IsSome, refl, sym, ◌∙◌, ap}
-use Rattle.mig_base.proofs.Common.{subst, arith, append-nil, IsPermutation, map-append, cases_Bool, false≢true, is_slot, ended, IsTargetOf, AreFlights, All, All-contains, Contains-get_or, get_or, IsCopy, Image, NoCell, is_one, is_armed, is_marked}
-use Rattle.mig_base.proofs.Common.{count_of, IsJobCell, Tells, SettlesTo, BeginsRun, Adds, Contents, IsSafeAt, IsSound, State, IsState, flights, Changes, ChangesOnly, LeavesOnly, Ends, IsSettled}
-use Rattle.mig_mover.proofs.Common.{Cell, Head, Gate, Flight, is_running, Settles, IsRunning, Task, MoveFault, Store, Started, OtherPlan, NotStarted, NotThere, Occupied}
-use Rattle.mig_base.specs.declared.cells.Cell.TheVariants.{Mark}
-use Rattle.mig_base.specs.declared.cells.Event.{Event}
-use Rattle.std.proofs.lemmas.List.Sorted.{Contains-permutation, IsPermutation-sym}
-use Rattle.mig_base.specs.Arrivals.{IsHaltSafe}
-use Rattle.mig_base.specs.Readiness.{IsReady}
-use Rattle.mig_base.specs.RoundEvents.{IsRun}
-use Rattle.mig_base.proofs.Landing.{target_permuted, target_left, no_target, flights_same}
-use Rattle.mig_base.proofs.MarkCounts.{counted, count_is, count_idle}
-use Rattle.mig_base.proofs.StoreSteps.{same_image, same_wider, told_kept, leaves_then, changes_then, changes_wider, quiet_leaves, settled_change, events_none}
-use Rattle.mig_journal.specs.declared.looking.Seen.{Seen}
-use Rattle.mig_journal.specs.declared.looking.Seen.TheVariants.{Idle}
-use Rattle.mig_mover.specs.Moves.{IsLanded, Lands, IsRefusal, IsPlanFault, IsFault, IsReadyIdle, MayBeHalting, Keeps, Enters, KeepsOn, EntersOn, IsFaultOn}
+use Rattle.mig_mover.proofs.Common.{Adds, All, All-contains, AreFlights, BeginsRun, Cell, Changes, ChangesOnly, Contains-get_or, Contains-permutation, Contents, Ends, Enters, EntersOn, Err}
+use Rattle.mig_mover.proofs.Common.{Event, Flight, Gate, Head, Idle, IfErr, IfOk, IfSome, Image, IsCopy, IsFault, IsFaultOn, IsHaltSafe, IsJobCell, IsLanded, IsPermutation, IsPermutation-sym}
+use Rattle.mig_mover.proofs.Common.{IsPlanFault, IsReady, IsReadyIdle, IsRefusal, IsRun, IsRunning, IsSafeAt, IsSettled, IsSome, IsSound, IsState, IsTargetOf, Keeps, KeepsOn, Lands, LeavesOnly}
+use Rattle.mig_mover.proofs.Common.{List, Mark, MayBeHalting, MoveFault, NoCell, None, NotStarted, NotThere, Occupied, Ok, Option, OtherPlan, Result, Seen, Settles, SettlesTo, Some, Started}
+use Rattle.mig_mover.proofs.Common.{State, Store, Task, Tells, [], ap, append-nil, arith, cases_Bool, changes_then, changes_wider, count_idle, count_is, count_of, counted, ended, events_none}
+use Rattle.mig_mover.proofs.Common.{false, false≢true, flights, flights_same, get_or, inl, inr, is_armed, is_marked, is_one, is_running, is_slot, leaves_then, length, map, map-append, no_target}
+use Rattle.mig_mover.proofs.Common.{quiet_leaves, refl, same_image, same_wider, settled_change, subst, suc, sym, target_left, target_permuted, told_kept, true, ℕ, ◌++◌, ◌∙◌, ◌≡◌, ◌≤◌, ◌⊎◌}
 
 module _ (these : List Flight) (old new : State) (ends : Ends these old new) where
   within : (cell : Cell) → IsTargetOf these cell → IsTargetOf (flights old) cell

@@ -1,13 +1,8 @@
 -- Where a migration stands: the first sync, and then what looks at a settled store find.
-use Rattle.mig_base.proofs.Common.{◌≡◌, inl, inr, ◌≤◌, true, false, ℕ, List, length, Option, Some, Result, Ok, Err, IfOk, IfErr, IfSome, IsSome, refl, sym, ◌∙◌, subst, arith, prefix_len}
-use Rattle.mig_base.proofs.Common.{range_with_len, cond-true, false≢true, AreFlights, Image, NoCell, is_armed, is_marked, count_of, IsMark, IsJobCell, Tells, State, flights, ChangesOnly}
-use Rattle.mig_mover.proofs.Common.{Gate, Head, IsRunning, Settles, Task, MoveFault, Store, Started, OtherPlan, NotStarted, NotThere, Occupied}
-use Rattle.std.proofs.Common.{IsOk}
-use Rattle.mig_base.specs.FaultCounts.{Rose}
-use Rattle.mig_base.specs.JobCells.{IsJournal}
-use Rattle.mig_base.proofs.StoreSteps.{same_image}
-use Rattle.mig_mover.specs.Moves.{IsRefusal}
-use Rattle.mig_mover.specs.Stands.{IsAt, Stands, IsOtherFault, IsStandFault}
+use Rattle.mig_mover.proofs.Common.{AreFlights, ChangesOnly, Err, Gate, Head, IfErr, IfOk, IfSome, Image, IsAt, IsJobCell, IsJournal, IsMark, IsOk, IsOtherFault, IsRefusal, IsRunning, IsSome}
+use Rattle.mig_mover.proofs.Common.{IsStandFault, List, MoveFault, NoCell, NotStarted, NotThere, Occupied, Ok, Option, OtherPlan, Result, Rose, Settles, Some, Stands, Started, State, Store, Task}
+use Rattle.mig_mover.proofs.Common.{Tells, arith, cond-true, count_of, false, false≢true, flights, inl, inr, is_armed, is_marked, length, prefix_len, range_with_len, refl, same_image, subst, sym}
+use Rattle.mig_mover.proofs.Common.{true, ℕ, ◌∙◌, ◌≡◌, ◌≤◌}
 use Rattle.mig_mover.proofs.Settling.{tells_more, journal_kept, gate_kept, count_kept, settles_quiet, head_is}
 
 module _ (task : Task) (old mid : State) (settles : Settles old mid) (later : old.faults ≤ mid.faults) (running : IsRunning mid.reads)

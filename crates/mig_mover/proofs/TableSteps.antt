@@ -1,13 +1,7 @@
 -- How the tables of a job come to be.
-use Rattle.mig_base.proofs.Common.{◌≡◌, inl, inr, ℕ, suc, ◌+◌, ◌<◌, ◌++◌, ◌==◌, ◌&&◌, not, Bool, true, false, cond, List, [], ◌∷◌, length, get_or, take, map, refl, sym, ◌∙◌, ap, arith, append-nil}
-use Rattle.mig_base.proofs.Common.{IsTrue, ◌↔◌, Contains, list_any, cases_Bool, and_parts, eq-eqb, eqb-true, false≢true, take_more, get_or_default, get_or-take, Any-from_list_any, Lists, AreDifferent}
-use Rattle.mig_base.proofs.Common.{At, round_at, shifts_of, Runs}
-use Rattle.mig_mover.proofs.Common.{Shift, Spot, same_spot, free_targets}
-use Rattle.std.proofs.lemmas.List.{length-take}
-use Rattle.std.proofs.lemmas.List.Folds.{list_any_at}
-use Rattle.std.proofs.lemmas.Grind.{flat_map-append}
-use Rattle.mig_base.proofs.LayoutSteps.{At-item}
-use Rattle.mig_base.proofs.Rounds.{leaves}
+use Rattle.mig_mover.proofs.Common.{Any-from_list_any, AreDifferent, At, At-item, Bool, Contains, IsTrue, List, Lists, Runs, Shift, Spot, [], and_parts, ap, append-nil, arith, cases_Bool, cond}
+use Rattle.mig_mover.proofs.Common.{eq-eqb, eqb-true, false, false≢true, flat_map-append, free_targets, get_or, get_or-take, get_or_default, inl, inr, leaves, length, length-take, list_any}
+use Rattle.mig_mover.proofs.Common.{list_any_at, map, not, refl, round_at, same_spot, shifts_of, suc, sym, take, take_more, true, ℕ, ◌&&◌, ◌++◌, ◌+◌, ◌<◌, ◌==◌, ◌↔◌, ◌∙◌, ◌∷◌, ◌≡◌}
 
 -- Rounds
 

@@ -1,13 +1,8 @@
 -- What a plan's free targets say of its shifts.
-use Rattle.mig_base.proofs.Common.{◌≡◌, ◌⊎◌, inl, inr, ⊎_elim, ℕ, zero, suc, ◌+◌, ◌<◌, not, Bool, true, false, cond, MatchBool, List, [], ◌∷◌, length, get_or, take, map, filter, Option, Some, None}
-use Rattle.mig_base.proofs.Common.{refl, sym, ◌∙◌, ap, subst, arith, slice_get, All, AllWithin, Contains, list_any, cases_eq, cases_Bool, eqb-true, false≢true, get_or_default, Any-from_list_any}
-use Rattle.mig_base.proofs.Common.{Lists, no_spot, Image, At, round_at, shifts_of, IsShifted, is_of, IsThere, IsUsed, IsUnused}
-use Rattle.mig_mover.proofs.Common.{Shift, Spot, same_spot, free_targets, Task, IsTask}
-use Rattle.std.proofs.Common.{IfNone}
-use Rattle.std.proofs.lemmas.List.Elements.{Contains-append_cases}
-use Rattle.mig_base.specs.Readiness.{CanTake, IsFirstUsed}
-use Rattle.mig_base.specs.Slots.{IsLost}
-use Rattle.mig_base.proofs.Rounds.{there, to_disk}
+use Rattle.mig_mover.proofs.Common.{All, AllWithin, Any-from_list_any, At, Bool, CanTake, Contains, Contains-append_cases, IfNone, Image, IsFirstUsed, IsLost, IsShifted, IsTask, IsThere}
+use Rattle.mig_mover.proofs.Common.{IsUnused, IsUsed, List, Lists, MatchBool, None, Option, Shift, Some, Spot, Task, [], ap, arith, cases_Bool, cases_eq, cond, eqb-true, false, false≢true}
+use Rattle.mig_mover.proofs.Common.{filter, free_targets, get_or, get_or_default, inl, inr, is_of, length, list_any, map, no_spot, not, refl, round_at, same_spot, shifts_of, slice_get, subst}
+use Rattle.mig_mover.proofs.Common.{suc, sym, take, there, to_disk, true, zero, ℕ, ⊎_elim, ◌+◌, ◌<◌, ◌∙◌, ◌∷◌, ◌≡◌, ◌⊎◌}
 use Rattle.mig_mover.proofs.TableSteps.{listed_has, has_listed}
 
 module _ (spots : List Spot) where

@@ -1,14 +1,9 @@
 -- When the spots that a plan names are free.
-use Rattle.mig_base.proofs.Common.{◌≡◌, ◌⊎◌, inl, inr, ⊎_elim, Bool, true, false, ℕ, zero, suc, ◌<◌, ◌≤◌, ◌++◌, List, [], ◌∷◌, length, get_or, map, filter, cond, ◌==◌, Some, refl, sym, ◌∙◌, ap, subst}
-use Rattle.mig_base.proofs.Common.{arith, All, Any, Contains, list_any, cases_eq, cases_lt, cases_Bool, false≢true, cond-true, cond-false, eq-eqb, eqb-true, get_or_default, All-append, All-map}
-use Rattle.mig_base.proofs.Common.{filter_passes, Contains-get_or, Contains-append_left, Contains-append_right, Any-from_list_any, slice_get-get_or, Lists, IsInput, At, IsTaken, round_at, Runs}
-use Rattle.mig_mover.proofs.Common.{Shift, Spot, same_spot, left_in, ended_by, ended_in, open_of, open_in, IsVacant, AreVacancies, Vacancy}
-use Rattle.std.proofs.lemmas.List.Folds.{list_any_at}
-use Rattle.mig_base.specs.Layouts.{IsSource, IsTarget}
-use Rattle.mig_base.specs.Arrivals.{IsNamed}
-use Rattle.mig_base.proofs.Rounds.{contains_any, any_contains, in_some, moved_cases, at_target, leaves}
-use Rattle.mig_base.proofs.SafetyLaws.{source_facts, no_round, target_facts}
-use Rattle.mig_mover.specs.Vacancies.{begun_by, vacancies_in}
+use Rattle.mig_mover.proofs.Common.{All, All-append, All-map, Any, Any-from_list_any, AreVacancies, At, Bool, Contains, Contains-append_left, Contains-append_right, Contains-get_or, IsInput}
+use Rattle.mig_mover.proofs.Common.{IsNamed, IsSource, IsTaken, IsTarget, IsVacant, List, Lists, Runs, Shift, Some, Spot, Vacancy, [], any_contains, ap, arith, at_target, begun_by, cases_Bool}
+use Rattle.mig_mover.proofs.Common.{cases_eq, cases_lt, cond, cond-false, cond-true, contains_any, ended_by, ended_in, eq-eqb, eqb-true, false, false≢true, filter, filter_passes, get_or}
+use Rattle.mig_mover.proofs.Common.{get_or_default, in_some, inl, inr, leaves, left_in, length, list_any, list_any_at, map, moved_cases, no_round, open_in, open_of, refl, round_at, same_spot}
+use Rattle.mig_mover.proofs.Common.{slice_get-get_or, source_facts, subst, suc, sym, target_facts, true, vacancies_in, zero, ℕ, ⊎_elim, ◌++◌, ◌<◌, ◌==◌, ◌∙◌, ◌∷◌, ◌≡◌, ◌≤◌, ◌⊎◌}
 use Rattle.mig_mover.proofs.TableSteps.{spot_is, spot_same}
 
 -- whether one of the shifts has the spot, as the test says

@@ -1,8 +1,6 @@
 -- How the table of a plan's vacancies comes to be.
-use Rattle.mig_base.proofs.Common.{◌≡◌, ℕ, suc, ◌++◌, Bool, true, false, cond, List, [], ◌∷◌, length, map, Option, Some, None, refl, sym, ◌∙◌, ap, append_assoc, round_at}
-use Rattle.mig_mover.proofs.Common.{Shift, Spot, same_spot, round_of, left_in, ended_by, ended_in, open_of, open_in, Vacancy}
-use Rattle.std.specs.Map.{lookup}
-use Rattle.mig_mover.specs.Vacancies.{left_after}
+use Rattle.mig_mover.proofs.Common.{Bool, List, None, Option, Shift, Some, Spot, Vacancy, [], ap, append_assoc, cond, ended_by, ended_in, false, left_after, left_in, length, lookup, map, open_in}
+use Rattle.mig_mover.proofs.Common.{open_of, refl, round_at, round_of, same_spot, suc, sym, true, ℕ, ◌++◌, ◌∙◌, ◌∷◌, ◌≡◌}
 
 -- What a table has for a spot
 

@@ -1,11 +1,7 @@
 -- Lists of different names.
-use Rattle.mig_base.proofs.Common.{◌≡◌, ◌++◌, ◌∷◌, [], ℕ, Bool, true, false, List, Option, Some, None, Contains, MatchOption, slice_get, nat_eq, is_some, cond, ap, sym, ◌∙◌, refl, same_text, list_any}
-use Rattle.mig_base.proofs.Common.{false≢true, Contains-from_any, list_any-from_Contains, slice_get-get_or, AreDifferent}
-use Rattle.std.proofs.Common.{position}
-use Rattle.std.specs.Cmp.Lexicographic.{pointwise, bytes_decides, nat_list_eq_equiv}
-use Rattle.std.proofs.lemmas.List.Quantifiers.{position-Some}
-use Rattle.std.proofs.lemmas.Map.Made.{AllPairs-from_IsDistinct}
-use Rattle.indexmap.specs.IndexSet.{insert_key, IsUnique, IndexSet}
+use Rattle.mig_names.proofs.Common.{AllPairs-from_IsDistinct, AreDifferent, Bool, Contains, Contains-from_any, IndexSet, IsUnique, List, MatchOption, None, Option, Some, [], ap, bytes_decides}
+use Rattle.mig_names.proofs.Common.{cond, false, false≢true, insert_key, is_some, list_any, list_any-from_Contains, nat_eq, nat_list_eq_equiv, pointwise, position, position-Some, refl, same_text}
+use Rattle.mig_names.proofs.Common.{slice_get, slice_get-get_or, sym, true, ℕ, ◌++◌, ◌∙◌, ◌∷◌, ◌≡◌}
 
 abbrev same : List ℕ → List ℕ → Bool
 same = pointwise nat_eq

@@ -1,9 +1,6 @@
 -- Lists of different spots.
-use Rattle.mig_base.proofs.Common.{◌≡◌, ◌==◌, ◌&&◌, ◌++◌, ◌∷◌, [], ℕ, Bool, true, false, List, Contains, cond, refl, ap, sym, ◌∙◌, arith, list_any, and_parts, nat_tests, Contains-from_any}
-use Rattle.mig_base.specs.declared.ids.Spot.{Spot}
-use Rattle.std.specs.Cmp.{IsEquivalence}
-use Rattle.std.proofs.lemmas.Cmp.{and_equiv, nat_eq_equiv, on_equiv}
-use Rattle.indexmap.specs.IndexSet.{insert_key}
+use Rattle.mig_names.proofs.Common.{Bool, Contains, Contains-from_any, IsEquivalence, List, Spot, [], and_equiv, and_parts, ap, arith, cond, false, insert_key, list_any, nat_eq_equiv, nat_tests}
+use Rattle.mig_names.proofs.Common.{on_equiv, refl, sym, true, ℕ, ◌&&◌, ◌++◌, ◌==◌, ◌∙◌, ◌∷◌, ◌≡◌}
 
 -- the test of two spots
 abbrev pub spot_eq : Spot → Spot → Bool

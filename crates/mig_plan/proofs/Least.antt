@@ -1,16 +1,8 @@
 -- A plan has at least as many rounds as the quotient.
-use Rattle.mig_base.proofs.Common.{◌≡◌, ℕ, ◌*◌, ◌<◌, ◌≤◌, List, [], length, map, refl, sym, subst, arith, get_or, range_with_len, All-map, get_or-range_with_len, length-range_with_len, Lists, IsInput}
-use Rattle.mig_base.proofs.Common.{Transfers, transfers, load, quotient, disk_value, IsEven, limit, Runs, Once, PlanFits, IsLimited, trip_at}
-use Rattle.mig_base.specs.declared.ids.Shift.{Shift}
-use Rattle.mig_base.specs.Bounding.{IsOneWay}
-use Rattle.mig_base.specs.Running.{round_of}
-use Rattle.mig_base.specs.Planned.{GoesToTargets, IsFilled}
-use Rattle.mig_base.specs.MadePlans.{Because, EvenLimits, IsPlanOf, OneWay, Reason}
-use Rattle.mig_base.specs.Colourings.{edges_of}
-use Rattle.mig_base.specs.Schedules.{Needs}
-use Rattle.mig_base.proofs.Needed.{needs_disk}
-use Rattle.mig_base.proofs.Scheduled.{scheduled, obeys}
-use Rattle.mig_plan.proofs.Limits.{greatest_most}
+use Rattle.mig_plan.proofs.Common.{All-map, Because, EvenLimits, GoesToTargets, IsEven, IsFilled, IsInput, IsLimited, IsOneWay, IsPlanOf, KeepsLimit, List, Lists, Needs, Once, OneWay, PlanFits}
+use Rattle.mig_plan.proofs.Common.{Reason, Runs, Shift, SplitLimits, Transfers, [], arith, disk_value, edges_of, false, false≢true, get_or, get_or-range_with_len, is_duplex, keeps_none, length}
+use Rattle.mig_plan.proofs.Common.{length-range_with_len, map, needs_disk, obeys, quotient, range_with_len, round_of, scheduled, subst, sym, transfers, trip_at, trips, ℕ, ◌*◌, ◌<◌, ◌∙◌, ◌≡◌, ◌≤◌}
+use Rattle.mig_duplex.proofs.Quotients.{greatest_most, limits_of}
 
 -- every schedule has at least as many rounds as the quotient
 pub needs_quotient : (input : Lists) → IsInput input → Needs input (quotient (transfers input))
@@ -41,13 +33,14 @@ plan_made input graph plan n is same fits runs once targets filled few tight mos
     }
 
 -- where neither test succeeds there is no reason
-pub no_reason : (graph : Transfers) → ¬ IsEven graph → ¬ IsOneWay graph → (why : Reason) → ¬ Because why graph
-no_reason graph odd mixed EvenLimits = odd
-no_reason graph odd mixed OneWay = mixed
+pub no_reason : (graph : Transfers) → is_duplex graph.disks ≡ false → ¬ IsEven graph → ¬ IsOneWay graph → (why : Reason) → ¬ Because why graph
+no_reason graph joint odd mixed SplitLimits = λ split. false≢true (sym joint ∙ split)
+no_reason graph joint odd mixed EvenLimits = odd
+no_reason graph joint odd mixed OneWay = mixed
 
 pub limited_none : (graph : Transfers) → length graph.trips ≡ 0 → IsLimited graph 0 []
 limited_none graph none = record {
   one_each = sym none;
   below = λ k d h. absurd (omega arith);
-  within = λ c v h. subst (λ m. load v (map (trip_at graph.trips) (edges_of [] c m)) ≤ limit graph v) (sym none) (omega arith);
+  within = λ c v h. subst (λ m. KeepsLimit (limits_of graph v) v (map (trip_at graph.trips) (edges_of [] c m))) (sym none) (keeps_none (limits_of graph v) v);
 }

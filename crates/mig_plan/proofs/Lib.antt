@@ -4,3 +4,4 @@ pub mod RowLaws
 pub mod SlotLaws
 pub mod TargetSteps
 pub mod OneWay
+pub mod Common

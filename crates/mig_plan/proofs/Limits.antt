@@ -1,133 +1,38 @@
 -- From a complete proper colouring of copies to a limited colouring of the transfer graph.
-use Rattle.mig_base.proofs.Common.{◌≡◌, ◌≢◌, ◌⊎◌, ℕ, suc, zero, ◌+◌, ◌-◌, ◌*◌, min, ◌<◌, ◌≤◌, Bool, true, false, not, ◌||◌, eqb, List, [], ◌∷◌, length, map, refl, sym, ap, ◌∙◌, arith, All, get_or}
-use Rattle.mig_base.proofs.Common.{inl, inr, subst, Some, None, Option, slice_get, list_any, range_with_len, sum_by-cons, get_or_default, length-map, slice_get-get_or, slice_get_within, same_Some}
-use Rattle.mig_base.proofs.Common.{cases_Bool, cases_eq, false≢true, ne_eqb, nat_tests, div_ceil_times, mul_comm, mul-le-mul_left, mul-le-mul_right, Trip, load, touches, div_ceil, Transfers, quotient}
-use Rattle.mig_base.proofs.Common.{limit, IsEven, no_disk, trip_at, is_forward, Balances, IsLimited, colour_at}
-use Rattle.mig_base.specs.declared.ids.Colour.{Colour}
-use Rattle.mig_base.specs.declared.ids.CopyId.{CopyId}
-use Rattle.mig_base.specs.declared.ids.DiskId.{DiskId}
-use Rattle.mig_base.specs.declared.ids.EdgeId.{EdgeId}
-use Rattle.mig_base.specs.declared.limits.TheConstants.{MAX_DISKS, MAX_ITEMS}
-use Rattle.std.proofs.lemmas.List.Sums.{sum_by-take-drop}
-use Rattle.std.proofs.lemmas.Bool.{or_parts}
-use Rattle.mig_base.specs.Bounding.{gives, IsOneWay}
-use Rattle.mig_base.specs.Directions.{tails, heads, tail_of, head_of, out_of, in_of}
-use Rattle.mig_base.specs.Colourings.{edges_of}
-use Rattle.mig_base.proofs.Counting.{one, sum_by-map, count_by-filter, ceil_within, ceil_of_none}
-use Rattle.mig_base.proofs.Copies.{Copied, StandsForEnds, IsProper as IsProperCopies, colour_at_disk, copies_of_sides, load_within_quotient, value_within_quotient}
-use Rattle.mig_base.proofs.SameIds.{same_copy}
-use Rattle.mig_split.proofs.Halves.{out_in}
-use Rattle.mig_board.specs.Colouring.{Colouring, Leads, IsProper}
-use Rattle.mig_split.specs.Dealing.{count_of, disk_at}
-use Rattle.mig_board.specs.Growth.{SameGraph}
-use Rattle.mig_split.specs.Copies.{AreSides, AreShares, first_of, second_of}
-use Rattle.mig_split.specs.Sharing.{AreOnSides, AreThrough}
-use Rattle.mig_plan.specs.Coloured.{AreColours, IsDealtBoard, SidesFit}
+use Rattle.mig_plan.proofs.Common.{All, AreColours, AreShares, Balances, Bool, Colour, Colouring, Copied, CopyId, DiskId, IsDealtBoard, IsEven, IsGraph, IsLimited, IsOneWay, IsProper, IsSpread}
+use Rattle.mig_plan.proofs.Common.{List, MAX_DISKS, MAX_ITEMS, SameGraph, SidesFit, StandsForEnds, Transfers, Trip, [], ap, arith, cases_Bool, cases_eq, ceil_of_none, ceil_within, colour_at}
+use Rattle.mig_plan.proofs.Common.{colour_at_disk, copies_of_sides, count_by-filter, count_of, disk_at, div_ceil, div_ceil_times, edges_of, entering_in, eqb, false, false≢true, first_of, get_or}
+use Rattle.mig_plan.proofs.Common.{get_or_default, gives, head_of, heads, in_of, inl, inr, is_duplex, is_forward, keeps_joint, leaving_in, length, length-map, limit, list_any, load}
+use Rattle.mig_plan.proofs.Common.{load_within_quotient, map, min, mul-le-mul_left, mul-le-mul_right, mul_comm, ne_eqb, no_disk, not, one, or_parts, out_in, out_of, quotient, range_with_len}
+use Rattle.mig_plan.proofs.Common.{refl, second_of, subst, suc, sum_by-add, sum_by-cons, sum_by-le_each, sum_by-map, sym, tail_of, tails, touches, trip_at, true, ℕ, ◌&&◌, ◌*◌, ◌+◌}
+use Rattle.mig_plan.proofs.Common.{◌<◌, ◌||◌, ◌∙◌, ◌∷◌, ◌≡◌, ◌≢◌, ◌≤◌, ◌⊎◌}
+use Rattle.mig_duplex.proofs.Quotients.{HasRanges, limits_of}
+use Rattle.mig_duplex.proofs.Spread.{apart_at, home_is}
+use Rattle.mig_base.proofs.Copies.{IsProper as IsProperCopies}
 
 -- edges between copies whose homes are their disks
 abbrev copied_of : Transfers → List (CopyId × CopyId) → List DiskId → List Colour → Copied
 copied_of graph ends homes colours = record { edges = length graph.trips; homes = map (λ (d : DiskId). d.0) homes; first = first_of ends; second = second_of ends; trip = trip_at graph.trips; colour = colour_at colours }
 
-or_cases : (a b k : ℕ) → (eqb a k || eqb b k) ≡ true → (a ≡ k) ⊎ (b ≡ k)
-or_cases a b k h = elim (cases_eq a k) [ inl e ↦ inl e | inr ne ↦ inr (right a b k ne h) ]
-  where
-    right : (a b k : ℕ) → a ≢ k → (eqb a k || eqb b k) ≡ true → b ≡ k
-    right a b k ne h = grind (arith, nat_tests)
+-- edges that are proper at the nodes are proper at the copies that these are
+proper_copies : (g : Colouring) (graph : Transfers) (homes : List DiskId) (colours : List Colour) → IsProper g → AreColours g colours → length g.ends ≡ length graph.trips → IsProperCopies (copied_of graph g.ends homes colours)
+proper_copies g graph homes colours proper a len d e k lt h same m n = apart_at g colours d e k proper a lt (omega (arith, h, len)) same m n
 
--- an edge that meets a copy leads from it
-leads_at : (g : Colouring) (colours : List Colour) (e k : ℕ) → AreColours g colours → e < length g.ends → (eqb (first_of g.ends e) k || eqb (second_of g.ends e) k) ≡ true → (w : CopyId) × Leads g (record { 0 = k }) (record { 0 = colour_at colours e }) (record { 0 = e }) w
-leads_at g colours e k a h met =
-    let p = get_or g.ends e (record { 0 = 0 }, record { 0 = 0 }) in
-    let row : slice_get g.ends e ≡ Some p = slice_get-get_or g.ends e (record { 0 = 0 }, record { 0 = 0 }) h in
-    elim (or_cases (first_of g.ends e) (second_of g.ends e) k met) [
-      | inl s ↦ (p.1, record { joins = inl (row ∙ ap (λ (c : CopyId). Some (c, p.1)) (same_copy p.0 (record { 0 = k }) s)); colour = a.has e h })
-      | inr s ↦ (p.0, record { joins = inr (row ∙ ap (λ (c : CopyId). Some (p.0, c)) (same_copy p.1 (record { 0 = k }) s)); colour = a.has e h })
-    ]
-
--- an edge that meets a copy meets the copy's node
-meets_node : (node : ℕ → ℕ) (ends new : List (CopyId × CopyId)) (e k : ℕ) → AreThrough node ends new → e < length ends → (eqb (first_of ends e) k || eqb (second_of ends e) k) ≡ true → (eqb (first_of new e) (node k) || eqb (second_of new e) (node k)) ≡ true
-meets_node node ends new e k t h met = elim (or_cases (first_of ends e) (second_of ends e) k met) [
-  | inl s ↦ one_is (first_of new e) (second_of new e) (node k) (inl (t.first e h ∙ ap node s))
-  | inr s ↦ one_is (first_of new e) (second_of new e) (node k) (inr (t.second e h ∙ ap node s))
-]
-  where
-    one_is : (a b k : ℕ) → (a ≡ k) ⊎ (b ≡ k) → (eqb a k || eqb b k) ≡ true
-    one_is a b k h = grind (arith, nat_tests)
-
--- where copies share nodes, edges that are proper at the nodes are proper at the copies
-proper_copies : (g : Colouring) (graph : Transfers) (node : ℕ → ℕ) (ends : List (CopyId × CopyId)) (homes : List DiskId) (colours : List Colour) → IsProper g → AreColours g colours → AreThrough node ends g.ends → length ends ≡ length graph.trips → IsProperCopies (copied_of graph ends homes colours)
-proper_copies g graph node ends homes colours proper a t len d e k lt h same m n =
-    let hd : d < length ends = omega (arith, lt, h, len) in
-    let he : e < length ends = omega (arith, h, len) in
-    let x = leads_at g colours d (node k) a (omega (arith, hd, t.one_each)) (meets_node node ends g.ends d k t hd m) in
-    let y = leads_at g colours e (node k) a (omega (arith, he, t.one_each)) (meets_node node ends g.ends e k t he n) in
-    let turned : Leads g (record { 0 = node k }) (record { 0 = colour_at colours e }) (record { 0 = d }) x.0 = subst (λ (c : ℕ). Leads g (record { 0 = node k }) (record { 0 = c }) (record { 0 = d }) x.0) same x.1 in
-    let eq = ap (λ (i : EdgeId). i.0) (proper.apart (record { 0 = node k }) (record { 0 = colour_at colours e }) (record { 0 = d }) (record { 0 = e }) x.0 y.0 turned y.1) in
-    absurd (omega (arith, eq, lt))
-
-home_is : (homes : List DiskId) (k : ℕ) → get_or (map (λ (d : DiskId). d.0) homes) k 0 ≡ disk_at homes k
-home_is [] k = refl
-home_is (d ∷ ds) zero = refl
-home_is (d ∷ ds) (suc k) = home_is ds k
-
-pub limited_by_copies : (g : Colouring) (graph : Transfers) (node : ℕ → ℕ) (ends : List (CopyId × CopyId)) (homes : List DiskId) (colours : List Colour) → IsProper g → AreColours g colours → AreThrough node ends g.ends → length ends ≡ length graph.trips → ((e : ℕ) → e < length graph.trips → StandsForEnds (copied_of graph ends homes colours) e) → ((v : ℕ) → v < length graph.disks → count_of v homes ≤ limit graph v) → IsLimited graph g.colours colours
-limited_by_copies g graph node ends homes colours proper a t len stands most =
-    let x = copied_of graph ends homes colours in
+limited_by_copies : (g : Colouring) (graph : Transfers) (homes : List DiskId) (colours : List Colour) → IsGraph graph → is_duplex graph.disks ≡ false → IsProper g → AreColours g colours → length g.ends ≡ length graph.trips
+    → ((e : ℕ) → e < length graph.trips → StandsForEnds (copied_of graph g.ends homes colours) e) → ((v : ℕ) → v < length graph.disks → count_of v homes ≤ limit graph v) → IsLimited graph g.colours colours
+limited_by_copies g graph homes colours valid joint proper a len stands most =
+    let x = copied_of graph g.ends homes colours in
     let m = length graph.trips in
     record {
-      one_each = a.one_each ∙ t.one_each ∙ len;
+      one_each = a.one_each ∙ len;
       below = λ e d h. subst (λ (k : Colour). k.0 < g.colours) (get_or_default colours e (record { 0 = 0 }) d h) (proper.colours_in_range (record { 0 = e }) (record { 0 = colour_at colours e }) (a.has e (omega (arith, h, a.one_each))));
       within = λ c v h.
-          (let law = colour_at_disk x c v stands (proper_copies g graph node ends homes colours proper a t len) in
+          (let law = colour_at_disk x c v stands (proper_copies g graph homes colours proper a len) in
           let homes_are = sum_by-map (λ n. one (eqb n v)) (λ (d : DiskId). d.0) homes in
           let counted = sum_by-map (λ (t : Trip). one (touches v t)) (trip_at graph.trips) (edges_of colours c m) in
           let filtered = count_by-filter (λ e. touches v (trip_at graph.trips e)) (λ e. eqb (colour_at colours e) c) (range_with_len 0 m) in
-          omega (arith, law, homes_are, counted, filtered, most v h));
+          keeps_joint (limits_of graph v) v (map (trip_at graph.trips) (edges_of colours c m)) (valid.one_kind v no_disk h ∙ joint) (omega (arith, law, homes_are, counted, filtered, most v h)));
     }
-
--- where each copy is a node of its own
-through_self : (ends new : List (CopyId × CopyId)) → new ≡ ends → AreThrough (λ k. k) ends new
-through_self ends new same = subst (λ (x : List (CopyId × CopyId)). AreThrough (λ k. k) ends x) (sym same) (record { one_each = refl; first = λ e h. refl; second = λ e h. refl })
-
--- ---- the quotient
-
-pub greatest_most : (a m : ℕ) (xs : List ℕ) → a ≤ m → All (λ x. x ≤ m) xs → Rattle.std.proofs.Common.fold Rattle.std.proofs.Common.max a xs ≤ m
-greatest_most a m [] h all = h
-greatest_most a m (x ∷ xs) h all = greatest_most (Rattle.std.proofs.Common.max a x) m xs (omega (arith, h, Rattle.std.proofs.lemmas.List.Elements.All-head (λ y. y ≤ m) x xs all)) (Rattle.std.proofs.lemmas.List.Elements.All-tail (λ y. y ≤ m) x xs all)
-
-abbrev pub HasLimits : Transfers → Type 0
-HasLimits graph = (v : ℕ) → v < length graph.disks → 1 ≤ limit graph v
-
-pub quotient_most : (graph : Transfers) → HasLimits graph → quotient graph ≤ length graph.trips
-quotient_most graph limits =
-    greatest_most 0 (length graph.trips) (map (Rattle.mig_base.specs.Bounding.disk_value graph) (range_with_len 0 (length graph.disks))) (omega arith)
-    (Rattle.std.proofs.lemmas.List.Elements.All-map (λ x. x ≤ length graph.trips) (Rattle.mig_base.specs.Bounding.disk_value graph) (range_with_len 0 (length graph.disks)) (λ k d h.
-    (let n = length graph.disks in
-    let v = get_or (range_with_len 0 n) k d in
-    let is_k : v ≡ k = omega (arith, Rattle.std.proofs.lemmas.List.FromFn.get_or-range_with_len 0 n k d (omega (arith, h, Rattle.std.proofs.lemmas.List.FromFn.length-range_with_len 0 n))) in
-    omega (arith, ceil_within (load v graph.trips) (limit graph v) (limits v (omega (arith, is_k, h, Rattle.std.proofs.lemmas.List.FromFn.length-range_with_len 0 n))), Rattle.std.proofs.lemmas.List.Sums.count_by-le-length (touches v) graph.trips))))
-
-some_load : (t : Trip) (ts : List Trip) → 1 ≤ load t.leaves (t ∷ ts)
-some_load t ts = omega (arith, sum_by-cons (λ (x : Trip). one (touches t.leaves x)) t ts, itself t.leaves t.reaches)
-  where
-    itself : (a b : ℕ) → one (eqb a a || eqb a b) ≡ 1
-    itself a b = grind (arith, nat_tests)
-
-pub quotient_some : (graph : Transfers) → HasLimits graph → All (λ t. t.leaves < length graph.disks) graph.trips → 0 < length graph.trips → 1 ≤ quotient graph
-quotient_some graph limits there some =
-    let t = trip_at graph.trips 0 in
-    let within : t.leaves < length graph.disks = there 0 (record { leaves = 0; reaches = 0 }) some in
-    let l : 1 ≤ load t.leaves graph.trips = loaded graph.trips some in
-    let v = value_within_quotient graph t.leaves within in
-    omega (arith, v, not_zero (load t.leaves graph.trips) (limit graph t.leaves) (div_ceil (load t.leaves graph.trips) (limit graph t.leaves)) (limits t.leaves within) l refl)
-  where
-    loaded : (ts : List Trip) → 0 < length ts → 1 ≤ load (trip_at ts 0).leaves ts
-    loaded [] h = absurd (omega arith)
-    loaded (t ∷ ts) h = some_load t ts
-
-    not_zero : (n q d : ℕ) → 1 ≤ q → 1 ≤ n → d ≡ div_ceil n q → 0 < d
-    not_zero n q zero p h e = absurd (omega (arith, (div_ceil_times n q p).0, ap (λ m. m * q) e))
-    not_zero n q (suc d) p h e = omega arith
 
 -- ---- copies of disks
 
@@ -157,14 +62,14 @@ min_left : (a b n : ℕ) → n ≡ min a b → n ≤ a
 min_left a b n h = omega (arith, h)
 
 -- a colouring of a dealt board on which each edge has a colour
-pub dealt_limited : (graph : Transfers) (n : ℕ) (old new : Colouring) (colours : List Colour) → IsDealtBoard graph n old → SameGraph old new → IsProper new → AreColours new colours → IsLimited graph n colours
-dealt_limited graph n old new colours b same proper c =
+pub dealt_limited : (graph : Transfers) (n : ℕ) (old new : Colouring) (colours : List Colour) → IsGraph graph → is_duplex graph.disks ≡ false → IsDealtBoard graph n old → SameGraph old new → IsProper new → AreColours new colours → IsLimited graph n colours
+dealt_limited graph n old new colours valid joint b same proper c =
     let ends : new.ends ≡ old.ends = ap (λ (g : Colouring). g.ends) same in
     let count : new.colours ≡ n = ap (λ (g : Colouring). g.colours) same ∙ ap (λ (g : Colouring). g.colours) b.made in
+    let copies : AreShares graph b.directions b.share new.ends b.homes = subst (λ (x : List (CopyId × CopyId)). AreShares graph b.directions b.share x b.homes) (sym ends) b.copies in
     subst (λ k. IsLimited graph k colours) count
-    (limited_by_copies new graph (λ k. k) old.ends b.homes colours proper c (through_self old.ends new.ends ends) b.copies.one_each
-    (stands_shares graph b.directions b.share old.ends b.homes colours b.copies)
-    (λ v h. min_left (limit graph v) (div_ceil (load v graph.trips) b.share) (count_of v b.homes) (b.copies.number v h)))
+    (limited_by_copies new graph b.homes colours valid joint proper c copies.one_each (stands_shares graph b.directions b.share new.ends b.homes colours copies)
+    (λ v h. min_left (limit graph v) (div_ceil (load v graph.trips) b.share) (count_of v b.homes) (copies.number v h)))
 
 -- ends that are in range and differ
 pub shares_in_range : (graph : Transfers) (ds : List Bool) (share : ℕ) (ends : List (CopyId × CopyId)) (homes : List DiskId) (n : ℕ) → n ≡ length homes → AreShares graph ds share ends homes → All (λ p. (p.0.0 < n) × (p.1.0 < n)) ends
@@ -196,35 +101,12 @@ few_general nodes q s c m d hc is_s room hm hd hq =
     let e = mul-le-mul_right s hd in
     omega (arith, a, b, e, room, hm, hq, down)
 
-pub has_limits : (graph : Transfers) → All Rattle.mig_base.specs.InputLists.IsDiskInRange graph.disks → HasLimits graph
-has_limits graph a v h = (a v no_disk h).0
-
-pub blank_plain : (g : Colouring) (nodes colours : ℕ) (ends : List (CopyId × CopyId)) → g ≡ Rattle.mig_board.specs.Colouring.blank nodes colours ends → (e : EdgeId) → e.0 < length g.ends → slice_get g.painted e.0 ≡ Some None
-blank_plain g nodes colours ends same e h =
-    let n : Option Colour = None in
-    let xs : List (Option Colour) = Rattle.std.proofs.Common.replicate (length ends) n in
-    let there : e.0 < length ends = subst (λ (x : Colouring). e.0 < length x.ends) same h in
-    ap (λ (x : Colouring). slice_get x.painted e.0) same ∙ slice_get-get_or xs e.0 n (omega (arith, there, Rattle.std.proofs.lemmas.List.length-replicate (length ends) n)) ∙ ap (λ (x : Option Colour). Some x) (Rattle.std.proofs.lemmas.List.get_or-replicate (length ends) e.0 n n there)
-
 -- ---- copies on two sides
-
-pub stands_sides : (q : ℕ) (graph : Transfers) (ds : List Bool) (left : ℕ) (ends : List (CopyId × CopyId)) (homes : List DiskId) (colours : List Colour) → AreSides q graph ds left ends homes → (e : ℕ) → e < length graph.trips → StandsForEnds (copied_of graph ends homes colours) e
-stands_sides q graph ds left ends homes colours a e h =
-    let l : e < length ends = omega (arith, h, a.one_each) in
-    let t = trip_at graph.trips e in
-    let x = home_is homes (first_of ends e) ∙ a.first e l in
-    let y = home_is homes (second_of ends e) ∙ a.second e l in
-    record {
-      first_there = omega (arith, a.there e l, length-map homes (λ (d : DiskId). d.0));
-      second_there = omega (arith, a.there e l, length-map homes (λ (d : DiskId). d.0));
-      leaves = leaves_by t (is_forward ds e) (get_or (map (λ (d : DiskId). d.0) homes) (first_of ends e) 0) (get_or (map (λ (d : DiskId). d.0) homes) (second_of ends e) 0) x y;
-      reaches = reaches_by t (is_forward ds e) (get_or (map (λ (d : DiskId). d.0) homes) (first_of ends e) 0) (get_or (map (λ (d : DiskId). d.0) homes) (second_of ends e) 0) x y;
-    }
 
 most_of_load : (graph : Transfers) (v o i l q : ℕ) → o + i ≡ load v graph.trips → o ≤ i + 1 → i ≤ o + 1 → load v graph.trips ≤ q * limit graph v → 1 ≤ q → IsEven graph → v < length graph.disks → div_ceil o q + div_ceil i q ≤ limit graph v
 most_of_load graph v o i l q total om im within pos even h = elim (cases_eq (load v graph.trips) 0) [
   | inl e ↦ omega (arith, ap (λ n. div_ceil n q) (zero_left o i (total ∙ e)), ap (λ n. div_ceil n q) (zero_right o i (total ∙ e)), ceil_of_none q pos)
-  | inr ne ↦ copies_of_sides o i (limit graph v) q pos (omega (arith, total, within)) (even v h (takes graph v ne)) om im
+  | inr ne ↦ copies_of_sides o i (limit graph v) q pos (omega (arith, total, within)) (even.1 v h (takes graph v ne)) om im
 ]
   where
     zero_left : (o i : ℕ) → o + i ≡ 0 → o ≡ 0
@@ -237,7 +119,7 @@ most_of_load graph v o i l q total om im within pos even h = elim (cases_eq (loa
     takes graph v ne = ap not (ne_eqb (load v graph.trips) 0 ne)
 
 -- where limits are even, by directions that balance
-pub even_fits : (graph : Transfers) (ds : List Bool) → 1 ≤ quotient graph → HasLimits graph → IsEven graph → length ds ≡ length graph.trips → All (λ t. t.leaves ≢ t.reaches) graph.trips → Balances graph.trips ds → SidesFit graph ds
+pub even_fits : (graph : Transfers) (ds : List Bool) → 1 ≤ quotient graph → HasRanges graph → IsEven graph → length ds ≡ length graph.trips → All (λ t. t.leaves ≢ t.reaches) graph.trips → Balances graph.trips ds → SidesFit graph ds
 even_fits graph ds pos limits even len apart b v h =
     most_of_load graph v (out_of graph.trips ds v) (in_of graph.trips ds v) 0 (quotient graph) (out_in graph.trips ds v len apart) (b.out_most v) (b.in_most v) (load_within_quotient graph v h (limits v h)) pos even h
 
@@ -271,7 +153,7 @@ not_reached graph v r gave none = elim (cases_eq r v) [
   | inr ne ↦ ne_eqb r v ne
 ]
 
-pub one_way_fits : (graph : Transfers) (ds : List Bool) → 1 ≤ quotient graph → HasLimits graph → IsOneWay graph → length ds ≡ length graph.trips → All (λ t. t.leaves ≢ t.reaches) graph.trips → ((k : ℕ) → k < length graph.trips → is_forward ds k ≡ true) → SidesFit graph ds
+pub one_way_fits : (graph : Transfers) (ds : List Bool) → 1 ≤ quotient graph → HasRanges graph → IsOneWay graph → length ds ≡ length graph.trips → All (λ t. t.leaves ≢ t.reaches) graph.trips → ((k : ℕ) → k < length graph.trips → is_forward ds k ≡ true) → SidesFit graph ds
 one_way_fits graph ds pos limits one_way len apart forward v h =
     let q = quotient graph in
     let o = out_of graph.trips ds v in
@@ -291,35 +173,41 @@ one_way_fits graph ds pos limits one_way len apart forward v h =
     all_right : (o i l : ℕ) → o + i ≡ l → o ≡ 0 → i ≡ l
     all_right o i l total none = omega arith
 
-pub sides_limited : (g : Colouring) (graph : Transfers) (q : ℕ) (ds : List Bool) (left : ℕ) (node : ℕ → ℕ) (ends : List (CopyId × CopyId)) (homes : List DiskId) (colours : List Colour) → q ≡ quotient graph → SidesFit graph ds → AreSides q graph ds left ends homes → AreThrough node ends g.ends → IsProper g → AreColours g colours → IsLimited graph g.colours colours
-sides_limited g graph q ds left node ends homes colours is_q fit a t proper c =
-    limited_by_copies g graph node ends homes colours proper c t a.one_each (stands_sides q graph ds left ends homes colours a)
-    (λ v h. omega (
-      arith,
-      subst (λ n. div_ceil (out_of graph.trips ds v) n + div_ceil (in_of graph.trips ds v) n ≤ limit graph v) (sym is_q) (fit v h),
-      a.left_number v h,
-      a.right_number v h,
-      sum_by-take-drop (λ (d : DiskId). one (eqb d.0 v)) homes left,
-    ))
+-- edges that are spread keep joint limits that cover both sides
+pub spread_joint : (graph : Transfers) (ds : List Bool) (colours : List Colour) → IsGraph graph → is_duplex graph.disks ≡ false → SidesFit graph ds → IsSpread graph ds colours → IsLimited graph (quotient graph) colours
+spread_joint graph ds colours valid joint fit s = record {
+  one_each = s.one_each;
+  below = s.below;
+  within = λ c v h. keeps_joint (limits_of graph v) v (map (trip_at graph.trips) (edges_of colours c m)) (valid.one_kind v no_disk h ∙ joint) (omega (arith, both_sides c v, s.leaving c v h, s.entering c v h, fit v h));
+}
+  where
+    m : ℕ
+    m = length graph.trips
 
--- ---- nodes on two sides
+    at_ends : (q : Bool) (t : Trip) (b : Bool) (v : ℕ) → one (q && touches v t) ≤ one (q && eqb v (tail_of t b)) + one (q && eqb v (head_of t b))
+    at_ends q t true v = either q (eqb v t.leaves) (eqb v t.reaches)
+      where
+        either : (q a b : Bool) → one (q && (a || b)) ≤ one (q && a) + one (q && b)
+        either true true b = omega arith
+        either true false b = omega arith
+        either false a b = omega arith
+    at_ends q t false v = other q (eqb v t.leaves) (eqb v t.reaches)
+      where
+        other : (q a b : Bool) → one (q && (a || b)) ≤ one (q && b) + one (q && a)
+        other true true b = omega arith
+        other true false b = omega arith
+        other false a b = omega arith
 
-pub nodes_in_range : (left nodes : ℕ) (ends : List (CopyId × CopyId)) → AreOnSides left nodes ends → All (λ p. (p.0.0 < nodes) × (p.1.0 < nodes)) ends
-nodes_in_range left nodes ends a k d h = subst (λ (p : CopyId × CopyId). (p.0.0 < nodes) × (p.1.0 < nodes)) (get_or_default ends k (record { 0 = 0 }, record { 0 = 0 }) d h) (omega (arith, a k h), omega (arith, a k h))
-
-pub nodes_differ : (left nodes : ℕ) (ends : List (CopyId × CopyId)) → AreOnSides left nodes ends → All (λ p. p.0 ≢ p.1) ends
-nodes_differ left nodes ends a k d h = subst (λ (p : CopyId × CopyId). p.0 ≢ p.1) (get_or_default ends k (record { 0 = 0 }, record { 0 = 0 }) d h) (λ e. absurd (omega (arith, a k h, ap (λ (c : CopyId). c.0) e)))
-
-side_at : (left nodes : ℕ) (ends : List (CopyId × CopyId)) → AreOnSides left nodes ends → (e : EdgeId) (v w : CopyId) → slice_get ends e.0 ≡ Some (v, w) → (v.0 < left) × (left ≤ w.0)
-side_at left nodes ends a e v w row =
-    let h : e.0 < length ends = slice_get_within ends e.0 (v, w) row in
-    let p = get_or ends e.0 (record { 0 = 0 }, record { 0 = 0 }) in
-    let same : p ≡ (v, w) = same_Some p (v, w) (sym (slice_get-get_or ends e.0 (record { 0 = 0 }, record { 0 = 0 }) h) ∙ row) in
-    (omega (arith, a e.0 h, ap (λ (x : CopyId × CopyId). x.0.0) same), omega (arith, a e.0 h, ap (λ (x : CopyId × CopyId). x.1.0) same))
-
-pub two_sided : (g : Colouring) (left nodes : ℕ) (ends : List (CopyId × CopyId)) → g.ends ≡ ends → AreOnSides left nodes ends → Rattle.mig_board.specs.Growth.IsTwoSided g left
-two_sided g left nodes ends same a e v w joins =
-    elim joins [
-      | inl row ↦ (let x = side_at left nodes ends a e v w (subst (λ (y : List (CopyId × CopyId)). slice_get y e.0 ≡ Some (v, w)) same row) in inl (x.0, x.1))
-      | inr row ↦ (let x = side_at left nodes ends a e w v (subst (λ (y : List (CopyId × CopyId)). slice_get y e.0 ≡ Some (w, v)) same row) in inr (x.1, x.0))
-    ]
+    both_sides : (c v : ℕ) → load v (map (trip_at graph.trips) (edges_of colours c m)) ≤ leaving_in graph ds colours c v + entering_in graph ds colours c v
+    both_sides c v =
+        let here : ℕ → Bool = λ e. eqb (colour_at colours e) c in
+        let out : ℕ → ℕ = λ e. one (here e && eqb v (tail_of (trip_at graph.trips e) (is_forward ds e))) in
+        let into : ℕ → ℕ = λ e. one (here e && eqb v (head_of (trip_at graph.trips e) (is_forward ds e))) in
+        let each = sum_by-le_each (λ e. one (here e && touches v (trip_at graph.trips e))) (λ e. out e + into e) (range_with_len 0 m) (λ k d h. let e = get_or (range_with_len 0 m) k d in at_ends (here e) (trip_at graph.trips e) (is_forward ds e) v) in
+        omega (
+          arith,
+          each,
+          sum_by-add out into (range_with_len 0 m),
+          sum_by-map (λ t. one (touches v t)) (trip_at graph.trips) (edges_of colours c m),
+          count_by-filter (λ e. touches v (trip_at graph.trips e)) here (range_with_len 0 m),
+        )

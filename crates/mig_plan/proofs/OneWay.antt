@@ -1,11 +1,7 @@
 -- Disks that only give items away or only take them.
-use Rattle.mig_base.proofs.Common.{◌≡◌, ℕ, ◌+◌, ◌<◌, Bool, true, false, ◌||◌, eqb, List, length, take, set, get_or, All, inl, inr, sym, ap, ◌∙◌, arith, subst, Some, list_any, slice_get, cases_eq}
-use Rattle.mig_base.proofs.Common.{cases_lt, false≢true, ne_eqb, eq-eqb, get_or-set_same, get_or-set_other, get_or_default, length-set, slice_get_within, get_or_from_slice_get, trip_at, Transfers}
-use Rattle.mig_base.proofs.Common.{Trip}
-use Rattle.std.proofs.Math.Seq.{take-length}
-use Rattle.std.proofs.lemmas.List.Folds.{list_any_more}
-use Rattle.std.proofs.Math.Bool.{or-true, or-false}
-use Rattle.mig_base.specs.Bounding.{gives, IsOneWay}
+use Rattle.mig_plan.proofs.Common.{All, Bool, IsOneWay, List, Some, Transfers, Trip, ap, arith, cases_eq, cases_lt, eq-eqb, eqb, false, false≢true, get_or, get_or-set_other, get_or-set_same}
+use Rattle.mig_plan.proofs.Common.{get_or_default, get_or_from_slice_get, gives, inl, inr, length, length-set, list_any, list_any_more, ne_eqb, or-false, or-true, set, slice_get}
+use Rattle.mig_plan.proofs.Common.{slice_get_within, subst, sym, take, take-length, trip_at, trips, true, ℕ, ◌+◌, ◌<◌, ◌||◌, ◌∙◌, ◌≡◌}
 
 -- the disk is left by one of the first trips
 abbrev pub left_by : ℕ → List Trip → ℕ → Bool

@@ -1,20 +1,11 @@
 -- From a limited colouring to a partition into rounds.
-use Rattle.mig_base.proofs.Common.{◌≡◌, ◌≢◌, ℕ, suc, zero, ◌+◌, ◌<◌, ◌≤◌, Bool, true, cond, not, ◌&&◌, eqb, eq-eqb, List, [], ◌∷◌, ◌++◌, length, map, refl, sym, ap, ◌∙◌, arith, sum_by, count_by}
-use Rattle.mig_base.proofs.Common.{filter, All, get_or, set, inl, inr, subst, Vec, Global, range_with_len, sum_by-cons, get_or-le-sum_by, count_by-le-length, get_or-set_same, get_or-set_other}
-use Rattle.mig_base.proofs.Common.{length-set, map-append, get_or_default, length-map, filter-append, filter_passes, All-filter, All-map, length-range_with_len, fill_by_all, length-map-range_with_len}
-use Rattle.mig_base.proofs.Common.{cases_eq, ne_eqb, nat_tests, Lists, Trip, KeepsLimits, moves, transfers, trip, trips, source, is_relocated, trip_at, is_of, shift_count, trip_of, AreTargets}
-use Rattle.mig_base.proofs.Common.{move_at, IsLimited, colour_at}
-use Rattle.mig_base.specs.declared.ids.Colour.{Colour}
-use Rattle.mig_base.specs.declared.ids.Shift.{Shift}
-use Rattle.mig_base.specs.declared.ids.Spot.{Spot}
-use Rattle.std.proofs.lemmas.List.Sums.{length-filter}
-use Rattle.mig_base.specs.Planned.{move_shift, IsMoveShift, IsPartition}
-use Rattle.mig_base.specs.Colourings.{edges_of}
-use Rattle.mig_base.proofs.Counting.{one, sum_by-filter, sum_by-map, sum_by-same_each, sum_by-swap, count_by-filter, count_by-filter-le}
-use Rattle.mig_base.proofs.Scheduled.{once_in_range, range_below}
-use Rattle.mig_base.proofs.Room.{lowest_at}
-use Rattle.mig_base.proofs.Elements.{range_more, in_range, map_same}
-use Rattle.mig_plan.specs.ColourRows.{row_of, AreRows, is_filled, items_of}
+use Rattle.mig_plan.proofs.Common.{All, All-filter, All-map, AreRows, AreTargets, Bool, Colour, Global, IsLimited, IsMoveShift, IsPartition, KeepsLimits, List, Lists, Shift, Spot, Trip, Vec, []}
+use Rattle.mig_plan.proofs.Common.{ap, append-nil, arith, cases_eq, colour_at, cond, count_by, count_by-filter, count_by-filter-le, count_by-le-length, edges_of, eq-eqb, eqb, false≢true}
+use Rattle.mig_plan.proofs.Common.{fill_by_all, filter, filter-append, filter_passes, get_or, get_or-le-sum_by, get_or-set_other, get_or-set_same, get_or_default, in_range, inl, inr, is_filled}
+use Rattle.mig_plan.proofs.Common.{is_of, is_relocated, items_of, length, length-filter, length-map, length-map-range_with_len, length-range_with_len, length-set, lowest_at, map, map-append}
+use Rattle.mig_plan.proofs.Common.{map_same, move_at, move_shift, moves, nat_tests, ne_eqb, not, once_in_range, one, range_below, range_more, range_with_len, refl, row_of, set, shift_count}
+use Rattle.mig_plan.proofs.Common.{source, subst, suc, sum_by, sum_by-cons, sum_by-filter, sum_by-map, sum_by-same_each, sum_by-swap, sym, transfers, trip, trip_at, trip_of, trips, true, zero, ℕ}
+use Rattle.mig_plan.proofs.Common.{◌&&◌, ◌++◌, ◌+◌, ◌<◌, ◌∙◌, ◌∷◌, ◌≡◌, ◌≢◌, ◌≤◌}
 
 -- ---- the loop over the edges
 

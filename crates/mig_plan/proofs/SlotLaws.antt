@@ -1,18 +1,9 @@
 -- Rows of slots: what one spot more takes, and how long the rows are.
-use Rattle.mig_base.proofs.Common.{◌≡◌, ◌≢◌, ℕ, ◌+◌, ◌<◌, ◌≤◌, Bool, true, false, eqb, List, [], ◌∷◌, ◌++◌, length, map, refl, sym, ap, ◌∙◌, subst, arith, All, get_or, take, set, inl, inr, Vec}
-use Rattle.mig_base.proofs.Common.{Global, range_with_len, Contains, take_more, length-set, length-append, length-map, length-replicate, get_or-replicate, get_or-set_same, get_or-set_other}
-use Rattle.mig_base.proofs.Common.{get_or_default, get_or_past, All-append, All-map, Contains-append_left, sum_by-append, count_by-le-length, fill_by_all, cases_eq, cases_lt, false≢true, Lists}
-use Rattle.mig_base.proofs.Common.{IsInput, is_relocated, target, incoming}
-use Rattle.mig_base.specs.declared.ids.DiskId.{DiskId}
-use Rattle.mig_base.specs.declared.ids.Spot.{Spot}
-use Rattle.std.proofs.lemmas.List.Elements.{Contains-push, Contains-push_cases}
-use Rattle.mig_base.proofs.Counting.{one, sum_by-map, count_by-filter-le}
-use Rattle.mig_base.proofs.Rounds.{spot_disk}
-use Rattle.mig_base.proofs.SameIds.{spot_by}
-use Rattle.mig_split.specs.Dealing.{count_of}
-use Rattle.mig_split.specs.Decks.{AreCounts}
-use Rattle.mig_plan.specs.Cursors.{spot, IsFreeFrom}
-use Rattle.mig_plan.specs.TakenSlots.{is_taken, row_at, IsFirstFree, AreWidths, AreFree, AreTaken, AreTakenSlots}
+use Rattle.mig_plan.proofs.Common.{All, All-append, All-map, AreCounts, AreFree, AreTaken, AreTakenSlots, AreWidths, Bool, Contains, Contains-append_left, Contains-push, Contains-push_cases}
+use Rattle.mig_plan.proofs.Common.{DiskId, Global, IsFirstFree, IsFreeFrom, IsInput, List, Lists, Spot, Vec, [], ap, arith, cases_eq, cases_lt, count_by-filter-le, count_by-le-length, count_of}
+use Rattle.mig_plan.proofs.Common.{eqb, false, false≢true, fill_by_all, get_or, get_or-replicate, get_or-set_other, get_or-set_same, get_or_default, get_or_past, incoming, inl, inr, is_relocated}
+use Rattle.mig_plan.proofs.Common.{is_taken, length, length-append, length-map, length-replicate, length-set, map, one, range_with_len, refl, row_at, set, spot, spot_by, spot_disk, subst}
+use Rattle.mig_plan.proofs.Common.{sum_by-append, sum_by-map, sym, take, take_more, target, true, ℕ, ◌++◌, ◌+◌, ◌<◌, ◌∙◌, ◌∷◌, ◌≡◌, ◌≢◌, ◌≤◌}
 
 pub AreTaken-start : (widths : List ℕ) (spots : List Spot) (rows : List (Vec Bool Global)) → AreFree widths rows → AreTaken widths (take 0 spots) rows
 AreTaken-start widths spots rows a = record {

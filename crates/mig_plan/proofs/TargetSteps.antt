@@ -1,17 +1,9 @@
 -- The spots that relocated items are given, one after the other.
-use Rattle.mig_base.proofs.Common.{◌≡◌, ℕ, ◌+◌, ◌<◌, ◌≤◌, Bool, true, false, cond, List, [], ◌∷◌, ◌++◌, length, refl, sym, ap, ◌∙◌, subst, arith, filter, get_or, take, drop, set, replicate, inl, inr}
-use Rattle.mig_base.proofs.Common.{range_with_len, Contains, length-append, get_or_append_left, get_or_push, take-append-le, take_all, length-set, get_or-set_same, get_or-set_other, get_or-replicate}
-use Rattle.mig_base.proofs.Common.{length-replicate, append-nil, get_or_default, filter-append, Contains-append_left, Contains-append_right, cases_eq, cases_lt, slice_get-get_or, slice_get_within}
-use Rattle.mig_base.proofs.Common.{same_Some, Lists, no_spot, is_relocated, moves, target, AreTargets, present, incoming, move_at}
-use Rattle.mig_base.specs.declared.ids.Spot.{Spot}
-use Rattle.std.proofs.lemmas.List.{map-id, take-append-drop}
-use Rattle.std.proofs.lemmas.List.Elements.{Contains-append_cases, Contains-push}
-use Rattle.std.proofs.lemmas.List.FromFn.{take-map-range_with_len}
-use Rattle.mig_base.specs.Targets.{IsLowestFree}
-use Rattle.mig_base.specs.Planned.{target_at}
-use Rattle.mig_base.proofs.Room.{some_free}
-use Rattle.mig_base.proofs.Elements.{range_more}
-use Rattle.mig_plan.specs.Cursors.{spot, IsFreeFrom, first_moves, AreFirstTargets}
+use Rattle.mig_plan.proofs.Common.{AreFirstTargets, AreTargets, Bool, Contains, Contains-append_cases, Contains-append_left, Contains-append_right, Contains-push, IsFreeFrom, IsLowestFree, List}
+use Rattle.mig_plan.proofs.Common.{Lists, Spot, [], ap, append-nil, arith, cases_eq, cases_lt, cond, drop, false, filter, filter-append, first_moves, get_or, get_or-replicate, get_or-set_other}
+use Rattle.mig_plan.proofs.Common.{get_or-set_same, get_or_append_left, get_or_default, get_or_push, incoming, inl, inr, is_relocated, length, length-append, length-replicate, length-set, map-id}
+use Rattle.mig_plan.proofs.Common.{move_at, moves, no_spot, present, range_more, range_with_len, refl, replicate, same_Some, set, slice_get-get_or, slice_get_within, some_free, spot, subst, sym}
+use Rattle.mig_plan.proofs.Common.{take, take-append-drop, take-append-le, take-map-range_with_len, take_all, target, target_at, true, ℕ, ◌++◌, ◌+◌, ◌<◌, ◌∙◌, ◌∷◌, ◌≡◌, ◌≤◌}
 
 moves_by : (input : Lists) (i : ℕ) (b : Bool) → is_relocated input i ≡ b → first_moves input (i + 1) ≡ first_moves input i ++ cond b (i ∷ []) []
 moves_by input i b t = ap (filter (is_relocated input)) (range_more i) ∙ filter-append (is_relocated input) (range_with_len 0 i) (i ∷ []) ∙ ap (λ c. first_moves input i ++ cond c (i ∷ []) []) t

@@ -1,18 +1,18 @@
 //! Colourings of a transfer graph, so that the edges of one colour keep each disk's limit.
 ghost use Rattle.std.specs.Prelude.{◌≡◌, ℕ, ◌<◌, ◌≤◌, ◌+◌, ◌*◌, false, length, slice_index_or, vec_len, All, IfNone, IfOk, IfSome, MatchBool};
+ghost use Rattle.mig_base.specs.InputLists.{is_duplex};
 ghost use Rattle.mig_base.specs.Bounding.{gives, quotient, IsOneWay};
 ghost use Rattle.mig_base.specs.Colourings.{IsLimited};
 ghost use Rattle.mig_base.specs.MadePlans.{Because, Reason};
-ghost use Rattle.mig_board.specs.Growth.{IsComplete};
-ghost use Rattle.mig_plan.specs.Coloured.{AreColours, IsDealtBoard, SidesFit};
+ghost use Rattle.mig_plan.specs.Coloured.{IsDealtBoard, SidesFit};
 
 use mig_base::{Colour, EdgeId};
 use mig_board::Board;
+use mig_duplex::{colour_duplex, colour_spread, colours_of};
 use mig_euler::orient;
 use mig_graph::Graph;
-use mig_koenig::colour_sides;
 use mig_shannon::{colour_few, colour_within};
-use mig_split::{share_nodes, split_limits, split_sides};
+use mig_split::split_limits;
 use std::alloc::{AllocError, Global};
 
 /// A disk below its limit has so many copies, or nearly, for each one that it needs.
@@ -26,46 +26,21 @@ const DEALINGS: u32 = 8;
 /// The first board has one more colour for so many of its first ones.
 const MORE: u32 = 32;
 
-/// The colour of each edge of a board on which all are coloured.
-fn colours_of(alloc: Global, board: &Board) -> Result<Vec<Colour>, AllocError>
-    requires { IsComplete board.now }
-    ensures { IfOk result (λ v. AreColours board.now v.items) }
-{
-    let edges = board.edges();
-    let mut colours = Vec::with_capacity(alloc, edges as usize)?;
-    for edge in 0..edges {
-        let Some(colour) = board.colour_of(EdgeId(edge)) else {
-            unreachable!()
-        };
-        colours.push(colour)?;
-    }
-    Ok(colours)
-}
-
-/// Colours the edges by as many colours as the quotient, where each disk's limit covers the copies that these directions
-/// of the edges need on its two sides.
-///
-/// Each disk is split into copies on two sides, for edges that go out and for edges that come in. Copies share the nodes
-/// of a board, whose edges have as many colours as the quotient (König 1916): so its table is linear in the edges,
-/// however many copies there are.
+/// Colours the edges by as many colours as the quotient, where each disk's joint limit covers the copies that these
+/// directions of the edges need on its two sides.
 fn colour_directed(
     alloc: Global,
     graph: &Graph,
     directions: &[bool],
 ) -> Result<Vec<Colour>, AllocError>
     requires some { 0 < length graph.now.trips }
+    requires joint { is_duplex graph.now.disks ≡ false }
     requires directions { length directions.now ≡ length graph.now.trips }
     requires fit { SidesFit graph.now directions.now }
     ensures { IfOk result (λ v. IsLimited graph.now (quotient graph.now) v.items) }
 {
     graph.keeps_rules();
-    let q = graph.quotient();
-    let sides = split_sides(alloc, graph, directions, q)?;
-    let shared = share_nodes(alloc, &sides, q)?;
-    let left = shared.left;
-    let mut board = Board::new(alloc, shared.nodes, shared.ends, q)?;
-    colour_sides(&mut board, left);
-    colours_of(alloc, &board)
+    colour_spread(alloc, graph, directions)
 }
 
 /// Marks the disks that transfers leave, where none is marked yet.
@@ -104,10 +79,11 @@ fn is_one_way(alloc: Global, graph: &Graph) -> Result<bool, AllocError>
     Ok(spares(graph, &givers))
 }
 
-/// Directions of the edges by which each disk's limit covers the copies that it needs on its two sides: where limits are
+/// Directions of the edges by which each disk's joint limit covers the copies that it needs on its two sides: where limits are
 /// even, directions that balance at each disk; where each disk only gives items away or only takes them, those of the
 /// transfers. None where neither is so.
 fn directions_for(alloc: Global, graph: &Graph) -> Result<Option<Vec<bool>>, AllocError>
+    requires joint { is_duplex graph.now.disks ≡ false }
     requires some { 0 < length graph.now.trips }
     ensures one_each { IfOk result (λ o. IfSome o (λ d. vec_len d ≡ length graph.now.trips)) }
     ensures fit { IfOk result (λ o. IfSome o (λ d. SidesFit graph.now d.items)) }
@@ -145,6 +121,7 @@ fn dealt_board(
     dealing: u32,
     colours: u32,
 ) -> Result<Board, AllocError>
+    requires joint { is_duplex graph.now.disks ≡ false }
     requires some { 0 < length graph.now.trips }
     requires room { 2 * colours ≤ 3 * quotient graph.now }
     ensures { IfOk result (IsDealtBoard graph.now colours) }
@@ -164,10 +141,12 @@ fn colour_within_few(
     colours: u32,
     start: u32,
 ) -> Result<Option<Vec<Colour>>, AllocError>
+    requires joint { is_duplex graph.now.disks ≡ false }
     requires some { 0 < length graph.now.trips }
     requires room { 2 * colours ≤ 3 * quotient graph.now }
     ensures { IfOk result (λ o. IfSome o (λ v. IsLimited graph.now colours v.items)) }
 {
+    graph.keeps_rules();
     let mut board = dealt_board(alloc, graph, dealing, colours)?;
     if !colour_within(&mut board, start) {
         return Ok(None);
@@ -183,12 +162,14 @@ fn colour_surely(
     colours: u32,
     start: u32,
 ) -> Result<Vec<Colour>, AllocError>
+    requires joint { is_duplex graph.now.disks ≡ false }
     requires some { 0 < length graph.now.trips }
     requires enough { 3 * quotient graph.now ≤ 2 * colours + 1 }
     requires room { 2 * colours ≤ 3 * quotient graph.now }
     requires start { start ≤ colours }
     ensures { IfOk result (λ v. IsLimited graph.now colours v.items) }
 {
+    graph.keeps_rules();
     let q = graph.quotient();
     let mut board = dealt_board(alloc, graph, 0, colours)?;
     colour_few(&mut board, q, start);
@@ -206,6 +187,7 @@ fn colour_general(
     most: u32,
     start: u32,
 ) -> Result<(Vec<Colour>, u32), AllocError>
+    requires joint { is_duplex graph.now.disks ≡ false }
     requires some { 0 < length graph.now.trips }
     requires enough { 3 * quotient graph.now ≤ 2 * most + 1 }
     requires room { 2 * most ≤ 3 * quotient graph.now }
@@ -228,9 +210,9 @@ fn colour_general(
     Ok((colour_surely(alloc, graph, most, few)?, most))
 }
 
-/// Colours the edges so that those of one colour keep each disk's limit, and gives the number of colours too: the
-/// quotient where limits are even, and where each disk only gives items away or only takes them; else three halves of it
-/// at most. There fewer colours are tried first, from `start` on.
+/// Colours the edges so that those of one colour keep each disk's limits, and gives the number of colours too: the
+/// quotient where limits are split, where they are even, and where each disk only gives items away or only takes them;
+/// else three halves of it at most. There fewer colours are tried first, from `start` on.
 pub fn colour_moves(
     alloc: Global,
     graph: &Graph,
@@ -244,6 +226,9 @@ pub fn colour_moves(
         return Ok((Vec::new(alloc), 0));
     }
     let q = graph.quotient();
+    if graph.duplex() {
+        return Ok((colour_duplex(alloc, graph)?, q));
+    }
     if let Some(directions) = directions_for(alloc, graph)? {
         return Ok((colour_directed(alloc, graph, &directions)?, q));
     }

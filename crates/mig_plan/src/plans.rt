@@ -31,18 +31,18 @@ fn plan_moves(
 /// A plan that moves each item that is to go to another disk, in rounds that can be carried out one after the other.
 ///
 /// Each relocated item is shifted once, from its spot to its target spot, and nothing else is shifted. No round is
-/// empty, and in each round each disk is an end of at most its limit of shifts. Where each disk that takes part has an
-/// even limit, and where each disk only gives items away or only takes them, the number of rounds is the quotient and no
+/// empty, and each round keeps each disk's limits. Where limits are split, where each disk that takes part has an even
+/// limit, and where each disk only gives items away or only takes them, the number of rounds is the quotient and no
 /// schedule has fewer; else it is at most three halves of the quotient. Errs for want of memory only.
 pub fn make_plan(alloc: Global, input: &Input) -> Result<Plan, AllocError>
-    requires { IsRoomy input.now }
+    requires roomy { IsRoomy input.now }
     ensures planned { IfOk result (IsPlanOf input.now) }
 {
     let graph = Graph::of(alloc, input)?;
     make_plan_from(alloc, input, &graph, graph.quotient())
 }
 
-/// The same over a transfer graph that is there already. Where a limit is odd, plans of `start` rounds and then of more
+/// The same over a transfer graph that is there already. Where a joint limit is odd, plans of `start` rounds and then of more
 /// are looked for: a number that every schedule needs is a good start. Errs for want of memory only.
 pub fn make_plan_from(
     alloc: Global,

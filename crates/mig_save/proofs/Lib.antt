@@ -1,1 +1,2 @@
 pub mod SaveSteps
+pub mod Common

@@ -1,6 +1,5 @@
 -- How changes under a name go one after another.
-use Rattle.std.proofs.Common.{◌⊎◌, IsTrue, inl, inr, ◌∙◌, arith}
-use Rattle.mig_save.specs.Saves.{Content, SaveState, SaveChange, NoContent, Stays}
+use Rattle.mig_save.proofs.Common.{Content, IsTrue, NoContent, SaveChange, SaveState, Stays, arith, inl, inr, ◌∙◌, ◌⊎◌}
 
 pub change_then : (P : Content → Type 0) (a b c : SaveState) → SaveChange P a b → SaveChange P b c → SaveChange P a c
 change_then P a b c first then = record {

@@ -1,11 +1,6 @@
 -- Colourings in which more and more edges have a colour.
-use Rattle.mig_base.proofs.Common.{◌≡◌, ℕ, ◌<◌, ◌+◌, inl, inr, refl, sym, ap, subst, ◌∙◌, Option, Some, None, arith, slice_get, is_some, true, false, cases_eq}
-use Rattle.mig_base.specs.declared.ids.Colour.{Colour}
-use Rattle.mig_base.specs.declared.ids.EdgeId.{EdgeId}
-use Rattle.mig_base.proofs.SameIds.{same_edge}
-use Rattle.mig_board.specs.Colouring.{Colouring, IsPainted}
-use Rattle.mig_board.specs.Growth.{IsPlain, SameGraph, PaintsOne}
-use Rattle.mig_shannon.specs.Ways.{Grows}
+use Rattle.mig_shannon.proofs.Common.{Colour, Colouring, EdgeId, Grows, IsPainted, IsPlain, None, Option, PaintsOne, SameGraph, Some, ap, arith, cases_eq, false, inl, inr, is_some, refl}
+use Rattle.mig_shannon.proofs.Common.{same_edge, slice_get, subst, sym, true, ℕ, ◌+◌, ◌<◌, ◌∙◌, ◌≡◌}
 
 pub Grows-same : (g h : Colouring) → h ≡ g → Grows g h
 Grows-same g h same = subst (λ (q : Colouring). Grows g q) (sym same) (record { graph = refl; kept = λ e p. p })

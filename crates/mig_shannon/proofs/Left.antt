@@ -1,15 +1,7 @@
 -- Counting the edges that are left without a colour.
-use Rattle.mig_base.proofs.Common.{◌≡◌, ◌⊎◌, ℕ, zero, suc, ◌+◌, ◌<◌, ◌≤◌, inl, inr, refl, sym, ap, subst, ◌∙◌, Bool, true, false, List, length, take, get_or, Option, Some, None, count_by, arith}
-use Rattle.mig_base.proofs.Common.{add-one, slice_get, take_all, get_or-le-sum_by, slice_get-get_or, same_Some}
-use Rattle.mig_base.specs.declared.ids.Colour.{Colour}
-use Rattle.mig_base.specs.declared.ids.EdgeId.{EdgeId}
-use Rattle.std.specs.Prelude.{is_none}
-use Rattle.std.proofs.lemmas.List.Sums.{sum_by_more}
-use Rattle.mig_base.proofs.Counting.{one}
-use Rattle.mig_board.specs.Colouring.{Colouring, IsPainted, IsProper}
-use Rattle.mig_board.specs.Growth.{IsComplete, IsPlain, PaintsOne, Recolours}
-use Rattle.mig_shannon.specs.Left.{edges_left}
-use Rattle.mig_shannon.specs.Ways.{Grows}
+use Rattle.mig_shannon.proofs.Common.{Bool, Colour, Colouring, EdgeId, Grows, IsComplete, IsPainted, IsPlain, IsProper, List, None, Option, PaintsOne, Recolours, Some, add-one, ap, arith}
+use Rattle.mig_shannon.proofs.Common.{count_by, edges_left, false, get_or, get_or-le-sum_by, inl, inr, is_none, length, one, refl, same_Some, slice_get, slice_get-get_or, subst, suc, sum_by_more}
+use Rattle.mig_shannon.proofs.Common.{sym, take, take_all, true, zero, ℕ, ◌+◌, ◌<◌, ◌∙◌, ◌≡◌, ◌≤◌, ◌⊎◌}
 use Rattle.mig_shannon.proofs.Growing.{Grows-trans}
 
 abbrev pub no_colour : Option Colour

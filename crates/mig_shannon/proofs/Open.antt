@@ -1,14 +1,6 @@
 -- Walks leave an edge open or paint it.
-use Rattle.mig_base.proofs.Common.{◌≢◌, ◌<◌, inl, inr, sym, subst}
-use Rattle.mig_base.specs.declared.ids.Colour.{Colour}
-use Rattle.mig_base.specs.declared.ids.CopyId.{CopyId}
-use Rattle.mig_base.specs.declared.ids.EdgeId.{EdgeId}
-use Rattle.mig_board.specs.Colouring.{Colouring, Joins, IsMissing, IsProper, IsFreeAt}
-use Rattle.mig_board.specs.Growth.{Recolours}
-use Rattle.mig_board.specs.Walk.{Exchanges}
-use Rattle.mig_board.proofs.Walks.{joins_back, end_cases}
-use Rattle.mig_board.proofs.Laws.{exchanges_start, exchanges_joins}
-use Rattle.mig_shannon.specs.Ways.{IsOpen, CanWalk}
+use Rattle.mig_shannon.proofs.Common.{CanWalk, Colour, Colouring, CopyId, EdgeId, Exchanges, IsFreeAt, IsMissing, IsOpen, IsProper, Joins, Recolours, end_cases, exchanges_joins, exchanges_start}
+use Rattle.mig_shannon.proofs.Common.{inl, inr, joins_back, subst, sym, ◌<◌, ◌≢◌}
 
 pub first_in : (g : Colouring) (e : EdgeId) (u v : CopyId) → IsOpen g e u v → u.0 < g.nodes
 first_in g e u v o = o.proper.nodes_in_range e u v o.joins

@@ -1,15 +1,8 @@
 -- One edge of a board, by a repaint or a walk.
-use Rattle.mig_base.proofs.Common.{◌≡◌, ◌≢◌, ℕ, ◌≤◌, ◌+◌, ◌*◌, inl, inr, refl, sym, ap, subst, ◌∙◌, Some, None, arith, slice_get_within}
-use Rattle.mig_base.specs.declared.ids.Colour.{Colour}
-use Rattle.mig_base.specs.declared.ids.CopyId.{CopyId}
-use Rattle.mig_base.specs.declared.ids.EdgeId.{EdgeId}
-use Rattle.mig_board.specs.Colouring.{Colouring, Joins, Leads, IsMissing, IsPresent, IsProper, HasNoCommon, IsFreeAt, IsPainted, degree_of, painted_with}
-use Rattle.mig_board.specs.Growth.{IsPlain, PaintsOne}
-use Rattle.mig_board.specs.Walk.{Exchanges, WalksTo, end_of}
-use Rattle.mig_board.proofs.Walks.{end_cases, leads_back, walk_unique}
-use Rattle.mig_board.proofs.Counting.{degrees_of_three}
-use Rattle.mig_board.proofs.Laws.{exchanges_plain, exchanges_start, exchanges_third, present_differs, present_at_first, present_at_second, repainted_old, repainted_other, same_far, walk_from_end, Recolours-repainted, PaintsOne-after, PaintsOne-painted}
-use Rattle.mig_shannon.specs.Ways.{CanRepaint}
+use Rattle.mig_shannon.proofs.Common.{CanRepaint, Colour, Colouring, CopyId, EdgeId, Exchanges, HasNoCommon, IsFreeAt, IsMissing, IsPainted, IsPlain, IsPresent, IsProper, Joins, Leads, None}
+use Rattle.mig_shannon.proofs.Common.{PaintsOne, PaintsOne-after, PaintsOne-painted, Recolours-repainted, Some, WalksTo, ap, arith, degree_of, degrees_of_three, end_cases, end_of}
+use Rattle.mig_shannon.proofs.Common.{exchanges_plain, exchanges_start, exchanges_third, inl, inr, leads_back, painted_with, present_at_first, present_at_second, present_differs, refl}
+use Rattle.mig_shannon.proofs.Common.{repainted_old, repainted_other, same_far, slice_get_within, subst, sym, walk_from_end, walk_unique, ℕ, ◌*◌, ◌+◌, ◌∙◌, ◌≡◌, ◌≢◌, ◌≤◌}
 use Rattle.mig_shannon.proofs.Open.{walk_free}
 
 -- ---- the repaint

@@ -1,13 +1,8 @@
 -- Counting the ends of each disk.
-use Rattle.mig_base.proofs.Common.{◌≡◌, ◌≢◌, ℕ, ◌+◌, ◌<◌, ◌≤◌, inl, inr, refl, sym, ap, ◌∙◌, subst, List, true, eqb, length, take, get_or, set, replicate, arith, count_by, eq-eqb, map, sum, sum_by}
-use Rattle.mig_base.proofs.Common.{get_or-set_same, get_or-set_other, length-set, length-replicate, get_or-replicate, count_by-le-length, cases_eq, ne_eqb, range_with_len, get_or-range_with_len}
-use Rattle.mig_base.proofs.Common.{length-range_with_len, fill_by_all, nat_tests}
-use Rattle.mig_base.specs.declared.ids.DiskId.{DiskId}
-use Rattle.std.proofs.lemmas.List.Sums.{count_by_more_yes, count_by_more_no, sum-map, sum_by-le}
-use Rattle.mig_split.specs.Dealing.{count_of, disk_at}
-use Rattle.mig_split.specs.Decks.{AreCounts}
-use Rattle.mig_base.proofs.Counting.{sum_by-swap, one}
-use Rattle.mig_base.proofs.Copies.{count_by-le-one}
+use Rattle.mig_split.proofs.Common.{AreCounts, DiskId, List, ap, arith, cases_eq, count_by, count_by-le-length, count_by-le-one, count_by_more_no, count_by_more_yes, count_of, disk_at, eq-eqb}
+use Rattle.mig_split.proofs.Common.{eqb, fill_by_all, get_or, get_or-range_with_len, get_or-replicate, get_or-set_other, get_or-set_same, inl, inr, length, length-range_with_len}
+use Rattle.mig_split.proofs.Common.{length-replicate, length-set, map, nat_tests, ne_eqb, one, range_with_len, refl, replicate, set, subst, sum, sum-map, sum_by, sum_by-le, sum_by-swap, sym}
+use Rattle.mig_split.proofs.Common.{take, true, ℕ, ◌+◌, ◌<◌, ◌∙◌, ◌≡◌, ◌≢◌, ◌≤◌}
 
 pub count_of_same : (stops : List DiskId) (i v : ℕ) → i < length stops → disk_at stops i ≡ v → count_of v (take (i + 1) stops) ≡ count_of v (take i stops) + 1
 count_of_same stops i v h e = count_by_more_yes (λ (d : DiskId). eqb d.0 v) stops i (record { 0 = 0 }) h (eq-eqb _ _ e)

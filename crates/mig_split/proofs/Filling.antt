@@ -1,14 +1,8 @@
 -- Nodes that are filled with the ends of copies, one copy after the other.
-use Rattle.mig_base.proofs.Common.{◌≡◌, ◌≢◌, ℕ, ◌+◌, ◌*◌, ◌<◌, ◌≤◌, inl, inr, refl, sym, ap, ◌∙◌, subst, List, [], ◌∷◌, ◌++◌, Bool, true, false, cond, eqb, length, take, get_or, set, replicate, arith}
-use Rattle.mig_base.proofs.Common.{count_by, sum_by, eq-eqb, All, ◌&&◌, get_or-set_same, get_or-set_other, length-set, length-replicate, get_or-replicate, length-append, get_or_append_left}
-use Rattle.mig_base.proofs.Common.{get_or_push, count_by-le-length, cases_eq, cases_lt, ne_eqb, nat_tests, mul-le-mul_left}
-use Rattle.mig_base.specs.declared.ids.CopyId.{CopyId}
-use Rattle.std.proofs.Common.{nat_lt}
-use Rattle.std.proofs.lemmas.List.Sums.{count_by_more_yes, count_by_more_no}
-use Rattle.mig_base.proofs.Counting.{one, sum_by-add, sum_by-none, sum_by-same_each}
-use Rattle.mig_split.specs.declared.sharing.Last.{Last}
-use Rattle.mig_split.specs.Dealing.{copy_at, count_at}
-use Rattle.mig_split.specs.Sharing.{AreCopyCounts, AreFilled, IsFilledBy, IsFilling, ends_in}
+use Rattle.mig_split.proofs.Common.{All, AreCopyCounts, AreFilled, Bool, CopyId, IsFilledBy, IsFilling, Last, List, [], ap, arith, cases_eq, cases_lt, cond, copy_at, count_at, count_by}
+use Rattle.mig_split.proofs.Common.{count_by-le-length, count_by_more_no, count_by_more_yes, ends_in, eq-eqb, eqb, false, get_or, get_or-replicate, get_or-set_other, get_or-set_same}
+use Rattle.mig_split.proofs.Common.{get_or_append_left, get_or_push, inl, inr, length, length-append, length-replicate, length-set, mul-le-mul_left, nat_lt, nat_tests, ne_eqb, one, refl}
+use Rattle.mig_split.proofs.Common.{replicate, set, subst, sum_by, sum_by-add, sum_by-none, sum_by-same_each, sym, take, true, ℕ, ◌&&◌, ◌*◌, ◌++◌, ◌+◌, ◌<◌, ◌∙◌, ◌∷◌, ◌≡◌, ◌≢◌, ◌≤◌}
 
 -- ---- the ends of each copy
 

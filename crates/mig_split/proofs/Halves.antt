@@ -1,18 +1,10 @@
 -- From dealt ends to the copies of edges.
-use Rattle.mig_base.proofs.Common.{◌≡◌, ◌≢◌, ℕ, suc, zero, ◌+◌, ◌-◌, ◌*◌, ◌<◌, ◌≤◌, inl, inr, refl, sym, ap, ◌∙◌, subst, List, [], ◌∷◌, ◌++◌, Bool, true, false, eqb, length, take, drop, get_or, min}
-use Rattle.mig_base.proofs.Common.{sum, arith, count_by, All, ◌||◌, length-append, get_or_append_left, get_or_default, get_or-take, length-take-le, length-drop, sum_by-cons, sum_by-append, All-head}
-use Rattle.mig_base.proofs.Common.{All-tail, cases_lt, nat_tests, Trip, div_ceil, load, touches, Transfers, trip_at, is_forward, mul-le-mul_left, mul-le-mul_right, limit, quotient, IsDiskInRange}
-use Rattle.mig_base.proofs.Common.{no_disk}
-use Rattle.mig_base.specs.declared.ids.CopyId.{CopyId}
-use Rattle.mig_base.specs.declared.ids.DiskId.{DiskId}
-use Rattle.std.proofs.lemmas.List.{get_or-append-add, take_at, drop_at, get_or-drop}
-use Rattle.std.proofs.lemmas.List.Sums.{sum_by-take-drop}
-use Rattle.mig_base.specs.Ends.{is_end, ends_at}
-use Rattle.mig_base.specs.Directions.{tails, heads, tail_of, head_of, out_of, in_of}
-use Rattle.mig_base.proofs.Counting.{one, count_same, one_of_two, none_pass, ceil_within}
-use Rattle.mig_split.specs.Dealing.{count_of, count_at, disk_at, copy_at, AreFew, IsDealt, IsDealtBy, IsEnough}
-use Rattle.mig_base.proofs.Copies.{load_within_quotient}
-use Rattle.mig_split.specs.Copies.{AreTails, AreHeads, ArePairs, AreSides, AreStops, AreJoined, AreShared, AreShares, AreCopies, first_of, second_of}
+use Rattle.mig_split.proofs.Common.{All, All-head, All-tail, AreCopies, AreFew, AreHeads, AreJoined, ArePairs, AreShared, AreShares, AreSides, AreStops, AreTails, Bool, CopyId, DiskId, IsDealt}
+use Rattle.mig_split.proofs.Common.{IsDealtBy, IsDiskInRange, IsEnough, List, Transfers, Trip, [], ap, arith, cases_lt, ceil_within, copy_at, count_at, count_by, count_of, count_same, disk_at}
+use Rattle.mig_split.proofs.Common.{div_ceil, drop, drop_at, ends_at, eqb, false, first_of, get_or, get_or-append-add, get_or-drop, get_or-take, get_or_append_left, get_or_default, head_of}
+use Rattle.mig_split.proofs.Common.{heads, in_of, inl, inr, is_end, is_forward, length, length-append, length-drop, length-take-le, limit, load, load_within_quotient, min, mul-le-mul_left}
+use Rattle.mig_split.proofs.Common.{mul-le-mul_right, nat_tests, no_disk, none_pass, one, one_of_two, out_of, quotient, refl, second_of, subst, suc, sum, sum_by-append, sum_by-cons}
+use Rattle.mig_split.proofs.Common.{sum_by-take-drop, sym, tail_of, tails, take, take_at, touches, trip_at, true, zero, ℕ, ◌*◌, ◌++◌, ◌+◌, ◌-◌, ◌<◌, ◌||◌, ◌∙◌, ◌∷◌, ◌≡◌, ◌≢◌, ◌≤◌}
 use Rattle.mig_split.proofs.Numbers.{numbers_room, numbers_few, ceil_most, ceil_enough}
 
 get_or-tails : (ts : List Trip) (ds : List Bool) (k n : ℕ) → length ds ≡ length ts → k < length ts → get_or (tails ts ds) k n ≡ tail_of (trip_at ts k) (is_forward ds k)

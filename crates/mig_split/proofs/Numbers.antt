@@ -1,10 +1,6 @@
 -- How many copies each disk gets, and how many all get.
-use Rattle.mig_base.proofs.Common.{◌≡◌, ℕ, suc, ◌+◌, ◌*◌, ◌<◌, ◌≤◌, sym, ap, ◌∙◌, List, [], ◌∷◌, length, get_or, map, sum, arith, range_with_len, sum_by-cons, length-map-range_with_len}
-use Rattle.mig_base.proofs.Common.{get_or-map-range_with_len, div_ceil_times, div_ceil}
-use Rattle.mig_base.specs.declared.ids.CopyId.{CopyId}
-use Rattle.mig_base.specs.declared.ids.DiskId.{DiskId}
-use Rattle.mig_base.proofs.Counting.{ceil_within}
-use Rattle.mig_split.specs.Dealing.{count_of, AreFew, IsDealt, IsDealtBy, IsEnough}
+use Rattle.mig_split.proofs.Common.{AreFew, CopyId, DiskId, IsDealt, IsDealtBy, IsEnough, List, [], ap, arith, ceil_within, count_of, div_ceil, div_ceil_times, get_or, get_or-map-range_with_len}
+use Rattle.mig_split.proofs.Common.{length, length-map-range_with_len, map, range_with_len, suc, sum, sum_by-cons, sym, ℕ, ◌*◌, ◌+◌, ◌<◌, ◌∙◌, ◌∷◌, ◌≡◌, ◌≤◌}
 use Rattle.mig_split.proofs.Counts.{counts_total}
 
 -- numbers that pass others at each place by so much at most, times a factor

@@ -1,13 +1,7 @@
 -- Decks side by side.
-use Rattle.std.proofs.Common.{◌≡◌, ◌≢◌, ℕ, ◌+◌, ◌-◌, ◌*◌, ◌<◌, ◌≤◌, inl, inr, refl, sym, ap, ◌∙◌, subst, List, [], ◌∷◌, ◌++◌, cond, eqb, length, take, get_or, replicate, arith, eq-eqb}
-use Rattle.std.proofs.lemmas.List.{length-replicate, get_or-replicate, length-append, get_or_append_left, get_or-append_right, get_or_push, length-take-le, get_or-take, get_or_past}
-use Rattle.std.proofs.lemmas.List.Sums.{sum_by-append, sum_by_more}
-use Rattle.std.proofs.lemmas.List.Folds.{sum_by-replicate}
-use Rattle.std.proofs.lemmas.Bool.{cases_eq, cases_lt, ne_eqb}
-use Rattle.mig_base.specs.declared.ids.DiskId.{DiskId}
-use Rattle.mig_split.specs.declared.decks.Deck.{Deck}
-use Rattle.mig_split.specs.Dealing.{count_of, disk_at}
-use Rattle.mig_split.specs.Decks.{AreDecks, AreFresh, deck_at, no_deck}
+use Rattle.mig_split.proofs.Common.{AreDecks, AreFresh, Deck, DiskId, List, [], ap, arith, cases_eq, cases_lt, cond, count_of, deck_at, disk_at, eq-eqb, eqb, get_or, get_or-append_right}
+use Rattle.mig_split.proofs.Common.{get_or-replicate, get_or-take, get_or_append_left, get_or_past, get_or_push, inl, inr, length, length-append, length-replicate, length-take-le, ne_eqb}
+use Rattle.mig_split.proofs.Common.{no_deck, refl, replicate, subst, sum_by-append, sum_by-replicate, sum_by_more, sym, take, ℕ, ◌*◌, ◌++◌, ◌+◌, ◌-◌, ◌<◌, ◌∙◌, ◌∷◌, ◌≡◌, ◌≢◌, ◌≤◌}
 
 pub AreDecks-start : (numbers : List ℕ) → AreDecks (take 0 numbers) [] []
 AreDecks-start numbers =

@@ -1,13 +1,7 @@
 -- From nodes on each side to the nodes of edges.
-use Rattle.mig_base.proofs.Common.{◌≡◌, ℕ, suc, zero, ◌+◌, ◌-◌, ◌*◌, ◌<◌, ◌≤◌, inl, inr, sym, ap, ◌∙◌, subst, List, Bool, true, false, cond, eqb, length, get_or, arith, count_by, All, ◌||◌}
-use Rattle.mig_base.proofs.Common.{get_or_default, cases_lt, nat_tests, mul-le-mul_left}
-use Rattle.mig_base.specs.declared.ids.CopyId.{CopyId}
-use Rattle.std.proofs.Common.{nat_lt}
-use Rattle.mig_base.specs.Ends.{is_end, ends_at}
-use Rattle.mig_base.proofs.Counting.{one, sum_by-le_each, count_same}
-use Rattle.mig_split.specs.Copies.{ArePairs, first_of, second_of}
-use Rattle.mig_split.specs.Dealing.{copy_at, count_at}
-use Rattle.mig_split.specs.Sharing.{AreFilled, AreNodes, AreNodesOf, AreOnSides, IsShared}
+use Rattle.mig_split.proofs.Common.{All, AreFilled, AreNodes, AreNodesOf, AreOnSides, ArePairs, Bool, CopyId, IsShared, List, ap, arith, cases_lt, cond, copy_at, count_at, count_by, count_same}
+use Rattle.mig_split.proofs.Common.{ends_at, eqb, false, first_of, get_or, get_or_default, inl, inr, is_end, length, mul-le-mul_left, nat_lt, nat_tests, one, second_of, subst, suc}
+use Rattle.mig_split.proofs.Common.{sum_by-le_each, sym, true, zero, ℕ, ◌*◌, ◌+◌, ◌-◌, ◌<◌, ◌||◌, ◌∙◌, ◌≡◌, ◌≤◌}
 use Rattle.mig_split.proofs.Halves.{ends_most, firsts_are, firsts_none, seconds_are, seconds_none}
 
 -- ---- one side

@@ -1,12 +1,8 @@
 -- Dealing from decks in turn.
-use Rattle.mig_base.proofs.Common.{◌≡◌, ◌≢◌, ℕ, suc, zero, ◌+◌, ◌-◌, ◌*◌, ◌<◌, ◌≤◌, inl, inr, refl, sym, ap, ◌∙◌, subst, List, [], ◌∷◌, ◌++◌, Bool, true, false, cond, eqb, length, take, set, arith}
-use Rattle.mig_base.proofs.Common.{eq-eqb, get_or-set_same, get_or-set_other, length-set, length-append, get_or_append_left, get_or_push, get_or_default, take_all, sum_by_push, get_or-le-sum_by}
-use Rattle.mig_base.proofs.Common.{cases_eq, cases_lt, ne_eqb, nat_tests, mul-le-mul_left}
-use Rattle.mig_base.specs.declared.ids.CopyId.{CopyId}
-use Rattle.mig_base.specs.declared.ids.DiskId.{DiskId}
-use Rattle.mig_split.specs.declared.decks.Deck.{Deck}
-use Rattle.mig_split.specs.Dealing.{count_of, count_at, disk_at, IsDealtBy, IsEnough}
-use Rattle.mig_split.specs.Decks.{AreDecks, AreFresh, IsAfter, IsTurn, IsDealing, deck_at, gone, is_gone, no_deck, place_after}
+use Rattle.mig_split.proofs.Common.{AreDecks, AreFresh, Bool, CopyId, Deck, DiskId, IsAfter, IsDealing, IsDealtBy, IsEnough, IsTurn, List, [], ap, arith, cases_eq, cases_lt, cond, count_at}
+use Rattle.mig_split.proofs.Common.{count_of, deck_at, disk_at, eq-eqb, eqb, false, get_or-le-sum_by, get_or-set_other, get_or-set_same, get_or_append_left, get_or_default, get_or_push, gone}
+use Rattle.mig_split.proofs.Common.{inl, inr, is_gone, length, length-append, length-set, mul-le-mul_left, nat_tests, ne_eqb, no_deck, place_after, refl, set, subst, suc, sum_by_push, sym, take}
+use Rattle.mig_split.proofs.Common.{take_all, true, zero, ℕ, ◌*◌, ◌++◌, ◌+◌, ◌-◌, ◌<◌, ◌∙◌, ◌∷◌, ◌≡◌, ◌≢◌, ◌≤◌}
 use Rattle.mig_split.proofs.Counts.{count_of_same, count_of_other}
 
 same_deck : (decks : List Deck) (v : ℕ) (later : Bool) (next : Deck) → v < length decks → IsAfter (deck_at decks v) later next → (w : ℕ) → ((deck_at (set decks v next) w).first ≡ (deck_at decks w).first) × ((deck_at (set decks v next) w).count ≡ (deck_at decks w).count)

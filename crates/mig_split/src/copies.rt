@@ -1,4 +1,5 @@
-ghost use Rattle.std.specs.Prelude.{◌≡◌, ◌+◌, ◌<◌, ◌≤◌, ◌^◌, length, sum, vec_len, All, IfOk};
+ghost use Rattle.std.specs.Prelude.{◌≡◌, ◌+◌, ◌<◌, ◌≤◌, ◌^◌, false, length, sum, vec_len, All, IfOk};
+ghost use Rattle.mig_base.specs.InputLists.{is_duplex};
 ghost use Rattle.mig_base.specs.Bounding.{quotient};
 ghost use Rattle.mig_split.specs.Copies.{AreCopies, AreJoined, AreShared, AreShares, AreSides};
 ghost use Rattle.mig_split.specs.Dealing.{IsEnough};
@@ -109,9 +110,10 @@ pub fn split_nodes(alloc: Global, graph: &Graph, q: u32) -> Result<Copies, Alloc
     join(alloc, &numbers, &stops, q, edges)
 }
 
-/// For each disk as many copies as its limit, but no more than its edges over a share, rounded up.
+/// For each disk as many copies as its joint limit, but no more than its edges over a share, rounded up.
 fn shared_numbers(alloc: Global, graph: &Graph, share: u32) -> Result<Vec<u32>, AllocError>
-    requires { 1 ≤ share }
+    requires share { 1 ≤ share }
+    requires joint { is_duplex graph.now.disks ≡ false }
     ensures { IfOk result (λ v. AreShared graph.now share v.items) }
 {
     let mut numbers = Vec::with_capacity(alloc, graph.disks() as usize)?;
@@ -122,7 +124,7 @@ fn shared_numbers(alloc: Global, graph: &Graph, share: u32) -> Result<Vec<u32>, 
     Ok(numbers)
 }
 
-/// Splits disks into at most as many copies as their limits, so that no copy has more ends than the quotient.
+/// Splits disks into at most as many copies as their joint limits, so that no copy has more ends than the quotient.
 ///
 /// A disk has as many copies as its limit, but no more than its edges over a share, rounded up: the less the share, the
 /// freer its edges are, and the more copies there are. An edge's first copy is one of the disk that it leaves by its
@@ -135,6 +137,7 @@ pub fn split_limits(
     directions: &[bool],
     share: u32,
 ) -> Result<Copies, AllocError>
+    requires joint { is_duplex graph.now.disks ≡ false }
     requires directions { length directions.now ≡ length graph.now.trips }
     requires some { 1 ≤ share }
     requires most { share ≤ quotient graph.now }

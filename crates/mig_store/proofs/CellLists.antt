@@ -1,11 +1,9 @@
 -- Cells that are held in a list.
-use Rattle.mig_base.proofs.Common.{◌≡◌, inl, inr, cond, ℕ, Bool, zero, suc, ◌<◌, ◌≤◌, true, false, List, [], ◌∷◌, length, ◌++◌, get_or, set, take, drop, map, Option, Some, None, IfSome, refl, sym}
-use Rattle.mig_base.proofs.Common.{◌∙◌, ap, subst, arith, option_map, Contains, slice_get, slice_get_within, get_or_from_slice_get, Contains-get_or, cases_Bool, cond-true, cond-false, false≢true}
-use Rattle.mig_base.proofs.Common.{length-replicate, length-map, is_cell, cell_len, AreDifferent, SameBut}
-use Rattle.mig_store.proofs.Common.{Cell, Slot, Head, Gate, Mark, Held, cell_of, held_map, held_at, change_at, HasLengths, zero_held}
+use Rattle.mig_store.proofs.Common.{AreDifferent, Bool, Cell, Contains, Contains-get_or, Gate, HasLengths, Head, Held, IfSome, List, Mark, None, Option, SameBut, Slot, Some, [], ap, arith}
+use Rattle.mig_store.proofs.Common.{cases_Bool, cell_len, cell_of, change_at, cond, cond-false, cond-true, drop, false, false≢true, get_or, get_or_from_slice_get, held_at, held_map, inl, inr}
+use Rattle.mig_store.proofs.Common.{is_cell, is_cell-other, is_cell-same, is_cell-true, length, length-map, length-replicate, map, option_map, put_at, refl, set, slice_get, slice_get_within}
+use Rattle.mig_store.proofs.Common.{subst, suc, sym, take, true, zero, zero_held, ℕ, ◌++◌, ◌<◌, ◌∙◌, ◌∷◌, ◌≡◌, ◌≤◌}
 use Rattle.std.proofs.lemmas.List.{get_or-map}
-use Rattle.mig_base.proofs.CellTests.{is_cell-same, is_cell-true, is_cell-other}
-use Rattle.mig_store.specs.HeldCells.{put_at}
 
 module _ {T : Type 0} where
   -- the first that is held

@@ -1,15 +1,7 @@
 -- Lists of different cells.
-use Rattle.mig_base.proofs.Common.{◌≡◌, inl, inr, ◌++◌, ◌∷◌, [], ℕ, Bool, true, false, List, Option, Some, None, Contains, MatchOption, slice_get, is_some, cond, ap, sym, ◌∙◌, refl, AreDifferent}
-use Rattle.mig_base.proofs.Common.{list_any, cases_Bool, false_from_ne_true, false≢true, Contains-from_any, list_any-from_Contains, slice_get-get_or, is_cell}
-use Rattle.mig_store.proofs.Common.{Cell, Slot, Head, Gate, Mark}
-use Rattle.std.proofs.Common.{position}
-use Rattle.std.specs.Bool.{Decides}
-use Rattle.std.specs.Cmp.{IsEquivalence}
-use Rattle.std.proofs.lemmas.Map.Made.{AllPairs-from_IsDistinct}
-use Rattle.indexmap.specs.IndexSet.{insert_key, IsUnique, IndexSet}
-use Rattle.std.proofs.lemmas.List.Quantifiers.{position-Some}
-use Rattle.mig_base.specs.contracts.cells.CellPartialEq.TheImpl.{eq-value}
-use Rattle.mig_base.proofs.CellTests.{is_cell-same, is_cell-true}
+use Rattle.mig_store.proofs.Common.{AllPairs-from_IsDistinct, AreDifferent, Bool, Cell, Contains, Contains-from_any, Decides, Gate, Head, IndexSet, IsEquivalence, IsUnique, List, Mark}
+use Rattle.mig_store.proofs.Common.{MatchOption, None, Option, Slot, Some, [], ap, cases_Bool, cond, eq-value, false, false_from_ne_true, false≢true, inl, inr, insert_key, is_cell, is_cell-same}
+use Rattle.mig_store.proofs.Common.{is_cell-true, is_some, list_any, list_any-from_Contains, position, position-Some, refl, slice_get, slice_get-get_or, sym, true, ℕ, ◌++◌, ◌∙◌, ◌∷◌, ◌≡◌}
 
 abbrev eq : Cell → Cell → Bool
 eq = eq-value.it

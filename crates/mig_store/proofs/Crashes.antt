@@ -1,12 +1,7 @@
 -- A record without calls, at the beginning and after a crash.
-use Rattle.mig_base.proofs.Common.{◌≡◌, inl, inr, ◌/◌, ℕ, true, List, [], length, take, drop, map, Option, Some, None, IfSome, refl, sym, ◌∙◌, ap, subst, arith, length-append, option_map, IsSomeAnd}
-use Rattle.mig_base.proofs.Common.{length-replicate, length-drop, cases_Bool, cond-true, cond-false, cell_len, Image}
-use Rattle.mig_store.proofs.Common.{Cell, Call, Contents, fresh, picked, Pick, Held, held_at, held_map, Moment, IsLog, IsMoment, HaveLength, reads, MayLeave}
-use Rattle.std.proofs.Math.ListN.{length-take}
-use Rattle.mig_base.proofs.Landing.{flights_none}
-use Rattle.mig_store.specs.Asking.{crash, bytes_of}
-use Rattle.mig_store.specs.declared.contents.Pick.TheVariants.{Old, New, Half, Ones}
-use Rattle.mig_store.specs.Ledgers.{begin_with}
+use Rattle.mig_store.proofs.Common.{Call, Cell, Contents, Half, HaveLength, Held, IfSome, Image, IsLog, IsMoment, IsSomeAnd, List, MayLeave, Moment, New, None, Old, Ones, Option, Pick, Some, []}
+use Rattle.mig_store.proofs.Common.{ap, arith, begin_with, bytes_of, cases_Bool, cell_len, cond-false, cond-true, crash, drop, flights_none, fresh, held_at, held_map, inl, inr, length}
+use Rattle.mig_store.proofs.Common.{length-append, length-drop, length-replicate, length-take, map, option_map, picked, reads, refl, subst, sym, take, true, ℕ, ◌/◌, ◌∙◌, ◌≡◌}
 use Rattle.mig_store.proofs.CellLists.{held_at-map}
 
 -- bytes of the cells' lengths

@@ -1,12 +1,9 @@
 -- What the entries of cells say.
-use Rattle.mig_base.proofs.Common.{◌≡◌, ◌==◌, ◌+◌, ◌++◌, ◌<◌, inl, inr, ℕ, zero, suc, List, [], ◌∷◌, length, get_or, set, map, true, if◌then◌else◌, Option, Some, None, IfSome, All, Contains, refl}
-use Rattle.mig_base.proofs.Common.{sym, ◌∙◌, ap, subst, arith, length-append, option_map, slice_get, cases_Bool, cond-true, cond-false, eqb-true, false_from_ne_true, get_or_append_left, length-set}
-use Rattle.mig_base.proofs.Common.{slice_get-get_or, get_or-append_seam, AreDifferent}
-use Rattle.mig_store.proofs.Common.{Cell, Call, Held, Entry, Pick, Contents, fresh, settle, asked_by, seen, cell_of, held_at, change_at, held_map, zero_held, first_of, firsts, seen_all, crash_entry}
-use Rattle.mig_store.proofs.Common.{IsWithin, AreWithin, zero_entry}
-use Rattle.std.proofs.lemmas.List.{map-set}
+use Rattle.mig_store.proofs.Common.{All, AreDifferent, AreWithin, Call, Cell, Contains, Contents, Entry, Held, IfSome, IsWithin, List, None, Option, Pick, Some, [], ap, arith, asked_by, bytes_at}
+use Rattle.mig_store.proofs.Common.{cases_Bool, cell_of, change_at, cond-false, cond-true, crash, crash_entry, eqb-true, false_from_ne_true, first_of, firsts, fresh, get_or, get_or-append_seam}
+use Rattle.mig_store.proofs.Common.{get_or_append_left, held_at, held_map, if◌then◌else◌, inl, inr, length, length-append, length-set, map, map-set, option_map, refl, seen, seen_all, set, settle}
+use Rattle.mig_store.proofs.Common.{slice_get, slice_get-get_or, subst, suc, sym, true, zero, zero_entry, zero_held, ℕ, ◌++◌, ◌+◌, ◌<◌, ◌==◌, ◌∙◌, ◌∷◌, ◌≡◌}
 use Rattle.std.proofs.Math.ListN.{get_or-map}
-use Rattle.mig_store.specs.Asking.{crash, bytes_at}
 use Rattle.mig_store.proofs.CellLists.{held_at-change, held_at-absent, held_at-map, change_at-none, cells_of-map}
 
 -- With one call more

@@ -1,12 +1,6 @@
 -- A loop that ends the copies in flight.
-use Rattle.mig_base.proofs.Common.{◌≡◌, ◌+◌, ◌++◌, ◌∷◌, [], ℕ, suc, List, Some, length, refl, sym, ◌∙◌, ap, arith, length-append, AreFlights, Ends}
-use Rattle.mig_store.proofs.Common.{Flight, Lands, Log, state_at, flying, moment_of, Memory, pushed, land_many}
-use Rattle.std.proofs.lemmas.List.Sorted.{length_permutation}
-use Rattle.mig_base.proofs.Landing.{ends_none, ends_then}
-use Rattle.mig_store.specs.declared.ends.Landing.{Landing}
-use Rattle.mig_store.specs.declared.trouble.Trouble.{Trouble}
-use Rattle.mig_store.specs.Orders.{after_end}
-use Rattle.mig_store.specs.Memories.{landed, next_flight}
+use Rattle.mig_store.proofs.Common.{AreFlights, Ends, Flight, Landing, Lands, List, Log, Memory, Some, Trouble, [], after_end, ap, arith, ends_none, ends_then, flying, land_many, landed, length}
+use Rattle.mig_store.proofs.Common.{length-append, length_permutation, moment_of, next_flight, pushed, refl, state_at, suc, sym, ℕ, ◌++◌, ◌+◌, ◌∙◌, ◌∷◌, ◌≡◌}
 
 -- so many copies ended
 pub record HaveLanded (old new : Log) (i : ℕ) : Type 0 where

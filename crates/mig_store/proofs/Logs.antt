@@ -1,6 +1,6 @@
 -- A record with one call more.
-use Rattle.mig_base.proofs.Common.{◌≡◌, ◌<◌, ◌≤◌, ◌+◌, ◌++◌, ℕ, List, [], ◌∷◌, length, Option, Some, None, IsSome, IfSome, refl, sym, ◌∙◌, ap, subst, arith, length-append, option_map, IsSomeAnd}
-use Rattle.mig_store.proofs.Common.{Event, Flight, Call, Contents, Held, held_at, Moment, Log, IsLog, HaveLength, after_call, after, flying, moment_of, IsMoment}
+use Rattle.mig_store.proofs.Common.{Call, Contents, Event, Flight, HaveLength, Held, IfSome, IsLog, IsMoment, IsSome, IsSomeAnd, List, Log, Moment, None, Option, Some, [], after, after_call, ap}
+use Rattle.mig_store.proofs.Common.{arith, flying, held_at, length, length-append, moment_of, option_map, refl, subst, sym, ℕ, ◌++◌, ◌+◌, ◌<◌, ◌∙◌, ◌∷◌, ◌≡◌, ◌≤◌}
 use Rattle.mig_store.proofs.Moments.{after-push}
 
 -- the moment of a record with one call more

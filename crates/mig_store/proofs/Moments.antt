@@ -1,11 +1,8 @@
 -- What one call more in a record changes.
-use Rattle.mig_base.proofs.Common.{◌≡◌, ◌⊎◌, inl, inr, cond, ℕ, ◌<◌, ◌≤◌, true, not, List, [], ◌∷◌, ◌++◌, length, Option, Some, None, IfSome, refl, sym, ◌∙◌, ap, subst, arith, length-append}
-use Rattle.mig_base.proofs.Common.{option_map, IsSomeAnd, cases_lt, cases_Bool, cond-true, cond-false, false≢true, take_all, take-append-le, fold-append, is_cell, cell_len, Image, SameBut, Changes}
-use Rattle.mig_store.proofs.Common.{Cell, Event, Flight, Call, Contents, Held, change_at, Moment, after_call, after, reads, MayLeave, HaveLength, IsMoment, state_at}
-use Rattle.mig_base.specs.Stores.{IsLeftBut}
-use Rattle.mig_base.proofs.StoreSteps.{same_none, events_none}
-use Rattle.mig_base.proofs.CellTests.{is_cell-same, is_cell-other, cases_cell}
-use Rattle.mig_store.specs.Ledgers.{begin_with, IsUnsettled, LeftSince, IsLaid}
+use Rattle.mig_store.proofs.Common.{Call, Cell, Changes, Contents, Event, Flight, HaveLength, Held, IfSome, Image, IsLaid, IsLeftBut, IsMoment, IsSomeAnd, IsUnsettled, LeftSince, List, MayLeave}
+use Rattle.mig_store.proofs.Common.{Moment, None, Option, SameBut, Some, [], after, after_call, ap, arith, begin_with, cases_Bool, cases_cell, cases_lt, cell_len, change_at, cond, cond-false}
+use Rattle.mig_store.proofs.Common.{cond-true, events_none, false≢true, fold-append, inl, inr, is_cell, is_cell-other, is_cell-same, length, length-append, not, option_map, reads, refl}
+use Rattle.mig_store.proofs.Common.{same_none, state_at, subst, sym, take-append-le, take_all, true, ℕ, ◌++◌, ◌<◌, ◌∙◌, ◌∷◌, ◌≡◌, ◌≤◌, ◌⊎◌}
 use Rattle.mig_store.proofs.CellLists.{change_at-other, change_at-here}
 
 pub after-push : (first : List (Held (List ℕ))) (calls : List Call) (call : Call) → after first (calls ++ call ∷ []) ≡ after_call (after first calls) call

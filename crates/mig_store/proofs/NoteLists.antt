@@ -1,15 +1,7 @@
 -- Calls whose bytes stand in one list.
-use Rattle.mig_base.proofs.Common.{◌≡◌, Bool, ◌≤◌, ◌<◌, ◌+◌, ◌-◌, ◌*◌, ◌++◌, ◌∷◌, [], ℕ, zero, suc, List, length, take, drop, get_or, All, cond, refl, sym, ◌∙◌, ap, subst, arith, length-append}
-use Rattle.mig_base.proofs.Common.{length-drop, count_by, take-append-le, take_all, length-map, map-append, All-append, sum_by-cons}
-use Rattle.std.specs.List.{slice_range}
-use Rattle.std.proofs.lemmas.List.{drop-append-le}
-use Rattle.std.proofs.Math.Seq.{drop-append_seam}
-use Rattle.mig_store.specs.declared.calls.Act.{Act}
-use Rattle.mig_store.specs.declared.calls.Note.{Note}
-use Rattle.mig_store.specs.declared.calls.Span.{Span}
-use Rattle.mig_store.specs.declared.calls.Act.TheVariants.{Write, Copy, Land, Sync}
-use Rattle.mig_store.specs.Calls.{Call, Recorded, call_with, call_of, calls_of, IsSpan, AreNoted}
-use Rattle.mig_store.specs.Ledgers.{is_sync}
+use Rattle.mig_store.proofs.Common.{Act, All, All-append, AreNoted, Bool, Call, Copy, IsSpan, Land, List, Note, Recorded, Span, Sync, Write, [], ap, arith, call_of, call_with, calls_of, cond}
+use Rattle.mig_store.proofs.Common.{count_by, drop, drop-append-le, drop-append_seam, get_or, is_sync, length, length-append, length-drop, length-map, map-append, refl, slice_range, subst, suc}
+use Rattle.mig_store.proofs.Common.{sum_by-cons, sym, take, take-append-le, take_all, zero, ℕ, ◌*◌, ◌++◌, ◌+◌, ◌-◌, ◌<◌, ◌∙◌, ◌∷◌, ◌≡◌, ◌≤◌}
 
 -- a part of a list stays the same where the list grows
 span_kept : (bytes more : List ℕ) (s : Span) → IsSpan (length bytes) s → slice_range (bytes ++ more) s.from s.to ≡ slice_range bytes s.from s.to

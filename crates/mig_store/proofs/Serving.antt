@@ -1,10 +1,8 @@
 -- What a store in memory tells after each kind of call.
-use Rattle.mig_base.proofs.Common.{◌≡◌, ◌<◌, ◌++◌, ◌∷◌, [], ℕ, zero, suc, Bool, true, false, not, cond, List, length, get_or, filter, IfSome, refl, sym, ◌∙◌, ap, subst, arith, append-nil, Contains}
-use Rattle.mig_base.proofs.Common.{IsPermutation, cell_len, Image, NoCell, IsCopy, SameBut, began, ended, is_flight, IsTargetOf, Changes, Ends, IsSettled}
-use Rattle.mig_store.proofs.Common.{Cell, Event, Flight, Call, Wrote, Copies, Lands, Synced, Held, Moment, Log, after, after_call, reads, MayLeave, flying, moment_of, IsMoment, state_at, Memory}
-use Rattle.mig_store.proofs.Common.{pushed, state_of}
-use Rattle.mig_base.proofs.Landing.{flights_began, ends_one_others, target_here, target_right}
-use Rattle.mig_base.proofs.Rounds.{contains_any}
+use Rattle.mig_store.proofs.Common.{Bool, Call, Cell, Changes, Contains, Copies, Ends, Event, Flight, Held, IfSome, Image, IsCopy, IsMoment, IsPermutation, IsSettled, IsTargetOf, Lands, List}
+use Rattle.mig_store.proofs.Common.{Log, MayLeave, Memory, Moment, NoCell, SameBut, Synced, Wrote, [], after, after_call, ap, append-nil, arith, began, cell_len, cond, contains_any, ended}
+use Rattle.mig_store.proofs.Common.{ends_one_others, false, filter, flights_began, flying, get_or, is_flight, length, moment_of, not, pushed, reads, refl, state_at, state_of, subst, suc, sym}
+use Rattle.mig_store.proofs.Common.{target_here, target_right, true, zero, ℕ, ◌++◌, ◌<◌, ◌∙◌, ◌∷◌, ◌≡◌}
 use Rattle.mig_store.proofs.Moments.{after-push, unrecorded, recorded}
 use Rattle.mig_store.proofs.Steps.{wrote_told, wrote_crash, wrote_shows, asked_told, asked_crash, landed_told, landed_crash, landed_copied, landed_flights, others_gone, synced_told, synced_crash, synced_settled}
 

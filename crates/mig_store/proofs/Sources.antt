@@ -1,7 +1,6 @@
 -- The bytes that a copy reads.
-use Rattle.mig_base.proofs.Common.{◌≡◌, ◌++◌, ◌∷◌, [], ℕ, Bool, List, length, Option, Some, None, IsSome, IfSome, refl, ◌∙◌, sym, ap, subst, false≢true, option_map, cell_len}
-use Rattle.mig_store.proofs.Common.{Cell, Flight, Entry, Held, Contents, Call, Copies, seen_all, held_at, Log, IsMoment, moment_of, reads, pushed}
-use Rattle.mig_store.specs.Asking.{bytes_at}
+use Rattle.mig_store.proofs.Common.{Bool, Call, Cell, Contents, Copies, Entry, Flight, Held, IfSome, IsMoment, IsSome, List, Log, None, Option, Some, [], ap, bytes_at, cell_len, false≢true}
+use Rattle.mig_store.proofs.Common.{held_at, length, moment_of, option_map, pushed, reads, refl, seen_all, subst, sym, ℕ, ◌++◌, ◌∙◌, ◌∷◌, ◌≡◌}
 use Rattle.mig_store.proofs.EntryLists.{reads_entry, reads_nothing}
 use Rattle.mig_store.proofs.Logs.{shown-length}
 

@@ -1,14 +1,9 @@
 -- What each kind of call in a record changes.
-use Rattle.mig_base.proofs.Common.{◌≡◌, ◌⊎◌, inl, inr, cond, ℕ, zero, suc, ◌<◌, Bool, true, false, not, List, [], ◌∷◌, ◌++◌, length, get_or, filter, Option, Some, None, IfSome, IsSome, refl, sym, ◌∙◌}
-use Rattle.mig_base.proofs.Common.{ap, subst, arith, option_map, IsSomeAnd, All, Contains, false≢true, All-append, All-contains, filter_passes, Contains-get_or, cell_len, Image, NoCell, SameBut}
-use Rattle.mig_base.proofs.Common.{IsCopy, is_flight, after_events, AreFlights, IsTargetOf, IsSourceOf}
-use Rattle.mig_store.proofs.Common.{Cell, Flight, Wrote, Copies, Lands, Synced, Contents, ask, land, settle, Moment, after_call, reads, MayLeave, flying, HaveLength, IsMoment}
-use Rattle.mig_base.specs.declared.cells.Event.TheVariants.{Began}
-use Rattle.mig_base.proofs.StoreSteps.{same_none, same_wider}
-use Rattle.mig_base.proofs.CellTests.{cases_cell}
-use Rattle.mig_base.proofs.Rounds.{any_contains, one_by}
-use Rattle.mig_base.proofs.Landing.{flights_began, flights_ended, flights_push, flights_filter, contains_kept, target_here, is_flight-same}
-use Rattle.mig_store.specs.Ledgers.{IsUnsettled, IsLaid}
+use Rattle.mig_store.proofs.Common.{All, All-append, All-contains, AreFlights, Began, Bool, Cell, Contains, Contains-get_or, Contents, Copies, Flight, HaveLength, IfSome, Image, IsCopy, IsLaid}
+use Rattle.mig_store.proofs.Common.{IsMoment, IsSome, IsSomeAnd, IsSourceOf, IsTargetOf, IsUnsettled, Lands, List, MayLeave, Moment, NoCell, None, Option, SameBut, Some, Synced, Wrote, []}
+use Rattle.mig_store.proofs.Common.{after_call, after_events, any_contains, ap, arith, ask, cases_cell, cell_len, cond, contains_kept, false, false≢true, filter, filter_passes, flights_began}
+use Rattle.mig_store.proofs.Common.{flights_ended, flights_filter, flights_push, flying, get_or, inl, inr, is_flight, is_flight-same, land, length, not, one_by, option_map, reads, refl}
+use Rattle.mig_store.proofs.Common.{same_none, same_wider, settle, subst, suc, sym, target_here, true, zero, ℕ, ◌++◌, ◌<◌, ◌∙◌, ◌∷◌, ◌≡◌, ◌⊎◌}
 use Rattle.mig_store.proofs.CellLists.{change_at-other, change_at-here}
 use Rattle.mig_store.proofs.Moments.{changed_lengths, changed_told, changed_crash, changed_laid}
 

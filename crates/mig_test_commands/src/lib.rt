@@ -26,3 +26,5 @@ mod rehearsing;
 mod rounds;
 #[cfg(test)]
 mod scarce_folder;
+#[cfg(test)]
+mod split_limits;

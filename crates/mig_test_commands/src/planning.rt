@@ -58,7 +58,7 @@ const IN_TWO: [&str; 2] = [
     "migration-plan 1\nrounds 2\nround 1 1\n*\nround 2 2\n*\n*\nend\n",
 ];
 
-static SETTLED: [Settled<'static>; 13] = [
+static SETTLED: [Settled<'static>; 18] = [
     Settled {
         cluster: THREE_ITEMS,
         forms: &IN_TWO,
@@ -114,6 +114,61 @@ static SETTLED: [Settled<'static>; 13] = [
         shifts: &["x a 0 b 1", "y b 0 c 1", "z c 0 a 1"],
         cert: "migration-certificate 1\nrounds 1\nquotient 1\nclass even\nbound disk a 2 2 1\nend\n",
         layout: "item,disk,slot\nx,b,1\ny,c,1\nz,a,1\n",
+    },
+    // an outgoing and an incoming limit for each disk: the three items reach b one after the other
+    Settled {
+        cluster: Cluster {
+            disks: "disk,out,in,slots\na,2,1,4\nb,1,1,4\n",
+            ..THREE_ITEMS
+        },
+        forms: &["migration-plan 1\nrounds 3\nround 1 1\n*\nround 2 1\n*\nround 3 1\n*\nend\n"],
+        shifts: &["x a 0 b 0", "y a 1 b 1", "z a 2 b 2"],
+        cert: "migration-certificate 2\nrounds 3\nquotient 3\nclass duplex\nbound side b in 3 1 3\nend\n",
+        layout: THREE_MOVED,
+    },
+    // both sides of the move need two rounds: that of the first disk is named, and there the outgoing one
+    Settled {
+        cluster: Cluster {
+            disks: "disk,out,in,slots\na,2,1,4\nb,1,2,4\n",
+            ..THREE_ITEMS
+        },
+        forms: &IN_TWO,
+        shifts: &["x a 0 b 0", "y a 1 b 1", "z a 2 b 2"],
+        cert: "migration-certificate 2\nrounds 2\nquotient 2\nclass duplex\nbound side a out 3 2 2\nend\n",
+        layout: THREE_MOVED,
+    },
+    // the triangle, each disk of which gives one and takes one at a time: one round
+    Settled {
+        cluster: Cluster {
+            disks: "disk,out,in,slots\na,1,1,2\nb,1,1,2\nc,1,1,2\n",
+            ..TRIANGLE
+        },
+        forms: &["migration-plan 1\nrounds 1\nround 1 3\n*\n*\n*\nend\n"],
+        shifts: &["x a 0 b 1", "y b 0 c 1", "z c 0 a 1"],
+        cert: "migration-certificate 2\nrounds 1\nquotient 1\nclass duplex\nbound side a out 1 1 1\nend\n",
+        layout: "item,disk,slot\nx,b,1\ny,c,1\nz,a,1\n",
+    },
+    // two items go one way and one the other, with limits that differ by the side: a gives two at a time
+    Settled {
+        cluster: Cluster {
+            disks: "disk,out,in,slots\na,2,1,4\nb,1,2,4\nc,1,1,4\n",
+            ..BOTH_WAYS
+        },
+        forms: &["migration-plan 1\nrounds 1\nround 1 3\n*\n*\n*\nend\n"],
+        shifts: &BOTH_WAYS_SHIFTS,
+        cert: "migration-certificate 2\nrounds 1\nquotient 1\nclass duplex\nbound side a out 2 2 1\nend\n",
+        layout: BOTH_WAYS_MOVED,
+    },
+    // nothing is to move
+    Settled {
+        cluster: Cluster {
+            disks: "disk,out,in,slots\na,2,3,4\n",
+            ..ONE_STAYS
+        },
+        forms: &[NO_ROUNDS],
+        shifts: &[],
+        cert: "migration-certificate 2\nrounds 0\nquotient 0\nclass duplex\nbound nothing\nend\n",
+        layout: "item,disk,slot\nx,a,0\n",
     },
     // a ring of five disks of limit 1
     Settled {

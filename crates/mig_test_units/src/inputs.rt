@@ -1,6 +1,6 @@
 //! Inputs as their three files have them, and why files are refused.
 
-use mig_base::{DiskId, Name, Spot};
+use mig_base::{DiskId, Limits, Name, Spot};
 use mig_csv::{FileKind, InputError, Why, read_input, read_layout};
 use std::alloc::{AllocError, Global};
 use std::panic::Expect;
@@ -198,7 +198,7 @@ fn are_three_to_b(alloc: Global, disks: &[u8], now: &[u8], next: &[u8]) -> bool 
     for (k, bytes) in [b"a", b"b"].iter().enumerate() {
         let disk = input.disks().get(k);
         found &= disk.map(|d| d.name.bytes() == bytes.as_slice()) == Some(true);
-        found &= disk.map(|d| d.limit == 2 && d.slots == 4) == Some(true);
+        found &= disk.map(|d| d.limits == Limits::Joint { limit: 2 } && d.slots == 4) == Some(true);
     }
     found
 }

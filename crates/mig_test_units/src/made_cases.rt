@@ -1,13 +1,15 @@
 //! Cases that are made from three numbers.
 
-use mig_base::{DiskId, Input};
+use mig_base::{DiskId, Input, Limits};
 use mig_gen::{is_case_size, make_case};
 
 // Whether the input's disks have these names, each with this limit and so many slots.
 fn has_disks(input: &Input, names: &[&[u8]], limit: u32, slots: u32) -> bool {
     input.disks().len() == names.len()
         && input.disks().iter().zip(names).all(|(disk, name)| {
-            disk.name.bytes() == *name && disk.limit == limit && disk.slots == slots
+            disk.name.bytes() == *name
+                && disk.limits == Limits::Joint { limit }
+                && disk.slots == slots
         })
 }
 

@@ -1,12 +1,7 @@
 -- Where a text is cut.
-use Rattle.std.proofs.Common.{◌≡◌, ◌∷◌, [], ◌+◌, ◌-◌, ◌<◌, ◌≤◌, ℕ, Bool, true, false, List, Option, Some, None, length, position, take, drop, cond, arith, ap, sym, ◌∙◌, refl, ◌==◌, Bor, not, is_some}
-use Rattle.std.specs.Option.{option_map_or}
-use Rattle.std.specs.List.{slice_split, position_or_len}
-use Rattle.std.proofs.lemmas.Bool.Decides.{nat_tests}
-use Rattle.std.proofs.lemmas.List.{take_all, length-drop}
-use Rattle.std.proofs.lemmas.List.Splits.{slice_split_first, slice_split_none, length-slice_split}
-use Rattle.std.proofs.lemmas.List.Sums.{fails_before_first}
-use Rattle.std.proofs.lemmas.Option.{cond_some}
+use Rattle.mig_text.proofs.Common.{Bool, Bor, List, None, Option, Some, [], ap, arith, cond, cond_some, drop, fails_before_first, false, is_some, length, length-drop, length-slice_split}
+use Rattle.mig_text.proofs.Common.{nat_tests, not, option_map_or, position, position_or_len, refl, slice_split, slice_split_first, slice_split_none, sym, take, take_all, true, ℕ, ◌+◌, ◌-◌, ◌<◌}
+use Rattle.mig_text.proofs.Common.{◌==◌, ◌∙◌, ◌∷◌, ◌≡◌, ◌≤◌}
 
 module _ (p : ℕ → Bool) (xs : List ℕ) where
   pub split_at : (i : ℕ) → position p xs ≡ Some i → slice_split p xs ≡ take i xs ∷ slice_split p (take (length xs - (i + 1)) (drop (i + 1) xs))

@@ -1,6 +1,5 @@
 -- Elements that are different.
-use Rattle.mig_base.proofs.Common.{◌≡◌, ◌++◌, ◌∷◌, ◌<◌, List, Contains, length, arith, sym, subst, ◌∙◌, length-append, get_or-append_seam, AreDifferent}
-use Rattle.std.proofs.Math.ListN.{get_or-append}
+use Rattle.mig_text.proofs.Common.{AreDifferent, Contains, List, arith, get_or-append, get_or-append_seam, length, length-append, subst, sym, ◌++◌, ◌<◌, ◌∙◌, ◌∷◌, ◌≡◌}
 
 -- one of them isn't among those before it
 pub not_before : {X : Type 0} (a : List X) (x : X) (rest : List X) → AreDifferent (a ++ x ∷ rest) → Contains a x → ⊥

@@ -10,3 +10,4 @@ pub mod ShiftCounts
 pub mod ShiftLines
 pub mod Stops
 pub mod Tables
+pub mod Common

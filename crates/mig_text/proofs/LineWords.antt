@@ -1,14 +1,8 @@
 -- A line is read through its words.
-use Rattle.mig_base.proofs.Common.{◌≡◌, ◌≢◌, ◌≤◌, ◌<◌, ◌^◌, ◌∷◌, ◌==◌, ℕ, List, [], Option, Some, None, MatchOption, codes, length, arith, ap, sym, refl, ◌∙◌, AllByRecursion, decimal, Lists, IsInput}
-use Rattle.mig_base.proofs.Common.{disk_name, shift_line, words, ShiftFits}
-use Rattle.mig_base.specs.declared.ids.Shift.{Shift}
-use Rattle.mig_base.specs.declared.limits.TheConstants.{MAX_SHIFTS, MAX_SLOTS}
-use Rattle.std.specs.List.{slice_split}
-use Rattle.mig_base.proofs.Separators.{Lacks, Lacks-decimal}
-use Rattle.mig_base.proofs.Spelling.{lacks_test, round_lacks, words_lack}
+use Rattle.mig_text.proofs.Common.{AllByRecursion, HasNoBlank, IsInput, Lacks, Lacks-decimal, List, Lists, MAX_SHIFTS, MAX_SLOTS, MatchOption, None, Option, Shift, ShiftFits, Some, [], ap, arith}
+use Rattle.mig_text.proofs.Common.{codes, decimal, disk_name, lacks_test, length, refl, round_lacks, shift_line, shift_words, slice_split, sym, words, words_lack, ℕ, ◌<◌, ◌==◌, ◌^◌, ◌∙◌, ◌∷◌}
+use Rattle.mig_text.proofs.Common.{◌≡◌, ◌≢◌, ◌≤◌}
 use Rattle.mig_text.proofs.Places.{split_words, words_split}
-use Rattle.mig_text.specs.PlanParts.{shift_words}
-use Rattle.mig_text.specs.Reads.{HasNoBlank}
 
 -- the words of a line
 abbrev pub words_of : List ℕ → List (List ℕ)

@@ -1,12 +1,7 @@
 -- The words of numbers.
-use Rattle.mig_base.proofs.Common.{◌≡◌, ◌≢◌, ◌≤◌, ◌<◌, ◌^◌, ◌*◌, ◌+◌, ◌-◌, ℕ, zero, suc, List, [], ◌∷◌, length, get_or, arith, ap, refl, sym, ◌∙◌, ◌++◌, ◌/◌, ◌%◌, append_assoc, IsTrue, subst, All}
-use Rattle.mig_base.proofs.Common.{inl, inr, decimal, cases_lt, nat_tests, length-decimal-le, number_of}
-use Rattle.std.proofs.Common.{fold}
-use Rattle.std.specs.Char.{is_ascii_digit}
-use Rattle.std.specs.Int.{IsInRange}
-use Rattle.std.proofs.lemmas.Str.Parse.{IsDigitsTest, FoldsDigits, IsNumeralModel, numerals_by_fold}
-use Rattle.std.proofs.lemmas.Fmt.{decimal_step, decimal-digits_value, digits_value-decimal, digits_decimal, decimal_nonempty, first_decimal, decimal_digit}
-use Rattle.mig_text.specs.Digits.{IsNumeralWord}
+use Rattle.mig_text.proofs.Common.{All, FoldsDigits, IsDigitsTest, IsInRange, IsNumeralModel, IsNumeralWord, IsTrue, List, [], ap, append_assoc, arith, cases_lt, decimal, decimal-digits_value}
+use Rattle.mig_text.proofs.Common.{decimal_digit, decimal_nonempty, decimal_step, digits_decimal, digits_value-decimal, first_decimal, fold, get_or, inl, inr, is_ascii_digit, length}
+use Rattle.mig_text.proofs.Common.{length-decimal-le, nat_tests, number_of, numerals_by_fold, refl, subst, suc, sym, zero, ℕ, ◌%◌, ◌*◌, ◌++◌, ◌+◌, ◌-◌, ◌/◌, ◌<◌, ◌^◌, ◌∙◌, ◌∷◌, ◌≡◌, ◌≢◌, ◌≤◌}
 
 abbrev AreDigits : List ℕ → Type 0
 AreDigits word = All (λ c. IsTrue (is_ascii_digit c)) word

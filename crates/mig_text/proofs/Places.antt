@@ -1,10 +1,7 @@
 -- A text whose pieces all fit has no misfit.
-use Rattle.mig_base.proofs.Common.{◌≡◌, ◌≢◌, ◌==◌, eqb, ℕ, ◌+◌, false, List, [], ◌∷◌, ◌++◌, length, refl, sym, ap, subst, ◌∙◌, arith, append_assoc, length-append, AllByRecursion, nat_tests, eq-eqb}
-use Rattle.mig_base.proofs.Common.{text_of_lines, words, Leads, Stops, IsMisfit, pieces}
-use Rattle.std.specs.List.{slice_split}
-use Rattle.std.proofs.lemmas.List.Splits.{slice_split_none, slice_split_at, join_with_byte-slice_split}
-use Rattle.std.proofs.lemmas.List.Elements.{All-from_recursion}
-use Rattle.mig_base.proofs.Separators.{Lacks, after_line}
+use Rattle.mig_text.proofs.Common.{All-from_recursion, AllByRecursion, IsMisfit, Lacks, Leads, List, Stops, [], after_line, ap, append_assoc, arith, eq-eqb, eqb, false}
+use Rattle.mig_text.proofs.Common.{join_with_byte-slice_split, length, length-append, nat_tests, pieces, refl, slice_split, slice_split_at, slice_split_none, subst, sym, text_of_lines, words, ℕ}
+use Rattle.mig_text.proofs.Common.{◌++◌, ◌+◌, ◌==◌, ◌∙◌, ◌∷◌, ◌≡◌, ◌≢◌}
 
 module _ {P : Type 0} (Next : P → List ℕ → P → Type 0) where
   pub Leads-append : (a b c : P) (xs ys : List (List ℕ)) → Leads Next a xs b → Leads Next b ys c → Leads Next a (xs ++ ys) c

@@ -1,9 +1,7 @@
 -- How long the text of a plan is.
-use Rattle.mig_base.proofs.Common.{◌≡◌, ◌≤◌, ◌<◌, ◌^◌, ◌+◌, ◌*◌, ℕ, List, [], ◌∷◌, ◌++◌, length, map, codes, All, ap, ◌∙◌, arith, length-append, AllByRecursion, decimal, length-decimal-le}
-use Rattle.mig_base.proofs.Common.{recursion_from_All, Lists, IsInput, no_disk, ShiftFits, PlanText, item_name, disk_name, words, shift_line, round_lines, text_of_lines}
-use Rattle.mig_base.specs.declared.ids.Shift.{Shift}
-use Rattle.mig_base.specs.declared.limits.TheConstants.{MAX_ROUNDS}
-use Rattle.mig_text.specs.PlanParts.{head_line}
+use Rattle.mig_text.proofs.Common.{All, AllByRecursion, IsInput, List, Lists, MAX_ROUNDS, PlanText, Shift, ShiftFits, [], ap, arith, codes, decimal, disk_name, head_line, item_name, length}
+use Rattle.mig_text.proofs.Common.{length-append, length-decimal-le, map, no_disk, recursion_from_All, round_lines, shift_line, text_of_lines, words, ℕ, ◌*◌, ◌++◌, ◌+◌, ◌<◌, ◌^◌, ◌∙◌, ◌∷◌, ◌≡◌}
+use Rattle.mig_text.proofs.Common.{◌≤◌}
 
 pub text_cons : (l : List ℕ) (ls : List (List ℕ)) → length (text_of_lines (l ∷ ls)) ≡ length l + 1 + length (text_of_lines ls)
 text_cons l ls = omega (arith, length-append (l ++ 10 ∷ []) (text_of_lines ls), length-append l (10 ∷ []))

@@ -1,13 +1,8 @@
 -- The lines of a plan fit their places.
-use Rattle.mig_base.proofs.Common.{◌≡◌, ℕ, suc, ◌+◌, ◌<◌, ◌≤◌, List, [], ◌∷◌, ◌++◌, length, refl, sym, ap, subst, ◌∙◌, arith, map, codes, append_assoc, inl, inr, AllByRecursion, decimal}
-use Rattle.mig_base.proofs.Common.{decimal_injective, cases_lt, Lists, IsInput, words, shift_line, round_lines, plan_lines, PlanText, ShiftFits, PlanFits, Leads, IsLine, pieces}
-use Rattle.mig_base.specs.declared.ids.Shift.{Shift}
-use Rattle.mig_base.specs.declared.limits.TheConstants.{MAX_FILE_BYTES, MAX_ROUNDS, MAX_SHIFTS}
-use Rattle.std.proofs.Common.{add-zero}
-use Rattle.mig_base.specs.PlanLines.{PlanPlace, Title, Total, Head, Move, End, Last, Over, before_rounds, before_shifts, PlanNext}
-use Rattle.mig_base.proofs.Separators.{same_words, Lacks-decimal}
-use Rattle.mig_base.proofs.Spelling.{plan_lacks, are_fitting, rounds_word_lacks}
-use Rattle.mig_text.specs.PlanParts.{head_line}
+use Rattle.mig_text.proofs.Common.{AllByRecursion, End, Head, IsInput, IsLine, Lacks-decimal, Last, Leads, List, Lists, MAX_FILE_BYTES, MAX_ROUNDS, MAX_SHIFTS, Move, Over, PlanFits, PlanNext}
+use Rattle.mig_text.proofs.Common.{PlanPlace, PlanText, Shift, ShiftFits, Title, Total, [], add-zero, ap, append_assoc, are_fitting, arith, before_rounds, before_shifts, cases_lt, codes, decimal}
+use Rattle.mig_text.proofs.Common.{decimal_injective, head_line, inl, inr, length, map, pieces, plan_lacks, plan_lines, refl, round_lines, rounds_word_lacks, same_words, shift_line, subst, suc}
+use Rattle.mig_text.proofs.Common.{sym, words, ℕ, ◌++◌, ◌+◌, ◌<◌, ◌∙◌, ◌∷◌, ◌≡◌, ◌≤◌}
 use Rattle.mig_text.proofs.Places.{Leads-append, no_misfit, pieces_of_lines}
 
 same_total : (m n : ℕ) → m ≤ MAX_ROUNDS → n ≤ MAX_ROUNDS → words (codes "rounds" ∷ decimal m ∷ []) ≡ words (codes "rounds" ∷ decimal n ∷ []) → m ≡ n

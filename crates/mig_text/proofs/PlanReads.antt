@@ -1,18 +1,11 @@
 -- The reading of a plan, part by part.
-use Rattle.mig_base.proofs.Common.{◌≡◌, ◌≢◌, ◌≤◌, ◌<◌, ◌+◌, ◌-◌, ◌∷◌, ◌++◌, ℕ, suc, List, [], length, map, codes, All, arith, ap, sym, refl, subst, ◌∙◌, append_assoc, append-nil, length-append}
-use Rattle.mig_base.proofs.Common.{Result, Ok, Err, IfOk, inl, inr, AllByRecursion, decimal, All-push, recursion_from_All, map-append, Lists, IsInput, PlanText, shift_line, words, round_lines}
-use Rattle.mig_base.proofs.Common.{plan_lines, text_of_lines, ShiftFits, PlanFits, Leads, Stops, IsMisfit, IsLine, pieces}
-use Rattle.mig_base.specs.declared.ids.Shift.{Shift}
-use Rattle.mig_base.specs.declared.limits.TheConstants.{MAX_FILE_BYTES, MAX_ROUNDS, MAX_SHIFTS}
-use Rattle.std.specs.List.{join_with_byte}
-use Rattle.std.proofs.lemmas.List.Splits.{join_with_byte-slice_split}
-use Rattle.mig_base.specs.PlanLines.{Title, Total, Head, Move, End, Last, Over, before_rounds, before_shifts, PlanNext, PlanLine}
-use Rattle.mig_base.proofs.Separators.{after_line}
+use Rattle.mig_text.proofs.Common.{All, All-push, AllByRecursion, AreRoundsRead, End, EndsWrong, Err, Head, IfLine, IfOk, IsCountUpTo, IsHeadLine, IsInput, IsLine, IsMisfit, IsMiss, IsPlanOpened}
+use Rattle.mig_text.proofs.Common.{IsRoundPart, IsRoundRead, IsShiftLine, IsStop, Last, Leads, Left, List, Lists, MAX_FILE_BYTES, MAX_ROUNDS, MAX_SHIFTS, Move, Ok, Over, PlanFits, PlanLine}
+use Rattle.mig_text.proofs.Common.{PlanNext, PlanText, Result, Shift, ShiftFits, Stops, TextError, Title, Took, TookAll, Total, [], after_line, ap, append-nil, append_assoc, arith, before_rounds}
+use Rattle.mig_text.proofs.Common.{before_shifts, codes, decimal, head_line, inl, inr, join_with_byte, join_with_byte-slice_split, length, length-append, map, map-append, pieces, plan_lines}
+use Rattle.mig_text.proofs.Common.{recursion_from_All, refl, round_lines, shift_line, subst, suc, sym, text_of_lines, words, ℕ, ◌++◌, ◌+◌, ◌-◌, ◌<◌, ◌∙◌, ◌∷◌, ◌≡◌, ◌≢◌, ◌≤◌}
 use Rattle.mig_text.proofs.PlanPlaces.{rounds_lead, line_no_plan}
-use Rattle.mig_text.specs.declared.errors.TextError.{TextError}
 use Rattle.mig_text.specs.declared.errors.TextError.TheVariants as text_error
-use Rattle.mig_text.specs.Reads.{Left, Took, TookAll, IsMiss, IsStop, IsCountUpTo, IfLine, EndsWrong}
-use Rattle.mig_text.specs.PlanParts.{head_line, IsHeadLine, IsShiftLine, IsPlanOpened, IsRoundRead, IsRoundPart, AreRoundsRead}
 use Rattle.mig_text.proofs.Stops.{took_none, took_one, took_both, took_next, miss_stops, later_stops}
 
 module _ (input : Lists) where

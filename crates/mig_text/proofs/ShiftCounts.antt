@@ -1,10 +1,7 @@
 -- A plan that moves each relocated item once has at most as many shifts as there are items.
-use Rattle.mig_base.proofs.Common.{◌≡◌, ◌≤◌, ◌<◌, ◌+◌, eqb, ℕ, zero, suc, Bool, true, false, cond, List, [], ◌∷◌, length, All, get_or, refl, ap, ◌∙◌, arith, sum_by, count_by, inl, inr, subst}
-use Rattle.mig_base.proofs.Common.{AllByRecursion, range_with_len, length-range_with_len, get_or-range_with_len, get_or_default, sum_by-cons, length-decimal-le, recursion_from_All, cases_lt}
-use Rattle.mig_base.proofs.Common.{nat_tests, Lists, IsInput, is_relocated, Runs, Once, ShiftFits, is_of, shift_count, PlanText}
-use Rattle.mig_base.specs.declared.ids.Shift.{Shift}
-use Rattle.mig_base.specs.declared.limits.TheConstants.{MAX_FILE_BYTES}
-use Rattle.mig_base.proofs.Counting.{sum_by-le_each, sum_by-swap, one}
+use Rattle.mig_text.proofs.Common.{All, AllByRecursion, Bool, IsInput, List, Lists, MAX_FILE_BYTES, Once, PlanText, Runs, Shift, ShiftFits, [], ap, arith, cases_lt, cond, count_by, eqb, false}
+use Rattle.mig_text.proofs.Common.{get_or, get_or-range_with_len, get_or_default, inl, inr, is_of, is_relocated, length, length-decimal-le, length-range_with_len, nat_tests, one, range_with_len}
+use Rattle.mig_text.proofs.Common.{recursion_from_All, refl, shift_count, subst, suc, sum_by, sum_by-cons, sum_by-le_each, sum_by-swap, true, zero, ℕ, ◌+◌, ◌<◌, ◌∙◌, ◌∷◌, ◌≡◌, ◌≤◌}
 use Rattle.mig_text.proofs.PlanLengths.{shifts_in, plan_length}
 
 abbrev ones : {X : Type 0} → List X → ℕ

@@ -1,8 +1,6 @@
 -- The text of a plan has a line for each shift, and so at least as many bytes as the plan has shifts.
-use Rattle.mig_base.proofs.Common.{◌≡◌, ◌≤◌, ◌+◌, ℕ, List, [], ◌∷◌, ◌++◌, length, map, codes, ap, arith, length-append, decimal, Lists, shifts_of, PlanText, words, shift_line, round_lines}
-use Rattle.mig_base.proofs.Common.{text_of_lines}
-use Rattle.mig_base.specs.declared.ids.Shift.{Shift}
-use Rattle.mig_text.specs.PlanParts.{head_line}
+use Rattle.mig_text.proofs.Common.{List, Lists, PlanText, Shift, [], ap, arith, codes, decimal, head_line, length, length-append, map, round_lines, shift_line, shifts_of, text_of_lines, words, ℕ}
+use Rattle.mig_text.proofs.Common.{◌++◌, ◌+◌, ◌∷◌, ◌≡◌, ◌≤◌}
 use Rattle.mig_text.proofs.PlanLengths.{text_cons, text_append}
 
 shifts_cons : (round : List Shift) (rounds : List (List Shift)) → length (shifts_of (round ∷ rounds)) ≡ length round + length (shifts_of rounds)

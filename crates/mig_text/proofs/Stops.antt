@@ -1,9 +1,8 @@
 -- Where the reading of lines stops.
-use Rattle.mig_base.proofs.Common.{◌≢◌, ◌+◌, ◌∷◌, ◌++◌, ℕ, List, [], length, arith, ap, sym, refl, subst, ◌∙◌, append_assoc, length-append, Leads, Stops, IsMisfit}
-use Rattle.mig_text.specs.declared.errors.TextError.{TextError}
+use Rattle.mig_text.proofs.Common.{IsMisfit, IsMiss, IsStop, Leads, Left, List, Misses, Stops, TextError, Took, TookAll, [], ap, append_assoc, arith, length, length-append, refl, subst, sym, ℕ}
+use Rattle.mig_text.proofs.Common.{◌++◌, ◌+◌, ◌∙◌, ◌∷◌, ◌≢◌}
 use Rattle.mig_text.specs.declared.errors.TextError.TheVariants as text_error
 use Rattle.mig_text.proofs.Places.{later_misfit}
-use Rattle.mig_text.specs.Reads.{Left, Took, TookAll, Misses, IsMiss, IsStop}
 
 pub took_none : (old : Left) → TookAll old [] old
 took_none old = record { cut = refl; number = omega arith }

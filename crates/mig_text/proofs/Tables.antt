@@ -1,11 +1,7 @@
 -- Disks by name.
-use Rattle.mig_base.proofs.Common.{◌≡◌, ◌≢◌, ◌<◌, ◌++◌, ◌∷◌, ℕ, List, [], Some, All, Contains, length, map, slice_get, get_or, drop, suc, arith, ap, sym, ◌∙◌, length-map, slice_get_within}
-use Rattle.mig_base.proofs.Common.{get_or_from_slice_get, IsName, AreDifferent, Lists, IsInput, no_disk, disk_name}
-use Rattle.mig_base.specs.declared.inputs.Disk.{Disk}
-use Rattle.std.proofs.Math.Seq.{drop-cons}
+use Rattle.mig_text.proofs.Common.{All, AreDifferent, Contains, Disk, IsInput, IsName, List, Lists, Name, Some, [], ap, arith, disk_name, drop, drop-cons, get_or, get_or-map}
+use Rattle.mig_text.proofs.Common.{get_or_from_slice_get, length, length-map, map, no_disk, slice_get, slice_get_within, suc, sym, ℕ, ◌++◌, ◌<◌, ◌∙◌, ◌∷◌, ◌≡◌, ◌≢◌}
 use Rattle.std.proofs.lemmas.List as lists
-use Rattle.std.proofs.Math.ListN.{get_or-map}
-use Rattle.mig_base.specs.declared.names.Name.{Name}
 use Rattle.mig_text.proofs.Different.{not_before_in}
 
 abbrev pub name_of_disk : Disk → Name

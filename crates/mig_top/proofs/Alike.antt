@@ -1,13 +1,10 @@
 -- Bytes that are alike are read alike: where a file is too long, that is the first thing that is wrong with it.
-use Rattle.std.proofs.Common.{length-take}
-use Rattle.mig_top.proofs.Common.{Accepted, Accepted-short, Bodies, CertLine, CertText, Fault, FileKind, Found, IsFinding, IsFirstOf, IsRefusalBy, Step, IsListing, IsNoCert, IsNoPlan, LayoutBodies}
-use Rattle.mig_top.proofs.Common.{List, ListingFault, ListingRefusedAs, Lists, MAX_FILE_BYTES, NotSpelled, Outcome, PlanLine, PlanText, Precedes, Reader, Refused, RefusedAs, Roomy, Why, ap, arith}
-use Rattle.mig_top.proofs.Common.{cases_lt, file_of, inl, inr, length, rank_of, reads_cert, reads_input, reads_layout, reads_plan, refl, stage_of, subst, suc, sym, take, take_all, zero, ℕ, ◌+◌, ◌<◌}
-use Rattle.mig_top.proofs.Common.{◌∙◌, ◌≡◌, ◌≤◌}
-use Rattle.mig_base.specs.declared.faults.FileKind.TheVariants.{Disks, Now, Next}
+use Rattle.mig_top.proofs.Common.{Accepted, Accepted-short, Alike, AreReadAlike, Bodies, CertLine, CertText, Disks, Fault, FileKind, Found, IsFinding, IsFirstOf, IsListing, IsNoCert, IsNoPlan}
+use Rattle.mig_top.proofs.Common.{IsRefusalBy, IsSame, LayoutBodies, List, ListingFault, ListingRefusedAs, Lists, MAX_FILE_BYTES, Next, NotSpelled, Now, Outcome, PlanLine, PlanText, Precedes}
+use Rattle.mig_top.proofs.Common.{Reader, Refused, RefusedAs, Roomy, Step, Why, ap, arith, cases_lt, inl, inr, length, length-take, rank_of, reads_cert, reads_input, reads_layout, reads_plan}
+use Rattle.mig_top.proofs.Common.{refl, stage_of, subst, suc, sym, take, take_all, zero, ℕ, ◌+◌, ◌<◌, ◌∙◌, ◌≡◌, ◌≤◌}
 use Rattle.mig_base.specs.declared.faults.Why.TheVariants as why
 use Rattle.mig_words.specs.declared.endings.TextFile.TheVariants as text_file
-use Rattle.mig_top.specs.Alike.{Alike, AreReadAlike, IsSame}
 
 alike_sym : (a b : List ℕ) → Alike a b → Alike b a
 alike_sym a b (inl same) = inl (sym same)
@@ -106,22 +103,16 @@ module _ (a b : FileKind → ℕ → Why → Type 0) (g : FileKind)
 
 -- Inputs
 
--- files of which one is too long, beside others with the same faults before it
-carried : (a b : Bodies) (g : FileKind) → ((k : FileKind) (m : ℕ) (v : Why) → stage_of k v < stage_of g why.TooLong → Fault a k m v → Fault b k m v)
-    → ((k : FileKind) (m : ℕ) (v : Why) → stage_of k v < stage_of g why.TooLong → Fault b k m v → Fault a k m v)
-    → MAX_FILE_BYTES < length (file_of a g) → MAX_FILE_BYTES < length (file_of b g) → (f : FileKind) (r : ℕ) (w : Why) → RefusedAs a f r w → RefusedAs b f r w
-carried a b g to back long_a long_b f r w h = carried_first (Fault a) (Fault b) g to back (refl, long_a) (refl, long_b) f r w h
-
 abbrev three : (disks now next : List ℕ) → Bodies
 three disks now next = record { disks = disks; now = now; next = next }
 
 refused : (d n x e m y : List ℕ) → Alike d e → Alike n m → Alike x y → (f : FileKind) (r : ℕ) (w : Why) → RefusedAs (three d n x) f r w → RefusedAs (three e m y) f r w
 refused d n x e m y (inr long) second third f r w h =
-    carried (three d n x) (three e m y) Disks (λ k i v lt q. absurd (omega (arith, lt))) (λ k i v lt q. absurd (omega (arith, lt))) long.0 long.1 f r w h
+    carried_first (Fault (three d n x)) (Fault (three e m y)) Disks (λ k i v lt q. absurd (omega (arith, lt))) (λ k i v lt q. absurd (omega (arith, lt))) (refl, long.0) (refl, long.1) f r w h
 refused d n x e m y (inl same) (inr long) third f r w h = subst (λ (b : List ℕ). RefusedAs (three b m y) f r w) same
-    (carried (three d n x) (three d m y) Now (λ k i v lt q. disks_alone d n x m y k i v lt q) (λ k i v lt q. disks_alone d m y n x k i v lt q) long.0 long.1 f r w h)
+    (carried_first (Fault (three d n x)) (Fault (three d m y)) Now (disks_alone d n x m y) (disks_alone d m y n x) (refl, long.0) (refl, long.1) f r w h)
 refused d n x e m y (inl same) (inl also) (inr long) f r w h = subst (λ (b : List ℕ). RefusedAs (three b m y) f r w) same (subst (λ (b : List ℕ). RefusedAs (three d b y) f r w) also
-    (carried (three d n x) (three d n y) Next (λ k i v lt q. next_apart d n x y k i v lt q) (λ k i v lt q. next_apart d n y x k i v lt q) long.0 long.1 f r w h))
+    (carried_first (Fault (three d n x)) (Fault (three d n y)) Next (next_apart d n x y) (next_apart d n y x) (refl, long.0) (refl, long.1) f r w h))
 refused d n x e m y (inl same) (inl also) (inl too) f r w h =
     subst (λ (b : List ℕ). RefusedAs (three b m y) f r w) same (subst (λ (b : List ℕ). RefusedAs (three d b y) f r w) also (subst (λ (b : List ℕ). RefusedAs (three d n b) f r w) too h))
 
@@ -172,7 +163,7 @@ listing_refused : (d n e m : List ℕ) → Alike d e → Alike n m → (f : File
 listing_refused d n e m (inr long) second f r w h =
     carried_first (ListingFault d n) (ListingFault e m) Disks (λ k i v lt q. absurd (omega (arith, lt))) (λ k i v lt q. absurd (omega (arith, lt))) (refl, long.0) (refl, long.1) f r w h
 listing_refused d n e m (inl same) (inr long) f r w h = subst (λ (b : List ℕ). ListingRefusedAs b m f r w) same
-    (carried_first (ListingFault d n) (ListingFault d m) Now (λ k i v lt q. disks_apart d n m k i v lt q) (λ k i v lt q. disks_apart d m n k i v lt q) (refl, long.0) (refl, long.1) f r w h)
+    (carried_first (ListingFault d n) (ListingFault d m) Now (disks_apart d n m) (disks_apart d m n) (refl, long.0) (refl, long.1) f r w h)
 listing_refused d n e m (inl same) (inl also) f r w h = subst (λ (b : List ℕ). ListingRefusedAs b m f r w) same (subst (λ (b : List ℕ). ListingRefusedAs d b f r w) also h)
 
 module _ (a b : LayoutBodies) (disks : Alike a.disks b.disks) (now : Alike a.now b.now) where

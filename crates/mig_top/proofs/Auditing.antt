@@ -1,9 +1,120 @@
--- How `audit` ends.
-use Rattle.mig_top.proofs.Common.{AreOfLayout, Audit, Call, Done, Extends, ExtendsInPart, FormEndsAs, HavePutSights, IsAudit, List, Lists, Looks, Rose, Shows, SinkFault, SinkState, SinkStops}
-use Rattle.mig_top.proofs.Common.{StoreFault, StoreStops, Untouched, WorldEnds, arith, begins_more, codes, inl, inr, length, refl, sight_count, then_begins, then_extends, ℕ, ◌++◌, ◌≡◌, ◌≤◌, ⊎_elim}
+-- The lines of an audit, and how `audit` ends.
+use Rattle.mig_top.proofs.Common.{AreOfLayout, AreSightLines, Audit, AuditStops, Bool, Call, Cell, Done, Extends, ExtendsInPart, Flight, FormEndsAs, HasHeader, HasPutSight, HavePutSights, IfSome}
+use Rattle.mig_top.proofs.Common.{IsAudit, IsMoving, IsSightOf, IsTargetOf, List, Lists, Looks, MatchBool, NoCell, None, Option, Rose, Shows, Sight, SightStops, SinkFault, SinkState, SinkStops}
+use Rattle.mig_top.proofs.Common.{Some, State, Stop, StoreFault, StoreStops, Untouched, WorldEnds, [], append-nil, append_assoc, arith, begins_more, bytes_eq, bytes_eq-Decides, changes_then}
+use Rattle.mig_top.proofs.Common.{changes_wider, codes, false, false≢true, flights_same, header_of, if◌then◌else◌, inl, inr, item_cell, item_name, length, puts_nothing, refl, sha256, sight_count}
+use Rattle.mig_top.proofs.Common.{sight_line, subst, suc, sym, take, then_begins, then_extends, true, zero, ℕ, ⊎_elim, ◌++◌, ◌+◌, ◌-◌, ◌<◌, ◌∙◌, ◌≡◌, ◌≤◌}
 use Rattle.mig_top.proofs.EndsOf.{shown}
-use Rattle.mig_top.proofs.Sightings.{whole_audit}
 use Rattle.mig_top.proofs.Steps.{if_map}
+use Rattle.mig_top.specs.declared.audit_command.Stop.TheVariants as stop
+
+-- what is seen of an item is seen at the beginning, where nothing was written since
+module _ (old mid : State) (looks : Looks old mid) where
+  moving : (cell : Cell) → IsMoving mid cell → IsMoving old cell
+  moving cell h = (h.0, subst (λ (fs : List Flight). IsTargetOf fs cell) (flights_same old mid looks.events) h.1)
+
+  pub seen_before : (input : Lists) (item : ℕ) (sight : Sight) → IsSightOf input mid item sight → IsSightOf input old item sight
+  seen_before input item sight h = record {
+    named = λ still. rw (looks.told.same (item_cell input item) still) at (h.named (λ m. still (moving (item_cell input item) m)));
+    digest = λ still. rw (looks.told.same (item_cell input item) still) at (h.digest (λ m. still (moving (item_cell input item) m)));
+  }
+
+  pub looks_then : (new : State) → Looks mid new → Looks old new
+  looks_then new more = changes_then (IsMoving old) NoCell [] [] old mid new looks (changes_wider (IsMoving old) NoCell (IsMoving mid) NoCell moving (λ cell none. none) [] mid new more)
+
+-- Line by line
+
+pub no_lines : (input : Lists) (store : State) (out : SinkState) → HavePutSights input store 0 out out 0
+no_lines input store out = record { lines = []; are = (refl, refl); put = (puts_nothing out).extended; few = omega arith }
+
+-- one more is counted where it is named
+count_few : (here item : ℕ) (named : Bool) → here ≤ item → here + (if named then 1 else 0) ≤ item + 1
+count_few here item true few = omega arith
+count_few here item false few = omega arith
+
+module _ (input : Lists) (old mid : State) (looks : Looks old mid) (item : ℕ) (first out : SinkState) (here : ℕ) (lines : HavePutSights input old item first out here) where
+  more_are : (sight : Sight) → IsSightOf input mid item sight → AreSightLines input old (suc item) (lines.lines ++ sight_line input item sight) (here + (if sight.named then 1 else 0))
+  more_are sight seen = (lines.lines, here, sight, lines.are, seen_before old mid looks input item sight seen, refl, refl)
+
+  -- the line of the next item was put
+  pub line_more : (new : SinkState) (named : Bool) → HasPutSight input mid item out new named → HavePutSights input old (item + 1) first new (here + (if named then 1 else 0))
+  line_more new named h = record {
+    lines = lines.lines ++ sight_line input item h.sight;
+    are = subst (λ (n : ℕ). AreSightLines input old n (lines.lines ++ sight_line input item h.sight) (here + (if named then 1 else 0))) (let e : suc item ≡ item + 1 = omega arith in e)
+        (subst (λ (b : Bool). AreSightLines input old (suc item) (lines.lines ++ sight_line input item h.sight) (here + (if b then 1 else 0))) h.is (more_are h.sight h.seen));
+    put = then_extends lines.lines (sight_line input item h.sight) first out new lines.put h.line;
+    few = count_few here item named lines.few;
+  }
+
+  -- or it wasn't
+  module _ (within : item < length input.items) (last : State) (later : first.faults ≤ out.faults) (store_later : old.faults ≤ mid.faults) where
+    pub line_stops : (new : SinkState) (s : Stop) → SightStops input mid last item out new s → AuditStops input old last first new s
+    line_stops new stop.Sink (rose, sight, seen, part) = record {
+      rose = omega (arith, later, rose);
+      item = item;
+      within = within;
+      lines = lines.lines ++ sight_line input item sight;
+      here = here + (if sight.named then 1 else 0);
+      are = more_are sight seen;
+      begun = then_begins lines.lines (sight_line input item sight) first out new lines.put part;
+    }
+    line_stops new stop.Store (rose, same) = record {
+      rose = omega (arith, store_later, rose);
+      item = item;
+      within = within;
+      lines = lines.lines;
+      here = here;
+      are = lines.are;
+      put = held_still same lines.put;
+    }
+      where
+        held_still : new.held ≡ out.held → Extends lines.lines first out → Extends lines.lines first new
+        held_still e h = subst (λ (o : Option (List ℕ)). IfSome first.held (λ held. o ≡ Some (held ++ lines.lines))) (sym e) h
+
+-- something can be said of each item
+some_sight : (input : Lists) (store : State) (item : ℕ) → (sight : Sight) × IsSightOf input store item sight
+some_sight input store item = by (store.reads (item_cell input item)) refl
+  where
+    name : List ℕ
+    name = item_name input item
+
+    tell : (slot : List ℕ) (b : Bool) → bytes_eq (take 34 slot) (header_of name) ≡ b → MatchBool b (HasHeader name slot) (¬ HasHeader name slot)
+    tell slot true e = (bytes_eq-Decides (take 34 slot) (header_of name)).0 e
+    tell slot false e = λ is. false≢true (sym e ∙ (bytes_eq-Decides (take 34 slot) (header_of name)).1 is)
+
+    by : (o : Option (List ℕ)) → store.reads (item_cell input item) ≡ o → (sight : Sight) × IsSightOf input store item sight
+    by None e = (record { named = false; digest = [] }, record { named = λ still. rw e tt; digest = λ still. rw e tt })
+    by (Some slot) e =
+        let is = bytes_eq (take 34 slot) (header_of name) in
+        (record { named = is; digest = sha256 slot }, record { named = λ still. rw e (tell slot is refl); digest = λ still. rw e refl })
+
+-- lines can be gone on with
+more_lines : (input : Lists) (store : State) (more item : ℕ) (lines : List ℕ) (here : ℕ) → AreSightLines input store item lines here
+    → (rest : List ℕ) × (count : ℕ) × AreSightLines input store (more + item) (lines ++ rest) count
+more_lines input store zero item lines here are =
+    let e : item ≡ 0 + item = omega arith in
+    ([], here, subst (λ (n : ℕ). AreSightLines input store n (lines ++ []) here) e (subst (λ (l : List ℕ). AreSightLines input store item l here) (sym (append-nil lines)) are))
+more_lines input store (suc more) item lines here are =
+    let (rest, count, so) = more_lines input store more item lines here are in
+    let (sight, seen) = some_sight input store (more + item) in
+    let line = sight_line input (more + item) sight in
+    let e : suc (more + item) ≡ suc more + item = omega arith in (
+      rest ++ line,
+      count + (if sight.named then 1 else 0),
+      subst (λ (n : ℕ). AreSightLines input store n (lines ++ (rest ++ line)) (count + (if sight.named then 1 else 0))) e
+          (lines ++ rest, count, sight, so, seen, sym (append_assoc lines rest line), refl),
+    )
+
+-- up to a whole text
+pub whole_audit : (input : Lists) (store : State) (item : ℕ) (lines : List ℕ) (here : ℕ) → item ≤ length input.items → AreSightLines input store item lines here
+    → (rest : List ℕ) × IsAudit input store (lines ++ rest)
+whole_audit input store item lines here most are =
+    let (rest, count, so) = more_lines input store (length input.items - item) item lines here are in
+    let e : length input.items - item + item ≡ length input.items = omega (arith, most) in
+    let all = subst (λ (n : ℕ). AreSightLines input store n (lines ++ rest) count) e so in
+    (rest ++ sight_count input count, (lines ++ rest, count, all, sym (append_assoc lines rest (sight_count input count))))
+
+-- The ends
 
 module _ {k : Call} {disks now : List ℕ} (same : Untouched k.before.folder k.after.folder) (looks : Looks k.before.store k.after.store) (input : Lists)
     (layout : AreOfLayout k.before.folder disks now input) where

@@ -1,11 +1,10 @@
 -- From what a command finds, does and puts to its status, and back.
-use Rattle.mig_top.proofs.Common.{Call, CauseIn, CauseOf, Done, Ending, EndsAs, EndsBy, Extends, ExtendsInPart, Files, FilesCause, Finding, FolderFailed, FolderState, Form, FormCause, FormEndsAs}
-use Rattle.mig_top.proofs.Common.{HasFiles, IfSome, IsBegun, IsEndOf, IsListed, IsOrNotPut, IsSomeAnd, List, Lists, MoveFault, None, Option, OthersStay, Outcome, Rehearse, Rose, Shows, SinkFailed}
-use Rattle.mig_top.proofs.Common.{SinkFault, SinkState, Some, Step, StopsFrom, StoreFailed, StoreFault, Untouched, WorldEnds, arith, code, fault_outcome, inl, inr, outcome_of, refl, subst, sym}
-use Rattle.mig_top.proofs.Common.{text_of, ℕ, ◌∙◌, ◌≡◌, ◌≢◌, ◌≤◌, ◌⊎◌}
+use Rattle.mig_top.proofs.Common.{Call, CauseIn, CauseOf, Done, Ending, EndsAs, EndsBy, Err, Extends, ExtendsInPart, Files, FilesCause, Finding, FolderEnds, FolderFailed, FolderLeaves}
+use Rattle.mig_top.proofs.Common.{FolderState, Form, FormCause, FormEndsAs, HasFiles, IfSome, IsBegun, IsEndOf, IsListed, IsOrNotPut, IsSomeAnd, List, Lists, MoveFault, None, Option, OthersStay}
+use Rattle.mig_top.proofs.Common.{Outcome, Rehearse, Rose, Shows, SinkFailed, SinkFault, SinkState, Some, Step, StopsFrom, StoreFailed, StoreFault, StoreLeaves, StoreRefusal, TakesFrom}
+use Rattle.mig_top.proofs.Common.{Untouched, WorldEnds, arith, code, fault_outcome, inl, inr, outcome_of, refl, subst, sym, text_of, ℕ, ◌∙◌, ◌≡◌, ◌≢◌, ◌≤◌, ◌⊎◌}
 use Rattle.mig_words.specs.declared.endings.Ending.TheVariants.{FolderFault, Found, Memory, NoFile, Refusal}
 use Rattle.mig_words.specs.declared.endings.Finding.TheVariants as finding
-use Rattle.mig_words.specs.declared.endings.StoreRefusal.{StoreRefusal}
 use Rattle.mig_words.specs.declared.endings.StoreRefusal.TheVariants as refusal
 use Rattle.mig_words.specs.Outcomes as out
 use Rattle.mig_top.specs.Calls.{Changes}
@@ -105,21 +104,19 @@ IsUnread (out.NoFile word) = Unit {0}
 IsUnread (out.Found f) = Unit {0}
 IsUnread _ = ⊥
 
-module _ (names : List (List ℕ)) where
-  pub is_unread : (old new : FolderState) (Stops : Files → Outcome → Type 0) (e : Ending) → StopsFrom old new names Stops e → IsUnread (outcome_of names e)
-  is_unread old new Stops FolderFault h = tt
-  is_unread old new Stops Memory h = tt
-  is_unread old new Stops (NoFile place) h = tt
-  is_unread old new Stops (Found f) h = tt
-  is_unread old new Stops _ h = absurd h
+-- what stops a function over files is the cause of such an outcome
+pub files_unread : (names : List (List ℕ)) (old new : FolderState) (steps : Files → Step (List ℕ)) (e : Ending) → StopsFrom old new names (λ files. (steps files).Stops) e
+    → IsUnread (outcome_of names e) × FilesCause old new steps (outcome_of names e)
+files_unread names old new steps FolderFault h = (tt, h)
+files_unread names old new steps Memory h = (tt, tt)
+files_unread names old new steps (NoFile place) h = (tt, h)
+files_unread names old new steps (Found f) h = (tt, h)
+files_unread names old new steps _ h = absurd h
 
-  -- what stops a function over files is the cause of a command's outcome
-  pub files_unread : (old new : FolderState) (steps : Files → Step (List ℕ)) (e : Ending) → StopsFrom old new names (λ files. (steps files).Stops) e → FilesCause old new steps (outcome_of names e)
-  files_unread old new steps FolderFault h = h
-  files_unread old new steps Memory h = tt
-  files_unread old new steps (NoFile place) h = h
-  files_unread old new steps (Found f) h = h
-  files_unread old new steps _ h = absurd h
+-- so a command over files alone ends
+pub files_end : {B : Type 0} {view : B → List ℕ} {old new : FolderState} {names : List (List ℕ)} {steps : Files → Step (List ℕ)} {e : Ending} {Leaves : Outcome → Type 0}
+    → TakesFrom view old new names steps (Err e) → Leaves (outcome_of names e) → FolderEnds old new steps Leaves (outcome_of names e)
+files_end {old = old} {new = new} {names = names} {steps = steps} {e = e} h left = record { cause = (files_unread names old new steps e h.stops).1; leaves = left }
 
 -- a command over files alone is one of all
 pub files_cause : (k : Call) (form : Form) (steps : Files → Step (List ℕ)) → HasFiles form → ((o : Outcome) → IfSome k.before.folder.files (λ files. IsEndOf (steps files) o) → CauseIn k.before form o)
@@ -144,6 +141,14 @@ one_changed old new name same = subst (λ (after : Option Files). IfSome old.fil
 pub ends_of : {k : Call} {words : List (List ℕ)} {status : ℕ} → EndsAs k words status → (form : Form) → IsListed words form → FormEndsAs k form status
 ends_of (inl unknown) form l = absurd (unknown.unlisted form l)
 ends_of {k = k} {status = status} (inr (other, m, ends)) form l = subst (λ (f : Form). FormEndsAs k f status) (one_form other form (sym m.spelled ∙ l.spelled)) ends
+
+-- they are those of one over files alone, which leaves the store as it was
+pub files_known : {k : Call} {words : List (List ℕ)} {status : ℕ} {steps : Files → Step (List ℕ)} {Leaves : Outcome → Type 0} (form : Form) → HasFiles form
+    → ((o : Outcome) → IfSome k.before.folder.files (λ files. IsEndOf (steps files) o) → CauseIn k.before form o)
+    → ((o : Outcome) → Leaves o → FolderLeaves k.before.folder k.after.folder form o × StoreLeaves k form o) → IsListed words form
+    → EndsBy (FolderEnds k.before.folder k.after.folder steps Leaves) k.before.sink k.after.sink status → EndsAs k words status
+files_known {k = k} {steps = steps} form has to left l e =
+    inr (form, l, ends_map (λ o h. let both = left o h.leaves in record { cause = files_cause k form steps has to o h.cause; leaves = both.0; store = both.1 }) e)
 
 -- where the files are told, so is the cause
 pub told_at : (P : Files → Type 0) (before : Option Files) (files : Files) → before ≡ Some files → IfSome before P → P files

@@ -1,20 +1,16 @@
 -- Each step of a command is exact, so what the cause of an outcome holds for comes.
-use Rattle.mig_top.proofs.Common.{Accepted, Accepted-IsInput, After, Audit, Blamed, Bodies, Call, Cert, Check, ComesExactly, DoesNotRun, Drill, EndsAs, FileKind, Files, Fill, Finding, FindsTask, Form}
-use Rattle.mig_top.proofs.Common.{FormCause, Halt, HoldsFirst, IsAudit, IsBegun, IsInput, IsLastLayout, IsListed, IsListing, IsMissing, IsNoCert, IsNoPlan, IsRefusalBy, IsRehearsed, IsRight}
-use Rattle.mig_top.proofs.Common.{IsSomeAnd, IsTooLarge, IsWrong, LayoutBodies, List, ListingRefusedAs, Lists, MAX_DRILL_SHIFTS, MAX_FILE_BYTES, Move, Names, NoFile, None, NotSpelled, Option, Outcome}
-use Rattle.mig_top.proofs.Common.{Plan, PlanBodies, Reader, Refused, RefusedAs, Rehearse, Resume, Roomy, Runs, Serves, Shift, Some, Stands, StoreFailed, Task, TaskNames, TooLarge, Why, arith, case_in}
-use Rattle.mig_top.proofs.Common.{checks, code, done_text, drills, file, filled_text, finding_code, finds, finds_or, fits_drill, halted_text, inl, input_in, inr, judges, layout_in, length, loads}
-use Rattle.mig_top.proofs.Common.{loads_input, loads_layout, loads_plan, one_input, reads_cert, reads_input, reads_layout, reads_plan, reads_task, refl, roomy, runs, shifts_of, subst, sym, take}
-use Rattle.mig_top.proofs.Common.{task_in, ℕ, ⊎_elim, ◌+◌, ◌∙◌, ◌≡◌, ◌≤◌}
-use Rattle.mig_base.proofs.Spelling.{same_plan}
-use Rattle.mig_base.proofs.CertSpelling.{same_cert}
-use Rattle.mig_base.proofs.BlameOrder.{right_is_blameless}
-use Rattle.mig_check.proofs.BlameCases.{runs_blameless}
+use Rattle.mig_top.proofs.Common.{Accepted, Accepted-IsInput, After, Audit, Blamed, Bodies, Call, Cert, Check, ComesExactly, DoesNotRun, Drill, EndsAs, FileKind, Files, Fill, Finding, FindsTask}
+use Rattle.mig_top.proofs.Common.{Form, FormCause, Halt, HoldsFirst, IsAudit, IsBegun, IsInput, IsLastLayout, IsListed, IsListing, IsMissing, IsNoCert, IsNoPlan, IsRefusalBy, IsRehearsed}
+use Rattle.mig_top.proofs.Common.{IsRight, IsSomeAnd, IsTooLarge, IsWrong, LayoutBodies, List, ListingRefusedAs, Lists, MAX_DRILL_SHIFTS, MAX_FILE_BYTES, Move, Names, NoFile, None, NotSpelled}
+use Rattle.mig_top.proofs.Common.{Option, Outcome, Plan, PlanBodies, Reader, Refused, RefusedAs, Rehearse, Resume, Roomy, Runs, Serves, Shift, Some, Stands, StoreFailed, Task, TaskNames}
+use Rattle.mig_top.proofs.Common.{TooLarge, Why, arith, case_in, checks, code, done_text, drill_text, file, filled_text, finding_code, finds_or, fits_drill, halted_text, inl, input_in, inr}
+use Rattle.mig_top.proofs.Common.{judges, layout_in, length, loads, loads_input, loads_layout, loads_plan, one_input, reads_cert, reads_input, reads_layout, reads_plan, reads_task, refl}
+use Rattle.mig_top.proofs.Common.{right_is_blameless, roomy, runs, runs_blameless, same_cert, same_plan, shifts_of, subst, sym, take, task_in, words, ℕ, ⊎_elim, ◌+◌, ◌∙◌, ◌≡◌, ◌≤◌}
 use Rattle.mig_words.specs.declared.endings.TextFile.TheVariants as text_file
 use Rattle.mig_top.proofs.EndsOf.{ends_so}
 use Rattle.mig_top.proofs.StoreExact.{fills_exact, resumes_exact, stands_exact, starts_exact}
 use Rattle.mig_top.proofs.Layouts.{one_listing}
-use Rattle.mig_top.proofs.Steps.{IsExact, HaveOneStatus, by_status, done_one, exact_one, one_value, or_exact, then_exact, then_one}
+use Rattle.mig_top.proofs.Steps.{HaveOneStatus, IsExact, by_status, finds_once, once, one_end, one_value, or_exact, then_exact, then_once}
 
 -- Loading
 
@@ -44,10 +40,9 @@ layout_loads disks now files =
 
 pub input_loads : (names : Names) (files : Files) → IsExact (loads_input names files)
 input_loads names files =
-    then_exact _ (loads_exact names.disks files) _ (λ d _.
-    then_exact _ (loads_exact names.now files) _ (λ n _.
+    then_exact _ (layout_loads names.disks names.now files) _ (λ layout _.
     then_exact _ (loads_exact names.next files) _ (λ x _.
-    one_value _)))
+    one_value _))
 
 plan_loads : (names : Names) (files : Files) → IsExact (loads_plan names files)
 plan_loads names files =
@@ -150,40 +145,39 @@ checks_exact names cert files =
     then_exact _ (cert_exact last input valid) _ (λ certificate _.
     judges_exact input rounds certificate)))))
 
-pub drills_exact : (names : Names) (files : Files) → IsExact (drills names files)
-drills_exact names files =
-    then_exact _ (task_in_exact (roomy names) files) _ (λ task _.
-    then_exact _ (drill_exact task.plan) _ (λ _ _.
-    one_value _))
-
 -- each command ends in one way
 pub forms_exact : (k : Call) (files : Files) (form : Form) → Serves k files form → HaveOneStatus (FormCause files k.before.store form)
-forms_exact k files (Plan names cert) serves = then_one _ (input_in_exact names files) (λ input. finds (λ text. Unit {0})) (λ _ _. done_one (λ text. Unit {0}))
-forms_exact k files (Check names cert) serves = exact_one _ (checks_exact names cert files)
-forms_exact k files (After names) serves = then_one _ (task_in_exact names files) (λ task. finds (IsLastLayout task.input task.plan)) (λ task _. done_one (IsLastLayout task.input task.plan))
-forms_exact k files (Drill names) serves = exact_one _ (drills_exact names files)
+forms_exact k files (Plan names cert) serves =
+    one_end _ (then_once _ (input_in_exact names files) _ (λ _ _. finds_once (λ (text : List ℕ). Unit {0})))
+forms_exact k files (Check names cert) serves = one_end _ (once (checks_exact names cert files))
+forms_exact k files (After names) serves = one_end _ (then_once _ (task_in_exact names files) _ (λ task _. finds_once (IsLastLayout task.input task.plan)))
+forms_exact k files (Drill names) serves =
+    one_end _ (once
+    (then_exact _ (task_in_exact (roomy names) files) _ (λ task _.
+    then_exact _ (drill_exact task.plan) _ (λ _ _.
+    one_value (drill_text task.plan)))))
 forms_exact k files (Fill disks now) serves =
-    exact_one _
+    one_end _ (once
     (then_exact _ (layout_in_exact disks now files) _ (λ input holds.
     then_exact _ (fills_exact input k.before.store (serves.1 input holds)) _ (λ _ _.
-    one_value (filled_text input))))
-forms_exact k files (Audit disks now) serves = then_one _ (layout_in_exact disks now files) (λ input. finds (IsAudit input k.before.store)) (λ input _. done_one (IsAudit input k.before.store))
-forms_exact k files (Rehearse disks per_pair limit) serves = done_one (IsRehearsed (case_in disks per_pair limit))
+    one_value (filled_text input)))))
+forms_exact k files (Audit disks now) serves = one_end _ (then_once _ (layout_in_exact disks now files) _ (λ input _. finds_once (IsAudit input k.before.store)))
+forms_exact k files (Rehearse disks per_pair limit) serves = one_end _ (finds_once (IsRehearsed (case_in disks per_pair limit)))
 forms_exact k files (Move names) serves =
-    exact_one _
+    one_end _ (once
     (then_exact _ (task_in_exact names files) _ (λ task holds. let is = is_task files names task holds in
     then_exact _ (starts_exact task k.before.store is.0 is.1 (serves.1 task holds)) _ (λ _ _.
-    one_value (done_text task.plan 0))))
+    one_value (done_text task.plan 0)))))
 forms_exact k files (Resume names) serves =
-    exact_one _
+    one_end _ (once
     (then_exact _ (task_in_exact names files) _ (λ task holds. let is = is_task files names task holds in
     then_exact _ (resumes_exact task k.before.store is.0 is.1 (serves.1 task holds)) _ (λ found _.
-    one_value (done_text task.plan found))))
+    one_value (done_text task.plan found)))))
 forms_exact k files (Halt names layout) serves =
-    exact_one _
+    one_end _ (once
     (then_exact _ (task_in_exact names files) _ (λ task holds.
     then_exact _ (stands_exact task k.before.store (serves.1 task holds)) _ (λ found _.
-    one_value (halted_text task.plan found))))
+    one_value (halted_text task.plan found)))))
 
 -- a store that serves a command doesn't fail in it
 served : (k : Call) (files : Files) (form : Form) (before : List ℕ) → Serves k files form → StoreFailed k × IsBegun k form before → ⊥

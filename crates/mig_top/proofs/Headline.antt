@@ -1,15 +1,20 @@
--- What `plan` promises, from the causes of its outcomes and what they leave; and what `check` says of what it saved.
-use Rattle.mig_top.proofs.Common.{Accepted, AreRefused, AreSaved, AreThere, Bodies, Bound, Call, CauseIn, Check, ChecksSaved, Done, EndsAs, Extends, FileKind, Files, FolderFailed, FolderFault, Form}
-use Rattle.mig_top.proofs.Common.{FormCause, Found, HasPlanned, HoldsFirst, IsDiskBound, IsEven, IsInput, IsListed, IsMissing, IsOrNotPut, IsPlanSaved, IsSomeAnd, List, Lists, MAX_FILE_BYTES, Memory}
-use Rattle.mig_top.proofs.Common.{Names, NoFile, None, Nothing, OfDisk, OfSet, Option, Outcome, Plan, PlansWell, Refusal, Refused, SinkFault, Some, Stands, StandsForNone, StoreFault, Unlisted, Why}
-use Rattle.mig_top.proofs.Common.{WorldEnds, WritesApart, ap, arith, bound_value, checks, code, codes, eq-eqb, file, if◌then◌else◌, inl, inr, length, loads_input, quotient, refl, subst, sym, take}
-use Rattle.mig_top.proofs.Common.{take_all, transfers, verdict_text, ℕ, ⊎_elim, ◌+◌, ◌∙◌, ◌≡◌, ◌≢◌, ◌≤◌, ◌⊎◌}
-use Rattle.mig_base.specs.MadePlans.{EvenLimits}
+-- What `plan`, `fill`, `audit` and `drill` promise, from the causes of their outcomes and what they leave; and what `check` says of what `plan` saved.
+use Rattle.mig_top.proofs.Common.{Accepted, AreRefused, AreSaved, AreThere, Audit, AuditsWell, Because, Bodies, Bound, Call, CauseIn, Check, ChecksSaved, Done, Drill, DrillsWell, EndsAs, Extends}
+use Rattle.mig_top.proofs.Common.{FileKind, Files, Fill, FillsWell, FindsTask, FolderFailed, FolderFault, Form, FormCause, Found, HasPlanned, HoldsFirst, HoldsLayout, IsAudit, IsDiskBound}
+use Rattle.mig_top.proofs.Common.{IsEndOf, IsFillCell, IsFilled, IsInput, IsListed, IsMissing, IsOrNotPut, IsPlanSaved, IsRight, IsSomeAnd, IsUntouched, List, Lists, MAX_DRILL_SHIFTS}
+use Rattle.mig_top.proofs.Common.{MAX_FILE_BYTES, Memory, Names, NoFile, None, Nothing, OfDisk, OfSet, OfSide, Option, Outcome, Plan, PlanBodies, PlansWell, Reason, Refusal, Refused, SinkFailed}
+use Rattle.mig_top.proofs.Common.{SinkFault, Some, Stands, StandsForNone, Step, StoreFault, Task, TellsStill, TooLarge, Unlisted, Untouched, Why, WorldEnds, WritesApart, [], after, ap, arith}
+use Rattle.mig_top.proofs.Common.{bound_value, checks, code, codes, drill_text, eq-eqb, file, filled_text, fills, finds, first, fits_drill, if◌then◌else◌, inl, inr, layout_in, length, loads}
+use Rattle.mig_top.proofs.Common.{loads_input, loads_plan, quotient, refl, roomy, runs, second, shifts_of, stands, subst, sym, take, take_all, task_in, transfers, verdict_text, words, zero, ℕ}
+use Rattle.mig_top.proofs.Common.{⊎_elim, ◌++◌, ◌+◌, ◌<◌, ◌∙◌, ◌≡◌, ◌≢◌, ◌≤◌, ◌⊎◌}
+use Rattle.mig_top.proofs.Plainly.{found_input, loads_there, there_loads}
+use Rattle.mig_top.proofs.EndsOf.{cause_at, done_by, ends_of, ends_so, holds_by, put_by, refusal_between, told_at}
+use Rattle.mig_top.proofs.Exactness.{checks_exact, comes_exactly, input_loads, is_input, layout_in_exact, task_in_exact}
+use Rattle.mig_top.proofs.StoreCommands.{fill_rest}
+use Rattle.mig_top.proofs.Auditing.{whole_audit}
+use Rattle.mig_top.proofs.Steps.{follow, lead}
 use Rattle.mig_text.proofs.ShiftCounts as plan_lengths
 use Rattle.mig_cert.proofs.CertLengths as cert_lengths
-use Rattle.mig_top.proofs.Plainly.{found_input, loads_there, there_loads}
-use Rattle.mig_top.proofs.EndsOf.{cause_at, ends_of, ends_so, put_by, refusal_between, told_at}
-use Rattle.mig_top.proofs.Exactness.{checks_exact, comes_exactly, input_loads, is_input}
 
 some_and_map : {X : Type 0} (P Q : X → Type 0) (o : Option X) → ((x : X) → P x → Q x) → IsSomeAnd o P → IsSomeAnd o Q
 some_and_map P Q None f h = h
@@ -30,10 +35,11 @@ module _ (k : Call) (names : Names) (cert : List ℕ) (files : Files) (is : k.be
   is_no_file name _ h = absurd h
 
   loads_stop : (o : Outcome) → (loads_input names files).Stops o → IsNoFile o
-  loads_stop o (inl h) = is_no_file names.disks o h
-  loads_stop o (inr (d, first, inl h)) = is_no_file names.now o h
-  loads_stop o (inr (d, first, inr (n, second, inl h))) = is_no_file names.next o h
-  loads_stop o (inr (d, first, inr (n, second, inr (x, third, none)))) = absurd none
+  loads_stop o (inl (inl h)) = is_no_file names.disks o h
+  loads_stop o (inl (inr (d, first, inl h))) = is_no_file names.now o h
+  loads_stop o (inl (inr (d, first, inr (n, second, none)))) = absurd none
+  loads_stop o (inr (layout, there, inl h)) = is_no_file names.next o h
+  loads_stop o (inr (layout, there, inr (x, third, none))) = absurd none
 
   -- the cause of each outcome of `plan`
   abbrev Means : Outcome → Type 0
@@ -129,44 +135,107 @@ module _ (names : Names) (cert text : List ℕ) (old files : Files) (apart : Wri
   short_cert = cert_lengths.short_text saved.input saved.texts.certificate text valid saved.texts.cert_spelled
 
   -- `check` puts the verdict on what was saved
+  loaded : (loads_plan names files).Passes (record { input = saved.stands.bodies; plan = saved.plan_text })
+  loaded = let s = saved.stands in (s.bodies, there_loads files names s.bodies (still_there s.bodies s.there), (saved.plan_text, whole names.plan saved.plan_text saved.saved short_plan, refl))
+
+  right : IsRight saved.input saved.texts.rounds saved.texts.certificate (verdict_text saved.texts.rounds saved.texts.certificate)
+  right = let made = saved.texts.made in record { runs = made.planned.runs; once = made.planned.once; holds = made.holds; says = refl }
+
   is_verdict : (checks names cert files).Passes (verdict_text saved.texts.rounds saved.texts.certificate)
   is_verdict =
-      let s = saved.stands in
-      let made = saved.texts.made in (
-        record { input = s.bodies; plan = saved.plan_text },
-        (s.bodies, there_loads files names s.bodies (still_there s.bodies s.there), (saved.plan_text, whole names.plan saved.plan_text saved.saved short_plan, refl)),
-        (
-          text,
-          whole cert text cert_saved short_cert,
-          (
-            saved.input,
-            s.accepted,
-            (
-              saved.texts.rounds,
-              (saved.texts.plan_spelled, short_plan),
-              (saved.texts.certificate, (saved.texts.cert_spelled, short_cert), record { runs = made.planned.runs; once = made.planned.once; holds = made.holds; says = refl }),
-            ),
-          ),
-        ),
-      )
+      let t = saved.texts in
+      let b : PlanBodies = record { input = saved.stands.bodies; plan = saved.plan_text } in
+      (b, loaded, (text, whole cert text cert_saved short_cert, (saved.input, saved.stands.accepted, (t.rounds, (t.plan_spelled, short_plan), (t.certificate, (t.cert_spelled, short_cert), right)))))
 
-  -- a bound that is a disk of the quotient's value has that value
+  -- a bound that is a disk or a side of the quotient's value has that value
   disk_value_is : (bound : Bound) (q : ℕ) → IsDiskBound bound q → bound_value bound ≡ q
   disk_value_is Nothing q h = sym h
   disk_value_is (OfDisk disk l x) q h = h
+  disk_value_is (OfSide disk side l x) q h = h
   disk_value_is (OfSet set i x) q h = absurd h
 
-  told_optimal : IsEven (transfers saved.input) → (t : List ℕ) → (checks names cert files).Passes t → t ≡ codes "optimal\n"
-  told_optimal even t h =
-      let value = disk_value_is saved.texts.certificate.bound (quotient (transfers saved.input)) (saved.texts.made.shown even) in
+  told_optimal : (why : Reason) → Because why (transfers saved.input) → (t : List ℕ) → (checks names cert files).Passes t → t ≡ codes "optimal\n"
+  told_optimal why holds t h =
+      let value = disk_value_is saved.texts.certificate.bound (quotient (transfers saved.input)) (saved.texts.made.shown why holds) in
       (checks_exact names cert files).one_found t (verdict_text saved.texts.rounds saved.texts.certificate) h is_verdict
-      ∙ ap (λ b. if b then codes "optimal\n" else codes "bounded\n") (eq-eqb _ _ (saved.texts.made.planned.tight EvenLimits even ∙ sym value))
+      ∙ ap (λ b. if b then codes "optimal\n" else codes "bounded\n") (eq-eqb _ _ (saved.texts.made.planned.tight why holds ∙ sym value))
 
   pub checks_saved : {k : Call} {words : List (List ℕ)} {status : ℕ} → EndsAs k words status → k.before.folder.files ≡ Some files → IsListed words (Check names cert)
       → ChecksSaved k saved.input status
   checks_saved {k = k} ends is l = record {
     right = λ fine quiet. comes_exactly ends files (Check names cert) is l (Done (verdict_text saved.texts.rounds saved.texts.certificate)) is_verdict fine quiet tt;
-    optimal = λ zero even.
+    optimal = λ zero why holds.
         let (t, h, put) = put_by (ends_of ends (Check names cert) l) zero in
-        subst (λ (said : List ℕ). Extends said k.before.sink k.after.sink) (told_optimal even t (cause_at k files is (Check names cert) (Done t) h.cause)) put;
+        subst (λ (said : List ℕ). Extends said k.before.sink k.after.sink) (told_optimal why holds t (cause_at k files is (Check names cert) (Done t) h.cause)) put;
   }
+
+-- `fill` and `audit`
+
+module _ {k : Call} {words : List (List ℕ)} {status : ℕ} (ends : EndsAs k words status) (files : Files) (disks : List ℕ) (now : List ℕ) (input : Lists) (is : k.before.folder.files ≡ Some files) where
+  -- `fill`
+
+  module _ (l : IsListed words (Fill disks now)) (holds : HoldsLayout files disks now input) where
+    one_layout : (a b : Lists) → HoldsLayout files disks now a → HoldsLayout files disks now b → a ≡ b
+    one_layout = (layout_in_exact disks now files).one_found
+
+    filled_by : (text : List ℕ) → WorldEnds k (Fill disks now) (Done text) → IsFilled input k.before.store k.after.store
+    filled_by text h =
+        let from = h.store in
+        subst (λ (i : Lists). IsFilled i k.before.store k.after.store) (one_layout from.0 input (told_at (λ f. HoldsLayout f disks now from.0) k.before.folder.files files is from.1) holds) from.2
+
+    pub fills_well : FillsWell k input status
+    fills_well = record {
+      filled = λ done. let d = done_by (ends_of ends (Fill disks now) l) done in filled_by d.0 d.1;
+      fills = λ tells fillable fine quiet sound. comes_exactly ends files (Fill disks now) is l (Done (filled_text input))
+          (lead (layout_in disks now files) (fill_rest k.before.store) input holds (Done (filled_text input)) (tt, fillable, refl)) fine quiet
+          (sound, λ other same. subst (λ (i : Lists). TellsStill (IsFillCell i) k.before.store) (one_layout input other holds same) tells);
+    }
+
+  -- `audit`
+
+  module _ (l : IsListed words (Audit disks now)) (holds : HoldsLayout files disks now input) where
+    pub audits_well : AuditsWell k input status
+    audits_well = record {
+      said = λ zero.
+          let (text, h, put) = put_by (ends_of ends (Audit disks now) l) zero in (
+            text,
+            follow (layout_in disks now files) (layout_in_exact disks now files) (λ i. finds (IsAudit i k.before.store)) input holds
+                (Done text) (cause_at k files is (Audit disks now) (Done text) h.cause),
+            put,
+          );
+      audits = λ fine quiet sound.
+          let whole = whole_audit input k.before.store 0 [] 0 (omega arith) (refl, refl) in
+          comes_exactly ends files (Audit disks now) is l (Done ([] ++ whole.0)) (input, holds, whole.1) fine quiet sound;
+    }
+
+-- `drill`
+
+-- what is left of it once its task is known
+abbrev drill_rest : Task → Step (List ℕ)
+drill_rest task = after (fits_drill task.plan) (λ _. finds (λ text. text ≡ drill_text task.plan))
+
+module _ {k : Call} {words : List (List ℕ)} {status : ℕ} (ends : EndsAs k words status) (files : Files) (names : Names) (task : Task)
+    (is : k.before.folder.files ≡ Some files) (holds : FindsTask files (roomy names) task) (l : IsListed words (Drill names)) where
+  -- the cause of an outcome says how the drill of this plan ends
+  drill_end : (o : Outcome) → CauseIn k.before (Drill names) o → IsEndOf (drill_rest task) o
+  drill_end o h = follow (task_in (roomy names) files) (task_in_exact (roomy names) files) drill_rest task holds o (cause_at k files is (Drill names) o h)
+
+  drill_comes : (o : Outcome) → IsEndOf (drill_rest task) o → (FolderFailed k → ⊥) → (SinkFailed k → ⊥) → (status ≡ code o) ⊎ (status ≡ 7)
+  drill_comes o h fine quiet = comes_exactly ends files (Drill names) is l o (lead (task_in (roomy names) files) drill_rest task holds o h) fine quiet tt
+
+  is_large : (o : Outcome) → status ≡ code o → IsOrNotPut (WorldEnds k (Drill names)) k.before.sink k.after.sink o → status ≡ 11 → MAX_DRILL_SHIFTS < length (shifts_of task.plan)
+  is_large (Found (TooLarge shifts)) at h eleven = ⊎_elim (λ large. large.0) (λ rest. absurd rest.2) (drill_end (Found (TooLarge shifts)) h.cause)
+  is_large (Refusal r) at h eleven = absurd (omega (arith, at, eleven, (refusal_between r).1))
+  is_large o at h eleven = absurd (omega (arith, at, eleven))
+
+  pub drills_well : DrillsWell k task status
+  drills_well =
+      let e = ends_of ends (Drill names) l in
+      record {
+        told = λ zero. let (text, h, put) = put_by e zero in subst (λ (t : List ℕ). Extends t k.before.sink k.after.sink) (drill_end (Done text) h.cause).2 put;
+        drills = λ fits. drill_comes (Done (drill_text task.plan)) (tt, fits, refl);
+        refuses = λ more. drill_comes (Found (TooLarge (length (shifts_of task.plan)))) (inl (more, refl));
+        large = is_large e.outcome e.is e.so;
+        files = holds_by e (Untouched k.before.folder k.after.folder) (λ o h. h.leaves);
+        store = holds_by e (IsUntouched k.before.store k.after.store) (λ o h. h.store);
+      }

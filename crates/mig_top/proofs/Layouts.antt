@@ -1,9 +1,8 @@
--- Two files list one layout at most.
-use Rattle.std.proofs.Common.{slice_get}
-use Rattle.mig_top.proofs.Common.{AreDifferent, Contains, Disk, DiskId, IsListing, IsSomeAnd, IsSpotNamed, List, Lists, Row, Some, Spot, [], ap, arith, at_map, first, get_or, get_or-take}
-use Rattle.mig_top.proofs.Common.{get_or_from_slice_get, length, length-take, map, map-name, name_at, one_place, refl, rows_of, second, slice_get-get_or, some_and, some_map, subst, sym, take}
-use Rattle.mig_top.proofs.Common.{take-map, ℕ, ◌+◌, ◌<◌, ◌∙◌, ◌∷◌, ◌≡◌}
-use Rattle.std.specs.List.{AllZip}
+-- Two files list one layout at most, and the spots of one that a plan reaches are on disks.
+use Rattle.mig_top.proofs.Common.{All, All-contains, AllZip, AreDifferent, At, Contains, Disk, DiskId, IsInput, IsLayout, IsListOf, IsListing, IsSomeAnd, IsSpotNamed, IsSpotOf, List, Lists, Row}
+use Rattle.mig_top.proofs.Common.{Runs, Shift, Some, Spot, [], ap, arith, at_map, first, get_or, get_or-take, get_or_from_slice_get, has_sides, layout_kept, length, length-take, map, map-name}
+use Rattle.mig_top.proofs.Common.{name_at, one_place, refl, round_at, rows_of, second, slice_get, slice_get-get_or, slice_get_within, some_and, some_map, spot_disk, subst, suc, sym, take}
+use Rattle.mig_top.proofs.Common.{take-map, zero, ℕ, ◌+◌, ◌<◌, ◌∙◌, ◌∷◌, ◌≡◌, ◌≤◌}
 use Rattle.mig_base.specs.declared.faults.FileKind.TheVariants as file_kind
 use Rattle.mig_base.specs.declared.faults.Why.TheVariants as why
 
@@ -60,7 +59,27 @@ one_listing disks now i j a b = same_lists i j same_disks (a.items ∙ sym b.ite
     same_disks = a.disks ∙ sym b.disks
 
     differ : AreDifferent (map name_at i.disks)
-    differ = rw (a.disks, ← map-name (rows_of disks)) (names_differ disks now i a)
+    differ = rw (a.disks, ← map-name (has_sides disks) (rows_of disks)) (names_differ disks now i a)
 
     spots : i.spots ≡ j.spots
     spots = one_zip (IsSpotNamed i.disks) (rows_of now) i.spots j.spots (one_spot i.disks differ) a.spots (subst (λ ds. AllZip (IsSpotNamed ds) (rows_of now) j.spots) (sym same_disks) b.spots)
+
+-- a spot of now is on a disk
+now_on_disks : (input : Lists) → IsInput input → (item : ℕ) (spot : Spot) → slice_get input.spots item ≡ Some spot → spot.disk.0 < length input.disks
+now_on_disks input valid item spot at =
+    let within = slice_get_within input.spots item spot at in
+    let same : get_or input.spots item spot ≡ spot = let e : Some (get_or input.spots item spot) ≡ Some spot = sym (slice_get-get_or input.spots item spot within) ∙ at in cc in
+    spot_disk input.disks spot (All-contains (IsSpotOf input.disks) input.spots spot valid.on_disks (item, within, same))
+
+pub At_layout : (input : Lists) (plan : List (List Shift)) (k : ℕ) → IsInput input → Runs input plan → k ≤ length plan → IsLayout input (At input plan k)
+At_layout input plan zero valid runs le = record {
+  on_disks = λ item spot at. now_on_disks input valid item spot at;
+  apart = λ i j spot at_i at_j. one_place input.spots i j spot valid.spots_apart at_i at_j;
+}
+At_layout input plan (suc k) valid runs le =
+    layout_kept input (At input plan k) (round_at plan (suc k)) (runs.rounds k (omega arith)) (At_layout input plan k valid runs (omega arith))
+
+pub spots_on_disks : (input : Lists) (plan : List (List Shift)) (k : ℕ) (spots : List Spot) → IsInput input → Runs input plan → k ≤ length plan → IsListOf (At input plan k) spots
+    → All (λ (spot : Spot). spot.disk.0 < length input.disks) spots
+spots_on_disks input plan k spots valid runs le is item d there =
+    (At_layout input plan k valid runs le).on_disks item (get_or spots item d) (sym (is item) ∙ slice_get-get_or spots item d there)

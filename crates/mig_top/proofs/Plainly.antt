@@ -1,11 +1,15 @@
 -- What files stand for, told plainly, is what the steps find that load and read them.
-use Rattle.mig_top.proofs.Common.{AreThere, Bodies, Files, FindsTask, HoldsFirst, IsTaskOf, List, Lists, Names, PlanBodies, Stands, Task, TaskNames, ap, input_in, loads_input, refl, subst, sym, ℕ}
+use Rattle.mig_top.proofs.Common.{AreThere, Bodies, Files, FindsTask, HoldsFirst, IsTaskOf, LayoutBodies, List, Lists, Names, PlanBodies, Stands, Task, TaskNames, ap, input_in, loads_input, refl}
+use Rattle.mig_top.proofs.Common.{subst, sym, ℕ, ◌∙◌}
 
 pub there_loads : (files : Files) (names : Names) (bodies : Bodies) → AreThere files names bodies → (loads_input names files).Passes bodies
-there_loads files names bodies h = (bodies.disks, h.disks, (bodies.now, h.now, (bodies.next, h.next, refl)))
+there_loads files names bodies h =
+    (record { disks = bodies.disks; now = bodies.now }, (bodies.disks, h.disks, (bodies.now, h.now, refl)), (bodies.next, h.next, refl))
 
 pub loads_there : (files : Files) (names : Names) (bodies : Bodies) → (loads_input names files).Passes bodies → AreThere files names bodies
-loads_there files names bodies (d, disks, (n, now, (x, next, is))) = subst (AreThere files names) (sym is) (record { disks = disks; now = now; next = next })
+loads_there files names bodies (layout, (d, disks, (n, now, is)), (x, next, at)) =
+    let of : LayoutBodies → Bodies = λ l. record { disks = l.disks; now = l.now; next = x } in
+    subst (AreThere files names) (sym (at ∙ ap of is)) (record { disks = disks; now = now; next = next })
 
 pub input_found : (files : Files) (names : Names) (input : Lists) → Stands files names input → (input_in names files).Passes input
 input_found files names input h = (h.bodies, there_loads files names h.bodies h.there, h.accepted)

@@ -1,7 +1,6 @@
 -- The two saves of `plan`.
-use Rattle.mig_top.proofs.Common.{AreSaved, Done, Files, FolderFault, FolderState, IfSome, IsPlanSaved, IsSomeAnd, List, Names, None, Option, OthersStay, Outcome, PlanLeaves, Saves, Some, Untouched}
-use Rattle.mig_top.proofs.Common.{inl, plans_texts, subst, ℕ, ◌∙◌, ◌≡◌, ◌≢◌}
-use Rattle.mig_top.specs.Planned.{PlanTexts}
+use Rattle.mig_top.proofs.Common.{AreSaved, Done, Files, FolderFault, FolderState, IfSome, IsPlanSaved, IsSomeAnd, List, Names, None, Option, OthersStay, Outcome, PlanLeaves, PlanTexts, Saves}
+use Rattle.mig_top.proofs.Common.{Some, Untouched, after, inl, plans_texts, stands, subst, ℕ, ◌∙◌, ◌≡◌, ◌≢◌}
 use Rattle.mig_top.proofs.Plainly.{found_input}
 use Rattle.mig_top.proofs.EndsOf.{IsUnread, one_changed}
 

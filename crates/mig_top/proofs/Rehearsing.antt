@@ -1,19 +1,21 @@
--- How a rehearsal ends, as a call of the program and as its promise.
-use Rattle.mig_top.proofs.Common.{Call, Done, EndsAs, FolderFault, IsListed, IsOrNotPut, IsRehearsalEnd, IsUntouched, List, Memory, Outcome, Rehearse, RehearsesWell, Rose, SinkFault, StoreFault}
-use Rattle.mig_top.proofs.Common.{Untouched, WorldEnds, case_in, code, inl, inr, ℕ, ◌≡◌, ◌⊎◌}
-use Rattle.mig_top.proofs.EndsOf.{ends_of, put_by}
+-- How a rehearsal ends, as a call of the program and as its promise; and lines that are added one by one.
+use Rattle.mig_top.proofs.Common.{Call, Done, EndsAs, EndsBy, FolderFault, IsListed, IsOrNotPut, IsRehearsalEnd, IsUntouched, List, Memory, Outcome, Rehearse, RehearsesWell, Rose, SinkFault}
+use Rattle.mig_top.proofs.Common.{StoreFault, Untouched, WorldEnds, [], ap, append-nil, case_in, code, flat_map_more, inl, inr, sym, text_of_lines, ℕ, ◌++◌, ◌∙◌, ◌∷◌, ◌≡◌, ◌⊎◌}
+use Rattle.mig_top.proofs.EndsOf.{ends_map, ends_of, put_by}
 
-module _ (k : Call) (disks per_pair limit : List ℕ) where
-  -- whatever folder and store tell
-  pub rehearsal_ends : Untouched k.before.folder k.after.folder → IsUntouched k.before.store k.after.store → (o : Outcome) → IsRehearsalEnd (case_in disks per_pair limit) o
-      → WorldEnds k (Rehearse disks per_pair limit) o
-  rehearsal_ends same kept (Done text) h = record { cause = h; leaves = same; store = kept }
-  rehearsal_ends same kept Memory h = record { cause = tt; leaves = same; store = kept }
-  rehearsal_ends same kept _ h = absurd h
+module _ {k : Call} {words : List (List ℕ)} {status : ℕ} (disks per_pair limit : List ℕ) where
+  -- whatever folder and store tell, it does nothing with either
+  pub rehearsal_known : Untouched k.before.folder k.after.folder → IsUntouched k.before.store k.after.store → IsListed words (Rehearse disks per_pair limit)
+      → EndsBy (IsRehearsalEnd (case_in disks per_pair limit)) k.before.sink k.after.sink status → EndsAs k words status
+  rehearsal_known same kept l e = inr (Rehearse disks per_pair limit, l, ends_map ends e)
+    where
+      ends : (o : Outcome) → IsRehearsalEnd (case_in disks per_pair limit) o → WorldEnds k (Rehearse disks per_pair limit) o
+      ends (Done text) h = record { cause = h; leaves = same; store = kept }
+      ends Memory h = record { cause = tt; leaves = same; store = kept }
+      ends _ h = absurd h
 
-  pub rehearses_well : {words : List (List ℕ)} {status : ℕ} → EndsAs k words status → IsListed words (Rehearse disks per_pair limit)
-      → RehearsesWell k.before.sink k.after.sink (case_in disks per_pair limit) status
-  rehearses_well {status = status} ends l =
+  pub rehearses_well : EndsAs k words status → IsListed words (Rehearse disks per_pair limit) → RehearsesWell k.before.sink k.after.sink (case_in disks per_pair limit) status
+  rehearses_well ends l =
       let e = ends_of ends (Rehearse disks per_pair limit) l in
       record { ends = by e.outcome e.is e.so; rehearsed = λ zero. let p = put_by e zero in (p.0, p.1.cause, p.2) }
     where
@@ -25,3 +27,11 @@ module _ (k : Call) (disks per_pair limit : List ℕ) where
       by FolderFault at h = absurd h.cause.1
       by (StoreFault before) at h = absurd h.cause.1
       by _ at h = absurd h.cause
+
+-- Its text
+
+pub no_line : (old : List ℕ) → old ≡ old ++ text_of_lines []
+no_line old = sym (append-nil old)
+
+pub one_line : (old : List ℕ) (lines : List (List ℕ)) (line mid new : List ℕ) → mid ≡ old ++ text_of_lines lines → new ≡ mid ++ (line ++ 10 ∷ []) → new ≡ old ++ text_of_lines (lines ++ line ∷ [])
+one_line old lines line mid new so_far more = more ∙ ap (λ (xs : List ℕ). xs ++ (line ++ 10 ∷ [])) so_far ∙ flat_map_more (λ (l : List ℕ). l ++ 10 ∷ []) old lines line

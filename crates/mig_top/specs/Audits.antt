@@ -1,9 +1,42 @@
--- What the parts of an audit give.
-use Rattle.std.specs.Prelude.{Bool, List, length, suc, ℕ, ◌<◌, ◌≡◌, ◌≤◌}
-use Rattle.mig_top.specs.Common.{Extends, ExtendsInPart, Lists, Rose, Sight, SinkState, State}
-use Rattle.mig_top.specs.Sights.{AreSightLines, IsSightOf, sight_line}
+-- What `audit` says of the slots where items are listed, and what its parts give.
+use Rattle.std.specs.Prelude.{Bool, List, MatchBool, [], codes, if◌then◌else◌, length, slice_index_or, suc, zero, ℕ, ◌++◌, ◌+◌, ◌-◌, ◌<◌, ◌∷◌, ◌≡◌, ◌≤◌}
+use Rattle.mig_top.specs.Common.{Extends, ExtendsInPart, HasHeader, IfSome, IsMoving, Lists, Rose, Sight, SinkState, Spot, State, decimal, disk_name, encode_lower, item_cell, item_name, joined}
+use Rattle.mig_top.specs.Common.{no_spot, sha256}
 use Rattle.mig_top.specs.declared.audit_command.Stop.{Stop}
 use Rattle.mig_top.specs.declared.audit_command.Stop.TheVariants as stop
+
+-- where the item's slot is told and no copy to it is in flight: whether its header names the item, and its digest
+pub record IsSightOf (input : Lists) (store : State) (item : ℕ) (sight : Sight) : Type 0 where
+  pub named : ¬ IsMoving store (item_cell input item)
+      → IfSome (store.reads (item_cell input item)) (λ slot. MatchBool sight.named (HasHeader (item_name input item) slot) (¬ HasHeader (item_name input item) slot))
+  pub digest : ¬ IsMoving store (item_cell input item) → IfSome (store.reads (item_cell input item)) (λ slot. sight.digest ≡ sha256 slot)
+
+-- the spot where an item is listed
+abbrev pub spot_of : Lists → ℕ → Spot
+spot_of input item = slice_index_or input.spots item no_spot
+
+-- `ITEM DISK SLOT here HEX`, or `lost` in place of `here`
+abbrev pub sight_line : Lists → ℕ → Sight → List ℕ
+sight_line input item sight = joined (item_name input item ∷ codes " " ∷ disk_name input (spot_of input item).disk.0 ∷ codes " " ∷ decimal (spot_of input item).slot
+    ∷ (if sight.named then codes " here " else codes " lost ") ∷ encode_lower sight.digest ∷ codes "\n" ∷ [])
+
+-- the lines of the first so many items, and how many of these are named
+abbrev pub AreSightLines : Lists → State → ℕ → List ℕ → ℕ → Type 0
+AreSightLines input store zero text here = (text ≡ []) × (here ≡ 0)
+AreSightLines input store (suc item) text here = (before : List ℕ) × (count : ℕ) × (sight : Sight) × AreSightLines input store item before count
+    × IsSightOf input store item sight × (text ≡ before ++ sight_line input item sight) × (here ≡ count + (if sight.named then 1 else 0))
+
+-- `N here, M lost`
+abbrev pub sight_count : Lists → ℕ → List ℕ
+sight_count input here = joined (decimal here ∷ codes " here, " ∷ decimal (length input.items - here) ∷ codes " lost\n" ∷ [])
+
+-- the text of an audit that is done
+abbrev pub IsAudit : Lists → State → List ℕ → Type 0
+IsAudit input store text = (lines : List ℕ) × (here : ℕ) × AreSightLines input store (length input.items) lines here × (text ≡ lines ++ sight_count input here)
+
+-- the text of an audit before the store failed at an item
+abbrev pub IsAuditBegun : Lists → State → List ℕ → Type 0
+IsAuditBegun input store text = (item : ℕ) × (here : ℕ) × (item < length input.items) × AreSightLines input store item text here
 
 -- the line of an item was put, and says whether the item is named
 pub record HasPutSight (input : Lists) (store : State) (item : ℕ) (old new : SinkState) (named : Bool) : Type 0 where

@@ -13,7 +13,7 @@ abbrev pub two_bodies_of : LayoutBytes → LayoutBodies
 two_bodies_of bytes = record { disks = bytes.disks.items; now = bytes.now.items }
 
 abbrev pub bodies_of : InputBytes → Bodies
-bodies_of bytes = record { disks = bytes.disks.items; now = bytes.now.items; next = bytes.next.items }
+bodies_of bytes = record { disks = bytes.layout.disks.items; now = bytes.layout.now.items; next = bytes.next.items }
 
 abbrev pub plan_bodies_of : PlanBytes → PlanBodies
 plan_bodies_of bytes = record { input = bodies_of bytes.input; plan = bytes.plan.items }

@@ -2,14 +2,11 @@
 use Rattle.std.specs.Prelude.{List, codes, if◌then◌else◌, length, ℕ, ◌<◌, ◌==◌, ◌≡◌, ◌≤◌}
 use Rattle.mig_top.specs.Common.{After, At, Audit, Blamed, Bodies, Cert, CertHolds, Check, Drill, Files, Fill, Finding, FirstBlame, Form, Halt, IsListOf, LayoutText, Lists, MAX_DRILL_SHIFTS}
 use Rattle.mig_top.specs.Common.{Move, Names, Once, Outcome, Plan, Rehearse, Resume, Roomy, Runs, Shift, Spot, State, TaskNames, TooLarge, bound_value, drill_text, named, roomy, shifts_of}
-use Rattle.mig_top.specs.HaltLooks.{halted_text, stands}
+use Rattle.mig_top.specs.Looks.{halted_text, stands, done_text, resumes, starts, fills, filled_text}
 use Rattle.mig_top.specs.Loads.{PlanBodies, input_in, layout_in, loads, loads_plan, reads_cert, reads_input, reads_plan, task_in}
-use Rattle.mig_top.specs.MoveLooks.{done_text, resumes, starts}
-use Rattle.mig_top.specs.Planned.{AreTextsOf, PlanTexts}
-use Rattle.mig_top.specs.Rehearsed.{IsRehearsed, case_in}
-use Rattle.mig_top.specs.Sights.{IsAudit}
+use Rattle.mig_top.specs.Planned.{AreTextsOf, PlanTexts, IsRehearsed, case_in}
+use Rattle.mig_top.specs.Audits.{IsAudit}
 use Rattle.mig_top.specs.Steps.{Step, after, finds, finds_or, IsEndOf}
-use Rattle.mig_top.specs.StoreLooks.{fills, filled_text}
 
 -- The steps of `check`, of `after` and of `drill` once their files are read
 

@@ -41,10 +41,9 @@ loads_layout disks now files =
 
 abbrev pub loads_input : Names → Files → Step Bodies
 loads_input names files =
-    after (loads names.disks files) (λ d.
-    after (loads names.now files) (λ n.
+    after (loads_layout names.disks names.now files) (λ layout.
     after (loads names.next files) (λ x.
-    finds (λ bodies. bodies ≡ record { disks = d; now = n; next = x }))))
+    finds (λ bodies. bodies ≡ record { disks = layout.disks; now = layout.now; next = x })))
 
 abbrev pub loads_plan : Names → Files → Step PlanBodies
 loads_plan names files =

@@ -6,7 +6,7 @@ ghost use Rattle.mig_top.specs.Audits.{AuditStops, HasPutSight, HavePutSights, S
 ghost use Rattle.mig_top.specs.Calls.{call, world};
 ghost use Rattle.mig_top.specs.Ends.{FormEndsAs};
 ghost use Rattle.mig_words.specs.Puts.{Puts};
-ghost use Rattle.mig_top.specs.Sights.{sight_line};
+ghost use Rattle.mig_top.specs.Audits.{sight_line};
 ghost use Rattle.mig_words.specs.Words.{Audit};
 
 use crate::layout_reads::{item_count, load_layout};

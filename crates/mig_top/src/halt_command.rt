@@ -3,8 +3,8 @@ ghost use Rattle.std.specs.Prelude.{◌≡◌, ◌≤◌, IfErr, OnOk, length};
 ghost use Rattle.mig_io.specs.Files.{FolderState};
 ghost use Rattle.mig_top.specs.Calls.{call, world};
 ghost use Rattle.mig_top.specs.Ends.{FormEndsAs};
-ghost use Rattle.mig_top.specs.HaltLeaves.{SaveEnds, SavesLayout};
-ghost use Rattle.mig_top.specs.MoveLeaves.{AreOfTask};
+ghost use Rattle.mig_top.specs.Leaves.{SaveEnds, SavesLayout};
+ghost use Rattle.mig_top.specs.Leaves.{AreOfTask};
 ghost use Rattle.mig_words.specs.Commands.{task_names};
 ghost use Rattle.mig_words.specs.Words.{Halt};
 

@@ -1,5 +1,5 @@
 //! Loads the files of a command.
-ghost use Rattle.std.specs.Prelude.{◌≡◌, ◌≤◌, ◌∷◌, [], ℕ, List, slice_index_or};
+ghost use Rattle.std.specs.Prelude.{◌≡◌, ◌≤◌, [], ℕ, List, slice_index_or};
 ghost use Rattle.mig_top.specs.Bodies.{bodies_of, plan_bodies_of, two_bodies_of};
 ghost use Rattle.mig_top.specs.Loads.{loads, loads_input, loads_layout, loads_plan};
 ghost use Rattle.mig_top.specs.Steps.{TakesFrom};
@@ -24,8 +24,7 @@ pub struct LayoutBytes {
 /// The bytes of the three files of an input.
 #[derive(Drop)]
 pub struct InputBytes {
-    pub disks: Vec<u8>,
-    pub now: Vec<u8>,
+    pub layout: LayoutBytes,
     pub next: Vec<u8>,
 }
 
@@ -57,14 +56,15 @@ pub fn load_file<F: Folder>(
     }
 }
 
-/// Loads the two files of a layout.
+/// Loads the two files of a layout, the first of those that the command loads.
 pub fn load_two<F: Folder>(
     alloc: Global,
     folder: &mut F,
     disks: &str,
     now: &str,
 ) -> Result<LayoutBytes, Ending>
-    ensures takes { TakesFrom two_bodies_of (F.state folder.old) (F.state folder.new) (disks.now ∷ now.now ∷ []) (loads_layout disks.now now.now) result }
+    ensures takes { (names : List (List ℕ)) → slice_index_or names 0 [] ≡ disks.now → slice_index_or names 1 [] ≡ now.now
+        → TakesFrom two_bodies_of (F.state folder.old) (F.state folder.new) names (loads_layout disks.now now.now) result }
     ensures same { (F.state folder.new).files ≡ (F.state folder.old).files }
     ensures later { (F.state folder.old).faults ≤ (F.state folder.new).faults }
 {
@@ -83,10 +83,9 @@ pub fn load_input<F: Folder>(
     ensures same { (F.state folder.new).files ≡ (F.state folder.old).files }
     ensures later { (F.state folder.old).faults ≤ (F.state folder.new).faults }
 {
-    let disks = load_file(alloc, folder, files.disks, 0)?;
-    let now = load_file(alloc, folder, files.now, 1)?;
+    let layout = load_two(alloc, folder, files.disks, files.now)?;
     let next = load_file(alloc, folder, files.next, 2)?;
-    Ok(InputBytes { disks, now, next })
+    Ok(InputBytes { layout, next })
 }
 
 /// Loads the three files of an input, and that of a plan for it.

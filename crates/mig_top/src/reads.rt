@@ -23,7 +23,7 @@ pub fn read_roomy(alloc: Global, bytes: &InputBytes) -> Result<Input, Ending>
     ensures takes { Takes (reads_input Roomy (bodies_of bytes.entry.now)) result }
     ensures roomy { IfOk result IsRoomy }
 {
-    Ok(read_input(alloc, &bytes.disks, &bytes.now, &bytes.next)?)
+    Ok(read_input(alloc, &bytes.layout.disks, &bytes.layout.now, &bytes.next)?)
 }
 
 /// The input that the bytes of the three files stand for, as this reader reads them.

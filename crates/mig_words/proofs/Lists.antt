@@ -1,10 +1,6 @@
 -- Facts about lists.
-use Rattle.std.proofs.Common.{◌≡◌, ℕ, ◌+◌, ◌<◌, List, [], ◌∷◌, length, get_or, drop, map, Option, Some, None, MatchOption, refl, ap, ◌∙◌, arith, add-one, drop-cons}
-use Rattle.std.specs.String.{string_bytes}
-use Rattle.std.specs.declared.string.String.{String}
-use Rattle.std.specs.declared.alloc.Global.{Global}
-use Rattle.mig_words.specs.Words.{texts}
-use Rattle.std.specs.List.{AllByRecursion}
+use Rattle.mig_words.proofs.Common.{AllByRecursion, Global, List, MatchOption, None, Option, Some, String, [], add-one, ap, arith, drop, drop-cons, get_or, length, map, refl, string_bytes, texts}
+use Rattle.mig_words.proofs.Common.{ℕ, ◌+◌, ◌<◌, ◌∙◌, ◌∷◌, ◌≡◌}
 
 -- six items
 pub six_items : {X : Type 0} (xs : List X) (a b c d e f : X) → length xs ≡ 6 → a ≡ get_or xs 0 a → b ≡ get_or xs 1 b → c ≡ get_or xs 2 c → d ≡ get_or xs 3 d → e ≡ get_or xs 4 e → f ≡ get_or xs 5 f

@@ -1,15 +1,7 @@
 -- Texts that are put piece by piece.
-use Rattle.std.proofs.Common.{◌≡◌, false, true, ℕ, suc, ◌+◌, ◌<◌, List, [], ◌∷◌, ◌++◌, length, map, take, drop, get_or, Option, Some, None, Result, Ok, Err, sym, ◌∙◌, ap, subst, append_assoc, arith}
-use Rattle.std.specs.Option.{IfSome}
-use Rattle.std.specs.Result.{IsErr}
-use Rattle.std.proofs.lemmas.List.{append-nil, length-append, map-append, take-append-drop, take-append-le}
-use Rattle.std.proofs.lemmas.Grind.{flat_map-append}
-use Rattle.std.proofs.Math.Seq.{drop-cons, take-append-add, take-length}
-use Rattle.mig_base.specs.declared.blames.Blame.{Blame}
-use Rattle.mig_io.specs.Held.{SinkState, Extends, ExtendsByPrefix, ExtendsInPart}
-use Rattle.mig_io.specs.declared.sink.SinkFailed.{SinkFailed}
-use Rattle.mig_words.specs.Outcomes.{blame_pieces, joined}
-use Rattle.mig_words.specs.Puts.{Puts}
+use Rattle.mig_words.proofs.Common.{Blame, Err, Extends, ExtendsByPrefix, ExtendsInPart, IfSome, IsErr, List, None, Ok, Option, Puts, Result, SinkFailed, SinkState, Some, [], ap, append-nil}
+use Rattle.mig_words.proofs.Common.{append_assoc, arith, blame_pieces, drop, drop-cons, false, flat_map-append, get_or, joined, length, length-append, map, map-append, subst, suc, sym, take}
+use Rattle.mig_words.proofs.Common.{take-append-add, take-append-drop, take-append-le, take-length, true, ℕ, ◌++◌, ◌+◌, ◌<◌, ◌∙◌, ◌∷◌, ◌≡◌}
 
 -- a whole text is a beginning of it
 pub begins : (a : List ℕ) (x y : SinkState) → Extends a x y → ExtendsInPart a x y

@@ -1,4 +1,4 @@
-use Rattle.mig_base.proofs.Common.{◌≡◌, ◌<◌, ◌^◌, take, number_of}
+use Rattle.mig_base.proofs.Common.{number_of, take, ◌<◌, ◌^◌, ◌≡◌}
 use Rattle.mig_base.proofs.digits.digits_value.Given as goal
 
 abbrev pub invariant-loop-c : goal.invariant-loop-c

@@ -1,4 +1,4 @@
-use Rattle.std.proofs.Common.{rules}
+use Rattle.mig_base.proofs.Common.{rules}
 use Rattle.mig_base.proofs.digits.read_digits.Goals as goal
 
 pub returns-then-is_empty-clause-valid : goal.returns-then-is_empty-clause-valid

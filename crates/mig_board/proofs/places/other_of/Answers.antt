@@ -1,4 +1,4 @@
-use Rattle.std.proofs.Common.{rules}
+use Rattle.mig_board.proofs.Common.{rules}
 use Rattle.mig_board.proofs.places.other_of.Goals as goal
 
 pub returns-then-eq : goal.returns-then-eq

@@ -1,4 +1,4 @@
-use Rattle.std.proofs.Common.{◌%◌, arith}
+use Rattle.mig_board.proofs.Common.{arith, ◌%◌}
 use Rattle.mig_board.proofs.Bits.{high_has}
 use Rattle.mig_board.proofs.words.bits_from.Goals as goal
 

@@ -1,4 +1,4 @@
-use Rattle.std.proofs.Common.{◌*◌}
+use Rattle.mig_board.proofs.Common.{◌*◌}
 use Rattle.mig_board.proofs.Bits.{HasNoBitBelow}
 use Rattle.mig_board.proofs.words.first_bit.Given as goal
 

@@ -1,5 +1,4 @@
-use Rattle.std.proofs.Common.{arith, refl, get_or}
-use Rattle.std.proofs.lemmas.Nat.{and_le_l}
+use Rattle.mig_board.proofs.Common.{and_le_l, arith, get_or, refl}
 use Rattle.mig_board.proofs.Bits.{common_in_word, common_more}
 use Rattle.mig_board.proofs.words.first_common_bit.Goals as goal
 

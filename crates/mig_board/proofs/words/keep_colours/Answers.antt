@@ -1,5 +1,4 @@
-use Rattle.std.proofs.Common.{◌-◌, ◌*◌, ◌%◌, ◌+◌, ◌/◌, arith, ap, subst}
-use Rattle.std.proofs.lemmas.Nat.{one_shl}
+use Rattle.mig_board.proofs.Common.{ap, arith, one_shl, subst, ◌%◌, ◌*◌, ◌+◌, ◌-◌, ◌/◌}
 use Rattle.mig_board.proofs.FullSets.{AreFullSets-whole, AreFullSets-cut, cut_more, AreCut}
 use Rattle.mig_board.proofs.words.keep_colours.Goals as goal
 

@@ -1,8 +1,5 @@
-use Rattle.mig_base.proofs.Common.{◌≡◌, ◌<◌, ◌∷◌, [], ℕ, List, length, sym, ap, ◌∙◌, arith, subst, get_or_default, numbers, inside, ByComponent, set_value}
-use Rattle.mig_bounds.specs.declared.best.Witness.{Witness}
-use Rattle.mig_bounds.specs.Labels.{labelled}
-use Rattle.mig_bounds.specs.Components.{candidate_by}
-use Rattle.mig_bounds.specs.Search.{IsBestBelow}
+use Rattle.mig_bounds.proofs.Common.{ByComponent, IsBestBelow, List, Witness, [], ap, arith, candidate_by, get_or_default, inside, labelled, length, numbers, set_value, subst, sym, ℕ}
+use Rattle.mig_bounds.proofs.Common.{◌<◌, ◌∙◌, ◌∷◌, ◌≡◌}
 use Rattle.mig_bounds.proofs.Bests.{IsBest-whole, label_there}
 use Rattle.mig_bounds.proofs.bounds.bound_of.Goals as goal
 
@@ -29,7 +26,7 @@ returns-in_ok-disks_labelled-in-Component c =
     let i : c.index.result.now ≡ inside set g.trips = c.index.ensures ∙ get_or_default c.args.components.now.insides.items root.0 c.index.result.now 0 (omega (arith, there, parts.insides_len)) ∙ parts.inside root.0 there in (
       ByComponent set,
       names,
-      IsBest-whole g (ByComponent set) c.args.best.value best,
+      IsBest-whole g (ByComponent set) c.args.best.value c.requires.joint best,
       record {
         loads = i ∙ ap (λ (x : List ℕ). inside x g.trips) (sym names);
         values = best.value_is ∙ ap (λ (x : List ℕ). set_value g x) (sym names);

@@ -1,6 +1,4 @@
-use Rattle.mig_base.proofs.Common.{◌++◌, ◌∷◌, [], ℕ, Bool, true, false, eqb, eq-eqb, List, get_or, sym, ap, ◌∙◌, Vec, Global, subst, ne_eqb, numbers}
-use Rattle.mig_base.specs.declared.ids.DiskId.{DiskId}
-use Rattle.mig_base.proofs.Components.{increasing_filter}
+use Rattle.mig_bounds.proofs.Common.{AllPairs, Bool, DiskId, Global, List, Vec, [], ap, eq-eqb, eqb, get_or, increasing_filter, ne_eqb, numbers, subst, sym, ℕ, ◌++◌, ◌∙◌, ◌∷◌}
 use Rattle.mig_bounds.proofs.DiskLists.{filter_yes, filter_no, numbers_push, IsDiskSet-numbers}
 use Rattle.mig_bounds.proofs.bounds.disks_labelled.Goals as goal
 use Rattle.mig_bounds.proofs.bounds.disks_labelled.Goals.{then-labels-disk+in_ok-push, else-labels-disk}

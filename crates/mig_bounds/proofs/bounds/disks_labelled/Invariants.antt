@@ -1,5 +1,4 @@
-use Rattle.mig_base.proofs.Common.{◌≡◌, filter, ◌==◌, range_with_len, numbers}
-use Rattle.std.specs.Prelude.{slice_index}
+use Rattle.mig_bounds.proofs.Common.{filter, numbers, range_with_len, slice_index, ◌==◌, ◌≡◌}
 use Rattle.mig_bounds.proofs.bounds.disks_labelled.Given as goal
 
 abbrev pub invariant-loop-disk : goal.invariant-loop-disk

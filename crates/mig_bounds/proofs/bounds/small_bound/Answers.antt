@@ -1,6 +1,4 @@
-use Rattle.mig_base.proofs.Common.{◌≡◌, ◌∷◌, [], ℕ, List, sym, ap, ◌∙◌, subst, numbers, inside, ByTriple, set_value}
-use Rattle.mig_bounds.specs.declared.best.SmallSet.{SmallSet}
-use Rattle.mig_bounds.specs.Search.{IsBestBelow, candidate_of}
+use Rattle.mig_bounds.proofs.Common.{ByTriple, IsBestBelow, List, SmallSet, [], ap, candidate_of, inside, numbers, set_value, subst, sym, ℕ, ◌∙◌, ◌∷◌, ◌≡◌}
 use Rattle.mig_bounds.proofs.Bests.{IsBest-whole}
 use Rattle.mig_bounds.proofs.bounds.small_bound.Goals as goal
 
@@ -15,7 +13,7 @@ returns-in_ok-vec-in-Triple c =
     let names : numbers c.of.result ≡ set = ap numbers (c.of.ensures ∙ c.in_ok-vec-in-Triple.ensures.items) in (
       ByTriple x y z,
       names,
-      IsBest-whole g (ByTriple x y z) c.args.best.value best,
+      IsBest-whole g (ByTriple x y z) c.args.best.value c.requires.joint best,
       record {
         loads = c.inside_three.ensures.inside ∙ ap (λ (s : List ℕ). inside s g.trips) (sym names);
         values = best.value_is ∙ ap (λ (s : List ℕ). set_value g s) (sym names);

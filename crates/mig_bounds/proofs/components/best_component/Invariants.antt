@@ -1,5 +1,4 @@
-use Rattle.std.proofs.Common.{◌∷◌, []}
-use Rattle.mig_bounds.specs.Components.{IsBestOf}
+use Rattle.mig_bounds.proofs.Common.{IsBestOf, [], ◌∷◌}
 use Rattle.mig_bounds.proofs.components.best_component.Given as goal
 
 abbrev pub invariant-loop-root : goal.invariant-loop-root

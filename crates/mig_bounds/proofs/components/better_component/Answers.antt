@@ -1,8 +1,5 @@
-use Rattle.mig_base.proofs.Common.{◌≡◌, ◌<◌, ◌≤◌, ◌/◌, ℕ, true, List, length, get_or, IsTrue, sym, ap, ◌∙◌, arith, inl, inr, get_or_default, Transfers, load, takes_part, inside, IsCandidate}
-use Rattle.mig_base.proofs.Common.{ByComponent, value, limit_sum, set_value}
-use Rattle.mig_base.proofs.Counting.{div_ceil-le, differ, not_none}
-use Rattle.mig_bounds.specs.Labels.{labelled}
-use Rattle.mig_bounds.specs.Components.{candidate_by}
+use Rattle.mig_bounds.proofs.Common.{ByComponent, IsJointCandidate, IsTrue, List, Transfers, ap, arith, candidate_by, differ, div_ceil-le, get_or, get_or_default, inl, inr}
+use Rattle.mig_bounds.proofs.Common.{inside, labelled, length, limit_sum, load, not_none, set, set_value, sym, takes_part, value, ℕ, ◌/◌, ◌<◌, ◌∙◌, ◌≡◌, ◌≤◌}
 use Rattle.mig_bounds.proofs.ComponentSets.{IsBestBelow-keeps_label, IsBestBelow-takes_label}
 use Rattle.mig_bounds.proofs.Steps.{div_ceil-gt, set_value-half}
 use Rattle.mig_bounds.proofs.components.better_component.Goals as goal
@@ -35,7 +32,7 @@ returns-then-sum-eq0 c =
     let parts = c.requires.components in
     let set = labelled labels r in
     let sum : c.index-sum.result.now ≡ limit_sum g set = c.index-sum.ensures ∙ get_or_default sums r c.index-sum.result.now 0 (omega (arith, c.requires.there, parts.sums_len)) ∙ parts.sum r c.requires.there in
-    let no_better : IsCandidate g (ByComponent set) → value g (ByComponent set) ≤ c.args.best.value = λ cand. elim c.then-sum-eq0.either [
+    let no_better : IsJointCandidate g (ByComponent set) → value g (ByComponent set) ≤ c.args.best.value = λ cand. elim c.then-sum-eq0.either [
       | inl even ↦ absurd (omega (arith, even, sum, cand.1))
       | inr no_half ↦ halfless g set c.args.best.value (ap (λ n. n / 2) (sym sum) ∙ no_half.1)
     ] in

@@ -1,4 +1,4 @@
-use Rattle.mig_base.proofs.Common.{◌≡◌, ◌<◌, ◌≤◌, ◌+◌, length, get_or, ap, ◌∙◌, arith, take, get_or_default, length-take-le, Trip}
+use Rattle.mig_bounds.proofs.Common.{Trip, ap, arith, get_or, get_or_default, length, length-take-le, take, ◌+◌, ◌<◌, ◌∙◌, ◌≡◌, ◌≤◌}
 use Rattle.mig_bounds.proofs.ComponentCounts.{AreInsides-more, inside_small}
 use Rattle.mig_bounds.proofs.PairTables.{leaves_below}
 use Rattle.mig_bounds.proofs.components.insides_of.Goals as goal

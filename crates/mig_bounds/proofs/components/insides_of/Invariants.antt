@@ -1,5 +1,4 @@
-use Rattle.std.proofs.Common.{take}
-use Rattle.mig_bounds.specs.Components.{AreInsides}
+use Rattle.mig_bounds.proofs.Common.{AreInsides, take}
 use Rattle.mig_bounds.proofs.components.insides_of.Given as goal
 
 abbrev pub invariant-loop-edge : goal.invariant-loop-edge

@@ -1,4 +1,4 @@
-use Rattle.mig_bounds.specs.Components.{AreLimitSums}
+use Rattle.mig_bounds.proofs.Common.{AreLimitSums}
 use Rattle.mig_bounds.proofs.components.limit_sums.Given as goal
 
 abbrev pub invariant-loop-disk : goal.invariant-loop-disk

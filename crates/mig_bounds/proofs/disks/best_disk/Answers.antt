@@ -1,5 +1,4 @@
-use Rattle.std.proofs.Common.{◌≡◌, arith, subst, length}
-use Rattle.mig_bounds.specs.Search.{IsBestDisk}
+use Rattle.mig_bounds.proofs.Common.{IsBestDisk, arith, length, subst, ◌≡◌}
 use Rattle.mig_bounds.proofs.disks.best_disk.Goals as goal
 
 pub returns-clause-best : goal.returns-clause-best

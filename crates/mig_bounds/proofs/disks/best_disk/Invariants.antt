@@ -1,4 +1,4 @@
-use Rattle.mig_bounds.specs.Search.{IsBestDisk}
+use Rattle.mig_bounds.proofs.Common.{IsBestDisk}
 use Rattle.mig_bounds.proofs.disks.best_disk.Given as goal
 
 abbrev pub invariant-loop-disk : goal.invariant-loop-disk

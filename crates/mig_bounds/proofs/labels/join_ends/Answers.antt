@@ -1,4 +1,4 @@
-use Rattle.mig_base.proofs.Common.{◌≡◌, ◌<◌, length, get_or, sym, ◌∙◌, arith, refl, Trip}
+use Rattle.mig_bounds.proofs.Common.{Trip, arith, get_or, length, refl, sym, ◌<◌, ◌∙◌, ◌≡◌}
 use Rattle.mig_bounds.proofs.Labelling.{IsLabelling-joined, IsLabelling-same, has_both, changed, kept}
 use Rattle.mig_bounds.proofs.PairTables.{leaves_below, reaches_below}
 use Rattle.mig_bounds.proofs.labels.join_ends.Goals as goal

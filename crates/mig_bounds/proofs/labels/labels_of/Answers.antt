@@ -1,4 +1,4 @@
-use Rattle.std.proofs.Common.{rules}
+use Rattle.mig_bounds.proofs.Common.{rules}
 use Rattle.mig_bounds.proofs.labels.labels_of.Goals as goal
 
 pub loop-edge-init : goal.loop-edge-init

@@ -1,4 +1,4 @@
-use Rattle.mig_bounds.specs.Labels.{IsLabelling}
+use Rattle.mig_bounds.proofs.Common.{IsLabelling}
 use Rattle.mig_bounds.proofs.labels.labels_of.Given as goal
 
 abbrev pub invariant-loop-edge : goal.invariant-loop-edge

@@ -1,5 +1,4 @@
-use Rattle.std.proofs.Common.{◌≡◌, ◌<◌, ◌≤◌, ℕ}
-use Rattle.std.specs.Prelude.{if◌then◌else◌, ◌==◌, slice_index}
+use Rattle.mig_bounds.proofs.Common.{if◌then◌else◌, slice_index, ℕ, ◌<◌, ◌==◌, ◌≡◌, ◌≤◌}
 use Rattle.mig_bounds.proofs.labels.relabel.Given as goal
 
 abbrev pub invariant-loop-label : goal.invariant-loop-label

@@ -1,5 +1,4 @@
-use Rattle.mig_base.proofs.Common.{◌≡◌, ◌<◌, ◌≤◌, ◌+◌, ◌*◌, ℕ, List, length, get_or, ap, sym, ◌∙◌, arith, subst, take, Trip, length-set}
-use Rattle.mig_bounds.specs.Pairs.{CountsPairs}
+use Rattle.mig_bounds.proofs.Common.{CountsPairs, List, Trip, ap, arith, get_or, length, length-set, subst, sym, take, ℕ, ◌*◌, ◌+◌, ◌<◌, ◌∙◌, ◌≡◌, ◌≤◌}
 use Rattle.mig_bounds.proofs.PairTables.{cell_within, cell_small, counted, next_small, CountsPairs-more, leaves_below, reaches_below}
 use Rattle.mig_bounds.proofs.pairs.pairs_of.Goals as goal
 use Rattle.mig_bounds.proofs.pairs.pairs_of.Goals.{After-ends}

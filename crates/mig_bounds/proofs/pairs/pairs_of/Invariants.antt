@@ -1,5 +1,4 @@
-use Rattle.std.proofs.Common.{take, length}
-use Rattle.mig_bounds.specs.Pairs.{CountsPairs}
+use Rattle.mig_bounds.proofs.Common.{CountsPairs, length, take}
 use Rattle.mig_bounds.proofs.pairs.pairs_of.Given as goal
 
 abbrev pub invariant-loop-edge : goal.invariant-loop-edge

@@ -1,6 +1,4 @@
-use Rattle.mig_base.proofs.Common.{◌≡◌, ◌≤◌, ap, arith, inl, inr, cases_lt}
-use Rattle.mig_base.specs.declared.limits.TheConstants.{MAX_ITEMS}
-use Rattle.mig_bounds.specs.Pairs.{between}
+use Rattle.mig_bounds.proofs.Common.{MAX_ITEMS, ap, arith, between, cases_lt, inl, inr, ◌≡◌, ◌≤◌}
 use Rattle.mig_bounds.proofs.pairs.top_of.Goals as goal
 use Rattle.mig_bounds.proofs.pairs.top_of.Goals.{then-top-joined, else-top-joined}
 

@@ -1,6 +1,4 @@
-use Rattle.mig_base.proofs.Common.{ℕ, ◌<◌, ◌≤◌}
-use Rattle.mig_base.specs.declared.limits.TheConstants.{MAX_ITEMS}
-use Rattle.mig_bounds.specs.Pairs.{between}
+use Rattle.mig_bounds.proofs.Common.{MAX_ITEMS, between, ℕ, ◌<◌, ◌≤◌}
 use Rattle.mig_bounds.proofs.pairs.top_of.Given as goal
 
 abbrev pub invariant-loop-b : goal.invariant-loop-b

@@ -1,5 +1,4 @@
-use Rattle.mig_base.proofs.Common.{◌≡◌, ℕ, ◌<◌, ◌++◌, ◌∷◌, [], List, length, length-append, get_or, ap, ◌∙◌, sym, arith, inl, inr, cases_lt, get_or_append_left, get_or-append_seam}
-use Rattle.mig_bounds.specs.Pairs.{between}
+use Rattle.mig_bounds.proofs.Common.{List, [], ap, arith, between, cases_lt, get_or, get_or-append_seam, get_or_append_left, inl, inr, length, length-append, sym, ℕ, ◌++◌, ◌<◌, ◌∙◌, ◌∷◌, ◌≡◌}
 use Rattle.mig_bounds.proofs.pairs.tops_of.Goals as goal
 
 pub loop-a-preserved : goal.loop-a-preserved

@@ -1,6 +1,4 @@
-use Rattle.mig_base.proofs.Common.{◌≡◌, ℕ, ◌<◌, ◌≤◌, length, get_or}
-use Rattle.mig_base.specs.declared.limits.TheConstants.{MAX_ITEMS}
-use Rattle.mig_bounds.specs.Pairs.{between}
+use Rattle.mig_bounds.proofs.Common.{MAX_ITEMS, between, get_or, length, ℕ, ◌<◌, ◌≡◌, ◌≤◌}
 use Rattle.mig_bounds.proofs.pairs.tops_of.Given as goal
 
 abbrev pub invariant-loop-a : goal.invariant-loop-a

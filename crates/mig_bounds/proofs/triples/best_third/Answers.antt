@@ -1,5 +1,4 @@
-use Rattle.std.proofs.Common.{◌∷◌, []}
-use Rattle.mig_bounds.specs.Search.{candidate_of}
+use Rattle.mig_bounds.proofs.Common.{[], candidate_of, ◌∷◌}
 use Rattle.mig_bounds.proofs.Pruning.{no_better_third}
 use Rattle.mig_bounds.proofs.Steps.{IsBestBelow-skips}
 use Rattle.mig_bounds.proofs.triples.best_third.Goals as goal

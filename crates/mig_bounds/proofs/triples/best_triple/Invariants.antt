@@ -1,5 +1,4 @@
-use Rattle.std.proofs.Common.{◌∷◌, []}
-use Rattle.mig_bounds.specs.Search.{IsBestSmall}
+use Rattle.mig_bounds.proofs.Common.{IsBestSmall, [], ◌∷◌}
 use Rattle.mig_bounds.proofs.triples.best_triple.Given as goal
 
 abbrev pub invariant-loop-a : goal.invariant-loop-a

@@ -1,7 +1,4 @@
-use Rattle.mig_base.proofs.Common.{◌≡◌, ◌⊎◌, ◌<◌, ◌+◌, ◌/◌, ◌∷◌, [], sym, ◌∙◌, arith, inl, inr, ByTriple}
-use Rattle.mig_base.proofs.Counting.{div_ceil-le}
-use Rattle.mig_bounds.specs.Pairs.{between}
-use Rattle.mig_bounds.specs.Search.{candidate_of}
+use Rattle.mig_bounds.proofs.Common.{ByTriple, [], arith, between, candidate_of, div_ceil-le, inl, inr, sym, ◌+◌, ◌/◌, ◌<◌, ◌∙◌, ◌∷◌, ◌≡◌, ◌⊎◌}
 use Rattle.mig_bounds.proofs.Pruning.{between_comm, joined_takes_part, no_better_triple}
 use Rattle.mig_bounds.proofs.Steps.{IsBestBelow-keeps, IsBestBelow-takes, below_next, div_ceil-gt, set_value-half}
 use Rattle.mig_bounds.proofs.triples.better_triple.Goals as goal

@@ -1,4 +1,4 @@
-use Rattle.mig_base.proofs.Common.{◌∷◌, [], List, ℕ, arith, count_by-le-length, is_inside}
+use Rattle.mig_bounds.proofs.Common.{List, [], arith, count_by-le-length, is_inside, ℕ, ◌∷◌}
 use Rattle.mig_bounds.proofs.Steps.{inside_three_is}
 use Rattle.mig_bounds.proofs.triples.inside_three.Goals as goal
 

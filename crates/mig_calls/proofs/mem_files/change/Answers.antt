@@ -1,6 +1,4 @@
-use Rattle.std.proofs.Common.{subst, ap, List}
-use Rattle.mig_base.specs.InputLists.{AreDifferent}
-use Rattle.mig_calls.specs.MemFiles.{Seen, changed, look}
+use Rattle.mig_calls.proofs.Common.{AreDifferent, List, Seen, ap, changed, look, subst}
 use Rattle.mig_calls.proofs.FileLists.{places_kept, seen_change, seen_same, on_ok, on_err}
 use Rattle.mig_calls.proofs.mem_files.change.Goals as goal
 

@@ -1,7 +1,4 @@
-use Rattle.std.proofs.Common.{◌<◌, ℕ, sym, ◌∙◌, ap, subst}
-use Rattle.std.proofs.lemmas.List.{length-map}
-use Rattle.mig_calls.specs.declared.mem_file.MemFile.{MemFile}
-use Rattle.mig_calls.specs.MemFiles.{moment_of, seen_of, seen_all, crashed}
+use Rattle.mig_calls.proofs.Common.{MemFile, ap, crashed, length-map, moment_of, seen_all, seen_of, subst, sym, ℕ, ◌<◌, ◌∙◌}
 use Rattle.mig_calls.proofs.FileLists.{seen_more}
 use Rattle.mig_calls.proofs.mem_files.crash_all.Goals as goal
 

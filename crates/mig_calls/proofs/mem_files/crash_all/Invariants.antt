@@ -1,5 +1,4 @@
-use Rattle.std.proofs.Common.{◌≡◌, ◌++◌, take, drop, map}
-use Rattle.mig_calls.specs.MemFiles.{crashed, seen_all, on_file}
+use Rattle.mig_calls.proofs.Common.{crashed, drop, map, on_file, seen_all, take, ◌++◌, ◌≡◌}
 use Rattle.mig_calls.proofs.mem_files.crash_all.Given as goal
 
 abbrev pub invariant-loop-file : goal.invariant-loop-file

@@ -1,7 +1,5 @@
-use Rattle.std.proofs.Common.{subst, sym, ap, ◌∙◌}
+use Rattle.mig_calls.proofs.Common.{AreDifferent, Seen, ap, moment_of, seen_all, seen_of, subst, sym, ◌∙◌}
 use Rattle.std.proofs.Math.ListN.{get_or-map}
-use Rattle.mig_base.specs.InputLists.{AreDifferent}
-use Rattle.mig_calls.specs.MemFiles.{Seen, moment_of, seen_of, seen_all}
 use Rattle.mig_calls.proofs.FileLists.{look-found, look-absent}
 use Rattle.mig_calls.proofs.mem_files.get.Goals as goal
 

@@ -1,5 +1,4 @@
-use Rattle.std.proofs.Common.{◌≡◌, ◌++◌, take, drop, map}
-use Rattle.mig_calls.specs.MemFiles.{with_name, seen_all, on_file}
+use Rattle.mig_calls.proofs.Common.{drop, map, on_file, seen_all, take, with_name, ◌++◌, ◌≡◌}
 use Rattle.mig_calls.proofs.mem_files.name_all.Given as goal
 
 abbrev pub invariant-loop-file : goal.invariant-loop-file

@@ -1,4 +1,4 @@
-use Rattle.std.proofs.Common.{rules}
+use Rattle.mig_cert.proofs.Common.{rules}
 use Rattle.mig_cert.proofs.bounds.disk_fields.Goals as goal
 
 pub returns : goal.returns

@@ -1,4 +1,4 @@
-use Rattle.std.proofs.Common.{arith}
+use Rattle.mig_cert.proofs.Common.{arith}
 use Rattle.mig_cert.proofs.CertPlaces.{few_in_set}
 use Rattle.mig_cert.proofs.cert_print.push_bound.Goals as goal
 

@@ -1,4 +1,4 @@
-use Rattle.mig_base.proofs.Common.{arith, common_steps}
+use Rattle.mig_cert.proofs.Common.{arith, common_steps}
 use Rattle.mig_cert.proofs.cert_print.push_disk_line.Goals as goal
 
 pub returns : goal.returns

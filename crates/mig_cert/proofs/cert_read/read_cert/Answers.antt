@@ -1,4 +1,4 @@
-use Rattle.mig_base.proofs.Common.{arith, MatchResult-weaker}
+use Rattle.mig_cert.proofs.Common.{MatchResult-weaker, arith}
 use Rattle.mig_cert.proofs.CertReads.{cert_line, cert_text}
 use Rattle.mig_cert.proofs.cert_read.read_cert.Goals as goal
 

@@ -1,5 +1,4 @@
-use Rattle.std.proofs.lemmas.Result.{err_from_is_err_and}
-use Rattle.mig_base.specs.Texts.{Many}
+use Rattle.mig_cert.proofs.Common.{Many, err_from_is_err_and}
 use Rattle.mig_cert.proofs.CertReads.{bound_stops, members_stop}
 use Rattle.mig_cert.proofs.cert_read.take_bound.Goals as goal
 

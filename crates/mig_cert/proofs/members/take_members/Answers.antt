@@ -1,4 +1,4 @@
-use Rattle.mig_base.proofs.Common.{◌≡◌, ◌∙◌, true, not, ap, is_ok, err_from_is_err_and}
+use Rattle.mig_cert.proofs.Common.{ap, err_from_is_err_and, is_ok, not, true, ◌∙◌, ◌≡◌}
 use Rattle.mig_cert.proofs.MemberLists.{member_stops, members_more}
 use Rattle.mig_cert.proofs.members.take_members.Goals as goal
 

@@ -1,4 +1,4 @@
-use Rattle.mig_cert.specs.MemberParts.{AreMembersPart}
+use Rattle.mig_cert.proofs.Common.{AreMembersPart}
 use Rattle.mig_cert.proofs.members.take_members.Given as goal
 
 abbrev pub invariant-members : goal.invariant-members

@@ -1,5 +1,4 @@
-use Rattle.mig_base.proofs.Common.{◌≡◌, List, length, ap, ◌∙◌, arith, get_or, numbers, is_inside, no_spot}
-use Rattle.mig_check.proofs.Common.{Spot, passing}
+use Rattle.mig_check.proofs.Common.{List, Spot, ap, arith, get_or, is_inside, length, no_spot, numbers, passing, ◌∙◌, ◌≡◌}
 use Rattle.mig_check.proofs.MoveCounts.{counted_more, ends_there, inside_by_marks, no_more, one_more, passes_at, passing_all, passing_most}
 use Rattle.mig_check.proofs.counted.count_inside.Goals.{then-moves_inside, else-moves_inside}
 use Rattle.mig_check.proofs.counted.count_inside.Goals as goal

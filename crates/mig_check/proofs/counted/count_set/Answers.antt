@@ -1,4 +1,4 @@
-use Rattle.std.proofs.Common.{rules}
+use Rattle.mig_check.proofs.Common.{rules}
 use Rattle.mig_check.proofs.counted.count_set.Goals as goal
 
 pub returns-clause-value : goal.returns-clause-value

@@ -1,4 +1,4 @@
-use Rattle.mig_base.proofs.Common.{◌≡◌, ℕ, ◌<◌, length, take, get_or, false, has, numbers}
+use Rattle.mig_check.proofs.Common.{false, get_or, has, length, numbers, take, ℕ, ◌<◌, ◌≡◌}
 use Rattle.mig_check.proofs.counted.mark.Given as goal
 
 abbrev pub invariant-loop-disk : goal.invariant-loop-disk

@@ -1,9 +1,8 @@
-use Rattle.mig_base.proofs.Common.{◌≡◌, ◌≤◌, ◌*◌, take, limit_sum, numbers, transfers}
-use Rattle.mig_base.specs.declared.limits.TheConstants.{MAX_LIMIT}
+use Rattle.mig_check.proofs.Common.{limit_sum, numbers, take, transfers, ◌*◌, ◌≡◌, ◌≤◌}
 use Rattle.mig_check.proofs.counted.sum_limits.Given as goal
 
 abbrev pub invariant-loop-disk : goal.invariant-loop-disk
 invariant-loop-disk l = record {
   is : l.sum ≡ limit_sum (transfers l.input) (numbers (take l.disk-index l.disk-items));
-  most : l.sum ≤ l.disk-index * MAX_LIMIT;
+  most : l.sum ≤ l.disk-index * 2048;
 }

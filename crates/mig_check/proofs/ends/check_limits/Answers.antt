@@ -1,16 +1,19 @@
-use Rattle.mig_base.proofs.Common.{◌≡◌, List, map, subst, sym, length, ap, arith, KeepsLimits, trip_of}
-use Rattle.mig_base.specs.declared.inputs.Disk.{Disk}
-use Rattle.mig_check.proofs.EndCounts.{limits_kept, limit_passed}
+use Rattle.mig_check.proofs.Common.{false, is_duplex, sym, true, ◌∙◌, ◌≡◌}
+use Rattle.mig_check.proofs.PartLimits.{found_by_both, found_by_sides}
 use Rattle.mig_check.proofs.ends.check_limits.Goals as goal
 
-pub returns-in_default-clause-none : goal.returns-in_default-clause-none
-returns-in_default-clause-none c =
-    let round = c.args.round.now in
-    let len : length c.count_ends.new.counts ≡ length c.disks.result.now = omega (arith, ap (λ (d : List Disk). length d) c.disks.ensures.value, c.requires.len) in
-    subst (λ (d : List Disk). KeepsLimits d (map trip_of round)) c.disks.ensures.value
-    (limits_kept c.disks.result.now c.count_ends.new.counts round len c.count_ends.ensures c.in_default.ensures.covered)
+pub returns-then-not-duplex-clause-none : goal.returns-then-not-duplex-clause-none
+returns-then-not-duplex-clause-none c = (found_by_both c.args.input.now c.keeps_rules.ensures c.args.round.now (sym c.duplex.ensures ∙ c.if-not-duplex.true) c.check_part.result c.check_part.ensures.over).0
+
+pub returns-then-not-duplex-clause-some : goal.returns-then-not-duplex-clause-some
+returns-then-not-duplex-clause-some c = (found_by_both c.args.input.now c.keeps_rules.ensures c.args.round.now (sym c.duplex.ensures ∙ c.if-not-duplex.true) c.check_part.result c.check_part.ensures.over).1
+
+pub returns-clause-none : goal.returns-clause-none
+returns-clause-none c =
+    (found_by_sides c.args.input.now c.keeps_rules.ensures c.args.round.now (sym c.duplex.ensures ∙ c.if-not-duplex.false) c.check_part-outgoing.result c.check_part-incoming.result c.lesser_of.result
+    c.check_part-outgoing.ensures.over c.check_part-incoming.ensures.over c.lesser_of.ensures).0
 
 pub returns-clause-some : goal.returns-clause-some
 returns-clause-some c =
-    let len : length c.count_ends.new.counts ≡ length c.disks.result.now = omega (arith, ap (λ (d : List Disk). length d) c.disks.ensures.value, c.requires.len) in
-    limit_passed c.disks.result.now c.count_ends.new.counts c.args.round.now len c.count_ends.ensures c.args.input.now (sym c.disks.ensures.value) c.in-Some.disk c.in-Some.ensures.over c.in-Some.ensures.covered
+    (found_by_sides c.args.input.now c.keeps_rules.ensures c.args.round.now (sym c.duplex.ensures ∙ c.if-not-duplex.false) c.check_part-outgoing.result c.check_part-incoming.result c.lesser_of.result
+    c.check_part-outgoing.ensures.over c.check_part-incoming.ensures.over c.lesser_of.ensures).1

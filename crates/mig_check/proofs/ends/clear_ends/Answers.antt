@@ -1,4 +1,4 @@
-use Rattle.mig_base.specs.Judging.{no_shift}
+use Rattle.mig_check.proofs.Common.{no_shift}
 use Rattle.mig_check.proofs.EndCounts.{cleared, all_cleared}
 use Rattle.mig_check.proofs.ends.clear_ends.Goals as goal
 

@@ -1,4 +1,4 @@
-use Rattle.mig_base.proofs.Common.{◌≤◌, ℕ, ◌<◌, length, map, drop, get_or, load, trip_of}
+use Rattle.mig_check.proofs.Common.{drop, get_or, length, load, map, trip_of, ℕ, ◌<◌, ◌≤◌}
 use Rattle.mig_check.proofs.ends.clear_ends.Given as goal
 
 abbrev pub invariant-loop-s : goal.invariant-loop-s

@@ -1,5 +1,4 @@
-use Rattle.mig_base.proofs.Common.{no_shift}
-use Rattle.mig_check.proofs.Common.{Shift, IsCovered}
+use Rattle.mig_check.proofs.Common.{IsCovered, Shift, no_shift}
 use Rattle.mig_check.proofs.EndCounts.{All-more}
 use Rattle.mig_check.proofs.ends.find_over.Goals as goal
 
@@ -9,7 +8,7 @@ loop-s-preserved c =
     let counts = c.args.counts.now in
     let first = c.lesser_over-first in
     let last = c.lesser_over-found in
-    let covers : Shift → Type 0 = λ s. IsCovered disks counts last.result s.from.disk.0 × IsCovered disks counts last.result s.to.disk.0 in
+    let covers : Shift → Type 0 = λ s. IsCovered c.args.part disks counts last.result s.from.disk.0 × IsCovered c.args.part disks counts last.result s.to.disk.0 in
     record {
       over = last.ensures.over (first.ensures.over c.loop-s.invariant.over);
       covered = All-more covers c.args.round.now c.loop-s.s-index no_shift c.loop-s-test.true

@@ -1,4 +1,4 @@
-use Rattle.mig_base.proofs.Common.{arith, rules, common_steps}
+use Rattle.mig_check.proofs.Common.{arith, common_steps, rules}
 use Rattle.mig_check.proofs.ends.lesser_over.Goals as goal
 
 pub returns-in-Some-clause-this : goal.returns-in-Some-clause-this

@@ -1,4 +1,4 @@
-use Rattle.mig_base.proofs.Needed.{needs_bound}
+use Rattle.mig_check.proofs.Common.{needs_bound}
 use Rattle.mig_check.proofs.BlameCases.{first_of_run, first_of_once, first_of_cert}
 use Rattle.mig_check.proofs.judging.judge.Goals as goal
 
@@ -12,4 +12,4 @@ pub returns-in-Err-check_cert-clause-blame : goal.returns-in-Err-check_cert-clau
 returns-in-Err-check_cert-clause-blame c = first_of_cert c.args.input.now c.args.plan.now c.args.cert.now c.in_default.ensures.runs c.in_default-check_once.ensures.once c.in-Err-check_cert.blame c.in-Err-check_cert.ensures.blame
 
 pub returns-clause-needs : goal.returns-clause-needs
-returns-clause-needs c = needs_bound c.args.input.now c.args.cert.now.bound c.keeps_rules.ensures c.requires.cert c.in_default-check_cert.ensures.holds.bound
+returns-clause-needs c = needs_bound c.args.input.now c.args.cert.now.bound c.keeps_rules.ensures c.requires.cert.disks c.in_default-check_cert.ensures.holds.bound

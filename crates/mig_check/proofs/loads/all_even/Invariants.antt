@@ -1,4 +1,4 @@
-use Rattle.mig_base.proofs.Common.{◌≡◌, ℕ, ◌<◌, ◌%◌, IsTrue, limit, takes_part, transfers}
+use Rattle.mig_check.proofs.Common.{IsTrue, limit, takes_part, transfers, ℕ, ◌%◌, ◌<◌, ◌≡◌}
 use Rattle.mig_check.proofs.loads.all_even.Given as goal
 
 abbrev pub invariant-loop-v : goal.invariant-loop-v

@@ -1,4 +1,4 @@
-use Rattle.std.proofs.Common.{◌∙◌}
+use Rattle.mig_check.proofs.Common.{◌∙◌}
 use Rattle.mig_check.proofs.ItemCounts.{once_from}
 use Rattle.mig_check.proofs.moved.check_counts.Goals as goal
 

@@ -1,4 +1,4 @@
-use Rattle.mig_base.proofs.Common.{◌≡◌, ℕ, ◌+◌, ◌<◌, length, take, get_or, count_by, is_of}
+use Rattle.mig_check.proofs.Common.{count_by, get_or, is_of, length, take, ℕ, ◌+◌, ◌<◌, ◌≡◌}
 use Rattle.mig_check.proofs.moved.count_round.Given as goal
 
 abbrev pub invariant-loop-s : goal.invariant-loop-s

@@ -1,5 +1,4 @@
-use Rattle.mig_base.proofs.Common.{[], suc, List, ap, ◌∙◌, ◌≡◌, arith, count_by, get_or_default, round_at, is_of}
-use Rattle.mig_base.specs.declared.ids.Shift.{Shift}
+use Rattle.mig_check.proofs.Common.{List, Shift, [], ap, arith, count_by, get_or_default, is_of, round_at, suc, ◌∙◌, ◌≡◌}
 use Rattle.mig_check.proofs.ItemCounts.{once_in_round, shift_count_more}
 use Rattle.mig_check.proofs.moved.count_rounds.Goals as goal
 

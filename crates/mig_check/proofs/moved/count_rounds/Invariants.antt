@@ -1,4 +1,4 @@
-use Rattle.mig_base.proofs.Common.{◌≡◌, ℕ, ◌<◌, ◌≤◌, length, take, get_or, shift_count}
+use Rattle.mig_check.proofs.Common.{get_or, length, shift_count, take, ℕ, ◌<◌, ◌≡◌, ◌≤◌}
 use Rattle.mig_check.proofs.moved.count_rounds.Given as goal
 
 abbrev pub invariant-loop-round : goal.invariant-loop-round

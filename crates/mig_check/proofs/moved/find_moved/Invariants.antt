@@ -1,5 +1,4 @@
-use Rattle.std.proofs.Common.{ℕ, ◌<◌}
-use Rattle.mig_check.specs.Counts.{IsTooOften}
+use Rattle.mig_check.proofs.Common.{IsTooOften, ℕ, ◌<◌}
 use Rattle.mig_check.proofs.moved.find_moved.Given as goal
 
 abbrev pub invariant-loop-i : goal.invariant-loop-i

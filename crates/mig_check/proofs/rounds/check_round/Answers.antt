@@ -1,4 +1,4 @@
-use Rattle.std.proofs.lemmas.Result.{err_from_is_err_and}
+use Rattle.mig_check.proofs.Common.{err_from_is_err_and}
 use Rattle.mig_check.proofs.rounds.check_round.Goals as goal
 
 pub returns-in_err-check_items-clause-blame : goal.returns-in_err-check_items-clause-blame

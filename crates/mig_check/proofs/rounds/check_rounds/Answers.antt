@@ -1,8 +1,5 @@
-use Rattle.mig_base.proofs.Common.{[], ◌≡◌, ◌+◌, ◌<◌, ℕ, suc, List, sym, ap, ◌∙◌, subst, arith, length, All, get_or_default, Lists, Layout, At, IsListOf, round_at, IsLegal, PlanFits, ShiftFits}
-use Rattle.mig_check.proofs.Common.{Shift, Spot, after_round, layout_of}
-use Rattle.std.proofs.Common.{below_more}
-use Rattle.mig_base.specs.Checks.{RoundBlame}
-use Rattle.mig_base.proofs.BlameOrder.{FirstBlame-after}
+use Rattle.mig_check.proofs.Common.{All, At, FirstBlame-after, IsLegal, IsListOf, Layout, List, Lists, PlanFits, RoundBlame, Shift, ShiftFits, Spot, [], after_round, ap, arith, below_more}
+use Rattle.mig_check.proofs.Common.{get_or_default, layout_of, length, round_at, subst, suc, sym, ℕ, ◌+◌, ◌<◌, ◌∙◌, ◌≡◌}
 use Rattle.mig_check.proofs.BlameCases.{run_blame}
 use Rattle.mig_check.proofs.LayoutLists.{IsListOf-next, items_there, length-after_round}
 use Rattle.mig_check.proofs.rounds.check_rounds.Goals as goal

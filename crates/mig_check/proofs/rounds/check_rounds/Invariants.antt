@@ -1,5 +1,4 @@
-use Rattle.mig_base.proofs.Common.{◌≡◌, ℕ, suc, ◌<◌, ◌≤◌, length, All, At, IsLayout, IsListOf, round_at, IsLegal}
-use Rattle.mig_check.proofs.Common.{has_spot, IsTakenSet, layout_of}
+use Rattle.mig_check.proofs.Common.{All, At, IsLayout, IsLegal, IsListOf, IsTakenSet, has_spot, layout_of, length, round_at, suc, ℕ, ◌<◌, ◌≡◌, ◌≤◌}
 use Rattle.mig_check.proofs.rounds.check_rounds.Given as goal
 
 abbrev pub invariant-loop-k : goal.invariant-loop-k

@@ -1,6 +1,4 @@
-use Rattle.mig_base.proofs.Common.{◌≡◌, List, ap, sym, ◌∙◌, subst, IsLayout, Layout, after_shifts}
-use Rattle.mig_check.proofs.Common.{Spot, has_spot, IsTakenSet, layout_of}
-use Rattle.mig_base.proofs.Rounds.{layout_kept}
+use Rattle.mig_check.proofs.Common.{IsLayout, IsTakenSet, Layout, List, Spot, after_shifts, ap, has_spot, layout_kept, layout_of, subst, sym, ◌∙◌, ◌≡◌}
 use Rattle.mig_check.proofs.LayoutLists.{items_there, layout_after_round}
 use Rattle.mig_check.proofs.TakenSpots.{taken_after}
 use Rattle.mig_check.proofs.rounds.step.Goals as goal

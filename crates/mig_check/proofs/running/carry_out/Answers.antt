@@ -1,5 +1,4 @@
-use Rattle.mig_base.proofs.Common.{◌≡◌, ◌+◌, ℕ, suc, List, sym, ap, ◌∙◌, subst, arith, length, At, IsListOf}
-use Rattle.mig_check.proofs.Common.{Spot, after_round}
+use Rattle.mig_check.proofs.Common.{At, IsListOf, List, Spot, after_round, ap, arith, length, subst, suc, sym, ℕ, ◌+◌, ◌∙◌, ◌≡◌}
 use Rattle.mig_check.proofs.LayoutLists.{IsListOf-next, items_in_round, length-after_round, round_taken}
 use Rattle.mig_check.proofs.running.carry_out.Goals as goal
 

@@ -1,4 +1,4 @@
-use Rattle.mig_base.proofs.Common.{◌≡◌, length, At, IsListOf}
+use Rattle.mig_check.proofs.Common.{At, IsListOf, length, ◌≡◌}
 use Rattle.mig_check.proofs.running.carry_out.Given as goal
 
 abbrev pub invariant-loop-round : goal.invariant-loop-round

@@ -1,6 +1,4 @@
-use Rattle.std.proofs.Common.{ℕ, ◌<◌}
-use Rattle.mig_base.specs.Running.{IsArrivedAt}
-use Rattle.mig_check.specs.Tables.{layout_of}
+use Rattle.mig_check.proofs.Common.{IsArrivedAt, layout_of, ℕ, ◌<◌}
 use Rattle.mig_check.proofs.running.find_astray.Given as goal
 
 abbrev pub invariant-loop-i : goal.invariant-loop-i

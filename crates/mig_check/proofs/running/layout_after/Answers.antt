@@ -1,4 +1,4 @@
-use Rattle.mig_base.proofs.Common.{arith, common_steps}
+use Rattle.mig_check.proofs.Common.{arith, common_steps}
 use Rattle.mig_check.proofs.running.layout_after.Goals as goal
 
 pub returns-clause-layout : goal.returns-clause-layout

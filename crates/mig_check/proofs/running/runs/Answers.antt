@@ -1,6 +1,4 @@
-use Rattle.mig_base.proofs.Common.{List, IfErr, subst}
-use Rattle.mig_base.specs.declared.ids.Shift.{Shift}
-use Rattle.mig_base.specs.Judging.{IsRunBlame}
+use Rattle.mig_check.proofs.Common.{IfErr, IsRunBlame, List, Shift, subst}
 use Rattle.mig_check.proofs.BlameCases.{only_memory}
 use Rattle.mig_check.proofs.running.runs.Goals as goal
 

@@ -1,7 +1,4 @@
-use Rattle.mig_base.proofs.Common.{length, List, subst, IsFirstShift, rules}
-use Rattle.mig_check.proofs.Common.{ItemId, Disk, has_spot, HaveRoom, LacksSlotIn, layout_of}
-use Rattle.mig_base.specs.Checks.{Free, Passes}
-use Rattle.mig_base.specs.Judging.{LacksSlot}
+use Rattle.mig_check.proofs.Common.{Disk, Free, HaveRoom, IsFirstShift, ItemId, LacksSlot, LacksSlotIn, List, Passes, has_spot, layout_of, length, rules, subst}
 use Rattle.mig_check.proofs.TakenSpots.{none_mapped, some_mapped, room_free, room_blame}
 use Rattle.mig_check.proofs.shifts.check_room.Goals as goal
 

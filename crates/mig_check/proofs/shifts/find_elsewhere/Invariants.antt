@@ -1,5 +1,4 @@
-use Rattle.mig_base.proofs.Common.{◌≡◌, ℕ, ◌<◌, get_or, Some}
-use Rattle.mig_check.proofs.Common.{Shift, layout_of}
+use Rattle.mig_check.proofs.Common.{Shift, Some, get_or, layout_of, ℕ, ◌<◌, ◌≡◌}
 use Rattle.mig_check.proofs.shifts.find_elsewhere.Given as goal
 
 abbrev pub invariant-loop-s : goal.invariant-loop-s

@@ -1,4 +1,4 @@
-use Rattle.mig_check.proofs.Common.{has_spot, HaveRoom}
+use Rattle.mig_check.proofs.Common.{HaveRoom, has_spot}
 use Rattle.mig_check.proofs.shifts.find_no_room.Given as goal
 
 abbrev pub invariant-loop-s : goal.invariant-loop-s

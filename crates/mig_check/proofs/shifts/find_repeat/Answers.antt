@@ -1,4 +1,4 @@
-use Rattle.std.proofs.Common.{rules}
+use Rattle.mig_check.proofs.Common.{rules}
 use Rattle.mig_check.proofs.shifts.find_repeat.Goals as goal
 
 pub loop-s-preserved : goal.loop-s-preserved

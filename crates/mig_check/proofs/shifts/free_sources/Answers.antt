@@ -1,4 +1,4 @@
-use Rattle.mig_base.proofs.Common.{arith, common_steps}
+use Rattle.mig_check.proofs.Common.{arith, common_steps}
 use Rattle.mig_check.proofs.shifts.free_sources.Goals as goal
 
 pub loop-s-preserved : goal.loop-s-preserved

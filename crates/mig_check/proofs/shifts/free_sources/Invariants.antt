@@ -1,6 +1,4 @@
-use Rattle.mig_base.proofs.Common.{◌≡◌, take, not, ◌&&◌}
-use Rattle.mig_check.proofs.Common.{Spot, has_spot}
-use Rattle.mig_check.specs.Tables.{is_source}
+use Rattle.mig_check.proofs.Common.{Spot, has_spot, is_source, not, take, ◌&&◌, ◌≡◌}
 use Rattle.mig_check.proofs.shifts.free_sources.Given as goal
 
 abbrev pub invariant-loop-s : goal.invariant-loop-s

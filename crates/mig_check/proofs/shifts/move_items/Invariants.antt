@@ -1,5 +1,4 @@
-use Rattle.std.proofs.Common.{◌≡◌, take}
-use Rattle.mig_check.specs.Tables.{after_round}
+use Rattle.mig_check.proofs.Common.{after_round, take, ◌≡◌}
 use Rattle.mig_check.proofs.shifts.move_items.Given as goal
 
 abbrev pub invariant-loop-s : goal.invariant-loop-s

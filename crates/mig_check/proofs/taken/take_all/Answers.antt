@@ -1,5 +1,4 @@
-use Rattle.mig_base.proofs.Common.{arith, common_steps}
-use Rattle.mig_check.specs.SpotSets.{has_spot}
+use Rattle.mig_check.proofs.Common.{arith, common_steps, has_spot}
 use Rattle.mig_check.proofs.TakenSpots.{list_taken}
 use Rattle.mig_check.proofs.taken.take_all.Goals as goal
 

@@ -1,5 +1,4 @@
-use Rattle.mig_base.proofs.Common.{◌≡◌, take, list_any}
-use Rattle.mig_check.proofs.Common.{Spot, has_spot, same_spot}
+use Rattle.mig_check.proofs.Common.{Spot, has_spot, list_any, same_spot, take, ◌≡◌}
 use Rattle.mig_check.proofs.taken.take_all.Given as goal
 
 abbrev pub invariant-loop-spot : goal.invariant-loop-spot

@@ -1,5 +1,4 @@
-use Rattle.mig_base.proofs.Common.{map, err_from_is_err_and, first}
-use Rattle.mig_base.specs.Refusals.{DisksRowFault}
+use Rattle.mig_csv.proofs.Common.{DisksRowFault, err_from_is_err_and, first, has_sides, map}
 use Rattle.mig_base.specs.declared.faults.FileKind.TheVariants as file
 use Rattle.mig_csv.proofs.Headers.{refusal_of_header}
 use Rattle.mig_csv.proofs.disks.read_disks.Goals as goal
@@ -7,4 +6,4 @@ use Rattle.mig_csv.proofs.disks.read_disks.Goals as goal
 pub returns-in_err-records-clause-fault : goal.returns-in_err-records-clause-fault
 returns-in_err-records-clause-fault c =
     let p = err_from_is_err_and c.from_residual.result c.from_residual.ensures.1 in
-    rw (p.1, p.2) (refusal_of_header file.Disks (λ before. DisksRowFault (map first before)) c.args.bytes.now _ c.in_err-records.ensures.refused)
+    rw (p.1, p.2) (refusal_of_header file.Disks (λ before. DisksRowFault (has_sides c.args.bytes.now) (map first before)) c.args.bytes.now _ c.in_err-records.ensures.refused)

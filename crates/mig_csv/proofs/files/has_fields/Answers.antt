@@ -1,5 +1,4 @@
-use Rattle.std.proofs.Common.{◌∙◌, arith, sym, refl}
-use Rattle.csv.specs.Records.{fields_of}
+use Rattle.mig_csv.proofs.Common.{arith, fields_of, refl, sym, ◌∙◌}
 use Rattle.mig_csv.proofs.Fields.{agree_all, agree_more, disagree}
 use Rattle.mig_csv.proofs.files.has_fields.Goals as goal
 

@@ -1,4 +1,4 @@
-use Rattle.csv.specs.Records.{fields_of}
+use Rattle.mig_csv.proofs.Common.{fields_of}
 use Rattle.mig_csv.proofs.Fields.{Agree}
 use Rattle.mig_csv.proofs.files.has_fields.Given as goal
 

@@ -1,6 +1,4 @@
-use Rattle.mig_base.proofs.Common.{◌∙◌, sym, ap, ℕ, List, Option, length, Some, length-map, err_from_is_err_and, Lists, IsSpotNamed, Bodies, first, rows_of}
-use Rattle.mig_base.specs.declared.ids.DiskId.{DiskId}
-use Rattle.mig_base.proofs.Listed.{Accepted-IsInput, zip_length}
+use Rattle.mig_csv.proofs.Common.{Accepted-IsInput, Bodies, DiskId, IsSpotNamed, List, Lists, Option, Some, ap, err_from_is_err_and, first, length, length-map, rows_of, sym, zip_length, ℕ, ◌∙◌}
 use Rattle.mig_csv.proofs.Whole.{Accepted-roomy, AreRead, clean_next, clean_now, listed_of, next_within, none_missing, refusal_of_disks, refusal_of_missing, refusal_of_next, refusal_of_now}
 use Rattle.mig_csv.proofs.Whole.{refusal_of_room}
 use Rattle.mig_csv.proofs.inputs.read_input.Goals as goal

@@ -1,7 +1,4 @@
-use Rattle.std.proofs.Common.{◌≡◌, arith, refl, rules, false}
-use Rattle.std.specs.Result.{is_err}
-use Rattle.csv.proofs.ReadFacts.{on-ok}
-use Rattle.csv.specs.Records.{fields_of}
+use Rattle.mig_csv.proofs.Common.{arith, false, fields_of, is_err, on-ok, refl, rules, ◌≡◌}
 use Rattle.mig_base.specs.declared.faults.Why.TheVariants as why
 use Rattle.mig_csv.proofs.ItemFiles.{ItemsSoFar-few, ItemsSoFar-few_names, ItemsSoFar-end, ItemsSoFar-fault, ItemsSoFar-items, ItemsSoFar-on_disks, ItemsSoFar-push, ItemsSoFar-spots, ItemsSoFar-start, not_taken}
 use Rattle.mig_csv.proofs.items.add_items.Goals as goal

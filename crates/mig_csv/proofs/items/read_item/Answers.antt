@@ -1,6 +1,5 @@
-use Rattle.mig_base.proofs.Common.{◌≡◌, ◌≤◌, ◌<◌, ◌∙◌, Contains, ap, arith, map, refl, subst, sym, get_or_from_slice_get, slice_get_within, number_of, first, second, third}
-use Rattle.mig_csv.proofs.Common.{Spot, Disk, place_in}
-use Rattle.csv.specs.Records.{fields_of}
+use Rattle.mig_csv.proofs.Common.{Contains, Disk, Spot, ap, arith, fields_of, first, get_or_from_slice_get, map, number_of, place_in, refl, second, slice_get_within, subst, sym, third, ◌<◌, ◌∙◌}
+use Rattle.mig_csv.proofs.Common.{◌≡◌, ◌≤◌}
 use Rattle.mig_csv.proofs.DiskRows.{not_found}
 use Rattle.mig_csv.proofs.ItemRows.{found_disk, no_disk, none_before, not_too_high, place_taken, rank_small, spot_taken, too_high}
 use Rattle.mig_csv.proofs.items.read_item.Goals as goal

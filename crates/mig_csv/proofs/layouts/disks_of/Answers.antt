@@ -1,4 +1,4 @@
-use Rattle.mig_base.proofs.Common.{arith, common_steps}
+use Rattle.mig_csv.proofs.Common.{arith, common_steps}
 use Rattle.mig_csv.proofs.layouts.disks_of.Goals as goal
 
 pub loop-spot-preserved : goal.loop-spot-preserved

@@ -1,4 +1,4 @@
-use Rattle.std.proofs.Common.{◌≡◌, take, map}
+use Rattle.mig_csv.proofs.Common.{map, take, ◌≡◌}
 use Rattle.mig_csv.proofs.layouts.disks_of.Given as goal
 
 abbrev pub invariant-loop-spot : goal.invariant-loop-spot

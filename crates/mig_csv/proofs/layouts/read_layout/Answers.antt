@@ -1,4 +1,4 @@
-use Rattle.mig_base.proofs.Common.{refl, err_from_is_err_and, Lists}
+use Rattle.mig_csv.proofs.Common.{Lists, err_from_is_err_and, refl}
 use Rattle.mig_csv.proofs.Listings.{listing_is_input, listing_of_disks, listing_of_now, sound}
 use Rattle.mig_csv.proofs.layouts.read_layout.Goals as goal
 

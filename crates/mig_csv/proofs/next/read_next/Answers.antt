@@ -1,4 +1,4 @@
-use Rattle.std.proofs.lemmas.Result.{err_from_is_err_and}
+use Rattle.mig_csv.proofs.Common.{err_from_is_err_and}
 use Rattle.mig_base.specs.declared.faults.FileKind.TheVariants as file
 use Rattle.mig_csv.proofs.Headers.{refusal_of_header}
 use Rattle.mig_csv.proofs.WayRows.{next_has}

@@ -1,5 +1,4 @@
-use Rattle.mig_base.proofs.Common.{◌≡◌, ◌∙◌, Contains, arith, refl, sym, get_or_from_slice_get, slice_get_within, first, second}
-use Rattle.csv.specs.Records.{fields_of}
+use Rattle.mig_csv.proofs.Common.{Contains, arith, fields_of, first, get_or_from_slice_get, refl, second, slice_get_within, sym, ◌∙◌, ◌≡◌}
 use Rattle.mig_csv.proofs.WayRows.{none_before, not_seen}
 use Rattle.mig_csv.proofs.ItemRows.{Contains-at, found_disk, no_disk, rank_small}
 use Rattle.mig_csv.proofs.next.read_way.Goals as goal

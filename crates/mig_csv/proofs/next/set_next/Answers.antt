@@ -1,5 +1,4 @@
-use Rattle.mig_base.proofs.Common.{arith, refl, slice_get_within, first}
-use Rattle.csv.specs.Records.{fields_of}
+use Rattle.mig_csv.proofs.Common.{arith, fields_of, first, refl, slice_get_within}
 use Rattle.mig_csv.proofs.WayRows.{WaysSoFar-end, WaysSoFar-fault, WaysSoFar-push, WaysSoFar-start, WaysSoFar-ways}
 use Rattle.mig_csv.proofs.next.set_next.Goals as goal
 

@@ -1,6 +1,5 @@
-use Rattle.std.proofs.Common.{ℕ, List, length}
+use Rattle.mig_csv.proofs.Common.{IsOpened, List, length, ℕ}
 use Rattle.mig_base.specs.declared.faults.FileKind.TheVariants as file
-use Rattle.mig_csv.specs.Opened.{IsOpened}
 use Rattle.mig_csv.proofs.WayRows.{WaysSoFar}
 use Rattle.mig_csv.proofs.next.set_next.Given as goal
 

@@ -1,6 +1,5 @@
-use Rattle.mig_base.proofs.Common.{◌≡◌, ◌<◌, ℕ, Some, None, Option, List, length, take, map, get_or, refl, sym, ap, ◌∙◌, arith, slice_get, length-map, get_or-take, slice_get-get_or}
-use Rattle.mig_base.specs.declared.ids.DiskId.{DiskId}
-use Rattle.std.proofs.lemmas.List.{length-take, get_or-map}
+use Rattle.mig_csv.proofs.Common.{DiskId, List, None, Option, Some, ap, arith, get_or, get_or-map, get_or-take, length, length-map, length-take, map, refl, slice_get, slice_get-get_or, sym, take}
+use Rattle.mig_csv.proofs.Common.{ℕ, ◌<◌, ◌∙◌, ◌≡◌}
 use Rattle.mig_csv.proofs.room.all_next.Goals as goal
 
 done_len : (ds : List DiskId) (next : List (Option DiskId)) (k : ℕ) → k < length next → map (λ (d : DiskId). Some d) ds ≡ take k next → length ds ≡ k

@@ -1,4 +1,4 @@
-use Rattle.std.proofs.Common.{◌≡◌, map, take, Some}
+use Rattle.mig_csv.proofs.Common.{Some, map, take, ◌≡◌}
 use Rattle.mig_csv.proofs.room.all_next.Given as goal
 
 abbrev pub invariant-loop-place : goal.invariant-loop-place

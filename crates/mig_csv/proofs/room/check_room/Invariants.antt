@@ -1,5 +1,4 @@
-use Rattle.std.proofs.Common.{ℕ, ◌<◌}
-use Rattle.mig_base.specs.Targets.{HasRoom}
+use Rattle.mig_csv.proofs.Common.{HasRoom, ℕ, ◌<◌}
 use Rattle.mig_csv.proofs.room.check_room.Given as goal
 
 abbrev pub invariant-loop-k : goal.invariant-loop-k

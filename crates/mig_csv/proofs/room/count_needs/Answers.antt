@@ -1,4 +1,4 @@
-use Rattle.mig_base.proofs.Common.{◌≡◌, ◌++◌, ℕ, List, ap, arith, drop, length, take, ◌∙◌, take-append_seam, Lists}
+use Rattle.mig_csv.proofs.Common.{List, Lists, ap, arith, drop, length, take, take-append_seam, ℕ, ◌++◌, ◌∙◌, ◌≡◌}
 use Rattle.mig_csv.proofs.Needs.{incoming-le, left_over-next, present-le}
 use Rattle.mig_csv.proofs.room.count_needs.Goals as goal
 

@@ -1,5 +1,4 @@
-use Rattle.std.proofs.Common.{◌≡◌, ◌+◌, ℕ, length, slice_index_or}
-use Rattle.mig_base.specs.Targets.{incoming, present}
+use Rattle.mig_csv.proofs.Common.{incoming, length, present, slice_index_or, ℕ, ◌+◌, ◌≡◌}
 use Rattle.mig_csv.proofs.Needs.{left_over}
 use Rattle.mig_csv.proofs.room.count_needs.Given as goal
 

@@ -1,6 +1,5 @@
-use Rattle.std.proofs.Common.{refl}
+use Rattle.mig_csv.proofs.Common.{fields_of, refl}
 use Rattle.mig_csv.proofs.DiskRows.{field_at-slice_get}
-use Rattle.csv.specs.Records.{fields_of}
 use Rattle.mig_csv.proofs.rows.field.Goals as goal
 
 pub returns-in-Some : goal.returns-in-Some

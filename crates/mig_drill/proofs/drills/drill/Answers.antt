@@ -1,5 +1,4 @@
-use Rattle.std.proofs.Common.{List, length, ◌∙◌, ap, arith}
-use Rattle.mig_drill.specs.declared.writes.Write.{Write}
+use Rattle.mig_drill.proofs.Common.{List, Write, ap, arith, length, ◌∙◌}
 use Rattle.mig_drill.proofs.WriteLists.{writes_counted}
 use Rattle.mig_drill.proofs.drills.drill.Goals as goal
 

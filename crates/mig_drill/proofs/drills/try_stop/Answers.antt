@@ -1,6 +1,4 @@
-use Rattle.mig_base.proofs.Common.{ℕ, subst}
-use Rattle.mig_store.specs.Memories.{state_of}
-use Rattle.mig_drill.specs.Stops.{HasResumed}
+use Rattle.mig_drill.proofs.Common.{HasResumed, state_of, subst, ℕ}
 use Rattle.mig_drill.proofs.drills.try_stop.Goals as goal
 
 pub returns-clause-told : goal.returns-clause-told

@@ -1,4 +1,4 @@
-use Rattle.std.proofs.Common.{arith}
+use Rattle.mig_drill.proofs.Common.{arith}
 use Rattle.mig_drill.proofs.LineTexts.{one_at_most}
 use Rattle.mig_drill.proofs.drills.try_stops.Goals as goal
 

@@ -1,6 +1,4 @@
-use Rattle.std.proofs.Common.{◌≡◌, ◌≤◌, ◌*◌}
-use Rattle.mig_store.specs.Memories.{state_of}
-use Rattle.mig_drill.specs.Stores.{TellsJob}
+use Rattle.mig_drill.proofs.Common.{TellsJob, state_of, ◌*◌, ◌≡◌, ◌≤◌}
 use Rattle.mig_drill.proofs.drills.try_stops.Given as goal
 
 -- The store tells the job's cells; so many runs were made, and no more marks are set than there were writes

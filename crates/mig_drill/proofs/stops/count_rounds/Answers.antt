@@ -1,6 +1,4 @@
-use Rattle.mig_base.proofs.Common.{◌≡◌, suc, ◌+◌, sym, ◌∙◌, ap, arith, is_marked}
-use Rattle.mig_base.proofs.MarkCounts.{count_is}
-use Rattle.mig_store.specs.Memories.{state_of}
+use Rattle.mig_drill.proofs.Common.{ap, arith, count_is, is_marked, state_of, suc, sym, ◌+◌, ◌∙◌, ◌≡◌}
 use Rattle.mig_drill.proofs.stops.count_rounds.Goals as goal
 
 pub returns-then-not-holds_one-2 : goal.returns-then-not-holds_one-2

@@ -1,5 +1,4 @@
-use Rattle.mig_base.proofs.Common.{◌≡◌, ◌≤◌, ℕ, true, is_armed, is_marked}
-use Rattle.mig_store.specs.Memories.{state_of}
+use Rattle.mig_drill.proofs.Common.{is_armed, is_marked, state_of, true, ℕ, ◌≡◌, ◌≤◌}
 use Rattle.mig_drill.proofs.stops.count_rounds.Given as goal
 
 -- the gate is 1, and so are the marks so far

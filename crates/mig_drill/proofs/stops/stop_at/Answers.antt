@@ -1,11 +1,4 @@
-use Rattle.mig_base.proofs.Common.{ℕ, List, count_of, sym, ◌∙◌, ap, subst, arith, flights}
-use Rattle.mig_base.proofs.MarkCounts.{count_most}
-use Rattle.mig_base.proofs.StoreSteps.{same_none}
-use Rattle.mig_store.specs.Calls.{Call}
-use Rattle.mig_store.specs.Ledgers.{state_at}
-use Rattle.mig_store.specs.Memories.{state_of, mem_is_state}
-use Rattle.mig_drill.specs.Stops.{LeavesSound}
-use Rattle.mig_drill.specs.Stores.{TellsJob}
+use Rattle.mig_drill.proofs.Common.{Call, LeavesSound, List, TellsJob, ap, arith, count_most, count_of, flights, mem_is_state, same_none, state_at, state_of, subst, sym, ℕ, ◌∙◌}
 use Rattle.mig_drill.proofs.StopSteps.{ended, stop_keeps, stop_reaches, stop_told, stop_resumed}
 use Rattle.mig_drill.proofs.stops.stop_at.Goals as goal
 

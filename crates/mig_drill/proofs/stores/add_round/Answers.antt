@@ -1,5 +1,4 @@
-use Rattle.mig_base.proofs.Common.{arith, length-map, flights_of, flight_of, round_at}
-use Rattle.mig_base.specs.declared.cells.Flight.{Flight}
+use Rattle.mig_drill.proofs.Common.{Flight, arith, flight_of, flights_of, length-map, round_at}
 use Rattle.mig_drill.proofs.JobCells.{none_before, ends_more, ends_all}
 use Rattle.mig_drill.proofs.stores.add_round.Goals as goal
 

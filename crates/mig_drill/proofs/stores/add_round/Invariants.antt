@@ -1,5 +1,4 @@
-use Rattle.mig_base.proofs.Common.{flights_of, round_at}
-use Rattle.mig_drill.specs.Stores.{Joins}
+use Rattle.mig_drill.proofs.Common.{Joins, flights_of, round_at}
 use Rattle.mig_drill.proofs.JobCells.{IsEndBefore}
 use Rattle.mig_drill.proofs.stores.add_round.Given as goal
 

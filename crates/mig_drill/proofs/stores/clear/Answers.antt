@@ -1,6 +1,4 @@
-use Rattle.mig_base.proofs.Common.{◌≡◌, ℕ, refl, replicate, take}
-use Rattle.std.proofs.lemmas.List.Elements.{All-replicate, All-take}
-use Rattle.mig_store.specs.Memories.{state_of}
+use Rattle.mig_drill.proofs.Common.{All-replicate, All-take, refl, replicate, state_of, take, ℕ, ◌≡◌}
 use Rattle.mig_drill.proofs.FillLaws.{written_clear}
 use Rattle.mig_drill.proofs.stores.clear.Goals as goal
 

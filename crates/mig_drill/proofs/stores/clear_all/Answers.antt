@@ -1,8 +1,4 @@
-use Rattle.mig_base.proofs.Common.{◌≡◌, arith}
-use Rattle.mig_base.specs.declared.cells.Cell.{Cell}
-use Rattle.mig_base.proofs.StoreSteps.{told_kept}
-use Rattle.mig_journal.proofs.Steps.{still_none}
-use Rattle.mig_store.specs.Memories.{state_of}
+use Rattle.mig_drill.proofs.Common.{Cell, arith, state_of, still_none, told_kept, ◌≡◌}
 use Rattle.mig_drill.proofs.FillLaws.{clear_more}
 use Rattle.mig_drill.proofs.stores.clear_all.Goals as goal
 

@@ -1,6 +1,4 @@
-use Rattle.mig_base.proofs.Common.{◌≡◌, [], AllWithin, flights}
-use Rattle.mig_store.specs.Memories.{state_of}
-use Rattle.mig_drill.specs.Stores.{IsClear, StaysTold}
+use Rattle.mig_drill.proofs.Common.{AllWithin, IsClear, StaysTold, [], flights, state_of, ◌≡◌}
 use Rattle.mig_drill.proofs.stores.clear_all.Given as goal
 
 -- the first cells are clear

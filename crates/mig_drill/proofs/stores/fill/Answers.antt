@@ -1,8 +1,4 @@
-use Rattle.mig_base.proofs.Common.{flights}
-use Rattle.mig_base.specs.Slots.{IsListedCell}
-use Rattle.mig_base.proofs.StoreSteps.{told_kept}
-use Rattle.mig_journal.proofs.Steps.{on_ok_is, still_none, sync_same}
-use Rattle.mig_store.specs.Memories.{state_of}
+use Rattle.mig_drill.proofs.Common.{IsListedCell, flights, on_ok_is, state_of, still_none, sync_same, told_kept}
 use Rattle.mig_drill.proofs.FillLaws.{filled_then}
 use Rattle.mig_drill.proofs.stores.fill.Goals as goal
 

@@ -1,7 +1,4 @@
-use Rattle.mig_base.proofs.Common.{List, sym, subst}
-use Rattle.mig_base.specs.declared.cells.Cell.{Cell}
-use Rattle.mig_store.specs.Memories.{state_of, mem_is_state}
-use Rattle.mig_drill.specs.Stores.{AreJobCells}
+use Rattle.mig_drill.proofs.Common.{AreJobCells, Cell, List, mem_is_state, state_of, subst, sym}
 use Rattle.mig_drill.proofs.FillLaws.{crash_told}
 use Rattle.mig_drill.proofs.stores.filled.Goals as goal
 

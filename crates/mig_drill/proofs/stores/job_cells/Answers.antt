@@ -1,4 +1,4 @@
-use Rattle.mig_base.proofs.Common.{arith}
+use Rattle.mig_drill.proofs.Common.{arith}
 use Rattle.mig_drill.proofs.JobCells.{gathers_none, gathers_more, gathers_all}
 use Rattle.mig_drill.proofs.stores.job_cells.Goals as goal
 

@@ -1,8 +1,5 @@
-use Rattle.mig_base.proofs.Common.{◌≡◌, suc, ◌<◌, List, [], length, get_or, ◌∙◌, ap, subst, arith, get_or_default, Lists, round_at, ChangesOnly}
-use Rattle.mig_base.specs.declared.ids.Shift.{Shift}
-use Rattle.mig_base.specs.Slots.{IsListedCell}
-use Rattle.mig_journal.proofs.Steps.{then_step, still_none}
-use Rattle.mig_store.specs.Memories.{state_of}
+use Rattle.mig_drill.proofs.Common.{ChangesOnly, IsListedCell, List, Lists, Shift, [], ap, arith, get_or, get_or_default, length, round_at, state_of, still_none, subst, suc, then_step, ◌<◌, ◌∙◌}
+use Rattle.mig_drill.proofs.Common.{◌≡◌}
 use Rattle.mig_drill.proofs.FillLaws.{made_shifted, round_items, rounds_more}
 use Rattle.mig_drill.proofs.stores.put_items.Goals as goal
 

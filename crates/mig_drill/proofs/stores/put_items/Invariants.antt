@@ -1,6 +1,4 @@
-use Rattle.mig_base.proofs.Common.{ChangesOnly}
-use Rattle.mig_base.specs.Slots.{IsListedCell}
-use Rattle.mig_store.specs.Memories.{state_of}
+use Rattle.mig_drill.proofs.Common.{ChangesOnly, IsListedCell, state_of}
 use Rattle.mig_drill.proofs.FillLaws.{AreMade}
 use Rattle.mig_drill.proofs.stores.put_items.Given as goal
 

@@ -1,8 +1,4 @@
-use Rattle.mig_base.proofs.Common.{◌≡◌, get_or, refl, arith, item_cell}
-use Rattle.mig_base.specs.Slots.{IsListedCell}
-use Rattle.mig_journal.proofs.Steps.{then_step, still_none}
-use Rattle.mig_mover.proofs.JobRounds.{no_shift}
-use Rattle.mig_store.specs.Memories.{state_of}
+use Rattle.mig_drill.proofs.Common.{IsListedCell, arith, get_or, item_cell, no_shift, refl, state_of, still_none, then_step, ◌≡◌}
 use Rattle.mig_drill.proofs.FillLaws.{listed_here, made_kept, made_more}
 use Rattle.mig_drill.proofs.stores.put_round.Goals as goal
 

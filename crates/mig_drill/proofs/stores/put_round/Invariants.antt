@@ -1,7 +1,4 @@
-use Rattle.mig_base.proofs.Common.{◌≡◌, ◌<◌, ℕ, [], length, AllWithin, ChangesOnly, flights}
-use Rattle.mig_base.specs.Slots.{IsListedCell}
-use Rattle.mig_store.specs.Memories.{state_of}
-use Rattle.mig_drill.specs.Stores.{IsMade}
+use Rattle.mig_drill.proofs.Common.{AllWithin, ChangesOnly, IsListedCell, IsMade, [], flights, length, state_of, ℕ, ◌<◌, ◌≡◌}
 use Rattle.mig_drill.proofs.stores.put_round.Given as goal
 
 -- the items of the first shifts are made, and those that were made still are

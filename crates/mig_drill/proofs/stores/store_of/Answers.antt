@@ -1,10 +1,4 @@
-use Rattle.mig_base.proofs.Common.{List, sym, ◌∙◌, ap, subst, map, IfOk-weaker, AreDifferent}
-use Rattle.mig_base.specs.declared.cells.Cell.{Cell}
-use Rattle.mig_store.proofs.CellTables.{different_cells}
-use Rattle.mig_store.specs.HeldCells.{zero_held}
-use Rattle.mig_store.specs.Ledgers.{Log}
-use Rattle.mig_store.specs.Memories.{Memory, state_of}
-use Rattle.mig_drill.specs.Stores.{TellsJob}
+use Rattle.mig_drill.proofs.Common.{AreDifferent, Cell, IfOk-weaker, List, Log, Memory, TellsJob, ap, different_cells, map, state_of, subst, sym, zero_held, ◌∙◌}
 use Rattle.mig_drill.proofs.FillLaws.{made_told}
 use Rattle.mig_drill.proofs.stores.store_of.Goals as goal
 

@@ -1,5 +1,4 @@
-use Rattle.std.proofs.Common.{List, ℕ, subst}
-use Rattle.mig_words.specs.Puts.{Puts}
+use Rattle.mig_drill.proofs.Common.{List, Puts, subst, ℕ}
 use Rattle.mig_drill.proofs.LineTexts.{count_spelled}
 use Rattle.mig_drill.proofs.texts.put_count.Goals as goal
 

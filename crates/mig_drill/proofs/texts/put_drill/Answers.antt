@@ -1,8 +1,5 @@
-use Rattle.mig_base.proofs.Common.{◌*◌, ◌++◌, ◌∷◌, [], List, ℕ, length, sym, subst, codes, text_of_lines}
-use Rattle.mig_drill.specs.Drills.{count_line, stop_lines}
-use Rattle.mig_words.specs.Puts.{Puts}
+use Rattle.mig_drill.proofs.Common.{List, Puts, [], codes, count_line, length, puts_fails, puts_then, stop_lines, subst, sym, text_of_lines, ℕ, ◌*◌, ◌++◌, ◌∷◌}
 use Rattle.mig_drill.proofs.LineTexts.{three_parts}
-use Rattle.mig_words.proofs.PutTexts.{puts_then, puts_fails}
 use Rattle.mig_drill.proofs.texts.put_drill.Goals as goal
 
 pub returns-in_err-put_count : goal.returns-in_err-put_count

@@ -1,11 +1,6 @@
-use Rattle.mig_base.proofs.Common.{◌≡◌, ◌+◌, ◌++◌, ◌∷◌, [], List, ℕ, length, map, sym, ◌∙◌, ap, subst, Ok, Err, arith, range_with_len, take_all, length-range_with_len}
-use Rattle.mig_drill.specs.declared.writes.Write.TheVariants.{ClearMark}
-use Rattle.mig_drill.specs.Drills.{stop_line}
-use Rattle.mig_words.specs.Outcomes.{joined}
-use Rattle.mig_words.specs.Puts.{Puts}
-use Rattle.mig_drill.specs.Writes.{marks_after}
+use Rattle.mig_drill.proofs.Common.{ClearMark, Err, List, Ok, Puts, [], ap, arith, joined, length, length-range_with_len, map, marks_after, piece_fails, range_with_len, stop_line, subst, sym}
+use Rattle.mig_drill.proofs.Common.{take_all, ℕ, ◌++◌, ◌+◌, ◌∙◌, ◌∷◌, ◌≡◌}
 use Rattle.mig_drill.proofs.LineTexts.{stops_spelled, after_is, one_at_most, line_at, piece_more}
-use Rattle.mig_words.proofs.PutTexts.{piece_fails}
 use Rattle.mig_drill.proofs.texts.put_stops.Goals as goal
 
 pub returns-in_err-put_stop : goal.returns-in_err-put_stop

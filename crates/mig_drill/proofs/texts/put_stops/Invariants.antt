@@ -1,8 +1,4 @@
-use Rattle.mig_base.proofs.Common.{◌≡◌, ◌≤◌, ◌++◌, ◌∷◌, [], take, length, map, Ok, range_with_len}
-use Rattle.mig_drill.specs.Drills.{stop_line}
-use Rattle.mig_words.specs.Outcomes.{joined}
-use Rattle.mig_words.specs.Puts.{Puts}
-use Rattle.mig_drill.specs.Writes.{marks_after}
+use Rattle.mig_drill.proofs.Common.{Ok, Puts, [], joined, length, map, marks_after, range_with_len, stop_line, take, ◌++◌, ◌∷◌, ◌≡◌, ◌≤◌}
 use Rattle.mig_drill.proofs.texts.put_stops.Given as goal
 
 -- the lines so far were put

@@ -1,8 +1,5 @@
-use Rattle.mig_base.proofs.Common.{◌++◌, ◌∷◌, List, length, replicate, take, ◌∙◌, ap, append_assoc, arith, flat_map}
-use Rattle.mig_base.specs.declared.ids.Shift.{Shift}
-use Rattle.mig_drill.specs.declared.writes.Write.{Write}
-use Rattle.mig_drill.specs.declared.writes.Write.TheVariants.{ClearMark, Head, Gate}
-use Rattle.mig_drill.specs.Writes.{round_writes}
+use Rattle.mig_drill.proofs.Common.{ClearMark, List, Shift, Write, ap, append_assoc, arith, flat_map, length, replicate, round_writes, take, ◌++◌, ◌∙◌, ◌∷◌}
+use Rattle.mig_drill.specs.declared.writes.Write.TheVariants.{Head, Gate}
 use Rattle.mig_drill.proofs.WriteLists.{round_more}
 use Rattle.mig_drill.proofs.writes.list_writes.Goals as goal
 

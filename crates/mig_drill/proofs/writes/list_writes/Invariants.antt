@@ -1,7 +1,5 @@
-use Rattle.mig_base.proofs.Common.{◌≡◌, ◌++◌, ◌∷◌, List, length, replicate, take, flat_map}
-use Rattle.mig_base.specs.declared.ids.Shift.{Shift}
-use Rattle.mig_drill.specs.declared.writes.Write.TheVariants.{ClearMark, Head, Gate}
-use Rattle.mig_drill.specs.Writes.{round_writes}
+use Rattle.mig_drill.proofs.Common.{ClearMark, List, Shift, flat_map, length, replicate, round_writes, take, ◌++◌, ◌∷◌, ◌≡◌}
+use Rattle.mig_drill.specs.declared.writes.Write.TheVariants.{Head, Gate}
 use Rattle.mig_drill.proofs.writes.list_writes.Given as goal
 
 abbrev pub invariant-loop-n : goal.invariant-loop-n

@@ -1,4 +1,4 @@
-use Rattle.std.proofs.Common.{◌≡◌, ◌++◌, replicate}
+use Rattle.mig_drill.proofs.Common.{replicate, ◌++◌, ◌≡◌}
 use Rattle.mig_drill.proofs.writes.push_many.Given as goal
 
 abbrev pub invariant-loop : goal.invariant-loop

@@ -1,8 +1,4 @@
-use Rattle.mig_base.proofs.Common.{arith, ◌≡◌, ◌<◌, ◌+◌, ◌-◌, ◌∙◌, sym, subst, ℕ, length, List, refl, set, get_or, length-set}
-use Rattle.mig_base.specs.declared.ids.DiskId.{DiskId}
-use Rattle.mig_euler.specs.Balance.{AllInRange}
-use Rattle.mig_euler.specs.Pairs.{pair_at}
-use Rattle.mig_euler.specs.Links.{AreLinksFrom, AreFirst}
+use Rattle.mig_euler.proofs.Common.{AllInRange, AreFirst, AreLinksFrom, DiskId, List, arith, get_or, length, length-set, pair_at, refl, set, subst, sym, ℕ, ◌+◌, ◌-◌, ◌<◌, ◌∙◌, ◌≡◌}
 use Rattle.mig_euler.proofs.LinkLaws.{first_more, links_more, ends_in}
 use Rattle.mig_euler.proofs.links.link_ends.Goals as goal
 

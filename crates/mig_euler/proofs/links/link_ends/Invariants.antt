@@ -1,5 +1,4 @@
-use Rattle.std.proofs.Common.{◌≡◌, ◌≤◌, length}
-use Rattle.mig_euler.specs.Links.{AreLinksFrom, AreFirst}
+use Rattle.mig_euler.proofs.Common.{AreFirst, AreLinksFrom, length, ◌≡◌, ◌≤◌}
 use Rattle.mig_euler.proofs.links.link_ends.Given as goal
 
 abbrev pub invariant-loop-place : goal.invariant-loop-place

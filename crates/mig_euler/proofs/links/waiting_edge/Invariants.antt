@@ -1,5 +1,4 @@
-use Rattle.std.proofs.Common.{◌≤◌, ◌-◌, length}
-use Rattle.mig_euler.specs.Balance.{PassedBelow}
+use Rattle.mig_euler.proofs.Common.{PassedBelow, length, ◌-◌, ◌≤◌}
 use Rattle.mig_euler.proofs.links.waiting_edge.Given as goal
 
 abbrev pub invariant-loop-place : goal.invariant-loop-place

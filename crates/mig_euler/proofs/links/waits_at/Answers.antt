@@ -1,4 +1,4 @@
-use Rattle.std.proofs.Common.{rules}
+use Rattle.mig_euler.proofs.Common.{rules}
 use Rattle.mig_euler.proofs.links.waits_at.Goals as goal
 
 pub returns-then-eq : goal.returns-then-eq

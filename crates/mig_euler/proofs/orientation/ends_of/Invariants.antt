@@ -1,5 +1,4 @@
-use Rattle.mig_base.proofs.Common.{◌≡◌, ◌<◌, ℕ, length, trip_at}
-use Rattle.mig_euler.specs.Pairs.{pair_trip, pair_at}
+use Rattle.mig_euler.proofs.Common.{length, pair_at, pair_trip, trip_at, ℕ, ◌<◌, ◌≡◌}
 use Rattle.mig_euler.proofs.orientation.ends_of.Given as goal
 
 abbrev pub invariant-loop-edge : goal.invariant-loop-edge

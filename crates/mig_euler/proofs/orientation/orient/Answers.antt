@@ -1,7 +1,4 @@
-use Rattle.mig_base.proofs.Common.{◌≡◌, ◌∙◌, sym, subst, length, map, List, Bool, Vec, Global, IfOk-weaker, Balances}
-use Rattle.mig_base.specs.declared.ids.DiskId.{DiskId}
-use Rattle.mig_euler.specs.Balance.{AllInRange}
-use Rattle.mig_euler.specs.Pairs.{ArePairs, pair_trip}
+use Rattle.mig_euler.proofs.Common.{AllInRange, ArePairs, Balances, Bool, DiskId, Global, IfOk-weaker, List, Vec, length, map, pair_trip, subst, sym, ◌∙◌, ◌≡◌}
 use Rattle.mig_euler.proofs.Graphs.{balanced, in_range, no_loop}
 use Rattle.mig_euler.proofs.orientation.orient.Goals as goal
 

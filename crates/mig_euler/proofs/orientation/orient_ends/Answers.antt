@@ -1,11 +1,7 @@
-use Rattle.mig_base.proofs.Common.{◌≡◌, arith, length, sym, subst, ◌∙◌, rules, replicate, None, List, Option, Bool, ℕ, refl, ap, Vec, Global, map, Balances, IfOk-weaker}
-use Rattle.mig_euler.specs.Balance.{AllInRange}
-use Rattle.mig_euler.specs.Pairs.{pair_trip}
-use Rattle.mig_euler.specs.Trails.{points_forward}
-use Rattle.mig_euler.specs.Ready.{IsReady}
+use Rattle.mig_euler.proofs.Common.{AllInRange, Balances, Bool, Global, IfOk-weaker, IsReady, List, None, Option, Vec, ap, arith, length, map, pair_trip, points_forward, refl, replicate, rules}
+use Rattle.mig_euler.proofs.Common.{subst, sym, take_at, ℕ, ◌∙◌, ◌≡◌}
 use Rattle.mig_euler.proofs.OrientLaws.{ready_first, settled_balances}
 use Rattle.mig_euler.proofs.LinkLaws.{passed_first}
-use Rattle.std.proofs.lemmas.List.{take_at}
 use Rattle.mig_euler.proofs.orientation.orient_ends.Goals as goal
 
 pub follow_odd-requires-clause-ready : goal.follow_odd-requires-clause-ready

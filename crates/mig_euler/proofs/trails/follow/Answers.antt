@@ -1,5 +1,4 @@
-use Rattle.std.proofs.Common.{arith, ◌<◌, length, sym, subst}
-use Rattle.mig_euler.specs.Balance.{AllInRange}
+use Rattle.mig_euler.proofs.Common.{AllInRange, arith, length, subst, sym, ◌<◌}
 use Rattle.mig_euler.proofs.FollowLaws.{none_waits, waits_end, following_more, follow_falls}
 use Rattle.mig_euler.proofs.trails.follow.Goals as goal
 

@@ -1,7 +1,4 @@
-use Rattle.mig_base.proofs.Common.{◌≡◌, ◌%◌, ◌<◌, ◌+◌, ℕ, subst, sym, arith, length, List, Option, Bool, inl, ◌∙◌}
-use Rattle.mig_base.specs.declared.ids.DiskId.{DiskId}
-use Rattle.mig_euler.specs.Trails.{total, waits}
-use Rattle.mig_euler.specs.Ready.{IsReady}
+use Rattle.mig_euler.proofs.Common.{Bool, DiskId, IsReady, List, Option, arith, inl, length, subst, sym, total, waits, ℕ, ◌%◌, ◌+◌, ◌<◌, ◌∙◌, ◌≡◌}
 use Rattle.mig_euler.proofs.OrientLaws.{ready_after, even_after, even_everywhere, below_disk}
 use Rattle.mig_euler.proofs.trails.follow_odd.Goals as goal
 use Rattle.mig_euler.proofs.trails.follow_odd.Goals.{then-is_odd, else-is_odd}

@@ -1,7 +1,4 @@
-use Rattle.mig_base.proofs.Common.{◌≡◌, ◌%◌, ◌<◌, length}
-use Rattle.mig_base.specs.declared.ids.DiskId.{DiskId}
-use Rattle.mig_euler.specs.Trails.{total, waits}
-use Rattle.mig_euler.specs.Ready.{IsReady}
+use Rattle.mig_euler.proofs.Common.{DiskId, IsReady, length, total, waits, ◌%◌, ◌<◌, ◌≡◌}
 use Rattle.mig_euler.proofs.trails.follow_odd.Given as goal
 
 abbrev pub invariant-loop-disk : goal.invariant-loop-disk

@@ -1,4 +1,4 @@
-use Rattle.std.proofs.Common.{arith, length}
+use Rattle.mig_euler.proofs.Common.{arith, length}
 use Rattle.mig_euler.proofs.OrientLaws.{everywhere}
 use Rattle.mig_euler.proofs.trails.follow_rest.Goals as goal
 

@@ -1,5 +1,4 @@
-use Rattle.mig_base.proofs.Common.{◌≡◌, ◌%◌, ◌+◌, subst, sym, take, Bool, arith, ℕ, MatchBool}
-use Rattle.mig_euler.specs.Trails.{total, waits}
+use Rattle.mig_euler.proofs.Common.{Bool, MatchBool, arith, subst, sym, take, total, waits, ℕ, ◌%◌, ◌+◌, ◌≡◌}
 use Rattle.mig_euler.proofs.Odd.{odd_yes, odd_no}
 use Rattle.mig_euler.proofs.LinkLaws.{total-next, total-passed}
 use Rattle.mig_euler.proofs.trails.is_odd.Goals as goal

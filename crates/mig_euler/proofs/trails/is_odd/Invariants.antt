@@ -1,5 +1,4 @@
-use Rattle.mig_base.proofs.Common.{◌≡◌, ◌%◌, ◌≤◌, ◌-◌, take, length, MatchBool}
-use Rattle.mig_euler.specs.Trails.{total, waits}
+use Rattle.mig_euler.proofs.Common.{MatchBool, length, take, total, waits, ◌%◌, ◌-◌, ◌≡◌, ◌≤◌}
 use Rattle.mig_euler.proofs.trails.is_odd.Given as goal
 
 abbrev pub invariant-loop-place : goal.invariant-loop-place

@@ -1,4 +1,4 @@
-use Rattle.std.proofs.Common.{rules}
+use Rattle.mig_euler.proofs.Common.{rules}
 use Rattle.mig_euler.proofs.trails.step_from.Goals as goal
 
 pub returns-then-eq-clause-head : goal.returns-then-eq-clause-head

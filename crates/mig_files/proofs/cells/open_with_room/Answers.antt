@@ -1,4 +1,4 @@
-use Rattle.mig_calls.specs.Places.{file_of}
+use Rattle.mig_files.proofs.Common.{file_of}
 use Rattle.mig_files.proofs.TrackingSteps.{step_then, alive_then, alive_same}
 use Rattle.mig_files.proofs.Derivation.{end_at_cell, end_after, on_ok}
 use Rattle.mig_files.proofs.cells.open_with_room.Goals as goal

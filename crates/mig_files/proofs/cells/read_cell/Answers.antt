@@ -1,4 +1,4 @@
-use Rattle.std.proofs.Common.{length, ◌∙◌}
+use Rattle.mig_files.proofs.Common.{length, ◌∙◌}
 use Rattle.mig_files.proofs.TrackingSteps.{step_then}
 use Rattle.mig_files.proofs.Headers.{whole_read, on_any}
 use Rattle.mig_files.proofs.cells.read_cell.Goals as goal

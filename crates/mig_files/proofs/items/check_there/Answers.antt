@@ -1,8 +1,4 @@
-use Rattle.std.proofs.Common.{subst}
-use Rattle.mig_calls.specs.declared.calls.Extent.{Extent}
-use Rattle.mig_calls.specs.Places.{file_of}
-use Rattle.mig_calls.specs.Files.{EndsAt, len_of}
-use Rattle.mig_calls.specs.Refusals.{WhereTold}
+use Rattle.mig_files.proofs.Common.{EndsAt, Extent, WhereTold, file_of, len_of, subst}
 use Rattle.mig_files.proofs.items.check_there.Goals as goal
 
 pub refuse_with-requires-clause-cause : goal.refuse_with-requires-clause-cause

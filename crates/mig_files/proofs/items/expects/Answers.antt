@@ -1,4 +1,4 @@
-use Rattle.mig_calls.specs.Places.{file_of}
+use Rattle.mig_files.proofs.Common.{file_of}
 use Rattle.mig_files.proofs.FilesSteps.{look_then}
 use Rattle.mig_files.proofs.TrackingSteps.{step_then}
 use Rattle.mig_files.proofs.Derivation.{end_after}

@@ -1,5 +1,4 @@
-use Rattle.std.proofs.Common.{◌≡◌, length, rules}
-use Rattle.mig_calls.specs.Places.{file_of}
+use Rattle.mig_files.proofs.Common.{file_of, length, rules, ◌≡◌}
 use Rattle.mig_files.proofs.FilesSteps.{look_then}
 use Rattle.mig_files.proofs.TrackingSteps.{step_then, quiet_step}
 use Rattle.mig_files.proofs.Derivation.{part_read, end_at_cell, end_after}

@@ -1,5 +1,4 @@
-use Rattle.mig_calls.specs.Files.{len_of}
-use Rattle.std.proofs.Common.{arith}
+use Rattle.mig_files.proofs.Common.{arith, len_of}
 use Rattle.mig_files.proofs.items.note_held.Goals as goal
 
 pub refuse_with-requires-clause-cause : goal.refuse_with-requires-clause-cause

@@ -1,6 +1,4 @@
-use Rattle.std.proofs.Common.{subst, sym}
-use Rattle.mig_files.specs.declared.tracked.Notes.{Notes}
-use Rattle.mig_files.specs.Tracking.{IsStep, StaysAlive}
+use Rattle.mig_files.proofs.Common.{IsStep, Notes, StaysAlive, subst, sym}
 use Rattle.mig_files.proofs.TrackingSteps.{step_then, quiet_step, alive_kept}
 use Rattle.mig_files.proofs.opening.ask_len.Goals as goal
 

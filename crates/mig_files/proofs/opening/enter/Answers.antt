@@ -1,4 +1,4 @@
-use Rattle.std.proofs.Common.{sym, ◌∙◌}
+use Rattle.mig_files.proofs.Common.{sym, ◌∙◌}
 use Rattle.mig_files.proofs.TrackingSteps.{step_then, step_none, alive_none, tracked_more}
 use Rattle.mig_files.proofs.opening.enter.Goals as goal
 

@@ -1,4 +1,4 @@
-use Rattle.std.proofs.Common.{arith}
+use Rattle.mig_files.proofs.Common.{arith}
 use Rattle.mig_files.proofs.Errs.{none_of}
 use Rattle.mig_files.proofs.TrackingSteps.{step_then, alive_then}
 use Rattle.mig_files.proofs.opening.extent.Goals as goal

@@ -1,4 +1,4 @@
-use Rattle.mig_files.specs.Tracking.{HasTried}
+use Rattle.mig_files.proofs.Common.{HasTried}
 use Rattle.mig_files.proofs.opening.extent.Given as goal
 
 abbrev pub invariant-tries : goal.invariant-tries

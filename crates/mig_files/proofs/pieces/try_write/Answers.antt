@@ -1,5 +1,4 @@
-use Rattle.std.proofs.Common.{Bool, ◌∙◌, ap}
-use Rattle.mig_calls.specs.declared.places.Place.{Place}
+use Rattle.mig_files.proofs.Common.{Bool, Place, ap, ◌∙◌}
 use Rattle.mig_files.proofs.TrackingSteps.{tracked_more, step_is_write, unsynced_back}
 use Rattle.mig_files.proofs.pieces.try_write.Goals as goal
 

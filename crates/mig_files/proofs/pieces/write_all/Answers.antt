@@ -1,4 +1,4 @@
-use Rattle.std.proofs.Common.{arith}
+use Rattle.mig_files.proofs.Common.{arith}
 use Rattle.mig_files.proofs.TrackingSteps.{write_step_then, step_is_write, step_none, writes_then, writes_none}
 use Rattle.mig_files.proofs.pieces.write_all.Goals as goal
 

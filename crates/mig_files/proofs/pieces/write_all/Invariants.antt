@@ -1,4 +1,4 @@
-use Rattle.mig_files.specs.Tracking.{HasWrittenSome}
+use Rattle.mig_files.proofs.Common.{HasWrittenSome}
 use Rattle.mig_files.proofs.pieces.write_all.Given as goal
 
 abbrev pub invariant-tries : goal.invariant-tries

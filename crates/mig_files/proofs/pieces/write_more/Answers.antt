@@ -1,4 +1,4 @@
-use Rattle.std.proofs.Common.{arith}
+use Rattle.mig_files.proofs.Common.{arith}
 use Rattle.mig_files.proofs.FilesSteps.{told_before, bytes_after}
 use Rattle.mig_files.proofs.TrackingSteps.{write_step_then, step_is_write, writes_then, alive_is_write, cause_full, cause_failed, cause_interrupted}
 use Rattle.mig_files.proofs.RestSteps.{rest_step, rest_still, rest_written}

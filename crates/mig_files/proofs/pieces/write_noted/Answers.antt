@@ -1,5 +1,4 @@
-use Rattle.std.proofs.Common.{refl, sym}
-use Rattle.std.proofs.lemmas.Bool.{false≢true}
+use Rattle.mig_files.proofs.Common.{false≢true, refl, sym}
 use Rattle.mig_files.proofs.TrackingSteps.{place_written}
 use Rattle.mig_files.proofs.pieces.write_noted.Goals as goal
 

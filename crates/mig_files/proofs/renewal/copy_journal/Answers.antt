@@ -1,6 +1,4 @@
-use Rattle.std.proofs.Common.{ℕ, IsTrue, sym, subst}
-use Rattle.mig_calls.specs.Files.{EndsAt}
-use Rattle.mig_calls.specs.declared.places.Place.TheVariants.{Journal, Copy}
+use Rattle.mig_files.proofs.Common.{Copy, EndsAt, IsTrue, Journal, subst, sym, ℕ}
 use Rattle.mig_files.proofs.CopySteps.{copied_none, copy_step_then, step_is_copy}
 use Rattle.mig_files.proofs.Derivation.{end_after, on_ok}
 use Rattle.mig_files.proofs.renewal.copy_journal.Goals as goal

@@ -1,6 +1,4 @@
-use Rattle.std.proofs.Common.{ℕ, IsTrue, ◌≡◌, ◌⊎◌, ◌+◌, ◌≤◌, length, sym, subst, arith, ◌∙◌}
-use Rattle.mig_calls.specs.declared.places.Place.TheVariants.{Journal}
-use Rattle.mig_calls.specs.Files.{HasBytes}
+use Rattle.mig_files.proofs.Common.{HasBytes, IsTrue, Journal, arith, length, subst, sym, ℕ, ◌+◌, ◌∙◌, ◌≡◌, ◌≤◌, ◌⊎◌}
 use Rattle.mig_files.proofs.TrackingSteps.{quiet_step}
 use Rattle.mig_files.proofs.CopySteps.{copied_more, copy_step_then, step_is_copy, write_step_is_copy}
 use Rattle.mig_files.proofs.Derivation.{on_ok}

@@ -1,5 +1,4 @@
-use Rattle.std.proofs.Common.{◌+◌, ◌*◌, ℕ, arith, subst, ◌≡◌}
-use Rattle.mig_files.specs.Tracking.{IsCopiedTo}
+use Rattle.mig_files.proofs.Common.{IsCopiedTo, arith, subst, ℕ, ◌*◌, ◌+◌, ◌≡◌}
 use Rattle.mig_files.proofs.TrackingSteps.{writes_then, writes_none, step_none}
 use Rattle.mig_files.proofs.CopySteps.{copy_step_then, step_is_copy}
 use Rattle.mig_files.proofs.renewal.copy_pieces.Goals as goal

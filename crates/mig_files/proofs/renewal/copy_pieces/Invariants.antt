@@ -1,5 +1,4 @@
-use Rattle.std.specs.Prelude.{◌*◌}
-use Rattle.mig_files.specs.Tracking.{HasCopied}
+use Rattle.mig_files.proofs.Common.{HasCopied, ◌*◌}
 use Rattle.mig_files.proofs.renewal.copy_pieces.Given as goal
 
 abbrev pub invariant-loop-i : goal.invariant-loop-i

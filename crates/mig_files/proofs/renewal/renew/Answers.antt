@@ -1,4 +1,4 @@
-use Rattle.std.proofs.Common.{refl, ◌∙◌}
+use Rattle.mig_files.proofs.Common.{refl, ◌∙◌}
 use Rattle.mig_files.proofs.TrackingSteps.{quiet_step, step_none, look_is_copy}
 use Rattle.mig_files.proofs.CopySteps.{found_fresh, copy_step_then, step_is_copy}
 use Rattle.mig_files.proofs.renewal.renew.Goals as goal

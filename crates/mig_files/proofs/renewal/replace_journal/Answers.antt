@@ -1,4 +1,4 @@
-use Rattle.mig_calls.specs.declared.places.Place.TheVariants.{Copy}
+use Rattle.mig_files.proofs.Common.{Copy}
 use Rattle.mig_files.proofs.TrackingSteps.{whole_kept}
 use Rattle.mig_files.proofs.CopySteps.{copy_step_then}
 use Rattle.mig_files.proofs.renewal.replace_journal.Goals as goal

@@ -1,5 +1,4 @@
-use Rattle.std.proofs.Common.{refl, ◌∙◌}
-use Rattle.mig_calls.specs.declared.places.Place.TheVariants.{Copy}
+use Rattle.mig_files.proofs.Common.{Copy, refl, ◌∙◌}
 use Rattle.mig_files.proofs.TrackingSteps.{look_is_copy, place_synced, task_lost, not_copy, not_copy_journal}
 use Rattle.mig_files.proofs.renewal.sync_copy.Goals as goal
 

@@ -1,6 +1,4 @@
-use Rattle.std.proofs.Common.{refl, sym}
-use Rattle.std.proofs.lemmas.Bool.{false≢true}
-use Rattle.mig_calls.specs.declared.places.Place.TheVariants.{Journal}
+use Rattle.mig_files.proofs.Common.{Journal, false≢true, refl, sym}
 use Rattle.mig_files.proofs.TrackingSteps.{task_made}
 use Rattle.mig_files.proofs.renewal.take_name.Goals as goal
 

@@ -1,5 +1,4 @@
-use Rattle.std.proofs.Common.{List, ℕ, length, slice_index, slice_range, ◌≡◌, ◌+◌, ◌∙◌, ap, arith}
-use Rattle.mig_base.specs.Slots.{header_of}
+use Rattle.mig_files.proofs.Common.{List, ap, arith, header_of, length, slice_index, slice_range, ℕ, ◌+◌, ◌∙◌, ◌≡◌}
 use Rattle.mig_files.proofs.Headers.{name_range, some_of}
 use Rattle.mig_files.proofs.slot_header.name_in.Goals as goal
 

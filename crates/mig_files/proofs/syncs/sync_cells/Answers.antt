@@ -1,4 +1,4 @@
-use Rattle.mig_calls.specs.declared.places.Place.TheVariants.{Disk, Journal}
+use Rattle.mig_files.proofs.Common.{Disk, Journal}
 use Rattle.mig_files.proofs.CopySteps.{settled_cell, copy_step_then, step_is_copy}
 use Rattle.mig_files.proofs.syncs.sync_cells.Goals as goal
 

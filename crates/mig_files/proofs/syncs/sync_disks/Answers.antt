@@ -1,4 +1,4 @@
-use Rattle.std.proofs.Common.{arith}
+use Rattle.mig_files.proofs.Common.{arith}
 use Rattle.mig_files.proofs.TrackingSteps.{step_then, step_none, alive_then, alive_none}
 use Rattle.mig_files.proofs.syncs.sync_disks.Goals as goal
 

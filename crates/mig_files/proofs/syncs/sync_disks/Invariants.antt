@@ -1,5 +1,4 @@
-use Rattle.std.specs.Prelude.{length}
-use Rattle.mig_files.specs.Tracking.{HasSyncedSome}
+use Rattle.mig_files.proofs.Common.{HasSyncedSome, length}
 use Rattle.mig_files.proofs.syncs.sync_disks.Given as goal
 
 abbrev pub invariant-disks : goal.invariant-disks

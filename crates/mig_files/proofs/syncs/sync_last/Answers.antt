@@ -1,4 +1,4 @@
-use Rattle.std.proofs.Common.{arith}
+use Rattle.mig_files.proofs.Common.{arith}
 use Rattle.mig_files.proofs.TrackingSteps.{step_then, quiet_step, alive_then, alive_kept}
 use Rattle.mig_files.proofs.syncs.sync_last.Goals as goal
 

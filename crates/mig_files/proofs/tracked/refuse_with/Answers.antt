@@ -1,4 +1,4 @@
-use Rattle.std.proofs.Common.{◌∙◌}
+use Rattle.mig_files.proofs.Common.{◌∙◌}
 use Rattle.mig_files.proofs.TrackingSteps.{quiet_step}
 use Rattle.mig_files.proofs.tracked.refuse_with.Goals as goal
 

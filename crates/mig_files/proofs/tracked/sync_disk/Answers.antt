@@ -1,5 +1,4 @@
-use Rattle.std.proofs.Common.{refl, ap}
-use Rattle.mig_calls.specs.declared.places.Place.TheVariants.{Disk}
+use Rattle.mig_files.proofs.Common.{Disk, ap, refl}
 use Rattle.mig_files.proofs.TrackingSteps.{place_synced, synced_alive}
 use Rattle.mig_files.proofs.tracked.sync_disk.Goals as goal
 

@@ -1,4 +1,4 @@
-use Rattle.mig_files.specs.Tasks.{WasInterrupted}
+use Rattle.mig_files.proofs.Common.{WasInterrupted}
 use Rattle.mig_files.proofs.tries.make.Given as goal
 
 abbrev pub invariant-tries : goal.invariant-tries

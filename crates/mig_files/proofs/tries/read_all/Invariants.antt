@@ -1,4 +1,4 @@
-use Rattle.mig_files.specs.Tracking.{HasReadSome}
+use Rattle.mig_files.proofs.Common.{HasReadSome}
 use Rattle.mig_files.proofs.tries.read_all.Given as goal
 
 abbrev pub invariant-tries : goal.invariant-tries

@@ -1,6 +1,4 @@
-use Rattle.std.proofs.Common.{refl, arith}
-use Rattle.mig_calls.specs.Places.{file_of}
-use Rattle.mig_calls.specs.Files.{len_of}
+use Rattle.mig_files.proofs.Common.{arith, file_of, len_of, refl}
 use Rattle.mig_files.proofs.TrackingSteps.{step_at_cell, step_is_write}
 use Rattle.mig_files.proofs.Headers.{emptied, on_any}
 use Rattle.mig_files.proofs.Derivation.{end_after}

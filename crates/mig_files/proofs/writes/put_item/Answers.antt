@@ -1,4 +1,4 @@
-use Rattle.std.proofs.Common.{refl}
+use Rattle.mig_files.proofs.Common.{refl}
 use Rattle.mig_files.proofs.TrackingSteps.{step_then, step_at_cell, step_is_write, write_step_then}
 use Rattle.mig_files.proofs.Headers.{on_any}
 use Rattle.mig_files.proofs.Derivation.{written_after}

@@ -1,5 +1,4 @@
-use Rattle.std.proofs.Common.{length, arith, ◌∙◌}
-use Rattle.mig_calls.specs.Places.{file_of, offset_of}
+use Rattle.mig_files.proofs.Common.{arith, file_of, length, offset_of, ◌∙◌}
 use Rattle.mig_files.proofs.TrackingSteps.{step_then}
 use Rattle.mig_files.proofs.Headers.{held_by, held_is, header_after, first_bytes, whole_read}
 use Rattle.mig_files.proofs.Derivation.{end_after}

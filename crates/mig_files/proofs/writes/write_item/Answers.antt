@@ -1,4 +1,4 @@
-use Rattle.std.proofs.Common.{refl}
+use Rattle.mig_files.proofs.Common.{refl}
 use Rattle.mig_files.proofs.TrackingSteps.{step_at_cell, step_is_write}
 use Rattle.mig_files.proofs.Derivation.{on_ok}
 use Rattle.mig_files.proofs.Headers.{free_before}

@@ -1,4 +1,4 @@
-use Rattle.std.proofs.Common.{rules}
+use Rattle.mig_gen.proofs.Common.{rules}
 use Rattle.mig_gen.proofs.cases.is_case_size.Goals as goal
 
 pub returns-then-limit-ge1 : goal.returns-then-limit-ge1

@@ -1,4 +1,4 @@
-use Rattle.mig_base.proofs.Common.{arith, subst, common_steps, IsName}
+use Rattle.mig_gen.proofs.Common.{IsName, arith, common_steps, subst}
 use Rattle.mig_gen.proofs.MadeNames.{numbered_is_name}
 use Rattle.mig_gen.proofs.lists.numbered.Goals as goal
 

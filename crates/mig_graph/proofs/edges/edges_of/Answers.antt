@@ -1,8 +1,5 @@
-use Rattle.mig_base.proofs.Common.{◌≡◌, ◌∙◌, sym, ap, List, map, get_or, ℕ, ◌++◌, ◌∷◌, [], Vec, Global, Trip, source, target, trip, no_spot}
-use Rattle.mig_base.specs.declared.ids.DiskId.{DiskId}
-use Rattle.mig_base.specs.declared.ids.Spot.{Spot}
-use Rattle.mig_graph.specs.declared.edges.Edge.{Edge}
-use Rattle.mig_graph.specs.Edges.{edge_item, edge_trip}
+use Rattle.mig_graph.proofs.Common.{DiskId, Edge, Global, List, Spot, Trip, Vec, [], ap, edge_item, edge_trip, get_or, map, no_spot, refl, source, sym, target, trip, ℕ, ◌++◌}
+use Rattle.mig_graph.proofs.Common.{◌∙◌, ◌∷◌, ◌≡◌}
 use Rattle.mig_graph.proofs.Made.{items_yes, trips_yes, moves_no, differs, same}
 use Rattle.mig_graph.proofs.edges.edges_of.Goals as goal
 use Rattle.mig_graph.proofs.edges.edges_of.Goals.{then-from-to+in_ok-push, else-from-to}

@@ -1,5 +1,4 @@
-use Rattle.mig_base.proofs.Common.{◌≡◌, map, filter, range_with_len, is_relocated, trip}
-use Rattle.mig_graph.specs.Edges.{edge_item, edge_trip}
+use Rattle.mig_graph.proofs.Common.{edge_item, edge_trip, filter, is_relocated, map, range_with_len, trip, ◌≡◌}
 use Rattle.mig_graph.proofs.edges.edges_of.Given as goal
 
 abbrev pub invariant-loop-item : goal.invariant-loop-item

@@ -1,13 +1,16 @@
-use Rattle.mig_base.proofs.Common.{arith, ◌≡◌, ◌∙◌, get_or, ap, get_or_default, div_ceil, no_disk}
-use Rattle.mig_base.specs.declared.inputs.Disk.{Disk}
+use Rattle.mig_graph.proofs.Common.{Disk, ap, arith, get_or, get_or_default, no_disk, rounds_by, ◌∙◌, ◌≡◌}
 use Rattle.mig_graph.proofs.Made.{quotient_more}
 use Rattle.mig_graph.proofs.loads.quotient_of.Goals as goal
 use Rattle.mig_graph.proofs.loads.quotient_of.Goals.{then-greatest-value, else-greatest-value}
 
 pub loop-disk-preserved : goal.loop-disk-preserved
 loop-disk-preserved c =
-    let more = quotient_more c.args.disks.now c.args.loads.now c.loop-disk.disk in
-    let value : c.div_ceil-value.result ≡ div_ceil (get_or c.args.loads.now c.loop-disk.disk 0) (get_or c.args.disks.now c.loop-disk.disk no_disk).limit = c.div_ceil-value.ensures ∙ ap (λ (x : Disk). div_ceil (get_or c.args.loads.now c.loop-disk.disk 0) x.limit) (get_or_default c.args.disks.now c.loop-disk.disk _ no_disk c.loop-disk-test.true) in
+    let ds = c.args.disks.now in
+    let v = c.loop-disk.disk in
+    let a = get_or c.args.outgoing.now v 0 in
+    let b = get_or c.args.incoming.now v 0 in
+    let more = quotient_more ds c.args.outgoing.now c.args.incoming.now v in
+    let value : c.rounds_by-value.result ≡ rounds_by (get_or ds v no_disk).limits a b = c.rounds_by-value.ensures ∙ ap (λ (d : Disk). rounds_by d.limits a b) (get_or_default ds v _ no_disk c.loop-disk-test.true) in
     elim c.if-greatest-value.branch [
       | then-greatest-value w ↦ omega (arith, w.greatest-is, w.if-greatest-value.true, more, value, c.loop-disk.invariant)
       | else-greatest-value w ↦ omega (arith, w.greatest-is, w.if-greatest-value.false, more, value, c.loop-disk.invariant)

@@ -1,5 +1,4 @@
-use Rattle.std.proofs.Common.{◌≡◌, ◌≤◌}
-use Rattle.mig_hints.specs.Lines.{ends_before}
+use Rattle.mig_hints.proofs.Common.{ends_before, ◌≡◌, ◌≤◌}
 use Rattle.mig_hints.proofs.lines.line_of.Given as goal
 
 abbrev pub invariant-loop-k : goal.invariant-loop-k

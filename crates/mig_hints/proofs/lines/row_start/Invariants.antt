@@ -1,5 +1,4 @@
-use Rattle.std.proofs.Common.{◌≡◌, ◌≤◌}
-use Rattle.mig_hints.specs.Lines.{rows_before}
+use Rattle.mig_hints.proofs.Common.{rows_before, ◌≡◌, ◌≤◌}
 use Rattle.mig_hints.proofs.lines.row_start.Given as goal
 
 abbrev pub invariant-loop-at : goal.invariant-loop-at

@@ -1,4 +1,4 @@
-use Rattle.std.proofs.Common.{◌≡◌, ◌≤◌, ◌<◌, ◌-◌, ◌%◌, ℕ, length, slice_index_or}
+use Rattle.mig_hints.proofs.Common.{length, slice_index_or, ℕ, ◌%◌, ◌-◌, ◌<◌, ◌≡◌, ◌≤◌}
 use Rattle.mig_hints.proofs.slots.holds_made.Given as goal
 
 abbrev pub invariant-loop-place : goal.invariant-loop-place

@@ -1,4 +1,4 @@
-use Rattle.std.proofs.Common.{rules}
+use Rattle.mig_io.proofs.Common.{rules}
 use Rattle.mig_io.proofs.dir.fault_of.Goals as goal
 
 pub returns-in_default : goal.returns-in_default

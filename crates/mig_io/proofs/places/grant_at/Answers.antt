@@ -1,4 +1,4 @@
-use Rattle.std.proofs.Common.{rules}
+use Rattle.mig_io.proofs.Common.{rules}
 use Rattle.mig_io.proofs.places.grant_at.Goals as goal
 
 pub returns-clause-ok : goal.returns-clause-ok

@@ -1,5 +1,4 @@
-use Rattle.std.proofs.Common.{arith}
-use Rattle.std.proofs.lemmas.Grind.{common_steps}
+use Rattle.mig_io.proofs.Common.{arith, common_steps}
 use Rattle.mig_io.proofs.reading.read_first.Goals as goal
 
 pub returns-clause-bytes : goal.returns-clause-bytes

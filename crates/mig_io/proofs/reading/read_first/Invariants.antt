@@ -1,5 +1,4 @@
-use Rattle.std.proofs.Common.{◌≤◌, ◌-◌, vec_len}
-use Rattle.std.specs.Io.KnownBytes.{Consumes}
+use Rattle.mig_io.proofs.Common.{Consumes, vec_len, ◌-◌, ◌≤◌}
 use Rattle.mig_io.proofs.reading.read_first.Given as goal
 
 abbrev pub invariant-loop-piece : goal.invariant-loop-piece

@@ -1,5 +1,4 @@
-use Rattle.std.proofs.Common.{◌≡◌, length}
-use Rattle.std.specs.Io.KnownBytes.{Keeps}
+use Rattle.mig_io.proofs.Common.{Keeps, length, ◌≡◌}
 use Rattle.mig_io.proofs.reading.read_some.Given as goal
 
 -- a read that was interrupted took nothing

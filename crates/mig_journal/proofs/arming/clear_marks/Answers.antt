@@ -1,8 +1,5 @@
-use Rattle.mig_base.proofs.Common.{◌≡◌, ◌<◌, ◌≤◌, ◌+◌, ℕ, List, [], ◌∷◌, Option, ◌⊎◌, inl, inr, IfSome, sym, subst, arith, cases_eq, Image, SameBut, IsMark, flights}
-use Rattle.mig_base.specs.declared.cells.Cell.{Cell}
-use Rattle.mig_base.specs.declared.cells.Cell.TheVariants.{Mark}
-use Rattle.mig_base.proofs.Landing.{no_target, no_source}
-use Rattle.mig_journal.specs.FreshJournals.{AreUnmarked}
+use Rattle.mig_journal.proofs.Common.{AreUnmarked, Cell, IfSome, Image, IsMark, List, Mark, Option, SameBut, [], arith, cases_eq, flights, inl, inr, no_source, no_target, subst, sym, ℕ, ◌+◌, ◌<◌}
+use Rattle.mig_journal.proofs.Common.{◌∷◌, ◌≡◌, ◌≤◌, ◌⊎◌}
 use Rattle.mig_journal.proofs.Steps.{still_none, then_step}
 use Rattle.mig_journal.proofs.arming.clear_marks.Goals as goal
 

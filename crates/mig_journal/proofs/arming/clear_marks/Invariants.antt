@@ -1,5 +1,4 @@
-use Rattle.mig_base.proofs.Common.{◌≤◌, IsMark, ChangesOnly}
-use Rattle.mig_journal.specs.FreshJournals.{AreUnmarked}
+use Rattle.mig_journal.proofs.Common.{AreUnmarked, ChangesOnly, IsMark, ◌≤◌}
 use Rattle.mig_journal.proofs.arming.clear_marks.Given as goal
 
 abbrev pub invariant-loop-n : goal.invariant-loop-n

@@ -1,4 +1,4 @@
-use Rattle.std.proofs.Common.{rules}
+use Rattle.mig_journal.proofs.Common.{rules}
 use Rattle.mig_journal.proofs.marks.mark.Goals as goal
 
 pub returns-clause-settled : goal.returns-clause-settled

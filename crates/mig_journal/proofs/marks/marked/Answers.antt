@@ -1,4 +1,4 @@
-use Rattle.mig_base.proofs.Common.{true, false, arith}
+use Rattle.mig_journal.proofs.Common.{arith, false, true}
 use Rattle.mig_journal.proofs.MarksRead.{one_more, stops, all_set}
 use Rattle.mig_journal.proofs.Steps.{looks_then, look_mark}
 use Rattle.mig_journal.proofs.marks.marked.Goals as goal

@@ -1,5 +1,4 @@
-use Rattle.mig_base.proofs.Common.{◌≡◌, ◌≤◌, ℕ, true, IsMark, Tells, is_marked}
-use Rattle.mig_base.specs.Stores.{Looks}
+use Rattle.mig_journal.proofs.Common.{IsMark, Looks, Tells, is_marked, true, ℕ, ◌≡◌, ◌≤◌}
 use Rattle.mig_journal.proofs.marks.marked.Given as goal
 
 abbrev pub invariant-loop-n : goal.invariant-loop-n

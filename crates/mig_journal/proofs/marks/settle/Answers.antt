@@ -1,4 +1,4 @@
-use Rattle.mig_base.proofs.Common.{◌≡◌, IfSome, subst, Image}
+use Rattle.mig_journal.proofs.Common.{IfSome, Image, subst, ◌≡◌}
 use Rattle.mig_journal.proofs.Steps.{on_ok_is, then_sync, still_none, sync_same}
 use Rattle.mig_journal.proofs.marks.settle.Goals as goal
 

@@ -1,7 +1,4 @@
-use Rattle.mig_base.proofs.Common.{inl, inr, sym, subst, slice_get_within}
-use Rattle.mig_board.specs.Colouring.{Colouring}
-use Rattle.mig_board.specs.Growth.{PaintsOne}
-use Rattle.mig_board.proofs.Laws.{not_full, both_free, PaintsOne-painted, PaintsOne-exchanged, exchanges_plain}
+use Rattle.mig_koenig.proofs.Common.{Colouring, PaintsOne, PaintsOne-exchanged, PaintsOne-painted, both_free, exchanges_plain, inl, inr, not_full, slice_get_within, subst, sym}
 use Rattle.mig_koenig.proofs.Step.{free_after}
 use Rattle.mig_koenig.proofs.sides.colour_edge.Goals as goal
 

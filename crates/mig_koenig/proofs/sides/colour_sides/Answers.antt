@@ -1,6 +1,4 @@
-use Rattle.std.proofs.Common.{sym, subst, arith}
-use Rattle.mig_board.specs.Colouring.{Colouring}
-use Rattle.mig_board.specs.Growth.{IsTwoSided}
+use Rattle.mig_koenig.proofs.Common.{Colouring, IsTwoSided, arith, subst, sym}
 use Rattle.mig_koenig.proofs.sides.colour_sides.Goals as goal
 
 pub colour_edge-requires-clause-plain : goal.colour_edge-requires-clause-plain

@@ -1,4 +1,4 @@
-use Rattle.mig_board.proofs.Laws.{IsPart}
+use Rattle.mig_koenig.proofs.Common.{IsPart}
 use Rattle.mig_koenig.proofs.sides.colour_sides.Given as goal
 
 abbrev pub invariant-loop-edge : goal.invariant-loop-edge

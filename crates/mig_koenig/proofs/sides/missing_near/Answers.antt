@@ -1,4 +1,4 @@
-use Rattle.std.proofs.Common.{rules}
+use Rattle.mig_koenig.proofs.Common.{rules}
 use Rattle.mig_koenig.proofs.sides.missing_near.Goals as goal
 
 pub returns : goal.returns

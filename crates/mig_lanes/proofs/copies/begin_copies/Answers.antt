@@ -1,5 +1,5 @@
-use Rattle.mig_base.proofs.Common.{◌≡◌, ◌≢◌, ◌∷◌, [], take, sym, subst, arith, IsTrue, length-map, is_slot, IsCopy, began, IsTargetOf, IsSourceOf, round_at, flight_of, flights, Changes}
-use Rattle.mig_lanes.proofs.Common.{Flight, copies_of}
+use Rattle.mig_lanes.proofs.Common.{Changes, Flight, IsCopy, IsSourceOf, IsTargetOf, IsTrue, [], arith, began, copies_of, flight_of, flights, is_slot, length-map, round_at, subst, sym, take, ◌∷◌}
+use Rattle.mig_lanes.proofs.Common.{◌≡◌, ◌≢◌}
 use Rattle.mig_lanes.proofs.Beginning.{cells_apart, from_still, not_target, not_source, landed_more, change_more, change_failed}
 use Rattle.mig_lanes.proofs.RoundCopies.{are_flights, copy_within, copy_here}
 use Rattle.mig_lanes.proofs.copies.begin_copies.Goals as goal

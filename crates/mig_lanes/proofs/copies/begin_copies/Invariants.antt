@@ -1,5 +1,4 @@
-use Rattle.mig_base.proofs.Common.{◌≤◌, take, map, AllWithin, IsCopy, began, IsTargetOf, flights, Changes}
-use Rattle.mig_lanes.specs.LaneSteps.{copies_of}
+use Rattle.mig_lanes.proofs.Common.{AllWithin, Changes, IsCopy, IsTargetOf, began, copies_of, flights, map, take, ◌≤◌}
 use Rattle.mig_lanes.proofs.copies.begin_copies.Given as goal
 
 abbrev pub invariant-loop-place : goal.invariant-loop-place

@@ -1,6 +1,4 @@
-use Rattle.std.proofs.Common.{◌++◌, arith}
-use Rattle.mig_base.specs.Stores.{named}
-use Rattle.mig_base.proofs.Landing.{ends_then}
+use Rattle.mig_lanes.proofs.Common.{arith, ends_then, named, ◌++◌}
 use Rattle.mig_lanes.proofs.copies.end_copies.Goals as goal
 
 pub returns-in_err-ended-clause-ends : goal.returns-in_err-ended-clause-ends

@@ -1,5 +1,4 @@
-use Rattle.mig_base.proofs.Common.{◌≤◌, List, Ends}
-use Rattle.mig_base.specs.declared.cells.Flight.{Flight}
+use Rattle.mig_lanes.proofs.Common.{Ends, Flight, List, ◌≤◌}
 use Rattle.mig_lanes.proofs.copies.end_copies.Given as goal
 
 abbrev pub invariant-loop : goal.invariant-loop

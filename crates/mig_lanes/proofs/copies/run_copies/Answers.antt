@@ -1,6 +1,4 @@
-use Rattle.mig_base.proofs.Common.{◌++◌, map, take, on_ok_weaker, began, ended, rules}
-use Rattle.mig_base.proofs.Landing.{ends_then}
-use Rattle.mig_lanes.specs.LaneSteps.{copies_of}
+use Rattle.mig_lanes.proofs.Common.{began, copies_of, ended, ends_then, map, on_ok_weaker, rules, take, ◌++◌}
 use Rattle.mig_lanes.proofs.RoundCopies.{are_flights}
 use Rattle.mig_lanes.proofs.Rounding.{part_begun, mid_are, ended_change, part_ended, whole_round, all_copied}
 use Rattle.mig_lanes.proofs.copies.run_copies.Goals as goal

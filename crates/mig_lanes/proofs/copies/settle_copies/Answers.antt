@@ -1,4 +1,4 @@
-use Rattle.std.proofs.Common.{rules}
+use Rattle.mig_lanes.proofs.Common.{rules}
 use Rattle.mig_lanes.proofs.copies.settle_copies.Goals as goal
 
 pub returns-clause-settled : goal.returns-clause-settled

@@ -1,7 +1,4 @@
-use Rattle.mig_base.proofs.Common.{◌≡◌, length, false, Ok, Err, refl, ◌∙◌, ap, arith, err_from_is_err_and, count_of, rules}
-use Rattle.mig_base.specs.declared.cells.Cell.TheVariants.{Head}
-use Rattle.mig_base.proofs.MarkCounts.{count_most}
-use Rattle.mig_mover.proofs.Settling.{armed_told}
+use Rattle.mig_lanes.proofs.Common.{Err, Head, Ok, ap, arith, armed_told, count_most, count_of, err_from_is_err_and, false, length, refl, rules, ◌∙◌, ◌≡◌}
 use Rattle.mig_lanes.proofs.Answering.{if_some_is, no_resume_fault, other_of, start_of_resume, unrefused_of, no_fault}
 use Rattle.mig_lanes.proofs.RunLaws.{run_keeps, run_armed, run_halting, run_finishes, still_reached, enter_part, run_part, run_events}
 use Rattle.mig_lanes.proofs.lanes.resume_lanes.Goals as goal

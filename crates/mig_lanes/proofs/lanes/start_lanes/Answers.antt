@@ -1,5 +1,4 @@
-use Rattle.mig_base.proofs.Common.{Err, refl, sym, ◌∙◌, ap, arith, false≢true, err_from_is_err_and, rules}
-use Rattle.mig_mover.proofs.Settling.{armed_told}
+use Rattle.mig_lanes.proofs.Common.{Err, ap, arith, armed_told, err_from_is_err_and, false≢true, refl, rules, sym, ◌∙◌}
 use Rattle.mig_lanes.proofs.Answering.{started_of, other_of, unrefused_of, no_fault}
 use Rattle.mig_lanes.proofs.RunLaws.{run_keeps, run_armed, run_finishes, enter_part, run_part, run_events}
 use Rattle.mig_lanes.proofs.lanes.start_lanes.Goals as goal

@@ -1,8 +1,5 @@
-use Rattle.mig_base.proofs.Common.{◌≡◌, ◌+◌, ◌-◌, [], ℕ, map, length, subst, arith, range_with_len, on_ok_weaker, IsWorkCell, NoCell, IsRound, AreRounds, Adds, HasDone, IsSound, rules}
-use Rattle.mig_base.proofs.Landing.{ends_are_quiet}
-use Rattle.mig_base.proofs.StoreSteps.{leaves_none, leaves_then, quiet_leaves, same_image}
-use Rattle.mig_journal.proofs.Steps.{on_ok_is}
-use Rattle.mig_lanes.specs.LaneSteps.{copies_of, later_rounds, BeginsRound, BeginsRounds}
+use Rattle.mig_lanes.proofs.Common.{Adds, AreRounds, BeginsRound, BeginsRounds, HasDone, IsRound, IsSound, IsWorkCell, NoCell, [], arith, copies_of, ends_are_quiet, later_rounds, leaves_none}
+use Rattle.mig_lanes.proofs.Common.{leaves_then, length, map, on_ok_is, on_ok_weaker, quiet_leaves, range_with_len, rules, same_image, subst, ℕ, ◌+◌, ◌-◌, ◌≡◌}
 use Rattle.mig_lanes.proofs.CarryingOn.{change_none, change_then, change_quiet, none_yet, done_synced}
 use Rattle.mig_lanes.proofs.EventSteps.{adds_then, adds_kept, adds_wider}
 use Rattle.mig_lanes.proofs.RoundLists.{rounds_next, rounds_part, all_begin}

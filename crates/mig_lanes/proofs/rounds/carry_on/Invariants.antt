@@ -1,5 +1,5 @@
-use Rattle.mig_base.proofs.Common.{◌≡◌, ◌≤◌, ◌+◌, ◌-◌, Bool, List, [], map, range_with_len, IsWorkCell, AreRounds, Adds, HasDone, Contents, IsSound, flights, Changes, LeavesOnly}
-use Rattle.mig_lanes.proofs.Common.{Event, copies_of}
+use Rattle.mig_lanes.proofs.Common.{Adds, AreRounds, Bool, Changes, Contents, Event, HasDone, IsSound, IsWorkCell, LeavesOnly, List, [], copies_of, flights, map, range_with_len, ◌+◌, ◌-◌, ◌≡◌}
+use Rattle.mig_lanes.proofs.Common.{◌≤◌}
 use Rattle.mig_lanes.proofs.rounds.carry_on.Given as goal
 
 abbrev pub invariant-loop-done : goal.invariant-loop-done

@@ -1,5 +1,4 @@
-use Rattle.mig_base.proofs.Common.{◌+◌, ◌++◌, [], arith, on_ok_weaker, IsSound}
-use Rattle.mig_base.proofs.StoreSteps.{leaves_then}
+use Rattle.mig_lanes.proofs.Common.{IsSound, [], arith, leaves_then, on_ok_weaker, ◌++◌, ◌+◌}
 use Rattle.mig_lanes.proofs.Carrying.{exit_copy, has_copied, copy_work, closed_work}
 use Rattle.mig_lanes.proofs.rounds.carry_out.Goals as goal
 

@@ -1,4 +1,4 @@
-use Rattle.mig_base.proofs.Common.{◌+◌, arith, on_ok_weaker}
+use Rattle.mig_lanes.proofs.Common.{arith, on_ok_weaker, ◌+◌}
 use Rattle.mig_lanes.proofs.Closing.{exit_mark, exit_erase, done_next, set_work, erased_work}
 use Rattle.mig_lanes.proofs.rounds.close_round.Goals as goal
 

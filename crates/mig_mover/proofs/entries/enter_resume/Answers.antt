@@ -1,5 +1,4 @@
-use Rattle.mig_base.proofs.Common.{◌≡◌, true, false, is_armed, IsJobCell, IsSafe, IsSound}
-use Rattle.mig_base.proofs.StoreSteps.{leaves_wider}
+use Rattle.mig_mover.proofs.Common.{IsJobCell, IsSafe, IsSound, false, is_armed, leaves_wider, true, ◌≡◌}
 use Rattle.mig_mover.proofs.Settling.{if_ok, if_err, keeps_lands, keeps_from, enters_from, fault_from, settled_reads, tells_more, never_idle, lands_leave, settles_leave, halting_armed, halting_sound}
 use Rattle.mig_mover.proofs.entries.enter_resume.Goals as goal
 

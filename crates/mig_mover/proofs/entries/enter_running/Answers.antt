@@ -1,6 +1,5 @@
-use Rattle.mig_base.proofs.Common.{◌≡◌, ◌≤◌, ℕ, [], true, length, subst, arith, prefix_len, range_with_len, IsMark, Tells, NoCell, is_armed, is_marked, rules}
-use Rattle.mig_base.proofs.StoreSteps.{quiet_leaves}
-use Rattle.mig_journal.proofs.Steps.{look_quiet, then_quiet}
+use Rattle.mig_mover.proofs.Common.{IsMark, NoCell, Tells, [], arith, is_armed, is_marked, length, look_quiet, prefix_len, quiet_leaves, range_with_len, rules, subst, then_quiet, true, ℕ, ◌≡◌}
+use Rattle.mig_mover.proofs.Common.{◌≤◌}
 use Rattle.mig_mover.proofs.EnterLaws.{on_quiet, keeps_erased, armed_erased, enters_erased}
 use Rattle.mig_mover.proofs.entries.enter_running.Goals as goal
 

@@ -1,4 +1,4 @@
-use Rattle.mig_base.proofs.Common.{◌≡◌, true, on_ok_weaker, is_armed}
+use Rattle.mig_mover.proofs.Common.{is_armed, on_ok_weaker, true, ◌≡◌}
 use Rattle.mig_mover.proofs.Settling.{if_err, keeps_lands, keeps_from, enters_from, fault_from, settled_reads, never_idle, lands_leave}
 use Rattle.mig_mover.proofs.entries.enter_start.Goals as goal
 

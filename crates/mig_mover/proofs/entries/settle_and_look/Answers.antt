@@ -1,7 +1,4 @@
-use Rattle.mig_base.proofs.Common.{◌≡◌, IfOk, IsSome, subst, Image, is_armed, rules}
-use Rattle.mig_base.specs.declared.cells.Cell.TheVariants.{Gate, Head}
-use Rattle.mig_journal.specs.SeenJournals.{is_running, HasHead}
-use Rattle.mig_journal.proofs.Steps.{look_quiet, quiet_same}
+use Rattle.mig_mover.proofs.Common.{Gate, HasHead, Head, IfOk, Image, IsSome, is_armed, is_running, look_quiet, quiet_same, rules, subst, ◌≡◌}
 use Rattle.mig_mover.proofs.Settling.{if_ok_is, ends_land, ends_settle, settles_quiet, settles_land}
 use Rattle.mig_mover.proofs.entries.settle_and_look.Goals as goal
 

@@ -1,6 +1,4 @@
-use Rattle.mig_base.proofs.Common.{◌≡◌, arith, IsSourceSlot}
-use Rattle.mig_base.specs.declared.cells.Flight.{Flight}
-use Rattle.mig_journal.proofs.Steps.{then_step}
+use Rattle.mig_mover.proofs.Common.{Flight, IsSourceSlot, arith, then_step, ◌≡◌}
 use Rattle.mig_mover.proofs.EraseSteps.{from_slot, from_source, erased_more}
 use Rattle.mig_mover.proofs.JobRounds.{no_shift}
 use Rattle.mig_mover.proofs.erasing.erase_sources.Goals as goal

@@ -1,5 +1,4 @@
-use Rattle.mig_base.proofs.Common.{◌≤◌, AllWithin, round_at, IsSourceSlot, slot_of, ChangesOnly}
-use Rattle.mig_mover.specs.Erasures.{AreZeros}
+use Rattle.mig_mover.proofs.Common.{AllWithin, AreZeros, ChangesOnly, IsSourceSlot, round_at, slot_of, ◌≤◌}
 use Rattle.mig_mover.proofs.erasing.erase_sources.Given as goal
 
 abbrev pub invariant-loop-place : goal.invariant-loop-place

@@ -1,5 +1,4 @@
-use Rattle.mig_base.specs.Images.{NoCell}
-use Rattle.mig_journal.proofs.Steps.{then_quiet}
+use Rattle.mig_mover.proofs.Common.{NoCell, then_quiet}
 use Rattle.mig_mover.proofs.expecting.expect_all.Goals as goal
 
 pub returns-clause-change : goal.returns-clause-change

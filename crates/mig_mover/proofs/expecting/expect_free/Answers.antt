@@ -1,5 +1,4 @@
-use Rattle.mig_base.proofs.Common.{arith, NoCell}
-use Rattle.mig_journal.proofs.Steps.{then_quiet}
+use Rattle.mig_mover.proofs.Common.{NoCell, arith, then_quiet}
 use Rattle.mig_mover.proofs.HaltSteps.{no_vacancy, vacancy_disk}
 use Rattle.mig_mover.proofs.expecting.expect_free.Goals as goal
 

@@ -1,4 +1,4 @@
-use Rattle.mig_base.proofs.Common.{◌≤◌, NoCell, ChangesOnly}
+use Rattle.mig_mover.proofs.Common.{ChangesOnly, NoCell, ◌≤◌}
 use Rattle.mig_mover.proofs.expecting.expect_free.Given as goal
 
 abbrev pub invariant-loop-v : goal.invariant-loop-v

@@ -1,4 +1,4 @@
-use Rattle.std.proofs.lemmas.Result.{on_ok_weaker}
+use Rattle.mig_mover.proofs.Common.{on_ok_weaker}
 use Rattle.mig_mover.proofs.FillSteps.{fault_more, fills_landed, fills_more, fillable_more}
 use Rattle.mig_mover.proofs.Settling.{if_err}
 use Rattle.mig_mover.proofs.filling.fill.Goals as goal

@@ -1,5 +1,4 @@
-use Rattle.mig_base.proofs.Common.{get_or, sym, subst, arith, no_spot, Image, NoCell, IsUsed, IsUnused}
-use Rattle.mig_journal.proofs.Steps.{then_quiet, quiet_same, still_none}
+use Rattle.mig_mover.proofs.Common.{Image, IsUnused, IsUsed, NoCell, arith, get_or, no_spot, quiet_same, still_none, subst, sym, then_quiet}
 use Rattle.mig_mover.proofs.FillSteps.{first_taken, none_taken, spot_known}
 use Rattle.mig_mover.proofs.TargetLaws.{next_within, match_false, match_true}
 use Rattle.mig_mover.proofs.filling.find_taken.Goals as goal

@@ -1,4 +1,4 @@
-use Rattle.mig_base.proofs.Common.{◌≤◌, AllWithin, NoCell, IsUnused, ChangesOnly}
+use Rattle.mig_mover.proofs.Common.{AllWithin, ChangesOnly, IsUnused, NoCell, ◌≤◌}
 use Rattle.mig_mover.proofs.filling.find_taken.Given as goal
 
 abbrev pub invariant-loop-spot : goal.invariant-loop-spot

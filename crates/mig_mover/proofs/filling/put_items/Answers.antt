@@ -1,6 +1,4 @@
-use Rattle.std.proofs.Common.{◌≡◌, ◌<◌, ℕ, List, length, subst, arith}
-use Rattle.mig_base.specs.Slots.{IsListedCell, item_cell}
-use Rattle.mig_journal.proofs.Steps.{then_step, still_none}
+use Rattle.mig_mover.proofs.Common.{IsListedCell, List, arith, item_cell, length, still_none, subst, then_step, ℕ, ◌<◌, ◌≡◌}
 use Rattle.mig_mover.proofs.FillSteps.{listed_cell, made_more}
 use Rattle.mig_mover.proofs.filling.put_items.Goals as goal
 

@@ -1,5 +1,4 @@
-use Rattle.mig_base.proofs.Common.{◌≡◌, ◌<◌, ◌≤◌, ℕ, IfSome, item_cell, ChangesOnly, item_name}
-use Rattle.mig_base.specs.Slots.{IsListedCell, made_slot}
+use Rattle.mig_mover.proofs.Common.{ChangesOnly, IfSome, IsListedCell, item_cell, item_name, made_slot, ℕ, ◌<◌, ◌≡◌, ◌≤◌}
 use Rattle.mig_mover.proofs.filling.put_items.Given as goal
 
 abbrev pub invariant-loop-item : goal.invariant-loop-item

@@ -1,6 +1,4 @@
-use Rattle.mig_base.proofs.Common.{◌≡◌, arith, IsFreeSlot, slot_of}
-use Rattle.mig_journal.proofs.Steps.{then_step}
-use Rattle.mig_mover.specs.Vacancies.{IsVacant}
+use Rattle.mig_mover.proofs.Common.{IsFreeSlot, IsVacant, arith, slot_of, then_step, ◌≡◌}
 use Rattle.mig_mover.proofs.HaltSteps.{no_vacancy, the_vacancy, vacancy_disk, vacancy_free, erased_more, all_erased}
 use Rattle.mig_mover.proofs.halting.erase_free.Goals as goal
 

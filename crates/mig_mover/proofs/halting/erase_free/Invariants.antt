@@ -1,5 +1,4 @@
-use Rattle.mig_base.proofs.Common.{◌≤◌, IsFreeSlot, ChangesOnly, slot_of, AllWithin}
-use Rattle.mig_mover.proofs.Common.{AreZeros, IsVacant}
+use Rattle.mig_mover.proofs.Common.{AllWithin, AreZeros, ChangesOnly, IsFreeSlot, IsVacant, slot_of, ◌≤◌}
 use Rattle.mig_mover.proofs.halting.erase_free.Given as goal
 
 abbrev pub invariant-loop-v : goal.invariant-loop-v

@@ -1,4 +1,4 @@
-use Rattle.std.proofs.Common.{rules}
+use Rattle.mig_mover.proofs.Common.{rules}
 use Rattle.mig_mover.proofs.halting.erase_vacant.Goals as goal
 
 pub returns-then-found-v-clause-change : goal.returns-then-found-v-clause-change

@@ -1,9 +1,4 @@
-use Rattle.mig_base.specs.Images.{NoCell}
-use Rattle.mig_base.specs.JobCells.{IsFreeSlot}
-use Rattle.mig_base.specs.Stores.{ChangesOnly}
-use Rattle.mig_base.proofs.Landing.{ends_are_quiet}
-use Rattle.mig_journal.proofs.Steps.{still_none}
-use Rattle.mig_mover.specs.Halts.{KeepsHaltSafe}
+use Rattle.mig_mover.proofs.Common.{ChangesOnly, IsFreeSlot, KeepsHaltSafe, NoCell, ends_are_quiet, still_none}
 use Rattle.mig_mover.proofs.HaltLaws.{change_erased, change_synced, change_closed, erased_closed, keeps_erased, keeps_synced, keeps_closed, ends_closed}
 use Rattle.mig_mover.proofs.halting.halt.Given as given
 use Rattle.mig_mover.proofs.halting.halt.Goals as goal

@@ -1,4 +1,4 @@
-use Rattle.std.proofs.Common.{rules}
+use Rattle.mig_mover.proofs.Common.{rules}
 use Rattle.mig_mover.proofs.headers.has_header.Goals as goal
 
 pub returns : goal.returns

@@ -1,4 +1,4 @@
-use Rattle.std.proofs.Common.{◌≡◌, take}
+use Rattle.mig_mover.proofs.Common.{take, ◌≡◌}
 use Rattle.mig_mover.proofs.jobs.copy_plan.Given as goal
 
 abbrev pub invariant-loop-round : goal.invariant-loop-round

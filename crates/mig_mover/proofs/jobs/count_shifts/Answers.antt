@@ -1,5 +1,4 @@
-use Rattle.mig_base.proofs.Common.{arith, ap, length, List, ◌∙◌, shifts_of}
-use Rattle.mig_base.specs.declared.ids.Shift.{Shift}
+use Rattle.mig_mover.proofs.Common.{List, Shift, ap, arith, length, shifts_of, ◌∙◌}
 use Rattle.mig_mover.proofs.JobRounds.{shifts_counted}
 use Rattle.mig_mover.proofs.jobs.count_shifts.Goals as goal
 

@@ -1,4 +1,4 @@
-use Rattle.mig_base.proofs.Common.{◌≡◌, take, length, shifts_of}
+use Rattle.mig_mover.proofs.Common.{length, shifts_of, take, ◌≡◌}
 use Rattle.mig_mover.proofs.jobs.count_shifts.Given as goal
 
 abbrev pub invariant-loop-round : goal.invariant-loop-round

@@ -1,5 +1,4 @@
-use Rattle.std.proofs.Common.{arith}
-use Rattle.mig_base.proofs.SafetyLaws.{marking}
+use Rattle.mig_mover.proofs.Common.{arith, marking}
 use Rattle.mig_mover.proofs.laws.copied_round_may_be_marked.Goals as goal
 
 pub returns : goal.returns

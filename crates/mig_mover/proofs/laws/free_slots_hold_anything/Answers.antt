@@ -1,4 +1,4 @@
-use Rattle.mig_base.proofs.ArrivalLaws.{free_bytes}
+use Rattle.mig_mover.proofs.Common.{free_bytes}
 use Rattle.mig_mover.proofs.laws.free_slots_hold_anything.Goals as goal
 
 pub returns : goal.returns

@@ -1,4 +1,4 @@
-use Rattle.mig_base.proofs.ArrivalLaws.{gate_bytes}
+use Rattle.mig_mover.proofs.Common.{gate_bytes}
 use Rattle.mig_mover.proofs.laws.gate_may_be_closed.Goals as goal
 
 pub returns : goal.returns

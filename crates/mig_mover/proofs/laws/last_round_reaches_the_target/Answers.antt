@@ -1,4 +1,4 @@
-use Rattle.mig_base.proofs.ArrivalLaws.{reached}
+use Rattle.mig_mover.proofs.Common.{reached}
 use Rattle.mig_mover.proofs.laws.last_round_reaches_the_target.Goals as goal
 
 pub returns : goal.returns

@@ -1,4 +1,4 @@
-use Rattle.mig_base.proofs.ArrivalLaws.{reached_sound}
+use Rattle.mig_mover.proofs.Common.{reached_sound}
 use Rattle.mig_mover.proofs.laws.reached_target_is_sound.Goals as goal
 
 pub returns : goal.returns

@@ -1,4 +1,4 @@
-use Rattle.mig_base.proofs.SafetyLaws.{other_bytes}
+use Rattle.mig_mover.proofs.Common.{other_bytes}
 use Rattle.mig_mover.proofs.laws.slots_in_use_hold_anything.Goals as goal
 
 pub returns : goal.returns

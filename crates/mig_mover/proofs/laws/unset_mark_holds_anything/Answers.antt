@@ -1,5 +1,4 @@
-use Rattle.std.proofs.Common.{arith}
-use Rattle.mig_base.proofs.SafetyLaws.{unmarked}
+use Rattle.mig_mover.proofs.Common.{arith, unmarked}
 use Rattle.mig_mover.proofs.laws.unset_mark_holds_anything.Goals as goal
 
 pub returns : goal.returns

@@ -1,4 +1,4 @@
-use Rattle.mig_base.proofs.Common.{arith, rules, common_steps}
+use Rattle.mig_mover.proofs.Common.{arith, common_steps, rules}
 use Rattle.mig_mover.proofs.looking.sight.Goals as goal
 
 pub returns-clause-named : goal.returns-clause-named

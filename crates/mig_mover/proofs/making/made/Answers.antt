@@ -1,5 +1,4 @@
-use Rattle.std.proofs.Common.{◌++◌, List, ℕ, ◌∙◌, ap}
-use Rattle.mig_base.specs.Slots.{header_of}
+use Rattle.mig_mover.proofs.Common.{List, ap, header_of, ℕ, ◌++◌, ◌∙◌}
 use Rattle.mig_mover.proofs.making.made.Goals as goal
 
 pub returns : goal.returns

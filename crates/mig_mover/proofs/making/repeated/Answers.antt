@@ -1,4 +1,4 @@
-use Rattle.std.proofs.Common.{ℕ, List, length, sym, ◌∙◌, ap, subst, arith}
+use Rattle.mig_mover.proofs.Common.{List, ap, arith, length, subst, sym, ℕ, ◌∙◌}
 use Rattle.mig_mover.proofs.MadeSlots.{filled_start, filled_more, filled_all, min_cases, name_byte, whole_once, whole_more, IsWhole}
 use Rattle.mig_mover.proofs.making.repeated.Goals as goal
 

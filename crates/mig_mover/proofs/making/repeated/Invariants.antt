@@ -1,4 +1,4 @@
-use Rattle.std.proofs.Common.{◌≡◌, ◌≤◌, ◌-◌}
+use Rattle.mig_mover.proofs.Common.{◌-◌, ◌≡◌, ◌≤◌}
 use Rattle.mig_mover.proofs.MadeSlots.{filled_to, name_byte, IsWhole}
 use Rattle.mig_mover.proofs.making.repeated.Given as goal
 

@@ -1,7 +1,4 @@
-use Rattle.mig_base.proofs.Common.{◌<◌, ℕ, length, Option, IfSome, sym, subst, Image, NoCell, IsShifted, IsThere}
-use Rattle.mig_base.specs.declared.ids.Spot.{Spot}
-use Rattle.mig_base.specs.Readiness.{IsFirstUsed}
-use Rattle.mig_journal.proofs.Steps.{then_quiet, quiet_same}
+use Rattle.mig_mover.proofs.Common.{IfSome, Image, IsFirstUsed, IsShifted, IsThere, NoCell, Option, Spot, length, quiet_same, subst, sym, then_quiet, ℕ, ◌<◌}
 use Rattle.mig_mover.proofs.TargetLaws.{none_of}
 use Rattle.mig_mover.proofs.ready.check_ready.Goals as goal
 

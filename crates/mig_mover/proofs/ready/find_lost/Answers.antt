@@ -1,6 +1,4 @@
-use Rattle.mig_base.proofs.Common.{sym, subst, arith, Image, NoCell, IsShifted, IsThere}
-use Rattle.mig_base.specs.Slots.{IsLost}
-use Rattle.mig_journal.proofs.Steps.{then_quiet, quiet_same}
+use Rattle.mig_mover.proofs.Common.{Image, IsLost, IsShifted, IsThere, NoCell, arith, quiet_same, subst, sym, then_quiet}
 use Rattle.mig_mover.proofs.TargetLaws.{next_item, match_false}
 use Rattle.mig_mover.proofs.ready.find_lost.Goals as goal
 

@@ -1,4 +1,4 @@
-use Rattle.mig_base.proofs.Common.{◌<◌, ◌≤◌, ℕ, NoCell, IsShifted, IsThere, ChangesOnly}
+use Rattle.mig_mover.proofs.Common.{ChangesOnly, IsShifted, IsThere, NoCell, ℕ, ◌<◌, ◌≤◌}
 use Rattle.mig_mover.proofs.ready.find_lost.Given as goal
 
 abbrev pub invariant-loop-item : goal.invariant-loop-item

@@ -1,5 +1,4 @@
-use Rattle.mig_base.proofs.Common.{◌<◌, length, get_or, sym, subst, arith, Lists, no_spot, Image, NoCell, IsUsed, IsUnused}
-use Rattle.mig_journal.proofs.Steps.{then_quiet, quiet_same}
+use Rattle.mig_mover.proofs.Common.{Image, IsUnused, IsUsed, Lists, NoCell, arith, get_or, length, no_spot, quiet_same, subst, sym, then_quiet, ◌<◌}
 use Rattle.mig_mover.proofs.TargetLaws.{target_disk, first_used, none_used, next_within, match_false, match_true}
 use Rattle.mig_mover.proofs.ready.find_used.Goals as goal
 

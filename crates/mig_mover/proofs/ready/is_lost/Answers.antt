@@ -1,4 +1,4 @@
-use Rattle.std.proofs.Common.{sym, ◌∙◌}
+use Rattle.mig_mover.proofs.Common.{sym, ◌∙◌}
 use Rattle.mig_mover.proofs.TargetLaws.{lost_answer}
 use Rattle.mig_mover.proofs.ready.is_lost.Goals as goal
 

@@ -1,7 +1,4 @@
-use Rattle.mig_base.proofs.Common.{Err, refl, sym, ◌∙◌, ap, subst, rules}
-use Rattle.mig_mover.proofs.Common.{Head, is_running, IsRunning, NotStarted}
-use Rattle.mig_journal.specs.SeenJournals.{HasHead}
-use Rattle.mig_journal.specs.declared.looking.Seen.{Seen}
+use Rattle.mig_mover.proofs.Common.{Err, HasHead, Head, IsRunning, NotStarted, Seen, ap, is_running, refl, rules, subst, sym, ◌∙◌}
 use Rattle.mig_mover.proofs.Settling.{if_err, settles_land, settles_quiet, seen_idle}
 use Rattle.mig_mover.proofs.StandLaws.{if_ok_all, stands_at, stand_fault, not_started, other_plan, stands_ok}
 use Rattle.mig_mover.proofs.standing.stand.Goals as goal

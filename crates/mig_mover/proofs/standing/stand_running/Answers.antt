@@ -1,5 +1,4 @@
-use Rattle.mig_base.proofs.Common.{rules, NoCell}
-use Rattle.mig_journal.proofs.Steps.{look_quiet, then_quiet}
+use Rattle.mig_mover.proofs.Common.{NoCell, look_quiet, rules, then_quiet}
 use Rattle.mig_mover.proofs.standing.stand_running.Goals as goal
 
 pub returns-in_err-expect_all-clause-change : goal.returns-in_err-expect_all-clause-change

@@ -1,5 +1,4 @@
-use Rattle.mig_base.proofs.Common.{◌++◌, List, sym, ◌∙◌, ap, append-nil}
-use Rattle.mig_base.specs.declared.ids.Spot.{Spot}
+use Rattle.mig_mover.proofs.Common.{List, Spot, ap, append-nil, sym, ◌++◌, ◌∙◌}
 use Rattle.mig_mover.proofs.TableSteps.{target_added, target_passed}
 use Rattle.mig_mover.proofs.tables.add_target.Goals as goal
 

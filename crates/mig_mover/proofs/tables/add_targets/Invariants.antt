@@ -1,5 +1,4 @@
-use Rattle.std.proofs.Common.{◌≡◌, ◌++◌, take}
-use Rattle.mig_mover.specs.JobTables.{free_targets}
+use Rattle.mig_mover.proofs.Common.{free_targets, take, ◌++◌, ◌≡◌}
 use Rattle.mig_mover.proofs.tables.add_targets.Given as goal
 
 abbrev pub invariant-loop-s : goal.invariant-loop-s

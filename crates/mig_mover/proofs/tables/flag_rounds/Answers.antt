@@ -1,5 +1,4 @@
-use Rattle.mig_base.proofs.Common.{◌≡◌, [], suc, List, length, get_or, ◌∙◌, subst, arith, get_or_default, Contains-get_or, Contains, round_at}
-use Rattle.mig_base.specs.declared.ids.Shift.{Shift}
+use Rattle.mig_mover.proofs.Common.{Contains, Contains-get_or, List, Shift, [], arith, get_or, get_or_default, length, round_at, subst, suc, ◌∙◌, ◌≡◌}
 use Rattle.mig_mover.proofs.TableSteps.{shifted_item}
 use Rattle.mig_mover.proofs.tables.flag_rounds.Goals as goal
 

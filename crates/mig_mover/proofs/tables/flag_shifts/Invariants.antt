@@ -1,4 +1,4 @@
-use Rattle.mig_base.proofs.Common.{◌≡◌, ◌<◌, ◌||◌, ℕ, false, length, get_or, take, list_any, is_of}
+use Rattle.mig_mover.proofs.Common.{false, get_or, is_of, length, list_any, take, ℕ, ◌<◌, ◌||◌, ◌≡◌}
 use Rattle.mig_mover.proofs.tables.flag_shifts.Given as goal
 
 abbrev pub invariant-loop-s : goal.invariant-loop-s

@@ -1,5 +1,4 @@
-use Rattle.mig_base.proofs.Common.{◌<◌, sym, subst, arith, get_or, length, List, Contains, get_or_default, AreDifferent, no_spot}
-use Rattle.mig_base.specs.declared.ids.Spot.{Spot}
+use Rattle.mig_mover.proofs.Common.{AreDifferent, Contains, List, Spot, arith, get_or, get_or_default, length, no_spot, subst, sym, ◌<◌}
 use Rattle.mig_mover.proofs.TableSteps.{not_before}
 use Rattle.mig_mover.proofs.tables.spots_of.Goals as goal
 

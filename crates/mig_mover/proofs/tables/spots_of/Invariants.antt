@@ -1,4 +1,4 @@
-use Rattle.std.proofs.Common.{◌≡◌, take}
+use Rattle.mig_mover.proofs.Common.{take, ◌≡◌}
 use Rattle.mig_mover.proofs.tables.spots_of.Given as goal
 
 abbrev pub invariant-loop-spot : goal.invariant-loop-spot

@@ -1,4 +1,4 @@
-use Rattle.mig_base.proofs.Common.{arith, common_steps}
+use Rattle.mig_mover.proofs.Common.{arith, common_steps}
 use Rattle.mig_mover.proofs.tables.targets_of.Goals as goal
 
 pub loop-round-preserved : goal.loop-round-preserved

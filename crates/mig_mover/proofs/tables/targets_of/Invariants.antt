@@ -1,5 +1,4 @@
-use Rattle.mig_base.proofs.Common.{◌≡◌, take, shifts_of}
-use Rattle.mig_mover.specs.JobTables.{free_targets}
+use Rattle.mig_mover.proofs.Common.{free_targets, shifts_of, take, ◌≡◌}
 use Rattle.mig_mover.proofs.tables.targets_of.Given as goal
 
 abbrev pub invariant-loop-round : goal.invariant-loop-round

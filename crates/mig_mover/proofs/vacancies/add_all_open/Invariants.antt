@@ -1,5 +1,4 @@
-use Rattle.std.proofs.Common.{◌≡◌, ◌++◌, take}
-use Rattle.mig_mover.specs.Vacancies.{round_of, open_of}
+use Rattle.mig_mover.proofs.Common.{open_of, round_of, take, ◌++◌, ◌≡◌}
 use Rattle.mig_mover.proofs.vacancies.add_all_open.Given as goal
 
 abbrev pub invariant-loop-s : goal.invariant-loop-s

@@ -1,5 +1,4 @@
-use Rattle.std.proofs.Common.{◌≡◌, ◌++◌, map, take}
-use Rattle.mig_mover.specs.Vacancies.{round_of, ended_by}
+use Rattle.mig_mover.proofs.Common.{ended_by, map, round_of, take, ◌++◌, ◌≡◌}
 use Rattle.mig_mover.proofs.vacancies.add_ended.Given as goal
 
 abbrev pub invariant-loop-s : goal.invariant-loop-s

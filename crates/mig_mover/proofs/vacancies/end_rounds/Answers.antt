@@ -1,4 +1,4 @@
-use Rattle.mig_base.proofs.Common.{◌≡◌, [], suc, ◌+◌, ◌∙◌, arith, get_or_default, round_at}
+use Rattle.mig_mover.proofs.Common.{[], arith, get_or_default, round_at, suc, ◌+◌, ◌∙◌, ◌≡◌}
 use Rattle.mig_mover.proofs.VacancySteps.{left_more, ended_more}
 use Rattle.mig_mover.proofs.vacancies.end_rounds.Goals as goal
 

@@ -1,5 +1,4 @@
-use Rattle.mig_base.proofs.Common.{◌≡◌, ◌++◌}
-use Rattle.mig_mover.proofs.Common.{Spot, round_of, left_in, ended_in}
+use Rattle.mig_mover.proofs.Common.{Spot, ended_in, left_in, round_of, ◌++◌, ◌≡◌}
 use Rattle.mig_mover.proofs.vacancies.end_rounds.Given as goal
 
 abbrev pub invariant-loop-k : goal.invariant-loop-k

@@ -1,4 +1,4 @@
-use Rattle.mig_base.proofs.Common.{◌≡◌, [], suc, ◌+◌, ◌∙◌, length, arith, get_or_default, round_at}
+use Rattle.mig_mover.proofs.Common.{[], arith, get_or_default, length, round_at, suc, ◌+◌, ◌∙◌, ◌≡◌}
 use Rattle.mig_mover.proofs.VacancySteps.{open_more}
 use Rattle.mig_mover.proofs.vacancies.open_rounds.Goals as goal
 

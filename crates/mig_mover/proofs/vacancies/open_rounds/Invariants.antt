@@ -1,5 +1,4 @@
-use Rattle.std.proofs.Common.{◌≡◌, ◌++◌}
-use Rattle.mig_mover.specs.Vacancies.{open_in}
+use Rattle.mig_mover.proofs.Common.{open_in, ◌++◌, ◌≡◌}
 use Rattle.mig_mover.proofs.vacancies.open_rounds.Given as goal
 
 abbrev pub invariant-loop-k : goal.invariant-loop-k

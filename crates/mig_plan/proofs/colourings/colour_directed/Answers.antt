@@ -1,85 +1,10 @@
-use Rattle.mig_base.proofs.Common.{arith, ◌≡◌, ℕ, ◌≤◌, ◌<◌, ◌∙◌, ap, sym, subst, length, List, Vec, Global, IfOk-weaker, quotient, IsLimited}
-use Rattle.mig_base.specs.declared.ids.Colour.{Colour}
-use Rattle.mig_base.specs.declared.ids.CopyId.{CopyId}
-use Rattle.mig_board.specs.Colouring.{Colouring, degree_of}
-use Rattle.mig_plan.specs.Coloured.{AreColours}
-use Rattle.mig_split.specs.Sharing.{AreOnSides, AreThrough}
-use Rattle.mig_plan.proofs.Limits.{has_limits, quotient_most, quotient_some, sides_limited, nodes_in_range, nodes_differ, two_sided, blank_plain}
+use Rattle.mig_plan.proofs.Common.{Colour, Global, IfOk-weaker, IsLimited, IsSpread, Vec, quotient}
+use Rattle.mig_plan.proofs.Limits.{spread_joint}
 use Rattle.mig_plan.proofs.colourings.colour_directed.Goals as goal
-
-pub split_sides-requires-clause-q : goal.split_sides-requires-clause-q
-split_sides-requires-clause-q c =
-    let valid = c.keeps_rules.ensures in
-    omega (arith, quotient_some c.args.graph.now (has_limits c.args.graph.now valid.disks_valid) valid.leaves_there c.requires.some, c.quotient-q.ensures)
-
--- the copies of an edge are there, so the first of them is on the left and the last on the right
-sides_there : (n left nodes : ℕ) (ends : List (CopyId × CopyId)) → n ≡ nodes → AreOnSides left n ends → AreOnSides left nodes ends
-sides_there n left nodes ends same a = subst (λ m. AreOnSides left m ends) same a
-
-pub share_nodes-requires : goal.share_nodes-requires
-share_nodes-requires c =
-    let valid = c.keeps_rules.ensures in
-    let a = c.in_ok-sides.ensures.sides in
-    let s = c.in_ok-sides.sides in
-    record {
-      q = omega (arith, quotient_some c.args.graph.now (has_limits c.args.graph.now valid.disks_valid) valid.leaves_there c.requires.some, c.quotient-q.ensures);
-      left = omega (arith, a.there 0 (omega (arith, a.one_each, c.requires.some)), c.in_ok-sides.ensures.nodes);
-      sides = sides_there (length s.homes.items) s.left s.nodes s.ends.items (omega (arith, c.in_ok-sides.ensures.nodes)) c.in_ok-sides.ensures.sides.there;
-      most = λ k h. c.in_ok-sides.ensures.sides.most k (omega (arith, h, c.in_ok-sides.ensures.nodes));
-      few = omega (arith, c.in_ok-sides.ensures.sides.one_each, c.keeps_rules.ensures.edges_most);
-    }
-
-pub new-requires-clause-in_range : goal.new-requires-clause-in_range
-new-requires-clause-in_range c =
-    let s = c.in_ok-shared.shared in
-    nodes_in_range s.left s.nodes s.ends.items c.in_ok-shared.ensures.there
-
-pub new-requires-clause-no_loop : goal.new-requires-clause-no_loop
-new-requires-clause-no_loop c =
-    let s = c.in_ok-shared.shared in
-    nodes_differ s.left s.nodes s.ends.items c.in_ok-shared.ensures.there
-
-pub new-requires-clause-few_edges : goal.new-requires-clause-few_edges
-new-requires-clause-few_edges c = omega (arith, c.in_ok-shared.ensures.through.one_each, c.in_ok-sides.ensures.sides.one_each, c.keeps_rules.ensures.edges_most)
-
-pub new-requires-clause-few_entries : goal.new-requires-clause-few_entries
-new-requires-clause-few_entries c =
-    let valid = c.keeps_rules.ensures in
-    omega (
-      arith,
-      c.in_ok-shared.ensures.room,
-      c.in_ok-sides.ensures.sides.one_each,
-      valid.edges_most,
-      quotient_most c.args.graph.now (has_limits c.args.graph.now valid.disks_valid),
-      c.quotient-q.ensures,
-    )
-
-pub colour_sides-requires-clause-blank : goal.colour_sides-requires-clause-blank
-colour_sides-requires-clause-blank c =
-    λ e h. blank_plain c.in_ok-board.board c.in_ok-shared.shared.nodes c.quotient-q.result c.in_ok-shared.shared.ends.items c.in_ok-board.ensures.made e h
-
-pub colour_sides-requires-clause-sides : goal.colour_sides-requires-clause-sides
-colour_sides-requires-clause-sides c =
-    let s = c.in_ok-shared.shared in
-    two_sided c.in_ok-board.board s.left s.nodes s.ends.items (ap (λ (g : Colouring). g.ends) c.in_ok-board.ensures.made) c.in_ok-shared.ensures.there
-
-pub colour_sides-requires-clause-few : goal.colour_sides-requires-clause-few
-colour_sides-requires-clause-few c =
-    subst (λ (g : Colouring). (v : CopyId) → v.0 < g.nodes → degree_of g v ≤ g.colours) (sym c.in_ok-board.ensures.made) (λ v h. c.in_ok-shared.ensures.most v h)
 
 pub returns : goal.returns
 returns c =
     let graph = c.args.graph.now in
-    let q = c.quotient-q.result in
-    let s = c.in_ok-sides.sides in
-    let new : Colouring = c.colour_sides.new.board in
-    let old : Colouring = c.in_ok-board.board in
-    let same : new ≡ record old { painted = new.painted } = c.colour_sides.ensures.graph in
-    let shared = c.in_ok-shared.ensures in
-    let is_ends : new.ends ≡ c.in_ok-shared.shared.ends.items = ap (λ (g : Colouring). g.ends) same ∙ ap (λ (g : Colouring). g.ends) c.in_ok-board.ensures.made in
-    let through : AreThrough shared.node s.ends.items new.ends = subst (λ (x : List (CopyId × CopyId)). AreThrough shared.node s.ends.items x) (sym is_ends) shared.through in
-    let is_colours : new.colours ≡ q = ap (λ (g : Colouring). g.colours) same ∙ ap (λ (g : Colouring). g.colours) c.in_ok-board.ensures.made in
-    IfOk-weaker c.colours_of.result (λ (v : Vec Colour Global). AreColours new v.items) (λ (v : Vec Colour Global). IsLimited graph (quotient graph) v.items)
-    (λ v h. subst (λ n. IsLimited graph n v.items) (is_colours ∙ c.quotient-q.ensures)
-    (sides_limited new graph q c.args.directions.now s.left shared.node s.ends.items s.homes.items v.items c.quotient-q.ensures c.requires.fit c.in_ok-sides.ensures.sides through c.colour_sides.ensures.proper h))
-    c.colours_of.ensures
+    let ds = c.args.directions.now in
+    IfOk-weaker c.colour_spread.result (λ (v : Vec Colour Global). IsSpread graph ds v.items) (λ (v : Vec Colour Global). IsLimited graph (quotient graph) v.items)
+    (λ v h. spread_joint graph ds v.items c.keeps_rules.ensures c.requires.joint c.requires.fit h) c.colour_spread.ensures

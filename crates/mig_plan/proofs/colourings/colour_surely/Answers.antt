@@ -1,8 +1,6 @@
-use Rattle.mig_base.proofs.Common.{Vec, Global, ◌<◌, ◌≤◌, sym, subst, IfOk-weaker, IsLimited}
-use Rattle.mig_base.specs.declared.ids.Colour.{Colour}
-use Rattle.mig_board.specs.Colouring.{Colouring, degree_of}
-use Rattle.mig_plan.specs.Coloured.{AreColours}
-use Rattle.mig_plan.proofs.Limits.{blank_plain, dealt_limited}
+use Rattle.mig_plan.proofs.Common.{AreColours, Colour, Colouring, Global, IfOk-weaker, IsLimited, Vec, degree_of, subst, sym, ◌<◌, ◌≤◌}
+use Rattle.mig_duplex.proofs.Spread.{blank_plain}
+use Rattle.mig_plan.proofs.Limits.{dealt_limited}
 use Rattle.mig_plan.proofs.colourings.colour_surely.Goals as goal
 
 pub colour_few-requires-clause-blank : goal.colour_few-requires-clause-blank
@@ -18,5 +16,5 @@ pub returns : goal.returns
 returns c =
     let new = c.colour_few.new.board in
     IfOk-weaker c.colours_of.result (λ (v : Vec Colour Global). AreColours new v.items) (λ (v : Vec Colour Global). IsLimited c.args.graph.now c.args.colours v.items)
-    (λ v h. dealt_limited c.args.graph.now c.args.colours c.in_ok-board.board new v.items c.in_ok-board.ensures c.colour_few.ensures.graph c.colour_few.ensures.proper h)
+    (λ v h. dealt_limited c.args.graph.now c.args.colours c.in_ok-board.board new v.items c.keeps_rules.ensures c.requires.joint c.in_ok-board.ensures c.colour_few.ensures.graph c.colour_few.ensures.proper h)
     c.colours_of.ensures

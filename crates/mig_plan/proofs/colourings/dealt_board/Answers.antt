@@ -1,12 +1,13 @@
-use Rattle.std.proofs.Common.{arith, ◌≡◌, ◌*◌, ap, length}
-use Rattle.mig_plan.proofs.Limits.{has_limits, quotient_most, quotient_some, few_general, share_some, shares_differ, shares_in_range}
+use Rattle.mig_plan.proofs.Common.{ap, arith, length, ◌*◌, ◌≡◌}
+use Rattle.mig_duplex.proofs.Quotients.{has_ranges, quotient_most, quotient_some}
+use Rattle.mig_plan.proofs.Limits.{few_general, share_some, shares_differ, shares_in_range}
 use Rattle.mig_plan.proofs.colourings.dealt_board.Goals as goal
 
 pub split_limits-requires-clause-some : goal.split_limits-requires-clause-some
 split_limits-requires-clause-some c =
     let valid = c.edges.ensures.valid in
     let g = c.args.graph.now in
-    omega (arith, c.div_ceil-share.ensures, share_some c.quotient.result (omega (arith, c.quotient.ensures, quotient_some g (has_limits g valid.disks_valid) valid.leaves_there c.requires.some)))
+    omega (arith, c.div_ceil-share.ensures, share_some c.quotient.result (omega (arith, c.quotient.ensures, quotient_some g (has_ranges g valid) valid.leaves_there c.requires.some)))
 
 pub new-requires-clause-in_range : goal.new-requires-clause-in_range
 new-requires-clause-in_range c =
@@ -27,4 +28,4 @@ new-requires-clause-few_entries c =
     few_general s.nodes c.quotient.result c.div_ceil-share.result c.args.colours (length g.trips) (length g.disks)
     (omega (arith, c.requires.room, c.quotient.ensures)) c.div_ceil-share.ensures
     (omega (arith, c.in_ok-copies.ensures.copies.room, ap (λ m. m * c.div_ceil-share.result) is_n)) valid.edges_most valid.disks_most
-    (omega (arith, quotient_most g (has_limits g valid.disks_valid), valid.edges_most, c.quotient.ensures))
+    (omega (arith, quotient_most g (has_ranges g valid), valid.edges_most, c.quotient.ensures))

@@ -1,13 +1,14 @@
-use Rattle.mig_base.proofs.Common.{arith, ◌≡◌, ◌<◌, ◌∙◌, ap, ℕ, length, replicate, List, Bool, true, false, rules, get_or-replicate, length-replicate, is_forward}
+use Rattle.mig_plan.proofs.Common.{Bool, List, ap, arith, false, get_or-replicate, is_forward, length, length-replicate, replicate, rules, true, ℕ, ◌<◌, ◌∙◌, ◌≡◌}
 use Rattle.mig_plan.proofs.Least.{no_reason}
-use Rattle.mig_plan.proofs.Limits.{even_fits, has_limits, one_way_fits, quotient_some}
+use Rattle.mig_duplex.proofs.Quotients.{has_ranges, quotient_some}
+use Rattle.mig_plan.proofs.Limits.{even_fits, one_way_fits}
 use Rattle.mig_plan.proofs.colourings.directions_for.Goals as goal
 
 pub returns-then-all_even-clause-fit : goal.returns-then-all_even-clause-fit
 returns-then-all_even-clause-fit c =
     let graph = c.args.graph.now in
     let valid = c.keeps_rules.ensures in
-    let limits = has_limits graph valid.disks_valid in
+    let limits = has_ranges graph valid in
     let some = quotient_some graph limits valid.leaves_there c.requires.some in
     let e = c.in_ok-orient.ensures in
     even_fits graph c.in_ok-orient.field-0.items some limits (c.all_even.ensures.0 c.if-all_even.true) (omega (arith, e.one_each)) valid.apart e.balance
@@ -16,7 +17,7 @@ pub returns-then-branch-clause-fit : goal.returns-then-branch-clause-fit
 returns-then-branch-clause-fit c =
     let graph = c.args.graph.now in
     let valid = c.keeps_rules.ensures in
-    let limits = has_limits graph valid.disks_valid in
+    let limits = has_ranges graph valid in
     let some = quotient_some graph limits valid.leaves_there c.requires.some in
     let ds = c.in_ok-directions.directions.items in
     let m = c.edges.result in
@@ -30,5 +31,5 @@ pub returns : goal.returns
 returns c = record {
   one_each = tt;
   fit = tt;
-  none = no_reason c.args.graph.now (λ even. let t = c.all_even.ensures.1 even in absurd (let f = c.if-all_even.false in cc)) (rw c.if-branch.false at c.in_ok-is_one_way.ensures);
+  none = no_reason c.args.graph.now c.requires.joint (λ even. let t = c.all_even.ensures.1 even in absurd (let f = c.if-all_even.false in cc)) (rw c.if-branch.false at c.in_ok-is_one_way.ensures);
 }

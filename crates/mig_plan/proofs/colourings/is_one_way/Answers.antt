@@ -1,4 +1,4 @@
-use Rattle.std.proofs.Common.{rules}
+use Rattle.mig_plan.proofs.Common.{rules}
 use Rattle.mig_plan.proofs.colourings.is_one_way.Goals as goal
 
 pub returns : goal.returns

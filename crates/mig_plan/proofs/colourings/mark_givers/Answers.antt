@@ -1,4 +1,4 @@
-use Rattle.mig_base.proofs.Common.{◌≡◌, ◌∙◌, arith, length, true, length-set}
+use Rattle.mig_plan.proofs.Common.{arith, length, length-set, true, ◌∙◌, ◌≡◌}
 use Rattle.mig_plan.proofs.OneWay.{ends_there, marks_all, marks_more, marks_start}
 use Rattle.mig_plan.proofs.colourings.mark_givers.Goals as goal
 

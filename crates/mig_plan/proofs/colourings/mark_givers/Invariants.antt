@@ -1,4 +1,4 @@
-use Rattle.std.proofs.Common.{◌≡◌, ◌<◌, ℕ, length, get_or, false}
+use Rattle.mig_plan.proofs.Common.{false, get_or, length, ℕ, ◌<◌, ◌≡◌}
 use Rattle.mig_plan.proofs.OneWay.{left_by}
 use Rattle.mig_plan.proofs.colourings.mark_givers.Given as goal
 

@@ -1,4 +1,4 @@
-use Rattle.std.proofs.Common.{◌≡◌, ◌∙◌, arith, length, sym}
+use Rattle.mig_plan.proofs.Common.{arith, length, sym, ◌∙◌, ◌≡◌}
 use Rattle.mig_plan.proofs.OneWay.{ends_there, meets_giver, spares_all, spares_more}
 use Rattle.mig_plan.proofs.colourings.spares.Goals as goal
 

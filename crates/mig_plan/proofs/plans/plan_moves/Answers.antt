@@ -1,7 +1,4 @@
-use Rattle.mig_base.proofs.Common.{ℕ, ◌≤◌, List, length, Ok, Err, IfOk, Result, Lists, Runs, Once, PlanFits}
-use Rattle.mig_base.specs.declared.ids.Shift.{Shift}
-use Rattle.mig_base.specs.Planned.{GoesToTargets, IsFilled}
-use Rattle.mig_base.specs.MadePlans.{IsPlanOf}
+use Rattle.mig_plan.proofs.Common.{Err, GoesToTargets, IfOk, IsFilled, IsPlanOf, List, Lists, Ok, Once, PlanFits, Result, Runs, Shift, length, ℕ, ◌≤◌}
 use Rattle.mig_plan.proofs.Least.{plan_made}
 use Rattle.mig_plan.proofs.plans.plan_moves.Goals as goal
 

@@ -1,8 +1,5 @@
-use Rattle.mig_base.proofs.Common.{arith, ◌≡◌, ◌≤◌, ◌∙◌, ap, sym, subst, length, List, filter, map, length-map, IfOk-weaker, Transfers, moves, trip, IfOk, Runs, Once, PlanFits, IsLimited}
-use Rattle.mig_base.specs.declared.ids.Shift.{Shift}
-use Rattle.mig_base.specs.Planned.{IsPartition, IsPlan, GoesToTargets, IsFilled}
-use Rattle.mig_base.proofs.Planned.{partition_is_plan}
-use Rattle.mig_plan.specs.ColourRows.{is_filled, items_of}
+use Rattle.mig_plan.proofs.Common.{GoesToTargets, IfOk, IfOk-weaker, IsFilled, IsLimited, IsPartition, IsPlan, List, Once, PlanFits, Runs, Shift, Transfers, ap, arith, filter, is_filled}
+use Rattle.mig_plan.proofs.Common.{items_of, length, length-map, map, moves, partition_is_plan, subst, sym, trip, ◌∙◌, ◌≡◌, ◌≤◌}
 use Rattle.mig_plan.proofs.RowLaws.{is_partition, few_rounds, rows_are, rows_for}
 use Rattle.mig_plan.proofs.rounds.plan_of.Goals as goal
 

@@ -1,5 +1,4 @@
-use Rattle.std.proofs.Common.{◌≡◌, map, filter}
-use Rattle.mig_plan.specs.ColourRows.{is_filled, items_of}
+use Rattle.mig_plan.proofs.Common.{filter, is_filled, items_of, map, ◌≡◌}
 use Rattle.mig_plan.proofs.rounds.rounds_of.Given as goal
 
 abbrev pub invariant-loop-row : goal.invariant-loop-row

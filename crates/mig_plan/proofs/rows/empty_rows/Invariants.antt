@@ -1,4 +1,4 @@
-use Rattle.std.proofs.Common.{◌≡◌, [], All, length}
+use Rattle.mig_plan.proofs.Common.{All, [], length, ◌≡◌}
 use Rattle.mig_plan.proofs.rows.empty_rows.Given as goal
 
 abbrev pub invariant-loop-size : goal.invariant-loop-size

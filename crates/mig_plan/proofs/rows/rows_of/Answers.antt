@@ -1,5 +1,4 @@
-use Rattle.mig_base.proofs.Common.{arith, ◌∙◌, ap, length, ◌<◌, ◌++◌, ◌∷◌, [], length-set, colour_at}
-use Rattle.mig_base.specs.declared.ids.Shift.{Shift}
+use Rattle.mig_plan.proofs.Common.{Shift, [], ap, arith, colour_at, length, length-set, ◌++◌, ◌<◌, ◌∙◌, ◌∷◌}
 use Rattle.mig_plan.proofs.RowLaws.{AreRows-more}
 use Rattle.mig_plan.proofs.rows.rows_of.Goals as goal
 

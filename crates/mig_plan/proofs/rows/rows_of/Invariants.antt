@@ -1,5 +1,4 @@
-use Rattle.std.proofs.Common.{◌≡◌, length}
-use Rattle.mig_plan.specs.ColourRows.{AreRows}
+use Rattle.mig_plan.proofs.Common.{AreRows, length, ◌≡◌}
 use Rattle.mig_plan.proofs.rows.rows_of.Given as goal
 
 abbrev pub invariant-loop-edge : goal.invariant-loop-edge

@@ -1,6 +1,4 @@
-use Rattle.mig_base.proofs.Common.{arith, ap, length, List, ◌≡◌, ◌∙◌, ◌<◌, Transfers, moves, move_at}
-use Rattle.mig_base.specs.declared.ids.Spot.{Spot}
-use Rattle.mig_base.proofs.Planned.{move_there}
+use Rattle.mig_plan.proofs.Common.{List, Spot, Transfers, ap, arith, get_or, length, length-map, move_at, move_there, moves, trip, ◌<◌, ◌∙◌, ◌≡◌}
 use Rattle.mig_plan.proofs.rows.shift_of.Goals as goal
 
 pub bounds-now-item : goal.bounds-now-item

@@ -1,4 +1,4 @@
-use Rattle.std.proofs.Common.{◌≡◌, ◌≤◌, All, length}
+use Rattle.mig_plan.proofs.Common.{All, length, ◌≡◌, ◌≤◌}
 use Rattle.mig_plan.proofs.rows.sizes_of.Given as goal
 
 abbrev pub invariant-loop-colour : goal.invariant-loop-colour

@@ -1,4 +1,4 @@
-use Rattle.mig_base.proofs.Common.{arith, rules, common_steps}
+use Rattle.mig_plan.proofs.Common.{arith, common_steps, rules}
 use Rattle.mig_plan.proofs.slots.first_free.Goals as goal
 
 pub returns-then-not-row-slot : goal.returns-then-not-row-slot

@@ -1,5 +1,4 @@
-use Rattle.std.proofs.Common.{◌≡◌, ℕ, ◌<◌, ◌≤◌, true}
-use Rattle.mig_plan.specs.TakenSlots.{is_taken}
+use Rattle.mig_plan.proofs.Common.{is_taken, true, ℕ, ◌<◌, ◌≡◌, ◌≤◌}
 use Rattle.mig_plan.proofs.slots.first_free.Given as goal
 
 abbrev pub invariant-loop-slot : goal.invariant-loop-slot

@@ -1,5 +1,4 @@
-use Rattle.std.proofs.Common.{◌≡◌, ℕ, ◌<◌, Bool, false, length, replicate, get_or, Vec, Global}
-use Rattle.mig_plan.specs.TakenSlots.{row_at}
+use Rattle.mig_plan.proofs.Common.{Bool, Global, Vec, false, get_or, length, replicate, row_at, ℕ, ◌<◌, ◌≡◌}
 use Rattle.mig_plan.proofs.slots.free_rows.Given as goal
 
 abbrev pub invariant-loop-width : goal.invariant-loop-width

@@ -1,6 +1,4 @@
-use Rattle.mig_base.proofs.Common.{arith, rules, ◌<◌, ◌∙◌, ap, Bool, List, true, length, get_or, set, no_spot}
-use Rattle.std.specs.Vec.{with_items}
-use Rattle.std.proofs.lemmas.List.{with_items_is, places}
+use Rattle.mig_plan.proofs.Common.{Bool, List, ap, arith, get_or, length, no_spot, places, rules, set, true, with_items, with_items_is, ◌<◌, ◌∙◌}
 use Rattle.mig_plan.proofs.SlotLaws.{AreTaken-more}
 use Rattle.mig_plan.proofs.slots.rows_of.Goals as goal
 

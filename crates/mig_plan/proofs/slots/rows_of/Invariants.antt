@@ -1,5 +1,4 @@
-use Rattle.std.proofs.Common.{take}
-use Rattle.mig_plan.specs.TakenSlots.{AreTaken}
+use Rattle.mig_plan.proofs.Common.{AreTaken, take}
 use Rattle.mig_plan.proofs.slots.rows_of.Given as goal
 
 abbrev pub invariant-loop-spot : goal.invariant-loop-spot

@@ -1,9 +1,4 @@
-use Rattle.mig_base.proofs.Common.{◌≡◌, ◌++◌, ◌∙◌, ap, List, ℕ, length, map, Vec, Global, IfOk-weaker}
-use Rattle.mig_base.specs.declared.ids.DiskId.{DiskId}
-use Rattle.mig_base.specs.declared.ids.Spot.{Spot}
-use Rattle.mig_base.specs.declared.inputs.Disk.{Disk}
-use Rattle.mig_split.specs.Decks.{AreCounts}
-use Rattle.mig_plan.specs.TakenSlots.{AreWidths}
+use Rattle.mig_plan.proofs.Common.{AreCounts, AreWidths, Disk, DiskId, Global, IfOk-weaker, List, Spot, Vec, ap, length, map, ℕ, ◌++◌, ◌∙◌, ◌≡◌}
 use Rattle.mig_plan.proofs.SlotLaws.{widths_are, stops_there}
 use Rattle.mig_plan.proofs.slots.widths_of.Goals as goal
 

@@ -1,8 +1,5 @@
-use Rattle.mig_base.proofs.Common.{arith, ◌≡◌, ◌<◌, ◌+◌, ◌∙◌, ap, sym, subst, Bool, List, ℕ, length, get_or, set, Vec, Global, get_or_default, Lists, IsInput, target}
-use Rattle.mig_base.specs.declared.ids.DiskId.{DiskId}
-use Rattle.mig_base.specs.declared.ids.Spot.{Spot}
-use Rattle.mig_plan.specs.Cursors.{AreFirstTargets, IsFreeFrom}
-use Rattle.mig_plan.specs.TakenSlots.{AreTakenSlots, IsFirstFree, is_taken, row_at}
+use Rattle.mig_plan.proofs.Common.{AreFirstTargets, AreTakenSlots, Bool, DiskId, Global, IsFirstFree, IsFreeFrom, IsInput, List, Lists, Spot, Vec, ap, arith, get_or, get_or_default}
+use Rattle.mig_plan.proofs.Common.{is_taken, length, row_at, set, subst, sym, target, ℕ, ◌+◌, ◌<◌, ◌∙◌, ◌≡◌}
 use Rattle.mig_plan.proofs.SlotLaws.{free_from}
 use Rattle.mig_plan.proofs.TargetSteps.{stays, goes, not_full, finish}
 use Rattle.mig_plan.proofs.targets.target_spots.Goals as goal

@@ -1,4 +1,4 @@
-use Rattle.mig_plan.specs.Cursors.{AreFirstTargets}
+use Rattle.mig_plan.proofs.Common.{AreFirstTargets}
 use Rattle.mig_plan.proofs.targets.target_spots.Given as goal
 
 abbrev pub invariant-loop-item : goal.invariant-loop-item

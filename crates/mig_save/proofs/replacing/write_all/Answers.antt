@@ -1,6 +1,4 @@
-use Rattle.std.proofs.Common.{◌≤◌, ◌++◌, ℕ, List, append_assoc, arith, length-drop, length, slice_range, subst, sym, ap, ◌∙◌, take}
-use Rattle.std.proofs.lemmas.List.{take_rest}
-use Rattle.std.proofs.Math.Seq.{take-add}
+use Rattle.mig_save.proofs.Common.{List, ap, append_assoc, arith, length, length-drop, slice_range, subst, sym, take, take-add, take_rest, ℕ, ◌++◌, ◌∙◌, ◌≤◌}
 use Rattle.mig_save.proofs.SaveSteps.{stays_then, told_after}
 use Rattle.mig_save.proofs.replacing.write_all.Goals as goal
 

@@ -1,5 +1,4 @@
-use Rattle.std.proofs.Common.{◌-◌, length}
-use Rattle.mig_save.specs.Saves.{HasWritten}
+use Rattle.mig_save.proofs.Common.{HasWritten, length, ◌-◌}
 use Rattle.mig_save.proofs.replacing.write_all.Given as goal
 
 abbrev pub invariant-loop-done : goal.invariant-loop-done

@@ -1,4 +1,4 @@
-use Rattle.std.specs.Io.KnownBytes.{Keeps}
+use Rattle.mig_save.proofs.Common.{Keeps}
 use Rattle.mig_save.proofs.writing.write_some.Given as goal
 
 -- a write that was interrupted wrote nothing

@@ -1,8 +1,4 @@
-use Rattle.std.proofs.Common.{ℕ, List, ◌≤◌, ◌++◌, arith, length-drop, subst, sym, ap, ◌∙◌, take, length}
-use Rattle.std.proofs.lemmas.List.{take_rest}
-use Rattle.std.proofs.Math.Seq.{take-add}
-use Rattle.std.specs.Io.KnownBytes.{Appends}
-use Rattle.std.proofs.KnownBytes.{Appends-trans}
+use Rattle.mig_save.proofs.Common.{Appends, Appends-trans, List, ap, arith, length, length-drop, subst, sym, take, take-add, take_rest, ℕ, ◌++◌, ◌∙◌, ◌≤◌}
 use Rattle.mig_save.proofs.writing.write_whole.Goals as goal
 
 pub loop-done-preserved : goal.loop-done-preserved

@@ -1,4 +1,4 @@
-use Rattle.std.proofs.Common.{rules}
+use Rattle.mig_shannon.proofs.Common.{rules}
 use Rattle.mig_shannon.proofs.colourings.colour_few.Goals as goal
 
 pub colour_rest-requires-clause-few : goal.colour_rest-requires-clause-few

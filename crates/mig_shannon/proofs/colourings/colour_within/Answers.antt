@@ -1,4 +1,4 @@
-use Rattle.mig_base.proofs.Common.{◌∙◌, eq-eqb, eqb-true}
+use Rattle.mig_shannon.proofs.Common.{eq-eqb, eqb-true, ◌∙◌}
 use Rattle.mig_shannon.proofs.Left.{complete_left, left_complete}
 use Rattle.mig_shannon.proofs.colourings.colour_within.Goals as goal
 

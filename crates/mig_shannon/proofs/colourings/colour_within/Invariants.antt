@@ -1,7 +1,4 @@
-use Rattle.std.proofs.Common.{◌≡◌}
-use Rattle.mig_board.specs.Colouring.{IsProper}
-use Rattle.mig_shannon.specs.Left.{edges_left}
-use Rattle.mig_shannon.specs.Ways.{Grows}
+use Rattle.mig_shannon.proofs.Common.{Grows, IsProper, edges_left, ◌≡◌}
 use Rattle.mig_shannon.proofs.colourings.colour_within.Given as goal
 
 abbrev pub invariant-loop-pass : goal.invariant-loop-pass

@@ -1,6 +1,4 @@
-use Rattle.std.proofs.Common.{◌≡◌, ◌<◌, ◌+◌, ℕ, length, ap, ◌∙◌, arith}
-use Rattle.mig_board.specs.Colouring.{Colouring}
-use Rattle.mig_board.specs.Growth.{SameGraph}
+use Rattle.mig_shannon.proofs.Common.{Colouring, SameGraph, ap, arith, length, ℕ, ◌+◌, ◌<◌, ◌∙◌, ◌≡◌}
 use Rattle.mig_shannon.proofs.Growing.{painted_some, plain_none}
 use Rattle.mig_shannon.proofs.Left.{AreTried-same, AreTried-painted, AreTried-left, AreTried-is, left_all, edge}
 use Rattle.mig_shannon.proofs.colourings.try_all.Goals as goal

@@ -1,10 +1,5 @@
-use Rattle.mig_base.proofs.Common.{arith, rules, inl, inr, sym, subst, ap, slice_get_within, eqb-true}
-use Rattle.mig_base.specs.declared.ids.CopyId.{CopyId}
-use Rattle.mig_board.specs.Colouring.{Colouring, IsProper}
-use Rattle.std.proofs.lemmas.Bool.{eqb-false}
-use Rattle.mig_base.proofs.SameIds.{same_copy}
-use Rattle.mig_board.specs.Growth.{PaintsOne}
-use Rattle.mig_board.proofs.Laws.{not_full, not_both, present_at_first, present_at_second, PaintsOne-painted, PaintsOne-exchanged, PaintsOne-after, Recolours-exchanged, exchanges_plain}
+use Rattle.mig_shannon.proofs.Common.{Colouring, CopyId, IsProper, PaintsOne, PaintsOne-after, PaintsOne-exchanged, PaintsOne-painted, Recolours-exchanged, ap, arith, eqb-false, eqb-true}
+use Rattle.mig_shannon.proofs.Common.{exchanges_plain, inl, inr, not_both, not_full, present_at_first, present_at_second, rules, same_copy, slice_get_within, subst, sym}
 use Rattle.mig_shannon.proofs.Step.{IsFan, fan_common, free_by_walk, beside_by_walk}
 use Rattle.mig_shannon.proofs.steps.colour_edge.Goals as goal
 

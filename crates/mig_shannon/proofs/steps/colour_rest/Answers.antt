@@ -1,4 +1,4 @@
-use Rattle.std.proofs.Common.{refl}
+use Rattle.mig_shannon.proofs.Common.{refl}
 use Rattle.mig_shannon.proofs.Growing.{IsColoured-is, IsColoured-next, IsColoured-more, painted_some}
 use Rattle.mig_shannon.proofs.steps.colour_rest.Goals as goal
 use Rattle.mig_shannon.proofs.steps.colour_rest.Goals.{then-is_none, else-is_none}

@@ -1,6 +1,4 @@
-use Rattle.std.proofs.Common.{sym, subst, ◌∙◌, ap}
-use Rattle.mig_board.specs.Colouring.{Colouring, IsFreeAt, painted_with}
-use Rattle.mig_board.specs.Growth.{PaintsOne, IsPlain}
+use Rattle.mig_shannon.proofs.Common.{Colouring, IsFreeAt, IsPlain, PaintsOne, ap, painted_with, subst, sym, ◌∙◌}
 use Rattle.mig_shannon.proofs.Step.{beside_painted, beside_free, beside_plain, beside_free_after, beside_done}
 use Rattle.mig_shannon.proofs.steps.repaint_beside.Goals as goal
 

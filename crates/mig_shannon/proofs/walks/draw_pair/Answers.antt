@@ -1,4 +1,4 @@
-use Rattle.std.proofs.Common.{rules}
+use Rattle.mig_shannon.proofs.Common.{rules}
 use Rattle.mig_shannon.proofs.walks.draw_pair.Goals as goal
 
 pub returns-clause-has : goal.returns-clause-has

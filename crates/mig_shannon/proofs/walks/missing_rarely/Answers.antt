@@ -1,4 +1,4 @@
-use Rattle.std.proofs.Common.{rules}
+use Rattle.mig_shannon.proofs.Common.{rules}
 use Rattle.mig_shannon.proofs.walks.missing_rarely.Goals as goal
 
 pub returns-then-colour-size-clause-missing : goal.returns-then-colour-size-clause-missing

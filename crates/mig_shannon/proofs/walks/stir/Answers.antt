@@ -1,4 +1,4 @@
-use Rattle.mig_board.proofs.Laws.{Recolours-exchanged}
+use Rattle.mig_shannon.proofs.Common.{Recolours-exchanged}
 use Rattle.mig_shannon.proofs.walks.stir.Goals as goal
 
 pub returns-then-not-is_missing-clause-recolours : goal.returns-then-not-is_missing-clause-recolours

@@ -1,4 +1,4 @@
-use Rattle.mig_board.proofs.Laws.{Recolours-trans}
+use Rattle.mig_shannon.proofs.Common.{Recolours-trans}
 use Rattle.mig_shannon.proofs.Open.{open_after, open_turned}
 use Rattle.mig_shannon.proofs.walks.try_edge.Goals as goal
 

@@ -1,5 +1,4 @@
-use Rattle.mig_board.specs.Growth.{Recolours}
-use Rattle.mig_shannon.specs.Ways.{IsOpen}
+use Rattle.mig_shannon.proofs.Common.{IsOpen, Recolours}
 use Rattle.mig_shannon.proofs.walks.try_edge.Given as goal
 
 abbrev pub invariant-loop-try : goal.invariant-loop-try

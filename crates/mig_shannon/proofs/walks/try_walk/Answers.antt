@@ -1,9 +1,5 @@
-use Rattle.mig_base.proofs.Common.{sym, subst, ap, slice_get_within}
-use Rattle.mig_base.specs.declared.ids.CopyId.{CopyId}
-use Rattle.std.proofs.lemmas.Bool.{eqb-false}
-use Rattle.mig_board.specs.Colouring.{Colouring}
-use Rattle.mig_board.specs.Growth.{PaintsOne}
-use Rattle.mig_board.proofs.Laws.{PaintsOne-painted, PaintsOne-exchanged, Recolours-exchanged, both_free, exchanges_plain}
+use Rattle.mig_shannon.proofs.Common.{Colouring, CopyId, PaintsOne, PaintsOne-exchanged, PaintsOne-painted, Recolours-exchanged, ap, both_free, eqb-false, exchanges_plain, slice_get_within}
+use Rattle.mig_shannon.proofs.Common.{subst, sym}
 use Rattle.mig_shannon.proofs.Open.{walk_free, first_in}
 use Rattle.mig_shannon.proofs.walks.try_walk.Goals as goal
 

@@ -1,6 +1,4 @@
-use Rattle.mig_base.proofs.Common.{◌≡◌, ◌∙◌, ap, subst, List, take, drop}
-use Rattle.mig_base.specs.declared.ids.CopyId.{CopyId}
-use Rattle.mig_split.specs.Copies.{ArePairs}
+use Rattle.mig_split.proofs.Common.{ArePairs, CopyId, List, ap, drop, subst, take, ◌∙◌, ◌≡◌}
 use Rattle.mig_split.proofs.Halves.{AreJoined-all}
 use Rattle.mig_split.proofs.copies.join.Goals as goal
 

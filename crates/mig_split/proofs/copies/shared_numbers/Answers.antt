@@ -1,4 +1,4 @@
-use Rattle.std.proofs.Common.{rules}
+use Rattle.mig_split.proofs.Common.{rules}
 use Rattle.mig_split.proofs.copies.shared_numbers.Goals as goal
 
 pub loop-disk-preserved : goal.loop-disk-preserved

@@ -1,5 +1,4 @@
-use Rattle.std.proofs.Common.{◌≡◌, ◌<◌, ℕ, length, get_or}
-use Rattle.mig_split.specs.Copies.{shared}
+use Rattle.mig_split.proofs.Common.{get_or, length, shared, ℕ, ◌<◌, ◌≡◌}
 use Rattle.mig_split.proofs.copies.shared_numbers.Given as goal
 
 abbrev pub invariant-loop-disk : goal.invariant-loop-disk

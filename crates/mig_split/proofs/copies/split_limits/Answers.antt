@@ -1,8 +1,4 @@
-use Rattle.mig_base.proofs.Common.{arith, ◌≡◌, ◌<◌, ◌∙◌, ap, sym, subst, ℕ, List, length, sum, All, IfOk-weaker}
-use Rattle.mig_base.specs.declared.ids.DiskId.{DiskId}
-use Rattle.mig_split.specs.declared.copies.Copies.{Copies}
-use Rattle.mig_split.specs.Dealing.{IsEnough}
-use Rattle.mig_split.specs.Copies.{AreJoined, AreShares}
+use Rattle.mig_split.proofs.Common.{All, AreJoined, AreShares, Copies, DiskId, IfOk-weaker, IsEnough, List, ap, arith, length, subst, sum, sym, ℕ, ◌<◌, ◌∙◌, ◌≡◌}
 use Rattle.mig_split.proofs.Halves.{AreShares-all, shared_all, shared_sum, stops_len, stops_there}
 use Rattle.mig_split.proofs.copies.split_limits.Goals as goal
 

@@ -1,8 +1,5 @@
-use Rattle.mig_base.proofs.Common.{arith, ◌≡◌, ◌<◌, ◌∙◌, ap, subst, List, ℕ, length, Bool, true, false, replicate, rules, get_or-replicate, IfOk-weaker, is_forward}
-use Rattle.mig_base.specs.declared.ids.DiskId.{DiskId}
-use Rattle.mig_split.specs.declared.copies.Copies.{Copies}
-use Rattle.mig_split.specs.Dealing.{AreFew}
-use Rattle.mig_split.specs.Copies.{AreCopies, AreJoined}
+use Rattle.mig_split.proofs.Common.{AreCopies, AreFew, AreJoined, Bool, Copies, DiskId, IfOk-weaker, List, ap, arith, false, get_or-replicate, is_forward, length, replicate, rules, subst, true}
+use Rattle.mig_split.proofs.Common.{ℕ, ◌<◌, ◌∙◌, ◌≡◌}
 use Rattle.mig_split.proofs.Halves.{AreCopies-all}
 use Rattle.mig_split.proofs.copies.split_nodes.Goals as goal
 

@@ -1,8 +1,4 @@
-use Rattle.mig_base.proofs.Common.{arith, ◌≡◌, ◌∙◌, ap, sym, subst, List, length, ◌++◌}
-use Rattle.mig_base.specs.declared.ids.CopyId.{CopyId}
-use Rattle.mig_base.specs.declared.ids.DiskId.{DiskId}
-use Rattle.mig_split.specs.Dealing.{IsDealt}
-use Rattle.mig_split.specs.Copies.{AreTails, AreHeads, ArePairs, AreSides}
+use Rattle.mig_split.proofs.Common.{AreHeads, ArePairs, AreSides, AreTails, CopyId, DiskId, IsDealt, List, ap, arith, length, subst, sym, ◌++◌, ◌∙◌, ◌≡◌}
 use Rattle.mig_split.proofs.Halves.{AreSides-all}
 use Rattle.mig_split.proofs.copies.split_sides.Goals as goal
 

@@ -1,4 +1,4 @@
-use Rattle.std.proofs.Common.{rules}
+use Rattle.mig_split.proofs.Common.{rules}
 use Rattle.mig_split.proofs.dealing.ceils_of.Goals as goal
 
 pub returns : goal.returns

@@ -1,6 +1,4 @@
-use Rattle.mig_base.proofs.Common.{sym, subst, ℕ, List, IfOk-weaker}
-use Rattle.mig_split.specs.declared.dealing.Dealt.{Dealt}
-use Rattle.mig_split.specs.Dealing.{IsDealt, IsDealtBy, IsEnough}
+use Rattle.mig_split.proofs.Common.{Dealt, IfOk-weaker, IsDealt, IsDealtBy, IsEnough, List, subst, sym, ℕ}
 use Rattle.mig_split.proofs.Numbers.{few_enough, IsDealt-few}
 use Rattle.mig_split.proofs.dealing.deal.Goals as goal
 

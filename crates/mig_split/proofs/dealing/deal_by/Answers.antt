@@ -1,10 +1,5 @@
-use Rattle.mig_base.proofs.Common.{arith, ◌≡◌, ◌∙◌, ap, sym, subst, List, ℕ, length, ◌<◌, ◌+◌, ◌++◌, ◌∷◌, [], set, get_or, All, get_or_default}
-use Rattle.mig_base.specs.declared.ids.CopyId.{CopyId}
-use Rattle.mig_base.specs.declared.ids.DiskId.{DiskId}
-use Rattle.std.proofs.Common.{nat_le}
-use Rattle.mig_split.specs.declared.decks.Deck.{Deck}
-use Rattle.mig_split.specs.Dealing.{IsEnough, disk_at}
-use Rattle.mig_split.specs.Decks.{AreDecks, IsAfter, IsDealing, deck_at, no_deck}
+use Rattle.mig_split.proofs.Common.{All, AreDecks, CopyId, Deck, DiskId, IsAfter, IsDealing, IsEnough, List, [], ap, arith, deck_at, disk_at, get_or, get_or_default, length, nat_le, no_deck, set}
+use Rattle.mig_split.proofs.Common.{subst, sym, ℕ, ◌++◌, ◌+◌, ◌<◌, ◌∙◌, ◌∷◌, ◌≡◌}
 use Rattle.mig_split.proofs.Turns.{IsDealtBy-all, IsDealing-more, AreDecks-set, some_copy, next_copy, IsNextCopy}
 use Rattle.mig_split.proofs.dealing.deal_by.Goals as goal
 

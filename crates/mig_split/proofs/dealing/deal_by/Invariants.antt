@@ -1,5 +1,4 @@
-use Rattle.std.proofs.Common.{◌≡◌, length}
-use Rattle.mig_split.specs.Decks.{AreDecks, IsDealing}
+use Rattle.mig_split.proofs.Common.{AreDecks, IsDealing, length, ◌≡◌}
 use Rattle.mig_split.proofs.dealing.deal_by.Given as goal
 
 abbrev pub invariant-loop-stop : goal.invariant-loop-stop

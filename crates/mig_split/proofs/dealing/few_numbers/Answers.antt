@@ -1,6 +1,4 @@
-use Rattle.mig_base.proofs.Common.{arith, ◌≡◌, ◌∙◌, ap, ℕ, List, length, map, get_or, Vec, Global, length-map, IfOk-weaker, div_ceil}
-use Rattle.std.proofs.lemmas.List.{get_or-map}
-use Rattle.mig_split.specs.Dealing.{AreFew}
+use Rattle.mig_split.proofs.Common.{AreFew, Global, IfOk-weaker, List, Vec, ap, arith, div_ceil, get_or, get_or-map, length, length-map, map, ℕ, ◌∙◌, ◌≡◌}
 use Rattle.mig_split.proofs.Numbers.{AreFew-all}
 use Rattle.mig_split.proofs.dealing.few_numbers.Goals as goal
 

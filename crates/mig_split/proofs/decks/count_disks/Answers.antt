@@ -1,5 +1,4 @@
-use Rattle.mig_base.proofs.Common.{arith, ◌<◌, ◌∙◌, ap, ◌+◌, ℕ, length-take-le, get_or_default}
-use Rattle.mig_split.specs.Dealing.{disk_at}
+use Rattle.mig_split.proofs.Common.{ap, arith, disk_at, get_or_default, length-take-le, ℕ, ◌+◌, ◌<◌, ◌∙◌}
 use Rattle.mig_split.proofs.Counts.{AreCounts-more, AreCounts-few}
 use Rattle.mig_split.proofs.decks.count_disks.Goals as goal
 

@@ -1,5 +1,4 @@
-use Rattle.std.proofs.Common.{take}
-use Rattle.mig_split.specs.Decks.{AreCounts}
+use Rattle.mig_split.proofs.Common.{AreCounts, take}
 use Rattle.mig_split.proofs.decks.count_disks.Given as goal
 
 abbrev pub invariant-loop-stop : goal.invariant-loop-stop

@@ -1,7 +1,4 @@
-use Rattle.mig_base.proofs.Common.{arith, ◌≡◌, ◌∙◌, ◌++◌, ◌+◌, ◌-◌, ap, sym, subst, refl, List, ℕ, replicate, take, length, get_or, [], ◌∷◌, take_all}
-use Rattle.mig_base.specs.declared.ids.DiskId.{DiskId}
-use Rattle.mig_split.specs.declared.decks.Deck.{Deck}
-use Rattle.mig_split.specs.Decks.{AreDecks, AreFresh}
+use Rattle.mig_split.proofs.Common.{AreDecks, AreFresh, Deck, DiskId, List, [], ap, arith, get_or, length, refl, replicate, subst, sym, take, take_all, ℕ, ◌++◌, ◌+◌, ◌-◌, ◌∙◌, ◌∷◌, ◌≡◌}
 use Rattle.mig_split.proofs.Rows.{AreDecks-more, AreFresh-more}
 use Rattle.mig_split.proofs.decks.make_decks.Goals as goal
 

@@ -1,5 +1,4 @@
-use Rattle.std.proofs.Common.{take}
-use Rattle.mig_split.specs.Decks.{AreDecks, AreFresh}
+use Rattle.mig_split.proofs.Common.{AreDecks, AreFresh, take}
 use Rattle.mig_split.proofs.decks.make_decks.Given as goal
 
 abbrev pub invariant-loop-disk : goal.invariant-loop-disk

@@ -1,6 +1,4 @@
-use Rattle.std.proofs.Common.{◌≡◌, ◌<◌, ℕ, length}
-use Rattle.mig_base.specs.Directions.{head_of, trip_at, is_forward}
-use Rattle.mig_split.specs.Dealing.{disk_at}
+use Rattle.mig_split.proofs.Common.{disk_at, head_of, is_forward, length, trip_at, ℕ, ◌<◌, ◌≡◌}
 use Rattle.mig_split.proofs.ends.heads_of.Given as goal
 
 abbrev pub invariant-loop-edge : goal.invariant-loop-edge

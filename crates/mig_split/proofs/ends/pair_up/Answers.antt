@@ -1,4 +1,4 @@
-use Rattle.std.proofs.Common.{rules}
+use Rattle.mig_split.proofs.Common.{rules}
 use Rattle.mig_split.proofs.ends.pair_up.Goals as goal
 
 pub loop-place-preserved : goal.loop-place-preserved

@@ -1,6 +1,4 @@
-use Rattle.std.proofs.Common.{◌≡◌, ◌<◌, ◌+◌, ℕ, length}
-use Rattle.mig_split.specs.Dealing.{copy_at}
-use Rattle.mig_split.specs.Copies.{first_of, second_of}
+use Rattle.mig_split.proofs.Common.{copy_at, first_of, length, second_of, ℕ, ◌+◌, ◌<◌, ◌≡◌}
 use Rattle.mig_split.proofs.ends.pair_up.Given as goal
 
 abbrev pub invariant-loop-place : goal.invariant-loop-place

@@ -1,5 +1,4 @@
-use Rattle.mig_base.proofs.Common.{arith, ◌<◌, ◌∙◌, ap, ◌+◌, ℕ, length-take-le, get_or_default}
-use Rattle.mig_split.specs.Dealing.{copy_at}
+use Rattle.mig_split.proofs.Common.{ap, arith, copy_at, get_or_default, length-take-le, ℕ, ◌+◌, ◌<◌, ◌∙◌}
 use Rattle.mig_split.proofs.Filling.{AreCopyCounts-more, AreCopyCounts-few}
 use Rattle.mig_split.proofs.sharing.count_copies.Goals as goal
 

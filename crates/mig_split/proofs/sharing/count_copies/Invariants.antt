@@ -1,5 +1,4 @@
-use Rattle.std.proofs.Common.{take}
-use Rattle.mig_split.specs.Sharing.{AreCopyCounts}
+use Rattle.mig_split.proofs.Common.{AreCopyCounts, take}
 use Rattle.mig_split.proofs.sharing.count_copies.Given as goal
 
 abbrev pub invariant-loop-stop : goal.invariant-loop-stop

@@ -1,8 +1,4 @@
-use Rattle.mig_base.proofs.Common.{arith, ◌≡◌, ◌<◌, ◌∙◌, ◌+◌, sym, subst, ℕ, List}
-use Rattle.mig_base.specs.declared.ids.CopyId.{CopyId}
-use Rattle.std.proofs.lemmas.List.{get_or_read}
-use Rattle.mig_split.specs.Dealing.{count_at}
-use Rattle.mig_split.specs.Sharing.{AreCopyCounts, IsFilling}
+use Rattle.mig_split.proofs.Common.{AreCopyCounts, CopyId, IsFilling, List, arith, count_at, get_or_read, subst, sym, ℕ, ◌+◌, ◌<◌, ◌∙◌, ◌≡◌}
 use Rattle.mig_split.proofs.Filling.{AreFilled-all, IsFilling-more, IsFilling-start, filling_most, filling_small}
 use Rattle.mig_split.proofs.sharing.fill.Goals as goal
 

@@ -1,4 +1,4 @@
-use Rattle.mig_split.specs.Sharing.{IsFilling}
+use Rattle.mig_split.proofs.Common.{IsFilling}
 use Rattle.mig_split.proofs.sharing.fill.Given as goal
 
 abbrev pub invariant-loop-copy : goal.invariant-loop-copy

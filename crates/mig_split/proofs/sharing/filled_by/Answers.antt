@@ -1,4 +1,4 @@
-use Rattle.std.proofs.Common.{rules}
+use Rattle.mig_split.proofs.Common.{rules}
 use Rattle.mig_split.proofs.sharing.filled_by.Goals as goal
 
 pub returns-else-count-q : goal.returns-else-count-q

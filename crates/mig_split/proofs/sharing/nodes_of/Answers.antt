@@ -1,4 +1,4 @@
-use Rattle.std.proofs.Common.{rules}
+use Rattle.mig_split.proofs.Common.{rules}
 use Rattle.mig_split.proofs.sharing.nodes_of.Goals as goal
 
 pub loop-stop-preserved : goal.loop-stop-preserved

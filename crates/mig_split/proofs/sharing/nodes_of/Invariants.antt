@@ -1,5 +1,4 @@
-use Rattle.std.proofs.Common.{◌≡◌, ◌<◌, ℕ, length}
-use Rattle.mig_split.specs.Dealing.{copy_at}
+use Rattle.mig_split.proofs.Common.{copy_at, length, ℕ, ◌<◌, ◌≡◌}
 use Rattle.mig_split.proofs.sharing.nodes_of.Given as goal
 
 abbrev pub invariant-loop-stop : goal.invariant-loop-stop

@@ -1,6 +1,4 @@
-use Rattle.mig_base.proofs.Common.{subst, List}
-use Rattle.mig_base.specs.declared.ids.CopyId.{CopyId}
-use Rattle.mig_split.specs.Sharing.{AreNodesOf}
+use Rattle.mig_split.proofs.Common.{AreNodesOf, CopyId, List, subst}
 use Rattle.mig_split.proofs.Shared.{IsShared-all}
 use Rattle.mig_split.proofs.sharing.share.Goals as goal
 

@@ -1,9 +1,4 @@
-use Rattle.mig_base.proofs.Common.{arith, ◌≡◌, ◌≤◌, ◌<◌, ◌+◌, ◌-◌, ◌∙◌, ap, sym, subst, length, ℕ, List, All, get_or_default}
-use Rattle.mig_base.specs.declared.ids.CopyId.{CopyId}
-use Rattle.mig_base.specs.declared.limits.TheConstants.{MAX_ITEMS}
-use Rattle.mig_split.specs.Copies.{ArePairs}
-use Rattle.mig_split.specs.Dealing.{count_at}
-use Rattle.mig_split.specs.Sharing.{IsShared}
+use Rattle.mig_split.proofs.Common.{All, ArePairs, CopyId, IsShared, List, MAX_ITEMS, ap, arith, count_at, get_or_default, length, subst, sym, ℕ, ◌+◌, ◌-◌, ◌<◌, ◌∙◌, ◌≡◌, ◌≤◌}
 use Rattle.mig_split.proofs.Shared.{AreNodes-all, AreParted-all, few_nodes}
 use Rattle.mig_split.proofs.sharing.share_nodes.Goals as goal
 

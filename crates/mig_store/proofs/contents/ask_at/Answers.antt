@@ -1,6 +1,4 @@
-use Rattle.mig_base.proofs.Common.{◌+◌, ℕ, List, sym, ◌∙◌, ap, subst, slice_get, AreDifferent}
-use Rattle.std.proofs.Math.Seq.{map-set_same}
-use Rattle.mig_store.proofs.Common.{Entry, Held, ask, asked_by, seen, first_of, IsWithin, held_map}
+use Rattle.mig_store.proofs.Common.{AreDifferent, Entry, Held, IsWithin, List, ap, ask, asked_by, first_of, held_map, map-set_same, seen, slice_get, subst, sym, ℕ, ◌+◌, ◌∙◌}
 use Rattle.mig_store.proofs.EntryLists.{seen_at-set, seen_at-none, set_all, within_one, within_more}
 use Rattle.mig_store.proofs.contents.ask_at.Goals as goal
 

@@ -1,5 +1,4 @@
-use Rattle.std.proofs.Common.{◌≡◌, ◌+◌, ◌++◌, ℕ, suc, List, get_or, set, take, drop, map, ◌∙◌, ap, arith}
-use Rattle.mig_store.proofs.Common.{crash_entry, held_map, Entry, Held}
+use Rattle.mig_store.proofs.Common.{Entry, Held, List, ap, arith, crash_entry, drop, get_or, held_map, map, set, suc, take, ℕ, ◌++◌, ◌+◌, ◌∙◌, ◌≡◌}
 use Rattle.mig_store.proofs.CellLists.{mapped-more, mapped-next}
 use Rattle.mig_store.proofs.contents.crash_all.Goals as goal
 

@@ -1,5 +1,4 @@
-use Rattle.std.proofs.Common.{◌≡◌, ◌++◌, take, drop, map}
-use Rattle.mig_store.proofs.Common.{crash_entry, held_map}
+use Rattle.mig_store.proofs.Common.{crash_entry, drop, held_map, map, take, ◌++◌, ◌≡◌}
 use Rattle.mig_store.proofs.contents.crash_all.Given as goal
 
 abbrev pub invariant-loop-h : goal.invariant-loop-h

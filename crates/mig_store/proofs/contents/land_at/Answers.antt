@@ -1,6 +1,4 @@
-use Rattle.mig_base.proofs.Common.{ℕ, List, sym, ◌∙◌, ap, subst, AreDifferent}
-use Rattle.std.proofs.Math.Seq.{map-set_same}
-use Rattle.mig_store.proofs.Common.{Entry, Held, land, seen, first_of, IsWithin, held_map}
+use Rattle.mig_store.proofs.Common.{AreDifferent, Entry, Held, IsWithin, List, ap, first_of, held_map, land, map-set_same, seen, subst, sym, ℕ, ◌∙◌}
 use Rattle.mig_store.proofs.EntryLists.{seen_at-set, seen_at-none, set_all}
 use Rattle.mig_store.proofs.contents.land_at.Goals as goal
 

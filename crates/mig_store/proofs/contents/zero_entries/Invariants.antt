@@ -1,5 +1,4 @@
-use Rattle.std.proofs.Common.{◌≡◌, take, map}
-use Rattle.mig_store.specs.Entries.{zero_entry}
+use Rattle.mig_store.proofs.Common.{map, take, zero_entry, ◌≡◌}
 use Rattle.mig_store.proofs.contents.zero_entries.Given as goal
 
 abbrev pub invariant-loop-cell : goal.invariant-loop-cell

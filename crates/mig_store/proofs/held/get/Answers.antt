@@ -1,4 +1,4 @@
-use Rattle.mig_base.proofs.Common.{subst, AreDifferent}
+use Rattle.mig_store.proofs.Common.{AreDifferent, subst}
 use Rattle.mig_store.proofs.CellLists.{held_at-found, held_at-absent}
 use Rattle.mig_store.proofs.held.get.Goals as goal
 

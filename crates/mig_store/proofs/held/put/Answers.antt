@@ -1,7 +1,5 @@
-use Rattle.mig_base.proofs.Common.{refl, sym, ap, subst, AreDifferent}
-use Rattle.std.proofs.Math.Seq.{map-set_same}
+use Rattle.mig_store.proofs.Common.{AreDifferent, ap, cell_of, held_at, map-set_same, refl, subst, sym}
 use Rattle.mig_store.proofs.CellLists.{held_at-change, held_at-absent, change_at-none}
-use Rattle.mig_store.specs.HeldCells.{cell_of, held_at}
 use Rattle.mig_store.proofs.held.put.Goals as goal
 
 pub returns-in-Some-clause-cells : goal.returns-in-Some-clause-cells

@@ -1,5 +1,4 @@
-use Rattle.mig_base.proofs.Common.{◌≡◌, ℕ, List, length, refl, ◌∙◌, ap, arith}
-use Rattle.mig_store.proofs.Common.{Flight, flying, moment_of, land_many}
+use Rattle.mig_store.proofs.Common.{Flight, List, ap, arith, flying, land_many, length, moment_of, refl, ℕ, ◌∙◌, ◌≡◌}
 use Rattle.mig_store.proofs.Landings.{landed_none, landed_more, landed_next}
 use Rattle.mig_store.proofs.memory.land_all.Goals as goal
 

@@ -1,6 +1,4 @@
-use Rattle.std.proofs.Common.{◌≡◌}
-use Rattle.mig_store.specs.declared.trouble.Trouble.{Trouble}
-use Rattle.mig_store.specs.Memories.{land_many}
+use Rattle.mig_store.proofs.Common.{Trouble, land_many, ◌≡◌}
 use Rattle.mig_store.proofs.Landings.{HaveLanded}
 use Rattle.mig_store.proofs.memory.land_all.Given as goal
 

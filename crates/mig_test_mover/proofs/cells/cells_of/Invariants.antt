@@ -1,4 +1,4 @@
-use Rattle.mig_base.specs.InputLists.{AreDifferent}
+use Rattle.mig_test_mover.proofs.Common.{AreDifferent}
 use Rattle.mig_test_mover.proofs.cells.cells_of.Given as goal
 
 abbrev pub invariant-loop-disk : goal.invariant-loop-disk

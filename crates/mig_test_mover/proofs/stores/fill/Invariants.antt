@@ -1,5 +1,4 @@
-use Rattle.std.proofs.Common.{◌≡◌, []}
-use Rattle.mig_store.specs.Memories.{aloft}
+use Rattle.mig_test_mover.proofs.Common.{[], aloft, ◌≡◌}
 use Rattle.mig_test_mover.proofs.stores.fill.Given as goal
 
 abbrev pub invariant-loop-disk : goal.invariant-loop-disk

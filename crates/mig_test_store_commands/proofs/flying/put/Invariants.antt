@@ -1,5 +1,4 @@
-use Rattle.std.proofs.Common.{◌≡◌, []}
-use Rattle.mig_store.specs.Memories.{aloft}
+use Rattle.mig_test_store_commands.proofs.Common.{[], aloft, ◌≡◌}
 use Rattle.mig_test_store_commands.proofs.flying.put.Given as goal
 
 abbrev pub invariant-loop-slot : goal.invariant-loop-slot

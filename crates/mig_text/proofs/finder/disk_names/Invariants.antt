@@ -1,5 +1,4 @@
-use Rattle.std.proofs.Common.{◌≡◌, ◌++◌, drop}
-use Rattle.mig_text.specs.Finding.{names_of}
+use Rattle.mig_text.proofs.Common.{drop, names_of, ◌++◌, ◌≡◌}
 use Rattle.mig_text.proofs.finder.disk_names.Given as goal
 
 abbrev pub invariant-loop-disk : goal.invariant-loop-disk

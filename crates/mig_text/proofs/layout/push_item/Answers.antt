@@ -1,4 +1,4 @@
-use Rattle.mig_base.proofs.Common.{arith, common_steps}
+use Rattle.mig_text.proofs.Common.{arith, common_steps}
 use Rattle.mig_text.proofs.layout.push_item.Goals as goal
 
 pub returns : goal.returns

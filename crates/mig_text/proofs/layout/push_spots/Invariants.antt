@@ -1,6 +1,4 @@
-use Rattle.std.proofs.Common.{◌≡◌, ◌++◌, map, drop}
-use Rattle.std.specs.List.{zip}
-use Rattle.mig_base.specs.Texts.{spot_line, text_of_lines}
+use Rattle.mig_text.proofs.Common.{drop, map, spot_line, text_of_lines, zip, ◌++◌, ◌≡◌}
 use Rattle.mig_text.proofs.layout.push_spots.Given as goal
 
 abbrev pub invariant-loop-k : goal.invariant-loop-k

@@ -1,5 +1,4 @@
-use Rattle.mig_base.proofs.Common.{◌≡◌, ◌∙◌, sym, ap, arith, refl, List, ℕ, decimal, false≢true, number_of}
-use Rattle.mig_text.specs.Digits.{IsNumeralWord}
+use Rattle.mig_text.proofs.Common.{IsNumeralWord, List, ap, arith, decimal, false≢true, number_of, refl, sym, ℕ, ◌∙◌, ◌≡◌}
 use Rattle.mig_text.proofs.Numerals.{no_number, no_other, spells_value}
 use Rattle.mig_text.proofs.numbers.read_number.Goals as goal
 

@@ -1,4 +1,4 @@
-use Rattle.mig_base.proofs.Common.{arith, common_steps}
+use Rattle.mig_text.proofs.Common.{arith, common_steps}
 use Rattle.mig_text.proofs.plan_print.push_round.Goals as goal
 
 pub returns : goal.returns

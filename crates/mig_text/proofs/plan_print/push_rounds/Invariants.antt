@@ -1,4 +1,4 @@
-use Rattle.mig_base.proofs.Common.{◌≡◌, ◌+◌, ◌++◌, drop, round_lines, text_of_lines}
+use Rattle.mig_text.proofs.Common.{drop, round_lines, text_of_lines, ◌++◌, ◌+◌, ◌≡◌}
 use Rattle.mig_text.proofs.plan_print.push_rounds.Given as goal
 
 abbrev pub invariant-loop-round : goal.invariant-loop-round

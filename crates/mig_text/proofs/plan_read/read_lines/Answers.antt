@@ -1,4 +1,4 @@
-use Rattle.std.proofs.lemmas.Result.{err_from_is_err_and}
+use Rattle.mig_text.proofs.Common.{err_from_is_err_and}
 use Rattle.mig_text.proofs.PlanReads.{rounds_stop, closing_stops, end_wrong_stops}
 use Rattle.mig_text.proofs.plan_read.read_lines.Goals as goal
 

@@ -1,4 +1,4 @@
-use Rattle.std.proofs.lemmas.Result.{err_from_is_err_and, MatchResult-weaker}
+use Rattle.mig_text.proofs.Common.{MatchResult-weaker, err_from_is_err_and}
 use Rattle.mig_text.proofs.PlanReads.{title_stops, total_stops}
 use Rattle.mig_text.proofs.plan_read.take_opening.Goals as goal
 

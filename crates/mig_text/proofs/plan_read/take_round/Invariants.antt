@@ -1,4 +1,4 @@
-use Rattle.mig_text.specs.PlanParts.{IsRoundPart}
+use Rattle.mig_text.proofs.Common.{IsRoundPart}
 use Rattle.mig_text.proofs.plan_read.take_round.Given as goal
 
 abbrev pub invariant-shifts : goal.invariant-shifts

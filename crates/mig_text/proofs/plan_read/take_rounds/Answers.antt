@@ -1,4 +1,4 @@
-use Rattle.mig_base.proofs.Common.{◌≡◌, ◌∙◌, true, not, ap, is_ok, err_from_is_err_and}
+use Rattle.mig_text.proofs.Common.{ap, err_from_is_err_and, is_ok, not, true, ◌∙◌, ◌≡◌}
 use Rattle.mig_text.proofs.PlanReads.{round_stops, rounds_more}
 use Rattle.mig_text.proofs.plan_read.take_rounds.Goals as goal
 

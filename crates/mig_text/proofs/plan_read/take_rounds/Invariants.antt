@@ -1,4 +1,4 @@
-use Rattle.mig_text.specs.PlanParts.{AreRoundsRead}
+use Rattle.mig_text.proofs.Common.{AreRoundsRead}
 use Rattle.mig_text.proofs.plan_read.take_rounds.Given as goal
 
 abbrev pub invariant-loop-k : goal.invariant-loop-k

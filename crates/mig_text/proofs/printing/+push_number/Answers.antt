@@ -1,4 +1,4 @@
-use Rattle.std.proofs.Common.{arith}
+use Rattle.mig_text.proofs.Common.{arith}
 use Rattle.mig_text.proofs.Numerals.{last_digit, next_digit}
 use Rattle.mig_text.proofs.printing.+push_number.Goals as goal
 use Rattle.mig_text.proofs.printing.+push_number.Goals.{then-number-ge10+in_ok-push_number, else-number-ge10}

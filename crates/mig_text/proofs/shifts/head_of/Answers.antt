@@ -1,4 +1,4 @@
-use Rattle.std.proofs.Common.{rules}
+use Rattle.mig_text.proofs.Common.{rules}
 use Rattle.mig_text.proofs.shifts.head_of.Goals as goal
 
 pub returns-then-ne : goal.returns-then-ne

@@ -1,4 +1,4 @@
-use Rattle.std.proofs.Common.{rules}
+use Rattle.mig_text.proofs.Common.{rules}
 use Rattle.mig_text.proofs.shifts.spot_of.Goals as goal
 
 pub returns : goal.returns

@@ -1,4 +1,4 @@
-use Rattle.mig_base.proofs.Common.{arith, ap, sym, ◌∙◌, eq-eqb, eqb-true, decimal, decimal_injective}
+use Rattle.mig_text.proofs.Common.{ap, arith, decimal, decimal_injective, eq-eqb, eqb-true, sym, ◌∙◌}
 use Rattle.mig_text.proofs.words.is_number.Goals as goal
 
 pub returns-in-Some : goal.returns-in-Some

@@ -1,4 +1,4 @@
-use Rattle.std.proofs.Common.{rules}
+use Rattle.mig_text.proofs.Common.{rules}
 use Rattle.mig_text.proofs.words.last_number.Goals as goal
 
 pub returns-else-is_done : goal.returns-else-is_done

@@ -1,6 +1,6 @@
-use Rattle.mig_top.proofs.Common.{AuditStops, HavePutSights, arith, length, subst, sym, ℕ, ◌+◌, ◌≡◌}
-use Rattle.mig_top.proofs.Sightings.{line_more, line_stops, looks_then, no_lines}
-use Rattle.mig_top.proofs.Results.{handed_on}
+use Rattle.mig_top.proofs.Common.{AuditStops, HavePutSights, IfErr, arith, length, subst, sym, ℕ, ◌+◌, ◌≡◌}
+use Rattle.mig_top.proofs.Auditing.{line_more, line_stops, looks_then, no_lines}
+use Rattle.mig_top.proofs.Steps.{handed}
 use Rattle.mig_top.proofs.StoreEnds.{looks_none}
 use Rattle.mig_top.proofs.audit_command.put_sights.Goals as goal
 
@@ -36,7 +36,7 @@ returns-in_err-put_sight-clause-stopped g c =
     let last = g.S.Store.state c.put_sight.new.store in
     let first = g.K.Sink.state c.args.out.now in
     let new = g.K.Sink.state c.put_sight.new.out in
-    handed_on c.from_residual.result c.in_err-put_sight.field-0.0 (AuditStops input old last first new) c.from_residual.ensures.1
+    handed (λ r. IfErr r (AuditStops input old last first new)) c.from_residual.result c.in_err-put_sight.field-0.0 c.from_residual.ensures.1
     (line_stops input old (g.S.Store.state c.loop-item.store) inv.looks c.loop-item.item first (g.K.Sink.state c.loop-item.out) c.loop-item.here inv.put
     (omega (arith, c.loop-item-test.true, c.item_count-item-end.ensures.count)) last inv.later inv.store_later new c.in_err-put_sight.field-0.0 c.in_err-put_sight.ensures.stopped)
 

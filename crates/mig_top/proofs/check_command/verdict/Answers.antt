@@ -1,37 +1,23 @@
-use Rattle.mig_top.proofs.Common.{Roomy, inl, inr, judges, plan_bodies_of, reads_cert, reads_input, reads_plan, reads_verdict}
-use Rattle.mig_top.proofs.Steps.{answers, handed_on, within}
+use Rattle.mig_top.proofs.Common.{inl, inr, refl}
+use Rattle.mig_top.proofs.Steps.{answers, fails}
 use Rattle.mig_top.proofs.check_command.verdict.Goals as goal
 
 pub returns-in_err-input : goal.returns-in_err-input
-returns-in_err-input c =
-    let b = plan_bodies_of c.args.bytes.now in
-    handed_on (λ text. text.now) (reads_verdict b c.args.cert.now)
-    (reads_input Roomy b.input).Stops (λ o s. inl s) c.from_residual.result c.in_err-input.field-0.0 c.from_residual.ensures.1 c.in_err-input.ensures.takes
+returns-in_err-input c = fails c.in_err-input.ensures.takes c.from_residual.ensures.1 (λ o s. inl s)
 
 pub returns-in_err-plan : goal.returns-in_err-plan
 returns-in_err-plan c =
-    let b = plan_bodies_of c.args.bytes.now in
-    let input = c.in_ok-input.input in
-    handed_on (λ text. text.now) (reads_verdict b c.args.cert.now)
-    (reads_plan b.plan input).Stops (λ o s. inr (input, c.in_ok-input.ensures.takes, inl s)) c.from_residual-in_err-plan.result c.in_err-plan.field-0.0
-    c.from_residual-in_err-plan.ensures.1 (rw c.deref.ensures.value at c.in_err-plan.ensures.takes)
+    fails (rw c.deref.ensures.value at c.in_err-plan.ensures.takes) c.from_residual-in_err-plan.ensures.1 (λ o s. inr (c.in_ok-input.input, c.in_ok-input.ensures.takes.passes, inl s))
 
 pub returns-in-Err : goal.returns-in-Err
 returns-in-Err c =
-    let b = plan_bodies_of c.args.bytes.now in
-    let input = c.in_ok-input.input in
-    let plan = c.in_ok-plan.plan in
-    let spelled = rw c.deref.ensures.value at c.in_ok-plan.ensures.takes in
-    within (reads_cert c.args.cert.now input).Stops (reads_verdict b c.args.cert.now).Stops
-    (λ o s. inr (input, c.in_ok-input.ensures.takes, inr (plan, spelled, inl s))) c.in-Err.ending c.in-Err.ensures.takes
+    let spelled = rw c.deref.ensures.value at c.in_ok-plan.ensures.takes.passes in
+    fails c.in-Err.ensures.takes refl (λ o s. inr (c.in_ok-input.input, c.in_ok-input.ensures.takes.passes, inr (c.in_ok-plan.plan, spelled, inl s)))
 
 pub returns : goal.returns
 returns c =
-    let b = plan_bodies_of c.args.bytes.now in
     let input = c.in_ok-input.input in
-    let plan = c.in_ok-plan.plan in
-    let cert = c.in-Ok.cert in
-    let spelled = rw c.deref.ensures.value at c.in_ok-plan.ensures.takes in
-    answers (λ text. text.now) (reads_verdict b c.args.cert.now) (λ text. text.now) (judges input plan cert)
-    (λ text h. (input, c.in_ok-input.ensures.takes, (plan, spelled, (cert, c.in-Ok.ensures.takes, h))))
-    (λ o s. inr (input, c.in_ok-input.ensures.takes, inr (plan, spelled, inr (cert, c.in-Ok.ensures.takes, s)))) c.verdict_on.result c.verdict_on.ensures
+    let read = c.in_ok-input.ensures.takes.passes in
+    let spelled = rw c.deref.ensures.value at c.in_ok-plan.ensures.takes.passes in
+    answers _ c.verdict_on.ensures (λ text h. (input, read, (c.in_ok-plan.plan, spelled, (c.in-Ok.cert, c.in-Ok.ensures.takes.passes, h))))
+    (λ o s. inr (input, read, inr (c.in_ok-plan.plan, spelled, inr (c.in-Ok.cert, c.in-Ok.ensures.takes.passes, s))))

@@ -1,5 +1,5 @@
 use Rattle.mig_top.proofs.Common.{[], arith, four_and, halted_text, task_names}
-use Rattle.mig_top.proofs.Halting.{halt_done, halt_failed, halt_refused, halt_unsaved, in_part, in_whole, is_standing}
+use Rattle.mig_top.proofs.StoreCommands.{halt_done, halt_failed, halt_refused, halt_unsaved, in_part, in_whole, is_standing}
 use Rattle.mig_top.proofs.EndsOf.{refused, shown, told}
 use Rattle.mig_top.proofs.halt_command.close.Goals as goal
 

@@ -1,4 +1,4 @@
-use Rattle.mig_top.proofs.LayoutSpots.{spots_on_disks}
+use Rattle.mig_top.proofs.Layouts.{spots_on_disks}
 use Rattle.mig_top.proofs.layout_texts.layout_text.Goals as goal
 
 pub print_layout-requires-clause-on_disks : goal.print_layout-requires-clause-on_disks

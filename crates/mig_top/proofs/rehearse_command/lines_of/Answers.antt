@@ -1,5 +1,5 @@
 use Rattle.mig_top.proofs.Common.{List, [], ap, codes, six_lines, text_of_lines, words, ℕ, ◌++◌, ◌∙◌, ◌∷◌}
-use Rattle.mig_top.proofs.EightLines.{one_line}
+use Rattle.mig_top.proofs.Rehearsing.{one_line}
 use Rattle.mig_top.proofs.rehearse_command.lines_of.Goals as goal
 
 pub returns : goal.returns

@@ -1,5 +1,5 @@
 use Rattle.mig_top.proofs.Common.{[], codes, count_line, ◌∷◌}
-use Rattle.mig_top.proofs.EightLines.{no_line, one_line}
+use Rattle.mig_top.proofs.Rehearsing.{no_line, one_line}
 use Rattle.mig_top.proofs.rehearse_command.push_numbers.Goals as goal
 
 pub returns : goal.returns

@@ -1,9 +1,5 @@
-use Rattle.mig_top.proofs.Common.{Cert, Err, IfOk, IsCertified, IsPlanDigest, IsRehearsed, List, Lists, Ok, Result, Shift, Transfers, Vec, ap, bound_value, eight_lines, length, length-map, moves}
-use Rattle.mig_top.proofs.Common.{quotient, text_of_lines, transfers, trip, verdict_word, ℕ, ◌∙◌, ◌≡◌}
-use Rattle.std.specs.String.{string_bytes}
-use Rattle.std.specs.declared.alloc.AllocError.{AllocError}
-use Rattle.std.specs.declared.alloc.Global.{Global}
-use Rattle.mig_top.specs.declared.rehearse_command.Numbers.{Numbers}
+use Rattle.mig_top.proofs.Common.{AllocError, Cert, Err, Global, IfOk, IsCertified, IsPlanDigest, IsRehearsed, List, Lists, Numbers, Ok, Result, Shift, Transfers, Vec, ap, bound_value}
+use Rattle.mig_top.proofs.Common.{eight_lines, length, length-map, moves, quotient, string_bytes, text_of_lines, transfers, trip, verdict_word, ℕ, ◌∙◌, ◌≡◌}
 use Rattle.mig_top.proofs.rehearse_command.rehearse_input.Goals as goal
 
 -- the lines are those of the input and of its certified plan

@@ -1,5 +1,6 @@
 use Rattle.mig_top.proofs.Common.{After, Check, Drill, Plan, names_in, refl, task_names}
-use Rattle.mig_top.proofs.Known.{files_known, rehearsal_known}
+use Rattle.mig_top.proofs.EndsOf.{files_known}
+use Rattle.mig_top.proofs.Rehearsing.{rehearsal_known}
 use Rattle.mig_top.proofs.StoreEnds.{untouched}
 use Rattle.mig_top.proofs.top.carry_out.Goals as goal
 

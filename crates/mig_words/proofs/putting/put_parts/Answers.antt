@@ -1,6 +1,4 @@
-use Rattle.std.proofs.Common.{[]}
-use Rattle.mig_words.specs.declared.putting.Part.TheVariants.{Text}
-use Rattle.mig_words.specs.Puts.{part_text}
+use Rattle.mig_words.proofs.Common.{Text, [], part_text}
 use Rattle.mig_words.proofs.PutTexts.{piece_fails}
 use Rattle.mig_words.proofs.putting.put_parts.Goals as goal
 

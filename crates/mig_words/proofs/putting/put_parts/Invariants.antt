@@ -1,6 +1,4 @@
-use Rattle.std.proofs.Common.{map, take, Ok}
-use Rattle.mig_words.specs.Outcomes.{joined}
-use Rattle.mig_words.specs.Puts.{Puts, part_text}
+use Rattle.mig_words.proofs.Common.{Ok, Puts, joined, map, part_text, take}
 use Rattle.mig_words.proofs.putting.put_parts.Given as goal
 
 -- the parts so far were put

@@ -1,5 +1,4 @@
-use Rattle.std.proofs.Common.{◌++◌, codes, append_assoc}
-use Rattle.mig_words.specs.Outcomes.{cause_text}
+use Rattle.mig_words.proofs.Common.{append_assoc, cause_text, codes, ◌++◌}
 use Rattle.mig_words.proofs.PutTexts.{puts_fails, puts_then}
 use Rattle.mig_words.proofs.telling.put_refusal.Goals as goal
 

@@ -1,5 +1,4 @@
-use Rattle.std.proofs.Common.{map, drop}
-use Rattle.mig_words.specs.Words.{IsFileWord}
+use Rattle.mig_words.proofs.Common.{IsFileWord, drop, map}
 use Rattle.mig_words.proofs.Lists.{SoFar}
 use Rattle.mig_words.proofs.words.are_file_words.Given as goal
 

@@ -1,5 +1,4 @@
-use Rattle.std.proofs.Common.{◌≢◌, ℕ, List, [], sym, subst, ◌∙◌, rules, map}
-use Rattle.std.proofs.lemmas.Slice.Eq.{bytes_eq-Decides}
+use Rattle.mig_words.proofs.Common.{List, [], bytes_eq-Decides, map, rules, subst, sym, ℕ, ◌∙◌, ◌≢◌}
 use Rattle.mig_words.proofs.Lists.{SoFar, SoFar-step, map-drop}
 use Rattle.mig_words.proofs.words.differs_from.Goals as goal
 

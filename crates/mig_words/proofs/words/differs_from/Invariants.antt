@@ -1,4 +1,4 @@
-use Rattle.std.proofs.Common.{map, drop, ◌≢◌}
+use Rattle.mig_words.proofs.Common.{drop, map, ◌≢◌}
 use Rattle.mig_words.proofs.Lists.{SoFar}
 use Rattle.mig_words.proofs.words.differs_from.Given as goal
 

@@ -1,6 +1,4 @@
-use Rattle.std.proofs.Common.{◌≡◌, ℕ, List, MatchOption, length, sym, subst, arith}
-use Rattle.mig_words.specs.Commands.{form_of}
-use Rattle.mig_words.specs.Words.{Form, IsListed}
+use Rattle.mig_words.proofs.Common.{Form, IsListed, List, MatchOption, arith, form_of, length, subst, sym, ℕ, ◌≡◌}
 use Rattle.mig_words.proofs.Lists.{none_map, five_texts}
 use Rattle.mig_words.proofs.words.five_words.Goals as goal
 

@@ -1,4 +1,4 @@
-use Rattle.std.proofs.Common.{rules}
+use Rattle.mig_words.proofs.Common.{rules}
 use Rattle.mig_words.proofs.words.over_four_files.Goals as goal
 
 pub returns-in-drill : goal.returns-in-drill

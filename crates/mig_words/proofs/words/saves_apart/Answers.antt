@@ -1,4 +1,4 @@
-use Rattle.std.proofs.Common.{rules}
+use Rattle.mig_words.proofs.Common.{rules}
 use Rattle.mig_words.proofs.words.saves_apart.Goals as goal
 
 pub returns : goal.returns

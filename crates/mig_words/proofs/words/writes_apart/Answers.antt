@@ -1,4 +1,4 @@
-use Rattle.std.proofs.Common.{rules}
+use Rattle.mig_words.proofs.Common.{rules}
 use Rattle.mig_words.proofs.words.writes_apart.Goals as goal
 
 pub returns-then-differs_from : goal.returns-then-differs_from

@@ -1,4 +1,4 @@
-use Rattle.std.proofs.Common.{rules}
+use Rattle.mig_base.proofs.Common.{rules}
 use Rattle.mig_base.proofs.cells.Cell.len.Goals as goal
 
 pub returns-in-Head : goal.returns-in-Head

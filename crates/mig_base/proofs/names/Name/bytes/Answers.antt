@@ -1,4 +1,4 @@
-use Rattle.std.proofs.Common.{rules}
+use Rattle.mig_base.proofs.Common.{rules}
 use Rattle.mig_base.proofs.names.Name.bytes.Goals as goal
 
 pub returns-clause-value : goal.returns-clause-value

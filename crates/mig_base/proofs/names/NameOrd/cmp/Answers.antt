@@ -1,4 +1,4 @@
-use Rattle.std.proofs.Common.{rules}
+use Rattle.mig_base.proofs.Common.{rules}
 use Rattle.mig_base.proofs.names.NameOrd.cmp.Goals as goal
 
 pub returns : goal.returns

@@ -1,5 +1,4 @@
-use Rattle.mig_base.proofs.Common.{subst, inl, inr, ◌<◌}
-use Rattle.mig_base.specs.declared.ids.CopyId.{CopyId}
+use Rattle.mig_board.proofs.Common.{CopyId, inl, inr, subst, ◌<◌}
 use Rattle.mig_board.proofs.BoardFacts.{ends_in_range, joins_within}
 use Rattle.mig_board.proofs.boards.Board.across.Goals as goal
 

@@ -1,6 +1,4 @@
-use Rattle.std.proofs.Common.{sym, subst, ap, refl, ◌<◌, ◌∙◌, arith}
-use Rattle.mig_board.specs.Colouring.{Colouring}
-use Rattle.mig_board.specs.Entries.{Entries}
+use Rattle.mig_board.proofs.Common.{Colouring, Entries, ap, arith, refl, subst, sym, ◌<◌, ◌∙◌}
 use Rattle.mig_board.proofs.Walks.{underway_short}
 use Rattle.mig_board.proofs.ExchangeFacts.{reached_start, reached_at, reached_colours, found_old, turned_old, found_leads, edge_in_painted, edge_in_ends, end_is_at, reached_next, few_kept, board_now, exchanges_now}
 use Rattle.mig_board.proofs.boards.Board.exchange.Goals as goal

@@ -1,5 +1,4 @@
-use Rattle.std.proofs.Common.{subst, ap, arith}
-use Rattle.mig_board.specs.Colouring.{Colouring, IsProper}
+use Rattle.mig_board.proofs.Common.{Colouring, IsProper, ap, arith, subst}
 use Rattle.mig_board.proofs.Walks.{underway_at, underway_next, underway_start, underway_more, underway_end, underway_short}
 use Rattle.mig_board.proofs.boards.Board.far.Goals as goal
 

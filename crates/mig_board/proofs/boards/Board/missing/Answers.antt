@@ -1,4 +1,4 @@
-use Rattle.std.proofs.Common.{rules}
+use Rattle.mig_board.proofs.Common.{rules}
 use Rattle.mig_board.proofs.boards.Board.missing.Goals as goal
 
 pub returns : goal.returns

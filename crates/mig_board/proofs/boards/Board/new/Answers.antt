@@ -1,4 +1,4 @@
-use Rattle.std.proofs.Common.{replicate, rules, ◌≡◌, None}
+use Rattle.mig_board.proofs.Common.{None, replicate, rules, ◌≡◌}
 use Rattle.mig_board.proofs.BoardFacts.{new_board}
 use Rattle.mig_board.proofs.boards.Board.new.Goals as goal
 

@@ -1,5 +1,4 @@
-use Rattle.std.proofs.Common.{◌<◌, sym, subst}
-use Rattle.mig_board.specs.Entries.{Entries}
+use Rattle.mig_board.proofs.Common.{Entries, subst, sym, ◌<◌}
 use Rattle.mig_board.proofs.BoardFacts.{can_paint, paint_nodes, written_painted}
 use Rattle.mig_board.proofs.boards.Board.paint.Goals as goal
 

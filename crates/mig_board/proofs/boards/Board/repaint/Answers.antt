@@ -1,5 +1,4 @@
-use Rattle.mig_base.proofs.Common.{sym, subst, ◌∙◌, ap, slice_get_within}
-use Rattle.mig_board.specs.Colouring.{Colouring, IsFreeAt, painted_with}
+use Rattle.mig_board.proofs.Common.{Colouring, IsFreeAt, ap, painted_with, slice_get_within, subst, sym, ◌∙◌}
 use Rattle.mig_board.proofs.Tables.{IsFreeAt-cleared, painted_with-cleared}
 use Rattle.mig_board.proofs.boards.Board.repaint.Goals as goal
 

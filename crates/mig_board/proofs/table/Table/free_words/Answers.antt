@@ -1,5 +1,4 @@
-use Rattle.std.proofs.Common.{arith, subst, sym, refl, ◌<◌, ◌-◌, ◌+◌, ◌≡◌, ◌*◌, take, drop, List, ℕ}
-use Rattle.mig_board.specs.Entries.{Entries, IsFreeSet}
+use Rattle.mig_board.proofs.Common.{Entries, IsFreeSet, List, arith, drop, refl, subst, sym, take, ℕ, ◌*◌, ◌+◌, ◌-◌, ◌<◌, ◌≡◌}
 use Rattle.mig_board.proofs.FreeSets.{IsFreeSet-of}
 use Rattle.mig_board.proofs.table.Table.free_words.Goals as goal
 

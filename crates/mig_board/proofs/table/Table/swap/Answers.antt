@@ -1,5 +1,4 @@
-use Rattle.std.proofs.Common.{◌∙◌, ap}
-use Rattle.mig_board.specs.Entries.{Entries, with_entry}
+use Rattle.mig_board.proofs.Common.{Entries, ap, with_entry, ◌∙◌}
 use Rattle.mig_board.proofs.TableFacts.{swapped_now}
 use Rattle.mig_board.proofs.table.Table.swap.Goals as goal
 

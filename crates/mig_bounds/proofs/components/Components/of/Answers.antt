@@ -1,5 +1,4 @@
-use Rattle.mig_base.proofs.Common.{ℕ, List, length, filter, eqb, get_or, sym, ap, ◌∙◌, arith, subst, range_with_len, limit_sum}
-use Rattle.mig_bounds.specs.Components.{AreLimitSums, AreInsides}
+use Rattle.mig_bounds.proofs.Common.{AreInsides, AreLimitSums, List, ap, arith, eqb, filter, get_or, length, limit_sum, range_with_len, subst, sym, ℕ, ◌∙◌}
 use Rattle.mig_bounds.proofs.ComponentCounts.{inside_small}
 use Rattle.mig_bounds.proofs.ComponentSets.{inside_labelled}
 use Rattle.mig_bounds.proofs.components.Components.of.Goals as goal
@@ -9,7 +8,7 @@ returns c =
     let g = c.args.graph.now in
     let labels = c.in_ok-labels.labels.items in
     let is = c.in_ok-labels.ensures in
-    let valid = c.requires in
+    let valid = c.requires.valid in
     let sums = subst (λ (x : List ℕ). AreLimitSums g x (length g.disks) c.in_ok-sums.sums.items) c.deref.ensures.value c.in_ok-sums.ensures in
     let insides = subst (λ (x : List ℕ). AreInsides x g.trips c.in_ok-insides.insides.items) c.deref-2.ensures.value c.in_ok-insides.ensures in
     record {

@@ -1,6 +1,4 @@
-use Rattle.std.proofs.Common.{◌≡◌, ℕ, length, cond}
-use Rattle.std.specs.Prelude.{nat_lt}
-use Rattle.mig_calls.specs.FileBytes.{byte_at, settled_as, picked}
+use Rattle.mig_calls.proofs.Common.{byte_at, cond, length, nat_lt, picked, settled_as, ℕ, ◌≡◌}
 use Rattle.mig_calls.proofs.file_bytes.FileBytes.crash.Given as goal
 
 abbrev pub invariant-loop-i : goal.invariant-loop-i

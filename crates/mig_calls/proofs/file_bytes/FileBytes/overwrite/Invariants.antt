@@ -1,5 +1,4 @@
-use Rattle.std.proofs.Common.{◌≡◌, ℕ, length, take}
-use Rattle.mig_calls.specs.FileBytes.{byte_at, with_written}
+use Rattle.mig_calls.proofs.Common.{byte_at, length, take, with_written, ℕ, ◌≡◌}
 use Rattle.mig_calls.proofs.file_bytes.FileBytes.overwrite.Given as goal
 
 abbrev pub invariant-loop-k : goal.invariant-loop-k

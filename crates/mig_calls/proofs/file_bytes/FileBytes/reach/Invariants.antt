@@ -1,5 +1,4 @@
-use Rattle.std.proofs.Common.{◌≡◌, ℕ, length}
-use Rattle.mig_calls.specs.FileBytes.{byte_at}
+use Rattle.mig_calls.proofs.Common.{byte_at, length, ℕ, ◌≡◌}
 use Rattle.mig_calls.proofs.file_bytes.FileBytes.reach.Given as goal
 
 abbrev pub invariant-loop : goal.invariant-loop

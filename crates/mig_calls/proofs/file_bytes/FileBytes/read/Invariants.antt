@@ -1,5 +1,4 @@
-use Rattle.std.proofs.Common.{◌≡◌, ◌+◌, ℕ, ◌<◌, get_or}
-use Rattle.mig_calls.specs.FileBytes.{byte_at}
+use Rattle.mig_calls.proofs.Common.{byte_at, get_or, ℕ, ◌+◌, ◌<◌, ◌≡◌}
 use Rattle.mig_calls.proofs.file_bytes.FileBytes.read.Given as goal
 
 abbrev pub invariant-loop-i : goal.invariant-loop-i

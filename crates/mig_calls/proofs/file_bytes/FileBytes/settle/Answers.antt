@@ -1,7 +1,4 @@
-use Rattle.std.proofs.Common.{◌<◌, length, get_or, arith}
-use Rattle.std.proofs.lemmas.List.{get_or_default}
-use Rattle.std.proofs.lemmas.List.Edits.{map_over_more}
-use Rattle.mig_calls.specs.FileBytes.{settled, no_byte}
+use Rattle.mig_calls.proofs.Common.{arith, get_or, get_or_default, length, map_over_more, no_byte, settled, ◌<◌}
 use Rattle.mig_calls.proofs.file_bytes.FileBytes.settle.Goals as goal
 
 pub loop-byte-preserved : goal.loop-byte-preserved

@@ -1,5 +1,4 @@
-use Rattle.std.proofs.Common.{◌≡◌, ◌++◌, take, drop, map}
-use Rattle.mig_calls.specs.FileBytes.{settled}
+use Rattle.mig_calls.proofs.Common.{drop, map, settled, take, ◌++◌, ◌≡◌}
 use Rattle.mig_calls.proofs.file_bytes.FileBytes.settle.Given as goal
 
 abbrev pub invariant-loop-byte : goal.invariant-loop-byte

@@ -1,7 +1,4 @@
-use Rattle.std.proofs.Common.{◌≡◌, [], ◌∷◌, ◌++◌, List, ◌∙◌, ap}
-use Rattle.std.proofs.lemmas.List.{map-append}
-use Rattle.mig_calls.specs.declared.mem_file.MemFile.{MemFile}
-use Rattle.mig_calls.specs.MemFiles.{Seen, no_file, seen_of, seen_all}
+use Rattle.mig_calls.proofs.Common.{List, MemFile, Seen, [], ap, map-append, no_file, seen_all, seen_of, ◌++◌, ◌∙◌, ◌∷◌, ◌≡◌}
 use Rattle.mig_calls.proofs.Disks.{one_added}
 use Rattle.mig_calls.proofs.mem_disk.MemDisk.add.Goals as goal
 

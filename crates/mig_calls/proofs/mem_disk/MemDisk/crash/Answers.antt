@@ -1,7 +1,4 @@
-use Rattle.std.proofs.Common.{[], ◌∷◌, ◌++◌, List, ◌∙◌, ap}
-use Rattle.mig_calls.specs.declared.mem_disk.Step.{Step}
-use Rattle.mig_calls.specs.declared.mem_disk.Step.TheVariants.{Crashed}
-use Rattle.mig_calls.specs.MemFiles.{seen_all}
+use Rattle.mig_calls.proofs.Common.{Crashed, List, Step, [], ap, seen_all, ◌++◌, ◌∙◌, ◌∷◌}
 use Rattle.mig_calls.proofs.Disks.{all_crashed}
 use Rattle.mig_calls.proofs.mem_disk.MemDisk.crash.Goals as goal
 

@@ -1,7 +1,4 @@
-use Rattle.std.proofs.Common.{[], ◌∷◌, ◌++◌, List, ◌∙◌, ap}
-use Rattle.mig_calls.specs.declared.mem_disk.Step.{Step}
-use Rattle.mig_calls.specs.declared.mem_disk.Step.TheVariants.{Named}
-use Rattle.mig_calls.specs.MemFiles.{seen_all}
+use Rattle.mig_calls.proofs.Common.{List, Named, Step, [], ap, seen_all, ◌++◌, ◌∙◌, ◌∷◌}
 use Rattle.mig_calls.proofs.Disks.{all_named}
 use Rattle.mig_calls.proofs.mem_disk.MemDisk.name_all.Goals as goal
 

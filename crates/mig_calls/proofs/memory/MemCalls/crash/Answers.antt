@@ -1,5 +1,4 @@
-use Rattle.std.proofs.Common.{◌∙◌, ap}
-use Rattle.mig_calls.specs.Memory.{Memory}
+use Rattle.mig_calls.proofs.Common.{Memory, ap, ◌∙◌}
 use Rattle.mig_calls.proofs.Crashes.{crash_picked, crash_left, crash_settled, crash_named, crash_flushed, crash_fresh}
 use Rattle.mig_calls.proofs.memory.MemCalls.crash.Goals as goal
 

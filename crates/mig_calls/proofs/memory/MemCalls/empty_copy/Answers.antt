@@ -1,6 +1,4 @@
-use Rattle.mig_calls.specs.Files.{InFile}
-use Rattle.mig_calls.specs.declared.mem_file.Change.TheVariants.{Emptied}
-use Rattle.mig_calls.specs.declared.places.Place.TheVariants.{Copy}
+use Rattle.mig_calls.proofs.Common.{Copy, Emptied, InFile}
 use Rattle.mig_calls.proofs.FilesSteps.{either}
 use Rattle.mig_calls.proofs.MemorySteps.{kept_change, kept_touches, touches, emptied_change}
 use Rattle.mig_calls.proofs.memory.MemCalls.empty_copy.Goals as goal

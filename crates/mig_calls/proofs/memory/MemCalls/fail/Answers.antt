@@ -1,6 +1,4 @@
-use Rattle.std.proofs.Common.{ap}
-use Rattle.mig_calls.specs.Files.{NoByte}
-use Rattle.mig_calls.specs.Memory.{Memory}
+use Rattle.mig_calls.proofs.Common.{Memory, NoByte, ap}
 use Rattle.mig_calls.proofs.MemorySteps.{kept_at}
 use Rattle.mig_calls.proofs.memory.MemCalls.fail.Goals as goal
 

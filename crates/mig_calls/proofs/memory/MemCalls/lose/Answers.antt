@@ -1,4 +1,4 @@
-use Rattle.mig_calls.specs.Files.{NoByte}
+use Rattle.mig_calls.proofs.Common.{NoByte}
 use Rattle.mig_calls.proofs.FilesSteps.{either, change_then}
 use Rattle.mig_calls.proofs.MemorySteps.{kept_change, lost_look}
 use Rattle.mig_calls.proofs.memory.MemCalls.lose.Goals as goal

@@ -1,5 +1,4 @@
-use Rattle.std.proofs.Common.{refl}
-use Rattle.mig_calls.specs.Files.{NoByte}
+use Rattle.mig_calls.proofs.Common.{NoByte, refl}
 use Rattle.mig_calls.proofs.MemorySteps.{kept_change}
 use Rattle.mig_calls.proofs.memory.MemCalls.make.Goals as goal
 

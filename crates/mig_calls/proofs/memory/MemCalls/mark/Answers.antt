@@ -1,4 +1,4 @@
-use Rattle.mig_calls.specs.Files.{NoByte}
+use Rattle.mig_calls.proofs.Common.{NoByte}
 use Rattle.mig_calls.proofs.FilesSteps.{either}
 use Rattle.mig_calls.proofs.MemorySteps.{kept_change, made_look}
 use Rattle.mig_calls.proofs.memory.MemCalls.mark.Goals as goal

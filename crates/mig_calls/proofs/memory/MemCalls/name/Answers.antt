@@ -1,6 +1,4 @@
-use Rattle.std.proofs.Common.{[], ◌∷◌, ◌++◌, ◌∙◌, ap}
-use Rattle.mig_calls.specs.declared.mem_disk.Step.TheVariants.{Named}
-use Rattle.mig_calls.specs.Memory.{Memory}
+use Rattle.mig_calls.proofs.Common.{Memory, Named, [], ap, ◌++◌, ◌∙◌, ◌∷◌}
 use Rattle.mig_calls.proofs.MemorySteps.{named_at}
 use Rattle.mig_calls.proofs.memory.MemCalls.name.Goals as goal
 

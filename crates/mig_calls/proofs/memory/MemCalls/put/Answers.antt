@@ -1,7 +1,4 @@
-use Rattle.std.proofs.Common.{length, ap}
-use Rattle.mig_calls.specs.declared.mem_file.Change.TheVariants.{Wrote}
-use Rattle.mig_calls.specs.Files.{IsWithin}
-use Rattle.mig_calls.specs.Memory.{Memory}
+use Rattle.mig_calls.proofs.Common.{IsWithin, Memory, Wrote, ap, length}
 use Rattle.mig_calls.proofs.FileLists.{on_ok}
 use Rattle.mig_calls.proofs.FilesSteps.{either}
 use Rattle.mig_calls.proofs.MemorySteps.{kept_change, kept_touches, touches, wrote_has, wrote_given}

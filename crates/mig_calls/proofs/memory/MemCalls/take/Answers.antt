@@ -1,5 +1,4 @@
-use Rattle.mig_calls.specs.Files.{NoByte}
-use Rattle.mig_calls.specs.declared.places.Place.TheVariants.{Journal}
+use Rattle.mig_calls.proofs.Common.{Journal, NoByte}
 use Rattle.mig_calls.proofs.FilesSteps.{either}
 use Rattle.mig_calls.proofs.MemorySteps.{kept_change, took_look}
 use Rattle.mig_calls.proofs.memory.MemCalls.take.Goals as goal

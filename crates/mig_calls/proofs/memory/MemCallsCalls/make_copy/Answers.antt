@@ -1,6 +1,4 @@
-use Rattle.std.proofs.Common.{Bool, ◌∙◌, ap}
-use Rattle.mig_calls.specs.declared.places.Place.{Place}
-use Rattle.mig_calls.specs.declared.places.Place.TheVariants.{Copy}
+use Rattle.mig_calls.proofs.Common.{Bool, Copy, Place, ap, ◌∙◌}
 use Rattle.mig_calls.proofs.FilesSteps.{change_then, look_change, touches_then, touches_of}
 use Rattle.mig_calls.proofs.memory.MemCallsCalls.make_copy.Goals as goal
 

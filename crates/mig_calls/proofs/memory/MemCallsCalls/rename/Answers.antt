@@ -1,8 +1,4 @@
-use Rattle.std.proofs.Common.{◌≡◌, inl, inr, true, sym, ◌∙◌, ap}
-use Rattle.std.proofs.lemmas.Bool.{cases_Bool, false≢true}
-use Rattle.mig_calls.specs.declared.places.Place.TheVariants.{Journal, Copy}
-use Rattle.mig_calls.specs.Places.{is_place}
-use Rattle.mig_calls.specs.Memory.{mem_state}
+use Rattle.mig_calls.proofs.Common.{Copy, Journal, ap, cases_Bool, false≢true, inl, inr, is_place, mem_state, sym, true, ◌∙◌, ◌≡◌}
 use Rattle.mig_calls.proofs.FilesSteps.{at_place, change_then, look_change}
 use Rattle.mig_calls.proofs.PlaceTests.{is_place-true, is_place-same}
 use Rattle.mig_calls.proofs.memory.MemCallsCalls.rename.Goals as goal

@@ -1,7 +1,4 @@
-use Rattle.std.proofs.Common.{◌∙◌, ap}
-use Rattle.mig_calls.specs.Files.{NoByte}
-use Rattle.mig_calls.specs.MemFiles.{FileMoment}
-use Rattle.mig_calls.specs.declared.mem_file.Change.TheVariants.{Synced}
+use Rattle.mig_calls.proofs.Common.{FileMoment, NoByte, Synced, ap, ◌∙◌}
 use Rattle.mig_calls.proofs.FileLists.{on_ok}
 use Rattle.mig_calls.proofs.FilesSteps.{either, change_then, touches_then, touches_of}
 use Rattle.mig_calls.proofs.MemorySteps.{kept_change, kept_touches, touches, synced_look, file_here}

@@ -1,4 +1,4 @@
-use Rattle.std.proofs.Common.{length, ◌∙◌}
+use Rattle.mig_calls.proofs.Common.{length, ◌∙◌}
 use Rattle.mig_calls.proofs.FileLists.{take_most}
 use Rattle.mig_calls.proofs.FilesSteps.{change_then, change_within, look_change, touches_then, touches_of, within_more}
 use Rattle.mig_calls.proofs.memory.MemCallsCalls.write_at.Goals as goal

@@ -1,4 +1,4 @@
-use Rattle.std.proofs.Common.{◌∙◌}
+use Rattle.mig_calls.proofs.Common.{◌∙◌}
 use Rattle.mig_calls.proofs.PlaceTests.{different_places, insert_key-new}
 use Rattle.mig_calls.proofs.place_table.PlaceTable.push.Goals as goal
 use Rattle.mig_calls.proofs.place_table.PlaceTable.push.Goals.{in-Ok, in-Err}

@@ -1,6 +1,4 @@
-use Rattle.mig_base.proofs.Common.{◌≡◌, ◌<◌, ℕ, All, List, ap, arith, length, refl, replicate, subst, sym, ◌∙◌, length-replicate}
-use Rattle.mig_check.proofs.Common.{Spot, has_spot, IsTakenSet, layout_of}
-use Rattle.std.proofs.lemmas.List.Elements.{All-replicate}
+use Rattle.mig_check.proofs.Common.{All, All-replicate, IsTakenSet, List, Spot, ap, arith, has_spot, layout_of, length, length-replicate, refl, replicate, subst, sym, ℕ, ◌<◌, ◌∙◌, ◌≡◌}
 use Rattle.mig_check.proofs.rounds.Tables.new.Goals as goal
 
 -- a list of so many zeros

@@ -1,4 +1,4 @@
-use Rattle.std.proofs.Common.{rules}
+use Rattle.mig_drill.proofs.Common.{rules}
 use Rattle.mig_drill.proofs.faults.DrillFaultFromSinkFailed.from.Goals as goal
 
 pub returns : goal.returns

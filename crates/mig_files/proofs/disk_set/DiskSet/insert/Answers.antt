@@ -1,5 +1,4 @@
-use Rattle.std.proofs.Common.{ℕ, List, sym, subst}
-use Rattle.std.specs.List.{Contains}
+use Rattle.mig_files.proofs.Common.{Contains, List, subst, sym, ℕ}
 use Rattle.mig_files.proofs.DiskLists.{inserted}
 use Rattle.mig_files.proofs.disk_set.DiskSet.insert.Goals as goal
 use Rattle.mig_files.proofs.disk_set.DiskSet.insert.Goals.{in-Ok, in-Err}

@@ -1,6 +1,4 @@
-use Rattle.std.proofs.Common.{List, ℕ, ◌≡◌, Some, ◌∙◌, ap}
-use Rattle.mig_base.specs.declared.cells.Cell.{Cell}
-use Rattle.mig_files.specs.Seeing.{seen_at}
+use Rattle.mig_files.proofs.Common.{Cell, List, Some, ap, seen_at, ℕ, ◌∙◌, ◌≡◌}
 use Rattle.mig_files.proofs.SeenItems.{seen_elsewhere}
 use Rattle.mig_files.proofs.seen.Seen.is_elsewhere.Goals as goal
 

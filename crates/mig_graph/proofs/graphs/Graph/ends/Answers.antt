@@ -1,6 +1,4 @@
-use Rattle.mig_base.proofs.Common.{◌≢◌, ap, sym, subst, arith, length, Trip, Transfers, length-map}
-use Rattle.mig_graph.specs.declared.edges.Edge.{Edge}
-use Rattle.mig_graph.specs.Edges.{edge_trip}
+use Rattle.mig_graph.proofs.Common.{Edge, Transfers, Trip, ap, arith, edge_trip, length, length-map, subst, sym, ◌≢◌}
 use Rattle.mig_graph.proofs.Made.{All-unmap}
 use Rattle.mig_graph.proofs.graphs.Graph.ends.Goals as goal
 

@@ -1,4 +1,4 @@
-use Rattle.mig_base.proofs.Common.{arith, common_steps}
+use Rattle.mig_graph.proofs.Common.{arith, common_steps}
 use Rattle.mig_graph.proofs.graphs.Graph.item.Goals as goal
 
 pub returns : goal.returns

@@ -1,4 +1,4 @@
-use Rattle.std.proofs.Common.{rules}
+use Rattle.mig_io.proofs.Common.{rules}
 use Rattle.mig_io.proofs.dir.DirFolderFolder.save.Goals as goal
 
 pub returns-in-Err-clause-later : goal.returns-in-Err-clause-later

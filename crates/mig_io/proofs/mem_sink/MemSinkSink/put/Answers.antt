@@ -1,4 +1,4 @@
-use Rattle.std.proofs.Common.{rules}
+use Rattle.mig_io.proofs.Common.{rules}
 use Rattle.mig_io.proofs.mem_sink.MemSinkSink.put.Goals as goal
 
 pub returns-then-part-bytes-clause-failed : goal.returns-then-part-bytes-clause-failed

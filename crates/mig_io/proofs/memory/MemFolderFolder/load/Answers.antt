@@ -1,5 +1,4 @@
-use Rattle.std.proofs.Common.{arith, rules}
-use Rattle.std.proofs.lemmas.Grind.{common_steps}
+use Rattle.mig_io.proofs.Common.{arith, common_steps, rules}
 use Rattle.mig_io.proofs.memory.MemFolderFolder.load.Goals as goal
 
 pub returns-clause-bytes : goal.returns-clause-bytes

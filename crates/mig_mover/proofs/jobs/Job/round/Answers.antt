@@ -1,5 +1,4 @@
-use Rattle.std.proofs.Common.{◌∙◌, ap}
-use Rattle.mig_base.specs.Tasks.{Task}
+use Rattle.mig_mover.proofs.Common.{Task, ap, ◌∙◌}
 use Rattle.mig_mover.proofs.JobRounds.{round_here}
 use Rattle.mig_mover.proofs.jobs.Job.round.Goals as goal
 

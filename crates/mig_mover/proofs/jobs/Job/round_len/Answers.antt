@@ -1,5 +1,4 @@
-use Rattle.mig_base.proofs.Common.{arith, ap, length, List}
-use Rattle.mig_base.specs.declared.ids.Shift.{Shift}
+use Rattle.mig_mover.proofs.Common.{List, Shift, ap, arith, length}
 use Rattle.mig_mover.proofs.JobRounds.{round_short}
 use Rattle.mig_mover.proofs.jobs.Job.round_len.Goals as goal
 

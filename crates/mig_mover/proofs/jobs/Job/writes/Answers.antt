@@ -1,4 +1,4 @@
-use Rattle.std.proofs.Common.{rules}
+use Rattle.mig_mover.proofs.Common.{rules}
 use Rattle.mig_mover.proofs.jobs.Job.writes.Goals as goal
 
 pub returns : goal.returns

@@ -1,5 +1,4 @@
-use Rattle.mig_base.proofs.Common.{◌≡◌, cond, take, list_any}
-use Rattle.mig_mover.proofs.Common.{Spot, same_spot, round_of}
+use Rattle.mig_mover.proofs.Common.{Spot, cond, list_any, round_of, same_spot, take, ◌≡◌}
 use Rattle.mig_mover.proofs.left_rounds.LeftRounds.fill.Given as goal
 
 abbrev pub invariant-loop-s : goal.invariant-loop-s

@@ -1,4 +1,4 @@
-use Rattle.std.proofs.Common.{rules}
+use Rattle.mig_names.proofs.Common.{rules}
 use Rattle.mig_names.proofs.name_table.NameTable.len.Goals as goal
 
 pub returns : goal.returns

@@ -1,4 +1,4 @@
-use Rattle.std.proofs.Common.{◌∙◌}
+use Rattle.mig_names.proofs.Common.{◌∙◌}
 use Rattle.mig_names.proofs.NameLists.{different_names, insert_key-new}
 use Rattle.mig_names.proofs.name_table.NameTable.push.Goals as goal
 use Rattle.mig_names.proofs.name_table.NameTable.push.Goals.{in-Ok, in-Err}

@@ -1,4 +1,4 @@
-use Rattle.std.proofs.lemmas.Map.Views.{Contains-from_any, list_any-from_Contains}
+use Rattle.mig_names.proofs.Common.{Contains-from_any, list_any-from_Contains}
 use Rattle.mig_names.proofs.SpotLists.{spot_eq, spot_eq-laws, spot_eq-same}
 use Rattle.mig_names.proofs.spot_table.SpotTable.contains.Goals as goal
 

@@ -1,4 +1,4 @@
-use Rattle.std.proofs.Common.{◌∙◌}
+use Rattle.mig_names.proofs.Common.{◌∙◌}
 use Rattle.mig_names.proofs.SpotLists.{insert_spot-new}
 use Rattle.mig_names.proofs.spot_table.SpotTable.push.Goals as goal
 use Rattle.mig_names.proofs.spot_table.SpotTable.push.Goals.{in-Ok, in-Err}

@@ -1,9 +1,4 @@
-use Rattle.std.proofs.Common.{◌≡◌, ◌+◌, ◌<◌, ℕ, List, length, take, get_or, sym, ap, ◌∙◌, arith}
-use Rattle.std.proofs.lemmas.List.Sums.{fold_more}
-use Rattle.mig_save.specs.declared.mem_save.Step.{Step}
-use Rattle.mig_save.specs.declared.mem_save.Step.TheVariants.{Made}
-use Rattle.mig_save.specs.Saves.{Content}
-use Rattle.mig_save.specs.MemSaves.{Moment, after_step, blank, after, content_of}
+use Rattle.mig_save.proofs.Common.{Content, List, Made, Moment, Step, after, after_step, ap, arith, blank, content_of, fold_more, get_or, length, sym, take, ℕ, ◌+◌, ◌<◌, ◌∙◌, ◌≡◌}
 use Rattle.mig_save.proofs.mem_save.MemSave.stands.Goals as goal
 
 -- the moment after one step more

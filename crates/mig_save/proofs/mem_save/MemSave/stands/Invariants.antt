@@ -1,5 +1,4 @@
-use Rattle.std.proofs.Common.{◌≡◌, take}
-use Rattle.mig_save.specs.MemSaves.{content_of, after}
+use Rattle.mig_save.proofs.Common.{after, content_of, take, ◌≡◌}
 use Rattle.mig_save.proofs.mem_save.MemSave.stands.Given as goal
 
 abbrev pub invariant-loop-step : goal.invariant-loop-step

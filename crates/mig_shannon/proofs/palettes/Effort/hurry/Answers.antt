@@ -1,4 +1,4 @@
-use Rattle.std.proofs.Common.{rules}
+use Rattle.mig_shannon.proofs.Common.{rules}
 use Rattle.mig_shannon.proofs.palettes.Effort.hurry.Goals as goal
 
 pub returns-then-is_stuck-clause-stuck : goal.returns-then-is_stuck-clause-stuck

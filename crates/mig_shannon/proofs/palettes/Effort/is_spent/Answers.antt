@@ -1,4 +1,4 @@
-use Rattle.std.proofs.Common.{rules}
+use Rattle.mig_shannon.proofs.Common.{rules}
 use Rattle.mig_shannon.proofs.palettes.Effort.is_spent.Goals as goal
 
 pub returns : goal.returns

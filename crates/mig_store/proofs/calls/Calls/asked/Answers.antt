@@ -1,5 +1,4 @@
-use Rattle.std.proofs.Common.{ℕ, List, length, All, sym, subst}
-use Rattle.mig_store.proofs.Common.{Note, IsSpan}
+use Rattle.mig_store.proofs.Common.{All, IsSpan, List, Note, length, subst, sym, ℕ}
 use Rattle.mig_store.proofs.calls.Calls.asked.Goals as goal
 
 pub part-requires : goal.part-requires

@@ -1,5 +1,4 @@
-use Rattle.std.proofs.Common.{◌++◌, ◌∷◌, [], ◌∙◌, ap, arith}
-use Rattle.mig_store.specs.Calls.{Recorded, call_with}
+use Rattle.mig_store.proofs.Common.{Recorded, [], ap, arith, call_with, ◌++◌, ◌∙◌, ◌∷◌}
 use Rattle.mig_store.proofs.NoteLists.{calls_note, noted_note, long_more, room_left}
 use Rattle.mig_store.proofs.calls.Calls.note.Goals as goal
 

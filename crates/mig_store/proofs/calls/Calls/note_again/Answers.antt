@@ -1,7 +1,4 @@
-use Rattle.std.proofs.Common.{◌≡◌, ◌<◌, ◌++◌, ◌∷◌, [], List, All, length, sym, ◌∙◌, ap, subst, arith}
-use Rattle.std.specs.List.{slice_get, slice_range}
-use Rattle.mig_store.proofs.Common.{Note, asked_by, Recorded, IsSpan, call_with}
-use Rattle.mig_store.specs.Calls.{calls_of}
+use Rattle.mig_store.proofs.Common.{All, IsSpan, List, Note, Recorded, [], ap, arith, asked_by, call_with, calls_of, length, slice_get, slice_range, subst, sym, ◌++◌, ◌<◌, ◌∙◌, ◌∷◌, ◌≡◌}
 use Rattle.mig_store.proofs.NoteLists.{calls_more, noted_more, long_more, room_left}
 use Rattle.mig_store.proofs.calls.Calls.note_again.Goals as goal
 

@@ -1,6 +1,4 @@
-use Rattle.mig_base.proofs.Common.{List, length, sym, ◌∙◌, ap, arith, count_by, take_all}
-use Rattle.mig_store.proofs.Common.{Note, Recorded}
-use Rattle.mig_store.specs.Ledgers.{is_sync}
+use Rattle.mig_store.proofs.Common.{List, Note, Recorded, ap, arith, count_by, is_sync, length, sym, take_all, ◌∙◌}
 use Rattle.mig_store.proofs.NoteLists.{notes_sync, syncs_of}
 use Rattle.mig_store.proofs.calls.Calls.syncs.Goals as goal
 

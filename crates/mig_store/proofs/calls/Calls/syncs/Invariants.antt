@@ -1,4 +1,4 @@
-use Rattle.mig_base.proofs.Common.{◌≡◌, ◌≤◌, take, count_by}
+use Rattle.mig_store.proofs.Common.{count_by, take, ◌≡◌, ◌≤◌}
 use Rattle.mig_store.proofs.NoteLists.{notes_sync}
 use Rattle.mig_store.proofs.calls.Calls.syncs.Given as goal
 

@@ -1,4 +1,4 @@
-use Rattle.std.proofs.Common.{◌≡◌, take}
+use Rattle.mig_store.proofs.Common.{take, ◌≡◌}
 use Rattle.mig_store.proofs.cell_table.CellTable.of.Given as goal
 
 abbrev pub invariant-loop-cell : goal.invariant-loop-cell

@@ -1,4 +1,4 @@
-use Rattle.std.proofs.Common.{◌∙◌}
+use Rattle.mig_store.proofs.Common.{◌∙◌}
 use Rattle.mig_store.proofs.CellTables.{different_cells, insert_key-new}
 use Rattle.mig_store.proofs.cell_table.CellTable.push.Goals as goal
 use Rattle.mig_store.proofs.cell_table.CellTable.push.Goals.{in-Ok, in-Err}

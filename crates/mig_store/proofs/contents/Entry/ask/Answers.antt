@@ -1,4 +1,4 @@
-use Rattle.std.proofs.Common.{rules}
+use Rattle.mig_store.proofs.Common.{rules}
 use Rattle.mig_store.proofs.contents.Entry.ask.Goals as goal
 
 pub returns-clause-seen : goal.returns-clause-seen

@@ -1,7 +1,6 @@
-use Rattle.mig_base.proofs.Common.{◌≡◌, ◌<◌, ◌+◌, ◌++◌, ◌∷◌, [], ℕ, true, false, List, length, Some, IsSome, refl, sym, ◌∙◌, ap, subst, arith, length-append, cond-true, cond-false, cell_len, began}
-use Rattle.mig_base.proofs.Common.{after_events, IsTargetOf, IsSourceOf}
-use Rattle.mig_store.proofs.Common.{Event, Flight, Copies, Call, Contents, ask, firsts, seen_all, AreWithin, change_at, held_at, Log, flying, reads, moment_of, IsMoment, after_call, Held}
-use Rattle.mig_base.proofs.Landing.{flights_began}
+use Rattle.mig_store.proofs.Common.{AreWithin, Call, Contents, Copies, Event, Flight, Held, IsMoment, IsSome, IsSourceOf, IsTargetOf, List, Log, Some, [], after_call, after_events, ap, arith}
+use Rattle.mig_store.proofs.Common.{ask, began, cell_len, change_at, cond-false, cond-true, false, firsts, flights_began, flying, held_at, length, length-append, moment_of, reads, refl, seen_all}
+use Rattle.mig_store.proofs.Common.{subst, sym, true, ℕ, ◌++◌, ◌+◌, ◌<◌, ◌∙◌, ◌∷◌, ◌≡◌}
 use Rattle.mig_store.proofs.EntryLists.{asked_last, same_cells, seen_more, within_all}
 use Rattle.mig_store.proofs.Logs.{logged, shown-is, shown-some}
 use Rattle.mig_store.proofs.Sources.{source, source_read, source_held, source_long, source_pushed}

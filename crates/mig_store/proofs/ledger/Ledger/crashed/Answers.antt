@@ -1,5 +1,5 @@
-use Rattle.mig_base.proofs.Common.{◌≡◌, [], ℕ, List, Option, length, map, sym, ◌∙◌, ap, subst, arith, option_map, Image}
-use Rattle.mig_store.proofs.Common.{Cell, Event, Flight, Entry, Held, Contents, fresh, picked, firsts, seen_all, crash_entry, AreWithin, cell_of, held_at, held_map, Log, IsLog, moment_of}
+use Rattle.mig_store.proofs.Common.{AreWithin, Cell, Contents, Entry, Event, Flight, Held, Image, IsLog, List, Log, Option, [], ap, arith, cell_of, crash_entry, firsts, fresh, held_at, held_map}
+use Rattle.mig_store.proofs.Common.{length, map, moment_of, option_map, picked, seen_all, subst, sym, ℕ, ◌∙◌, ◌≡◌}
 use Rattle.mig_store.proofs.CellLists.{cells_of-map}
 use Rattle.mig_store.proofs.Crashes.{HaveLengths, fresh_log, after_crash, crash_lengths, held_after, first_after, first_is, held_is}
 use Rattle.mig_store.proofs.EntryLists.{seen_crashed, firsts_crashed, within_crashed}

@@ -1,7 +1,5 @@
-use Rattle.mig_base.proofs.Common.{◌≡◌, ◌<◌, ◌++◌, ◌∷◌, [], List, length, get_or, sym, ◌∙◌, ap, subst, arith, length-append, Contains, ended}
-use Rattle.mig_store.proofs.Common.{Event, Flight, Lands, Call, Contents, land, firsts, seen_all, change_at, held_at, Log, flying, moment_of, Held}
-use Rattle.std.specs.List.{remove}
-use Rattle.mig_base.proofs.Landing.{flights_remove}
+use Rattle.mig_store.proofs.Common.{Call, Contains, Contents, Event, Flight, Held, Lands, List, Log, [], ap, arith, change_at, ended, firsts, flights_remove, flying, get_or, held_at, land}
+use Rattle.mig_store.proofs.Common.{length, length-append, moment_of, remove, seen_all, subst, sym, ◌++◌, ◌<◌, ◌∙◌, ◌∷◌, ◌≡◌}
 use Rattle.mig_store.proofs.EntryLists.{same_cells, seen_more, within_all, within_more}
 use Rattle.mig_store.proofs.Logs.{logged}
 use Rattle.mig_store.proofs.Steps.{landed_moment, landed_flights}

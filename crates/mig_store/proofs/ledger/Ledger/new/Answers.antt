@@ -1,5 +1,5 @@
-use Rattle.mig_base.proofs.Common.{◌≡◌, [], ℕ, List, length, map, sym, ◌∙◌, ap, subst, arith, option_map}
-use Rattle.mig_store.proofs.Common.{Event, Flight, Entry, Held, Contents, fresh, firsts, seen_all, AreWithin, zero_entry, cell_of, held_at, held_map, zero_held, IsLog}
+use Rattle.mig_store.proofs.Common.{AreWithin, Contents, Entry, Event, Flight, Held, IsLog, List, [], ap, arith, cell_of, firsts, fresh, held_at, held_map, length, map, option_map, seen_all}
+use Rattle.mig_store.proofs.Common.{subst, sym, zero_entry, zero_held, ℕ, ◌∙◌, ◌≡◌}
 use Rattle.mig_store.proofs.CellLists.{held_at-map, zero-lengths}
 use Rattle.mig_store.proofs.Crashes.{HaveLengths, fresh_log}
 use Rattle.mig_store.proofs.EntryLists.{seen_zero, firsts_zero, within_zero, cells_of-entries}

@@ -1,5 +1,5 @@
-use Rattle.mig_base.proofs.Common.{◌≡◌, ◌<◌, ◌+◌, ◌∷◌, [], List, length, Option, refl, sym, ◌∙◌, ap, subst, arith, length-append, option_map}
-use Rattle.mig_store.proofs.Common.{Cell, Synced, Call, Contents, settle, Held, firsts, seen_all, held_at, Log, flying, moment_of}
+use Rattle.mig_store.proofs.Common.{Call, Cell, Contents, Held, List, Log, Option, Synced, [], ap, arith, firsts, flying, held_at, length, length-append, moment_of, option_map, refl, seen_all}
+use Rattle.mig_store.proofs.Common.{settle, subst, sym, ◌+◌, ◌<◌, ◌∙◌, ◌∷◌, ◌≡◌}
 use Rattle.mig_store.proofs.CellLists.{held_at-map}
 use Rattle.mig_store.proofs.EntryLists.{seen_more, seen_next, within_all, within_more, within_next}
 use Rattle.mig_store.proofs.Logs.{logged}

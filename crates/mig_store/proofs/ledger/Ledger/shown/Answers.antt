@@ -1,5 +1,4 @@
-use Rattle.mig_base.proofs.Common.{◌≡◌, ℕ, List, Option, Some, None, sym, ◌∙◌, ap, subst, option_map, cell_len}
-use Rattle.mig_store.proofs.Common.{Cell, Entry, Held, Contents, firsts, held_at, Log, moment_of, reads}
+use Rattle.mig_store.proofs.Common.{Cell, Contents, Entry, Held, List, Log, None, Option, Some, ap, cell_len, firsts, held_at, moment_of, option_map, reads, subst, sym, ℕ, ◌∙◌, ◌≡◌}
 use Rattle.mig_store.proofs.EntryLists.{reads_entry, reads_nothing}
 use Rattle.mig_store.proofs.Logs.{shown-length}
 use Rattle.mig_store.proofs.ledger.Ledger.shown.Goals as goal

@@ -1,5 +1,5 @@
-use Rattle.mig_base.proofs.Common.{◌≡◌, ◌<◌, ◌+◌, ◌∷◌, [], ℕ, List, length, sym, ◌∙◌, ap, subst, arith, length-append, IsTargetOf, IsSourceOf}
-use Rattle.mig_store.proofs.Common.{Wrote, Call, Contents, ask, firsts, seen_all, AreWithin, change_at, held_at, Log, flying, moment_of, IsMoment, after_call, Held}
+use Rattle.mig_store.proofs.Common.{AreWithin, Call, Contents, Held, IsMoment, IsSourceOf, IsTargetOf, List, Log, Wrote, [], after_call, ap, arith, ask, change_at, firsts, flying, held_at}
+use Rattle.mig_store.proofs.Common.{length, length-append, moment_of, seen_all, subst, sym, ℕ, ◌+◌, ◌<◌, ◌∙◌, ◌∷◌, ◌≡◌}
 use Rattle.mig_store.proofs.EntryLists.{asked_last, same_cells, seen_more, within_all}
 use Rattle.mig_store.proofs.Logs.{logged}
 use Rattle.mig_store.proofs.Steps.{wrote_moment}

@@ -1,5 +1,4 @@
-use Rattle.mig_base.proofs.Common.{◌≡◌, ◌∷◌, [], Bool, not, cond, sym, ◌∙◌, ap, subst, began, Changes}
-use Rattle.mig_store.proofs.Common.{Flight, Copies, Log, IsMoment, moment_of, Memory, pushed, state_of}
+use Rattle.mig_store.proofs.Common.{Bool, Changes, Copies, Flight, IsMoment, Log, Memory, [], ap, began, cond, moment_of, not, pushed, state_of, subst, sym, ◌∙◌, ◌∷◌, ◌≡◌}
 use Rattle.mig_store.proofs.Serving.{mem_still, mem_asked, mem_moving}
 use Rattle.mig_store.proofs.Sources.{copy_recorded}
 use Rattle.mig_store.proofs.SureSteps.{slot_len}

@@ -1,7 +1,4 @@
-use Rattle.mig_base.proofs.Common.{◌≡◌, ◌∷◌, [], Some, ap, subst, NoCell, Ends}
-use Rattle.mig_base.proofs.Landing.{ends_quiet}
-use Rattle.mig_store.specs.Ledgers.{state_at}
-use Rattle.mig_store.specs.Memories.{Memory, next_flight, state_of}
+use Rattle.mig_store.proofs.Common.{Ends, Memory, NoCell, Some, [], ap, ends_quiet, next_flight, state_at, state_of, subst, ◌∷◌, ◌≡◌}
 use Rattle.mig_store.proofs.Serving.{mem_still}
 use Rattle.mig_store.proofs.memory.MemStoreStore.ended.Goals as goal
 

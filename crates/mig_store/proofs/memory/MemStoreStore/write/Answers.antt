@@ -1,5 +1,4 @@
-use Rattle.std.proofs.Common.{◌≡◌, not, ◌∙◌, ap, subst}
-use Rattle.mig_store.proofs.Common.{Wrote, Log, IsMoment, moment_of, Memory, pushed}
+use Rattle.mig_store.proofs.Common.{IsMoment, Log, Memory, Wrote, ap, moment_of, not, pushed, subst, ◌∙◌, ◌≡◌}
 use Rattle.mig_store.proofs.Serving.{mem_still, mem_wrote, mem_written}
 use Rattle.mig_store.proofs.memory.MemStoreStore.write.Goals as goal
 

@@ -1,5 +1,4 @@
-use Rattle.std.proofs.Common.{ℕ, List, map, sym, ◌∙◌, ap, subst}
-use Rattle.mig_store.proofs.Common.{Held, HasLengths, cell_of}
+use Rattle.mig_store.proofs.Common.{HasLengths, Held, List, ap, cell_of, map, subst, sym, ℕ, ◌∙◌}
 use Rattle.mig_store.proofs.CellLists.{zero-lengths, cells_of-zero}
 use Rattle.mig_store.proofs.sure.SureStore.new.Goals as goal
 

@@ -1,5 +1,4 @@
-use Rattle.mig_base.proofs.Common.{◌≡◌, ℕ, [], ◌∷◌, List, length, Some, sym, ◌∙◌, ap, subst, cell_len, IsCopy, began, Changes}
-use Rattle.mig_store.proofs.Common.{Event, Held, held_at, sure_state}
+use Rattle.mig_store.proofs.Common.{Changes, Event, Held, IsCopy, List, Some, [], ap, began, cell_len, held_at, length, subst, sure_state, sym, ℕ, ◌∙◌, ◌∷◌, ◌≡◌}
 use Rattle.mig_store.proofs.SureSteps.{slot_len, held_len, sure-lengths, sure-changes, sure-copied}
 use Rattle.mig_store.proofs.sure.SureStoreStore.begin.Goals as goal
 

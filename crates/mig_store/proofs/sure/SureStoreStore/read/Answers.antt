@@ -1,4 +1,4 @@
-use Rattle.std.proofs.Common.{rules}
+use Rattle.mig_store.proofs.Common.{rules}
 use Rattle.mig_store.proofs.sure.SureStoreStore.read.Goals as goal
 
 pub returns-clause-bytes : goal.returns-clause-bytes

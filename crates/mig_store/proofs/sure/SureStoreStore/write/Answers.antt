@@ -1,5 +1,4 @@
-use Rattle.mig_base.proofs.Common.{◌≡◌, ℕ, [], List, length, IfSome, sym, ◌∙◌, ap, subst, Changes}
-use Rattle.mig_store.proofs.Common.{Held, held_at, sure_state}
+use Rattle.mig_store.proofs.Common.{Changes, Held, IfSome, List, [], ap, held_at, length, subst, sure_state, sym, ℕ, ◌∙◌, ◌≡◌}
 use Rattle.mig_store.proofs.SureSteps.{sure-lengths, sure-changes, sure-written}
 use Rattle.mig_store.proofs.sure.SureStoreStore.write.Goals as goal
 

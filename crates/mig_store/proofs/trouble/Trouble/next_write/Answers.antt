@@ -1,4 +1,4 @@
-use Rattle.std.proofs.Common.{rules}
+use Rattle.mig_store.proofs.Common.{rules}
 use Rattle.mig_store.proofs.trouble.Trouble.next_write.Goals as goal
 
 pub returns-in-Some-clause-value : goal.returns-in-Some-clause-value

@@ -1,4 +1,4 @@
-use Rattle.std.proofs.Common.{arith}
+use Rattle.mig_text.proofs.Common.{arith}
 use Rattle.mig_text.proofs.Tables.{are_names, not_found, found}
 use Rattle.mig_text.proofs.finder.Finder.disk.Goals as goal
 

@@ -1,4 +1,4 @@
-use Rattle.std.proofs.Common.{rules}
+use Rattle.mig_words.proofs.Common.{rules}
 use Rattle.mig_words.proofs.endings.EndingFromInputError.from.Goals as goal
 
 pub returns-in-Refused : goal.returns-in-Refused

@@ -1,5 +1,4 @@
-use Rattle.std.proofs.Common.{[], ◌∷◌}
-use Rattle.mig_base.specs.Flights.{began}
+use Rattle.mig_files.proofs.Common.{[], began, ◌∷◌}
 use Rattle.mig_files.proofs.FilesSteps.{look_is_write}
 use Rattle.mig_files.proofs.Derivation.{cell_changes}
 use Rattle.mig_files.proofs.Headers.{on_any}

@@ -1,4 +1,4 @@
-use Rattle.std.proofs.Common.{[]}
+use Rattle.mig_files.proofs.Common.{[]}
 use Rattle.mig_files.proofs.TrackingSteps.{look_is_copy}
 use Rattle.mig_files.proofs.Derivation.{ends_none, cells_settled}
 use Rattle.mig_files.proofs.store.serving.FileStoreStore.sync.Goals as goal

@@ -1,4 +1,4 @@
-use Rattle.std.proofs.Common.{[]}
+use Rattle.mig_files.proofs.Common.{[]}
 use Rattle.mig_files.proofs.FilesSteps.{look_is_write}
 use Rattle.mig_files.proofs.Derivation.{cell_changes}
 use Rattle.mig_files.proofs.store.serving.FileStoreStore.write.Goals as goal

@@ -1,0 +1,118 @@
+-- Steps of the search of sides.
+use Rattle.mig_bounds.proofs.Common.{BestSide, ByComponent, ByDisk, BySide, ByTriple, Candidate, Incoming, IsBelow, IsBest, IsBestSide, IsCandidateOf, IsGraph, IsSideCandidate, List, Outgoing}
+use Rattle.mig_bounds.proofs.Common.{Side, Transfers, Trip, [], ap, arith, cases_lt, disk_at, div_ceil, eq-eqb, get_or, get_or-le-sum_by, inl, inr, is_duplex, length, one, passes, place}
+use Rattle.mig_bounds.proofs.Common.{refl, set, side_limit, side_load, side_number, side_value, subst, suc, sym, true, value, zero, ℕ, ◌*◌, ◌+◌, ◌<◌, ◌∙◌, ◌∷◌, ◌≡◌, ◌≤◌, ◌⊎◌}
+
+-- a side without a load needs no rounds, and one that needs rounds has a load
+idle_side : (graph : Transfers) (v : ℕ) (side : Side) → side_load side v graph.trips ≡ 0 → side_value graph side v ≡ 0
+idle_side graph v side none = ap (λ n. div_ceil n (side_limit side (disk_at graph.disks v).limits)) none ∙ nothing (side_limit side (disk_at graph.disks v).limits)
+  where
+    nothing : (m : ℕ) → div_ceil 0 m ≡ 0
+    nothing zero = refl
+    nothing (suc m) = omega arith
+
+pub loaded_side : (graph : Transfers) (v : ℕ) (side : Side) → 0 < side_value graph side v → 0 < side_load side v graph.trips
+loaded_side graph v side some = elim (cases_lt 0 (side_load side v graph.trips)) [
+  | inl l ↦ l
+  | inr ge ↦ absurd (omega (arith, some, idle_side graph v side (omega (arith, ge))))
+]
+
+-- the sides below the next number are those below this one, and this one
+same_side : (v w : ℕ) (side next : Side) → side_number v side < side_number w next + 1 → (side_number v side < side_number w next) ⊎ ((v ≡ w) × (side ≡ next))
+same_side v w Outgoing Outgoing below = elim (cases_lt v w) [ inl l ↦ inl (omega (arith, l)) | inr ge ↦ inr (omega (arith, ge, below), refl) ]
+same_side v w Outgoing Incoming below = inl (omega (arith, below))
+same_side v w Incoming Outgoing below = inl (omega (arith, below))
+same_side v w Incoming Incoming below = elim (cases_lt v w) [ inl l ↦ inl (omega (arith, l)) | inr ge ↦ inr (omega (arith, ge, below), refl) ]
+
+-- what holds of the sides below a number and of this one holds of those below the next
+with_next : (P : ℕ → Side → Type 0) (w : ℕ) (next : Side) → ((v : ℕ) (side : Side) → side_number v side < side_number w next → P v side) → P w next → (v : ℕ) (side : Side) → side_number v side < side_number w next + 1 → P v side
+with_next P w next before here v side below = elim (same_side v w side next below) [
+  | inl l ↦ before v side l
+  | inr same ↦ subst (λ (s : Side). P v s) (sym same.1) (subst (λ (u : ℕ). P u next) (sym same.0) here)
+]
+
+-- this side is no better
+pub side_keeps : (graph : Transfers) (best : BestSide) (w : ℕ) (next : Side) → side_value graph next w ≤ best.value → IsBestSide graph best (side_number w next) → IsBestSide graph best (side_number w next + 1)
+side_keeps graph best w next no_better b = record {
+  there = b.there;
+  load_is = b.load_is;
+  loaded = b.loaded;
+  value_is = b.value_is;
+  greatest = with_next (λ v side. side_value graph side v ≤ best.value) w next b.greatest no_better;
+  first = b.first;
+}
+
+-- this side is better than all before it
+pub side_takes : (graph : Transfers) (new : BestSide) → new.disk.0 < length graph.disks → new.load ≡ side_load new.side new.disk.0 graph.trips → new.value ≡ side_value graph new.side new.disk.0 → 0 < new.load
+    → ((v : ℕ) (side : Side) → side_number v side < side_number new.disk.0 new.side → side_value graph side v < new.value) → IsBestSide graph new (side_number new.disk.0 new.side + 1)
+side_takes graph new there load_is value_is loaded before = record {
+  there = there;
+  load_is = load_is;
+  loaded = loaded;
+  value_is = value_is;
+  greatest = with_next (λ v side. side_value graph side v ≤ new.value) new.disk.0 new.side (λ v side below. let l = before v side below in omega (arith, l)) (omega (arith, value_is));
+  first = before;
+}
+
+-- no side before it has a load
+pub side_starts : (graph : Transfers) (w value : ℕ) (next : Side) → 0 < value → ((v : ℕ) (side : Side) → side_number v side < side_number w next → side_load side v graph.trips ≡ 0) → (v : ℕ) (side : Side) → side_number v side < side_number w next → side_value graph side v < value
+side_starts graph w value next some none v side below = omega (arith, some, idle_side graph v side (none v side below))
+
+pub none_more : (graph : Transfers) (w : ℕ) (next : Side) → side_load next w graph.trips ≡ 0 → ((v : ℕ) (side : Side) → side_number v side < side_number w next → side_load side v graph.trips ≡ 0) → (v : ℕ) (side : Side) → side_number v side < side_number w next + 1 → side_load side v graph.trips ≡ 0
+none_more graph w next idle none = with_next (λ v side. side_load side v graph.trips ≡ 0) w next none idle
+
+-- ---- the end of the search
+
+-- a candidate's place in the order and its side's number
+number_below : (v w : ℕ) (side other : Side) → IsBelow (place (BySide v side)) (place (BySide w other)) → side_number v side < side_number w other
+number_below v w side other below = elim below [
+  | inl l ↦ absurd (omega (arith, l))
+  | inr t ↦ elim t.1 [
+    | inl l ↦ by_disk side other l
+    | inr u ↦ elim u.1 [ inl l ↦ omega (arith, u.0, l) | inr x ↦ absurd x.1 ]
+  ]
+]
+  where
+    by_disk : (side other : Side) → v < w → side_number v side < side_number w other
+    by_disk Outgoing Outgoing l = omega (arith, l)
+    by_disk Outgoing Incoming l = omega (arith, l)
+    by_disk Incoming Outgoing l = omega (arith, l)
+    by_disk Incoming Incoming l = omega (arith, l)
+
+-- the number of a side of a disk that is there is below the end
+number_there : (v n : ℕ) (side : Side) → v < n → side_number v side < 2 * n
+number_there v n Outgoing h = omega (arith, h)
+number_there v n Incoming h = omega (arith, h)
+
+-- a side that is a candidate, among all of them
+pub is_best_side : (graph : Transfers) (best : BestSide) → is_duplex graph.disks ≡ true → IsBestSide graph best (2 * length graph.disks) → IsBest graph (BySide best.disk.0 best.side)
+is_best_side graph best split b = record {
+  candidate = subst (λ k. IsCandidateOf k graph (BySide best.disk.0 best.side)) (sym split) (b.there, omega (arith, b.load_is, b.loaded));
+  greatest = λ c is. most c (subst (λ k. IsCandidateOf k graph c) split is);
+  first = λ c is below. less c (subst (λ k. IsCandidateOf k graph c) split is) below;
+}
+  where
+    most : (c : Candidate) → IsSideCandidate graph c → value graph c ≤ side_value graph best.side best.disk.0
+    most (BySide v side) is = omega (arith, b.greatest v side (number_there v (length graph.disks) side is.0), b.value_is)
+    most (ByDisk v) is = absurd is
+    most (ByTriple x y z) is = absurd is
+    most (ByComponent set) is = absurd is
+
+    less : (c : Candidate) → IsSideCandidate graph c → IsBelow (place c) (place (BySide best.disk.0 best.side)) → value graph c < side_value graph best.side best.disk.0
+    less (BySide v side) is below = omega (arith, b.first v side (number_below v best.disk.0 side best.side below), b.value_is)
+    less (ByDisk v) is below = absurd is
+    less (ByTriple x y z) is below = absurd is
+    less (ByComponent set) is below = absurd is
+
+-- where no side has a load, there is no move
+pub no_side_trips : (graph : Transfers) → IsGraph graph → ((v : ℕ) (side : Side) → side_number v side < 2 * length graph.disks → side_load side v graph.trips ≡ 0) → graph.trips ≡ []
+no_side_trips graph valid none = by_list graph.trips refl
+  where
+    by_list : (ts : List Trip) → graph.trips ≡ ts → graph.trips ≡ []
+    by_list [] e = e
+    by_list (t ∷ ts) e =
+        let some : 0 < length graph.trips = omega (arith, ap (λ (x : List Trip). length x) e) in
+        let first = get_or graph.trips 0 t in
+        let v = first.leaves in
+        let met : passes Outgoing v first ≡ true = eq-eqb v v refl in
+        absurd (omega (arith, none v Outgoing (number_there v (length graph.disks) Outgoing (valid.leaves_there 0 t some)), get_or-le-sum_by (λ (s : Trip). one (passes Outgoing v s)) graph.trips 0 t some, ap one met))

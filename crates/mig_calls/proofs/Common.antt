@@ -1,0 +1,41 @@
+-- The names that the proofs of this crate cite, passed on from one place. Declares nothing.
+pub use Rattle.indexmap.specs.IndexSet.{IndexSet, IsUnique, insert_key}
+pub use Rattle.mig_base.specs.InputLists.{AreDifferent}
+pub use Rattle.mig_calls.specs.FileBytes.{byte_at, no_byte, picked, settled, settled_as, with_written, written_over}
+pub use Rattle.mig_calls.specs.Files.{FileChange, Files, FilesChange, FilesLook, FilesState, FilesWrite, HasBytes, InFile, IsLeftFilesBut, IsSettledAt, IsWithin, KeepsFlags, NoByte, SameFilesBut}
+pub use Rattle.mig_calls.specs.Files.{TouchesFile}
+pub use Rattle.mig_calls.specs.MemFiles.{FileMoment, Seen, after_write, change_at, changed, crashed, first_or, left_file, look, moment_of, no_file, on_file, place_of, seen_all, seen_of}
+pub use Rattle.mig_calls.specs.MemFiles.{takes_old, with_name}
+pub use Rattle.mig_calls.specs.Memory.{Fits, FitsOne, IsDisk, LeftSince, MayHold, MayLeave, Memory, Moment, after, after_step, blank, mem_is_state, mem_state, reads_of}
+pub use Rattle.mig_calls.specs.Places.{is_place}
+pub use Rattle.mig_calls.specs.contracts.places.PlacePartialEq.TheImpl.{eq-value}
+pub use Rattle.mig_calls.specs.declared.file_bytes.Byte.{Byte}
+pub use Rattle.mig_calls.specs.declared.mem_disk.Step.{Step}
+pub use Rattle.mig_calls.specs.declared.mem_disk.Step.TheVariants.{Changed, Crashed, Named}
+pub use Rattle.mig_calls.specs.declared.mem_file.Change.{Change}
+pub use Rattle.mig_calls.specs.declared.mem_file.Change.TheVariants.{Emptied, Lost, Made, Synced, Took, Wrote}
+pub use Rattle.mig_calls.specs.declared.mem_file.MemFile.{MemFile}
+pub use Rattle.mig_calls.specs.declared.pick.Pick.{Pick}
+pub use Rattle.mig_calls.specs.declared.pick.Pick.TheVariants.{Back, Front, New, Old, Ones}
+pub use Rattle.mig_calls.specs.declared.places.Place.{Place}
+pub use Rattle.mig_calls.specs.declared.places.Place.TheVariants.{Copy, Disk, Journal}
+pub use Rattle.std.proofs.Common.{Bool, Err, List, MatchOption, None, Ok, OnErr, OnOk, Option, Result, Some, [], ap, arith, cond, drop, false, get_or, inl, inr, is_some, length, length-append}
+pub use Rattle.std.proofs.Common.{map, not, position, refl, set, subst, suc, sym, take, true, zero, ℕ, ◌&&◌, ◌++◌, ◌+◌, ◌-◌, ◌<◌, ◌∙◌, ◌∷◌, ◌≡◌, ◌≤◌, ◌⊎◌}
+pub use Rattle.std.proofs.Math.Bool.{and-false}
+pub use Rattle.std.proofs.Math.ListN.{length-take}
+pub use Rattle.std.proofs.Math.Seq.{map-set_same}
+pub use Rattle.std.proofs.lemmas.Bool.{and_from, cases_Bool, cases_lt, cond-false, cond-true, false_from_ne_true, false≢true, le-ltb, lt-ltb}
+pub use Rattle.std.proofs.lemmas.List.{get_or_default, length-map, map-append, map-set, take-append-le, take_all}
+pub use Rattle.std.proofs.lemmas.List.Edits.{map_over_more}
+pub use Rattle.std.proofs.lemmas.List.Elements.{Contains-get_or}
+pub use Rattle.std.proofs.lemmas.List.Quantifiers.{position-Some}
+pub use Rattle.std.proofs.lemmas.List.Sums.{fold-append}
+pub use Rattle.std.proofs.lemmas.Map.Made.{AllPairs-from_IsDistinct}
+pub use Rattle.std.proofs.lemmas.Map.Views.{Contains-from_any, list_any-from_Contains}
+pub use Rattle.std.proofs.lemmas.Option.{get_or_from_slice_get, slice_get-get_or, slice_get_past, slice_get_within}
+pub use Rattle.std.specs.Bool.{Decides}
+pub use Rattle.std.specs.Cmp.{IsEquivalence}
+pub use Rattle.std.specs.Cmp.Lexicographic.{other_text, same_text}
+pub use Rattle.std.specs.List.{Contains, list_any, slice_get}
+pub use Rattle.std.specs.Prelude.{IsTrue, nat_lt, slice_index}
+pub use Rattle.std.specs.Str.{bytes_eq}

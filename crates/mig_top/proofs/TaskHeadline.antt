@@ -1,0 +1,370 @@
+-- What `move`, `resume` and `halt` promise, from the causes of their outcomes and what they leave; also where copies may be in flight.
+use Rattle.mig_top.proofs.Common.{Adds, AllMayHalt, AreFlights, AreOfTask, At, BeginsAfter, BeginsRun, Bool, Call, Carries, Cell, ChangedOnly, Contents, Disk, Done, EndsAs, Extends, Files}
+use Rattle.mig_top.proofs.Common.{FindsTask, Finishes, FolderFailed, FolderFault, Form, FormCause, FormEndsAs, Found, Gate, Halt, HaltLeaves, HaltsAll, HaltsInPart, HaltsWell, HasContents, Head}
+use Rattle.mig_top.proofs.Common.{IfSome, Image, IsArrived, IsClosingCell, IsHaltCell, IsHalted, IsInput, IsJobCell, IsLanded, IsLayoutSaved, IsListed, IsOrNotPut, IsPermutation-refl}
+use Rattle.mig_top.proofs.Common.{IsReadyIdle, IsReadyInFlight, IsReadyOnceLanded, IsResumable, IsResumeRefusal, IsSafe, IsShown, IsSomeAnd, IsSound, IsStandRefusal, IsStartRefusal, IsState}
+use Rattle.mig_top.proofs.Common.{IsTargetOf, IsUntouched, IsUnwritten, KeepsHalting, Lands, LeavesOnly, List, Lists, MayBeHalting, MayHalt, Memory, Move, MoveLeaves, MovesWell, OthersStay}
+use Rattle.mig_top.proofs.Common.{Outcome, Refusal, Resume, ResumeLeaves, ResumesHalting, ResumesInFlight, ResumesWell, Runs, SavesLayout, Says, Settles, SettlesTo, SinkFailed, SinkFault, Slot}
+use Rattle.mig_top.proofs.Common.{Some, Spot, StartsInFlight, StartsWell, State, StaysArmed, StoreFailed, StoreFault, StoreLeaves, Task, TaskNames, Tells, TellsStill, Untouched, WorldEnds}
+use Rattle.mig_top.proofs.Common.{WroteNothing, [], ap, append-nil, arith, code, count_most, count_of, disk_at, done_text, ended, events_none, false, false≢true, flights, halted_text, idle_sound}
+use Rattle.mig_top.proofs.Common.{inl, inr, is_armed, is_one, length, map, refl, resumes, same_image, same_none, same_wider, settles_land, slot_of, stands, starts, subst, sym, task_in, true, ℕ}
+use Rattle.mig_top.proofs.Common.{⊎_elim, ◌∙◌, ◌≡◌, ◌⊎◌}
+use Rattle.mig_top.proofs.EndsOf.{done_by, ends_of, ends_so, finding_apart, holds_by, one_changed, refusal_between, told_at}
+use Rattle.mig_top.proofs.Exactness.{comes_exactly, is_task, task_in_exact}
+use Rattle.mig_top.proofs.StoreCommands.{halt_rest, move_rest, resume_rest, saved_only}
+use Rattle.mig_top.proofs.Steps.{follow, lead, only_done}
+use Rattle.mig_top.proofs.StoreEnds.{form_quiet, quiet, untouched_quiet}
+use Rattle.mig_top.proofs.StoreExact.{journal_landed, named_refused, resume_apart, start_apart, told_landed}
+use Rattle.mig_words.specs.declared.endings.StoreRefusal.TheVariants as refusal
+
+module _ (task : Task) (store : State) (valid : IsInput task.input) (runs : Runs task.input task.plan) (ready : IsReadyInFlight task store) where
+  job_told : (image : Image) → IsLanded store image → Tells (IsJobCell task.input task.plan) image
+  job_told image landed = told_landed store image landed (IsJobCell task.input task.plan) ready.cells
+
+  armed_at : (image : Image) → IsLanded store image → is_armed image ≡ is_armed store.reads
+  armed_at image landed = ap is_one (journal_landed store image landed ready.slots Gate refl)
+
+  no_start_refusal : is_armed store.reads ≡ false → (o : Outcome) → IsShown task.input store (IsStartRefusal task) o → ⊥
+  no_start_refusal idle o h =
+      start_apart task valid runs h.image (job_told h.image h.landed) (ready.ready h.image (h.left ready.images) (armed_at h.image h.landed ∙ idle)) h.fault h.shows
+
+  no_resume_refusal : (is_armed store.reads ≡ true → store.reads Head ≡ Some task.digest) → (o : Outcome) → IsShown task.input store (IsResumeRefusal task) o → ⊥
+  no_resume_refusal named o h = resume_apart task valid runs h.image (job_told h.image h.landed) head (ready.ready h.image (h.left ready.images)) h.fault h.shows
+    where
+      head : is_armed h.image ≡ true → IfSome (h.image Head) (λ kept. kept ≡ task.digest)
+      head armed =
+          let same : h.image Head ≡ Some task.digest = journal_landed store h.image h.landed ready.slots Head refl ∙ named (sym (armed_at h.image h.landed) ∙ armed) in
+          rw same refl
+
+-- a command comes to its end, and is done or ends otherwise only where something fails
+pub status_so : {k : Call} {words : List (List ℕ)} {status : ℕ} → EndsAs k words status → (files : Files) → k.before.folder.files ≡ Some files → (form : Form) → IsListed words form
+    → ((o : Outcome) → FormCause files k.before.store form o → code o ≡ 0) → (FolderFailed k → ⊥) → (SinkFailed k → ⊥) → (StoreFailed k → ⊥) → (status ≡ 0) ⊎ (status ≡ 7)
+status_so ends files is form l done fine quiet sound =
+    ⊎_elim (λ e. inl (e.2 ∙ done e.0 e.1)) (λ seven. inr seven) (ends_so ends files is form l fine quiet (λ before h. sound h.0))
+
+module _ {k : Call} {words : List (List ℕ)} {status : ℕ} (ends : EndsAs k words status) (files : Files) (names : TaskNames) (task : Task) (is : k.before.folder.files ≡ Some files)
+    (holds : FindsTask files names task) where
+  pub starts_in_flight : IsListed words (Move names) → StartsInFlight k task status
+  starts_in_flight l ready idle =
+      let valid = is_task files names task holds in
+      status_so ends files is (Move names) l (λ o h. only_done (starts task k.before.store) (λ _ text. text ≡ done_text task.plan 0)
+      (no_start_refusal task k.before.store valid.0 valid.1 ready idle) o (follow (task_in names files) (task_in_exact names files) (move_rest k.before.store) task holds o h))
+
+  pub resumes_in_flight : IsListed words (Resume names) → ResumesInFlight k task status
+  resumes_in_flight l ready named =
+      let valid = is_task files names task holds in
+      status_so ends files is (Resume names) l (λ o h. only_done (resumes task k.before.store) (λ found text. text ≡ done_text task.plan found)
+      (no_resume_refusal task k.before.store valid.0 valid.1 ready named) o (follow (task_in names files) (task_in_exact names files) (resume_rest k.before.store) task holds o h))
+
+-- files stand for one task
+pub one_task : (files : Files) (names : TaskNames) (a b : Task) → FindsTask files names a → FindsTask files names b → a ≡ b
+one_task files names = (task_in_exact names files).one_found
+
+-- also as far as the files of a folder are told
+pub same_task : (k : Call) (files : Files) (names : TaskNames) (task : Task) → k.before.folder.files ≡ Some files → FindsTask files names task
+    → (t : Task) → AreOfTask k.before.folder names t → t ≡ task
+same_task k files names task is holds t are = one_task files names t task (told_at (λ f. FindsTask f names t) k.before.folder.files files is are) holds
+
+-- what holds whatever the outcome
+pub record AreKept (task : Task) (old new : State) : Type 0 where
+  pub sound : (asked : Bool) (contents : Contents) → Tells (IsJobCell task.input task.plan) old.reads → SettlesTo (IsSound asked task.input task.plan task.digest contents) old
+      → LeavesOnly (IsSound asked task.input task.plan task.digest contents) old new
+  pub ready : Tells (IsJobCell task.input task.plan) old.reads → SettlesTo (IsReadyIdle task) old → LeavesOnly (IsReadyIdle task) old new
+  pub armed : StaysArmed old new
+
+leaves_same : (P : Image → Type 0) (old new : State) → IsUntouched old new → LeavesOnly P old new
+leaves_same P old new same = record { later = omega (arith, same.moment); since = λ t image le left. inl (same.since t image left) }
+
+untouched_kept : (task : Task) (old new : State) → IsUntouched old new → AreKept task old new
+untouched_kept task old new same =
+    record { sound = λ asked contents tells before. leaves_same _ old new same; ready = λ tells before. leaves_same _ old new same; armed = λ before. leaves_same _ old new same }
+
+-- For `halt`: where nothing was written
+
+pub record IsQuiet (old new : State) : Type 0 where
+  pub wrote : WroteNothing old new
+  pub kept : (image : Image) → new.may_leave image → old.may_leave image
+  pub ended : Adds (BeginsRun (flights old) []) old new
+
+module _ (old new : State) (law : IsState old) where
+  by_lands : Lands old new → IsQuiet old new
+  by_lands lands = record {
+    wrote = quiet old new law (IsTargetOf (flights old)) lands.added lands.change;
+    kept = λ image left. let from = lands.change.crash image left in subst old.may_leave (same_image from.0 image from.2) from.1;
+    ended = λ some. (lands.added, lands.part, lands.change.events);
+  }
+
+  -- no event is the beginning of the ends of the copies in flight
+  none_ended : BeginsRun (flights old) [] []
+  none_ended = (map ended (flights old), record { order = flights old; rest = []; each_once = IsPermutation-refl (flights old); is = sym (append-nil (map ended (flights old))); then_rounds = refl })
+
+  by_untouched : IsUntouched old new → IsQuiet old new
+  by_untouched same = record {
+    wrote = untouched_quiet old new law same;
+    kept = same.leaves;
+    ended = λ some. ([], none_ended, same.events ∙ events_none old.events);
+  }
+
+  by_settles : Settles old new → IsQuiet old new
+  by_settles settles = by_lands (settles_land old new settles)
+
+-- a slot has the name of its disk alone
+same_slot : (a b : Lists) → a.disks ≡ b.disks → (spot : Spot) → slot_of a spot ≡ slot_of b spot
+same_slot a b e spot = ap (λ (disks : List Disk). Slot (disk_at disks spot.disk.0).name spot.slot) e
+
+-- where a plan is halted, a migration over the layout there begins well
+begins_well : (task : Task) (rounds : ℕ) (contents : Contents) (image : Image) → IsHalted task.input task.plan contents image rounds → (begun : Task) → BeginsAfter task rounds begun
+    → IsSound true begun.input begun.plan begun.digest contents image
+begins_well task rounds contents image halted begun after = idle_sound true begun.input begun.plan begun.digest contents image stand halted.idle
+  where
+    stand : HasContents begun.input (At begun.input begun.plan 0) contents image
+    stand item spot at = ap image (same_slot begun.input task.input after.disks spot) ∙ halted.stand item spot (sym (after.spots item) ∙ at)
+
+-- where all that a crash may leave is so, it is so once the store is settled
+all_settle : (task : Task) (contents : Contents) (s : State) → s.may_leave s.reads → AllMayHalt task contents s → MayHalt task contents s
+all_settle task contents s images (inl all) = inl (inr (all, images))
+all_settle task contents s images (inr (n, all)) = inr (n, inr (all, images))
+
+all_kept : (task : Task) (contents : Contents) (old new : State) → ((image : Image) → new.may_leave image → old.may_leave image) → AllMayHalt task contents old → AllMayHalt task contents new
+all_kept task contents old new kept (inl all) = inl (λ image left. all image (kept image left))
+all_kept task contents old new kept (inr (n, all)) = inr (n, λ image left. all image (kept image left))
+
+closing_cell : (task : Task) (k : ℕ) (cell : Cell) → IsClosingCell task k cell → IsHaltCell task.input task.plan cell
+closing_cell task k cell (inl gate) = inl (inr (inl gate))
+closing_cell task k cell (inr free) = inr (free.0, free.1, free.3)
+
+-- The promises
+
+module _ {k : Call} {words : List (List ℕ)} {status : ℕ} (ends : EndsAs k words status) (law : IsState k.before.store) (files : Files) (names : TaskNames) (task : Task)
+    (is : k.before.folder.files ≡ Some files) (holds : FindsTask files names task) where
+  abbrev old : State
+  old = k.before.store
+
+  abbrev new : State
+  new = k.after.store
+
+  same : (t : Task) → AreOfTask k.before.folder names t → t ≡ task
+  same = same_task k files names task is holds
+
+  kept_of : (t : Task) → AreOfTask k.before.folder names t → Carries t old new → AreKept task old new
+  kept_of t are h = subst (λ (u : Task). AreKept u old new) (same t are) (record { sound = h.keeps.sound; ready = h.keeps.ready; armed = h.armed })
+
+  finished_of : (t : Task) (found : ℕ) → AreOfTask k.before.folder names t → Finishes t old new found → (found : ℕ) × Finishes task old new found
+  finished_of t found are h = (found, subst (λ (u : Task). Finishes u old new found) (same t are) h)
+
+  move_kept : (o : Outcome) → MoveLeaves k.before.folder old new names o → AreKept task old new
+  move_kept (Done text) h = kept_of h.0 h.1 h.2.0.carries
+  move_kept (StoreFault before) h = kept_of h.0 h.1 h.2.carries
+  move_kept (Refusal refusal.NotStarted) h = untouched_kept task old new h
+  move_kept (Refusal r) h = kept_of h.0 h.1 h.2.carries
+  move_kept o h = untouched_kept task old new h
+
+  resume_kept : (o : Outcome) → ResumeLeaves k.before.folder old new names o → AreKept task old new
+  resume_kept (Done text) h = kept_of h.0 h.1 h.2.1.moves.carries
+  resume_kept (StoreFault before) h = kept_of h.0 h.1 h.2.0.2.carries
+  resume_kept o h = move_kept o h
+
+  module _ (form : Form) (l : IsListed words form) (form_kept : (o : Outcome) → StoreLeaves k form o → AreKept task old new)
+      (form_finished : (text : List ℕ) → StoreLeaves k form (Done text) → (found : ℕ) × Finishes task old new found) where
+    e : FormEndsAs k form status
+    e = ends_of ends form l
+
+    kept : AreKept task old new
+    kept = holds_by e (AreKept task old new) (λ o h. form_kept o h.store)
+
+    finished : (status ≡ 0) ⊎ (status ≡ 6) → (found : ℕ) × Finishes task old new found
+    finished done = let d = done_by e done in form_finished d.0 d.1.store
+
+    -- each image since the beginning
+    since : (P : Image → Type 0) → LeavesOnly P old new → ((image : Image) → old.may_leave image → P image) → (image : Image) → new.left_since old.moment image → P image
+    since P leaves all image left = ⊎_elim (λ past. all image (law.only_now image past)) (λ p. p) (leaves.since old.moment image (omega arith) left)
+
+    form_moves_well : MovesWell k task status
+    form_moves_well = record {
+      safe = λ asked contents tells images all. since (IsSound asked task.input task.plan task.digest contents) (kept.sound asked contents tells (inr (all, images))) all;
+      ready = λ tells images all. since (IsReadyIdle task) (kept.ready tells (inr (all, images))) all;
+      armed = λ images all. since (λ image. is_armed image ≡ true) (kept.armed (inr (all, images))) all;
+      reached = λ done contents tells before. (finished done).1.reached contents tells before;
+      arrived = λ done contents tells before. (finished done).1.arrived contents tells before;
+      settled = λ done. (finished done).1.settled;
+    }
+
+  pub move_moves : IsListed words (Move names) → MovesWell k task status
+  move_moves l = form_moves_well (Move names) l move_kept (λ text h. finished_of h.0 0 h.1 h.2.0.finishes)
+
+  pub resume_moves : IsListed words (Resume names) → MovesWell k task status
+  resume_moves l = form_moves_well (Resume names) l resume_kept (λ text h. finished_of h.0 h.2.0 h.1 h.2.1.moves.finishes)
+
+  -- Where closing the plan early was stopped no item is lost
+
+  abbrev Since : Type 0
+  Since = (contents : Contents) (n : ℕ) → Tells (IsJobCell task.input task.plan) old.reads → MayBeHalting task contents old n
+      → (image : Image) → new.left_since old.moment image → old.may_leave image ⊎ IsSafe task.input task.plan task.digest contents image
+
+  by_keeps : (t : Task) → AreOfTask k.before.folder names t → KeepsHalting t old new → Since
+  by_keeps t are keeps contents n tells may image left =
+      ⊎_elim (λ past. inl (law.only_now image past)) (λ safe. inr safe)
+      ((subst (λ (u : Task). KeepsHalting u old new) (same t are) keeps contents n tells may).since old.moment image (omega arith) left)
+
+  since_form : (o : Outcome) → StoreLeaves k (Resume names) o → Since
+  since_form (Done text) h = by_keeps h.0 h.1 h.2.1.halting
+  since_form (StoreFault before) h = by_keeps h.0 h.1 h.2.1
+  since_form o h = λ contents n tells may image left. inl (form_quiet k law (Resume names) o h (λ writes. writes) image left)
+
+  -- and each arrives
+
+  abbrev Arrives : Task → Type 0
+  Arrives t = (contents : Contents) (n : ℕ) → Tells (IsJobCell t.input t.plan) old.reads → MayBeHalting t contents old n → IsArrived t.input t.plan t.digest contents new.reads
+
+  arrives_done : (text : List ℕ) → StoreLeaves k (Resume names) (Done text) → Arrives task
+  arrives_done text h = subst Arrives (same h.0 h.1) h.2.1.halted
+
+  pub resumes_halting : IsListed words (Resume names) → ResumesHalting k task status
+  resumes_halting l =
+      let e = ends_of ends (Resume names) l in
+      record {
+        safe = holds_by e Since (λ o h. since_form o h.store);
+        arrived = λ done. let d = done_by e done in arrives_done d.0 d.1.store;
+      }
+
+  still : TellsStill (IsJobCell task.input task.plan) old → (other : Task) → FindsTask files names other → TellsStill (IsJobCell other.input other.plan) old
+  still tells other so = subst (λ (t : Task). TellsStill (IsJobCell t.input t.plan) old) (one_task files names task other holds so) tells
+
+  pub starts_well : IsListed words (Move names) → StartsWell k task status
+  starts_well l tells ready fine quiet sound =
+      comes_exactly ends files (Move names) is l
+      (Done (done_text task.plan 0)) (lead (task_in names files) (move_rest old) task holds (Done (done_text task.plan 0)) (tt, λ are gate. ready, refl))
+      fine quiet (sound, still tells)
+
+  pub resumes_well : IsListed words (Resume names) → ResumesWell k task status
+  resumes_well l tells before fine quiet sound =
+      comes_exactly ends files (Resume names) is l
+      (Done (done_text task.plan found)) (lead (task_in names files) (resume_rest old) task holds (Done (done_text task.plan found)) (found, resumable, refl))
+      fine quiet (sound, still tells)
+    where
+      found : ℕ
+      found = count_of (length task.plan) old.reads
+
+      resumable : IsResumable task old found
+      resumable = record { most = count_most (length task.plan) old.reads; found = λ tells are. refl; ours = λ are gate armed. ours are armed before; ready = λ are idle gate. ready idle before }
+        where
+          ours : AreFlights (flights old) → is_armed old.reads ≡ true → IsReadyOnceLanded task old ⊎ ((is_armed old.reads ≡ true) × (old.reads Head ≡ Some task.digest))
+              → IfSome (old.reads Head) (λ kept. kept ≡ task.digest)
+          ours are armed (inl (image, landed, r)) = absurd (false≢true (sym r.idle ∙ ap is_one (journal_landed old image landed are Gate refl) ∙ armed))
+          ours are armed (inr (a, named)) = rw named refl
+
+          ready : is_armed old.reads ≡ false → IsReadyOnceLanded task old ⊎ ((is_armed old.reads ≡ true) × (old.reads Head ≡ Some task.digest)) → IsReadyOnceLanded task old
+          ready idle (inl r) = r
+          ready idle (inr (armed, named)) = absurd (false≢true (sym idle ∙ armed))
+
+  -- `halt`
+
+  module _ (layout : List ℕ) (l : IsListed words (Halt names layout)) where
+    -- Completeness
+
+    unrefused : AreFlights (flights old) → is_armed old.reads ≡ true → old.reads Head ≡ Some task.digest → (o : Outcome) → IsShown task.input old (IsStandRefusal task) o → ⊥
+    unrefused are armed named o h =
+        let same : h.image Head ≡ Some task.digest = journal_landed old h.image h.landed are Head refl ∙ named in
+        named_refused task h.image (ap is_one (journal_landed old h.image h.landed are Gate refl) ∙ armed)
+        (rw same refl) (rw same refl) h.fault h.shows
+
+    completes : AreFlights (flights old) → is_armed old.reads ≡ true → old.reads Head ≡ Some task.digest → (FolderFailed k → ⊥) → (SinkFailed k → ⊥) → (StoreFailed k → ⊥) → (status ≡ 0) ⊎ (status ≡ 7)
+    completes are armed named =
+        status_so ends files is (Halt names layout) l (λ o h. only_done (stands task old) (λ found text. text ≡ halted_text task.plan found)
+        (unrefused are armed named) o (follow (task_in names files) (task_in_exact names files) (halt_rest old) task holds o h))
+
+    -- The promise, by what is left
+
+    others_kept : ChangedOnly layout k.before.folder k.after.folder → IsSomeAnd k.after.folder.files (OthersStay layout files)
+    others_kept changed = told_at (λ f. IsSomeAnd k.after.folder.files (OthersStay layout f)) k.before.folder.files files is changed
+
+    quiet_end : IsQuiet old new → ChangedOnly layout k.before.folder k.after.folder → ((status ≡ 0) ⊎ (status ≡ 6) → ⊥) → HaltsWell k files task layout status
+    quiet_end q changed not = record {
+      rounds = count_of (length task.plan) old.reads;
+      found = record { most = count_most (length task.plan) old.reads; found = λ tells are. refl };
+      safe = λ contents tells may image left. inl (q.wrote image left);
+      again = λ contents tells images all. all_kept task contents old new q.kept all;
+      halted = λ done. absurd (not done);
+      settled = λ done. absurd (not done);
+      saved = λ done. absurd (not done);
+      first = inl q.wrote;
+      others = others_kept changed;
+      cells = λ image left. (image, q.wrote image left, same_none (IsHaltCell task.input task.plan) image);
+      ended = q.ended;
+      told = λ zero. absurd (not (inl zero));
+      halts = completes;
+      next = λ done. absurd (not done);
+    }
+
+    -- the plan was closed in part, or whole, where the command is done; and with status 0 its text was put
+    pub record Closes (t : Task) (rounds : ℕ) : Type 0 where
+      pub part : HaltsInPart t old new rounds
+      pub saves : SavesLayout t layout rounds k.before.folder k.after.folder
+      pub whole : (status ≡ 0) ⊎ (status ≡ 6) → HaltsAll t old new rounds
+      pub said : status ≡ 0 → Extends (halted_text t.plan rounds) k.before.sink k.after.sink
+
+    written_well : (rounds : ℕ) → Closes task rounds → HaltsWell k files task layout status
+    written_well rounds c =
+        let saved = told_at (λ f. IsSomeAnd k.after.folder.files (IsLayoutSaved task layout rounds f)) k.before.folder.files files is c.saves in
+        record {
+          rounds = rounds;
+          found = c.part.found;
+          safe = λ contents tells may image left. ⊎_elim (λ past. inl (law.only_now image past)) (λ safe. inr safe) ((c.part.safe contents tells may).since old.moment image (omega arith) left);
+          again = λ contents tells images all. inr (rounds, c.part.again contents tells (all_settle task contents old images all));
+          halted = λ done contents tells may. (c.whole done).halted contents tells may;
+          settled = λ done. (c.whole done).settled;
+          saved = λ done. saved;
+          first = inr saved;
+          others = others_kept (saved_only task layout rounds k.before.folder k.after.folder c.saves);
+          cells = λ image left. ⊎_elim (λ past. (image, law.only_now image past, same_none (IsHaltCell task.input task.plan) image))
+              (λ from. (from.0, from.1, same_wider (IsClosingCell task rounds) (IsHaltCell task.input task.plan) (closing_cell task rounds) from.0 image from.2))
+              (c.part.change.2.time.since old.moment image (omega arith) left);
+          ended = λ some. (c.part.change.0, c.part.change.1, c.part.change.2.events);
+          told = c.said;
+          halts = completes;
+          next = λ done contents tells may begun after. begins_well task rounds contents new.reads ((c.whole done).halted contents tells may) begun after;
+        }
+
+    -- The ends
+
+    written_end : (t : Task) → AreOfTask k.before.folder names t → (rounds : ℕ) → Closes t rounds → HaltsWell k files task layout status
+    written_end t are rounds c = written_well rounds (subst (λ (u : Task). Closes u rounds) (same t are) c)
+
+    unwritten_end : IsUnwritten old new → IsQuiet old new
+    unwritten_end = ⊎_elim (by_untouched old new law) (by_settles old new law)
+
+    neither : {n : ℕ} → status ≡ n → (n ≡ 0 → ⊥) → (n ≡ 6 → ⊥) → (status ≡ 0) ⊎ (status ≡ 6) → ⊥
+    neither at zero six (inl e) = zero (sym at ∙ e)
+    neither at zero six (inr e) = six (sym at ∙ e)
+
+    unchanged_end : IsQuiet old new → Untouched k.before.folder k.after.folder → ((status ≡ 0) ⊎ (status ≡ 6) → ⊥) → HaltsWell k files task layout status
+    unchanged_end q kept = quiet_end q (one_changed k.before.folder k.after.folder layout kept)
+
+    well_at : (o : Outcome) → status ≡ code o → IsOrNotPut (WorldEnds k (Halt names layout)) k.before.sink k.after.sink o → Says k.before.sink k.after.sink o → HaltsWell k files task layout status
+    well_at (Done text) at h says =
+        let s = h.store in
+        let said = λ (zero : status ≡ 0). subst (λ (t : List ℕ). Extends t k.before.sink k.after.sink) s.2.3 (says.done refl) in
+        written_end s.0 s.1 s.2.0 (record { part = s.2.1.part; saves = s.2.2; whole = λ done. s.2.1; said = said })
+    well_at (SinkFault text) at h says =
+        let s = h.1.store in
+        written_end s.0 s.1 s.2.0 (record { part = s.2.1.part; saves = s.2.2; whole = λ done. s.2.1; said = λ zero. absurd (omega (arith, at, zero)) })
+    well_at (StoreFault before) at h says = by h.store
+      where
+        not : (status ≡ 0) ⊎ (status ≡ 6) → ⊥
+        not = neither at (λ e. cc) (λ e. cc)
+
+        by : HaltLeaves k.before.folder k.after.folder old new names layout (StoreFault before) → HaltsWell k files task layout status
+        by (inl quiet) = quiet_end (by_lands old new law quiet.0) h.leaves not
+        by (inr w) = written_end w.0 w.1 w.2.0 (record { part = w.2.1; saves = w.2.2; whole = λ done. absurd (not done); said = λ zero. absurd (not (inl zero)) })
+    well_at FolderFault at h says = quiet_end (unwritten_end h.store) h.leaves (neither at (λ e. cc) (λ e. cc))
+    well_at Memory at h says = unchanged_end (unwritten_end h.store) h.leaves (neither at (λ e. cc) (λ e. cc))
+    well_at (Refusal refusal.NotStarted) at h says = unchanged_end (by_settles old new law h.store) h.leaves (neither at (λ e. cc) (λ e. cc))
+    well_at (Refusal (refusal.OtherPlan kept ours)) at h says = unchanged_end (by_settles old new law h.store) h.leaves (neither at (λ e. cc) (λ e. cc))
+    well_at (Refusal r) at h says =
+        let many = (refusal_between r).0 in
+        unchanged_end (by_untouched old new law h.store) h.leaves (neither at (λ e. omega (arith, e, many)) (λ e. omega (arith, e, many)))
+    well_at (Found f) at h says = unchanged_end (by_untouched old new law h.store) h.leaves (neither at (finding_apart f).0 (finding_apart f).1)
+    well_at o at h says = unchanged_end (by_untouched old new law h.store) h.leaves (neither at (λ e. omega (arith, e)) (λ e. omega (arith, e)))
+
+    pub halts_well : HaltsWell k files task layout status
+    halts_well = let e = ends_of ends (Halt names layout) l in well_at e.outcome e.is e.so e.says
