@@ -51,6 +51,22 @@ def items_of(name, group):
     return [(f"{name}-{it}", it, pairs.get(it, it)) for it in group.before]
 
 
+def states_of(name, group, rounds):
+    """The OSDs of a group after each of its rounds, from 0 on, in which the rule holds, and their exceptions. It holds in the last."""
+    late = []
+    for at in sorted({0, *rounds.values()}):
+        osds = [target if rounds.get(item, at + 1) <= at else source for item, source, target in items_of(name, group)]
+        pairs, why = exceptions(group, osds)
+        if why:
+            late.append(str(at))
+            broken = why
+            continue
+        if late:
+            note(f"placement group {name}: what round {' and '.join(late)} is to move goes in round {at}, since without that {broken}")
+        late = []
+        yield at, osds, pairs
+
+
 def read_groups(path, cleaned):
     """For each placement group the OSDs that CRUSH chooses, and those that it is on."""
     groups, lines = {}, read_text(path).split("\n")

@@ -17,6 +17,13 @@ def check_words(words_, what, places, named):
             fail(f"{what}: in '{word}' a shell would take a name with a blank for two: write \"$1\" there, and the place as a word of its own after it")
 
 
+def check_inside(words_, items):
+    """Refuses a copy command that would bring what stands inside a folder of a disk to the top of the other one."""
+    deep = next((it for it in items if "/" in it), None)
+    if deep and any(re.fullmatch(r"\{from\}/+\{item\}/*", word) for word in words_) and any(re.fullmatch(r"\{to\}/*", word) for word in words_):
+        fail(f"COMMAND would bring {deep} to the top of a disk, and not into its folder: write rsync -aR {{from}}/./{{item}} {{to}}/, or a command of a shell that makes the folder")
+
+
 def filled(words_, values):
     return [re.sub(r"\{(\w+)\}", lambda it: values[it[1]], word) for word in words_]
 

@@ -1,16 +1,18 @@
-"""Folders on mounted disks: what from-folders finds there, and what the names of a plan stand for."""
-import collections, hashlib, os, re, stat, unicodedata
+"""Folders on mounted disks: what from-folders finds there, and which items it makes of it."""
+import collections, os, stat, unicodedata
 from typing import NamedTuple
 from common import fail, note
-from plans import MOST_DISKS, NAME, read_rows
+from plans import MOST_DISKS
 
-HEADER = "kind,name,path,bytes"
+MOST_PARTS = 4096  # a folder in which more stands is not split
 
 
 class Item(NamedTuple):
-    """What stands at the top of a disk: its path, and the bytes of it. Wishes call it a volume, of which no part is kept apart from another."""
+    """What is moved as a whole: its path, its bytes, and the path of it inside its disk. Wishes call it a volume, of which no part is kept
+    apart from another."""
     volume: str
     bytes: int
+    inside: str
     movable: bool = True
     group: str = ""
     leg: str = ""
@@ -42,7 +44,7 @@ def read_disks(mounts, mounted):
 
 
 def weigh(top, disk, device, disks):
-    """The bytes that are in use at `top` and below it, each file counted once."""
+    """The bytes that are in use at `top` and below it, each file counted once; and which files there have several names."""
     total, seen, todo = 0, set(), [top]
     while todo:
         path = todo.pop()
@@ -51,11 +53,21 @@ def weigh(top, disk, device, disks):
         if stat.S_ISDIR(found.st_mode):
             node not in disks or fail(f"{disks[node]} is inside {disk}, as {path}")
             found.st_dev == device or fail(f"{path} is on another file system than {disk}; a copy of it would be no move")
-        if found.st_nlink == 1 or inner or node not in seen:
-            total += 512 * found.st_blocks
-            seen.update([node] * (found.st_nlink > 1))
+        elif found.st_nlink > 1:
+            total += 0 if node in seen else 512 * found.st_blocks
+            seen.add(node)
+            continue
+        total += 512 * found.st_blocks
         todo += inner
-    return total
+    return total, seen
+
+
+def odd(path):
+    """Why a path can be no item; empty where it can."""
+    if any(unicodedata.category(letter) in ("Cc", "Cs") for letter in os.path.basename(path)):
+        return f"{path!a} has a line break, another control character or a byte that is no UTF-8 in its name: rename it first"
+    kind = look_at(path)[0].st_mode
+    return "" if stat.S_ISDIR(kind) or stat.S_ISREG(kind) or stat.S_ISLNK(kind) else f"{path} is neither a folder, a file nor a link"
 
 
 def read_items(disk, device, disks):
@@ -67,56 +79,49 @@ def read_items(disk, device, disks):
             if os.access(path, os.R_OK) and os.listdir(path):
                 note(f"{path} is not empty, and stays")
             continue
-        if any(unicodedata.category(letter) in ("Cc", "Cs") for letter in name):
-            fail(f"{path!a} has a line break, another control character or a byte that is no UTF-8 in its name: rename it first")
-        kind = look_at(path)[0].st_mode
-        if not (stat.S_ISDIR(kind) or stat.S_ISREG(kind) or stat.S_ISLNK(kind)):
-            fail(f"{path} is neither a folder, a file nor a link")
-        items.append(Item(path, weigh(path, disk, device, disks)))
+        why = odd(path)
+        why and fail(why)
+        items.append(Item(path, weigh(path, disk, device, disks)[0], name))
     return items
 
 
-def short_names(paths):
-    """A name for each path. The last part of it, where that is a name for a plan and no other path has it. Else what of it can be
-    read, and digits that depend on it alone; on the whole path, where others have the same last part."""
-    last = {path: os.path.basename(os.path.abspath(path)) for path in paths}
-    counts = collections.Counter(last.values())
-    names = {path: it for path, it in last.items() if counts[it] == 1 and NAME.fullmatch(it) and it[0] != "-"}
-    taken = set(names.values())
-    for path, it in last.items():
-        if path not in names:
-            plain = "".join(letter for letter in unicodedata.normalize("NFKD", it) if not unicodedata.combining(letter))
-            plain = re.sub(r"[^A-Za-z0-9_.]+", "-", plain).strip("-") or "folder"
-            digits = hashlib.sha256((it if counts[it] == 1 else path).encode()).hexdigest()
-            tries = (f"{plain[:31 - width]}-{digits[:width]}" for width in range(6, 31))
-            taken.add(name := next(name for name in tries if name not in taken))
-            names[path] = name
-    return names
+def parts_of(item, disk, device, disks):
+    """What stands in a folder, as items; the folder itself where it is none, or cannot be split."""
+    if not stat.S_ISDIR(look_at(item.volume)[0].st_mode):
+        return [item]
+    paths, seen, parts = look_at(item.volume)[1], set(), []
+    why = f"it has {len(paths)} parts, more than {MOST_PARTS}" if len(paths) > MOST_PARTS else next(filter(None, map(odd, paths)), "")
+    for path in paths if not why else ():
+        bytes_, linked = weigh(path, disk, device, disks)
+        why = why or ("a file has names in several of its parts" if linked & seen else "")
+        seen |= linked
+        parts.append(Item(path, bytes_, f"{item.inside}/{os.path.basename(path)}"))
+    why and note(f"{item.volume} is not split: {why}")
+    return [item] if why else parts
 
 
-def check_targets(moves, paths):
-    """Refuses what would come to a disk that has, or gets, another of its name. `moves` has paths with the disks that they go to."""
-    there = dict(zip(paths, paths))
-    for path, disk in moves:
-        new = os.path.join(disk, os.path.basename(path))
-        if new in there:
-            fail(f"{path} and {there[new]} have one name, and {new} can only be one of them")
-        there[new] = path
+def in_units(items, unit, nodes):
+    """Splits folders of more than so many bytes into what stands in them, again and again. Those of one path on several disks count
+    together, so that a folder of which some parts went to another disk is split there too. `items` has those of each disk."""
+    whole = set()
+    while True:
+        bytes_ = collections.Counter()
+        for it in (it for those in items.values() for it in those):
+            bytes_[it.inside] += it.bytes
+        large = {inside for inside, count in bytes_.items() if count > unit} - whole
+        if not large:
+            return items
+        for (device, _), disk in nodes.items():
+            items[disk] = [part for it in items[disk] for part in (parts_of(it, disk, device, nodes) if it.inside in large else [it])]
+        whole |= large
 
 
-def names_of(plan, path):
-    """What the disks and the items of a plan stand for: themselves, or what a table of from-folders says, where there is one."""
-    shifts = plan.shifts()
-    if path is None:
-        return {name: name for it in shifts for name in (it.source, it.target)}, {it.item: it.item for it in shifts}
-    rows = [row for _, row in read_rows(path, HEADER)]
-    disks, paths = ({name: real for kind, name, real, _ in rows if kind == wanted} for wanted in ("disk", "item"))
-    if len(disks) + len(paths) != len(rows):
-        fail(f"{path} has a row that is neither of a disk nor of an item, or two rows for one name")
-    for it in shifts:
-        if it.item not in paths or it.source not in disks or it.target not in disks:
-            fail(f"{path} does not have {it.item}, {it.source} and {it.target}, so it is not of this plan")
-        if os.path.dirname(paths[it.item]) != disks[it.source] or os.path.basename(paths[it.item]) in ("", ".", ".."):
-            fail(f"{path} has {it.item} at {paths[it.item]}, which is not on {disks[it.source]}, from where the plan moves it: it was made for another plan")
-    check_targets([(paths[it.item], disks[it.target]) for it in shifts], paths.values())
-    return disks, {name: os.path.basename(real) for name, real in paths.items()}
+def check_bytes(going):
+    """An item that leaves makes no room before it is gone."""
+    coming = collections.Counter()
+    for it, disk in going:
+        coming[disk] += it.bytes
+    for disk, bytes_ in coming.items():
+        found = os.statvfs(disk)
+        free = found.f_bavail * found.f_frsize
+        bytes_ <= free or fail(f"there is no room on {disk}: {bytes_} bytes are to come to it, and {free} are free")

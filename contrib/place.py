@@ -1,6 +1,15 @@
 """The place of run-plan: the file that keeps what ended well, and what is seen where there is no such file."""
 import fcntl, os
+from clock import Times
 from common import fail
+
+
+def counted(lines):
+    """What ended well by these lines. One that begins with 'not' takes an earlier one back."""
+    done = set()
+    for line in lines:
+        done.discard(line[4:]) if line.startswith(b"not ") else done.add(line)
+    return done
 
 
 class Place:
@@ -22,14 +31,9 @@ class Place:
         head = b"plan " + plan.digest.hex().encode()
         if lines[:1] not in ([], [head]):
             fail(f"{path} keeps the place of another plan; carry that one out, or name another file by --place")
-        self.done = set()
-        for line in lines:
-            self.count(line)
+        self.done = counted(lines)
+        self.times = Times(f"{path}.times", not lines)
         lines or self.add(head.decode())
-
-    def count(self, line):
-        """A line that begins with 'not' takes an earlier one back."""
-        self.done.discard(line[4:]) if line.startswith(b"not ") else self.done.add(line)
 
     def add(self, *lines):
         try:
@@ -39,7 +43,7 @@ class Place:
         except OSError as error:
             fail(f"the place cannot be kept: {error.strerror}")
         for line in lines:
-            self.count(line.encode())
+            self.done.discard(line.encode()[4:]) if line.startswith("not ") else self.done.add(line.encode())
 
     def has(self, *lines):
         return any(line.encode() in self.done for line in lines)

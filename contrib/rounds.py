@@ -1,6 +1,7 @@
 """How run-plan runs commands side by side, and what of them counts."""
-import collections, ctypes, os, shlex, signal
+import collections, ctypes, os, shlex, signal, time
 from typing import NamedTuple
+from clock import Clock
 from common import fail, note
 
 LIBC = ctypes.CDLL(None, use_errno=True)
@@ -21,11 +22,11 @@ def spawn(words):
 
 class Runner:
     """Runs commands side by side, at most so many, and waits for each that it began. More begin as long as `status` is 0. Where one
-    fails, those that were handed over with it begin all the same, unless `is_strict`."""
+    fails, those that were handed over with it begin all the same, unless `is_strict`: then no copy begins either while `clock` holds."""
 
     def __init__(self, most, guards, is_strict=False):
         self.most, self.guards, self.is_strict, self.place, self.status = most, guards, is_strict, None, 0
-        self.handles, self.broken = {}, set()
+        self.handles, self.broken, self.clock = {}, set(), Clock()
         signal.signal(signal.SIGINT, self.stop)
         signal.signal(signal.SIGTERM, self.stop)
 
@@ -55,14 +56,26 @@ class Runner:
                 return False
         return True
 
+    def may_begin(self, waiting):
+        """The first of these jobs that may begin now. While the clock holds no copy does, but what was copied is carried on."""
+        holds = self.is_strict and self.clock.holds()
+        return next((it for it in waiting if not holds or it.kind != "copied"), None)
+
     def run(self, jobs, then=lambda kept: []):
         """Runs these jobs, and those that `then` answers to some that ended well; keeps which end well. Answers whether all do."""
         waiting, running, fresh, left = collections.deque(jobs), {}, [], len(jobs)
         while waiting and not self.status or running:
             if waiting and not self.status and len(running) < self.most:
-                if self.guarded(*waiting[0].disks):
-                    self.begin(waiting.popleft(), running)
-                continue
+                if job := self.may_begin(waiting):
+                    if self.guarded(*job.disks):
+                        waiting.remove(job)
+                        self.begin(job, running)
+                    continue
+                if not running and self.clock.is_over():
+                    break
+                if not (running and os.waitid(os.P_ALL, 0, os.WEXITED | os.WNOHANG | os.WNOWAIT)):
+                    time.sleep(0.2)
+                    continue
             pid, status = os.wait()
             job = running.pop(pid, None)  # none of these where whoever began run-plan had begun it
             if job and self.ends_well(job, os.waitstatus_to_exitcode(status)):
@@ -83,6 +96,8 @@ class Runner:
     def begin(self, job, running):
         if job.kind == "erased":
             self.place.add(f"erasing {job.line}")
+        if job.kind == "copied":
+            self.place.times.tell(f"copying {job.line}")
         try:
             running[spawn(job.words)] = job
         except OSError as error:
@@ -107,6 +122,7 @@ class Runner:
         lines = [f"{it.kind} {it.line}" for it in kept if it.kind != "verified"]
         if lines:
             self.place.add(*lines)
+            self.place.times.tell(*lines)
         return kept
 
     def reached(self, disk):

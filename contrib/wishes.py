@@ -1,13 +1,11 @@
 """What from-lvm and from-folders do with wishes: the next device of each item."""
 import collections, heapq
+from balance import Refused
 from pvmoves import meeting
 
 # `moves` gives volumes their device; nothing is to stay on the devices of `empty`, and nothing can come to those of `closed`.
-Wishes = collections.namedtuple("Wishes", "moves empty spread closed")
-
-
-class Refused(Exception):
-    """A wish that cannot be carried out, at least with this unit."""
+# `balance`, where there is one, says to which part each device is to be filled.
+Wishes = collections.namedtuple("Wishes", "moves empty spread closed balance", defaults=[None])
 
 
 def who(pieces):
@@ -99,10 +97,30 @@ def check(items, next_, slots):
         raise Refused(f"{who(pieces)}, and {found[3]} has or gets another leg or stripe of it, which LVM keeps apart")
 
 
+def keeps_apart(items, next_):
+    """Says whether an item may go to a device: where no other leg or stripe of what it has is, or is to be."""
+    legs = collections.defaultdict(set)
+    for at, pieces in items.items():
+        for it in (it for it in pieces if it.group):
+            for device in {at[0], next_.get(at, at[0])}:
+                legs[it.group, device].add(it.leg)
+
+    def may(at, device, more):
+        parts = {(it.group, it.leg) for it in items[at] if it.group}
+        return all(legs[group, device] <= {leg} for group, leg in parts) and not any(
+            to == device and it.group == group and it.leg != leg for group, leg in parts for other, to in more.items() for it in items[other])
+
+    return may
+
+
 def carry_out(items, slots, wishes):
     """The next device of each item."""
     next_, loose = heed(items, wishes)
     open_ = [it for it in slots if it not in wishes.empty | wishes.closed]
+    if wishes.balance:
+        wishes.balance.carry_out(items, next_, loose, open_, slots, keeps_apart(items, next_))
+        check(items, next_, slots)
+        return next_
     quota = {**dict.fromkeys(open_, 0), **shares(len(loose), next_, slots, open_)}
     deal_legs([at for at in loose if any(it.group for it in items[at])], quota, items, next_, slots)
     loose = [at for at in loose if at not in next_]

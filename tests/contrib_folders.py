@@ -1,6 +1,7 @@
 """What from-folders finds, and how run-plan carries a plan out: side by side, killed, with disks that go away and copies that are wrong;
 over folders, and over real file systems where this is root and there are loop devices."""
 import collections, os, random, shutil, signal, subprocess, time
+from clocked import PATIENCE, until
 from rooms import Count, Room, refused, rows_of, shifts_of
 
 MOUNT = """
@@ -29,10 +30,8 @@ def wanted_of(room):
 
 
 def wait_for(room, name):
-    """Waits until the file is there, a minute at most."""
-    end = time.time() + 60
-    while not os.path.exists(room.path(name)) and time.time() < end:
-        time.sleep(0.02)
+    """Waits until the file is there."""
+    until(lambda: os.path.exists(room.path(name)), name)
 
 
 # The runner
@@ -83,7 +82,7 @@ def side_by_side():
         room.write("job", "#!/bin/sh\necho begin $1 >>log\n[ -z \"$3\" ] || sleep 0.5\n"
                           "until [ -n \"$3\" ] || [ $(grep -c \"^begin $1\" log) -ge $(cat count$1) ]; do sleep 0.1; done\necho end $1 >>log\n")
         for jobs, most in (("", None), ("--jobs 2", 2)):
-            room.good("run-plan", f"rm -f log plan.txt.place; timeout 120 contrib/run-plan {jobs} plan.txt sh job {{round}} {{item}} '{most or ''}'")
+            room.good("run-plan", f"rm -f log plan.txt.place; timeout 600 contrib/run-plan {jobs} plan.txt sh job {{round}} {{item}} '{most or ''}'")
             rounds, at, most_at_once, order = shifts_of(room.read("plan.txt")), 0, 0, []
             for line in room.read("log").splitlines():
                 at += 1 if line.startswith("begin") else -1
@@ -96,29 +95,31 @@ def side_by_side():
 def killed_or_stopped():
     with Room() as room:  # killed in the middle, while a command runs on
         room.good("run-plan", MOUNT)
-        room.write("job", "#!/bin/sh\ncp -a mnt/$1/$2 mnt/$3/ && touch begun && sleep 2\n")
+        room.write("job", "#!/bin/sh\ncp -a mnt/$1/$2 mnt/$3/ && touch begun && until [ -e go ]; do sleep 0.1; done\n")
         begun = subprocess.Popen(["contrib/run-plan", "plan.txt", "sh", "job", "{from}", "{item}", "{to}"], cwd=room.at, env=room.env,
                                  stdout=subprocess.DEVNULL, stderr=subprocess.DEVNULL, start_new_session=True)
         wait_for(room, "begun")
         begun.kill()
         begun.wait()
         ran = room.run(f"contrib/run-plan plan.txt {COPY}")
-        end = time.time() + 60
         Count.that("no second one beside a command of the first", ran.returncode == 1 and "still at work with plan.txt.place" in ran.stderr, ran)
-        while room.run(f"contrib/run-plan {ERASE} plan.txt {COPY}").returncode and time.time() < end:
-            time.sleep(0.3)
+        room.write("go", "")
+        until(lambda: room.run(f"contrib/run-plan {ERASE} plan.txt {COPY}").returncode == 0, "the commands of the first to end")
         Count.same("killed and begun again, all is where it is to be", tree(room), wanted_of(room))
         place = room.read("plan.txt.place")
         room.write("plan.txt.place", place[: place.rindex("\n", 0, len(place) - 1) + 4])
         room.good("run-plan", f"contrib/run-plan {ERASE} plan.txt true {{item}}")
         Count.same("a line that was cut off is written again", set(room.read("plan.txt.place").splitlines()), set(place.splitlines()))
-    with Room() as room:  # stopped by a signal
+    with Room() as room, open(room.path("notes"), "wb") as notes:  # stopped by a signal
         room.good("run-plan", MOUNT)
-        begun = subprocess.Popen(["contrib/run-plan", "--jobs", "1", "plan.txt", "sh", "-c", "touch begun; sleep 2 # {item}"], cwd=room.at, env=room.env,
-                                 stdout=subprocess.DEVNULL, stderr=subprocess.PIPE, text=True, start_new_session=True)
+        begun = subprocess.Popen(["contrib/run-plan", "--jobs", "1", "plan.txt", "sh", "-c", "touch begun; until [ -e go ]; do sleep 0.1; done # {item}"], cwd=room.at, env=room.env,
+                                 stdout=subprocess.DEVNULL, stderr=notes, start_new_session=True)
         wait_for(room, "begun")
         begun.send_signal(signal.SIGTERM)
-        said = begun.communicate(timeout=20)[1]
+        until(lambda: "waiting for the transfers that run" in room.read("notes"), "the signal to come")
+        room.write("go", "")
+        begun.wait(PATIENCE)
+        said = room.read("notes")
         Count.that("stopped by a signal", begun.returncode == 130 and "waiting for the transfers that run" in said and "begin again" in said, (begun.returncode, said))
         Count.same("what ran is kept", len(room.read("plan.txt.place").splitlines()), 2)
 
@@ -241,7 +242,7 @@ def killed_at_random(count=15):
             lost = set(wanted) - set(whole(room))
             if not Count.that(f"nothing is lost after kill {at + 1}", not lost, (lost, counts)):
                 return
-        end, ran = time.time() + 60, None
+        end, ran = time.time() + PATIENCE, None
         while (ran is None or "still at work" in ran.stderr) and time.time() < end:
             ran = subprocess.run(words, cwd=room.at, env=room.env, capture_output=True, text=True, check=False)
         Count.that("it ends well after all kills", ran.returncode == 0, (ran, counts))
@@ -405,4 +406,79 @@ def try_real_folders(room, loops):
     Count.that("real disks, one loses what is written to it", ran.returncode == 1 and "what was written to disk thin did not reach it" in ran.stderr and stand("b") == start, ran)
 
 
-CASES = (the_runner, side_by_side, killed_or_stopped, a_disk_goes_away, a_copy_is_wrong, killed_at_random, the_place_is_lost, the_folders, real_folders)
+# Folders in units
+
+TREE = """mkdir -p mnt/a/media/films/x mnt/a/media/films/y mnt/a/media/music mnt/a/small mnt/b/media/clips mnt/b/odd mnt/c/media
+for it in a/media/films/x:80 a/media/films/y:84 a/media/music:60 a/small:20 b/media/clips:40 b/odd:12; do
+    yes $it | head -c ${it#*:}000 >mnt/${it%:*}/data; done
+echo note >mnt/a/media/note; ln -s note mnt/a/media/link"""
+INSIDE = """sh -c 'cd "$1" && cp -a --parents "./$2" "$3"/' sh {from} {item} {to}"""
+UNITS = "--verify 'diff -r --no-dereference {from}/{item} {to}/{item}' --erase 'rm -rf {from}/{item}' --names names.csv"
+
+
+def told_of(room):
+    """The path inside its disk of each item of names.csv; the disk that each is on by now.csv."""
+    rows, top = rows_of(room.read("names.csv")), f"{room.at}/mnt/"
+    return {row[1]: row[2].removeprefix(top).partition("/")[2] for row in rows if row[0] == "item"}, {it: disk for it, disk, _ in rows_of(room.read("now.csv"))}
+
+
+def files_below(room):
+    """The bytes of each file below the disks, and the disks that have it."""
+    found = collections.defaultdict(set)
+    for folder, _, names in os.walk(room.path("mnt")):
+        for it in names:
+            _, disk, *inside = os.path.relpath(f"{folder}/{it}", room.at).split("/")
+            data = os.readlink(f"{folder}/{it}") if os.path.islink(f"{folder}/{it}") else room.read(os.path.relpath(f"{folder}/{it}", room.at))
+            found["/".join(inside), data].add(disk)
+    return found
+
+
+def units_of_folders():
+    with Room() as room:
+        room.good("units", TREE)
+        words = 'contrib/from-folders "$PWD"/mnt/* --unit 100K'
+        ran = room.run(f"{words} --empty a")
+        paths, now = told_of(room)
+        Count.that("the folders that are split", ran.returncode == 0 and {(now[it], path) for it, path in paths.items()} == {("a", it) for it in ("media/films/x", "media/films/y", "media/music", "media/note", "media/link", "small")}
+                   | {("b", "media/clips"), ("b", "odd")}, (ran, paths))
+        last, before = room.planned("units"), files_below(room)
+        Count.that("nothing stays on a", {disk for disk, _ in last.values()} == {"b", "c"}, last)
+        refused(room, "a copy to the top", "contrib/run-plan --names names.csv plan.txt cp -a {from}/{item} {to}/", "to the top of a disk, and not into its folder")
+        refused(room, "another one", "contrib/run-plan --names names.csv plan.txt cp -rp {from}/{item} {to}", "to the top of a disk, and not into its folder")
+        room.good("units", f"contrib/run-plan {UNITS} plan.txt {INSIDE}")
+        Count.same("each file is where it is to be", files_below(room), {(inside, data): {last[next(it for it, path in paths.items() if f"{inside}/".startswith(f"{path}/"))][0]} for inside, data in before})
+        room.good("units", f"find mnt/a -mindepth 1 -type d -empty -delete; {words}")
+        Count.same("the same items are found there", told_of(room), (paths, {it: disk for it, (disk, _) in last.items()}))
+        Count.same("other words for the disks", room.good("units", "mkdir again && cd again && ../contrib/from-folders ../mnt/* --unit 100K && cut -d, -f1 now.csv | sort | cmp - <(cut -d, -f1 ../now.csv | sort)"), "")
+    with Room() as room:
+        room.good("units", TREE)
+        for words, said in (("--move media=c", "there are several items media"), ("--move mnt/a/media=c --move mnt/a/media/music=b", "--move is given twice for mnt/a/media/music"), ("--move mnt/a/media=c --empty c", "which is to be emptied"),
+                            ("--move films/x=c", "there is no item films/x"), ("--unit 0", "invalid amount value")):
+            refused(room, words, f"contrib/from-folders mnt/* --unit 100K {words}", said, 2 if "--unit" in words else 1)
+        room.good("units", "contrib/from-folders mnt/* --unit 100K --move mnt/a/media=c")
+        next_, (paths, _) = dict(rows_of(room.read("next.csv"))), told_of(room)
+        names = {row[1]: row[2] for row in rows_of(room.read("names.csv")) if row[0] == "item"}
+        Count.same("--move of a folder that is split", {it: disk for it, disk in next_.items() if names[it].startswith("mnt/a/media/")}, {it: "c" for it in names if names[it].startswith("mnt/a/media/")})
+        for make, words, said in (("mkdir mnt/a/media/clips", "--move mnt/a/media/clips=b", "mnt/a/media/clips and mnt/b/media/clips have one name, and mnt/b/media/clips can only be one of them"),
+                                  ("rmdir mnt/a/media/clips mnt/c/media && echo >mnt/c/media", "--move music=c", "mnt/a/media/music would come into mnt/c/media, which is an item of its own there"),
+                                  ("ln mnt/b/media/clips/data mnt/b/media/same", "--move mnt/b/media=a", "mnt/b/media would come to mnt/a/media, where mnt/a/media/")):
+            room.good("units", make)
+            refused(room, words, f"contrib/from-folders mnt/* --unit 100K {words}", said)
+        ran = room.run("contrib/from-folders mnt/* --unit 100K")
+        Count.that("hard links keep a folder whole", ran.returncode == 0 and "mnt/b/media is not split: a file has names in several of its parts" in ran.stderr, ran)
+        # what can be no item keeps the folder whole that has it
+        room.good("units", "rm mnt/b/media/same; mkfifo mnt/a/media/films/pipe; mkdir mnt/a/media/many; cd mnt/a/media/many; seq 4097 | xargs touch; head -c 200000 /dev/zero >0")
+        ran = room.run("contrib/from-folders mnt/* --unit 100K")
+        Count.that("a pipe does so", ran.returncode == 0 and "mnt/a/media/films is not split: mnt/a/media/films/pipe is neither a folder, a file nor a link" in ran.stderr, ran)
+        Count.that("many parts do so", "mnt/a/media/many is not split: it has 4098 parts, more than 4096" in ran.stderr, ran)
+        room.good("units", "contrib/from-folders mnt/*")
+        Count.same("without --unit nothing is split", {row[2] for row in rows_of(room.read("names.csv")) if row[0] == "item"}, {"mnt/a/media", "mnt/a/small", "mnt/b/media", "mnt/b/odd", "mnt/c/media"})
+    with Room() as room:
+        room.good("units", "mkdir -p mnt/a/all mnt/b; for it in 1 2 3 4 5 6 7 8; do mkdir mnt/a/all/$it; head -c 60000 /dev/zero >mnt/a/all/$it/data; done")
+        refused(room, "one folder", "contrib/from-folders mnt/* --balance 10 --size 1M", "not each disk can be filled to the same part")
+        room.good("units", "contrib/from-folders mnt/* --balance 10 --size 1M --unit 100K")
+        Count.same("as few of its parts as can be", collections.Counter(disk for _, disk in rows_of(room.read("next.csv"))), {"a": 5, "b": 3})
+        room.planned("units")
+
+
+CASES = (the_runner, side_by_side, killed_or_stopped, a_disk_goes_away, a_copy_is_wrong, killed_at_random, the_place_is_lost, the_folders, units_of_folders, real_folders)

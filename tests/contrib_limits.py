@@ -3,6 +3,7 @@ planned, what summary and picture say, and how run-plan --eager begins transfers
 counted by limits_model.py."""
 import collections, itertools, os, random, re, time
 import xml.etree.ElementTree as xml
+from clocked import PATIENCE, START, carried_out
 from contrib_folders import COPY, ERASE, GUARD, MOUNT, VERIFY, tree, wanted_of
 from limits_model import Case, plan_text
 from rooms import Count, Room, refused, rows_of, shifts_of
@@ -184,6 +185,8 @@ def watch(room, name, case, shifts, kinds):
 
 # writes when it begins and ends; waits as long as its third word says
 JOB = "#!/bin/sh\necho begin $1 $2 >>log\nsleep $3\necho end $1 $2 >>log\n"
+# does so too, and ends once this line is in the log, within ten minutes
+AFTER = "#!/bin/sh\necho begin $1 $2 >>log\nat=0\nwhile [ -n \"$3\" ] && ! grep -qx \"$3\" log && [ $at -lt 6000 ]; do sleep 0.1; at=$((at + 1)); done\necho end $1 $2 >>log\n"
 EAGER = "--verify 'sh job verify {item} 0' --erase 'sh job erase {item} 0'"
 
 
@@ -212,13 +215,15 @@ def eager_limits():
 def no_barrier():
     """One long transfer holds up nobody but what needs its disks; and by split limits two disks exchange items at once."""
     with Room() as room:
-        room.write("job", JOB)
+        room.write("job", AFTER)
         chain = [[["long", "a", "0", "b", "0"], ["s1", "c", "0", "d", "0"]], [["s2", "c", "1", "d", "1"]], [["s3", "c", "2", "d", "2"], ["after", "b", "1", "c", "3"]]]
         room.write("plan.txt", plan_text(chain))
         for header, back in (("disk,limit,slots\n", False), (SPLIT, True)):
             limits = "1,1" if back else "1"
             room.write("disks.csv", header + "".join(f"{it},{limits},9\n" for it in "abcd"))
-            room.good("no barrier", "rm -f log plan.txt.place; contrib/run-plan --eager disks.csv plan.txt sh -c '[ $1 = long ] && t=1 || t=0.1; sh job copy $1 $t' sh {item}")
+            waits = "case $1 in long) for='end copy s3' ;; s3) for='begin copy after' ;; esac" if back else "[ $1 = long ] && for='end copy s3'"
+            room.write("waits", f"for=''\n{waits}\nsh job copy $1 \"$for\"\n")
+            room.good("no barrier", "rm -f log plan.txt.place; contrib/run-plan --eager disks.csv plan.txt sh waits {item}")
             order = [(what, item) for what, _, item in events_of(room)]
             at = order.index(("end", "long"))
             Count.that(f"what needs other disks goes on, {limits}", all(order.index(("end", it)) < at for it in ("s1", "s2", "s3")), order)
@@ -227,8 +232,9 @@ def no_barrier():
         # a slot that is left first, and an item that moves twice: each waits, though its disks have places free
         room.write("disks.csv", SPLIT + "".join(f"{it},5,5,9\n" for it in "abc"))
         room.write("plan.txt", plan_text([[["x", "a", "0", "b", "0"], ["free", "c", "0", "b", "1"]], [["y", "b", "3", "a", "0"], ["x", "b", "0", "c", "0"]], [["z", "c", "2", "b", "0"]]]))
-        slow = "sh -c '[ $1 = free ] && t=1 || t=0.1; sh job copy $1-$2 $t' sh {item} {round}"
-        room.good("no barrier", f"rm -f log plan.txt.place; contrib/run-plan --eager disks.csv --erase 'sh job erase {{item}}-{{round}} 0.1' plan.txt {slow}")
+        room.write("waits", "for=''\ncase $1-$2 in x-1) for='begin copy free-1' ;; free-1) for='end copy y-2' ;; esac\nsh job copy $1-$2 \"$for\"\n")
+        words = "--eager disks.csv --erase 'sh job erase {item}-{round}' plan.txt sh waits {item} {round}"
+        room.good("no barrier", f"rm -f log plan.txt.place; contrib/run-plan {words}")
         order = [(what, kind, item) for what, kind, item in events_of(room)]
         for one, other in (("x-1", "y-2"), ("x-1", "x-2"), ("free-1", "x-2"), ("x-2", "z-3")):
             Count.that(f"{other} waits for {one}", order.index(("begin", "copy", other)) > order.index(("end", "erase", one)), order)
@@ -236,12 +242,13 @@ def no_barrier():
         # begun again where the first round is done: what needed it begins
         lines = room.read("plan.txt.place").splitlines(True)
         room.write("plan.txt.place", "".join(it for it in lines if it.split()[0] == "plan" or it.split()[1] == "1"))
-        printed = room.good("no barrier", f"contrib/run-plan --eager disks.csv --erase 'sh job erase {{item}}-{{round}} 0.1' plan.txt {slow}")
+        printed = room.good("no barrier", f"contrib/run-plan {words}")
         Count.that("it goes on after the first round", printed.startswith("3 of 5 transfers are done\n") and printed.endswith("all 3 rounds are carried out\n"), printed)
         # s is free, and the first that waits for it finds t1 in use: the next one begins
         room.write("disks.csv", "disk,limit,slots\n" + "".join(f"{it},1,9\n" for it in ("s", "t1", "t2", "t3", "x")))
         room.write("plan.txt", plan_text([[["long", "x", "0", "t1", "0"], ["first", "s", "0", "t3", "0"]], [["held", "s", "1", "t1", "1"]], [["next", "s", "2", "t2", "0"]]]))
-        room.good("no barrier", "rm -f log plan.txt.place; contrib/run-plan --eager disks.csv plan.txt sh -c '[ $1 = long ] && t=1 || t=0.1; sh job copy $1 $t' sh {item}")
+        room.write("waits", "for=''\n[ $1 = long ] && for='begin copy next'\nsh job copy $1 \"$for\"\n")
+        room.good("no barrier", "rm -f log plan.txt.place; contrib/run-plan --eager disks.csv plan.txt sh waits {item}")
         order = [(what, item) for what, _, item in events_of(room)]
         Count.that("the next one begins", order.index(("begin", "next")) < order.index(("end", "long")) < order.index(("begin", "held")), order)
 
@@ -287,25 +294,24 @@ def eager_stops():
             room.run(f"timeout -s KILL {0.15 + rnd.random() / 4:.2f} contrib/run-plan {words}")
             whole = {it for disk in os.listdir(room.path("mnt")) for it in os.listdir(room.path(f"mnt/{disk}")) if it != ".here" and room.read(f"mnt/{disk}/{it}/data") == f"{it}\n"}
             Count.same(f"nothing is lost after kill {at + 1}", set(wanted) - whole, set())
-        end, ran = time.time() + 60, None
+        end, ran = time.time() + PATIENCE, None
         while (ran is None or "still at work" in ran.stderr) and time.time() < end:
             ran = room.run(f"contrib/run-plan {words}")
         Count.that("it ends well after all kills", ran.returncode == 0 and tree(room) == wanted, ran)
 
 
 def eager_gains():
-    """Rounds of unequal transfers: with a barrier each round takes as long as its longest one, and without as long as the busiest disk."""
+    """Rounds of unequal transfers: with a barrier each round takes as long as its longest one, and without as long as the busiest disk. A
+    clock of the test says when they end."""
     with Room() as room:
         room.write("plan.txt", plan_text([[[f"i{at}.{disk}", f"s{disk}", str(at), f"t{disk}", str(at)] for disk in range(2)] for at in range(2)]))
         room.write("disks.csv", SPLIT + "".join(f"{side}{disk},1,1,9\n" for side, disk in itertools.product("st", range(2))))
-        room.write("job", "#!/bin/sh\ncase $1 in i0.0 | i1.1) sleep 1;; *) sleep 0.1;; esac\n")
-        took = {}
-        for eager in ("", "--eager disks.csv"):
-            begun = time.monotonic()
-            room.good("gains", f"rm -f plan.txt.place; contrib/run-plan {eager} plan.txt sh job {{item}}")
-            took[eager] = time.monotonic() - begun
-        Count.that("two rounds with a long transfer each take two seconds", took[""] > 2, took)
-        Count.that("and less without a barrier", took["--eager disks.csv"] < took[""], took)
+        for options, spans in (("", {"i0.0": (0, 10), "i0.1": (0, 1), "i1.0": (10, 11), "i1.1": (10, 20)}),
+                               ("--eager disks.csv", {"i0.0": (0, 10), "i0.1": (0, 1), "i1.0": (10, 11), "i1.1": (1, 11)})):
+            room.good("gains", "rm -f plan.txt.place*")
+            status = carried_out(room, options, spans)
+            last = room.read("plan.txt.place.times").splitlines()[-1]
+            Count.same(f"how long it takes, {options or 'rounds'}", (status, last), (0, f"{START + max(end for _, end in spans.values()):.3f} ends"))
 
 
 CASES = (split_ceph, split_lvm, split_folders, split_summary, split_pictures, refusals_of_limits, eager_limits, no_barrier, eager_stops, eager_gains)

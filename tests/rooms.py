@@ -6,7 +6,7 @@ from limits_model import Case, misses, shifts_of
 
 TOP = os.path.dirname(os.path.dirname(os.path.realpath(__file__)))
 SAMPLES = f"{TOP}/contrib/samples"
-SCRIPTS = ["from-lvm", "to-lvm", "from-ceph", "to-ceph", "from-folders", "run-plan", "picture", "summary", "progress"]
+SCRIPTS = ["from-lvm", "to-lvm", "from-ceph", "to-ceph", "from-folders", "run-plan", "picture", "report", "summary", "witness", "progress"]
 STAND_INS = ["lvs", "pvs", "pvmove", "osdmaptool", "crushtool", "ceph"]
 FILES = ["disks.csv", "now.csv", "next.csv"]
 PROGRAM = os.path.realpath(sys.argv[1] if len(sys.argv) > 1 else f"{TOP}/crates/migrate/out/migrate")
@@ -95,7 +95,7 @@ class Room:
     def run(self, command):
         """Runs a command of a shell."""
         return subprocess.run(["bash", "-c", command], cwd=self.at, env=self.env, stdin=subprocess.DEVNULL, capture_output=True, text=True,
-                              errors="replace", timeout=300, check=False)
+                              errors="replace", timeout=900, check=False)
 
     def good(self, name, command):
         """Runs a command that has to succeed, and gives what it printed."""

@@ -14,6 +14,8 @@ NO_FORMS = [
     ["plan", *FILES, "a.disk", "cert.txt"], ["plan", *FILES, "plan.txt", "a.mig"], ["check", "a.mig", *CHECK[2:]],
     ["plan", *FILES, "same", "same"], ["plan", *FILES, "now.csv", "cert.txt"], ["plan", *FILES, "plan.txt", "next.csv"],
     HALT[:5], [*HALT, "more"], *([*HALT[:5], layout] for layout in (*FILES, "plan.txt", "a.disk", "a.mig", "", LONG)),
+    ["plan-tight", *FILES], *(["plan-tight", *FILES, plan] for plan in (*FILES, "a.disk", "a.mig", "", LONG)), ["plan-tight", *FILES, "plan.txt", "cert.txt"],
+    ["check-tight", *CHECK[1:]], ["drill-tight", *AFTER[1:]], ["after-tight", *AFTER[1:4]], ["halt-tight", *HALT[1:5], "now.csv"],
     *(["rehearse", *numbers.split()] for numbers in NO_NUMBERS),
 ]
 # words, and what the reason has, which is the first line of standard error
@@ -40,6 +42,10 @@ FIRST_LINES = [
     (["plan", *FILES, "same", "same"], "`same` is the word for PLAN and for CERT, and PLAN is saved: the two must differ"),
     (["plan", *FILES, "p", "next.csv"], "`next.csv` is the word for CERT and for NEXT, and CERT is saved"),
     ([*HALT[:5], "now.csv"], "`now.csv` is the word for LAYOUT and for NOW, and LAYOUT is saved"),
+    (["halt-tight", *HALT[1:5], "plan.txt"], "`plan.txt` is the word for LAYOUT and for PLAN, and LAYOUT is saved"),
+    (["plan-tight", *FILES, "now.csv"], "`now.csv` is the word for PLAN and for NOW, and PLAN is saved"),
+    (["plan-tihgt", *FILES, "p"], "`plan-tihgt` is no command; is it `plan-tight`?"),
+    (["move-tight", *FILES], "`move-tight` is followed by 4 words, and here by 3: PLAN is missing"),
     (["rehearse", "1", "1", "1"], "N is 1, and must be 2 to 1024"),
     (["rehearse", "2", "1", "0"], "LIMIT is 0, and must be 1 to 1024"),
     (["rehearse", "+2", "1", "1"], "N is `+2`, and must be 1 to 10 digits"),
@@ -50,13 +56,13 @@ FIRST_LINES = [
 
 def says_forms(ran, forms):
     """Standard error has a line for each form, and no other command's."""
-    said = re.findall(r"^  migrate ([a-z]+(?: [A-Z]+)+)  ", ran.err.decode(errors="replace"), re.M)
+    said = re.findall(r"^  migrate ([a-z-]+(?: [A-Z]+)+)  ", ran.err.decode(errors="replace"), re.M)
     return said == forms
 
 
 def no_forms(program):
     """Status 2, in an empty folder and beside the three files. Nothing is loaded, so no missing file is told; nothing is saved."""
-    forms = re.findall(r"^    ([a-z]+(?: [A-Z]+)+)$", page("docs/FORMATS.md"), re.M)
+    forms = re.findall(r"^    ([a-z-]+(?: [A-Z]+)+)$", page("docs/FORMATS.md"), re.M)
     for files in ([], DISKS):
         with Room(program) as room:
             put(room, files)
@@ -64,7 +70,7 @@ def no_forms(program):
             for case in NO_FORMS:
                 ran = room.run(*case)
                 Count.ended(f"words {case}", ran, 2, "words not understood\n")
-                Count.that(f"words {case}: the forms are said", len(forms) == 10 and says_forms(ran, forms), ran)
+                Count.that(f"words {case}: the forms are said", len(forms) == 15 and says_forms(ran, forms), ran)
             ran = room.run(*PLAN[:5], b"\xff")
             Count.ended("a word that is not UTF-8", ran, 2, "")
             Count.same("wrong words change no file", room.files(), before)

@@ -1,5 +1,5 @@
 -- Candidates for the bound, by the kind of the limits.
-use Rattle.mig_base.proofs.Common.{Bool, Candidate, IsCandidate, IsCandidateOf, IsJointCandidate, Transfers, false, is_duplex, subst, sym, true, ◌≡◌}
+use Rattle.mig_base.proofs.Common.{Candidate, IsCandidate, IsCandidateOf, IsJointCandidate, Transfers, false, is_duplex, subst, sym, ◌≡◌}
 
 -- of joint limits, in both ways
 pub joint_candidate : (graph : Transfers) → is_duplex graph.disks ≡ false → (c : Candidate) → IsCandidate graph c → IsJointCandidate graph c

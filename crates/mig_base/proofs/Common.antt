@@ -22,7 +22,7 @@ pub use Rattle.mig_base.specs.NameFields.{IsNameCell, padded}
 pub use Rattle.mig_base.specs.Naming.{IsName, is_name_byte}
 pub use Rattle.mig_base.specs.Planned.{IsMoveShift, IsPartition, IsPlan, PartitionIsPlan, move_at, move_shift, target_at}
 pub use Rattle.mig_base.specs.Readiness.{IsShifted, shifts_of}
-pub use Rattle.mig_base.specs.Refusals.{Accepted, AreListed, Fault, FileFault, IsFirstFault, IsNextNamed, IsNotListed, IsSpotNamed, LacksRoom, Precedes, RefusedAs, RowFault, stage_of}
+pub use Rattle.mig_base.specs.Refusals.{Accepted, AcceptedTight, AreListed, Fault, FaultButRoom, FileFault, IsFirstFault, IsNextNamed, IsNotListed, IsSpotNamed, LacksRoom, Precedes, RefusedAs, RefusedTightAs, RowFault, stage_of}
 pub use Rattle.mig_base.specs.RoundEvents.{Adds, AreRounds, BeginsRun, IsRound, flight_of, flights_of}
 pub use Rattle.mig_base.specs.RoundStates.{HasDone, IsCopied, IsInUse, IsSourceSlot}
 pub use Rattle.mig_base.specs.Rows.{Bodies, Row, disk_of, disks_of, file_of, first, fourth, has_sides, header_of, place_of, rows_of, second, third}

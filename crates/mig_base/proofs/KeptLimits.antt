@@ -1,8 +1,8 @@
 -- What disks' limits say of trips, by the kind of the limits.
-use Rattle.mig_base.proofs.Common.{All, Bool, Disk, Incoming, IsInRange, IsInput, IsLimit, IsOverLimit, Joint, KeepsLimit, Limits, List, Lists, Outgoing, Side, Split, Trip, [], ap, arith, cond}
+use Rattle.mig_base.proofs.Common.{All, Bool, Disk, Incoming, IsInRange, IsInput, IsOverLimit, Joint, KeepsLimit, Limits, List, Lists, Outgoing, Side, Split, Trip, [], ap, arith}
 use Rattle.mig_base.proofs.Common.{count_by, disk_at, div_ceil, div_ceil_times, eqb, false, false≢true, inl, inr, is_duplex, is_split, length, load, max, min, most_ends, mul-le-mul_right}
-use Rattle.mig_base.proofs.Common.{mul_comm, no_disk, passes, refl, rounds_for, side_limit, side_load, suc, sum_by-cons, sym, touches, true, zero, ℕ, ◌%◌, ◌*◌, ◌+◌, ◌/◌, ◌<◌, ◌||◌, ◌∙◌, ◌∷◌, ◌≡◌}
-use Rattle.mig_base.proofs.Common.{◌≤◌, ◌⊎◌}
+use Rattle.mig_base.proofs.Common.{no_disk, passes, refl, rounds_for, side_limit, side_load, suc, sum_by-cons, sym, touches, true, zero, ℕ, ◌%◌, ◌*◌, ◌+◌, ◌/◌, ◌<◌, ◌||◌, ◌∙◌, ◌∷◌, ◌≡◌}
+use Rattle.mig_base.proofs.Common.{◌≤◌}
 use Rattle.mig_base.proofs.Counting.{one}
 
 -- with fewer trips of each kind limits are kept too

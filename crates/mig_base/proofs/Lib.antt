@@ -14,9 +14,11 @@ pub mod KeptLimits
 pub mod Landing
 pub mod LayoutSteps
 pub mod Listed
+pub mod LoweredLoads
 pub mod MarkCounts
 pub mod NameCells
 pub mod Needed
+pub mod OneWay
 pub mod Planned
 pub mod Room
 pub mod Rounds

@@ -2,7 +2,7 @@
 use Rattle.mig_base.proofs.Common.{All-contains, At, Bool, Contains, Contents, Gate, Head, Image, IsCleanAt, IsCopied, IsInUse, IsInput, IsLayout, IsLegal, IsSafeAt, IsSound, IsSoundAfter}
 use Rattle.mig_base.proofs.Common.{IsSource, IsSpotOf, IsTaken, IsTarget, IsVacated, List, Lists, Mark, Runs, SameBut, Shift, Some, Spot, [], after_shifts, ap, arith, cases_eq, cases_lt, disk_at}
 use Rattle.mig_base.proofs.Common.{false, get_or_from_slice_get, get_or_past, inl, inr, is_armed, is_marked, is_one, length, no_disk, round_at, slice_get, slice_get_within, slot_of, subst, suc}
-use Rattle.mig_base.proofs.Common.{sym, true, zero, zeros, ℕ, ⊎_elim, ◌-◌, ◌<◌, ◌∙◌, ◌≡◌, ◌≤◌, ◌⊎◌}
+use Rattle.mig_base.proofs.Common.{sym, true, zero, zeros, ℕ, ⊎_elim, ◌<◌, ◌∙◌, ◌≡◌, ◌≤◌, ◌⊎◌}
 use Rattle.mig_base.proofs.Listed.{one_place}
 use Rattle.mig_base.proofs.Rounds.{contains_any, any_contains, in_some, spot_disk, moved_cases, at_target, leaves, to_disk, from_disk, source_free, target_free, layout_kept, cases_source}
 use Rattle.mig_base.proofs.MarkCounts.{AreMarked, counted, count_is}

@@ -2,7 +2,7 @@
 use Rattle.mig_base.proofs.Common.{All, All-filter, At, Bool, DiskId, IsInput, IsSchedule, List, Lists, None, Obeys, Once, Option, Runs, Shift, Some, Spot, Trip, [], ap, arith, cases_lt, cond}
 use Rattle.mig_base.proofs.Common.{count_by, eq-eqb, eqb, eqb-true, false, false≢true, filter, filter_passes, get_or, get_or-le-sum_by, get_or-range_with_len, inl, inr, is_of, is_relocated}
 use Rattle.mig_base.proofs.Common.{last_target, length, length-range_with_len, list_any, map, moves, nat_tests, no_spot, not, option_map, option_or, passes_at_first, position_or_len}
-use Rattle.mig_base.proofs.Common.{range_with_len, refl, round_at, round_of, shift_count, slice_get, slice_get-get_or, source, subst, suc, sum_by, sum_by-cons, sym, target, touches, trip}
+use Rattle.mig_base.proofs.Common.{range_with_len, refl, round_at, round_of, shift_count, slice_get, slice_get-get_or, source, subst, suc, sum_by, sum_by-cons, sym, target, trip}
 use Rattle.mig_base.proofs.Common.{trip_of, trips_in, true, zero, ℕ, ◌&&◌, ◌+◌, ◌-◌, ◌<◌, ◌||◌, ◌∙◌, ◌∷◌, ◌≡◌, ◌≢◌, ◌≤◌}
 use Rattle.mig_base.proofs.KeptLimits.{keeps_fewer}
 use Rattle.mig_base.proofs.Counting.{sum_by-map, sum_by-le_each, sum_by-none, sum_by-swap, one, count_by-filter-le, at_most_one}

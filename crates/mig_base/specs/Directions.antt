@@ -1,5 +1,5 @@
 -- Directions of the edges of a transfer graph. They are not the directions of the transfers.
-use Rattle.std.specs.Prelude.{◌≡◌, ℕ, ◌+◌, ◌≤◌, ◌==◌, Bool, false, List, [], ◌∷◌, slice_index_or, if◌then◌else◌}
+use Rattle.std.specs.Prelude.{ℕ, ◌+◌, ◌≤◌, ◌==◌, Bool, false, List, [], ◌∷◌, slice_index_or, if◌then◌else◌}
 use Rattle.std.specs.List.{count_by}
 use Rattle.mig_base.specs.Transfers.{Trip}
 

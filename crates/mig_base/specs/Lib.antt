@@ -18,6 +18,7 @@ pub mod JobCells
 pub mod Journals
 pub mod Judging
 pub mod Layouts
+pub mod Lowered
 pub mod MadePlans
 pub mod Misfits
 pub mod NameFields
@@ -33,9 +34,11 @@ pub mod Rows
 pub mod Running
 pub mod Safety
 pub mod Schedules
+pub mod Sides
 pub mod Slots
 pub mod Stores
 pub mod Targets
 pub mod Tasks
 pub mod Texts
+pub mod TightPlans
 pub mod Transfers

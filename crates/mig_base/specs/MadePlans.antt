@@ -1,9 +1,11 @@
 -- What is promised of the plan that is made for an input.
-use Rattle.std.specs.Prelude.{◌≡◌, ℕ, ◌*◌, ◌≤◌, true, List, length}
+use Rattle.std.specs.Prelude.{◌≡◌, ◌*◌, ◌≤◌, true, List, length}
 use Rattle.mig_base.specs.declared.ids.Shift.{Shift}
 use Rattle.mig_base.specs.InputLists.{Lists, is_duplex}
 use Rattle.mig_base.specs.Transfers.{Transfers, transfers}
-use Rattle.mig_base.specs.Bounding.{IsEven, IsOneWay, quotient}
+use Rattle.mig_base.specs.Bounding.{IsEven, quotient}
+use Rattle.mig_base.specs.Lowered.{IsLowerable, lowered_quotient}
+use Rattle.mig_base.specs.Sides.{IsTwoSided}
 use Rattle.mig_base.specs.Schedules.{Needs}
 use Rattle.mig_base.specs.Running.{Runs, Once, PlanFits}
 use Rattle.mig_base.specs.Planned.{GoesToTargets, IsFilled}
@@ -12,13 +14,13 @@ use Rattle.mig_base.specs.Planned.{GoesToTargets, IsFilled}
 pub data Reason : Type 0 where
   SplitLimits : Reason
   EvenLimits : Reason
-  OneWay : Reason
+  TwoSides : Reason
 
--- what is so of the transfers then: limits are split; limits are even; each disk only gives items away or only takes them
+-- what is so of the transfers then: limits are split; limits are even; each transfer goes from one side of the disks to the other
 abbrev pub Because : Reason → Transfers → Type 0
 Because SplitLimits graph = is_duplex graph.disks ≡ true
 Because EvenLimits graph = IsEven graph
-Because OneWay graph = IsOneWay graph
+Because TwoSides graph = IsTwoSided graph
 
 -- The rounds run and move each relocated item once, straight to its target spot. No schedule has fewer rounds than the greatest
 -- quotient. Where there is a reason why as many can do, there are as many; and there are never more than one and a half times that.
@@ -31,3 +33,7 @@ pub record IsPlanOf (input : Lists) (plan : List (List Shift)) : Type 0 where
   pub lower : Needs input (quotient (transfers input))
   pub tight : (why : Reason) → Because why (transfers input) → length plan ≡ quotient (transfers input)
   pub most : 2 * length plan ≤ 3 * quotient (transfers input)
+
+-- where joint limits can be lowered to even ones, the plan has no more rounds than the greatest quotient by these
+abbrev pub IsWithinLowered : Lists → List (List Shift) → Type 0
+IsWithinLowered input plan = IsLowerable (transfers input) → length plan ≤ lowered_quotient (transfers input)

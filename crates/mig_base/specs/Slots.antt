@@ -1,5 +1,5 @@
 -- What the slots of disks hold.
-use Rattle.std.specs.Prelude.{◌≡◌, ◌≢◌, ◌-◌, ◌%◌, ◌++◌, ℕ, List, [], ◌∷◌, Contains, IfSome, length, map, replicate, take, slice_index_or}
+use Rattle.std.specs.Prelude.{◌≡◌, ◌≢◌, ◌-◌, ◌%◌, ◌++◌, ℕ, List, ◌∷◌, Contains, IfSome, length, map, replicate, take, slice_index_or}
 use Rattle.std.specs.List.{range_with_len}
 use Rattle.mig_base.specs.declared.cells.Cell.{Cell}
 use Rattle.mig_base.specs.declared.cells.Cell.TheVariants.{Slot}

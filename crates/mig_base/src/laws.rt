@@ -5,6 +5,7 @@ ghost use Rattle.mig_base.specs.Transfers.{transfers};
 ghost use Rattle.mig_base.specs.Targets.{TargetsAreOne};
 ghost use Rattle.mig_base.specs.Schedules.{Needs, IsSchedule, Obeys};
 ghost use Rattle.mig_base.specs.Bounding.{ClassTells, BoundFits, BoundHolds, bound_value};
+ghost use Rattle.mig_base.specs.Sides.{OneWayIsTwoSided};
 ghost use Rattle.mig_base.specs.Running.{Runs, Once, round_of};
 ghost use Rattle.mig_base.specs.Judging.{RightIsBlameless};
 ghost use Rattle.mig_base.specs.Planned.{PartitionIsPlan};
@@ -71,4 +72,9 @@ pub fn right_is_blameless()
 /// The class that is counted is that of even limits exactly where each disk that takes part has an even limit.
 pub fn class_tells()
     ensures { ClassTells }
+{}
+
+/// The disks have two sides where each only gives items away or only takes them.
+pub fn one_way_is_two_sided()
+    ensures { OneWayIsTwoSided }
 {}

@@ -24,7 +24,7 @@ pub use Rattle.std.proofs.lemmas.List.Elements.{All-cons, All-nil}
 pub use Rattle.mig_base.proofs.Common.{IsInput, cases_lt, ◌-◌}
 pub use Rattle.mig_base.proofs.Scheduled.{obeys, scheduled}
 pub use Rattle.mig_base.specs.Bounding.{IsBelow, IsSideCandidate, bound_value, place, set_value, side_value, value}
-pub use Rattle.mig_base.specs.MadePlans.{Because, IsPlanOf, Reason}
+pub use Rattle.mig_base.specs.MadePlans.{Because, IsPlanOf, IsWithinLowered, Reason}
 pub use Rattle.mig_base.specs.Running.{round_of}
 pub use Rattle.mig_base.specs.Schedules.{Needs}
 pub use Rattle.mig_base.specs.Transfers.{Trip, div_ceil, rounds_for, side_limit, side_load}
@@ -34,3 +34,7 @@ pub use Rattle.mig_base.specs.declared.ids.Shift.{Shift}
 pub use Rattle.mig_base.specs.declared.inputs.Limits.{Limits}
 pub use Rattle.mig_base.specs.declared.inputs.Limits.TheVariants.{Joint, Split}
 pub use Rattle.std.proofs.Common.{max}
+pub use Rattle.mig_base.proofs.Common.{Err, IfOk, IfOk-weaker, Ok, Once, PlanFits, Result, Runs}
+pub use Rattle.mig_base.specs.Lowered.{IsLowerable, lowered_quotient}
+pub use Rattle.mig_base.specs.Planned.{GoesToTargets, IsFilled}
+pub use Rattle.mig_plan.proofs.Least.{plan_made}

@@ -5,7 +5,7 @@ use Rattle.mig_base.specs.Transfers.{transfers}
 use Rattle.mig_base.specs.Bounding.{Best, bound_value, quotient}
 use Rattle.mig_base.specs.Schedules.{Needs}
 use Rattle.mig_base.specs.Certificates.{CertHolds}
-use Rattle.mig_base.specs.MadePlans.{Because, IsPlanOf, Reason}
+use Rattle.mig_base.specs.MadePlans.{Because, IsPlanOf, IsWithinLowered, Reason}
 use Rattle.mig_base.specs.declared.certs.Bound.{Bound}
 use Rattle.mig_base.specs.declared.certs.Bound.TheVariants.{Nothing, OfDisk, OfSide, OfSet}
 use Rattle.mig_base.specs.declared.certs.Cert.{Cert}
@@ -18,10 +18,11 @@ IsDiskBound (OfDisk disk l x) q = x ≡ q
 IsDiskBound (OfSide disk side l x) q = x ≡ q
 IsDiskBound (OfSet set i x) q = ⊥
 
--- a plan for the input, as is promised of it, and its certificate, whose bound is the first best one: every schedule needs its value,
+-- a plan for the input, as is promised of the best one, and its certificate, whose bound is the first best one: every schedule needs its value,
 -- and where there is a reason why the plan has no more rounds than the quotient it is a disk or a side that shows the plan to be optimal
 pub record IsCertified (input : Lists) (rounds : List (List Shift)) (certificate : Cert) : Type 0 where
   pub planned : IsPlanOf input rounds
+  pub lowered : IsWithinLowered input rounds
   pub holds : CertHolds input rounds certificate
   pub best : Best (transfers input) certificate.bound
   pub needs : Needs input (bound_value certificate.bound)

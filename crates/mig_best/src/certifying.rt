@@ -6,10 +6,10 @@ ghost use Rattle.mig_base.specs.Targets.{IsRoomy};
 ghost use Rattle.mig_base.specs.Transfers.{transfers};
 ghost use Rattle.mig_best.specs.Certified.{IsCertified};
 
+use crate::choosing::best_plan_from;
 use mig_base::{Bound, Cert, Class, Input, MAX_ROUNDS, Plan};
 use mig_bounds::best_bound;
 use mig_graph::Graph;
-use mig_plan::make_plan_from;
 use std::alloc::{AllocError, Global};
 
 /// A plan and its certificate.
@@ -59,7 +59,7 @@ fn certify(graph: &Graph, plan: &Plan, bound: Bound) -> Cert
     }
 }
 
-/// A plan for an input, over its transfer graph, and its certificate. Errs for want of memory only.
+/// The best plan for an input, over its transfer graph, and its certificate. Errs for want of memory only.
 ///
 /// The search for a plan starts at the bound's value: no plan has fewer rounds, so none is lost.
 pub fn certified_plan(alloc: Global, input: &Input, graph: &Graph) -> Result<Certified, AllocError>
@@ -70,7 +70,7 @@ pub fn certified_plan(alloc: Global, input: &Input, graph: &Graph) -> Result<Cer
 {
     input.keeps_rules();
     let bound = best_bound(alloc, graph)?;
-    let plan = make_plan_from(alloc, input, graph, value_of(&bound))?;
+    let plan = best_plan_from(alloc, input, graph, value_of(&bound))?;
     let cert = certify(graph, &plan, bound);
     Ok(Certified { plan, cert })
 }

@@ -85,7 +85,8 @@ fn all_even(input: &Input, loads: &[u32]) -> bool
 {
     input.keeps_rules();
     for (v, disk) in input.disks().iter().enumerate() {
-        if loads[v] > 0 && disk.limits.most_ends() % 2 != 0 {
+        let load = loads[v];
+        if load > 0 && disk.limits.most_ends() % 2 != 0 {
             return false;
         }
     }

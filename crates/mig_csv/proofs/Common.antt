@@ -17,10 +17,10 @@ pub use Rattle.mig_base.proofs.Common.{third, true, zero, ℕ, ◌&&◌, ◌++�
 pub use Rattle.mig_base.proofs.Counting.{count_by-filter}
 pub use Rattle.mig_base.proofs.Elements.{one_all, slice_get-set_other, slice_get-set_same}
 pub use Rattle.mig_base.proofs.FaultOrder.{Accepted-clean, IsClean, own_stage, refused_in_file, stage_free}
-pub use Rattle.mig_base.proofs.Listed.{Accepted-IsInput, AreListed-unique, at_map, listed-IsInput, map-name, name_at, name_in_row, one_place, some_and, some_map, zip_length}
+pub use Rattle.mig_base.proofs.Listed.{Accepted-IsInput, AcceptedTight-IsInput, AreListed-unique, at_map, clean_of, is_fault, listed-IsInput, map-name, name_at, name_in_row, one_place, some_and, some_map, zip_length}
 pub use Rattle.mig_base.specs.Digits.{IsNumber}
-pub use Rattle.mig_base.specs.Refusals.{Accepted, AreListed, DisksRowFault, Fault, FileFault, HasNumbers, IsFirstCause, IsNextNamed, IsNotListed, IsRowFault, LacksRoom, NextRowFault, NowRowFault}
-pub use Rattle.mig_base.specs.Refusals.{Precedes, PrecedesInFile, RefusedAs, disk_width, rank_of, stage_of}
+pub use Rattle.mig_base.specs.Refusals.{Accepted, AcceptedTight, AreListed, DisksRowFault, Fault, FaultButRoom, FileFault, HasNumbers, IsFirstCause, IsNextNamed, IsNotListed, IsRowFault, LacksRoom, NextRowFault, NowRowFault}
+pub use Rattle.mig_base.specs.Refusals.{Precedes, PrecedesInFile, RefusedAs, RefusedTightAs, disk_width, rank_of, stage_of}
 pub use Rattle.mig_base.specs.Rows.{Row, disk_of, has_sides, place_of, records_of}
 pub use Rattle.mig_base.specs.Targets.{HasRoom, incoming, present}
 pub use Rattle.mig_base.specs.declared.faults.FileKind.{FileKind}
@@ -36,7 +36,7 @@ pub use Rattle.mig_csv.specs.Lists.{AreNextOf, AreSeen, IsNextOf, RefusesMissing
 pub use Rattle.mig_csv.specs.Numbers.{AreInRange, AreNumbersOf, limits_by}
 pub use Rattle.mig_csv.specs.Opened.{IsOpened}
 pub use Rattle.mig_csv.specs.Places.{place_in}
-pub use Rattle.mig_csv.specs.Refusals.{DisksFault, IsRefusal, IsRefusalOf, NextFault, NowFault, RefusesHeader}
+pub use Rattle.mig_csv.specs.Refusals.{DisksFault, IsRefusal, IsRefusalOf, IsTightRefusal, NextFault, NowFault, RefusesHeader}
 pub use Rattle.mig_csv.specs.Unread.{ReadsRecords, ReadsWithDefaults, all_from, unread_bytes, unread_records}
 pub use Rattle.mig_csv.specs.declared.disks.Numbers.{Numbers}
 pub use Rattle.mig_csv.specs.declared.errors.InputError.{InputError}
@@ -51,3 +51,6 @@ pub use Rattle.std.proofs.lemmas.Slice.Zip.{all_zipped_more}
 pub use Rattle.std.specs.Cmp.Lexicographic.{nat_list_eq_equiv, pointwise, same_text}
 pub use Rattle.std.specs.Prelude.{unwrap_or}
 pub use Rattle.std.specs.Result.{is_err}
+pub use Rattle.mig_base.proofs.FaultOrder.{OwnFault}
+pub use Rattle.mig_base.proofs.Common.{All-map, Contains-from_any, file_of, list_any, list_any-from_Contains}
+pub use Rattle.std.specs.Prelude.{⊤}

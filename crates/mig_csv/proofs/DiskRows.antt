@@ -1,7 +1,7 @@
-use Rattle.mig_csv.proofs.Common.{AreInRange, AreNumbersOf, Bool, Contains, Disk, DisksRowFault, HasNumbers, IsDiskInRange, IsLimit, IsName, IsNumber, Joint, Limits, List, MAX_DISKS, MatchOption}
-use Rattle.mig_csv.proofs.Common.{None, Numbers, Option, Row, Some, Split, Why, [], ap, arith, disk_of, disk_width, false, false≢true, first, fourth, get_or_from_slice_get, is_some}
+use Rattle.mig_csv.proofs.Common.{AreInRange, AreNumbersOf, Bool, Contains, Disk, DisksRowFault, HasNumbers, IsDiskInRange, IsLimit, IsName, Joint, List, MAX_DISKS, MatchOption}
+use Rattle.mig_csv.proofs.Common.{None, Numbers, Option, Row, Some, Split, Why, [], arith, disk_of, disk_width, false, false≢true, first, get_or_from_slice_get, is_some}
 use Rattle.csv.specs.Records.{field_at}
-use Rattle.mig_csv.proofs.Common.{length, limits_by, rank_of, refl, second, slice_get, slice_get_within, subst, suc, sym, third, true, zero, ℕ, ◌<◌, ◌↔◌, ◌∙◌, ◌∷◌, ◌≡◌, ◌≤◌}
+use Rattle.mig_csv.proofs.Common.{length, limits_by, rank_of, refl, slice_get, slice_get_within, subst, suc, sym, true, zero, ℕ, ◌<◌, ◌↔◌, ◌∷◌, ◌≡◌, ◌≤◌}
 use Rattle.mig_base.specs.declared.faults.Why.TheVariants as why
 
 -- no cause before the place n in the order of causes holds of a row of the disks file

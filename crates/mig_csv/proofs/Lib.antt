@@ -10,4 +10,5 @@ pub mod Listings
 pub mod Needs
 pub mod RecordLists
 pub mod WayRows
+pub mod Tight
 pub mod Whole

@@ -1,7 +1,7 @@
 -- What a refusal says.
 use Rattle.std.specs.Prelude.{◌≡◌, ◌≢◌, ◌≤◌, ◌<◌, ⊤, ℕ, List, Some, length, map, slice_get}
 use Rattle.mig_base.specs.declared.limits.TheConstants.{MAX_FILE_BYTES}
-use Rattle.mig_base.specs.Refusals.{DisksRowFault, FileFault, IsFirstFault, NextRowFault, NowRowFault, RefusedAs}
+use Rattle.mig_base.specs.Refusals.{DisksRowFault, FileFault, IsFirstFault, NextRowFault, NowRowFault, RefusedAs, RefusedTightAs}
 use Rattle.mig_base.specs.Rows.{Bodies, first, has_sides, header_of, place_of, records_of}
 use Rattle.mig_base.specs.declared.faults.FileKind.{FileKind}
 use Rattle.mig_base.specs.declared.faults.FileKind.TheVariants as file
@@ -39,3 +39,8 @@ RefusesHeader f bytes Memory = ⊤
 abbrev pub IsRefusal : Bodies → InputError → Type 0
 IsRefusal fs (Refused f n w) = RefusedAs fs f n w
 IsRefusal fs Memory = ⊤
+
+-- the same where nobody asks for room
+abbrev pub IsTightRefusal : Bodies → InputError → Type 0
+IsTightRefusal fs (Refused f n w) = RefusedTightAs fs f n w
+IsTightRefusal fs Memory = ⊤

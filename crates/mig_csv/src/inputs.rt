@@ -1,9 +1,9 @@
 //! The input that three files stand for.
 ghost use Rattle.std.specs.Prelude.{◌≡◌, IfErr, IfOk};
 ghost use Rattle.mig_base.specs.InputLists.{IsInput};
-ghost use Rattle.mig_base.specs.Refusals.{Accepted};
+ghost use Rattle.mig_base.specs.Refusals.{Accepted, AcceptedTight};
 ghost use Rattle.mig_base.specs.Targets.{IsRoomy};
-ghost use Rattle.mig_csv.specs.Refusals.{IsRefusal};
+ghost use Rattle.mig_csv.specs.Refusals.{IsRefusal, IsTightRefusal};
 
 use crate::disks::{DiskList, read_disks};
 use crate::errors::InputError;
@@ -28,11 +28,24 @@ pub fn read_input(alloc: Global, disks: &[u8], now: &[u8], next: &[u8]) -> Resul
     ensures roomy { IfOk result IsRoomy }
     ensures refused { IfErr result (IsRefusal (record { disks = disks.now; now = now.now; next = next.now })) }
 {
+    let input = read_tight(alloc, disks, now, next)?;
+    check_room(alloc, &input)?;
+    Ok(input)
+}
+
+/// Reads the input that three files stand for, and doesn't ask whether each disk has room.
+///
+/// # Errors
+///
+/// As those of `read_input`, but that no disk is refused for want of room.
+pub fn read_tight(alloc: Global, disks: &[u8], now: &[u8], next: &[u8]) -> Result<Input, InputError>
+    ensures accepted { IfOk result (AcceptedTight (record { disks = disks.now; now = now.now; next = next.now })) }
+    ensures refused { IfErr result (IsTightRefusal (record { disks = disks.now; now = now.now; next = next.now })) }
+{
     let listed = read_disks(alloc, disks)?;
     let layout = read_now(alloc, now, &listed)?;
     let places = read_next(alloc, next, &listed, &layout.names)?;
     let next = all_next(alloc, &places)?;
-    check_room(alloc, &listed.disks, &layout.items, &layout.spots, &next)?;
     Ok(input_of(listed, layout, next))
 }
 

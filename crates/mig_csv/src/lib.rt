@@ -13,6 +13,6 @@ mod room;
 mod rows;
 
 pub use errors::InputError;
-pub use inputs::read_input;
+pub use inputs::{read_input, read_tight};
 pub use layouts::read_layout;
 pub use mig_base::{FileKind, Why};

@@ -1,13 +1,12 @@
 //! Whether every item has a next disk, and every disk room.
-ghost use Rattle.std.specs.Prelude.{◌≡◌, ◌≤◌, ◌<◌, ◌+◌, ◌*◌, All, IfErr, IfOk, ℕ, Some, length, map, slice_index_or};
-ghost use Rattle.mig_base.specs.InputLists.{IsSpotOf};
+ghost use Rattle.std.specs.Prelude.{◌≡◌, ◌≤◌, ◌<◌, ◌+◌, ◌*◌, IfErr, IfOk, ℕ, Some, length, map, slice_index_or};
 ghost use Rattle.mig_base.specs.Targets.{IsRoomy};
 ghost use Rattle.mig_base.specs.declared.faults.FileKind.TheVariants as file;
 ghost use Rattle.mig_base.specs.declared.faults.Why.TheVariants as why;
 ghost use Rattle.mig_csv.specs.Lists.{AreNeeds, RefusesMissing, RefusesRoom, slots_for};
 
 use crate::errors::{InputError, refused};
-use mig_base::{Disk, DiskId, FileKind, MAX_DISKS, MAX_ITEMS, Name, Spot, Why};
+use mig_base::{Disk, DiskId, FileKind, Input, MAX_ITEMS, Why};
 use std::alloc::{AllocError, Global};
 
 /// The next disks, where each item has one.
@@ -31,26 +30,14 @@ pub(crate) fn all_next(alloc: Global, next: &[Option<DiskId>]) -> Result<Vec<Dis
 }
 
 /// Whether each disk has room for what is on it and what comes to it.
-pub(crate) fn check_room(
-    alloc: Global,
-    disks: &[Disk],
-    items: &[Name],
-    spots: &[Spot],
-    next: &[DiskId],
-) -> Result<(), InputError>
-    requires few_disks { length disks.now ≤ MAX_DISKS }
-    requires few { length items.now ≤ MAX_ITEMS }
-    requires spots_len { length spots.now ≡ length items.now }
-    requires next_len { length next.now ≡ length items.now }
-    requires on_disks { All (IsSpotOf disks.now) spots.now }
-    requires next_disks { All (λ d. d.0 < length disks.now) next.now }
-    ensures roomy { IfOk result (λ _. IsRoomy (record { disks = disks.now; items = items.now; spots = spots.now; next = next.now })) }
-    ensures lacking { IfErr result (RefusesRoom (record { disks = disks.now; items = items.now; spots = spots.now; next = next.now })) }
+pub(crate) fn check_room(alloc: Global, input: &Input) -> Result<(), InputError>
+    ensures roomy { IfOk result (λ _. IsRoomy input.now) }
+    ensures lacking { IfErr result (RefusesRoom input.now) }
 {
-    let Ok(needs) = count_needs(alloc, disks, items, spots, next) else {
+    let Ok(needs) = count_needs(alloc, input) else {
         return Err(InputError::Memory);
     };
-    for (k, disk) in disks.iter().enumerate() {
+    for (k, disk) in input.disks().iter().enumerate() {
         if disk.slots < needs[k] {
             return Err(no_room(k as u32 + 1, disk, needs[k]));
         }
@@ -59,22 +46,13 @@ pub(crate) fn check_room(
 }
 
 /// How many slots each disk needs: one for each item that is on it now, and one for each relocated item that comes to it.
-fn count_needs(
-    alloc: Global,
-    disks: &[Disk],
-    items: &[Name],
-    spots: &[Spot],
-    next: &[DiskId],
-) -> Result<Vec<u32>, AllocError>
-    requires few { length items.now ≤ MAX_ITEMS }
-    requires spots_len { length spots.now ≡ length items.now }
-    requires next_len { length next.now ≡ length items.now }
-    requires on_disks { All (IsSpotOf disks.now) spots.now }
-    requires next_disks { All (λ d. d.0 < length disks.now) next.now }
-    ensures { IfOk result (λ needs. AreNeeds (record { disks = disks.now; items = items.now; spots = spots.now; next = next.now }) needs.items) }
+fn count_needs(alloc: Global, input: &Input) -> Result<Vec<u32>, AllocError>
+    ensures { IfOk result (λ needs. AreNeeds input.now needs.items) }
 {
-    let mut needs = vec![in alloc; 0; disks.len()]?;
-    for item in 0..items.len() {
+    let spots = input.now();
+    let next = input.next();
+    let mut needs = vec![in alloc; 0; input.disks().len()]?;
+    for item in 0..next.len() {
         add_needs(&mut needs, spots[item].disk, next[item]);
     }
     Ok(needs)

@@ -18,7 +18,7 @@ use crate::writes::{Write, list_writes};
 use indexmap::IndexSet;
 use mig_base::{Cell, Input};
 use mig_io::Sink;
-use mig_mover::Job;
+use mig_jobs::Job;
 use mig_store::{MemStore, Pick};
 use std::alloc::Global;
 

@@ -9,8 +9,8 @@ ghost use Rattle.mig_drill.specs.Stores.{TellsJob};
 ghost use Rattle.mig_store.specs.Memories.{state_of};
 
 use mig_base::Cell;
+use mig_jobs::Job;
 use mig_lanes::{resume_lanes, start_lanes};
-use mig_mover::Job;
 use mig_store::{MemStore, Pick};
 
 /// What a stop left.

@@ -2,7 +2,7 @@
 ghost use Rattle.std.specs.Prelude.{◌≡◌, ◌++◌, IfOk, OnOk, replicate};
 ghost use Rattle.mig_drill.specs.Writes.{round_writes, sets_mark, writes_of};
 
-use mig_mover::Job;
+use mig_jobs::Job;
 use std::alloc::{AllocError, Global};
 
 /// A write of an undisturbed start.

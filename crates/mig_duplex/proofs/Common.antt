@@ -3,7 +3,7 @@ pub use Rattle.mig_base.proofs.Common.{All, All-head, All-map, All-tail, Bool, G
 pub use Rattle.mig_base.proofs.Common.{arith, cases_eq, colour_at, count_by, count_by-le-length, disk_value, div_ceil, div_ceil_times, drop, eqb, false, false≢true, get_or, get_or-range_with_len}
 pub use Rattle.mig_base.proofs.Common.{get_or-replicate, get_or_default, inl, inr, is_duplex, is_forward, is_split, length, length-drop, length-map, length-range_with_len}
 pub use Rattle.mig_base.proofs.Common.{length-replicate, length-take-le, limit, load, map, most_ends, mul-le-mul_right, mul_comm, nat_tests, no_disk, none-some, passes, quotient, range_with_len}
-pub use Rattle.mig_base.proofs.Common.{refl, replicate, rounds_for, same_Some, side_load, slice_get, slice_get-get_or, slice_get_within, subst, suc, sum_by-cons, sym, take, touches, trip}
+pub use Rattle.mig_base.proofs.Common.{refl, replicate, rounds_for, same_Some, side_load, slice_get, slice_get-get_or, slice_get_within, subst, suc, sum_by-cons, sym, take, touches}
 pub use Rattle.mig_base.proofs.Common.{trip_at, trips, true, zero, ℕ, ◌&&◌, ◌*◌, ◌+◌, ◌-◌, ◌<◌, ◌||◌, ◌∙◌, ◌∷◌, ◌≡◌, ◌≢◌, ◌≤◌, ◌⊎◌}
 pub use Rattle.mig_base.proofs.Copies.{Copied, StandsForEnds, colour_at_disk, value_within_quotient}
 pub use Rattle.mig_base.proofs.Counting.{ceil_within, count_by-filter, div_ceil-le, one, sum_by-map, sum_by-same_each}

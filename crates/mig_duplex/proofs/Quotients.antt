@@ -52,12 +52,12 @@ some_load t ts = omega (arith, sum_by-cons (λ (x : Trip). one (touches t.leaves
     itself : (a b : ℕ) → one (eqb a a || eqb a b) ≡ 1
     itself a b = grind (arith, nat_tests)
 
+pub some_load_at : (ts : List Trip) → 0 < length ts → 1 ≤ load (trip_at ts 0).leaves ts
+some_load_at [] h = absurd (omega (arith, h))
+some_load_at (t ∷ ts) h = some_load t ts
+
 pub quotient_some : (graph : Transfers) → HasRanges graph → All (λ t. t.leaves < length graph.disks) graph.trips → 0 < length graph.trips → 1 ≤ quotient graph
 quotient_some graph ranges there some =
     let v = (trip_at graph.trips 0).leaves in
     let within : v < length graph.disks = there 0 (record { leaves = 0; reaches = 0 }) some in
-    omega (arith, rounds_some (limits_of graph v) v graph.trips (ranges v within) (loaded graph.trips some), value_within_quotient graph v within)
-  where
-    loaded : (ts : List Trip) → 0 < length ts → 1 ≤ load (trip_at ts 0).leaves ts
-    loaded [] h = absurd (omega (arith, h))
-    loaded (t ∷ ts) h = some_load t ts
+    omega (arith, rounds_some (limits_of graph v) v graph.trips (ranges v within) (some_load_at graph.trips some), value_within_quotient graph v within)

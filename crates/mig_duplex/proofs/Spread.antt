@@ -102,11 +102,11 @@ at_side g m node at end homes colours proper a len met there home c v =
     twice false b = refl
 
 -- colours on nodes that the copies of two sides share spread the edges
-pub spread_by_sides : (g : Colouring) (graph : Transfers) (ds : List Bool) (left : ℕ) (node : ℕ → ℕ) (ends : List (CopyId × CopyId)) (homes : List DiskId) (colours : List Colour)
-    → AreSides (quotient graph) graph ds left ends homes → AreThrough node ends g.ends → IsProper g → AreColours g colours → g.colours ≡ quotient graph → IsSpread graph ds colours
-spread_by_sides g graph ds left node ends homes colours a t proper c is_q = record {
+pub spread_by_sides : (g : Colouring) (graph : Transfers) (q : ℕ) (ds : List Bool) (left : ℕ) (node : ℕ → ℕ) (ends : List (CopyId × CopyId)) (homes : List DiskId) (colours : List Colour)
+    → AreSides q graph ds left ends homes → AreThrough node ends g.ends → IsProper g → AreColours g colours → g.colours ≡ q → IsSpread graph q ds colours
+spread_by_sides g graph q ds left node ends homes colours a t proper c is_q = record {
   one_each = c.one_each ∙ t.one_each ∙ a.one_each;
-  below = λ e d h. subst (λ (k : Colour). k.0 < quotient graph) (get_or_default colours e (record { 0 = 0 }) d h) (omega (arith, is_q, proper.colours_in_range (record { 0 = e }) (record { 0 = colour_at colours e }) (c.has e (omega (arith, h, c.one_each)))));
+  below = λ e d h. subst (λ (k : Colour). k.0 < q) (get_or_default colours e (record { 0 = 0 }) d h) (omega (arith, is_q, proper.colours_in_range (record { 0 = e }) (record { 0 = colour_at colours e }) (c.has e (omega (arith, h, c.one_each)))));
   leaving = λ k v h. omega (
     arith,
     a.left_number v h,
@@ -179,7 +179,7 @@ in_colour graph colours c v side =
     ∙ count_by-filter (λ e. passes side v (trip_at graph.trips e)) (λ e. eqb (colour_at colours e) c) (range_with_len 0 (length graph.trips))
 
 pub spread_split : (graph : Transfers) (ds : List Bool) (colours : List Colour) → IsGraph graph → is_duplex graph.disks ≡ true → 1 ≤ quotient graph → length ds ≡ length graph.trips
-    → ((k : ℕ) → k < length graph.trips → is_forward ds k ≡ true) → IsSpread graph ds colours → IsLimited graph (quotient graph) colours
+    → ((k : ℕ) → k < length graph.trips → is_forward ds k ≡ true) → IsSpread graph (quotient graph) ds colours → IsLimited graph (quotient graph) colours
 spread_split graph ds colours valid split pos len forward s = record {
   one_each = s.one_each;
   below = s.below;

@@ -1,4 +1,4 @@
-ghost use Rattle.std.specs.Prelude.{◌≡◌, ◌<◌, true, length, IfOk};
+ghost use Rattle.std.specs.Prelude.{◌≡◌, ◌≤◌, true, length, IfOk};
 ghost use Rattle.mig_base.specs.InputLists.{is_duplex};
 ghost use Rattle.mig_base.specs.Bounding.{quotient};
 ghost use Rattle.mig_base.specs.Colourings.{IsLimited};
@@ -28,24 +28,24 @@ pub fn colours_of(alloc: Global, board: &Board) -> Result<Vec<Colour>, AllocErro
     Ok(colours)
 }
 
-/// Colours the edges with as many colours as the quotient, so that the edges that leave a disk by their directions are
-/// spread over the colours, and so are those that enter it: of each colour at most as many as all of them over the
-/// quotient, rounded up.
+/// Colours the edges with q colours, so that the edges that leave a disk by their directions are spread over the
+/// colours, and so are those that enter it: of each colour at most as many as all of them over q, rounded up.
 ///
 /// Each disk is split into copies on two sides, for edges that go out and for edges that come in. Copies share the nodes
-/// of a board, whose edges have as many colours as the quotient (König 1916): so its table is linear in the edges,
-/// however many copies there are. Errs for want of memory only.
+/// of a board, whose edges have q colours (König 1916): so its table is linear in the edges, however many copies there
+/// are. Errs for want of memory only.
 pub fn colour_spread(
     alloc: Global,
     graph: &Graph,
     directions: &[bool],
+    q: u32,
 ) -> Result<Vec<Colour>, AllocError>
-    requires some { 0 < length graph.now.trips }
+    requires some { 1 ≤ q }
+    requires few { q ≤ length graph.now.trips }
     requires directions { length directions.now ≡ length graph.now.trips }
-    ensures { IfOk result (λ v. IsSpread graph.now directions.now v.items) }
+    ensures { IfOk result (λ v. IsSpread graph.now q directions.now v.items) }
 {
     graph.keeps_rules();
-    let q = graph.quotient();
     let sides = split_sides(alloc, graph, directions, q)?;
     let shared = share_nodes(alloc, &sides, q)?;
     let left = shared.left;
@@ -67,5 +67,5 @@ pub fn colour_duplex(alloc: Global, graph: &Graph) -> Result<Vec<Colour>, AllocE
         return Ok(Vec::new(alloc));
     }
     let forward = vec![in alloc; true; graph.edges() as usize]?;
-    colour_spread(alloc, graph, &forward)
+    colour_spread(alloc, graph, &forward, graph.quotient())
 }

@@ -6,8 +6,8 @@ mod clusters;
 mod running;
 
 pub use clusters::{
-    Cluster, NO_ROUNDS, NOTHING_NEEDED, ONE_STAYS, THREE_ITEMS, THREE_MOVED, TRIANGLE, TWO_NEEDED,
-    TWO_ROUNDS,
+    BY_THIRD_DISK, Cluster, EXCHANGED, FULL_DISKS, NO_ROUNDS, NOTHING_NEEDED, ONE_STAYS,
+    THREE_ITEMS, THREE_MOVED, TRIANGLE, TWO_NEEDED, TWO_ROUNDS,
 };
 pub use running::{
     AFTER, CHECK, Outcome, PLAN, folder_of, holds, outcome_of, outcome_over, planned, sink_of,

@@ -1,9 +1,26 @@
 //! The commands, and what each of their words stands for.
 
 /// The commands in the order in which they are listed.
-pub(crate) const COMMANDS: [&str; 10] = [
-    "plan", "check", "after", "fill", "audit", "move", "resume", "halt", "drill", "rehearse",
+pub(crate) const COMMANDS: [&str; 15] = [
+    "plan",
+    "check",
+    "after",
+    "fill",
+    "audit",
+    "move",
+    "resume",
+    "halt",
+    "drill",
+    "rehearse",
+    "plan-tight",
+    "after-tight",
+    "move-tight",
+    "resume-tight",
+    "halt-tight",
 ];
+
+/// How the names of those end that read an input without asking whether each disk has room.
+const TIGHT: &str = "-tight";
 
 static WITH_CERT: [&str; 5] = ["DISKS", "NOW", "NEXT", "PLAN", "CERT"];
 
@@ -18,19 +35,24 @@ static CASE: [&str; 3] = ["N", "PERPAIR", "LIMIT"];
 /// The forms of all commands, for standard error.
 pub const FORMS: &str = "\
 The commands:
-  migrate plan DISKS NOW NEXT PLAN CERT    plan the moves from NOW to NEXT, and save PLAN and CERT
-  migrate check DISKS NOW NEXT PLAN CERT   judge a plan and its certificate
-  migrate after DISKS NOW NEXT PLAN        print where the items are once the plan is carried out
-  migrate fill DISKS NOW                   write a made item to each spot of NOW
-  migrate audit DISKS NOW                  say of each item whether it is at its spot of NOW
-  migrate move DISKS NOW NEXT PLAN         carry the plan out
-  migrate resume DISKS NOW NEXT PLAN       carry out what a stopped move left
-  migrate halt DISKS NOW NEXT PLAN LAYOUT  close the plan where it stands, and save where the items are there
-  migrate drill DISKS NOW NEXT PLAN        try each stop of the plan on stores in memory
-  migrate rehearse N PERPAIR LIMIT         plan a case of N disks with this limit and PERPAIR items from each to each other
+  migrate plan DISKS NOW NEXT PLAN CERT          plan the moves from NOW to NEXT, and save PLAN and CERT
+  migrate check DISKS NOW NEXT PLAN CERT         judge a plan and its certificate
+  migrate after DISKS NOW NEXT PLAN              print where the items are once the plan is carried out
+  migrate fill DISKS NOW                         write a made item to each spot of NOW
+  migrate audit DISKS NOW                        say of each item whether it is at its spot of NOW
+  migrate move DISKS NOW NEXT PLAN               carry the plan out
+  migrate resume DISKS NOW NEXT PLAN             carry out what a stopped move left
+  migrate halt DISKS NOW NEXT PLAN LAYOUT        close the plan where it stands, and save where the items are there
+  migrate drill DISKS NOW NEXT PLAN              try each stop of the plan on stores in memory
+  migrate rehearse N PERPAIR LIMIT               plan a case of N disks with this limit and PERPAIR items from each to each other
+  migrate plan-tight DISKS NOW NEXT PLAN         plan one item at a time where disks lack room, and save PLAN
+  migrate after-tight DISKS NOW NEXT PLAN        as after, but no disk is asked for room
+  migrate move-tight DISKS NOW NEXT PLAN         as move, but no disk is asked for room
+  migrate resume-tight DISKS NOW NEXT PLAN       as resume, but no disk is asked for room
+  migrate halt-tight DISKS NOW NEXT PLAN LAYOUT  as halt, but no disk is asked for room
 DISKS, NOW and NEXT are CSV files; PLAN is a plan and CERT its certificate.
 Each command has just these words, in this order, and no options. Often:
-  PLAN and CERT of plan, and LAYOUT of halt, must differ from each other and from the other files
+  PLAN and CERT of plan, PLAN of plan-tight, and LAYOUT must differ from each other and from the other files
   a file's name has 1 to 255 bytes
   a file's name ends neither in .disk nor in .mig
   N is 2 to 1024, N times N - 1 times PERPAIR 1 to 65536, LIMIT 1 to 1024";
@@ -39,11 +61,20 @@ Each command has just these words, in this order, and no options. Often:
 pub(crate) fn roles_of(command: &str) -> Option<&'static [&'static str]> {
     match command {
         "plan" | "check" => Some(&WITH_CERT),
-        "halt" => Some(&WITH_LAYOUT),
+        "halt" | "halt-tight" => Some(&WITH_LAYOUT),
         "after" | "move" | "resume" | "drill" => Some(&WITH_PLAN),
+        "plan-tight" | "after-tight" | "move-tight" | "resume-tight" => Some(&WITH_PLAN),
         "fill" | "audit" => Some(&TWO_FILES),
         "rehearse" => Some(&CASE),
         _ => None,
+    }
+}
+
+/// How the name of the command ends: `-tight` where no disk is asked for room, and else with nothing more.
+pub(crate) fn ending_of(words: &[String]) -> &'static str {
+    match words.first() {
+        Some(command) if command.as_str().ends_with(TIGHT) => TIGHT,
+        _ => "",
     }
 }
 

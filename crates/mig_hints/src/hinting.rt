@@ -1,7 +1,7 @@
 //! Says on standard error what a status means.
 
 use crate::blames::blame_hint;
-use crate::commands::{FORMS, word_for};
+use crate::commands::{FORMS, ending_of, word_for};
 use crate::found::read_again;
 use crate::journals::journal_hint;
 use crate::misfits::misfit_hint;
@@ -9,6 +9,7 @@ use crate::missing::missing_hint;
 use crate::ready::{fill_hint, move_hint};
 use crate::refusals::{InputFiles, refusal_hint};
 use crate::rows::Typed;
+use crate::tight::tight_hint;
 use crate::wrong_words::words_hint;
 use std::alloc::AllocError;
 use std::fs::File;
@@ -35,7 +36,7 @@ fn hint_for<R: AllocGlobal + Files<File = File>>(
     status: u8,
 ) -> Result<Option<String>, AllocError> {
     match status {
-        1 | 3 | 9 | 10 => files_hint(rt, words, status),
+        1 | 3 | 9 | 10 | 13 => files_hint(rt, words, status),
         2 => {
             let alloc = rt.alloc();
             let reason = words_hint(alloc, words)?;
@@ -88,6 +89,7 @@ impl Loaded {
             disks: typed(words, "DISKS", &self.disks)?,
             now: typed(words, "NOW", &self.now)?,
             next,
+            roomy: ending_of(words).is_empty(),
         })
     }
 }
@@ -118,7 +120,7 @@ fn files_hint<R: AllocGlobal + Files<File = File>>(
     status: u8,
 ) -> Result<Option<String>, AllocError> {
     let alloc = rt.alloc();
-    let loaded = Loaded::of(rt, words, status != 3);
+    let loaded = Loaded::of(rt, words, status != 3 && status != 13);
     let Some(files) = loaded.input(words) else {
         return Ok(None);
     };
@@ -126,6 +128,7 @@ fn files_hint<R: AllocGlobal + Files<File = File>>(
     let cert = typed(words, "CERT", &loaded.cert);
     match (status, plan) {
         (3, _) => refusal_hint(alloc, &files),
+        (13, _) => tight_hint(alloc, &files),
         (1, Some(plan)) => blame_hint(alloc, &files, &plan, cert),
         (10, Some(plan)) => misfit_hint(alloc, &files, &plan, cert),
         (9, Some(plan)) => move_hint(rt, &files, &plan),

@@ -1,6 +1,6 @@
 //! Status 8: what the journal says, and where to look first.
 
-use crate::commands::word_for;
+use crate::commands::{ending_of, word_for};
 use crate::excerpts::Shown;
 use crate::found::{is_missing, read_again, read_at};
 use crate::plan_lines::line_at;
@@ -98,13 +98,14 @@ fn begun_hint(
     let now = typed(words, "NOW");
     let next = typed(words, "NEXT");
     let plan = typed(words, "PLAN");
+    let tight = ending_of(words);
     if done < rounds {
         return format!(in alloc;
-            "migrate: {JOURNAL} says that {plan} is under way: {done} of its {rounds} rounds are marked as done\nmigrate: `migrate resume {disks} {now} {next} {plan}` goes on with it"
+            "migrate: {JOURNAL} says that {plan} is under way: {done} of its {rounds} rounds are marked as done\nmigrate: `migrate resume{tight} {disks} {now} {next} {plan}` goes on with it"
         );
     }
     format!(in alloc;
-        "migrate: {JOURNAL} says that {plan} was carried out: all of its {rounds} rounds are marked as done\nmigrate: look first, before `halt` closes it: `migrate after {disks} {now} {next} {plan}` prints where the items should be now, and `migrate audit {disks} LAYOUT` on what it prints says whether they are"
+        "migrate: {JOURNAL} says that {plan} was carried out: all of its {rounds} rounds are marked as done\nmigrate: look first, before `halt{tight}` closes it: `migrate after{tight} {disks} {now} {next} {plan}` prints where the items should be now, and `migrate audit {disks} LAYOUT` on what it prints says whether they are"
     )
 }
 

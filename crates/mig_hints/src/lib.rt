@@ -20,6 +20,7 @@ mod refusals;
 mod row_causes;
 mod rows;
 mod slots;
+mod tight;
 mod wrong_words;
 
 pub use commands::FORMS;

@@ -1,6 +1,6 @@
 //! Status 16: which word leads to no file.
 
-use crate::commands::roles_of;
+use crate::commands::{ending_of, roles_of};
 use crate::excerpts::Shown;
 use crate::found::is_missing;
 use std::alloc::AllocError;
@@ -22,10 +22,10 @@ pub(crate) fn missing_hint<R: Files<File = File> + AllocGlobal>(
     for (role, word) in roles.iter().zip(given) {
         if is_missing(rt, word.as_str()) {
             let shown = Shown(word.as_bytes());
-            let by_plan = if *role == "PLAN" || *role == "CERT" {
-                "; `plan` makes it"
-            } else {
-                ""
+            let by_plan = match (*role, ending_of(words)) {
+                ("PLAN" | "CERT", "") => "; `plan` makes it",
+                ("PLAN", _) => "; `plan-tight` makes it",
+                _ => "",
             };
             return Ok(Some(format!(in rt.alloc();
                 "migrate: {shown}, the word for {role}, leads to no file{by_plan}"

@@ -9,7 +9,7 @@ use crate::row_causes::{
 use crate::rows::Typed;
 use csv::ByteRecord;
 use mig_base::{FileKind, Input, MAX_DISKS, MAX_FILE_BYTES, MAX_ITEMS, Why};
-use mig_csv::{InputError, read_input, read_layout};
+use mig_csv::{InputError, read_input, read_layout, read_tight};
 use std::alloc::{AllocError, Global};
 
 /// The files of an input. `fill` and `audit` have no next file.
@@ -18,13 +18,18 @@ pub(crate) struct InputFiles<'a> {
     pub(crate) disks: Typed<'a>,
     pub(crate) now: Typed<'a>,
     pub(crate) next: Option<Typed<'a>>,
+    /// Whether each disk must have room for what comes to it.
+    pub(crate) roomy: bool,
 }
 
 impl<'a> InputFiles<'a> {
     /// The input that the files stand for.
     pub(crate) fn read(&self, alloc: Global) -> Result<Input, InputError> {
         match self.next {
-            Some(next) => read_input(alloc, self.disks.bytes, self.now.bytes, next.bytes),
+            Some(next) if self.roomy => {
+                read_input(alloc, self.disks.bytes, self.now.bytes, next.bytes)
+            }
+            Some(next) => read_tight(alloc, self.disks.bytes, self.now.bytes, next.bytes),
             None => read_layout(alloc, self.disks.bytes, self.now.bytes),
         }
     }
@@ -116,7 +121,7 @@ fn whole_hint(
             "{next} does not list this item: list there the disk where it is to be, the same one where it stays"
         ),
         Why::NoRoom { needs, slots, .. } => format!(in alloc;
-            "{needs} slots are wanted of the {slots}: one for each item that is on the disk now, and one for each that comes. A slot that an item leaves is not counted as room: add slots, or first carry out a migration that only takes items away"
+            "{needs} slots are wanted of the {slots}: one for each item that is on the disk now, and one for each that comes. A slot that an item leaves is not counted as room: add slots, or let `plan-tight` plan it, which moves one item at a time and parks some on other disks where it must"
         ),
         _ => file_hint(alloc, file, &files.of(file), why),
     }

@@ -121,7 +121,8 @@ fn wrong_pair(
 ) -> Result<String, AllocError> {
     for (role, word) in roles.iter().zip(given) {
         let saved = *role == "LAYOUT"
-            || (command == "plan" && (*role == "PLAN" || *role == "CERT"));
+            || (command == "plan" && (*role == "PLAN" || *role == "CERT"))
+            || (command == "plan-tight" && *role == "PLAN");
         if !saved {
             continue;
         }

@@ -9,7 +9,7 @@ ghost use Rattle.mig_base.specs.Stores.{State, flights, Changes, Ends, IsSettled
 ghost use Rattle.mig_base.specs.Tasks.{Task};
 ghost use Rattle.mig_lanes.specs.LaneSteps.{copies_of, BeginsRound, HaveLanded};
 
-use mig_mover::Job;
+use mig_jobs::Job;
 use mig_store::{Store, StoreFailed};
 
 // Begins each copy of a round, in the plan's order.

@@ -16,7 +16,8 @@ ghost use Rattle.mig_lanes.specs.LaneSteps.{later_rounds};
 ghost use Rattle.mig_lanes.specs.Runs.{Finishes, IsJournalFault, IsPart};
 
 use crate::rounds::carry_on;
-use mig_mover::{Job, MoveFault, enter_resume, enter_start};
+use mig_jobs::Job;
+use mig_mover::{MoveFault, enter_resume, enter_start};
 use mig_store::Store;
 
 /// Starts a plan and carries it out. Ok says that its target is reached.

@@ -10,8 +10,9 @@ ghost use Rattle.mig_base.specs.Tasks.{Task};
 ghost use Rattle.mig_lanes.specs.LaneSteps.{copies_of, later_rounds, BeginsRound, BeginsRounds, HasCopied};
 
 use crate::copies::run_copies;
+use mig_jobs::Job;
 use mig_journal::mark;
-use mig_mover::{Job, erase_sources};
+use mig_mover::erase_sources;
 use mig_store::{Store, StoreFailed};
 
 // Sets the mark of the round after the first k, whose copies are settled, and then erases what the round left.

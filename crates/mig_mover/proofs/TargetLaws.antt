@@ -3,7 +3,7 @@ use Rattle.mig_mover.proofs.Common.{All, AllWithin, Any-from_list_any, At, Bool,
 use Rattle.mig_mover.proofs.Common.{IsUnused, IsUsed, List, Lists, MatchBool, None, Option, Shift, Some, Spot, Task, [], ap, arith, cases_Bool, cases_eq, cond, eqb-true, false, false≢true}
 use Rattle.mig_mover.proofs.Common.{filter, free_targets, get_or, get_or_default, inl, inr, is_of, length, list_any, map, no_spot, not, refl, round_at, same_spot, shifts_of, slice_get, subst}
 use Rattle.mig_mover.proofs.Common.{suc, sym, take, there, to_disk, true, zero, ℕ, ⊎_elim, ◌+◌, ◌<◌, ◌∙◌, ◌∷◌, ◌≡◌, ◌⊎◌}
-use Rattle.mig_mover.proofs.TableSteps.{listed_has, has_listed}
+use Rattle.mig_jobs.proofs.TableSteps.{listed_has, has_listed}
 
 module _ (spots : List Spot) where
   -- a shift's target comes first, or isn't free

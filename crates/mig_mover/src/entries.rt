@@ -19,13 +19,17 @@ ghost use Rattle.mig_base.specs.Tasks.{Task};
 use crate::erasing::erase_sources;
 use crate::expecting::expect_all;
 use crate::faults::MoveFault;
-use crate::jobs::Job;
 use crate::ready::check_ready;
+use mig_jobs::Job;
 use mig_journal::{Seen, arm, look, marked};
 use mig_store::{Store, StoreFailed};
 
 /// Syncs, and looks at the journal.
-pub(crate) fn settle_and_look<S: Store>(store: &mut S) -> Result<Seen, StoreFailed>
+///
+/// # Errors
+///
+/// A fault of the store.
+pub fn settle_and_look<S: Store>(store: &mut S) -> Result<Seen, StoreFailed>
     ensures settles { IfOk result (λ seen. Settles (S.state store.old) (S.state store.new)) }
     ensures gate { IfOk result (λ seen. IsSome ((S.state store.new).reads Gate) → is_running seen ≡ is_armed (S.state store.new).reads) }
     ensures head { IfOk result (λ seen. HasHead seen ((S.state store.new).reads Head)) }

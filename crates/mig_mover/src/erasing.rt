@@ -8,8 +8,8 @@ ghost use Rattle.mig_base.specs.RoundStates.{IsSourceSlot};
 ghost use Rattle.mig_base.specs.Tasks.{Task};
 ghost use Rattle.mig_mover.specs.Erasures.{AreZeros};
 
-use crate::jobs::Job;
 use mig_base::Cell;
+use mig_jobs::Job;
 use mig_store::{Store, StoreFailed};
 
 // The bytes of an erased slot.

@@ -3,13 +3,11 @@ ghost use Rattle.std.specs.Prelude.{◌≡◌, ◌<◌, ◌≤◌, [], Some, len
 ghost use Rattle.mig_base.specs.Images.{NoCell};
 ghost use Rattle.mig_base.specs.Layouts.{At};
 ghost use Rattle.mig_base.specs.Stores.{State, flights, ChangesOnly, HasCause};
-ghost use Rattle.mig_mover.specs.Stays.{IsStay};
+ghost use Rattle.mig_jobs.specs.Stays.{IsStay};
 ghost use Rattle.mig_base.specs.Tasks.{Task, IsTask};
 
-use crate::jobs::{Job, spot_cell};
-use crate::stays::Stay;
-use crate::vacancies::Vacancy;
 use mig_base::{ItemId, Spot};
+use mig_jobs::{Job, Stay, Vacancy, spot_cell};
 use mig_store::{Store, StoreFailed};
 
 // Asks for an item at its spot after this number of rounds.

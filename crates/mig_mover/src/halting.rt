@@ -9,12 +9,11 @@ ghost use Rattle.mig_mover.specs.Erasures.{AreZeros};
 ghost use Rattle.mig_mover.specs.Halts.{AreErased, IsClosingCell, KeepsHaltSafe, EndsHalted};
 ghost use Rattle.mig_mover.specs.Stands.{IsAt};
 ghost use Rattle.mig_base.specs.Tasks.{Task, IsTask};
-ghost use Rattle.mig_mover.specs.Vacancies.{IsVacant};
+ghost use Rattle.mig_jobs.specs.Vacancies.{IsVacant};
 
 use crate::erasing::erase;
 use crate::faults::MoveFault;
-use crate::jobs::{Job, spot_cell};
-use crate::vacancies::Vacancy;
+use mig_jobs::{Job, Vacancy, spot_cell};
 use mig_journal::disarm;
 use mig_store::{Store, StoreFailed};
 

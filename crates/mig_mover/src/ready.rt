@@ -10,9 +10,8 @@ ghost use Rattle.mig_base.specs.Tasks.{Task};
 
 use crate::expecting::expect_all;
 use crate::faults::MoveFault;
-use crate::headers::{is_there, is_used};
-use crate::jobs::Job;
 use mig_base::{ItemId, Spot};
+use mig_jobs::{Job, is_there, is_used};
 use mig_store::{Store, StoreFailed};
 
 // Whether the plan shifts an item, and the header at its spot of now doesn't name it.

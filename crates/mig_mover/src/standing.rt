@@ -15,7 +15,7 @@ ghost use Rattle.mig_base.specs.Tasks.{Task};
 use crate::entries::{check_plan, settle_and_look};
 use crate::expecting::expect_all;
 use crate::faults::MoveFault;
-use crate::jobs::Job;
+use mig_jobs::Job;
 use mig_journal::{Seen, marked};
 use mig_store::Store;
 

@@ -19,10 +19,9 @@ pub use Rattle.mig_base.proofs.Room.{lowest_at, some_free}
 pub use Rattle.mig_base.proofs.Rounds.{spot_disk}
 pub use Rattle.mig_base.proofs.SameIds.{same_copy, spot_by}
 pub use Rattle.mig_base.proofs.Scheduled.{obeys, once_in_range, range_below, scheduled}
-pub use Rattle.mig_base.specs.Bounding.{IsOneWay, gives}
 pub use Rattle.mig_base.specs.Colourings.{edges_of}
 pub use Rattle.mig_base.specs.Directions.{head_of, heads, in_of, out_of, tail_of, tails}
-pub use Rattle.mig_base.specs.MadePlans.{Because, EvenLimits, IsPlanOf, OneWay, Reason, SplitLimits}
+pub use Rattle.mig_base.specs.MadePlans.{Because, EvenLimits, IsPlanOf, Reason, SplitLimits, TwoSides}
 pub use Rattle.mig_base.specs.Planned.{GoesToTargets, IsFilled, IsMoveShift, IsPartition, IsPlan, move_shift, target_at}
 pub use Rattle.mig_base.specs.Running.{round_of}
 pub use Rattle.mig_base.specs.Schedules.{Needs}
@@ -59,3 +58,14 @@ pub use Rattle.std.proofs.lemmas.List.Folds.{list_any_more}
 pub use Rattle.std.proofs.lemmas.List.FromFn.{take-map-range_with_len}
 pub use Rattle.std.proofs.lemmas.List.Sums.{length-filter, sum_by-take-drop}
 pub use Rattle.std.specs.Vec.{with_items}
+pub use Rattle.mig_base.proofs.Common.{All-head, All-tail, IsTrue, takes_part, ◌%◌, ◌/◌}
+pub use Rattle.mig_base.proofs.Counting.{div_ceil-le}
+pub use Rattle.mig_base.proofs.LoweredLoads.{load_within_lowered, value_within_lowered}
+pub use Rattle.mig_base.specs.Lowered.{IsLowerable, lowered_limit, lowered_quotient}
+pub use Rattle.mig_plan.specs.Coloured.{LeadsAcross}
+pub use Rattle.mig_base.specs.Sides.{IsTwoSided, Separates}
+pub use Rattle.mig_sides.specs.Walks.{side_of}
+pub use Rattle.mig_base.specs.Bounding.{greatest}
+pub use Rattle.std.proofs.Common.{max}
+pub use Rattle.std.proofs.lemmas.List.Sums.{fold_push}
+pub use Rattle.std.proofs.lemmas.List.FromFn.{map-range_with_len_more}

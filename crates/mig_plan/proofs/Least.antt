@@ -1,7 +1,7 @@
 -- A plan has at least as many rounds as the quotient.
-use Rattle.mig_plan.proofs.Common.{All-map, Because, EvenLimits, GoesToTargets, IsEven, IsFilled, IsInput, IsLimited, IsOneWay, IsPlanOf, KeepsLimit, List, Lists, Needs, Once, OneWay, PlanFits}
-use Rattle.mig_plan.proofs.Common.{Reason, Runs, Shift, SplitLimits, Transfers, [], arith, disk_value, edges_of, false, false≢true, get_or, get_or-range_with_len, is_duplex, keeps_none, length}
-use Rattle.mig_plan.proofs.Common.{length-range_with_len, map, needs_disk, obeys, quotient, range_with_len, round_of, scheduled, subst, sym, transfers, trip_at, trips, ℕ, ◌*◌, ◌<◌, ◌∙◌, ◌≡◌, ◌≤◌}
+use Rattle.mig_plan.proofs.Common.{All-map, Because, GoesToTargets, IsFilled, IsInput, IsLimited, IsPlanOf, KeepsLimit, List, Lists, Needs, Once, PlanFits, Reason}
+use Rattle.mig_plan.proofs.Common.{Runs, Shift, Transfers, [], arith, disk_value, edges_of, get_or, get_or-range_with_len, keeps_none, length}
+use Rattle.mig_plan.proofs.Common.{length-range_with_len, map, needs_disk, obeys, quotient, range_with_len, round_of, scheduled, subst, sym, transfers, trip_at, ℕ, ◌*◌, ◌<◌, ◌≡◌, ◌≤◌}
 use Rattle.mig_duplex.proofs.Quotients.{greatest_most, limits_of}
 
 -- every schedule has at least as many rounds as the quotient
@@ -32,14 +32,8 @@ plan_made input graph plan n is same fits runs once targets filled few tight mos
       most = omega (arith, few, subst (λ (g : Transfers). 2 * n ≤ 3 * quotient g) same most);
     }
 
--- where neither test succeeds there is no reason
-pub no_reason : (graph : Transfers) → is_duplex graph.disks ≡ false → ¬ IsEven graph → ¬ IsOneWay graph → (why : Reason) → ¬ Because why graph
-no_reason graph joint odd mixed SplitLimits = λ split. false≢true (sym joint ∙ split)
-no_reason graph joint odd mixed EvenLimits = odd
-no_reason graph joint odd mixed OneWay = mixed
-
-pub limited_none : (graph : Transfers) → length graph.trips ≡ 0 → IsLimited graph 0 []
-limited_none graph none = record {
+pub limited_none : (graph : Transfers) (n : ℕ) → length graph.trips ≡ 0 → IsLimited graph n []
+limited_none graph n none = record {
   one_each = sym none;
   below = λ k d h. absurd (omega arith);
   within = λ c v h. subst (λ m. KeepsLimit (limits_of graph v) v (map (trip_at graph.trips) (edges_of [] c m))) (sym none) (keeps_none (limits_of graph v) v);

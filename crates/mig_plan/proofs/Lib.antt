@@ -3,5 +3,6 @@ pub mod Limits
 pub mod RowLaws
 pub mod SlotLaws
 pub mod TargetSteps
-pub mod OneWay
+pub mod LoweredLimits
+pub mod TwoSides
 pub mod Common

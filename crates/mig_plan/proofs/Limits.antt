@@ -1,11 +1,10 @@
 -- From a complete proper colouring of copies to a limited colouring of the transfer graph.
-use Rattle.mig_plan.proofs.Common.{All, AreColours, AreShares, Balances, Bool, Colour, Colouring, Copied, CopyId, DiskId, IsDealtBoard, IsEven, IsGraph, IsLimited, IsOneWay, IsProper, IsSpread}
-use Rattle.mig_plan.proofs.Common.{List, MAX_DISKS, MAX_ITEMS, SameGraph, SidesFit, StandsForEnds, Transfers, Trip, [], ap, arith, cases_Bool, cases_eq, ceil_of_none, ceil_within, colour_at}
-use Rattle.mig_plan.proofs.Common.{colour_at_disk, copies_of_sides, count_by-filter, count_of, disk_at, div_ceil, div_ceil_times, edges_of, entering_in, eqb, false, false≢true, first_of, get_or}
-use Rattle.mig_plan.proofs.Common.{get_or_default, gives, head_of, heads, in_of, inl, inr, is_duplex, is_forward, keeps_joint, leaving_in, length, length-map, limit, list_any, load}
-use Rattle.mig_plan.proofs.Common.{load_within_quotient, map, min, mul-le-mul_left, mul-le-mul_right, mul_comm, ne_eqb, no_disk, not, one, or_parts, out_in, out_of, quotient, range_with_len}
-use Rattle.mig_plan.proofs.Common.{refl, second_of, subst, suc, sum_by-add, sum_by-cons, sum_by-le_each, sum_by-map, sym, tail_of, tails, touches, trip_at, true, ℕ, ◌&&◌, ◌*◌, ◌+◌}
-use Rattle.mig_plan.proofs.Common.{◌<◌, ◌||◌, ◌∙◌, ◌∷◌, ◌≡◌, ◌≢◌, ◌≤◌, ◌⊎◌}
+use Rattle.mig_plan.proofs.Common.{All, AreColours, AreShares, Balances, Bool, Colour, Colouring, Copied, CopyId, DiskId, IsDealtBoard, IsEven, IsGraph, IsLimited, IsProper, IsSpread, List}
+use Rattle.mig_plan.proofs.Common.{MAX_DISKS, MAX_ITEMS, SameGraph, SidesFit, StandsForEnds, Transfers, Trip, ap, arith, cases_eq, ceil_of_none, ceil_within, colour_at, colour_at_disk}
+use Rattle.mig_plan.proofs.Common.{copies_of_sides, count_by-filter, count_of, disk_at, div_ceil, div_ceil_times, edges_of, entering_in, eqb, false, first_of, get_or, get_or_default, head_of}
+use Rattle.mig_plan.proofs.Common.{in_of, inl, inr, is_duplex, is_forward, keeps_joint, leaving_in, length, length-map, limit, load, load_within_quotient, map, min, mul-le-mul_left}
+use Rattle.mig_plan.proofs.Common.{mul-le-mul_right, ne_eqb, no_disk, not, one, out_in, out_of, quotient, range_with_len, second_of, subst, sum_by-add, sum_by-le_each, sum_by-map, sym, tail_of}
+use Rattle.mig_plan.proofs.Common.{touches, trip_at, true, ℕ, ◌&&◌, ◌*◌, ◌+◌, ◌<◌, ◌||◌, ◌∙◌, ◌≡◌, ◌≢◌, ◌≤◌, ◌⊎◌}
 use Rattle.mig_duplex.proofs.Quotients.{HasRanges, limits_of}
 use Rattle.mig_duplex.proofs.Spread.{apart_at, home_is}
 use Rattle.mig_base.proofs.Copies.{IsProper as IsProperCopies}
@@ -119,63 +118,13 @@ most_of_load graph v o i l q total om im within pos even h = elim (cases_eq (loa
     takes graph v ne = ap not (ne_eqb (load v graph.trips) 0 ne)
 
 -- where limits are even, by directions that balance
-pub even_fits : (graph : Transfers) (ds : List Bool) → 1 ≤ quotient graph → HasRanges graph → IsEven graph → length ds ≡ length graph.trips → All (λ t. t.leaves ≢ t.reaches) graph.trips → Balances graph.trips ds → SidesFit graph ds
+pub even_fits : (graph : Transfers) (ds : List Bool) → 1 ≤ quotient graph → HasRanges graph → IsEven graph → length ds ≡ length graph.trips → All (λ t. t.leaves ≢ t.reaches) graph.trips → Balances graph.trips ds → SidesFit graph (quotient graph) ds
 even_fits graph ds pos limits even len apart b v h =
     most_of_load graph v (out_of graph.trips ds v) (in_of graph.trips ds v) 0 (quotient graph) (out_in graph.trips ds v len apart) (b.out_most v) (b.in_most v) (load_within_quotient graph v h (limits v h)) pos even h
 
--- where each disk only gives or only takes, by the directions of the transfers
-
-none_out : (v : ℕ) (ts : List Trip) (ds : List Bool) → length ds ≡ length ts → ((k : ℕ) → k < length ts → is_forward ds k ≡ true) → list_any (λ (t : Trip). eqb t.leaves v) ts ≡ false → out_of ts ds v ≡ 0
-none_out v [] ds len forward none = refl
-none_out v (t ∷ ts) [] len forward none = absurd (omega arith)
-none_out v (t ∷ ts) (d ∷ ds) len forward none =
-    let parts = or_parts (eqb t.leaves v) (list_any (λ (u : Trip). eqb u.leaves v) ts) none in
-    let tail : tail_of t d ≡ t.leaves = ap (tail_of t) (forward 0 (omega arith)) in
-    omega (arith, sum_by-cons (λ n. one (eqb n v)) (tail_of t d) (tails ts ds), ap (λ n. one (eqb n v)) tail, ap one parts.0, none_out v ts ds (omega arith) (λ k l. forward (suc k) (omega (arith, l))) parts.1)
-
-none_in : (v : ℕ) (ts : List Trip) (ds : List Bool) → length ds ≡ length ts → ((k : ℕ) → k < length ts → is_forward ds k ≡ true) → All (λ t. eqb t.reaches v ≡ false) ts → in_of ts ds v ≡ 0
-none_in v [] ds len forward none = refl
-none_in v (t ∷ ts) [] len forward none = absurd (omega arith)
-none_in v (t ∷ ts) (d ∷ ds) len forward none =
-    let head : head_of t d ≡ t.reaches = ap (head_of t) (forward 0 (omega arith)) in
-    omega (
-      arith,
-      sum_by-cons (λ n. one (eqb n v)) (head_of t d) (heads ts ds),
-      ap (λ n. one (eqb n v)) head,
-      ap one (Rattle.std.proofs.lemmas.List.Elements.All-head (λ (x : Trip). eqb x.reaches v ≡ false) t ts none),
-      none_in v ts ds (omega arith) (λ k l. forward (suc k) (omega (arith, l))) (Rattle.std.proofs.lemmas.List.Elements.All-tail (λ (x : Trip). eqb x.reaches v ≡ false) t ts none),
-    )
-
--- what isn't left isn't the disk that is
-not_reached : (graph : Transfers) (v r : ℕ) → gives graph v ≡ true → gives graph r ≡ false → eqb r v ≡ false
-not_reached graph v r gave none = elim (cases_eq r v) [
-  | inl e ↦ absurd (false≢true (sym none ∙ ap (gives graph) e ∙ gave))
-  | inr ne ↦ ne_eqb r v ne
-]
-
-pub one_way_fits : (graph : Transfers) (ds : List Bool) → 1 ≤ quotient graph → HasRanges graph → IsOneWay graph → length ds ≡ length graph.trips → All (λ t. t.leaves ≢ t.reaches) graph.trips → ((k : ℕ) → k < length graph.trips → is_forward ds k ≡ true) → SidesFit graph ds
-one_way_fits graph ds pos limits one_way len apart forward v h =
-    let q = quotient graph in
-    let o = out_of graph.trips ds v in
-    let i = in_of graph.trips ds v in
-    let total = out_in graph.trips ds v len apart in
-    let within : div_ceil (load v graph.trips) q ≤ limit graph v = Rattle.mig_base.proofs.Counting.div_ceil-le (load v graph.trips) q (limit graph v) pos (omega (arith, load_within_quotient graph v h (limits v h), mul_comm q (limit graph v))) in
-    elim (cases_Bool (gives graph v)) [
-      | inl gave ↦ (let none : i ≡ 0 = none_in v graph.trips ds len forward (λ k d l. not_reached graph v (get_or graph.trips k d).reaches gave (one_way k d l)) in
-          omega (arith, within, ceil_of_none q pos, ap (λ n. div_ceil n q) none, ap (λ n. div_ceil n q) (all_left o i (load v graph.trips) total none)))
-      | inr kept ↦ (let none : o ≡ 0 = none_out v graph.trips ds len forward kept in
-          omega (arith, within, ceil_of_none q pos, ap (λ n. div_ceil n q) none, ap (λ n. div_ceil n q) (all_right o i (load v graph.trips) total none)))
-    ]
-  where
-    all_left : (o i l : ℕ) → o + i ≡ l → i ≡ 0 → o ≡ l
-    all_left o i l total none = omega arith
-
-    all_right : (o i l : ℕ) → o + i ≡ l → o ≡ 0 → i ≡ l
-    all_right o i l total none = omega arith
-
 -- edges that are spread keep joint limits that cover both sides
-pub spread_joint : (graph : Transfers) (ds : List Bool) (colours : List Colour) → IsGraph graph → is_duplex graph.disks ≡ false → SidesFit graph ds → IsSpread graph ds colours → IsLimited graph (quotient graph) colours
-spread_joint graph ds colours valid joint fit s = record {
+pub spread_joint : (graph : Transfers) (q : ℕ) (ds : List Bool) (colours : List Colour) → IsGraph graph → is_duplex graph.disks ≡ false → SidesFit graph q ds → IsSpread graph q ds colours → IsLimited graph q colours
+spread_joint graph q ds colours valid joint fit s = record {
   one_each = s.one_each;
   below = s.below;
   within = λ c v h. keeps_joint (limits_of graph v) v (map (trip_at graph.trips) (edges_of colours c m)) (valid.one_kind v no_disk h ∙ joint) (omega (arith, both_sides c v, s.leaving c v h, s.entering c v h, fit v h));

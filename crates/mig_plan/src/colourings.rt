@@ -1,12 +1,15 @@
 //! Colourings of a transfer graph, so that the edges of one colour keep each disk's limit.
-ghost use Rattle.std.specs.Prelude.{◌≡◌, ℕ, ◌<◌, ◌≤◌, ◌+◌, ◌*◌, false, length, slice_index_or, vec_len, All, IfNone, IfOk, IfSome, MatchBool};
+ghost use Rattle.std.specs.Prelude.{◌≡◌, ◌<◌, ◌≤◌, ◌+◌, ◌*◌, false, length, vec_len, IfOk, IfSome};
 ghost use Rattle.mig_base.specs.InputLists.{is_duplex};
-ghost use Rattle.mig_base.specs.Bounding.{gives, quotient, IsOneWay};
+ghost use Rattle.mig_base.specs.Bounding.{quotient};
 ghost use Rattle.mig_base.specs.Colourings.{IsLimited};
+ghost use Rattle.mig_base.specs.Lowered.{lowered_quotient, IsLowerable};
 ghost use Rattle.mig_base.specs.MadePlans.{Because, Reason};
 ghost use Rattle.mig_plan.specs.Coloured.{IsDealtBoard, SidesFit};
 
-use mig_base::{Colour, EdgeId};
+use crate::directions::directions_for;
+use crate::lowered::lowered_quotient;
+use mig_base::Colour;
 use mig_board::Board;
 use mig_duplex::{colour_duplex, colour_spread, colours_of};
 use mig_euler::orient;
@@ -26,78 +29,38 @@ const DEALINGS: u32 = 8;
 /// The first board has one more colour for so many of its first ones.
 const MORE: u32 = 32;
 
-/// Colours the edges by as many colours as the quotient, where each disk's joint limit covers the copies that these
-/// directions of the edges need on its two sides.
+/// Colours the edges by q colours, where each disk's joint limit covers the copies that these directions of the edges
+/// need on its two sides, of at most q ends each.
 fn colour_directed(
     alloc: Global,
     graph: &Graph,
     directions: &[bool],
+    q: u32,
 ) -> Result<Vec<Colour>, AllocError>
-    requires some { 0 < length graph.now.trips }
+    requires some { 1 ≤ q }
+    requires few { q ≤ length graph.now.trips }
     requires joint { is_duplex graph.now.disks ≡ false }
     requires directions { length directions.now ≡ length graph.now.trips }
-    requires fit { SidesFit graph.now directions.now }
-    ensures { IfOk result (λ v. IsLimited graph.now (quotient graph.now) v.items) }
+    requires fit { SidesFit graph.now q directions.now }
+    ensures { IfOk result (λ v. IsLimited graph.now q v.items) }
 {
     graph.keeps_rules();
-    colour_spread(alloc, graph, directions)
+    colour_spread(alloc, graph, directions, q)
 }
 
-/// Marks the disks that transfers leave, where none is marked yet.
-fn mark_givers(graph: &Graph, givers: &mut [bool])
-    requires len { length givers.old ≡ length graph.now.disks }
-    requires none { All (λ m. m ≡ false) givers.old }
-    ensures { (v : ℕ) → v < length givers.new → slice_index_or givers.new v false ≡ gives graph.now v }
-{
-    for edge in 0..graph.edges() {
-        let (from, _) = graph.ends(EdgeId(edge));
-        givers[from.0 as usize] = true;
-    }
-}
-
-/// Whether no transfer reaches a marked disk: one that transfers leave.
-fn spares(graph: &Graph, givers: &[bool]) -> bool
-    requires len { length givers.now ≡ length graph.now.disks }
-    requires marked { (v : ℕ) → v < length givers.now → slice_index_or givers.now v false ≡ gives graph.now v }
-    ensures { MatchBool result (IsOneWay graph.now) (¬ IsOneWay graph.now) }
-{
-    for edge in 0..graph.edges() {
-        let (_, to) = graph.ends(EdgeId(edge));
-        if givers[to.0 as usize] {
-            return false;
-        }
-    }
-    true
-}
-
-/// Whether each disk only gives items away or only takes them.
-fn is_one_way(alloc: Global, graph: &Graph) -> Result<bool, AllocError>
-    ensures { IfOk result (λ yes. MatchBool yes (IsOneWay graph.now) (¬ IsOneWay graph.now)) }
-{
-    let mut givers = vec![in alloc; false; graph.disks() as usize]?;
-    mark_givers(graph, &mut givers);
-    Ok(spares(graph, &givers))
-}
-
-/// Directions of the edges by which each disk's joint limit covers the copies that it needs on its two sides: where limits are
-/// even, directions that balance at each disk; where each disk only gives items away or only takes them, those of the
-/// transfers. None where neither is so.
-fn directions_for(alloc: Global, graph: &Graph) -> Result<Option<Vec<bool>>, AllocError>
-    requires joint { is_duplex graph.now.disks ≡ false }
-    requires some { 0 < length graph.now.trips }
-    ensures one_each { IfOk result (λ o. IfSome o (λ d. vec_len d ≡ length graph.now.trips)) }
-    ensures fit { IfOk result (λ o. IfSome o (λ d. SidesFit graph.now d.items)) }
-    ensures none { IfOk result (λ o. IfNone o ((why : Reason) → ¬ Because why graph.now)) }
+/// Colours the edges by joint limits that are lowered to even ones: as many colours do as the greatest quotient by
+/// these. The edges are directed so that they balance at each disk.
+pub fn colour_lowered(alloc: Global, graph: &Graph, q: u32) -> Result<Vec<Colour>, AllocError>
+    requires lowerable { IsLowerable graph.now }
+    requires quotient { q ≡ lowered_quotient graph.now }
+    ensures { IfOk result (λ v. IsLimited graph.now q v.items) }
 {
     graph.keeps_rules();
-    if graph.all_even() {
-        return Ok(Some(orient(alloc, graph)?));
+    if graph.edges() == 0 {
+        return Ok(Vec::new(alloc));
     }
-    if is_one_way(alloc, graph)? {
-        let directions = vec![in alloc; true; graph.edges() as usize]?;
-        return Ok(Some(directions));
-    }
-    Ok(None)
+    let directions = orient(alloc, graph)?;
+    colour_directed(alloc, graph, &directions, q)
 }
 
 /// Directions of so many edges for a dealing: those of the transfers for the first one, and others for each other
@@ -210,9 +173,34 @@ fn colour_general(
     Ok((colour_surely(alloc, graph, most, few)?, most))
 }
 
+/// Colours the edges whatever joint limits are, by `most` colours at most, which are three halves of the quotient, and
+/// gives the number of colours: where limits can be lowered to even ones and `start` colours are enough for these, that
+/// many at once.
+fn colour_any(
+    alloc: Global,
+    graph: &Graph,
+    most: u32,
+    start: u32,
+) -> Result<(Vec<Colour>, u32), AllocError>
+    requires joint { is_duplex graph.now.disks ≡ false }
+    requires some { 0 < length graph.now.trips }
+    requires enough { 3 * quotient graph.now ≤ 2 * most + 1 }
+    requires room { 2 * most ≤ 3 * quotient graph.now }
+    requires start { start ≤ most }
+    ensures limited { IfOk result (λ r. IsLimited graph.now r.1 r.0.items) }
+    ensures most { IfOk result (λ r. r.1 ≤ most) }
+{
+    if let Some(q) = lowered_quotient(graph) {
+        if q <= start {
+            return Ok((colour_lowered(alloc, graph, q)?, q));
+        }
+    }
+    colour_general(alloc, graph, most, start)
+}
+
 /// Colours the edges so that those of one colour keep each disk's limits, and gives the number of colours too: the
-/// quotient where limits are split, where they are even, and where each disk only gives items away or only takes them;
-/// else three halves of it at most. There fewer colours are tried first, from `start` on.
+/// quotient where limits are split, where they are even, and where each transfer goes from one side of the disks to the
+/// other; else three halves of it at most. There fewer colours are tried first, from `start` on.
 pub fn colour_moves(
     alloc: Global,
     graph: &Graph,
@@ -230,8 +218,8 @@ pub fn colour_moves(
         return Ok((colour_duplex(alloc, graph)?, q));
     }
     if let Some(directions) = directions_for(alloc, graph)? {
-        return Ok((colour_directed(alloc, graph, &directions)?, q));
+        return Ok((colour_directed(alloc, graph, &directions, q)?, q));
     }
     let most = 3 * q / 2;
-    colour_general(alloc, graph, most, start.max(q).min(most))
+    colour_any(alloc, graph, most, start.max(q).min(most))
 }

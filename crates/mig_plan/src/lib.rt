@@ -2,11 +2,14 @@
 #![tactic(auto)]
 
 mod colourings;
+mod directions;
+mod lowered;
 mod plans;
 mod rounds;
 mod rows;
 mod slots;
 mod targets;
 
-pub use plans::{make_plan, make_plan_from};
+pub use lowered::lowered_quotient;
+pub use plans::{make_lowered_plan, make_plan, make_plan_from};
 pub use targets::target_spots;

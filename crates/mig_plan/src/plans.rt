@@ -1,9 +1,12 @@
-ghost use Rattle.std.specs.Prelude.{◌≡◌, IfOk};
+ghost use Rattle.std.specs.Prelude.{◌≡◌, ◌≤◌, length, IfOk};
+ghost use Rattle.mig_base.specs.Lowered.{lowered_quotient, IsLowerable};
 ghost use Rattle.mig_base.specs.Transfers.{transfers};
 ghost use Rattle.mig_base.specs.Targets.{AreTargets, IsRoomy};
 ghost use Rattle.mig_base.specs.MadePlans.{IsPlanOf};
+ghost use Rattle.mig_base.specs.Planned.{GoesToTargets, IsFilled};
+ghost use Rattle.mig_base.specs.Running.{Once, PlanFits, Runs};
 
-use crate::colourings::colour_moves;
+use crate::colourings::{colour_lowered, colour_moves};
 use crate::rounds::plan_of;
 use crate::targets::target_spots;
 use mig_base::{Input, Plan, Spot};
@@ -32,7 +35,7 @@ fn plan_moves(
 ///
 /// Each relocated item is shifted once, from its spot to its target spot, and nothing else is shifted. No round is
 /// empty, and each round keeps each disk's limits. Where limits are split, where each disk that takes part has an even
-/// limit, and where each disk only gives items away or only takes them, the number of rounds is the quotient and no
+/// limit, and where each transfer goes from one side of the disks to the other, the number of rounds is the quotient and no
 /// schedule has fewer; else it is at most three halves of the quotient. Errs for want of memory only.
 pub fn make_plan(alloc: Global, input: &Input) -> Result<Plan, AllocError>
     requires roomy { IsRoomy input.now }
@@ -56,4 +59,28 @@ pub fn make_plan_from(
 {
     let targets = target_spots(alloc, input)?;
     plan_moves(alloc, input, graph, &targets, start)
+}
+
+/// A plan whose rounds keep joint limits that are lowered to even ones: it has at most as many rounds as the greatest
+/// quotient by these. Errs for want of memory only.
+pub fn make_lowered_plan(
+    alloc: Global,
+    input: &Input,
+    graph: &Graph,
+    rounds: u32,
+) -> Result<Plan, AllocError>
+    requires graph { graph.now ≡ transfers input.now }
+    requires roomy { IsRoomy input.now }
+    requires lowerable { IsLowerable graph.now }
+    requires rounds { rounds ≡ lowered_quotient graph.now }
+    ensures fits { IfOk result (PlanFits input.now) }
+    ensures runs { IfOk result (Runs input.now) }
+    ensures once { IfOk result (Once input.now) }
+    ensures targets { IfOk result (GoesToTargets input.now) }
+    ensures filled { IfOk result IsFilled }
+    ensures few { IfOk result (λ p. length p ≤ rounds) }
+{
+    let targets = target_spots(alloc, input)?;
+    let colours = colour_lowered(alloc, graph, rounds)?;
+    plan_of(alloc, input, graph, &targets, &colours, rounds)
 }

@@ -15,6 +15,8 @@ mod largest;
 #[cfg(test)]
 mod layouts;
 #[cfg(test)]
+mod lowered;
+#[cfg(test)]
 mod many_items;
 #[cfg(test)]
 mod planning;
@@ -28,3 +30,5 @@ mod rounds;
 mod scarce_folder;
 #[cfg(test)]
 mod split_limits;
+#[cfg(test)]
+mod tight_space;

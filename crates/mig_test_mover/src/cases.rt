@@ -2,7 +2,7 @@
 
 use mig_check::runs;
 use mig_csv::read_input;
-use mig_mover::{Job, prepare};
+use mig_jobs::{Job, prepare};
 use mig_text::read_plan;
 use std::alloc::Global;
 use std::panic::Expect;

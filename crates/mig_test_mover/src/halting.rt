@@ -3,8 +3,9 @@
 use crate::cases::{LEFT_TWICE, ONE_BY_ONE, Place, THREE_ITEMS, job_of, job_with};
 use crate::stores::{filled, holds};
 use mig_base::Cell;
+use mig_jobs::Job;
 use mig_lanes::start_lanes;
-use mig_mover::{Job, MoveFault, halt, stand};
+use mig_mover::{MoveFault, halt, stand};
 use mig_store::{MemStore, Pick};
 use std::alloc::Global;
 use std::panic::Expect;

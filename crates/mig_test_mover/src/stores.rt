@@ -5,7 +5,7 @@ ghost use Rattle.mig_store.specs.Memories.{aloft};
 use crate::cases::{Case, Place};
 use crate::cells::{cells_of, slot_of};
 use mig_base::Cell;
-use mig_mover::Job;
+use mig_jobs::Job;
 use mig_store::{MemStore, Store};
 use std::alloc::Global;
 use std::panic::Expect;

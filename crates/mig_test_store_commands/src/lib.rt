@@ -20,3 +20,5 @@ mod moving;
 mod stopping;
 #[cfg(test)]
 mod stores;
+#[cfg(test)]
+mod tight_space;

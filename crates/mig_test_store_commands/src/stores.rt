@@ -63,6 +63,13 @@ pub fn two_disks(rt: &impl Abort, alloc: Global) -> Cells {
     cells
 }
 
+/// The same, and the first four slots of the disk c.
+pub fn three_disks(rt: &impl Abort, alloc: Global) -> Cells {
+    let mut cells = two_disks(rt, alloc);
+    cells.add_disk(b'c').expect(rt, "ample memory");
+    cells
+}
+
 /// The number of one call alone, as the list of those that fail.
 pub fn failing_at(rt: &impl Abort, alloc: Global, call: u64) -> Vec<u64> {
     vec![in alloc; call].expect(rt, "ample memory")
@@ -76,7 +83,15 @@ pub fn store_of(rt: &impl Abort, alloc: Global, failing: Vec<u64>) -> MemStore
     MemStore::new(alloc, &cells.list, 200, failing).expect(rt, "ample memory")
 }
 
-/// A store of the same cells, all zeros, whose calls cannot fail.
+/// A store of the cells of three disks, all zeros. Its calls with these numbers fail.
+pub fn store_of_three(rt: &impl Abort, alloc: Global, failing: Vec<u64>) -> MemStore
+    ensures { aloft result ≡ [] }
+{
+    let cells = three_disks(rt, alloc);
+    MemStore::new(alloc, &cells.list, 200, failing).expect(rt, "ample memory")
+}
+
+/// A store of the cells of two disks, all zeros, whose calls cannot fail.
 pub fn sure_store(rt: &impl Abort, alloc: Global) -> SureStore {
     let cells = two_disks(rt, alloc);
     SureStore::new(alloc, &cells.list).expect(rt, "ample memory")
@@ -94,7 +109,7 @@ pub fn is_done(store: &MemStore) -> bool {
         && store.cell(&Cell::Mark { n: 2 }) == Some([1].as_slice())
 }
 
-/// Each disk holds what the other one held in the earlier store.
+/// Each of the first two disks holds what the other one held in the earlier store.
 pub fn are_exchanged(earlier: &MemStore, store: &MemStore) -> bool {
     for slot in 0..4 {
         let one = slot_of(b'a', slot);

@@ -31,4 +31,8 @@ mod stores;
 #[cfg(test)]
 mod streams;
 #[cfg(test)]
+mod tight_plans;
+#[cfg(test)]
+mod two_sides;
+#[cfg(test)]
 mod work_folder;

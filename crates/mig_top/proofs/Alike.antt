@@ -1,8 +1,9 @@
 -- Bytes that are alike are read alike: where a file is too long, that is the first thing that is wrong with it.
-use Rattle.mig_top.proofs.Common.{Accepted, Accepted-short, Alike, AreReadAlike, Bodies, CertLine, CertText, Disks, Fault, FileKind, Found, IsFinding, IsFirstOf, IsListing, IsNoCert, IsNoPlan}
-use Rattle.mig_top.proofs.Common.{IsRefusalBy, IsSame, LayoutBodies, List, ListingFault, ListingRefusedAs, Lists, MAX_FILE_BYTES, Next, NotSpelled, Now, Outcome, PlanLine, PlanText, Precedes}
-use Rattle.mig_top.proofs.Common.{Reader, Refused, RefusedAs, Roomy, Step, Why, ap, arith, cases_lt, inl, inr, length, length-take, rank_of, reads_cert, reads_input, reads_layout, reads_plan}
-use Rattle.mig_top.proofs.Common.{refl, stage_of, subst, suc, sym, take, take_all, zero, ℕ, ◌+◌, ◌<◌, ◌∙◌, ◌≡◌, ◌≤◌}
+use Rattle.mig_top.proofs.Common.{Accepted, Accepted-short, AcceptedTight, AcceptedTight-short, Alike, AreReadAlike, Bodies, CertLine, CertText, Disks, Fault, FileKind, Found, IsFinding}
+use Rattle.mig_top.proofs.Common.{IsFirstOf, IsListing, IsNoCert, IsNoPlan, IsRefusalBy, IsSame, LayoutBodies, List, ListingFault, ListingRefusedAs, Lists, MAX_FILE_BYTES, Next, NotSpelled, Now}
+use Rattle.mig_top.proofs.Common.{Outcome, PlanLine, PlanText, Precedes, Reader, Refused, RefusedAs, RefusedTightAs, Roomy, Step, Tight, Why, ap, arith, cases_lt, inl, inr, length, length-take}
+use Rattle.mig_top.proofs.Common.{other_cause, rank_of, reads_cert, reads_input, reads_layout, reads_plan, refl, refused_tight, refused_with_room, stage_of, subst, suc, sym, take, take_all, zero}
+use Rattle.mig_top.proofs.Common.{ℕ, ◌+◌, ◌<◌, ◌∙◌, ◌≡◌, ◌≤◌}
 use Rattle.mig_base.specs.declared.faults.Why.TheVariants as why
 use Rattle.mig_words.specs.declared.endings.TextFile.TheVariants as text_file
 
@@ -142,9 +143,23 @@ inputs_by : (reads : Bodies → Step Lists) → ((a b : Bodies) → AreAlike a b
     → ((a b : Bodies) → AreAlike a b → (o : Outcome) → (reads a).Stops o → (reads b).Stops o) → (a b : Bodies) → AreAlike a b → IsSame (reads a) (reads b)
 inputs_by = same_by AreAlike (λ a b like. (alike_sym a.disks b.disks like.0, alike_sym a.now b.now like.1, alike_sym a.next b.next like.2))
 
+-- the same where nobody asks for room: what is refused so is refused alike, and for no want of room
+tight_passes : (a b : Bodies) → AreAlike a b → (input : Lists) → AcceptedTight a input → AcceptedTight b input
+tight_passes a b like input h =
+    let d = short_same a.disks b.disks like.0 (AcceptedTight-short a input h Disks) in
+    let n = short_same a.now b.now like.1 (AcceptedTight-short a input h Now) in
+    let x = short_same a.next b.next like.2 (AcceptedTight-short a input h Next) in
+    subst (λ (c : Bodies). AcceptedTight c input) (λ i. three (d i) (n i) (x i)) h
+
+tight_refused : (a b : Bodies) → AreAlike a b → (f : FileKind) (r : ℕ) (w : Why) → RefusedTightAs a f r w → RefusedTightAs b f r w
+tight_refused a b like f r w h =
+    refused_tight b f r w (other_cause a f r w h.fault) (refused a.disks a.now a.next b.disks b.now b.next like.0 like.1 like.2 f r w (refused_with_room a f r w h))
+
 inputs : (reader : Reader) (a b : Bodies) → AreAlike a b → IsSame (reads_input reader a) (reads_input reader b)
 inputs Roomy = inputs_by (reads_input Roomy) input_passes
     (λ a b like. refusal_stops (RefusedAs a) (RefusedAs b) (refused a.disks a.now a.next b.disks b.now b.next like.0 like.1 like.2))
+inputs Tight = inputs_by (reads_input Tight) tight_passes
+    (λ a b like. refusal_stops (RefusedTightAs a) (RefusedTightAs b) (tight_refused a b like))
 
 -- Layouts
 

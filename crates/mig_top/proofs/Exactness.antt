@@ -1,11 +1,12 @@
 -- Each step of a command is exact, so what the cause of an outcome holds for comes.
-use Rattle.mig_top.proofs.Common.{Accepted, Accepted-IsInput, After, Audit, Blamed, Bodies, Call, Cert, Check, ComesExactly, DoesNotRun, Drill, EndsAs, FileKind, Files, Fill, Finding, FindsTask}
-use Rattle.mig_top.proofs.Common.{Form, FormCause, Halt, HoldsFirst, IsAudit, IsBegun, IsInput, IsLastLayout, IsListed, IsListing, IsMissing, IsNoCert, IsNoPlan, IsRefusalBy, IsRehearsed}
-use Rattle.mig_top.proofs.Common.{IsRight, IsSomeAnd, IsTooLarge, IsWrong, LayoutBodies, List, ListingRefusedAs, Lists, MAX_DRILL_SHIFTS, MAX_FILE_BYTES, Move, Names, NoFile, None, NotSpelled}
-use Rattle.mig_top.proofs.Common.{Option, Outcome, Plan, PlanBodies, Reader, Refused, RefusedAs, Rehearse, Resume, Roomy, Runs, Serves, Shift, Some, Stands, StoreFailed, Task, TaskNames}
-use Rattle.mig_top.proofs.Common.{TooLarge, Why, arith, case_in, checks, code, done_text, drill_text, file, filled_text, finding_code, finds_or, fits_drill, halted_text, inl, input_in, inr}
-use Rattle.mig_top.proofs.Common.{judges, layout_in, length, loads, loads_input, loads_layout, loads_plan, one_input, reads_cert, reads_input, reads_layout, reads_plan, reads_task, refl}
-use Rattle.mig_top.proofs.Common.{right_is_blameless, roomy, runs, runs_blameless, same_cert, same_plan, shifts_of, subst, sym, take, task_in, words, ℕ, ⊎_elim, ◌+◌, ◌∙◌, ◌≡◌, ◌≤◌}
+use Rattle.mig_top.proofs.Common.{Accepted, Accepted-IsInput, AcceptedTight, AcceptedTight-IsInput, After, Audit, Blamed, Bodies, Call, Cert, Check, ComesExactly, DoesNotRun, Drill, EndsAs}
+use Rattle.mig_top.proofs.Common.{FileKind, Files, Fill, Finding, FindsTask, Fits, Form, FormCause, Halt, HasFreeSlot, HasMove, HoldsFirst, IsAudit, IsBegun, IsInput, IsLastLayout, IsListed}
+use Rattle.mig_top.proofs.Common.{IsListing, IsMissing, IsNoCert, IsNoPlan, IsRefusalBy, IsRehearsed, IsRight, IsSomeAnd, IsTightWrong, IsTooLarge, IsWrong, LayoutBodies, List, ListingRefusedAs}
+use Rattle.mig_top.proofs.Common.{Lists, MAX_DRILL_SHIFTS, MAX_FILE_BYTES, Move, Names, NoFile, NoFreeSlot, None, NotSpelled, Option, Outcome, Plan, PlanBodies, PlanTight, Reader, Refused}
+use Rattle.mig_top.proofs.Common.{RefusedAs, RefusedTightAs, Rehearse, Resume, Roomy, Runs, Serves, Shift, Some, Stands, StoreFailed, Task, TaskNames, Tight, TooLarge, TooMany, Why, arith}
+use Rattle.mig_top.proofs.Common.{case_in, checks, code, done_text, drill_text, file, filled_text, finding_code, finds_or, fits_drill, fits_tight, halted_text, inl, input_by, input_in, inr}
+use Rattle.mig_top.proofs.Common.{judges, layout_in, length, loads, loads_input, loads_layout, loads_plan, one_input, one_tight, reads_cert, reads_input, reads_layout, reads_plan, reads_task}
+use Rattle.mig_top.proofs.Common.{refl, right_is_blameless, roomy, runs, runs_blameless, same_cert, same_plan, shifts_of, subst, sym, take, task_in, ℕ, ⊎_elim, ◌+◌, ◌∙◌, ◌≡◌, ◌≤◌}
 use Rattle.mig_words.specs.declared.endings.TextFile.TheVariants as text_file
 use Rattle.mig_top.proofs.EndsOf.{ends_so}
 use Rattle.mig_top.proofs.StoreExact.{fills_exact, resumes_exact, stands_exact, starts_exact}
@@ -63,10 +64,12 @@ refused_exact Is IsRefused one apart = or_exact Is (IsRefusalBy IsRefused) 3 one
 
 input_exact : (reader : Reader) (bodies : Bodies) → IsExact (reads_input reader bodies)
 input_exact Roomy bodies = refused_exact (Accepted bodies) (RefusedAs bodies) (one_input bodies) (λ f n w h input k. k.sound f n w h.fault)
+input_exact Tight bodies = refused_exact (AcceptedTight bodies) (RefusedTightAs bodies) (one_tight bodies) (λ f n w h input k. k.sound f n w h.fault)
 
 -- and what they read is as every input is
 accepted_valid : (reader : Reader) (bodies : Bodies) (input : Lists) → (reads_input reader bodies).Passes input → IsInput input
 accepted_valid Roomy bodies input accepted = Accepted-IsInput bodies input accepted
+accepted_valid Tight bodies input accepted = AcceptedTight-IsInput bodies input accepted
 
 layout_exact : (bodies : LayoutBodies) → IsExact (reads_layout bodies)
 layout_exact bodies =
@@ -103,8 +106,11 @@ task_exact reader bodies =
 
 -- In a folder
 
+pub input_by_exact : (reader : Reader) (names : Names) (files : Files) → IsExact (input_by reader names files)
+input_by_exact reader names files = then_exact _ (input_loads names files) _ (λ bodies _. input_exact reader bodies)
+
 pub input_in_exact : (names : Names) (files : Files) → IsExact (input_in names files)
-input_in_exact names files = then_exact _ (input_loads names files) _ (λ bodies _. input_exact Roomy bodies)
+input_in_exact = input_by_exact Roomy
 
 pub layout_in_exact : (disks now : List ℕ) (files : Files) → IsExact (layout_in disks now files)
 layout_in_exact disks now files = then_exact _ (layout_loads disks now files) _ (λ bodies _. layout_exact bodies)
@@ -114,13 +120,21 @@ task_in_exact names files = then_exact _ (plan_loads names.files files) _ (λ bo
 
 -- what files stand for is as every input is, and the plan of a task runs
 pub is_input : (files : Files) (names : Names) (input : Lists) → Stands files names input → IsInput input
-is_input files names input h = Accepted-IsInput h.bodies input h.accepted
+is_input files names input h = Accepted-IsInput h.bodies input h.read
 
 pub is_task : (files : Files) (names : TaskNames) (task : Task) → FindsTask files names task → IsInput task.input × Runs task.input task.plan
 is_task files names task (bodies, there, (input, accepted, (rounds, spelled, (u, ran, is)))) =
     subst (λ (t : Task). IsInput t.input × Runs t.input t.plan) (sym is) (accepted_valid names.reader bodies.input input accepted, ran)
 
 -- The other steps
+
+tight_exact : (input : Lists) → IsExact (fits_tight input)
+tight_exact input = or_exact (λ _. Fits input × (HasMove input → HasFreeSlot input)) (IsTightWrong input) 13 (λ a b h k. refl) wrong
+  where
+    wrong : (f : Finding) → IsTightWrong input f → (finding_code f ≡ 13) × ((u : Unit {0}) → Fits input × (HasMove input → HasFreeSlot input) → ⊥)
+    wrong (TooMany name needs slots) h = (refl, λ u fits. absurd (omega (arith, h.1.over, h.1.needs_is, h.1.slots_is, fits.0 h.0 h.1.there)))
+    wrong NoFreeSlot h = (refl, λ u fits. h.2 (fits.1 h.1))
+    wrong _ h = absurd h
 
 drill_exact : (rounds : List (List Shift)) → IsExact (fits_drill rounds)
 drill_exact rounds = or_exact (λ _. length (shifts_of rounds) ≤ MAX_DRILL_SHIFTS) (IsTooLarge rounds) 11 (λ a b h k. refl) wrong
@@ -150,6 +164,9 @@ pub forms_exact : (k : Call) (files : Files) (form : Form) → Serves k files fo
 forms_exact k files (Plan names cert) serves =
     one_end _ (then_once _ (input_in_exact names files) _ (λ _ _. finds_once (λ (text : List ℕ). Unit {0})))
 forms_exact k files (Check names cert) serves = one_end _ (once (checks_exact names cert files))
+forms_exact k files (PlanTight names) serves =
+    one_end _ (then_once _ (input_by_exact Tight names files) _ (λ input _.
+    then_once _ (tight_exact input) _ (λ _ _. finds_once (λ (text : List ℕ). Unit {0}))))
 forms_exact k files (After names) serves = one_end _ (then_once _ (task_in_exact names files) _ (λ task _. finds_once (IsLastLayout task.input task.plan)))
 forms_exact k files (Drill names) serves =
     one_end _ (once

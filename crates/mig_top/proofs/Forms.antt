@@ -1,6 +1,6 @@
 -- Words are those of one command.
-use Rattle.mig_top.proofs.Common.{After, Audit, Check, Drill, Fill, Form, Halt, List, Move, Names, None, Option, Plan, Reader, Rehearse, Resume, Roomy, Some, TaskNames, [], ap, bytes_eq, codes}
-use Rattle.mig_top.proofs.Common.{if◌then◌else◌, refl, sym, word_by, words_of, ℕ, ◌∙◌, ◌∷◌, ◌≡◌}
+use Rattle.mig_top.proofs.Common.{After, Audit, Check, Drill, Fill, Form, Halt, List, Move, Names, None, Option, Plan, PlanTight, Reader, Rehearse, Resume, Roomy, Some, TaskNames, Tight, [], ap}
+use Rattle.mig_top.proofs.Common.{bytes_eq, codes, if◌then◌else◌, refl, sym, word_by, words_of, ℕ, ◌∙◌, ◌∷◌, ◌≡◌}
 
 abbrev four : (disks now next plan : List ℕ) → Names
 four disks now next plan = record { disks = disks; now = now; next = next; plan = plan }
@@ -21,10 +21,12 @@ over_five reader word names last other = if bytes_eq word (word_by reader (codes
 abbrev form_by : List (List ℕ) → Option Form
 form_by (word ∷ a ∷ b ∷ []) = if bytes_eq word (codes "fill") then Some (Fill a b) else if bytes_eq word (codes "audit") then Some (Audit a b) else None
 form_by (word ∷ a ∷ b ∷ c ∷ []) = if bytes_eq word (codes "rehearse") then Some (Rehearse a b c) else None
-form_by (word ∷ a ∷ b ∷ c ∷ d ∷ []) = if bytes_eq word (codes "drill") then Some (Drill (four a b c d)) else over_four Roomy word (four a b c d) None
+form_by (word ∷ a ∷ b ∷ c ∷ d ∷ []) =
+    if bytes_eq word (codes "drill") then Some (Drill (four a b c d)) else if bytes_eq word (codes "plan-tight") then Some (PlanTight (four a b c d))
+    else over_four Roomy word (four a b c d) (over_four Tight word (four a b c d) None)
 form_by (word ∷ a ∷ b ∷ c ∷ d ∷ e ∷ []) =
     if bytes_eq word (codes "plan") then Some (Plan (four a b c d) e) else if bytes_eq word (codes "check") then Some (Check (four a b c d) e)
-    else over_five Roomy word (four a b c d) e None
+    else over_five Roomy word (four a b c d) e (over_five Tight word (four a b c d) e None)
 form_by _ = None
 
 -- each is found by its words
@@ -36,10 +38,12 @@ pub record IsFound (reader : Reader) (names : Names) : Type 0 where
 
 found_by : (reader : Reader) (names : Names) → IsFound reader names
 found_by Roomy names = record { after = refl; move = refl; resume = refl; halt = λ layout. refl }
+found_by Tight names = record { after = refl; move = refl; resume = refl; halt = λ layout. refl }
 
 by_words : (form : Form) → form_by (words_of form) ≡ Some form
 by_words (Plan names cert) = refl
 by_words (Check names cert) = refl
+by_words (PlanTight names) = refl
 by_words (After task) = (found_by task.reader task.files).after
 by_words (Fill disks now) = refl
 by_words (Audit disks now) = refl

@@ -2,11 +2,11 @@
 use Rattle.mig_top.proofs.Common.{Accepted, AreRefused, AreSaved, AreThere, Audit, AuditsWell, Because, Bodies, Bound, Call, CauseIn, Check, ChecksSaved, Done, Drill, DrillsWell, EndsAs, Extends}
 use Rattle.mig_top.proofs.Common.{FileKind, Files, Fill, FillsWell, FindsTask, FolderFailed, FolderFault, Form, FormCause, Found, HasPlanned, HoldsFirst, HoldsLayout, IsAudit, IsDiskBound}
 use Rattle.mig_top.proofs.Common.{IsEndOf, IsFillCell, IsFilled, IsInput, IsListed, IsMissing, IsOrNotPut, IsPlanSaved, IsRight, IsSomeAnd, IsUntouched, List, Lists, MAX_DRILL_SHIFTS}
-use Rattle.mig_top.proofs.Common.{MAX_FILE_BYTES, Memory, Names, NoFile, None, Nothing, OfDisk, OfSet, OfSide, Option, Outcome, Plan, PlanBodies, PlansWell, Reason, Refusal, Refused, SinkFailed}
-use Rattle.mig_top.proofs.Common.{SinkFault, Some, Stands, StandsForNone, Step, StoreFault, Task, TellsStill, TooLarge, Unlisted, Untouched, Why, WorldEnds, WritesApart, [], after, ap, arith}
-use Rattle.mig_top.proofs.Common.{bound_value, checks, code, codes, drill_text, eq-eqb, file, filled_text, fills, finds, first, fits_drill, if◌then◌else◌, inl, inr, layout_in, length, loads}
-use Rattle.mig_top.proofs.Common.{loads_input, loads_plan, quotient, refl, roomy, runs, second, shifts_of, stands, subst, sym, take, take_all, task_in, transfers, verdict_text, words, zero, ℕ}
-use Rattle.mig_top.proofs.Common.{⊎_elim, ◌++◌, ◌+◌, ◌<◌, ◌∙◌, ◌≡◌, ◌≢◌, ◌≤◌, ◌⊎◌}
+use Rattle.mig_top.proofs.Common.{MAX_FILE_BYTES, Memory, Names, NoFile, None, Nothing, OfDisk, OfSet, OfSide, Option, Outcome, Plan, PlanBodies, PlansWell, Reason, Refusal, Refused, Roomy}
+use Rattle.mig_top.proofs.Common.{SinkFailed, SinkFault, Some, Stands, StandsForNone, Step, StoreFault, Task, TellsStill, TooLarge, Unlisted, Untouched, Why, WorldEnds, WritesApart, [], after}
+use Rattle.mig_top.proofs.Common.{ap, arith, bound_value, checks, code, codes, drill_text, eq-eqb, file, filled_text, finds, first, fits_drill, if◌then◌else◌, inl, inr, layout_in, length}
+use Rattle.mig_top.proofs.Common.{loads_input, loads_plan, quotient, refl, roomy, second, shifts_of, stands, subst, sym, take, take_all, task_in, transfers, verdict_text}
+use Rattle.mig_top.proofs.Common.{ℕ, ⊎_elim, ◌++◌, ◌+◌, ◌<◌, ◌∙◌, ◌≡◌, ◌≢◌, ◌≤◌, ◌⊎◌}
 use Rattle.mig_top.proofs.Plainly.{found_input, loads_there, there_loads}
 use Rattle.mig_top.proofs.EndsOf.{cause_at, done_by, ends_of, ends_so, holds_by, put_by, refusal_between, told_at}
 use Rattle.mig_top.proofs.Exactness.{checks_exact, comes_exactly, input_loads, is_input, layout_in_exact, task_in_exact}
@@ -16,30 +16,30 @@ use Rattle.mig_top.proofs.Steps.{follow, lead}
 use Rattle.mig_text.proofs.ShiftCounts as plan_lengths
 use Rattle.mig_cert.proofs.CertLengths as cert_lengths
 
-some_and_map : {X : Type 0} (P Q : X → Type 0) (o : Option X) → ((x : X) → P x → Q x) → IsSomeAnd o P → IsSomeAnd o Q
+pub some_and_map : {X : Type 0} (P Q : X → Type 0) (o : Option X) → ((x : X) → P x → Q x) → IsSomeAnd o P → IsSomeAnd o Q
 some_and_map P Q None f h = h
 some_and_map P Q (Some x) f h = f x h
+
+-- loading ends a command where a file isn't there, and only then
+abbrev pub IsNoFile : Outcome → Type 0
+IsNoFile (NoFile word) = Unit {0}
+IsNoFile _ = ⊥
+
+is_no_file : (files : Files) (name : List ℕ) (o : Outcome) → IsMissing name files o → IsNoFile o
+is_no_file files name (NoFile word) h = tt
+is_no_file files name _ h = absurd h
+
+pub loads_stop : (files : Files) (names : Names) (o : Outcome) → (loads_input names files).Stops o → IsNoFile o
+loads_stop files names o (inl (inl h)) = is_no_file files names.disks o h
+loads_stop files names o (inl (inr (d, first, inl h))) = is_no_file files names.now o h
+loads_stop files names o (inl (inr (d, first, inr (n, second, none)))) = absurd none
+loads_stop files names o (inr (layout, there, inl h)) = is_no_file files names.next o h
+loads_stop files names o (inr (layout, there, inr (x, third, none))) = absurd none
 
 -- what `plan` promises
 module _ (k : Call) (names : Names) (cert : List ℕ) (files : Files) (is : k.before.folder.files ≡ Some files) where
   abbrev form : Form
   form = Plan names cert
-
-  -- loading ends a command where a file isn't there, and only then
-  abbrev IsNoFile : Outcome → Type 0
-  IsNoFile (NoFile word) = Unit {0}
-  IsNoFile _ = ⊥
-
-  is_no_file : (name : List ℕ) (o : Outcome) → IsMissing name files o → IsNoFile o
-  is_no_file name (NoFile word) h = tt
-  is_no_file name _ h = absurd h
-
-  loads_stop : (o : Outcome) → (loads_input names files).Stops o → IsNoFile o
-  loads_stop o (inl (inl h)) = is_no_file names.disks o h
-  loads_stop o (inl (inr (d, first, inl h))) = is_no_file names.now o h
-  loads_stop o (inl (inr (d, first, inr (n, second, none)))) = absurd none
-  loads_stop o (inr (layout, there, inl h)) = is_no_file names.next o h
-  loads_stop o (inr (layout, there, inr (x, third, none))) = absurd none
 
   -- the cause of each outcome of `plan`
   abbrev Means : Outcome → Type 0
@@ -49,11 +49,11 @@ module _ (k : Call) (names : Names) (cert : List ℕ) (files : Files) (is : k.be
   Means _ = ⊥
 
   means : (o : Outcome) → FormCause files k.before.store form o → Means o
-  means (Done text) h = (h.0, found_input files names h.0 h.1)
-  means (Found (Refused f n w)) (inl (inl h)) = absurd (loads_stop (Found (Refused f n w)) h)
+  means (Done text) h = (h.0, found_input Roomy files names h.0 h.1)
+  means (Found (Refused f n w)) (inl (inl h)) = absurd (loads_stop files names (Found (Refused f n w)) h)
   means (Found (Refused f n w)) (inl (inr (bodies, there, refused))) = record { bodies = bodies; there = loads_there files names bodies there; refused = refused }
   means (NoFile word) (inl (inl h)) = λ bodies there. (input_loads names files).not_both bodies (NoFile word) (there_loads files names bodies there) h
-  means o (inl (inl h)) = absurd (loads_stop o h)
+  means o (inl (inl h)) = absurd (loads_stop files names o h)
   means o (inl (inr (bodies, there, none))) = absurd none
   means o (inr (input, stands, none)) = absurd none
 
@@ -67,7 +67,7 @@ module _ (k : Call) (names : Names) (cert : List ℕ) (files : Files) (is : k.be
       by (input, s) =
           let loads = there_loads files names in
           let same = (input_loads names files).one_found s.bodies none.bodies (loads s.bodies s.there) (loads none.bodies none.there) in
-          none.none input (subst (λ (b : Bodies). Accepted b input) same s.accepted)
+          none.none input (subst (λ (b : Bodies). Accepted b input) same s.read)
 
   module _ {status : ℕ} where
     ends_by : (o : Outcome) → Means o → status ≡ code o → (bodies : Bodies) → AreThere files names bodies → (status ≡ 0) ⊎ (status ≡ 3) ⊎ (status ≡ 7)
@@ -145,7 +145,7 @@ module _ (names : Names) (cert text : List ℕ) (old files : Files) (apart : Wri
   is_verdict =
       let t = saved.texts in
       let b : PlanBodies = record { input = saved.stands.bodies; plan = saved.plan_text } in
-      (b, loaded, (text, whole cert text cert_saved short_cert, (saved.input, saved.stands.accepted, (t.rounds, (t.plan_spelled, short_plan), (t.certificate, (t.cert_spelled, short_cert), right)))))
+      (b, loaded, (text, whole cert text cert_saved short_cert, (saved.input, saved.stands.read, (t.rounds, (t.plan_spelled, short_plan), (t.certificate, (t.cert_spelled, short_cert), right)))))
 
   -- a bound that is a disk or a side of the quotient's value has that value
   disk_value_is : (bound : Bound) (q : ℕ) → IsDiskBound bound q → bound_value bound ≡ q

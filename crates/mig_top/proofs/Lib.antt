@@ -14,3 +14,5 @@ pub mod StoreCommands
 pub mod StoreEnds
 pub mod StoreExact
 pub mod TaskHeadline
+pub mod TightHeadline
+pub mod TightSaves

@@ -1,6 +1,6 @@
 -- What files stand for, told plainly, is what the steps find that load and read them.
-use Rattle.mig_top.proofs.Common.{AreThere, Bodies, Files, FindsTask, HoldsFirst, IsTaskOf, LayoutBodies, List, Lists, Names, PlanBodies, Stands, Task, TaskNames, ap, input_in, loads_input, refl}
-use Rattle.mig_top.proofs.Common.{subst, sym, ℕ, ◌∙◌}
+use Rattle.mig_top.proofs.Common.{AreThere, Bodies, Files, FindsTask, HoldsFirst, IsTaskOf, LayoutBodies, List, Lists, Names, PlanBodies, Reader, StandsBy, Task, TaskNames, ap, input_by}
+use Rattle.mig_top.proofs.Common.{loads_input, refl, subst, sym, ℕ, ◌∙◌}
 
 pub there_loads : (files : Files) (names : Names) (bodies : Bodies) → AreThere files names bodies → (loads_input names files).Passes bodies
 there_loads files names bodies h =
@@ -11,11 +11,11 @@ loads_there files names bodies (layout, (d, disks, (n, now, is)), (x, next, at))
     let of : LayoutBodies → Bodies = λ l. record { disks = l.disks; now = l.now; next = x } in
     subst (AreThere files names) (sym (at ∙ ap of is)) (record { disks = disks; now = now; next = next })
 
-pub input_found : (files : Files) (names : Names) (input : Lists) → Stands files names input → (input_in names files).Passes input
-input_found files names input h = (h.bodies, there_loads files names h.bodies h.there, h.accepted)
+pub input_found : (reader : Reader) (files : Files) (names : Names) (input : Lists) → StandsBy reader files names input → (input_by reader names files).Passes input
+input_found reader files names input h = (h.bodies, there_loads files names h.bodies h.there, h.read)
 
-pub found_input : (files : Files) (names : Names) (input : Lists) → (input_in names files).Passes input → Stands files names input
-found_input files names input (bodies, there, accepted) = record { bodies = bodies; there = loads_there files names bodies there; accepted = accepted }
+pub found_input : (reader : Reader) (files : Files) (names : Names) (input : Lists) → (input_by reader names files).Passes input → StandsBy reader files names input
+found_input reader files names input (bodies, there, read) = record { bodies = bodies; there = loads_there files names bodies there; read = read }
 
 pub task_found : (files : Files) (names : TaskNames) (task : Task) → IsTaskOf files names task → FindsTask files names task
 task_found files names task h =

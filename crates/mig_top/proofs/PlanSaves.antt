@@ -1,6 +1,6 @@
 -- The two saves of `plan`.
-use Rattle.mig_top.proofs.Common.{AreSaved, Done, Files, FolderFault, FolderState, IfSome, IsPlanSaved, IsSomeAnd, List, Names, None, Option, OthersStay, Outcome, PlanLeaves, PlanTexts, Saves}
-use Rattle.mig_top.proofs.Common.{Some, Untouched, after, inl, plans_texts, stands, subst, ℕ, ◌∙◌, ◌≡◌, ◌≢◌}
+use Rattle.mig_top.proofs.Common.{AreSaved, Done, Files, FolderFault, FolderState, IfSome, IsPlanSaved, IsSomeAnd, List, Names, None, Option, OthersStay, Outcome, PlanLeaves, PlanTexts, Roomy}
+use Rattle.mig_top.proofs.Common.{Saves, Some, Untouched, after, inl, plans_texts, subst, ℕ, ◌∙◌, ◌≡◌, ◌≢◌}
 use Rattle.mig_top.proofs.Plainly.{found_input}
 use Rattle.mig_top.proofs.EndsOf.{IsUnread, one_changed}
 
@@ -14,7 +14,7 @@ module _ (names : Names) (cert : List ℕ) (apart : names.plan ≢ cert) (texts 
   is_saved : (old m new : Files) → (plans_texts names old).Passes texts → Saves names.plan texts.plan old m → OthersStay cert m new → IsPlanSaved names cert texts.cert old new
   is_saved old m new made a others = record {
     input = made.0;
-    stands = found_input old names made.0 made.1;
+    stands = found_input Roomy old names made.0 made.1;
     plan_text = texts.plan;
     texts = made.2;
     saved = others names.plan apart ∙ a.saved;

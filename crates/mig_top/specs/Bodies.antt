@@ -6,7 +6,9 @@ use Rattle.mig_top.specs.declared.loads.PlanBytes.{PlanBytes}
 use Rattle.mig_top.specs.declared.plan_command.Texts.{Texts}
 use Rattle.mig_top.specs.declared.tasks.Runnable.{Runnable}
 use Rattle.mig_top.specs.Loads.{LayoutBodies, PlanBodies, task_of}
-use Rattle.mig_top.specs.Planned.{PlanTexts}
+use Rattle.mig_top.specs.plan.Texts.{PlanTexts}
+use Rattle.mig_top.specs.plan_tight.Texts.{TightTexts, counts_text}
+use Rattle.mig_top.specs.declared.tight_command.TightText.{TightText}
 
 -- the bytes of a layout, of an input, and of a plan
 abbrev pub two_bodies_of : LayoutBytes → LayoutBodies
@@ -25,3 +27,7 @@ task_read read = task_of read.text.items read.input read.plan
 -- the texts of a plan and of its certificate
 abbrev pub texts_of : Texts → PlanTexts
 texts_of texts = record { plan = texts.plan.items; cert = texts.cert.items }
+
+-- the text of a tight plan, and what is put of it
+abbrev pub tight_texts_of : TightText → TightTexts
+tight_texts_of text = record { plan = text.plan.items; told = counts_text text.rounds text.parked }

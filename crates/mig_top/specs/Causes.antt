@@ -1,12 +1,17 @@
 -- Why a command ends as it does: its steps over the files and the store that it finds.
 use Rattle.std.specs.Prelude.{List, codes, if◌then◌else◌, length, ℕ, ◌<◌, ◌==◌, ◌≡◌, ◌≤◌}
 use Rattle.mig_top.specs.Common.{After, At, Audit, Blamed, Bodies, Cert, CertHolds, Check, Drill, Files, Fill, Finding, FirstBlame, Form, Halt, IsListOf, LayoutText, Lists, MAX_DRILL_SHIFTS}
-use Rattle.mig_top.specs.Common.{Move, Names, Once, Outcome, Plan, Rehearse, Resume, Roomy, Runs, Shift, Spot, State, TaskNames, TooLarge, bound_value, drill_text, named, roomy, shifts_of}
-use Rattle.mig_top.specs.Looks.{halted_text, stands, done_text, resumes, starts, fills, filled_text}
-use Rattle.mig_top.specs.Loads.{PlanBodies, input_in, layout_in, loads, loads_plan, reads_cert, reads_input, reads_plan, task_in}
-use Rattle.mig_top.specs.Planned.{AreTextsOf, PlanTexts, IsRehearsed, case_in}
-use Rattle.mig_top.specs.Audits.{IsAudit}
+use Rattle.mig_top.specs.Common.{Move, Names, Once, Outcome, Plan, PlanTight, Rehearse, Resume, Roomy, Runs, Shift, Spot, State, TaskNames, Tight, TooLarge, bound_value, drill_text, named, roomy}
+use Rattle.mig_top.specs.Common.{shifts_of}
+use Rattle.mig_top.specs.carry.Looks.{done_text, resumes, starts}
+use Rattle.mig_top.specs.fill.Looks.{filled_text, fills}
+use Rattle.mig_top.specs.halt.Looks.{halted_text, stands}
+use Rattle.mig_top.specs.Loads.{PlanBodies, input_by, input_in, layout_in, loads, loads_plan, reads_cert, reads_input, reads_plan, task_in}
+use Rattle.mig_top.specs.plan.Texts.{AreTextsOf, PlanTexts}
+use Rattle.mig_top.specs.rehearse.Texts.{IsRehearsed, case_in}
+use Rattle.mig_top.specs.audit.Sights.{IsAudit}
 use Rattle.mig_top.specs.Steps.{Step, after, finds, finds_or, IsEndOf}
+use Rattle.mig_top.specs.plan_tight.Texts.{AreTightTexts, TightTexts, fits_tight}
 
 -- The steps of `check`, of `after` and of `drill` once their files are read
 
@@ -57,6 +62,19 @@ plans_texts names files = after (input_in names files) (λ input. finds (AreText
 abbrev pub plans : Names → Files → Step (List ℕ)
 plans names files = after (input_in names files) (λ input. finds (λ text. Unit {0}))
 
+-- `plan-tight`, up to its texts, and as a command
+abbrev pub makes_tight : Lists → Step TightTexts
+makes_tight input = after (fits_tight input) (λ _. finds (AreTightTexts input))
+
+abbrev pub plans_tight_texts : Names → Files → Step TightTexts
+plans_tight_texts names files = after (input_by Tight names files) makes_tight
+
+abbrev pub plans_tight : Names → Files → Step (List ℕ)
+plans_tight names files =
+    after (input_by Tight names files) (λ input.
+    after (fits_tight input) (λ _.
+    finds (λ text. Unit {0})))
+
 -- `check`, once its files are loaded, and as a command
 abbrev pub reads_verdict : PlanBodies → List ℕ → Step (List ℕ)
 reads_verdict bodies cert =
@@ -87,6 +105,7 @@ drills names files =
 abbrev pub command : Files → State → Form → Step (List ℕ)
 command files store (Plan names cert) = plans names files
 command files store (Check names cert) = checks names cert files
+command files store (PlanTight names) = plans_tight names files
 command files store (After names) = lays_out names files
 command files store (Drill names) = drills names files
 command files store (Fill disks now) =

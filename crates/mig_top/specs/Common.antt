@@ -15,7 +15,7 @@ pub use Rattle.mig_base.specs.Judging.{FirstBlame, IsRunBlame}
 pub use Rattle.mig_base.specs.Layouts.{At, IsListOf}
 pub use Rattle.mig_base.specs.PlanLines.{PlanLine}
 pub use Rattle.mig_base.specs.Readiness.{IsReady, shifts_of}
-pub use Rattle.mig_base.specs.Refusals.{Accepted, RefusedAs}
+pub use Rattle.mig_base.specs.Refusals.{Accepted, AcceptedTight, RefusedAs, RefusedTightAs}
 pub use Rattle.mig_base.specs.RoundEvents.{Adds, BeginsRun, IsRun}
 pub use Rattle.mig_base.specs.Rows.{Bodies}
 pub use Rattle.mig_base.specs.Running.{Once, Runs}
@@ -23,6 +23,7 @@ pub use Rattle.mig_base.specs.Safety.{Contents, IsSafe, IsSound}
 pub use Rattle.mig_base.specs.Slots.{HasHeader, IsListedCell, item_cell}
 pub use Rattle.mig_base.specs.Stores.{Changes, IsLeftBut, IsMoving, IsSettled, LeavesOnly, Looks, State, flights}
 pub use Rattle.mig_base.specs.Tasks.{Task}
+pub use Rattle.mig_base.specs.TightPlans.{Fits, HasFreeSlot, HasMove, HasNoPlan, IsTightPlan, parked}
 pub use Rattle.mig_base.specs.Texts.{CertText, LayoutText, PlanText, disk_name, item_name, text_of_lines, words}
 pub use Rattle.mig_base.specs.Transfers.{moves, transfers}
 pub use Rattle.mig_base.specs.declared.cells.Cell.{Cell}
@@ -38,25 +39,25 @@ pub use Rattle.mig_best.specs.Certified.{IsCertified}
 pub use Rattle.mig_csv.specs.Listings.{IsListing, ListingRefusedAs}
 pub use Rattle.mig_drill.specs.Drills.{drill_text}
 pub use Rattle.mig_drill.specs.declared.limits.TheConstants.{MAX_DRILL_SHIFTS}
+pub use Rattle.mig_fill.specs.Fillings.{HasMade, IsFillRefusal, IsFillable}
+pub use Rattle.mig_fill.specs.declared.sights.Sight.{Sight}
 pub use Rattle.mig_gen.specs.MadeCases.{case_of}
 pub use Rattle.mig_io.specs.Files.{ChangedOnly, Files, FolderState, OthersStay, Saves, file}
 pub use Rattle.mig_io.specs.Held.{Extends, ExtendsInPart, SinkState}
 pub use Rattle.mig_lanes.specs.LaneSteps.{later_rounds}
 pub use Rattle.mig_lanes.specs.Runs.{Finishes, IsPart}
-pub use Rattle.mig_mover.specs.Fillings.{HasMade, IsFillRefusal, IsFillable}
 pub use Rattle.mig_mover.specs.Halts.{IsClosingCell}
 pub use Rattle.mig_mover.specs.Moves.{IsReadyIdle, IsRefusal, Keeps, Lands, MayBeHalting, Settles, StaysArmed}
 pub use Rattle.mig_mover.specs.declared.faults.MoveFault.{MoveFault}
 pub use Rattle.mig_mover.specs.declared.faults.MoveFault.TheVariants.{NotStarted, OtherPlan, Started}
-pub use Rattle.mig_mover.specs.declared.sights.Sight.{Sight}
-pub use Rattle.mig_words.specs.Outcomes.{Done, Outcome, Refusal, SinkFault, StoreFault, Unlisted, code, fault_outcome, joined, named, text_of}
-pub use Rattle.mig_words.specs.Words.{After, Audit, Check, Drill, Fill, Form, Halt, IsListed, Move, Names, Plan, Rehearse, Resume, TaskNames, roomy}
+pub use Rattle.mig_words.specs.Outcomes.{Done, Outcome, Refusal, SinkFault, StoreFault, Unlisted, code, disk_listed, fault_outcome, joined, named, text_of}
+pub use Rattle.mig_words.specs.Words.{After, Audit, Check, Drill, Fill, Form, Halt, IsListed, Move, Names, Plan, PlanTight, Rehearse, Resume, TaskNames, roomy}
 pub use Rattle.mig_words.specs.declared.endings.Ending.{Ending}
 pub use Rattle.mig_words.specs.declared.endings.Ending.TheVariants.{Found}
 pub use Rattle.mig_words.specs.declared.endings.Finding.{Finding}
-pub use Rattle.mig_words.specs.declared.endings.Finding.TheVariants.{Blamed, NotSpelled, Refused, TooLarge}
+pub use Rattle.mig_words.specs.declared.endings.Finding.TheVariants.{Blamed, NoFreeSlot, NotSpelled, Refused, TooLarge, TooMany}
 pub use Rattle.mig_words.specs.declared.words.Reader.{Reader}
-pub use Rattle.mig_words.specs.declared.words.Reader.TheVariants.{Roomy}
+pub use Rattle.mig_words.specs.declared.words.Reader.TheVariants.{Roomy, Tight}
 pub use Rattle.sha2.specs.Sha256.{sha256}
 pub use Rattle.std.specs.Fmt.{decimal}
 pub use Rattle.std.specs.Option.{IfSome, IsSomeAnd}

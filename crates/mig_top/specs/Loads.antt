@@ -1,7 +1,8 @@
 -- What the files of a command stand for: how they begin, and the reading of an input, of a layout, of a plan, of a certificate and of a task.
 use Rattle.std.specs.Prelude.{List, None, length, take, ℕ, ◌+◌, ◌≡◌, ◌≢◌, ◌≤◌}
-use Rattle.mig_top.specs.Common.{Accepted, Blamed, Bodies, Cert, CertLine, CertText, FileKind, Files, Finding, IsListing, IsRunBlame, IsSomeAnd, ListingRefusedAs, Lists, MAX_FILE_BYTES, Names}
-use Rattle.mig_top.specs.Common.{NotSpelled, Outcome, PlanLine, PlanText, Reader, Refused, RefusedAs, Roomy, Runs, Shift, Task, TaskNames, Why, file, named, sha256}
+use Rattle.mig_top.specs.Common.{Accepted, AcceptedTight, Blamed, Bodies, Cert, CertLine, CertText, FileKind, Files, Finding, IsListing, IsRunBlame, IsSomeAnd, ListingRefusedAs, Lists}
+use Rattle.mig_top.specs.Common.{MAX_FILE_BYTES, Names}
+use Rattle.mig_top.specs.Common.{NotSpelled, Outcome, PlanLine, PlanText, Reader, Refused, RefusedAs, RefusedTightAs, Roomy, Runs, Shift, Task, TaskNames, Tight, Why, file, named, sha256}
 use Rattle.mig_base.specs.declared.blames.Blame.TheVariants as blame
 use Rattle.mig_words.specs.declared.endings.TextFile.TheVariants as text_file
 use Rattle.mig_words.specs.Outcomes.{NoFile}
@@ -56,9 +57,11 @@ loads_plan names files =
 -- what the bytes of an input stand for by each reader, and the first thing that is wrong with them: in which file, in which row, and why
 abbrev pub IsReadBy : Reader → Bodies → Lists → Type 0
 IsReadBy Roomy bodies input = Accepted bodies input
+IsReadBy Tight bodies input = AcceptedTight bodies input
 
 abbrev pub IsRefusedBy : Reader → Bodies → FileKind → ℕ → Why → Type 0
 IsRefusedBy Roomy bodies f n w = RefusedAs bodies f n w
+IsRefusedBy Tight bodies f n w = RefusedTightAs bodies f n w
 
 -- a file is refused so
 abbrev pub IsRefusalBy : (FileKind → ℕ → Why → Type 0) → Finding → Type 0
@@ -109,8 +112,11 @@ reads_task reader bodies =
 
 -- In a folder: all files are loaded, and then they are read
 
+abbrev pub input_by : Reader → Names → Files → Step Lists
+input_by reader names files = after (loads_input names files) (reads_input reader)
+
 abbrev pub input_in : Names → Files → Step Lists
-input_in names files = after (loads_input names files) (reads_input Roomy)
+input_in names files = input_by Roomy names files
 
 abbrev pub layout_in : List ℕ → List ℕ → Files → Step Lists
 layout_in disks now files = after (loads_layout disks now files) reads_layout
@@ -130,11 +136,15 @@ pub record AreThere (files : Files) (names : Names) (bodies : Bodies) : Type 0 w
   pub now : HoldsFirst files names.now bodies.now
   pub next : HoldsFirst files names.next bodies.next
 
--- they stand for this input
-pub record Stands (files : Files) (names : Names) (input : Lists) : Type 0 where
+-- they stand for this input, as this reader reads them
+pub record StandsBy (reader : Reader) (files : Files) (names : Names) (input : Lists) : Type 0 where
   pub bodies : Bodies
   pub there : AreThere files names bodies
-  pub accepted : Accepted bodies input
+  pub read : IsReadBy reader bodies input
+
+-- the same where each disk has room
+abbrev pub Stands : Files → Names → Lists → Type 0
+Stands files names input = StandsBy Roomy files names input
 
 -- the four files stand for this: an input, and a plan that runs
 pub record IsTaskOf (files : Files) (names : TaskNames) (task : Task) : Type 0 where

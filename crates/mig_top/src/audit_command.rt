@@ -2,17 +2,17 @@
 ghost use Rattle.std.specs.Prelude.{◌≡◌, ◌+◌, ◌<◌, ◌≤◌, IfErr, IfOk, codes, if◌then◌else◌, length};
 ghost use Rattle.mig_base.specs.declared.limits.TheConstants.{MAX_ITEMS};
 ghost use Rattle.mig_base.specs.Stores.{Looks};
-ghost use Rattle.mig_top.specs.Audits.{AuditStops, HasPutSight, HavePutSights, SightStops};
+ghost use Rattle.mig_top.specs.audit.Sights.{AuditStops, HasPutSight, HavePutSights, SightStops};
 ghost use Rattle.mig_top.specs.Calls.{call, world};
 ghost use Rattle.mig_top.specs.Ends.{FormEndsAs};
 ghost use Rattle.mig_words.specs.Puts.{Puts};
-ghost use Rattle.mig_top.specs.Audits.{sight_line};
+ghost use Rattle.mig_top.specs.audit.Sights.{sight_line};
 ghost use Rattle.mig_words.specs.Words.{Audit};
 
 use crate::layout_reads::{item_count, load_layout};
 use mig_base::{Input, ItemId};
+use mig_fill::{Sight, sight};
 use mig_io::{Folder, Sink, SinkFailed};
-use mig_mover::{Sight, sight};
 use mig_store::{Store, StoreFailed};
 use mig_words::Part::{Hex, Number, Text};
 use mig_words::{Ending, put_parts, show_parts, tell};

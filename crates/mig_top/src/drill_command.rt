@@ -13,7 +13,7 @@ use crate::tasks::load_task;
 use mig_base::{MAX_FILE_BYTES, Plan};
 use mig_drill::{DrillFault, MAX_DRILL_SHIFTS, drill};
 use mig_io::{Folder, Sink};
-use mig_mover::{Job, count_shifts, prepare};
+use mig_jobs::{Job, count_shifts, prepare};
 use mig_words::{Ending, Finding, PlanFiles, Reader, TaskFiles, tell};
 use std::alloc::Global;
 

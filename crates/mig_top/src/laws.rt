@@ -5,8 +5,9 @@ ghost use Rattle.mig_base.specs.Rows.{Bodies};
 ghost use Rattle.mig_base.specs.Tasks.{Task};
 ghost use Rattle.mig_io.specs.Files.{Files};
 ghost use Rattle.mig_top.specs.Alike.{AreReadAlike};
-ghost use Rattle.mig_top.specs.Loads.{AreThere, FindsTask, IsTaskOf, Stands, input_in, loads_input};
+ghost use Rattle.mig_top.specs.Loads.{AreThere, FindsTask, IsTaskOf, StandsBy, input_by, loads_input};
 ghost use Rattle.mig_words.specs.Words.{Names, TaskNames};
+ghost use Rattle.mig_words.specs.declared.words.Reader.{Reader};
 
 /// What a file begins with is read as the whole file is.
 pub fn reads_alike()
@@ -18,9 +19,9 @@ pub fn finds_files()
     ensures { (files : Files) (names : Names) (bodies : Bodies) → AreThere files names bodies ↔ (loads_input names files).Passes bodies }
 {}
 
-/// What three files stand for is what the steps that load and read them find.
+/// What three files stand for, by each reader, is what the steps that load and read them find.
 pub fn finds_inputs()
-    ensures { (files : Files) (names : Names) (input : Lists) → Stands files names input ↔ (input_in names files).Passes input }
+    ensures { (reader : Reader) (files : Files) (names : Names) (input : Lists) → StandsBy reader files names input ↔ (input_by reader names files).Passes input }
 {}
 
 /// What four files stand for is what the steps that load and read them find.

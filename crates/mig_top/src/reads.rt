@@ -8,12 +8,12 @@ ghost use Rattle.mig_base.specs.Targets.{IsRoomy};
 ghost use Rattle.mig_top.specs.Bodies.{bodies_of};
 ghost use Rattle.mig_top.specs.Loads.{reads_cert, reads_input, reads_plan};
 ghost use Rattle.mig_top.specs.Steps.{Takes};
-ghost use Rattle.mig_words.specs.declared.words.Reader.TheVariants.{Roomy};
+ghost use Rattle.mig_words.specs.declared.words.Reader.TheVariants.{Roomy, Tight};
 
 use crate::loads::InputBytes;
 use mig_base::{Cert, Input, Plan};
 use mig_cert::read_cert;
-use mig_csv::read_input;
+use mig_csv::{read_input, read_tight};
 use mig_text::{TextError, read_plan};
 use mig_words::{Ending, Finding, Reader, TextFile};
 use std::alloc::Global;
@@ -26,12 +26,20 @@ pub fn read_roomy(alloc: Global, bytes: &InputBytes) -> Result<Input, Ending>
     Ok(read_input(alloc, &bytes.layout.disks, &bytes.layout.now, &bytes.next)?)
 }
 
+/// The input that the bytes of the three files stand for, without asking whether each disk has room.
+pub fn read_any(alloc: Global, bytes: &InputBytes) -> Result<Input, Ending>
+    ensures { Takes (reads_input Tight (bodies_of bytes.entry.now)) result }
+{
+    Ok(read_tight(alloc, &bytes.layout.disks, &bytes.layout.now, &bytes.next)?)
+}
+
 /// The input that the bytes of the three files stand for, as this reader reads them.
 pub fn read_files(alloc: Global, reader: Reader, bytes: &InputBytes) -> Result<Input, Ending>
     ensures { Takes (reads_input reader (bodies_of bytes.entry.now)) result }
 {
     match reader {
         Reader::Roomy => read_roomy(alloc, bytes),
+        Reader::Tight => read_any(alloc, bytes),
     }
 }
 

@@ -8,7 +8,7 @@ ghost use Rattle.mig_base.specs.Targets.{IsRoomy};
 ghost use Rattle.mig_base.specs.Texts.{text_of_lines, words};
 ghost use Rattle.mig_best.specs.Certified.{IsCertified};
 ghost use Rattle.mig_top.specs.Ends.{EndsBy, IsRehearsalEnd};
-ghost use Rattle.mig_top.specs.Planned.{IsPlanDigest, IsRehearsed, case_in, eight_lines, six_lines, verdict_word};
+ghost use Rattle.mig_top.specs.rehearse.Texts.{IsPlanDigest, IsRehearsed, case_in, eight_lines, six_lines, verdict_word};
 ghost use Rattle.mig_words.specs.Words.{AreCaseWords};
 
 use mig_base::{Blame, Cert, Input, Plan, Verdict};

@@ -14,7 +14,7 @@ use crate::loads::{PlanBytes, load_plan};
 use crate::reads::{read_files, read_plan_text};
 use mig_base::{Input, Plan};
 use mig_io::Folder;
-use mig_mover::{Job, prepare};
+use mig_jobs::{Job, prepare};
 use mig_words::{Ending, Reader, TaskFiles};
 use std::alloc::Global;
 

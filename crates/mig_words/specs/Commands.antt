@@ -3,7 +3,7 @@ use Rattle.mig_words.specs.declared.words.Command.{Command}
 use Rattle.mig_words.specs.declared.words.Command.TheVariants as command
 use Rattle.mig_words.specs.declared.words.PlanFiles.{PlanFiles}
 use Rattle.mig_words.specs.declared.words.TaskFiles.{TaskFiles}
-use Rattle.mig_words.specs.Words.{Form, Names, TaskNames, Plan, Check, After, Fill, Audit, Rehearse, Move, Resume, Drill, Halt}
+use Rattle.mig_words.specs.Words.{Form, Names, TaskNames, Plan, Check, PlanTight, After, Fill, Audit, Rehearse, Move, Resume, Drill, Halt}
 
 -- the names that words are
 abbrev pub names_in : PlanFiles → Names
@@ -16,6 +16,7 @@ task_names task = record { reader = task.reader; files = names_in task.files }
 abbrev pub form_of : Command → Form
 form_of (command.Plan files cert) = Plan (names_in files) cert.now
 form_of (command.Check files cert) = Check (names_in files) cert.now
+form_of (command.PlanTight files) = PlanTight (names_in files)
 form_of (command.After task) = After (task_names task)
 form_of (command.Fill disks now) = Fill disks.now now.now
 form_of (command.Audit disks now) = Audit disks.now now.now

@@ -72,6 +72,8 @@ finding_code (finding.Blamed b name) = 1
 finding_code (finding.Refused f row w) = 3
 finding_code (finding.NotSpelled f line) = 10
 finding_code (finding.TooLarge shifts) = 11
+finding_code (finding.TooMany disk needs slots) = 13
+finding_code finding.NoFreeSlot = 13
 
 abbrev pub store_code : StoreRefusal → ℕ
 store_code refusal.Started = 8
@@ -172,6 +174,8 @@ finding_text (finding.Blamed b name) = joined (blame_pieces b (unwrap_or name []
 finding_text (finding.Refused f row w) = refusal_text f row w
 finding_text (finding.NotSpelled f line) = joined (codes "refused " ∷ text_word f ∷ codes " line " ∷ decimal line ∷ codes "\n" ∷ [])
 finding_text (finding.TooLarge shifts) = joined (codes "too large for a drill " ∷ decimal shifts ∷ codes "\n" ∷ [])
+finding_text (finding.TooMany disk needs slots) = joined (codes "too many for " ∷ unwrap_or disk [] ∷ codes ", needs " ∷ decimal needs ∷ codes ", has " ∷ decimal slots ∷ codes "\n" ∷ [])
+finding_text finding.NoFreeSlot = codes "no free slot\n"
 
 abbrev pub store_text : StoreRefusal → List ℕ
 store_text refusal.Started = codes "journal started\n"

@@ -1,5 +1,5 @@
 -- The command lines that the program knows.
-use Rattle.std.specs.Prelude.{◌≡◌, ◌≢◌, ℕ, ◌≤◌, ◌<◌, false, nat_eq, List, [], ◌∷◌, length, map, codes}
+use Rattle.std.specs.Prelude.{◌≡◌, ◌≢◌, ℕ, ◌≤◌, ◌<◌, false, nat_eq, List, [], ◌∷◌, ◌++◌, length, map, codes}
 use Rattle.std.specs.List.{ends_with, AllByRecursion}
 use Rattle.std.specs.String.{string_bytes}
 use Rattle.std.specs.declared.string.String.{String}
@@ -7,7 +7,7 @@ use Rattle.std.specs.declared.alloc.Global.{Global}
 use Rattle.mig_base.specs.Digits.{IsNumber, number_of}
 use Rattle.mig_gen.specs.MadeCases.{IsCaseSize}
 use Rattle.mig_words.specs.declared.words.Reader.{Reader}
-use Rattle.mig_words.specs.declared.words.Reader.TheVariants.{Roomy}
+use Rattle.mig_words.specs.declared.words.Reader.TheVariants.{Roomy, Tight}
 
 -- the names of the three files of an input, and of a plan for it
 pub record Names : Type 0 where
@@ -27,6 +27,7 @@ roomy names = record { reader = Roomy; files = names }
 -- the word of a command over a task whose input is read so
 abbrev pub word_by : Reader → List ℕ → List ℕ
 word_by Roomy word = word
+word_by Tight word = word ++ codes "-tight"
 
 -- these four, and then others
 abbrev pub four_and : Names → List (List ℕ) → List (List ℕ)
@@ -36,6 +37,7 @@ four_and names others = names.disks ∷ names.now ∷ names.next ∷ names.plan 
 pub data Form : Type 0 where
   Plan : (names : Names) (cert : List ℕ) → Form
   Check : (names : Names) (cert : List ℕ) → Form
+  PlanTight : (names : Names) → Form
   After : (task : TaskNames) → Form
   Fill : (disks now : List ℕ) → Form
   Audit : (disks now : List ℕ) → Form
@@ -54,6 +56,7 @@ texts words = map string_bytes words
 abbrev pub names_of : Form → List (List ℕ)
 names_of (Plan names cert) = four_and names (cert ∷ [])
 names_of (Check names cert) = four_and names (cert ∷ [])
+names_of (PlanTight names) = four_and names []
 names_of (After task) = four_and task.files []
 names_of (Fill disks now) = disks ∷ now ∷ []
 names_of (Audit disks now) = disks ∷ now ∷ []
@@ -65,10 +68,11 @@ names_of (Drill names) = four_and names []
 
 -- `plan DISKS NOW NEXT PLAN CERT`, `check DISKS NOW NEXT PLAN CERT`, `after DISKS NOW NEXT PLAN`, `fill DISKS NOW`, `audit DISKS NOW`,
 -- `rehearse N PERPAIR LIMIT`, `move DISKS NOW NEXT PLAN`, `resume DISKS NOW NEXT PLAN`, `halt DISKS NOW NEXT PLAN LAYOUT` and
--- `drill DISKS NOW NEXT PLAN`
+-- `drill DISKS NOW NEXT PLAN`; and `plan-tight DISKS NOW NEXT PLAN`, and `after-tight`, `move-tight`, `resume-tight` and `halt-tight` with the words of `after`, `move`, `resume` and `halt`
 abbrev pub words_of : Form → List (List ℕ)
 words_of (Plan names cert) = codes "plan" ∷ names_of (Plan names cert)
 words_of (Check names cert) = codes "check" ∷ names_of (Check names cert)
+words_of (PlanTight names) = codes "plan-tight" ∷ names_of (PlanTight names)
 words_of (After task) = word_by task.reader (codes "after") ∷ names_of (After task)
 words_of (Fill disks now) = codes "fill" ∷ names_of (Fill disks now)
 words_of (Audit disks now) = codes "audit" ∷ names_of (Audit disks now)
@@ -92,6 +96,7 @@ DiffersFrom word others = AllByRecursion (λ other. word ≢ other) others
 -- the names of the files that a command writes differ from its other names
 abbrev pub WritesApart : Form → Type 0
 WritesApart (Plan names cert) = DiffersFrom names.plan (names.disks ∷ names.now ∷ names.next ∷ cert ∷ []) × DiffersFrom cert (names.disks ∷ names.now ∷ names.next ∷ [])
+WritesApart (PlanTight names) = DiffersFrom names.plan (names.disks ∷ names.now ∷ names.next ∷ [])
 WritesApart (Halt task layout) = DiffersFrom layout (four_and task.files [])
 WritesApart form = Unit {0}
 

@@ -17,13 +17,33 @@ pub enum TextFile {
 #[derive(Clone, Copy, Debug, PartialEq, Eq)]
 pub enum Finding {
     /// The plan or its certificate is blamed. The name is that of the item or the disk that the blame names, if it names one.
-    Blamed { blame: Blame, name: Option<Name> },
+    Blamed {
+        blame: Blame,
+        name: Option<Name>,
+    },
     /// The three files stand for no input. Row 0 is the header.
-    Refused { file: FileKind, row: u32, why: Why },
+    Refused {
+        file: FileKind,
+        row: u32,
+        why: Why,
+    },
     /// A text is no spelling. Lines count from 1; 0 says that the text is too long.
-    NotSpelled { text: TextFile, line: u32 },
+    NotSpelled {
+        text: TextFile,
+        line: u32,
+    },
     /// The plan runs, but has this many shifts, more than a drill takes.
-    TooLarge { shifts: u32 },
+    TooLarge {
+        shifts: u32,
+    },
+    /// The disk of this name is the next disk of `needs` items and has fewer slots, and it is the first such disk.
+    TooMany {
+        disk: Option<Name>,
+        needs: u32,
+        slots: u32,
+    },
+    /// Some item is to go to another disk, and no slot is free.
+    NoFreeSlot,
 }
 
 impl Finding {
@@ -42,6 +62,12 @@ impl Finding {
             } => 3,
             Finding::NotSpelled { text: _, line: _ } => 10,
             Finding::TooLarge { shifts: _ } => 11,
+            Finding::TooMany {
+                disk: _,
+                needs: _,
+                slots: _,
+            } => 13,
+            Finding::NoFreeSlot => 13,
         }
     }
 }

@@ -14,7 +14,7 @@ fn item_in(input: &Input, item: ItemId) -> Option<Name>
 }
 
 /// A disk's name.
-fn disk_in(input: &Input, disk: DiskId) -> Option<Name>
+pub fn disk_in(input: &Input, disk: DiskId) -> Option<Name>
     ensures { result ≡ disk_listed input.now disk.0 }
 {
     match input.disks().get(disk.0 as usize) {

@@ -126,6 +126,29 @@ fn put_too_large<K: Sink>(out: &mut K, shifts: u32) -> Result<(), SinkFailed>
     )
 }
 
+/// Puts the disk that is the next disk of more items than it has slots.
+fn put_too_many<K: Sink>(
+    out: &mut K,
+    disk: &Option<Name>,
+    needs: u32,
+    slots: u32,
+) -> Result<(), SinkFailed>
+    ensures { Puts (finding_text (finding.TooMany disk.now needs slots)) (K.state out.old) (K.state out.new) result }
+{
+    put_parts(
+        out,
+        &[
+            Text(b"too many for "),
+            Text(name_bytes(disk)),
+            Text(b", needs "),
+            Number(needs),
+            Text(b", has "),
+            Number(slots),
+            Text(b"\n"),
+        ],
+    )
+}
+
 /// The bytes of a name; none where there is no name.
 fn name_bytes(name: &Option<Name>) -> &[u8]
     ensures { result.now ≡ unwrap_or name.now [] }
@@ -156,6 +179,8 @@ fn put_finding<K: Sink>(out: &mut K, finding: &Finding) -> Result<(), SinkFailed
         Finding::Refused { file, row, why } => put_refusal(out, *file, *row, why),
         Finding::NotSpelled { text, line } => put_misfit(out, *text, *line),
         Finding::TooLarge { shifts } => put_too_large(out, *shifts),
+        Finding::TooMany { disk, needs, slots } => put_too_many(out, disk, *needs, *slots),
+        Finding::NoFreeSlot => out.put(b"no free slot\n"),
     }
 }
 
@@ -237,6 +262,23 @@ pub fn show_rounds<K: Sink>(out: &mut K, rounds: u32, found: u32) -> u8
             Number(rounds),
             Text(b" rounds, found "),
             Number(found),
+            Text(b"\n"),
+        ],
+    )
+}
+
+/// Puts how many rounds a tight plan has, and how many items it parks, and answers the number of the status: 0, or 6 where
+/// the sink fails.
+pub fn show_parked<K: Sink>(out: &mut K, rounds: u32, parked: u32) -> u8
+    ensures { Shows (joined (codes "rounds " ∷ decimal rounds ∷ codes ", parked " ∷ decimal parked ∷ codes "\n" ∷ [])) (K.state out.old) (K.state out.new) result }
+{
+    show_parts(
+        out,
+        &[
+            Text(b"rounds "),
+            Number(rounds),
+            Text(b", parked "),
+            Number(parked),
             Text(b"\n"),
         ],
     )

@@ -2,7 +2,7 @@
 ghost use Rattle.std.specs.List.{AllByRecursion};
 ghost use Rattle.std.specs.Prelude.{◌≡◌, ◌↔◌, ◌∷◌, [], IsTrue, MatchOption, length, map};
 ghost use Rattle.mig_words.specs.Commands.{form_of, names_in};
-ghost use Rattle.mig_words.specs.Words.{DiffersFrom, Form, IsFileWord, IsListed, Plan, WritesApart, four_and, texts};
+ghost use Rattle.mig_words.specs.Words.{DiffersFrom, Form, IsFileWord, IsListed, Plan, PlanTight, WritesApart, four_and, texts};
 
 use crate::case_words::over_three_numbers;
 
@@ -20,6 +20,8 @@ pub struct PlanFiles<'a> {
 pub enum Reader {
     /// Each disk must have room for what comes to it.
     Roomy,
+    /// Nobody asks whether a disk has room.
+    Tight,
 }
 
 /// The words that name the files of a task, and how its input is read.
@@ -47,6 +49,9 @@ pub enum Command<'a> {
     Check {
         files: PlanFiles<'a>,
         cert: &'a str,
+    },
+    PlanTight {
+        files: PlanFiles<'a>,
     },
     After {
         task: TaskFiles<'a>,
@@ -120,6 +125,13 @@ fn writes_apart(files: PlanFiles<'_>, cert: &str) -> bool
         && differs_from(cert, &[files.disks, files.now, files.next])
 }
 
+/// Whether the file that `plan-tight` writes differs from all its others.
+fn plan_apart(files: PlanFiles<'_>) -> bool
+    ensures { IsTrue result ↔ WritesApart (PlanTight (names_in files.entry)) }
+{
+    differs_from(files.plan, &[files.disks, files.now, files.next])
+}
+
 /// Whether the file that `halt` writes differs from all its others.
 fn saves_apart(files: PlanFiles<'_>, layout: &str) -> bool
     ensures { IsTrue result ↔ DiffersFrom layout.now (four_and (names_in files.entry) []) }
@@ -156,10 +168,18 @@ fn over_four_files<'a>(command: &str, files: PlanFiles<'a>) -> Option<Command<'a
         reader: Reader::Roomy,
         files,
     };
+    let tight = TaskFiles {
+        reader: Reader::Tight,
+        files,
+    };
     match command {
+        "plan-tight" if plan_apart(files) => Some(Command::PlanTight { files }),
         "after" => Some(Command::After { task: roomy }),
+        "after-tight" => Some(Command::After { task: tight }),
         "move" => Some(Command::Move { task: roomy }),
+        "move-tight" => Some(Command::Move { task: tight }),
         "resume" => Some(Command::Resume { task: roomy }),
+        "resume-tight" => Some(Command::Resume { task: tight }),
         "drill" => Some(Command::Drill { files }),
         _ => None,
     }
@@ -180,6 +200,13 @@ fn over_five_files<'a>(command: &str, files: PlanFiles<'a>, last: &'a str) -> Op
         "halt" if saves_apart(files, last) => Some(Command::Halt {
             task: TaskFiles {
                 reader: Reader::Roomy,
+                files,
+            },
+            layout: last,
+        }),
+        "halt-tight" if saves_apart(files, last) => Some(Command::Halt {
+            task: TaskFiles {
+                reader: Reader::Tight,
                 files,
             },
             layout: last,

@@ -20,6 +20,7 @@ returns c =
     record {
       made = record {
         planned = c.in_ok-plan.ensures.planned;
+        lowered = c.in_ok-plan.ensures.lowered;
         holds = record {
           rounds = c.certify-cert.ensures.rounds;
           quotient_is = c.certify-cert.ensures.quotient ∙ ap quotient c.requires.graph;

@@ -4,7 +4,7 @@ use Rattle.mig_csv.proofs.room.count_needs.Given as goal
 
 abbrev pub invariant-loop-item : goal.invariant-loop-item
 invariant-loop-item l = record {
-  len : length l.needs.items ≡ length l.disks;
-  each : (v : ℕ) → slice_index_or l.needs.items v 0 + left_over (record { disks = l.disks; items = l.items; spots = l.spots; next = l.next }) v l.item
-      ≡ present (record { disks = l.disks; items = l.items; spots = l.spots; next = l.next }) v + incoming (record { disks = l.disks; items = l.items; spots = l.spots; next = l.next }) v;
+  len : length l.needs.items ≡ length l.input.disks;
+  each : (v : ℕ) → slice_index_or l.needs.items v 0 + left_over l.input v l.item
+      ≡ present l.input v + incoming l.input v;
 }

@@ -1,13 +1,7 @@
-use Rattle.mig_duplex.proofs.Common.{AreColours, AreOnSides, AreSides, AreThrough, Colour, Colouring, CopyId, Global, IfOk-weaker, IsSpread, List, Vec, ap, arith, degree_of, length, quotient}
-use Rattle.mig_duplex.proofs.Common.{subst, sym, ℕ, ◌<◌, ◌∙◌, ◌≡◌, ◌≤◌}
-use Rattle.mig_duplex.proofs.Quotients.{has_ranges, quotient_most, quotient_some}
+use Rattle.mig_duplex.proofs.Common.{AreColours, AreOnSides, AreThrough, Colour, Colouring, CopyId, Global, IfOk-weaker, IsSpread, List, Vec, ap, arith, degree_of, length, subst, sym, ℕ, ◌<◌}
+use Rattle.mig_duplex.proofs.Common.{◌∙◌, ◌≡◌, ◌≤◌}
 use Rattle.mig_duplex.proofs.Spread.{blank_plain, nodes_differ, nodes_in_range, spread_by_sides, two_sided}
 use Rattle.mig_duplex.proofs.colourings.colour_spread.Goals as goal
-
-pub split_sides-requires-clause-q : goal.split_sides-requires-clause-q
-split_sides-requires-clause-q c =
-    let valid = c.keeps_rules.ensures in
-    omega (arith, quotient_some c.args.graph.now (has_ranges c.args.graph.now valid) valid.leaves_there c.requires.some, c.quotient-q.ensures)
 
 -- the copies of an edge are there, so the first of them is on the left and the last on the right
 sides_there : (n left nodes : ℕ) (ends : List (CopyId × CopyId)) → n ≡ nodes → AreOnSides left n ends → AreOnSides left nodes ends
@@ -19,8 +13,8 @@ share_nodes-requires c =
     let a = c.in_ok-sides.ensures.sides in
     let s = c.in_ok-sides.sides in
     record {
-      q = omega (arith, quotient_some c.args.graph.now (has_ranges c.args.graph.now valid) valid.leaves_there c.requires.some, c.quotient-q.ensures);
-      left = omega (arith, a.there 0 (omega (arith, a.one_each, c.requires.some)), c.in_ok-sides.ensures.nodes);
+      q = c.requires.some;
+      left = omega (arith, a.there 0 (omega (arith, a.one_each, c.requires.some, c.requires.few)), c.in_ok-sides.ensures.nodes);
       sides = sides_there (length s.homes.items) s.left s.nodes s.ends.items (omega (arith, c.in_ok-sides.ensures.nodes)) a.there;
       most = λ k h. a.most k (omega (arith, h, c.in_ok-sides.ensures.nodes));
       few = omega (arith, a.one_each, valid.edges_most);
@@ -47,13 +41,12 @@ new-requires-clause-few_entries c =
       c.in_ok-shared.ensures.room,
       c.in_ok-sides.ensures.sides.one_each,
       valid.edges_most,
-      quotient_most c.args.graph.now (has_ranges c.args.graph.now valid),
-      c.quotient-q.ensures,
+      c.requires.few,
     )
 
 pub colour_sides-requires-clause-blank : goal.colour_sides-requires-clause-blank
 colour_sides-requires-clause-blank c =
-    λ e h. blank_plain c.in_ok-board.board c.in_ok-shared.shared.nodes c.quotient-q.result c.in_ok-shared.shared.ends.items c.in_ok-board.ensures.made e h
+    λ e h. blank_plain c.in_ok-board.board c.in_ok-shared.shared.nodes c.args.q c.in_ok-shared.shared.ends.items c.in_ok-board.ensures.made e h
 
 pub colour_sides-requires-clause-sides : goal.colour_sides-requires-clause-sides
 colour_sides-requires-clause-sides c =
@@ -75,8 +68,7 @@ returns c =
     let shared = c.in_ok-shared.ensures in
     let is_ends : new.ends ≡ c.in_ok-shared.shared.ends.items = ap (λ (g : Colouring). g.ends) same ∙ ap (λ (g : Colouring). g.ends) c.in_ok-board.ensures.made in
     let through : AreThrough shared.node s.ends.items new.ends = subst (λ (x : List (CopyId × CopyId)). AreThrough shared.node s.ends.items x) (sym is_ends) shared.through in
-    let is_colours : new.colours ≡ quotient graph = ap (λ (g : Colouring). g.colours) same ∙ ap (λ (g : Colouring). g.colours) c.in_ok-board.ensures.made ∙ c.quotient-q.ensures in
-    let sides : AreSides (quotient graph) graph ds s.left s.ends.items s.homes.items = subst (λ n. AreSides n graph ds s.left s.ends.items s.homes.items) c.quotient-q.ensures c.in_ok-sides.ensures.sides in
-    IfOk-weaker c.colours_of.result (λ (v : Vec Colour Global). AreColours new v.items) (λ (v : Vec Colour Global). IsSpread graph ds v.items)
-    (λ v h. spread_by_sides new graph ds s.left shared.node s.ends.items s.homes.items v.items sides through c.colour_sides.ensures.proper h is_colours)
+    let is_colours : new.colours ≡ c.args.q = ap (λ (g : Colouring). g.colours) same ∙ ap (λ (g : Colouring). g.colours) c.in_ok-board.ensures.made in
+    IfOk-weaker c.colours_of.result (λ (v : Vec Colour Global). AreColours new v.items) (λ (v : Vec Colour Global). IsSpread graph c.args.q ds v.items)
+    (λ v h. spread_by_sides new graph c.args.q ds s.left shared.node s.ends.items s.homes.items v.items c.in_ok-sides.ensures.sides through c.colour_sides.ensures.proper h is_colours)
     c.colours_of.ensures

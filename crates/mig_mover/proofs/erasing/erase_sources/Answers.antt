@@ -1,6 +1,6 @@
 use Rattle.mig_mover.proofs.Common.{Flight, IsSourceSlot, arith, then_step, ◌≡◌}
 use Rattle.mig_mover.proofs.EraseSteps.{from_slot, from_source, erased_more}
-use Rattle.mig_mover.proofs.JobRounds.{no_shift}
+use Rattle.mig_jobs.proofs.JobRounds.{no_shift}
 use Rattle.mig_mover.proofs.erasing.erase_sources.Goals as goal
 
 pub erase-requires-clause-slot : goal.erase-requires-clause-slot

@@ -1,4 +1,4 @@
-use Rattle.mig_top.proofs.Common.{After, Check, Drill, Plan, names_in, refl, task_names}
+use Rattle.mig_top.proofs.Common.{After, Check, Drill, Plan, PlanTight, names_in, refl, task_names}
 use Rattle.mig_top.proofs.EndsOf.{files_known}
 use Rattle.mig_top.proofs.Rehearsing.{rehearsal_known}
 use Rattle.mig_top.proofs.StoreEnds.{untouched}
@@ -9,6 +9,9 @@ returns-in-Plan g c = files_known (Plan (names_in c.in-Plan.files) c.in-Plan.cer
 
 pub returns-in-Check : goal.returns-in-Check
 returns-in-Check g c = files_known (Check (names_in c.in-Check.files) c.in-Check.cert.now) tt (λ o h. h) (λ o left. (left, untouched)) (rw c.in-Check.is at c.in-Some.ensures) c.run_check.ensures
+
+pub returns-in-PlanTight : goal.returns-in-PlanTight
+returns-in-PlanTight g c = files_known (PlanTight (names_in c.in-PlanTight.files)) tt (λ o h. h) (λ o left. (left, untouched)) (rw c.in-PlanTight.is at c.in-Some.ensures) c.run_plan_tight.ensures
 
 pub returns-in-After : goal.returns-in-After
 returns-in-After g c = files_known (After (task_names c.in-After.task)) tt (λ o h. h) (λ o left. (left, untouched)) (rw c.in-After.is at c.in-Some.ensures) c.run_after.ensures

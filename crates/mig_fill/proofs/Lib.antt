@@ -1,0 +1,3 @@
+mod FillSteps
+mod MadeSlots
+pub mod Common

@@ -1,0 +1,19 @@
+use Rattle.mig_fill.proofs.Common.{on_ok_weaker}
+use Rattle.mig_fill.proofs.FillSteps.{fault_more, fills_landed, fills_more, fillable_more}
+use Rattle.mig_mover.proofs.Settling.{if_err}
+use Rattle.mig_fill.proofs.filling.fill.Goals as goal
+
+pub returns-in_err-settle_and_look-clause-change : goal.returns-in_err-settle_and_look-clause-change
+returns-in_err-settle_and_look-clause-change g c = fills_landed c.args.input.now (g.S.Store.state c.args.store.now) (g.S.Store.state c.settle_and_look.new.store) (g.S.Store.state c.settle_and_look.new.store) c.settle_and_look.ensures.lands
+
+pub returns-in-Running-clause-change : goal.returns-in-Running-clause-change
+returns-in-Running-clause-change g c = fills_landed c.args.input.now (g.S.Store.state c.args.store.now) (g.S.Store.state c.settle_and_look.new.store) (g.S.Store.state c.settle_and_look.new.store) c.settle_and_look.ensures.lands
+
+pub returns-in-Idle-clause-change : goal.returns-in-Idle-clause-change
+returns-in-Idle-clause-change g c = fills_more c.args.input.now (g.S.Store.state c.args.store.now) (g.S.Store.state c.settle_and_look.new.store) (g.S.Store.state c.fill_idle.new.store) c.in_ok-settle_and_look.ensures.settles c.fill_idle.ensures.change
+
+pub returns-in-Idle-clause-fillable : goal.returns-in-Idle-clause-fillable
+returns-in-Idle-clause-fillable g c = on_ok_weaker c.fill_idle.result (fillable_more c.args.input.now (g.S.Store.state c.args.store.now) (g.S.Store.state c.settle_and_look.new.store) (g.S.Store.state c.fill_idle.new.store) c.in_ok-settle_and_look.ensures.settles) c.fill_idle.ensures.fillable
+
+pub returns-in-Idle-clause-fault : goal.returns-in-Idle-clause-fault
+returns-in-Idle-clause-fault g c = if_err c.fill_idle.result (fault_more c.args.input.now (g.S.Store.state c.args.store.now) (g.S.Store.state c.settle_and_look.new.store) (g.S.Store.state c.fill_idle.new.store) c.in_ok-settle_and_look.ensures.settles c.settle_and_look.ensures.cause.later) c.fill_idle.ensures.fault

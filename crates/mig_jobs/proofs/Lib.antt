@@ -1,0 +1,6 @@
+mod StaySteps
+mod VacancyLaws
+mod VacancySteps
+pub mod Common
+pub mod JobRounds
+pub mod TableSteps

@@ -1,0 +1,3 @@
+pub mod JobTables
+pub mod Stays
+pub mod Vacancies

@@ -1,5 +1,0 @@
-use Rattle.mig_mover.proofs.Common.{arith, common_steps}
-use Rattle.mig_mover.proofs.tables.targets_of.Goals as goal
-
-pub loop-round-preserved : goal.loop-round-preserved
-loop-round-preserved c = grind (arith, common_steps)

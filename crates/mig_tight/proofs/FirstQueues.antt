@@ -1,0 +1,94 @@
+-- The queues of the first n items.
+use Rattle.mig_tight.proofs.Common.{All, All-push, AreDifferent, AreQueues, Contains, Contains-append_left, Contains-push, IsInput, ItemId, List, Lists, WaitsFor, [], ap, arith, cases_eq}
+use Rattle.mig_tight.proofs.Common.{cases_lt, false, false≢true, get_or, get_or-set_other, get_or-set_same, get_or_append_left, get_or_push, inl, inr, is_relocated, length, length-set}
+use Rattle.mig_tight.proofs.Common.{length_push, queue_at, set, source, subst, sym, target, true, ℕ, ◌++◌, ◌+◌, ◌<◌, ◌∙◌, ◌∷◌, ◌≡◌, ◌≢◌}
+use Rattle.mig_tight.proofs.Histories.{relocated_from}
+
+abbrev id : ℕ → ItemId
+id item = record { 0 = item }
+
+pub record AreQueuesBelow (input : Lists) (n : ℕ) (waiting : List (List ItemId)) : Type 0 where
+  pub len : length waiting ≡ length input.disks
+  pub all_wait : (v : ℕ) → v < length input.disks → All (WaitsFor input input.spots v) (queue_at waiting v)
+  pub below : (v : ℕ) → v < length input.disks → All (λ i. i.0 < n) (queue_at waiting v)
+  pub apart : (v : ℕ) → v < length input.disks → AreDifferent (queue_at waiting v)
+  pub everyone : (item : ℕ) → item < n → is_relocated input item ≡ true → Contains (queue_at waiting (target input item)) (record { 0 = item })
+
+-- different elements and one that none of them is
+pub apart_push : {X : Type 0} (xs : List X) (x : X) → AreDifferent xs → ((k : ℕ) (d : X) → k < length xs → get_or xs k d ≢ x) → AreDifferent (xs ++ x ∷ [])
+apart_push xs x apart fresh i j d l m = elim (cases_lt j (length xs)) [
+  | inl lt ↦ λ e. apart i j d l lt (sym (get_or_append_left xs (x ∷ []) d i (omega (arith, l, lt))) ∙ e ∙ get_or_append_left xs (x ∷ []) d j lt)
+  | inr ge ↦
+      let at : j ≡ length xs = omega (arith, m, ge, length_push xs x) in
+      λ e. fresh i d (omega (arith, l, at)) (sym (get_or_append_left xs (x ∷ []) d i (omega (arith, l, at))) ∙ e ∙ get_or_push xs x d j (sym at))
+]
+
+pub queued_start : (input : Lists) (waiting : List (List ItemId)) → length waiting ≡ length input.disks → All (λ q. q ≡ []) waiting → AreQueuesBelow input 0 waiting
+queued_start input waiting len none =
+    let empty : (v : ℕ) → v < length input.disks → queue_at waiting v ≡ [] = λ v h. none v [] (omega (arith, h, len)) in
+    record {
+      len = len;
+      all_wait = λ v h k d l. absurd (omega (arith, l, ap (λ (q : List ItemId). length q) (empty v h)));
+      below = λ v h k d l. absurd (omega (arith, l, ap (λ (q : List ItemId). length q) (empty v h)));
+      apart = λ v h i j d l m. absurd (omega (arith, m, ap (λ (q : List ItemId). length q) (empty v h)));
+      everyone = λ item h. absurd (omega (arith, h));
+    }
+
+pub queued_stays : (input : Lists) (n : ℕ) (waiting : List (List ItemId)) → is_relocated input n ≡ false → AreQueuesBelow input n waiting → AreQueuesBelow input (n + 1) waiting
+queued_stays input n waiting f q = record {
+  len = q.len;
+  all_wait = q.all_wait;
+  below = λ v h k d l. omega (arith, q.below v h k d l);
+  apart = q.apart;
+  everyone = λ item h r. elim (cases_eq item n) [
+    | inl at ↦ absurd (false≢true (sym f ∙ ap (is_relocated input) (sym at) ∙ r))
+    | inr off ↦ q.everyone item (omega (arith, h, off)) r
+  ];
+}
+
+module _ (input : Lists) (is : IsInput input) (n : ℕ) (waiting : List (List ItemId)) (there : n < length input.items) (t : is_relocated input n ≡ true) (away : source input n ≢ target input n) (q : AreQueuesBelow input n waiting) (v : ℕ) (goes : v ≡ target input n) (new : List ItemId) (more : new ≡ queue_at waiting v ++ id n ∷ []) where
+  pub disk_there : v < length input.disks
+  disk_there = omega (arith, goes, is.next_disks n (record { 0 = 0 }) (omega (arith, there, is.next_len)))
+
+  within : v < length waiting
+  within = omega (arith, disk_there, q.len)
+
+  here : queue_at (set waiting v new) v ≡ queue_at waiting v ++ id n ∷ []
+  here = get_or-set_same waiting v new [] within ∙ more
+
+  elsewhere : (u : ℕ) → u ≢ v → queue_at (set waiting v new) u ≡ queue_at waiting u
+  elsewhere u ne = get_or-set_other waiting v u new [] ne
+
+  -- what holds of each queue and of the longer one holds of each queue after
+  each : (P : ℕ → List ItemId → Type 0) → ((u : ℕ) → u < length input.disks → P u (queue_at waiting u)) → P v (queue_at waiting v ++ id n ∷ []) → (u : ℕ) → u < length input.disks → P u (queue_at (set waiting v new) u)
+  each P old longer u h = elim (cases_eq u v) [
+    | inl at ↦ subst (λ w. P w (queue_at (set waiting v new) w)) (sym at) (subst (λ (l : List ItemId). P v l) (sym here) longer)
+    | inr off ↦ subst (λ (l : List ItemId). P u l) (sym (elsewhere u off)) (old u h)
+  ]
+
+  pub queued_goes : AreQueuesBelow input (n + 1) (set waiting v new)
+  queued_goes = record {
+    len = length-set waiting v new ∙ q.len;
+    all_wait = each (λ u l. All (WaitsFor input input.spots u) l) q.all_wait (All-push (WaitsFor input input.spots v) (queue_at waiting v) (id n) (q.all_wait v disk_there) (record { there = there; goes = sym goes; away = λ h. away h }));
+    below = each (λ u l. All (λ (i : ItemId). i.0 < n + 1) l) (λ u h k d l. omega (arith, q.below u h k d l)) (All-push (λ (i : ItemId). i.0 < n + 1) (queue_at waiting v) (id n) (λ k d l. omega (arith, q.below v disk_there k d l)) (omega arith));
+    apart = each (λ u l. AreDifferent l) q.apart (apart_push (queue_at waiting v) (id n) (q.apart v disk_there) (λ k d l e. absurd (omega (arith, q.below v disk_there k d l, ap (λ (i : ItemId). i.0) e))));
+    everyone = λ item h r. elim (cases_eq item n) [
+      | inl at ↦
+          subst (λ i. Contains (queue_at (set waiting v new) (target input i)) (id i)) (sym at)
+          (subst (λ w. Contains (queue_at (set waiting v new) w) (id n)) goes (subst (λ (l : List ItemId). Contains l (id n)) (sym here) (Contains-push (queue_at waiting v) (id n))))
+      | inr off ↦
+          let old = q.everyone item (omega (arith, h, off)) r in
+          elim (cases_eq (target input item) v) [
+            | inl same ↦ subst (λ w. Contains (queue_at (set waiting v new) w) (id item)) (sym same) (subst (λ (l : List ItemId). Contains l (id item)) (sym here) (Contains-append_left (queue_at waiting v) (id n ∷ []) (id item) (subst (λ w. Contains (queue_at waiting w) (id item)) same old)))
+            | inr ne ↦ subst (λ (l : List ItemId). Contains l (id item)) (sym (elsewhere (target input item) ne)) old
+          ]
+    ];
+  }
+
+pub queued_end : (input : Lists) (n : ℕ) (waiting : List (List ItemId)) → n ≡ length input.items → AreQueuesBelow input n waiting → AreQueues input input.spots waiting
+queued_end input n waiting all q = record {
+  len = q.len;
+  all_wait = q.all_wait;
+  apart = q.apart;
+  everyone = λ item h away. q.everyone item (omega (arith, h, all)) (relocated_from input item away);
+}

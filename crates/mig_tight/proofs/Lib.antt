@@ -1,0 +1,11 @@
+pub mod Common
+pub mod Counts
+pub mod Endings
+pub mod FirstQueues
+pub mod Histories
+pub mod ListLaws
+pub mod Queueing
+pub mod RunningPlans
+pub mod Shifting
+pub mod SpareLaws
+pub mod StateSteps

@@ -1,0 +1,4 @@
+pub mod Causes
+pub mod PlanStates
+pub mod Progress
+pub mod Spares

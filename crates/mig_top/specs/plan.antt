@@ -1,0 +1,3 @@
+pub mod Leaves
+pub mod Promise
+pub mod Texts
