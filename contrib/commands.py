@@ -32,10 +32,14 @@ def fill_in(plan, disks, items, all_words):
     """What is put in the places of words, for each transfer of each round. Refuses what `migrate check` refuses too and would do harm
     here, and names that a command takes for something else."""
     first = [word.replace("{disk}", end) for word in all_words if word[:1] == "{" for end in ("{from}", "{to}")]
-    rounds = []
+    rounds, where = [], {}
     for at, shifts in enumerate(plan.rounds, 1):
         if len({it.item for it in shifts}) < len(shifts) or any(it.source == it.target for it in shifts):
-            fail(f"round {at}: an item moves twice, or stays on its disk, which no plan of `migrate plan` does")
+            fail(f"round {at}: an item moves twice in it, or stays on its disk, which no plan of `migrate plan` or `plan-tight` does")
+        for it in shifts:
+            spot = where.get(it.item, (it.source, it.source_slot))
+            spot == (it.source, it.source_slot) or fail(f"round {at}: {it.item} goes from slot {it.source_slot} of {it.source}, and is in slot {spot[1]} of {spot[0]} since its last move")
+            where[it.item] = it.target, it.target_slot
         rounds.append([dict(zip(PLACES, (items[it.item], disks[it.source], str(it.source_slot), disks[it.target], str(it.target_slot), str(at)))) for it in shifts])
         for it in rounds[-1]:
             if {it["item"], it["from"], it["to"]} & {".", ".."} or any(word[:1] == "-" for word in filled(first, it)):

@@ -116,12 +116,17 @@ def in_units(items, unit, nodes):
         whole |= large
 
 
-def check_bytes(going):
-    """An item that leaves makes no room before it is gone."""
+def bytes_of(disks):
+    """The bytes that are free on each disk, and those that are in use there."""
+    found = {disk: os.statvfs(disk) for disk in disks}
+    return {disk: it.f_bavail * it.f_frsize for disk, it in found.items()}, {disk: (it.f_blocks - it.f_bfree) * it.f_frsize for disk, it in found.items()}
+
+
+def check_bytes(going, rooms):
+    """An item that leaves makes no room before it is gone. `plan-tight` counts items, and no bytes, so it makes none either."""
     coming = collections.Counter()
     for it, disk in going:
         coming[disk] += it.bytes
     for disk, bytes_ in coming.items():
-        found = os.statvfs(disk)
-        free = found.f_bavail * found.f_frsize
-        bytes_ <= free or fail(f"there is no room on {disk}: {bytes_} bytes are to come to it, and {free} are free")
+        bytes_ <= rooms[disk] or fail(f"there is no room on {disk}: {bytes_} bytes are to come to it, and {rooms[disk]} are free. `migrate plan-tight` counts items, and not "
+                                      "their bytes, so it would not help: move less at a time")

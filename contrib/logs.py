@@ -3,16 +3,15 @@ import re, time
 from clock import at_work, read_times
 from common import fail, read_bytes
 from done import Stand, first_of, numbered, stand_of_transfers
-from pvmoves import apart, read_names, read_pvmoves
+from pvmoves import apart, read_pvmoves
 
 
 def there_now(plan, names, said):
     """The transfers whose extents are where they are to be, as a log of pvmoves says."""
-    unit, devices, items = read_names(names)
-    read_pvmoves(plan, names)
-    spots = set(re.findall(r"^round \d+: (\S+ is at \S+) (?:already|now)\b", said, re.M))
-    return {number for number, it in enumerate(plan.shifts()) for by in [(it.target_slot - it.source_slot) * unit]
-            if all(f"{volume} is at {devices[it.target][0]}:{first + by}-{last + by}" in spots for volume, first, last in items[it.item][1])}
+    spots = set(re.findall(r"^round (\d+): (\S+) is (?:at|past) (\S+?),? (?:already|now|at)\b", said, re.M))
+    left = {f"{at} {it.item}" for at, moves in enumerate(read_pvmoves(plan, names)[1], 1) for it in moves
+            if (str(at), it.volume, f"{it.target}:{it.first + it.by}-{it.last + it.by}") not in spots}
+    return {number for line, number in numbered(plan).items() if line not in left}
 
 
 def by_log(path, plan, names):

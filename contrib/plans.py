@@ -25,6 +25,10 @@ class Plan(NamedTuple):
     def shifts(self):
         return [shift for round_ in self.rounds for shift in round_]
 
+    def parked(self):
+        """How many shifts go on from where an item was parked by an earlier one."""
+        return len(self.shifts()) - len({it.item for it in self.shifts()})
+
 
 def read_rows(path, *headers):
     """The rows of a CSV file, whose header must be one of these, with their numbers. Each has as many fields as the header."""

@@ -2,13 +2,15 @@
 import collections, re
 from common import fail
 from plans import read_rows
+from spots import follow
 
 # LVM keeps these endings for itself, so that no other volume has such a name.
 LEG = re.compile(r"(.+)_([rm]image|rmeta)_([0-9]+)", re.ASCII)
 PART = re.compile(r"(.+)_([rm]image_[0-9]+|rmeta_[0-9]+|mlog|tdata|tmeta)", re.ASCII)
 
-# Extents `first` to `last` of a volume go from a device to a device, to `first` + `by` and on.
-Pvmove = collections.namedtuple("Pvmove", "volume source first last target by")
+# Extents `first` to `last` of a volume, a part of an item, go from a device to a device, to `first` + `by` and on. Where the item is moved
+# again in a later round `later` has each device to which it goes then, and by how much.
+Pvmove = collections.namedtuple("Pvmove", "item volume source first last target by later")
 
 
 def leg_of(volume):
@@ -45,44 +47,46 @@ def options(volume):
 
 
 def read_names(path):
-    """The unit, the devices by the disks' names, and the pieces by the items' names."""
-    unit, devices, items = 0, {}, {}
+    """The unit, the devices by the disks' names, the pieces by the items' names, and the stripes that items have: item, what is striped, number."""
+    unit, devices, items, stripes = 0, {}, {}, []
     for at, (kind, name, device, extents) in read_rows(path, "kind,name,device,extents"):
         pieces = re.fullmatch(r"[^ :]+:[0-9]+-[0-9]+( [^ :]+:[0-9]+-[0-9]+)*", extents, re.ASCII)
         if kind == "unit" and name.isdecimal() and int(name) > 0:
             unit = int(name)
         elif kind == "disk" and extents.isdecimal():
             devices[name] = device, int(extents)
+        elif kind == "stripe" and device and extents.isdecimal():
+            stripes.append((name, device, int(extents)))
         elif kind == "item" and pieces:
             found = re.findall(r"([^ :]+):([0-9]+)-([0-9]+)", extents)
             items[name] = device, [(volume, int(first), int(last)) for volume, first, last in found]
         else:
             fail(f"{path} row {at} is none that from-lvm writes")
-    return unit or fail(f"{path} names no unit"), devices, items
+    return unit or fail(f"{path} names no unit"), devices, items, stripes
 
 
-def read_pvmoves(plan, path):
-    """The unit, and for each round its pvmoves. The legs of a raid or a mirror stay apart; stripes LVM itself keeps apart."""
-    unit, devices, items = read_names(path)
-    rounds, next_ = [], {}
-    for at, shifts in enumerate(plan.rounds, 1):
-        rounds.append([])
-        for it in shifts:
-            if it.item not in items or it.source not in devices or it.target not in devices:
-                fail(f"round {at}: {path} does not name {it.item}, {it.source} or {it.target}; it is of another plan")
-            (source, _), (target, size), (device, pieces) = devices[it.source], devices[it.target], items[it.item]
-            if device != source or pieces[0][1] // unit != it.source_slot or it.item in next_:
-                fail(f"round {at}: {it.item} is not in slot {it.source_slot} of {it.source}; `migrate check` tells more")
-            next_[it.item], by = target, (it.target_slot - it.source_slot) * unit
-            if pieces[-1][2] + by >= size:
-                fail(f"round {at}: {it.item} does not fit at the end of {target}, which has {size} extents")
-            rounds[-1] += [Pvmove(volume, source, first, last, target, by) for volume, first, last in pieces]
-    spots = [(*leg_of(volume), device, next_.get(item, device), item)
-             for item, (device, pieces) in items.items() for volume, _, _ in pieces if leg_of(volume)]
+def check_apart(rounds, items, stripes):
+    """The legs of a raid or a mirror, and stripes, stay apart, also while they are parked."""
+    legs = [(*leg_of(volume), item) for item, (_, pieces) in items.items() for volume, _, _ in pieces if leg_of(volume)]
+    legs += [(group, number, item) for item, group, number in stripes]
+    moves = {}
+    for ways in rounds:
+        for item, (spot, to, _) in ways.items():
+            moves.setdefault(item, []).append((spot[0], to[0]))
+    spots = [(group, leg, *ends, item) for group, leg, item in legs if item in items for ends in moves.get(item, [(items[item][0],) * 2])]
     if found := meeting([it[:4] for it in spots]):
         item = next(it[4] for it in spots if it[:4] == found)
         fail(f"{item} goes to {found[3]}, where another leg of {found[0]} is or is to be: a disk that fails would take both")
-    return unit, rounds
+
+
+def read_pvmoves(plan, path):
+    """The unit, and for each round its pvmoves."""
+    unit, devices, items, stripes = read_names(path)
+    rounds = follow(plan, path, unit, devices, items)
+    check_apart(rounds, items, stripes)
+    return unit, [[Pvmove(item, volume, source, first + by, last + by, target, (to - slot) * unit, [(device, (other - slot) * unit) for device, other in later])
+                   for item, ((source, slot), (target, to), later) in ways.items() for by in [(slot - items[item][1][0][1] // unit) * unit]
+                   for volume, first, last in items[item][1]] for ways in rounds]
 
 
 def apart(moves):

@@ -61,10 +61,12 @@ def names_of(plan, path):
         fail(f"{path} has a row that is neither of a disk nor of an item, or two rows for one name")
     tops = sorted((os.path.join(real, ""), real) for real in disks.values())
     stand = {real: next(((disk, real[len(top):]) for top, disk in tops if real.startswith(top)), ("", real)) for real in paths.values()}
+    at = {}  # where an item is that was moved already: one that is parked moves twice
     for it in shifts:
         if it.item not in paths or it.source not in disks or it.target not in disks:
             fail(f"{path} does not have {it.item}, {it.source} and {it.target}, so it is not of this plan")
         disk, inside = stand[paths[it.item]]
+        disk, at[it.item] = at.get(it.item, disk), disks[it.target]
         if disk != disks[it.source] or {"", ".", ".."} & set(inside.split("/")):
             fail(f"{path} has {it.item} at {paths[it.item]}, which is not on {disks[it.source]}, from where the plan moves it: it was made for another plan")
     check_targets([(paths[it.item], disks[it.target]) for it in shifts], stand)

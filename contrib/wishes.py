@@ -2,6 +2,7 @@
 import collections, heapq
 from balance import Refused
 from pvmoves import meeting
+from tight import form_of
 
 # `moves` gives volumes their device; nothing is to stay on the devices of `empty`, and nothing can come to those of `closed`.
 # `balance`, where there is one, says to which part each device is to be filled.
@@ -30,11 +31,12 @@ def heed(items, wishes):
     return next_, loose
 
 
-def shares(count, next_, slots, open_):
-    """How many of `count` more items each open device is to have: the one of which the least part is in use has the next."""
+def shares(count, next_, slots, open_, is_tight):
+    """How many of `count` more items each open device is to have: the one of which the least part is in use has the next. What leaves a device
+    takes a slot there still, unless space is tight."""
     taken = collections.Counter()
     for at, device in next_.items():
-        taken.update({at[0], device})
+        taken.update({device} if is_tight else {at[0], device})
     rank = {device: n for n, device in enumerate(open_)}
     heap = [((taken[device] + 1) / slots[device], rank[device], device) for device in open_ if taken[device] < slots[device]]
     heapq.heapify(heap)
@@ -87,11 +89,12 @@ def deal(loose, quota, next_):
 
 
 def check(items, next_, slots):
-    """An item that leaves makes no room before it is gone: the same count as that of `migrate plan`. What is kept apart stays so."""
+    """Each disk has room, or there is a way by `migrate plan-tight`. What is kept apart stays so."""
     needs = collections.Counter(at[0] for at in items) + collections.Counter(to for at, to in next_.items() if to != at[0])
+    why = form_of(items, next_, slots).why
     for device, count in needs.items():
-        if count > slots.get(device, 0):
-            raise Refused(f"there is no room on {device}: it needs {count} slots, and has {slots.get(device, 0)}")
+        if why and count > slots.get(device, 0):
+            raise Refused(f"there is no room on {device}: it needs {count} slots, and has {slots.get(device, 0)}; nor can `migrate plan-tight` do it: {why}")
     if found := meeting([(it.group, it.leg, at[0], next_[at]) for at, pieces in items.items() for it in pieces if it.group]):
         pieces = next(pieces for at, pieces in items.items() if at[0] == found[2] and any((it.group, it.leg) == found[:2] for it in pieces))
         raise Refused(f"{who(pieces)}, and {found[3]} has or gets another leg or stripe of it, which LVM keeps apart")
@@ -114,16 +117,28 @@ def keeps_apart(items, next_):
 
 
 def carry_out(items, slots, wishes):
-    """The next device of each item."""
+    """The next device of each item: so that each device has room for old and incoming items together, where that can be had by dealing out."""
+    try:
+        return dealt(items, slots, wishes, False)
+    except Refused as refused:
+        if wishes.balance:
+            raise
+        try:
+            return dealt(items, slots, wishes, True)
+        except Refused:
+            raise refused from None
+
+
+def dealt(items, slots, wishes, is_tight):
     next_, loose = heed(items, wishes)
     open_ = [it for it in slots if it not in wishes.empty | wishes.closed]
     if wishes.balance:
         wishes.balance.carry_out(items, next_, loose, open_, slots, keeps_apart(items, next_))
         check(items, next_, slots)
         return next_
-    quota = {**dict.fromkeys(open_, 0), **shares(len(loose), next_, slots, open_)}
+    quota = {**dict.fromkeys(open_, 0), **shares(len(loose), next_, slots, open_, is_tight)}
     deal_legs([at for at in loose if any(it.group for it in items[at])], quota, items, next_, slots)
     loose = [at for at in loose if at not in next_]
-    deal(loose, shares(len(loose), next_, slots, open_), next_)
+    deal(loose, shares(len(loose), next_, slots, open_, is_tight), next_)
     check(items, next_, slots)
     return next_

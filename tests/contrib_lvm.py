@@ -51,11 +51,11 @@ def after_pvmoves(volumes, printed, devices):
     return found
 
 
-def carry_out(room, name, wish, unit, volumes, devices, look):
+def carry_out(room, name, wish, unit, volumes, devices, look, planned=Room.planned):
     """From two reports over files, plan and script to what stands on the devices; gives what the script prints alone. Where
     nothing can be looked at, the commands are followed."""
     room.good(name, f"contrib/from-lvm lvs.json pvs.json {wish} --unit {unit}")
-    last = room.planned(name)
+    last = planned(room, name)
     if not shifts_of(room.read("plan.txt")):
         return Count.that(f"{name}: something moves", False)
     room.good(name, "contrib/to-lvm plan.txt names.csv --out moves.sh")
@@ -245,21 +245,30 @@ class Lab:
     def look(self):
         return dict(volumes_of(json.loads(self.do(f"{LVS} {self.group}"))))
 
-    def carry_out(self, wish, unit):
+    def carry_out(self, wish, unit, planned=Room.planned):
         self.report()
         sums = self.sums()
-        carry_out(self.room, f"real LVM, {wish}", wish, unit, self.look(), {it: 63 for it in self.loops}, self.look)
+        carry_out(self.room, f"real LVM, {wish}", wish, unit, self.look(), {it: 63 for it in self.loops}, self.look, planned)
         Count.same(f"real LVM, {wish}: what the volumes hold", self.sums(), sums)
 
     def sums(self):
-        """The digests of the active volumes."""
-        found = {}
+        """The digests of the active volumes; where none can be active, of the first bytes of each extent, in the order of the volume."""
+        found = {} if self.live else {volume: [hashlib.sha256(self.first_bytes(*it)).hexdigest() for it in extents] for volume, extents in self.look().items()}
         for name in sorted(os.listdir(f"/dev/{self.group}")) if self.live else ():
             with open(f"/dev/{self.group}/{name}", "rb") as file:
                 found[name] = hashlib.file_digest(file, "sha256").hexdigest()
         return found
 
+    def first_bytes(self, device, extent, write=None):
+        """The first bytes of an extent of 4 MiB; the first one is at 1 MiB, as LVM has it by itself."""
+        with open(device, "r+b") as file:
+            at = (1 << 20) + (extent << 22)
+            return os.pread(file.fileno(), 4096, at) if write is None else os.pwrite(file.fileno(), write, at)
+
     def fill(self):
+        for extents in self.look().values() if not self.live else ():
+            for device, extent in extents:
+                self.first_bytes(device, extent, os.urandom(4096))
         for name in os.listdir(f"/dev/{self.group}") if self.live else ():
             self.do(f"dd if=/dev/urandom of=/dev/{self.group}/{name} bs=1M 2>&1 | grep -q copied; sync")
 
@@ -280,6 +289,19 @@ class Lab:
         self.report()
         refused(self.room, "real LVM, not allocatable", f"contrib/from-lvm lvs.json pvs.json --move stripes={a}", f"{a} is not allocatable")
         self.do(f"pvchange -x y {a}")
+
+    def tight(self):
+        """Two full devices whose volumes change places, and one with a run of 8 extents free. Beyond its runs no device has any extents free."""
+        a, b, c = self.loops
+        off = "" if self.live else "-an"
+        for volume, size, device in (("db", 56, a), ("web", 56, b), ("log", 48, c), ("rest_a", 7, a), ("rest_b", 7, b), ("rest_c", 7, f"{c}:56-62")):
+            self.do(f"lvcreate {off} -Zn -Wn -l {size} -n {volume} {self.group} {device}")
+        self.fill()
+        self.report()
+        said = self.room.run(f"contrib/from-lvm lvs.json pvs.json --move db={b} --move web={a} --unit 8").stderr
+        Count.that("real LVM, tight: the form", "the form to use is `migrate plan-tight`" in said, said)
+        self.carry_out(f"--move db={b} --move web={a}", 8, Room.planned_tight)
+        Count.that("real LVM, tight: an item is parked", any(it[3] == os.path.basename(c) for it in sum(shifts_of(self.room.read("plan.txt")), [])))
 
     def under_way(self):
         """A pvmove that was begun, and is at no end."""
@@ -342,13 +364,13 @@ def real_lvm():
     if missing or os.geteuid():
         return print(f"note: LVM is tried with recorded outputs alone: {'no ' + missing[0] if missing else 'this is not root'}")
     live = subprocess.run(["dmsetup", "targets"], capture_output=True, check=False).returncode == 0
-    for case, count in (Lab.plain, 3), (Lab.parts, 5):
+    for case, count in (Lab.plain, 3), (Lab.parts, 5), (Lab.tight, 3):
         with Room() as room, loop_devices(room, count) as loops:
             if not loops:
                 return None
             lab = Lab(room, loops, live)
             try:
-                if case is Lab.plain and room.run(f"vgcreate {lab.group} {' '.join(loops)}").returncode:
+                if case is not Lab.parts and room.run(f"vgcreate {lab.group} {' '.join(loops)}").returncode:
                     return print(f"note: LVM is tried with recorded outputs alone: vgcreate fails: {(room.read('state/said') or '').strip()[-200:]}")
                 case(lab)
                 if case is Lab.plain and not live:

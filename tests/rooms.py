@@ -114,6 +114,14 @@ class Room:
         last = self.good(name, "./migrate after disks.csv now.csv next.csv plan.txt")
         return {item: (disk, int(slot)) for item, disk, slot in list(csv.reader(last.splitlines()))[1:]}
 
+    def planned_tight(self, name):
+        """Plans and follows the three files where space is tight; gives the last layout, in which each item is on its next disk."""
+        self.good(name, "./migrate plan-tight disks.csv now.csv next.csv plan.txt")
+        last = self.good(name, "./migrate after-tight disks.csv now.csv next.csv plan.txt")
+        found = {item: (disk, int(slot)) for item, disk, slot in list(csv.reader(last.splitlines()))[1:]}
+        Count.same(f"{name}: each is on its next disk", {item: disk for item, (disk, _) in found.items()}, dict(rows_of(self.read("next.csv"))))
+        return found
+
 
 # The recorded outputs, read here for themselves
 
