@@ -5,7 +5,7 @@ these: such a slot is written over. A link that leads nowhere is a disk that isn
 tests/damage and bench/stops judge damaged stores by it.
 
 An image of a store has the bytes of each file, None for one that isn't there."""
-import hashlib, os, random
+import hashlib, os, random, re
 from typing import NamedTuple
 
 from disks import GATE, SLOT, header, layouts, rounds_of
@@ -24,11 +24,12 @@ def rows_of(text):
 
 
 class Case:
-    """A migration: its three files and its plan, and what its items hold: `cell` of each."""
+    """A migration: its three files and its plan, and what its items hold: `cell` of each. Where space is tight, it is carried out by the
+    commands that don't ask for room."""
 
-    def __init__(self, files, plan, cell=header):
-        self.files, self.plan = files, plan
-        self.slots = {disk: int(slots) for disk, _, slots in rows_of(files[0])}
+    def __init__(self, files, plan, cell=header, tight=False):
+        self.files, self.plan, self.tight = files, plan, tight
+        self.slots = {row[0]: int(row[-1]) for row in rows_of(files[0])}
         self.now = {item: (disk, int(slot)) for item, disk, slot in rows_of(files[1])}
         self.rounds = rounds_of(plan.splitlines())
         self.at = layouts(self.now, self.rounds)
@@ -88,7 +89,7 @@ class Slots:
         """The item that a slot's header names."""
         held = self.read(spot).ljust(SLOT, b"\0")
         name = held[2 : 2 + held[1]].decode("ascii", errors="replace")
-        return name if name and held[:34] == header(name) else None
+        return name if re.fullmatch(r"[A-Za-z0-9_.-]+", name) and held[:34] == header(name) else None
 
     def is_whole(self, item, spot):
         return self.item(spot) == item and len(self.read(spot)) == SLOT

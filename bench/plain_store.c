@@ -1,8 +1,10 @@
-/* What `migrate fill`, `audit`, `move` and `resume` do with files, written plainly and without their checks, to be measured beside them:
+/* What `migrate fill`, `audit`, `move`, `resume`, `move-tight` and `live` do with files, written plainly and without their checks, to be measured beside them:
    the same reads, writes and syncs. Names are found by their hash, as in any program that does not know them before.
 
        plain_store fill DISKS NOW        plain_store move DISKS NOW NEXT PLAN
-       plain_store audit DISKS NOW       plain_store resume DISKS NOW NEXT PLAN */
+       plain_store audit DISKS NOW       plain_store resume DISKS NOW NEXT PLAN
+       plain_store move-tight DISKS NOW NEXT PLAN
+       plain_store live DISKS NOW NEXT PLAN SCRIPT, where SCRIPT has reads alone */
 #define _GNU_SOURCE
 #include <fcntl.h>
 #include <stdint.h>
@@ -23,7 +25,7 @@ static struct names disk_names, item_names;
 static struct spot now[ITEMS];
 static int next[ITEMS];
 static const unsigned char zeros[SLOT], one = 1;
-static int files[DISKS], dirty[DISKS], journal = -1, journal_dirty, made;
+static int files[DISKS], dirty[DISKS], journal = -1, journal_dirty, made, is_tight;
 
 static void fail(const char *what) { perror(what); exit(1); }
 
@@ -212,7 +214,7 @@ static struct shift shift_at(char **at) {
     s.from.slot = number_in(at, ' ');
     s.to.disk = disk_of(at, ' ');
     s.to.slot = number_in(at, '\n');
-    if (next[s.item] != s.to.disk) exit(1);
+    if (!is_tight && next[s.item] != s.to.disk) exit(1);
     return s;
 }
 
@@ -256,20 +258,25 @@ static void fill(void) {
     printf("filled %d\n", item_names.count);
 }
 
+static void digest_of(const unsigned char *slot, char hex[65]) {
+    unsigned char digest[32];
+    sha256(slot, SLOT, digest);
+    for (int b = 0; b < 32; b++) {
+        hex[2 * b] = "0123456789abcdef"[digest[b] >> 4];
+        hex[2 * b + 1] = "0123456789abcdef"[digest[b] & 15];
+    }
+    hex[64] = 0;
+}
+
 static void audit(void) {
-    unsigned char slot[SLOT], digest[32];
+    unsigned char slot[SLOT];
     int here = 0;
     for (int i = 0; i < item_names.count; i++) {
         read_slot(now[i], slot, SLOT);
-        sha256(slot, SLOT, digest);
         int there = is_there(i, slot);
         here += there;
         char hex[65];
-        for (int b = 0; b < 32; b++) {
-            hex[2 * b] = "0123456789abcdef"[digest[b] >> 4];
-            hex[2 * b + 1] = "0123456789abcdef"[digest[b] & 15];
-        }
-        hex[64] = 0;
+        digest_of(slot, hex);
         printf("%s %s %d %s %s\n", item_names.texts[i], disk_names.texts[now[i].disk], now[i].slot, there ? "here" : "lost", hex);
     }
     printf("%d here, %d lost\n", here, item_names.count - here);
@@ -283,7 +290,7 @@ static struct plan read_plan(const char *name) {
     char *at = skip_line(plan.text);
     plan.rounds = atoi(at + 7);
     plan.sizes = calloc(plan.rounds + 1, sizeof *plan.sizes);
-    plan.shifts = calloc(ITEMS, sizeof *plan.shifts);
+    plan.shifts = calloc(2 * ITEMS, sizeof *plan.shifts);
     at = skip_line(at);
     for (int r = 0; r < plan.rounds; r++) {
         strtol(at + 6, &at, 10);
@@ -300,10 +307,18 @@ static void check_ready(const struct plan *plan) {
         read_slot(now[i], slot, SLOT);
         if (!is_there(i, slot)) exit(9);
     }
+    /* a target is looked at once, and not where an item is now */
+    unsigned char *seen = calloc(DISKS, ITEMS);
+    if (!seen) fail("memory");
+    for (int i = 0; i < item_names.count; i++) seen[(size_t)now[i].disk * ITEMS + now[i].slot] = 1;
     for (int i = 0; i < plan->moved; i++) {
-        read_slot(plan->shifts[i].to, slot, SLOT);
+        struct spot to = plan->shifts[i].to;
+        if (seen[(size_t)to.disk * ITEMS + to.slot]) continue;
+        seen[(size_t)to.disk * ITEMS + to.slot] = 1;
+        read_slot(to, slot, SLOT);
         if (slot[0] == 1) exit(9);
     }
+    free(seen);
 }
 
 static void arm(const struct plan *plan) {
@@ -344,6 +359,26 @@ static void move(const char *name) {
     check_ready(&plan);
     arm(&plan);
     carry_out(&plan, 0, plan.shifts);
+}
+
+/* Begins the plan, reads the items of a script of reads, and tells how many steps are left. */
+static void live(const char *name, const char *script) {
+    struct plan plan = read_plan(name);
+    unsigned char slot[SLOT];
+    size_t length;
+    sync_all();
+    if (gate_is_one()) exit(8);
+    check_ready(&plan);
+    arm(&plan);
+    for (char *at = read_text(script, &length); *at;) {
+        at += strlen("read ");
+        int item = item_of(&at, '\n');
+        char hex[65];
+        read_slot(now[item], slot, SLOT);
+        digest_of(slot, hex);
+        printf("%s %s\n", item_names.texts[item], hex);
+    }
+    printf("left %d\n", 2 * plan.moved + 2 * plan.rounds + 1);
 }
 
 /* The header of each item that is moved is read where the marked rounds have put it, and that of each named slot that is free then. */
@@ -387,7 +422,9 @@ int main(int count, char **words) {
     else if (strcmp(words[1], "audit") == 0) audit();
     else if (count < 6) return 2;
     else read_next(words[4]);
-    if (strcmp(words[1], "move") == 0) move(words[5]);
+    is_tight = strcmp(words[1], "move-tight") == 0;
+    if (is_tight || strcmp(words[1], "move") == 0) move(words[5]);
+    else if (strcmp(words[1], "live") == 0 && count == 7) live(words[5], words[6]);
     else if (strcmp(words[1], "resume") == 0) resume(words[5]);
     return 0;
 }

@@ -16,13 +16,13 @@ LEFT = b"".join(cell(item) for item, _, _ in BEFORE)
 
 # The migrations
 
-def case(disks, now, next_, plan):
+def case(disks, now, next_, plan, tight=False):
     """A migration from the rows of its files and its rounds, as lines of shifts."""
     texts = [head + "".join(f"{row}\n" for row in rows.split()) for head, rows in
              (("disk,limit,slots\n", disks), ("item,disk,slot\n", now), ("item,disk\n", next_))]
     rounds = [shifts.split("; ") for shifts in plan]
     text = "".join(f"round {n} {len(shifts)}\n" + "".join(f"{shift}\n" for shift in shifts) for n, shifts in enumerate(rounds, 1))
-    return Case(texts, f"migration-plan 1\nrounds {len(rounds)}\n{text}end\n", cell)
+    return Case(texts, f"migration-plan 1\nrounds {len(rounds)}\n{text}end\n", cell, tight)
 
 
 def example():
@@ -42,6 +42,11 @@ def stayers():
 def reuse():
     """The second round brings an item to the slot that the first one left."""
     return case("a,2,3 b,2,3", "p,a,0 x,a,1 q,b,0", "p,b x,a q,a", ["p a 0 b 1", "q b 0 a 0"])
+
+
+def parked():
+    """Two full disks exchange their items by the free slot of a third one, on which one of them is parked."""
+    return case("a,1,1 b,1,1 c,1,1", "x,a,0 y,b,0", "x,b y,a", ["x a 0 c 0", "y b 0 a 0", "x c 0 b 0"], tight=True)
 
 
 def twins():
@@ -141,7 +146,8 @@ class Store:
         return found
 
     def run(self, command, **how):
-        return self.room.run(*WORDS[command], **how)
+        word, *files = WORDS[command]
+        return self.room.run(word + "-tight" * self.case.tight, *files, **how)
 
 
 # What may be done to a disk

@@ -8,6 +8,7 @@ FILL, AUDIT = ["fill", *FILES[:2]], ["audit", *FILES[:2]]
 MOVE, RESUME = ["move", *FILES, "plan.txt"], ["resume", *FILES, "plan.txt"]
 DRILL = ["drill", *FILES, "plan.txt"]
 HALT = ["halt", *FILES, "plan.txt", "layout.csv"]
+LIVE = ["live", *FILES, "plan.txt", "script.txt"]
 
 # docs/FORMATS.md's example of the three files, and that of the two texts
 SMALL = ["disk,limit,slots\nssd,2,4\nhdd,1,8\n", "item,disk,slot\nmail,ssd,0\nweb,ssd,1\n", "item,disk\nmail,hdd\nweb,ssd\n"]

@@ -8,12 +8,13 @@ from session_rooms import TOP, Count, Room, page
 from cases import write_case
 from first_come import of_files
 
-COMMANDS = ("plan", "check", "after", "fill", "audit", "move", "resume", "halt", "drill", "rehearse")
+COMMANDS = ("plan", "check", "after", "fill", "audit", "move", "resume", "halt", "drill", "plan-tight", "move-tight", "after-tight", "drain", "live", "rehearse")
 # each page with a session: commands that it has to show, the files that it shows whole, and the other ones that it makes
 SESSIONS = [
-    ("README.md", ("plan", "check", "fill", "move", "resume"), ["cert.txt"], ["plan.txt", "later.csv"]),
+    ("README.md", ("plan", "check", "fill", "move", "resume", "drain", "live"), ["cert.txt"], ["plan.txt", "later.csv", "empty.csv", "out.txt", "out-cert.txt", "script.txt"]),
     ("docs/SESSION.md", COMMANDS, ["plan.txt", "cert.txt"],
-     ["later.csv", "layout.csv", "back.csv", "back.txt", "back-cert.txt", "there.csv", "layout2.csv", "rest.txt", "rest-cert.txt", "end.csv"]),
+     ["later.csv", "layout.csv", "back.csv", "back.txt", "back-cert.txt", "there.csv", "layout2.csv", "rest.txt", "rest-cert.txt", "end.csv",
+      "tight.csv", "tight.txt", "tight-end.csv", "empty.csv", "out.txt", "out-cert.txt", "script.txt"]),
 ]
 
 
@@ -56,23 +57,8 @@ def the_sessions(program):
 
 # The numbers, and the example of the formats
 
-# how the README calls a row of docs/MEASURED.md, and how that row begins
-NAMES = [
-    (r"(\d+) disks of limit (\d+), (\d+) items? for each ordered pair", r"| \1 | \3 | \2 |"),
-    (r"(\d+) rings, in which each disk passes items on to the next one", r"| ring | \1 |"),
-    (r"(\d+) migrations onto added disks", r"| adding | \1 |"),
-    (r"(\d+) migrations from disks that are emptied", r"| removing | \1 |"),
-    (r"all (\d+) migrations of these kinds and of four more", r"| all | \1 |"),
-    (r"the same (\d+), each disk with .+", r"| all | \1 |"),
-    (r"one disk and 1023 others, limit 2, (\d+) items", r"| a star of 1,024 disks, limit 2 | \1 |"),
-]
-
-
-def stands_in(measured, name, numbers):
-    """Whether docs/MEASURED.md has a row with this name of the README's, and with these numbers."""
-    plain = re.sub(r"(?<=\d),(?=\d)", "", name).replace("one item", "1 item")
-    starts = [re.sub(called, start, plain) for called, start in NAMES if re.fullmatch(called, plain)]
-    return any(row.startswith(start) and numbers in row for start in starts for row in measured.split("\n"))
+# rounds of plans and of first come, first served that the README names, as docs/MEASURED.md has them
+NAMED = ["170 | 210 | 173", "1859 | 2732 | 1883", "74084 | 74253"]
 
 
 def the_measured(program):
@@ -86,9 +72,9 @@ def the_measured(program):
             write_case(room.at, int(disks), int(per_pair), int(limit))
             found = [told.get("quotient"), told.get("bound"), told.get("rounds"), *map(str, of_files(room.at))]
             Count.same(f"MEASURED: {disks} disks, {per_pair} items, limit {limit}", found, wanted)
-    rows = re.findall(r"^\| (.+) (\| \d+ \| \d+ \| \d+ \|)$", page("README.md"), re.M)
-    missing = [row for row in rows if not stands_in(measured, *row)]
-    Count.that("the README has rows of MEASURED", len(rows) == 10 and not missing, missing)
+    told = page("README.md").partition("## Measured")[2]
+    for numbers in NAMED:
+        Count.that("the README names rounds of MEASURED", f"| {numbers} |" in measured and all(f"{int(n):,}" in told for n in numbers.split(" | ")), numbers)
 
 
 def the_example_of_formats(program):
@@ -105,6 +91,13 @@ def the_example_of_formats(program):
         Count.ended("check of its own plan", room.run(*CHECK), 0, "optimal\n")
 
 
+def the_example_of_the_crates(program):
+    """README.md shows the function of crates/mig_example, without its contract."""
+    source = page("crates/mig_example/src/lib.rt").partition("\npub fn ")
+    shown = "".join(line for line in (source[1] + source[2])[1:].splitlines(True) if not line.startswith(("    requires", "    ensures")))
+    Count.that("README shows the example of the crates", f"```rust\n{shown}```" in page("README.md"), shown)
+
+
 CASES = [the_sessions, the_example_of_formats]
-# the rounds are the same for each build of the program
-ONCE = [the_measured]
+# the rounds, and the example, are the same for each build of the program
+ONCE = [the_measured, the_example_of_the_crates]

@@ -2,11 +2,12 @@
 import re
 from session_cells import digest
 from session_hints import tells
-from session_inputs import AFTER, AUDIT, CERT_TEXT, CHECK, DISKS, FILES, HALT, MOVE, PLAN, PLAN_TEXT, put
+from session_inputs import AFTER, AUDIT, CERT_TEXT, CHECK, DISKS, FILES, HALT, LIVE, MOVE, PLAN, PLAN_TEXT, put
 from session_rooms import Count, Room, page
 from cases import write_case
 
 LONG = "a" * 256
+DRAIN = ["drain", *FILES[:2], "left", "next.csv"]
 NO_NUMBERS = ["", "64 16", "64 16 2 2", "1 1 1", "1024 0 1", "2 32769 1", "257 1 3", "2 1 0", "2 1 1025", "2 00000000001 1", "+2 1 1", "2 -1 1"]
 NO_FORMS = [
     [], ["--help"], ["-h"], ["plann", *PLAN[1:]], ["PLAN", *PLAN[1:]], PLAN[:5], [*PLAN, "more"], [*CHECK, "more"], [*AFTER, "more"], AFTER[:4], [""],
@@ -14,9 +15,11 @@ NO_FORMS = [
     ["plan", *FILES, "a.disk", "cert.txt"], ["plan", *FILES, "plan.txt", "a.mig"], ["check", "a.mig", *CHECK[2:]],
     ["plan", *FILES, "same", "same"], ["plan", *FILES, "now.csv", "cert.txt"], ["plan", *FILES, "plan.txt", "next.csv"],
     HALT[:5], [*HALT, "more"], *([*HALT[:5], layout] for layout in (*FILES, "plan.txt", "a.disk", "a.mig", "", LONG)),
+    LIVE[:5], [*LIVE, "more"], *([*LIVE[:5], script] for script in ("a.disk", "a.mig", "", LONG)), ["live-tight", *LIVE[1:]],
     ["plan-tight", *FILES], *(["plan-tight", *FILES, plan] for plan in (*FILES, "a.disk", "a.mig", "", LONG)), ["plan-tight", *FILES, "plan.txt", "cert.txt"],
     ["check-tight", *CHECK[1:]], ["drill-tight", *AFTER[1:]], ["after-tight", *AFTER[1:4]], ["halt-tight", *HALT[1:5], "now.csv"],
     *(["rehearse", *numbers.split()] for numbers in NO_NUMBERS),
+    DRAIN[:4], [*DRAIN, "more"], *([*DRAIN[:3], name, "next.csv"] for name in ("", "a b", "a,b", "n" * 33)), *([*DRAIN[:4], word] for word in (*FILES[:2], "a.disk", "a.mig", "", LONG)),
 ]
 # words, and what the reason has, which is the first line of standard error
 REASONS = [
@@ -45,7 +48,12 @@ FIRST_LINES = [
     (["halt-tight", *HALT[1:5], "plan.txt"], "`plan.txt` is the word for LAYOUT and for PLAN, and LAYOUT is saved"),
     (["plan-tight", *FILES, "now.csv"], "`now.csv` is the word for PLAN and for NOW, and PLAN is saved"),
     (["plan-tihgt", *FILES, "p"], "`plan-tihgt` is no command; is it `plan-tight`?"),
+    (DRAIN[:4], "`drain` is followed by 4 words, and here by 3: NEXT is missing"),
+    ([*DRAIN[:4], "now.csv"], "`now.csv` is the word for NEXT and for NOW, and NEXT is saved"),
+    ([*DRAIN[:3], "a b", "next.csv"], "byte 2 of `a b`, the name of the disk, is a blank"),
+    ([*DRAIN[:3], "", "next.csv"], "the name of the disk is empty"),
     (["move-tight", *FILES], "`move-tight` is followed by 4 words, and here by 3: PLAN is missing"),
+    (LIVE[:5], "`live` is followed by 5 words, and here by 4: SCRIPT is missing"),
     (["rehearse", "1", "1", "1"], "N is 1, and must be 2 to 1024"),
     (["rehearse", "2", "1", "0"], "LIMIT is 0, and must be 1 to 1024"),
     (["rehearse", "+2", "1", "1"], "N is `+2`, and must be 1 to 10 digits"),
@@ -70,7 +78,7 @@ def no_forms(program):
             for case in NO_FORMS:
                 ran = room.run(*case)
                 Count.ended(f"words {case}", ran, 2, "words not understood\n")
-                Count.that(f"words {case}: the forms are said", len(forms) == 15 and says_forms(ran, forms), ran)
+                Count.that(f"words {case}: the forms are said", len(forms) == 17 and says_forms(ran, forms), ran)
             ran = room.run(*PLAN[:5], b"\xff")
             Count.ended("a word that is not UTF-8", ran, 2, "")
             Count.same("wrong words change no file", room.files(), before)

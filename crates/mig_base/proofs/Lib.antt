@@ -26,6 +26,7 @@ pub mod SafetyLaws
 pub mod SameIds
 pub mod Scheduled
 pub mod Separators
+pub mod SlotCounts
 pub mod Spelling
 pub mod StoreSteps
 pub mod TargetLists

@@ -45,7 +45,7 @@ pub end_lacks : Lacks 10 (codes "end")
 end_lacks = lacks_test 10 (codes "end") refl
 
 module _ (input : Lists) (valid : IsInput input) where
-  item_lacks : (c i : ℕ) → is_name_byte c ≡ false → i < length input.items → Lacks c (item_name input i)
+  pub item_lacks : (c i : ℕ) → is_name_byte c ≡ false → i < length input.items → Lacks c (item_name input i)
   item_lacks c i other h = Lacks-name c other _ (valid.named_items i [] h)
 
   pub disk_lacks : (c d : ℕ) → is_name_byte c ≡ false → d < length input.disks → Lacks c (disk_name input d)

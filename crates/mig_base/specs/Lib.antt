@@ -8,6 +8,7 @@ pub mod Colourings
 pub mod Digits
 pub mod Directions
 pub mod DiskNumbers
+pub mod Draining
 pub mod Ends
 pub mod FaultCounts
 pub mod Flights
@@ -24,6 +25,7 @@ pub mod Misfits
 pub mod NameFields
 pub mod NameLemmas
 pub mod Naming
+pub mod NextTexts
 pub mod PlanLines
 pub mod Planned
 pub mod Readiness

@@ -24,7 +24,7 @@ use mig_store::StoreFailed;
 fn is_empty(bytes: &[u8]) -> bool
     ensures { MatchBool result (AreZeros bytes.now) (¬ (AreZeros bytes.now)) }
 {
-    bytes.iter().all(|byte| *byte == 0)
+    bytes.iter().fold(0_u8, |all, byte| all | *byte) == 0
 }
 
 /// Whether these bytes empty a slot.

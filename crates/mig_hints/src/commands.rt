@@ -1,7 +1,7 @@
 //! The commands, and what each of their words stands for.
 
 /// The commands in the order in which they are listed.
-pub(crate) const COMMANDS: [&str; 15] = [
+pub(crate) const COMMANDS: [&str; 17] = [
     "plan",
     "check",
     "after",
@@ -11,6 +11,8 @@ pub(crate) const COMMANDS: [&str; 15] = [
     "resume",
     "halt",
     "drill",
+    "live",
+    "drain",
     "rehearse",
     "plan-tight",
     "after-tight",
@@ -26,9 +28,13 @@ static WITH_CERT: [&str; 5] = ["DISKS", "NOW", "NEXT", "PLAN", "CERT"];
 
 static WITH_LAYOUT: [&str; 5] = ["DISKS", "NOW", "NEXT", "PLAN", "LAYOUT"];
 
+static WITH_SCRIPT: [&str; 5] = ["DISKS", "NOW", "NEXT", "PLAN", "SCRIPT"];
+
 static WITH_PLAN: [&str; 4] = ["DISKS", "NOW", "NEXT", "PLAN"];
 
 static TWO_FILES: [&str; 2] = ["DISKS", "NOW"];
+
+static ONE_DISK: [&str; 4] = ["DISKS", "NOW", "NAME", "NEXT"];
 
 static CASE: [&str; 3] = ["N", "PERPAIR", "LIMIT"];
 
@@ -44,15 +50,17 @@ The commands:
   migrate resume DISKS NOW NEXT PLAN             carry out what a stopped move left
   migrate halt DISKS NOW NEXT PLAN LAYOUT        close the plan where it stands, and save where the items are there
   migrate drill DISKS NOW NEXT PLAN              try each stop of the plan on stores in memory
+  migrate live DISKS NOW NEXT PLAN SCRIPT        carry the plan out step by step, and read items in between, as SCRIPT says
+  migrate drain DISKS NOW NAME NEXT              find next disks that empty the disk NAME, and save them in NEXT
   migrate rehearse N PERPAIR LIMIT               plan a case of N disks with this limit and PERPAIR items from each to each other
   migrate plan-tight DISKS NOW NEXT PLAN         plan one item at a time where disks lack room, and save PLAN
   migrate after-tight DISKS NOW NEXT PLAN        as after, but no disk is asked for room
   migrate move-tight DISKS NOW NEXT PLAN         as move, but no disk is asked for room
   migrate resume-tight DISKS NOW NEXT PLAN       as resume, but no disk is asked for room
   migrate halt-tight DISKS NOW NEXT PLAN LAYOUT  as halt, but no disk is asked for room
-DISKS, NOW and NEXT are CSV files; PLAN is a plan and CERT its certificate.
+DISKS, NOW and NEXT are CSV files; PLAN is a plan and CERT its certificate; SCRIPT has lines `read ITEM` and `step N`.
 Each command has just these words, in this order, and no options. Often:
-  PLAN and CERT of plan, PLAN of plan-tight, and LAYOUT must differ from each other and from the other files
+  PLAN and CERT of plan, PLAN of plan-tight, NEXT of drain, and LAYOUT must differ from each other and from the other files
   a file's name has 1 to 255 bytes
   a file's name ends neither in .disk nor in .mig
   N is 2 to 1024, N times N - 1 times PERPAIR 1 to 65536, LIMIT 1 to 1024";
@@ -62,9 +70,11 @@ pub(crate) fn roles_of(command: &str) -> Option<&'static [&'static str]> {
     match command {
         "plan" | "check" => Some(&WITH_CERT),
         "halt" | "halt-tight" => Some(&WITH_LAYOUT),
+        "live" => Some(&WITH_SCRIPT),
         "after" | "move" | "resume" | "drill" => Some(&WITH_PLAN),
         "plan-tight" | "after-tight" | "move-tight" | "resume-tight" => Some(&WITH_PLAN),
         "fill" | "audit" => Some(&TWO_FILES),
+        "drain" => Some(&ONE_DISK),
         "rehearse" => Some(&CASE),
         _ => None,
     }
@@ -78,10 +88,30 @@ pub(crate) fn ending_of(words: &[String]) -> &'static str {
     }
 }
 
+/// Whether the command only saves the file with this role, whatever other commands do.
+pub(crate) fn is_saved(command: &str, role: &str) -> bool {
+    match role {
+        "LAYOUT" => true,
+        "PLAN" => command == "plan" || command == "plan-tight",
+        "CERT" => command == "plan",
+        "NEXT" => command == "drain",
+        _ => false,
+    }
+}
+
 /// The word that has this role, if the command has one.
 pub(crate) fn word_for<'a>(words: &'a [String], role: &str) -> Option<&'a str> {
     let (command, files) = words.split_first()?;
     let roles = roles_of(command.as_str())?;
     let place = roles.iter().position(|it| *it == role)?;
     Some(files.get(place)?.as_str())
+}
+
+/// The word of the file with this role that the command reads, if it reads one.
+pub(crate) fn read_word<'a>(words: &'a [String], role: &str) -> Option<&'a str> {
+    let command = words.first()?;
+    if is_saved(command.as_str(), role) {
+        return None;
+    }
+    word_for(words, role)
 }

@@ -1,10 +1,11 @@
 //! Says on standard error what a status means.
 
 use crate::blames::blame_hint;
-use crate::commands::{FORMS, ending_of, word_for};
+use crate::commands::{FORMS, ending_of, read_word, word_for};
+use crate::emptying::drain_hint;
 use crate::found::read_again;
 use crate::journals::journal_hint;
-use crate::misfits::misfit_hint;
+use crate::misfits::{misfit_hint, script_hint};
 use crate::missing::missing_hint;
 use crate::ready::{fill_hint, move_hint};
 use crate::refusals::{InputFiles, refusal_hint};
@@ -36,7 +37,7 @@ fn hint_for<R: AllocGlobal + Files<File = File>>(
     status: u8,
 ) -> Result<Option<String>, AllocError> {
     match status {
-        1 | 3 | 9 | 10 | 13 => files_hint(rt, words, status),
+        1 | 3 | 9 | 10 | 13 | 14 | 15 => files_hint(rt, words, status),
         2 => {
             let alloc = rt.alloc();
             let reason = words_hint(alloc, words)?;
@@ -57,6 +58,7 @@ struct Loaded {
     next: Option<Vec<u8>>,
     plan: Option<Vec<u8>>,
     cert: Option<Vec<u8>>,
+    script: Option<Vec<u8>>,
 }
 
 impl Loaded {
@@ -76,13 +78,18 @@ impl Loaded {
             } else {
                 None
             },
+            script: if texts {
+                load_word(rt, words, "SCRIPT")
+            } else {
+                None
+            },
         }
     }
 
     /// The files of the input, as they were typed.
     fn input<'a>(&'a self, words: &'a [String]) -> Option<InputFiles<'a>> {
         let next = typed(words, "NEXT", &self.next);
-        if next.is_none() && word_for(words, "NEXT").is_some() {
+        if next.is_none() && read_word(words, "NEXT").is_some() {
             return None;
         }
         Some(InputFiles {
@@ -99,12 +106,12 @@ fn load_word<R: AllocGlobal + Files<File = File>>(
     words: &[String],
     role: &str,
 ) -> Option<Vec<u8>> {
-    read_again(rt, word_for(words, role)?)
+    read_again(rt, read_word(words, role)?)
 }
 
 /// A file as it was typed.
 fn typed<'a>(words: &'a [String], role: &str, bytes: &'a Option<Vec<u8>>) -> Option<Typed<'a>> {
-    match (word_for(words, role), bytes) {
+    match (read_word(words, role), bytes) {
         (Some(word), Some(bytes)) => Some(Typed {
             word,
             bytes: bytes.as_slice(),
@@ -120,15 +127,19 @@ fn files_hint<R: AllocGlobal + Files<File = File>>(
     status: u8,
 ) -> Result<Option<String>, AllocError> {
     let alloc = rt.alloc();
-    let loaded = Loaded::of(rt, words, status != 3 && status != 13);
+    let loaded = Loaded::of(rt, words, status != 3 && status != 13 && status != 14);
     let Some(files) = loaded.input(words) else {
         return Ok(None);
     };
     let plan = typed(words, "PLAN", &loaded.plan);
     let cert = typed(words, "CERT", &loaded.cert);
+    if status == 15 {
+        return script_hint(alloc, &files, typed(words, "SCRIPT", &loaded.script));
+    }
     match (status, plan) {
         (3, _) => refusal_hint(alloc, &files),
         (13, _) => tight_hint(alloc, &files),
+        (14, _) => drain_hint(alloc, &files, word_for(words, "NAME")),
         (1, Some(plan)) => blame_hint(alloc, &files, &plan, cert),
         (10, Some(plan)) => misfit_hint(alloc, &files, &plan, cert),
         (9, Some(plan)) => move_hint(rt, &files, &plan),

@@ -4,6 +4,7 @@
 mod blames;
 mod certs;
 mod commands;
+mod emptying;
 mod excerpts;
 mod found;
 mod headers;

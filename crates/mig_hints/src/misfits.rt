@@ -1,4 +1,4 @@
-//! Status 10: which line of a plan or a certificate doesn't fit, and what was expected there.
+//! Status 10 and 15: which line of a plan, a certificate or a script doesn't fit, and what was expected there.
 
 use crate::certs::cert_line;
 use crate::excerpts::Shown;
@@ -8,8 +8,13 @@ use crate::refusals::InputFiles;
 use crate::rows::Typed;
 use mig_base::{Input, MAX_FILE_BYTES, MAX_ROUNDS, MAX_SHIFTS, MAX_SLOTS};
 use mig_cert::read_cert;
+use mig_live::{ScriptError, read_script};
 use mig_text::{Finder, Parts, TextError, read_number, read_plan};
 use std::alloc::{AllocError, Global};
+
+/// What is expected at a line of a script.
+const SCRIPT_LINE: &str =
+    "wanted is `read ITEM`, with an item of NOW, or `step N`, with N from 1 to 1000000, and LF after it; there are at most 65536 lines";
 
 /// What is wrong with the text of the plan, or else of the certificate, if anything is.
 pub(crate) fn misfit_hint(
@@ -33,6 +38,21 @@ pub(crate) fn misfit_hint(
         return Ok(Some(point_into(alloc, &cert, number, wanted.as_str())?));
     }
     Ok(None)
+}
+
+/// What is wrong with the text of a script, if anything is.
+pub(crate) fn script_hint(
+    alloc: Global,
+    files: &InputFiles<'_>,
+    script: Option<Typed<'_>>,
+) -> Result<Option<String>, AllocError> {
+    let (Ok(input), Some(script)) = (files.read(alloc), script) else {
+        return Ok(None);
+    };
+    let Err(ScriptError::Line { number }) = read_script(alloc, &input, script.bytes) else {
+        return Ok(None);
+    };
+    Ok(Some(point_into(alloc, &script, number, SCRIPT_LINE)?))
 }
 
 /// Points to a line of a text; to the text alone where it is too long.

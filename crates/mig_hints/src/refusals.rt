@@ -6,7 +6,7 @@ use crate::places::{Place, point_to};
 use crate::row_causes::{
     disk_hint, name_hint, number_hint, range_hint, slot_hint, taken_hint, twice_hint, width_hint,
 };
-use crate::rows::Typed;
+use crate::rows::{Typed, field};
 use csv::ByteRecord;
 use mig_base::{FileKind, Input, MAX_DISKS, MAX_FILE_BYTES, MAX_ITEMS, Why};
 use mig_csv::{InputError, read_input, read_layout, read_tight};
@@ -93,7 +93,7 @@ fn row_hint(
         Why::BadNumber => number_hint(alloc, file, sides, row),
         Why::OutOfRange => range_hint(alloc, sides, row),
         Why::DuplicateDisk | Why::DuplicateItem => twice_hint(alloc, &typed, row),
-        Why::UnknownDisk => disk_hint(alloc, &files.disks, row),
+        Why::UnknownDisk => disk_hint(alloc, &files.disks, field(row, 1)),
         Why::SlotTooHigh => slot_hint(alloc, &files.disks, row),
         Why::SlotTaken => taken_hint(alloc, &files.now, row),
         _ => whole_hint(alloc, files, file, why),

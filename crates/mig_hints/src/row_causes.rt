@@ -146,11 +146,11 @@ fn place_of(alloc: Global, typed: &Typed<'_>, key: &Key<'_>) -> Option<usize> {
 pub(crate) fn disk_hint(
     alloc: Global,
     disks: &Typed<'_>,
-    row: &ByteRecord,
+    disk: &[u8],
 ) -> Result<String, AllocError> {
-    let name = Shown(field(row, 1));
+    let name = Shown(disk);
     let word = Shown(disks.word.as_bytes());
-    let alike = listed_alike(alloc, disks, field(row, 1));
+    let alike = listed_alike(alloc, disks, disk);
     match &alike {
         Some(other) => {
             let other = Shown(field(other, 0));

@@ -1,8 +1,9 @@
 //! Status 2: why the words are no command.
 
-use crate::commands::{COMMANDS, roles_of};
+use crate::commands::{COMMANDS, is_saved, roles_of};
 use crate::excerpts::Shown;
-use mig_base::{MAX_DISKS, MAX_ITEMS, MAX_LIMIT, read_digits};
+use crate::names::name_fault;
+use mig_base::{MAX_DISKS, MAX_ITEMS, MAX_LIMIT, Name, read_digits};
 use std::alloc::{AllocError, Global};
 use strsim::levenshtein;
 
@@ -85,7 +86,15 @@ fn wrong_count(
     }
 }
 
-/// A word for a file that can't name one.
+/// A word that can't be the name of a disk.
+fn wrong_name(alloc: Global, word: &[u8]) -> Result<Option<String>, AllocError> {
+    if Name::read(word).is_some() {
+        return Ok(None);
+    }
+    Ok(Some(name_fault(alloc, "disk", word)?))
+}
+
+/// A word that can't name the file, or the disk, that it is for.
 fn wrong_file(
     alloc: Global,
     roles: &[&str],
@@ -95,6 +104,12 @@ fn wrong_file(
         let bytes = word.as_bytes();
         let shown = Shown(bytes);
         let length = bytes.len();
+        if *role == "NAME" {
+            if let Some(reason) = wrong_name(alloc, bytes)? {
+                return Ok(Some(reason));
+            }
+            continue;
+        }
         if bytes.is_empty() {
             return Ok(Some(format!(in alloc; "the word for {role} is empty")?));
         }
@@ -120,10 +135,7 @@ fn wrong_pair(
     given: &[String],
 ) -> Result<String, AllocError> {
     for (role, word) in roles.iter().zip(given) {
-        let saved = *role == "LAYOUT"
-            || (command == "plan" && (*role == "PLAN" || *role == "CERT"))
-            || (command == "plan-tight" && *role == "PLAN");
-        if !saved {
+        if !is_saved(command, role) {
             continue;
         }
         if let Some(other) = same_word(roles, given, role, word.as_str()) {

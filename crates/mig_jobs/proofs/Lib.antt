@@ -1,4 +1,4 @@
-mod StaySteps
+mod StopLaws
 mod VacancyLaws
 mod VacancySteps
 pub mod Common

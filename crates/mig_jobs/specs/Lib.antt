@@ -1,3 +1,3 @@
 pub mod JobTables
-pub mod Stays
+pub mod Stops
 pub mod Vacancies

@@ -1,23 +1,24 @@
 //! Plans that can be carried out.
-ghost use Rattle.std.specs.Prelude.{◌≡◌, ◌+◌, ◌*◌, ◌<◌, ◌≤◌, All, IfOk, Some, length, slice_get};
+ghost use Rattle.std.specs.Prelude.{◌≡◌, ◌+◌, ◌*◌, ◌<◌, ◌≤◌, IfOk, Some, length, slice_get};
 ghost use Rattle.std.specs.List.{list_any};
+ghost use Rattle.std.specs.Option.{option_map};
 ghost use Rattle.mig_base.specs.declared.cells.Flight.{Flight};
 ghost use Rattle.mig_base.specs.InputLists.{IsInput};
-ghost use Rattle.mig_base.specs.Layouts.{round_at};
+ghost use Rattle.mig_base.specs.Layouts.{At, round_at};
 ghost use Rattle.mig_base.specs.Readiness.{shifts_of};
 ghost use Rattle.mig_base.specs.RoundEvents.{flights_of};
 ghost use Rattle.mig_base.specs.Running.{Runs, is_of};
 ghost use Rattle.mig_base.specs.Slots.{slot_of};
 ghost use Rattle.mig_jobs.specs.JobTables.{free_targets};
-ghost use Rattle.mig_jobs.specs.Stays.{IsStay};
 ghost use Rattle.mig_base.specs.Tasks.{Task, IsTask};
+ghost use Rattle.mig_jobs.specs.Stops.{stops_in};
 ghost use Rattle.mig_jobs.specs.Vacancies.{AreVacancies};
 ghost use Rattle.sha2.specs.Sha256.{sha256};
 
-use crate::stays::{Stay, stays_of};
-use crate::tables::{shift_flags, targets_of};
+use crate::stops::{Stop, spot_until, stops_of};
+use crate::tables::targets_of;
 use crate::vacancies::{Vacancy, vacancies_of};
-use mig_base::{Cell, Input, MAX_FILE_BYTES, MAX_ROUNDS, Plan, Round, Shift, Spot};
+use mig_base::{Cell, Input, ItemId, MAX_FILE_BYTES, MAX_ROUNDS, Plan, Round, Shift, Spot};
 use sha2::{Digest, Sha256};
 use std::alloc::{AllocError, Global};
 use std::marker::Model;
@@ -30,21 +31,19 @@ pub struct Job {
     digest: [u8; 32],
     // How many shifts the plan has.
     shifts: u32,
-    // For each item whether the plan shifts it.
-    shifted: Vec<bool>,
     // The targets that are free now, in the plan's order.
     targets: Vec<Spot>,
     // When the spots of now and of the plan are free.
     vacancies: Vec<Vacancy>,
-    // Where the items that the plan shifts stay, and for how long.
-    stays: Vec<Stay>,
+    // For each item where the plan's shifts take it, in the order of their rounds.
+    stops: Vec<Vec<Stop>>,
 }
 
 impl Model for Job {
-    ghost use Rattle.std.specs.Prelude.{◌≡◌, All, length};
+    ghost use Rattle.std.specs.Prelude.{◌≡◌, length};
     ghost use Rattle.mig_base.specs.Readiness.{shifts_of};
-    ghost use Rattle.mig_jobs.specs.JobTables.{AreShiftFlags, free_targets};
-    ghost use Rattle.mig_jobs.specs.Stays.{IsStay};
+    ghost use Rattle.mig_jobs.specs.JobTables.{free_targets};
+    ghost use Rattle.mig_jobs.specs.Stops.{AreStops};
     ghost use Rattle.mig_base.specs.Tasks.{Task, IsTask};
     ghost use Rattle.mig_jobs.specs.Vacancies.{vacancies_in};
 
@@ -53,8 +52,8 @@ impl Model for Job {
     ghost view = { λ j. record { input = j.input; plan = j.plan; digest = j.digest } };
 
     ghost invariant = { λ j. IsTask (record { input = j.input; plan = j.plan; digest = j.digest }) × (j.shifts ≡ length (shifts_of j.plan))
-        × AreShiftFlags j.input j.plan j.shifted.items × (j.targets.items ≡ free_targets j.input.spots (shifts_of j.plan))
-        × (j.vacancies.items ≡ vacancies_in j.plan) × All (IsStay j.input j.plan) j.stays.items };
+        × (j.targets.items ≡ free_targets j.input.spots (shifts_of j.plan)) × (j.vacancies.items ≡ vacancies_in j.plan)
+        × AreStops j.input j.plan (length j.plan) j.stops.items };
 }
 
 // The same input in memory of its own.
@@ -115,10 +114,9 @@ pub fn prepare(
         plan: copy_plan(alloc, plan)?,
         digest: Sha256::digest(plan_bytes),
         shifts: count_shifts(plan),
-        shifted: shift_flags(alloc, input, plan)?,
         targets: targets_of(alloc, input, plan)?,
         vacancies: vacancies_of(alloc, plan)?,
-        stays: stays_of(alloc, input, plan)?,
+        stops: stops_of(alloc, input, plan)?,
     })
 }
 
@@ -191,7 +189,7 @@ impl Job {
         requires { item < length self.now.input.items }
         ensures { result ≡ list_any (is_of item) (shifts_of self.now.plan) }
     {
-        self.shifted[item]
+        !self.item_stops(item).is_empty()
     }
 
     /// The targets that are free now, in the plan's order.
@@ -208,14 +206,6 @@ impl Job {
         ensures valid { IsTask self.now }
     {
         self.vacancies.as_slice()
-    }
-
-    /// Where the items that the plan shifts stay, and for how long.
-    pub fn stays(&self) -> &[Stay]
-        ensures stays { All (IsStay self.now.input self.now.plan) result.now }
-        ensures valid { IsTask self.now }
-    {
-        self.stays.as_slice()
     }
 
     // The shifts of a round.
@@ -248,5 +238,37 @@ impl Job {
         let shift = self.round(round)[place as usize];
         let input = self.input();
         (spot_cell(input, shift.from), spot_cell(input, shift.to))
+    }
+
+    // Where the plan's shifts take an item.
+    fn item_stops(&self, item: usize) -> &[Stop]
+        requires { item < length self.now.input.items }
+        ensures { result.now ≡ stops_in self.now.plan (length self.now.plan) item }
+    {
+        self.stops[item].as_slice()
+    }
+
+    // The spot of an item once so many rounds are carried out.
+    fn spot_after(&self, item: ItemId, rounds: u32) -> Spot
+        requires item { item.0 < length self.now.input.items }
+        requires rounds { rounds ≤ length self.now.plan }
+        ensures { At self.now.input self.now.plan rounds item.0 ≡ Some result }
+    {
+        self.input.keeps_rules();
+        let place = item.0 as usize;
+        match spot_until(self.item_stops(place), rounds) {
+            Some(spot) => spot,
+            None => self.input.now()[place],
+        }
+    }
+
+    /// The slot of an item once so many rounds are marked. It is found without a search through the plan.
+    pub fn cell_of(&self, item: ItemId, marked: u32) -> Cell
+        requires item { item.0 < length self.now.input.items }
+        requires marked { marked ≤ length self.now.plan }
+        ensures { option_map (slot_of self.now.input) (At self.now.input self.now.plan marked item.0) ≡ Some result }
+    {
+        self.keeps_rules();
+        spot_cell(self.input(), self.spot_after(item, marked))
     }
 }

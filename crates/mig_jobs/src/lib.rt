@@ -5,11 +5,10 @@
 mod headers;
 mod jobs;
 mod left_rounds;
-mod stays;
+mod stops;
 mod tables;
 mod vacancies;
 
 pub use headers::{has_header, is_there, is_used};
 pub use jobs::{Job, count_shifts, prepare, spot_cell};
-pub use stays::Stay;
 pub use vacancies::Vacancy;

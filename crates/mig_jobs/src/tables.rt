@@ -1,51 +1,12 @@
-//! Tables of a plan's items and targets.
-ghost use Rattle.std.specs.Prelude.{◌≡◌, ◌<◌, ◌||◌, ◌++◌, [], ◌∷◌, Bool, false, ℕ, All, IfOk, OnOk, length, slice_index_or, vec_len};
-ghost use Rattle.std.specs.List.{list_any};
+//! A table of a plan's targets.
+ghost use Rattle.std.specs.Prelude.{◌≡◌, ◌++◌, [], ◌∷◌, IfOk, OnOk};
 ghost use Rattle.mig_base.specs.InputLists.{IsInput};
 ghost use Rattle.mig_base.specs.Readiness.{shifts_of};
-ghost use Rattle.mig_base.specs.Running.{Runs, is_of};
-ghost use Rattle.mig_jobs.specs.JobTables.{free_targets, AreShiftFlags};
+ghost use Rattle.mig_jobs.specs.JobTables.{free_targets};
 
-use mig_base::{Input, Plan, Round, Shift, Spot};
+use mig_base::{Input, Plan, Shift, Spot};
 use mig_names::SpotTable;
 use std::alloc::{AllocError, Global};
-
-// Sets the flag of each item that one of these shifts moves.
-fn flag_shifts(flags: &mut [bool], shifts: &[Shift])
-    requires { All (λ s. s.item.0 < length flags.old) shifts.now }
-    ensures { (item : ℕ) → item < length flags.new → slice_index_or flags.new item false ≡ (slice_index_or flags.old item false || list_any (is_of item) shifts.now) }
-{
-    for s in shifts {
-        flags[s.item.0 as usize] = true;
-    }
-}
-
-// Sets the flag of each item that one of these rounds moves.
-fn flag_rounds(input: &Input, flags: &mut [bool], rounds: &[Round])
-    requires runs { Runs input.now rounds.now }
-    requires length { length flags.old ≡ length input.now.items }
-    requires unset { All (λ flag. flag ≡ false) flags.old }
-    ensures { AreShiftFlags input.now rounds.now flags.new }
-{
-    input.keeps_rules();
-    for round in rounds {
-        flag_shifts(flags, round.shifts());
-    }
-}
-
-/// Which items the plan shifts.
-pub(crate) fn shift_flags(
-    alloc: Global,
-    input: &Input,
-    plan: &Plan,
-) -> Result<Vec<bool>, AllocError>
-    requires { Runs input.now plan.now }
-    ensures { IfOk result (λ flags. AreShiftFlags input.now plan.now flags.items) }
-{
-    let mut flags = vec![in alloc; false; input.items().len()]?;
-    flag_rounds(input, &mut flags, plan.rounds());
-    Ok(flags)
-}
 
 // The spots of now.
 fn spots_of(alloc: Global, input: &Input) -> Result<SpotTable, AllocError>

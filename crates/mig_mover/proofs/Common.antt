@@ -9,11 +9,10 @@ pub use Rattle.mig_base.proofs.Common.{flights_of, get_or, get_or_default, inl, 
 pub use Rattle.mig_base.proofs.Common.{prefix_len, range_with_len, refl, round_at, shifts_of, slice_get, slice_get-get_or, slot_of, subst, suc, sym, take, true, zero, ℕ, ⊎_elim, ◌++◌, ◌+◌, ◌<◌}
 pub use Rattle.mig_base.proofs.Common.{◌∙◌, ◌∷◌, ◌≡◌, ◌≤◌, ◌⊎◌}
 pub use Rattle.mig_base.proofs.Landing.{ends_are_quiet, flights_same, no_target, target_left, target_permuted}
-pub use Rattle.mig_base.proofs.LayoutSteps.{At-item}
 pub use Rattle.mig_base.proofs.Listed.{at_map}
 pub use Rattle.mig_base.proofs.MarkCounts.{count_idle, count_is, counted}
 pub use Rattle.mig_base.proofs.Rounds.{there, to_disk}
-pub use Rattle.mig_base.proofs.SafetyLaws.{layout_at, marking, other_bytes, sound_after, unmarked}
+pub use Rattle.mig_base.proofs.SafetyLaws.{marking, other_bytes, sound_after, unmarked}
 pub use Rattle.mig_base.proofs.StoreSteps.{changes_leave, changes_then, changes_wider, events_none, leaves_then, leaves_wider, quiet_leaves, same_image, same_then, same_wider, settled_change}
 pub use Rattle.mig_base.proofs.StoreSteps.{tells_kept, told_is, told_kept}
 pub use Rattle.mig_base.specs.Arrivals.{AreFreeZeros, IsHaltSafe, IsHalted}
@@ -32,7 +31,6 @@ pub use Rattle.mig_base.specs.declared.cells.Event.{Event}
 pub use Rattle.mig_base.specs.declared.cells.Flight.{Flight}
 pub use Rattle.mig_base.specs.declared.ids.Shift.{Shift}
 pub use Rattle.mig_base.specs.declared.ids.Spot.{Spot}
-pub use Rattle.mig_base.specs.declared.names.Name.{Name}
 pub use Rattle.mig_jobs.specs.JobTables.{free_targets, same_spot}
 pub use Rattle.mig_jobs.specs.Vacancies.{AreVacancies, IsVacant}
 pub use Rattle.mig_jobs.specs.declared.vacancies.Vacancy.{Vacancy}

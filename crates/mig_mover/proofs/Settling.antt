@@ -1,7 +1,7 @@
 -- What the first sync of a call gives.
 use Rattle.mig_mover.proofs.Common.{Adds, All, All-contains, AreFlights, BeginsRun, Cell, Changes, ChangesOnly, Contains-get_or, Contains-permutation, Contents, Ends, Enters, EntersOn, Err}
 use Rattle.mig_mover.proofs.Common.{Event, Flight, Gate, Head, Idle, IfErr, IfOk, IfSome, Image, IsCopy, IsFault, IsFaultOn, IsHaltSafe, IsJobCell, IsLanded, IsPermutation, IsPermutation-sym}
-use Rattle.mig_mover.proofs.Common.{IsPlanFault, IsReady, IsReadyIdle, IsRefusal, IsRun, IsRunning, IsSafeAt, IsSettled, IsSome, IsSound, IsState, IsTargetOf, Keeps, KeepsOn, Lands, LeavesOnly}
+use Rattle.mig_mover.proofs.Common.{IsPlanFault, IsReadyIdle, IsRefusal, IsRun, IsRunning, IsSafeAt, IsSettled, IsSome, IsSound, IsState, IsTargetOf, Keeps, KeepsOn, Lands, LeavesOnly}
 use Rattle.mig_mover.proofs.Common.{List, Mark, MayBeHalting, MoveFault, NoCell, None, NotStarted, NotThere, Occupied, Ok, Option, OtherPlan, Result, Seen, Settles, SettlesTo, Some, Started}
 use Rattle.mig_mover.proofs.Common.{State, Store, Task, Tells, [], ap, append-nil, arith, cases_Bool, changes_then, changes_wider, count_idle, count_is, count_of, counted, ended, events_none}
 use Rattle.mig_mover.proofs.Common.{false, false≢true, flights, flights_same, get_or, inl, inr, is_armed, is_marked, is_one, is_running, is_slot, leaves_then, length, map, map-append, no_target}

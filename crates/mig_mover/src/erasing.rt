@@ -23,7 +23,7 @@ fn zero_slot() -> &'static [u8; 4096]
 }
 
 /// Erases a slot.
-pub(crate) fn erase<S: Store>(store: &mut S, slot: &Cell) -> Result<(), StoreFailed>
+pub fn erase<S: Store>(store: &mut S, slot: &Cell) -> Result<(), StoreFailed>
     requires slot { IsTrue (is_slot slot.now) }
     requires none { flights (S.state store.old) ≡ [] }
     ensures erased { OnOk result (AreZeros ((S.state store.new).reads slot.now)) }

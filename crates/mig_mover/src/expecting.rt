@@ -1,49 +1,48 @@
 //! What a store is asked before anything is written that rests on it.
 ghost use Rattle.std.specs.Prelude.{◌≡◌, ◌<◌, ◌≤◌, [], Some, length};
+ghost use Rattle.std.specs.Option.{option_map};
 ghost use Rattle.mig_base.specs.Images.{NoCell};
 ghost use Rattle.mig_base.specs.Layouts.{At};
+ghost use Rattle.mig_base.specs.Slots.{slot_of};
 ghost use Rattle.mig_base.specs.Stores.{State, flights, ChangesOnly, HasCause};
-ghost use Rattle.mig_jobs.specs.Stays.{IsStay};
 ghost use Rattle.mig_base.specs.Tasks.{Task, IsTask};
 
-use mig_base::{ItemId, Spot};
-use mig_jobs::{Job, Stay, Vacancy, spot_cell};
+use mig_base::{Cell, ItemId};
+use mig_jobs::{Job, Vacancy, spot_cell};
 use mig_store::{Store, StoreFailed};
 
-// Asks for an item at its spot after this number of rounds.
+// Asks for an item in this cell, where it is after this number of rounds.
 fn expect_item<S: Store>(
     job: &Job,
     store: &mut S,
     item: ItemId,
-    spot: Spot,
+    cell: &Cell,
     found: u32,
 ) -> Result<(), StoreFailed>
-    requires most { found ≤ length job.now.plan }
-    requires there { At job.now.input job.now.plan found item.0 ≡ Some spot }
+    requires item { item.0 < length job.now.input.items }
+    requires there { option_map (slot_of job.now.input) (At job.now.input job.now.plan found item.0) ≡ Some cell.now }
     requires none { flights (S.state store.old) ≡ [] }
     ensures change { ChangesOnly NoCell (S.state store.old) (S.state store.new) }
     ensures cause { HasCause (S.state store.old) (S.state store.new) result }
 {
-    job.keeps_rules();
-    let input = job.input();
-    store.expects(&spot_cell(input, spot), &input.items()[item.0 as usize])
+    store.expects(cell, &job.input().items()[item.0 as usize])
 }
 
-// Asks for the item of a stay, if it lasts after this number of rounds.
-fn expect_stay<S: Store>(
+// The same for an item that the plan shifts. Others are not asked for.
+fn expect_moved<S: Store>(
     job: &Job,
     store: &mut S,
-    stay: &Stay,
+    item: ItemId,
     found: u32,
 ) -> Result<(), StoreFailed>
     requires most { found ≤ length job.now.plan }
-    requires stay { IsStay job.now.input job.now.plan stay.now }
+    requires item { item.0 < length job.now.input.items }
     requires none { flights (S.state store.old) ≡ [] }
     ensures change { ChangesOnly NoCell (S.state store.old) (S.state store.new) }
     ensures cause { HasCause (S.state store.old) (S.state store.new) result }
 {
-    if stay.from <= found && found < stay.until {
-        return expect_item(job, store, stay.item, stay.spot, found);
+    if job.is_shifted(item.0 as usize) {
+        return expect_item(job, store, item, &job.cell_of(item, found), found);
     }
     Ok(())
 }
@@ -66,15 +65,16 @@ fn expect_vacant<S: Store>(
     Ok(())
 }
 
-// Asks for each item that the plan shifts, at its spot after this number of rounds.
+// Asks for each item that the plan shifts, where it is after this number of rounds.
 fn expect_shifted<S: Store>(job: &Job, store: &mut S, found: u32) -> Result<(), StoreFailed>
     requires most { found ≤ length job.now.plan }
     requires none { flights (S.state store.old) ≡ [] }
     ensures change { ChangesOnly NoCell (S.state store.old) (S.state store.new) }
     ensures cause { HasCause (S.state store.old) (S.state store.new) result }
 {
-    for stay in job.stays() {
-        expect_stay(job, store, stay, found)?;
+    job.keeps_rules();
+    for item in 0..job.input().items().len() {
+        expect_moved(job, store, ItemId(item as u32), found)?;
     }
     Ok(())
 }

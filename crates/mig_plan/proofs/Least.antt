@@ -1,8 +1,8 @@
 -- A plan has at least as many rounds as the quotient.
-use Rattle.mig_plan.proofs.Common.{All-map, Because, GoesToTargets, IsFilled, IsInput, IsLimited, IsPlanOf, KeepsLimit, List, Lists, Needs, Once, PlanFits, Reason}
-use Rattle.mig_plan.proofs.Common.{Runs, Shift, Transfers, [], arith, disk_value, edges_of, get_or, get_or-range_with_len, keeps_none, length}
-use Rattle.mig_plan.proofs.Common.{length-range_with_len, map, needs_disk, obeys, quotient, range_with_len, round_of, scheduled, subst, sym, transfers, trip_at, ℕ, ◌*◌, ◌<◌, ◌≡◌, ◌≤◌}
-use Rattle.mig_duplex.proofs.Quotients.{greatest_most, limits_of}
+use Rattle.mig_plan.proofs.Common.{All-map, Because, GoesToTargets, IsFilled, IsInput, IsPlanOf, List, Lists, Needs, Once, PlanFits, Reason, Runs, Shift, Transfers, arith, disk_value, get_or}
+use Rattle.mig_plan.proofs.Common.{get_or-range_with_len, length, length-range_with_len, map, needs_disk, obeys, quotient, range_with_len, round_of, scheduled, subst, transfers, ℕ, ◌*◌, ◌<◌, ◌≡◌}
+use Rattle.mig_plan.proofs.Common.{◌≤◌}
+use Rattle.mig_duplex.proofs.Quotients.{greatest_most}
 
 -- every schedule has at least as many rounds as the quotient
 pub needs_quotient : (input : Lists) → IsInput input → Needs input (quotient (transfers input))
@@ -31,10 +31,3 @@ plan_made input graph plan n is same fits runs once targets filled few tight mos
       tight = λ why holds. omega (arith, few, enough why holds, lower (length plan) (round_of plan) (scheduled input plan once) (obeys input plan is runs once));
       most = omega (arith, few, subst (λ (g : Transfers). 2 * n ≤ 3 * quotient g) same most);
     }
-
-pub limited_none : (graph : Transfers) (n : ℕ) → length graph.trips ≡ 0 → IsLimited graph n []
-limited_none graph n none = record {
-  one_each = sym none;
-  below = λ k d h. absurd (omega arith);
-  within = λ c v h. subst (λ m. KeepsLimit (limits_of graph v) v (map (trip_at graph.trips) (edges_of [] c m))) (sym none) (keeps_none (limits_of graph v) v);
-}

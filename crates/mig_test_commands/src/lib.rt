@@ -5,6 +5,8 @@
 #[cfg(test)]
 mod drilling;
 #[cfg(test)]
+mod emptying;
+#[cfg(test)]
 mod expecting;
 #[cfg(test)]
 mod failing;

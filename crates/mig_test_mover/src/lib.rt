@@ -1,5 +1,5 @@
 //! Tests alone: the calls of the mover over stores in memory, and plans that are carried out on them and on files in memory, stopped
-//! anywhere, resumed and drilled. They stand apart from the mover and the drill, so that each is proved once.
+//! anywhere, resumed, drilled and carried out step by step. They stand apart from the mover and the drill, so that each is proved once.
 #![tactic(auto)]
 
 #[cfg(test)]
@@ -19,7 +19,13 @@ mod halting;
 #[cfg(test)]
 mod jobs;
 #[cfg(test)]
+mod reading;
+#[cfg(test)]
 mod refusing;
+#[cfg(test)]
+mod scripting;
+#[cfg(test)]
+mod stepping;
 #[cfg(test)]
 mod stopping;
 #[cfg(test)]

@@ -13,6 +13,8 @@ mod halting;
 #[cfg(test)]
 mod journals;
 #[cfg(test)]
+mod living;
+#[cfg(test)]
 mod looks;
 #[cfg(test)]
 mod moving;

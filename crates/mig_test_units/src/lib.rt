@@ -1,21 +1,13 @@
-//! Tests alone: the calls of single crates below the mover and the planner. They stand apart from these crates, so that each
-//! of them is proved once.
+//! Tests alone: the calls of single crates below the mover and the planner that use no file and no store. They stand apart from these
+//! crates, so that each of them is proved once.
 #![tactic(auto)]
 
-#[cfg(test)]
-mod asked_items;
 #[cfg(test)]
 mod boards;
 #[cfg(test)]
 mod digests;
 #[cfg(test)]
-mod disk_files;
-#[cfg(test)]
-mod file_stores;
-#[cfg(test)]
-mod folders;
-#[cfg(test)]
-mod host_calls;
+mod draining;
 #[cfg(test)]
 mod inputs;
 #[cfg(test)]
@@ -23,16 +15,8 @@ mod made_cases;
 #[cfg(test)]
 mod name_tables;
 #[cfg(test)]
-mod saves;
-#[cfg(test)]
 mod shared_nodes;
-#[cfg(test)]
-mod stores;
-#[cfg(test)]
-mod streams;
 #[cfg(test)]
 mod tight_plans;
 #[cfg(test)]
 mod two_sides;
-#[cfg(test)]
-mod work_folder;

@@ -10,6 +10,7 @@ pub use Rattle.mig_base.proofs.Counting.{one, sum_by-le_each, sum_by-swap}
 pub use Rattle.mig_base.proofs.Separators.{Lacks, Lacks-decimal, after_line, same_words}
 pub use Rattle.mig_base.proofs.Spelling.{are_fitting, lacks_test, plan_lacks, round_lacks, rounds_word_lacks, words_lack}
 pub use Rattle.mig_base.specs.PlanLines.{End, Head, Last, Move, Over, PlanLine, PlanNext, PlanPlace, Title, Total, before_rounds, before_shifts}
+pub use Rattle.mig_base.specs.NextTexts.{next_line}
 pub use Rattle.mig_base.specs.Texts.{spot_line, text_of_lines}
 pub use Rattle.mig_base.specs.declared.ids.Shift.{Shift}
 pub use Rattle.mig_base.specs.declared.inputs.Disk.{Disk}

@@ -2,9 +2,9 @@
 use Rattle.mig_tight.proofs.Common.{All, All-cons, All-contains, AllPairs-cons, AreDifferent, At, At-some, Contains, DiskId, Fits, HasFreeSlot, HasMove, IsFree, IsInput, IsSpotOf, List, Lists}
 use Rattle.mig_tight.proofs.Common.{Option, Runs, Shift, Some, Spot, ap, arith, cases_lt, count_same, eq-eqb, eqb, false≢true, get_or, get_or-map, get_or-range_with_len, get_or_default, in_some}
 use Rattle.mig_tight.proofs.Common.{inl, inr, is_at, layout_at, length, length-map, length-range_with_len, map, moved_cases, no_spot, not, one, option_map, present, range_with_len, refl}
-use Rattle.mig_tight.proofs.Common.{round_at, slice_get, slice_get-get_or, slice_get_within, slots_of, source, spot, spot_disk, subst, suc, sum_by-cons, sym, target, unwrap_or, zero}
+use Rattle.mig_tight.proofs.Common.{round_at, same_disk, slice_get, slice_get-get_or, slice_get_within, slots_of, source, spot, spot_disk, subst, suc, sum_by-cons, sym, target, unwrap_or, zero}
 use Rattle.mig_tight.proofs.Common.{ℕ, ⊎_elim, ◌<◌, ◌∙◌, ◌∷◌, ◌≡◌, ◌≢◌, ◌≤◌}
-use Rattle.mig_tight.proofs.ListLaws.{pigeons_above, spot_slot}
+use Rattle.mig_base.proofs.SlotCounts.{pigeons_above, spot_slot}
 
 -- more spots than the present ones are on a disk where one more is free
 pub present_below : (input : Lists) (spot : Spot) → IsInput input → IsSpotOf input.disks spot → (Contains input.spots spot → ⊥) → present input spot.disk.0 < slots_of input spot.disk.0

@@ -4,7 +4,8 @@ use Rattle.mig_tight.proofs.Common.{IsInput, IsLegal, IsListOf-shift, IsSpotOf, 
 use Rattle.mig_tight.proofs.Common.{Trip, [], after_shifts, ap, arith, cases_eq, cases_lt, count_by-le-length, disk_at, eqb, get_or, get_or-set_other, get_or-set_same, get_or_default}
 use Rattle.mig_tight.proofs.Common.{get_or_push, incoming, inl, inr, is_at, layout_of, length, length-set, length_push, no_disk, no_spot, one, passes, refl, round_at, round_at-append, set}
 use Rattle.mig_tight.proofs.Common.{slice_get-get_or, slice_get_within, spot, spot_at, spot_disk, subst, suc, sum_by-set, sym, touches, trip_of, ℕ, ◌++◌, ◌<◌, ◌∙◌, ◌∷◌, ◌≡◌, ◌≢◌, ◌≤◌}
-use Rattle.mig_tight.proofs.ListLaws.{pairs_one, place_of, set_apart, contains_set, spot_slot}
+use Rattle.mig_base.proofs.SlotCounts.{spot_slot}
+use Rattle.mig_tight.proofs.ListLaws.{pairs_one, place_of, set_apart, contains_set}
 
 -- the shift of an item to a spare
 abbrev pub shift_to : List Spot → List Spot → ℕ → ℕ → Shift

@@ -3,7 +3,7 @@ use Rattle.mig_tight.proofs.Common.{All, All-append, All-map, All-nil, All-push,
 use Rattle.mig_tight.proofs.Common.{Contains-push, DiskId, HasFreeSlot, HasSpares, IsBefore, IsInput, List, Lists, SparesBefore, Spot, [], ap, arith, cases_eq, count_by-le-length, count_of, eqb}
 use Rattle.mig_tight.proofs.Common.{first_slots, get_or, get_or-take, inl, inr, length, length-append, length-map, length-take, map, no_spot, one, pigeons, refl, spot, spot_at, spot_by}
 use Rattle.mig_tight.proofs.Common.{spot_disk, subst, sum_by-append, sum_by-map, sym, take, ℕ, ⊎_elim, ◌++◌, ◌+◌, ◌<◌, ◌∙◌, ◌∷◌, ◌≡◌, ◌⊎◌}
-use Rattle.mig_tight.proofs.ListLaws.{spot_is_of}
+use Rattle.mig_base.proofs.SlotCounts.{spot_is_of}
 use Rattle.mig_tight.proofs.RunningPlans.{present_below}
 use Rattle.mig_tight.proofs.FirstQueues.{apart_push}
 

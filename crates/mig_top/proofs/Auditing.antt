@@ -128,7 +128,7 @@ module _ {k : Call} {disks now : List ℕ} (same : Untouched k.before.folder k.a
       record {
         outcome = SinkFault (stops.lines ++ whole.0);
         is = refl;
-        so = (stops.rose, audit_done (stops.lines ++ whole.0) whole.1);
+        so = (stops.rose, inl (audit_done (stops.lines ++ whole.0) whole.1));
         says = record {
           begun = begins_more stops.lines whole.0 k.before.sink k.after.sink stops.begun;
           whole = λ fine. absurd (fine stops.rose);

@@ -12,7 +12,7 @@ pub use Rattle.mig_base.proofs.Common.{⊎_elim, ◌++◌, ◌+◌, ◌-◌, ◌
 pub use Rattle.mig_base.proofs.Listed.{Accepted-IsInput, Accepted-short, AcceptedTight-IsInput, AcceptedTight-short, different_from, map-name, name_at, one_input, one_place, one_spot, one_tight}
 pub use Rattle.mig_base.proofs.Listed.{one_zip, same_input, some_and, some_map}
 pub use Rattle.mig_base.proofs.Rounds.{layout_kept}
-pub use Rattle.mig_base.proofs.Spelling.{same_plan}
+pub use Rattle.mig_base.proofs.Spelling.{same_place, same_plan}
 pub use Rattle.mig_base.proofs.StoreSteps.{same_none}
 pub use Rattle.mig_base.specs.MadePlans.{Because, Reason}
 pub use Rattle.mig_base.specs.Refusals.{IsFirstOf, rank_of}
@@ -105,7 +105,24 @@ pub use Rattle.sha2.specs.Sha256.{sha256}
 pub use Rattle.std.proofs.lemmas.Bool.{eq-eqb}
 pub use Rattle.std.proofs.lemmas.List.{flat_map_more}
 pub use Rattle.std.specs.List.{range_with_len}
-pub use Rattle.std.specs.Prelude.{IfOk, bytes_eq, filter, slice_get}
+pub use Rattle.std.specs.Prelude.{IfOk, bytes_eq, count_by, filter, slice_get, ◌==◌}
 pub use Rattle.std.specs.Result.{IsErrAnd}
 pub use Rattle.std.specs.declared.alloc.AllocError.{AllocError}
 pub use Rattle.std.specs.declared.alloc.Global.{Global}
+pub use Rattle.mig_live.specs.Sessions.{InStep, Session}
+pub use Rattle.std.specs.Prelude.{drop}
+pub use Rattle.mig_top.specs.Bodies.{drain_texts_of, scripted_read}
+pub use Rattle.mig_top.specs.Common.{Drain, IsReached, IsSafeAfter, Keeps, Live, NoDisk, NoRoom, Order, ScriptLine, ScriptText, all_steps, joined, marks_by, replies}
+pub use Rattle.mig_top.specs.Common.{steps_after}
+pub use Rattle.mig_top.specs.Ends.{IsCut}
+pub use Rattle.mig_top.specs.live.Leaves.{AreOfScripted, IsCutOff, KeepsSound, LiveLeaves, ServesAll, WentOn}
+pub use Rattle.mig_top.specs.live.Looks.{AreAnswers, Holds, IsServed, left_text, steps_left}
+pub use Rattle.mig_top.specs.live.Promise.{ServesWell}
+pub use Rattle.mig_top.specs.live.Reads.{AreScripted, IsNoScript, Scripted, reads_script, reads_scripted, scripted_in}
+pub use Rattle.mig_base.proofs.Listed.{names_apart}
+pub use Rattle.mig_base.specs.Draining.{free_elsewhere}
+pub use Rattle.mig_base.specs.InputLists.{no_disk}
+pub use Rattle.mig_base.specs.Targets.{present}
+pub use Rattle.mig_top.specs.Causes.{drains_disk, empties_disk, empties_texts}
+pub use Rattle.mig_top.specs.drain.Promise.{CannotDrain, DrainsWell, HasDrained}
+pub use Rattle.mig_top.specs.drain.Texts.{AreDrainTexts, DrainLeaves, DrainTexts, IsDrainSaved, IsNamed, IsNoDisk, LacksSlots, drained_text, finds_disk, fits_others}

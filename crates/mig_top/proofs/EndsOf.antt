@@ -1,10 +1,13 @@
 -- From what a command finds, does and puts to its status, and back.
-use Rattle.mig_top.proofs.Common.{Call, CauseIn, CauseOf, Done, Ending, EndsAs, EndsBy, Err, Extends, ExtendsInPart, Files, FilesCause, Finding, FolderEnds, FolderFailed, FolderLeaves}
-use Rattle.mig_top.proofs.Common.{FolderState, Form, FormCause, FormEndsAs, HasFiles, IfSome, IsBegun, IsEndOf, IsListed, IsOrNotPut, IsSomeAnd, List, Lists, MoveFault, None, Option, OthersStay}
-use Rattle.mig_top.proofs.Common.{Outcome, Rehearse, Rose, Shows, SinkFailed, SinkFault, SinkState, Some, Step, StopsFrom, StoreFailed, StoreFault, StoreLeaves, StoreRefusal, TakesFrom}
-use Rattle.mig_top.proofs.Common.{Untouched, WorldEnds, arith, code, fault_outcome, inl, inr, outcome_of, refl, subst, sym, text_of, ℕ, ◌∙◌, ◌≡◌, ◌≢◌, ◌≤◌, ◌⊎◌}
+use Rattle.mig_top.proofs.Common.{Blamed, Call, CauseIn, CauseOf, Done, Ending, EndsAs, EndsBy, Err, Extends, ExtendsInPart, Files, FilesCause, Finding, FolderEnds}
+use Rattle.mig_top.proofs.Common.{FolderFailed, FolderLeaves, FolderState, Form, FormCause, FormEndsAs, HasFiles, IfSome, IsBegun, IsEndOf, IsListed, IsOrNotPut, IsSomeAnd}
+use Rattle.mig_top.proofs.Common.{List, Lists, MoveFault, None, NotSpelled, Option, OthersStay, Outcome, Rehearse, Rose, Shows, SinkFailed, SinkFault, SinkState, Some, Step}
+use Rattle.mig_top.proofs.Common.{StopsFrom, StoreFailed, StoreFault, StoreLeaves, StoreRefusal, TakesFrom, Unlisted, Untouched, WorldEnds, arith, code, fault_outcome}
+use Rattle.mig_top.proofs.Common.{finding_code, inl, inr, outcome_of, refl, subst, sym, text_of, ℕ, ⊎_elim, ◌∙◌, ◌≡◌, ◌≢◌, ◌≤◌, ◌⊎◌}
 use Rattle.mig_words.specs.declared.endings.Ending.TheVariants.{FolderFault, Found, Memory, NoFile, Refusal}
 use Rattle.mig_words.specs.declared.endings.Finding.TheVariants as finding
+use Rattle.mig_words.specs.declared.endings.TextFile.{TextFile}
+use Rattle.mig_words.specs.declared.endings.TextFile.TheVariants as text_file
 use Rattle.mig_words.specs.declared.endings.StoreRefusal.TheVariants as refusal
 use Rattle.mig_words.specs.Outcomes as out
 use Rattle.mig_top.specs.Calls.{Changes}
@@ -12,8 +15,19 @@ use Rattle.mig_top.proofs.Forms.{one_form}
 
 -- Statuses
 
+-- a text that is no spelling has one of two
+pub spelling_is : (f : TextFile) → (out.spelling_code f ≡ 10) ⊎ (out.spelling_code f ≡ 15)
+spelling_is text_file.Plan = inl refl
+spelling_is text_file.Cert = inl refl
+spelling_is text_file.Script = inr refl
+
+-- and no other
+pub not_spelled : (f : TextFile) {status n : ℕ} → status ≡ out.spelling_code f → status ≡ n → n ≢ 10 → n ≢ 15 → ⊥
+not_spelled f at is ten fifteen = ⊎_elim (λ e. ten (sym is ∙ at ∙ e)) (λ e. fifteen (sym is ∙ at ∙ e)) (spelling_is f)
+
 pub finding_apart : (f : Finding) → (out.finding_code f ≢ 0) × (out.finding_code f ≢ 6)
 finding_apart (finding.Blamed b name) = (λ e. cc, λ e. cc)
+finding_apart (finding.NotSpelled f line) = (λ e. not_spelled f refl e (λ e. cc) (λ e. cc), λ e. not_spelled f refl e (λ e. cc) (λ e. cc))
 finding_apart _ = (λ e. cc, λ e. cc)
 
 pub refusal_between : (r : StoreRefusal) → (8 ≤ out.store_code r) × (out.store_code r ≤ 9)
@@ -62,7 +76,7 @@ module _ {Is : Outcome → Type 0} {old new : SinkState} {status : ℕ} where
       by (inr (is, failed)) = record {
         outcome = SinkFault text;
         is = is;
-        so = (failed, h);
+        so = (failed, inl h);
         says = record { begun = shows.begun; whole = λ fine. absurd (fine failed); done = λ zero. absurd (omega (arith, zero)) };
       }
 
@@ -71,13 +85,16 @@ module _ {Is : Outcome → Type 0} {old new : SinkState} {status : ℕ} where
   holds_by ends P to = by ends.outcome ends.so
     where
       by : (o : Outcome) → IsOrNotPut Is old new o → P
-      by (SinkFault text) h = to (Done text) h.1
+      by (SinkFault text) (rose, inl h) = to (Done text) h
+      by (SinkFault text) (rose, inr h) = to (SinkFault text) h
       by o h = to o h
 
-  -- with status 0, and with 6, it is done
-  pub done_by : EndsBy Is old new status → (status ≡ 0) ⊎ (status ≡ 6) → (text : List ℕ) × Is (Done text)
-  done_by ends (inl zero) = let (text, is) = zero_done ends.outcome (sym ends.is ∙ zero) in (text, subst (IsOrNotPut Is old new) is ends.so)
-  done_by ends (inr six) = let (text, is) = six_unput ends.outcome (sym ends.is ∙ six) in (text, (subst (IsOrNotPut Is old new) is ends.so).1)
+  -- with status 0, and with 6, it is done, where the sink doesn't end it before
+  pub done_by : EndsBy Is old new status → ((text : List ℕ) → Is (SinkFault text) → ⊥) → (status ≡ 0) ⊎ (status ≡ 6) → (text : List ℕ) × Is (Done text)
+  done_by ends uncut (inl zero) = let (text, is) = zero_done ends.outcome (sym ends.is ∙ zero) in (text, subst (IsOrNotPut Is old new) is ends.so)
+  done_by ends uncut (inr six) =
+      let (text, is) = six_unput ends.outcome (sym ends.is ∙ six) in
+      (text, ⊎_elim (λ done. done) (λ cut. absurd (uncut text cut)) (subst (IsOrNotPut Is old new) is ends.so).1)
 
   -- and with status 0 its text was put
   pub put_by : EndsBy Is old new status → status ≡ 0 → (text : List ℕ) × Is (Done text) × Extends text old new
@@ -91,7 +108,8 @@ module _ {Is : Outcome → Type 0} {old new : SinkState} {status : ℕ} where
   ends_map {So = So} to ends = record { outcome = ends.outcome; is = ends.is; so = by ends.outcome ends.so; says = ends.says }
     where
       by : (o : Outcome) → IsOrNotPut Is old new o → IsOrNotPut So old new o
-      by (SinkFault text) h = (h.0, to (Done text) h.1)
+      by (SinkFault text) (rose, inl h) = (rose, inl (to (Done text) h))
+      by (SinkFault text) (rose, inr h) = (rose, inr (to (SinkFault text) h))
       by o h = to o h
 
 -- From files
@@ -123,6 +141,7 @@ pub files_cause : (k : Call) (form : Form) (steps : Files → Step (List ℕ)) �
     → (o : Outcome) → FilesCause k.before.folder k.after.folder steps o → CauseOf k form o
 files_cause k form steps has to out.FolderFault h = (h, has)
 files_cause k form steps has to (out.StoreFault before) h = absurd h
+files_cause k form steps has to (out.SinkFault text) h = absurd h
 files_cause k form steps has to out.Memory h = tt
 files_cause k form steps has to out.Unlisted h = absurd h
 files_cause k form steps has to o h = to o h

@@ -1,16 +1,20 @@
 -- Each step of a command is exact, so what the cause of an outcome holds for comes.
-use Rattle.mig_top.proofs.Common.{Accepted, Accepted-IsInput, AcceptedTight, AcceptedTight-IsInput, After, Audit, Blamed, Bodies, Call, Cert, Check, ComesExactly, DoesNotRun, Drill, EndsAs}
-use Rattle.mig_top.proofs.Common.{FileKind, Files, Fill, Finding, FindsTask, Fits, Form, FormCause, Halt, HasFreeSlot, HasMove, HoldsFirst, IsAudit, IsBegun, IsInput, IsLastLayout, IsListed}
-use Rattle.mig_top.proofs.Common.{IsListing, IsMissing, IsNoCert, IsNoPlan, IsRefusalBy, IsRehearsed, IsRight, IsSomeAnd, IsTightWrong, IsTooLarge, IsWrong, LayoutBodies, List, ListingRefusedAs}
-use Rattle.mig_top.proofs.Common.{Lists, MAX_DRILL_SHIFTS, MAX_FILE_BYTES, Move, Names, NoFile, NoFreeSlot, None, NotSpelled, Option, Outcome, Plan, PlanBodies, PlanTight, Reader, Refused}
-use Rattle.mig_top.proofs.Common.{RefusedAs, RefusedTightAs, Rehearse, Resume, Roomy, Runs, Serves, Shift, Some, Stands, StoreFailed, Task, TaskNames, Tight, TooLarge, TooMany, Why, arith}
-use Rattle.mig_top.proofs.Common.{case_in, checks, code, done_text, drill_text, file, filled_text, finding_code, finds_or, fits_drill, fits_tight, halted_text, inl, input_by, input_in, inr}
-use Rattle.mig_top.proofs.Common.{judges, layout_in, length, loads, loads_input, loads_layout, loads_plan, one_input, one_tight, reads_cert, reads_input, reads_layout, reads_plan, reads_task}
-use Rattle.mig_top.proofs.Common.{refl, right_is_blameless, roomy, runs, runs_blameless, same_cert, same_plan, shifts_of, subst, sym, take, task_in, ℕ, ⊎_elim, ◌+◌, ◌∙◌, ◌≡◌, ◌≤◌}
+use Rattle.mig_top.proofs.Common.{Accepted, Accepted-IsInput, AcceptedTight, AcceptedTight-IsInput, After, Audit, Blamed, Bodies, Call, Cert, Check, ComesExactly, DoesNotRun}
+use Rattle.mig_top.proofs.Common.{Drain, Drill, EndsAs, FileKind, Files, Fill, Finding, FindsTask, Fits, Form, FormCause, Halt, HasFreeSlot, HasMove, HoldsFirst, HoldsLayout}
+use Rattle.mig_top.proofs.Common.{IsAudit, IsBegun, IsInput, IsLastLayout, IsListed, IsListing, IsMissing, IsNamed, IsNoCert, IsNoDisk, IsNoPlan, IsNoScript, IsRefusalBy}
+use Rattle.mig_top.proofs.Common.{IsRehearsed, IsRight, IsServed, IsSomeAnd, IsTightWrong, IsTooLarge, IsWrong, LacksSlots, LayoutBodies, List, ListingRefusedAs, Lists, Live}
+use Rattle.mig_top.proofs.Common.{MAX_DRILL_SHIFTS, MAX_FILE_BYTES, Move, Names, NoDisk, NoFile, NoFreeSlot, NoRoom, None, NotSpelled, Option, Order, Outcome, Plan}
+use Rattle.mig_top.proofs.Common.{PlanBodies, PlanTight, Reader, Refused, RefusedAs, RefusedTightAs, Rehearse, Resume, Roomy, Runs, Scripted, Serves, Shift, Some, Stands}
+use Rattle.mig_top.proofs.Common.{StoreFailed, Task, TaskNames, Tight, TooLarge, TooMany, Why, arith, case_in, checks, code, done_text, drill_text, file, filled_text}
+use Rattle.mig_top.proofs.Common.{finding_code, finds_disk, finds_or, fits_drill, fits_others, fits_tight, free_elsewhere, halted_text, inl, input_by, input_in, inr, judges}
+use Rattle.mig_top.proofs.Common.{layout_in, length, loads, loads_input, loads_layout, loads_plan, one_input, one_tight, present, reads_cert, reads_input, reads_layout}
+use Rattle.mig_top.proofs.Common.{reads_plan, reads_script, reads_task, refl, right_is_blameless, roomy, runs, runs_blameless, same_cert, same_plan, scripted_in, shifts_of}
+use Rattle.mig_top.proofs.Common.{subst, sym, take, task_in, ℕ, ⊎_elim, ◌+◌, ◌∙◌, ◌≡◌, ◌≤◌}
 use Rattle.mig_words.specs.declared.endings.TextFile.TheVariants as text_file
+use Rattle.mig_live.proofs.ScriptLaws.{same_script}
 use Rattle.mig_top.proofs.EndsOf.{ends_so}
 use Rattle.mig_top.proofs.StoreExact.{fills_exact, resumes_exact, stands_exact, starts_exact}
-use Rattle.mig_top.proofs.Layouts.{one_listing}
+use Rattle.mig_top.proofs.Layouts.{one_listing, one_named}
 use Rattle.mig_top.proofs.Steps.{HaveOneStatus, IsExact, by_status, finds_once, once, one_end, one_value, or_exact, then_exact, then_once}
 
 -- Loading
@@ -90,6 +94,13 @@ module _ (bytes : List ℕ) (input : Lists) (valid : IsInput input) where
       wrong (NotSpelled text_file.Cert line) h = (refl, λ cert k. let long = h.no_cert cert k.0 in omega (arith, long, k.1))
       wrong _ h = absurd h
 
+  script_exact : IsExact (reads_script bytes input)
+  script_exact = or_exact (reads_script bytes input).Passes (IsNoScript bytes input) 15 (λ a b h k. same_script input valid a b bytes h k) wrong
+    where
+      wrong : (f : Finding) → IsNoScript bytes input f → (finding_code f ≡ 15) × ((orders : List Order) → (reads_script bytes input).Passes orders → ⊥)
+      wrong (NotSpelled text_file.Script line) h = (refl, h.no_script)
+      wrong _ h = absurd h
+
 runs_exact : (input : Lists) (rounds : List (List Shift)) → IsExact (runs input rounds)
 runs_exact input rounds = or_exact (λ _. Runs input rounds) (DoesNotRun input rounds) 1 (λ a b h k. refl) wrong
   where
@@ -126,6 +137,21 @@ pub is_task : (files : Files) (names : TaskNames) (task : Task) → FindsTask fi
 is_task files names task (bodies, there, (input, accepted, (rounds, spelled, (u, ran, is)))) =
     subst (λ (t : Task). IsInput t.input × Runs t.input t.plan) (sym is) (accepted_valid names.reader bodies.input input accepted, ran)
 
+-- a script is read before it is asked whether the plan runs
+pub scripted_exact : (names : Names) (script : List ℕ) (files : Files) → IsExact (scripted_in names script files)
+scripted_exact names script files =
+    then_exact _ (plan_loads names files) _ (λ bodies _.
+    then_exact _ (loads_exact script files) _ (λ last _.
+    then_exact _ (input_exact Roomy bodies.input) _ (λ input accepted. let valid = Accepted-IsInput bodies.input input accepted in
+    then_exact _ (plan_exact bodies.plan input valid) _ (λ rounds _.
+    then_exact _ (script_exact last input valid) _ (λ orders _.
+    then_exact _ (runs_exact input rounds) _ (λ _ _.
+    one_value _))))))
+
+pub is_scripted : (files : Files) (names : Names) (script : List ℕ) (read : Scripted) → (scripted_in names script files).Passes read → IsInput read.task.input × Runs read.task.input read.task.plan
+is_scripted files names script read (bodies, there, (last, loaded, (input, accepted, (rounds, spelled, (orders, scripted, (u, ran, is)))))) =
+    subst (λ (r : Scripted). IsInput r.task.input × Runs r.task.input r.task.plan) (sym is) (Accepted-IsInput bodies.input input accepted, ran)
+
 -- The other steps
 
 tight_exact : (input : Lists) → IsExact (fits_tight input)
@@ -134,6 +160,20 @@ tight_exact input = or_exact (λ _. Fits input × (HasMove input → HasFreeSlot
     wrong : (f : Finding) → IsTightWrong input f → (finding_code f ≡ 13) × ((u : Unit {0}) → Fits input × (HasMove input → HasFreeSlot input) → ⊥)
     wrong (TooMany name needs slots) h = (refl, λ u fits. absurd (omega (arith, h.1.over, h.1.needs_is, h.1.slots_is, fits.0 h.0 h.1.there)))
     wrong NoFreeSlot h = (refl, λ u fits. h.2 (fits.1 h.1))
+    wrong _ h = absurd h
+
+pub disk_exact : (disks now : List ℕ) (files : Files) (name : List ℕ) (input : Lists) → HoldsLayout files disks now input → IsExact (finds_disk name input)
+disk_exact disks now files name input (bodies, there, listed) = or_exact (IsNamed input name) (IsNoDisk input name) 14 (one_named bodies.disks bodies.now input listed name) wrong
+  where
+    wrong : (f : Finding) → IsNoDisk input name f → (finding_code f ≡ 14) × ((v : ℕ) → IsNamed input name v → ⊥)
+    wrong (NoDisk word) h = (refl, h.1)
+    wrong _ h = absurd h
+
+others_exact : (input : Lists) (v : ℕ) → IsExact (fits_others input v)
+others_exact input v = or_exact (λ _. present input v ≤ free_elsewhere input v) (LacksSlots input v) 14 (λ a b h k. refl) wrong
+  where
+    wrong : (f : Finding) → LacksSlots input v f → (finding_code f ≡ 14) × ((u : Unit {0}) → present input v ≤ free_elsewhere input v → ⊥)
+    wrong (NoRoom items free) h = (refl, λ u fits. absurd (omega (arith, h.0, h.1, h.2, fits)))
     wrong _ h = absurd h
 
 drill_exact : (rounds : List (List Shift)) → IsExact (fits_drill rounds)
@@ -173,6 +213,10 @@ forms_exact k files (Drill names) serves =
     (then_exact _ (task_in_exact (roomy names) files) _ (λ task _.
     then_exact _ (drill_exact task.plan) _ (λ _ _.
     one_value (drill_text task.plan)))))
+forms_exact k files (Drain disks now name next) serves =
+    one_end _ (then_once _ (layout_in_exact disks now files) _ (λ input holds.
+    then_once _ (disk_exact disks now files name input holds) _ (λ v _.
+    then_once _ (others_exact input v) _ (λ _ _. finds_once (λ (text : List ℕ). Unit {0})))))
 forms_exact k files (Fill disks now) serves =
     one_end _ (once
     (then_exact _ (layout_in_exact disks now files) _ (λ input holds.
@@ -195,6 +239,9 @@ forms_exact k files (Halt names layout) serves =
     (then_exact _ (task_in_exact names files) _ (λ task holds.
     then_exact _ (stands_exact task k.before.store (serves.1 task holds)) _ (λ found _.
     one_value (halted_text task.plan found)))))
+forms_exact k files (Live names script) serves =
+    one_end _ (then_once _ (scripted_exact names script files) _ (λ read holds. let is = is_scripted files names script read holds in
+    then_once _ (resumes_exact read.task k.before.store is.0 is.1 (serves.1 read holds)) _ (λ found _. finds_once (IsServed read k.before.store found))))
 
 -- a store that serves a command doesn't fail in it
 served : (k : Call) (files : Files) (form : Form) (before : List ℕ) → Serves k files form → StoreFailed k × IsBegun k form before → ⊥
@@ -203,6 +250,7 @@ served k files (Audit disks now) before serves h = serves h.0
 served k files (Move names) before serves h = serves.0 h.0
 served k files (Resume names) before serves h = serves.0 h.0
 served k files (Halt names layout) before serves h = serves.0 h.0
+served k files (Live names script) before serves h = serves.0 h.0
 served k files _ before serves h = h.1
 
 -- as a clause of the top call

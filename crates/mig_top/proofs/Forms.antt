@@ -1,6 +1,6 @@
 -- Words are those of one command.
-use Rattle.mig_top.proofs.Common.{After, Audit, Check, Drill, Fill, Form, Halt, List, Move, Names, None, Option, Plan, PlanTight, Reader, Rehearse, Resume, Roomy, Some, TaskNames, Tight, [], ap}
-use Rattle.mig_top.proofs.Common.{bytes_eq, codes, if◌then◌else◌, refl, sym, word_by, words_of, ℕ, ◌∙◌, ◌∷◌, ◌≡◌}
+use Rattle.mig_top.proofs.Common.{After, Audit, Check, Drain, Drill, Fill, Form, Halt, List, Live, Move, Names, None, Option, Plan, PlanTight, Reader, Rehearse, Resume}
+use Rattle.mig_top.proofs.Common.{Roomy, Some, TaskNames, Tight, [], ap, bytes_eq, codes, if◌then◌else◌, refl, sym, word_by, words_of, ℕ, ◌∙◌, ◌∷◌, ◌≡◌}
 
 abbrev four : (disks now next plan : List ℕ) → Names
 four disks now next plan = record { disks = disks; now = now; next = next; plan = plan }
@@ -22,11 +22,11 @@ abbrev form_by : List (List ℕ) → Option Form
 form_by (word ∷ a ∷ b ∷ []) = if bytes_eq word (codes "fill") then Some (Fill a b) else if bytes_eq word (codes "audit") then Some (Audit a b) else None
 form_by (word ∷ a ∷ b ∷ c ∷ []) = if bytes_eq word (codes "rehearse") then Some (Rehearse a b c) else None
 form_by (word ∷ a ∷ b ∷ c ∷ d ∷ []) =
-    if bytes_eq word (codes "drill") then Some (Drill (four a b c d)) else if bytes_eq word (codes "plan-tight") then Some (PlanTight (four a b c d))
+    if bytes_eq word (codes "drain") then Some (Drain a b c d) else if bytes_eq word (codes "drill") then Some (Drill (four a b c d)) else if bytes_eq word (codes "plan-tight") then Some (PlanTight (four a b c d))
     else over_four Roomy word (four a b c d) (over_four Tight word (four a b c d) None)
 form_by (word ∷ a ∷ b ∷ c ∷ d ∷ e ∷ []) =
     if bytes_eq word (codes "plan") then Some (Plan (four a b c d) e) else if bytes_eq word (codes "check") then Some (Check (four a b c d) e)
-    else over_five Roomy word (four a b c d) e (over_five Tight word (four a b c d) e None)
+    else if bytes_eq word (codes "live") then Some (Live (four a b c d) e) else over_five Roomy word (four a b c d) e (over_five Tight word (four a b c d) e None)
 form_by _ = None
 
 -- each is found by its words
@@ -51,6 +51,8 @@ by_words (Rehearse disks per_pair limit) = refl
 by_words (Move task) = (found_by task.reader task.files).move
 by_words (Resume task) = (found_by task.reader task.files).resume
 by_words (Drill names) = refl
+by_words (Live names script) = refl
+by_words (Drain disks now name next) = refl
 by_words (Halt task layout) = (found_by task.reader task.files).halt layout
 
 pub one_form : (a b : Form) → words_of a ≡ words_of b → a ≡ b

@@ -2,13 +2,13 @@
 use Rattle.mig_top.proofs.Common.{Accepted, AreRefused, AreSaved, AreThere, Audit, AuditsWell, Because, Bodies, Bound, Call, CauseIn, Check, ChecksSaved, Done, Drill, DrillsWell, EndsAs, Extends}
 use Rattle.mig_top.proofs.Common.{FileKind, Files, Fill, FillsWell, FindsTask, FolderFailed, FolderFault, Form, FormCause, Found, HasPlanned, HoldsFirst, HoldsLayout, IsAudit, IsDiskBound}
 use Rattle.mig_top.proofs.Common.{IsEndOf, IsFillCell, IsFilled, IsInput, IsListed, IsMissing, IsOrNotPut, IsPlanSaved, IsRight, IsSomeAnd, IsUntouched, List, Lists, MAX_DRILL_SHIFTS}
-use Rattle.mig_top.proofs.Common.{MAX_FILE_BYTES, Memory, Names, NoFile, None, Nothing, OfDisk, OfSet, OfSide, Option, Outcome, Plan, PlanBodies, PlansWell, Reason, Refusal, Refused, Roomy}
-use Rattle.mig_top.proofs.Common.{SinkFailed, SinkFault, Some, Stands, StandsForNone, Step, StoreFault, Task, TellsStill, TooLarge, Unlisted, Untouched, Why, WorldEnds, WritesApart, [], after}
-use Rattle.mig_top.proofs.Common.{ap, arith, bound_value, checks, code, codes, drill_text, eq-eqb, file, filled_text, finds, first, fits_drill, if◌then◌else◌, inl, inr, layout_in, length}
-use Rattle.mig_top.proofs.Common.{loads_input, loads_plan, quotient, refl, roomy, second, shifts_of, stands, subst, sym, take, take_all, task_in, transfers, verdict_text}
-use Rattle.mig_top.proofs.Common.{ℕ, ⊎_elim, ◌++◌, ◌+◌, ◌<◌, ◌∙◌, ◌≡◌, ◌≢◌, ◌≤◌, ◌⊎◌}
+use Rattle.mig_top.proofs.Common.{MAX_FILE_BYTES, Memory, Names, NoFile, None, NotSpelled, Nothing, OfDisk, OfSet, OfSide, Option, Outcome, Plan, PlanBodies, PlansWell}
+use Rattle.mig_top.proofs.Common.{Reason, Refusal, Refused, Roomy, SinkFailed, SinkFault, Some, Stands, StandsForNone, Step, StoreFault, Task, TellsStill, TooLarge, Unlisted}
+use Rattle.mig_top.proofs.Common.{Untouched, Why, WorldEnds, WritesApart, [], after, ap, arith, bound_value, checks, code, codes, drill_text, eq-eqb, file, filled_text}
+use Rattle.mig_top.proofs.Common.{finds, first, fits_drill, if◌then◌else◌, inl, inr, layout_in, length, loads_input, loads_layout, loads_plan, quotient, refl, roomy, second}
+use Rattle.mig_top.proofs.Common.{shifts_of, stands, subst, sym, take, take_all, task_in, transfers, verdict_text, ℕ, ⊎_elim, ◌++◌, ◌+◌, ◌<◌, ◌∙◌, ◌≡◌, ◌≢◌, ◌≤◌, ◌⊎◌}
 use Rattle.mig_top.proofs.Plainly.{found_input, loads_there, there_loads}
-use Rattle.mig_top.proofs.EndsOf.{cause_at, done_by, ends_of, ends_so, holds_by, put_by, refusal_between, told_at}
+use Rattle.mig_top.proofs.EndsOf.{cause_at, done_by, ends_of, ends_so, holds_by, not_spelled, put_by, refusal_between, told_at}
 use Rattle.mig_top.proofs.Exactness.{checks_exact, comes_exactly, input_loads, is_input, layout_in_exact, task_in_exact}
 use Rattle.mig_top.proofs.StoreCommands.{fill_rest}
 use Rattle.mig_top.proofs.Auditing.{whole_audit}
@@ -29,10 +29,13 @@ is_no_file : (files : Files) (name : List ℕ) (o : Outcome) → IsMissing name 
 is_no_file files name (NoFile word) h = tt
 is_no_file files name _ h = absurd h
 
+pub layout_stop : (files : Files) (disks now : List ℕ) (o : Outcome) → (loads_layout disks now files).Stops o → IsNoFile o
+layout_stop files disks now o (inl h) = is_no_file files disks o h
+layout_stop files disks now o (inr (d, first, inl h)) = is_no_file files now o h
+layout_stop files disks now o (inr (d, first, inr (n, second, none))) = absurd none
+
 pub loads_stop : (files : Files) (names : Names) (o : Outcome) → (loads_input names files).Stops o → IsNoFile o
-loads_stop files names o (inl (inl h)) = is_no_file files names.disks o h
-loads_stop files names o (inl (inr (d, first, inl h))) = is_no_file files names.now o h
-loads_stop files names o (inl (inr (d, first, inr (n, second, none)))) = absurd none
+loads_stop files names o (inl h) = layout_stop files names.disks names.now o h
 loads_stop files names o (inr (layout, there, inl h)) = is_no_file files names.next o h
 loads_stop files names o (inr (layout, there, inr (x, third, none))) = absurd none
 
@@ -78,12 +81,14 @@ module _ (k : Call) (names : Names) (cert : List ℕ) (files : Files) (is : k.be
 
     refused_by : (o : Outcome) → status ≡ code o → IsOrNotPut (WorldEnds k form) k.before.sink k.after.sink o → status ≡ 3 → (f : FileKind) × (n : ℕ) × (w : Why) × AreRefused files names f n w
     refused_by (Found (Refused f n w)) at h three = (f, n, w, told_cause (Found (Refused f n w)) h.cause)
+    refused_by (Found (NotSpelled f line)) at h three = absurd (not_spelled f at three (λ e. cc) (λ e. cc))
     refused_by (Refusal r) at h three = absurd (omega (arith, at, three, (refusal_between r).0))
     refused_by o at h three = absurd (omega (arith, at, three))
 
     refuses_by : (o : Outcome) → status ≡ code o → IsOrNotPut (WorldEnds k form) k.before.sink k.after.sink o → StandsForNone files names → (FolderFailed k → ⊥) → (status ≡ 3) ⊎ (status ≡ 7)
     refuses_by (Done text) at h none fine = absurd (none_stands none text h)
-    refuses_by (SinkFault text) at h none fine = absurd (none_stands none text h.1)
+    refuses_by (SinkFault text) at (rose, inl h) none fine = absurd (none_stands none text h)
+    refuses_by (SinkFault text) at (rose, inr h) none fine = absurd h.cause
     refuses_by (Found (Refused f n w)) at h none fine = inl at
     refuses_by Memory at h none fine = inr at
     refuses_by FolderFault at h none fine = absurd (fine h.cause.0)
@@ -185,7 +190,7 @@ module _ {k : Call} {words : List (List ℕ)} {status : ℕ} (ends : EndsAs k wo
 
     pub fills_well : FillsWell k input status
     fills_well = record {
-      filled = λ done. let d = done_by (ends_of ends (Fill disks now) l) done in filled_by d.0 d.1;
+      filled = λ done. let d = done_by (ends_of ends (Fill disks now) l) (λ text h. h.cause) done in filled_by d.0 d.1;
       fills = λ tells fillable fine quiet sound. comes_exactly ends files (Fill disks now) is l (Done (filled_text input))
           (lead (layout_in disks now files) (fill_rest k.before.store) input holds (Done (filled_text input)) (tt, fillable, refl)) fine quiet
           (sound, λ other same. subst (λ (i : Lists). TellsStill (IsFillCell i) k.before.store) (one_layout input other holds same) tells);
@@ -225,6 +230,7 @@ module _ {k : Call} {words : List (List ℕ)} {status : ℕ} (ends : EndsAs k wo
 
   is_large : (o : Outcome) → status ≡ code o → IsOrNotPut (WorldEnds k (Drill names)) k.before.sink k.after.sink o → status ≡ 11 → MAX_DRILL_SHIFTS < length (shifts_of task.plan)
   is_large (Found (TooLarge shifts)) at h eleven = ⊎_elim (λ large. large.0) (λ rest. absurd rest.2) (drill_end (Found (TooLarge shifts)) h.cause)
+  is_large (Found (NotSpelled f line)) at h eleven = absurd (not_spelled f at eleven (λ e. cc) (λ e. cc))
   is_large (Refusal r) at h eleven = absurd (omega (arith, at, eleven, (refusal_between r).1))
   is_large o at h eleven = absurd (omega (arith, at, eleven))
 

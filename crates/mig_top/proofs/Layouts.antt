@@ -1,7 +1,8 @@
 -- Two files list one layout at most, and the spots of one that a plan reaches are on disks.
-use Rattle.mig_top.proofs.Common.{All, All-contains, AllZip, AreDifferent, At, Contains, Disks, IsInput, IsLayout, IsListOf, IsListing, IsSpotNamed, IsSpotOf, List, Lists, Runs, Shift, Some}
-use Rattle.mig_top.proofs.Common.{Spot, ap, arith, different_from, first, get_or, has_sides, layout_kept, length, map, map-name, name_at, one_place, one_spot, one_zip, refl, round_at, rows_of}
-use Rattle.mig_top.proofs.Common.{runs, same_input, slice_get, slice_get-get_or, slice_get_within, some_map, spot_disk, subst, suc, sym, take, take-map, zero, ℕ, ◌+◌, ◌<◌, ◌∙◌, ◌≡◌, ◌≤◌}
+use Rattle.mig_top.proofs.Common.{All, All-contains, AllZip, AreDifferent, At, Contains, Disk, Disks, IsInput, IsLayout, IsListOf, IsListing, IsNamed, IsSpotNamed, IsSpotOf, List, Lists, Runs}
+use Rattle.mig_top.proofs.Common.{Shift, Some, Spot, ap, arith, different_from, first, get_or, has_sides, layout_kept, length, map, map-name, name_at, names_apart, no_disk, one_place, one_spot}
+use Rattle.mig_top.proofs.Common.{one_zip, refl, round_at, rows_of, runs, same_input, same_place, slice_get, slice_get-get_or, slice_get_within, some_map, spot_disk, subst, suc, sym, take}
+use Rattle.mig_top.proofs.Common.{take-map, zero, ℕ, ◌+◌, ◌<◌, ◌∙◌, ◌≡◌, ◌≤◌}
 use Rattle.mig_base.specs.declared.faults.FileKind.TheVariants as file_kind
 use Rattle.mig_base.specs.declared.faults.Why.TheVariants as why
 
@@ -11,17 +12,22 @@ names_differ disks now i a = different_from (map first (rows_of disks)) (λ j x 
     a.sound file_kind.Disks (j + 1) why.DuplicateDisk
     (record { place = j; row = r.0; number = refl; at = r.1; holds = subst (λ y. Contains (map first (take j (rows_of disks))) y) r.2 (rw take-map at c) }))
 
+listed_apart : (disks now : List ℕ) (i : Lists) → IsListing disks now i → AreDifferent (map name_at i.disks)
+listed_apart disks now i a = rw (a.disks, ← map-name (has_sides disks) (rows_of disks)) (names_differ disks now i a)
+
+-- two disks of one name are one
+pub one_named : (disks now : List ℕ) (input : Lists) → IsListing disks now input → (name : List ℕ) (a b : ℕ) → IsNamed input name a → IsNamed input name b → a ≡ b
+one_named disks now input listed name a b h k =
+    same_place (λ (d : Disk). d.name) input.disks no_disk a b (names_apart input.disks (listed_apart disks now input listed)) h.0 k.0 (h.1 ∙ sym k.1)
+
 pub one_listing : (disks now : List ℕ) (i j : Lists) → IsListing disks now i → IsListing disks now j → i ≡ j
 one_listing disks now i j a b = same_input i j same_disks (a.items ∙ sym b.items) spots (a.next ∙ ap (map (λ (spot : Spot). spot.disk)) spots ∙ sym b.next)
   where
     same_disks : i.disks ≡ j.disks
     same_disks = a.disks ∙ sym b.disks
 
-    differ : AreDifferent (map name_at i.disks)
-    differ = rw (a.disks, ← map-name (has_sides disks) (rows_of disks)) (names_differ disks now i a)
-
     spots : i.spots ≡ j.spots
-    spots = one_zip (IsSpotNamed i.disks) (rows_of now) i.spots j.spots (one_spot i.disks differ) a.spots (subst (λ ds. AllZip (IsSpotNamed ds) (rows_of now) j.spots) (sym same_disks) b.spots)
+    spots = one_zip (IsSpotNamed i.disks) (rows_of now) i.spots j.spots (one_spot i.disks (listed_apart disks now i a)) a.spots (subst (λ ds. AllZip (IsSpotNamed ds) (rows_of now) j.spots) (sym same_disks) b.spots)
 
 -- a spot of now is on a disk
 now_on_disks : (input : Lists) → IsInput input → (item : ℕ) (spot : Spot) → slice_get input.spots item ≡ Some spot → spot.disk.0 < length input.disks

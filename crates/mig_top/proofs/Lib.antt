@@ -1,11 +1,15 @@
 pub mod Alike
 pub mod Auditing
 pub mod Common
+pub mod DrainHeadline
+pub mod DrainSaves
 pub mod EndsOf
 pub mod Exactness
 pub mod Forms
 pub mod Headline
 pub mod Layouts
+pub mod LiveCommand
+pub mod LiveHeadline
 pub mod Plainly
 pub mod PlanSaves
 pub mod Rehearsing

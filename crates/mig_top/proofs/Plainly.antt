@@ -1,6 +1,6 @@
 -- What files stand for, told plainly, is what the steps find that load and read them.
-use Rattle.mig_top.proofs.Common.{AreThere, Bodies, Files, FindsTask, HoldsFirst, IsTaskOf, LayoutBodies, List, Lists, Names, PlanBodies, Reader, StandsBy, Task, TaskNames, ap, input_by}
-use Rattle.mig_top.proofs.Common.{loads_input, refl, subst, sym, ℕ, ◌∙◌}
+use Rattle.mig_top.proofs.Common.{AreScripted, AreThere, Bodies, Files, FindsTask, HoldsFirst, IsTaskOf, LayoutBodies, List, Lists, Names, PlanBodies, Reader, ScriptText, Scripted, StandsBy}
+use Rattle.mig_top.proofs.Common.{Task, TaskNames, ap, input_by, loads_input, refl, roomy, scripted_in, subst, sym, ℕ, ◌∙◌, ◌≡◌}
 
 pub there_loads : (files : Files) (names : Names) (bodies : Bodies) → AreThere files names bodies → (loads_input names files).Passes bodies
 there_loads files names bodies h =
@@ -22,6 +22,23 @@ task_found files names task h =
     let b = h.bodies in
     let of : List ℕ → Task = λ digest. record { input = task.input; plan = task.plan; digest = digest } in
     (b, (b.input, there_loads files names.files b.input h.there, (b.plan, h.plan, refl)), (task.input, h.input, (task.plan, (h.spelled, h.short), (tt, h.ran, ap of h.digest))))
+
+pub scripted_found : (files : Files) (names : Names) (script : List ℕ) (read : Scripted) → AreScripted files names script read → (scripted_in names script files).Passes read
+scripted_found files names script read h =
+    let (bodies, there, (input, accepted, (rounds, spelled, (u, ran, is)))) = task_found files (roomy names) read.task h.task in
+    let same : read.task.input ≡ input = ap (λ (t : Task). t.input) is in (
+      bodies,
+      there,
+      (
+        h.bytes,
+        h.there,
+        (
+          input,
+          accepted,
+          (rounds, spelled, (read.orders, subst (λ (i : Lists). ScriptText i read.orders h.bytes) same h.spelled, (tt, ran, ap (λ (t : Task). record { task = t; orders = read.orders }) is))),
+        ),
+      ),
+    )
 
 pub found_task : (files : Files) (names : TaskNames) (task : Task) → FindsTask files names task → IsTaskOf files names task
 found_task files names task (bodies, (i, there, (p, plan, is)), (input, read, (rounds, spelled, (u, ran, is_task)))) =

@@ -26,7 +26,7 @@ abbrev pub resume_rest : State → Task → Step (List ℕ)
 resume_rest store task = after (resumes task store) (λ found. finds (λ text. text ≡ done_text task.plan found))
 
 -- what a refusal of a store that is settled shows
-shown_by : (k : Call) (input : Lists) (f : MoveFault) → Settles k.before.store k.after.store → (Shows : Image → MoveFault → Type 0) → Shows k.after.store.reads f
+pub shown_by : (k : Call) (input : Lists) (f : MoveFault) → Settles k.before.store k.after.store → (Shows : Image → MoveFault → Type 0) → Shows k.after.store.reads f
     → IsShown input k.before.store Shows (fault_outcome input f)
 shown_by k input f settles Shows h = record {
   fault = f;
@@ -38,7 +38,7 @@ shown_by k input f settles Shows h = record {
 }
 
 -- what is left of a command once its files are read leads to its outcome
-rest_cause : {A : Type 0} (k : Call) (first : Files → Step A) (rest : A → Step (List ℕ)) (read : A) → IfSome k.before.folder.files (λ files. (first files).Passes read)
+pub rest_cause : {A : Type 0} (k : Call) (first : Files → Step A) (rest : A → Step (List ℕ)) (read : A) → IfSome k.before.folder.files (λ files. (first files).Passes read)
     → (o : Outcome) → IsEndOf (rest read) o → IfSome k.before.folder.files (λ files. IsEndOf (after (first files) rest) o)
 rest_cause k first rest read are o h = if_map k.before.folder.files (λ files holds. lead (first files) rest read holds o h) are
 

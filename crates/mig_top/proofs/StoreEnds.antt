@@ -1,7 +1,7 @@
 -- What the ends of commands say of the store.
 use Rattle.mig_top.proofs.Common.{Audit, Call, CauseIn, Cell, Ending, EndsAs, Err, Event, Files, Fill, FolderLeaves, Form, Halt, HasFiles, IfSome, Image, IsEndOf, IsMoving, IsOrNotPut, IsState}
-use Rattle.mig_top.proofs.Common.{IsTargetOf, IsUntouched, IsUnwritten, List, Looks, Move, NoCell, Outcome, Resume, SameBut, Settles, State, Step, StoreLeaves, TakesFrom, WorldEnds, WritesLast}
-use Rattle.mig_top.proofs.Common.{WroteNothing, [], after, arith, changes_none, code, flights, inl, inr, outcome_of, refl, same_image, subst, sym, ℕ, ⊎_elim, ◌∙◌, ◌≡◌, ◌⊎◌}
+use Rattle.mig_top.proofs.Common.{IsTargetOf, IsUntouched, IsUnwritten, List, Live, Looks, Move, NoCell, Outcome, Resume, SameBut, Settles, State, Step, StoreLeaves, TakesFrom, WorldEnds}
+use Rattle.mig_top.proofs.Common.{WritesLast, WroteNothing, [], after, arith, changes_none, code, flights, inl, inr, outcome_of, refl, same_image, subst, sym, ℕ, ⊎_elim, ◌∙◌, ◌≡◌, ◌⊎◌}
 use Rattle.mig_base.specs.Stores.{Changes}
 use Rattle.mig_words.specs.Outcomes as out
 use Rattle.mig_top.proofs.EndsOf.{IsUnread, files_cause, files_unread}
@@ -77,17 +77,20 @@ module _ (old new : State) (law : IsState old) where
 abbrev pub Writes : Outcome → Type 0
 Writes (out.Done text) = Unit {0}
 Writes (out.StoreFault before) = Unit {0}
+Writes (out.SinkFault text) = Unit {0}
 Writes _ = ⊥
 
-writes_code : (o : Outcome) → Writes o → (code o ≡ 0) ⊎ (code o ≡ 5)
+writes_code : (o : Outcome) → Writes o → (code o ≡ 0) ⊎ (code o ≡ 5) ⊎ (code o ≡ 6)
 writes_code (out.Done text) w = inl refl
-writes_code (out.StoreFault before) w = inr refl
+writes_code (out.StoreFault before) w = inr (inl refl)
+writes_code (out.SinkFault text) w = inr (inr refl)
 writes_code _ w = absurd w
 
 module _ (k : Call) (law : IsState k.before.store) where
   pub form_quiet : (form : Form) (o : Outcome) → StoreLeaves k form o → (Writes o → ⊥) → WroteNothing k.before.store k.after.store
   form_quiet form (out.Done text) h not = absurd (not tt)
   form_quiet form (out.StoreFault before) h not = absurd (not tt)
+  form_quiet form (out.SinkFault text) h not = absurd (not tt)
   form_quiet (Audit d n) o h not = quiet k.before.store k.after.store law (IsMoving k.before.store) [] h
   form_quiet (Fill d n) (out.Refusal refusal.Started) h not = settled_quiet k.before.store k.after.store law h
   form_quiet (Fill d n) (out.Refusal (refusal.Occupied disk slot)) h not = settled_quiet k.before.store k.after.store law h
@@ -95,6 +98,8 @@ module _ (k : Call) (law : IsState k.before.store) where
   form_quiet (Move names) (out.Refusal r) h not = settled_quiet k.before.store k.after.store law h.2.settles
   form_quiet (Resume names) (out.Refusal refusal.NotStarted) h not = untouched_quiet k.before.store k.after.store law h
   form_quiet (Resume names) (out.Refusal r) h not = settled_quiet k.before.store k.after.store law h.2.settles
+  form_quiet (Live names script) (out.Refusal refusal.NotStarted) h not = untouched_quiet k.before.store k.after.store law h
+  form_quiet (Live names script) (out.Refusal r) h not = settled_quiet k.before.store k.after.store law h.2.1
   form_quiet (Halt names layout) (out.Refusal refusal.NotStarted) h not = settled_quiet k.before.store k.after.store law h
   form_quiet (Halt names layout) (out.Refusal (refusal.OtherPlan kept ours)) h not = settled_quiet k.before.store k.after.store law h
   form_quiet (Halt names layout) out.FolderFault h not = unwritten_quiet k.before.store k.after.store law h
@@ -107,4 +112,4 @@ module _ (k : Call) (law : IsState k.before.store) where
     where
       by : (o : Outcome) → status ≡ code o → IsOrNotPut (WorldEnds k form) k.before.sink k.after.sink o → WroteNothing k.before.store k.after.store
       by (out.SinkFault text) is h = absurd (six is)
-      by o is h = form_quiet form o h.store (λ writes. ⊎_elim (λ e. zero (is ∙ e)) (λ e. five (is ∙ e)) (writes_code o writes))
+      by o is h = form_quiet form o h.store (λ writes. ⊎_elim (λ e. zero (is ∙ e)) (⊎_elim (λ e. five (is ∙ e)) (λ e. six (is ∙ e))) (writes_code o writes))

@@ -1,7 +1,7 @@
 -- What `move`, `resume` and `halt` promise, from the causes of their outcomes and what they leave; also where copies may be in flight.
 use Rattle.mig_top.proofs.Common.{Adds, AllMayHalt, AreFlights, AreOfTask, At, BeginsAfter, BeginsRun, Bool, Call, Carries, Cell, ChangedOnly, Contents, Disk, Done, EndsAs, Extends, Files}
 use Rattle.mig_top.proofs.Common.{FindsTask, Finishes, FolderFailed, FolderFault, Form, FormCause, FormEndsAs, Found, Gate, Halt, HaltLeaves, HaltsAll, HaltsInPart, HaltsWell, HasContents, Head}
-use Rattle.mig_top.proofs.Common.{IfSome, Image, IsArrived, IsClosingCell, IsHaltCell, IsHalted, IsInput, IsJobCell, IsLanded, IsLayoutSaved, IsListed, IsOrNotPut, IsPermutation-refl}
+use Rattle.mig_top.proofs.Common.{IfSome, Image, IsArrived, IsClosingCell, IsCut, IsHaltCell, IsHalted, IsInput, IsJobCell, IsLanded, IsLayoutSaved, IsListed, IsOrNotPut, IsPermutation-refl}
 use Rattle.mig_top.proofs.Common.{IsReadyIdle, IsReadyInFlight, IsReadyOnceLanded, IsResumable, IsResumeRefusal, IsSafe, IsShown, IsSomeAnd, IsSound, IsStandRefusal, IsStartRefusal, IsState}
 use Rattle.mig_top.proofs.Common.{IsTargetOf, IsUntouched, IsUnwritten, KeepsHalting, Lands, LeavesOnly, List, Lists, MayBeHalting, MayHalt, Memory, Move, MoveLeaves, MovesWell, OthersStay}
 use Rattle.mig_top.proofs.Common.{Outcome, Refusal, Resume, ResumeLeaves, ResumesHalting, ResumesInFlight, ResumesWell, Runs, SavesLayout, Says, Settles, SettlesTo, SinkFailed, SinkFault, Slot}
@@ -28,7 +28,7 @@ module _ (task : Task) (store : State) (valid : IsInput task.input) (runs : Runs
   no_start_refusal idle o h =
       start_apart task valid runs h.image (job_told h.image h.landed) (ready.ready h.image (h.left ready.images) (armed_at h.image h.landed ∙ idle)) h.fault h.shows
 
-  no_resume_refusal : (is_armed store.reads ≡ true → store.reads Head ≡ Some task.digest) → (o : Outcome) → IsShown task.input store (IsResumeRefusal task) o → ⊥
+  pub no_resume_refusal : (is_armed store.reads ≡ true → store.reads Head ≡ Some task.digest) → (o : Outcome) → IsShown task.input store (IsResumeRefusal task) o → ⊥
   no_resume_refusal named o h = resume_apart task valid runs h.image (job_told h.image h.landed) head (ready.ready h.image (h.left ready.images)) h.fault h.shows
     where
       head : is_armed h.image ≡ true → IfSome (h.image Head) (λ kept. kept ≡ task.digest)
@@ -56,6 +56,21 @@ module _ {k : Call} {words : List (List ℕ)} {status : ℕ} (ends : EndsAs k wo
       status_so ends files is (Resume names) l (λ o h. only_done (resumes task k.before.store) (λ found text. text ≡ done_text task.plan found)
       (no_resume_refusal task k.before.store valid.0 valid.1 ready named) o (follow (task_in names files) (task_in_exact names files) (resume_rest k.before.store) task holds o h))
 
+-- a store that is ready, or whose journal names the plan, lets it be resumed
+pub is_resumable : (task : Task) (store : State) → IsReadyOnceLanded task store ⊎ ((is_armed store.reads ≡ true) × (store.reads Head ≡ Some task.digest))
+    → IsResumable task store (count_of (length task.plan) store.reads)
+is_resumable task store before =
+    record { most = count_most (length task.plan) store.reads; found = λ tells are. refl; ours = λ are gate armed. ours are armed before; ready = λ are idle gate. ready idle before }
+  where
+    ours : AreFlights (flights store) → is_armed store.reads ≡ true → IsReadyOnceLanded task store ⊎ ((is_armed store.reads ≡ true) × (store.reads Head ≡ Some task.digest))
+        → IfSome (store.reads Head) (λ kept. kept ≡ task.digest)
+    ours are armed (inl (image, landed, r)) = absurd (false≢true (sym r.idle ∙ ap is_one (journal_landed store image landed are Gate refl) ∙ armed))
+    ours are armed (inr (a, named)) = rw named refl
+
+    ready : is_armed store.reads ≡ false → IsReadyOnceLanded task store ⊎ ((is_armed store.reads ≡ true) × (store.reads Head ≡ Some task.digest)) → IsReadyOnceLanded task store
+    ready idle (inl r) = r
+    ready idle (inr (armed, named)) = absurd (false≢true (sym idle ∙ armed))
+
 -- files stand for one task
 pub one_task : (files : Files) (names : TaskNames) (a b : Task) → FindsTask files names a → FindsTask files names b → a ≡ b
 one_task files names = (task_in_exact names files).one_found
@@ -72,7 +87,7 @@ pub record AreKept (task : Task) (old new : State) : Type 0 where
   pub ready : Tells (IsJobCell task.input task.plan) old.reads → SettlesTo (IsReadyIdle task) old → LeavesOnly (IsReadyIdle task) old new
   pub armed : StaysArmed old new
 
-leaves_same : (P : Image → Type 0) (old new : State) → IsUntouched old new → LeavesOnly P old new
+pub leaves_same : (P : Image → Type 0) (old new : State) → IsUntouched old new → LeavesOnly P old new
 leaves_same P old new same = record { later = omega (arith, same.moment); since = λ t image le left. inl (same.since t image left) }
 
 untouched_kept : (task : Task) (old new : State) → IsUntouched old new → AreKept task old new
@@ -165,7 +180,7 @@ module _ {k : Call} {words : List (List ℕ)} {status : ℕ} (ends : EndsAs k wo
   resume_kept o h = move_kept o h
 
   module _ (form : Form) (l : IsListed words form) (form_kept : (o : Outcome) → StoreLeaves k form o → AreKept task old new)
-      (form_finished : (text : List ℕ) → StoreLeaves k form (Done text) → (found : ℕ) × Finishes task old new found) where
+      (form_finished : (text : List ℕ) → StoreLeaves k form (Done text) → (found : ℕ) × Finishes task old new found) (uncut : (text : List ℕ) → IsCut k form text → ⊥) where
     e : FormEndsAs k form status
     e = ends_of ends form l
 
@@ -173,7 +188,7 @@ module _ {k : Call} {words : List (List ℕ)} {status : ℕ} (ends : EndsAs k wo
     kept = holds_by e (AreKept task old new) (λ o h. form_kept o h.store)
 
     finished : (status ≡ 0) ⊎ (status ≡ 6) → (found : ℕ) × Finishes task old new found
-    finished done = let d = done_by e done in form_finished d.0 d.1.store
+    finished done = let d = done_by e (λ text h. uncut text h.cause) done in form_finished d.0 d.1.store
 
     -- each image since the beginning
     since : (P : Image → Type 0) → LeavesOnly P old new → ((image : Image) → old.may_leave image → P image) → (image : Image) → new.left_since old.moment image → P image
@@ -190,10 +205,10 @@ module _ {k : Call} {words : List (List ℕ)} {status : ℕ} (ends : EndsAs k wo
     }
 
   pub move_moves : IsListed words (Move names) → MovesWell k task status
-  move_moves l = form_moves_well (Move names) l move_kept (λ text h. finished_of h.0 0 h.1 h.2.0.finishes)
+  move_moves l = form_moves_well (Move names) l move_kept (λ text h. finished_of h.0 0 h.1 h.2.0.finishes) (λ text h. h)
 
   pub resume_moves : IsListed words (Resume names) → MovesWell k task status
-  resume_moves l = form_moves_well (Resume names) l resume_kept (λ text h. finished_of h.0 h.2.0 h.1 h.2.1.moves.finishes)
+  resume_moves l = form_moves_well (Resume names) l resume_kept (λ text h. finished_of h.0 h.2.0 h.1 h.2.1.moves.finishes) (λ text h. h)
 
   -- Where closing the plan early was stopped no item is lost
 
@@ -209,6 +224,7 @@ module _ {k : Call} {words : List (List ℕ)} {status : ℕ} (ends : EndsAs k wo
   since_form : (o : Outcome) → StoreLeaves k (Resume names) o → Since
   since_form (Done text) h = by_keeps h.0 h.1 h.2.1.halting
   since_form (StoreFault before) h = by_keeps h.0 h.1 h.2.1
+  since_form (SinkFault text) h = λ contents n tells may image left. inl (untouched_quiet old new law h image left)
   since_form o h = λ contents n tells may image left. inl (form_quiet k law (Resume names) o h (λ writes. writes) image left)
 
   -- and each arrives
@@ -224,7 +240,7 @@ module _ {k : Call} {words : List (List ℕ)} {status : ℕ} (ends : EndsAs k wo
       let e = ends_of ends (Resume names) l in
       record {
         safe = holds_by e Since (λ o h. since_form o h.store);
-        arrived = λ done. let d = done_by e done in arrives_done d.0 d.1.store;
+        arrived = λ done. let d = done_by e (λ text h. h.cause) done in arrives_done d.0 d.1.store;
       }
 
   still : TellsStill (IsJobCell task.input task.plan) old → (other : Task) → FindsTask files names other → TellsStill (IsJobCell other.input other.plan) old
@@ -238,24 +254,10 @@ module _ {k : Call} {words : List (List ℕ)} {status : ℕ} (ends : EndsAs k wo
 
   pub resumes_well : IsListed words (Resume names) → ResumesWell k task status
   resumes_well l tells before fine quiet sound =
+      let found = count_of (length task.plan) old.reads in
       comes_exactly ends files (Resume names) is l
-      (Done (done_text task.plan found)) (lead (task_in names files) (resume_rest old) task holds (Done (done_text task.plan found)) (found, resumable, refl))
+      (Done (done_text task.plan found)) (lead (task_in names files) (resume_rest old) task holds (Done (done_text task.plan found)) (found, is_resumable task old before, refl))
       fine quiet (sound, still tells)
-    where
-      found : ℕ
-      found = count_of (length task.plan) old.reads
-
-      resumable : IsResumable task old found
-      resumable = record { most = count_most (length task.plan) old.reads; found = λ tells are. refl; ours = λ are gate armed. ours are armed before; ready = λ are idle gate. ready idle before }
-        where
-          ours : AreFlights (flights old) → is_armed old.reads ≡ true → IsReadyOnceLanded task old ⊎ ((is_armed old.reads ≡ true) × (old.reads Head ≡ Some task.digest))
-              → IfSome (old.reads Head) (λ kept. kept ≡ task.digest)
-          ours are armed (inl (image, landed, r)) = absurd (false≢true (sym r.idle ∙ ap is_one (journal_landed old image landed are Gate refl) ∙ armed))
-          ours are armed (inr (a, named)) = rw named refl
-
-          ready : is_armed old.reads ≡ false → IsReadyOnceLanded task old ⊎ ((is_armed old.reads ≡ true) × (old.reads Head ≡ Some task.digest)) → IsReadyOnceLanded task old
-          ready idle (inl r) = r
-          ready idle (inr (armed, named)) = absurd (false≢true (sym idle ∙ armed))
 
   -- `halt`
 
@@ -345,8 +347,9 @@ module _ {k : Call} {words : List (List ℕ)} {status : ℕ} (ends : EndsAs k wo
         let s = h.store in
         let said = λ (zero : status ≡ 0). subst (λ (t : List ℕ). Extends t k.before.sink k.after.sink) s.2.3 (says.done refl) in
         written_end s.0 s.1 s.2.0 (record { part = s.2.1.part; saves = s.2.2; whole = λ done. s.2.1; said = said })
-    well_at (SinkFault text) at h says =
-        let s = h.1.store in
+    well_at (SinkFault text) at (rose, inr h) says = absurd h.cause
+    well_at (SinkFault text) at (rose, inl h) says =
+        let s = h.store in
         written_end s.0 s.1 s.2.0 (record { part = s.2.1.part; saves = s.2.2; whole = λ done. s.2.1; said = λ zero. absurd (omega (arith, at, zero)) })
     well_at (StoreFault before) at h says = by h.store
       where

@@ -1,10 +1,10 @@
 -- What `plan-tight` promises, from the causes of its outcomes and what it leaves.
 use Rattle.mig_top.proofs.Common.{AcceptedTight-IsInput, Call, CauseIn, Done, EndsAs, Files, Finding, FolderFailed, FolderFault, Form, FormCause, Found, HasNoPlan, HasPlannedTight, IsEndOf}
-use Rattle.mig_top.proofs.Common.{IsInput, IsListed, IsOrNotPut, IsSomeAnd, IsTightSaved, IsTightWrong, List, Lists, Memory, Names, NoFreeSlot, None, Option, Outcome, PlanTight, PlansTightWell}
-use Rattle.mig_top.proofs.Common.{Refusal, Refused, SinkFault, Some, StandsBy, Step, StoreFault, Tight, TooMany, Unlisted, WorldEnds, after, arith, code, finding_code, finds, fits_tight, inl}
-use Rattle.mig_top.proofs.Common.{input_by, inr, refl, subst, sym, ℕ, ⊎_elim, ◌∙◌, ◌≡◌, ◌⊎◌}
+use Rattle.mig_top.proofs.Common.{IsInput, IsListed, IsOrNotPut, IsSomeAnd, IsTightSaved, IsTightWrong, List, Lists, Memory, Names, NoFreeSlot, None, NotSpelled, Option, Outcome, PlanTight}
+use Rattle.mig_top.proofs.Common.{PlansTightWell, Refusal, Refused, SinkFault, Some, StandsBy, Step, StoreFault, Tight, TooMany, Unlisted, WorldEnds, after, arith, code, finding_code, finds}
+use Rattle.mig_top.proofs.Common.{fits_tight, inl, input_by, inr, refl, subst, sym, ℕ, ⊎_elim, ◌∙◌, ◌≡◌, ◌⊎◌}
 use Rattle.mig_tight.proofs.RunningPlans.{runs_fits, runs_free}
-use Rattle.mig_top.proofs.EndsOf.{cause_at, ends_of, ends_so, put_by, refusal_between, told_at}
+use Rattle.mig_top.proofs.EndsOf.{cause_at, ends_of, ends_so, not_spelled, put_by, refusal_between, told_at}
 use Rattle.mig_top.proofs.Exactness.{input_by_exact}
 use Rattle.mig_top.proofs.Headline.{loads_stop, some_and_map}
 use Rattle.mig_top.proofs.Plainly.{found_input, input_found}
@@ -85,6 +85,7 @@ module _ (k : Call) (names : Names) (files : Files) (is : k.before.folder.files 
     found_by : (f : Finding) → status ≡ finding_code f → FormCause files k.before.store form (Found f) → status ≡ 13 → (input : Lists) × StandsBy Tight files names input × HasNoPlan input
     found_by (TooMany name needs slots) at h thirteen = no_plan (TooMany name needs slots) (stopped (TooMany name needs slots) h)
     found_by NoFreeSlot at h thirteen = no_plan NoFreeSlot (stopped NoFreeSlot h)
+    found_by (NotSpelled f line) at h thirteen = absurd (not_spelled f at thirteen (λ e. cc) (λ e. cc))
     found_by f at h thirteen = absurd (omega (arith, at, thirteen))
 
     refused_by : (o : Outcome) → status ≡ code o → IsOrNotPut (WorldEnds k form) k.before.sink k.after.sink o → status ≡ 13
@@ -96,7 +97,8 @@ module _ (k : Call) (names : Names) (files : Files) (is : k.before.folder.files 
     refuses_by : (input : Lists) → StandsBy Tight files names input → HasNoPlan input → (FolderFailed k → ⊥) → (o : Outcome) → status ≡ code o
         → IsOrNotPut (WorldEnds k form) k.before.sink k.after.sink o → (status ≡ 7) ⊎ (status ≡ 13)
     refuses_by input held none fine (Done text) at h = absurd (done_ran input held none text h)
-    refuses_by input held none fine (SinkFault text) at h = absurd (done_ran input held none text h.1)
+    refuses_by input held none fine (SinkFault text) at (rose, inl h) = absurd (done_ran input held none text h)
+    refuses_by input held none fine (SinkFault text) at (rose, inr h) = absurd h.cause
     refuses_by input held none fine (Found f) at h = inr (at ∙ wrong_code input f (told_cause input held (Found f) h.cause))
     refuses_by input held none fine Memory at h = inl at
     refuses_by input held none fine FolderFault at h = absurd (fine h.cause.0)

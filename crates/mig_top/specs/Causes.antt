@@ -1,12 +1,16 @@
 -- Why a command ends as it does: its steps over the files and the store that it finds.
 use Rattle.std.specs.Prelude.{List, codes, if◌then◌else◌, length, ℕ, ◌<◌, ◌==◌, ◌≡◌, ◌≤◌}
-use Rattle.mig_top.specs.Common.{After, At, Audit, Blamed, Bodies, Cert, CertHolds, Check, Drill, Files, Fill, Finding, FirstBlame, Form, Halt, IsListOf, LayoutText, Lists, MAX_DRILL_SHIFTS}
+use Rattle.mig_top.specs.Common.{After, At, Audit, Blamed, Bodies, Cert, CertHolds, Check, Drain, Drill, Files, Fill, Finding, FirstBlame, Form, Halt, IsListOf, LayoutText}
+use Rattle.mig_top.specs.Common.{Lists, Live, MAX_DRILL_SHIFTS}
 use Rattle.mig_top.specs.Common.{Move, Names, Once, Outcome, Plan, PlanTight, Rehearse, Resume, Roomy, Runs, Shift, Spot, State, TaskNames, Tight, TooLarge, bound_value, drill_text, named, roomy}
 use Rattle.mig_top.specs.Common.{shifts_of}
 use Rattle.mig_top.specs.carry.Looks.{done_text, resumes, starts}
 use Rattle.mig_top.specs.fill.Looks.{filled_text, fills}
 use Rattle.mig_top.specs.halt.Looks.{halted_text, stands}
+use Rattle.mig_top.specs.live.Looks.{IsServed}
+use Rattle.mig_top.specs.live.Reads.{scripted_in}
 use Rattle.mig_top.specs.Loads.{PlanBodies, input_by, input_in, layout_in, loads, loads_plan, reads_cert, reads_input, reads_plan, task_in}
+use Rattle.mig_top.specs.drain.Texts.{AreDrainTexts, DrainTexts, finds_disk, fits_others}
 use Rattle.mig_top.specs.plan.Texts.{AreTextsOf, PlanTexts}
 use Rattle.mig_top.specs.rehearse.Texts.{IsRehearsed, case_in}
 use Rattle.mig_top.specs.audit.Sights.{IsAudit}
@@ -100,6 +104,23 @@ drills names files =
     after (fits_drill task.plan) (λ _.
     finds (λ text. text ≡ drill_text task.plan)))
 
+-- `drain`, up to its texts, and as a command
+abbrev pub empties_disk : Lists → ℕ → Step DrainTexts
+empties_disk input v = after (fits_others input v) (λ _. finds (AreDrainTexts input v))
+
+abbrev pub empties_texts : List ℕ → List ℕ → List ℕ → Files → Step DrainTexts
+empties_texts disks now name files =
+    after (layout_in disks now files) (λ input.
+    after (finds_disk name input) (λ v.
+    empties_disk input v))
+
+abbrev pub drains_disk : List ℕ → List ℕ → List ℕ → Files → Step (List ℕ)
+drains_disk disks now name files =
+    after (layout_in disks now files) (λ input.
+    after (finds_disk name input) (λ v.
+    after (fits_others input v) (λ _.
+    finds (λ text. Unit {0}))))
+
 -- All commands
 
 abbrev pub command : Files → State → Form → Step (List ℕ)
@@ -108,6 +129,7 @@ command files store (Check names cert) = checks names cert files
 command files store (PlanTight names) = plans_tight names files
 command files store (After names) = lays_out names files
 command files store (Drill names) = drills names files
+command files store (Drain disks now name next) = drains_disk disks now name files
 command files store (Fill disks now) =
     after (layout_in disks now files) (λ input.
     after (fills input store) (λ _.
@@ -126,6 +148,10 @@ command files store (Halt names layout) =
     after (task_in names files) (λ task.
     after (stands task store) (λ found.
     finds (λ text. text ≡ halted_text task.plan found)))
+command files store (Live names script) =
+    after (scripted_in names script files) (λ read.
+    after (resumes read.task store) (λ found.
+    finds (IsServed read store found)))
 
 -- the outcome of a command over the files and the store that it finds
 abbrev pub FormCause : Files → State → Form → Outcome → Type 0

@@ -19,7 +19,7 @@ pub use Rattle.mig_base.specs.Refusals.{Accepted, AcceptedTight, RefusedAs, Refu
 pub use Rattle.mig_base.specs.RoundEvents.{Adds, BeginsRun, IsRun}
 pub use Rattle.mig_base.specs.Rows.{Bodies}
 pub use Rattle.mig_base.specs.Running.{Once, Runs}
-pub use Rattle.mig_base.specs.Safety.{Contents, IsSafe, IsSound}
+pub use Rattle.mig_base.specs.Safety.{Contents, IsSafe, IsSafeAfter, IsSound}
 pub use Rattle.mig_base.specs.Slots.{HasHeader, IsListedCell, item_cell}
 pub use Rattle.mig_base.specs.Stores.{Changes, IsLeftBut, IsMoving, IsSettled, LeavesOnly, Looks, State, flights}
 pub use Rattle.mig_base.specs.Tasks.{Task}
@@ -46,16 +46,21 @@ pub use Rattle.mig_io.specs.Files.{ChangedOnly, Files, FolderState, OthersStay, 
 pub use Rattle.mig_io.specs.Held.{Extends, ExtendsInPart, SinkState}
 pub use Rattle.mig_lanes.specs.LaneSteps.{later_rounds}
 pub use Rattle.mig_lanes.specs.Runs.{Finishes, IsPart}
+pub use Rattle.mig_live.specs.Orders.{all_steps}
+pub use Rattle.mig_live.specs.Replies.{replies}
+pub use Rattle.mig_live.specs.Scripts.{ScriptLine, ScriptText}
+pub use Rattle.mig_live.specs.Sessions.{marks_by, steps_after}
+pub use Rattle.mig_live.specs.declared.orders.Order.{Order}
 pub use Rattle.mig_mover.specs.Halts.{IsClosingCell}
 pub use Rattle.mig_mover.specs.Moves.{IsReadyIdle, IsRefusal, Keeps, Lands, MayBeHalting, Settles, StaysArmed}
 pub use Rattle.mig_mover.specs.declared.faults.MoveFault.{MoveFault}
 pub use Rattle.mig_mover.specs.declared.faults.MoveFault.TheVariants.{NotStarted, OtherPlan, Started}
 pub use Rattle.mig_words.specs.Outcomes.{Done, Outcome, Refusal, SinkFault, StoreFault, Unlisted, code, disk_listed, fault_outcome, joined, named, text_of}
-pub use Rattle.mig_words.specs.Words.{After, Audit, Check, Drill, Fill, Form, Halt, IsListed, Move, Names, Plan, PlanTight, Rehearse, Resume, TaskNames, roomy}
+pub use Rattle.mig_words.specs.Words.{After, Audit, Check, Drain, Drill, Fill, Form, Halt, IsListed, Live, Move, Names, Plan, PlanTight, Rehearse, Resume, TaskNames, roomy}
 pub use Rattle.mig_words.specs.declared.endings.Ending.{Ending}
 pub use Rattle.mig_words.specs.declared.endings.Ending.TheVariants.{Found}
 pub use Rattle.mig_words.specs.declared.endings.Finding.{Finding}
-pub use Rattle.mig_words.specs.declared.endings.Finding.TheVariants.{Blamed, NoFreeSlot, NotSpelled, Refused, TooLarge, TooMany}
+pub use Rattle.mig_words.specs.declared.endings.Finding.TheVariants.{Blamed, NoDisk, NoFreeSlot, NoRoom, NotSpelled, Refused, TooLarge, TooMany}
 pub use Rattle.mig_words.specs.declared.words.Reader.{Reader}
 pub use Rattle.mig_words.specs.declared.words.Reader.TheVariants.{Roomy, Tight}
 pub use Rattle.sha2.specs.Sha256.{sha256}

@@ -9,9 +9,11 @@ pub mod Steps
 pub mod Stores
 pub mod audit
 pub mod carry
+pub mod drain
 pub mod drill
 pub mod fill
 pub mod halt
+pub mod live
 pub mod plan
 pub mod plan_tight
 pub mod rehearse

@@ -1,12 +1,14 @@
-//! Reads the bytes of files: the input, a plan and a certificate.
-ghost use Rattle.std.specs.Prelude.{◌≤◌, IfOk, length};
+//! Reads the bytes of files: the input, a plan, a certificate and a script.
+ghost use Rattle.std.specs.Prelude.{◌≤◌, All, IfOk, length};
 ghost use Rattle.mig_base.specs.declared.limits.TheConstants.{MAX_FILE_BYTES};
 ghost use Rattle.mig_base.specs.Readiness.{shifts_of};
 ghost use Rattle.mig_base.specs.Certificates.{CertFits};
 ghost use Rattle.mig_base.specs.Running.{PlanFits};
 ghost use Rattle.mig_base.specs.Targets.{IsRoomy};
+ghost use Rattle.mig_live.specs.Orders.{IsOrder};
 ghost use Rattle.mig_top.specs.Bodies.{bodies_of};
 ghost use Rattle.mig_top.specs.Loads.{reads_cert, reads_input, reads_plan};
+ghost use Rattle.mig_top.specs.live.Reads.{reads_script};
 ghost use Rattle.mig_top.specs.Steps.{Takes};
 ghost use Rattle.mig_words.specs.declared.words.Reader.TheVariants.{Roomy, Tight};
 
@@ -14,6 +16,7 @@ use crate::loads::InputBytes;
 use mig_base::{Cert, Input, Plan};
 use mig_cert::read_cert;
 use mig_csv::{read_input, read_tight};
+use mig_live::{Script, ScriptError, read_script};
 use mig_text::{TextError, read_plan};
 use mig_words::{Ending, Finding, Reader, TextFile};
 use std::alloc::Global;
@@ -71,5 +74,20 @@ pub fn read_cert_text(alloc: Global, input: &Input, bytes: &[u8]) -> Result<Cert
             line: number,
         })),
         Err(TextError::Memory) => Err(Ending::Memory),
+    }
+}
+
+/// The script whose spelling the bytes are.
+pub fn read_script_text(alloc: Global, input: &Input, bytes: &[u8]) -> Result<Script, Ending>
+    ensures takes { Takes (reads_script bytes.now input.now) result }
+    ensures fits { IfOk result (All (IsOrder input.now)) }
+{
+    match read_script(alloc, input, bytes) {
+        Ok(script) => Ok(script),
+        Err(ScriptError::Line { number }) => Err(Ending::Found(Finding::NotSpelled {
+            text: TextFile::Script,
+            line: number,
+        })),
+        Err(ScriptError::Memory) => Err(Ending::Memory),
     }
 }

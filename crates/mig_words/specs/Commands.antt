@@ -3,7 +3,7 @@ use Rattle.mig_words.specs.declared.words.Command.{Command}
 use Rattle.mig_words.specs.declared.words.Command.TheVariants as command
 use Rattle.mig_words.specs.declared.words.PlanFiles.{PlanFiles}
 use Rattle.mig_words.specs.declared.words.TaskFiles.{TaskFiles}
-use Rattle.mig_words.specs.Words.{Form, Names, TaskNames, Plan, Check, PlanTight, After, Fill, Audit, Rehearse, Move, Resume, Drill, Halt}
+use Rattle.mig_words.specs.Words.{Form, Names, TaskNames, Plan, Check, PlanTight, After, Fill, Audit, Rehearse, Move, Resume, Drill, Halt, Live, Drain}
 
 -- the names that words are
 abbrev pub names_in : PlanFiles → Names
@@ -25,3 +25,5 @@ form_of (command.Move task) = Move (task_names task)
 form_of (command.Resume task) = Resume (task_names task)
 form_of (command.Drill files) = Drill (names_in files)
 form_of (command.Halt task layout) = Halt (task_names task) layout.now
+form_of (command.Live files script) = Live (names_in files) script.now
+form_of (command.Drain disks now disk next) = Drain disks.now now.now disk next.now

@@ -67,13 +67,20 @@ fault_outcome input (fault.NotThere item) = Refusal (refusal.NotThere (slice_get
 fault_outcome input (fault.Occupied disk slot) = Refusal (refusal.Occupied (disk_listed input disk.0) slot)
 
 -- the number of the status
+abbrev pub spelling_code : TextFile → ℕ
+spelling_code text_file.Plan = 10
+spelling_code text_file.Cert = 10
+spelling_code text_file.Script = 15
+
 abbrev pub finding_code : Finding → ℕ
 finding_code (finding.Blamed b name) = 1
 finding_code (finding.Refused f row w) = 3
-finding_code (finding.NotSpelled f line) = 10
+finding_code (finding.NotSpelled f line) = spelling_code f
 finding_code (finding.TooLarge shifts) = 11
 finding_code (finding.TooMany disk needs slots) = 13
 finding_code finding.NoFreeSlot = 13
+finding_code (finding.NoDisk name) = 14
+finding_code (finding.NoRoom items free) = 14
 
 abbrev pub store_code : StoreRefusal → ℕ
 store_code refusal.Started = 8
@@ -167,6 +174,7 @@ refusal_text f row w = joined (codes "refused " ∷ file_word f ∷ codes " row 
 abbrev pub text_word : TextFile → List ℕ
 text_word text_file.Plan = codes "plan"
 text_word text_file.Cert = codes "certificate"
+text_word text_file.Script = codes "script"
 
 -- the text that is put with what was found wrong, with what a store refuses, and with each outcome
 abbrev pub finding_text : Finding → List ℕ
@@ -176,6 +184,8 @@ finding_text (finding.NotSpelled f line) = joined (codes "refused " ∷ text_wor
 finding_text (finding.TooLarge shifts) = joined (codes "too large for a drill " ∷ decimal shifts ∷ codes "\n" ∷ [])
 finding_text (finding.TooMany disk needs slots) = joined (codes "too many for " ∷ unwrap_or disk [] ∷ codes ", needs " ∷ decimal needs ∷ codes ", has " ∷ decimal slots ∷ codes "\n" ∷ [])
 finding_text finding.NoFreeSlot = codes "no free slot\n"
+finding_text (finding.NoDisk name) = joined (codes "no disk " ∷ name ∷ codes "\n" ∷ [])
+finding_text (finding.NoRoom items free) = joined (codes "no room, " ∷ decimal items ∷ codes " items, " ∷ decimal free ∷ codes " free\n" ∷ [])
 
 abbrev pub store_text : StoreRefusal → List ℕ
 store_text refusal.Started = codes "journal started\n"

@@ -5,6 +5,7 @@ use Rattle.std.specs.String.{string_bytes}
 use Rattle.std.specs.declared.string.String.{String}
 use Rattle.std.specs.declared.alloc.Global.{Global}
 use Rattle.mig_base.specs.Digits.{IsNumber, number_of}
+use Rattle.mig_base.specs.Naming.{IsName}
 use Rattle.mig_gen.specs.MadeCases.{IsCaseSize}
 use Rattle.mig_words.specs.declared.words.Reader.{Reader}
 use Rattle.mig_words.specs.declared.words.Reader.TheVariants.{Roomy, Tight}
@@ -47,6 +48,9 @@ pub data Form : Type 0 where
   Resume : (task : TaskNames) → Form
   Halt : (task : TaskNames) (layout : List ℕ) → Form
   Drill : (names : Names) → Form
+  Live : (names : Names) (script : List ℕ) → Form
+  -- the name of a disk stands between those of its files
+  Drain : (disks now disk next : List ℕ) → Form
 
 -- the words of a command line, as lists of bytes
 abbrev pub texts : List (String Global) → List (List ℕ)
@@ -65,10 +69,13 @@ names_of (Move task) = four_and task.files []
 names_of (Resume task) = four_and task.files []
 names_of (Halt task layout) = four_and task.files (layout ∷ [])
 names_of (Drill names) = four_and names []
+names_of (Live names script) = four_and names (script ∷ [])
+names_of (Drain disks now disk next) = disks ∷ now ∷ next ∷ []
 
 -- `plan DISKS NOW NEXT PLAN CERT`, `check DISKS NOW NEXT PLAN CERT`, `after DISKS NOW NEXT PLAN`, `fill DISKS NOW`, `audit DISKS NOW`,
--- `rehearse N PERPAIR LIMIT`, `move DISKS NOW NEXT PLAN`, `resume DISKS NOW NEXT PLAN`, `halt DISKS NOW NEXT PLAN LAYOUT` and
--- `drill DISKS NOW NEXT PLAN`; and `plan-tight DISKS NOW NEXT PLAN`, and `after-tight`, `move-tight`, `resume-tight` and `halt-tight` with the words of `after`, `move`, `resume` and `halt`
+-- `rehearse N PERPAIR LIMIT`, `move DISKS NOW NEXT PLAN`, `resume DISKS NOW NEXT PLAN`, `halt DISKS NOW NEXT PLAN LAYOUT`,
+-- `drill DISKS NOW NEXT PLAN`, `live DISKS NOW NEXT PLAN SCRIPT` and `drain DISKS NOW NAME NEXT`; and `plan-tight DISKS NOW NEXT PLAN`, and
+-- `after-tight`, `move-tight`, `resume-tight` and `halt-tight` with the words of `after`, `move`, `resume` and `halt`
 abbrev pub words_of : Form → List (List ℕ)
 words_of (Plan names cert) = codes "plan" ∷ names_of (Plan names cert)
 words_of (Check names cert) = codes "check" ∷ names_of (Check names cert)
@@ -81,6 +88,8 @@ words_of (Move task) = word_by task.reader (codes "move") ∷ names_of (Move tas
 words_of (Resume task) = word_by task.reader (codes "resume") ∷ names_of (Resume task)
 words_of (Halt task layout) = word_by task.reader (codes "halt") ∷ names_of (Halt task layout)
 words_of (Drill names) = codes "drill" ∷ names_of (Drill names)
+words_of (Live names script) = codes "live" ∷ names_of (Live names script)
+words_of (Drain disks now disk next) = codes "drain" ∷ disks ∷ now ∷ disk ∷ next ∷ []
 
 -- a word that may name a file: 1 to 255 bytes that don't end in `.disk` or `.mig`
 pub record IsFileWord (word : List ℕ) : Type 0 where
@@ -98,6 +107,7 @@ abbrev pub WritesApart : Form → Type 0
 WritesApart (Plan names cert) = DiffersFrom names.plan (names.disks ∷ names.now ∷ names.next ∷ cert ∷ []) × DiffersFrom cert (names.disks ∷ names.now ∷ names.next ∷ [])
 WritesApart (PlanTight names) = DiffersFrom names.plan (names.disks ∷ names.now ∷ names.next ∷ [])
 WritesApart (Halt task layout) = DiffersFrom layout (four_and task.files [])
+WritesApart (Drain disks now disk next) = DiffersFrom next (disks ∷ now ∷ [])
 WritesApart form = Unit {0}
 
 -- the words are numbers of which a case can be made
@@ -107,14 +117,15 @@ pub record AreCaseWords (disks per_pair limit : List ℕ) : Type 0 where
   pub limit_word : IsNumber limit
   pub size : IsCaseSize (number_of disks) (number_of per_pair) (number_of limit)
 
--- the words of a command that are numbers fit it
-abbrev pub HasNumbers : Form → Type 0
-HasNumbers (Rehearse disks per_pair limit) = AreCaseWords disks per_pair limit
-HasNumbers form = Unit {0}
+-- the words of a command that name no file fit it: numbers of which a case can be made, or a name that a disk may have
+abbrev pub OthersFit : Form → Type 0
+OthersFit (Rehearse disks per_pair limit) = AreCaseWords disks per_pair limit
+OthersFit (Drain disks now disk next) = IsName disk
+OthersFit form = Unit {0}
 
 -- the words are this command, in its listed form: each name may name a file
 pub record IsListed (words : List (List ℕ)) (form : Form) : Type 0 where
   pub spelled : words ≡ words_of form
   pub files : AllByRecursion IsFileWord (names_of form)
   pub apart : WritesApart form
-  pub numbers : HasNumbers form
+  pub others : OthersFit form

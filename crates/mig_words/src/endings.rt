@@ -11,6 +11,23 @@ use std::alloc::{AllocError, AllocFailed};
 pub enum TextFile {
     Plan,
     Cert,
+    /// The orders of a session that reads items and carries a plan out step by step.
+    Script,
+}
+
+impl TextFile {
+    ghost use Rattle.mig_words.specs.Outcomes.{spelling_code};
+
+    /// The number of the status where the text is no spelling.
+    fn code(&self) -> u8
+        ensures { result ≡ spelling_code self.now }
+    {
+        match self {
+            TextFile::Plan => 10,
+            TextFile::Cert => 10,
+            TextFile::Script => 15,
+        }
+    }
 }
 
 /// What is found wrong with what a command was given, with what its text shows.
@@ -44,6 +61,15 @@ pub enum Finding {
     },
     /// Some item is to go to another disk, and no slot is free.
     NoFreeSlot,
+    /// No disk has this name.
+    NoDisk {
+        name: Name,
+    },
+    /// The disk has `items` items, and the other disks have only `free` free slots together.
+    NoRoom {
+        items: u32,
+        free: u32,
+    },
 }
 
 impl Finding {
@@ -60,7 +86,7 @@ impl Finding {
                 row: _,
                 why: _,
             } => 3,
-            Finding::NotSpelled { text: _, line: _ } => 10,
+            Finding::NotSpelled { text, line: _ } => text.code(),
             Finding::TooLarge { shifts: _ } => 11,
             Finding::TooMany {
                 disk: _,
@@ -68,6 +94,8 @@ impl Finding {
                 slots: _,
             } => 13,
             Finding::NoFreeSlot => 13,
+            Finding::NoDisk { name: _ } => 14,
+            Finding::NoRoom { items: _, free: _ } => 14,
         }
     }
 }

@@ -51,6 +51,7 @@ fn text_word_of(text: TextFile) -> &'static [u8]
     match text {
         TextFile::Plan => b"plan",
         TextFile::Cert => b"certificate",
+        TextFile::Script => b"script",
     }
 }
 
@@ -149,6 +150,29 @@ fn put_too_many<K: Sink>(
     )
 }
 
+/// Puts the name that no disk has.
+fn put_no_disk<K: Sink>(out: &mut K, name: &Name) -> Result<(), SinkFailed>
+    ensures { Puts (finding_text (finding.NoDisk name.now)) (K.state out.old) (K.state out.new) result }
+{
+    put_parts(out, &[Text(b"no disk "), Text(name.bytes()), Text(b"\n")])
+}
+
+/// Puts how many items a disk has, and how many slots are free on the others.
+fn put_no_room<K: Sink>(out: &mut K, items: u32, free: u32) -> Result<(), SinkFailed>
+    ensures { Puts (finding_text (finding.NoRoom items free)) (K.state out.old) (K.state out.new) result }
+{
+    put_parts(
+        out,
+        &[
+            Text(b"no room, "),
+            Number(items),
+            Text(b" items, "),
+            Number(free),
+            Text(b" free\n"),
+        ],
+    )
+}
+
 /// The bytes of a name; none where there is no name.
 fn name_bytes(name: &Option<Name>) -> &[u8]
     ensures { result.now ≡ unwrap_or name.now [] }
@@ -181,6 +205,8 @@ fn put_finding<K: Sink>(out: &mut K, finding: &Finding) -> Result<(), SinkFailed
         Finding::TooLarge { shifts } => put_too_large(out, *shifts),
         Finding::TooMany { disk, needs, slots } => put_too_many(out, disk, *needs, *slots),
         Finding::NoFreeSlot => out.put(b"no free slot\n"),
+        Finding::NoDisk { name } => put_no_disk(out, name),
+        Finding::NoRoom { items, free } => put_no_room(out, *items, *free),
     }
 }
 

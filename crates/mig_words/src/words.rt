@@ -1,10 +1,11 @@
 //! Reads the words of a command line.
 ghost use Rattle.std.specs.List.{AllByRecursion};
-ghost use Rattle.std.specs.Prelude.{◌≡◌, ◌↔◌, ◌∷◌, [], IsTrue, MatchOption, length, map};
+ghost use Rattle.std.specs.Prelude.{◌≡◌, ◌≢◌, ◌↔◌, ◌∷◌, [], IsTrue, MatchOption, codes, length, map};
 ghost use Rattle.mig_words.specs.Commands.{form_of, names_in};
 ghost use Rattle.mig_words.specs.Words.{DiffersFrom, Form, IsFileWord, IsListed, Plan, PlanTight, WritesApart, four_and, texts};
 
 use crate::case_words::over_three_numbers;
+use mig_base::Name;
 
 /// The words that name the three files, and that of a plan.
 #[derive(Clone, Copy)]
@@ -79,6 +80,16 @@ pub enum Command<'a> {
     },
     Drill {
         files: PlanFiles<'a>,
+    },
+    Live {
+        files: PlanFiles<'a>,
+        script: &'a str,
+    },
+    Drain {
+        disks: &'a str,
+        now: &'a str,
+        disk: Name,
+        next: &'a str,
     },
 }
 
@@ -155,8 +166,26 @@ fn over_two_files<'a>(command: &str, disks: &'a str, now: &'a str) -> Option<Com
     }
 }
 
+/// The command `drain` with these words after it, if they are its in its listed form.
+fn over_a_disk<'a>(disks: &'a str, now: &'a str, disk: &str, next: &'a str) -> Option<Command<'a>>
+    ensures { MatchOption result
+        ((form : Form) → IsListed (codes "drain" ∷ disks.now ∷ now.now ∷ disk.now ∷ next.now ∷ []) form → ⊥)
+        (λ read. IsListed (codes "drain" ∷ disks.now ∷ now.now ∷ disk.now ∷ next.now ∷ []) (form_of read)) }
+{
+    if !are_file_words(&[disks, now, next]) || !differs_from(next, &[disks, now]) {
+        return None;
+    }
+    Some(Command::Drain {
+        disks,
+        now,
+        disk: Name::read(disk.as_bytes())?,
+        next,
+    })
+}
+
 /// The command over four files that five words are, if they are one in its listed form.
 fn over_four_files<'a>(command: &str, files: PlanFiles<'a>) -> Option<Command<'a>>
+    requires { command.now ≢ codes "drain" }
     ensures { MatchOption result
         ((form : Form) → IsListed (command.now ∷ four_and (names_in files.entry) []) form → ⊥)
         (λ read. IsListed (command.now ∷ four_and (names_in files.entry) []) (form_of read)) }
@@ -185,6 +214,33 @@ fn over_four_files<'a>(command: &str, files: PlanFiles<'a>) -> Option<Command<'a
     }
 }
 
+/// The command that five words are, if they are one in its listed form: the words after the first two files name two more,
+/// or a disk and a file.
+fn over_four_words<'a>(
+    command: &str,
+    disks: &'a str,
+    now: &'a str,
+    third: &'a str,
+    fourth: &'a str,
+) -> Option<Command<'a>>
+    ensures { MatchOption result
+        ((form : Form) → IsListed (command.now ∷ disks.now ∷ now.now ∷ third.now ∷ fourth.now ∷ []) form → ⊥)
+        (λ read. IsListed (command.now ∷ disks.now ∷ now.now ∷ third.now ∷ fourth.now ∷ []) (form_of read)) }
+{
+    match command {
+        "drain" => over_a_disk(disks, now, third, fourth),
+        _ => {
+            let files = PlanFiles {
+                disks,
+                now,
+                next: third,
+                plan: fourth,
+            };
+            over_four_files(command, files)
+        }
+    }
+}
+
 /// The command over five files that six words are, if they are one in its listed form.
 fn over_five_files<'a>(command: &str, files: PlanFiles<'a>, last: &'a str) -> Option<Command<'a>>
     ensures { MatchOption result
@@ -197,6 +253,10 @@ fn over_five_files<'a>(command: &str, files: PlanFiles<'a>, last: &'a str) -> Op
     match command {
         "plan" if writes_apart(files, last) => Some(Command::Plan { files, cert: last }),
         "check" => Some(Command::Check { files, cert: last }),
+        "live" => Some(Command::Live {
+            files,
+            script: last,
+        }),
         "halt" if saves_apart(files, last) => Some(Command::Halt {
             task: TaskFiles {
                 reader: Reader::Roomy,
@@ -250,16 +310,16 @@ fn five_words(words: &[String]) -> Option<Command<'_>>
         (length words.now ≡ 5 → (form : Form) → IsListed (texts words.now) form → ⊥)
         (λ command. IsListed (texts words.now) (form_of command)) }
 {
-    let [command, disks, now, next, plan] = words else {
+    let [command, disks, now, third, fourth] = words else {
         return None;
     };
-    let files = PlanFiles {
-        disks: disks.as_str(),
-        now: now.as_str(),
-        next: next.as_str(),
-        plan: plan.as_str(),
-    };
-    over_four_files(command.as_str(), files)
+    over_four_words(
+        command.as_str(),
+        disks.as_str(),
+        now.as_str(),
+        third.as_str(),
+        fourth.as_str(),
+    )
 }
 
 /// The command that six words are, if they are one in its listed form.

@@ -1,4 +1,4 @@
-use Rattle.mig_top.proofs.Common.{After, Check, Drill, Plan, PlanTight, names_in, refl, task_names}
+use Rattle.mig_top.proofs.Common.{After, Check, Drain, Drill, Plan, PlanTight, names_in, refl, task_names}
 use Rattle.mig_top.proofs.EndsOf.{files_known}
 use Rattle.mig_top.proofs.Rehearsing.{rehearsal_known}
 use Rattle.mig_top.proofs.StoreEnds.{untouched}
@@ -18,6 +18,11 @@ returns-in-After g c = files_known (After (task_names c.in-After.task)) tt (λ o
 
 pub returns-in-Drill : goal.returns-in-Drill
 returns-in-Drill g c = files_known (Drill (names_in c.in-Drill.files)) tt (λ o h. h) (λ o left. (left, untouched)) (rw c.in-Drill.is at c.in-Some.ensures) c.run_drill.ensures
+
+pub returns-in-Drain : goal.returns-in-Drain
+returns-in-Drain g c =
+    let d = c.in-Drain in
+    files_known (Drain d.disks.now d.now.now d.disk d.next.now) tt (λ o h. h) (λ o left. (left, untouched)) (rw d.is at c.in-Some.ensures) c.run_drain.ensures
 
 pub returns-in-Rehearse : goal.returns-in-Rehearse
 returns-in-Rehearse g c =

@@ -1,0 +1,10 @@
+mod OneCopy
+mod Places
+mod ReplyLaws
+mod StepCounts
+mod StepLaws
+mod WorkCells
+pub mod Common
+pub mod Middle
+pub mod ScriptLaws
+pub mod SessionLaws

@@ -1,0 +1,100 @@
+-- Replies that are put, order by order.
+use Rattle.mig_live.proofs.Common.{AreCutOff, ArePut, AreReplies, Bool, Contents, Err, Extends, InStep, IsErrAnd, ItemId, List, Lists, Ok, Order, Read, Result, ServeFault, Session, SinkState}
+use Rattle.mig_live.proofs.Common.{State, Step, Task, [], all_reads, all_steps, ap, append-nil, append_assoc, arith, codes, encode_lower, flat_map-append, get_or, item_name, length, map}
+use Rattle.mig_live.proofs.Common.{map-append, named, puts_nothing, reads_of, refl, replies, reply_line, sha256, steps_of, subst, suc, sym, take, take_more, text_of_lines, then_begins}
+use Rattle.mig_live.proofs.Common.{then_extends, words, zero, ℕ, ◌++◌, ◌+◌, ◌<◌, ◌∙◌, ◌∷◌, ◌≡◌}
+use Rattle.mig_live.specs.declared.serving.ServeFault.TheVariants as serve_fault
+
+-- the parts of a reply's line
+pub reply_spelled : (name hex : List ℕ) → name ++ (codes " " ++ (hex ++ (codes "\n" ++ []))) ≡ text_of_lines (words (name ∷ hex ∷ []) ∷ [])
+reply_spelled name hex = sym (append-nil (words (name ∷ hex ∷ []) ++ 10 ∷ []) ∙ append_assoc name (32 ∷ hex) (10 ∷ []))
+
+-- nothing is put
+pub extends_nothing : (x : SinkState) → Extends [] x x
+extends_nothing x = (puts_nothing x).extended
+
+-- what an order that isn't there would be
+abbrev pub no_order : Order
+no_order = Read (record { 0 = 0 })
+
+-- Steps
+
+steps_append : (xs ys : List Order) → all_steps (xs ++ ys) ≡ all_steps xs + all_steps ys
+steps_append [] ys = omega arith
+steps_append (x ∷ xs) ys = omega (arith, steps_append xs ys)
+
+pub steps_one_more : (orders : List Order) (i : ℕ) (d : Order) → i < length orders → all_steps (take (i + 1) orders) ≡ all_steps (take i orders) + steps_of (get_or orders i d)
+steps_one_more orders i d lt = let e = ap all_steps (take_more orders i d lt) in omega (arith, e, steps_append (take i orders) (get_or orders i d ∷ []))
+
+-- Reads
+
+reads_append : (xs ys : List Order) → all_reads (xs ++ ys) ≡ all_reads xs ++ all_reads ys
+reads_append [] ys = refl
+reads_append (x ∷ xs) ys = ap (λ (l : List ℕ). reads_of x ++ l) (reads_append xs ys) ∙ sym (append_assoc (reads_of x) (all_reads xs) (all_reads ys))
+
+module _ (input : Lists) (contents : Contents) where
+  replies_append : (xs ys : List Order) → replies input contents (xs ++ ys) ≡ replies input contents xs ++ replies input contents ys
+  replies_append xs ys =
+      ap (λ (items : List ℕ). text_of_lines (map (reply_line input contents) items)) (reads_append xs ys)
+      ∙ ap text_of_lines (map-append (reply_line input contents) (all_reads xs) (all_reads ys))
+      ∙ flat_map-append (λ (line : List ℕ). line ++ 10 ∷ []) (map (reply_line input contents) (all_reads xs)) (map (reply_line input contents) (all_reads ys))
+
+  -- the line that is put is the reply
+  pub reply_is : (item : ItemId) (name digest bytes : List ℕ) → name ≡ item_name input item.0 → digest ≡ sha256 bytes → bytes ≡ contents item.0
+      → text_of_lines (words (name ∷ encode_lower digest ∷ []) ∷ []) ≡ replies input contents (Read item ∷ [])
+  reply_is item name digest bytes named is holds =
+      ap (λ (n : List ℕ). text_of_lines (words (n ∷ encode_lower digest ∷ []) ∷ [])) named
+      ∙ ap (λ (d : List ℕ). text_of_lines (words (item_name input item.0 ∷ encode_lower d ∷ []) ∷ [])) (is ∙ ap sha256 holds)
+
+-- Before an order nothing is put, and steps are replied nothing
+
+pub store_failed : (live : Session) (store : State) (orders : List Order) (x : SinkState) → AreCutOff live store orders x x serve_fault.Store
+store_failed live store orders x = (0, ([], λ asked contents at. refl, extends_nothing x))
+
+pub steps_served : (live : Session) (store : State) (order : Order) (count : ℕ) (x : SinkState) → order ≡ Step count → ArePut live store (order ∷ []) x x
+steps_served live store order count x is = subst (λ (o : Order). ArePut live store (o ∷ []) x x) (sym is) ([], λ asked contents at. refl, extends_nothing x)
+
+take_none : (n : ℕ) → take {A = Order} n [] ≡ []
+take_none zero = refl
+take_none (suc n) = refl
+
+-- Orders are carried out, and then one more
+module _ (live mid : Session) (same : mid.task ≡ live.task) (old now : State) (goes : (asked : Bool) (contents : Contents) → InStep asked live contents old → InStep asked mid contents now)
+    (orders : List Order) (i : ℕ) (d : Order) (lt : i < length orders) (x y z : SinkState) (sofar : ArePut live old (take i orders) x y) where
+  abbrev this : Order
+  this = get_or orders i d
+
+  -- the replies to both
+  module _ (part : List Order) (more : List ℕ) (are : AreReplies mid now part more) where
+    both : (whole : List Order) → take i orders ++ part ≡ whole → AreReplies live old whole (sofar.0 ++ more)
+    both whole is = λ asked contents at.
+        let input = live.task.input in
+        ap (λ (text : List ℕ). text ++ more) (sofar.1 asked contents at)
+        ∙ ap (λ (text : List ℕ). replies input contents (take i orders) ++ text) (are asked contents (goes asked contents at) ∙ ap (λ (t : Task). replies t.input contents part) same)
+        ∙ sym (replies_append input contents (take i orders) part)
+        ∙ ap (replies input contents) is
+
+  one_more : take i orders ++ (this ∷ []) ≡ take (i + 1) orders
+  one_more = sym (take_more orders i d lt)
+
+  pub served_more : ArePut mid now (this ∷ []) y z → ArePut live old (take (i + 1) orders) x z
+  served_more (more, are, put) = (sofar.0 ++ more, both (this ∷ []) more are (take (i + 1) orders) one_more, then_extends sofar.0 more x y z sofar.2 put)
+
+  -- how many of the orders the replies are to, where they are those to the first n of the last one
+  first_of : (n : ℕ) → (m : ℕ) × (take i orders ++ take n (this ∷ []) ≡ take m orders)
+  first_of zero = (i, append-nil (take i orders))
+  first_of (suc n) = (i + 1, ap (λ (rest : List Order). take i orders ++ (this ∷ rest)) (take_none n) ∙ one_more)
+
+  -- or it isn't
+  pub served_stops : (e : ServeFault) → AreCutOff mid now (this ∷ []) y z e → AreCutOff live old orders x z e
+  served_stops serve_fault.Sink (n, more, are, part) =
+      let (m, is) = first_of n in
+      (m, sofar.0 ++ more, both (take n (this ∷ [])) more are (take m orders) is, then_begins sofar.0 more x y z sofar.2 part)
+  served_stops serve_fault.Store (n, (more, are, put)) =
+      let (m, is) = first_of n in
+      (m, (sofar.0 ++ more, both (take n (this ∷ [])) more are (take m orders) is, then_extends sofar.0 more x y z sofar.2 put))
+
+-- a `?` hands on an error
+pub handed : {C E : Type 0} (P : Result C E → Type 0) (r : Result C E) (e : E) → IsErrAnd r (λ x. x ≡ e) → P (Err e) → P r
+handed P (Ok c) e is h = absurd is
+handed P (Err x) e is h = subst (λ y. P (Err y)) (sym is) h

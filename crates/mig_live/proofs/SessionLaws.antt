@@ -1,0 +1,225 @@
+-- What the calls of a session keep.
+use Rattle.mig_live.proofs.Common.{All, Bool, Cell, ChangesOnly, Contents, Enters, Image, InStep, IsAtStep, IsFilledBy, IsJobCell, IsLoose, IsReached, IsSettled, IsSound, IsSoundAfter, IsTask}
+use Rattle.mig_live.proofs.Common.{IsUnderway, LeavesOnly, List, Lists, Looks, NoCell, Session, SettledBut, SettlesTo, Shift, Some, State, Task, Tells, [], ap, arith, cases_lt, changes_wider}
+use Rattle.mig_live.proofs.Common.{done_in, drop, eqb-true, flights_same, get_or, inl, inr, is_synced, leaves_then, length, look_quiet, marks_by, reached, round_at, same_image}
+use Rattle.mig_live.proofs.Common.{settled_change, shifts_in, slice_get-get_or, slice_get_within, slot_of, steps_after, steps_in, subst, suc, sym, true, zero, zeros, ℕ, ◌*◌, ◌+◌, ◌-◌, ◌<◌, ◌↔◌}
+use Rattle.mig_live.proofs.Common.{◌∙◌, ◌≡◌, ◌≤◌, ◌⊎◌}
+use Rattle.mig_live.proofs.Middle.{from_done}
+use Rattle.mig_live.proofs.StepCounts.{marks_after, marks_before, marks_none, shifts_past, steps_fall, steps_from, steps_last, steps_more, steps_next}
+
+module _ (asked : Bool) (input : Lists) (plan : List (List Shift)) (digest : List ℕ) (contents : Contents) (k : ℕ) (old new : State) where
+  settled_quiet : (P : Cell → Type 0) → ChangesOnly NoCell old new → SettledBut P old → SettledBut P new
+  settled_quiet P quiet = settled_change P [] old new (changes_wider P P NoCell NoCell (λ cell none. absurd none) (λ cell none. absurd none) [] old new quiet)
+
+  way_quiet : (e c : ℕ) → ChangesOnly NoCell old new → IsUnderway asked input plan digest contents old k e c → IsUnderway asked input plan digest contents new k e c
+  way_quiet e c quiet way = record {
+    sound = subst (λ (image : Image). IsSoundAfter asked input plan digest contents image k) same way.sound;
+    copied = λ m among. subst (λ (image : Image). image (slot_of input m.to) ≡ Some (contents m.item.0)) same (way.copied m among);
+    erased = λ m among out. subst (λ (image : Image). image (slot_of input m.from) ≡ Some zeros) same (way.erased m among out);
+    settled = settled_quiet (IsLoose input plan k e c) quiet way.settled;
+    landed = flights_same old new quiet.events ∙ way.landed;
+    tells = subst (λ (image : Image). Tells (IsJobCell input plan) image) same way.tells;
+  }
+    where
+      same : old.reads ≡ new.reads
+      same = same_image old.reads new.reads quiet.told
+
+  -- a look changes nothing
+  pub step_looked : (p : ℕ) → Looks old new → IsAtStep asked input plan digest contents old k p → IsAtStep asked input plan digest contents new k p
+  step_looked p look at =
+      let quiet = look_quiet old new at.underway.landed look in
+      record {
+        underway = way_quiet p _ quiet at.underway;
+        synced = λ high. settled_quiet NoCell quiet (at.synced high);
+      }
+
+-- Steps
+
+module _ (task : Task) (marked left done : ℕ) (sum : done + left ≡ shifts_in task.plan marked + steps_after task.plan marked) where
+  abbrev pub session : Session
+  session = record { task = task; marked = marked; left = left }
+
+  pub done_is : done_in session ≡ done
+  done_is = omega (arith, sum)
+
+  -- where all steps up to the next mark are done and one is left, a round is left
+  pub round_left : marked ≤ length task.plan → done ≡ steps_in task.plan marked → 0 < left → marked < length task.plan
+  round_left most full some = elim (cases_lt marked (length task.plan)) [
+    | inl lt ↦ lt
+    | inr past ↦ absurd (omega (arith, sum, full, some, steps_last task.plan marked past, shifts_past task.plan marked past))
+  ]
+
+  module _ (live : Session) (it : live ≡ session) where
+    pub at_mark : is_synced live ≡ true → done ≡ steps_in task.plan marked
+    at_mark is = sym done_is ∙ eqb-true (done_in session) (steps_in task.plan marked) (ap is_synced (sym it) ∙ is)
+
+    pub some_left : 0 < live.left → 0 < left
+    some_left = subst (λ (l : Session). 0 < l.left) it
+
+    module _ (old new : State) (p : ℕ) (here : done ≡ p) where
+      before_step : (asked : Bool) (contents : Contents) → InStep asked live contents old → IsAtStep asked task.input task.plan task.digest contents old marked p
+      before_step asked contents at = subst (IsAtStep asked task.input task.plan task.digest contents old marked) (done_is ∙ here) (subst (λ (l : Session). InStep asked l contents old) it at)
+
+      pub any_step : ((asked : Bool) (contents : Contents) → IsAtStep asked task.input task.plan task.digest contents old marked p → LeavesOnly (IsSound asked task.input task.plan task.digest contents) old new)
+          → (asked : Bool) (contents : Contents) → InStep asked live contents old → LeavesOnly (IsSound asked live.task.input live.task.plan live.task.digest contents) old new
+      any_step gives asked contents at = subst (λ (l : Session). LeavesOnly (IsSound asked l.task.input l.task.plan l.task.digest contents) old new) (sym it) (gives asked contents (before_step asked contents at))
+
+      pub within_step : 0 < left → ((asked : Bool) (contents : Contents) → IsAtStep asked task.input task.plan task.digest contents old marked p → IsAtStep asked task.input task.plan task.digest contents new marked (p + 1))
+          → (asked : Bool) (contents : Contents) → InStep asked live contents old → InStep asked (record { task = task; marked = marked; left = left - 1 }) contents new
+      within_step some gives asked contents at = subst (IsAtStep asked task.input task.plan task.digest contents new marked) (let e : p + 1 ≡ shifts_in task.plan marked + steps_after task.plan marked - (left - 1) = omega (arith, sum, here, some) in e)
+          (gives asked contents (before_step asked contents at))
+
+      pub mark_step : marked < length task.plan → p ≡ steps_in task.plan marked → ((asked : Bool) (contents : Contents) → IsAtStep asked task.input task.plan task.digest contents old marked p → IsAtStep asked task.input task.plan task.digest contents new (marked + 1) 0)
+          → (asked : Bool) (contents : Contents) → InStep asked live contents old → InStep asked (record { task = task; marked = marked + 1; left = left - 1 }) contents new
+      mark_step lt full gives asked contents at = subst (IsAtStep asked task.input task.plan task.digest contents new (marked + 1)) (let e : 0 ≡ shifts_in task.plan (marked + 1) + steps_after task.plan (marked + 1) - (left - 1) = omega (arith, next) in e)
+          (gives asked contents (before_step asked contents at))
+        where
+          suc_is : shifts_in task.plan (suc marked) ≡ shifts_in task.plan (marked + 1)
+          suc_is = ap (shifts_in task.plan) (let e : suc marked ≡ marked + 1 = omega arith in e)
+
+          next : left ≡ shifts_in task.plan (marked + 1) + steps_after task.plan (marked + 1) + 1
+          next = omega (arith, sum, here, full, suc_is, steps_more task.plan marked lt)
+
+  -- what a session keeps
+  pub kept_mark : marked < length task.plan → done ≡ steps_in task.plan marked → 0 + (left - 1) ≡ shifts_in task.plan (marked + 1) + steps_after task.plan (marked + 1)
+  kept_mark lt full =
+      let suc_is : shifts_in task.plan (suc marked) ≡ shifts_in task.plan (marked + 1) = ap (shifts_in task.plan) (let e : suc marked ≡ marked + 1 = omega arith in e) in
+      omega (arith, sum, full, suc_is, steps_more task.plan marked lt)
+
+-- Entering
+
+module _ (task : Task) (is : IsTask task) (marked left : ℕ) (count : left ≡ steps_after task.plan marked) (asked : Bool) (contents : Contents) (old new : State) where
+  pub entered : Enters task old new marked → Tells (IsJobCell task.input task.plan) old.reads → SettlesTo (IsSound asked task.input task.plan task.digest contents) old
+      → InStep asked (record { task = task; marked = marked; left = left }) contents new
+  entered enters tells settles = record {
+    underway = subst (IsUnderway asked task.input task.plan task.digest contents new marked done) (let e : 0 ≡ done - shifts_in task.plan marked = omega (arith, count) in e)
+        (from_done task.input is.valid task.plan is.runs task.digest contents marked enters.most asked new done (omega (arith, count)) enters.landed (enters.done asked contents tells settles));
+    synced = λ high. absurd (omega (arith, count));
+  }
+    where
+      done : ℕ
+      done = shifts_in task.plan marked + steps_after task.plan marked - left
+
+-- what every session keeps
+pub record IsSession (live : Session) : Type 0 where
+  pub most : live.marked ≤ length live.task.plan
+  pub low : live.left ≤ shifts_in live.task.plan live.marked + steps_after live.task.plan live.marked
+  pub high : done_in live ≤ steps_in live.task.plan live.marked
+
+pub keeps_session : (task : Task) (marked left done : ℕ) → marked ≤ length task.plan → done + left ≡ shifts_in task.plan marked + steps_after task.plan marked → done ≤ steps_in task.plan marked
+    → (live : Session) → live ≡ record { task = task; marked = marked; left = left } → IsSession live
+keeps_session task marked left done most sum high live it = subst IsSession (sym it) (record { most = most; low = omega (arith, sum); high = omega (arith, sum, high) })
+
+pub task_of : (task : Task) (marked left : ℕ) (live : Session) → live ≡ record { task = task; marked = marked; left = left } → IsTask task → IsTask live.task
+task_of task marked left live it is = subst (λ (l : Session). IsTask l.task) (sym it) is
+
+-- The end
+
+module _ (live : Session) (is : IsTask live.task) (keeps : IsSession live) (none : live.left ≡ 0) (asked : Bool) (contents : Contents) (s : State) (at : InStep asked live contents s) where
+  all_marked : live.marked ≡ length live.task.plan
+  all_marked = elim (cases_lt live.marked (length live.task.plan)) [
+    | inl lt ↦ absurd (let high = keeps.high in omega (arith, high, none, suc_is, steps_more live.task.plan live.marked lt))
+    | inr past ↦ (let most = keeps.most in omega arith)
+  ]
+    where
+      suc_is : shifts_in live.task.plan (suc live.marked) ≡ shifts_in live.task.plan (live.marked + 1)
+      suc_is = ap (shifts_in live.task.plan) (let e : suc live.marked ≡ live.marked + 1 = omega arith in e)
+
+  last_full : steps_in live.task.plan live.marked ≤ done_in live
+  last_full = omega (arith, none, steps_last live.task.plan live.marked (omega (arith, all_marked)), shifts_past live.task.plan live.marked (omega (arith, all_marked)))
+
+  -- no shift comes after the last round
+  no_shift : (c : ℕ) (cell : Cell) → IsFilledBy live.task.input c (round_at live.task.plan (suc live.marked)) cell → ⊥
+  no_shift c cell (t, among, same) =
+      let past = shifts_past live.task.plan live.marked (omega (arith, all_marked)) in
+      let low = slice_get_within (round_at live.task.plan (suc live.marked)) among.0 t among.2 in
+      absurd (omega arith)
+
+  last_erased : All (λ m. s.reads (slot_of live.task.input m.from) ≡ Some zeros) (round_at live.task.plan live.marked)
+  last_erased = λ j d lt. at.underway.erased (get_or (round_at live.task.plan live.marked) j d) (j, omega (arith, lt, last_full), slice_get-get_or (round_at live.task.plan live.marked) j d lt)
+      (no_shift (done_in live - shifts_in live.task.plan live.marked) (slot_of live.task.input (get_or (round_at live.task.plan live.marked) j d).from))
+
+  pub last_settled : IsSettled s
+  last_settled = at.synced last_full
+
+  pub last_reached : asked ≡ true → IsReached live.task.input live.task.plan live.task.digest contents s.reads
+  last_reached is_asked = reached live.task.input is.valid live.task.plan is.runs live.task.digest contents s.reads
+      (subst (IsSoundAfter true live.task.input live.task.plan live.task.digest contents s.reads) all_marked
+      (subst (λ (b : Bool). IsSoundAfter b live.task.input live.task.plan live.task.digest contents s.reads live.marked) is_asked at.underway.sound))
+      (subst (λ (n : ℕ). All (λ m. s.reads (slot_of live.task.input m.from) ≡ Some zeros) (round_at live.task.plan n)) all_marked last_erased)
+
+-- Many steps
+
+pub more_steps : (first live : Session) → live.task ≡ first.task → (old mid new : State)
+    → ((asked : Bool) (contents : Contents) → InStep asked first contents old → LeavesOnly (IsSound asked first.task.input first.task.plan first.task.digest contents) old mid)
+    → ((asked : Bool) (contents : Contents) → InStep asked first contents old → InStep asked live contents mid)
+    → ((asked : Bool) (contents : Contents) → InStep asked live contents mid → LeavesOnly (IsSound asked live.task.input live.task.plan live.task.digest contents) mid new)
+    → (asked : Bool) (contents : Contents) → InStep asked first contents old → LeavesOnly (IsSound asked first.task.input first.task.plan first.task.digest contents) old new
+more_steps first live same old mid new sofar in_step step asked contents at = leaves_then (IsSound asked first.task.input first.task.plan first.task.digest contents) old mid new (sofar asked contents at)
+    (subst (λ (t : Task). LeavesOnly (IsSound asked t.input t.plan t.digest contents) mid new) same (step asked contents (in_step asked contents at)))
+
+-- Marks
+
+-- a round is marked exactly where no more steps are left than come from its mark on
+pub marks_by_left : (live : Session) → IsSession live → (r : ℕ) → r ≤ length live.task.plan → (r ≤ live.marked ↔ live.left ≤ shifts_in live.task.plan r + steps_after live.task.plan r)
+marks_by_left live keeps r most = (
+  λ le. (let low = keeps.low in omega (arith, low, steps_fall live.task.plan r live.marked le keeps.most)),
+  λ few. elim (cases_lt live.marked r) [
+    | inl lt ↦ absurd (let high = keeps.high in omega (arith, high, few, steps_next live.task.plan live.marked (omega (arith, lt, most)), steps_fall live.task.plan (suc live.marked) r (omega (arith, lt)) most))
+    | inr le ↦ le
+  ],
+)
+
+module _ (live : Session) (keeps : IsSession live) where
+  -- a round that isn't marked
+  not_marked : (r : ℕ) → r ≤ length live.task.plan → steps_from live.task.plan r < live.left → live.marked < r
+  not_marked r most many = elim (cases_lt live.marked r) [
+    | inl lt ↦ lt
+    | inr le ↦ (let few = (marks_by_left live keeps r most).0 le in absurd (omega (arith, few, many)))
+  ]
+
+  -- so many rounds are marked, and the next one isn't
+  these_marked : (found : ℕ) → found ≤ length live.task.plan → live.left ≤ steps_from live.task.plan found
+      → (found < length live.task.plan → steps_from live.task.plan (suc found) < live.left) → live.marked ≡ found
+  these_marked found most few many =
+      let le = (marks_by_left live keeps found most).1 few in
+      elim (cases_lt found (length live.task.plan)) [
+        | inl lt ↦ omega (arith, le, not_marked (suc found) (omega (arith, lt)) (many lt))
+        | inr past ↦ (let top = keeps.most in omega (arith, le, top, past, most))
+      ]
+
+  -- so many steps are made since the sources of round k were erased; or none is, and some of these sources are left
+  abbrev Left : ℕ → ℕ → Type 0
+  Left k n = (live.left ≡ steps_after live.task.plan k - n) ⊎ ((n ≡ 0) × (steps_after live.task.plan k ≤ live.left) × (live.left ≤ steps_from live.task.plan k))
+
+  -- rounds found marked, and those that get their marks by so many steps since
+  pub marks_counted : (more found steps : ℕ) → more + found ≡ length live.task.plan → Left found steps → live.marked ≡ found + marks_by (drop found live.task.plan) steps
+  marks_counted zero found steps sum left =
+      let none = marks_none live.task.plan found steps (omega (arith, sum)) in
+      let few : live.left ≤ steps_from live.task.plan found = elim left [ inl is ↦ omega (arith, is) | inr h ↦ (let f = h.2 in omega (arith, f)) ] in
+      omega (arith, none, these_marked found (omega (arith, sum)) few (λ lt. absurd (omega (arith, sum, lt))))
+  marks_counted (suc more) found steps sum left = elim (cases_lt steps (shifts_in live.task.plan (suc found) + 2)) [
+    | inl before ↦ omega (arith, marks_before live.task.plan found steps lt before, these_marked found (omega (arith, sum)) few (λ _. many before left))
+    | inr after ↦ omega (
+      arith,
+      marks_after live.task.plan found steps lt after,
+      marks_counted more (suc found) (steps - (2 * shifts_in live.task.plan (suc found) + 2)) (omega (arith, sum)) (later after left),
+    )
+  ]
+    where
+      lt : found < length live.task.plan
+      lt = omega (arith, sum)
+
+      few : live.left ≤ steps_from live.task.plan found
+      few = elim left [ inl is ↦ omega (arith, is) | inr h ↦ (let f = h.2 in omega (arith, f)) ]
+
+      many : steps < shifts_in live.task.plan (suc found) + 2 → Left found steps → steps_from live.task.plan (suc found) < live.left
+      many before (inl is) = omega (arith, is, before, steps_next live.task.plan found lt)
+      many before (inr h) = let high = h.1 in omega (arith, high, steps_next live.task.plan found lt)
+
+      later : shifts_in live.task.plan (suc found) + 2 ≤ steps → Left found steps → Left (suc found) (steps - (2 * shifts_in live.task.plan (suc found) + 2))
+      later after (inr h) = let none = h.0 in absurd (omega (arith, none, after))
+      later after (inl is) = elim (cases_lt steps (2 * shifts_in live.task.plan (suc found) + 2)) [
+        | inl within ↦ inr (omega (arith, within), omega (arith, is, within, steps_next live.task.plan found lt), omega (arith, is, after, within, steps_next live.task.plan found lt))
+        | inr past ↦ inl (omega (arith, is, past, steps_next live.task.plan found lt))
+      ]

@@ -1,0 +1,66 @@
+use Rattle.mig_live.proofs.Common.{Session, ap, arith, refl, steps_in, suc, sym, ◌∙◌}
+use Rattle.mig_live.proofs.StepCounts.{shifts_few}
+use Rattle.mig_live.proofs.SessionLaws.{any_step, within_step, mark_step, at_mark, round_left, some_left, kept_mark}
+use Rattle.mig_live.proofs.WorkCells.{works_of}
+use Rattle.mig_live.proofs.live.Live.step.Goals as goal
+
+pub returns-in_err-mark_next-clause-any_moment : goal.returns-in_err-mark_next-clause-any_moment
+returns-in_err-mark_next-clause-any_moment g c =
+    let i = c.self.inside in
+    let full = at_mark i.job.now i.marked i.left i.done c.self.invariant.1 c.args.self (sym c.self.view_is) (sym c.is_at_mark.ensures ∙ c.if-is_at_mark.true) in
+    any_step i.job.now i.marked i.left i.done c.self.invariant.1 c.args.self (sym c.self.view_is) (g.S.Store.state c.args.store.now) (g.S.Store.state c.mark_next.new.store) (steps_in i.job.now.plan i.marked) full c.mark_next.ensures.any_moment
+
+pub invariant_of-result : goal.invariant_of-result
+invariant_of-result g c =
+    let i = c.self.inside in
+    let full = at_mark i.job.now i.marked i.left i.done c.self.invariant.1 c.args.self (sym c.self.view_is) (sym c.is_at_mark.ensures ∙ c.if-is_at_mark.true) in
+    let some = some_left i.job.now i.marked i.left i.done c.self.invariant.1 c.args.self (sym c.self.view_is) c.requires.left in
+    let lt = round_left i.job.now i.marked i.left i.done c.self.invariant.1 c.self.invariant.0 full some in
+    (omega (arith, lt), kept_mark i.job.now i.marked i.left i.done c.self.invariant.1 lt full, omega arith)
+
+pub returns-then-is_at_mark-clause-any_moment : goal.returns-then-is_at_mark-clause-any_moment
+returns-then-is_at_mark-clause-any_moment g c =
+    let i = c.self.inside in
+    let full = at_mark i.job.now i.marked i.left i.done c.self.invariant.1 c.args.self (sym c.self.view_is) (sym c.is_at_mark.ensures ∙ c.if-is_at_mark.true) in
+    any_step i.job.now i.marked i.left i.done c.self.invariant.1 c.args.self (sym c.self.view_is) (g.S.Store.state c.args.store.now) (g.S.Store.state c.mark_next.new.store) (steps_in i.job.now.plan i.marked) full c.mark_next.ensures.any_moment
+
+pub returns-then-is_at_mark-clause-in_step : goal.returns-then-is_at_mark-clause-in_step
+returns-then-is_at_mark-clause-in_step g c =
+    let i = c.self.inside in
+    let full = at_mark i.job.now i.marked i.left i.done c.self.invariant.1 c.args.self (sym c.self.view_is) (sym c.is_at_mark.ensures ∙ c.if-is_at_mark.true) in
+    let some = some_left i.job.now i.marked i.left i.done c.self.invariant.1 c.args.self (sym c.self.view_is) c.requires.left in
+    let lt = round_left i.job.now i.marked i.left i.done c.self.invariant.1 c.self.invariant.0 full some in
+    mark_step i.job.now i.marked i.left i.done c.self.invariant.1 c.args.self (sym c.self.view_is) (g.S.Store.state c.args.store.now) (g.S.Store.state c.mark_next.new.store) (steps_in i.job.now.plan i.marked) full lt refl c.in_ok-mark_next.ensures.done
+
+pub returns-in_err-step_within-clause-any_moment : goal.returns-in_err-step_within-clause-any_moment
+returns-in_err-step_within-clause-any_moment g c =
+    let i = c.self.inside in
+    any_step i.job.now i.marked i.left i.done c.self.invariant.1 c.args.self (sym c.self.view_is) (g.S.Store.state c.args.store.now) (g.S.Store.state c.step_within.new.store) i.done refl c.step_within.ensures.any_moment
+
+pub overflow_add-result-2 : goal.overflow_add-result-2
+overflow_add-result-2 g c =
+    let i = c.self.inside in
+    omega (arith, c.self.invariant.2, shifts_few i.job.now.plan i.marked, shifts_few i.job.now.plan (suc i.marked), c.keeps_rules.ensures.few_shifts)
+
+pub returns-clause-any_moment : goal.returns-clause-any_moment
+returns-clause-any_moment g c =
+    let i = c.self.inside in
+    any_step i.job.now i.marked i.left i.done c.self.invariant.1 c.args.self (sym c.self.view_is) (g.S.Store.state c.args.store.now) (g.S.Store.state c.step_within.new.store) i.done refl c.step_within.ensures.any_moment
+
+pub returns-clause-in_step : goal.returns-clause-in_step
+returns-clause-in_step g c =
+    let i = c.self.inside in
+    let some = some_left i.job.now i.marked i.left i.done c.self.invariant.1 c.args.self (sym c.self.view_is) c.requires.left in
+    within_step i.job.now i.marked i.left i.done c.self.invariant.1 c.args.self (sym c.self.view_is) (g.S.Store.state c.args.store.now) (g.S.Store.state c.step_within.new.store) i.done refl some c.in_ok-step_within.ensures.done
+
+pub returns-in_err-mark_next-clause-change : goal.returns-in_err-mark_next-clause-change
+returns-in_err-mark_next-clause-change g c = works_of c.self.inside.job.now c.args.self.task (ap (λ (l : Session). l.task) c.self.view_is) (g.S.Store.state c.args.store.now) (g.S.Store.state c.mark_next.new.store) c.mark_next.ensures.change
+
+pub returns-then-is_at_mark-clause-change : goal.returns-then-is_at_mark-clause-change
+returns-then-is_at_mark-clause-change g c = works_of c.self.inside.job.now c.args.self.task (ap (λ (l : Session). l.task) c.self.view_is) (g.S.Store.state c.args.store.now) (g.S.Store.state c.mark_next.new.store) c.mark_next.ensures.change
+
+pub returns-in_err-step_within-clause-change : goal.returns-in_err-step_within-clause-change
+returns-in_err-step_within-clause-change g c = works_of c.self.inside.job.now c.args.self.task (ap (λ (l : Session). l.task) c.self.view_is) (g.S.Store.state c.args.store.now) (g.S.Store.state c.step_within.new.store) c.step_within.ensures.change
+
+pub returns-clause-change : goal.returns-clause-change
+returns-clause-change g c = works_of c.self.inside.job.now c.args.self.task (ap (λ (l : Session). l.task) c.self.view_is) (g.S.Store.state c.args.store.now) (g.S.Store.state c.step_within.new.store) c.step_within.ensures.change

@@ -1,0 +1,44 @@
+use Rattle.mig_live.proofs.Common.{Cell, Changes, Flight, IsCopy, ap, arith, is_slot, slot_of, subst, sym, ◌∙◌, ◌≡◌}
+use Rattle.mig_live.proofs.Middle.{copy_leaves, copy_more, copy_apart}
+use Rattle.mig_live.proofs.Places.{shift_next}
+use Rattle.mig_live.proofs.StepLaws.{on_ok_both}
+use Rattle.mig_live.proofs.WorkCells.{copy_works}
+use Rattle.mig_live.proofs.steps.copy_next.Goals as goal
+
+pub copy_slot-requires-clause-slots : goal.copy_slot-requires-clause-slots
+copy_slot-requires-clause-slots g c =
+    let f : Flight = record { from = c.copy-from.result.0; to = c.copy-from.result.1 } in
+    let s = shift_next c.args.job.now.input c.args.job.now.plan c.args.k c.args.place f c.copy-from.ensures in
+    (ap is_slot s.2, ap is_slot s.3)
+
+pub copy_slot-requires-clause-apart : goal.copy_slot-requires-clause-apart
+copy_slot-requires-clause-apart g c =
+    let f : Flight = record { from = c.copy-from.result.0; to = c.copy-from.result.1 } in
+    let s = shift_next c.args.job.now.input c.args.job.now.plan c.args.k c.args.place f c.copy-from.ensures in
+    λ same. copy_apart c.args.job.now.input c.keeps_rules.ensures.valid c.args.job.now.plan c.keeps_rules.ensures.runs c.args.k c.requires.more s.0 c.args.place s.1 (sym s.2 ∙ same ∙ s.3)
+
+pub returns-clause-any_moment : goal.returns-clause-any_moment
+returns-clause-any_moment g c =
+    let f : Flight = record { from = c.copy-from.result.0; to = c.copy-from.result.1 } in
+    let s = shift_next c.args.job.now.input c.args.job.now.plan c.args.k c.args.place f c.copy-from.ensures in
+    let old = g.S.Store.state c.args.store.now in
+    let new = g.S.Store.state c.copy_slot.new.store in
+    λ asked contents e way. copy_leaves c.args.job.now.input c.keeps_rules.ensures.valid c.args.job.now.plan c.keeps_rules.ensures.runs c.args.job.now.digest contents c.args.k (omega (arith, c.requires.more)) asked c.requires.more s.0 old new e c.args.place s.1 c.copy_slot.ensures.change.0
+    (subst (λ (cell : Cell). Changes (λ k. k ≡ cell) (λ k. k ≡ cell) c.copy_slot.ensures.change.0 old new) s.3 c.copy_slot.ensures.change.1) way
+
+pub returns-clause-done : goal.returns-clause-done
+returns-clause-done g c =
+    let f : Flight = record { from = c.copy-from.result.0; to = c.copy-from.result.1 } in
+    let s = shift_next c.args.job.now.input c.args.job.now.plan c.args.k c.args.place f c.copy-from.ensures in
+    let old = g.S.Store.state c.args.store.now in
+    let new = g.S.Store.state c.copy_slot.new.store in
+    on_ok_both c.copy_slot.result (λ copied landed asked contents e way. copy_more c.args.job.now.input c.keeps_rules.ensures.valid c.args.job.now.plan c.keeps_rules.ensures.runs c.args.job.now.digest contents c.args.k (omega (arith, c.requires.more)) asked c.requires.more s.0 old new e c.args.place s.1 c.copy_slot.ensures.change.0
+    (subst (λ (cell : Cell). Changes (λ k. k ≡ cell) (λ k. k ≡ cell) c.copy_slot.ensures.change.0 old new) s.3 c.copy_slot.ensures.change.1) way
+    (subst (λ (cell : Cell). IsCopy (old.reads (slot_of c.args.job.now.input s.0.from)) (new.reads cell)) s.3 (subst (λ (cell : Cell). IsCopy (old.reads cell) (new.reads c.copy-from.result.1)) s.2 copied)) landed)
+    c.copy_slot.ensures.copied c.copy_slot.ensures.landed
+
+pub returns-clause-change : goal.returns-clause-change
+returns-clause-change g c =
+    let f : Flight = record { from = c.copy-from.result.0; to = c.copy-from.result.1 } in
+    let s = shift_next c.args.job.now.input c.args.job.now.plan c.args.k c.args.place f c.copy-from.ensures in
+    copy_works c.args.job.now.input c.args.job.now.plan c.args.k c.args.place s.0 s.1 c.copy-from.result.1 s.3 c.copy_slot.ensures.change.0 (g.S.Store.state c.args.store.now) (g.S.Store.state c.copy_slot.new.store) c.copy_slot.ensures.change.1

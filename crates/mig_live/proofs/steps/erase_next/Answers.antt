@@ -1,0 +1,38 @@
+use Rattle.mig_live.proofs.Common.{AreZeros, Cell, ChangesOnly, Flight, ap, flights_same, is_slot, on_ok_is, on_ok_weaker, round_at, subst, ◌∙◌, ◌≡◌}
+use Rattle.mig_live.proofs.Middle.{erase_leaves, erase_more}
+use Rattle.mig_live.proofs.Places.{shift_of}
+use Rattle.mig_live.proofs.WorkCells.{erase_works}
+use Rattle.mig_live.proofs.steps.erase_next.Goals as goal
+
+pub erase-requires-clause-slot : goal.erase-requires-clause-slot
+erase-requires-clause-slot g c =
+    let f : Flight = record { from = c.copy-from.result.0; to = c.copy-from.result.1 } in
+    let s = shift_of c.args.job.now.input (round_at c.args.job.now.plan c.args.k) c.args.place f c.copy-from.ensures in
+    ap is_slot s.2
+
+pub returns-clause-any_moment : goal.returns-clause-any_moment
+returns-clause-any_moment g c =
+    let f : Flight = record { from = c.copy-from.result.0; to = c.copy-from.result.1 } in
+    let s = shift_of c.args.job.now.input (round_at c.args.job.now.plan c.args.k) c.args.place f c.copy-from.ensures in
+    let old = g.S.Store.state c.args.store.now in
+    let new = g.S.Store.state c.erase.new.store in
+    λ asked contents way. erase_leaves c.args.job.now.input c.keeps_rules.ensures.valid c.args.job.now.plan c.keeps_rules.ensures.runs c.args.job.now.digest contents c.args.k c.requires.most asked s.0 old new c.args.place s.1
+    (subst (λ (cell : Cell). ChangesOnly (λ k. k ≡ cell) old new) s.2 c.erase.ensures.change) way
+
+pub returns-clause-done : goal.returns-clause-done
+returns-clause-done g c =
+    let f : Flight = record { from = c.copy-from.result.0; to = c.copy-from.result.1 } in
+    let s = shift_of c.args.job.now.input (round_at c.args.job.now.plan c.args.k) c.args.place f c.copy-from.ensures in
+    let old = g.S.Store.state c.args.store.now in
+    let new = g.S.Store.state c.erase.new.store in
+    on_ok_weaker c.erase.result (λ erased asked contents way. erase_more c.args.job.now.input c.keeps_rules.ensures.valid c.args.job.now.plan c.keeps_rules.ensures.runs c.args.job.now.digest contents c.args.k c.requires.most asked s.0 old new c.args.place s.1
+    (subst (λ (cell : Cell). ChangesOnly (λ k. k ≡ cell) old new) s.2 c.erase.ensures.change) way (subst (λ (cell : Cell). AreZeros (new.reads cell)) s.2 erased)) c.erase.ensures.erased
+
+pub returns-clause-landed : goal.returns-clause-landed
+returns-clause-landed g c = on_ok_is c.erase.result (flights_same (g.S.Store.state c.args.store.now) (g.S.Store.state c.erase.new.store) c.erase.ensures.change.events ∙ c.requires.none)
+
+pub returns-clause-change : goal.returns-clause-change
+returns-clause-change g c =
+    let f : Flight = record { from = c.copy-from.result.0; to = c.copy-from.result.1 } in
+    let s = shift_of c.args.job.now.input (round_at c.args.job.now.plan c.args.k) c.args.place f c.copy-from.ensures in
+    erase_works c.args.job.now.input c.args.job.now.plan c.args.k c.args.place s.0 s.1 c.copy-from.result.0 s.2 (g.S.Store.state c.args.store.now) (g.S.Store.state c.erase.new.store) c.erase.ensures.change

@@ -1,0 +1,55 @@
+use Rattle.mig_live.proofs.Common.{List, Shift, ap, arith, flights_same, on_ok_is, on_ok_weaker, shifts_in, suc, sym, ℕ, ◌+◌, ◌-◌, ◌<◌, ◌∙◌, ◌≡◌, ◌≤◌}
+use Rattle.mig_live.proofs.StepLaws.{before_erase, after_erase, before_copy, after_copy, sync_leaves, after_sync}
+use Rattle.mig_live.proofs.WorkCells.{works_quiet}
+use Rattle.mig_live.proofs.steps.step_within.Goals as goal
+
+past : (p k : ℕ) (plan : List (List Shift)) (erasures copies : ℕ) → erasures ≡ shifts_in plan k → copies ≡ shifts_in plan (k + 1) → copies ≤ p - erasures → shifts_in plan (suc k) ≤ p - shifts_in plan k
+past p k plan erasures copies first second le =
+    let next : shifts_in plan (k + 1) ≡ shifts_in plan (suc k) = ap (shifts_in plan) (let e : k + 1 ≡ suc k = omega arith in e) in
+    omega (arith, first, second, next, le)
+
+pub returns-then-p-erasures-clause-any_moment : goal.returns-then-p-erasures-clause-any_moment
+returns-then-p-erasures-clause-any_moment g c =
+    let lt : c.args.p < shifts_in c.args.job.now.plan c.args.k = omega (arith, c.if-p-erasures.true, c.shifts_of_round-erasures.ensures.count) in
+    λ asked contents at. c.erase_next.ensures.any_moment asked contents (before_erase c.args.job.now c.keeps_rules.ensures c.args.k c.requires.most asked contents c.args.p lt (g.S.Store.state c.args.store.now) at)
+
+pub returns-then-p-erasures-clause-done : goal.returns-then-p-erasures-clause-done
+returns-then-p-erasures-clause-done g c =
+    let lt : c.args.p < shifts_in c.args.job.now.plan c.args.k = omega (arith, c.if-p-erasures.true, c.shifts_of_round-erasures.ensures.count) in
+    on_ok_weaker c.erase_next.result (λ done asked contents at.
+    after_erase c.args.job.now c.keeps_rules.ensures c.args.k c.requires.most asked contents c.args.p lt (g.S.Store.state c.erase_next.new.store)
+    (done asked contents (before_erase c.args.job.now c.keeps_rules.ensures c.args.k c.requires.most asked contents c.args.p lt (g.S.Store.state c.args.store.now) at))) c.erase_next.ensures.done
+
+pub returns-then-p-erasures-2-clause-any_moment : goal.returns-then-p-erasures-2-clause-any_moment
+returns-then-p-erasures-2-clause-any_moment g c =
+    λ asked contents at. c.copy_next.ensures.any_moment asked contents c.args.p
+    (before_copy c.args.job.now c.keeps_rules.ensures c.args.k c.requires.most asked contents c.args.p (c.args.p - c.shifts_of_round-erasures.result) (ap (λ (n : ℕ). c.args.p - n) (sym c.shifts_of_round-erasures.ensures.count)) (g.S.Store.state c.args.store.now) at)
+
+pub returns-then-p-erasures-2-clause-done : goal.returns-then-p-erasures-2-clause-done
+returns-then-p-erasures-2-clause-done g c =
+    let next : shifts_in c.args.job.now.plan (c.args.k + 1) ≡ shifts_in c.args.job.now.plan (suc c.args.k) = ap (shifts_in c.args.job.now.plan) (let e : c.args.k + 1 ≡ suc c.args.k = omega arith in e) in
+    let same : c.args.p - shifts_in c.args.job.now.plan c.args.k ≡ c.args.p - c.shifts_of_round-erasures.result = ap (λ (n : ℕ). c.args.p - n) (sym c.shifts_of_round-erasures.ensures.count) in
+    on_ok_weaker c.copy_next.result (λ done asked contents at.
+    after_copy c.args.job.now c.keeps_rules.ensures c.args.k c.requires.most asked contents c.args.p (c.args.p - c.shifts_of_round-erasures.result) same
+    (omega (arith, c.if-p-erasures.false, c.shifts_of_round-erasures.ensures.count)) (omega (arith, c.if-p-erasures-2.true, c.shifts_of_round-copies.ensures.count, next)) (g.S.Store.state c.copy_next.new.store)
+    (done asked contents c.args.p (before_copy c.args.job.now c.keeps_rules.ensures c.args.k c.requires.most asked contents c.args.p (c.args.p - c.shifts_of_round-erasures.result) same (g.S.Store.state c.args.store.now) at))) c.copy_next.ensures.done
+
+pub returns-clause-any_moment : goal.returns-clause-any_moment
+returns-clause-any_moment g c = λ asked contents at.
+    sync_leaves c.args.job.now c.keeps_rules.ensures c.args.k c.requires.most asked contents c.args.p
+    (omega (arith, c.if-p-erasures.false, c.shifts_of_round-erasures.ensures.count))
+    (past c.args.p c.args.k c.args.job.now.plan _ _ c.shifts_of_round-erasures.ensures.count c.shifts_of_round-copies.ensures.count c.if-p-erasures-2.false)
+    (g.S.Store.state c.args.store.now) (g.S.Store.state c.settle.new.store) c.settle.ensures.change (g.met.S.Store.is_state c.args.store.now)
+
+pub returns-clause-done : goal.returns-clause-done
+returns-clause-done g c = on_ok_weaker c.settle.result (λ settled asked contents at.
+    after_sync c.args.job.now c.keeps_rules.ensures c.args.k c.requires.most asked contents c.args.p
+    (omega (arith, c.if-p-erasures.false, c.shifts_of_round-erasures.ensures.count))
+    (past c.args.p c.args.k c.args.job.now.plan _ _ c.shifts_of_round-erasures.ensures.count c.shifts_of_round-copies.ensures.count c.if-p-erasures-2.false)
+    (g.S.Store.state c.args.store.now) (g.S.Store.state c.settle.new.store) c.settle.ensures.change settled at) c.settle.ensures.settled
+
+pub returns-clause-landed : goal.returns-clause-landed
+returns-clause-landed g c = on_ok_is c.settle.result (flights_same (g.S.Store.state c.args.store.now) (g.S.Store.state c.settle.new.store) c.settle.ensures.change.events ∙ c.requires.none)
+
+pub returns-clause-change : goal.returns-clause-change
+returns-clause-change g c = works_quiet c.args.job.now.input c.args.job.now.plan (g.S.Store.state c.args.store.now) (g.S.Store.state c.settle.new.store) c.settle.ensures.change

@@ -1,0 +1,5 @@
+pub mod Orders
+pub mod Replies
+pub mod Scripts
+pub mod Sessions
+pub mod Underways

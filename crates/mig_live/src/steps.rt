@@ -1,0 +1,145 @@
+//! The steps of a round, one at a time.
+ghost use Rattle.std.specs.Prelude.{◌≡◌, ◌≢◌, ◌+◌, ◌<◌, ◌≤◌, Bool, ℕ, List, suc, [], IsTrue, OnOk, length};
+ghost use Rattle.mig_base.specs.declared.cells.Event.{Event};
+ghost use Rattle.mig_base.specs.declared.limits.TheConstants.{MAX_FILE_BYTES};
+ghost use Rattle.mig_base.specs.Cells.{is_slot};
+ghost use Rattle.mig_base.specs.Images.{IsCopy, NoCell};
+ghost use Rattle.mig_base.specs.Layouts.{round_at};
+ghost use Rattle.mig_base.specs.Safety.{Contents, IsSound};
+ghost use Rattle.mig_base.specs.Stores.{State, flights, Changes, ChangesOnly, LeavesOnly, IsSettled, HasCause};
+ghost use Rattle.mig_base.specs.Tasks.{Task};
+ghost use Rattle.mig_live.specs.Underways.{ChangesWork, IsUnderway, IsAtStep, shifts_in, steps_in};
+
+use mig_base::Cell;
+use mig_jobs::Job;
+use mig_journal::mark;
+use mig_mover::erase;
+use mig_store::{Store, StoreFailed};
+
+// Copies a slot to another, and waits for the copy.
+fn copy_slot<S: Store>(store: &mut S, from: &Cell, to: &Cell) -> Result<(), StoreFailed>
+    requires slots { IsTrue (is_slot from.now) × IsTrue (is_slot to.now) }
+    requires apart { from.now ≢ to.now }
+    requires none { flights (S.state store.old) ≡ [] }
+    ensures copied { OnOk result (IsCopy ((S.state store.old).reads from.now) ((S.state store.new).reads to.now)) }
+    ensures landed { OnOk result (flights (S.state store.new) ≡ []) }
+    ensures change { (added : List Event) × Changes (λ c. c ≡ to.now) (λ c. c ≡ to.now) added (S.state store.old) (S.state store.new) }
+    ensures cause { HasCause (S.state store.old) (S.state store.new) result }
+{
+    store.begin(from, to)?;
+    store.ended()?;
+    Ok(())
+}
+
+// Erases what a shift of round k left.
+fn erase_next<S: Store>(job: &Job, store: &mut S, k: u32, place: u32) -> Result<(), StoreFailed>
+    requires most { k ≤ length job.now.plan }
+    requires place { place < length (round_at job.now.plan k) }
+    requires none { flights (S.state store.old) ≡ [] }
+    ensures any_moment { (asked : Bool) (contents : Contents) → IsUnderway asked job.now.input job.now.plan job.now.digest contents (S.state store.old) k place 0 →
+        LeavesOnly (IsSound asked job.now.input job.now.plan job.now.digest contents) (S.state store.old) (S.state store.new) }
+    ensures done { OnOk result ((asked : Bool) (contents : Contents) → IsUnderway asked job.now.input job.now.plan job.now.digest contents (S.state store.old) k place 0 →
+        IsUnderway asked job.now.input job.now.plan job.now.digest contents (S.state store.new) k (place + 1) 0) }
+    ensures landed { OnOk result (flights (S.state store.new) ≡ []) }
+    ensures change { ChangesWork job.now.input job.now.plan (S.state store.old) (S.state store.new) }
+    ensures cause { HasCause (S.state store.old) (S.state store.new) result }
+{
+    job.keeps_rules();
+    let (from, _) = job.copy(k, place);
+    erase(store, &from)
+}
+
+// Copies a shift of the round after the first k.
+fn copy_next<S: Store>(job: &Job, store: &mut S, k: u32, place: u32) -> Result<(), StoreFailed>
+    requires more { k < length job.now.plan }
+    requires place { place < length (round_at job.now.plan (suc k)) }
+    requires none { flights (S.state store.old) ≡ [] }
+    ensures any_moment { (asked : Bool) (contents : Contents) (e : ℕ) → IsUnderway asked job.now.input job.now.plan job.now.digest contents (S.state store.old) k e place →
+        LeavesOnly (IsSound asked job.now.input job.now.plan job.now.digest contents) (S.state store.old) (S.state store.new) }
+    ensures done { OnOk result ((asked : Bool) (contents : Contents) (e : ℕ) → IsUnderway asked job.now.input job.now.plan job.now.digest contents (S.state store.old) k e place →
+        IsUnderway asked job.now.input job.now.plan job.now.digest contents (S.state store.new) k e (place + 1)) }
+    ensures landed { OnOk result (flights (S.state store.new) ≡ []) }
+    ensures change { ChangesWork job.now.input job.now.plan (S.state store.old) (S.state store.new) }
+    ensures cause { HasCause (S.state store.old) (S.state store.new) result }
+{
+    job.keeps_rules();
+    let (from, to) = job.copy(k + 1, place);
+    copy_slot(store, &from, &to)
+}
+
+// Settles the copies of a round.
+fn settle<S: Store>(store: &mut S) -> Result<(), StoreFailed>
+    requires { flights (S.state store.old) ≡ [] }
+    ensures change { ChangesOnly NoCell (S.state store.old) (S.state store.new) }
+    ensures settled { OnOk result (IsSettled (S.state store.new)) }
+    ensures cause { HasCause (S.state store.old) (S.state store.new) result }
+{
+    store.sync()
+}
+
+/// How many shifts a round has; none where there is no such round. Rounds count from 1.
+pub(crate) fn shifts_of_round(job: &Job, round: u32) -> u32
+    ensures count { result ≡ shifts_in job.now.plan round }
+    ensures few { result ≤ MAX_FILE_BYTES }
+{
+    job.keeps_rules();
+    if round == 0 || round > job.rounds() {
+        return 0;
+    }
+    job.round_len(round)
+}
+
+/// Makes the step after the first `p` since mark k, which isn't a mark: first the sources of round k are erased, then the
+/// shifts of the next round are copied, and then the store syncs.
+///
+/// # Errors
+///
+/// A fault of the store.
+pub(crate) fn step_within<S: Store>(
+    job: &Job,
+    store: &mut S,
+    k: u32,
+    p: u32,
+) -> Result<(), StoreFailed>
+    requires most { k ≤ length job.now.plan }
+    requires place { p < steps_in job.now.plan k }
+    requires none { flights (S.state store.old) ≡ [] }
+    ensures any_moment { (asked : Bool) (contents : Contents) → IsAtStep asked job.now.input job.now.plan job.now.digest contents (S.state store.old) k p →
+        LeavesOnly (IsSound asked job.now.input job.now.plan job.now.digest contents) (S.state store.old) (S.state store.new) }
+    ensures done { OnOk result ((asked : Bool) (contents : Contents) → IsAtStep asked job.now.input job.now.plan job.now.digest contents (S.state store.old) k p →
+        IsAtStep asked job.now.input job.now.plan job.now.digest contents (S.state store.new) k (p + 1)) }
+    ensures landed { OnOk result (flights (S.state store.new) ≡ []) }
+    ensures change { ChangesWork job.now.input job.now.plan (S.state store.old) (S.state store.new) }
+    ensures cause { HasCause (S.state store.old) (S.state store.new) result }
+{
+    job.keeps_rules();
+    let erasures = shifts_of_round(job, k);
+    if p < erasures {
+        return erase_next(job, store, k, p);
+    }
+    let copies = shifts_of_round(job, k + 1);
+    if p - erasures < copies {
+        return copy_next(job, store, k, p - erasures);
+    }
+    settle(store)
+}
+
+/// Sets the mark of the round after the first k, whose copies are settled.
+///
+/// # Errors
+///
+/// A fault of the store.
+pub(crate) fn mark_next<S: Store>(job: &Job, store: &mut S, k: u32) -> Result<(), StoreFailed>
+    requires more { k < length job.now.plan }
+    requires none { flights (S.state store.old) ≡ [] }
+    ensures any_moment { (asked : Bool) (contents : Contents) → IsAtStep asked job.now.input job.now.plan job.now.digest contents (S.state store.old) k (steps_in job.now.plan k) →
+        LeavesOnly (IsSound asked job.now.input job.now.plan job.now.digest contents) (S.state store.old) (S.state store.new) }
+    ensures done { OnOk result ((asked : Bool) (contents : Contents) → IsAtStep asked job.now.input job.now.plan job.now.digest contents (S.state store.old) k (steps_in job.now.plan k) →
+        IsAtStep asked job.now.input job.now.plan job.now.digest contents (S.state store.new) (k + 1) 0) }
+    ensures landed { OnOk result (flights (S.state store.new) ≡ []) }
+    ensures change { ChangesWork job.now.input job.now.plan (S.state store.old) (S.state store.new) }
+    ensures cause { HasCause (S.state store.old) (S.state store.new) result }
+{
+    job.keeps_rules();
+    mark(store, k + 1)
+}

@@ -1,0 +1,34 @@
+use Rattle.mig_top.proofs.Common.{Files, IfSome, IsSomeAnd, Option, OthersStay, [], arith, drain_texts_of, drains_disk, err_from_is_err_and, subst, ◌∷◌}
+use Rattle.mig_top.proofs.DrainSaves.{drain_saved, unread_drain}
+use Rattle.mig_top.proofs.EndsOf.{files_unread}
+use Rattle.mig_top.proofs.Steps.{if_map}
+use Rattle.mig_top.proofs.drain_command.drain_disk.Goals as goal
+
+pub returns-in_err-text : goal.returns-in_err-text
+returns-in_err-text g c =
+    let a = c.args in
+    let old = g.F.Folder.state a.folder.now in
+    let new = g.F.Folder.state c.load_drain.new.folder in
+    let why = files_unread (a.disks.now ∷ a.now.now ∷ []) old new (drains_disk a.disks.now a.now.now a.name) c.in_err-text.field-0.0 c.in_err-text.ensures.takes.stops in
+    let p = err_from_is_err_and c.from_residual.result c.from_residual.ensures.1 in
+    rw (p.1, p.2) (record { cause = why.1; leaves = unread_drain old new a.disks.now a.now.now a.name a.next.now _ why.0 c.load_drain.ensures.same })
+
+pub returns-in_err-save : goal.returns-in_err-save
+returns-in_err-save g c =
+    let new = g.F.Folder.state c.save.new.self in
+    let p = err_from_is_err_and c.from_residual-in_err-save.result c.from_residual-in_err-save.ensures.1 in
+    rw (p.1, p.2) (record {
+      cause = omega (arith, c.load_drain.ensures.later, c.in_err-save.ensures.failed);
+      leaves = subst (λ (o : Option Files). IfSome o (λ files. IsSomeAnd new.files (OthersStay c.args.next.now files))) c.load_drain.ensures.same c.save.ensures.others;
+    })
+
+pub returns : goal.returns
+returns g c =
+    let a = c.args in
+    let old = g.F.Folder.state a.folder.now in
+    record {
+      cause = if_map old.files (λ files made. (made.0, made.1, (made.2.0, made.2.1, (made.2.2.0, made.2.2.1, tt)))) c.in_ok-text.ensures.takes.passes;
+      leaves =
+          drain_saved a.disks.now a.now.now a.name a.next.now (drain_texts_of c.in_ok-text.text) old.files (g.F.Folder.state c.load_drain.new.folder).files (g.F.Folder.state c.save.new.self).files
+          c.load_drain.ensures.same c.in_ok-text.ensures.takes.passes (rw c.deref.ensures.value at c.in_ok-save.ensures.saved);
+    }

@@ -1,0 +1,69 @@
+use Rattle.mig_top.proofs.Common.{Shows, [], all_steps, ap, arith, four_and, left_text, names_in, scripted_read, subst, true, ℕ, ◌-◌, ◌∙◌, ◌∷◌}
+use Rattle.mig_live.specs.Replies.{AreCutOff, IsServeFault}
+use Rattle.mig_live.specs.declared.serving.ServeFault.{ServeFault}
+use Rattle.mig_top.proofs.EndsOf.{refused, told}
+use Rattle.mig_top.proofs.LiveCommand.{live_done, live_failed, live_refused, live_rest, live_unput, went_on}
+use Rattle.mig_top.proofs.StoreEnds.{unread, untouched}
+use Rattle.mig_top.proofs.live_command.run_live.Goals as goal
+
+pub returns-in-Err : goal.returns-in-Err
+returns-in-Err g c =
+    told (four_and (names_in c.args.files) (c.args.script.now ∷ [])) c.in-Err.ending c.tell.ensures.status
+    (unread (live_rest (g.S.Store.state c.args.store.now)) (λ o h. h) tt (λ o u. c.load_scripted.ensures.same) untouched c.in-Err.ensures.takes) c.tell.ensures.begun c.tell.ensures.whole
+
+pub returns-in-Err-enter : goal.returns-in-Err-enter
+returns-in-Err-enter g c =
+    let read = scripted_read c.in-Ok.read in
+    let names = four_and (names_in c.args.files) (c.args.script.now ∷ []) in
+    let bad = c.in-Err-enter.ensures in
+    let t = c.tell-in-Err-enter.ensures in
+    refused names c.fault_ending.result c.input.result.now read.task.input c.in-Err-enter.fault (c.fault_ending.ensures names) c.input.ensures.value
+    (live_refused _ (names_in c.args.files) c.args.script.now c.load_scripted.ensures.same read c.in-Ok.ensures.takes.passes c.enter.ensures.keeps c.in-Err-enter.fault bad.fault bad.kind) t.status t.begun t.whole
+
+pub returns-in-Ok-serve : goal.returns-in-Ok-serve
+returns-in-Ok-serve g c =
+    let read = scripted_read c.in-Ok.read in
+    let live = c.in-Ok-enter.live in
+    let after = c.in-Ok-serve.after in
+    let en = c.in-Ok-enter.ensures in
+    let ok = c.in-Ok-serve.ensures in
+    let left = rw c.orders.ensures at ok.left in
+    live_done _ (names_in c.args.files) c.args.script.now c.load_scripted.ensures.same read c.in-Ok.ensures.takes.passes (g.S.Store.state c.enter.new.store) live en.task c.enter.ensures.keeps en.in_step
+    c.serve.ensures.any_moment (g.K.Sink.state c.serve.new.out) c.serve.ensures.sink_later
+    (record { most = en.enters.most; found = en.enters.found; ours = en.ours; ready = en.enters.ready })
+    (λ contents at. went_on read live after contents (g.S.Store.state c.serve.new.store) en.task ok.task en.left left en.enters.most c.marks_follow_steps.ensures.count
+    (λ none. c.target_is_reached.ensures.reached none contents (ok.in_step true contents at)) (λ none. c.target_is_reached.ensures.settled none true contents (ok.in_step true contents at))
+    (ok.in_step true contents at))
+    (rw c.orders.ensures at ok.served)
+    (subst (λ (n : ℕ). Shows (left_text n) (g.K.Sink.state c.serve.new.out) (g.K.Sink.state c.show_parts.new.out) c.show_parts.result)
+    (c.left.ensures ∙ left ∙ ap (λ (n : ℕ). n - all_steps read.orders) en.left) c.show_parts.ensures)
+
+pub returns-in-Err-Sink : goal.returns-in-Err-Sink
+returns-in-Err-Sink g c =
+    let read = scripted_read c.in-Ok.read in
+    let en = c.in-Ok-enter.ensures in
+    let old = g.S.Store.state c.enter.new.store in
+    let new = g.S.Store.state c.serve.new.store in
+    let first = g.K.Sink.state c.args.out.now in
+    let last = g.K.Sink.state c.serve.new.out in
+    let bad = c.in-Err-Sink.ensures in
+    live_unput _ (names_in c.args.files) c.args.script.now c.load_scripted.ensures.same read c.in-Ok.ensures.takes.passes old c.in-Ok-enter.live en.task c.enter.ensures.keeps en.in_step
+    c.serve.ensures.any_moment
+    (subst (λ (f : ServeFault). AreCutOff c.in-Ok-enter.live old read.orders first last f) c.in-Err-Sink.field-0-is (rw c.orders.ensures at bad.cut_off))
+    (subst (λ (f : ServeFault). IsServeFault old new first last f) c.in-Err-Sink.field-0-is bad.fault)
+
+pub returns : goal.returns
+returns g c =
+    let read = scripted_read c.in-Ok.read in
+    let en = c.in-Ok-enter.ensures in
+    let old = g.S.Store.state c.enter.new.store in
+    let new = g.S.Store.state c.serve.new.store in
+    let first = g.K.Sink.state c.args.out.now in
+    let last = g.K.Sink.state c.serve.new.out in
+    let bad = c.in-Err-Store.ensures in
+    let t = c.tell-in-Err-Store.ensures in
+    let rose = subst (λ (f : ServeFault). IsServeFault old new first last f) c.in-Err-Store.field-0-is bad.fault in
+    live_failed _ (names_in c.args.files) c.args.script.now c.load_scripted.ensures.same read c.in-Ok.ensures.takes.passes old c.in-Ok-enter.live en.task c.enter.ensures.keeps en.in_step
+    c.serve.ensures.any_moment last c.serve.ensures.sink_later
+    (subst (λ (f : ServeFault). AreCutOff c.in-Ok-enter.live old read.orders first last f) c.in-Err-Store.field-0-is (rw c.orders.ensures at bad.cut_off))
+    (omega (arith, c.enter.ensures.keeps.later, rose)) t.status t.begun t.whole

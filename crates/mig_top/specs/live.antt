@@ -1,0 +1,4 @@
+pub mod Leaves
+pub mod Looks
+pub mod Promise
+pub mod Reads
