@@ -1,4 +1,4 @@
-/* What `migrate fill`, `audit`, `move`, `resume`, `move-tight` and `live` do with files, written plainly and without their checks, to be measured beside them:
+/* What `migrate fill`, `audit`, `move`, `resume`, `move-tight` and `live` do with files, written plainly, to be measured beside them:
    the same reads, writes and syncs. Names are found by their hash, as in any program that does not know them before.
 
        plain_store fill DISKS NOW        plain_store move DISKS NOW NEXT PLAN
@@ -240,6 +240,20 @@ static int is_there(int item, const unsigned char *slot) {
     return memcmp(header, slot, HEADER) == 0;
 }
 
+/* The header of a slot, where it is to be the item's. */
+static void look_for(int item, struct spot spot, int status) {
+    unsigned char header[HEADER];
+    read_slot(spot, header, HEADER);
+    if (!is_there(item, header)) exit(status);
+}
+
+/* The header of a slot that is to be written over: it may be the item's, or of none. */
+static void look_before(int item, struct spot spot) {
+    unsigned char header[HEADER];
+    read_slot(spot, header, HEADER);
+    if (header[0] == 1 && !is_there(item, header)) exit(5);
+}
+
 /* The commands. */
 
 static void fill(void) {
@@ -319,6 +333,11 @@ static void check_ready(const struct plan *plan) {
         if (slot[0] == 1) exit(9);
     }
     free(seen);
+    /* then the header of each item that is moved */
+    for (int i = 0; i < plan->moved; i++) {
+        const struct shift *s = &plan->shifts[i];
+        if (s->from.disk == now[s->item].disk && s->from.slot == now[s->item].slot) look_for(s->item, s->from, 5);
+    }
 }
 
 static void arm(const struct plan *plan) {
@@ -332,7 +351,10 @@ static void arm(const struct plan *plan) {
 }
 
 static void erase(const struct shift *round, int size) {
-    for (int i = 0; i < size; i++) write_slot(round[i].from, zeros);
+    for (int i = 0; i < size; i++) {
+        look_before(round[i].item, round[i].from);
+        write_slot(round[i].from, zeros);
+    }
 }
 
 /* Carries out the rounds after the first `found`; the shifts of the next one begin at `round`. */
@@ -341,6 +363,7 @@ static void carry_out(const struct plan *plan, int found, const struct shift *ro
     for (int r = found + 1; r <= plan->rounds; round += plan->sizes[r - 1], r++) {
         for (int i = 0; i < plan->sizes[r - 1]; i++) {
             read_slot(round[i].from, slot, SLOT);
+            look_before(round[i].item, round[i].to);
             write_slot(round[i].to, slot);
         }
         sync_all();
@@ -374,6 +397,7 @@ static void live(const char *name, const char *script) {
         at += strlen("read ");
         int item = item_of(&at, '\n');
         char hex[65];
+        look_for(item, now[item], 5);
         read_slot(now[item], slot, SLOT);
         digest_of(slot, hex);
         printf("%s %s\n", item_names.texts[item], hex);
@@ -387,8 +411,7 @@ static void look_for_all(const struct plan *plan, const struct shift *next) {
     if (!seen) fail("memory");
     for (const struct shift *s = plan->shifts; s < plan->shifts + plan->moved; s++) {
         struct spot at = s < next ? s->to : s->from;
-        read_slot(at, header, HEADER);
-        if (!is_there(s->item, header)) exit(5);
+        look_for(s->item, at, 5);
         seen[(size_t)at.disk * ITEMS + at.slot] = 1;
     }
     for (const struct shift *s = plan->shifts; s < plan->shifts + plan->moved; s++) {

@@ -141,4 +141,22 @@ def cut_off(program):
         is_resumed("live that was cut off", room, 1)
 
 
-CASES = [served_on_the_way, left_in_the_middle, killed_in_the_middle, refusals, scripts, cut_off]
+def an_item_that_stays(program):
+    """A read looks for its item also where the plan doesn't move it: a disk that is away, blank or another's is no item's bytes."""
+    with Room(program) as room:
+        put(room, [DISKS[0] + "third,2,4\n", DISKS[1] + "s,third,1\n", DISKS[2] + "s,third\n"], PLAN_TEXT)
+        Count.ended("fill with an item that stays", room.run(*FILL), 0, "filled 4\n")
+        put_script(room, "read s\nread p\n")
+        Count.ended("live reads an item that stays", room.run(*LIVE), 0, replied("sp", "left 11\n"))
+        held = room.read("third.disk")
+        put_script(room, "read p\nstep 1\nread s\nread p\n")
+        for name, third in ("away", None), ("blank", bytes(len(held))), ("cut", held[: SLOT + 100]), ("another's", cell("t") + cell("t")):
+            os.remove(room.path("third.disk"))
+            if third is not None:
+                room.write("third.disk", third)
+            tells(f"live, the disk of an item that stays is {name}", room.run(*LIVE), 5, replied("p", "store fault\n"), ["third", "item s"])
+            room.write("third.disk", held)
+        Count.ended("live, the disk is back", room.run(*LIVE), 0, replied("psp", "left 10\n"))
+
+
+CASES = [served_on_the_way, left_in_the_middle, killed_in_the_middle, refusals, scripts, cut_off, an_item_that_stays]

@@ -189,11 +189,11 @@ impl<'a> Live<'a> {
         Ok(live)
     }
 
-    /// Reads an item, in the slot where the marked rounds took it.
+    /// Reads an item, in the slot where the marked rounds took it. The store is asked first whether the slot holds the item.
     ///
     /// # Errors
     ///
-    /// A fault of the store.
+    /// A fault of the store, such as of one that sees that the item isn't there.
     pub fn read<S: Store>(
         &self,
         store: &mut S,
@@ -208,6 +208,7 @@ impl<'a> Live<'a> {
     {
         self.job.keeps_rules();
         let cell = self.job.cell_of(item, self.marked);
+        store.expects(&cell, &self.job.input().items()[item.0 as usize])?;
         store.read(&cell, into)
     }
 

@@ -22,7 +22,8 @@ abbrev form_by : List (List ℕ) → Option Form
 form_by (word ∷ a ∷ b ∷ []) = if bytes_eq word (codes "fill") then Some (Fill a b) else if bytes_eq word (codes "audit") then Some (Audit a b) else None
 form_by (word ∷ a ∷ b ∷ c ∷ []) = if bytes_eq word (codes "rehearse") then Some (Rehearse a b c) else None
 form_by (word ∷ a ∷ b ∷ c ∷ d ∷ []) =
-    if bytes_eq word (codes "drain") then Some (Drain a b c d) else if bytes_eq word (codes "drill") then Some (Drill (four a b c d)) else if bytes_eq word (codes "plan-tight") then Some (PlanTight (four a b c d))
+    if bytes_eq word (codes "drain") then Some (Drain a b c d) else if bytes_eq word (codes "drill") then Some (Drill (four a b c d))
+    else if bytes_eq word (codes "plan-tight") then Some (PlanTight (four a b c d))
     else over_four Roomy word (four a b c d) (over_four Tight word (four a b c d) None)
 form_by (word ∷ a ∷ b ∷ c ∷ d ∷ e ∷ []) =
     if bytes_eq word (codes "plan") then Some (Plan (four a b c d) e) else if bytes_eq word (codes "check") then Some (Check (four a b c d) e)

@@ -27,7 +27,9 @@ one_listing disks now i j a b = same_input i j same_disks (a.items ∙ sym b.ite
     same_disks = a.disks ∙ sym b.disks
 
     spots : i.spots ≡ j.spots
-    spots = one_zip (IsSpotNamed i.disks) (rows_of now) i.spots j.spots (one_spot i.disks (listed_apart disks now i a)) a.spots (subst (λ ds. AllZip (IsSpotNamed ds) (rows_of now) j.spots) (sym same_disks) b.spots)
+    spots =
+        one_zip (IsSpotNamed i.disks) (rows_of now) i.spots j.spots (one_spot i.disks (listed_apart disks now i a)) a.spots
+        (subst (λ ds. AllZip (IsSpotNamed ds) (rows_of now) j.spots) (sym same_disks) b.spots)
 
 -- a spot of now is on a disk
 now_on_disks : (input : Lists) → IsInput input → (item : ℕ) (spot : Spot) → slice_get input.spots item ≡ Some spot → spot.disk.0 < length input.disks

@@ -39,8 +39,8 @@ module _ (k : Call) (names : Names) (script : List ℕ) (same : Untouched k.befo
 
   -- it is entered, and orders are carried out
   module _ (mid : State) (live : Session) (it : live.task ≡ read.task) (keeps : Keeps read.task old mid)
-      (in_step : (asked : Bool) (contents : Contents) → Tells (IsJobCell read.task.input read.task.plan) old.reads → SettlesTo (IsSound asked read.task.input read.task.plan read.task.digest contents) old
-      → InStep asked live contents mid)
+      (in_step : (asked : Bool) (contents : Contents) → Tells (IsJobCell read.task.input read.task.plan) old.reads
+      → SettlesTo (IsSound asked read.task.input read.task.plan read.task.digest contents) old → InStep asked live contents mid)
       (serves : (asked : Bool) (contents : Contents) → InStep asked live contents mid → LeavesOnly (IsSound asked live.task.input live.task.plan live.task.digest contents) mid new) where
     abbrev Sound : Bool → Contents → Task → Image → Type 0
     Sound asked contents task = IsSound asked task.input task.plan task.digest contents

@@ -67,7 +67,8 @@ module _ {k : Call} {words : List (List ℕ)} {status : ℕ} (ends : EndsAs k wo
   }
 
   -- the same for what the files stand for
-  done_of : (text : List ℕ) (r : Scripted) (found : ℕ) → r ≡ read → ServesAll r old new found × IsServed r old found text → (status ≡ 0 → Extends text k.before.sink k.after.sink) → ServesWell k read status
+  done_of : (text : List ℕ) (r : Scripted) (found : ℕ) → r ≡ read → ServesAll r old new found × IsServed r old found text
+      → (status ≡ 0 → Extends text k.before.sink k.after.sink) → ServesWell k read status
   done_of text r found it h put = let (all, served) = subst (λ (s : Scripted). ServesAll s old new found × IsServed s old found text) it h in done text found all served put
 
   not_zero : {n : ℕ} → status ≡ n → (n ≡ 0 → ⊥) → status ≡ 0 → ⊥

@@ -31,7 +31,11 @@ returns-clause-takes c =
       passes = (
         input,
         c.in_ok-input.ensures.takes.passes,
-        (plan, spelled, (c.in_ok-script.script, c.in_ok-script.ensures.takes.passes, (tt, c.in_ok-check_runs.ensures.passes, ap (λ (t : Task). record { task = t; orders = c.in_ok-script.script }) is))),
+        (
+          plan,
+          spelled,
+          (c.in_ok-script.script, c.in_ok-script.ensures.takes.passes, (tt, c.in_ok-check_runs.ensures.passes, ap (λ (t : Task). record { task = t; orders = c.in_ok-script.script }) is)),
+        ),
       );
       stops = tt;
     }

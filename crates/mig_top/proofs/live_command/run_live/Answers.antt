@@ -18,7 +18,8 @@ returns-in-Err-enter g c =
     let bad = c.in-Err-enter.ensures in
     let t = c.tell-in-Err-enter.ensures in
     refused names c.fault_ending.result c.input.result.now read.task.input c.in-Err-enter.fault (c.fault_ending.ensures names) c.input.ensures.value
-    (live_refused _ (names_in c.args.files) c.args.script.now c.load_scripted.ensures.same read c.in-Ok.ensures.takes.passes c.enter.ensures.keeps c.in-Err-enter.fault bad.fault bad.kind) t.status t.begun t.whole
+    (live_refused _ (names_in c.args.files) c.args.script.now c.load_scripted.ensures.same read c.in-Ok.ensures.takes.passes c.enter.ensures.keeps c.in-Err-enter.fault bad.fault bad.kind)
+    t.status t.begun t.whole
 
 pub returns-in-Ok-serve : goal.returns-in-Ok-serve
 returns-in-Ok-serve g c =
@@ -28,7 +29,8 @@ returns-in-Ok-serve g c =
     let en = c.in-Ok-enter.ensures in
     let ok = c.in-Ok-serve.ensures in
     let left = rw c.orders.ensures at ok.left in
-    live_done _ (names_in c.args.files) c.args.script.now c.load_scripted.ensures.same read c.in-Ok.ensures.takes.passes (g.S.Store.state c.enter.new.store) live en.task c.enter.ensures.keeps en.in_step
+    live_done _ (names_in c.args.files) c.args.script.now c.load_scripted.ensures.same read c.in-Ok.ensures.takes.passes
+    (g.S.Store.state c.enter.new.store) live en.task c.enter.ensures.keeps en.in_step
     c.serve.ensures.any_moment (g.K.Sink.state c.serve.new.out) c.serve.ensures.sink_later
     (record { most = en.enters.most; found = en.enters.found; ours = en.ours; ready = en.enters.ready })
     (λ contents at. went_on read live after contents (g.S.Store.state c.serve.new.store) en.task ok.task en.left left en.enters.most c.marks_follow_steps.ensures.count
