@@ -1,8 +1,8 @@
 //! Why the first line of a file is no header.
 
-use crate::lines::{line_from, row_start};
 use crate::rows::{Typed, without_mark};
 use mig_base::FileKind;
+use mig_lines::{line_from, row_start};
 use std::alloc::{AllocError, Global};
 
 /// The header of a disks file with an outgoing and an incoming limit in each row.

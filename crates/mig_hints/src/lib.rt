@@ -10,7 +10,6 @@ mod found;
 mod headers;
 mod hinting;
 mod journals;
-mod lines;
 mod misfits;
 mod missing;
 mod names;

@@ -3,8 +3,9 @@
 use crate::excerpts::Shown;
 use crate::refusals::InputFiles;
 use crate::rows::Typed;
-use crate::slots::{Held, SLOT, disk_file, holds_made, look};
+use crate::slots::{Held, disk_file, look};
 use mig_base::{Input, ItemId, Name, Plan, Spot};
+use mig_lines::{SLOT, holds_made};
 use mig_text::read_plan;
 use std::alloc::{AllocError, Global};
 use std::collections::HashSet;

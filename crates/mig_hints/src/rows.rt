@@ -1,10 +1,10 @@
 //! The rows of a CSV file that was refused, read again by the same reader.
 ghost use Rattle.std.specs.Prelude.{◌≡◌};
 
-use crate::lines::{line_from, line_of, row_start};
 use crate::places::Place;
 use csv::{ByteRecord, ReaderBuilder};
 use mig_base::read_digits;
+use mig_lines::{line_from, line_of, row_start};
 use std::alloc::Global;
 
 /// A file of the input, as it was typed, and what it holds.

@@ -1,20 +1,13 @@
 //! What a slot of a disk holds, read from the disk's file.
-ghost use Rattle.std.specs.Prelude.{◌≡◌, ◌≤◌, ◌<◌, ◌+◌, ◌-◌, ◌%◌, ◌↔◌, ℕ, IsTrue, length, slice_index_or};
-ghost use Rattle.mig_hints.specs.MadeBytes.{HoldsNames};
 
 use crate::excerpts::Shown;
 use crate::found::{is_missing, read_at};
 use mig_base::Name;
+use mig_lines::{HEADER, SLOT};
 use std::alloc::{AllocError, Global};
 use std::fmt::{self, Display, Formatter};
 use std::fs::File;
 use std::rt::Files;
-
-/// How many bytes a slot has.
-pub(crate) const SLOT: usize = 4096;
-
-/// Where the header of a slot ends.
-const HEADER: usize = 34;
 
 /// What a slot holds.
 #[derive(Clone, Copy)]
@@ -107,17 +100,4 @@ fn name_in(bytes: &[u8; SLOT]) -> Option<Name> {
         return None;
     }
     Name::read(&bytes[2..end])
-}
-
-/// Whether the bytes after a slot's header are those that `fill` writes: the item's name over and over.
-pub(crate) fn holds_made(bytes: &[u8; SLOT], name: &[u8]) -> bool
-    requires { 1 ≤ length name.now }
-    ensures { IsTrue result ↔ HoldsNames bytes.now name.now }
-{
-    for place in HEADER..SLOT {
-        if bytes[place] != name[(place - HEADER) % name.len()] {
-            return false;
-        }
-    }
-    true
 }
