@@ -124,8 +124,6 @@ pub record Enters (task : Task) (old new : State) (k : ℕ) : Type 0 where
   pub armed : IsSome (old.reads Gate) → (image : Image) → new.may_leave image → is_armed image ≡ true
   pub ready : WasReady task old
 
--- The same from a store with nothing unsettled and no copy in flight
-
 -- the same from a store with nothing unsettled and no copy in flight
 pub record KeepsOn (task : Task) (old new : State) : Type 0 where
   pub sound : (asked : Bool) (contents : Contents) → Tells (IsJobCell task.input task.plan) old.reads → IsSound asked task.input task.plan task.digest contents old.reads

@@ -26,7 +26,7 @@ pub trait Store {
         ensures change { Looks (state self.old) (state self.new) }
         ensures cause { HasCause (state self.old) (state self.new) result };
 
-    /// Asks whether a slot holds the item of this name, before anything is written that rests on it. A store whose slots may be another's fails where this one doesn't; any other store may answer Ok unseen.
+    /// Asks whether a slot holds the item of this name, before anything is written, or told of it, that rests on it. A store whose slots may be another's fails where this one doesn't; any other store may answer Ok unseen.
     fn expects(&mut self, slot: &Cell, name: &Name) -> Result<(), StoreFailed>
         requires slot { IsTrue (is_slot slot.now) }
         ensures change { Looks (state self.old) (state self.new) }
