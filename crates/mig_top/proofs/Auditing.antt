@@ -1,9 +1,9 @@
 -- The lines of an audit, and how `audit` ends.
 use Rattle.mig_top.proofs.Common.{AreOfLayout, AreSightLines, Audit, AuditStops, Bool, Call, Cell, Done, Extends, ExtendsInPart, Flight, FormEndsAs, HasHeader, HasPutSight, HavePutSights, IfSome}
-use Rattle.mig_top.proofs.Common.{IsAudit, IsMoving, IsSightOf, IsTargetOf, List, Lists, Looks, MatchBool, NoCell, None, Option, Rose, Shows, Sight, SightStops, SinkFault, SinkState, SinkStops}
-use Rattle.mig_top.proofs.Common.{Some, State, Stop, StoreFault, StoreStops, Untouched, WorldEnds, [], append-nil, append_assoc, arith, begins_more, bytes_eq, bytes_eq-Decides, changes_then}
-use Rattle.mig_top.proofs.Common.{changes_wider, codes, false, false≢true, flights_same, header_of, if◌then◌else◌, inl, inr, item_cell, item_name, length, puts_nothing, refl, sha256, sight_count}
-use Rattle.mig_top.proofs.Common.{sight_line, subst, suc, sym, take, then_begins, then_extends, true, zero, ℕ, ⊎_elim, ◌++◌, ◌+◌, ◌-◌, ◌<◌, ◌∙◌, ◌≡◌, ◌≤◌}
+use Rattle.mig_top.proofs.Common.{IsAudit, IsMoving, IsSightOf, IsTargetOf, List, Lists, Looks, MatchBool, None, Option, Rose, Shows, Sight, SightStops, SinkFault, SinkState, SinkStops, Some}
+use Rattle.mig_top.proofs.Common.{State, Stop, StoreFault, StoreStops, Untouched, WorldEnds, [], append-nil, append_assoc, arith, begins_more, bytes_eq, bytes_eq-Decides, codes, false}
+use Rattle.mig_top.proofs.Common.{false≢true, flights_same, header_of, if◌then◌else◌, inl, inr, item_cell, item_name, length, puts_nothing, refl, sha256, sight_count, sight_line, subst}
+use Rattle.mig_top.proofs.Common.{suc, sym, take, then_begins, then_extends, true, zero, ℕ, ⊎_elim, ◌++◌, ◌+◌, ◌-◌, ◌<◌, ◌∙◌, ◌≡◌, ◌≤◌}
 use Rattle.mig_top.proofs.EndsOf.{shown}
 use Rattle.mig_top.proofs.Steps.{if_map}
 use Rattle.mig_top.specs.declared.audit_command.Stop.TheVariants as stop
@@ -18,9 +18,6 @@ module _ (old mid : State) (looks : Looks old mid) where
     named = λ still. rw (looks.told.same (item_cell input item) still) at (h.named (λ m. still (moving (item_cell input item) m)));
     digest = λ still. rw (looks.told.same (item_cell input item) still) at (h.digest (λ m. still (moving (item_cell input item) m)));
   }
-
-  pub looks_then : (new : State) → Looks mid new → Looks old new
-  looks_then new more = changes_then (IsMoving old) NoCell [] [] old mid new looks (changes_wider (IsMoving old) NoCell (IsMoving mid) NoCell moving (λ cell none. none) [] mid new more)
 
 -- Line by line
 

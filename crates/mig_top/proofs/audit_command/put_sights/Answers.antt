@@ -1,5 +1,6 @@
 use Rattle.mig_top.proofs.Common.{AuditStops, HavePutSights, IfErr, arith, length, subst, sym, ℕ, ◌+◌, ◌≡◌}
-use Rattle.mig_top.proofs.Auditing.{line_more, line_stops, looks_then, no_lines}
+use Rattle.mig_journal.proofs.Steps.{looks_then}
+use Rattle.mig_top.proofs.Auditing.{line_more, line_stops, no_lines}
 use Rattle.mig_top.proofs.Steps.{handed}
 use Rattle.mig_top.proofs.StoreEnds.{looks_none}
 use Rattle.mig_top.proofs.audit_command.put_sights.Goals as goal
@@ -23,7 +24,7 @@ loop-item-preserved g c =
     record {
       put = subst (λ (n : ℕ). HavePutSights input old (c.loop-item.item + 1) first new n) (sym c.count_named-here.ensures)
           (line_more input old mid inv.looks c.loop-item.item first (g.K.Sink.state c.loop-item.out) c.loop-item.here inv.put new c.in_ok-put_sight.field-0 c.in_ok-put_sight.ensures.put);
-      looks = looks_then old mid inv.looks (g.S.Store.state c.put_sight.new.store) c.put_sight.ensures.looks;
+      looks = looks_then old mid (g.S.Store.state c.put_sight.new.store) inv.looks c.put_sight.ensures.looks;
       later = omega (arith, inv.later, c.put_sight.ensures.later);
       store_later = omega (arith, inv.store_later, c.put_sight.ensures.store_later);
     }
@@ -42,7 +43,7 @@ returns-in_err-put_sight-clause-stopped g c =
 
 pub returns-in_err-put_sight-clause-looks : goal.returns-in_err-put_sight-clause-looks
 returns-in_err-put_sight-clause-looks g c =
-    looks_then (g.S.Store.state c.args.store.now) (g.S.Store.state c.loop-item.store) c.loop-item.invariant.looks (g.S.Store.state c.put_sight.new.store) c.put_sight.ensures.looks
+    looks_then (g.S.Store.state c.args.store.now) (g.S.Store.state c.loop-item.store) (g.S.Store.state c.put_sight.new.store) c.loop-item.invariant.looks c.put_sight.ensures.looks
 
 pub returns-in_err-put_sight-clause-later : goal.returns-in_err-put_sight-clause-later
 returns-in_err-put_sight-clause-later g c = omega (arith, c.loop-item.invariant.later, c.put_sight.ensures.later)
