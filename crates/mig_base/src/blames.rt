@@ -3,7 +3,7 @@
 use crate::ids::{DiskId, ItemId};
 
 /// What a certificate says of a plan that is right.
-#[derive(Clone, Copy, Debug, PartialEq, Eq)]
+#[derive(Clone, Copy, PartialEq, Eq)]
 pub enum Verdict {
     /// The plan has as many rounds as the bound states, so no schedule has fewer.
     Optimal,

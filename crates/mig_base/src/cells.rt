@@ -4,7 +4,7 @@ ghost use Rattle.mig_base.specs.Cells.{cell_len};
 use crate::names::Name;
 
 /// A cell of a store: a slot of a disk, or one of the journal's cells. Slots count from 0, marks from 1.
-#[derive(Clone, Copy, Debug, PartialEq, Eq, Hash)]
+#[derive(Clone, Copy, PartialEq, Eq, Hash)]
 pub enum Cell {
     Slot { disk: Name, slot: u32 },
     /// The digest of the plan that is carried out.
@@ -30,14 +30,14 @@ impl Cell {
 }
 
 /// What a store did with a copy from one slot to another.
-#[derive(Clone, Copy, Debug, PartialEq, Eq, Hash)]
+#[derive(Clone, Copy, PartialEq, Eq)]
 pub enum Event {
     Began { from: Cell, to: Cell },
     Ended { from: Cell, to: Cell },
 }
 
 /// A copy from one slot to another.
-#[derive(Clone, Copy, Debug, PartialEq, Eq, Hash)]
+#[derive(Clone, Copy, PartialEq, Eq)]
 pub struct Flight {
     pub from: Cell,
     pub to: Cell,

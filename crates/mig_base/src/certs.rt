@@ -4,7 +4,7 @@ use crate::ids::DiskId;
 use crate::plans::DiskSet;
 
 /// Whether limits are split, and if not, whether each disk that takes part has an even limit.
-#[derive(Clone, Copy, Debug, PartialEq, Eq)]
+#[derive(Clone, Copy, PartialEq, Eq)]
 pub enum Class {
     /// Each disk that takes part has an even limit.
     Even,
@@ -15,7 +15,7 @@ pub enum Class {
 }
 
 /// A side of a disk with split limits.
-#[derive(Clone, Copy, Debug, PartialEq, Eq)]
+#[derive(Clone, Copy, PartialEq, Eq)]
 pub enum Side {
     /// The transfers that leave the disk.
     Outgoing,
@@ -24,7 +24,7 @@ pub enum Side {
 }
 
 /// A number of rounds that every schedule needs, and the disks that show it.
-#[derive(Debug, Drop)]
+#[derive(Drop)]
 pub enum Bound {
     /// There is no move; the value is 0.
     Nothing,
@@ -50,7 +50,7 @@ pub enum Bound {
 }
 
 /// What is printed with a plan: how good it is, and what shows it.
-#[derive(Debug, Drop)]
+#[derive(Drop)]
 pub struct Cert {
     pub rounds: u32,
     pub quotient: u32,

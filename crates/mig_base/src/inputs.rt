@@ -7,7 +7,7 @@ use crate::names::Name;
 use std::marker::Model;
 
 /// How many transfers of one round a disk may have.
-#[derive(Clone, Copy, Debug, PartialEq, Eq)]
+#[derive(Clone, Copy, PartialEq, Eq)]
 pub enum Limits {
     /// At most so many have the disk as an end; one inside the disk counts once.
     Joint { limit: u32 },
@@ -36,7 +36,7 @@ impl Limits {
 }
 
 /// A disk: its limits in a round, and it has so many slots.
-#[derive(Clone, Copy, Debug, PartialEq, Eq)]
+#[derive(Clone, Copy, PartialEq, Eq)]
 pub struct Disk {
     pub name: Name,
     pub limits: Limits,
@@ -44,7 +44,7 @@ pub struct Disk {
 }
 
 /// Disks, items by name, where each item is and to which disk it is to go.
-#[derive(Debug, Drop)]
+#[derive(Drop)]
 pub struct Input {
     disks: Vec<Disk>,
     items: Vec<Name>,

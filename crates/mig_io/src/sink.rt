@@ -3,7 +3,7 @@ ghost use Rattle.mig_base.specs.FaultCounts.{Rose};
 ghost use Rattle.mig_io.specs.Held.{SinkState, Extends, ExtendsInPart};
 
 /// A piece was not put, or not whole.
-#[derive(Clone, Copy, Debug, PartialEq, Eq)]
+#[derive(Clone, Copy, PartialEq, Eq)]
 pub struct SinkFailed;
 
 /// What the program's texts are put into, with a count of its faults that never falls.

@@ -24,7 +24,7 @@ use std::alloc::{AllocError, Global};
 use std::marker::Model;
 
 /// An input, a plan that runs on it, and the digest of the plan's text.
-#[derive(Debug, Drop)]
+#[derive(Drop)]
 pub struct Job {
     input: Input,
     plan: Plan,

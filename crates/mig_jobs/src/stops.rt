@@ -12,7 +12,7 @@ use mig_base::{Input, Plan, Round, Shift, Spot};
 use std::alloc::{AllocError, Global};
 
 /// Where a round takes an item.
-#[derive(Clone, Copy, Debug, PartialEq, Eq)]
+#[derive(Clone, Copy, PartialEq, Eq)]
 pub struct Stop {
     pub round: u32,
     pub spot: Spot,

@@ -9,7 +9,7 @@ use mig_base::{Plan, Round, Shift, Spot};
 use std::alloc::{AllocError, Global};
 
 /// A spot that is free after so many rounds: from the first number on, and before the second.
-#[derive(Clone, Copy, Debug, PartialEq, Eq)]
+#[derive(Clone, Copy, PartialEq, Eq)]
 pub struct Vacancy {
     pub spot: Spot,
     pub from: u32,

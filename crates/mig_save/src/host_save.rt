@@ -307,7 +307,8 @@ fn check_text<R: Files<File = File>>(rt: &R, name: &str) -> io::Result<()> {
     };
     let mut first = [0u8; 4096];
     let count = file.read(&mut first)?;
-    if first[..count].iter().any(|byte| *byte < 2) {
+    let first = &first[..count];
+    if first.contains(&0) || first.contains(&1) {
         return Err(Error::other("what it holds is no text"));
     }
     Ok(())
@@ -331,7 +332,10 @@ const SUFFIX: &str = ".new.mig";
 
 /// The path of the new file, in memory of the caller: the name, cut where the system would find it too long, and the suffix. A name that would be its own new file's is an error.
 fn new_path<'b>(name: &str, room: &'b mut [u8; PATH_MAX]) -> io::Result<&'b str> {
-    let own = Path::new(name).file_name().map_or(0, |own| own.len());
+    let own = match Path::new(name).file_name() {
+        Some(own) => own.len(),
+        None => 0,
+    };
     let over = (own + SUFFIX.len()).saturating_sub(NAME_MAX);
     let mut end = name.len().saturating_sub(over);
     for _ in 0..4 {

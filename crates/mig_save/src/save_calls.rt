@@ -6,14 +6,14 @@ ghost use Rattle.mig_save.specs.Saves.{SaveState, IsSaveState, IsNewWhole, IsSet
 use std::io;
 
 /// Which file of the system it is, whatever its name.
-#[derive(Clone, Copy, Debug, PartialEq, Eq)]
+#[derive(Clone, Copy, PartialEq, Eq)]
 pub struct Node {
     pub device: u64,
     pub inode: u64,
 }
 
 /// What a name leads to before its file is saved.
-#[derive(Clone, Copy, Debug, PartialEq, Eq)]
+#[derive(Clone, Copy)]
 pub enum Target {
     /// A plain file, with its mode.
     Plain(u32),

@@ -14,7 +14,7 @@ use mig_base::{Cell, Flight};
 use std::alloc::{AllocError, Global};
 
 /// What each cell that isn't settled holds after a crash.
-#[derive(Clone, Copy, Debug, PartialEq, Eq)]
+#[derive(Clone, Copy, PartialEq, Eq)]
 pub enum Pick {
     /// Its bytes at the last sync.
     Old,

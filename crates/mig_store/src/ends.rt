@@ -3,7 +3,7 @@ ghost use Rattle.std.specs.Prelude.{◌≡◌, ◌<◌};
 ghost use Rattle.mig_store.specs.Orders.{next_end, after_end};
 
 /// Which copies in flight end first.
-#[derive(Clone, Copy, Debug, PartialEq, Eq)]
+#[derive(Clone, Copy, PartialEq, Eq)]
 pub enum EndOrder {
     /// The oldest.
     First,
@@ -13,7 +13,7 @@ pub enum EndOrder {
     Turns,
 }
 
-#[derive(Clone, Copy, Debug, PartialEq, Eq)]
+#[derive(Clone, Copy, PartialEq, Eq)]
 pub struct Landing {
     pub order: EndOrder,
     /// Whether it is the turn of the oldest.
