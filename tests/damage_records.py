@@ -98,7 +98,7 @@ def late_makers(program):
         put(room, DISKS, PLAN_TEXT)
         room.write("left.disk", LEFT)
         # it is held for good before it opens the journal, until strace is killed; a shell prints its status
-        held = ["strace", "-f", "-qq", "-o", room.path("calls"), "-P", JOURNAL, "-e", "trace=openat", "-e", f"inject=openat:delay_enter={2 * LIMIT}s"]
+        held = ["strace", "-f", "-qq", "-o", room.path("calls"), "-P", JOURNAL, "-e", "trace=openat", "-e", f"inject=openat:delay_enter={LIMIT * 10**6}"]
         mover = room.start([*held, "sh", "-c", './migrate "$@"; echo $?', "sh", *WORDS["move"]])
         until(lambda: JOURNAL in (room.read("calls") or b"").decode(errors="replace"), "a mover to be about to open the journal")
         with open(room.path(JOURNAL), "ab") as journal:

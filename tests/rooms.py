@@ -2,6 +2,7 @@
 here for themselves; what is counted."""
 import collections, csv, json, os, re, shutil, subprocess, sys, tempfile
 from ceph_model import exceptions_in, groups_in
+from clocked import PATIENCE
 from limits_model import Case, misses, shifts_of
 
 TOP = os.path.dirname(os.path.dirname(os.path.realpath(__file__)))
@@ -95,7 +96,7 @@ class Room:
     def run(self, command):
         """Runs a command of a shell."""
         return subprocess.run(["bash", "-c", command], cwd=self.at, env=self.env, stdin=subprocess.DEVNULL, capture_output=True, text=True,
-                              errors="replace", timeout=900, check=False)
+                              errors="replace", timeout=PATIENCE, check=False)
 
     def good(self, name, command):
         """Runs a command that has to succeed, and gives what it printed."""
