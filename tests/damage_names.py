@@ -93,7 +93,7 @@ def held_in(room, name):
 
 
 def stopped_in_the_midst(room):
-    """A move that stands still after some of its rounds; None where it was too fast."""
+    """A move that stands still after some of its rounds, or failed; None where it was too fast."""
     mover = room.start([room.path("migrate"), *WORDS["move"]])
     with open(room.path(JOURNAL), "rb") as journal:
         while mover.poll() is None and os.pread(journal.fileno(), 1, mark(20)) != b"\1":
@@ -105,7 +105,7 @@ def stopped_in_the_midst(room):
             return mover
     mover.send_signal(signal.SIGCONT)
     mover.communicate()
-    return None
+    return mover if mover.returncode else None
 
 
 def shared_disks(program):

@@ -100,13 +100,13 @@ def late_makers(program):
         # it is held for good before it opens the journal, until strace is killed; a shell prints its status
         held = ["strace", "-f", "-qq", "-o", room.path("calls"), "-P", JOURNAL, "-e", "trace=openat", "-e", f"inject=openat:delay_enter={LIMIT * 10**6}"]
         mover = room.start([*held, "sh", "-c", './migrate "$@"; echo $?', "sh", *WORDS["move"]])
-        until(lambda: JOURNAL in (room.read("calls") or b"").decode(errors="replace"), "a mover to be about to open the journal")
+        until(lambda: mover.poll() is not None or JOURNAL.encode() in (room.read("calls") or b""), "a mover to be about to open the journal")
         with open(room.path(JOURNAL), "ab") as journal:
             room.own(room.path(JOURNAL))
             fcntl.flock(journal, fcntl.LOCK_EX)
             mover.kill()
             out, err = mover.communicate(timeout=LIMIT)
-        *out, status = out.splitlines(keepends=True)
+        *out, status = out.splitlines(keepends=True) or [b"-1"]
         ran = Ran(int(status), b"".join(out), err)
         Count.ended("a mover that comes late", ran, 5, "store fault\n")
         Count.that("a mover that comes late: why is said", says(ran, "another process is at work") and not says(ran, "leads nowhere"), ran)
