@@ -1,5 +1,6 @@
 """A Chromium without a window, where there is one: by its pipe for debugging, with the standard library alone."""
 import fcntl, json, os, select, shutil, subprocess, tempfile, time
+from clocked import PATIENCE
 
 
 class Browser:
@@ -16,7 +17,7 @@ class Browser:
         pipes = [fcntl.fcntl(it, fcntl.F_DUPFD_CLOEXEC, 10) for it in ends]  # beside 3 and 4, which the browser has for its own
         for it in ends:
             os.close(it)
-        words = [self.found(), "--headless", "--no-sandbox", "--disable-gpu", f"--user-data-dir={self.profile}", "--remote-debugging-pipe", "about:blank"]
+        words = [self.found(), "--headless", "--no-sandbox", "--disable-gpu", "--disable-gpu-watchdog", "--disable-hang-monitor", f"--user-data-dir={self.profile}", "--remote-debugging-pipe", "about:blank"]
         shell = ["bash", "-c", f'exec 3<&{pipes[0]} 4>&{pipes[3]} {pipes[0]}<&- {pipes[3]}>&-; exec "$@"', "bash", *words]
         self.process = subprocess.Popen(shell, pass_fds=(pipes[0], pipes[3]), stdin=subprocess.DEVNULL, stdout=subprocess.DEVNULL, stderr=subprocess.DEVNULL)
         os.close(pipes[0])
@@ -42,7 +43,7 @@ class Browser:
         shutil.rmtree(self.profile, ignore_errors=True)
 
     def hear(self):
-        end = time.monotonic() + 120
+        end = time.monotonic() + PATIENCE
         while b"\0" not in self.text:
             ready = select.select([self.in_], [], [], max(0, end - time.monotonic()))[0]
             more = os.read(self.in_, 1 << 20) if ready else b""

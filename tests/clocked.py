@@ -1,7 +1,7 @@
 """Runs of run-plan by a clock that a test hands in: each copy ends when the test says, so nothing here depends on how busy the machine is."""
 import errno, os, re, subprocess, time
 
-START, PATIENCE = 1700000000, 600  # the time at which a run begins by that clock; how many seconds what must come may take by that of the machine
+START, PATIENCE = 1700000000, 1800  # the time at which a run begins by that clock; how many seconds what must come may take by that of the machine
 
 # a script of contrib/, for which the time is what the file `clock` says
 SCRIPT = """import runpy, sys, time

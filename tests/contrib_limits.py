@@ -1,10 +1,10 @@
 """Tries the scripts with an outgoing and an incoming limit for each disk: what from-ceph, from-lvm and from-folders write and how it is
 planned, what summary and picture say, and how run-plan --eager begins transfers, by such limits and by joint ones. What is right is
 counted by limits_model.py."""
-import collections, itertools, os, random, re, time
+import collections, itertools, os, random, re
 import xml.etree.ElementTree as xml
-from clocked import PATIENCE, START, carried_out
-from contrib_folders import COPY, ERASE, GUARD, MOUNT, VERIFY, tree, wanted_of
+from clocked import START, carried_out
+from contrib_folders import COPY, ERASE, GUARD, MOUNT, VERIFY, at_rest, tree, wanted_of
 from limits_model import Case, plan_text
 from rooms import Count, Room, refused, rows_of, shifts_of
 
@@ -185,8 +185,8 @@ def watch(room, name, case, shifts, kinds):
 
 # writes when it begins and ends; waits as long as its third word says
 JOB = "#!/bin/sh\necho begin $1 $2 >>log\nsleep $3\necho end $1 $2 >>log\n"
-# does so too, and ends once this line is in the log, within ten minutes
-AFTER = "#!/bin/sh\necho begin $1 $2 >>log\nat=0\nwhile [ -n \"$3\" ] && ! grep -qx \"$3\" log && [ $at -lt 6000 ]; do sleep 0.1; at=$((at + 1)); done\necho end $1 $2 >>log\n"
+# does so too, and ends once a line of the log, or of the file that its fourth word names, begins with its third word
+AFTER = "#!/bin/sh\necho begin $1 $2 >>log\nuntil [ -z \"$3\" ] || grep -qs \"^$3\" ${4:-log} || [ ! -e job ]; do sleep 0.1; done\necho end $1 $2 >>log\n"
 EAGER = "--verify 'sh job verify {item} 0' --erase 'sh job erase {item} 0'"
 
 
@@ -208,7 +208,10 @@ def eager_limits():
             Count.same(f"{name}: a second time", room.good(name, f"contrib/run-plan --eager disks.csv {EAGER} plan.txt sh job copy {{item}} 0"), f"all {len(rounds)} rounds are carried out\n")
             os.unlink(room.path("plan.txt.place"))
             os.unlink(room.path("log"))
-            room.good(name, f"contrib/run-plan --eager disks.csv --jobs 3 {EAGER} plan.txt sh job copy {{item}} 0")
+            (first, *_), (second, *_) = rounds[0][:2]
+            room.write("job", AFTER)  # the first one is under way as long as it takes for another to begin
+            room.write("waits", f"for=''\n[ $1 = {first} ] && for='begin copy {second}$'\nsh job copy $1 \"$for\"\n")
+            room.good(name, f"contrib/run-plan --eager disks.csv --jobs 3 {EAGER.replace(' 0', '')} plan.txt sh waits {{item}}")
             Count.that(f"{name}: --jobs", watch(room, f"{name}, --jobs 3", case, shifts, ("copy", "verify", "erase")) >= 2)
 
 
@@ -242,8 +245,10 @@ def no_barrier():
         # begun again where the first round is done: what needed it begins
         lines = room.read("plan.txt.place").splitlines(True)
         room.write("plan.txt.place", "".join(it for it in lines if it.split()[0] == "plan" or it.split()[1] == "1"))
-        printed = room.good("no barrier", f"contrib/run-plan {words}")
-        Count.that("it goes on after the first round", printed.startswith("3 of 5 transfers are done\n") and printed.endswith("all 3 rounds are carried out\n"), printed)
+        printed = room.good("no barrier", f"rm log; contrib/run-plan {words}")
+        order = collections.Counter(events_of(room))
+        Count.same("it goes on after the first round", order, collections.Counter((what, kind, it) for it in ("y-2", "x-2", "z-3") for kind in ("copy", "erase") for what in ("begin", "end")))
+        Count.that("and says so", re.fullmatch(r"(3 of 5 transfers are done\n)?(4 of 5 transfers are done\n)?5 of 5 transfers are done\nall 3 rounds are carried out\n", printed), printed)
         # s is free, and the first that waits for it finds t1 in use: the next one begins
         room.write("disks.csv", "disk,limit,slots\n" + "".join(f"{it},1,9\n" for it in ("s", "t1", "t2", "t3", "x")))
         room.write("plan.txt", plan_text([[["long", "x", "0", "t1", "0"], ["first", "s", "0", "t3", "0"]], [["held", "s", "1", "t1", "1"]], [["next", "s", "2", "t2", "0"]]]))
@@ -256,12 +261,12 @@ def no_barrier():
 def eager_stops():
     """Where a command fails nothing more begins; the same words go on, with --eager and without it; and the place is the same."""
     with Room() as room:  # a long one runs while another one fails
-        room.write("job", JOB)
+        room.write("job", AFTER)
         room.write("disks.csv", SPLIT + "".join(f"{it},1,1,9\n" for it in "abcd"))
         room.write("plan.txt", plan_text([[["bad", "a", "0", "b", "0"], ["long", "c", "0", "d", "0"]], [["more", "c", "1", "d", "1"]]]))
-        ran = room.run("contrib/run-plan --eager disks.csv --erase 'sh job erase {item} 0' plan.txt sh -c '[ $1 = bad ] && exit 3; sh job copy $1 0.5' sh {item}")
+        ran = room.run("contrib/run-plan --eager disks.csv --erase 'sh job erase {item}' plan.txt sh -c '[ $1 = bad ] && exit 3; sh job copy $1 \"run-plan: not copied 1 bad\" notes' sh {item} 2>notes")
         Count.same("nothing more begins once one fails", [(what, kind, item) for what, kind, item in events_of(room)], [("begin", "copy", "long"), ("end", "copy", "long")])
-        Count.that("what is left is told", ran.returncode == 1 and "not copied 1 bad: status 3" in ran.stderr and "stopped with 3 of 3 transfers left, and nothing more is removed" in ran.stderr, ran)
+        Count.that("what is left is told", ran.returncode == 1 and "not copied 1 bad: status 3" in room.read("notes") and "stopped with 3 of 3 transfers left, and nothing more is removed" in room.read("notes"), (ran, room.read("notes")))
         Count.that("what ended well is kept", "copied 1 long\n" in room.read("plan.txt.place"))
     with Room() as room:
         room.good("run-plan", MOUNT)
@@ -294,9 +299,7 @@ def eager_stops():
             room.run(f"timeout -s KILL {0.15 + rnd.random() / 4:.2f} contrib/run-plan {words}")
             whole = {it for disk in os.listdir(room.path("mnt")) for it in os.listdir(room.path(f"mnt/{disk}")) if it != ".here" and room.read(f"mnt/{disk}/{it}/data") == f"{it}\n"}
             Count.same(f"nothing is lost after kill {at + 1}", set(wanted) - whole, set())
-        end, ran = time.time() + PATIENCE, None
-        while (ran is None or "still at work" in ran.stderr) and time.time() < end:
-            ran = room.run(f"contrib/run-plan {words}")
+        ran = at_rest(lambda: room.run(f"contrib/run-plan {words}"))
         Count.that("it ends well after all kills", ran.returncode == 0 and tree(room) == wanted, ran)
 
 

@@ -145,16 +145,19 @@ def pauses():
     with Room() as room:
         room.good("pauses", "cp examples/*.csv . && ./migrate plan disks.csv now.csv next.csv plan.txt cert.txt")
         room.write("over.py", OVER)
-        room.write("job", "#!/bin/sh\necho begin $1 $2 >>log\nsleep 0.2\n[ $1 = copy ] && [ -e stop-$2 ] && touch $(cat stop-$2)\necho end $1 $2 >>log\n")
         rounds = shifts_of(room.read("plan.txt"))
         first, all_ = {it[0] for it in rounds[0]}, {it[0] for round_ in rounds for it in round_}
+        # each other copy ends after the first one, so that not all have begun by then
+        room.write("job", "#!/bin/sh\necho begin $1 $2 >>log\n[ $1 = copy ] && [ -e stop-$2 ] && touch $(cat stop-$2)\n"
+                          f"until [ $1-$2 = copy-{rounds[0][0][0]} ] || grep -qx 'end copy {rounds[0][0][0]}' log || [ ! -e job ]; do sleep 0.1; done\necho end $1 $2 >>log\n")
         for eager in ("", "--eager disks.csv"):
             words = f"{eager} --verify 'sh job verify {{item}}' --erase 'sh job erase {{item}}' plan.txt sh job copy {{item}}"
             stop = f"stop-{rounds[0][0][0]}"
             room.good("pauses", f"rm -f log notes pause over plan.txt.place*; echo pause >{stop}")
             ran = subprocess.Popen(["bash", "-c", f"exec contrib/run-plan {words} >said 2>notes"], cwd=room.at, env=room.env)
             until(lambda: "paused" in (room.read("notes") or ""), "a pause")
-            time.sleep(1)
+            until(lambda: room.read("log").count("begin copy ") == room.read("log").count("end erase "), "what is under way to end")
+            time.sleep(0.5)
             log = [it.split() for it in room.read("log").splitlines()]
             begun = {item for what, kind, item in log if (what, kind) == ("begin", "copy")}
             Count.that(f"a pause, {eager or 'rounds'}: nothing begins", begun < all_ and (eager or begun == first) and ran.poll() is None, log)
@@ -184,7 +187,7 @@ def pauses():
             until(lambda: "paused" in (room.read("notes") or ""), "a pause")
             ran.terminate()
             Count.that(f"a pause that is stopped, {eager or 'rounds'}", ran.wait(PATIENCE) == 130 and room.read("log") is None and "begin again with the same words" in room.read("notes"), room.read("notes"))
-            ended = room.run(f"(sleep 1; touch over) & python3 over.py {words}")
+            ended = room.run(f"rm notes; (until grep -qs paused notes || ! kill -0 $$; do sleep 0.1; done; touch over) & python3 over.py {words} 2>notes")
             Count.that(f"a pause up to --until, {eager or 'rounds'}", ended.returncode == 3 and room.read("log") is None, ended)
         refused(room, "--until of no time", "contrib/run-plan --until 25:00 plan.txt true {item}", "--until", 2)
 

