@@ -44,12 +44,22 @@ pub struct Disk {
 }
 
 /// Disks, items by name, where each item is and to which disk it is to go.
-#[derive(Drop)]
 pub struct Input {
     disks: Vec<Disk>,
     items: Vec<Name>,
     spots: Vec<Spot>,
     next: Vec<DiskId>,
+}
+
+impl Drop for Input {
+    fn drop(self) {
+        let Input {
+            disks: _disks,
+            items: _items,
+            spots: _spots,
+            next: _next,
+        } = self;
+    }
 }
 
 impl Model for Input {

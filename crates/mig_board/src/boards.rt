@@ -16,11 +16,20 @@ use std::marker::Model;
 ///
 /// Colours are the numbers below the board's number of colours. A colour is missing at a node where no edge at the
 /// node has it. Only `new` takes memory: four bytes and a bit for each node and colour.
-#[derive(Drop)]
 pub struct Board {
     ends: Vec<(CopyId, CopyId)>,
     painted: Vec<Option<Colour>>,
     table: Table,
+}
+
+impl Drop for Board {
+    fn drop(self) {
+        let Board {
+            ends: _ends,
+            painted: _painted,
+            table: _table,
+        } = self;
+    }
 }
 
 impl Model for Board {

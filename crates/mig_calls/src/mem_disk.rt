@@ -27,12 +27,22 @@ pub enum Step {
 }
 
 /// Files in memory, and the steps that made them. Reads and changes don't depend on how many steps there were.
-#[derive(Drop)]
 pub struct MemDisk {
     alloc: Global,
     table: PlaceTable,
     files: Vec<MemFile>,
     steps: Vec<Step>,
+}
+
+impl Drop for MemDisk {
+    fn drop(self) {
+        let MemDisk {
+            alloc: _,
+            table: _table,
+            files: _files,
+            steps: _steps,
+        } = self;
+    }
 }
 
 impl Model for MemDisk {

@@ -15,7 +15,6 @@ use std::marker::Model;
 ///
 /// Two disks may be joined by several edges, and no edge joins a disk to itself. Loads, quotient and evenness are
 /// counted once, when the graph is made.
-#[derive(Drop)]
 pub struct Graph {
     disks: Vec<Disk>,
     edges: Vec<Edge>,
@@ -24,6 +23,20 @@ pub struct Graph {
     quotient: u32,
     duplex: bool,
     even: bool,
+}
+
+impl Drop for Graph {
+    fn drop(self) {
+        let Graph {
+            disks: _disks,
+            edges: _edges,
+            outgoing: _outgoing,
+            incoming: _incoming,
+            quotient: _,
+            duplex: _,
+            even: _,
+        } = self;
+    }
 }
 
 impl Model for Graph {

@@ -51,7 +51,6 @@ fn hint_for<R: AllocGlobal + Files<File = File>>(
 }
 
 /// The bytes of a command's files; None for one that the command doesn't have, or that can't be read again.
-#[derive(Drop)]
 struct Loaded {
     disks: Option<Vec<u8>>,
     now: Option<Vec<u8>>,
@@ -59,6 +58,19 @@ struct Loaded {
     plan: Option<Vec<u8>>,
     cert: Option<Vec<u8>>,
     script: Option<Vec<u8>>,
+}
+
+impl Drop for Loaded {
+    fn drop(self) {
+        let Loaded {
+            disks: _disks,
+            now: _now,
+            next: _next,
+            plan: _plan,
+            cert: _cert,
+            script: _script,
+        } = self;
+    }
 }
 
 impl Loaded {

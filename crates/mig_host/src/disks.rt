@@ -15,7 +15,6 @@ use std::io;
 use std::rt::Files;
 
 /// The disks' files that are open. That a file isn't there is found out once, until this process makes it.
-#[derive(Drop)]
 pub struct Disks {
     alloc: Global,
     open: IndexMap<Name, Opened>,
@@ -26,6 +25,19 @@ pub struct Disks {
     nodes: IndexMap<Node, Name>,
     /// The permissions of the first file that was opened: new ones get the same.
     mode: Option<u32>,
+}
+
+impl Drop for Disks {
+    fn drop(self) {
+        let Disks {
+            alloc: _,
+            open: _open,
+            recent: _,
+            absent: _absent,
+            nodes: _nodes,
+            mode: _mode,
+        } = self;
+    }
 }
 
 impl Disks {

@@ -10,12 +10,21 @@ use std::fs::{self, File};
 use std::rt::Files;
 
 /// The files of the working folder.
-#[derive(Drop)]
 pub struct HostFiles {
     disks: Disks,
     journal: Journal,
     /// The folder, kept open so that it can be synced when no more files can be opened.
     folder: Option<File>,
+}
+
+impl Drop for HostFiles {
+    fn drop(self) {
+        let HostFiles {
+            disks: _disks,
+            journal: _journal,
+            folder: _folder,
+        } = self;
+    }
 }
 
 impl HostFiles {

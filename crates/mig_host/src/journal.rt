@@ -26,7 +26,6 @@ struct Copy {
 }
 
 /// The journal's file, which one process writes at a time.
-#[derive(Drop)]
 pub struct Journal {
     alloc: Global,
     opened: Option<Opened>,
@@ -37,6 +36,19 @@ pub struct Journal {
     renamed: Option<String>,
     /// This process alone may write.
     locked: bool,
+}
+
+impl Drop for Journal {
+    fn drop(self) {
+        let Journal {
+            alloc: _,
+            opened: _opened,
+            found: _found,
+            copy: _copy,
+            renamed: _renamed,
+            locked: _,
+        } = self;
+    }
 }
 
 impl Journal {

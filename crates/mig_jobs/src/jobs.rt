@@ -24,7 +24,6 @@ use std::alloc::{AllocError, Global};
 use std::marker::Model;
 
 /// An input, a plan that runs on it, and the digest of the plan's text.
-#[derive(Drop)]
 pub struct Job {
     input: Input,
     plan: Plan,
@@ -37,6 +36,20 @@ pub struct Job {
     vacancies: Vec<Vacancy>,
     // For each item where the plan's shifts take it, in the order of their rounds.
     stops: Vec<Vec<Stop>>,
+}
+
+impl Drop for Job {
+    fn drop(self) {
+        let Job {
+            input: _input,
+            plan: _plan,
+            digest: _,
+            shifts: _,
+            targets: _targets,
+            vacancies: _vacancies,
+            stops: _stops,
+        } = self;
+    }
 }
 
 impl Model for Job {

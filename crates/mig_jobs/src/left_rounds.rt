@@ -13,9 +13,14 @@ use std::marker::Model;
 /// For each spot the round in which it was last left, where no shift has gone to it since; otherwise 0.
 ///
 /// A spot is found without a search through the spots.
-#[derive(Drop)]
 pub struct LeftRounds {
     rounds: IndexMap<Spot, u32>,
+}
+
+impl Drop for LeftRounds {
+    fn drop(self) {
+        let LeftRounds { rounds: _rounds } = self;
+    }
 }
 
 impl Model for LeftRounds {

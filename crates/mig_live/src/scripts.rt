@@ -39,9 +39,15 @@ impl From<AllocError> for ScriptError {
 }
 
 /// Orders, one after the other.
-#[derive(Debug, Drop)]
+#[derive(Debug)]
 pub struct Script {
     orders: Vec<Order>,
+}
+
+impl Drop for Script {
+    fn drop(self) {
+        let Script { orders: _orders } = self;
+    }
 }
 
 impl Model for Script {

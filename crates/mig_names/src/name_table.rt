@@ -10,9 +10,14 @@ use std::marker::Model;
 /// Different names in the order in which they came.
 ///
 /// A name is found without a search through the names.
-#[derive(Drop)]
 pub struct NameTable {
     names: IndexSet<Name>,
+}
+
+impl Drop for NameTable {
+    fn drop(self) {
+        let NameTable { names: _names } = self;
+    }
 }
 
 impl Model for NameTable {

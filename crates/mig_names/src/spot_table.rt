@@ -10,9 +10,14 @@ use std::marker::Model;
 /// Different spots in the order in which they came.
 ///
 /// A spot is found without a search through the spots.
-#[derive(Drop)]
 pub struct SpotTable {
     spots: IndexSet<Spot>,
+}
+
+impl Drop for SpotTable {
+    fn drop(self) {
+        let SpotTable { spots: _spots } = self;
+    }
 }
 
 impl Model for SpotTable {

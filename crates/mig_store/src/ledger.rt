@@ -19,7 +19,6 @@ use std::alloc::{AllocError, Global};
 use std::marker::Model;
 
 /// What was asked of the cells, and what they hold.
-#[derive(Drop)]
 pub struct Ledger {
     table: CellTable,
     held: Vec<Held<Entry>>,
@@ -29,6 +28,20 @@ pub struct Ledger {
     events: Vec<Event>,
     flying: Vec<Flight>,
     room: u32,
+}
+
+impl Drop for Ledger {
+    fn drop(self) {
+        let Ledger {
+            table: _table,
+            held: _held,
+            period: _,
+            calls: _calls,
+            events: _events,
+            flying: _flying,
+            room: _,
+        } = self;
+    }
 }
 
 impl Model for Ledger {

@@ -11,11 +11,20 @@ use std::alloc::{AllocError, Global};
 use std::marker::Model;
 
 /// Finds the disks and items of an input by name.
-#[derive(Drop)]
 pub struct Finder<'a> {
     input: &'a Input,
     disks: NameTable,
     items: NameTable,
+}
+
+impl Drop for Finder<'_> {
+    fn drop(self) {
+        let Finder {
+            input: _,
+            disks: _disks,
+            items: _items,
+        } = self;
+    }
 }
 
 impl<'a> Model for Finder<'a> {
