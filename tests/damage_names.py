@@ -135,18 +135,15 @@ def shared_disks(program):
 
 
 def racing_folders(program):
-    """The same, with the second started once the first has written to the shared disk, and both at work: each item stands somewhere."""
-    for _ in range(5):
+    """The same, with both started at once: one of them ends well, and each item stands somewhere."""
+    for _ in range(20):
         with Room(program) as one, Room(program) as other:
             one.write("shared", b"")
             for room, name in ((one, "first"), (other, "second")):
                 filled(room, [f"{name}{n}" for n in range(100)], one.path("shared"), 100)
-            first = one.start([one.path("migrate"), *WORDS["move"]])
-            until(lambda: os.path.getsize(one.path("shared")) or first.poll() is not None, "a first write")
-            second = other.run(*WORDS["move"])
-            first.communicate()
-            ends = [first.returncode, second.status]
-            Count.that("of two movers to the same slots the first one alone ends well", ends in ([0, 5], [0, 9]), ends)
+            movers = [room.start([room.path("migrate"), *WORDS["move"]]) for room in (one, other)]
+            ends = [mover.communicate() and mover.returncode for mover in movers]
+            Count.that("of two movers to the same slots one alone ends well", sorted(ends) in ([0, 5], [0, 9]), ends)
             there = held_in(one, "shared").keys() | held_in(one, "a.disk").keys() | held_in(other, "a.disk").keys()
             Count.same("each item stands somewhere", len(there), 200)
 

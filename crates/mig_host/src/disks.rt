@@ -4,14 +4,14 @@ ghost use Rattle.std.specs.Prelude.{◌≤◌, ◌<◌, IfOk, length};
 use crate::failures::{Failure, too_many_open};
 use crate::identity::Node;
 use crate::journal::Journal;
-use crate::opened::{Opened, open_to_read, open_to_write};
+use crate::opened::{Opened, open_again, open_to_read, open_to_write};
 use crate::texts::DiskFile;
 use indexmap::{IndexMap, IndexSet};
 use mig_base::Name;
 use mig_calls::{Extent, Written};
 use std::alloc::Global;
 use std::fs::File;
-use std::io;
+use std::io::{self, Error, ErrorKind};
 use std::rt::Files;
 
 /// The disks' files that are open. That a file isn't there is found out once, until this process makes it.
@@ -136,7 +136,7 @@ impl Disks {
         let _ = self.open.swap_remove(name);
     }
 
-    /// The disk's file, opened where it isn't, if it is there.
+    /// The disk's file, opened where it isn't, if it is there. Once this process has claimed the journal it locks a file before it looks at it: what is seen there stays until this process writes over it.
     fn to_read<R: Files<File = File>>(
         &mut self,
         rt: &R,
@@ -147,9 +147,33 @@ impl Disks {
             self.open_for_reading(rt, journal, name)?;
             let _ = self.finds(name);
         }
+        if journal.is_claimed() {
+            self.lock_open(rt, name)?;
+        }
         match self.open.get_index(self.recent) {
             Some((disk, opened)) if disk == name => Ok(Some(opened)),
             _ => Ok(None),
+        }
+    }
+
+    /// Opens the disk's file for writing too, for this process alone, where it is open for reading. One that can't be written is left as it is.
+    fn lock_open<R: Files<File = File>>(&mut self, rt: &R, name: &Name) -> Result<(), Failure> {
+        let node = match self.open.get_index(self.recent) {
+            Some((disk, opened)) if disk == name && !opened.writable => opened.node,
+            _ => return Ok(()),
+        };
+        match self.find_again(rt, name) {
+            Ok(opened) => {
+                if opened.node != node {
+                    return Err(Failure::OfDisk(*name, exchanged()));
+                }
+                if let Err(error) = opened.lock() {
+                    return Err(Failure::OfDisk(*name, error));
+                }
+                self.keep(name, opened)
+            }
+            Err(error) if is_read_only(&error) => Ok(()),
+            Err(error) => Err(Failure::OfDisk(*name, error)),
         }
     }
 
@@ -208,6 +232,9 @@ impl Disks {
             Err(error) => return Err(Failure::OfDisk(*name, error)),
         };
         self.identify(journal, name, &opened)?;
+        if !made && self.absent.contains(name) {
+            return Err(Failure::OfDisk(*name, exchanged()));
+        }
         if let Err(error) = self.take(&opened, made) {
             return Err(Failure::OfDisk(*name, error));
         }
@@ -224,6 +251,12 @@ impl Disks {
         self.check_spare(name)?;
         let path = format!(in self.alloc; "{}", DiskFile(name))?;
         open_to_read(rt, self.alloc, path.as_str())
+    }
+
+    fn find_again<R: Files<File = File>>(&self, rt: &R, name: &Name) -> io::Result<Opened> {
+        self.check_spare(name)?;
+        let path = format!(in self.alloc; "{}", DiskFile(name))?;
+        open_again(rt, path.as_str())
     }
 
     fn find_to_write<R: Files<File = File>>(
@@ -275,4 +308,17 @@ impl Disks {
             Err(_) => Err(Failure::memory(*name)),
         }
     }
+}
+
+/// Another file has the disk's name than the one that was looked at.
+fn exchanged() -> Error {
+    Error::other("another process made or exchanged it meanwhile")
+}
+
+/// Whether a file can't be written, though it can be read.
+fn is_read_only(error: &Error) -> bool {
+    matches!(
+        error.kind(),
+        ErrorKind::PermissionDenied | ErrorKind::ReadOnlyFilesystem
+    )
 }

@@ -54,10 +54,11 @@ fn device_at<R: Files<File = File>>(rt: &R, alloc: Global, number: u64) -> io::R
 
 fn nothing_at<R: Files<File = File>>(rt: &R, path: &str) -> io::Result<Found> {
     match fs::symlink_metadata(rt, path) {
-        Ok(_) => Err(Error::new(
+        Ok(found) if found.is_symlink() => Err(Error::new(
             ErrorKind::NotFound,
             "it is a link that leads nowhere: is the disk mounted?",
         )),
+        Ok(_) => Err(Error::other("another process made it at this moment")),
         Err(error) if error.kind() == ErrorKind::NotFound => Ok(Found::Nothing),
         Err(error) => Err(error),
     }

@@ -84,6 +84,11 @@ impl Journal {
         }
     }
 
+    /// Whether this process has taken the file.
+    pub fn is_claimed(&self) -> bool {
+        self.locked
+    }
+
     /// Reads some bytes, none where the file isn't there. It takes no lock. A copy that is being made is removed where that fails.
     pub fn read_at<R: Files<File = File>>(
         &mut self,

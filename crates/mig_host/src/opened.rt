@@ -45,25 +45,21 @@ pub fn open_to_write<R: Files<File = File>>(
     alloc: Global,
     path: &str,
 ) -> io::Result<(Opened, bool)> {
-    let mut options = OpenOptions::new();
-    options.read(true).write(true);
-    let made = found_at(rt, alloc, path)? == Found::Nothing;
-    let file = if made {
-        make(&mut options, rt, path)?
-    } else {
-        options.open(rt, path)?
-    };
-    Ok((look_at(file, true)?, made))
+    if found_at(rt, alloc, path)? == Found::Nothing {
+        match make_new(rt, path) {
+            // another process made it at this moment
+            Err(error) if error.kind() == ErrorKind::AlreadyExists => {}
+            made => return Ok((made?, true)),
+        }
+    }
+    Ok((open_again(rt, path)?, false))
 }
 
-/// Makes a file where none was found. Where another process makes it at this moment, its lock decides.
-fn make<R: Files<File = File>>(options: &mut OpenOptions, rt: &R, path: &str) -> io::Result<File> {
-    match options.create_new(true).open(rt, path) {
-        Err(error) if error.kind() == ErrorKind::AlreadyExists => {
-            options.create_new(false).open(rt, path)
-        }
-        opened => opened,
-    }
+/// Opens a file that is there for reading and writing.
+pub fn open_again<R: Files<File = File>>(rt: &R, path: &str) -> io::Result<Opened> {
+    let mut options = OpenOptions::new();
+    options.read(true).write(true);
+    look_at(options.open(rt, path)?, true)
 }
 
 /// Makes a new file, which must not be there.

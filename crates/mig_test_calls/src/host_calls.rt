@@ -186,6 +186,38 @@ fn each_call_over_real_files(rt: HostRuntime) {
     leave(&rt, "host_calls").expect(&rt, "a folder");
 }
 
+/// Whether no process has locked a file.
+fn is_free<R: Files<File = File>>(rt: &R, path: &str) -> bool {
+    match fs::open(rt, path) {
+        Ok(file) => file.try_lock().is_ok(),
+        Err(_) => false,
+    }
+}
+
+/// Asserts that a disk is locked where it is looked at, once the journal is claimed.
+fn expect_locked<R: Abort + Files<File = File> + Eprint>(rt: &R, calls: &mut HostCalls<'_, R>) {
+    assert!(rt; has(calls, &disk_of(b"a"), 0, b"held"));
+    assert!(rt; is_free(rt, "a.disk"));
+    assert!(rt; calls.claim().is_ok());
+    assert!(rt; has(calls, &disk_of(b"a"), 0, b"held"));
+    assert!(rt; !is_free(rt, "a.disk"));
+}
+
+#[test]
+fn what_is_looked_at_stays(rt: HostRuntime) {
+    enter(&rt, "looked_at").expect(&rt, "a folder");
+    assert!(rt; fs::write(&rt, "a.disk", b"held").is_ok());
+    let mut calls = HostCalls::new(&rt, rt.alloc());
+    expect_locked(&rt, &mut calls);
+    // a disk that wasn't there is made by another process
+    let made = disk_of(b"b");
+    assert!(rt; extends(&mut calls, &made, Extent::Absent));
+    assert!(rt; fs::write(&rt, "b.disk", b"another's").is_ok());
+    assert!(rt; !writes(&mut calls, &made, 9, b"x", false));
+    assert!(rt; fs::metadata(&rt, "b.disk").is_ok_and(|found| found.len() == 9));
+    leave(&rt, "looked_at").expect(&rt, "a folder");
+}
+
 /// Asserts that a place is neither read nor written.
 fn expect_failed<R: Files<File = File> + Eprint>(
     rt: &impl Abort,
