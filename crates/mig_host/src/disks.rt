@@ -256,7 +256,7 @@ impl Disks {
     fn find_again<R: Files<File = File>>(&self, rt: &R, name: &Name) -> io::Result<Opened> {
         self.check_spare(name)?;
         let path = format!(in self.alloc; "{}", DiskFile(name))?;
-        open_again(rt, path.as_str())
+        open_again(rt, self.alloc, path.as_str())
     }
 
     fn find_to_write<R: Files<File = File>>(

@@ -52,11 +52,18 @@ pub fn open_to_write<R: Files<File = File>>(
             made => return Ok((made?, true)),
         }
     }
-    Ok((open_again(rt, path)?, false))
+    Ok((open_there(rt, path)?, false))
 }
 
-/// Opens a file that is there for reading and writing.
-pub fn open_again<R: Files<File = File>>(rt: &R, path: &str) -> io::Result<Opened> {
+/// Opens a file for reading and writing that was open for reading, and is still there.
+pub fn open_again<R: Files<File = File>>(rt: &R, alloc: Global, path: &str) -> io::Result<Opened> {
+    if found_at(rt, alloc, path)? == Found::Nothing {
+        return Err(ErrorKind::NotFound.into());
+    }
+    open_there(rt, path)
+}
+
+fn open_there<R: Files<File = File>>(rt: &R, path: &str) -> io::Result<Opened> {
     let mut options = OpenOptions::new();
     options.read(true).write(true);
     look_at(options.open(rt, path)?, true)
