@@ -5,18 +5,16 @@ import os
 
 def write_case(folder, disks, per_pair, limits):
     """The case of so many disks and items per ordered pair of disks. `limits` is one limit, or a list of one for each disk."""
-    slots = 2 * (disks - 1) * per_pair
-    write_disks(folder, limits if isinstance(limits, list) else [limits] * disks, [slots] * disks)
-    now, next_ = ["item,disk,slot\n"], ["item,disk\n"]
-    item = 0
-    for source in range(disks):
-        slot = 0
-        for target in range(disks):
-            for _ in range(per_pair if target != source else 0):
-                now.append(f"i{item},d{source},{slot}\n")
-                next_.append(f"i{item},d{target}\n")
-                item, slot = item + 1, slot + 1
-    write_items(folder, now, next_)
+    each = (disks - 1) * per_pair
+    write_disks(folder, limits if isinstance(limits, list) else [limits] * disks, [2 * each] * disks)
+    moves = list(enumerate(moves_between(disks, per_pair)))
+    write_items(folder, ["item,disk,slot\n"] + [f"i{item},d{source},{item % each}\n" for item, (source, _) in moves],
+                ["item,disk\n"] + [f"i{item},d{target}\n" for item, (_, target) in moves])
+
+
+def moves_between(disks, per_pair):
+    """So many moves from each disk to each other one."""
+    return [(source, target) for source in range(disks) for target in range(disks) if target != source for _ in range(per_pair)]
 
 
 def write_random(folder, disks, items, limits, seed):

@@ -14,10 +14,10 @@ def rounds_of(limits, moves):
         ends = (source, target) if source in limits else ((source, "out"), (target, "in"))
         blocked = full[ends[0]] | full[ends[1]]
         at = (~blocked & (blocked + 1)).bit_length()  # the lowest bit that is 0
-        last = max(last, at)
+        last = at if at > last else last
         for side in ends:
-            taken[side][at] = taken[side].get(at, 0) + 1
-            if taken[side][at] == limits[side]:
+            taken[side][at] = count = taken[side].get(at, 0) + 1
+            if count == limits[side]:
                 full[side] |= 1 << (at - 1)
     return last
 
@@ -43,4 +43,9 @@ def of_files(folder):
     limits = {}
     for disk, *most, _ in rows("disks.csv"):
         limits |= {disk: int(most[0])} if len(most) == 1 else {(disk, "out"): int(most[0]), (disk, "in"): int(most[1])}
+    return of_moves(limits, moves)
+
+
+def of_moves(limits, moves):
+    """The rounds in the order in which the moves are given, and in a random order."""
     return rounds_of(limits, moves), rounds_of(limits, shuffled(moves))

@@ -36,6 +36,8 @@ class Case:
         """The first round, disk and way with more moves than the limit, and the number of these; None where there is none."""
         for at, shifts in enumerate(rounds, 1):
             loads = self.loads((it[1], it[3]) for it in shifts)
+            if all(load <= self.limits[disk][way] for (disk, way), load in loads.items()):
+                continue
             for disk, limits in self.limits.items():
                 for way, limit in limits.items():
                     if loads[disk, way] > limit:

@@ -5,8 +5,8 @@ A session is read from its page: in a block of the kind 'console' a line '$ COMM
 import os, re
 from session_inputs import AFTER, CERT_TEXT, CHECK, DISKS, LAYOUT_TEXT, PLAN, PLAN_TEXT, SMALL, put
 from session_rooms import TOP, Count, Room, page
-from cases import write_case
-from first_come import of_files
+from cases import moves_between
+from first_come import of_moves
 
 COMMANDS = ("plan", "check", "after", "fill", "audit", "move", "resume", "halt", "drill", "plan-tight", "move-tight", "after-tight", "drain", "live", "rehearse")
 # each page with a session: commands that it has to show, the files that it shows whole, and the other ones that it makes
@@ -69,8 +69,8 @@ def the_measured(program):
     with Room(program) as room:
         for disks, per_pair, limit, *wanted in rows:
             told = dict(line.split(" ", 1) for line in room.run("rehearse", disks, per_pair, limit).out.decode().splitlines())
-            write_case(room.at, int(disks), int(per_pair), int(limit))
-            found = [told.get("quotient"), told.get("bound"), told.get("rounds"), *map(str, of_files(room.at))]
+            queues = of_moves(dict.fromkeys(range(int(disks)), int(limit)), moves_between(int(disks), int(per_pair)))
+            found = [told.get("quotient"), told.get("bound"), told.get("rounds"), *map(str, queues)]
             Count.same(f"MEASURED: {disks} disks, {per_pair} items, limit {limit}", found, wanted)
     told = page("README.md").partition("## Measured")[2]
     for numbers in NAMED:

@@ -1,9 +1,9 @@
 """What the tests of the program share: an empty folder with the program in it, what a run of it gave, and what is counted."""
-import os, resource, shutil, signal, subprocess, sys, tempfile
+import contextlib, os, resource, shutil, signal, subprocess, sys, tempfile
+from waiting import LIMIT, in_vain
 
 TOP = os.path.dirname(os.path.dirname(os.path.realpath(__file__)))
 NOBODY = 65534
-LIMIT = 1800  # a run that has not ended after so many seconds is taken to hang
 resource.setrlimit(resource.RLIMIT_CORE, (0, 0))
 
 sys.dont_write_bytecode = True
@@ -25,6 +25,20 @@ class Ran:
 
     def __str__(self):
         return f"status {self.status}, printed {self.out[:200]!r}, said {self.err[-200:]!r}"
+
+
+@contextlib.contextmanager
+def as_nobody():
+    """What is started meanwhile is nobody's. Root takes nobody's part for so long: a child that gave up being root by itself would have to be a
+    copy of this whole process first."""
+    os.setgroups([])
+    os.setresgid(NOBODY, NOBODY, 0)
+    os.setresuid(NOBODY, NOBODY, 0)
+    try:
+        yield
+    finally:
+        os.setresuid(0, 0, 0)
+        os.setresgid(0, 0, 0)
 
 
 class Room:
@@ -81,8 +95,9 @@ class Room:
                 resource.setrlimit(which, (most, most))
 
         env = {"PATH": "/usr/local/bin:/usr/bin:/bin", "LANG": "C.UTF-8"}
-        return subprocess.Popen(words, cwd=self.at, env=env, stdin=subprocess.DEVNULL, stdout=stdout,
-                                stderr=subprocess.PIPE, preexec_fn=prepare if limits else None, start_new_session=True, **self.user)
+        with as_nobody() if self.user else contextlib.nullcontext():
+            return subprocess.Popen(words, cwd=self.at, env=env, stdin=subprocess.DEVNULL, stdout=stdout,
+                                    stderr=subprocess.PIPE, preexec_fn=prepare if limits else None, start_new_session=True)
 
     def run(self, *words, **how):
         """Runs ./migrate with these words, or the whole command `words[0]` of a shell where `shell` is set."""
@@ -92,7 +107,8 @@ class Room:
             out, err = started.communicate(timeout=LIMIT)
         except subprocess.TimeoutExpired:
             os.killpg(started.pid, signal.SIGKILL)
-            out, err = started.communicate()
+            started.communicate()
+            raise in_vain(f"{words} to end") from None
         return Ran(started.returncode, out or b"", err)
 
 
@@ -104,21 +120,22 @@ class Count:
 
     @classmethod
     def that(cls, name, holds, found=""):
+        """Where it doesn't hold, what was found is said; a call that gives it is made only then."""
         if holds:
             cls.passed += 1
             return
         cls.failed += 1
-        print(f"FAILED {cls.program}: {name}: {str(found)[:600]}", flush=True)
+        print(f"FAILED {cls.program}: {name}: {str(found() if callable(found) else found)[:600]}", flush=True)
 
     @classmethod
     def ended(cls, name, ran, status, out):
         """The run ended with this status and printed just these bytes."""
         out = out if isinstance(out, bytes) else out.encode()
-        cls.that(name, (ran.status, ran.out) == (status, out), f"{ran}; wanted status {status}, printed {out[:200]!r}")
+        cls.that(name, (ran.status, ran.out) == (status, out), lambda: f"{ran}; wanted status {status}, printed {out[:200]!r}")
 
     @classmethod
     def same(cls, name, found, wanted):
-        cls.that(name, found == wanted, f"{str(found)[:200]}; wanted {str(wanted)[:200]}")
+        cls.that(name, found == wanted, lambda: f"{str(found)[:200]}; wanted {str(wanted)[:200]}")
 
 
 def says(ran, *parts):

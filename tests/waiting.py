@@ -1,0 +1,28 @@
+"""How long a test waits for what has to happen: until it happens, and two minutes at most. Then it says what it waited for."""
+import subprocess, time
+
+LIMIT = 120
+
+
+def in_vain(what):
+    return TimeoutError(f"waited {LIMIT} seconds in vain for {what}")
+
+
+def until(holds, what):
+    """Waits until something holds that has to, and gives it."""
+    end = time.monotonic() + LIMIT
+    while not (found := holds()):
+        if time.monotonic() > end:
+            raise in_vain(what)
+        time.sleep(0.005)
+    return found
+
+
+def ended(process, what):
+    """Waits for a process to end, and gives what it printed, and what it said on standard error."""
+    try:
+        return process.communicate(timeout=LIMIT)
+    except subprocess.TimeoutExpired:
+        process.kill()
+        process.communicate()
+        raise in_vain(f"{what} to end") from None
