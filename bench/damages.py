@@ -5,7 +5,7 @@ these: such a slot is written over. A link that leads nowhere is a disk that isn
 tests/damage and bench/stops judge damaged stores by it.
 
 An image of a store has the bytes of each file, None for one that isn't there."""
-import hashlib, os, random, re
+import functools, hashlib, os, random, re
 from typing import NamedTuple
 
 from disks import GATE, SLOT, header, layouts, rounds_of
@@ -50,6 +50,7 @@ class Case:
             yield JOURNAL, mark(number), b"\1"
             yield from ((f"{disk}.disk", SLOT * slot, ZEROS) for _, (disk, slot), _ in shifts)
 
+    @functools.cache
     def image(self, count):
         """The files after a move's first writes."""
         files = {**{f"{disk}.disk": bytearray() for disk in self.slots}, JOURNAL: bytearray()}

@@ -193,7 +193,7 @@ def layouts_over_devices(room, device):
         join(device, room.path(LAYOUT))
         before, what = store.snapshot(), f"halt with the device of a disk as its layout {join.__name__}, {stage}"
         Count.ended(what, store.run("halt"), 4, "folder fault\n")
-        Count.that(f"{what}: nothing changes", store.snapshot() == before and device.read(0, 16) == held, changed(before, store.snapshot()))
+        Count.that(f"{what}: nothing changes", store.snapshot() == before and device.read(0, 16) == held, lambda: changed(before, store.snapshot()))
 
 
 def put_short(store, device, count):

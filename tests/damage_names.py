@@ -4,7 +4,7 @@ from clocked import until
 from session_cells import SLOT, cell, stores
 from session_inputs import put
 from session_rooms import Count, Room, says
-from damage_rooms import ENDS, LAYOUT, WORDS, Store, case, changed, example, judge, ring, stages, twins
+from damage_rooms import ENDS, LAYOUT, WORDS, Store, case, example, judge, ring, stages, twins
 from damages import JOURNAL, mark
 
 
@@ -37,7 +37,7 @@ def refused(store, what, command, *names, **how):
     ran = store.run(command, **how)
     Count.ended(what, ran, 5, "store fault\n")
     Count.that(f"{what}: the names are said", says(ran, *names), f"{ran}; wanted {names}")
-    Count.that(f"{what}: nothing is written", store.snapshot() == before, changed(before, store.snapshot()))
+    store.is_left(f"{what}: nothing is written", before)
 
 
 def doubles(program):
@@ -168,7 +168,7 @@ def layouts_over_disks(program):
             ran, what = room.run(*WORDS["halt"][:-1], word), f"halt with {word}, {join.__name__ if join else 'a true disk'} {target}, {stage}"
             Count.ended(what, ran, 4, "folder fault\n")
             Count.that(f"{what}: why is said", says(ran, f"migrate: cannot save {word}: "), ran)
-            Count.that(f"{what}: nothing changes", store.snapshot() == before, changed(before, store.snapshot()))
+            store.is_left(f"{what}: nothing changes", before)
             if join:
                 os.remove(room.path(word))
             store.put(store.case.image(spots[stage]))

@@ -3,7 +3,7 @@ command makes of them, by the model of bench/damages.py."""
 import os
 from session_cells import BEFORE, SLOT, cell
 from session_inputs import FILES, put
-from session_rooms import Count, page, says
+from session_rooms import Count, bytes_of, page, says
 from damages import JOURNAL, Case, Slots, journal_of, wanted
 
 OLD = 10**18
@@ -137,13 +137,23 @@ class Store:
     def snapshot(self):
         """All that the room holds but the program: links, bytes, and when they were written. A copy with the same bytes may take
         the journal's place."""
-        found = {}
-        for folder, _, names in os.walk(self.room.at):
-            for name in set(names) - {"migrate"}:
-                path = os.path.join(folder, name)
-                written = 0 if name == JOURNAL else os.stat(path, follow_symlinks=False).st_mtime_ns
-                found[path] = os.readlink(path) if os.path.islink(path) else (written, self.room.read(path))
+        found, folders = {}, [self.room.at]
+        for folder in folders:
+            with os.scandir(folder) as entries:
+                for it in entries:
+                    if it.is_dir(follow_symlinks=False):
+                        folders.append(it.path)
+                    elif it.is_symlink():
+                        found[it.path] = os.readlink(it.path)
+                    elif it.name != "migrate":
+                        written = 0 if it.name == JOURNAL else it.stat(follow_symlinks=False).st_mtime_ns
+                        found[it.path] = written, bytes_of(it.path)
         return found
+
+    def is_left(self, what, before):
+        """Nothing is written since the snapshot before."""
+        after = self.snapshot()
+        Count.that(what, after == before, lambda: changed(before, after))
 
     def run(self, command, **how):
         word, *files = WORDS[command]
@@ -194,14 +204,15 @@ def named(ran, vain):
 
 
 def padded(case, disks):
-    return {disk: held.ljust(SLOT * case.slots[disk], b"\0") for disk, held in disks.items()}
+    """What the disks hold with zeros up to their last slots: how long that is, and all but the zeros at its end."""
+    return {disk: (max(len(held), SLOT * case.slots[disk]), held.rstrip(b"\0")) for disk, held in disks.items()}
 
 
 def ended_well(store, name, command, outcome):
     """After status 0 each slot is as the model has it, and the journal and the layout say where the items are."""
     case, seen = store.case, store.seen()
     disks = {disk: seen[f"{disk}.disk"] or b"" for disk in case.slots}
-    Count.that(f"{name}: what the disks hold", padded(case, disks) == padded(case, outcome.disks), unlike(case, disks, outcome.disks))
+    Count.that(f"{name}: what the disks hold", padded(case, disks) == padded(case, outcome.disks), lambda: unlike(case, disks, outcome.disks))
     armed, head, found = journal_of(seen, len(case.rounds))
     if command == "halt":
         Count.same(f"{name}: the gate", armed, False)
@@ -220,13 +231,14 @@ def unlike(case, disks, others):
 
 def judge(store, what, command, away=frozenset()):
     """Runs a command over the store as it is, and compares what it says and leaves with the model."""
-    outcome, before, name = wanted(store.case, store.seen(), command, away), store.snapshot(), f"{what}: {command}"
+    outcome, name = wanted(store.case, store.seen(), command, away), f"{what}: {command}"
+    before = store.snapshot() if outcome.status else None
     ran = store.run(command)
     Count.ended(name, ran, outcome.status, outcome.text)
     if outcome.status == 0 == ran.status:
         ended_well(store, name, command, outcome)
     elif outcome.status:
-        Count.that(f"{name}: nothing is written", store.snapshot() == before, changed(before, store.snapshot()))
+        store.is_left(f"{name}: nothing is written", before)
     if outcome.vain and outcome.status == 9:
         Count.that(f"{name}: the file is said", says(ran, f"{outcome.vain[0][0]}.disk"), ran)
     if outcome.status == 5:
@@ -234,7 +246,7 @@ def judge(store, what, command, away=frozenset()):
         # before the gate slots are read, and not asked for items: a link that leads nowhere is told as that
         nowhere = "before the gate" in what and any(says(ran, f"{disk}.disk: it is a link that leads nowhere") for disk in outcome.away)
         why = nowhere or (named(ran, spots) if spots else says(ran, *(f"{disk}.disk" for disk in outcome.away)))
-        Count.that(f"{name}: why is said", why, f"{ran}; wanted one of {spots}")
+        Count.that(f"{name}: why is said", why, lambda: f"{ran}; wanted one of {spots}")
         Count.that(f"{name}: whether the disk is mounted is asked", says(ran, "mounted?"), ran)
     return outcome
 
@@ -250,4 +262,4 @@ def goes_on(store, what):
     Count.ended(f"{what}: resume with the true files", ran, 0, outcome.text)
     final = padded(store.case, {name[:-5]: held for name, held in store.case.image(10**9).items() if name != JOURNAL})
     found = {disk: store.room.read(f"disks/{disk}") or b"" for disk in store.case.slots}
-    Count.that(f"{what}: each item is there", padded(store.case, found) == final, unlike(store.case, found, final))
+    Count.that(f"{what}: each item is there", padded(store.case, found) == final, lambda: unlike(store.case, found, final))

@@ -15,6 +15,11 @@ def page(name):
         return file.read()
 
 
+def bytes_of(path):
+    with open(path, "rb", buffering=0) as file:
+        return file.read()
+
+
 # What is run, and where
 
 class Ran:
@@ -80,8 +85,7 @@ class Room:
     def read(self, name):
         """The bytes of a file; None where it is not there."""
         try:
-            with open(self.path(name), "rb") as file:
-                return file.read()
+            return bytes_of(self.path(name))
         except FileNotFoundError:
             return None
 
