@@ -52,13 +52,17 @@ static uint8_t *room_at(struct edge edge, size_t room)
     return edge.end - room;
 }
 
+/* Each byte is a mark: the first one is, and each other one is like the one before it. */
+static int is_marked(const uint8_t *at, size_t len)
+{
+    return len == 0 || (*at == MARK && memcmp(at, at + 1, len - 1) == 0);
+}
+
 /* What was handed back stands in its room alone: before it, and behind its bytes, all is as it was. */
 static void is_within(const uint8_t *at, size_t room, size_t len)
 {
-    for (size_t i = 1; i <= MARGIN; i++)
-        MUST(at[-(ptrdiff_t)i] == MARK);
-    for (size_t i = len; i < room; i++)
-        MUST(at[i] == MARK);
+    MUST(is_marked(at - MARGIN, MARGIN));
+    MUST(len >= room || is_marked(at + len, room - len));
 }
 
 /* One call: what is handed in (the three tables, a plan, a certificate, the name of a disk), the room that is given, and what came; next
@@ -272,8 +276,8 @@ static void random_calls(long calls, uint64_t seed)
     }
     state = seed;
     long counts[128] = {0};
+    static uint8_t room[IN][MOST];
     for (long n = 0; n < calls; n++) {
-        uint8_t room[IN][MOST];
         struct call it = call_of((enum function)below(FUNCTIONS), &base[below(3)], 0);
         for (int i = 0; i < IN; i++) {
             memcpy(room[i], it.in[i], it.in_len[i]);

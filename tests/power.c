@@ -1,6 +1,6 @@
-/* Preloaded by tests/power: tells of each call that changes a file, settles it or opens it, over the socket whose number POWER
+/* Preloaded by tests/power: tells of each call that changes a file, settles it, opens or closes it, over the socket whose number POWER
    is, and does as is answered: 0 to go on, -1 to do nothing and say that it was done, and else to fail with that errno. An open is
-   told once it was made. POWER_FILES limits how many files may be open. */
+   told once it was made; it and a close are made whatever is said, so no answer comes. POWER_FILES limits how many files may be open. */
 #define _GNU_SOURCE
 #include <dlfcn.h>
 #include <errno.h>
@@ -46,13 +46,14 @@ static int64_t file_of(int descriptor) {
 
 /* Tells of a call, with two runs of bytes, and gives what is answered. */
 static int ask(struct call call, const void *first, size_t length, const void *second, size_t more) {
-    int32_t answer;
+    int32_t answer = GO_ON;
     int before = errno;
     if (connection < 0)
         return GO_ON;
     struct iovec parts[3] = {{&call, sizeof call}, {(void *)first, length}, {(void *)second, more}};
     struct msghdr whole = {.msg_iov = parts, .msg_iovlen = 3};
-    if (sendmsg(connection, &whole, MSG_NOSIGNAL) < 0 || recv(connection, &answer, sizeof answer, 0) != sizeof answer)
+    int is_answered = call.kind != OPEN && call.kind != CLOSE;
+    if (sendmsg(connection, &whole, MSG_NOSIGNAL) < 0 || (is_answered && recv(connection, &answer, sizeof answer, 0) != sizeof answer))
         _exit(137);
     errno = before;
     return answer;

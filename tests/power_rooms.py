@@ -1,6 +1,7 @@
 """What tests/power stands on: what files and names hold in memory and on the device, and runs of the program whose calls are
 told one by one (power.c), so that any of them may be the last one, or may fail."""
-import errno, fcntl, os, random, shutil, socket, struct, subprocess, tempfile
+import errno, fcntl, functools, os, random, shutil, socket, struct, subprocess, tempfile
+from waiting import LIMIT, in_vain
 
 HERE = os.path.dirname(os.path.realpath(__file__))
 SLOT, SECTOR, JOURNAL, COPY = 4096, 512, "journal.mig", "journal.mig.copy.mig"
@@ -9,7 +10,6 @@ KINDS_OF_CALLS = ["open", "write", "length", "sync", "rename", "remove", "link",
 GO_ON, DONE = 0, -1
 CALL = struct.Struct("=iiiiqq")
 LONGEST = 1 << 18
-LIMIT = 1800  # a program that tells of no call for so many seconds is taken to hang
 
 # what a power cut may leave of a cell that was written since its file's last sync
 KINDS = ["old", "new", "half", "ones", "random"]
@@ -155,6 +155,12 @@ def apply(names, change):
 
 # Runs whose calls are told
 
+@functools.cache
+def names_in(data, folder):
+    """The names that a call was told with, below the folder."""
+    return [os.path.normpath(it.removeprefix(f"{folder}/")) for it in data.decode(errors="surrogateescape").split("\0") if it]
+
+
 class Call:
     """A call that was told: the file or folder that it is about, and what became of it."""
 
@@ -163,8 +169,7 @@ class Call:
         self.data = packet[CALL.size :]
         self.names = []
         if self.kind in (OPEN, RENAME, REMOVE, LINK):
-            names = self.data.decode(errors="surrogateescape").split("\0")
-            self.names = [os.path.normpath(it.removeprefix(f"{folder}/")) for it in names if it]
+            self.names = names_in(self.data, folder)
         self.path = self.names[0] if self.names else paths.get(self.file)
         # it fails; it is told to have been made all the same; it is not made, and told to have been; what it wrote is lost later; the
         # model does not follow it
@@ -221,7 +226,7 @@ class Run:
             raise AssertionError(f"{words[0]} changed {unlike} by calls that are not told")
 
     def answer(self, packet):
-        """Notes a call and what becomes of it; gives what is answered."""
+        """Notes a call and what becomes of it; gives what is answered: nothing where a file was opened or is closed."""
         call = Call(packet, self.paths, self.room.folder)
         if self.meanwhile:
             self.meanwhile(self, call)
@@ -230,8 +235,10 @@ class Run:
             self.bug(self, call)
         self.has_failed = self.has_failed or call.fails
         self.calls.append(call)
-        make(self.world, call, self.chance_of(len(self.calls)))
+        self.make(self.world, len(self.calls), call)
         self.follow(call)
+        if call.kind in (OPEN, CLOSE):
+            return None
         if call.fails and not call.passes:
             return errno.EIO
         return DONE if call.drops or call.kind == SYNC else GO_ON
@@ -262,8 +269,11 @@ class Run:
         elif call.kind == REMOVE:
             self.paths = {file: path for file, path in self.paths.items() if path != call.path}
 
-    def chance_of(self, number):
-        return random.Random(f"{self.seed} {number}") if self.fails is not None or self.loses is not None else None
+    def make(self, world, number, call):
+        """Does to a world what a call of this run does."""
+        if call.kind != CLOSE and (call.kind != OPEN or call.made):
+            make(world, call, random.Random(f"{self.seed} {number}") if call.fails or call.is_lost else None)
+
 
     def stops(self, begin=0):
         """The numbers of calls, from `begin` on, after which the run may be stopped: all of them, or up to a call that does something."""
@@ -273,8 +283,8 @@ class Run:
     def at(self, count):
         """The world after so many calls."""
         world = self.start.copy()
-        for number, call in enumerate(self.calls[:count]):
-            make(world, call, self.chance_of(number + 1))
+        for number, call in enumerate(self.calls[:count], 1):
+            self.make(world, number, call)
         return world
 
 
@@ -316,7 +326,7 @@ class ToldRoom:
         for above, _, names in os.walk(self.folder):
             for name in names:
                 with open(f"{above}/{name}", "rb") as file:
-                    found[os.path.normpath(os.path.relpath(f"{above}/{name}", self.folder))] = file.read()
+                    found[f"{above}/{name}"[len(self.folder) + 1 :]] = file.read()
         wanted = world.files()
         return sorted(path for path in {*found, *wanted} if found.get(path) != wanted.get(path))
 
@@ -336,9 +346,14 @@ class ToldRoom:
         ours.settimeout(LIMIT)
         try:
             while packet := ours.recv(LONGEST):
-                ours.send(struct.pack("=i", answer(packet)))
-        except (TimeoutError, ConnectionError, BrokenPipeError):
+                answered = answer(packet)
+                if answered is not None:
+                    ours.send(struct.pack("=i", answered))
+        except (ConnectionError, BrokenPipeError):
             process.kill()
+        except TimeoutError:
+            process.kill()
+            raise in_vain(f"{words} to tell of its next call, or to end") from None
         ours.close()
         status = process.wait()
         for file in self.said:

@@ -15,6 +15,12 @@ def page(name):
         return file.read()
 
 
+def in_memory():
+    """From now on folders are made in memory, where that can be."""
+    if os.access("/dev/shm", os.W_OK | os.X_OK):
+        tempfile.tempdir = "/dev/shm"
+
+
 def bytes_of(path):
     with open(path, "rb", buffering=0) as file:
         return file.read()
