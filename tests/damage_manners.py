@@ -5,6 +5,7 @@ from session_inputs import DISKS, PLAN_TEXT, put
 from session_rooms import Count, Ran, Room, says
 from damage_rooms import LEFT, WORDS, Store, ended_well, example, ring, stages
 from damages import JOURNAL, wanted
+from waiting import ended
 
 def few_files(program):
     """More disks than files that may be open at once."""
@@ -56,7 +57,7 @@ def racing_movers(program):
             put(room, DISKS, PLAN_TEXT)
             room.write("left.disk", LEFT)
             movers = [room.start([room.path("migrate"), *WORDS["move"]]) for _ in range(2)]
-            ends = [mover.communicate() for mover in movers]
+            ends = [ended(mover, "one of two first movers") for mover in movers]
             Count.that("of two first movers one moves", sorted(mover.returncode for mover in movers) in ([0, 5], [0, 8]), ends)
             for mover, (out, err) in zip(movers, ends):
                 Count.that("two first movers: the file is said", mover.returncode != 5 or says(Ran(5, out, err), JOURNAL), err)

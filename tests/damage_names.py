@@ -1,11 +1,11 @@
 """What tests/damage tries with names: one file under two of them, a disk of two folders, and a layout in the place of a disk."""
 import itertools, os, resource, signal
-from clocked import until
 from session_cells import SLOT, cell, stores
 from session_inputs import put
 from session_rooms import Count, Room, says
 from damage_rooms import ENDS, LAYOUT, WORDS, Store, case, example, judge, ring, stages, twins
 from damages import JOURNAL, mark
+from waiting import ended, until
 
 
 # One file under two names
@@ -96,15 +96,14 @@ def stopped_in_the_midst(room):
     """A move that stands still after some of its rounds, or failed; None where it was too fast."""
     mover = room.start([room.path("migrate"), *WORDS["move"]])
     with open(room.path(JOURNAL), "rb") as journal:
-        while mover.poll() is None and os.pread(journal.fileno(), 1, mark(20)) != b"\1":
-            pass
+        until(lambda: mover.poll() is not None or os.pread(journal.fileno(), 1, mark(20)) == b"\1", "a mover to mark its round 20, or to end", 0)
         mover.send_signal(signal.SIGSTOP)
         if mover.returncode is None:
             os.waitid(os.P_PID, mover.pid, os.WSTOPPED | os.WEXITED | os.WNOWAIT)
         if mover.poll() is None and os.pread(journal.fileno(), 1, mark(280)) != b"\1":
             return mover
     mover.send_signal(signal.SIGCONT)
-    mover.communicate()
+    ended(mover, "a mover that was too fast")
     return mover if mover.returncode else None
 
 
@@ -125,7 +124,7 @@ def shared_disks(program):
         Count.that("a second mover: why is said", says(ran, "b.disk", "another process"), ran)
         Count.that("a second mover leaves the shared disk alone", one.read("shared") == before)
         mover.send_signal(signal.SIGCONT)
-        out, _ = mover.communicate()
+        out, _ = ended(mover, "the first mover of a shared disk")
         Count.same("the first mover ends", (mover.returncode, out), (0, b"done 300 rounds, found 0\n"))
         Count.same("its items are there", held_in(one, "shared"), {name: n for n, name in enumerate(firsts)})
         ran = other.run(*WORDS["resume"])
@@ -142,7 +141,7 @@ def racing_folders(program):
             for room, name in ((one, "first"), (other, "second")):
                 filled(room, [f"{name}{n}" for n in range(100)], one.path("shared"), 100)
             movers = [room.start([room.path("migrate"), *WORDS["move"]]) for room in (one, other)]
-            ends = [mover.communicate() and mover.returncode for mover in movers]
+            ends = [ended(mover, "one of two movers to the same slots") and mover.returncode for mover in movers]
             Count.that("of two movers to the same slots one alone ends well", sorted(ends) in ([0, 5], [0, 9]), ends)
             there = held_in(one, "shared").keys() | held_in(one, "a.disk").keys() | held_in(other, "a.disk").keys()
             Count.same("each item stands somewhere", len(there), 200)

@@ -2,12 +2,12 @@
 that is; and what becomes of a mover that is held between two calls. It needs strace; where it isn't there a line says so, and nothing is
 counted."""
 import fcntl, os, re, shutil
-from clocked import until
 from session_cells import SLOT
 from session_inputs import DISKS, PLAN_TEXT, put
-from session_rooms import LIMIT, Count, Ran, Room, says
+from session_rooms import Count, Ran, Room, says
 from damage_rooms import ENDS, LAYOUT, LEFT, WORDS, Store, example, stages
 from damages import JOURNAL, journal_of, mark
+from waiting import LIMIT, ended, until
 
 CALL = re.compile(r"(\w+)\((.*)\)\s+= -?\d+")
 WRITES = {"pwrite64", "write", "pwritev", "writev", "pwritev2", "ftruncate", "fallocate", "copy_file_range", "sendfile"}
@@ -38,7 +38,7 @@ def recorded(room, command):
     log = room.path("calls")
     words = ["strace", "-f", "-y", "-s", "0", "-o", log, "-e", "trace=desc,file", room.path("migrate"), *WORDS[command]]
     started = room.start(words)
-    out, err = started.communicate(timeout=LIMIT)
+    out, err = ended(started, f"{command} under strace")
     with open(log, errors="replace") as file:
         calls = [call_of(line, os.path.realpath(room.at)) for line in file]
     os.remove(log)
@@ -98,14 +98,14 @@ def late_makers(program):
         put(room, DISKS, PLAN_TEXT)
         room.write("left.disk", LEFT)
         # it is held for good before it opens the journal, until strace is killed; a shell prints its status
-        held = ["strace", "-f", "-qq", "-o", room.path("calls"), "-P", JOURNAL, "-e", "trace=openat", "-e", f"inject=openat:delay_enter={LIMIT * 10**6}"]
+        held = ["strace", "-f", "-qq", "-o", room.path("calls"), "-P", JOURNAL, "-e", "trace=openat", "-e", f"inject=openat:delay_enter={2 * LIMIT * 10**6}"]
         mover = room.start([*held, "sh", "-c", './migrate "$@"; echo $?', "sh", *WORDS["move"]])
         until(lambda: mover.poll() is not None or JOURNAL.encode() in (room.read("calls") or b""), "a mover to be about to open the journal")
         with open(room.path(JOURNAL), "ab") as journal:
             room.own(room.path(JOURNAL))
             fcntl.flock(journal, fcntl.LOCK_EX)
             mover.kill()
-            out, err = mover.communicate(timeout=LIMIT)
+            out, err = ended(mover, "a mover that was held")
         *out, status = out.splitlines(keepends=True) or [b"-1"]
         ran = Ran(int(status), b"".join(out), err)
         Count.ended("a mover that comes late", ran, 5, "store fault\n")

@@ -1,7 +1,7 @@
 """What tests/power stands on: what files and names hold in memory and on the device, and runs of the program whose calls are
 told one by one (power.c), so that any of them may be the last one, or may fail."""
 import errno, fcntl, functools, os, random, shutil, socket, struct, subprocess, tempfile
-from waiting import LIMIT, in_vain
+from waiting import LIMIT, ended, in_vain
 
 HERE = os.path.dirname(os.path.realpath(__file__))
 SLOT, SECTOR, JOURNAL, COPY = 4096, 512, "journal.mig", "journal.mig.copy.mig"
@@ -355,7 +355,8 @@ class ToldRoom:
             process.kill()
             raise in_vain(f"{words} to tell of its next call, or to end") from None
         ours.close()
-        status = process.wait()
+        ended(process, words[0])
+        status = process.returncode
         for file in self.said:
             file.seek(0)
         return status, out.read().decode(errors="replace"), err.read().decode(errors="replace")

@@ -1,11 +1,12 @@
 """What tests/session tries with `live`, which carries a plan out step by step and replies to reads in between: its statuses and texts, and what
 stands once it was left, cut off or killed in the middle."""
-import fcntl, os, signal
+import fcntl, os, select, signal
 from session_cells import LATER, OTHER, SLOT, cell, digest, here, slots
 from session_hints import tells
 from session_inputs import DISKS, FILES, FILL, LAYOUT_TEXT, LIVE, PLAN_TEXT, RESUME, put
 from session_outputs import output
 from session_rooms import Count, Room
+from waiting import ended, until
 
 WAY = "read p\nstep 3\nread p\nstep 1\nread p\nstep 7\nread r\n"
 
@@ -63,9 +64,10 @@ def killed_in_the_middle(program):
             put_filled(room)
             put_script(room, f"step {steps}\n" + "read q\n" * 4000)
             started = room.start([room.path("migrate"), *LIVE])
+            until(lambda: select.select([started.stdout], [], [], 0)[0], f"live to answer after {steps} steps")
             line = started.stdout.readline()
             os.killpg(started.pid, signal.SIGKILL)
-            started.communicate()
+            ended(started, "live that was killed")
             Count.same(f"live, killed after {steps} steps: the first line", line.decode(), replied("q", ""))
             is_resumed(f"live, killed after {steps} steps", room, 0 if steps < 4 else 1 if steps < 9 else 2)
 

@@ -3,6 +3,7 @@ pieces, and files that come through a pipe."""
 import os, threading
 from session_inputs import AFTER, CERT_TEXT, CHECK, DISKS, FILES, PLAN, PLAN_TEXT, many, many_saved, put
 from session_rooms import Count, Room, says
+from waiting import until
 
 
 def missing(program):
@@ -56,6 +57,13 @@ def feed(path, text):
         pass
 
 
+def has_let_go(feeder, pipe):
+    """Whether who writes to a pipe has ended. One whom nobody read is let go, once it has begun."""
+    if feeder.is_alive():
+        os.close(os.open(pipe, os.O_RDONLY | os.O_NONBLOCK))
+    return not feeder.is_alive()
+
+
 def pipes(program):
     """Each word of `after` by a pipe, which gives what was written, however little."""
     files, (_, layout) = many(5000), many_saved(5000)
@@ -68,9 +76,7 @@ def pipes(program):
             feeder = threading.Thread(target=feed, args=(room.path("pipe"), room.read(AFTER[word])), daemon=True)
             feeder.start()
             Count.ended(f"word {word} from a pipe", room.run(*AFTER[:word], "pipe", *AFTER[word + 1 :]), 0, layout)
-            while feeder.is_alive():  # one that nobody read is let go, once it has begun
-                os.close(os.open(room.path("pipe"), os.O_RDONLY | os.O_NONBLOCK))
-                feeder.join(0.1)
+            until(lambda: has_let_go(feeder, room.path("pipe")), f"the writer of word {word} to end")
 
 
 CASES = [missing, folders, permissions, pipes]

@@ -1,9 +1,10 @@
 """What the tests of the program share: an empty folder with the program in it, what a run of it gave, and what is counted."""
-import contextlib, os, resource, shutil, signal, subprocess, sys, tempfile
-from waiting import LIMIT, in_vain
+import contextlib, os, resource, select, shutil, signal, subprocess, sys, tempfile, time
+from waiting import LIMIT, ended, in_vain
 
 TOP = os.path.dirname(os.path.dirname(os.path.realpath(__file__)))
 NOBODY = 65534
+ENV = {"PATH": "/usr/local/bin:/usr/bin:/bin", "LANG": "C.UTF-8"}
 resource.setrlimit(resource.RLIMIT_CORE, (0, 0))
 
 sys.dont_write_bytecode = True
@@ -104,22 +105,57 @@ class Room:
             for which, most in limits:
                 resource.setrlimit(which, (most, most))
 
-        env = {"PATH": "/usr/local/bin:/usr/bin:/bin", "LANG": "C.UTF-8"}
         with as_nobody() if self.user else contextlib.nullcontext():
-            return subprocess.Popen(words, cwd=self.at, env=env, stdin=subprocess.DEVNULL, stdout=stdout,
+            return subprocess.Popen(words, cwd=self.at, env=ENV, stdin=subprocess.DEVNULL, stdout=stdout,
                                     stderr=subprocess.PIPE, preexec_fn=prepare if limits else None, start_new_session=True)
 
     def run(self, *words, **how):
         """Runs ./migrate with these words, or the whole command `words[0]` of a shell where `shell` is set."""
-        words = ["sh", "-c", words[0]] if how.pop("shell", False) else [self.path("migrate"), *words]
+        words = ["/bin/sh", "-c", words[0]] if how.pop("shell", False) else [self.path("migrate"), *words]
+        if not how:
+            with as_nobody() if self.user else contextlib.nullcontext():
+                started = Spawned(words, self.at)
+            return started.ended(words)
         started = self.start(words, **how)
-        try:
-            out, err = started.communicate(timeout=LIMIT)
-        except subprocess.TimeoutExpired:
-            os.killpg(started.pid, signal.SIGKILL)
-            started.communicate()
-            raise in_vain(f"{words} to end") from None
+        out, err = ended(started, words)
         return Ran(started.returncode, out or b"", err)
+
+
+class Spawned:
+    """A process with nothing to read, and pipes for what it prints. It takes less than half of the time that `subprocess` needs for one."""
+
+    def __init__(self, words, folder):
+        self.pipes, ends = zip(os.pipe(), os.pipe())
+        actions = [(os.POSIX_SPAWN_OPEN, 0, os.devnull, os.O_RDONLY, 0), *((os.POSIX_SPAWN_DUP2, end, n) for n, end in enumerate(ends, 1))]
+        here = os.open(".", os.O_RDONLY)
+        os.chdir(folder)
+        try:
+            self.id = os.posix_spawn(words[0], words, ENV, file_actions=actions, setsid=True, setsigdef=[signal.SIGPIPE, signal.SIGXFSZ])
+        finally:
+            os.fchdir(here)
+            for it in (here, *ends):
+                os.close(it)
+
+    def ended(self, words):
+        """What it has printed and its status, once it has ended and nobody prints for it any more."""
+        held, poll, end = {it: b"" for it in self.pipes}, select.poll(), time.monotonic() + LIMIT
+        open_ones = set(self.pipes)
+        for it in self.pipes:
+            poll.register(it)
+        while open_ones:
+            found = poll.poll(1000 * max(0, end - time.monotonic()))
+            if not found:
+                os.killpg(self.id, signal.SIGKILL)
+                raise in_vain(f"{words} to end")
+            for it, _ in found:
+                more = os.read(it, 1 << 16)
+                held[it] += more
+                if not more:
+                    poll.unregister(it)
+                    open_ones.remove(it)
+                    os.close(it)
+        _, status = os.waitpid(self.id, 0)
+        return Ran(os.waitstatus_to_exitcode(status), *held.values())
 
 
 # What is counted

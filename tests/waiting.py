@@ -8,13 +8,13 @@ def in_vain(what):
     return TimeoutError(f"waited {LIMIT} seconds in vain for {what}")
 
 
-def until(holds, what):
-    """Waits until something holds that has to, and gives it."""
+def until(holds, what, pause=0.005):
+    """Waits until something holds that has to, and gives it. It is looked at again after so many seconds."""
     end = time.monotonic() + LIMIT
     while not (found := holds()):
         if time.monotonic() > end:
             raise in_vain(what)
-        time.sleep(0.005)
+        time.sleep(pause)
     return found
 
 
@@ -24,5 +24,5 @@ def ended(process, what):
         return process.communicate(timeout=LIMIT)
     except subprocess.TimeoutExpired:
         process.kill()
-        process.communicate()
+        process.wait()
         raise in_vain(f"{what} to end") from None
