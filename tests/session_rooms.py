@@ -113,9 +113,7 @@ class Room:
         """Runs ./migrate with these words, or the whole command `words[0]` of a shell where `shell` is set."""
         words = ["/bin/sh", "-c", words[0]] if how.pop("shell", False) else [self.path("migrate"), *words]
         if not how:
-            with as_nobody() if self.user else contextlib.nullcontext():
-                started = Spawned(words, self.at)
-            return started.ended(words)
+            return Spawned(words, self.at, bool(self.user)).ended(words)
         started = self.start(words, **how)
         out, err = ended(started, words)
         return Ran(started.returncode, out or b"", err)
@@ -124,13 +122,14 @@ class Room:
 class Spawned:
     """A process with nothing to read, and pipes for what it prints. It takes less than half of the time that `subprocess` needs for one."""
 
-    def __init__(self, words, folder):
+    def __init__(self, words, folder, is_nobodys):
         self.pipes, ends = zip(os.pipe(), os.pipe())
         actions = [(os.POSIX_SPAWN_OPEN, 0, os.devnull, os.O_RDONLY, 0), *((os.POSIX_SPAWN_DUP2, end, n) for n, end in enumerate(ends, 1))]
-        here = os.open(".", os.O_RDONLY)
+        here = os.open(".", os.O_PATH)
         os.chdir(folder)
         try:
-            self.id = os.posix_spawn(words[0], words, ENV, file_actions=actions, setsid=True, setsigdef=[signal.SIGPIPE, signal.SIGXFSZ])
+            with as_nobody() if is_nobodys else contextlib.nullcontext():
+                self.id = os.posix_spawn(words[0], words, ENV, file_actions=actions, setsid=True, setsigdef=[signal.SIGPIPE, signal.SIGXFSZ])
         finally:
             os.fchdir(here)
             for it in (here, *ends):
@@ -138,11 +137,11 @@ class Spawned:
 
     def ended(self, words):
         """What it has printed and its status, once it has ended and nobody prints for it any more."""
-        held, poll, end = {it: b"" for it in self.pipes}, select.poll(), time.monotonic() + LIMIT
-        open_ones = set(self.pipes)
-        for it in self.pipes:
+        held, left = {it: b"" for it in self.pipes}, set(self.pipes)
+        poll, end = select.poll(), time.monotonic() + LIMIT
+        for it in left:
             poll.register(it)
-        while open_ones:
+        while left:
             found = poll.poll(1000 * max(0, end - time.monotonic()))
             if not found:
                 os.killpg(self.id, signal.SIGKILL)
@@ -152,7 +151,7 @@ class Spawned:
                 held[it] += more
                 if not more:
                     poll.unregister(it)
-                    open_ones.remove(it)
+                    left.remove(it)
                     os.close(it)
         _, status = os.waitpid(self.id, 0)
         return Ran(os.waitstatus_to_exitcode(status), *held.values())
