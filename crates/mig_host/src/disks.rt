@@ -143,23 +143,20 @@ impl Disks {
         journal: &Journal,
         name: &Name,
     ) -> Result<Option<&Opened>, Failure> {
-        if !self.is_recent(name) && !self.finds(name) && !self.absent.contains(name) {
+        if self.last_found(name).is_none() && !self.finds(name) && !self.absent.contains(name) {
             self.open_for_reading(rt, journal, name)?;
             let _ = self.finds(name);
         }
         if journal.is_claimed() {
             self.lock_open(rt, name)?;
         }
-        match self.open.get_index(self.recent) {
-            Some((disk, opened)) if disk == name => Ok(Some(opened)),
-            _ => Ok(None),
-        }
+        Ok(self.last_found(name))
     }
 
     /// Opens the disk's file for writing too, for this process alone, where it is open for reading. One that can't be written is left as it is.
     fn lock_open<R: Files<File = File>>(&mut self, rt: &R, name: &Name) -> Result<(), Failure> {
-        let node = match self.open.get_index(self.recent) {
-            Some((disk, opened)) if disk == name && !opened.writable => opened.node,
+        let node = match self.last_found(name) {
+            Some(opened) if !opened.writable => opened.node,
             _ => return Ok(()),
         };
         match self.find_again(rt, name) {
@@ -177,11 +174,11 @@ impl Disks {
         }
     }
 
-    /// Whether the disk's file is open and was the last one that was looked up.
-    fn is_recent(&self, name: &Name) -> bool {
+    /// The disk's file, where it is open and was the last one that was looked up.
+    fn last_found(&self, name: &Name) -> Option<&Opened> {
         match self.open.get_index(self.recent) {
-            Some((disk, _)) => disk == name,
-            None => false,
+            Some((disk, opened)) if disk == name => Some(opened),
+            _ => None,
         }
     }
 

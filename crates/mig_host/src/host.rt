@@ -1,7 +1,7 @@
 //! The calls on the files of the working folder.
 ghost use Rattle.std.specs.Prelude.{◌≡◌, ◌≤◌, IsTrue};
 ghost use Rattle.mig_calls.specs.declared.places.Place.{Place as Places};
-ghost use Rattle.mig_calls.specs.Files.{IsCallCause};
+ghost use Rattle.mig_calls.specs.Files.{HasCallCause, IsCallCause};
 ghost use Rattle.mig_host.specs.Untold.{host_state, host_is_state};
 
 use crate::failures::Failure;
@@ -66,6 +66,16 @@ impl<'a, R: Files<File = File> + Eprint> HostCalls<'a, R> {
         self.faults = self.faults.saturating_add(1);
         CallError::Failed
     }
+
+    /// What a call gave; where it failed, that is counted.
+    fn answer<T>(&mut self, made: Result<T, Failure>) -> Result<T, CallError>
+        ensures { HasCallCause (host_state self.old.faults self.old.unmade) (host_state self.new.faults self.new.unmade) result }
+    {
+        match made {
+            Ok(given) => Ok(given),
+            Err(failure) => Err(self.counted(failure)),
+        }
+    }
 }
 
 impl<'a, R: Files<File = File> + Eprint> Calls for HostCalls<'a, R> {
@@ -74,10 +84,8 @@ impl<'a, R: Files<File = File> + Eprint> Calls for HostCalls<'a, R> {
     ghost is_state = { λ h. host_is_state h.faults h.unmade };
 
     fn claim(&mut self) -> Result<(), CallError> {
-        match self.files.claim(self.rt) {
-            Ok(()) => Ok(()),
-            Err(failure) => Err(self.counted(failure)),
-        }
+        let made = self.files.claim(self.rt);
+        self.answer(made)
     }
 
     fn read_at(&mut self, place: &Place, offset: u64, into: &mut [u8]) -> Result<usize, CallError> {
@@ -88,17 +96,13 @@ impl<'a, R: Files<File = File> + Eprint> Calls for HostCalls<'a, R> {
     }
 
     fn len(&mut self, place: &Place) -> Result<Extent, CallError> {
-        match self.files.len(self.rt, place) {
-            Ok(extent) => Ok(extent),
-            Err(failure) => Err(self.counted(failure)),
-        }
+        let made = self.files.len(self.rt, place);
+        self.answer(made)
     }
 
     fn is_fresh(&mut self) -> Result<bool, CallError> {
-        match self.files.is_fresh(self.rt) {
-            Ok(sure) => Ok(sure),
-            Err(failure) => Err(self.counted(failure)),
-        }
+        let made = self.files.is_fresh(self.rt);
+        self.answer(made)
     }
 
     fn write_at(&mut self, place: &Place, offset: u64, bytes: &[u8]) -> Result<Written, CallError> {
@@ -109,31 +113,23 @@ impl<'a, R: Files<File = File> + Eprint> Calls for HostCalls<'a, R> {
     }
 
     fn sync(&mut self, place: &Place) -> Result<(), CallError> {
-        match self.files.sync(self.rt, place) {
-            Ok(()) => Ok(()),
-            Err(failure) => Err(self.counted(failure)),
-        }
+        let made = self.files.sync(self.rt, place);
+        self.answer(made)
     }
 
     fn sync_names(&mut self) -> Result<(), CallError> {
-        match self.files.sync_names(self.rt) {
-            Ok(()) => Ok(()),
-            Err(failure) => Err(self.counted(failure)),
-        }
+        let made = self.files.sync_names(self.rt);
+        self.answer(made)
     }
 
     fn make_copy(&mut self) -> Result<(), CallError> {
-        match self.files.make_copy(self.rt) {
-            Ok(()) => Ok(()),
-            Err(failure) => Err(self.counted(failure)),
-        }
+        let made = self.files.make_copy(self.rt);
+        self.answer(made)
     }
 
     fn rename(&mut self) -> Result<(), CallError> {
-        match self.files.rename(self.rt) {
-            Ok(()) => Ok(()),
-            Err(failure) => Err(self.counted(failure)),
-        }
+        let made = self.files.rename(self.rt);
+        self.answer(made)
     }
 
     fn close(&mut self, place: &Place) {

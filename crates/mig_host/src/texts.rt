@@ -62,36 +62,24 @@ pub struct Told<'a>(pub &'a Refusal);
 impl<'a> Display for Told<'a> {
     fn fmt<W: fmt::Write>(&self, f: &mut Formatter<W>) -> fmt::Result {
         match self.0 {
-            Refusal::Memory { place } => write!(
-                f,
-                "{}: {}",
-                FileOf(place),
-                error_of(ErrorKind::OutOfMemory)
-            ),
+            Refusal::Memory { place } => write_error(f, place, ErrorKind::OutOfMemory.into()),
             Refusal::AfterSync => f.write_str("nothing is done after a sync that failed"),
-            Refusal::Interrupted { place } => {
-                write!(f, "{}: {}", FileOf(place), error_of(ErrorKind::TimedOut))
-            }
-            Refusal::Full { place } => write!(f, "{}: {}", FileOf(place), too_many_open()),
+            Refusal::Interrupted { place } => write_error(f, place, ErrorKind::TimedOut.into()),
+            Refusal::Full { place } => write_error(f, place, too_many_open()),
             Refusal::TooShort { slot } => write_too_short(f, slot),
-            Refusal::NotHeld { slot, item } => write!(
-                f,
-                "{} should hold item {}, and doesn't: {LOOK}",
-                SlotOf(slot),
-                text_of(item)?
-            ),
-            Refusal::NoDisk { slot, item } => write!(
-                f,
-                "{} should hold item {}, and the file isn't there: is the disk mounted?",
-                SlotOf(slot),
-                text_of(item)?
-            ),
-            Refusal::Cut { slot, item } => write!(
-                f,
-                "{} should hold item {}, and the file ends within it: {LOOK}",
-                SlotOf(slot),
-                text_of(item)?
-            ),
+            Refusal::NotHeld { slot, item } => write_unheld(f, slot, item, "doesn't", LOOK),
+            Refusal::NoDisk { slot, item } => {
+                write_unheld(
+                    f,
+                    slot,
+                    item,
+                    "the file isn't there",
+                    "is the disk mounted?",
+                )
+            }
+            Refusal::Cut { slot, item } => {
+                write_unheld(f, slot, item, "the file ends within it", LOOK)
+            }
             Refusal::NoItem { slot } => write!(
                 f,
                 "{} is to be copied, and holds no item: {LOOK}",
@@ -107,8 +95,24 @@ impl<'a> Display for Told<'a> {
     }
 }
 
-fn error_of(kind: ErrorKind) -> Error {
-    kind.into()
+fn write_error<W: fmt::Write>(f: &mut Formatter<W>, place: &Place, error: Error) -> fmt::Result {
+    write!(f, "{}: {error}", FileOf(place))
+}
+
+/// The slot should hold the item: what it does, and what to look at.
+fn write_unheld<W: fmt::Write>(
+    f: &mut Formatter<W>,
+    slot: &Cell,
+    item: &Name,
+    what: &str,
+    look: &str,
+) -> fmt::Result {
+    let item = text_of(item)?;
+    write!(
+        f,
+        "{} should hold item {item}, and {what}: {look}",
+        SlotOf(slot)
+    )
 }
 
 /// The slot's file is told, and not the slot.
