@@ -19,21 +19,22 @@ fn exchanges_a_path(rt: HostRuntime) {
     board.paint(EdgeId(0), Colour(0));
     board.paint(EdgeId(1), Colour(1));
     board.paint(EdgeId(2), Colour(0));
-    assert_eq!(&rt; board.missing(CopyId(0)), Some(Colour(1)));
-    assert_eq!(&rt; board.missing(CopyId(1)), None);
-    assert_eq!(&rt; board.common(CopyId(0), CopyId(3)), Some(Colour(1)));
-    assert_eq!(&rt; board.common(CopyId(0), CopyId(1)), None);
-    assert_eq!(&rt; board.far(CopyId(0), Colour(1), Colour(0)), CopyId(3));
-    assert_eq!(&rt; board.exchange(CopyId(0), Colour(1), Colour(0)), CopyId(3));
-    for (edge, colour) in [(0, Some(1)), (1, Some(0)), (2, Some(1)), (3, None)] {
-        assert_eq!(&rt;
-            board.colour_of(EdgeId(edge)),
-            colour.map(Colour),
-            "edge {edge}"
-        );
-    }
-    assert_eq!(&rt; board.missing(CopyId(0)), Some(Colour(0)));
-    assert_eq!(&rt; board.edge_at(CopyId(1), Colour(0)), Some(EdgeId(1)));
+    assert!(&rt;
+        board.missing(CopyId(0)) == Some(Colour(1))
+            && board.missing(CopyId(1)).is_none()
+            && board.common(CopyId(0), CopyId(3)) == Some(Colour(1))
+            && board.common(CopyId(0), CopyId(1)).is_none()
+            && board.far(CopyId(0), Colour(1), Colour(0)) == CopyId(3)
+    );
+    assert!(&rt; board.exchange(CopyId(0), Colour(1), Colour(0)) == CopyId(3));
+    assert!(&rt;
+        board.colour_of(EdgeId(0)) == Some(Colour(1))
+            && board.colour_of(EdgeId(1)) == Some(Colour(0))
+            && board.colour_of(EdgeId(2)) == Some(Colour(1))
+            && board.colour_of(EdgeId(3)).is_none()
+            && board.missing(CopyId(0)) == Some(Colour(0))
+            && board.edge_at(CopyId(1), Colour(0)) == Some(EdgeId(1))
+    );
 }
 
 /// An edge of a colour of the second word.
@@ -44,6 +45,7 @@ fn tells_what_is_free_in_two_words(rt: HostRuntime) {
     let mut board = Board::new(rt.alloc(), 2, one, 70).expect(&rt, "ample memory");
     board.paint(EdgeId(0), Colour(65));
     let words: [u64; 2] = [18446744073709551615, 61];
-    assert_eq!(&rt; board.free_words(CopyId(0)), &words[..]);
-    assert_eq!(&rt; board.missing(CopyId(0)), Some(Colour(0)));
+    assert!(&rt;
+        board.free_words(CopyId(0)) == &words[..] && board.missing(CopyId(0)) == Some(Colour(0))
+    );
 }

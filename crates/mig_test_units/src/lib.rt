@@ -15,6 +15,8 @@ mod made_cases;
 #[cfg(test)]
 mod name_tables;
 #[cfg(test)]
+mod refusals;
+#[cfg(test)]
 mod shared_nodes;
 #[cfg(test)]
 mod tight_plans;

@@ -1,115 +1,91 @@
 //! Cases that are made from three numbers.
 
-use mig_base::{DiskId, Input, Limits};
+use mig_csv::read_input;
 use mig_gen::{is_case_size, make_case};
+use std::alloc::Global;
 
-// Whether the input's disks have these names, each with this limit and so many slots.
-fn has_disks(input: &Input, names: &[&[u8]], limit: u32, slots: u32) -> bool {
-    input.disks().len() == names.len()
-        && input.disks().iter().zip(names).all(|(disk, name)| {
-            disk.name.bytes() == *name
-                && disk.limits == Limits::Joint { limit }
-                && disk.slots == slots
-        })
+/// Three numbers, and the files of the case that is made from them.
+struct Made<'a> {
+    disks: u32,
+    per_pair: u32,
+    limit: u32,
+    files: [&'a str; 3],
 }
 
-fn has_items(input: &Input, names: &[&[u8]]) -> bool {
-    input.items().len() == names.len()
-        && input
-            .items()
-            .iter()
-            .zip(names)
-            .all(|(item, name)| item.bytes() == *name)
-}
+/// Three disks with two items for each other, and the smallest case.
+static MADE: [Made<'static>; 2] = [
+    Made {
+        disks: 3,
+        per_pair: 2,
+        limit: 5,
+        files: [
+            "disk,limit,slots\nd0,5,8\nd1,5,8\nd2,5,8\n",
+            "item,disk,slot\ni0,d0,0\ni1,d0,1\ni2,d0,2\ni3,d0,3\ni4,d1,0\ni5,d1,1\ni6,d1,2\ni7,d1,3\ni8,d2,0\ni9,d2,1\ni10,d2,2\ni11,d2,3\n",
+            "item,disk\ni0,d1\ni1,d1\ni2,d2\ni3,d2\ni4,d0\ni5,d0\ni6,d2\ni7,d2\ni8,d0\ni9,d0\ni10,d1\ni11,d1\n",
+        ],
+    },
+    Made {
+        disks: 2,
+        per_pair: 1,
+        limit: 1024,
+        files: [
+            "disk,limit,slots\nd0,1024,2\nd1,1024,2\n",
+            "item,disk,slot\ni0,d0,0\ni1,d1,0\n",
+            "item,disk\ni0,d1\ni1,d0\n",
+        ],
+    },
+];
 
-// Whether the items are at these slots of these disks.
-fn has_spots(input: &Input, spots: &[(u32, u32)]) -> bool {
-    input.now().len() == spots.len()
-        && input.now().iter().zip(spots).all(|(spot, (disk, slot))| spot.disk == DiskId(*disk)
-            && spot.slot == *slot)
-}
-
-// Whether the items go to these disks.
-fn has_next(input: &Input, next: &[u32]) -> bool {
-    input.next().len() == next.len()
-        && input
-            .next()
-            .iter()
-            .zip(next)
-            .all(|(disk, number)| disk.0 == *number)
+/// The case that is made is that of the files.
+fn is_made(alloc: Global, case: &Made<'_>) -> bool {
+    let [disks, now, next] = case.files;
+    if !is_case_size(case.disks as u64, case.per_pair as u64, case.limit as u64) {
+        return false;
+    }
+    let Ok(made) = make_case(alloc, case.disks, case.per_pair, case.limit) else {
+        return false;
+    };
+    let Ok(read) = read_input(alloc, disks.as_bytes(), now.as_bytes(), next.as_bytes()) else {
+        return false;
+    };
+    made.disks() == read.disks()
+        && made.items() == read.items()
+        && made.now() == read.now()
+        && made.next() == read.next()
 }
 
 #[test]
-fn three_disks_with_two_items_for_each_other(rt: HostRuntime) {
-    let Ok(input) = make_case(rt.alloc(), 3, 2, 5) else {
-        panic!(&rt)
-    };
-    assert!(rt; has_disks(&input, &[b"d0", b"d1", b"d2"], 5, 8));
-    assert!(rt;
-        has_items(
-            &input,
-            &[
-                b"i0", b"i1", b"i2", b"i3", b"i4", b"i5", b"i6", b"i7", b"i8", b"i9", b"i10",
-                b"i11"
-            ]
-        )
-    );
-    assert!(rt;
-        has_spots(
-            &input,
-            &[
-                (0, 0),
-                (0, 1),
-                (0, 2),
-                (0, 3),
-                (1, 0),
-                (1, 1),
-                (1, 2),
-                (1, 3),
-                (2, 0),
-                (2, 1),
-                (2, 2),
-                (2, 3)
-            ]
-        )
-    );
-    assert!(rt; has_next(&input, &[1, 1, 2, 2, 0, 0, 2, 2, 0, 0, 1, 1]));
+fn cases_are_made(rt: HostRuntime) {
+    for case in &MADE {
+        assert!(rt; is_made(rt.alloc(), case));
+    }
 }
 
-#[test]
-fn the_smallest_case(rt: HostRuntime) {
-    let Ok(input) = make_case(rt.alloc(), 2, 1, 1024) else {
-        panic!(&rt)
-    };
-    assert!(rt; has_disks(&input, &[b"d0", b"d1"], 1024, 2));
-    assert!(rt; has_items(&input, &[b"i0", b"i1"]));
-    assert!(rt; has_spots(&input, &[(0, 0), (1, 0)]));
-    assert!(rt; has_next(&input, &[1, 0]));
-}
+/// Three numbers, and whether they make a case.
+static SIZES: [(u64, u64, u64, bool); 18] = [
+    (2, 1, 1, true),
+    (1, 1, 1, false),
+    (0, 1, 1, false),
+    (2, 0, 1, false),
+    (2, 1, 0, false),
+    (2, 1, 1024, true),
+    (2, 1, 1025, false),
+    (2, 32768, 1, true),
+    (2, 32769, 1, false),
+    (256, 1, 3, true),
+    (257, 1, 3, false),
+    (64, 16, 2, true),
+    (64, 17, 2, false),
+    (5, 3000, 1, true),
+    (1024, 0, 1, false),
+    (1025, 1, 1, false),
+    (9999999999, 9999999999, 1, false),
+    (2, 9999999999, 1, false),
+];
 
 #[test]
 fn which_numbers_make_a_case(rt: HostRuntime) {
-    static SIZES: [(u64, u64, u64, bool); 18] = [
-        (2, 1, 1, true),
-        (1, 1, 1, false),
-        (0, 1, 1, false),
-        (2, 0, 1, false),
-        (2, 1, 0, false),
-        (2, 1, 1024, true),
-        (2, 1, 1025, false),
-        (2, 32768, 1, true),
-        (2, 32769, 1, false),
-        (256, 1, 3, true),
-        (257, 1, 3, false),
-        (64, 16, 2, true),
-        (64, 17, 2, false),
-        (5, 3000, 1, true),
-        (1024, 0, 1, false),
-        (1025, 1, 1, false),
-        (9999999999, 9999999999, 1, false),
-        (2, 9999999999, 1, false),
-    ];
-    for (disks, per_pair, limit, want) in SIZES {
-        assert!(rt; is_case_size(disks, per_pair, limit) == want);
+    for (disks, per_pair, limit, want) in &SIZES {
+        assert!(rt; is_case_size(*disks, *per_pair, *limit) == *want);
     }
 }

@@ -3,82 +3,67 @@
 use mig_base::{DiskId, Name, Spot};
 use mig_names::{NameTable, SpotTable};
 use std::alloc::Global;
+use std::panic::Expect;
+use std::process::Abort;
 
-// The names `x1`, `x2` and `x1.b`, added in this order to a table that has room for two.
-fn three_names(alloc: Global) -> Option<NameTable> {
-    let Ok(mut table) = NameTable::with_capacity(alloc, 2) else {
-        return None;
-    };
+fn name_of(rt: &impl Abort, bytes: &[u8]) -> Name {
+    Name::read(bytes).expect(rt, "a name")
+}
+
+/// The names `x1`, `x2` and `x1.b`, added in this order to a table that has room for two.
+fn three_names(rt: &impl Abort, alloc: Global) -> NameTable {
+    let mut table = NameTable::with_capacity(alloc, 2).expect(rt, "ample memory");
     for bytes in [b"x1".as_slice(), b"x2".as_slice(), b"x1.b".as_slice()] {
-        let name = Name::read(bytes)?;
-        if table.find(&name).is_some() || table.push(name).is_err() {
-            return None;
-        }
+        let name = name_of(rt, bytes);
+        assert!(rt; table.find(&name).is_none());
+        table.push(name).expect(rt, "ample memory");
     }
-    Some(table)
+    table
 }
 
-// The place of a name among them.
-fn place(alloc: Global, wanted: &[u8]) -> Option<usize> {
-    three_names(alloc)?.find(&Name::read(wanted)?)
-}
-
-// The same, with a hint.
-fn place_with_hint(alloc: Global, wanted: &[u8], hint: usize) -> Option<usize> {
-    three_names(alloc)?.find_with_hint(&Name::read(wanted)?, hint)
-}
+/// Names, and their places among these.
+static PLACES: [(&[u8], Option<usize>); 4] = [
+    (b"x1", Some(0)),
+    (b"x2", Some(1)),
+    (b"x1.b", Some(2)),
+    (b"X1", None),
+];
 
 #[test]
-fn names_keep_their_places(rt: HostRuntime) {
-    let alloc = rt.alloc();
-    assert!(rt; place(alloc, b"x1") == Some(0));
-    assert!(rt; place(alloc, b"x2") == Some(1));
-    assert!(rt; place(alloc, b"x1.b") == Some(2));
-    assert!(rt; place(alloc, b"X1").is_none());
-    assert!(rt; NameTable::new(alloc).len() == 0);
-}
-
-#[test]
-fn a_hint_changes_no_place(rt: HostRuntime) {
-    let alloc = rt.alloc();
-    for hint in 0..4 {
-        assert!(rt; place_with_hint(alloc, b"x2", hint) == Some(1));
-        assert!(rt; place_with_hint(alloc, b"X1", hint).is_none());
-    }
-}
-
-// Whether the spot stands among slot 0 of disk 0 and slot 7 of disk 3.
-fn is_taken(alloc: Global, disk: u32, slot: u32) -> Option<bool> {
-    let Ok(mut table) = SpotTable::with_capacity(alloc, 2) else {
-        return None;
-    };
-    for (of, at) in [(0, 0), (3, 7)] {
-        let spot = Spot {
-            disk: DiskId(of),
-            slot: at,
-        };
-        if table.contains(&spot) || table.push(spot).is_err() {
-            return None;
+fn names_keep_their_places_whatever_the_hint(rt: HostRuntime) {
+    let table = three_names(&rt, rt.alloc());
+    for (bytes, place) in &PLACES {
+        let name = name_of(&rt, bytes);
+        assert!(rt; table.find(&name) == *place);
+        for hint in 0..4 {
+            assert!(rt; table.find_with_hint(&name, hint) == *place);
         }
     }
-    let spot = Spot {
+    assert!(rt; NameTable::new(rt.alloc()).len() == 0);
+}
+
+fn spot(disk: u32, slot: u32) -> Spot {
+    Spot {
         disk: DiskId(disk),
         slot,
-    };
-    Some(table.contains(&spot))
+    }
+}
+
+/// Slot 0 of disk 0 and slot 7 of disk 3.
+fn two_spots(rt: &impl Abort, alloc: Global) -> SpotTable {
+    let mut table = SpotTable::with_capacity(alloc, 2).expect(rt, "ample memory");
+    for spot in [spot(0, 0), spot(3, 7)] {
+        assert!(rt; !table.contains(&spot));
+        table.push(spot).expect(rt, "ample memory");
+    }
+    table
 }
 
 #[test]
 fn spots_are_of_a_disk_and_a_slot(rt: HostRuntime) {
-    let alloc = rt.alloc();
-    assert!(rt;
-        !SpotTable::new(alloc).contains(&Spot {
-            disk: DiskId(0),
-            slot: 0
-        })
-    );
-    assert!(rt; is_taken(alloc, 0, 0) == Some(true));
-    assert!(rt; is_taken(alloc, 3, 7) == Some(true));
-    assert!(rt; is_taken(alloc, 0, 7) == Some(false));
-    assert!(rt; is_taken(alloc, 7, 3) == Some(false));
+    assert!(rt; !SpotTable::new(rt.alloc()).contains(&spot(0, 0)));
+    let table = two_spots(&rt, rt.alloc());
+    for (disk, slot, is_taken) in [(0, 0, true), (3, 7, true), (0, 7, false), (7, 3, false)] {
+        assert!(rt; table.contains(&spot(disk, slot)) == is_taken);
+    }
 }

@@ -27,16 +27,32 @@ fn is_joined(graph: &Graph, one: DiskId, other: DiskId) -> bool {
 
 /// Whether the number of disks is odd, and an edge joins each with the next and the last with the first.
 fn is_odd_walk(graph: &Graph, walk: &[DiskId]) -> bool {
-    if walk.len() % 2 == 0 {
+    let Some(last) = walk.last() else {
         return false;
+    };
+    let mut from = *last;
+    for disk in walk {
+        if !is_joined(graph, from, *disk) {
+            return false;
+        }
+        from = *disk;
     }
-    for place in 0..walk.len() {
-        let next = if place + 1 == walk.len() {
-            0
-        } else {
-            place + 1
-        };
-        if !is_joined(graph, walk[place], walk[next]) {
+    walk.len() % 2 == 1
+}
+
+/// Whether there are no sides, and the walk that shows it is odd and has these disks.
+fn has_odd_walk(alloc: Global, graph: &Graph, disks: &[DiskId]) -> bool {
+    match sides(alloc, graph) {
+        Err(SidesError::OddWalk { walk }) => {
+            is_odd_walk(graph, walk.disks()) && has_each(walk.disks(), disks)
+        }
+        _ => false,
+    }
+}
+
+fn has_each(walk: &[DiskId], disks: &[DiskId]) -> bool {
+    for disk in disks {
+        if !walk.contains(disk) {
             return false;
         }
     }
@@ -53,15 +69,7 @@ fn a_triangle_has_an_odd_walk(rt: HostRuntime) {
         "item,disk,slot\nx,a,0\ny,b,0\nz,c,0\n",
         "item,disk\nx,b\ny,c\nz,a\n",
     );
-    match sides(rt.alloc(), &graph) {
-        Err(SidesError::OddWalk { walk }) => {
-            assert!(&rt; is_odd_walk(&graph, walk.disks()));
-            for disk in 0..3 {
-                assert!(&rt; walk.disks().iter().any(|other| *other == DiskId(disk)));
-            }
-        }
-        _ => assert!(&rt; false),
-    }
+    assert!(&rt; has_odd_walk(rt.alloc(), &graph, &[DiskId(0), DiskId(1), DiskId(2)]));
 }
 
 /// Two triangles that share a disk, each disk of which gives an item to the next, beside a disk that takes no part. The
@@ -75,33 +83,33 @@ fn a_far_triangle_has_an_odd_walk(rt: HostRuntime) {
         "item,disk,slot\nv,a,0\nw,b,0\nx,c,0\ny,d,0\nz,e,0\n",
         "item,disk\nv,b\nw,c\nx,d\ny,e\nz,c\n",
     );
-    match sides(rt.alloc(), &graph) {
-        Err(SidesError::OddWalk { walk }) => assert!(&rt; is_odd_walk(&graph, walk.disks())),
-        _ => assert!(&rt; false),
-    }
+    assert!(&rt; has_odd_walk(rt.alloc(), &graph, &[]));
 }
 
-/// A disk that gives to three others, and one that takes no part; and a ring of four disks, in which items go both ways.
+/// A disk that gives to three others, and one that takes no part.
 #[test]
-fn sides_differ(rt: HostRuntime) {
-    let star = graph_of(
+fn a_star_has_sides(rt: HostRuntime) {
+    let graph = graph_of(
         &rt,
         rt.alloc(),
         "disk,limit,slots\nh,4,9\np,1,3\nq,1,3\nr,1,3\ns,7,1\n",
         "item,disk,slot\nt,h,0\nu,h,1\nv,h,2\nw,h,3\nx,h,4\ny,h,5\nz,h,6\nk,h,7\nl,h,8\n",
         "item,disk\nt,p\nu,p\nv,p\nw,q\nx,q\ny,q\nz,r\nk,r\nl,r\n",
     );
-    let found = sides(rt.alloc(), &star).expect(&rt, "two sides");
-    assert_eq!(&rt; found.len(), 5);
-    assert!(&rt; found[0] != found[1] && found[0] != found[2] && found[0] != found[3]);
-    let ring = graph_of(
+    let found = sides(rt.alloc(), &graph).expect(&rt, "two sides");
+    assert!(&rt; matches!(found.as_slice(), [h, p, q, r, _] if *h != *p && *h != *q && *h != *r));
+}
+
+/// A ring of four disks, in which items go both ways.
+#[test]
+fn a_ring_has_sides(rt: HostRuntime) {
+    let graph = graph_of(
         &rt,
         rt.alloc(),
         "disk,limit,slots\na,1,9\nb,3,9\nc,1,9\nd,3,9\n",
         "item,disk,slot\nw,a,0\nx,b,0\ny,c,0\nz,d,0\n",
         "item,disk\nw,b\nx,c\ny,d\nz,a\n",
     );
-    let found = sides(rt.alloc(), &ring).expect(&rt, "two sides");
-    assert_eq!(&rt; found.len(), 4);
-    assert!(&rt; found[0] == found[2] && found[1] == found[3] && found[0] != found[1]);
+    let found = sides(rt.alloc(), &graph).expect(&rt, "two sides");
+    assert!(&rt; matches!(found.as_slice(), [a, b, c, d] if *a == *c && *b == *d && *a != *b));
 }
