@@ -1,10 +1,10 @@
 //! Migrations that `halt` closes early, and what comes after.
 
-use crate::expecting::{Line, expect_all, expect_cut, expect_over};
+use crate::expecting::{Line, expect_all, expect_any, expect_cut, expect_file, expect_over};
 use crate::looks::{ANOTHER, MOVED, THREE_ROUNDS, keep};
-use crate::stores::{are_zeros, failing_at, store_of};
+use crate::stores::{are_zeros, store_of};
 use mig_base::{Cell, Name};
-use mig_fixtures::{THREE_ITEMS, THREE_MOVED, TWO_ROUNDS, folder_of, holds, outcome_over};
+use mig_fixtures::{THREE_ITEMS, THREE_MOVED, TWO_ROUNDS, folder_of};
 use mig_io::MemFolder;
 use mig_store::{MemStore, Pick};
 use std::alloc::Global;
@@ -34,7 +34,7 @@ static PICKS: [Pick; 4] = [Pick::Old, Pick::New, Pick::Half, Pick::Ones];
 
 /// The folder of the three items, with their plan as P, another as R, one that doesn't run as W, and the last layout as M.
 fn folder(rt: &impl Abort, alloc: Global) -> MemFolder {
-    let mut folder = folder_of(alloc, &THREE_ITEMS, Vec::new(alloc)).expect(rt, "ample memory");
+    let mut folder = folder_of(alloc, &THREE_ITEMS, &[]).expect(rt, "ample memory");
     keep(rt, &mut folder, "P", TWO_ROUNDS);
     keep(rt, &mut folder, "R", THREE_ROUNDS);
     keep(rt, &mut folder, "W", FROM_ELSEWHERE);
@@ -54,7 +54,7 @@ fn roomy_folder(rt: &impl Abort, alloc: Global) -> MemFolder {
 /// The store of the three items on which `move` stopped after nine writes, which have carried out the first round, after
 /// a crash.
 fn half_way(rt: &impl Abort, alloc: Global, folder: &mut MemFolder, pick: Pick) -> MemStore {
-    let mut store = store_of(rt, alloc, Vec::new(alloc));
+    let mut store = store_of(rt, alloc, &[]);
     expect_over(rt, alloc, folder, &mut store, "fill D N", 0, "filled 3\n");
     store.fuse(9);
     let text = "store fault\n";
@@ -87,10 +87,10 @@ static AFTERWARDS: [Line<'static>; 5] = [
 /// Asserts that the migration is closed after the first round and its layout is saved, and that the next one goes on
 /// from there.
 fn expect_closed(rt: &impl Abort, alloc: Global, folder: &mut MemFolder, store: &mut MemStore) {
-    assert!(rt; holds(folder, "L", Some(HALF_WAY)));
+    expect_file(rt, folder, "L", Some(HALF_WAY));
     assert!(rt; are_zeros(store, &closed_cells(rt, alloc)));
     expect_all(rt, alloc, folder, store, &AFTERWARDS);
-    assert!(rt; holds(folder, "O", Some(ONE_LEFT)));
+    expect_file(rt, folder, "O", Some(ONE_LEFT));
 }
 
 #[test]
@@ -116,22 +116,18 @@ fn half_halted(
     let mut store = half_way(rt, alloc, folder, picks.0);
     store.fuse(writes);
     expect_over(rt, alloc, folder, &mut store, HALT, 5, "store fault\n");
-    assert!(rt; holds(folder, "L", Some(HALF_WAY)));
+    expect_file(rt, folder, "L", Some(HALF_WAY));
     store.crash(picks.1)
 }
 
-/// Asserts that `halt` closes the migration, or finds it closed.
-fn expect_halted(rt: &impl Abort, alloc: Global, folder: &mut MemFolder, store: &mut MemStore) {
-    let came = outcome_over(alloc, folder, store, HALT).expect(rt, "ample memory");
-    let closed = came.status == 8 && came.out.held() == b"journal not started\n".as_slice();
-    assert!(rt; closed || came.status == 0 && came.out.held() == HALTED.as_bytes());
-}
+/// How `halt` ends that closes the migration, or finds it closed.
+static HALTED_AGAIN: [(u8, &str); 2] = [(0, HALTED), (8, "journal not started\n")];
 
 /// Asserts that a migration on which `halt` stopped after so many writes is closed by `halt`.
 fn expect_halted_again(rt: &impl Abort, alloc: Global, writes: u64, pick: Pick) {
     let mut folder = roomy_folder(rt, alloc);
     let mut left = half_halted(rt, alloc, &mut folder, writes, (Pick::Old, pick));
-    expect_halted(rt, alloc, &mut folder, &mut left);
+    expect_any(rt, alloc, &mut folder, &mut left, HALT, &HALTED_AGAIN);
     expect_closed(rt, alloc, &mut folder, &mut left);
 }
 
@@ -146,6 +142,12 @@ fn a_stopped_halt_is_ended(rt: HostRuntime) {
     }
 }
 
+/// Lines that carry the migration out.
+static RESUMED: [Line<'static>; 2] = [
+    ("resume D N X P", 0, "done 2 rounds, found 1\n"),
+    ("audit D M", 0, MOVED),
+];
+
 // The gate is still 1 after three writes.
 #[test]
 fn a_stopped_halt_is_resumed(rt: HostRuntime) {
@@ -154,17 +156,7 @@ fn a_stopped_halt_is_resumed(rt: HostRuntime) {
         let mut folder = roomy_folder(&rt, alloc);
         let picks = (Pick::New, Pick::Old);
         let mut left = half_halted(&rt, alloc, &mut folder, writes, picks);
-        let text = "done 2 rounds, found 1\n";
-        expect_over(
-            &rt,
-            alloc,
-            &mut folder,
-            &mut left,
-            "resume D N X P",
-            0,
-            text,
-        );
-        expect_over(&rt, alloc, &mut folder, &mut left, "audit D M", 0, MOVED);
+        expect_all(&rt, alloc, &mut folder, &mut left, &RESUMED);
     }
 }
 
@@ -189,10 +181,10 @@ static REFUSED: [Line<'static>; 13] = [
 fn nothing_is_halted_where_nothing_was_started(rt: HostRuntime) {
     let alloc = rt.alloc();
     let mut folder = roomy_folder(&rt, alloc);
-    let mut store = store_of(&rt, alloc, Vec::new(alloc));
+    let mut store = store_of(&rt, alloc, &[]);
     let text = "journal not started\n";
     expect_over(&rt, alloc, &mut folder, &mut store, HALT, 8, text);
-    assert!(rt; holds(&folder, "L", None));
+    expect_file(&rt, &folder, "L", None);
 }
 
 #[test]
@@ -201,7 +193,7 @@ fn a_halt_that_is_refused_changes_nothing(rt: HostRuntime) {
     let mut folder = roomy_folder(&rt, alloc);
     let mut store = half_way(&rt, alloc, &mut folder, Pick::Half);
     expect_all(&rt, alloc, &mut folder, &mut store, &REFUSED);
-    assert!(rt; holds(&folder, "L", None));
+    expect_file(&rt, &folder, "L", None);
 }
 
 // The folder has no room for the layout.
@@ -212,17 +204,17 @@ fn a_layout_that_is_not_saved_leaves_the_store(rt: HostRuntime) {
     let mut store = half_way(&rt, alloc, &mut folder, Pick::New);
     let text = "folder fault\n";
     expect_over(&rt, alloc, &mut folder, &mut store, HALT, 4, text);
-    assert!(rt; holds(&folder, "L", None));
+    expect_file(&rt, &folder, "L", None);
     assert!(rt; store.cell(&Cell::Gate) == Some([1].as_slice()));
-    let text = "done 2 rounds, found 1\n";
+    let line = "resume D N X P";
     expect_over(
         &rt,
         alloc,
         &mut folder,
         &mut store,
-        "resume D N X P",
+        line,
         0,
-        text,
+        "done 2 rounds, found 1\n",
     );
 }
 
@@ -231,10 +223,10 @@ fn a_layout_that_is_not_saved_leaves_the_store(rt: HostRuntime) {
 fn a_halt_whose_first_sync_fails_saves_nothing(rt: HostRuntime) {
     let alloc = rt.alloc();
     let mut folder = roomy_folder(&rt, alloc);
-    let mut store = store_of(&rt, alloc, failing_at(&rt, alloc, 0));
+    let mut store = store_of(&rt, alloc, &[0]);
     let text = "store fault\n";
     expect_over(&rt, alloc, &mut folder, &mut store, HALT, 5, text);
-    assert!(rt; holds(&folder, "L", None));
+    expect_file(&rt, &folder, "L", None);
 }
 
 #[test]
