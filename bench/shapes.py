@@ -1,10 +1,12 @@
 """Migrations of shapes that are hard to plan in as few rounds as the bound says: each is a kind, a name, the limits of the disks, and
-the moves, from disk to disk.
+the moves, from disk to disk; and where it is known besides, how many rounds do.
 
 A two-sided case has odd limits, and each move goes from one side to the other, either way. A tight case is made of as many
 rounds as its bound says, in each of which each disk takes part as often as its limit allows: so that many rounds do. A multiple
 of Petersen's graph has each of its fifteen edges so many times, with limit 1: an even multiple needs as many rounds as a disk has
-moves, and an odd one needs one more, which no bound that is searched shows. A case of parts is several cases beside one
+moves, and an odd one needs one more, which no bound that is searched shows. A case of hubs has odd cliques, as dense as may be, each
+of whose disks gives all or nearly all of the places that it has left to hubs of great limits: it is made round by round, and needs as
+many. A case of parts is several cases beside one
 another, which share no disk.
 """
 import random
@@ -43,6 +45,33 @@ def petersen(draw, times):
     return [1] * 10, moves
 
 
+def clique(draw, first, size, limit, rounds, hubs, part):
+    """The moves of an odd clique of the disks from `first` on, and between it and the hubs, which are the first disks: in each round
+    one place of the clique is left, which goes to a hub, in so many parts of the rounds."""
+    moves = []
+    for _ in range(rounds):
+        pairs = full_round(draw, [limit] * size)
+        left = next(disk for disk in range(size) if sum(pair.count(disk) for pair in pairs) < limit)
+        moves += [(first + one, first + other) for one, other in pairs]
+        if draw.random() < part:
+            moves.append((first + left, draw.randrange(hubs))[:: draw.choice([1, -1])])
+    return moves
+
+
+def beside_hubs(draw):
+    hubs = [draw.choice([4, 8, 16, 32]) for _ in range(draw.randrange(1, 4))]
+    part = draw.choice([1, 0.995, 0.98])
+    kinds = [(draw.choice([3, 5, 7]), draw.choice([1, 3])) for _ in range(draw.randrange(1, 5))]
+    most = 65536 // sum(size * limit // 2 + 1 for size, limit in kinds)
+    rounds = round(30 * (most / 30) ** draw.random())
+    limits, moves = list(hubs), []
+    for size, limit in kinds:
+        moves += clique(draw, len(limits), size, limit, rounds, len(hubs), part)
+        limits += [limit] * size
+    draw.shuffle(moves)
+    return limits, moves, rounds
+
+
 def side_by_side(parts):
     limits, moves = [], []
     for part_limits, part_moves in parts:
@@ -71,3 +100,6 @@ def cases(count):
         yield "Petersen's graph, even", str(2 * number + 2), *petersen(draw, 2 * number + 2)
         yield "Petersen's graph, odd", str(2 * number + 1), *petersen(draw, 2 * number + 1)
         yield "parts", str(number), *in_parts(draw, draw.randrange(2, 12))
+    draw = random.Random(3)
+    for number in range(4 * count):
+        yield "cliques beside hubs", str(number), *beside_hubs(draw)

@@ -24,7 +24,7 @@ const SHARES: u32 = 16;
 /// Up to so many rounds other dealings are tried too, so many in all.
 const FEW_ROUNDS: u32 = 4;
 
-const DEALINGS: u32 = 8;
+const DEALINGS: u32 = 64;
 
 /// The first board has one more colour for so many of its first ones.
 const MORE: u32 = 32;

@@ -69,7 +69,7 @@ pub fn colour_within(board: &mut Board, start: u32) -> bool
 {
     let colours = board.colours();
     let mut palette = Palette::new(start, board.nodes());
-    let mut effort = Effort::new(board.nodes());
+    let mut effort = Effort::new(board.nodes(), colours);
     let mut left = try_all(board, palette.size, &mut effort);
     for _pass in 1..PASSES {
         if left == 0 || !can_go_on(&mut palette, &mut effort, left, colours) {

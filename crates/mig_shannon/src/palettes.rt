@@ -7,13 +7,16 @@ const FEW_TRIES: u32 = 16;
 
 const MOST_TRIES: u32 = 1024;
 
-/// What walks that fail may cost, in steps of walks: between two improvements until they have failed often, and until the
-/// palette grows; and in a whole run.
-const EASE: u64 = 1 << 12;
-
-const PATIENCE: u64 = 1 << 20;
-
+/// What walks that fail may cost in a whole run, in steps of walks.
 const BUDGET: u64 = 1 << 26;
+
+/// What they may cost between two improvements until the palette grows: so much for each colour, no more than the most of
+/// it, and a little more for each colour, since the one that is missed may be any of them.
+const PATIENCE: u64 = 1 << 12;
+
+const MOST_PATIENCE: u64 = 1 << 20;
+
+const MORE_PATIENCE: u64 = 1 << 7;
 
 /// The colours in use, those below the palette's size.
 #[derive(Drop)]
@@ -71,21 +74,24 @@ pub struct Effort {
     cost: u64,
     spent: u64,
     left: u64,
+    /// What may be spent between two improvements.
+    patience: u64,
     /// The fewest edges that a pass left, as of the last improvement.
     least: u32,
     state: u32,
 }
 
 impl Effort {
-    /// The effort for a board of so many nodes.
-    pub fn new(nodes: u32) -> Effort
-        ensures { result ≡ record { tries = FEW_TRIES; cost = 16 + nodes / 4; spent = 0; left = BUDGET; least = u32.MAX; state = 1 } }
+    /// The effort for a board of so many nodes and colours.
+    pub fn new(nodes: u32, colours: u32) -> Effort
+        ensures { result ≡ record { tries = FEW_TRIES; cost = 16 + nodes / 4; spent = 0; left = BUDGET; patience = min (colours * PATIENCE) MOST_PATIENCE + colours * MORE_PATIENCE; least = u32.MAX; state = 1 } }
     {
         Effort {
             tries: FEW_TRIES,
             cost: 16 + nodes as u64 / 4,
             spent: 0,
             left: BUDGET,
+            patience: (colours as u64 * PATIENCE).min(MOST_PATIENCE) + colours as u64 * MORE_PATIENCE,
             least: u32::MAX,
             state: 1,
         }
@@ -115,13 +121,6 @@ impl Effort {
         self.left == 0
     }
 
-    /// Whether walks have not failed often since the last improvement.
-    pub fn is_easy(&self) -> bool
-        ensures { IsTrue result ↔ (self.now.spent < EASE) }
-    {
-        self.spent < EASE
-    }
-
     /// Whether a pass that left so many edges is an improvement: it left fewer than before by one in sixteen or more.
     pub fn is_better(&self, edges: u32) -> bool
         ensures { IsTrue result ↔ (edges + edges / 16 < self.now.least) }
@@ -131,15 +130,15 @@ impl Effort {
 
     /// Whether walks have brought nothing for long, where so many edges are left: the fewer, the longer.
     pub fn is_stuck(&self, edges: u32) -> bool
-        ensures { IsTrue result ↔ (PATIENCE ≤ self.now.spent * min edges 16) }
+        ensures { IsTrue result ↔ (self.now.patience ≤ self.now.spent * min edges 16) }
     {
-        self.spent.saturating_mul(edges.min(16) as u64) >= PATIENCE
+        self.spent.saturating_mul(edges.min(16) as u64) >= self.patience
     }
 
     /// Tries one walk alone for each further edge of a pass, where walks have brought nothing for long.
     pub fn hurry(&mut self, edges: u32)
-        ensures stuck { PATIENCE ≤ self.old.spent * min edges 16 → self.new ≡ record self.old { tries = 1 } }
-        ensures going { self.old.spent * min edges 16 < PATIENCE → self.new ≡ self.old }
+        ensures stuck { self.old.patience ≤ self.old.spent * min edges 16 → self.new ≡ record self.old { tries = 1 } }
+        ensures going { self.old.spent * min edges 16 < self.old.patience → self.new ≡ self.old }
     {
         if self.is_stuck(edges) {
             self.tries = 1;

@@ -1,5 +1,5 @@
 //! Walks that free a colour for an edge.
-ghost use Rattle.std.specs.Prelude.{◌≡◌, ◌<◌, length, max, IfSome, MatchBool};
+ghost use Rattle.std.specs.Prelude.{◌≡◌, ◌<◌, length, IfSome, MatchBool};
 ghost use Rattle.mig_board.specs.Colouring.{IsMissing, IsProper};
 ghost use Rattle.mig_board.specs.Growth.{IsPlain, PaintsOne, Recolours};
 ghost use Rattle.mig_shannon.specs.Ways.{CanWalk};
@@ -7,6 +7,9 @@ ghost use Rattle.mig_shannon.specs.Ways.{CanWalk};
 use crate::palettes::Effort;
 use mig_base::{Colour, CopyId, EdgeId};
 use mig_board::Board;
+
+/// One in so many colours is drawn for a second node too.
+const WHILE: u32 = 4;
 
 /// The next colour of the palette that is missing at the node, from a number on, or else the first one.
 fn missing_after(board: &Board, node: CopyId, from: u32, size: u32) -> Option<Colour>
@@ -27,17 +30,18 @@ fn missing_after(board: &Board, node: CopyId, from: u32, size: u32) -> Option<Co
     None
 }
 
-/// A colour of the palette that is missing at the node. Where walks have failed often, it is missing at a drawn node too,
-/// if there is such a colour.
+/// A colour of the palette that is missing at the node. Once in a while it is missing at a drawn node too, if there is such
+/// a colour.
 ///
-/// In a tight palette most colours are missing at one node alone, and a walk by two of these can only end at the edge's
-/// other end. A colour that is missing at more nodes gives it other ends.
+/// In a tight palette most colours may be missing at one node alone, and a walk by two of these can only end at the edge's
+/// other end. A colour that is missing at more nodes gives it other ends. But where some nodes lack nearly all colours,
+/// that is no choice, and any other one may be it.
 fn missing_rarely(board: &Board, node: CopyId, size: u32, effort: &mut Effort) -> Option<Colour>
     requires { node.0 < board.now.nodes }
     ensures missing { IfSome result (IsMissing board.now node) }
     ensures below { IfSome result (λ colour. colour.0 < size) }
 {
-    if !effort.is_easy() {
+    if effort.draw(WHILE) == 0 {
         let beside = CopyId(effort.draw(board.nodes()));
         if let Some(colour) = board.common(node, beside) {
             if colour.0 < size {
@@ -91,22 +95,6 @@ fn try_walk(
     true
 }
 
-/// A drawn number of the palette. Where walks have failed often, it is that of a colour that is missing at a drawn node,
-/// as `missing_rarely` finds it.
-fn draw_colour(board: &Board, size: u32, effort: &mut Effort) -> Colour
-    requires { 0 < board.now.nodes }
-    ensures { result.0 < max size 1 }
-{
-    if effort.is_easy() {
-        return Colour(effort.draw(size));
-    }
-    let node = CopyId(effort.draw(board.nodes()));
-    match missing_rarely(board, node, size, effort) {
-        Some(colour) => colour,
-        None => Colour(effort.draw(size)),
-    }
-}
-
 /// Exchanges a colour of the palette that is missing at the node with another one.
 fn stir(board: &mut Board, node: CopyId, size: u32, effort: &mut Effort)
     requires { node.0 < board.old.nodes }
@@ -117,7 +105,7 @@ fn stir(board: &mut Board, node: CopyId, size: u32, effort: &mut Effort)
     let Some(lacks) = missing_after(board, node, effort.draw(size), size) else {
         return;
     };
-    let has = draw_colour(board, size, effort);
+    let has = Colour(effort.draw(size));
     if has.0 < colours && !board.is_missing(node, has) {
         board.exchange(node, lacks, has);
     }
