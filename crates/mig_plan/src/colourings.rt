@@ -21,10 +21,14 @@ use std::alloc::{AllocError, Global};
 /// A disk below its limit has so many copies, or nearly, for each one that it needs.
 const SHARES: u32 = 16;
 
-/// Up to so many rounds other dealings are tried too, so many in all.
+/// Up to so many rounds other dealings are tried too: as many as deal so many edges in all, but between these two numbers.
 const FEW_ROUNDS: u32 = 4;
 
-const DEALINGS: u32 = 64;
+const DEALT: u32 = 1 << 17;
+
+const FEW_DEALINGS: u32 = 8;
+
+const MOST_DEALINGS: u32 = 64;
 
 /// The first board has one more colour for so many of its first ones.
 const MORE: u32 = 32;
@@ -164,7 +168,13 @@ fn colour_general(
     } else {
         most.min(start.saturating_add(start / MORE + 1))
     };
-    let dealings = if is_small { DEALINGS } else { 1 };
+    let dealings = if is_small {
+        (DEALT / graph.edges().max(1))
+            .min(MOST_DEALINGS)
+            .max(FEW_DEALINGS)
+    } else {
+        1
+    };
     for dealing in 0..dealings {
         if let Some(colours) = colour_within_few(alloc, graph, dealing, few, start)? {
             return Ok((colours, few));

@@ -10,8 +10,8 @@ const MOST_TRIES: u32 = 1024;
 /// What walks that fail may cost in a whole run, in steps of walks.
 const BUDGET: u64 = 1 << 26;
 
-/// What they may cost between two improvements until the palette grows: so much for each colour, no more than the most of
-/// it, and a little more for each colour, since the one that is missed may be any of them.
+/// What they may cost between two improvements until the palette grows: so much for each colour, but at most so much in all;
+/// and for each colour a little more, since a single one of them may be what helps.
 const PATIENCE: u64 = 1 << 12;
 
 const MOST_PATIENCE: u64 = 1 << 20;
@@ -91,7 +91,8 @@ impl Effort {
             cost: 16 + nodes as u64 / 4,
             spent: 0,
             left: BUDGET,
-            patience: (colours as u64 * PATIENCE).min(MOST_PATIENCE) + colours as u64 * MORE_PATIENCE,
+            patience: (colours as u64 * PATIENCE).min(MOST_PATIENCE)
+                + colours as u64 * MORE_PATIENCE,
             least: u32::MAX,
             state: 1,
         }

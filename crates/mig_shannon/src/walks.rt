@@ -8,7 +8,7 @@ use crate::palettes::Effort;
 use mig_base::{Colour, CopyId, EdgeId};
 use mig_board::Board;
 
-/// One in so many colours is drawn for a second node too.
+/// One in so many colours is drawn from those that a second node lacks too.
 const WHILE: u32 = 4;
 
 /// The next colour of the palette that is missing at the node, from a number on, or else the first one.
@@ -34,8 +34,8 @@ fn missing_after(board: &Board, node: CopyId, from: u32, size: u32) -> Option<Co
 /// a colour.
 ///
 /// In a tight palette most colours may be missing at one node alone, and a walk by two of these can only end at the edge's
-/// other end. A colour that is missing at more nodes gives it other ends. But where some nodes lack nearly all colours,
-/// that is no choice, and any other one may be it.
+/// other end. A colour that is missing at more nodes gives it other ends. But some nodes may lack nearly all colours, and
+/// then that says nothing: so most are drawn from all.
 fn missing_rarely(board: &Board, node: CopyId, size: u32, effort: &mut Effort) -> Option<Colour>
     requires { node.0 < board.now.nodes }
     ensures missing { IfSome result (IsMissing board.now node) }
