@@ -1,5 +1,5 @@
 //! Walks that free a colour for an edge.
-ghost use Rattle.std.specs.Prelude.{◌≡◌, ◌<◌, length, IfSome, MatchBool};
+ghost use Rattle.std.specs.Prelude.{◌≡◌, ◌<◌, length, max, IfSome, MatchBool};
 ghost use Rattle.mig_board.specs.Colouring.{IsMissing, IsProper};
 ghost use Rattle.mig_board.specs.Growth.{IsPlain, PaintsOne, Recolours};
 ghost use Rattle.mig_shannon.specs.Ways.{CanWalk};
@@ -9,7 +9,7 @@ use mig_base::{Colour, CopyId, EdgeId};
 use mig_board::Board;
 
 /// One in so many colours is drawn from those that a second node lacks too.
-const WHILE: u32 = 4;
+const WHILE: u32 = 8;
 
 /// The next colour of the palette that is missing at the node, from a number on, or else the first one.
 fn missing_after(board: &Board, node: CopyId, from: u32, size: u32) -> Option<Colour>
@@ -30,6 +30,21 @@ fn missing_after(board: &Board, node: CopyId, from: u32, size: u32) -> Option<Co
     None
 }
 
+/// A colour of the palette that is missing at the node and at a drawn one.
+fn missing_twice(board: &Board, node: CopyId, size: u32, effort: &mut Effort) -> Option<Colour>
+    requires { node.0 < board.now.nodes }
+    ensures missing { IfSome result (IsMissing board.now node) }
+    ensures below { IfSome result (λ colour. colour.0 < size) }
+{
+    let beside = CopyId(effort.draw(board.nodes()));
+    if let Some(colour) = board.common(node, beside) {
+        if colour.0 < size {
+            return Some(colour);
+        }
+    }
+    None
+}
+
 /// A colour of the palette that is missing at the node. Once in a while it is missing at a drawn node too, if there is such
 /// a colour.
 ///
@@ -42,11 +57,8 @@ fn missing_rarely(board: &Board, node: CopyId, size: u32, effort: &mut Effort) -
     ensures below { IfSome result (λ colour. colour.0 < size) }
 {
     if effort.draw(WHILE) == 0 {
-        let beside = CopyId(effort.draw(board.nodes()));
-        if let Some(colour) = board.common(node, beside) {
-            if colour.0 < size {
-                return Some(colour);
-            }
+        if let Some(colour) = missing_twice(board, node, size, effort) {
+            return Some(colour);
         }
     }
     missing_after(board, node, effort.draw(size), size)
@@ -95,6 +107,20 @@ fn try_walk(
     true
 }
 
+/// A drawn number of the palette. Once in a while it is that of a colour that is missing at two drawn nodes.
+fn draw_colour(board: &Board, size: u32, effort: &mut Effort) -> Colour
+    requires { 0 < board.now.nodes }
+    ensures { result.0 < max size 1 }
+{
+    if effort.draw(WHILE) == 0 {
+        let node = CopyId(effort.draw(board.nodes()));
+        if let Some(colour) = missing_twice(board, node, size, effort) {
+            return colour;
+        }
+    }
+    Colour(effort.draw(size))
+}
+
 /// Exchanges a colour of the palette that is missing at the node with another one.
 fn stir(board: &mut Board, node: CopyId, size: u32, effort: &mut Effort)
     requires { node.0 < board.old.nodes }
@@ -105,7 +131,7 @@ fn stir(board: &mut Board, node: CopyId, size: u32, effort: &mut Effort)
     let Some(lacks) = missing_after(board, node, effort.draw(size), size) else {
         return;
     };
-    let has = Colour(effort.draw(size));
+    let has = draw_colour(board, size, effort);
     if has.0 < colours && !board.is_missing(node, has) {
         board.exchange(node, lacks, has);
     }
