@@ -12,6 +12,7 @@ use crate::disk_set::DiskSet;
 use crate::seen::Seen;
 use crate::tracked::{Notes, Tracked, refuse_with};
 use lru::LruCache;
+use mig_base::Name;
 use mig_calls::{Calls, Refusal};
 use mig_store::{Store, StoreFailed};
 use std::alloc::{AllocError, Global};
@@ -29,6 +30,14 @@ pub struct FileStore<C: Calls> {
     ghost tracks: { IsTracked tracked.notes (C.Calls.state calls) },
 }
 
+/// No disk's file is open.
+fn none_open(alloc: Global) -> Result<LruCache<Name, ()>, AllocError> {
+    match NonZeroUsize::new(MOST_OPEN) {
+        Some(most) => LruCache::new(alloc, most),
+        None => Err(AllocError),
+    }
+}
+
 impl<C: Calls + Drop> FileStore<C> {
     /// The store over these calls, which has opened no file. The disks are handed in whose files the device may lack some bytes of, as where an earlier process ended without a sync; all others count so once they are looked at. An error is want of memory.
     pub fn new(alloc: Global, calls: C, dirty: DiskSet) -> Result<FileStore<C>, AllocError>
@@ -37,9 +46,7 @@ impl<C: Calls + Drop> FileStore<C> {
         requires fresh { (disk : List ℕ) → IsTrue ((C.Calls.state calls).fresh (DiskFile disk)) }
         ensures shows { IfOk result (λ store. ShowsFiles (C.Calls.state calls) (⟦<FileStore<C> as Store>⟧.state store)) }
     {
-        let Some(most) = NonZeroUsize::new(MOST_OPEN) else {
-            return Err(AllocError);
-        };
+        let open = none_open(alloc)?;
         Ok(FileStore {
             calls,
             tracked: Tracked {
@@ -52,7 +59,7 @@ impl<C: Calls + Drop> FileStore<C> {
                     lost: false,
                 },
                 met: DiskSet::new(alloc),
-                open: LruCache::new(alloc, most)?,
+                open,
                 most: MOST_OPEN,
             },
             seen: Seen::new(alloc),
@@ -67,11 +74,9 @@ impl<C: Calls> FileStore<C> {
     {
         let FileStore {
             calls,
-            tracked,
-            seen,
+            tracked: _tracked,
+            seen: _seen,
         } = self;
-        drop(tracked);
-        drop(seen);
         calls
     }
 
