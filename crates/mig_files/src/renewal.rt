@@ -10,7 +10,7 @@ ghost use Rattle.mig_files.specs.Tracking.{IsTracked, IsQuiet, IsCopyStep, Write
 use crate::opening::extent;
 use crate::pieces::write_all;
 use crate::tracked::Tracked;
-use crate::tries::{Task, make, read_all, sync_file};
+use crate::tries::{Task, make, read_all};
 use mig_calls::{Calls, Place};
 use mig_store::StoreFailed;
 
@@ -138,7 +138,8 @@ fn sync_copy<C: Calls>(calls: &mut C, tracked: &mut Tracked) -> Result<(), Store
     ensures kept { OnOk result (WritesAlive tracked.new.notes (C.Calls.state calls.old) (C.Calls.state calls.new)) }
     ensures cause { OnErr result (Rose (C.Calls.state calls.old).faults (C.Calls.state calls.new).faults) }
 {
-    match sync_file(calls, &Place::Copy) {
+    let place = Place::Copy;
+    match make(calls, &Task::Sync { place }) {
         Ok(()) => Ok(()),
         Err(failed) => {
             tracked.notes.lost = true;

@@ -7,7 +7,7 @@ ghost use Rattle.mig_calls.specs.Refusals.{IsRefusalCause};
 ghost use Rattle.mig_files.specs.Tracking.{IsTracked, IsStep, StaysAlive, SameNotes, IsNoted};
 
 use crate::disk_set::DiskSet;
-use crate::tries::{Task, make, refuse, sync_file};
+use crate::tries::{Task, make, refuse};
 use lru::LruCache;
 use mig_base::Name;
 use mig_calls::{Calls, Place, Refusal};
@@ -111,7 +111,8 @@ pub fn sync_disk<C: Calls>(
     if !tracked.notes.dirty.holds(name) {
         return Ok(());
     }
-    match sync_file(calls, &Place::Disk(*name)) {
+    let place = Place::Disk(*name);
+    match make(calls, &Task::Sync { place }) {
         Ok(()) => {
             tracked.notes.dirty.remove(name);
             Ok(())
@@ -136,7 +137,8 @@ pub fn sync_journal<C: Calls>(calls: &mut C, tracked: &mut Tracked) -> Result<()
     if !tracked.notes.unsynced {
         return Ok(());
     }
-    match sync_file(calls, &Place::Journal) {
+    let place = Place::Journal;
+    match make(calls, &Task::Sync { place }) {
         Ok(()) => {
             tracked.notes.unsynced = false;
             Ok(())

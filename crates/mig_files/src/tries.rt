@@ -5,7 +5,6 @@ ghost use Rattle.mig_calls.specs.Files.{HasBytes, HasCallCause};
 ghost use Rattle.mig_calls.specs.Refusals.{IsRefusalCause};
 ghost use Rattle.mig_files.specs.Tracking.{IsQuiet};
 ghost use Rattle.mig_files.specs.Tasks.{file_of_task, is_sync, IsReady, IsDone, Leaves, LeavesUsable, CanTryAgain};
-ghost use Rattle.mig_files.specs.declared.tries.Task.TheVariants.{Sync};
 
 use mig_calls::{CallError, Calls, Place, Refusal};
 use mig_store::StoreFailed;
@@ -89,17 +88,6 @@ pub fn make<C: Calls>(calls: &mut C, task: &Task) -> Result<(), StoreFailed>
         }
     }
     Err(refuse(calls, &Refusal::Interrupted { place }))
-}
-
-/// Syncs a file that is open.
-pub fn sync_file<C: Calls>(calls: &mut C, place: &Place) -> Result<(), StoreFailed>
-    requires { IsTrue (C.Calls.state calls.old).usable }
-    ensures flushed { OnOk result (IsTrue ((C.Calls.state calls.new).flushed place.now)) }
-    ensures leaves { Leaves (Sync place.now) (C.Calls.state calls.old) (C.Calls.state calls.new) }
-    ensures usable { OnOk result (LeavesUsable (Sync place.now) (C.Calls.state calls.old) (C.Calls.state calls.new)) }
-    ensures cause { OnErr result (Rose (C.Calls.state calls.old).faults (C.Calls.state calls.new).faults) }
-{
-    make(calls, &Task::Sync { place: *place })
 }
 
 /// Reads more bytes of a file, behind those that were read, and answers how many were read by now. What lies past the end is zeros.
