@@ -7,7 +7,7 @@ use mig_io::SaveFailed;
 use std::alloc::{AllocError, AllocFailed};
 
 /// A text that a command reads beside the three files.
-#[derive(Clone, Copy, Debug, PartialEq, Eq)]
+#[derive(Clone, Copy)]
 pub enum TextFile {
     Plan,
     Cert,
@@ -31,7 +31,7 @@ impl TextFile {
 }
 
 /// What is found wrong with what a command was given, with what its text shows.
-#[derive(Clone, Copy, Debug, PartialEq, Eq)]
+#[derive(Clone, Copy)]
 pub enum Finding {
     /// The plan or its certificate is blamed. The name is that of the item or the disk that the blame names, if it names one.
     Blamed {
@@ -101,7 +101,7 @@ impl Finding {
 }
 
 /// Why what a store holds doesn't let a command begin, with what its text shows.
-#[derive(Clone, Copy, Debug, PartialEq, Eq)]
+#[derive(Clone, Copy)]
 pub enum StoreRefusal {
     /// The journal says that this plan is being carried out, or was; for `fill`, that any is.
     Started,
@@ -133,7 +133,7 @@ impl StoreRefusal {
 }
 
 /// Why a command isn't done.
-#[derive(Clone, Copy, Debug, PartialEq, Eq)]
+#[derive(Clone, Copy)]
 pub enum Ending {
     /// The words are no command in its listed form.
     Unlisted,

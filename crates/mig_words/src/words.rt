@@ -17,7 +17,7 @@ pub struct PlanFiles<'a> {
 }
 
 /// How the three files of an input are read.
-#[derive(Clone, Copy, Debug, PartialEq, Eq)]
+#[derive(Clone, Copy)]
 pub enum Reader {
     /// Each disk must have room for what comes to it.
     Roomy,
