@@ -5,7 +5,7 @@ from session_rooms import TOP, Count
 
 PROGRAM, LIBRARY = "crates/migrate/out/migrate", "crates/mig_c/out/libmig_c.a"
 SUITES = ["session", "damage", "power", "contrib", "script", "library"]
-TOOLS = ["audit", "real-pvmove", "stand-in", "stand-in-mount"]
+TOOLS = ["audit"]
 
 
 # .ci/run

@@ -8,7 +8,7 @@ SCRIPTS = {
     "built/program": ["typo"], "built/renew": ["typo"], "built/check": ["", "a b"],
     "lib/build": ["", "a b"], "lib/renew": ["typo", "-n"], "lib/check": ["", "a b"], "lib/install": ["", "to an archive more", "--prefix to"],
     "tests/all": ["typo", "PROGRAM --fast"], "tests/session": ["typo"], "tests/damage": ["PROGRAM typo"],
-    "tests/power": ["", "PROGRAM typo", "--more PROGRAM"], "tests/contrib": ["typo", "PROGRAM typo"],
+    "tests/power": ["", "PROGRAM typo", "--more PROGRAM"], "tests/contrib/run": ["typo", "PROGRAM typo"],
     "tests/script": ["", "typo"], "tests/library": ["typo", "PROGRAM PROGRAM PROGRAM"],
 }
 

@@ -1,0 +1,1 @@
+"""Placement groups of Ceph."""

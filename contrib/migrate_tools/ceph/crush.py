@@ -1,0 +1,80 @@
+"""What Ceph's rules ask of the OSDs of a placement group, and what Ceph makes of a group's exceptions."""
+import math
+from collections.abc import Iterable, Sequence
+from typing import Any
+
+Pairs = list[tuple[int, int]]
+
+
+class Rule:
+    """A rule of a CRUSH map, as Ceph judges exceptions by it."""
+
+    def __init__(self, rule: dict[str, Any], crush: dict[str, Any], out: Iterable[int]) -> None:
+        self.useless = set(out)
+        self.above: dict[int, dict[str, str]] = {}  # the buckets that an OSD is in, by their kinds
+        self.parts: list[tuple[str, dict[int, dict[str, str]], list[tuple[bool, int, str]]]] = []
+        self.kinds = [it["name"] for it in sorted(crush["types"], key=lambda it: int(it["type_id"])) if it["type_id"]]
+        self.buckets = {it["id"]: it for it in crush["buckets"]}
+        for step in rule["steps"]:
+            if step["op"] == "take":
+                below: dict[int, dict[str, str]] = {}
+                self.walk(step["item"], {}, below)
+                self.above = {**below, **self.above}
+                self.parts.append((step["item_name"], below, []))
+            elif step["op"].startswith("choose"):
+                self.parts[-1][2].append((step["op"].startswith("chooseleaf"), step["num"], step["type"]))
+
+    def walk(self, id_: int, path: dict[str, str], below: dict[int, dict[str, str]]) -> None:
+        """Gives each OSD below a bucket the buckets that it is in, by their kinds."""
+        path = {**path, self.buckets[id_]["type_name"]: self.buckets[id_]["name"]}
+        for item in self.buckets[id_]["items"]:
+            if item["id"] < 0:
+                self.walk(item["id"], path, below)
+            else:
+                below[item["id"]] = path
+                self.useless |= {item["id"]} if item["weight"] == 0 else set()
+
+    def broken(self, osds: Sequence[int]) -> str:
+        """Why Ceph would drop exceptions that put a group on these OSDs; empty where it keeps them."""
+        at = 0
+        for root, below, choices in self.parts:
+            counts = [number if number > 0 else number + len(osds) for _, number, _ in choices]
+            for osd in osds[at : at + math.prod(counts)]:
+                if osd not in below or osd in self.useless:
+                    return f"osd.{osd} is out, or has no weight below {root}"
+            at += math.prod(counts)
+            for (leaf, _, kind), most in zip(choices, counts):
+                names = [self.above.get(it, {}).get(kind) for it in osds]
+                used = {it for it in names if it}
+                twice = next((it for it in used if leaf and names.count(it) > 1), None)
+                if twice:
+                    both = " and ".join(f"osd.{osd}" for osd, it in zip(osds, names) if it == twice)
+                    return f"{both} would be in one {kind}, {twice}"
+                if not leaf and len(used) > most:
+                    return f"its OSDs would be in {len(used)} of the kind {kind}, where the rule has {most}"
+        return ""
+
+
+def paired(leave: Sequence[int], come: Sequence[int], rule: Rule, known: Pairs) -> dict[int, int]:
+    """Which of these OSDs takes the place of which: as is known, then within a host, a rack and so on, then as they
+    come."""
+    pairs: dict[int, int] = {}
+    for one, two in known:
+        if one in leave and two in come and one not in pairs and two not in pairs.values():
+            pairs[one] = two
+    for kind in [*rule.kinds, None]:
+        for one in [it for it in leave if it not in pairs]:
+            place = rule.above.get(one, {}).get(kind)
+            fits = [it for it in come if it not in pairs.values()
+                    and (not kind or place and rule.above.get(it, {}).get(kind) == place)]
+            pairs.update({one: fits[0]} if fits else {})
+    return pairs
+
+
+def landed(chosen: Sequence[int], pairs: Pairs) -> list[int]:
+    """Where exceptions put a group for which CRUSH chose these OSDs."""
+    osds = list(chosen)
+    for one, two in pairs:
+        if one in chosen and one in osds and two not in osds:
+            osds[osds.index(one)] = two
+    return osds

@@ -1,0 +1,219 @@
+"""What from-ceph and to-ceph read: the placement groups of a change, and their pools' rules. What cannot be carried out
+is named."""
+import argparse, json, re
+from collections.abc import Iterator, Mapping
+from dataclasses import dataclass
+from ..command import Wrong, note, read_text, words
+from .crush import Pairs, Rule, landed, paired
+
+OSDS = r"\(\[([0-9,]*)\], p-?[0-9]+\)"
+LINE = re.compile(rf"([0-9]+\.[0-9a-f]+) raw {OSDS} up {OSDS} acting {OSDS}", re.ASCII)
+POOL = re.compile(r"^pool ([0-9]+) '.*' (replicated|erasure) (?:profile \S+ )?size ([0-9]+) min_size [0-9]+ "
+                  r"crush_rule ([0-9]+) ",
+                  re.ASCII | re.M)
+NO_OSD = 2147483647
+FILES = """
+
+BEFORE, AFTER, DUMP and CRUSH are files with what these print. MAP is the cluster's map (ceph osd getmap -o MAP), and
+CHANGE.. is as `--mark-out 5 --adjust-crush-weight 3:0.5`:
+  osdmaptool MAP --clear-temp --test-map-pgs-dump-all >BEFORE
+  osdmaptool MAP --clear-temp CHANGE.. --upmap-cleanup COMMANDS --test-map-pgs-dump-all >AFTER
+  osdmaptool MAP --print >DUMP         or: ceph osd dump
+  ceph osd crush dump >CRUSH           or: osdmaptool MAP --export-crush FILE; crushtool -i FILE --dump
+With --hold the change is made already: BEFORE is of the old map, and the others are of the new one, without CHANGE."""
+
+
+def without(osds: list[int], others: list[int]) -> list[int]:
+    return [it for it in osds if it not in others]
+
+
+@dataclass(frozen=True)
+class Item:
+    """A copy or a shard of a placement group, with its OSD before and after."""
+    name: str
+    source: int
+    target: int
+
+
+@dataclass(frozen=True)
+class Group:
+    """A placement group: what CRUSH chooses for it while the commands run, and where it is before and after. A place in
+    these lists is a shard's where the pool is erasure coded; else it means nothing. `old` are its exceptions now, None
+    for a whole one."""
+    name: str
+    rule: Rule
+    shards: bool
+    size: int
+    chosen: list[int]
+    before: list[int]
+    after: list[int]
+    old: Pairs | None
+
+    def differ(self, one: list[int], two: list[int]) -> bool:
+        return one != two if self.shards else set(one) != set(two)
+
+    def items(self) -> list[Item]:
+        """A shard keeps its place, a copy goes where it is near."""
+        if self.shards:
+            return [Item(f"{self.name}s{at}", *ends) for at, ends in enumerate(zip(self.before, self.after))]
+        pairs = paired(without(self.before, self.after), without(self.after, self.before), self.rule, [])
+        return [Item(f"{self.name}-{it}", it, pairs.get(it, it)) for it in self.before]
+
+    def exceptions(self, osds: list[int]) -> tuple[Pairs, str]:
+        """The pairs that put the group on these OSDs, and why there are none. Ceph takes the pairs in their order,
+        passes over one whose second is there already, and keeps none whose first CRUSH did not choose: so what takes an
+        OSD away stands before what brings it."""
+        if len(set(osds)) < len(osds):
+            return [], f"osd.{max(osds, key=osds.count)} would have two of its shards"
+        if self.shards:
+            pairs = {one: two for one, two in zip(self.chosen, osds) if one != two}
+        else:
+            pairs = paired(without(self.chosen, osds), without(osds, self.chosen), self.rule, self.old or [])
+        ordered = []
+        while pairs:
+            first = next((one for one, two in pairs.items() if two not in pairs), None)
+            if first is None:
+                ring = " and ".join(f"osd.{it}" for it in pairs)
+                return [], f"its shards on {ring} would change places, which exceptions cannot say"
+            ordered.append((first, pairs.pop(first)))
+        return ordered, self.rule.broken(landed(self.chosen, ordered))
+
+    def states(self, rounds: Mapping[str, int]) -> Iterator[tuple[int, list[int], Pairs]]:
+        """The OSDs of the group after each of its rounds, from 0 on, in which the rule holds, and the exceptions then.
+        It holds in the last. `rounds` has the round in which an item goes."""
+        late: list[str] = []
+        broken = ""
+        for at in sorted({0, *rounds.values()}):
+            osds = [it.target if rounds.get(it.name, at + 1) <= at else it.source for it in self.items()]
+            pairs, why = self.exceptions(osds)
+            if why:
+                late.append(str(at))
+                broken = why
+                continue
+            if late:
+                note(f"placement group {self.name}: what round {' and '.join(late)} is to move goes in round {at}, "
+                     f"since without that {broken}")
+            late = []
+            yield at, osds, pairs
+
+    def refusal(self, then: list[int], hold: bool) -> str:
+        """Why it cannot be carried out; empty where it can. `then` is what CRUSH chooses after the change."""
+        for osds, when in ((self.before, "before"), (self.after, "after")):
+            there = len(osds) - osds.count(NO_OSD)
+            if there != self.size:
+                return f"has {there} OSDs {when} the change, where its pool's size is {self.size}"
+        if not self.differ(self.before, self.after):
+            return ""
+        if self.old is None:
+            return f"has a whole exception (pg_upmap); remove it first: ceph osd rm-pg-upmap {self.name}"
+        for osds in [self.before, self.after] if hold else [self.after]:
+            pairs, why = self.exceptions(osds)
+            if why:
+                return f"cannot be held on {osds} by exceptions: {why}"
+        last = landed(then, pairs)
+        is_there = not self.differ(last, self.after)
+        return "" if is_there else f"would be on {last} with its exceptions once the change is made"
+
+
+Lists = dict[str, tuple[list[int], list[int]]]
+
+
+def reader(doc: str | None, *names: str) -> argparse.ArgumentParser:
+    """A reader of the words that both commands have, after these."""
+    found = words((doc or "") + FILES)
+    for name in (*names, "before", "after", "dump", "crush"):
+        found.add_argument(name, metavar=name.upper())
+    found.add_argument("--hold", action="store_true", help="the weights are as AFTER already")
+    return found
+
+
+def numbers(text: str) -> list[int]:
+    return [int(it) for it in text.split(",") if it]
+
+
+def pairs_of(osds: list[int]) -> Pairs:
+    return list(zip(osds[::2], osds[1::2]))
+
+
+def read_groups(path: str, cleaned: bool) -> Lists:
+    """For each placement group the OSDs that CRUSH chooses, and those that it is on."""
+    groups: Lists = {}
+    lines = read_text(path).split("\n")
+    for found in filter(None, map(LINE.fullmatch, lines)):
+        name, (chosen, up, acting) = found[1], map(numbers, found.groups()[1:])
+        if name in groups:
+            raise Wrong(f"lists placement group {name} twice: write each file anew, and do not append", path)
+        if up != acting:
+            raise Wrong(f"{path}: placement group {name} is on {acting} still, and goes to {up}: let its backfill end, "
+                        "and add --clear-temp")
+        groups[name] = chosen, up
+    is_odd = any(set(up) - {*chosen, NO_OSD} for chosen, up in groups.values())
+    if cleaned and "checking for upmap cleanups" not in lines and is_odd:
+        raise Wrong("has exceptions that Ceph may drop with the change: add --upmap-cleanup COMMANDS", path)
+    for osd in re.findall(r"^marking OSD@([0-9]+) as out$", "\n".join(lines), re.M):
+        note(f"{path} has osd.{osd} marked out; of several --mark-out osdmaptool takes the last alone")
+    if not groups:
+        raise Wrong("lists no placement group; this prints them: osdmaptool MAP --clear-temp --test-map-pgs-dump-all",
+                    path)
+    return groups
+
+
+@dataclass(frozen=True)
+class Pool:
+    """Its rule, whether its groups have shards, and how many copies or shards a group has."""
+    rule: Rule
+    shards: bool
+    size: int
+
+
+def read_pools(dump: str, crush: str) -> tuple[dict[str, Pool], dict[str, Pairs | None]]:
+    """The pools, and each group's exceptions, None for a whole one."""
+    text, pools = read_text(dump), {}
+    old: dict[str, Pairs | None] = {}
+    if not re.search(r"^epoch [0-9]+$", text, re.M) or not POOL.search(text):
+        raise Wrong("does not hold what `ceph osd dump` or `osdmaptool MAP --print` prints", dump)
+    out = [int(it) for it in re.findall(r"^osd\.([0-9]+) +\S+ +\S+ +weight 0 ", text, re.M)]
+    try:
+        whole, wanted = json.loads(read_text(crush)), {rule for *_, rule in POOL.findall(text)}
+        rules = {str(it["rule_id"]): Rule(it, whole, out) for it in whole["rules"] if str(it["rule_id"]) in wanted}
+    except (ValueError, LookupError, TypeError):
+        raise Wrong("does not hold what `ceph osd crush dump` prints", crush) from None
+    for name, kind, size, rule in POOL.findall(text):
+        if rule not in rules:
+            raise Wrong(f"has no rule {rule}, which pool {name} of {dump} has", crush)
+        pools[name] = Pool(rules[rule], kind == "erasure", int(size))
+    for items, name, osds in re.findall(r"^pg_upmap(_items)? (\S+) \[([0-9,]*)\]", text, re.M):
+        old[name] = pairs_of(numbers(osds)) if items and old.get(name, ()) is not None else None
+    return pools, old
+
+
+def read_change(given: argparse.Namespace, leave_out: bool) -> dict[str, Group]:
+    """The placement groups of the change. Those that cannot be carried out are named, and left out where that is asked
+    for."""
+    before, after = read_groups(given.before, False), read_groups(given.after, not given.hold)
+    for name in before.keys() ^ after.keys():
+        path = given.before if name in before else given.after
+        raise Wrong(f"placement group {name} is in {path} alone: a change of pg_num is no move")
+    pools, old = read_pools(given.dump, given.crush)
+    groups, refused = {}, 0
+    for name, (chosen, osds) in before.items():
+        if not (pool := pools.get(name.partition(".")[0])):
+            raise Wrong(f"has no pool for placement group {name}", given.dump)
+        then, next_ = after[name]
+        now, path = (next_, given.after) if given.hold else (osds, given.before)
+        chosen = then if given.hold else chosen
+        group = Group(name, pool.rule, pool.shards, pool.size, chosen, osds, next_, old.get(name, []))
+        if why := group.refusal(then, given.hold):
+            note(f"placement group {name} {why}")
+            refused += 1
+            continue
+        if group.old is not None and group.differ(landed(group.chosen, group.old), now):
+            raise Wrong(f"is not of the map of {path}: its exceptions put placement group {name} elsewhere than on "
+                        f"{now}", given.dump)
+        groups[name] = group
+    if refused and not leave_out:
+        raise Wrong(f"{refused} of {len(before)} placement groups cannot be carried out; --leave-out leaves them where "
+                    "they are, and plans the others")
+    if not groups:
+        raise Wrong("no placement group is left")
+    return groups

@@ -1,0 +1,1 @@
+"""Folders on mounted disks."""

@@ -1,0 +1,150 @@
+"""What from-folders finds on mounted disks, and which items it makes of it."""
+import collections, os, stat, unicodedata
+from collections.abc import Iterable, Mapping, Sequence
+from dataclasses import dataclass
+from ..command import Wrong, note
+from ..items import Part
+from ..plans import MOST_DISKS
+
+MOST_PARTS = 4096  # a folder in which more stands is not split
+
+Node = tuple[int, int]  # a device and an inode
+Nodes = dict[Node, str]  # the path of each disk
+
+
+@dataclass(frozen=True)
+class Item(Part):
+    """What is moved as a whole: its path, for wishes its volume, its bytes, and the path of it inside its disk."""
+    inside: str = ""
+
+
+def look_at(path: str) -> tuple[os.stat_result, list[str]]:
+    """What stands at a path, not what a link leads to; and the paths in it, where it is a folder."""
+    try:
+        found = os.lstat(path)
+        return found, sorted(os.path.join(path, it) for it in os.listdir(path)) if stat.S_ISDIR(found.st_mode) else []
+    except OSError as error:
+        raise Wrong(f"cannot be read: {error.strerror}", path) from None
+
+
+def read_disks(mounts: Sequence[str], mounted: bool) -> Nodes:
+    disks: Nodes = {}
+    for word in mounts:
+        path = word.rstrip("/") or "/"
+        path = f"./{path}" if path[0] == "-" else path
+        if not os.path.isdir(path):
+            raise Wrong("is no folder", path)
+        if mounted and not os.path.ismount(os.path.realpath(path)):
+            raise Wrong(f"nothing is mounted at {path}")
+        found = os.stat(path)
+        same = disks.setdefault((found.st_dev, found.st_ino), path)
+        if same is not path:
+            raise Wrong(f"{same} and {path} are one folder")
+    if len(disks) > MOST_DISKS:
+        raise Wrong(f"there are {len(disks)} disks, more than {MOST_DISKS}")
+    return disks
+
+
+def weigh(top: str, disk: str, device: int, disks: Nodes) -> tuple[int, set[Node]]:
+    """The bytes that are in use at `top` and below it, each file counted once; and which files there have several
+    names."""
+    total, todo = 0, [top]
+    seen: set[Node] = set()
+    while todo:
+        path = todo.pop()
+        found, inner = look_at(path)
+        node = found.st_dev, found.st_ino
+        if stat.S_ISDIR(found.st_mode):
+            if node in disks:
+                raise Wrong(f"{disks[node]} is inside {disk}, as {path}")
+            if found.st_dev != device:
+                raise Wrong(f"is on another file system than {disk}; a copy of it would be no move", path)
+        elif found.st_nlink > 1:
+            total += 0 if node in seen else 512 * found.st_blocks
+            seen.add(node)
+            continue
+        total += 512 * found.st_blocks
+        todo += inner
+    return total, seen
+
+
+def odd(path: str) -> str:
+    """Why a path can be no item; empty where it can."""
+    if any(unicodedata.category(letter) in ("Cc", "Cs") for letter in os.path.basename(path)):
+        return (f"{path!a} has a line break, another control character or a byte that is no UTF-8 in its name: rename "
+                "it first")
+    kind = look_at(path)[0].st_mode
+    is_one = stat.S_ISDIR(kind) or stat.S_ISREG(kind) or stat.S_ISLNK(kind)
+    return "" if is_one else f"{path} is neither a folder, a file nor a link"
+
+
+def read_items(disk: str, device: int, disks: Nodes) -> list[Item]:
+    """What stands at the top of a disk, in order of its names."""
+    items = []
+    for path in look_at(os.path.join(disk, ""))[1]:
+        name = os.path.basename(path)
+        if name == "lost+found" and os.path.isdir(path):
+            if os.access(path, os.R_OK) and os.listdir(path):
+                note(f"{path} is not empty, and stays")
+            continue
+        if why := odd(path):
+            raise Wrong(why)
+        items.append(Item(path, weigh(path, disk, device, disks)[0], inside=name))
+    return items
+
+
+def parts_of(item: Item, disk: str, device: int, disks: Nodes) -> list[Item]:
+    """What stands in a folder, as items; the folder itself where it is none, or cannot be split."""
+    found, paths = look_at(item.volume)
+    if not stat.S_ISDIR(found.st_mode):
+        return [item]
+    seen: set[Node] = set()
+    parts = []
+    many = f"it has {len(paths)} parts, more than {MOST_PARTS}" if len(paths) > MOST_PARTS else ""
+    why = many or next(filter(None, map(odd, paths)), "")
+    for path in paths if not why else ():
+        bytes_, linked = weigh(path, disk, device, disks)
+        why = why or ("a file has names in several of its parts" if linked & seen else "")
+        seen |= linked
+        parts.append(Item(path, bytes_, inside=f"{item.inside}/{os.path.basename(path)}"))
+    if why:
+        note(f"{item.volume} is not split: {why}")
+    return [item] if why else parts
+
+
+def in_units(items: dict[str, list[Item]], unit: int, nodes: Nodes) -> dict[str, list[Item]]:
+    """Splits folders of more than so many bytes into what stands in them, again and again. Those of one path on several
+    disks count together, so that a folder of which some parts went to another disk is split there too. `items` has
+    those of each disk."""
+    whole: set[str] = set()
+    while True:
+        bytes_: collections.Counter[str] = collections.Counter()
+        for it in (it for those in items.values() for it in those):
+            bytes_[it.inside] += it.bulk
+        large = {inside for inside, count in bytes_.items() if count > unit} - whole
+        if not large:
+            return items
+        for (device, _), disk in nodes.items():
+            items[disk] = [part for it in items[disk]
+                           for part in (parts_of(it, disk, device, nodes) if it.inside in large else [it])]
+        whole |= large
+
+
+def bytes_of(disks: Iterable[str]) -> tuple[dict[str, int], dict[str, int]]:
+    """The bytes that are free on each disk, and those that are in use there."""
+    found = {disk: os.statvfs(disk) for disk in disks}
+    return ({disk: it.f_bavail * it.f_frsize for disk, it in found.items()},
+            {disk: (it.f_blocks - it.f_bfree) * it.f_frsize for disk, it in found.items()})
+
+
+def check_bytes(going: Iterable[tuple[Item, str]], rooms: Mapping[str, int]) -> None:
+    """An item that leaves makes no room before it is gone. `plan-tight` counts items, and no bytes, so it makes none
+    either."""
+    coming: dict[str, int] = collections.Counter()
+    for it, disk in going:
+        coming[disk] += it.bulk
+    for disk, bytes_ in coming.items():
+        if bytes_ > rooms[disk]:
+            raise Wrong(f"there is no room on {disk}: {bytes_} bytes are to come to it, and {rooms[disk]} are free. "
+                        "`migrate plan-tight` counts items, and not their bytes, so it would not help: move less at a "
+                        "time")

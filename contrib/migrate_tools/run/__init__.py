@@ -1,0 +1,1 @@
+"""Plans that are carried out by commands of anyone's own."""

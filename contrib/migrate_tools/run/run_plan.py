@@ -1,0 +1,179 @@
+"""run-plan [OPTION..] PLAN COMMAND WORD..: carries a plan out by a copy command, one round after the other, and
+remembers its place.
+
+COMMAND runs once for each transfer, without a shell, with these put in its words: {item}, {from}, {from_slot}, {to},
+{to_slot}, {round}. All transfers of a round run side by side. A round begins only after each one of the round before
+has ended with status 0. Where one fails, the others of its round run to their end, and run-plan stops with status 1.
+Begun again with the same words it passes over what ended well. Options stand before PLAN.
+
+  run-plan --guard 'mountpoint -q mnt/{disk}' --verify 'diff -r --no-dereference mnt/{from}/{item} mnt/{to}/{item}' \\
+           --erase 'rm -rf mnt/{from}/{item}' plan.txt cp -a mnt/{from}/{item} mnt/{to}/
+
+The command may run twice for one transfer, where it was cut off: it must do no harm then, as cp, rsync and rclone copy
+do none. The words of --erase remove what was copied: they run for each transfer of a round once all its copies ended
+well, and the words of --verify for each of them; a copy that is not verified counts no more. The words of --guard run
+for each disk of the plan before anything begins, and for both disks of a transfer before and after each of its
+commands. Where one ends with another status than 0 nothing more begins, and what ended meanwhile does not count. With
+--names, {item} is the path inside its disk, what the folder is really called, and {from}, {to} and {disk} are the paths
+of the disks. In a plan of plan-tight an item that was parked is moved twice, each time from where it then is; without
+--erase no room is made.
+
+While a file `pause` is in the working folder no further round begins, and with --eager no further transfer. With
+--until 06:00 none begins from then on, and run-plan ends with status 3 where something is left: the same words go on
+with it. When what began and ended is written to FILE.times beside the place, for `progress`.
+
+With --eager no round waits for the one before. A transfer (its copy, what looks at it, and what removes its source)
+begins as soon as both its disks have a place free by the limits of DISKS, and those before it of its item and its slots
+are done. Where one fails nothing more begins."""
+import argparse, collections, os, shlex, sys
+from collections.abc import Sequence
+from ..clock import ENDED, Clock, time_of_day
+from ..command import Wrong, command, note, put, words
+from ..disks import Disks, check_disks, read_disks
+from ..folders.targets import names_of
+from ..plans import Plan, Shift, read_plan
+from ..waiting import Waiting
+from .commands import PLACES, Steps, Values, check_inside, check_words, commands, ends_of, fill_in, filled
+from .place import Place, look
+from .runner import Job, Runner
+
+# lines of what needs this no more
+PASSED = {"copied": ["copied"], "verified": ["erasing", "erased"], "erased": ["erased"]}
+
+
+def read_words() -> argparse.Namespace:
+    reader = words(__doc__)
+    add = reader.add_argument
+    add("--dry-run", action="store_true", help="prints the commands, and runs none")
+    for name, said in (("erase", "what removes a source after its round"), ("guard", "what looks at a disk: {disk}"),
+                       ("verify", "what looks at a copy before its source is removed")):
+        add(f"--{name}", metavar="'COMMAND WORD..'", type=shlex.split, action="append", default=[], help=said)
+    add("--names", metavar="FILE", help="the table of from-folders, names.csv")
+    add("--eager", metavar="DISKS", help="begins each transfer as soon as the limits of this disks file let it")
+    add("--until", metavar="HH:MM", type=time_of_day,
+        help="no round begins, with --eager no transfer, once the clock shows this")
+    add("--jobs", metavar="N", type=int, default=65536, help="at most so many commands at once")
+    add("--place", metavar="FILE", help="where the place is kept, else in PLAN.place")
+    add("plan", metavar="PLAN")
+    add("command", metavar="COMMAND", nargs="...")
+    given = reader.parse_args()
+    for name in ("erase", "verify", "guard"):
+        found = getattr(given, name)
+        if len(found) > 1 or [] in found:
+            reader.error(f"--{name} is given twice, or has no command")
+        setattr(given, name, sum(found, []))
+    if not given.command:
+        reader.error("a COMMAND is needed")
+    if given.jobs < 1:
+        reader.error("--jobs is at least 1")
+    if given.verify and not given.erase:
+        reader.error("--verify stands before --erase, and without it nothing is removed")
+    return given
+
+
+class Carrier:
+    """Carries out what is left of a plan: each round, or all of them where `disks` has limits to keep instead."""
+
+    def __init__(self, plan: Plan, rounds: Sequence[Sequence[Values]], steps: Steps, runner: Runner) -> None:
+        self.plan, self.runner = plan, runner
+        self.steps = {kind: words_ for kind, (_, words_) in steps.items() if words_}
+        self.values = {(at, it.item): value for at, (shifts, values) in enumerate(zip(plan.rounds, rounds), 1)
+                       for it, value in zip(shifts, values)}
+
+    def jobs_of(self, at: int, it: Shift, only: str = "") -> list[Job]:
+        """What a transfer needs still, one after the other; or what it needs of one kind."""
+        return [Job(kind, f"{at} {it.item}", (it.source, it.target), filled(words_, self.values[at, it.item]))
+                for kind, words_ in self.steps.items()
+                if only in ("", kind)
+                and not self.runner.place.has(*(f"{mark} {at} {it.item}" for mark in PASSED[kind]))]
+
+    def by_rounds(self) -> None:
+        count = len(self.plan.rounds)
+        for at, shifts in enumerate(self.plan.rounds, 1):
+            is_left = any(self.jobs_of(at, it) for it in shifts)
+            if is_left and not self.runner.clock.wait(lambda: self.runner.status != 0):
+                stopped(self.runner, f"before round {at} of {count}")
+            for kind in self.steps:
+                jobs = [job for it in shifts for job in self.jobs_of(at, it, kind)]
+                if jobs:
+                    put(f"round {at} of {count}: {len(jobs)} to be {kind}\n")
+                if not self.runner.run(jobs) or self.runner.status:
+                    stopped(self.runner, f"in round {at} of {count}", is_over=False)
+
+    def by_limits(self, disks: Disks) -> None:
+        """No round waits for another: a transfer begins as soon as the limits of its disks let it."""
+        numbered = [(at, it) for at, round_ in enumerate(self.plan.rounds, 1) for it in round_]
+        jobs = [collections.deque(self.jobs_of(at, it)) for at, it in numbered]
+        at_of, count = {f"{at} {it.item}": number for number, (at, it) in enumerate(numbered)}, len(numbered)
+        waiting = Waiting(self.plan.shifts(), disks, [at for at, those in enumerate(jobs) if those])
+        left = len(waiting.sides)
+
+        def then(kept: list[Job]) -> list[Job]:
+            nonlocal left
+            more, before = [], left
+            for number in (at_of[job.line] for job in kept):
+                if jobs[number]:
+                    more.append(jobs[number].popleft())
+                else:
+                    left -= 1
+                    more += [jobs[it].popleft() for it in waiting.done(number)]
+            if left < before:
+                put(f"{count - left} of {count} transfers are done\n")
+            return more
+
+        self.runner.run([jobs[it].popleft() for it in waiting.first()], then)
+        if left:
+            stopped(self.runner, f"with {left} of {count} transfers left")
+
+
+def stopped(runner: Runner, where: str, is_over: bool = True) -> None:
+    """Ends where not all is done: as --until says, where nothing failed and its time has come; else since something
+    failed, or was stopped."""
+    runner.place.times.tell("ends")
+    if is_over and not runner.status and runner.clock.is_over():
+        note(f"ended {where}, as --until says; begin again with the same words")
+        sys.exit(ENDED)
+    note(f"stopped {where}, and nothing more is removed; begin again with the same words")
+    sys.exit(runner.status or 1)
+
+
+@command
+def main() -> None:
+    given = read_words()
+    plan, limits = read_plan(given.plan), read_disks(given.eager) if given.eager else None
+    if limits is not None:
+        check_disks(plan, limits, given.eager)
+    steps = {"copied": ("copy", given.command), "verified": ("verify", given.verify), "erased": ("erase", given.erase)}
+    all_ = {"COMMAND": given.command, "--verify": given.verify, "--erase": given.erase, "--guard": given.guard}
+    for what, words_ in ((what, words_) for what, words_ in all_.items() if words_):
+        check_words(words_, what, ["disk"] if what == "--guard" else PLACES, bool(given.names))
+    disks, items = names_of(plan, given.names)
+    check_inside(given.command, [items[it.item] for it in plan.shifts()])
+    all_words = given.command + given.verify + given.erase
+    rounds = fill_in(plan, disks, items, all_words + given.guard)
+    if any(os.path.basename(it[0]) == "ssh" for it in all_.values() if it):
+        for name in (it for it in [*items.values(), *disks.values()] if shlex.quote(it) != it):
+            raise Wrong(f"ssh reads its words by a shell, which takes the name {name} for something else: rename it")
+    names = [name for it in plan.shifts() for name in (it.source, it.target)]
+    guards = {name: filled(given.guard, {"disk": disks[name]}) for name in names if given.guard}
+    if given.dry_run:
+        return put(commands(rounds, steps, guards))
+
+    path = given.place or f"{given.plan}.place"
+    runner = Runner(given.jobs, guards, limits is not None)
+    if not runner.guarded(*guards):
+        raise Wrong("nothing was begun")
+    ends = ends_of(rounds, ["{from}/{item}"] if given.names else all_words)
+    look(path, ends)
+    tops = dict(zip(names, (os.path.dirname(it.rstrip("/")) for both in ends for it in both)))
+    runner.open({disk: disks[disk] for disk in tops} if given.names else tops)
+    runner.place = Place(path, plan)
+    runner.clock = Clock(given.until, runner.place.times.tell)
+    carrier = Carrier(plan, rounds, steps, runner)
+    runner.place.times.tell(f"begins {','.join(carrier.steps)} {'rounds' if limits is None else 'eager'}")
+    if limits is None:
+        carrier.by_rounds()
+    else:
+        carrier.by_limits(limits)
+    runner.place.times.tell("ends")
+    return put(f"all {len(rounds)} rounds are carried out\n")
