@@ -23,14 +23,14 @@ exit $status"""
 
 class Gate(Tree):
     """The gate over stand-ins for all that it calls. Each writes down its words; the one that FAILING names does nothing and ends with 3."""
-    LINES = ["rt ci", "tests/audit --check", f"built/check {PROGRAM}", f"lib/build {LIBRARY}", f"lib/check {LIBRARY}", f"tests/all {PROGRAM} {PROGRAM}.by-rattle"]
+    LINES = ["rt ci", "tests/audit --check", "mypy --strict contrib/migrate_tools", f"built/check {PROGRAM}", f"lib/build {LIBRARY}", f"lib/check {LIBRARY}", f"tests/all {PROGRAM} {PROGRAM}.by-rattle"]
 
     def __init__(self):
         super().__init__(".ci/run")
         os.makedirs(f"{self.top}/crates/migrate")
         own = 'echo "$NAME $*" >>"$KIT/calls"; test "$NAME $1" != "$FAILING" || { echo "$NAME fails"; exit 3; }'
         for path, name, then in (
-            ("kit/rt", "rt", RT),
+            ("kit/rt", "rt", RT), ("kit/mypy", "mypy", ""),
             *((f"a clone/{it}", it, "") for it in ("tests/audit", "built/check", "lib/build", "lib/check")),
             ("a clone/tests/all", "tests/all", "echo first; echo '7 passed, 0 failed'"),
         ):
@@ -73,17 +73,20 @@ def the_gate_fails():
                 Count.that(f".ci/run whose line {line} fails: it is noted, and fails nothing", ran.status == 0 and "note: that fails nothing" in lines and lines[-1] == "7 passed, 0 failed", ran)
                 Count.same(f".ci/run whose line {line} fails: its calls", gate.calls(), gate.LINES)
                 continue
-            refused(f".ci/run whose line {line} fails", ran, "FAILED: lib/build" if number == 3 else f"{line.split()[0]} fails")
+            refused(f".ci/run whose line {line} fails", ran, "FAILED: lib/build" if number == 4 else f"{line.split()[0]} fails")
             Count.same(f".ci/run whose line {line} fails: nothing comes after it", gate.calls(), gate.LINES[: number + 1])
-            if number in (0, 5):
+            if number in (0, 6):
                 Count.same(f".ci/run whose line {line} fails: its status", ran.status, 3)
         refused(".ci/run whose rt is stopped by a signal", gate.lines(THEN="kill -KILL $$")[0])
         Count.same(".ci/run whose rt is stopped by a signal: nothing comes after it", gate.calls(), ["rt ci"])
     with Gate() as gate:
         refused(".ci/run whose rt leaves no program", gate.lines(CI_LEAVES="")[0], "rt left no program")
-        Count.same(".ci/run whose rt leaves no program: nothing comes after it", gate.calls(), [*gate.LINES[:2], "rt run"])
+        Count.same(".ci/run whose rt leaves no program: nothing comes after it", gate.calls(), [*gate.LINES[:3], "rt run"])
         Count.same(".ci/run whose rt ci leaves no program, and rt run does", gate.lines(CI_LEAVES="", RUN_LEAVES="migrate")[0].status, 0)
-        Count.same(".ci/run whose rt ci leaves no program, and rt run does: its calls", gate.calls(), [*gate.LINES[:2], "rt run", *gate.LINES[2:5], f"tests/all {PROGRAM}"])
+        Count.same(".ci/run whose rt ci leaves no program, and rt run does: its calls", gate.calls(), [*gate.LINES[:3], "rt run", *gate.LINES[3:6], f"tests/all {PROGRAM}"])
+        os.remove(f"{gate.kit}/mypy")
+        Count.same(".ci/run where there is no mypy", gate.lines(PATH=f"{gate.kit}:{gate.without('mypy')}")[0].status, 0)
+        Count.same(".ci/run where there is no mypy: its calls", gate.calls(), [*gate.LINES[:2], *gate.LINES[3:]])
 
 
 # tests/all

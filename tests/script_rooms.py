@@ -5,7 +5,7 @@ from waiting import ended
 
 PROGRAM = os.path.realpath(sys.argv[1])
 SYSTEM = "/usr/local/sbin:/usr/sbin:/usr/bin:/sbin:/bin"
-COMMANDS = "ar bash cat cc cmp cp dirname find grep head install mkdir mktemp mv readlink realpath rm sed sh sha256sum sort uname xargs".split()
+COMMANDS = "ar awk bash cat cc chmod cmp cp dirname find grep head install mkdir mktemp mv readlink realpath rm sed sh sha256sum sort touch uname xargs".split()
 EXAMPLE = [f"examples/{it}.csv" for it in ("disks", "now", "next")]
 MAIN, BUILT = "crates/migrate/src/main.rt", "built/migrate"
 RT = """#!/bin/sh
