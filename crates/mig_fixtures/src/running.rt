@@ -18,18 +18,23 @@ pub const AFTER: &str = "after D N X P";
 /// The room for a plan, for a certificate and for what is printed, in bytes.
 const ROOM: usize = 131_072;
 
-/// A folder with the files of a cluster as D, N and X, and room for P and C. Its calls with these numbers fail.
-pub fn folder_of(
-    alloc: Global,
-    cluster: &Cluster<'_>,
-    failing: Vec<u64>,
-) -> Result<MemFolder, AllocError> {
-    let mut folder = MemFolder::new(alloc, failing);
+/// Puts the files of a cluster into a folder as D, N and X, and gives room for P and C.
+fn fill(folder: &mut MemFolder, cluster: &Cluster<'_>) -> Result<(), AllocError> {
     folder.keep("D", cluster.disks.as_bytes())?;
     folder.keep("N", cluster.now.as_bytes())?;
     folder.keep("X", cluster.next.as_bytes())?;
     folder.grant("P", ROOM)?;
-    folder.grant("C", ROOM)?;
+    folder.grant("C", ROOM)
+}
+
+/// A folder with the files of a cluster as D, N and X, and room for P and C. Its calls with these numbers fail.
+pub fn folder_of(
+    alloc: Global,
+    cluster: &Cluster<'_>,
+    failing: &[u64],
+) -> Result<MemFolder, AllocError> {
+    let mut folder = MemFolder::new(alloc, Vec::from_slice(alloc, failing)?);
+    fill(&mut folder, cluster)?;
     Ok(folder)
 }
 
@@ -39,7 +44,7 @@ pub fn planned(
     cluster: &Cluster<'_>,
     plan: &str,
     cert: &str,
-    failing: Vec<u64>,
+    failing: &[u64],
 ) -> Result<MemFolder, AllocError> {
     let mut folder = folder_of(alloc, cluster, failing)?;
     folder.keep("P", plan.as_bytes())?;
@@ -89,8 +94,8 @@ pub fn status_of<F: Folder, K: Sink>(
 }
 
 /// A sink with room for a text, whose puts with these numbers fail.
-pub fn sink_of(alloc: Global, failing: Vec<u64>) -> Result<MemSink, AllocError> {
-    MemSink::new(alloc, ROOM, failing)
+pub fn sink_of(alloc: Global, failing: &[u64]) -> Result<MemSink, AllocError> {
+    MemSink::new(alloc, ROOM, Vec::from_slice(alloc, failing)?)
 }
 
 /// How a line ended: its status, and all that it put.
@@ -107,7 +112,7 @@ pub fn outcome_over<F: Folder, S: Store>(
     store: &mut S,
     line: &str,
 ) -> Result<Outcome, AllocError> {
-    let mut out = sink_of(alloc, Vec::new(alloc))?;
+    let mut out = sink_of(alloc, &[])?;
     let status = status_over(alloc, folder, line, &mut out, store)?;
     Ok(Outcome { status, out })
 }

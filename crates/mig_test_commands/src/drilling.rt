@@ -1,9 +1,9 @@
 //! What `drill` puts, and what it refuses.
 
-use crate::expecting::{calls_of, expect};
+use crate::expecting::{Line, expect, expect_all, expect_file, made, made_with};
+use crate::texts::Texts;
 use mig_fixtures::{
-    Cluster, NO_ROUNDS, ONE_STAYS, THREE_ITEMS, TWO_NEEDED, TWO_ROUNDS, folder_of, holds, planned,
-    sink_of, status_of,
+    Cluster, NO_ROUNDS, ONE_STAYS, THREE_ITEMS, TWO_NEEDED, TWO_ROUNDS, sink_of, status_of,
 };
 use std::alloc::Global;
 use std::panic::Expect;
@@ -55,142 +55,116 @@ reached 48
 /// What is put where nothing is to be moved.
 const NONE_DRILLED: &str = "writes 2\nstop 0 marks 0 0 0 0\nstop 1 marks 0 0 0 0\nreached 8\n";
 
-/// Drills a plan, and asserts what is put. The plan and the certificate stand.
-fn expect_drilled(rt: &impl Abort, alloc: Global, cluster: &Cluster<'_>, plan: &str, text: &str) {
-    let made = planned(alloc, cluster, plan, TWO_NEEDED, Vec::new(alloc));
-    let mut folder = made.expect(rt, "ample memory");
-    expect(rt, alloc, &mut folder, DRILL, 0, text);
-    assert!(rt; holds(&folder, "P", Some(plan)));
-    assert!(rt; holds(&folder, "C", Some(TWO_NEEDED)));
-}
+/// Plans with their clusters, and what is put of them.
+static DRILLED: [(Cluster<'static>, &str, &str); 3] = [
+    (ONE_MOVES, ONE_ROUND, ONE_DRILLED),
+    (THREE_ITEMS, TWO_ROUNDS, TWO_DRILLED),
+    (ONE_STAYS, NO_ROUNDS, NONE_DRILLED),
+];
 
 #[test]
 fn plans_are_drilled(rt: HostRuntime) {
-    for (cluster, plan, text) in [
-        (&ONE_MOVES, ONE_ROUND, ONE_DRILLED),
-        (&THREE_ITEMS, TWO_ROUNDS, TWO_DRILLED),
-        (&ONE_STAYS, NO_ROUNDS, NONE_DRILLED),
-    ] {
-        expect_drilled(&rt, rt.alloc(), cluster, plan, text);
+    let alloc = rt.alloc();
+    for (cluster, plan, text) in &DRILLED {
+        let mut folder = made_with(&rt, alloc, cluster, plan, TWO_NEEDED, &[]);
+        expect(&rt, alloc, &mut folder, DRILL, 0, text);
+        expect_file(&rt, &folder, "P", Some(plan));
+        expect_file(&rt, &folder, "C", Some(TWO_NEEDED));
     }
 }
 
-/// Tells of a plan of the three items that cannot be drilled.
-fn expect_undrilled(rt: &impl Abort, alloc: Global, plan: &str, status: u8, text: &str) {
-    let made = planned(alloc, &THREE_ITEMS, plan, TWO_NEEDED, Vec::new(alloc));
-    let mut folder = made.expect(rt, "ample memory");
-    expect(rt, alloc, &mut folder, DRILL, status, text);
-}
+/// Plans of the three items that cannot be drilled, and what is told.
+static UNDRILLED: [Line<'static>; 3] = [
+    (
+        "migration-plan 1\nrounds 1\nround 1 1\nx b 0 a 0\nend\n",
+        1,
+        "not here round 1 item x\n",
+    ),
+    (NO_ROUNDS, 1, "wrong end item x\n"),
+    ("", 10, "refused plan line 1\n"),
+];
+
+/// Lines where no plan stands.
+static NO_PLAN: [Line<'static>; 5] = [
+    (DRILL, 16, "no file P\n"),
+    ("drill", 2, "words not understood\n"),
+    ("drill D N X", 2, "words not understood\n"),
+    ("drill D N X P C", 2, "words not understood\n"),
+    ("drill D N X P.mig", 2, "words not understood\n"),
+];
 
 #[test]
 fn what_cannot_be_drilled_is_told(rt: HostRuntime) {
     let alloc = rt.alloc();
-    let shifted = "migration-plan 1\nrounds 1\nround 1 1\nx b 0 a 0\nend\n";
-    for (plan, status, text) in [
-        (shifted, 1, "not here round 1 item x\n"),
-        (NO_ROUNDS, 1, "wrong end item x\n"),
-        ("", 10, "refused plan line 1\n"),
-    ] {
-        expect_undrilled(&rt, alloc, plan, status, text);
+    for (plan, status, text) in &UNDRILLED {
+        let mut folder = made_with(&rt, alloc, &THREE_ITEMS, plan, TWO_NEEDED, &[]);
+        expect(&rt, alloc, &mut folder, DRILL, *status, text);
     }
-    let mut folder = folder_of(alloc, &THREE_ITEMS, Vec::new(alloc)).expect(&rt, "ample memory");
-    expect(&rt, alloc, &mut folder, DRILL, 16, "no file P\n");
-    for line in [
-        "drill",
-        "drill D N X",
-        "drill D N X P C",
-        "drill D N X P.mig",
-    ] {
-        expect(&rt, alloc, &mut folder, line, 2, "words not understood\n");
-    }
+    expect_all(
+        &rt,
+        alloc,
+        &mut made(&rt, alloc, &THREE_ITEMS, &[]),
+        &NO_PLAN,
+    );
 }
 
 /// The status of a drill of two rounds whose output fails at this put, and whose folder fails at these calls.
 fn status_failing(rt: &impl Abort, alloc: Global, put: u64, calls: &[u64]) -> u8 {
-    let failing = calls_of(rt, alloc, calls);
-    let mut folder = planned(alloc, &THREE_ITEMS, TWO_ROUNDS, TWO_NEEDED, failing).expect(
-        rt,
-        "ample memory",
-    );
-    let mut out = sink_of(alloc, calls_of(rt, alloc, &[put])).expect(rt, "ample memory");
+    let mut folder = made_with(rt, alloc, &THREE_ITEMS, TWO_ROUNDS, TWO_NEEDED, calls);
+    let mut out = sink_of(alloc, &[put]).expect(rt, "ample memory");
     status_of(alloc, &mut folder, DRILL, &mut out).expect(rt, "ample memory")
 }
 
 #[test]
 fn a_drill_may_fail(rt: HostRuntime) {
     let alloc = rt.alloc();
-    assert!(rt; status_failing(&rt, alloc, 0, &[]) == 6);
-    assert!(rt; status_failing(&rt, alloc, 5, &[]) == 6);
+    for put in [0, 5] {
+        assert!(rt; status_failing(&rt, alloc, put, &[]) == 6);
+    }
     for call in 0..4 {
         assert!(rt; status_failing(&rt, alloc, 9999, &[call]) == 4);
     }
 }
 
-/// The three files of an input, and a plan.
-#[derive(Drop)]
-struct Texts {
-    disks: String,
-    now: String,
-    next: String,
-    plan: String,
-}
-
-/// Adds so many items that go from one disk to another, all in one round or one in each.
-fn add_items(rt: &impl Abort, texts: &mut Texts, items: u32, together: bool) {
-    for i in 0..items {
-        let round = i.saturating_add(1);
-        write!(texts.now, "i{i},a,{i}\n").expect(rt, "ample memory");
-        write!(texts.next, "i{i},b\n").expect(rt, "ample memory");
-        if !together {
-            write!(texts.plan, "round {round} 1\n").expect(rt, "ample memory");
-        }
-        write!(texts.plan, "i{i} a {i} b {i}\n").expect(rt, "ample memory");
+/// Two disks of this limit and so many slots each, and an item in each slot of the first that goes to the second.
+fn texts_of(rt: &impl Abort, alloc: Global, limit: u32, items: u32) -> Texts {
+    let mut texts = Texts::new(rt, alloc);
+    texts.add_disk(rt, 0, limit, items);
+    texts.add_disk(rt, 1, limit, items);
+    for slot in 0..items {
+        texts.add_item(rt, 0, slot, 1);
     }
-}
-
-/// The texts of so many items that go from one disk to another: of two disks, and of a plan that begins so.
-fn texts_of(
-    rt: &impl Abort,
-    alloc: Global,
-    disks: &str,
-    plan: &str,
-    items: u32,
-    together: bool,
-) -> Texts {
-    let mut texts = Texts {
-        disks: String::from_str(alloc, disks).expect(rt, "ample memory"),
-        now: String::from_str(alloc, "item,disk,slot\n").expect(rt, "ample memory"),
-        next: String::from_str(alloc, "item,disk\n").expect(rt, "ample memory"),
-        plan: String::from_str(alloc, plan).expect(rt, "ample memory"),
-    };
-    add_items(rt, &mut texts, items, together);
-    write!(texts.plan, "end\n").expect(rt, "ample memory");
     texts
 }
 
-/// Drills the plan of these texts, and asserts its status and what is put.
-fn expect_texts(rt: &impl Abort, alloc: Global, texts: &Texts, status: u8, text: &str) {
-    let cluster = Cluster {
-        disks: texts.disks.as_str(),
-        now: texts.now.as_str(),
-        next: texts.next.as_str(),
-    };
-    let none = Vec::new(alloc);
-    let mut folder = planned(alloc, &cluster, texts.plan.as_str(), "", none).expect(
-        rt,
-        "ample memory",
-    );
-    expect(rt, alloc, &mut folder, DRILL, status, text);
+/// Their plan, which begins so: all in one round, or one in each.
+fn plan_of(rt: &impl Abort, alloc: Global, head: &str, items: u32, together: bool) -> String {
+    let mut plan = String::from_str(alloc, head).expect(rt, "ample memory");
+    for slot in 0..items {
+        if !together {
+            write!(plan, "round {} 1\n", slot.saturating_add(1)).expect(rt, "ample memory");
+        }
+        write!(plan, "i0-{slot} d0 {slot} d1 {slot}\n").expect(rt, "ample memory");
+    }
+    plan.push_str("end\n").expect(rt, "ample memory");
+    plan
 }
 
 // One item more than are drilled, each in a round of its own.
 #[test]
 fn a_large_plan_is_not_drilled(rt: HostRuntime) {
     let alloc = rt.alloc();
-    let disks = "disk,limit,slots\na,1,257\nb,1,257\n";
-    let plan = "migration-plan 1\nrounds 257\n";
-    let texts = texts_of(&rt, alloc, disks, plan, 257, false);
-    expect_texts(&rt, alloc, &texts, 11, "too large for a drill 257\n");
+    let texts = texts_of(&rt, alloc, 1, 257);
+    let plan = plan_of(&rt, alloc, "migration-plan 1\nrounds 257\n", 257, false);
+    let mut folder = made_with(&rt, alloc, &texts.cluster(), &plan, "", &[]);
+    expect(
+        &rt,
+        alloc,
+        &mut folder,
+        DRILL,
+        11,
+        "too large for a drill 257\n",
+    );
 }
 
 /// What is put of 256 items in one round: the mark is zeroed, the head, the gate, the items and then the mark are written, and
@@ -205,7 +179,7 @@ fn most_drilled(rt: &impl Abort, alloc: Global) -> String {
             "ample memory",
         );
     }
-    write!(text, "reached 2064\n").expect(rt, "ample memory");
+    text.push_str("reached 2064\n").expect(rt, "ample memory");
     text
 }
 
@@ -213,8 +187,14 @@ fn most_drilled(rt: &impl Abort, alloc: Global) -> String {
 #[test]
 fn the_largest_plan_is_drilled(rt: HostRuntime) {
     let alloc = rt.alloc();
-    let disks = "disk,limit,slots\na,256,256\nb,256,256\n";
-    let plan = "migration-plan 1\nrounds 1\nround 1 256\n";
-    let texts = texts_of(&rt, alloc, disks, plan, 256, true);
-    expect_texts(&rt, alloc, &texts, 0, &most_drilled(&rt, alloc));
+    let texts = texts_of(&rt, alloc, 256, 256);
+    let plan = plan_of(
+        &rt,
+        alloc,
+        "migration-plan 1\nrounds 1\nround 1 256\n",
+        256,
+        true,
+    );
+    let mut folder = made_with(&rt, alloc, &texts.cluster(), &plan, "", &[]);
+    expect(&rt, alloc, &mut folder, DRILL, 0, &most_drilled(&rt, alloc));
 }

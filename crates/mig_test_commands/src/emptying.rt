@@ -1,10 +1,9 @@
 //! Next disks that empty a disk: their rounds, what shows that fewer are too few, and what `drain` saves and leaves.
 
-use crate::expecting::{calls_of, expect, expect_end};
-use mig_fixtures::{Cluster, folder_of, holds, sink_of, status_of};
+use crate::expecting::{Line, expect, expect_all, expect_file, expect_untold, grant, made};
+use mig_fixtures::Cluster;
 use mig_io::MemFolder;
-use std::alloc::{AllocError, Global};
-use std::panic::Expect;
+use std::alloc::Global;
 use std::process::Abort;
 
 /// The line that empties the disk a, over the files of a folder that `folder_with_room` gives, and saves the next disks in Y.
@@ -14,14 +13,10 @@ const DRAIN: &str = "drain D N a Y";
 const ROOM: usize = 1000;
 
 /// The folder of a cluster, with room for a file Y. Its calls with these numbers fail.
-fn folder_with_room(
-    alloc: Global,
-    cluster: &Cluster<'_>,
-    failing: Vec<u64>,
-) -> Result<MemFolder, AllocError> {
-    let mut folder = folder_of(alloc, cluster, failing)?;
-    folder.grant("Y", ROOM)?;
-    Ok(folder)
+fn roomy(rt: &impl Abort, alloc: Global, cluster: &Cluster<'_>, failing: &[u64]) -> MemFolder {
+    let mut folder = made(rt, alloc, cluster, failing);
+    grant(rt, &mut folder, "Y", ROOM);
+    folder
 }
 
 /// Six items on one of three disks. The next file is no part of what `drain` reads.
@@ -133,40 +128,32 @@ static ENDS: [(Cluster<'static>, u8, &str, Option<&str>); 9] = [
 fn empties_in_the_fewest_rounds(rt: HostRuntime) {
     let alloc = rt.alloc();
     for (cluster, status, text, next) in &ENDS {
-        let mut folder = folder_with_room(alloc, cluster, Vec::new(alloc)).expect(
-            &rt,
-            "ample memory",
-        );
+        let mut folder = roomy(&rt, alloc, cluster, &[]);
         expect(&rt, alloc, &mut folder, DRAIN, *status, text);
-        assert!(&rt; holds(&folder, "Y", *next));
-        assert!(&rt; holds(&folder, "X", Some(cluster.next)));
+        expect_file(&rt, &folder, "Y", *next);
+        expect_file(&rt, &folder, "X", Some(cluster.next));
     }
 }
 
-// What was saved is read as a next file, and its plan has the rounds that were put.
+/// What was saved is read as a next file, and its plan has the rounds that were put.
+static PLANNED: [Line<'static>; 3] = [
+    (DRAIN, 0, "rounds 2\nshown own 6 4\n"),
+    (
+        "plan D N Y P C",
+        0,
+        "migration-certificate 1\nrounds 2\nquotient 2\nclass general\nbound disk a 6 4 2\nend\n",
+    ),
+    ("check D N Y P C", 0, "optimal\n"),
+];
+
 #[test]
 fn plans_what_it_saved(rt: HostRuntime) {
-    let alloc = rt.alloc();
-    let mut folder = folder_with_room(alloc, &SIX_ITEMS, Vec::new(alloc)).expect(
-        &rt,
-        "ample memory",
-    );
-    expect(
-        &rt,
-        alloc,
-        &mut folder,
-        DRAIN,
-        0,
-        "rounds 2\nshown own 6 4\n",
-    );
-    let cert =
-        "migration-certificate 1\nrounds 2\nquotient 2\nclass general\nbound disk a 6 4 2\nend\n";
-    expect(&rt, alloc, &mut folder, "plan D N Y P C", 0, cert);
-    expect(&rt, alloc, &mut folder, "check D N Y P C", 0, "optimal\n");
+    let mut folder = roomy(&rt, rt.alloc(), &SIX_ITEMS, &[]);
+    expect_all(&rt, rt.alloc(), &mut folder, &PLANNED);
 }
 
 /// Lines over the files of six items, and how each ends; Y is saved by none of them.
-static LINES: [(&str, u8, &str); 16] = [
+static LINES: [Line<'static>; 16] = [
     ("drain D N q Y", 14, "no disk q\n"),
     ("drain D N A Y", 14, "no disk A\n"),
     ("drain D N a.disk Y", 14, "no disk a.disk\n"),
@@ -191,62 +178,37 @@ static LINES: [(&str, u8, &str); 16] = [
 
 #[test]
 fn tells_of_words_and_names(rt: HostRuntime) {
-    let alloc = rt.alloc();
-    let mut folder = folder_with_room(alloc, &SIX_ITEMS, Vec::new(alloc)).expect(
-        &rt,
-        "ample memory",
-    );
-    for (line, status, text) in &LINES {
-        expect(&rt, alloc, &mut folder, line, *status, text);
-    }
-    assert!(&rt; holds(&folder, "Y", None));
+    let mut folder = roomy(&rt, rt.alloc(), &SIX_ITEMS, &[]);
+    expect_all(&rt, rt.alloc(), &mut folder, &LINES);
+    expect_file(&rt, &folder, "Y", None);
 }
 
 // The name of the disk may be that of a file, and of the file that is saved.
 #[test]
 fn saves_beside_the_disk(rt: HostRuntime) {
     let alloc = rt.alloc();
-    let mut folder = folder_with_room(alloc, &SIX_ITEMS, Vec::new(alloc)).expect(
-        &rt,
-        "ample memory",
-    );
-    folder.grant("a", ROOM).expect(&rt, "ample memory");
-    expect(
-        &rt,
-        alloc,
-        &mut folder,
-        "drain D N a a",
-        0,
-        "rounds 2\nshown own 6 4\n",
-    );
-    assert!(&rt; holds(&folder, "a", Some(TWO_AND_FOUR)));
+    let mut folder = roomy(&rt, alloc, &SIX_ITEMS, &[]);
+    grant(&rt, &mut folder, "a", ROOM);
+    let text = "rounds 2\nshown own 6 4\n";
+    expect(&rt, alloc, &mut folder, "drain D N a a", 0, text);
+    expect_file(&rt, &folder, "a", Some(TWO_AND_FOUR));
 }
 
-/// Emptying ends with a fault of the folder where this call fails, and nothing is saved. The last call saves the next disks.
-fn expect_unsaved(rt: &impl Abort, alloc: Global, call: u64) {
-    let failing = calls_of(rt, alloc, &[call]);
-    let mut folder = folder_with_room(alloc, &SIX_ITEMS, failing).expect(rt, "ample memory");
-    expect(rt, alloc, &mut folder, DRAIN, 4, "folder fault\n");
-    assert!(rt; holds(&folder, "Y", None));
-}
-
+// Nothing is saved where a call of the folder fails. The last call saves the next disks.
 #[test]
 fn faults_while_emptying(rt: HostRuntime) {
+    let alloc = rt.alloc();
     for call in 0..3u64 {
-        expect_unsaved(&rt, rt.alloc(), call);
+        let mut folder = roomy(&rt, alloc, &SIX_ITEMS, &[call]);
+        expect(&rt, alloc, &mut folder, DRAIN, 4, "folder fault\n");
+        expect_file(&rt, &folder, "Y", None);
     }
 }
 
 // The sink's first put fails, and the next disks are saved.
 #[test]
 fn what_is_not_told_is_saved(rt: HostRuntime) {
-    let alloc = rt.alloc();
-    let mut folder = folder_with_room(alloc, &SIX_ITEMS, Vec::new(alloc)).expect(
-        &rt,
-        "ample memory",
-    );
-    let mut out = sink_of(alloc, calls_of(&rt, alloc, &[0])).expect(&rt, "ample memory");
-    let status = status_of(alloc, &mut folder, DRAIN, &mut out).expect(&rt, "ample memory");
-    expect_end(&rt, DRAIN, (status, out.held()), (6, ""));
-    assert!(&rt; holds(&folder, "Y", Some(TWO_AND_FOUR)));
+    let mut folder = roomy(&rt, rt.alloc(), &SIX_ITEMS, &[]);
+    expect_untold(&rt, rt.alloc(), &mut folder, DRAIN, 6);
+    expect_file(&rt, &folder, "Y", Some(TWO_AND_FOUR));
 }

@@ -1,10 +1,42 @@
-//! Commands that must end in one way, and lists of calls that fail.
+//! Folders for commands, and commands that must end in one way. Each asserts by itself, so that a test is a few calls.
 
-use mig_fixtures::outcome_of;
-use mig_io::Folder;
+use mig_fixtures::{Cluster, folder_of, holds, outcome_of, planned, sink_of, status_of};
+use mig_io::{Folder, MemFolder};
 use std::alloc::Global;
 use std::panic::Expect;
 use std::process::Abort;
+
+/// The folder of a cluster. Its calls with these numbers fail.
+pub fn made(rt: &impl Abort, alloc: Global, cluster: &Cluster<'_>, failing: &[u64]) -> MemFolder {
+    folder_of(alloc, cluster, failing).expect(rt, "ample memory")
+}
+
+/// The folder of a cluster, with a plan and a certificate as P and C.
+pub fn made_with(
+    rt: &impl Abort,
+    alloc: Global,
+    cluster: &Cluster<'_>,
+    plan: &str,
+    cert: &str,
+    failing: &[u64],
+) -> MemFolder {
+    planned(alloc, cluster, plan, cert, failing).expect(rt, "ample memory")
+}
+
+/// Gives a file this room.
+pub fn grant(rt: &impl Abort, folder: &mut MemFolder, name: &str, room: usize) {
+    folder.grant(name, room).expect(rt, "ample memory");
+}
+
+/// Puts a file of these bytes into the folder.
+pub fn keep(rt: &impl Abort, folder: &mut MemFolder, name: &str, bytes: &[u8]) {
+    folder.keep(name, bytes).expect(rt, "ample memory");
+}
+
+/// Asserts that the file holds this text, or is not there where there is none.
+pub fn expect_file(rt: &impl Abort, folder: &MemFolder, name: &str, text: Option<&str>) {
+    assert!(rt; holds(folder, name, text), "file {name}");
+}
 
 /// Asserts the status with which a line ended, and all that it put.
 pub fn expect_end(rt: &impl Abort, line: &str, came: (u8, &[u8]), wanted: (u8, &str)) {
@@ -25,7 +57,25 @@ pub fn expect<F: Folder>(
     expect_end(rt, line, (came.status, came.out.held()), (status, text));
 }
 
-/// A list of these numbers of calls.
-pub fn calls_of(rt: &impl Abort, alloc: Global, calls: &[u64]) -> Vec<u64> {
-    Vec::from_slice(alloc, calls).expect(rt, "ample memory")
+/// A line, its status and all that it puts.
+pub type Line<'a> = (&'a str, u8, &'a str);
+
+/// The same for lines one after the other over one folder.
+pub fn expect_all(rt: &impl Abort, alloc: Global, folder: &mut MemFolder, lines: &[Line<'_>]) {
+    for (line, status, text) in lines {
+        expect(rt, alloc, folder, line, *status, text);
+    }
+}
+
+/// Carries out a line whose first put fails, and asserts its status and that nothing is put.
+pub fn expect_untold(
+    rt: &impl Abort,
+    alloc: Global,
+    folder: &mut MemFolder,
+    line: &str,
+    status: u8,
+) {
+    let mut out = sink_of(alloc, &[0]).expect(rt, "ample memory");
+    let ended = status_of(alloc, folder, line, &mut out).expect(rt, "ample memory");
+    expect_end(rt, line, (ended, out.held()), (status, ""));
 }

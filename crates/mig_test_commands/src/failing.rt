@@ -1,61 +1,49 @@
 //! Folders, sinks and memory that fail at one call.
 
-use crate::expecting::{calls_of, expect, expect_end};
+use crate::expecting::{Line, expect, expect_end, expect_file, made, made_with};
 use crate::scarce_folder::ScarceFolder;
-use mig_fixtures::{
-    AFTER, CHECK, Cluster, PLAN, THREE_ITEMS, TWO_NEEDED, TWO_ROUNDS, folder_of, holds, planned,
-    status_of,
-};
+use mig_fixtures::{AFTER, CHECK, PLAN, THREE_ITEMS, TWO_NEEDED, TWO_ROUNDS, status_of};
 use mig_io::{MemFolder, MemSink};
 use std::alloc::Global;
 use std::panic::Expect;
 use std::process::Abort;
 
-/// The three files of a cluster stand as they were.
-fn stand(folder: &MemFolder, cluster: &Cluster<'_>) -> bool {
-    holds(folder, "D", Some(cluster.disks))
-        && holds(folder, "N", Some(cluster.now))
-        && holds(folder, "X", Some(cluster.next))
+/// Asserts that the three files of the three items stand as they were.
+fn expect_kept(rt: &impl Abort, folder: &MemFolder) {
+    expect_file(rt, folder, "D", Some(THREE_ITEMS.disks));
+    expect_file(rt, folder, "N", Some(THREE_ITEMS.now));
+    expect_file(rt, folder, "X", Some(THREE_ITEMS.next));
 }
 
-/// A plan ends with a fault of the folder where this call fails, and leaves what it found. The last call saves the certificate.
-fn expect_unplanned(rt: &impl Abort, alloc: Global, call: u64) {
-    let failing = calls_of(rt, alloc, &[call]);
-    let mut folder = folder_of(alloc, &THREE_ITEMS, failing).expect(rt, "ample memory");
-    expect(rt, alloc, &mut folder, PLAN, 4, "folder fault\n");
-    assert!(rt; stand(&folder, &THREE_ITEMS));
-    assert_eq!(rt; folder.file("P").is_some(), call == 4);
-    assert!(rt; holds(&folder, "C", None));
-}
-
-// The first save leaves nothing where it fails, and the plan stands where the second fails.
+// A plan leaves what it found where a call of the folder fails. The fourth saves the plan and leaves nothing where it fails; the
+// last saves the certificate, and the plan stands by then.
 #[test]
 fn faults_while_planning(rt: HostRuntime) {
+    let alloc = rt.alloc();
     for call in 0..5u64 {
-        expect_unplanned(&rt, rt.alloc(), call);
+        let mut folder = made(&rt, alloc, &THREE_ITEMS, &[call]);
+        expect(&rt, alloc, &mut folder, PLAN, 4, "folder fault\n");
+        expect_kept(&rt, &folder);
+        assert!(rt; folder.file("P").is_some() == (call == 4));
+        expect_file(&rt, &folder, "C", None);
     }
 }
 
-/// A check ends with a fault of the folder where this call fails, and changes nothing.
-fn expect_unchecked(rt: &impl Abort, alloc: Global, call: u64) {
-    let failing = calls_of(rt, alloc, &[call]);
-    let made = planned(alloc, &THREE_ITEMS, TWO_ROUNDS, TWO_NEEDED, failing);
-    let mut folder = made.expect(rt, "ample memory");
-    expect(rt, alloc, &mut folder, CHECK, 4, "folder fault\n");
-    assert!(rt; stand(&folder, &THREE_ITEMS));
-    assert!(rt; holds(&folder, "P", Some(TWO_ROUNDS)));
-    assert!(rt; holds(&folder, "C", Some(TWO_NEEDED)));
-}
-
+// A check changes nothing where a call of the folder fails.
 #[test]
 fn faults_while_checking(rt: HostRuntime) {
+    let alloc = rt.alloc();
     for call in 0..5u64 {
-        expect_unchecked(&rt, rt.alloc(), call);
+        let mut folder = made_with(&rt, alloc, &THREE_ITEMS, TWO_ROUNDS, TWO_NEEDED, &[call]);
+        expect(&rt, alloc, &mut folder, CHECK, 4, "folder fault\n");
+        expect_kept(&rt, &folder);
+        expect_file(&rt, &folder, "P", Some(TWO_ROUNDS));
+        expect_file(&rt, &folder, "C", Some(TWO_NEEDED));
     }
 }
 
 /// Lines, their statuses and what is put, over a folder whose every call fails.
-static UNLOADED: [(&str, u8, &str); 5] = [
+static UNLOADED: [Line<'static>; 5] = [
     ("", 2, "words not understood\n"),
     ("plan D N X P", 2, "words not understood\n"),
     ("plan D N X P P", 2, "words not understood\n"),
@@ -67,25 +55,22 @@ static UNLOADED: [(&str, u8, &str); 5] = [
 fn no_file_is_loaded_before_the_words_are_read(rt: HostRuntime) {
     let alloc = rt.alloc();
     for (line, status, text) in &UNLOADED {
-        let failing = calls_of(&rt, alloc, &[0, 1, 2, 3, 4, 5]);
-        let mut folder = folder_of(alloc, &THREE_ITEMS, failing).expect(&rt, "ample memory");
+        let mut folder = made(&rt, alloc, &THREE_ITEMS, &[0, 1, 2, 3, 4, 5]);
         expect(&rt, alloc, &mut folder, line, *status, text);
     }
 }
 
 /// A line ends without memory where the load of this number is refused it, and changes nothing.
 fn expect_no_memory(rt: &impl Abort, alloc: Global, line: &str, refused: u64) {
-    let none = Vec::new(alloc);
-    let made = planned(alloc, &THREE_ITEMS, "some plan", TWO_NEEDED, none);
     let mut folder = ScarceFolder {
-        within: made.expect(rt, "ample memory"),
+        within: made_with(rt, alloc, &THREE_ITEMS, "some plan", TWO_NEEDED, &[]),
         refused,
         loads: 0,
     };
     expect(rt, alloc, &mut folder, line, 7, "no memory\n");
-    assert!(rt; holds(&folder.within, "P", Some("some plan")));
-    assert!(rt; holds(&folder.within, "C", Some(TWO_NEEDED)));
-    assert!(rt; holds(&folder.within, "D", Some(THREE_ITEMS.disks)));
+    expect_file(rt, &folder.within, "P", Some("some plan"));
+    expect_file(rt, &folder.within, "C", Some(TWO_NEEDED));
+    expect_file(rt, &folder.within, "D", Some(THREE_ITEMS.disks));
 }
 
 #[test]
@@ -118,11 +103,11 @@ fn expect_sink_fault(
     fault: &(&str, usize, u64, u8, &str),
 ) {
     let (line, room, failing, status, text) = *fault;
-    let calls = calls_of(rt, alloc, &[failing]);
+    let calls = vec![in alloc; failing].expect(rt, "ample memory");
     let mut out = MemSink::new(alloc, room, calls).expect(rt, "ample memory");
     let ended = status_of(alloc, folder, line, &mut out).expect(rt, "ample memory");
     expect_end(rt, line, (ended, out.held()), (status, text));
-    assert!(rt; holds(folder, "C", Some(TWO_NEEDED)));
+    expect_file(rt, folder, "C", Some(TWO_NEEDED));
     assert!(rt; folder.file("P").is_some());
 }
 
@@ -130,7 +115,7 @@ fn expect_sink_fault(
 #[test]
 fn faults_of_the_sink(rt: HostRuntime) {
     let alloc = rt.alloc();
-    let mut folder = folder_of(alloc, &THREE_ITEMS, Vec::new(alloc)).expect(&rt, "ample memory");
+    let mut folder = made(&rt, alloc, &THREE_ITEMS, &[]);
     for fault in &SINK_FAULTS {
         expect_sink_fault(&rt, alloc, &mut folder, fault);
     }

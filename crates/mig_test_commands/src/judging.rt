@@ -1,9 +1,9 @@
 //! What `check` and `after` say of plans and certificates that stand beside the files of a cluster.
 
-use crate::expecting::expect;
+use crate::expecting::{expect, keep, made, made_with};
 use mig_fixtures::{
     AFTER, CHECK, Cluster, NO_ROUNDS, NOTHING_NEEDED, ONE_STAYS, THREE_ITEMS, THREE_MOVED,
-    TRIANGLE, TWO_NEEDED, TWO_ROUNDS, folder_of, planned,
+    TRIANGLE, TWO_NEEDED, TWO_ROUNDS,
 };
 use std::alloc::Global;
 use std::panic::Expect;
@@ -24,11 +24,7 @@ struct Judged<'a> {
 /// Asserts how `check` and `after` end.
 fn expect_judged(rt: &impl Abort, alloc: Global, cases: &[Judged<'_>]) {
     for case in cases {
-        let none = Vec::new(alloc);
-        let mut folder = planned(alloc, &case.cluster, case.plan, case.cert, none).expect(
-            rt,
-            "ample memory",
-        );
+        let mut folder = made_with(rt, alloc, &case.cluster, case.plan, case.cert, &[]);
         expect(rt, alloc, &mut folder, CHECK, case.status, case.text);
         let (status, text) = match case.layout {
             Some(layout) => (0, layout),
@@ -315,29 +311,30 @@ static NO_PLANS: [Judged<'static>; 17] = [
 fn refuses_plans(rt: HostRuntime) {
     let alloc = rt.alloc();
     expect_judged(&rt, alloc, &NO_PLANS);
-    let mut folder = folder_of(alloc, &THREE_ITEMS, Vec::new(alloc)).expect(&rt, "ample memory");
     let long = vec![in alloc; b'\n'; 16_777_217].expect(&rt, "ample memory");
-    folder.keep("P", &long).expect(&rt, "ample memory");
+    let mut folder = made(&rt, alloc, &THREE_ITEMS, &[]);
+    keep(&rt, &mut folder, "P", &long);
     expect(&rt, alloc, &mut folder, AFTER, 10, "refused plan line 0\n");
 }
 
-// The line number of a text that is cut: the number of its LF bytes and 1, and 1 more where it ends just before an LF.
+/// The line at which a text ends that is cut before this byte: the number of its LF bytes and 1, and 1 more where the byte is
+/// an LF.
+fn last_line(part: &[u8], byte: u8) -> usize {
+    let ends = part.iter().filter(|byte| **byte == b'\n').count();
+    ends.saturating_add(if byte == b'\n' { 2 } else { 1 })
+}
+
 #[test]
 fn refuses_each_plan_that_is_cut(rt: HostRuntime) {
     let alloc = rt.alloc();
     let whole = TWO_ROUNDS.as_bytes();
-    assert_eq!(rt; whole.len(), 80);
-    let mut folder = folder_of(alloc, &THREE_ITEMS, Vec::new(alloc)).expect(&rt, "ample memory");
-    for len in 0..whole.len() {
-        let part = &whole[..len];
-        let ends = part.iter().filter(|byte| **byte == b'\n').count();
-        let more = if whole[len] == b'\n' { 2 } else { 1 };
-        folder.keep("P", part).expect(&rt, "ample memory");
-        let want = format!(in alloc; "refused plan line {}\n", ends.saturating_add(more)).expect(
-            &rt,
-            "ample memory",
-        );
-        expect(&rt, alloc, &mut folder, AFTER, 10, want.as_str());
+    assert!(rt; whole.len() == 80);
+    let mut folder = made(&rt, alloc, &THREE_ITEMS, &[]);
+    for (len, byte) in whole.iter().enumerate() {
+        keep(&rt, &mut folder, "P", &whole[..len]);
+        let line = last_line(&whole[..len], *byte);
+        let wanted = format!(in alloc; "refused plan line {line}\n").expect(&rt, "ample memory");
+        expect(&rt, alloc, &mut folder, AFTER, 10, &wanted);
     }
 }
 

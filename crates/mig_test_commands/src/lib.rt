@@ -33,4 +33,6 @@ mod scarce_folder;
 #[cfg(test)]
 mod split_limits;
 #[cfg(test)]
+mod texts;
+#[cfg(test)]
 mod tight_space;

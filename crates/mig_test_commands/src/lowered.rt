@@ -1,10 +1,9 @@
 //! Plans by limits that are lowered to even ones, and plans of disks that have two sides.
 
-use crate::expecting::expect;
-use mig_base::Plan;
+use crate::expecting::{expect, expect_file, made};
 use mig_best::best_plan;
 use mig_csv::read_input;
-use mig_fixtures::{CHECK, Cluster, PLAN, folder_of, holds};
+use mig_fixtures::{CHECK, Cluster, PLAN};
 use std::alloc::Global;
 use std::panic::Expect;
 use std::process::Abort;
@@ -24,15 +23,14 @@ const FOUR: Cluster<'static> = Cluster {
     next: "item,disk\nu,b\nv,a\nw,c\nx,d\ny,c\nz,a\n",
 };
 
-fn best_of(rt: &impl Abort, alloc: Global, cluster: &Cluster<'_>) -> Plan {
-    let input = read_input(
-        alloc,
-        cluster.disks.as_bytes(),
-        cluster.now.as_bytes(),
-        cluster.next.as_bytes(),
-    )
-    .expect(rt, "an input");
-    best_plan(alloc, &input).expect(rt, "ample memory")
+/// The rounds of the best plan.
+fn best_rounds(rt: &impl Abort, alloc: Global, cluster: &Cluster<'_>) -> usize {
+    let (disks, now) = (cluster.disks.as_bytes(), cluster.now.as_bytes());
+    let input = read_input(alloc, disks, now, cluster.next.as_bytes()).expect(rt, "an input");
+    best_plan(alloc, &input)
+        .expect(rt, "ample memory")
+        .rounds()
+        .len()
 }
 
 /// Plans a cluster, and asserts its certificate, that it is told to be optimal, and the rounds of the best plan.
@@ -43,12 +41,11 @@ fn expect_optimal(
     cert: &str,
     rounds: usize,
 ) {
-    let made = folder_of(alloc, cluster, Vec::new(alloc));
-    let mut folder = made.expect(rt, "ample memory");
+    let mut folder = made(rt, alloc, cluster, &[]);
     expect(rt, alloc, &mut folder, PLAN, 0, cert);
-    assert!(rt; holds(&folder, "C", Some(cert)));
+    expect_file(rt, &folder, "C", Some(cert));
     expect(rt, alloc, &mut folder, CHECK, 0, "optimal\n");
-    assert_eq!(rt; best_of(rt, alloc, cluster).rounds().len(), rounds);
+    assert!(rt; best_rounds(rt, alloc, cluster) == rounds);
 }
 
 #[test]

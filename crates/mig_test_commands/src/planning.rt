@@ -1,10 +1,11 @@
 //! What `plan` saves and puts, and what `check` and `after` then say of it.
 
-use crate::expecting::{expect, expect_end};
+use crate::expecting::{expect, expect_end, expect_file, made};
 use mig_fixtures::{
     AFTER, CHECK, Cluster, NO_ROUNDS, NOTHING_NEEDED, ONE_STAYS, PLAN, THREE_ITEMS, THREE_MOVED,
-    TRIANGLE, TWO_NEEDED, folder_of, holds, outcome_of,
+    TRIANGLE, TWO_NEEDED, outcome_of,
 };
+use mig_io::MemFolder;
 use std::alloc::Global;
 use std::panic::Expect;
 use std::process::Abort;
@@ -40,16 +41,24 @@ fn has_each(text: &str, shifts: &[&str]) -> bool {
     true
 }
 
-/// The text has this form, with one of the shifts for each `*`, and each shift in one place.
-fn is_filled(text: &str, form: &str, shifts: &[&str]) -> bool {
-    let places = form.split('\n').filter(|line| *line == "*").count();
-    places == shifts.len()
+/// The text has one of these forms, with one of the shifts for each `*`, and each shift in one place.
+fn is_filled(text: &str, forms: &[&str], shifts: &[&str]) -> bool {
+    for form in forms {
+        if has_form(text, form, shifts.len()) && has_each(text, shifts) {
+            return true;
+        }
+    }
+    false
+}
+
+/// The text has the lines of this form, with any for each of so many `*`.
+fn has_form(text: &str, form: &str, places: usize) -> bool {
+    form.split('\n').filter(|line| *line == "*").count() == places
         && text.split('\n').count() == form.split('\n').count()
         && text
             .split('\n')
             .zip(form.split('\n'))
             .all(|(line, wanted)| line == wanted || wanted == "*")
-        && has_each(text, shifts)
 }
 
 /// Two rounds, of two shifts and of one.
@@ -268,20 +277,19 @@ static SETTLED: [Settled<'static>; 18] = [
     },
 ];
 
+/// The plan that stands as P.
+fn plan_in<'a>(rt: &impl Abort, folder: &'a MemFolder) -> &'a str {
+    str::from_utf8(folder.file("P").expect(rt, "a plan")).expect(rt, "a text")
+}
+
 /// Plans a cluster, and asserts its plan, its certificate, its verdict and its last layout.
 fn expect_settled(rt: &impl Abort, alloc: Global, case: &Settled<'_>) {
-    let made = folder_of(alloc, &case.cluster, Vec::new(alloc));
-    let mut folder = made.expect(rt, "ample memory");
+    let mut folder = made(rt, alloc, &case.cluster, &[]);
     expect(rt, alloc, &mut folder, PLAN, 0, case.cert);
-    let plan = str::from_utf8(folder.file("P").expect(rt, "a plan")).expect(rt, "a text");
-    assert!(rt;
-        case.forms
-            .iter()
-            .any(|form| is_filled(plan, form, case.shifts)),
-        "{plan}"
-    );
-    assert!(rt; holds(&folder, "C", Some(case.cert)));
-    assert!(rt; holds(&folder, "D", Some(case.cluster.disks)));
+    let plan = plan_in(rt, &folder);
+    assert!(rt; is_filled(plan, case.forms, case.shifts), "{plan}");
+    expect_file(rt, &folder, "C", Some(case.cert));
+    expect_file(rt, &folder, "D", Some(case.cluster.disks));
     expect(rt, alloc, &mut folder, CHECK, 0, "optimal\n");
     expect(rt, alloc, &mut folder, AFTER, 0, case.layout);
 }
@@ -447,14 +455,13 @@ fn ending_of<'a>(
 
 /// Plans a cluster, and asserts its shifts, one of its endings and its last layout.
 fn expect_unsettled(rt: &impl Abort, alloc: Global, case: &Unsettled<'_>) {
-    let made = folder_of(alloc, &case.cluster, Vec::new(alloc));
-    let mut folder = made.expect(rt, "ample memory");
+    let mut folder = made(rt, alloc, &case.cluster, &[]);
     let came = outcome_of(alloc, &mut folder, PLAN).expect(rt, "ample memory");
-    let plan = str::from_utf8(folder.file("P").expect(rt, "a plan")).expect(rt, "a text");
+    let plan = plan_in(rt, &folder);
     assert!(rt; has_each(plan, case.shifts), "{plan}");
     let (cert, verdict) = ending_of(plan, case.endings).expect(rt, "as few rounds as may be");
     expect_end(rt, PLAN, (came.status, came.out.held()), (0, cert));
-    assert!(rt; holds(&folder, "C", Some(cert)));
+    expect_file(rt, &folder, "C", Some(cert));
     expect(rt, alloc, &mut folder, CHECK, 0, verdict);
     expect(rt, alloc, &mut folder, AFTER, 0, case.layout);
 }

@@ -1,16 +1,15 @@
 //! Words that are no command, files that are not there, and files that stand for no input.
 
-use crate::expecting::expect;
+use crate::expecting::{Line, expect, expect_all, expect_file, keep, made, made_with};
 use mig_fixtures::{
     AFTER, CHECK, Cluster, ONE_STAYS, PLAN, THREE_ITEMS, TRIANGLE, TWO_NEEDED, TWO_ROUNDS,
-    folder_of, holds, planned,
 };
 use std::alloc::Global;
 use std::panic::Expect;
 use std::process::Abort;
 
 /// Lines, their statuses and what is put.
-static LINES: [(&str, u8, &str); 18] = [
+static LINES: [Line<'static>; 18] = [
     ("", 2, "words not understood\n"),
     ("plan D N X P", 2, "words not understood\n"),
     ("plan D N X P P", 2, "words not understood\n"),
@@ -37,14 +36,11 @@ static LINES: [(&str, u8, &str); 18] = [
 
 #[test]
 fn tells_of_words_and_files(rt: HostRuntime) {
-    let alloc = rt.alloc();
-    let mut folder = folder_of(alloc, &THREE_ITEMS, Vec::new(alloc)).expect(&rt, "ample memory");
-    folder.keep("EMPTY", b"").expect(&rt, "ample memory");
-    for (line, status, text) in &LINES {
-        expect(&rt, alloc, &mut folder, line, *status, text);
-    }
-    assert!(rt; holds(&folder, "P", None));
-    assert!(rt; holds(&folder, "C", None));
+    let mut folder = made(&rt, rt.alloc(), &THREE_ITEMS, &[]);
+    keep(&rt, &mut folder, "EMPTY", b"");
+    expect_all(&rt, rt.alloc(), &mut folder, &LINES);
+    expect_file(&rt, &folder, "P", None);
+    expect_file(&rt, &folder, "C", None);
 }
 
 /// Files that stand for no input, and what is put.
@@ -183,16 +179,12 @@ static REFUSED: [(Cluster<'static>, &str); 18] = [
 
 /// Each command refuses the files of a cluster with this text, and changes nothing.
 fn expect_refused(rt: &impl Abort, alloc: Global, cluster: &Cluster<'_>, text: &str) {
-    let none = Vec::new(alloc);
-    let mut folder = planned(alloc, cluster, TWO_ROUNDS, TWO_NEEDED, none).expect(
-        rt,
-        "ample memory",
-    );
+    let mut folder = made_with(rt, alloc, cluster, TWO_ROUNDS, TWO_NEEDED, &[]);
     for line in [PLAN, CHECK, AFTER] {
         expect(rt, alloc, &mut folder, line, 3, text);
     }
-    assert!(rt; holds(&folder, "P", Some(TWO_ROUNDS)));
-    assert!(rt; holds(&folder, "C", Some(TWO_NEEDED)));
+    expect_file(rt, &folder, "P", Some(TWO_ROUNDS));
+    expect_file(rt, &folder, "C", Some(TWO_NEEDED));
 }
 
 /// A disks file with so many rows.
@@ -216,6 +208,15 @@ fn long_disks(rt: &impl Abort, alloc: Global, len: usize) -> String {
     text
 }
 
+/// Each command refuses the three items' files with these disks.
+fn expect_disks_refused(rt: &impl Abort, alloc: Global, disks: &str, text: &str) {
+    let cluster = Cluster {
+        disks,
+        ..THREE_ITEMS
+    };
+    expect_refused(rt, alloc, &cluster, text);
+}
+
 #[test]
 fn refuses_files_with_each_cause(rt: HostRuntime) {
     let alloc = rt.alloc();
@@ -223,15 +224,7 @@ fn refuses_files_with_each_cause(rt: HostRuntime) {
         expect_refused(&rt, alloc, cluster, text);
     }
     let many = disk_rows(&rt, alloc, 1025);
+    expect_disks_refused(&rt, alloc, &many, "refused disks row 1025: too many rows\n");
     let long = long_disks(&rt, alloc, 16_777_217);
-    for (disks, text) in [
-        (&many, "refused disks row 1025: too many rows\n"),
-        (&long, "refused disks row 0: file too long\n"),
-    ] {
-        let cluster = Cluster {
-            disks: disks.as_str(),
-            ..THREE_ITEMS
-        };
-        expect_refused(&rt, alloc, &cluster, text);
-    }
+    expect_disks_refused(&rt, alloc, &long, "refused disks row 0: file too long\n");
 }

@@ -1,7 +1,7 @@
 //! What `rehearse` puts, and which words it takes.
 
-use crate::expecting::{calls_of, expect};
-use mig_fixtures::{THREE_ITEMS, folder_of, sink_of, status_of};
+use crate::expecting::{expect, expect_untold, made};
+use mig_fixtures::{Outcome, THREE_ITEMS, outcome_of};
 use std::alloc::Global;
 use std::panic::Expect;
 use std::process::Abort;
@@ -70,54 +70,39 @@ fn tells(text: &[u8], digest: &str) -> bool {
     text.len() > 65 && &text[text.len() - 65..text.len() - 1] == digest.as_bytes()
 }
 
-/// The line puts this beginning and a digest, with status 0.
-fn rehearses(rt: &impl Abort, alloc: Global, line: &str, beginning: &str) -> bool {
-    let mut folder = folder_of(alloc, &THREE_ITEMS, Vec::new(alloc)).expect(rt, "ample memory");
-    let mut out = sink_of(alloc, Vec::new(alloc)).expect(rt, "ample memory");
-    let status = status_of(alloc, &mut folder, line, &mut out).expect(rt, "ample memory");
-    status == 0 && is_rehearsed(out.held(), beginning)
+/// How a line ends.
+fn rehearsed(rt: &impl Abort, alloc: Global, line: &str) -> Outcome {
+    let mut folder = made(rt, alloc, &THREE_ITEMS, &[]);
+    outcome_of(alloc, &mut folder, line).expect(rt, "ample memory")
 }
 
 #[test]
 fn numbers_and_verdicts(rt: HostRuntime) {
     for (line, beginning) in &REHEARSED {
-        assert!(rt; rehearses(&rt, rt.alloc(), line, beginning));
+        let came = rehearsed(&rt, rt.alloc(), line);
+        assert!(rt; came.status == 0 && is_rehearsed(came.out.held(), beginning));
     }
 }
 
 #[test]
 fn the_digest_is_that_of_the_plan(rt: HostRuntime) {
-    let alloc = rt.alloc();
-    let mut folder = folder_of(alloc, &THREE_ITEMS, Vec::new(alloc)).expect(&rt, "ample memory");
-    let mut out = sink_of(alloc, Vec::new(alloc)).expect(&rt, "ample memory");
-    let status = status_of(alloc, &mut folder, "rehearse 2 1 1", &mut out).expect(
-        &rt,
-        "ample memory",
-    );
-    assert_eq!(rt; status, 0);
-    let put = out.held();
-    assert!(rt; TWO_PLANS.iter().any(|digest| tells(put, digest)));
+    let came = rehearsed(&rt, rt.alloc(), "rehearse 2 1 1");
+    let [one, other] = &TWO_PLANS;
+    let put = came.out.held();
+    assert!(rt; came.status == 0 && (tells(put, one) || tells(put, other)));
 }
 
 #[test]
 fn words_that_make_no_case(rt: HostRuntime) {
     let alloc = rt.alloc();
-    let mut folder = folder_of(alloc, &THREE_ITEMS, Vec::new(alloc)).expect(&rt, "ample memory");
+    let mut folder = made(&rt, alloc, &THREE_ITEMS, &[]);
     for line in &UNLISTED {
         expect(&rt, alloc, &mut folder, line, 2, "words not understood\n");
     }
 }
 
-// The first put fails.
 #[test]
 fn a_rehearsal_that_is_not_put(rt: HostRuntime) {
-    let alloc = rt.alloc();
-    let mut folder = folder_of(alloc, &THREE_ITEMS, Vec::new(alloc)).expect(&rt, "ample memory");
-    let mut out = sink_of(alloc, calls_of(&rt, alloc, &[0])).expect(&rt, "ample memory");
-    let status = status_of(alloc, &mut folder, "rehearse 2 1 1", &mut out).expect(
-        &rt,
-        "ample memory",
-    );
-    assert_eq!(rt; status, 6);
-    assert!(rt; out.held().is_empty());
+    let mut folder = made(&rt, rt.alloc(), &THREE_ITEMS, &[]);
+    expect_untold(&rt, rt.alloc(), &mut folder, "rehearse 2 1 1", 6);
 }

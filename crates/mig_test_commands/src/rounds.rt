@@ -1,9 +1,10 @@
 //! How many rounds plans have where a limit is odd. They are as few as can be, which no promise of the planner says: a
 //! planner that has lost its search makes more.
 
-use crate::expecting::expect;
+use crate::expecting::{expect, expect_file, made};
+use crate::texts::Texts;
 use mig_csv::read_input;
-use mig_fixtures::{CHECK, Cluster, PLAN, folder_of, holds};
+use mig_fixtures::{CHECK, Cluster, PLAN};
 use mig_plan::make_plan;
 use std::alloc::Global;
 use std::panic::Expect;
@@ -21,64 +22,41 @@ struct Exchange<'a> {
     verdict: &'a str,
 }
 
-/// The texts of the three files.
-#[derive(Drop)]
-struct Texts {
-    disks: String,
-    now: String,
-    next: String,
-}
-
 /// Adds the items that one disk gives to the others.
 fn add_source(rt: &impl Abort, texts: &mut Texts, disks: usize, each: u32, source: usize) {
     let mut slot: u32 = 0;
     for target in 0..disks {
-        for number in 0..each {
+        for _ in 0..each {
             if target != source {
-                write!(texts.now, "s{source}t{target}n{number},d{source},{slot}\n").expect(
-                    rt,
-                    "ample memory",
-                );
-                write!(texts.next, "s{source}t{target}n{number},d{target}\n").expect(
-                    rt,
-                    "ample memory",
-                );
+                texts.add_item(rt, source, slot, target);
                 slot = slot.saturating_add(1);
             }
         }
     }
 }
 
-/// Adds one more disk of limit 1, and an item that the first disk gives it.
-fn add_guest(rt: &impl Abort, texts: &mut Texts) {
-    texts
-        .disks
-        .push_str("guest,1,1\n")
-        .expect(rt, "ample memory");
-    texts
-        .now
-        .push_str("visitor,d0,4095\n")
-        .expect(rt, "ample memory");
-    texts
-        .next
-        .push_str("visitor,guest\n")
-        .expect(rt, "ample memory");
-}
-
 fn texts_of(rt: &impl Abort, alloc: Global, exchange: &Exchange<'_>) -> Texts {
-    let mut texts = Texts {
-        disks: String::from_str(alloc, "disk,limit,slots\n").expect(rt, "ample memory"),
-        now: String::from_str(alloc, "item,disk,slot\n").expect(rt, "ample memory"),
-        next: String::from_str(alloc, "item,disk\n").expect(rt, "ample memory"),
-    };
+    let mut texts = Texts::new(rt, alloc);
+    let disks = exchange.limits.len();
     for (disk, limit) in exchange.limits.iter().enumerate() {
-        write!(texts.disks, "d{disk},{limit},4096\n").expect(rt, "ample memory");
-        add_source(rt, &mut texts, exchange.limits.len(), exchange.each, disk);
+        texts.add_disk(rt, disk, *limit, 4096);
+        add_source(rt, &mut texts, disks, exchange.each, disk);
     }
     if exchange.guest {
-        add_guest(rt, &mut texts);
+        texts.add_disk(rt, disks, 1, 1);
+        texts.add_item(rt, 0, 4095, disks);
     }
     texts
+}
+
+/// The rounds of a plan of the input.
+fn rounds_of(rt: &impl Abort, alloc: Global, cluster: &Cluster<'_>) -> usize {
+    let (disks, now) = (cluster.disks.as_bytes(), cluster.now.as_bytes());
+    let input = read_input(alloc, disks, now, cluster.next.as_bytes()).expect(rt, "an input");
+    make_plan(alloc, &input)
+        .expect(rt, "ample memory")
+        .rounds()
+        .len()
 }
 
 static EXCHANGES: [Exchange<'static>; 5] = [
@@ -134,14 +112,9 @@ fn plans_have_as_few_rounds_as_can_be(rt: HostRuntime) {
     let alloc = rt.alloc();
     for exchange in &EXCHANGES {
         let texts = texts_of(&rt, alloc, exchange);
-        let cluster = Cluster {
-            disks: texts.disks.as_str(),
-            now: texts.now.as_str(),
-            next: texts.next.as_str(),
-        };
-        let mut folder = folder_of(alloc, &cluster, Vec::new(alloc)).expect(&rt, "ample memory");
+        let mut folder = made(&rt, alloc, &texts.cluster(), &[]);
         expect(&rt, alloc, &mut folder, PLAN, 0, exchange.cert);
-        assert!(rt; holds(&folder, "C", Some(exchange.cert)));
+        expect_file(&rt, &folder, "C", Some(exchange.cert));
         expect(&rt, alloc, &mut folder, CHECK, 0, exchange.verdict);
     }
 }
@@ -152,15 +125,7 @@ fn the_search_for_few_rounds_goes_up(rt: HostRuntime) {
     let alloc = rt.alloc();
     for exchange in &EXCHANGES {
         let texts = texts_of(&rt, alloc, exchange);
-        let read = read_input(
-            alloc,
-            texts.disks.as_bytes(),
-            texts.now.as_bytes(),
-            texts.next.as_bytes(),
-        );
-        let input = read.expect(&rt, "an input");
-        let plan = make_plan(alloc, &input).expect(&rt, "ample memory");
-        assert_eq!(rt; plan.rounds().len(), exchange.rounds);
+        assert!(rt; rounds_of(&rt, alloc, &texts.cluster()) == exchange.rounds);
     }
 }
 
@@ -173,14 +138,5 @@ static DEALT_AGAIN: Cluster<'static> = Cluster {
 
 #[test]
 fn ends_are_dealt_again_where_few_rounds_are_needed(rt: HostRuntime) {
-    let alloc = rt.alloc();
-    let read = read_input(
-        alloc,
-        DEALT_AGAIN.disks.as_bytes(),
-        DEALT_AGAIN.now.as_bytes(),
-        DEALT_AGAIN.next.as_bytes(),
-    );
-    let input = read.expect(&rt, "an input");
-    let plan = make_plan(alloc, &input).expect(&rt, "ample memory");
-    assert_eq!(rt; plan.rounds().len(), 3);
+    assert!(rt; rounds_of(&rt, rt.alloc(), &DEALT_AGAIN) == 3);
 }

@@ -1,10 +1,7 @@
 //! Disks with an outgoing and an incoming limit: which rows are refused, and what is judged.
 
-use crate::expecting::expect;
-use mig_fixtures::{
-    AFTER, CHECK, Cluster, PLAN, THREE_ITEMS, THREE_MOVED, TWO_NEEDED, TWO_ROUNDS, planned,
-};
-use std::panic::Expect;
+use crate::expecting::{expect, made_with};
+use mig_fixtures::{AFTER, CHECK, Cluster, PLAN, THREE_ITEMS, THREE_MOVED, TWO_NEEDED, TWO_ROUNDS};
 
 /// The three items between disks with two limits.
 const THREE_SPLIT: Cluster<'static> = Cluster {
@@ -94,8 +91,7 @@ static JUDGED: [(&str, &str, u8, &str); 12] = [
 fn judges_both_sides(rt: HostRuntime) {
     let alloc = rt.alloc();
     for (plan, cert, status, text) in &JUDGED {
-        let none = Vec::new(alloc);
-        let mut folder = planned(alloc, &THREE_SPLIT, plan, cert, none).expect(&rt, "ample memory");
+        let mut folder = made_with(&rt, alloc, &THREE_SPLIT, plan, cert, &[]);
         expect(&rt, alloc, &mut folder, CHECK, *status, text);
     }
 }
@@ -103,11 +99,7 @@ fn judges_both_sides(rt: HostRuntime) {
 #[test]
 fn follows_a_plan_under_two_limits(rt: HostRuntime) {
     let alloc = rt.alloc();
-    let none = Vec::new(alloc);
-    let mut folder = planned(alloc, &THREE_SPLIT, THREE_ROUNDS, THREE_NEEDED, none).expect(
-        &rt,
-        "ample memory",
-    );
+    let mut folder = made_with(&rt, alloc, &THREE_SPLIT, THREE_ROUNDS, THREE_NEEDED, &[]);
     expect(&rt, alloc, &mut folder, AFTER, 0, THREE_MOVED);
 }
 
@@ -147,11 +139,7 @@ fn refuses_rows_of_two_limits(rt: HostRuntime) {
             disks,
             ..THREE_ITEMS
         };
-        let none = Vec::new(alloc);
-        let mut folder = planned(alloc, &cluster, TWO_ROUNDS, TWO_NEEDED, none).expect(
-            &rt,
-            "ample memory",
-        );
+        let mut folder = made_with(&rt, alloc, &cluster, TWO_ROUNDS, TWO_NEEDED, &[]);
         for line in [PLAN, CHECK, AFTER] {
             expect(&rt, alloc, &mut folder, line, 3, text);
         }

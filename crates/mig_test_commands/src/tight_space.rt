@@ -1,38 +1,34 @@
 //! Plans of single shifts, where disks can't hold old and incoming items together, and files that are read without asking for room.
 
-use crate::expecting::{calls_of, expect, expect_end};
+use crate::expecting::{Line, expect, expect_all, expect_file, expect_untold, made, made_with};
 use mig_fixtures::{
     BY_THIRD_DISK, Cluster, EXCHANGED, FULL_DISKS, NO_ROUNDS, PLAN, THREE_ITEMS, THREE_MOVED,
-    TWO_ROUNDS, folder_of, holds, planned, sink_of, status_of,
+    TWO_ROUNDS,
 };
-use std::alloc::Global;
-use std::panic::Expect;
-use std::process::Abort;
 
 /// The line that plans single shifts, over the files of a folder that `folder_of` gives.
 const PLAN_TIGHT: &str = "plan-tight D N X P";
 
 const NO_ROOM: &str = "refused disks row 1: no room on a, needs 2, has 1\n";
 
+/// Lines one after the other once the plan is saved.
+static SAVED: [Line<'static>; 3] = [
+    ("after-tight D N X P", 0, EXCHANGED),
+    ("after D N X P", 3, NO_ROOM),
+    ("drill D N X P", 3, NO_ROOM),
+];
+
 #[test]
 fn full_disks_change_items(rt: HostRuntime) {
     let alloc = rt.alloc();
-    let mut folder = folder_of(alloc, &FULL_DISKS, Vec::new(alloc)).expect(&rt, "ample memory");
+    let mut folder = made(&rt, alloc, &FULL_DISKS, &[]);
     expect(&rt, alloc, &mut folder, PLAN, 3, NO_ROOM);
-    assert!(&rt; holds(&folder, "P", None));
-    expect(
-        &rt,
-        alloc,
-        &mut folder,
-        PLAN_TIGHT,
-        0,
-        "rounds 3, parked 1\n",
-    );
-    assert!(&rt; holds(&folder, "P", Some(BY_THIRD_DISK)));
-    assert!(&rt; holds(&folder, "C", None));
-    expect(&rt, alloc, &mut folder, "after-tight D N X P", 0, EXCHANGED);
-    expect(&rt, alloc, &mut folder, "after D N X P", 3, NO_ROOM);
-    expect(&rt, alloc, &mut folder, "drill D N X P", 3, NO_ROOM);
+    expect_file(&rt, &folder, "P", None);
+    let text = "rounds 3, parked 1\n";
+    expect(&rt, alloc, &mut folder, PLAN_TIGHT, 0, text);
+    expect_file(&rt, &folder, "P", Some(BY_THIRD_DISK));
+    expect_file(&rt, &folder, "C", None);
+    expect_all(&rt, alloc, &mut folder, &SAVED);
 }
 
 /// Two of the disks of the full ones.
@@ -114,14 +110,14 @@ static ENDS: [(Cluster<'static>, u8, &str, Option<&str>); 7] = [
 fn tells_why_there_is_no_plan(rt: HostRuntime) {
     let alloc = rt.alloc();
     for (cluster, status, text, plan) in &ENDS {
-        let mut folder = folder_of(alloc, cluster, Vec::new(alloc)).expect(&rt, "ample memory");
+        let mut folder = made(&rt, alloc, cluster, &[]);
         expect(&rt, alloc, &mut folder, PLAN_TIGHT, *status, text);
-        assert!(&rt; holds(&folder, "P", *plan));
+        expect_file(&rt, &folder, "P", *plan);
     }
 }
 
 /// Lines, their statuses and what is put.
-static LINES: [(&str, u8, &str); 16] = [
+static LINES: [Line<'static>; 16] = [
     ("plan-tight D N X", 2, "words not understood\n"),
     ("plan-tight D N X P C", 2, "words not understood\n"),
     ("plan-tight D N X D", 2, "words not understood\n"),
@@ -143,12 +139,9 @@ static LINES: [(&str, u8, &str); 16] = [
 #[test]
 fn tells_of_words_and_files(rt: HostRuntime) {
     let alloc = rt.alloc();
-    let made = planned(alloc, &FULL_DISKS, BY_THIRD_DISK, "", Vec::new(alloc));
-    let mut folder = made.expect(&rt, "ample memory");
-    for (line, status, text) in &LINES {
-        expect(&rt, alloc, &mut folder, line, *status, text);
-    }
-    assert!(&rt; holds(&folder, "P", Some(BY_THIRD_DISK)));
+    let mut folder = made_with(&rt, alloc, &FULL_DISKS, BY_THIRD_DISK, "", &[]);
+    expect_all(&rt, alloc, &mut folder, &LINES);
+    expect_file(&rt, &folder, "P", Some(BY_THIRD_DISK));
 }
 
 /// Plans for the full disks that don't run, or are none, and what `after-tight` puts.
@@ -170,8 +163,7 @@ static BLAMED: [(&str, u8, &str); 3] = [
 fn blames_plans_for_full_disks(rt: HostRuntime) {
     let alloc = rt.alloc();
     for (plan, status, text) in &BLAMED {
-        let made = planned(alloc, &FULL_DISKS, plan, "", Vec::new(alloc));
-        let mut folder = made.expect(&rt, "ample memory");
+        let mut folder = made_with(&rt, alloc, &FULL_DISKS, plan, "", &[]);
         expect(
             &rt,
             alloc,
@@ -189,55 +181,43 @@ const ONE_GOES: Cluster<'static> = Cluster {
     ..THREE_ITEMS
 };
 
+/// Lines over their files.
+static ONE_WENT: [Line<'static>; 2] = [
+    (PLAN_TIGHT, 0, "rounds 1, parked 0\n"),
+    ("after D N X P", 0, "item,disk,slot\nx,b,0\ny,a,1\nz,a,2\n"),
+];
+
 // Where disks have room, both forms take plans of either planner.
 #[test]
 fn roomy_files_are_read_by_both(rt: HostRuntime) {
     let alloc = rt.alloc();
-    let made = planned(alloc, &THREE_ITEMS, TWO_ROUNDS, "", Vec::new(alloc));
-    let mut folder = made.expect(&rt, "ample memory");
+    let mut three = made_with(&rt, alloc, &THREE_ITEMS, TWO_ROUNDS, "", &[]);
     expect(
         &rt,
         alloc,
-        &mut folder,
+        &mut three,
         "after-tight D N X P",
         0,
         THREE_MOVED,
     );
-    let mut folder = folder_of(alloc, &ONE_GOES, Vec::new(alloc)).expect(&rt, "ample memory");
-    expect(
-        &rt,
-        alloc,
-        &mut folder,
-        PLAN_TIGHT,
-        0,
-        "rounds 1, parked 0\n",
-    );
-    let there = "item,disk,slot\nx,b,0\ny,a,1\nz,a,2\n";
-    expect(&rt, alloc, &mut folder, "after D N X P", 0, there);
+    expect_all(&rt, alloc, &mut made(&rt, alloc, &ONE_GOES, &[]), &ONE_WENT);
 }
 
-/// Planning ends with a fault of the folder where this call fails, and nothing is saved. The last call saves the plan.
-fn expect_unplanned(rt: &impl Abort, alloc: Global, call: u64) {
-    let failing = calls_of(rt, alloc, &[call]);
-    let mut folder = folder_of(alloc, &FULL_DISKS, failing).expect(rt, "ample memory");
-    expect(rt, alloc, &mut folder, PLAN_TIGHT, 4, "folder fault\n");
-    assert!(rt; holds(&folder, "P", None));
-}
-
+// Nothing is saved where a call of the folder fails. The last call saves the plan.
 #[test]
 fn faults_while_planning(rt: HostRuntime) {
+    let alloc = rt.alloc();
     for call in 0..4u64 {
-        expect_unplanned(&rt, rt.alloc(), call);
+        let mut folder = made(&rt, alloc, &FULL_DISKS, &[call]);
+        expect(&rt, alloc, &mut folder, PLAN_TIGHT, 4, "folder fault\n");
+        expect_file(&rt, &folder, "P", None);
     }
 }
 
 // The sink's first put fails, and the plan is saved.
 #[test]
 fn what_is_not_told_is_saved(rt: HostRuntime) {
-    let alloc = rt.alloc();
-    let mut folder = folder_of(alloc, &FULL_DISKS, Vec::new(alloc)).expect(&rt, "ample memory");
-    let mut out = sink_of(alloc, calls_of(&rt, alloc, &[0])).expect(&rt, "ample memory");
-    let status = status_of(alloc, &mut folder, PLAN_TIGHT, &mut out).expect(&rt, "ample memory");
-    expect_end(&rt, PLAN_TIGHT, (status, out.held()), (6, ""));
-    assert!(&rt; holds(&folder, "P", Some(BY_THIRD_DISK)));
+    let mut folder = made(&rt, rt.alloc(), &FULL_DISKS, &[]);
+    expect_untold(&rt, rt.alloc(), &mut folder, PLAN_TIGHT, 6);
+    expect_file(&rt, &folder, "P", Some(BY_THIRD_DISK));
 }

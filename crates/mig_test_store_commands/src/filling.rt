@@ -2,7 +2,7 @@
 
 use crate::expecting::{Line, expect_all, expect_cut};
 use crate::looks::{HERE, LOST, three_items};
-use crate::stores::{failing_at, store_of, sure_store};
+use crate::stores::{store_of, sure_store};
 use mig_base::Cell;
 use mig_store::Store;
 
@@ -21,7 +21,7 @@ static SESSION: [Line<'static>; 7] = [
 fn items_are_filled_and_seen(rt: HostRuntime) {
     let alloc = rt.alloc();
     let mut folder = three_items(&rt, alloc);
-    let mut store = store_of(&rt, alloc, Vec::new(alloc));
+    let mut store = store_of(&rt, alloc, &[]);
     expect_all(&rt, alloc, &mut folder, &mut store, &SESSION);
 }
 
@@ -52,7 +52,7 @@ static UNSYNCED: [Line<'static>; 2] = [("fill D N", 5, "store fault\n"), ("audit
 fn a_fill_whose_first_sync_fails_writes_nothing(rt: HostRuntime) {
     let alloc = rt.alloc();
     let mut folder = three_items(&rt, alloc);
-    let mut store = store_of(&rt, alloc, failing_at(&rt, alloc, 0));
+    let mut store = store_of(&rt, alloc, &[0]);
     expect_all(&rt, alloc, &mut folder, &mut store, &UNSYNCED);
 }
 
@@ -96,7 +96,7 @@ fn faults_in_the_middle(rt: HostRuntime) {
     let alloc = rt.alloc();
     let mut folder = three_items(&rt, alloc);
     for (call, put, line) in &STOPPED {
-        let mut store = store_of(&rt, alloc, failing_at(&rt, alloc, *call));
+        let mut store = store_of(&rt, alloc, &[*call]);
         expect_cut(&rt, alloc, &mut folder, &mut store, *put, line);
     }
 }

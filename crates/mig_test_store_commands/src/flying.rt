@@ -4,7 +4,7 @@ ghost use Rattle.mig_store.specs.Memories.{aloft};
 
 use crate::expecting::{Line, expect_all, expect_over};
 use crate::looks::{ANOTHER, AT_TARGET, FILL, HERE, three_items};
-use crate::stores::{failing_at, store_of};
+use crate::stores::store_of;
 use mig_base::{Cell, Name};
 use mig_io::MemFolder;
 use mig_store::{MemStore, Store};
@@ -60,11 +60,11 @@ fn stopped(
     call: u64,
     events: usize,
 ) -> MemStore {
-    let mut store = store_of(rt, alloc, failing_at(rt, alloc, call));
+    let mut store = store_of(rt, alloc, &[call]);
     expect_all(rt, alloc, folder, &mut store, FILL);
     let text = "store fault\n";
     expect_over(rt, alloc, folder, &mut store, "move D N X P", 5, text);
-    assert_eq!(rt; store.events().len(), events);
+    assert!(rt; store.events().len() == events);
     store
 }
 
@@ -115,7 +115,7 @@ fn flying(rt: &impl Abort, alloc: Global, items: &[(u32, u8)], from: u32, to: u3
     requires { from ≢ to }
 {
     let disk = Name::read(b"a").expect(rt, "a name");
-    let mut store = store_of(rt, alloc, Vec::new(alloc));
+    let mut store = store_of(rt, alloc, &[]);
     put(rt, &mut store, &disk, items);
     let (from, to) = (
         Cell::Slot { disk, slot: from },

@@ -1,14 +1,12 @@
 //! Sessions of `live`: plans that are carried out step by step, with reads in between; left in the middle, cut off, and gone
 //! on with.
 
-use crate::expecting::{Line, expect_all, expect_cut, expect_over};
+use crate::expecting::{Line, expect_all, expect_any, expect_cut, expect_over};
 use crate::looks::{ANOTHER, AT_TARGET, FILL, keep, three_items};
 use crate::stores::{store_of, sure_store};
-use mig_fixtures::outcome_over;
 use mig_io::MemFolder;
 use mig_store::{MemStore, Pick};
 use std::alloc::Global;
-use std::panic::Expect;
 use std::process::Abort;
 
 /// A plan of the three items that doesn't run.
@@ -69,7 +67,7 @@ fn reads_are_served_on_the_way(rt: HostRuntime) {
     let alloc = rt.alloc();
     for lines in [TO_THE_END.as_slice(), IN_THE_MIDDLE.as_slice()] {
         let mut folder = scripted(&rt, alloc);
-        let mut store = store_of(&rt, alloc, Vec::new(alloc));
+        let mut store = store_of(&rt, alloc, &[]);
         expect_all(&rt, alloc, &mut folder, &mut store, lines);
         expect_all(&rt, alloc, &mut folder, &mut store, AT_TARGET);
         let mut sure = sure_store(&rt, alloc);
@@ -95,13 +93,13 @@ static REFUSED: [Line<'static>; 9] = [
 fn scripts_are_refused(rt: HostRuntime) {
     let alloc = rt.alloc();
     let mut folder = scripted(&rt, alloc);
-    let mut store = store_of(&rt, alloc, Vec::new(alloc));
+    let mut store = store_of(&rt, alloc, &[]);
     expect_all(&rt, alloc, &mut folder, &mut store, &REFUSED);
 }
 
 /// The store of the three items, where they are filled.
 fn filled(rt: &impl Abort, alloc: Global, folder: &mut MemFolder) -> MemStore {
-    let mut store = store_of(rt, alloc, Vec::new(alloc));
+    let mut store = store_of(rt, alloc, &[]);
     expect_all(rt, alloc, folder, &mut store, FILL);
     store
 }
@@ -126,6 +124,13 @@ static CUT_OFF: [(u64, &str); 3] = [
     ),
 ];
 
+/// How the plan is gone on with.
+static RESUMED: [(u8, &str); 3] = [
+    (0, "done 2 rounds, found 0\n"),
+    (0, "done 2 rounds, found 1\n"),
+    (0, "done 2 rounds, found 2\n"),
+];
+
 // Whatever a crash leaves then, the plan is gone on with, and no item is lost.
 #[test]
 fn a_session_that_is_cut_off_by_its_store_is_gone_on_with(rt: HostRuntime) {
@@ -138,8 +143,8 @@ fn a_session_that_is_cut_off_by_its_store_is_gone_on_with(rt: HostRuntime) {
             let line = "live D N X P T";
             expect_over(&rt, alloc, &mut folder, &mut store, line, 5, text);
             let mut left = store.crash(*pick);
-            let came = outcome_over(alloc, &mut folder, &mut left, "resume D N X P");
-            assert_eq!(rt; came.expect(&rt, "ample memory").status, 0);
+            let line = "resume D N X P";
+            expect_any(&rt, alloc, &mut folder, &mut left, line, &RESUMED);
             expect_all(&rt, alloc, &mut folder, &mut left, AT_TARGET);
         }
     }

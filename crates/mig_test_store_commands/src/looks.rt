@@ -17,7 +17,7 @@ const IN_THE_WAY: &str = "item,disk,slot\nx,a,0\ny,a,1\nz,a,2\nw,b,0\n";
 /// The folder of the three items, with both plans as P and R, their last layout as L, and the layout with an item in the
 /// way as W.
 pub fn three_items(rt: &impl Abort, alloc: Global) -> MemFolder {
-    let mut folder = folder_of(alloc, &THREE_ITEMS, Vec::new(alloc)).expect(rt, "ample memory");
+    let mut folder = folder_of(alloc, &THREE_ITEMS, &[]).expect(rt, "ample memory");
     keep(rt, &mut folder, "P", TWO_ROUNDS);
     keep(rt, &mut folder, "R", THREE_ROUNDS);
     keep(rt, &mut folder, "L", THREE_MOVED);

@@ -2,7 +2,7 @@
 
 use crate::expecting::{Line, expect_all, expect_cut};
 use crate::looks::{ANOTHER, AT_TARGET, FILL, HERE, three_items};
-use crate::stores::{failing_at, is_done, store_of, sure_store};
+use crate::stores::{is_done, store_of, sure_store};
 use mig_fixtures::THREE_MOVED;
 
 /// Lines one after the other over one store.
@@ -24,7 +24,7 @@ static SESSION: [Line<'static>; 11] = [
 fn items_are_moved(rt: HostRuntime) {
     let alloc = rt.alloc();
     let mut folder = three_items(&rt, alloc);
-    let mut store = store_of(&rt, alloc, Vec::new(alloc));
+    let mut store = store_of(&rt, alloc, &[]);
     expect_all(&rt, alloc, &mut folder, &mut store, &SESSION);
     expect_all(&rt, alloc, &mut folder, &mut store, AT_TARGET);
     assert!(rt; is_done(&store));
@@ -65,7 +65,7 @@ fn nothing_is_written_by_a_move_that_is_refused(rt: HostRuntime) {
     let alloc = rt.alloc();
     let mut folder = three_items(&rt, alloc);
     for (call, lines) in &REFUSED {
-        let mut store = store_of(&rt, alloc, failing_at(&rt, alloc, *call));
+        let mut store = store_of(&rt, alloc, &[*call]);
         expect_all(&rt, alloc, &mut folder, &mut store, lines);
     }
 }
@@ -76,7 +76,7 @@ fn what_is_not_told_is_done(rt: HostRuntime) {
     let alloc = rt.alloc();
     let mut folder = three_items(&rt, alloc);
     for line in ["move D N X P", "resume D N X P"] {
-        let mut store = store_of(&rt, alloc, Vec::new(alloc));
+        let mut store = store_of(&rt, alloc, &[]);
         expect_all(&rt, alloc, &mut folder, &mut store, FILL);
         expect_cut(&rt, alloc, &mut folder, &mut store, 0, &(line, 6, ""));
         expect_all(&rt, alloc, &mut folder, &mut store, AT_TARGET);

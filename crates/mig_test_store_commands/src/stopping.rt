@@ -1,9 +1,9 @@
 //! Moves at which a call of the store fails, and what `resume` makes of them after a crash.
 
-use crate::expecting::expect_all;
+use crate::expecting::{expect_all, expect_any};
 use crate::looks::{FILL, three_items};
-use crate::stores::{are_exchanged, failing_at, is_done, store_of};
-use mig_fixtures::{Outcome, outcome_over};
+use crate::stores::{are_exchanged, is_done, store_of};
+use mig_fixtures::outcome_over;
 use mig_io::MemFolder;
 use mig_store::{EndOrder, MemStore, Pick};
 use std::alloc::Global;
@@ -33,25 +33,36 @@ static CRASHES: [(EndOrder, Pick); 12] = [
 ];
 
 /// What a resume may say.
-static RESUMED: [&str; 3] = [
-    "done 2 rounds, found 0\n",
-    "done 2 rounds, found 1\n",
-    "done 2 rounds, found 2\n",
+static RESUMED: [(u8, &str); 3] = [
+    (0, "done 2 rounds, found 0\n"),
+    (0, "done 2 rounds, found 1\n"),
+    (0, "done 2 rounds, found 2\n"),
 ];
 
-/// A store on which the items are filled and moved, and whose call of this number fails, with how the move ended.
-fn moved(
+/// A store on which the items are filled and moved, and whose call of this number fails; nothing where the move ends well.
+fn stopped(
     rt: &impl Abort,
     alloc: Global,
     folder: &mut MemFolder,
     order: EndOrder,
     call: u64,
-) -> (MemStore, Outcome) {
-    let mut store = store_of(rt, alloc, failing_at(rt, alloc, call));
+) -> Option<MemStore> {
+    let mut store = store_of(rt, alloc, &[call]);
     store.order(order);
     expect_all(rt, alloc, folder, &mut store, FILL);
-    let came = outcome_over(alloc, folder, &mut store, "move D N X P").expect(rt, "ample memory");
-    (store, came)
+    if is_moved(rt, alloc, folder, &mut store) {
+        return None;
+    }
+    Some(store)
+}
+
+/// Whether a move ends well. Where it doesn't, it is stopped by a fault of the store.
+fn is_moved(rt: &impl Abort, alloc: Global, folder: &mut MemFolder, store: &mut MemStore) -> bool {
+    let came = outcome_over(alloc, folder, store, "move D N X P").expect(rt, "ample memory");
+    assert!(rt;
+        came.status == 0 || came.status == 5 && came.out.held() == b"store fault\n".as_slice()
+    );
+    came.status == 0
 }
 
 /// Resumes the move, and asserts that the target is reached: what the first disk held is on the second, and the first is empty.
@@ -62,48 +73,20 @@ fn expect_resumed(
     filled: &MemStore,
     mut store: MemStore,
 ) {
-    let came = outcome_over(alloc, folder, &mut store, "resume D N X P").expect(rt, "ample memory");
-    assert_eq!(rt; came.status, 0);
-    assert!(rt;
-        RESUMED
-            .iter()
-            .any(|text| came.out.held() == text.as_bytes())
-    );
+    expect_any(rt, alloc, folder, &mut store, "resume D N X P", &RESUMED);
     assert!(rt; is_done(&store) && are_exchanged(filled, &store));
-}
-
-/// Whether a move ends well though its call of this number fails. Where it doesn't, it is stopped by a fault, and resumed.
-fn is_moved(
-    rt: &impl Abort,
-    alloc: Global,
-    folder: &mut MemFolder,
-    filled: &MemStore,
-    crash: (EndOrder, Pick),
-    call: u64,
-) -> bool {
-    let (store, came) = moved(rt, alloc, folder, crash.0, call);
-    let is_well = came.status == 0;
-    if !is_well {
-        assert_eq!(rt; came.status, 5, "status at call {call}");
-        assert_eq!(rt;
-            came.out.held(),
-            "store fault\n".as_bytes(),
-            "text at call {call}"
-        );
-        expect_resumed(rt, alloc, folder, filled, store.crash(crash.1));
-    }
-    is_well
 }
 
 /// Lets each call of a move fail in turn, from the first one on, until a move ends well. The number of those that failed.
 fn stops(rt: &impl Abort, alloc: Global, crash: (EndOrder, Pick)) -> usize {
     let mut folder = three_items(rt, alloc);
-    let mut filled = store_of(rt, alloc, Vec::new(alloc));
+    let mut filled = store_of(rt, alloc, &[]);
     expect_all(rt, alloc, &mut folder, &mut filled, FILL);
     for (number, call) in (FIRST..MANY).enumerate() {
-        if is_moved(rt, alloc, &mut folder, &filled, crash, call) {
+        let Some(store) = stopped(rt, alloc, &mut folder, crash.0, call) else {
             return number;
-        }
+        };
+        expect_resumed(rt, alloc, &mut folder, &filled, store.crash(crash.1));
     }
     panic!(rt; "a move has too many calls")
 }

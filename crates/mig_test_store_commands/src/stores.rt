@@ -5,7 +5,7 @@ ghost use Rattle.mig_store.specs.Memories.{aloft};
 
 use mig_base::{Cell, Name};
 use mig_store::{MemStore, SureStore};
-use std::alloc::{AllocError, Global};
+use std::alloc::Global;
 use std::panic::Expect;
 use std::process::Abort;
 
@@ -33,62 +33,60 @@ impl Cells {
     }
 
     /// Adds a cell, if it isn't there.
-    fn add(&mut self, cell: Cell) -> Result<(), AllocError> {
-        if self.list.contains(&cell) {
-            return Ok(());
+    fn add(&mut self, rt: &impl Abort, cell: Cell) {
+        if !self.list.contains(&cell) {
+            self.list.push(cell).expect(rt, "ample memory");
         }
-        self.list.push(cell)?;
-        Ok(())
     }
 
     /// Adds the first four slots of the disk that the letter names.
-    fn add_disk(&mut self, disk: u8) -> Result<(), AllocError> {
+    fn add_disk(&mut self, rt: &impl Abort, disk: u8) {
         for slot in 0..4 {
-            self.add(slot_of(disk, slot))?;
+            self.add(rt, slot_of(disk, slot));
         }
-        Ok(())
     }
 }
 
 /// The head, the gate, the first four marks, and the first four slots of the disks a and b.
 pub fn two_disks(rt: &impl Abort, alloc: Global) -> Cells {
     let mut cells = Cells::new(alloc);
-    cells.add(Cell::Head).expect(rt, "ample memory");
-    cells.add(Cell::Gate).expect(rt, "ample memory");
+    cells.add(rt, Cell::Head);
+    cells.add(rt, Cell::Gate);
     for n in 1..5 {
-        cells.add(Cell::Mark { n }).expect(rt, "ample memory");
+        cells.add(rt, Cell::Mark { n });
     }
-    cells.add_disk(b'a').expect(rt, "ample memory");
-    cells.add_disk(b'b').expect(rt, "ample memory");
+    cells.add_disk(rt, b'a');
+    cells.add_disk(rt, b'b');
     cells
 }
 
 /// The same, and the first four slots of the disk c.
 pub fn three_disks(rt: &impl Abort, alloc: Global) -> Cells {
     let mut cells = two_disks(rt, alloc);
-    cells.add_disk(b'c').expect(rt, "ample memory");
+    cells.add_disk(rt, b'c');
     cells
 }
 
-/// The number of one call alone, as the list of those that fail.
-pub fn failing_at(rt: &impl Abort, alloc: Global, call: u64) -> Vec<u64> {
-    vec![in alloc; call].expect(rt, "ample memory")
-}
-
 /// A store of these cells, all zeros. Its calls with these numbers fail.
-pub fn store_of(rt: &impl Abort, alloc: Global, failing: Vec<u64>) -> MemStore
+fn make_store(rt: &impl Abort, alloc: Global, cells: &Cells, failing: &[u64]) -> MemStore
     ensures { aloft result ≡ [] }
 {
-    let cells = two_disks(rt, alloc);
+    let failing = Vec::from_slice(alloc, failing).expect(rt, "ample memory");
     MemStore::new(alloc, &cells.list, 200, failing).expect(rt, "ample memory")
 }
 
-/// A store of the cells of three disks, all zeros. Its calls with these numbers fail.
-pub fn store_of_three(rt: &impl Abort, alloc: Global, failing: Vec<u64>) -> MemStore
+/// A store of the cells of two disks.
+pub fn store_of(rt: &impl Abort, alloc: Global, failing: &[u64]) -> MemStore
     ensures { aloft result ≡ [] }
 {
-    let cells = three_disks(rt, alloc);
-    MemStore::new(alloc, &cells.list, 200, failing).expect(rt, "ample memory")
+    make_store(rt, alloc, &two_disks(rt, alloc), failing)
+}
+
+/// A store of the cells of three disks.
+pub fn store_of_three(rt: &impl Abort, alloc: Global, failing: &[u64]) -> MemStore
+    ensures { aloft result ≡ [] }
+{
+    make_store(rt, alloc, &three_disks(rt, alloc), failing)
 }
 
 /// A store of the cells of two disks, all zeros, whose calls cannot fail.

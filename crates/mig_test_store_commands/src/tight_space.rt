@@ -1,10 +1,11 @@
 //! Plans where items are parked, since disks can't hold old and incoming items together: carried out, stopped at each write,
 //! resumed and closed.
 
-use crate::expecting::{Line, expect_all, expect_over};
-use crate::stores::{are_exchanged, failing_at, store_of_three};
+use crate::expecting::{Line, expect_all, expect_any, expect_file, expect_over};
+use crate::looks::keep;
+use crate::stores::{are_exchanged, store_of_three};
 use mig_base::Cell;
-use mig_fixtures::{BY_THIRD_DISK, EXCHANGED, FULL_DISKS, folder_of, holds, outcome_over};
+use mig_fixtures::{BY_THIRD_DISK, EXCHANGED, FULL_DISKS, folder_of, outcome_over};
 use mig_io::MemFolder;
 use mig_store::{EndOrder, MemStore, Pick};
 use std::alloc::Global;
@@ -13,10 +14,8 @@ use std::process::Abort;
 
 /// The folder of the items that change places, with their plan as P, and room for a layout as L.
 fn full_disks(rt: &impl Abort, alloc: Global) -> MemFolder {
-    let mut folder = folder_of(alloc, &FULL_DISKS, Vec::new(alloc)).expect(rt, "ample memory");
-    folder
-        .keep("P", BY_THIRD_DISK.as_bytes())
-        .expect(rt, "ample memory");
+    let mut folder = folder_of(alloc, &FULL_DISKS, &[]).expect(rt, "ample memory");
+    keep(rt, &mut folder, "P", BY_THIRD_DISK);
     folder.grant("L", 100).expect(rt, "ample memory");
     folder
 }
@@ -39,9 +38,15 @@ static SESSION: [Line<'static>; 9] = [
     ("after-tight D N X P", 0, EXCHANGED),
 ];
 
+/// Lines that close the journal of a session.
+static CLOSED: [Line<'static>; 2] = [
+    ("halt-tight D N X P L", 0, "halted after 3 of 3\n"),
+    ("halt-tight D N X P L", 8, "journal not started\n"),
+];
+
 /// A store on which the two items are filled.
 fn filled(rt: &impl Abort, alloc: Global, folder: &mut MemFolder) -> MemStore {
-    let mut store = store_of_three(rt, alloc, Vec::new(alloc));
+    let mut store = store_of_three(rt, alloc, &[]);
     expect_all(rt, alloc, folder, &mut store, FILL);
     store
 }
@@ -51,28 +56,11 @@ fn full_disks_change_items(rt: HostRuntime) {
     let alloc = rt.alloc();
     let mut folder = full_disks(&rt, alloc);
     let before = filled(&rt, alloc, &mut folder);
-    let mut store = store_of_three(&rt, alloc, Vec::new(alloc));
+    let mut store = store_of_three(&rt, alloc, &[]);
     expect_all(&rt, alloc, &mut folder, &mut store, &SESSION);
     assert!(rt; are_exchanged(&before, &store));
-    expect_over(
-        &rt,
-        alloc,
-        &mut folder,
-        &mut store,
-        "halt-tight D N X P L",
-        0,
-        "halted after 3 of 3\n",
-    );
-    assert!(rt; holds(&folder, "L", Some(EXCHANGED)));
-    expect_over(
-        &rt,
-        alloc,
-        &mut folder,
-        &mut store,
-        "halt-tight D N X P L",
-        8,
-        "journal not started\n",
-    );
+    expect_all(&rt, alloc, &mut folder, &mut store, &CLOSED);
+    expect_file(&rt, &folder, "L", Some(EXCHANGED));
 }
 
 /// The number of the first call of a move. A filling syncs, reads the gate and two slots, writes these and syncs.
@@ -85,11 +73,11 @@ const MANY: u64 = 200;
 const WRITES: usize = 14;
 
 /// What a resume may say.
-static RESUMED: [&str; 4] = [
-    "done 3 rounds, found 0\n",
-    "done 3 rounds, found 1\n",
-    "done 3 rounds, found 2\n",
-    "done 3 rounds, found 3\n",
+static RESUMED: [(u8, &str); 4] = [
+    (0, "done 3 rounds, found 0\n"),
+    (0, "done 3 rounds, found 1\n"),
+    (0, "done 3 rounds, found 2\n"),
+    (0, "done 3 rounds, found 3\n"),
 ];
 
 /// What a crash may leave of each cell that isn't settled.
@@ -103,17 +91,22 @@ fn stopped(
     order: EndOrder,
     call: u64,
 ) -> Option<MemStore> {
-    let mut store = store_of_three(rt, alloc, failing_at(rt, alloc, call));
+    let mut store = store_of_three(rt, alloc, &[call]);
     store.order(order);
     expect_all(rt, alloc, folder, &mut store, FILL);
-    let came = outcome_over(alloc, folder, &mut store, "move-tight D N X P");
-    let came = came.expect(rt, "ample memory");
-    if came.status == 0 {
+    if is_moved(rt, alloc, folder, &mut store) {
         return None;
     }
-    assert_eq!(rt; came.status, 5, "status at call {call}");
-    assert_eq!(rt; came.out.held(), "store fault\n".as_bytes());
     Some(store)
+}
+
+/// Whether a move ends well. Where it doesn't, it is stopped by a fault of the store.
+fn is_moved(rt: &impl Abort, alloc: Global, folder: &mut MemFolder, store: &mut MemStore) -> bool {
+    let came = outcome_over(alloc, folder, store, "move-tight D N X P").expect(rt, "ample memory");
+    assert!(rt;
+        came.status == 0 || came.status == 5 && came.out.held() == b"store fault\n".as_slice()
+    );
+    came.status == 0
 }
 
 /// Resumes the move, and asserts that the items have changed places.
@@ -124,16 +117,17 @@ fn expect_resumed(
     before: &MemStore,
     mut store: MemStore,
 ) {
-    let came = outcome_over(alloc, folder, &mut store, "resume-tight D N X P");
-    let came = came.expect(rt, "ample memory");
-    assert_eq!(rt; came.status, 0);
-    assert!(rt;
-        RESUMED
-            .iter()
-            .any(|text| came.out.held() == text.as_bytes())
+    expect_any(
+        rt,
+        alloc,
+        folder,
+        &mut store,
+        "resume-tight D N X P",
+        &RESUMED,
     );
-    assert!(rt; are_exchanged(before, &store));
-    assert_eq!(rt; store.cell(&Cell::Mark { n: 3 }), Some([1].as_slice()));
+    assert!(rt;
+        are_exchanged(before, &store) && store.cell(&Cell::Mark { n: 3 }) == Some([1].as_slice())
+    );
 }
 
 /// Lets each call of a move fail in turn, from the first one on, until a move ends well. The number of those that failed.
@@ -167,6 +161,9 @@ static HALTS: [(u64, &str, &str); 3] = [
     ),
 ];
 
+/// The move then ends so.
+static FUSED: [Line<'static>; 1] = [("move-tight D N X P", 5, "store fault\n")];
+
 #[test]
 fn a_stopped_move_is_closed(rt: HostRuntime) {
     let alloc = rt.alloc();
@@ -175,26 +172,11 @@ fn a_stopped_move_is_closed(rt: HostRuntime) {
             let mut folder = full_disks(&rt, alloc);
             let mut store = filled(&rt, alloc, &mut folder);
             store.fuse(*writes);
-            expect_over(
-                &rt,
-                alloc,
-                &mut folder,
-                &mut store,
-                "move-tight D N X P",
-                5,
-                "store fault\n",
-            );
+            expect_all(&rt, alloc, &mut folder, &mut store, &FUSED);
             let mut left = store.crash(pick);
-            expect_over(
-                &rt,
-                alloc,
-                &mut folder,
-                &mut left,
-                "halt-tight D N X P L",
-                0,
-                text,
-            );
-            assert!(rt; holds(&folder, "L", Some(layout)));
+            let line = "halt-tight D N X P L";
+            expect_over(&rt, alloc, &mut folder, &mut left, line, 0, text);
+            expect_file(&rt, &folder, "L", Some(layout));
         }
     }
 }
