@@ -103,13 +103,13 @@ def what_places_say():
         head = f"plan {digest}\n"
         copied = "".join(f"copied 1 {it[0]}\n" for it in rounds[0])
         for name, place, times, wanted in (
-                ("without times", head + copied, "", " 1 of 3 rounds, 5 of 11 items, "),
-                ("a line that is cut off", head + copied[:-1], "", " 0 of 3 rounds, 4 of 11 items, "),
-                ("one that counts no more", head + copied + f"not copied 1 {rounds[0][0][0]}\n", "", " 0 of 3 rounds, 4 of 11 items, "),
+                ("without times", head + copied, "", " 1 of 3 rounds, 3 of 11 items, "),
+                ("a line that is cut off", head + copied[:-1], "", " 0 of 3 rounds, 2 of 11 items, "),
+                ("one that counts no more", head + copied + f"not copied 1 {rounds[0][0][0]}\n", "", " 0 of 3 rounds, 2 of 11 items, "),
                 ("copied, and to be erased", head + copied, "1700000000.5 begins copied,erased rounds\n", " 0 of 3 rounds, 0 of 11 items, time left not known yet"),
-                ("erased", head + copied + copied.replace("copied", "erased"), "1700000000.5 begins copied,erased rounds\n", " 1 of 3 rounds, 5 of 11 items, "),
+                ("erased", head + copied + copied.replace("copied", "erased"), "1700000000.5 begins copied,erased rounds\n", " 1 of 3 rounds, 3 of 11 items, "),
                 ("erasing without times", head + copied + f"erasing 1 {rounds[0][0][0]}\n", "", " 0 of 3 rounds, 0 of 11 items, "),
-                ("times that are none", head + copied, "x\n\0\xff begins\n12 \n", " 1 of 3 rounds, 5 of 11 items, ")):
+                ("times that are none", head + copied, "x\n\0\xff begins\n12 \n", " 1 of 3 rounds, 3 of 11 items, ")):
             room.write("plan.txt.place", place)
             room.write("plan.txt.place.times", times)
             said = room.good(f"places, {name}", "contrib/progress plan.txt")

@@ -61,7 +61,7 @@ def the_report():
         room.good("report", f"contrib/report {FILES} --out page.html")
         Count.same("--out saves the same", room.read("page.html"), room.good("report", f"contrib/report {FILES}"))
         for words, said in (("plan.txt disks.csv examples/next.csv cert.txt", "does not begin with the row item,disk,slot"), ("plan.txt disks.csv now.csv plan.txt", "plan.txt is no certificate"),
-                            ("plan.txt disks.csv later.csv cert.txt", "is not at slot 1 of ssd1 by later.csv; it is of another plan"), ("plan.txt disks.csv now.csv other.txt", "other.txt is the certificate of another plan"),
+                            ("plan.txt disks.csv later.csv cert.txt", "is not at slot 0 of hdd2 by later.csv; it is of another plan"), ("plan.txt disks.csv now.csv other.txt", "other.txt is the certificate of another plan"),
                             (f"{FILES} --out plan.txt", "plan.txt was read, and is not written over")):
             room.write("later.csv", "item,disk,slot\n" + "".join(f"{item},{disk},{int(slot) + 1}\n" for item, disk, slot in rows_of(room.read("now.csv")) if disk != "tape"))
             room.write("other.txt", room.read("cert.txt").replace("rounds 3", "rounds 4"))
