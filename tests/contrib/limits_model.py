@@ -1,1 +1,0 @@
-../limits_model.py
