@@ -9,11 +9,12 @@ from cases import moves_between
 from first_come import of_moves
 
 COMMANDS = ("plan", "check", "after", "fill", "audit", "move", "resume", "halt", "drill", "plan-tight", "move-tight", "after-tight", "drain", "live", "rehearse")
-# each page with a session: commands that it has to show, the files that it shows whole, and the other ones that it makes
+# the session of the README, and that of docs/SESSION.md, which goes on where it ends: each with the commands that it has to show, the files
+# that it shows whole, and the other ones that it makes
 SESSIONS = [
-    ("README.md", ("plan", "check", "fill", "move", "resume", "drain", "live"), ["cert.txt"], ["plan.txt", "later.csv", "empty.csv", "out.txt", "out-cert.txt", "script.txt"]),
-    ("docs/SESSION.md", COMMANDS, ["plan.txt", "cert.txt"],
-     ["later.csv", "layout.csv", "back.csv", "back.txt", "back-cert.txt", "there.csv", "layout2.csv", "rest.txt", "rest-cert.txt", "end.csv",
+    ("README.md", ("plan", "check", "fill", "move", "resume", "after", "audit"), ["cert.txt"], ["plan.txt", "later.csv"]),
+    ("docs/SESSION.md", COMMANDS, ["plan.txt"],
+     ["layout.csv", "back.csv", "back.txt", "back-cert.txt", "there.csv", "layout2.csv", "rest.txt", "rest-cert.txt", "end.csv",
       "tight.csv", "tight.txt", "tight-end.csv", "empty.csv", "out.txt", "out-cert.txt", "script.txt"]),
 ]
 
@@ -27,32 +28,38 @@ def steps_of(text):
     return [(command, printed) for command, _, printed in steps]
 
 
-def follow(room, name, steps):
-    """Runs the commands of a page over the examples, which stay as they are."""
-    room.mkdir("examples")
-    for it in os.listdir(f"{TOP}/examples"):
-        room.write(f"examples/{it}", page(f"examples/{it}"))
+def follow(room, name, steps, folder="."):
+    """Runs the commands of a page, from this folder on, and gives the one where they end."""
     for command, printed in steps:
-        ran = room.run(command, shell=True)
+        ran = room.run(f"cd {folder} && {command}", shell=True)
         Count.that(f"{name}: {command}", (ran.status, ran.out.decode(errors="replace")) == (0, printed), f"{ran}; the page has {printed!r}")
-    for it in os.listdir(f"{TOP}/examples"):
-        Count.same(f"{name}: {it} stays", room.read(f"examples/{it}"), page(f"examples/{it}").encode())
+        folder = os.path.normpath(f"{folder}/{re.fullmatch(r'(?:.* && cd (.*))?.*', command)[1] or '.'}")
+    return folder
 
 
 def the_sessions(program):
-    """The session of each page, byte by byte, and nothing in the folder beside what it makes."""
+    """The sessions, one after the other and byte by byte, in a folder of their own; nothing is made beside it."""
+    tables = ("disks.csv", "now.csv", "next.csv")
     disks = [f"{row.split(',')[0]}.disk" for row in page("examples/disks.csv").split("\n")[1:-1]]
-    for name, commands, shown, made in SESSIONS:
-        steps = steps_of(page(name))
-        for word in commands:
-            Count.that(f"{name} shows {word}", any(f"./migrate {word} " in command for command, _ in steps))
-        with Room(program) as room:
-            follow(room, name, steps)
-            wanted = ["examples", "journal.mig", "migrate", *shown, *made, *disks]
-            Count.same(f"{name}: files of the folder", sorted(os.listdir(room.at)), sorted(wanted))
+    with Room(program) as room:
+        room.mkdir("examples")
+        for it in tables:
+            room.write(f"examples/{it}", page(f"examples/{it}"))
+        folder, wanted = ".", {*tables, *disks, "journal.mig"}
+        for name, commands, shown, made in SESSIONS:
+            steps = steps_of(page(name))
+            printed, said = dict(steps).values(), " ".join(command for command, _ in steps)
+            for word in commands:
+                Count.that(f"a session shows {word}", f"../migrate {word} " in (said if name == "README.md" else page("README.md") + said))
+            folder = follow(room, name, steps, folder)
+            wanted |= {*shown, *made}
+            Count.same(f"{name}: files of the folder", (folder, sorted(os.listdir(room.path(folder)))), ("try", sorted(wanted)))
+            Count.same(f"{name}: files beside it", sorted(os.listdir(room.at)), ["examples", "migrate", "try"])
             for it in shown:
-                held = (room.read(it) or b"").decode(errors="replace")
-                Count.that(f"{name}: {it} is shown as it was saved", held and held in dict(steps).values(), repr(held[:300]))
+                held = (room.read(f"try/{it}") or b"").decode(errors="replace")
+                Count.that(f"{name}: {it} is shown as it was saved", held and held in printed, repr(held[:300]))
+        for it in tables:
+            Count.same(f"{it} stays", (room.read(f"examples/{it}"), room.read(f"try/{it}")), (page(f"examples/{it}").encode(),) * 2)
 
 
 # The numbers, and the example of the formats
@@ -72,7 +79,8 @@ def the_measured(program):
             queues = of_moves(dict.fromkeys(range(int(disks)), int(limit)), moves_between(int(disks), int(per_pair)))
             found = [told.get("quotient"), told.get("bound"), told.get("rounds"), *map(str, queues)]
             Count.same(f"MEASURED: {disks} disks, {per_pair} items, limit {limit}", found, wanted)
-    told = page("README.md").partition("## Measured")[2]
+    told = page("README.md").partition("measured](docs/MEASURED.md)")
+    told = told[0].rpartition("\n\n")[2] + told[2].partition("\n\n")[0]
     for numbers in NAMED:
         Count.that("the README names rounds of MEASURED", f"| {numbers} |" in measured and all(f"{int(n):,}" in told for n in numbers.split(" | ")), numbers)
 
