@@ -4,7 +4,7 @@ from script_rooms import Tree, refused
 from session_rooms import TOP, Count
 
 PROGRAM, LIBRARY = "crates/migrate/out/migrate", "crates/mig_c/out/libmig_c.a"
-SUITES = ["session", "damage", "power", "contrib", "script", "library"]
+SUITES = ["session", "damage", "power", "contrib", "script", "library", "pages"]
 TOOLS = ["audit"]
 
 
@@ -108,17 +108,17 @@ class Suites(Tree):
 def suites_that_fail():
     with Suites() as suites:
         ran = suites.all()
-        Count.that("tests/all whose suites pass", ran.status == 0 and ran.out.endswith(b"\n14 passed, 0 failed\n"), ran)
+        Count.that("tests/all whose suites pass", ran.status == 0 and ran.out.endswith(b"\n16 passed, 0 failed\n"), ran)
         wanted = [f"{it} {suites.programs[0]}" for it in SUITES] + [f"session {suites.programs[1]}"]
         Count.same("tests/all: each suite is called, and tests/session with each program", sorted(suites.calls()), sorted(wanted))
         no_line = "FAILED: power migrate ended with status 0, and no line that says how many passed\n"
         for name, then, said, passed in (
-            ("ends with status 1", "echo 2 passed, 0 failed; exit 1", "FAILED: power migrate ended with status 1, and 2 passed, 0 failed\n", 14),
-            ("says '2 passed, 1 failed'", "echo 2 passed, 1 failed", "\n2 passed, 1 failed\n", 14),
-            ("says no such line", "echo all is well", no_line, 12), ("says nothing", ":", no_line, 12),
-            ("says more after that line", "echo 2 passed, 0 failed; echo more", no_line, 12),
-            ("says '0 passed, 0 failed'", "echo 0 passed, 0 failed", "FAILED: power migrate ended with status 0, and 0 passed, 0 failed\n", 12),
-            ("is stopped by a signal", "echo 2 passed, 0 failed; kill -KILL $$", "FAILED: power migrate ended with status -9, and 2 passed, 0 failed\n", 14),
+            ("ends with status 1", "echo 2 passed, 0 failed; exit 1", "FAILED: power migrate ended with status 1, and 2 passed, 0 failed\n", 16),
+            ("says '2 passed, 1 failed'", "echo 2 passed, 1 failed", "\n2 passed, 1 failed\n", 16),
+            ("says no such line", "echo all is well", no_line, 14), ("says nothing", ":", no_line, 14),
+            ("says more after that line", "echo 2 passed, 0 failed; echo more", no_line, 14),
+            ("says '0 passed, 0 failed'", "echo 0 passed, 0 failed", "FAILED: power migrate ended with status 0, and 0 passed, 0 failed\n", 14),
+            ("is stopped by a signal", "echo 2 passed, 0 failed; kill -KILL $$", "FAILED: power migrate ended with status -9, and 2 passed, 0 failed\n", 16),
         ):
             refused(f"a suite {name}", suites.all(cwd=suites.at, THEN_power=then), said, f"\n{passed} passed, 1 failed\n")
     with Tree("lib", "tests", "bench") as tree:

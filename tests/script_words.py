@@ -9,7 +9,7 @@ SCRIPTS = {
     "lib/build": ["", "a b"], "lib/renew": ["typo", "-n"], "lib/check": ["", "a b"], "lib/install": ["", "to an archive more", "--prefix to"],
     "tests/all": ["typo", "PROGRAM --fast"], "tests/session": ["typo"], "tests/damage": ["PROGRAM typo"],
     "tests/power": ["", "PROGRAM typo", "--more PROGRAM"], "tests/contrib/run": ["typo", "PROGRAM typo"],
-    "tests/script": ["", "typo"], "tests/audit": ["typo", "--check more", "--definitions two files"], "tests/library": ["typo", "PROGRAM PROGRAM PROGRAM"],
+    "tests/script": ["", "typo"], "tests/audit": ["typo", "--check more", "--definitions two files"], "tests/pages": ["typo"], "tests/library": ["typo", "PROGRAM PROGRAM PROGRAM"],
 }
 
 

@@ -1,0 +1,81 @@
+"""The pages: what tests/pages and tests/audit --check make of each thing that they must refuse."""
+import os
+from script_rooms import Tree, refused
+from session_rooms import Count
+
+PAGES = {
+    "README.md": "# a\n\n[map](docs/MAP.md), [part](docs/MAP.md#the-parts-of-a-b), ![p](docs/p.svg), [here](#two), [web](https://none.example)\n## Two\n`[no](link)`\n",
+    "docs/MAP.md": "# For a reader: map\n\n## The parts of `A`, b\n\n| mig_a | this |\n| migrate | that |\n\n[next](next.md#x-1)\n```\n[no](link)\n## no heading\n```\n",
+    "docs/next.md": "# Next\n\nFor another.\n\n[up](../README.md)\n## x\n## x\n", "docs/p.svg": "", "crates.txt": "mig_a:\nmigrate staticlib: mig_a\n",
+}
+MAP, README, NEXT = "docs/MAP.md", "README.md", "docs/next.md"
+# what is changed: the page, what stands there, what takes its place, and what is said of it
+CHANGES = [
+    ("a link to no file", README, "(docs/MAP.md)", "(docs/NAP.md)", "README.md: the link docs/NAP.md leads to no file"),
+    ("a link from the wrong folder", NEXT, "../README.md", "README.md", "docs/next.md: the link README.md leads to no file"),
+    ("a picture that is none", README, "(docs/p.svg)", "(docs/q.svg)", "README.md: the link docs/q.svg leads to no file"),
+    ("a link to no heading", README, "#the-parts", "#parts", "README.md: the link docs/MAP.md#parts-of-a-b leads to no heading"),
+    ("a link to no heading of its own page", README, "(#two)", "(#three)", "README.md: the link #three leads to no heading"),
+    ("a heading in a block", MAP, "x-1", "x-2", "docs/MAP.md: the link next.md#x-2 leads to no heading"),
+    ("a link to a heading of a block", README, "(#two)", "(docs/MAP.md#no-heading)", "README.md: the link docs/MAP.md#no-heading leads to no heading"),
+    ("an anchor in what is no page", README, "(docs/p.svg)", "(docs/p.svg#two)", "README.md: the link docs/p.svg#two leads to no heading"),
+    ("a page that only itself links to", MAP, "(next.md#x-1)", "(#for-a-reader-map)", "docs/next.md: no link leads there from the README"),
+    ("a picture that nobody shows", README, "![p](docs/p.svg)", "", "docs/p.svg: no link leads there from the README"),
+    ("a page for nobody", NEXT, "For another", "Of another", "docs/next.md: its title or first line doesn't say for whom it is"),
+    ("a page whose third line says for whom it is", NEXT, "For another", "Of all\nFor another", "docs/next.md: its title or first line doesn't say for whom it is"),
+    ("a page without a title", NEXT, "# Next", "Next", "docs/next.md: its title or first line doesn't say for whom it is"),
+    ("too many words in the README", README, "## Two", "## Two\n" + "word " * 2491, "README.md has 2501 words, more than 2500"),
+    ("too many lines in the README", README, "## Two", "## Two" + "\n" * 196, "README.md has 201 lines, more than 200"),
+    ("too many words in docs", NEXT, "## x\n##", "word " * 39964 + "\n## x\n##", "docs/ has 40001 words, more than 40000"),
+    ("a crate without a row", MAP, "| mig_a | this |", "", "docs/MAP.md: 0 rows of its table say what mig_a does"),
+    ("a crate of two rows", MAP, "| migrate |", "| mig_a | more |\n| migrate |", "docs/MAP.md: 2 rows of its table say what mig_a does"),
+    ("a row of no crate", MAP, "| migrate |", "| mig_b | more |\n| migrate |", "docs/MAP.md: 1 rows of its table say what mig_b does, which stands 0 times"),
+    ("a row that says nothing", MAP, "| mig_a | this |", "| mig_a | |", "docs/MAP.md: 0 rows of its table say what mig_a does"),
+]
+
+
+def the_pages():
+    with Tree("tests/pages", "tests/usage.py") as tree:
+        os.mkdir(f"{tree.top}/docs")
+        put = lambda: [tree.write(f"a clone/{name}", text) for name, text in PAGES.items()]
+        put()
+        ran = tree.run("tests/pages")
+        Count.that("pages that are right", ran.status == 0 and ran.out == b"19 passed, 0 failed\n", ran)
+        for name, page, old, new, said in CHANGES:
+            Count.that(f"{name}: the page has what is changed", old in PAGES[page])
+            tree.write(f"a clone/{page}", PAGES[page].replace(old, new, 1))
+            refused(name, tree.run("tests/pages"), f"FAILED: {said}")
+            put()
+        for name, page, old, new in (
+            ("as many words as the README may have", README, "## Two", "## Two\n" + "word " * 2490), ("as many lines", README, "## Two", "## Two" + "\n" * 195),
+            ("as many words as docs may have", NEXT, "## x\n##", "word " * 39963 + "\n## x\n##"),
+        ):
+            tree.write(f"a clone/{page}", PAGES[page].replace(old, new, 1))
+            Count.same(name, tree.run("tests/pages").status, 0)
+            put()
+
+
+def the_reading_list():
+    """docs/AUDIT.md is what the sources say, or it is refused."""
+    with Tree("tests/audit", "tests/usage.py", "crates.txt", "crates", "docs/AUDIT.md") as tree:
+        Count.same("tests/audit --check", tree.run("tests/audit", "--check").status, 0)
+        text = tree.read("a clone/docs/AUDIT.md").decode()
+        spec = "a clone/crates/mig_base/specs/Schedules.antt"
+        held = tree.read(spec).decode()
+        for name, path, changed in (
+            ("a row of docs/AUDIT.md is gone", "a clone/docs/AUDIT.md", "".join(it for it in text.splitlines(True) if "Schedules.antt" not in it)),
+            ("a total of docs/AUDIT.md is another", "a clone/docs/AUDIT.md", text.replace("Together ", "Together 1", 1)),
+            ("a definition has one line more", spec, held.replace("abbrev pub Obeys :", "abbrev pub Obeys :\n   ", 1)),
+        ):
+            tree.write(path, changed)
+            refused(f"tests/audit --check: {name}", tree.run("tests/audit", "--check"), "docs/AUDIT.md is not what the sources say")
+            tree.write("a clone/docs/AUDIT.md", text)
+            tree.write(spec, held)
+        ran = tree.run("tests/audit", "--definitions", tree.path("words.md"))
+        words = tree.read("words.md") or b""
+        Count.that("tests/audit --definitions FILE", ran.status == 0 and not ran.out and b"- `IsName`: 1 to 32 bytes" in words and b"(a clone/crates/mig_base/specs/" in words, ran)
+        Count.that("tests/audit --definitions", b"- `IsName`: 1 to 32 bytes" in tree.run("tests/audit", "--definitions").out)
+        Count.that("tests/audit --crates", b"\nmig_sides\n    stands on: mig_base, mig_graph\n    used by: mig_plan, mig_test_units\n" in tree.run("tests/audit", "--crates").out)
+
+
+CASES = [the_pages, the_reading_list]
