@@ -4,9 +4,10 @@ from script_rooms import Tree, refused
 from session_rooms import Count
 
 PAGES = {
-    "README.md": "# a\n\n[map](docs/MAP.md), [part](docs/MAP.md#the-parts-of-a-b), ![p](docs/p.svg), [here](#two), [web](https://none.example)\n## Two\n`[no](link)`\n",
-    "docs/MAP.md": "# For a reader: map\n\n## The parts of `A`, b\n\n| mig_a | this |\n| migrate | that |\n\n[next](next.md#x-1)\n```\n[no](link)\n## no heading\n```\n",
-    "docs/next.md": "# Next\n\nFor another.\n\n[up](../README.md)\n## x\n## x\n", "docs/p.svg": "", "crates.txt": "mig_a:\nmigrate staticlib: mig_a\n",
+    "README.md": "# a\n\nVersion 1.2. [man](docs/migrate.1)\n\n[map](docs/MAP.md), [part](docs/MAP.md#the-parts-of-a-b), ![p](docs/p.svg), [here](#two), [web](https://none.example)\n## Two\n`[no](link)`\n## Commands\n| `plan IN OUT` | x |\n| `a-b`, `c` | y |\n",
+    "docs/MAP.md": "# For a reader: map\n\n## The parts of `A`, b\n\n| mig_a | this |\n| migrate | that |\n\n[next](next.md#x-1) [f](FORMATS.md)\n```\n[no](link)\n## no heading\n```\n",
+    "docs/next.md": "# Next\n\nFor another.\n\n[up](../README.md)\n## x\n## x\n", "docs/p.svg": "", "docs/FORMATS.md": "# Forms\n\nFor all.\n\n    plan IN OUT\n    a-b IN\n    c IN\n",
+    "docs/migrate.1": '.TH MIGRATE 1 "" "migrate 1.2"\n\\fBmigrate plan\\fR \\fIIN OUT\\fR\n\\fBmigrate a-b\\fR \\fIIN\\fR\n\\fBmigrate c\\fR \\fIIN\\fR\n.SH VERSION\n1.2. x\n', "lib/libmigrate.pc.in": "Version: 1.2\n", "crates.txt": "mig_a:\nmigrate staticlib: mig_a\n",
 }
 MAP, README, NEXT = "docs/MAP.md", "README.md", "docs/next.md"
 # what is changed: the page, what stands there, what takes its place, and what is said of it
@@ -24,31 +25,39 @@ CHANGES = [
     ("a page for nobody", NEXT, "For another", "Of another", "docs/next.md: its title or first line doesn't say for whom it is"),
     ("a page whose third line says for whom it is", NEXT, "For another", "Of all\nFor another", "docs/next.md: its title or first line doesn't say for whom it is"),
     ("a page without a title", NEXT, "# Next", "Next", "docs/next.md: its title or first line doesn't say for whom it is"),
-    ("too many words in the README", README, "## Two", "## Two\n" + "word " * 2491, "README.md has 2501 words, more than 2500"),
-    ("too many lines in the README", README, "## Two", "## Two" + "\n" * 196, "README.md has 201 lines, more than 200"),
-    ("too many words in docs", NEXT, "## x\n##", "word " * 39964 + "\n## x\n##", "docs/ has 40001 words, more than 40000"),
+    ("too many words in the README", README, "## Two", "## Two\n" + "word " * 2473, "README.md has 2501 words, more than 2500"),
+    ("too many lines in the README", README, "## Two", "## Two" + "\n" * 191, "README.md has 201 lines, more than 200"),
+    ("too many words in docs", NEXT, "## x\n##", "word " * 39952 + "\n## x\n##", "docs/ has 40001 words, more than 40000"),
     ("a crate without a row", MAP, "| mig_a | this |", "", "docs/MAP.md: 0 rows of its table say what mig_a does"),
     ("a crate of two rows", MAP, "| migrate |", "| mig_a | more |\n| migrate |", "docs/MAP.md: 2 rows of its table say what mig_a does"),
     ("a row of no crate", MAP, "| migrate |", "| mig_b | more |\n| migrate |", "docs/MAP.md: 1 rows of its table say what mig_b does, which stands 0 times"),
+    ("a form that the manual page lacks", "docs/migrate.1", "\\fBmigrate c\\fR \\fIIN\\fR\n", "", "docs/migrate.1: its forms are not those"),
+    ("a form with other words", "docs/migrate.1", "\\fIIN OUT", "\\fIOUT IN", "docs/migrate.1: its forms are not those"),
+    ("no forms", "docs/FORMATS.md", "    ", "- ", "docs/migrate.1: its forms are not those"),
+    ("a command that the README lacks", README, ", `c`", "", "README.md: its table of commands does not have"),
+    ("a command that is none", README, "`a-b`", "`a-b`, `d`", "README.md: its table of commands does not have"),
+    ("another version of the README", README, "1.2", "1.3", "the version is another"), ("another version of the library", "lib/libmigrate.pc.in", "1.2", "1.3", "the version is another"),
+    ("another version of the manual page", "docs/migrate.1", "migrate 1.2", "migrate 1.3", "the version is another"),
+    ("another version at its end", "docs/migrate.1", "\n1.2", "\n1.3", "the version is another"), ("no version", README, "Version 1.2", "Version", "the version is another"),
     ("a row that says nothing", MAP, "| mig_a | this |", "| mig_a | |", "docs/MAP.md: 0 rows of its table say what mig_a does"),
 ]
 
 
 def the_pages():
     with Tree("tests/pages", "tests/usage.py") as tree:
-        os.mkdir(f"{tree.top}/docs")
+        [os.mkdir(f"{tree.top}/{it}") for it in ("docs", "lib")]
         put = lambda: [tree.write(f"a clone/{name}", text) for name, text in PAGES.items()]
         put()
         ran = tree.run("tests/pages")
-        Count.that("pages that are right", ran.status == 0 and ran.out == b"19 passed, 0 failed\n", ran)
+        Count.that("pages that are right", ran.status == 0 and ran.out == b"27 passed, 0 failed\n", ran)
         for name, page, old, new, said in CHANGES:
             Count.that(f"{name}: the page has what is changed", old in PAGES[page])
             tree.write(f"a clone/{page}", PAGES[page].replace(old, new, 1))
             refused(name, tree.run("tests/pages"), f"FAILED: {said}")
             put()
         for name, page, old, new in (
-            ("as many words as the README may have", README, "## Two", "## Two\n" + "word " * 2490), ("as many lines", README, "## Two", "## Two" + "\n" * 195),
-            ("as many words as docs may have", NEXT, "## x\n##", "word " * 39963 + "\n## x\n##"),
+            ("as many words as the README may have", README, "## Two", "## Two\n" + "word " * 2472), ("as many lines", README, "## Two", "## Two" + "\n" * 190),
+            ("as many words as docs may have", NEXT, "## x\n##", "word " * 39951 + "\n## x\n##"),
         ):
             tree.write(f"a clone/{page}", PAGES[page].replace(old, new, 1))
             Count.same(name, tree.run("tests/pages").status, 0)
