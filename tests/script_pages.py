@@ -35,6 +35,7 @@ CHANGES = [
     ("a form with other words", "docs/migrate.1", "\\fIIN OUT", "\\fIOUT IN", "docs/migrate.1: its forms are not those"),
     ("no forms", "docs/FORMATS.md", "    ", "- ", "docs/migrate.1: its forms are not those"),
     ("a command that the README lacks", README, ", `c`", "", "README.md: its table of commands does not have"),
+    ("another command", README, "`c`", "`d`", "README.md: its table of commands does not have"),
     ("a command that is none", README, "`a-b`", "`a-b`, `d`", "README.md: its table of commands does not have"),
     ("another version of the README", README, "1.2", "1.3", "the version is another"), ("another version of the library", "lib/libmigrate.pc.in", "1.2", "1.3", "the version is another"),
     ("another version of the manual page", "docs/migrate.1", "migrate 1.2", "migrate 1.3", "the version is another"),
