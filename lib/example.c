@@ -1,5 +1,6 @@
 /* Plans the migration of three tables, checks the plan, and prints its rounds and the verdict:
- *     cc -o example example.c $(pkg-config --cflags --libs libmigrate) && ./example DISKS NOW NEXT */
+ *     cc -o example example.c $(pkg-config --cflags --libs libmigrate) -Wl,-rpath,"$(pkg-config --variable=libdir libmigrate)"
+ *     ./example DISKS NOW NEXT */
 #include <migrate.h>
 #include <stdio.h>
 #include <stdlib.h>

@@ -13,7 +13,8 @@
  * much room as the numbers say. Any other status stays as it is where its text is cut off, so that a caller who doesn't want the texts of
  * failures may give no room for them. No zero is put at the end of a text.
  *
- * No pointer may be NULL, also where its number is 0. What is handed back may overlap neither what is handed in nor each other.
+ * A pointer to bytes may be NULL where their number is 0, and one to room where there is none; no other one may. What is handed back may overlap
+ * neither what is handed in nor each other: a plan written over the tables would be no plan of them, and nothing can tell.
  *
  * All memory is the caller's, but for what a call takes from malloc and gives back before it ends. Where malloc refuses, the status is
  * MIGRATE_NO_MEMORY. A call needs up to 256 KiB of stack.
@@ -21,12 +22,16 @@
  * Threads: there is no state between calls, and any number of threads may call at once, as long as none writes into what another one
  * has handed in or out. Don't call from a signal handler, nor from the forked child of a process with several threads.
  *
- * The same bytes give the same bytes. docs/CONTRACTS.md has what is proved of each function. */
+ * The same bytes give the same bytes. docs/CONTRACTS.md has what is proved of each function, docs/CHANGES.md what each version changed. The proved code
+ * has no unwind tables: a debugger's stack of a call ends in it. */
 #ifndef MIGRATE_H
 #define MIGRATE_H
 
 #include <stddef.h>
 #include <stdint.h>
+
+/* The version of these calls and of the formats. A program that was linked with another one of the same first number runs with this one. */
+#define MIGRATE_VERSION "1.1.0"
 
 #ifdef __cplusplus
 extern "C" {
@@ -44,12 +49,15 @@ enum {
     MIGRATE_TOO_SHORT = 100, /* done, but there is too little room; no status of the program is this */
 };
 
+/* The version of the library that is linked. */
+const char *migrate_version(void);
+
 /* Plans. `plan`: the plan. `text`: its certificate with status 0, and why there is no plan with another one.
  * Statuses: 0, 3, 7, 100. */
 uint32_t migrate_plan(const uint8_t *disks, size_t disks_len, const uint8_t *now, size_t now_len, const uint8_t *next, size_t next_len,
                       uint8_t *plan, size_t plan_room, size_t *plan_len, uint8_t *text, size_t text_room, size_t *text_len);
 
-/* Judges a plan and its certificate. `text`: `optimal` or `bounded` and a line feed with status 0, and what is wrong with another one.
+/* Judges a plan and its certificate. A plan of migrate_plan_tight is blamed for what it parks: migrate_after_tight judges that. `text`: `optimal` or `bounded` and a line feed with status 0, and what is wrong with another one.
  * Statuses: 0, 1, 3, 7, 10, 100. */
 uint32_t migrate_check(const uint8_t *disks, size_t disks_len, const uint8_t *now, size_t now_len, const uint8_t *next, size_t next_len,
                        const uint8_t *plan, size_t plan_len, const uint8_t *cert, size_t cert_len,

@@ -2,6 +2,7 @@
  *     library short NAME DISKS NOW NEXT    each function with as much room as it needs, and with a byte less for each text in turn
  *     library random CALLS SEED            with tables, plans, certificates and names that were changed at random, and with random room
  *     library threads CALLS TABLES TABLES  in two threads at the same time, each over three tables of its own and with a stack of 256 KiB
+ *     library none                         with NULL for bytes and room of which there are none
  *     library time RUNS DISKS NOW NEXT     the least seconds of a plan
  * Whatever is handed over ends at a page that may not be touched, and what is handed back begins behind bytes that must stay. */
 #define _GNU_SOURCE
@@ -335,6 +336,24 @@ static void two_threads(long calls, char **names)
         MUST(pthread_join(threads[t], NULL) == 0);
 }
 
+/* NULL with no bytes, and with no room, is as any other pointer with none. */
+static void no_bytes(void)
+{
+    size_t plan = 9, text = 9, other_plan = 9, other_text = 9;
+    uint8_t byte = 0, *at = &byte;
+    MUST(migrate_plan(NULL, 0, NULL, 0, NULL, 0, NULL, 0, &plan, NULL, 0, &text) == MIGRATE_REFUSED && plan == 0 && text > 0);
+    MUST(migrate_plan(at, 0, at, 0, at, 0, at, 0, &other_plan, at, 0, &other_text) == MIGRATE_REFUSED && other_plan == plan && other_text == text);
+    MUST(migrate_plan_tight(NULL, 0, NULL, 0, NULL, 0, NULL, 0, &plan, NULL, 0, &other_text) == MIGRATE_REFUSED && other_text == text);
+    MUST(migrate_check(NULL, 0, NULL, 0, NULL, 0, NULL, 0, NULL, 0, NULL, 0, &other_text) == MIGRATE_REFUSED && other_text == text);
+    MUST(migrate_after(NULL, 0, NULL, 0, NULL, 0, NULL, 0, NULL, 0, &other_text) == MIGRATE_REFUSED && other_text == text);
+    MUST(migrate_after_tight(NULL, 0, NULL, 0, NULL, 0, NULL, 0, NULL, 0, &other_text) == MIGRATE_REFUSED && other_text == text);
+    MUST(migrate_drain(NULL, 0, NULL, 0, NULL, 0, NULL, 0, &plan, NULL, 0, &text) == MIGRATE_NO_NAME && plan == 0);
+    const char disks[] = "disk,limit,slots\na,1,9\nb,1,9\n", now[] = "item,disk,slot\n", next[] = "item,disk\n";
+    const uint8_t *in[] = {(const uint8_t *)disks, (const uint8_t *)now, (const uint8_t *)next};
+    size_t len[] = {sizeof disks - 1, sizeof now - 1, sizeof next - 1};
+    MUST(migrate_plan(in[0], len[0], in[1], len[1], in[2], len[2], NULL, 0, &plan, NULL, 0, &text) == MIGRATE_TOO_SHORT && plan > 0 && text > 0);
+}
+
 static void time_of(long runs, char **names)
 {
     enum { MOST = 16 << 20 };
@@ -361,6 +380,8 @@ int main(int count, char **words)
         random_calls(atol(words[2]), strtoull(words[3], NULL, 10));
     else if (count == 9 && strcmp(words[1], "threads") == 0)
         two_threads(atol(words[2]), words + 3);
+    else if (count == 2 && strcmp(words[1], "none") == 0)
+        no_bytes();
     else if (count == 6 && strcmp(words[1], "time") == 0)
         time_of(atol(words[2]), words + 3);
     else

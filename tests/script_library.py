@@ -1,9 +1,11 @@
 """lib/: what is made of each thing that goes wrong, over stand-ins for the kit and the compiler, and the real `ar`."""
-import os, shutil, subprocess
+import os, re, shutil, subprocess
 from script_rooms import SYSTEM, Tree, refused
 from session_rooms import TOP, Count
 
 PROVED, KEPT = "crates/mig_c/out/libmig_c.a", "lib/libmigrate.a"
+with open(f"{TOP}/lib/migrate.h") as file:
+    VERSION = re.search(r'^#define MIGRATE_VERSION "(.*)"$', file.read(), re.M)[1]
 # Each stand-in stops all that were started together with it, where STOP names it, and fails where FAILS does, though it leaves what it makes.
 STAND_IN = """test "$STOP" != {0} || kill -KILL 0
 {1}
@@ -29,6 +31,8 @@ test "$STOP" != {0} || test "${{to#"$TOP/lib/"}}" = "$to" || {{
 }}
 exec {1} "$@\""""
 AR, CP, MV = (shutil.which(it, path=SYSTEM) for it in ("ar", "cp", "mv"))
+# the kit's own tools; its clang is called as llvm-objcopy
+TOOLS = {"llvm-ar": f'{AR} "$@" || exit', "ld.lld": 'echo "ld.lld $*" >>"$KIT/calls"; cat mig_c.o heap.o >"$3" || exit', "clang": 'echo "objcopy $*" >>"$KIT/calls"'}
 
 
 class Library(Tree):
@@ -37,14 +41,15 @@ class Library(Tree):
     def __init__(self):
         super().__init__("lib", "built/building", "crates.txt")
         os.makedirs(f"{self.top}/crates/mig_c")
-        self.put(STAND_INS)
+        self.put({**STAND_INS, **TOOLS})
         self.pack("kit/proved.a", ("mig_c.o", "the code"))
         Count.ended("lib/renew", self.run("lib/renew"), 0, "")
         self.calls()
 
     def put(self, stand_ins):
         for name, text in stand_ins.items():
-            self.stand_in(f"kit/bin/{name}" if name == "rattle" else f"kit/{name}", text if "kill" in text else STAND_IN.format(name, text))
+            place = "bin/" if name == "rattle" else "toolchain/bin/" * (name in TOOLS)
+            self.stand_in(f"kit/{place}{name}", text if "kill" in text else STAND_IN.format(name, text))
 
     def pack(self, archive, *parts):
         """Makes an archive of these parts anew."""
@@ -64,15 +69,17 @@ class Library(Tree):
 # What is compared
 
 def another_heap(library):
-    library.write("heap.o", "another heap")
-    library.ar("rD", f"{library.top}/{KEPT}", library.path("heap.o"))
-
-
-def another_heap_and_sum(library):
-    another_heap(library)
-    said = subprocess.run(["sha256sum", "heap.o"], cwd=library.at, stdout=subprocess.PIPE, text=True).stdout
+    """Another heap.o, with its sum."""
+    library.write("a clone/lib/heap.o", "another heap")
+    said = subprocess.run(["sha256sum", "heap.o"], cwd=f"{library.top}/lib", stdout=subprocess.PIPE, text=True).stdout
     lines = library.read(f"a clone/{KEPT}.sources").decode().splitlines()
-    library.write(f"a clone/{KEPT}.sources", f"{lines[0]}\n{said}{lines[2]}\n")
+    library.write(f"a clone/{KEPT}.sources", "".join(f"{it}\n" for it in (*lines[:2], said.rstrip(), *lines[3:])))
+
+
+def packed_with(library):
+    """And put together with it."""
+    another_heap(library)
+    library.pack(f"a clone/{KEPT}", ("libmigrate.o", "the codeanother heap"))
 
 
 def change_at(text, name=KEPT):
@@ -80,14 +87,15 @@ def change_at(text, name=KEPT):
     return lambda library: library.change(name, library.read(f"a clone/{name}").index(text))
 
 
-OTHER, HEAP, PACKED, UNREAD = "is not what was proved and built from these sources", "heap.o in lib/libmigrate.a is not what was made", "has the heap of C", "is no library that ar can read"
+OTHER, HEAP, UNREAD = "is not what was proved and built from these sources", "lib/heap.o is not what was made", "that is mig_c.o alone"
 CHANGES = [
     ("a byte of the code in the kept file is another", change_at(b"the code"), OTHER), ("a byte of a header in the kept file is another", change_at(b"644"), OTHER),
-    ("a byte of heap.o in the kept file is another", change_at(b"made by"), HEAP), ("the kept file has another heap.o", another_heap, HEAP),
-    ("the kept file has another heap.o, with its sum", another_heap_and_sum, "heap.o in lib/libmigrate.a is not what cc makes"),
-    ("the kept file has no heap.o", lambda it: it.ar("dD", f"{it.top}/{KEPT}", "heap.o"), OTHER), ("there is no kept file", lambda it: it.remove(KEPT), OTHER),
-    ("lib/heap.c has changed", lambda it: it.change("lib/heap.c"), HEAP), ("there are no sums beside the kept file", lambda it: it.remove(f"{KEPT}.sources"), HEAP),
-    ("it is handed a file with one byte changed", change_at(b"the code", PROVED), OTHER), ("it is handed a file with one byte of a header changed", change_at(b"644", PROVED), OTHER),
+    ("a byte of heap.o in the kept file is another", change_at(b"made by"), OTHER), ("a byte of heap.o is another", change_at(b"made by", "lib/heap.o"), OTHER),
+    ("heap.o is another, with its sum", another_heap, OTHER), ("heap.o is another, with its sum, in the kept file too", packed_with, "lib/heap.o is not what cc makes"),
+    ("there is no heap.o", lambda it: it.remove("lib/heap.o"), "there is no lib/heap.o"), ("there is no kept file", lambda it: it.remove(KEPT), OTHER),
+    ("lib/heap.c has changed", lambda it: it.change("lib/heap.c"), HEAP), ("lib/migrate.h has changed", lambda it: it.change("lib/migrate.h"), HEAP),
+    ("there are no sums beside the kept file", lambda it: it.remove(f"{KEPT}.sources"), HEAP),
+    ("it is handed a file with one byte changed", change_at(b"the code", PROVED), OTHER), ("it is handed a file with one byte of a header changed", change_at(b"mig_c", PROVED), UNREAD),
     ("nothing was proved", lambda it: it.remove(PROVED), UNREAD),
 ]
 
@@ -116,17 +124,21 @@ def the_comparison():
         shutil.copy(f"{library.top}/{KEPT}", library.path("copy.a"))
         os.symlink(f"{library.top}/{KEPT}", library.path("link.a"))
         for name, given, part in (("another file", "lib/heap.c", UNREAD), ("another archive", "../another.a", OTHER), ("no file", "none", UNREAD),
-                                  ("an archive with another heap.o", "../packed.a", PACKED), ("the kept file itself", KEPT, PACKED),
-                                  ("a link to the kept file", "../link.a", PACKED), ("a copy of the kept file", "../copy.a", PACKED)):
+                                  ("an archive with another heap.o", "../packed.a", UNREAD), ("the kept file itself", KEPT, UNREAD),
+                                  ("a link to the kept file", "../link.a", UNREAD), ("a copy of the kept file", "../copy.a", UNREAD)):
             checked(f"it is handed {name}", library, part, given=given)
-        checked("no ar is on the path", library, UNREAD, PATH=library.without("ar"))
-        checked("no ar is on the path, and it is handed the kept file", library, UNREAD, given=KEPT, PATH=library.path("without ar"))
-        for name, how in (("another cc is on the path", {"VERSION": "2"}), ("no cc is on the path", {"PATH": library.without("cc")})):
+        bare = library.without("cc")
+        checked("the kit isn't on the path", library, UNREAD, PATH=bare)
+        os.symlink(f"{library.kit}/rt", f"{bare}/rt")
+        for tool in TOOLS:
+            checked(f"the kit's {tool} fails", library, UNREAD, FAILS=tool)
+        for name, how in (("another cc is on the path", {"VERSION": "2"}), ("no cc is on the path", {"PATH": bare})):
             ran = checked(f"{name}: the library passes", library, **how)
             Count.that(f"lib/check: {name}: it is said that heap.o is held to its sum", b"is held to its sum" in ran.out, ran)
-            another_heap(library)
-            checked(f"{name}, and the kept file has another heap.o", library, HEAP, **how)
-            shutil.copy(library.path("copy.a"), f"{library.top}/{KEPT}")
+            library.change("lib/heap.o")
+            library.pack(f"a clone/{KEPT}", ("libmigrate.o", "the code" + library.read("a clone/lib/heap.o").decode()))
+            checked(f"{name}, and heap.o is another", library, HEAP, **how)
+            library.restore()
 
 
 # What is built
@@ -137,8 +149,8 @@ def builds_that_fail():
         refused("lib/build whose rattle fails", library.run("lib/build", "here.a", FAILS="rattle"), "rattle fails")
         refused("lib/build whose rt fails", library.run("lib/build", "here.a", FAILS="rt"), "rt fails")
         Count.same("lib/build to a relative place", (library.run("lib/build", "here.a", cwd=library.at).status, library.read("here.a")), (0, library.read("kit/proved.a")))
-        library.put({"ar": f'{AR} "$@" || exit', "cp": HALF.format("cp", CP), "mv": HALF.format("mv", MV)})
-        for way, name in [("FAILS", it) for it in ("rt", "rattle", "cc", "ar")] + [("STOP", it) for it in ("rt", "rattle", "cc", "ar", "cp", "mv")]:
+        library.put({"cp": HALF.format("cp", CP), "mv": HALF.format("mv", MV)})
+        for way, name in [("FAILS", it) for it in ("rt", "rattle", "cc", *TOOLS)] + [("STOP", it) for it in ("rt", "rattle", "cc", *TOOLS, "cp", "mv")]:
             what = f"lib/renew whose {name} fails" if way == "FAILS" else f"lib/renew that is stopped at {name}"
             before = library.kept()
             library.pack("kit/proved.a", ("mig_c.o", what))
@@ -156,13 +168,15 @@ def installed(name, library, folder, prefix, *words, archive=KEPT, **how):
     """lib/install with these words leaves in this folder the header, both libraries and the file for pkg-config, for this prefix, and nothing else."""
     read = lambda path: open(os.path.join(library.top, path), "rb").read()
     ran = library.run("lib/install", *words, **how)
-    Count.ended(name, ran, 0, "")
+    Count.that(name, ran.status == 0 and not ran.err and f"after `ldconfig`, if the system looks there, or by -Wl,-rpath,{prefix}/lib.\n".encode() in ran.out, ran)
     found = sorted(os.path.relpath(f"{at}/{it}", folder) for at, _, names in os.walk(folder) for it in names)
-    Count.same(f"{name}: what is installed", found, ["include/migrate.h", "lib/libmigrate.a", "lib/libmigrate.so", "lib/pkgconfig/libmigrate.pc"])
-    if ran.status == 0 and len(found) == 4:
-        header, one, shared, told = (read(f"{folder}/{it}") for it in found)
+    major, version = VERSION.split(".")[0], VERSION
+    files = ["include/migrate.h", "lib/libmigrate.a", "lib/libmigrate.so", f"lib/libmigrate.so.{major}", f"lib/libmigrate.so.{version}", "lib/pkgconfig/libmigrate.pc"]
+    Count.same(f"{name}: what is installed", found, files)
+    if ran.status == 0 and found == files:
+        header, one, shared, _, _, told = (read(f"{folder}/{it}") for it in found)
         Count.same(f"{name}: the header, the archive and the shared library of it", (header, one, shared), (read("lib/migrate.h"), read(archive), b"made by 1: " + read(archive).rstrip(b"\n") + b"\n"))
-        Count.same(f"{name}: the file for pkg-config", told.decode(), read("lib/libmigrate.pc.in").decode().replace("@PREFIX@", prefix))
+        Count.same(f"{name}: the file for pkg-config", told.decode(), read("lib/libmigrate.pc.in").decode().replace("@PREFIX@", prefix).replace("@VERSION@", version))
     return library.calls()
 
 
@@ -173,10 +187,13 @@ def what_is_installed():
         library.mkdir("there")
         library.pack("own.a", ("mig_c.o", "code of its own"), ("heap.o", "a heap"))
         calls = installed("lib/install to an absolute prefix", library, f"{at}/1", f"{at}/1", f"{at}/1")
-        Count.that("lib/install gives the names of the map alone", len(calls) == 1 and f"-Wl,--version-script={library.top}/lib/libmigrate.map" in calls[0], calls)
+        Count.that("lib/install gives the names of the map alone", len(calls) == 1 and f"-Wl,-soname,libmigrate.so.{VERSION.split('.')[0]} -Wl,--version-script={library.top}/lib/libmigrate.map" in calls[0], calls)
         installed("lib/install to a relative prefix", library, f"{at}/2/a", f"{at}/2/a", "2/a", cwd=at)
         installed("lib/install to a prefix with a blank in it", library, f"{at}/a b&c", f"{at}/a b&c", f"{at}/a b&c")
         installed("lib/install of an archive of its own", library, f"{at}/3", f"{at}/3", f"{at}/3", "../own.a", cwd=at, archive=library.path("own.a"))
+        ran = library.run("lib/install", f"{at}/7", PYTHON=f"{at}/7/py")
+        Count.that("lib/install with PYTHON: the module", ran.status == 0 and library.read("there/7/py/migrate.py") == library.read("a clone/lib/migrate.py"), ran)
+        library.calls()
         installed("lib/install with DESTDIR", library, f"{library.at}/stage{at}/4", f"{at}/4", f"{at}/4", DESTDIR=library.path("stage"))
         Count.that("lib/install with DESTDIR: the prefix itself is not made", not os.path.exists(f"{at}/4"))
         library.stand_in("kit/other", 'echo "other $*" >>"$KIT/calls"; exec cc "$@"')
