@@ -4,10 +4,10 @@ from script_rooms import Tree, refused
 from session_rooms import Count
 
 PAGES = {
-    "README.md": "# a\n\nVersion 1.2. [man](docs/migrate.1)\n\n[map](docs/MAP.md), [part](docs/MAP.md#the-parts-of-a-b), ![p](docs/p.svg), [here](#two), [web](https://none.example)\n## Two\n`[no](link)`\n## Commands\n| `plan IN OUT` | x |\n| `a-b`, `c` | y |\n",
+    "README.md": "# a\n\nVersion 1.2. [man](docs/migrate.1)\n\n[map](docs/MAP.md), [changes](docs/CHANGES.md), [part](docs/MAP.md#the-parts-of-a-b), ![p](docs/p.svg), [here](#two), [web](https://none.example)\n## Two\n`[no](link)`\n## Commands\n| `plan IN OUT` | x |\n| `a-b`, `c` | y |\n",
     "docs/MAP.md": "# For a reader: map\n\n## The parts of `A`, b\n\n| mig_a | this |\n| migrate | that |\n\n[next](next.md#x-1) [f](FORMATS.md)\n```\n[no](link)\n## no heading\n```\n",
     "docs/next.md": "# Next\n\nFor another.\n\n[up](../README.md)\n## x\n## x\n", "docs/p.svg": "", "docs/FORMATS.md": "# Forms\n\nFor all.\n\n    plan IN OUT\n    a-b IN\n    c IN\n",
-    "docs/migrate.1": '.TH MIGRATE 1 "" "migrate 1.2"\n\\fBmigrate plan\\fR \\fIIN OUT\\fR\n\\fBmigrate a-b\\fR \\fIIN\\fR\n\\fBmigrate c\\fR \\fIIN\\fR\n.SH VERSION\n1.2. x\n', "lib/libmigrate.pc.in": "Version: 1.2\n", "crates.txt": "mig_a:\nmigrate staticlib: mig_a\n",
+    "docs/migrate.1": '.TH MIGRATE 1 "" "migrate 1.2"\n\\fBmigrate plan\\fR \\fIIN OUT\\fR\n\\fBmigrate a-b\\fR \\fIIN\\fR\n\\fBmigrate c\\fR \\fIIN\\fR\n.SH VERSION\n1.2. x\n', "lib/migrate.h": '#define MIGRATE_VERSION "1.2"\n', "docs/CHANGES.md": "# Changes\n\nFor x.\n\n## 1.2\n\n## 1.1\n", "crates.txt": "mig_a:\nmigrate staticlib: mig_a\n",
 }
 MAP, README, NEXT = "docs/MAP.md", "README.md", "docs/next.md"
 # what is changed: the page, what stands there, what takes its place, and what is said of it
@@ -37,7 +37,7 @@ CHANGES = [
     ("a command that the README lacks", README, ", `c`", "", "README.md: its table of commands does not have"),
     ("another command", README, "`c`", "`d`", "README.md: its table of commands does not have"),
     ("a command that is none", README, "`a-b`", "`a-b`, `d`", "README.md: its table of commands does not have"),
-    ("another version of the README", README, "1.2", "1.3", "the version is another"), ("another version of the library", "lib/libmigrate.pc.in", "1.2", "1.3", "the version is another"),
+    ("another version of the README", README, "1.2", "1.3", "the version is another"), ("another version of the library", "lib/migrate.h", "1.2", "1.3", "the version is another"), ("another version of the changes", "docs/CHANGES.md", "## 1.2", "## 1.3", "the version is another"),
     ("another version of the manual page", "docs/migrate.1", "migrate 1.2", "migrate 1.3", "the version is another"),
     ("another version at its end", "docs/migrate.1", "\n1.2", "\n1.3", "the version is another"), ("no version", README, "Version 1.2", "Version", "the version is another"),
     ("a row that says nothing", MAP, "| mig_a | this |", "| mig_a | |", "docs/MAP.md: 0 rows of its table say what mig_a does"),
