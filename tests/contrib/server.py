@@ -1,7 +1,8 @@
 #!/usr/bin/env python3
 """A warm interpreter. The commands of contrib/ and the stand-ins of tools run as forks of it, which takes a tenth of the time that they
-take by themselves; client.c hands over what a call has. Where there is no C compiler they run by themselves."""
-import array, gc, importlib, importlib.util, os, select, shutil, signal, socket, subprocess, sys, time, traceback
+take by themselves, and stand-ins that wait for nothing within it, which takes a fifth of that; client.c hands over what a call has.
+Where there is no C compiler they run by themselves."""
+import array, contextlib, fcntl, gc, importlib, importlib.util, io, os, select, shutil, signal, socket, subprocess, sys, termios, time, traceback
 
 HERE = os.path.dirname(os.path.realpath(__file__))
 CONTRIB = os.path.join(os.path.dirname(os.path.dirname(HERE)), "contrib")
@@ -9,6 +10,7 @@ COMMANDS = {"from-lvm": "lvm.from_lvm", "to-lvm": "lvm.to_lvm", "from-ceph": "ce
             "from-folders": "folders.from_folders", "run-plan": "run.run_plan", "picture": "show.picture", "report": "show.report",
             "summary": "show.summary", "witness": "show.witness", "progress": "show.progress"}
 STAND_INS = ["lvs", "pvs", "pvmove", "osdmaptool", "crushtool", "ceph"]
+WAITING = ["pvmove"]  # the one of these that takes its time
 
 
 def package():
@@ -34,31 +36,63 @@ def clocks(environ):
 
 
 def heard(call):
-    """What a client hands over: its text, and its input and outputs."""
+    """What a client hands over: its folder, words and environment, and its input and outputs."""
     data, told, *_ = call.recvmsg(1 << 16, socket.CMSG_LEN(12))
     while len(data) < 4 + int.from_bytes(data[:4], sys.byteorder):
         data += call.recv(1 << 20)
-    return data, array.array("i", told[0][2])
+    folder, count, *words = os.fsdecode(data[4:-1]).split("\0")
+    environ = dict(it.split("=", 1) for it in words[int(count):] if "=" in it)
+    return folder, words[:int(count)], environ, array.array("i", told[0][2])
 
 
-def answer(call, calls, data, handles):
-    """Does a call in this process, and tells its status."""
+def said(main, words, environ):
+    """Does a call of a stand-in within this process; gives what it prints, and its status."""
+    sys.argv, os.environ["STAND_IN"], status = words, environ["STAND_IN"], 0
+    with contextlib.redirect_stdout(io.StringIO()) as out, contextlib.redirect_stderr(io.StringIO()) as err:
+        try:
+            main()
+        except SystemExit as end:
+            status = end.code
+        except BaseException:
+            traceback.print_exc()
+            status = 1
+    return [out.getvalue().encode(), err.getvalue().encode()], status
+
+
+def fits(handle, text):
+    """Whether this can be written without a wait: a pipe has nothing in it, and room."""
+    try:
+        return len(text) <= fcntl.fcntl(handle, fcntl.F_GETPIPE_SZ) and not any(fcntl.ioctl(handle, termios.FIONREAD, bytes(4)))
+    except OSError:
+        return True  # it is no pipe
+
+
+def hand_over(call, handles, texts, status):
+    for handle, text in zip(handles[1:], texts):
+        try:
+            while text:
+                text = text[os.write(handle, text):]
+        except OSError:
+            status = status or 120
+    call.send(bytes([status]))
+
+
+def answer(call, calls, folder, words, environ, handles):
+    """Does a call in this process, which is a fork, and tells its status."""
     for at, handle in enumerate(handles):
         os.dup2(handle, at)
         os.close(handle)
-    folder, count, *words = os.fsdecode(data[4:-1]).split("\0")
     os.chdir(folder)
-    environ = dict(it.split("=", 1) for it in words[int(count):] if "=" in it)
     for name in os.environ.keys() - environ.keys():
         del os.environ[name]
     os.environ.update(environ.items() - os.environ.items())
-    sys.argv = words[:int(count)]
+    sys.argv = words
     sys.stdin, sys.stdout = open(0, closefd=False), open(1, "w", closefd=False, errors="surrogateescape")
     sys.stderr = open(2, "w", closefd=False, buffering=1, errors="backslashreplace")
     clocks(os.environ)
     status = 0
     try:
-        calls[os.path.basename(sys.argv[0])]()
+        calls[os.path.basename(words[0])]()
     except SystemExit as end:
         status = end.code if isinstance(end.code, int) else end.code is not None
         if isinstance(end.code, str):
@@ -72,32 +106,39 @@ def answer(call, calls, data, handles):
         except OSError:
             status = status or 120
     call.send(bytes([status]))
-    os._exit(0)
 
 
 def serve(listening, ready):
-    """Answers each call in a fork of its own, which is killed where the client is, as long as `ready`, a pipe of who began this, is
-    open."""
+    """Answers each call, as long as `ready`, a pipe of who began this, is open: within this process where nothing waits, and else in a
+    fork of its own, which is killed where the client is."""
     stand_in = importlib.import_module("stand_in")
     calls = {**MAINS, **dict.fromkeys(STAND_INS, stand_in.main)}
+    at_once = {*STAND_INS} - {*WAITING}
     stand_in.cluster()
     gc.disable()
     gc.freeze()  # a fork then copies less
     forks = {}  # by the sockets of their clients
     while True:
-        said = select.select([listening, ready, *forks], [], [])[0]
-        if ready in said:
+        heard_of = select.select([listening, ready, *forks], [], [])[0]
+        if ready in heard_of:
             os._exit(0)
-        for client in forks.keys() & said:
+        for client in forks.keys() & heard_of:
             os.kill(forks[client], signal.SIGKILL)  # it has answered, or its client is gone
             os.waitpid(forks.pop(client), 0)
             client.close()
-        if listening in said:
+        if listening in heard_of:
             call, _ = listening.accept()
-            data, handles = heard(call)
-            forks[call] = os.fork()
-            if not forks[call]:
-                answer(call, calls, data, handles)
+            folder, words, environ, handles = heard(call)
+            name = os.path.basename(words[0])
+            told = said(stand_in.main, words, environ) if name in at_once else None
+            if told and all(map(fits, handles[1:], told[0])):
+                hand_over(call, handles, *told)
+                call.close()
+            else:
+                forks[call] = os.fork()
+                if not forks[call]:
+                    hand_over(call, handles, *told) if told else answer(call, calls, folder, words, environ, handles)
+                    os._exit(0)
             for it in handles:
                 os.close(it)
 
