@@ -6,7 +6,7 @@ filled, `max` of each kind at an OSD; it waits until it has all, and then takes 
 is set its end is seen in other states too. An OSD of `full` has no room. `ill` has groups that are in another state,
 from a look to another one; from the look `error` on the cluster says HEALTH_ERR."""
 import functools, json, os, re, sys
-from ceph_model import Cluster, filling, up_of
+from ceph_model import Cluster, filling, groups_in, up_of
 
 SAMPLES = f"{os.path.dirname(os.path.realpath(__file__))}/../../contrib/samples/ceph"
 
@@ -21,6 +21,47 @@ def cluster():
     return Cluster(sample("crush"), sample("dump"))
 
 
+def raws(out, weights):
+    """What CRUSH chooses, where that was recorded: as it was, and with osd.5 out and half of the weight of osd.3."""
+    key = sorted(out), {osd: float(it) for osd, it in weights.items() if float(it) != 1}
+    name = {"([], {})": "before", "([5], {'3': 0.5})": "after"}.get(str(key))
+    return name and {it: chosen for it, (chosen, _) in groups_in(sample(name)).items()}
+
+
+def osdmaptool(words):
+    """On a map that holds who is out, the weights that were changed, and the exceptions. As the real one it keeps what
+    --mark-out says only where a weight is set too, and takes the last alone."""
+    with open(words[0], encoding="ascii") as file:
+        now = json.load(file)
+    said = dict(zip(words, [*words[1:], ""]))
+    if "--mark-out" in said:
+        now["out"].append(int([two for one, two in zip(words, words[1:]) if one == "--mark-out"][-1]))
+    weights = said.get("--adjust-crush-weight", "")
+    now["weights"].update(it.split(":") for it in weights.split(",") if it)
+    if "--export-crush" in said:
+        return print("osdmaptool: exported crush map", file=open(said["--export-crush"], "w", encoding="ascii"))
+    if "--upmap-cleanup" in said:
+        judge, raw = Cluster(sample("crush"), sample("dump")), raws(now["out"], now["weights"])
+        judge.out = {*now["out"]}
+        for name, pairs in now["pairs"].items():
+            now["pairs"][name] = judge.kept(name, raw[name], [tuple(it) for it in pairs])
+        print("checking for upmap cleanups")
+    if "--print" in said:
+        text = re.sub(r"^pg_upmap_items .*\n", "", sample("dump"), flags=re.M)
+        for osd in now["out"]:
+            text = re.sub(rf"^(osd\.{osd} +\S+ +)in  weight 1 ", r"\1out weight 0 ", text, flags=re.M)
+        print(text + "".join(f"pg_upmap_items {name} [{','.join(str(it) for pair in pairs for it in pair)}]\n"
+                             for name, pairs in now["pairs"].items() if pairs), end="")
+    if "--test-map-pgs-dump-all" in said:
+        for name, raw in raws(now["out"], now["weights"]).items():
+            lists = [f"([{','.join(map(str, it))}], p{it[0]})" for it in (raw, up_of(raw, now["pairs"].get(name, [])))]
+            print(f"{name} raw {lists[0]} up {lists[1]} acting {lists[1]}")
+    if "--save" in said and weights:
+        with open(words[0], "w", encoding="ascii") as file:
+            json.dump(now, file)
+    return None
+
+
 class Ceph:
     """One call. `happened` writes down what happens to groups, `log` which commands changed something."""
 
@@ -33,6 +74,19 @@ class Ceph:
         state, words = self.state, self.words
         if words[0] == "config-key":
             return self.key(*words[1:])
+        if words[:3] == ["osd", "getmap", "-o"]:
+            with open(words[3], "w", encoding="ascii") as file:
+                return json.dump({"out": state.get("out", []), "weights": state.get("weights", {}),
+                                  "pairs": self.kept}, file)
+        if words[0] == "tell" and words[2:] == ["config", "get", "osd_max_backfills"]:
+            return print(json.dumps({"osd_max_backfills": str(state.get("most", {}).get(words[1], 1))}))
+        if words == ["osd", "df"]:
+            used = state.get("used", {})
+            rows = [(it, int(used.get(str(it), 0.5) * (100 << 20))) for it in range(32)]
+            return print(json.dumps({"nodes": [{"id": it, "kb": 100 << 20, "kb_used": kb} for it, kb in rows]}))
+        if words == ["pg", "dump"]:
+            stats = [{"pgid": it, "stat_sum": {"num_bytes": 1 << 30}} for it in state["raw"]]
+            return print(json.dumps({"pg_map": {"pg_stats": stats}}))
         if words in (["osd", "dump"], ["pg", "dump", "pgs_brief"], ["health"], ["balancer", "status"]):
             return print({"osd": self.dump, "pg": self.look, "health": self.health, "balancer": lambda: json.dumps(
                 {"active": state["balancer"], "mode": "upmap"}, indent=4)}[words[0]](), end="")
@@ -40,6 +94,10 @@ class Ceph:
             return self.refused(22)
         if words[1:] in (["set", "norebalance"], ["unset", "norebalance"]):
             state["flags"] = ["sortbitwise", "norebalance"][: 2 - (words[1] == "unset")]
+        elif words[1] == "out" or words[1:3] == ["crush", "reweight"]:
+            state.setdefault("out", []).extend(map(int, words[2:] if words[1] == "out" else ()))
+            state.setdefault("weights", {}).update([(words[3][4:], words[4])] if words[1] == "crush" else ())
+            state["raw"] = raws(state["out"], state["weights"]) or state["raw"]
         elif words[2] not in state["raw"]:
             return self.refused(22)
         elif words[1] == "pg-upmap-items" and len(words) > 4 and len(words) % 2:
@@ -83,7 +141,9 @@ class Ceph:
         if self.is_json:
             items = [{"pgid": group, "mappings": [{"from": one, "to": two} for one, two in pairs]}
                      for group, pairs in self.kept.items()]
-            return json.dumps({"epoch": 9, "flags": flags, "pg_upmap": [], "pg_upmap_items": items})
+            epoch = int(re.search(r"^epoch (\d+)", sample("dump"))[1])
+            return json.dumps({"epoch": epoch, "flags": flags, "pg_upmap": [], "pg_upmap_items": items,
+                               "nearfull_ratio": 0.85, "crush_version": 3})
         lines = (f"pg_upmap_items {group} [{','.join(str(it) for pair in pairs for it in pair)}]\n"
                  for group, pairs in self.kept.items())
         text = re.sub(r"^pg_upmap_items .*\n", "", sample("dump"), flags=re.M)

@@ -4,14 +4,11 @@
 lvs, pvs and pvmove work on lvm.json in the folder $STAND_IN; pvmove moves extents there, and keeps LVM's rules: from one physical
 volume, and of one volume, it moves once at a time; a second call for a source goes on with the first one alone, with status 0;
 without --alloc anywhere no part of a raid or a mirror comes to where another part of it is.
-osdmaptool and crushtool print what was recorded for just these words. ceph is in ceph_stand_in.py."""
+ceph, osdmaptool and crushtool are in ceph_stand_in.py."""
 import fcntl, json, os, re, sys, time
-from ceph_stand_in import Ceph, cluster, sample
+from ceph_stand_in import Ceph, cluster, osdmaptool, sample
 
 HOME, WORDS = "", []  # the folder with the state, and the words of this call
-RECORDED = {"osdmaptool map --clear-temp --test-map-pgs-dump-all": "before", "osdmaptool map --print": "dump", "crushtool -i crush.bin --dump": "crush",
-            "osdmaptool map --clear-temp --mark-out 5 --adjust-crush-weight 3:0.5 --upmap-cleanup cleanup --test-map-pgs-dump-all": "after",
-            "osdmaptool map --export-crush crush.bin": None}
 
 
 class State:
@@ -134,15 +131,6 @@ def pvmove():
     print(f"  {source}: Moved: 100.00%")
 
 
-def recorded(_):
-    """osdmaptool and crushtool."""
-    said = " ".join([os.path.basename(sys.argv[0]), *WORDS])
-    if said not in RECORDED:
-        stop(f"{said} was not recorded", 3)
-    print("osdmaptool: osdmap file 'map'", file=sys.stderr)
-    sys.stdout.write(sample(RECORDED[said]) if RECORDED[said] else "osdmaptool: exported crush map to crush.bin\n")
-
-
 def ceph(state):
     Ceph(state, WORDS, happened, log).called()
 
@@ -153,8 +141,12 @@ def main():
     name = os.path.basename(sys.argv[0])
     if name == "pvmove":
         return pvmove()
+    if name == "osdmaptool":
+        return osdmaptool(WORDS)
+    if name == "crushtool":
+        return print(sample("crush"), end="")
     with State("lvm.json" if name in ("lvs", "pvs") else "ceph.json") as found:
-        return {"lvs": lvs, "pvs": pvs, "osdmaptool": recorded, "crushtool": recorded, "ceph": ceph}[name](found)
+        return {"lvs": lvs, "pvs": pvs, "ceph": ceph}[name](found)
 
 
 if __name__ == "__main__":

@@ -11,10 +11,10 @@ as BEFORE, and copies go to the OSDs that AFTER will want: change the weights af
 holds each copy where it was, then clears the flag norebalance, and each round lets its own go. Use this for new OSDs.
 Set norebalance before the weights are changed. With --eager DISKS the script has no rounds: a group's exceptions are
 set as soon as each OSD at which Ceph counts its copies has a place free by the limits of this file."""
-import argparse, collections, hashlib, os, shlex, sys
-from collections.abc import Mapping, Sequence
+import argparse, collections, hashlib, shlex
+from collections.abc import Sequence
 from dataclasses import replace
-from ..command import command, note, put, save_all
+from ..command import command, here, note, put, save_all
 from ..disks import Disks, check_disks, limits_by_side, read_disks
 from ..plans import Plan, Shift, plan_text, read_plan
 from .groups import read_change, reader
@@ -69,8 +69,7 @@ def script(steps: Sequence[Step], digest: str, limits: str) -> str:
     """The text of a script of these steps."""
     title = f"{sum(len(it.items) for it in steps)} copies in {max(it.round for it in steps)} rounds, plan {digest}"
     title += "; no round waits for another, and round 1 is all of them" * bool(limits)
-    folder = shlex.quote(os.path.dirname(os.path.abspath(sys.argv[0])))
-    head = HEAD.replace("TITLE", title).replace("FOLDER", folder)
+    head = HEAD.replace("TITLE", title).replace("FOLDER", shlex.quote(here()))
     lines = [head.replace("WORDS", f"--plan {digest}" + f" --limits {limits}" * bool(limits))]
     for at, step in enumerate(steps):
         lines.append(f"{step.line()}\n")
