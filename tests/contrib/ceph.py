@@ -4,7 +4,8 @@ round, and where AFTER has it at last."""
 import copy, os, random, re, shutil
 from ceph_model import NO_OSD, Cluster, Made, exceptions_in, filling, groups_in, numbers, up_of
 from refusals import SMALL, lists
-from rooms import Count, Room, page, rows_of, shifts_of
+from limits_model import Case
+from rooms import Count, Room, page, refused, rows_of, shifts_of
 
 FOUR = "before after dump crush"
 FILES = "cp contrib/samples/ceph/{before,after,dump,crush} ."
@@ -138,6 +139,57 @@ def counted_as_ceph():
             Count.same(f"where {item} is", disk, f"osd.{home_of(item, before)}")
 
 
+def limits_of_ceph():
+    """Two limits for each OSD; one for both ends of a backfill only where it is counted at what gives copies up."""
+    with Room() as room:
+        room.good("Ceph", FILES)
+        for words, wanted in (("", ("1,1", "1,1")), ("--backfills 1,2", ("1,2", "1,2")),
+                              ("--backfills 3", ("3,3", "3,3")),
+                              ("--backfills 2,3 --backfills osd.5=1,4", ("1,4", "2,3")),
+                              ("--backfills 2 --backfills 5=3", ("3,3", "2,2")),
+                              ("--backfills 5=7,1024 --count given", ("7,1024", "1,1")),
+                              ("--backfills 4 --count given", ("4", "4"))):
+            room.good("Ceph", f"contrib/from-ceph {FOUR} {words}")
+            rows = {row[0]: ",".join(row[1:-1]) for row in rows_of(room.read("disks.csv"))}
+            header = "disk,out,in,slots" if "," in wanted[0] else "disk,limit,slots"
+            found = room.read("disks.csv").split("\n")[0], rows["osd.5"], rows["osd.8"]
+            Count.same(f"from-ceph {words}", found, (header, *wanted))
+            room.planned(f"from-ceph {words}")
+        for words, said in (("--count given --backfills 2 --backfills 5=1,2", "osd.0 has one limit and osd.5 has two"),
+                            ("--backfills 1,2,3", "'1,2,3' is neither a limit N nor two, OUT,IN"),
+                            ("--backfills 1,", "'' is no number from 1 to 1024"),
+                            ("--backfills 0,1", "'0' is no number"),
+                            ("--backfills 1,1025", "'1025' is no number")):
+            refused(room, "from-ceph", f"contrib/from-ceph {FOUR} {words}", f"--backfills: {said}")
+
+
+def what_is_put_off():
+    """What a round cannot have alone goes on until the limits are kept, and the plan with these rounds says so."""
+    with Room() as room:
+        room.good("put off", FILES)
+        for limit in (1, 2):
+            room.good("put off", f"contrib/from-ceph {FOUR} --backfills {limit}")
+            room.planned("put off")
+            ran = room.run(f"contrib/to-ceph plan.txt {FOUR} --rounds disks.csv carried.txt --out upmaps.sh")
+            Count.that("moves are put off", ran.returncode == 0 and "is to move goes in round" in ran.stderr, ran)
+            named = set(re.findall(r"group (\S+): what goes together is \d+ at (osd\.\d+)/(\w+), more", ran.stderr))
+            case, rounds, over = Case(room.read), shifts_of(room.read("carried.txt")), set()
+            for shifts in rounds:
+                loads = case.loads((it[1], it[3]) for it in shifts)
+                for side in (it for it, load in loads.items() if load > case.limits[it[0]][it[1]]):
+                    its = {group_of(it[0]) for it in shifts if side in case.ends(it[1], it[3])}
+                    Count.that(f"past the limit is one group alone, {side}", len(its) == 1, its)
+                    over |= {(*its, *side)}
+            Count.same(f"limit {limit}: what is past it is named", over, named)
+            last = room.run("./migrate after disks.csv now.csv next.csv carried.txt")
+            found = {it[0]: it[1] for it in rows_of(last.stdout)} if not over else last.stdout[:11]
+            wanted = dict(rows_of(room.read("next.csv"))) if not over else "over limit "
+            Count.same(f"limit {limit}: the program says how it ends", found, wanted)
+            steps = rounds_of(room.good("put off", "sh upmaps.sh -n"))
+            found = [{it[3] for it in commands} for commands in steps]
+            Count.same("the script has these rounds", found, [{group_of(it[0]) for it in shifts} for shifts in rounds])
+
+
 def recorded_ceph():
     cluster = Cluster(page("contrib/samples/ceph/crush"), page("contrib/samples/ceph/dump"))
     with Room() as room:
@@ -267,4 +319,5 @@ def real_ceph():
             change(name, room, Cluster(room.read("crush"), room.read("dump")), hold)
 
 
-CASES = (made_ceph, recorded_ceph, counted_as_ceph, the_answers_of_ceph, old_exceptions_of_ceph, real_ceph)
+CASES = (made_ceph, recorded_ceph, counted_as_ceph, limits_of_ceph, what_is_put_off, the_answers_of_ceph,
+         old_exceptions_of_ceph, real_ceph)

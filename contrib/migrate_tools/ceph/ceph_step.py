@@ -247,6 +247,8 @@ def read_words() -> tuple[argparse.Namespace, list[Step], int]:
     add_times(reader, "round, with --limits step,")
     reader.add_argument("words", metavar="WORD", nargs="*", help="with --script the first round; else a step")
     given = reader.parse_args()
+    if not (given.script or given.words):
+        reader.error("say --script SCRIPT, or the words of a step")
     if not given.script:
         steps = [read_step(given.words)]
         return given, steps, steps[0].round
