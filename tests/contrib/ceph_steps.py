@@ -1,6 +1,6 @@
 """Tries the scripts of to-ceph over a stand-in of a cluster, which takes reservations for backfills as Ceph does: what
 they run, what they wait for, what they pass over, and what they stop for."""
-import collections, json, os, random, re, subprocess
+import collections, json, os, random, re, subprocess, time
 from ceph import FILES, FOUR
 from ceph_model import Cluster, filling, groups_in, up_of
 from migrate_tools.ceph import ceph_step, cluster, steps
@@ -10,7 +10,7 @@ from waiting import LIMIT, until
 
 HOLD = ("cp contrib/samples/ceph/before-new before && cp contrib/samples/ceph/before after && "
         "cp contrib/samples/ceph/{dump,crush} .")
-DONE = "all rounds are carried out\n"
+DONE, UNSET = "all rounds are carried out\n", "ceph osd unset norebalance"
 
 
 def made(room, backfills="2", hold="", files=FILES, ahead=""):
@@ -67,6 +67,9 @@ def the_script_of_ceph():
             Count.that(f"{script} ends well", ran.returncode == 0 and ran.stdout.endswith(DONE), ran)
             waited = r"^round 1: 0 of (\d+) groups are clean where they are to be\n(.*\n)*round 1: \1 of \1 groups"
             Count.that(f"{script} waited", re.search(waited, ran.stdout, re.M), ran.stdout[:500])
+            room.write("log", ran.stdout)
+            found = json.loads(room.good(script, "contrib/progress plan.txt --log log --json"))
+            Count.same(f"{script}: progress", (found["done"], found["rounds_done"]), (True, found["rounds"]))
             lines = room.read("state/log").splitlines()
             Count.same(f"{script} ran what -n prints", sorted(lines), sorted(printed(room, script)))
             ended(room, script)
@@ -180,9 +183,9 @@ def eager_ceph():
             lines = sorted(printed(room, "eager.sh"))
             Count.same(f"{name}: the same commands", lines, sorted(printed(room, "upmaps.sh")))
             groups = [it.split()[3] for it in printed(room, "eager.sh")]
-            state |= {"odd": True, "max": limit, "slow": {it: rnd.choice([0, 0, 1, 5]) for it in groups}}
+            state |= {"odd": True, "max": limit, "slow": {it: rnd.choice([0, 0, 1, 4]) for it in groups}}
             room.keep("first", state)
-            for script in ("upmaps.sh", "eager.sh"):
+            for script in ("upmaps.sh", "eager.sh")[ahead != "" :]:
                 begun(room, state)
                 Count.same(f"{name}: {script}", room.good(name, f"sh {script} >log; tail -n 1 log"), DONE)
                 ended(room, f"{name}, {script}")
@@ -198,9 +201,7 @@ def eager_ceph():
             room.good(name, "rm state/log; sh eager.sh")
             Count.same(f"{name}: once more it does nothing", room.read("state/log"), None)
     print(f"note: looks at the cluster by rounds and with --eager: {looks}")
-    for limit, ahead, script in looks:
-        is_less = looks[limit, ahead, "eager.sh"] < looks[limit, ahead, "upmaps.sh"]
-        Count.that("it takes less time than rounds", is_less, looks)
+    Count.that("it takes less time than rounds", looks[2, "", "eager.sh"] < looks[2, "", "upmaps.sh"], looks)
 
 
 def eager_ceph_stops():
@@ -211,16 +212,24 @@ def eager_ceph_stops():
         room.good(name, "sed -i 's/^PATH=.*/PATH=$PATH:alone/' eager.sh")  # a signal reaches it there
         env = {**room.env, "PAUSE": "0.05"}
         for _ in range(3):  # again and again, each time once more is done
-            before = (room.read("log") or "").count(" copied ")
+            before = copied(room)
             ran = subprocess.Popen(["bash", "-c", "exec sh eager.sh >>log 2>notes"], cwd=room.at, env=env)
-            until(lambda: room.read("log").count(" copied ") > before + 1 or ran.poll() is not None, "a step's end")
+            until(lambda: copied(room) > before + 1 or ran.poll() is not None, "a step to be done")
             ran.terminate()
             how = ran.wait(LIMIT), "begin again with: sh eager.sh" in room.read("notes")
             Count.that(f"{name}: it says how to go on", how in ((130, True), (0, False)), room.read("notes"))
             Count.same(f"{name}: its key is gone", room.state("ceph.json").get("keys"), {})
         Count.same(f"{name}: the rest", room.good(name, "sh eager.sh >>log; tail -n 1 log"), DONE)
         ended(room, name)
-        # a pause, and an end by --until
+        # outside of a window, a pause, and an end by --until
+        begun(room, state)
+        hours = "-".join(time.strftime("%H:%M", time.localtime(time.time() + it * 3600)) for it in (2, 3))
+        ran = subprocess.Popen(["bash", "-c", f"exec sh eager.sh --window {hours} >log 2>notes"], cwd=room.at, env=env)
+        said = f"paused: nothing more begins outside of --window {hours}"
+        until(lambda: said in (room.read("notes") or "") or ran.poll() is not None, "what keeps it")
+        ran.terminate()
+        how = ran.wait(LIMIT), room.read("state/log")
+        Count.same(f"{name}: nothing begins outside of a window", how, (130, None))
         begun(room, state)
         warm = {**env, "PATH": f"{room.path('contrib')}:{env['PATH']}"}
         line = "touch pause; OVER=over exec sh eager.sh --until 06:00 >log 2>notes"
@@ -228,7 +237,7 @@ def eager_ceph_stops():
         until(lambda: "paused: nothing more begins until" in (room.read("notes") or ""), "a pause")
         Count.same(f"{name}: nothing begins in a pause", room.read("state/log"), None)
         os.unlink(room.path("pause"))
-        until(lambda: " copied " in room.read("log"), "a step to be done")
+        until(lambda: copied(room), "a step to be done")
         room.write("over", "")
         how = ran.wait(LIMIT), "as --until says; begin again with: sh eager.sh" in room.read("notes")
         Count.same(f"{name}: an end by --until", how, (3, True))
@@ -237,6 +246,10 @@ def eager_ceph_stops():
         Count.that(f"{name}: progress", is_half, found)
         Count.same(f"{name}: the rest after that", room.good(name, "sh eager.sh >>log; tail -n 1 log"), DONE)
         ended(room, name)
+
+
+def copied(room):
+    return (room.read("log") or "").count(" copied ")
 
 
 def what_stops_ceph():
@@ -259,6 +272,7 @@ def what_stops_ceph():
                 ("degraded", {"ill": {still: (3, 99, "active+undersized+degraded")}, "slow": {group: 9}},
                  f"placement group {still} is active+degraded+undersized, which it was not when this began"),
                 ("not active", {"ill": {still: (2, 99, "down")}}, f"placement group {still} is down, which it was not"),
+                ("for ever peering", {"ill": {still: (1, 99, "peering")}}, f"placement group {still} is peering"),
                 ("an error", {"error": 2}, "the cluster says HEALTH_ERR: OSD_FULL, 1 full osd(s)"),
                 ("other weights", {"raw": {**state["raw"], group: moved}}, f"placement group {group} rests on ")):
             begun(room, state, **more)
@@ -299,8 +313,9 @@ def held_ceph():
             Count.same(f"{script}: it ends well", room.good(script, f"sh {script} >log; tail -n 1 log"), DONE)
             Count.that(f"{script}: it says how many are held", "round 0: " in room.read("log"), room.read("log"))
             lines, block = room.read("state/log").splitlines(), printed(room, script)
-            zero = lines.index("ceph osd unset norebalance")
-            block = [it.split() for it in block[: block.index(lines[zero])]]
+            Count.same(f"{script}: the flag is cleared, once", [lines.count(UNSET), block.count(UNSET)], [1, 1])
+            zero = [*lines, UNSET].index(UNSET)
+            block = [it.split() for it in block[: [*block, UNSET].index(UNSET)]]
             has = {name: [str(it) for pair in pairs for it in pair] for name, pairs in state["pairs"].items()}
             wanted = sorted(" ".join(it) for it in block if has.get(it[3], []) != it[4:])
             Count.same(f"{script}: all are held first", sorted(lines[:zero]), wanted)

@@ -21,7 +21,7 @@ from ..locks import Lock
 from .cluster import AT_ONCE, Key, Silent, View, ceph, is_balancing, view
 from .steps import Step, pairs_text, read_step
 
-ILL, ELSEWHERE = 3, 10  # so many looks in a row, and it stops
+MOST = {"ill": 3, "peering": 10, "elsewhere": 10}  # so many looks in a row, and it stops
 
 
 class Ended(Exception):
@@ -103,8 +103,10 @@ class Carrier:
     def look(self) -> bool:
         """Learns where all groups are, and stops where it should. Answers whether the cluster did."""
         try:
-            self.lock.check()
-            now = view()
+            with ThreadPoolExecutor(1) as pool:
+                check = pool.submit(self.lock.check)
+                now = view()
+                check.result()
         except Silent as why:
             self.says(f"{why}; it is asked again")
             return False
@@ -120,15 +122,14 @@ class Carrier:
             if at >= 0 and chain[at] not in self.done and self.rests(self.steps[chain[at]], now):
                 seen.add((group, "elsewhere"))
         seen |= {(name, "ill") for name in self.ill}
+        seen |= {(name, "peering") for name, it in now.groups.items() if it.is_peering()}
         self.looks = collections.Counter({it: self.looks[it] + 1 for it in seen})
-        for (name, what), count in self.looks.items():
-            state = "+".join(sorted(now.groups[name].state))
-            if what == "ill" and count >= ILL:
-                raise Wrong(f"placement group {name} is {state}, which it was not when this began: see `ceph health "
-                            "detail`, and let it mend first")
-            if what == "elsewhere" and count >= ELSEWHERE:
+        for name, what in (it for it, count in self.looks.items() if count >= MOST[it[1]]):
+            if what == "elsewhere":
                 raise Wrong(f"placement group {name} rests on {now.groups[name].up}: its exceptions do not bring it "
                             "where it is to be, since the weights or the rule were changed")
+            raise Wrong(f"placement group {name} is {'+'.join(sorted(now.groups[name].state))}, which it was not when "
+                        "this began: see `ceph health detail`, and let it mend first")
         self.now = now
         return True
 

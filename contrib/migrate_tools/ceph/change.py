@@ -28,7 +28,7 @@ def commands_of(change: Change, version: str, crush: str) -> list[list[str]]:
 def settled() -> None:
     """Waits until the groups have found each other, at most a minute."""
     for _ in range(60):
-        if not any(it.state & {"peering", "activating"} for it in view().groups.values()):
+        if not any(it.is_peering() for it in view().groups.values()):
             return
         time.sleep(min(1.0, float(os.environ.get("PAUSE", "1"))))
 

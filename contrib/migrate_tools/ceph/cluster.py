@@ -70,8 +70,12 @@ class Placed:
         return {"active", "clean"} <= self.state and self.up == self.acting
 
     def is_ill(self) -> bool:
-        """Whether copies of it are missing, or it can't be used. What is only remapped has them all."""
-        return "active" not in self.state or not self.state.isdisjoint({"degraded", "undersized"})
+        """Whether copies of it are missing, or it can't be used. What is only remapped has them all, and what is
+        peering tells soon."""
+        return not (self.is_peering() or "active" in self.state and self.state.isdisjoint({"degraded", "undersized"}))
+
+    def is_peering(self) -> bool:
+        return not self.state.isdisjoint({"peering", "activating", "creating"})
 
 
 @dataclass(frozen=True)
