@@ -28,6 +28,14 @@ def up_of(chosen, pairs, out=()):
     return up
 
 
+def filling(shards, up, acting):
+    """The acting primary of a group whose copies or shards go to `up` while it is on `acting`: of shards it is the first; of copies the
+    first of `up` that has the data, else the lowest number of those that have it."""
+    if shards:
+        return next(it for it in acting if it != NO_OSD)
+    return up[0] if up[0] in acting else min(acting)
+
+
 class Cluster:
     """The tree, the rules and the weights of a cluster: from what `ceph osd crush dump` and `ceph osd dump` print."""
 

@@ -8,7 +8,6 @@ from folders import COPY, ERASE, GUARD, MOUNT, VERIFY, at_rest, tree, wanted_of
 from limits_model import Case, plan_text
 from rooms import Count, Room, refused, rows_of, shifts_of
 
-FOUR = "before after dump crush"
 SPLIT = "disk,out,in,slots\n"
 
 
@@ -17,27 +16,6 @@ def header_of(room):
 
 
 # What the scripts write
-
-def split_ceph():
-    """A backfill is counted where it leaves and where it comes to, as Ceph counts it."""
-    with Room() as room:
-        room.good("Ceph", "cp contrib/samples/ceph/{before,after,dump,crush} .")
-        for words, wanted in (("--backfills 1,2", ("1,2", "1,2")), ("--backfills 2,3 --backfills osd.5=1,4", ("1,4", "2,3")), ("--backfills 5=7,1024", ("7,1024", "1,1"))):
-            room.good("Ceph", f"contrib/from-ceph {FOUR} {words}")
-            rows = {row[0]: ",".join(row[1:-1]) for row in rows_of(room.read("disks.csv"))}
-            Count.same(f"from-ceph {words}", (header_of(room), rows["osd.5"], rows["osd.8"]), ("disk,out,in,slots", *wanted))
-            room.planned(f"from-ceph {words}")
-        joint = room.good("Ceph", f"contrib/from-ceph {FOUR} --backfills 2 --into examples && cut -d, -f1,3 examples/disks.csv")
-        Count.same("names and slots are those of joint limits", room.good("Ceph", "cut -d, -f1,4 disks.csv"), joint)
-        for name in ("now.csv", "next.csv"):
-            Count.same(f"{name} too", room.read(name), room.read(f"examples/{name}"))
-        room.good("Ceph", f"contrib/from-ceph {FOUR} --backfills 1,1")
-        room.planned("Ceph")
-        room.good("Ceph", f"contrib/to-ceph plan.txt {FOUR} --out upmaps.sh && sh upmaps.sh")
-        for words, said in (("--backfills 2 --backfills 5=1,2", "--backfills: osd.0 has one limit and osd.5 has two; write OUT,IN for each disk, or for none"), ("--backfills 1,2,3", "--backfills: '1,2,3' is neither a limit N nor two, OUT,IN"),
-                            ("--backfills 1,", "--backfills: '' is no number from 1 to 1024"), ("--backfills 0,1", "'0' is no number"), ("--backfills 1,1025", "'1025' is no number")):
-            refused(room, "from-ceph", f"contrib/from-ceph {FOUR} {words}", said)
-
 
 def split_lvm():
     with Room() as room:
@@ -317,4 +295,4 @@ def eager_gains():
             Count.same(f"how long it takes, {options or 'rounds'}", (status, last), (0, f"{START + max(end for _, end in spans.values()):.3f} ends"))
 
 
-CASES = (split_ceph, split_lvm, split_folders, split_summary, split_pictures, refusals_of_limits, eager_limits, no_barrier, eager_stops, eager_gains)
+CASES = (split_lvm, split_folders, split_summary, split_pictures, refusals_of_limits, eager_limits, no_barrier, eager_stops, eager_gains)

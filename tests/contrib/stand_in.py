@@ -4,14 +4,11 @@
 lvs, pvs and pvmove work on lvm.json in the folder $STAND_IN; pvmove moves extents there, and keeps LVM's rules: from one physical
 volume, and of one volume, it moves once at a time; a second call for a source goes on with the first one alone, with status 0;
 without --alloc anywhere no part of a raid or a mirror comes to where another part of it is.
-osdmaptool and crushtool print what was recorded for just these words. ceph works on ceph.json, and drops exceptions as Ceph does."""
-import fcntl, functools, json, os, re, sys, time
-from ceph_model import Cluster, up_of
+ceph, osdmaptool and crushtool are in ceph_stand_in.py."""
+import fcntl, json, os, re, sys, time
+from ceph_stand_in import Ceph, cluster, osdmaptool, sample
 
 HOME, WORDS = "", []  # the folder with the state, and the words of this call
-RECORDED = {"osdmaptool map --clear-temp --test-map-pgs-dump-all": "before", "osdmaptool map --print": "dump", "crushtool -i crush.bin --dump": "crush",
-            "osdmaptool map --clear-temp --mark-out 5 --adjust-crush-weight 3:0.5 --upmap-cleanup cleanup --test-map-pgs-dump-all": "after",
-            "osdmaptool map --export-crush crush.bin": None}
 
 
 class State:
@@ -134,69 +131,8 @@ def pvmove():
     print(f"  {source}: Moved: 100.00%")
 
 
-def sample(name):
-    with open(f"{os.path.dirname(os.path.realpath(__file__))}/../../contrib/samples/ceph/{name}", encoding="ascii") as file:
-        return file.read()
-
-
-@functools.cache
-def cluster():
-    return Cluster(sample("crush"), sample("dump"))
-
-
-def recorded(_):
-    """osdmaptool and crushtool."""
-    said = " ".join([os.path.basename(sys.argv[0]), *WORDS])
-    if said not in RECORDED:
-        stop(f"{said} was not recorded", 3)
-    print("osdmaptool: osdmap file 'map'", file=sys.stderr)
-    sys.stdout.write(sample(RECORDED[said]) if RECORDED[said] else "osdmaptool: exported crush map to crush.bin\n")
-
-
 def ceph(state):
-    if WORDS == ["balancer", "status"]:
-        return print(json.dumps({"active": state["balancer"], "mode": "upmap"}, indent=4))
-    kept = {group: [tuple(it) for it in pairs] for group, pairs in state["pairs"].items() if pairs}
-    if WORDS == ["osd", "dump"]:
-        print(re.sub(r"^pg_upmap_items .*\n", "", sample("dump"), flags=re.M), end="")
-        return [print(f"pg_upmap_items {group} [{','.join(str(it) for pair in pairs for it in pair)}]") for group, pairs in kept.items()]
-    if WORDS == ["pg", "dump", "pgs_brief"]:
-        happened("look")
-        print("PG_STAT  STATE  UP  UP_PRIMARY  ACTING  ACTING_PRIMARY")
-        for group, raw in state["raw"].items():
-            up = state["late"].pop(group, None) or up_of(raw, kept.get(group, []))  # the manager tells of a change late
-            acting = state["acting"].get(group, up)
-            is_odd = state.get("odd")  # where the end of a copy is seen in other states too
-            name = "active+clean" if acting == up else "active+clean+remapped" if is_odd else "active+remapped+backfilling"
-            name = "active+recovering" if group in state.get("recovering", ()) else name
-            show = [f"[{','.join(map(str, osds))}]" for osds in (up, acting)]
-            print(f"{group}  {name}  {show[0]}  {up[0]}  {show[1]}  {acting[0]}")
-            left = state.get("left", {}).get(group, 0)  # what was copied is there at the next look, or so many looks later
-            state["acting"][group] = acting if left and acting != up else up
-            if acting != up:
-                state.setdefault("left", {})[group] = max(0, left - 1)
-                if is_odd and not left:
-                    state.setdefault("recovering", []).append(group)
-                elif not left:
-                    happened(f"clean {group}")
-            elif name == "active+recovering":
-                state["recovering"].remove(group)
-                happened(f"clean {group}")
-        return None
-    if len(WORDS) > 2 and WORDS[2] in state["raw"]:
-        up = up_of(state["raw"][WORDS[2]], kept.get(WORDS[2], []))
-        state["late"][WORDS[2]] = up
-        state.setdefault("left", {})[WORDS[2]] = state.get("slow", {}).get(WORDS[2], 0)
-        happened(f"set {WORDS[2]}")
-        state["acting"].setdefault(WORDS[2], up)
-    if WORDS[:2] == ["osd", "pg-upmap-items"] and len(WORDS) > 4 and len(WORDS) % 2 and WORDS[2] in state["raw"]:
-        group, pairs = WORDS[2], [(int(one), int(two)) for one, two in zip(WORDS[3::2], WORDS[4::2])]
-        state["pairs"][group] = cluster().kept(group, state["raw"][group], pairs) if group != state["dropped"] else []
-    elif WORDS[:2] == ["osd", "rm-pg-upmap-items"] and len(WORDS) == 3:
-        state["pairs"].pop(WORDS[2], None)
-    elif WORDS != ["osd", "unset", "norebalance"]:
-        stop(f"Error EINVAL: invalid command {' '.join(WORDS)}", 22)
-    return log(f"ceph {' '.join(WORDS)}")
+    Ceph(state, WORDS, happened, log).called()
 
 
 def main():
@@ -205,8 +141,12 @@ def main():
     name = os.path.basename(sys.argv[0])
     if name == "pvmove":
         return pvmove()
+    if name == "osdmaptool":
+        return osdmaptool(WORDS)
+    if name == "crushtool":
+        return print(sample("crush"), end="")
     with State("lvm.json" if name in ("lvs", "pvs") else "ceph.json") as found:
-        return {"lvs": lvs, "pvs": pvs, "osdmaptool": recorded, "crushtool": recorded, "ceph": ceph}[name](found)
+        return {"lvs": lvs, "pvs": pvs, "ceph": ceph}[name](found)
 
 
 if __name__ == "__main__":

@@ -2,31 +2,33 @@
 map to another.
 
 A disk is an OSD. An item is a placement group's copy: '1.7f-5' is that of 1.7f which is on osd.5 before; or, where the
-pool is erasure coded, its shard: '2.1as3' is shard 3 of 2.1a. With --backfills N an OSD takes part in N backfills at
-once, incoming and outgoing together. With --backfills OUT,IN it gives away OUT at once and is filled by IN: Ceph counts
-both apart, each up to osd_max_backfills. With --sizes, a file with what `ceph pg dump --format json` prints, it writes
-bytes.csv too, with the bytes of each copy and shard, for summary and progress. Where anything is wrong nothing is
-written."""
+pool is erasure coded, its shard: '2.1as3' is shard 3 of 2.1a. A backfill is counted as Ceph counts it: at the group's
+primary, which fills it, so an item goes from there, and at its target; not at the OSD that gives it up. With
+--backfills N an OSD fills N at once and is filled by N, as with osd_max_backfills N; with OUT,IN it fills OUT and is
+filled by IN. With --count given an item goes from the OSD that gives it up, and N is one limit for both. With --sizes,
+a file with what `ceph pg dump --format json` prints, it writes bytes.csv too, with the bytes of each copy and shard,
+for summary and progress. Where anything is wrong nothing is written."""
 import collections, os
 from collections.abc import Sequence
 from ..command import Wrong, command, note, save_all
-from ..disks import Limits, disk_rows, limits_of
+from ..disks import Limits, Split, disk_rows, limits_of
 from ..plans import MOST_DISKS, MOST_ITEMS, NAME, table
 from ..sizes import size_rows
 from .groups import read_change, reader
 from .sizes import sizes_of
 
 
-def read_limits(words: Sequence[str], osds: Sequence[int]) -> dict[int, Limits]:
+def read_limits(words: Sequence[str], osds: Sequence[int], as_ceph: bool) -> dict[int, Limits]:
     """The limits of each OSD that has some by these words: 'N' or 'OUT,IN' for all others, and 'OSD=N' or
-    'OSD=OUT,IN'."""
-    limits: dict[int, Limits] = {}
+    'OSD=OUT,IN'. As Ceph counts, N is N,N."""
+    limits: dict[int, Limits] = {} if words or not as_ceph else dict.fromkeys(osds, Split())
     for osd, is_, limit in (word.rpartition("=") for word in words):
         osd = osd.removeprefix("osd.")
         if is_ and osd not in map(str, osds):
             raise Wrong(f"--backfills: osd.{osd} has no copy before or after")
         for it in [int(osd)] if is_ else [it for it in osds if it not in limits]:
-            limits[it] = limits_of(limit.split(","), "--backfills")
+            numbers = limit.split(",")
+            limits[it] = limits_of(numbers * 2 if as_ceph and len(numbers) == 1 else numbers, "--backfills")
     return limits
 
 
@@ -35,8 +37,11 @@ def main() -> None:
     words = reader(__doc__)
     add = words.add_argument
     add("--backfills", metavar="[OSD=]N|OUT,IN", action="append", default=[],
-        help="the backfills of an OSD at once, or of all others; with OUT,IN those that leave it and those that reach "
+        help="the backfills of an OSD at once, or of all others; with OUT,IN those that it fills and those that fill "
         "it; 1 where it is left out")
+    add("--count", choices=["primary", "given"], default="primary",
+        help="where a backfill counts beside its target: at the group's primary, as Ceph counts it, or at the OSD that "
+        "gives its copy up")
     add("--sizes", metavar="PGS", help="what `ceph pg dump --format json` prints: bytes.csv is written too")
     add("--moving", action="store_true", help="leaves out the copies that stay")
     add("--leave-out", action="store_true",
@@ -47,18 +52,21 @@ def main() -> None:
     osds = sorted({it for group in groups.values() for it in [*group.before, *group.after]})
     if len(osds) > MOST_DISKS:
         raise Wrong(f"there are {len(osds)} OSDs with copies, more than {MOST_DISKS}")
-    limits = read_limits(given.backfills, osds)
+    limits = read_limits(given.backfills, osds, given.count == "primary")
 
     now: list[list[object]] = [["item", "disk", "slot"]]
     next_: list[list[object]] = [["item", "disk"]]
     used: collections.Counter[int] = collections.Counter()
     coming: collections.Counter[int] = collections.Counter()
-    for it in (it for group in groups.values() for it in group.items() if it.source != it.target or not given.moving):
+    for group, it in ((group, it) for group in groups.values() for it in group.items()):
+        if it.source == it.target and given.moving:
+            continue
         if not NAME.fullmatch(it.name):
             raise Wrong(f"'{it.name}' is longer than a name may be")
-        now.append([it.name, f"osd.{it.source}", used[it.source]])
+        source = group.counted_at(it) if given.count == "primary" else it.source
+        now.append([it.name, f"osd.{source}", used[source]])
         next_.append([it.name, f"osd.{it.target}"])
-        used[it.source] += 1
+        used[source] += 1
         coming[it.target] += it.source != it.target
     if len(now) > MOST_ITEMS + 1:
         more = "" if given.moving else ": --moving leaves out those that stay"

@@ -78,6 +78,24 @@ class Group:
             ordered.append((first, pairs.pop(first)))
         return ordered, self.rule.broken(landed(self.chosen, ordered))
 
+    def filler(self, before: list[int], after: list[int]) -> int:
+        """The OSD that fills what comes to the group between these two states, at which Ceph counts that: its acting
+        primary meanwhile. Of shards it is that of the first one. Of copies it is the first of the new ones that has the
+        data; where the first one is new itself, Ceph takes of those that have the data that of the lowest number."""
+        if self.shards:
+            return next(it for it in before if it != NO_OSD)
+        first = landed(self.chosen, self.exceptions(after)[0])[0]
+        return first if first in before else min(before)
+
+    def counted_at(self, item: Item) -> int:
+        """The OSD at which Ceph counts an item beside its target, as if it moved alone; its own one where that is its
+        target."""
+        if item.source == item.target:
+            return item.source
+        after = [item.target if it == item.source else it for it in self.before]
+        first = self.filler(self.before, after)
+        return item.source if first == item.target else first
+
     def states(self, rounds: Mapping[str, int]) -> Iterator[tuple[int, list[int], Pairs]]:
         """The OSDs of the group after each of its rounds, from 0 on, in which the rule holds, and the exceptions then.
         It holds in the last. `rounds` has the round in which an item goes."""

@@ -1,124 +1,124 @@
-"""to-ceph PLAN BEFORE AFTER DUMP CRUSH: turns a plan of from-ceph's files into `ceph osd pg-upmap-items` commands by
-rounds.
+"""to-ceph PLAN BEFORE AFTER DUMP CRUSH: turns a plan of from-ceph's files into a script of steps for `ceph-step`, each
+of which sets the exceptions of a placement group by `ceph osd pg-upmap-items`.
 
-A command replaces all exceptions of its placement group, so each one that is printed has the old ones in it too. Each
-is one that Ceph keeps: what the pool's rule has apart stays apart in each state in between. Where a round alone would
-break the rule, its moves of that group wait for the round in which they can be made together with others, and the
-script says so. It waits after each round until its groups are clean on their OSDs, and stops where an exception that it
-set is gone. It can be begun again at any round. While a file `pause` is in its folder no further round begins, nor
-after the time of --until HH:MM: then its status is 3. Switch the balancer off first (ceph balancer off), else it works
-against the plan. Without --hold the cluster is as BEFORE, and copies go to the OSDs that AFTER will want: change the
-weights after the last round. With --hold round 0 holds each copy where it was, then clears the flag norebalance, and
-each round lets its own go. Use this for new OSDs. Set norebalance before the weights are changed. With --eager DISKS
-the script has no rounds: a group's exceptions are set as soon as each OSD of its copies has a place free by the limits
-of this file, and what the plan has before them of the group, and at their slots, is done. It then goes by what `ceph
-osd dump` has."""
-from ..command import command, put
-from ..disks import check_disks, read_disks
-from ..plans import read_plan
-from ..shell import words_of
-from .eager import LOOP, table
+A command replaces all exceptions of its placement group, so each one has the old ones in it too. Each is one that Ceph
+keeps: what the pool's rule has apart stays apart in each state in between. Where a round alone would break the rule,
+its moves of that group wait for the round in which they can be made together with others, and it is said. With --rounds
+DISKS PLAN they wait further until the limits of DISKS are kept, and the plan with the rounds in which all is carried
+out then is saved in PLAN, for `check`, `summary`, `picture` and `progress`. `ceph-step --help` says what the script
+does. Switch the balancer off first (ceph balancer off), else it works against the plan. Without --hold the cluster is
+as BEFORE, and copies go to the OSDs that AFTER will want: change the weights after the last round. With --hold round 0
+holds each copy where it was, then clears the flag norebalance, and each round lets its own go. Use this for new OSDs.
+Set norebalance before the weights are changed. With --eager DISKS the script has no rounds: a group's exceptions are
+set as soon as each OSD at which Ceph counts its copies has a place free by the limits of this file."""
+import argparse, collections, hashlib, shlex
+from collections.abc import Sequence
+from dataclasses import replace
+from ..command import command, here, note, put, save_all
+from ..disks import Disks, check_disks, limits_by_side, read_disks
+from ..plans import Plan, Shift, plan_text, read_plan
 from .groups import read_change, reader
-from .steps import read_rounds, steps_of
+from .plain import plain
+from .steps import Step, limits_text, read_rounds, steps_of
 
 HEAD = r"""#!/bin/sh
 # Carries out a plan by exceptions of placement groups: TITLE.
-# sh THIS [-n] [--until HH:MM] [ROUND]: begins at a round, the first where none is named; -n prints the commands alone.
-# While the file `pause` is in this folder, and once it is HH:MM, no further round begins; ended so the status is 3.
-set -u
-wanted='' asked=''
-WORDS
-changed() { # GROUP
-    stop "ceph osd dump has other exceptions of placement group $1 than this script set: Ceph dropped them," \
-        "since they break the pool's rule or an OSD of theirs has no weight, or someone else changed them"
-}
-stop() { echo "$0: $*; stopped in round $round; begin again with: sh $0 $round" >&2; exit 1; }
-trap 'echo "$0: stopped in round $round; what is under way goes on; begin again with: sh $0 $round" >&2
-    exit 130' INT TERM
-
-# GROUP OSD,OSD.. [OSD OSD]..: sets the exceptions of a group, with which it is to be on these OSDs; = keeps their order
-go() {
-    group=$1 osds=$2 && shift 2
-    if [ $# -gt 0 ]; then set -- pg-upmap-items "$group" "$@"; else set -- rm-pg-upmap-items "$group"; fi
-    flag "$@"
-    shift 2
-    wanted="$wanted$group $osds
-"
-    asked="$asked$group [$(echo "$*" | tr ' ' ,)]
-"
-}
-flag() {
-    if [ "$only_print" ]; then echo "ceph osd $*"; else ceph osd "$@" || stop "ceph osd $* ended with status $?"; fi
-}
-arrived() { # whether each group of the round is clean where it is to be
-    { printf '%s\n' "$wanted"; ceph pg dump pgs_brief 2>/dev/null; } | awk '
-        NF == 2 && !begun { need[$1] = $2; groups++ }
-        NF == 0 { begun = 1 }
-        begun && $1 in need && $2 ~ /^active[+]clean/ && $3 == $5 {
-            up = substr($3, 2, length($3) - 2)
-            n = split(need[$1], osds, ",")
-            for (i = 1; i <= n; i++) if (need[$1] !~ /^=/ && !index("," up ",", "," osds[i] ",")) next
-            if (need[$1] ~ /^=/ && need[$1] != "=" up) next
-            clean++
-        }
-        END { print clean + 0 " of " groups + 0 " groups are clean where they are to be"; exit clean != groups }'
-}
-gone() { # a group whose exceptions are not those that were set here
-    dump=$(ceph osd dump) || return 0
-    printf '%s\n\n%s\n' "$asked" "$dump" | awk '
-        NF == 2 && !begun { need[$1] = $2 }
-        NF == 0 { begun = 1 }
-        begun && $1 == "pg_upmap_items" { there[$2] = $3 }
-        END { for (it in need) if (need[it] != (it in there ? there[it] : "[]")) { print it; exit } }'
-}
-together() { # waits for the groups of the round
-    [ -z "$only_print" ] || return 0
-    while lost=$(gone) && [ -z "$lost" ] && ! said=$(arrived); do echo "round $round: $said"; sleep "${PAUSE:-30}"; done
-    [ -z "$lost" ] || changed "$lost"
-    echo "round $round: $said"
-    wanted=''
-}
-begins() { round=$1; [ "$round" -ge "$first" ] && if [ "$only_print" ]; then echo "# round $round"; else hold; fi; }
-if [ -z "$only_print" ]; then
-    if ceph balancer status | grep -q '"active": true'; then
-        echo "$0: the balancer is on, and would work against the plan: ceph balancer off" >&2
-        exit 1
-    fi
-    clock begins DIGEST
-fi
+# sh THIS [-n] [--until HH:MM] [--window '[DAYS] HH:MM-HH:MM'] [--force] [ROUND]: begins at a round, the first where
+# none is named; -n prints the commands alone. While the file `pause` is in this folder, outside of each --window, and
+# once it is HH:MM, nothing more begins; ended so the status is 3. Begin it again after a stop: what is done is passed
+# over. Each line below is a step, which can be run by hand too.
+PATH=$PATH:FOLDER
+exec ceph-step --script "$0" WORDS "$@"
 
 """
 
 
+def within(steps: Sequence[Step], disks: Disks) -> list[Step]:
+    """The same steps, each in the first round from its own on in which its places are free, after the one before it of
+    its group; rounds are counted anew, without empty ones. A step that by itself needs more places than an OSD has is
+    alone there, and is named."""
+    limits = {str(side).replace(" ", "/"): limit for side, limit in limits_by_side(disks).items()}
+    used: dict[int, collections.Counter[str]] = collections.defaultdict(collections.Counter)
+    last: dict[str, int] = collections.defaultdict(int)
+    found = [it for it in steps if not it.round]
+    for step in steps[len(found) :]:
+        at = max(step.round, last[step.group] + 1)
+        while any(used[at][it] and used[at][it] + count > limits[it] for it, count in step.counts.items()):
+            at += 1
+        for side in (it for it, count in step.counts.items() if count > limits[it]):
+            note(f"placement group {step.group}: what goes together is {step.counts[side]} at {side}, more than the "
+                 f"limit {limits[side]} there; nothing else goes there meanwhile")
+        used[at].update(step.counts)
+        last[step.group] = at
+        found.append(replace(step, round=at))
+    new = {at: number for number, at in enumerate(sorted({it.round for it in found} | {0}))}
+    return sorted((replace(it, round=new[it.round], items=dict.fromkeys(it.items, new[it.round])) for it in found),
+                  key=lambda it: it.round)
+
+
+def carried(steps: Sequence[Step], plan: Plan) -> str:
+    """The plan with the rounds of these steps."""
+    shifts = {it.item: it for it in plan.shifts()}
+    rounds: dict[int, list[Shift]] = collections.defaultdict(list)
+    for step in (it for it in steps if it.round):
+        rounds[step.round] += [shifts[it] for it in step.items]
+    return plan_text(rounds[it] for it in sorted(rounds))
+
+
+def script(steps: Sequence[Step], digest: str, limits: str) -> str:
+    """The text of a script of these steps."""
+    title = f"{sum(len(it.items) for it in steps)} copies in {max(it.round for it in steps)} rounds, plan {digest}"
+    title += "; no round waits for another, and round 1 is all of them" * bool(limits)
+    head = HEAD.replace("TITLE", title).replace("FOLDER", shlex.quote(here()))
+    lines = [head.replace("WORDS", f"--plan {digest}" + f" --limits {limits}" * bool(limits))]
+    for at, step in enumerate(steps):
+        lines.append(f"{step.line()}\n")
+        is_held = step.round == 0 and (at + 1 == len(steps) or steps[at + 1].round)
+        lines += ["ceph osd unset norebalance\n"] * bool(is_held)
+    return "".join(lines)
+
+
+def ahead_of(disks: Disks, more: int) -> Disks:
+    """The same disks with so many more at each limit."""
+    return {name: replace(it, limits=type(it.limits)(*(limit + more for limit in it.limits)))
+            for name, it in disks.items()}
+
+
+def read_words() -> argparse.Namespace:
+    found = reader(__doc__, "plan")
+    add = found.add_argument
+    add("--out", metavar="SCRIPT", help="where the script is saved; it is printed where this is left out")
+    add("--eager", metavar="DISKS", help="the script waits for no whole rounds, and keeps the limits of this file")
+    add("--ahead", metavar="N", type=int, default=0,
+        help="with --eager: so many more at each limit, which wait in Ceph's own queue until it has a place for them")
+    add("--rounds", metavar=("DISKS", "PLAN"), nargs=2, help="the rounds keep the limits of DISKS also where moves are "
+        "put off; the plan with these rounds is saved in PLAN")
+    add("--plain", action="store_true", help="a script of a shell alone, by rounds, for where there is no Python")
+    given = found.parse_args()
+    if given.eager and (given.plain or given.rounds) or given.ahead and not given.eager:
+        found.error("--eager goes without --plain and --rounds, and --ahead with --eager")
+    return given
+
+
 @command
 def main() -> None:
-    words = reader(__doc__, "plan")
-    words.add_argument("--out", metavar="SCRIPT",
-                       help="where the script is saved; it is printed where this is left out")
-    words.add_argument("--eager", metavar="DISKS",
-                       help="the script waits for no whole rounds, and keeps the limits of this disks file")
-    given = words.parse_args()
+    given = read_words()
     plan, groups = read_plan(given.plan), read_change(given, True)
-    disks = read_disks(given.eager) if given.eager else None
+    path, saved = given.rounds or (given.eager, None)
+    disks = read_disks(path) if path else None
     if disks is not None:
-        check_disks(plan, disks, given.eager)
-    rounds = read_rounds(plan, given.plan, groups)
-    first, last, steps = 0 if given.hold else 1, 1 if disks else len(plan.rounds) + 1, steps_of(groups, rounds)
-    digest = plan.digest.hex()
-    title = f"{len(plan.shifts())} copies in {len(plan.rounds)} rounds, plan {digest}"
-    title += "; no round waits for another, and round 1 is all of them" * bool(disks)
-    head = HEAD.replace("TITLE", title).replace("WORDS\n", words_of(first, 1 if disks else len(plan.rounds)))
-    lines = [head.replace("DIGEST", digest)]
-    for at in range(first, last):
-        lines.append(f"if begins {at}; then\n")
-        for it in (it for it in steps if it.round == at):
-            osds = (str(osd) for pair in it.pairs for osd in pair)
-            lines.append(" ".join(["    go", it.group, it.order, *osds]) + "\n")
-        lines += ["    flag unset norebalance\n" * (at == 0), "    together\nfi\n"]
-    if disks:
-        held = {it.group: it.pairs for it in steps if it.round == 0}
-        old = {name: held[name] if given.hold else groups[name].old for name in rounds}
-        lines += [table(plan, disks, old, [it for it in steps if it.round]), LOOP]
-    lines.append('[ "$only_print" ] || echo "all rounds are carried out"\n')
-    inputs = [given.plan, given.before, given.after, given.dump, given.crush, *([given.eager] if disks else [])]
-    put("".join(lines), given.out, inputs, 0o755)
+        check_disks(plan, disks, path)
+    rounds, is_given = read_rounds(plan, given.plan, groups)
+    steps = steps_of(groups, rounds, plan, is_given or saved is not None, disks, given.hold)
+    inputs = [given.plan, given.before, given.after, given.dump, given.crush, *([path] if path else [])]
+    digest, last = plan.digest.hex(), len(plan.rounds)
+    if disks is not None and saved:
+        steps = within(steps, disks)
+        text, last = carried(steps, plan), steps[-1].round
+        if last > len(plan.rounds):
+            note(f"with what is put off there are {last} rounds, and not {len(plan.rounds)}")
+        save_all({saved: text}, inputs)
+        digest = hashlib.sha256(text.encode()).hexdigest()
+    limits = limits_text(ahead_of(disks, given.ahead)) if disks and given.eager else ""
+    text = plain(steps, digest, last) if given.plain else script(steps, digest, limits)
+    put(text, given.out, inputs, 0o755)

@@ -1,0 +1,151 @@
+"""Tries plan-ceph: from a cluster to its scripts, the change itself, the way back, and what is left of a script."""
+import os, re, shutil
+from ceph import FOUR
+from ceph_model import exceptions_in, groups_in, up_of
+from ceph_steps import DONE, HOLD, printed
+from migrate_tools import plans
+from migrate_tools.ceph import fullness, groups, maps
+from rooms import Count, Room, page, refused, rows_of, shifts_of
+
+WORDS = "--out 5 --reweight 3:0.5 --into plan"
+AFTER = {it: sorted(up) for it, (_, up) in groups_in(page("contrib/samples/ceph/after")).items()}
+BEFORE = {it: sorted(up) for it, (_, up) in groups_in(page("contrib/samples/ceph/before")).items()}
+
+
+def where(room):
+    """Each group's OSDs now."""
+    state = room.state("ceph.json")
+    return {it: sorted(up_of(raw, state["pairs"].get(it, []))) for it, raw in state["raw"].items()}
+
+
+def partly(room, lines):
+    """Runs these commands, and lets what is under way end."""
+    for line in lines:
+        room.good("a part of the moves", line)
+    for _ in range(4 if lines else 0):
+        room.good("a look", "ceph pg dump pgs_brief")
+
+
+def planned_ceph():
+    """From the cluster to the change: nothing moves for it once move.sh is through."""
+    with Room() as room:
+        said = room.good("plan-ceph", f"contrib/plan-ceph {WORDS}")
+        moves = sum(map(len, shifts_of(room.read("plan/plan.txt"))))
+        form = rf"{moves} copies move, .* in \d+ rounds: optimal, bound side osd\.\d+ (in|out) .*\nfullest: osd\.\d+ "
+        Count.that("it says what is decided by", re.match(form, said) and "the way back: optimal\n" in said, said)
+        for name in ("move.sh", "change.sh", "back.sh"):
+            is_there = f"plan/{name}\n" in said and os.access(room.path(f"plan/{name}"), os.X_OK)
+            Count.that(f"it says {name}", is_there, said)
+        ran = room.run("cd plan && sh change.sh")
+        is_refused = ran.returncode == 1 and " would move: move.sh has not brought them where they" in ran.stderr
+        Count.that("the change is refused before its moves", is_refused and room.read("state/log") is None, ran)
+        Count.same("move.sh", room.good("move", "cd plan && sh move.sh | tail -n 1"), DONE)
+        Count.same("each group is where it is to be", where(room), AFTER)
+        said = room.good("change", "cd plan && sh change.sh -n")
+        wanted = ["ceph osd set norebalance", "ceph osd crush reweight osd.3 0.5", "ceph osd out 5",
+                  "ceph osd unset norebalance"]
+        none = "0 placement groups would move for the change, 0 of them left out of the plan"
+        Count.same("the change, nothing copied meanwhile", said.splitlines(), [none, *wanted])
+        room.good("change", "rm state/log; cd plan && sh change.sh")
+        Count.same("it does what it says", room.read("state/log").splitlines(), wanted)
+        Count.same("nothing moved for it", where(room), AFTER)
+        ran = room.run("cd plan && sh back.sh")
+        Count.that("the way back ends with the change", ran.returncode == 1 and "begin again" in ran.stderr, ran)
+
+
+def the_way_back():
+    """What move.sh has done so far is undone, to the exceptions that were there before; and done again."""
+    with Room() as room:
+        room.good("plan-ceph", f"contrib/plan-ceph {WORDS}")
+        old, forth = exceptions_in(room.read("plan/dump")), room.state("ceph.json")
+        commands = [it.split() for it in printed(room, "plan/move.sh")]
+        for count in (0, 1, len(commands) // 2, len(commands)):
+            room.keep("state/ceph.json", forth)
+            partly(room, [" ".join(it) for it in commands[:count]])
+            Count.same(f"back after {count} steps", room.good("back", "cd plan && sh back.sh | tail -n 1"), DONE)
+            Count.same(f"back after {count} steps: all is as it was", where(room), BEFORE)
+            state = room.state("ceph.json")
+            kept = {it: [tuple(pair) for pair in pairs] for it, pairs in state["pairs"].items() if pairs}
+            Count.same(f"back after {count} steps: the exceptions too", kept, old)
+        found = [it.split()[2] for it in room.read("plan/back.sh").splitlines() if it.startswith("ceph-step ")]
+        Count.same("one step for each group", sorted(found), sorted({it[3] for it in commands}))
+
+
+def what_is_left_of_ceph():
+    """A script that was stopped is planned anew from the cluster as it is: forth, and where all was held."""
+    with Room() as room:
+        room.good("plan-ceph", f"contrib/plan-ceph {WORDS}")
+        commands = printed(room, "plan/move.sh")
+        half = {it.split()[3] for it in commands[:9]} - {it.split()[3] for it in commands[9:]}
+        partly(room, commands[:9])
+        all_ = {it.split()[3] for it in commands}
+        ran = room.run("contrib/plan-ceph --continue plan/move.sh --into rest")
+        said = f"{len(half)} of {len(all_)} placement groups are where they were to go; the others are planned anew"
+        Count.that("--continue says what is left", ran.returncode == 0 and said in ran.stderr, ran)
+        Count.same("the rest alone", {it.split()[3] for it in printed(room, "rest/move.sh")}, all_ - half)
+        Count.same("the rest", room.good("rest", "cd rest && sh move.sh | tail -n 1"), DONE)
+        Count.same("each group is where it was to be", where(room), AFTER)
+        partly(room, ["true"])
+        ran = room.run("contrib/plan-ceph --continue plan/move.sh --into none")
+        Count.that("nothing is left", ran.returncode == 1 and "no placement group moves for this" in ran.stderr, ran)
+    with Room() as room:
+        room.good("held", f"{HOLD} && contrib/from-ceph {FOUR} --hold")
+        room.planned("held")
+        room.good("held", f"contrib/to-ceph plan.txt {FOUR} --hold --eager disks.csv --out move.sh")
+        commands = printed(room, "move.sh")
+        zero = commands.index("ceph osd unset norebalance")
+        partly(room, [*commands[:zero], *commands[zero + 1 : zero + 9]])
+        room.good("--continue", "contrib/plan-ceph --continue move.sh --into rest && cd rest && sh move.sh")
+        Count.same("what was held is let go", where(room), BEFORE)
+
+
+def what_plan_ceph_refuses():
+    with Room() as room:
+        state = room.state("ceph.json")
+        for words, more, said in (
+                ("--out 5 --reweight 3:0.5", {"used": {str(it): 0.849 for it in range(32)}}, "in round 1"),
+                ("--out 5 --reweight 3:0.5", {"ill": {"3.1": (0, 9, "active+undersized+degraded")}},
+                 "1 placement groups are not active and clean, as 3.1"),
+                ("--out 99", {}, "osd.99 is not in the tree of the cluster"), ("--out x", {}, "'x' is no OSD"),
+                ("--reweight 3:much", {}, "--reweight 3:much is no weight"), ("--reweight 3", {}, "is no weight")):
+            room.keep("state/ceph.json", {**state, **more})
+            ran = room.run(f"contrib/plan-ceph {words} --into p; ls p/*.sh")
+            is_refused = said in ran.stderr and not ran.stdout and "Traceback" not in ran.stderr
+            Count.that(f"plan-ceph {words}", is_refused, ran)
+        for words in ("", "--out 5", "--into p", "--out 5 --continue s --into p", "--make p --into q"):
+            refused(room, "plan-ceph", f"contrib/plan-ceph {words}", "say a change (--out, --reweight, --balance)", 2)
+        room.keep("state/ceph.json", {**state, "most": {"osd.6": 3}})
+        room.good("plan-ceph", f"contrib/plan-ceph {WORDS}")
+        limits = {name: both for name, *both, _ in rows_of(room.read("plan/disks.csv"))}
+        found = limits["osd.6"], limits["osd.7"]
+        Count.same("osd_max_backfills is each daemon's own", found, (["3", "3"], ["1", "1"]))
+
+
+def fuller_and_fuller():
+    """What comes counts from its round on, what goes up to its own: counted here by hand."""
+    gone = groups.Group("1.0", None, True, 2, [0, 1], [0, 1], [2, 0], [])
+    rooms = {osd: fullness.Room(*it) for osd, it in enumerate(((100, 60), (100, 50), (200, 100)))}
+    sizes = {"1.0s0": 30, "1.0s1": 20}
+    for rounds, wanted in (((0, 1), {2: (0.65, 1), 0: (0.5, 2)}), ((1, 0), {2: (0.65, 2), 0: (0.8, 1)}),
+                           ((0, 0), {2: (0.65, 1), 0: (0.8, 1)})):
+        moves = [plans.Shift("1.0s0", "osd.0", 0, "osd.2", 0), plans.Shift("1.0s1", "osd.0", 1, "osd.0", 2)]
+        plan = plans.Plan([[it for it, at in zip(moves, rounds) if at == round_] for round_ in range(2)], b"")
+        found = fullness.fullest(plan, {"1.0": gone}, sizes, rooms)
+        Count.same(f"rounds {rounds}", {osd: (round(part, 6), at) for osd, (part, at) in found.items()}, wanted)
+
+
+def real_plans():
+    """With osdmaptool itself: two OSDs out are both out."""
+    if not shutil.which("osdmaptool") or not shutil.which("crushtool"):
+        return print("note: plan-ceph is tried with a stand-in for osdmaptool alone")
+    with Room() as room:
+        room.good("real maps", "cp contrib/samples/ceph/map map")
+        made = maps.Maps(room.at)
+        made.changed("map", "next", maps.Change([5, 7], {3: "0.5"}), made.crush("map"))
+        made.placed("next", "after")
+        there = {osd for _, up in groups_in(room.read("after")).values() for osd in up}
+        Count.same("each OSD has something, those that are out nothing", {*range(32)} - there, {5, 7})
+    return None
+
+
+CASES = (planned_ceph, the_way_back, what_is_left_of_ceph, what_plan_ceph_refuses, fuller_and_fuller, real_plans)
