@@ -473,7 +473,8 @@ def units_of_folders():
         ran = room.run("contrib/from-folders mnt/* --unit 100K")
         Count.that("hard links keep a folder whole", ran.returncode == 0 and "mnt/b/media is not split: a file has names in several of its parts" in ran.stderr, ran)
         # what can be no item keeps the folder whole that has it
-        room.good("units", "rm mnt/b/media/same; mkfifo mnt/a/media/films/pipe; mkdir mnt/a/media/many; cd mnt/a/media/many; seq 4097 | xargs touch; head -c 200000 /dev/zero >0")
+        room.good("units", "rm mnt/b/media/same; mkfifo mnt/a/media/films/pipe; mkdir mnt/a/media/many; cd mnt/a/media/many; head -c 200000 /dev/zero >0; echo >1; "
+                  "python3 -c 'import os; [os.link(\"1\", str(it)) for it in range(2, 4098)]'")
         ran = room.run("contrib/from-folders mnt/* --unit 100K")
         Count.that("a pipe does so", ran.returncode == 0 and "mnt/a/media/films is not split: mnt/a/media/films/pipe is neither a folder, a file nor a link" in ran.stderr, ran)
         Count.that("many parts do so", "mnt/a/media/many is not split: it has 4098 parts, more than 4096" in ran.stderr, ran)

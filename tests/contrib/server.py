@@ -60,16 +60,17 @@ def said(main, words, environ):
     return [out.getvalue().encode(), err.getvalue().encode()], status
 
 
-def fits(handle, text):
-    """Whether this can be written without a wait: a pipe has nothing in it, and room."""
+def fits(handle, size):
+    """Whether so many bytes can be written without a wait: a pipe has nothing in it, and room."""
     try:
-        return len(text) <= fcntl.fcntl(handle, fcntl.F_GETPIPE_SZ) and not any(fcntl.ioctl(handle, termios.FIONREAD, bytes(4)))
+        return size <= fcntl.fcntl(handle, fcntl.F_GETPIPE_SZ) and not any(fcntl.ioctl(handle, termios.FIONREAD, bytes(4)))
     except OSError:
         return True  # it is no pipe
 
 
 def hand_over(call, handles, texts, status):
-    for handle, text in zip(handles[1:], texts):
+    """Writes what was printed, that on standard error first, as where it isn't kept back, and tells the status."""
+    for handle, text in zip(reversed(handles), reversed(texts)):
         try:
             while text:
                 text = text[os.write(handle, text):]
@@ -132,7 +133,7 @@ def serve(listening, ready):
             folder, words, environ, handles = heard(call)
             name = os.path.basename(words[0])
             told = said(stand_in.main, words, environ) if name in at_once else None
-            if told and all(map(fits, handles[1:], told[0])):
+            if told and all(fits(it, sum(map(len, told[0]))) for it in handles[1:]):
                 hand_over(call, handles, *told)
                 call.close()
             else:
