@@ -106,7 +106,7 @@ def what_has_arrived():
             room.write("half/ceph", f"#!/bin/sh\n[ \"$1\" = pg ] && printf '{rows}\\n'\nexit 0\n")
             for order, there in zip(("1,2,3", "=1,2,3"), wanted):
                 step = steps.read_step(["1", "4.1", order, "-", "from", "-", "at", "-", "items", "-"])
-                carrier = ceph_step.Carrier([step], {}, Clock(), None)
+                carrier = ceph_step.Carrier([step], {}, 0, Clock(), None)
                 found = carrier.is_there(step, cluster.View({}, set(), {"4.1": placed}, ""))
                 room.write("part.sh", f"{head}wanted='4.1 {order} []'\nlook\n")
                 plain = room.good("arrived", "chmod +x half/ceph; PATH=$PWD/half:$PATH sh part.sh").split()[0] == "all"
@@ -275,7 +275,7 @@ def what_stops_ceph():
                 ("for ever peering", {"ill": {still: (1, 99, "peering")}}, f"placement group {still} is peering"),
                 ("an error", {"error": 2}, "the cluster says HEALTH_ERR: OSD_FULL, 1 full osd(s)"),
                 ("other weights", {"raw": {**state["raw"], group: moved}}, f"placement group {group} rests on ")):
-            begun(room, state, **more)
+            begun(room, state, **{"error": 60, **more})  # what waits for ever is told so
             stops(room, name, "eager.sh", said)
             Count.same(f"{name}: the key is given back", room.state("ceph.json")["keys"], {})
         for name, more in (("degraded at first already", {"ill": {still: (0, 999, "active+undersized+degraded")}}),
