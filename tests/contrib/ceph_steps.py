@@ -291,7 +291,7 @@ def one_at_a_time():
         made(room)
         ran = subprocess.Popen(["bash", "-c", "touch pause; exec sh upmaps.sh >log 2>notes"], cwd=room.at, env=room.env)
         until(lambda: "paused" in (room.read("notes") or ""), "a pause")
-        second, said = room.run("sh eager.sh"), f"{room.path('upmaps.sh')}, process "
+        second, said = room.run("mkdir other; cd other; sh ../eager.sh"), f"{room.path('upmaps.sh')}, process "
         is_refused = second.returncode == 1 and said in second.stderr and "--force" in second.stderr
         Count.that("a second script is refused", is_refused and room.read("state/log") is None, second)
         forced = subprocess.Popen(["bash", "-c", "exec sh eager.sh --force >log2 2>notes2"], cwd=room.at, env=room.env)
