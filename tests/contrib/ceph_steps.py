@@ -53,6 +53,11 @@ def the_script_of_ceph():
         state = made(room)
         Count.same("the same commands", printed(room, "upmaps.sh"), printed(room, "plain.sh"))
         group = printed(room, "upmaps.sh")[0].split()[3]
+        line = next(it for it in room.read("upmaps.sh").splitlines() if it.startswith("ceph-step "))
+        said = room.good("by hand", f"PATH=$PATH:$PWD/contrib {line}")
+        found = said.splitlines()[-3:-2], room.read("state/log").splitlines()
+        wanted = ["round 1: 1 of 1 groups are clean where they are to be"], printed(room, "upmaps.sh")[:1]
+        Count.same("a step by hand", found, wanted)
         room.write("half", f"#!/bin/sh\n[ \"$3\" = '{group}' ] && exit 13\nexec {room.path('bin/ceph')} \"$@\"\n")
         room.good("half", "mkdir less && chmod +x half && mv half less/ceph")
         for script in ("upmaps.sh", "plain.sh"):
