@@ -1,10 +1,10 @@
 """Tries plan-ceph: from a cluster to its scripts, the change itself, the way back, and what is left of a script."""
-import os, re, shutil
+import collections, os, re, shutil
 from ceph import FOUR
 from ceph_model import exceptions_in, groups_in, up_of
 from ceph_steps import DONE, HOLD, printed
 from migrate_tools import plans
-from migrate_tools.ceph import fullness, groups, maps
+from migrate_tools.ceph import fullness, groups, maps, plan_ceph
 from rooms import Count, Room, page, refused, rows_of, shifts_of
 
 WORDS = "--out 5 --reweight 3:0.5 --into plan"
@@ -145,6 +145,14 @@ def real_plans():
         made.placed("next", "after")
         there = {osd for _, up in groups_in(room.read("after")).values() for osd in up}
         Count.same("each OSD has something, those that are out nothing", {*range(32)} - there, {5, 7})
+        planner = plan_ceph.Planner(room.at)
+        planner.crush = made.crush("map")
+        uneven = []
+        for balance in (None, ""):
+            planner.change(maps.Change([], {}), balance, 1, 100)
+            counts = collections.Counter(osd for _, up in groups_in(room.read("after")).values() for osd in up)
+            uneven.append(max(counts.values()) - min(counts.values()))
+        Count.that("--balance makes it more even", uneven[1] < uneven[0], uneven)
     return None
 
 

@@ -53,6 +53,11 @@ def the_script_of_ceph():
         state = made(room)
         Count.same("the same commands", printed(room, "upmaps.sh"), printed(room, "plain.sh"))
         group = printed(room, "upmaps.sh")[0].split()[3]
+        line = next(it for it in room.read("upmaps.sh").splitlines() if it.startswith("ceph-step "))
+        said = room.good("by hand", f"PATH=$PATH:$PWD/contrib {line}")
+        found = said.splitlines()[-3:-2], room.read("state/log").splitlines()
+        wanted = ["round 1: 1 of 1 groups are clean where they are to be"], printed(room, "upmaps.sh")[:1]
+        Count.same("a step by hand", found, wanted)
         room.write("half", f"#!/bin/sh\n[ \"$3\" = '{group}' ] && exit 13\nexec {room.path('bin/ceph')} \"$@\"\n")
         room.good("half", "mkdir less && chmod +x half && mv half less/ceph")
         for script in ("upmaps.sh", "plain.sh"):
@@ -106,7 +111,7 @@ def what_has_arrived():
             room.write("half/ceph", f"#!/bin/sh\n[ \"$1\" = pg ] && printf '{rows}\\n'\nexit 0\n")
             for order, there in zip(("1,2,3", "=1,2,3"), wanted):
                 step = steps.read_step(["1", "4.1", order, "-", "from", "-", "at", "-", "items", "-"])
-                carrier = ceph_step.Carrier([step], {}, Clock(), None)
+                carrier = ceph_step.Carrier([step], {}, 0, Clock(), None)
                 found = carrier.is_there(step, cluster.View({}, set(), {"4.1": placed}, ""))
                 room.write("part.sh", f"{head}wanted='4.1 {order} []'\nlook\n")
                 plain = room.good("arrived", "chmod +x half/ceph; PATH=$PWD/half:$PATH sh part.sh").split()[0] == "all"
@@ -275,7 +280,7 @@ def what_stops_ceph():
                 ("for ever peering", {"ill": {still: (1, 99, "peering")}}, f"placement group {still} is peering"),
                 ("an error", {"error": 2}, "the cluster says HEALTH_ERR: OSD_FULL, 1 full osd(s)"),
                 ("other weights", {"raw": {**state["raw"], group: moved}}, f"placement group {group} rests on ")):
-            begun(room, state, **more)
+            begun(room, state, **{"error": 60, **more})  # what waits for ever is told so
             stops(room, name, "eager.sh", said)
             Count.same(f"{name}: the key is given back", room.state("ceph.json")["keys"], {})
         for name, more in (("degraded at first already", {"ill": {still: (0, 999, "active+undersized+degraded")}}),
@@ -291,7 +296,7 @@ def one_at_a_time():
         made(room)
         ran = subprocess.Popen(["bash", "-c", "touch pause; exec sh upmaps.sh >log 2>notes"], cwd=room.at, env=room.env)
         until(lambda: "paused" in (room.read("notes") or ""), "a pause")
-        second, said = room.run("sh eager.sh"), f"{room.path('upmaps.sh')}, process "
+        second, said = room.run("mkdir other; cd other; sh ../eager.sh"), f"{room.path('upmaps.sh')}, process "
         is_refused = second.returncode == 1 and said in second.stderr and "--force" in second.stderr
         Count.that("a second script is refused", is_refused and room.read("state/log") is None, second)
         forced = subprocess.Popen(["bash", "-c", "exec sh eager.sh --force >log2 2>notes2"], cwd=room.at, env=room.env)

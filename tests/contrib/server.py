@@ -1,15 +1,16 @@
 #!/usr/bin/env python3
-"""A warm interpreter. The commands of contrib/ and the stand-ins of tools run as forks of it, which takes a tenth of the time that they
-take by themselves, and stand-ins that wait for nothing within it, which takes a fifth of that; client.c hands over what a call has.
-Where there is no C compiler they run by themselves."""
-import array, contextlib, fcntl, gc, importlib, importlib.util, io, os, select, shutil, signal, socket, subprocess, sys, termios, time, traceback
+"""A warm interpreter. The commands of contrib/ and the stand-ins of tools run as forks of it, which takes a tenth of
+the time that they take by themselves, and stand-ins that wait for nothing within it, which takes a fifth of that;
+client.c hands over what a call has. Where there is no C compiler they run by themselves."""
+import array, contextlib, fcntl, gc, importlib, importlib.util, io, os, select, shutil, signal, socket, subprocess
+import sys, termios, time, traceback
 
 HERE = os.path.dirname(os.path.realpath(__file__))
 CONTRIB = os.path.join(os.path.dirname(os.path.dirname(HERE)), "contrib")
-COMMANDS = {"from-lvm": "lvm.from_lvm", "to-lvm": "lvm.to_lvm", "from-ceph": "ceph.from_ceph", "to-ceph": "ceph.to_ceph",
-            "ceph-step": "ceph.ceph_step", "plan-ceph": "ceph.plan_ceph",
-            "from-folders": "folders.from_folders", "run-plan": "run.run_plan", "picture": "show.picture", "report": "show.report",
-            "summary": "show.summary", "witness": "show.witness", "progress": "show.progress"}
+COMMANDS = {"from-lvm": "lvm.from_lvm", "to-lvm": "lvm.to_lvm", "from-ceph": "ceph.from_ceph",
+            "to-ceph": "ceph.to_ceph", "ceph-step": "ceph.ceph_step", "plan-ceph": "ceph.plan_ceph",
+            "from-folders": "folders.from_folders", "run-plan": "run.run_plan", "picture": "show.picture",
+            "report": "show.report", "summary": "show.summary", "witness": "show.witness", "progress": "show.progress"}
 STAND_INS = ["lvs", "pvs", "pvmove", "osdmaptool", "crushtool", "ceph"]
 WAITING = ["pvmove"]  # the one of these that takes its time
 
@@ -17,7 +18,8 @@ WAITING = ["pvmove"]  # the one of these that takes its time
 def package():
     """Loads the package from its folder, and gives the main functions of the commands."""
     folder = f"{CONTRIB}/migrate_tools"
-    spec = importlib.util.spec_from_file_location("migrate_tools", f"{folder}/__init__.py", submodule_search_locations=[folder])
+    spec = importlib.util.spec_from_file_location("migrate_tools", f"{folder}/__init__.py",
+                                                  submodule_search_locations=[folder])
     sys.modules["migrate_tools"] = importlib.util.module_from_spec(spec)
     return {name: importlib.import_module(f"migrate_tools.{module}").main for name, module in COMMANDS.items()}
 
@@ -26,7 +28,8 @@ MAINS = package()
 
 
 def clocks(environ):
-    """What a test sets: the time is what the file CLOCK says, and that of --until has come once the file OVER is there."""
+    """What a test sets: the time is what the file CLOCK says, and that of --until has come once the file OVER is
+    there."""
     if "CLOCK" in environ:
         def now():
             with open(environ["CLOCK"], encoding="ascii") as file:
@@ -111,8 +114,8 @@ def answer(call, calls, folder, words, environ, handles):
 
 
 def serve(listening, ready):
-    """Answers each call, as long as `ready`, a pipe of who began this, is open: within this process where nothing waits, and else in a
-    fork of its own, which is killed where the client is."""
+    """Answers each call, as long as `ready`, a pipe of who began this, is open: within this process where nothing waits,
+    and else in a fork of its own, which is killed where the client is."""
     stand_in = importlib.import_module("stand_in")
     calls = {**MAINS, **dict.fromkeys(STAND_INS, stand_in.main)}
     at_once = {*STAND_INS} - {*WAITING}
@@ -146,8 +149,8 @@ def serve(listening, ready):
 
 
 def begin(folder):
-    """Makes what a room has: the commands in `folder`/contrib, and the stand-ins in `folder`/tools. Begins the server, and gives its
-    process and the pipe at whose end it ends."""
+    """Makes what a room has: the commands in `folder`/contrib, and the stand-ins in `folder`/tools. Begins the server,
+    and gives its process and the pipe at whose end it ends."""
     for name in ("contrib", "tools"):
         os.mkdir(f"{folder}/{name}")
     os.symlink(f"{CONTRIB}/samples", f"{folder}/contrib/samples")

@@ -42,8 +42,8 @@ class Carrier:
     their places there, `at` the place of the last one whose exceptions the group has, -1 where those from before,
     `set_` that of the last one set here."""
 
-    def __init__(self, steps: Sequence[Step], limits: dict[str, int], clock: Clock, lock: Lock) -> None:
-        self.steps, self.limits, self.clock, self.lock = steps, limits, clock, lock
+    def __init__(self, steps: Sequence[Step], limits: dict[str, int], ahead: int, clock: Clock, lock: Lock) -> None:
+        self.steps, self.limits, self.ahead, self.clock, self.lock = steps, limits, ahead, clock, lock
         self.chains: dict[str, list[int]] = collections.defaultdict(list)
         for number, step in enumerate(steps):
             self.chains[step.group].append(number)
@@ -174,29 +174,36 @@ class Carrier:
         return placed is not None and placed.is_clean()
 
     def due(self, left: Sequence[int], under: Sequence[int]) -> list[int]:
-        """The steps that may begin, in their order. While a group is ill that was not so at first none may."""
+        """The steps that may begin: those first that find each place free, in their order, then those that go ahead
+        and wait for the fewest. While a group is ill that was not so at first none may."""
         used: collections.Counter[str] = collections.Counter()
         for it in under:
             used.update(self.steps[it].counts)
-        found, busy = [], {self.steps[it].group for it in under}
+        found: list[int] = []
+        ready, busy = [], {self.steps[it].group for it in under}
         for number in left if not self.ill else ():
-            step = self.steps[number]
-            if step.group not in busy and self.fits(step, used):
-                used.update(step.counts)
-                found.append(number)
-            busy.add(step.group)
+            if self.steps[number].group not in busy:
+                ready.append(number)
+            busy.add(self.steps[number].group)
+        for most in (0, 1, 2, 1 << 10)[: 4 if self.ahead else 1]:  # at so many OSDs it may have to wait
+            taken = set()
+            for number in ready:
+                step = self.steps[number]
+                full = self.full(step, used, 0)
+                if len(full) <= most and not (full and self.full(step, used, self.ahead)):
+                    used.update(step.counts)
+                    taken.add(number)
+                for side in full if not most else ():  # one that wants several places keeps others from it till then
+                    used[side] += 1 << 20 if step.counts[side] > 1 else 0
+            found += sorted(taken)
+            ready = [it for it in ready if it not in taken]
         return found
 
-    def fits(self, step: Step, used: collections.Counter[str]) -> bool:
-        """Whether each OSD has a place free. A step that wants several places of one keeps others from it until it has
-        them."""
-        full = False
-        for side, count in step.counts.items() if self.limits else ():
-            most = self.limits.get(side) or self.limits[side.partition("/")[2] or "osd"]
-            if used[side] and used[side] + count > most:
-                full = True
-                used[side] += most if count > 1 else 0
-        return not full
+    def full(self, step: Step, used: collections.Counter[str], ahead: int) -> list[str]:
+        """Where a step finds no place, with so many more than the limits."""
+        limits = ((side, self.limits.get(side) or self.limits[side.partition("/")[2] or "osd"])
+                  for side in (step.counts if self.limits else ()))
+        return [side for side, most in limits if used[side] and used[side] + step.counts[side] > most + ahead]
 
     def begin(self, numbers: Sequence[int], eager: bool) -> int:
         """Sets the exceptions of these, several at once; none with `eager` while the clock holds. Answers how many."""
@@ -243,6 +250,8 @@ def read_words() -> tuple[argparse.Namespace, list[Step], int]:
     reader.add_argument("--plan", metavar="DIGEST", default="", help=argparse.SUPPRESS)
     reader.add_argument("--limits", metavar="WAY=N,..", type=read_limits, default={},
                         help="at most so many backfills of an OSD at once: out=2,in=2,osd.5/out=1")
+    reader.add_argument("--ahead", metavar="N", type=int, default=0,
+                        help="so many more at each limit, which wait in Ceph's own queue until it has a place for them")
     reader.add_argument("-n", dest="only_print", action="store_true", help="prints the commands alone")
     reader.add_argument("--force", action="store_true", help="takes the place of a script at work, and stops it")
     add_times(reader, "round, with --limits step,")
@@ -277,7 +286,7 @@ def main() -> None:
     if is_balancing():
         raise Wrong("the balancer is on, and would work against the plan: ceph balancer off")
     lock, clock = Lock(Key(), os.path.abspath(given.script or "a step")), Clock(given.until, tell, given.window)
-    carrier = Carrier(steps, given.limits, clock, lock)
+    carrier = Carrier(steps, given.limits, given.ahead, clock, lock)
     again = f"begin again with: sh {given.script}" if given.script else "begin again with the same words"
     signal.signal(signal.SIGINT, stop)
     signal.signal(signal.SIGTERM, stop)

@@ -26,7 +26,7 @@ from .groups import Group, read_change, read_groups, read_pools
 from .maps import DUMP, Change, Maps, tool
 from .sizes import sizes_of
 from .steps import Step, counts_of, limits_text, read_rounds, steps_of
-from .to_ceph import ahead_of, script
+from .to_ceph import script
 
 FOUR = ("before", "after", "dump", "crush")
 CHANGE = r"""#!/bin/sh
@@ -141,7 +141,7 @@ class Planner:
             order = "=" * group.shards + ",".join(map(str, group.after))
             found.append(Step(min(rounds.values()), name, order, groups[name].old or [], starts, counts, rounds))
         found.sort(key=lambda it: it.round)
-        return script(found, plan.digest.hex(), limits_text(ahead_of(disks, 1))), verdict
+        return script(found, plan.digest.hex(), limits_text(disks, 1)), verdict
 
     def write(self, change: Change) -> str:
         """Plans, checks, and writes the scripts; gives what is said of it."""
@@ -159,7 +159,7 @@ class Planner:
         check_rooms(found, self.nearfull)
         rounds, is_given = read_rounds(plan, self.at("plan.txt"), groups)
         steps = steps_of(groups, rounds, plan, is_given, disks, False)
-        files = {"move.sh": script(steps, plan.digest.hex(), limits_text(ahead_of(disks, 1)))}
+        files = {"move.sh": script(steps, plan.digest.hex(), limits_text(disks, 1))}
         files["back.sh"], back = self.back(groups, steps, backfills)
         left = [it for it in read_groups(self.at("before"), False) if it not in groups]
         kept = {"out": list(change.out), "weights": dict(change.weights), "left_out": left}

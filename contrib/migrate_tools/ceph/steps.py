@@ -106,15 +106,17 @@ def counts_of(shifts: Sequence[Shift], filler: int | None, disks: Disks) -> Coun
     return collections.Counter([*(it + out for it in sources), *(it.target + in_ for it in shifts)])
 
 
-def limits_text(disks: Disks) -> str:
-    """The limits of these disks by their ways, most of them the same: out=2,in=2,osd.5/out=1."""
+def limits_text(disks: Disks, ahead: int) -> str:
+    """The words of ceph-step for the limits of these disks by their ways, most of them the same:
+    out=2,in=2,osd.5/out=1."""
     all_ = {str(side).replace(" ", "/"): limit for side, limit in limits_by_side(disks).items()}
     found: dict[str, int] = {}
     for way in dict.fromkeys(it.partition("/")[2] for it in all_):
         its = {side: limit for side, limit in all_.items() if side.partition("/")[2] == way}
         most = collections.Counter(its.values()).most_common(1)[0][0]
         found |= {way or "osd": most, **{side: limit for side, limit in its.items() if limit != most}}
-    return ",".join(f"{side}={limit}" for side, limit in found.items())
+    text = ",".join(f"{side}={limit}" for side, limit in found.items())
+    return f" --limits {text}" + f" --ahead {ahead}" * bool(ahead)
 
 
 def steps_of(groups: Mapping[str, Group], rounds: Mapping[str, Mapping[str, int]], plan: Plan, given: bool,

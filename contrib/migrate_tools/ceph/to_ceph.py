@@ -70,18 +70,12 @@ def script(steps: Sequence[Step], digest: str, limits: str) -> str:
     title = f"{sum(len(it.items) for it in steps)} copies in {max(it.round for it in steps)} rounds, plan {digest}"
     title += "; no round waits for another, and round 1 is all of them" * bool(limits)
     head = HEAD.replace("TITLE", title).replace("FOLDER", shlex.quote(here()))
-    lines = [head.replace("WORDS", f"--plan {digest}" + f" --limits {limits}" * bool(limits))]
+    lines = [head.replace("WORDS", f"--plan {digest}" + limits)]
     for at, step in enumerate(steps):
         lines.append(f"{step.line()}\n")
         is_held = step.round == 0 and (at + 1 == len(steps) or steps[at + 1].round)
         lines += ["ceph osd unset norebalance\n"] * bool(is_held)
     return "".join(lines)
-
-
-def ahead_of(disks: Disks, more: int) -> Disks:
-    """The same disks with so many more at each limit."""
-    return {name: replace(it, limits=type(it.limits)(*(limit + more for limit in it.limits)))
-            for name, it in disks.items()}
 
 
 def read_words() -> argparse.Namespace:
@@ -119,6 +113,6 @@ def main() -> None:
             note(f"with what is put off there are {last} rounds, and not {len(plan.rounds)}")
         save_all({saved: text}, inputs)
         digest = hashlib.sha256(text.encode()).hexdigest()
-    limits = limits_text(ahead_of(disks, given.ahead)) if disks and given.eager else ""
+    limits = limits_text(disks, given.ahead) if disks and given.eager else ""
     text = plain(steps, digest, last) if given.plain else script(steps, digest, limits)
     put(text, given.out, inputs, 0o755)
