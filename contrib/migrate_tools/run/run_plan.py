@@ -27,7 +27,7 @@ begins as soon as both its disks have a place free by the limits of DISKS, and t
 are done. Where one fails nothing more begins."""
 import argparse, collections, os, shlex, sys
 from collections.abc import Sequence
-from ..clock import ENDED, Clock, time_of_day
+from ..clock import ENDED, Clock, add_times
 from ..command import Wrong, command, note, put, words
 from ..disks import Disks, check_disks, read_disks
 from ..folders.targets import names_of
@@ -50,8 +50,7 @@ def read_words() -> argparse.Namespace:
         add(f"--{name}", metavar="'COMMAND WORD..'", type=shlex.split, action="append", default=[], help=said)
     add("--names", metavar="FILE", help="the table of from-folders, names.csv")
     add("--eager", metavar="DISKS", help="begins each transfer as soon as the limits of this disks file let it")
-    add("--until", metavar="HH:MM", type=time_of_day,
-        help="no round begins, with --eager no transfer, once the clock shows this")
+    add_times(reader, "round, with --eager transfer,")
     add("--jobs", metavar="N", type=int, default=65536, help="at most so many commands at once")
     add("--place", metavar="FILE", help="where the place is kept, else in PLAN.place")
     add("plan", metavar="PLAN")
@@ -168,7 +167,7 @@ def main() -> None:
     tops = dict(zip(names, (os.path.dirname(it.rstrip("/")) for both in ends for it in both)))
     runner.open({disk: disks[disk] for disk in tops} if given.names else tops)
     runner.place = Place(path, plan)
-    runner.clock = Clock(given.until, runner.place.times.tell)
+    runner.clock = Clock(given.until, runner.place.times.tell, given.window)
     carrier = Carrier(plan, rounds, steps, runner)
     runner.place.times.tell(f"begins {','.join(carrier.steps)} {'rounds' if limits is None else 'eager'}")
     if limits is None:
