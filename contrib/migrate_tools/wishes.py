@@ -25,10 +25,9 @@ def heed(items: Items, wishes: Wishes) -> tuple[dict[Spot, str], list[Spot]]:
         wished = {wishes.moves.get(it.volume) for it in parts}
         if len(wished) > 1:
             raise Refused(f"{who(parts)}, which are not to go to one place: take a smaller --unit")
-        wish, fixed = wished.pop(), [it for it in parts if not it.movable]
+        wish, fixed = wished.pop(), [it for it in parts if it.fixed]
         if fixed and (wish not in (None, at[0]) or wish is None and at[0] in wishes.empty):
-            raise Refused(f"{who(fixed)}: a snapshot, what has one, a part of a cache and the like are not planned; "
-                          "move it by LVM itself first")
+            raise Refused(f"{who(fixed)}: {fixed[0].fixed}")
         if wish is None and (at[0] in wishes.empty or wishes.spread and not fixed):
             loose.append(at)
         else:

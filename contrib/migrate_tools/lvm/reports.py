@@ -12,6 +12,8 @@ PVS = "pvs --reportformat json -o vg_name,pv_name,pv_attr,pv_pe_count -S vg_name
 ROLES = {"public", "private,raid,image", "private,raid,metadata", "private,mirror,image", "private,mirror,log",
          "private,thin,pool,data", "private,thin,pool,metadata", "private,pool,spare"}
 
+FIXED = "a snapshot, what has one, a part of a cache and the like are not planned; move it by LVM itself first"
+
 Row = dict[str, str]
 
 
@@ -112,7 +114,7 @@ def read_parts(rows: Sequence[Row], path: str, sizes: Mapping[str, int]) -> list
                             "both reports anew")
             stripe: tuple[Hashable, int] = ((volume, at), number) if len(ranges) > 1 else (None, 0)
             group, leg = leg_of(volume) or stripe
-            parts.append(Part(volume, last - first + 1, device, first, movable, group, leg))
+            parts.append(Part(volume, last - first + 1, device, first, "" if movable else FIXED, group, leg))
     parts.sort(key=lambda it: (it.device, it.first))
     for one, two in itertools.pairwise(parts):
         if one.device == two.device and two.first <= one.last:
