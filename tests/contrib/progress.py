@@ -190,7 +190,7 @@ def logs():
     """The scripts of to-lvm and to-ceph: a pause, an end by --until, and what progress reads in their logs."""
     with Room() as room:
         room.write("bin/date", DATE)
-        room.good("logs", "chmod +x bin/date; cp contrib/samples/lvm/*.json . && contrib/from-lvm lvs.json pvs.json --empty /dev/loop0 --limit 2 --unit 32 && ./migrate plan disks.csv now.csv next.csv plan.txt cert.txt && contrib/to-lvm plan.txt names.csv --out moves.sh")
+        room.good("logs", "chmod +x bin/date; cp contrib/samples/lvm/*.json . && contrib/from-lvm lvs.json pvs.json --empty /dev/loop0 --limit 2 --unit 32 && ./migrate plan disks.csv now.csv next.csv plan.txt cert.txt && contrib/to-lvm plan.txt names.csv --plain --out moves.sh")
         room.good("logs", "mkdir ceph && cd ceph && S=../contrib/samples/ceph && ../contrib/from-ceph $S/before $S/after $S/dump $S/crush --backfills 2 && ../migrate plan disks.csv now.csv next.csv plan.txt cert.txt && ../contrib/to-ceph plan.txt $S/before $S/after $S/dump $S/crush --out upmaps.sh")
         refused(room, "no log yet", "contrib/progress plan.txt --log moves.sh", "is not the log of a script for this plan")
         for folder, script, names in (".", "moves.sh", "--names ../names.csv"), ("ceph", "upmaps.sh", ""):
