@@ -4,7 +4,7 @@ from waiting import LIMIT, until
 from rooms import HERE, Count, Room, page, refused, rows_of, shifts_of, sizes_of, volumes_of
 
 LVS = "lvs -a --segments --reportformat json -o vg_name,lv_name,lv_role,segtype,seg_pe_ranges"
-PVS = "pvs --reportformat json -o vg_name,pv_name,pv_attr,pv_pe_count"
+PVS = "pvs --reportformat json --units b -o vg_name,pv_name,pv_attr,pv_pe_count,vg_extent_size"
 PVMOVE = re.compile(r"pvmove -i 3 (?:--alloc anywhere )?-n (\S+) (\S+):(\d+)-(\d+) (\S+):(\d+)-(\d+)")
 
 
@@ -144,6 +144,33 @@ def the_unit_of_lvm():
         chosen("--empty loop0", "unit 512 extents: 293 items on 3 disks, 293 of them go to another disk, by 293 pvmoves")
         Count.same("its slots", room.read("disks.csv"), "disk,limit,slots\nloop0,1,390\nloop1,1,390\nloop2,1,390\n")
         chosen("--spread", "unit 512 extents: 293 items on 3 disks, 195 of them go to another disk, by 195 pvmoves")
+
+
+def what_reports_know():
+    """The bytes of an extent are those of the report; what is not allocatable is named; a leg's metadata go along with it."""
+    with Room() as room:
+        room.good("extents", "cp contrib/samples/lvm/*.json . && cp contrib/samples/lvm/odd/closed-pvs.json .")
+        report = json.loads(room.read("pvs.json"))
+        for name, text, words, wanted in (("of the report", "33554432B", "", 32 << 20), ("without a unit", "1048576", "", 1 << 20), ("said twice", "33554432B", "--extent 32M", 32 << 20),
+                                          ("of none", None, "", 4 << 20), ("by a word", None, "--extent 8M", 8 << 20)):
+            for row in report["report"][0]["pv"]:
+                row.update({"vg_extent_size": text}) if text else row.pop("vg_extent_size", None)
+            room.keep("pvs.json", report)
+            ran = room.run(f"contrib/from-lvm lvs.json pvs.json --empty loop0 --unit 16 {words}")
+            Count.same(f"the bytes of 16 extents, {name}", (ran.returncode, room.read("bytes.csv").splitlines()[1]), (0, f"db.0,{16 * wanted}"))
+            Count.same(f"it is said that they are supposed, {name}", "supposes extents of 4 MiB" in ran.stderr, name == "of none")
+        for text, words, said in (("4.00m", "", "'4.00m' is no number of bytes of an extent"), ("33554432B", "--extent 4M", "--extent is not 33554432 bytes, as pvs.json has it")):
+            report["report"][0]["pv"][0]["vg_extent_size"] = text
+            room.keep("pvs.json", report)
+            refused(room, "an extent", f"contrib/from-lvm lvs.json pvs.json --empty loop0 {words}", said)
+        refused(room, "closed", "contrib/from-lvm lvs.json closed-pvs.json --empty loop0 --empty loop2", "nothing can come to /dev/loop1, since LVM has it as not allocatable (pvchange -x y)")
+    with Room() as room:
+        room.good("along", "cp contrib/samples/lvm/parts/*.json .")
+        ran = room.run("contrib/from-lvm lvs.json pvs.json --move r_rimage_0=loop3 --unit 1")
+        Count.that("a leg's metadata go along, and it is said", ran.returncode == 0 and "from-lvm: r_rmeta_0 goes along with r_rimage_0\n" in ran.stderr
+                   and {disk for item, disk in rows_of(room.read("next.csv")) if re.match(r"r_r(image|meta)_0\.", item)} == {"loop3"}, ran)
+        ran = room.run("contrib/from-lvm lvs.json pvs.json --move r_rimage_0=loop3 --move r_rmeta_0=loop4 --unit 1")
+        Count.that("where it is told it goes elsewhere", "goes along" not in ran.stderr and dict(rows_of(room.read("next.csv")))["r_rmeta_0.0"] == "loop4", ran)
 
 
 def lvm_of_parts():
@@ -441,4 +468,4 @@ def real_lvm():
     return None
 
 
-CASES = (recorded_lvm, lvm_of_parts, the_unit_of_lvm, the_script_of_lvm, the_log_of_lvm, the_summary_of_lvm, real_lvm)
+CASES = (recorded_lvm, what_reports_know, lvm_of_parts, the_unit_of_lvm, the_script_of_lvm, the_log_of_lvm, the_summary_of_lvm, real_lvm)

@@ -130,6 +130,46 @@ def what_places_say():
             refused(room, f"progress {words}", f"contrib/progress {words}", said, status)
 
 
+def what_is_measured():
+    """The text for Prometheus; and no time left before a fifth is done, or a minute has passed."""
+    rounds = [[[f"i{at}", "a", str(at), "b", str(at)]] for at in range(10)]
+    with Room() as room:
+        room.write("plan.txt", plan_text(rounds))
+        room.write("bytes.csv", "item,bytes\n" + "".join(f"i{at},{1000 * (at + 1)}\n" for at in range(10)))
+        digest = room.good("metrics", "sha256sum <plan.txt").split()[0]
+        for done, seconds, left in ((1, 20, None), (1, 59, None), (1, 61, 549.0), (2, 20, 80.0), (10, 20, 0.0)):
+            room.write("plan.txt.place", f"plan {digest}\n" + "".join(f"copied {at + 1} i{at}\n" for at in range(done)))
+            ends = [seconds * (at + 1) / done for at in range(done)]
+            lines = ["0 begins copied rounds", *(f"{ends[at] - seconds / done} copying {at + 1} i{at}\n{ends[at]} copied {at + 1} i{at}" for at in range(done)), f"{seconds} ends"]
+            room.write("plan.txt.place.times", "".join(f"{line}\n" for line in lines))
+            found = json.loads(room.good("time left", "contrib/progress plan.txt --json"))
+            Count.same(f"the time left once {done} of 10 are done in {seconds} s", found["seconds_left"], left)
+        room.write("plan.txt.place", f"plan {digest}\ncopied 1 i0\n")
+        room.write("plan.txt.place.times", "0 begins copied rounds\n0 copying 1 i0\n20 copied 1 i0\n20 ends\n")
+        wanted = {"rounds": 10, "items": 10, "bytes": 55000, "rounds_done": 1, "items_done": 1, "bytes_done": 1000, "seconds_at_work": 20.0, "paused": 0, "at_work": 0, "done": 0}
+        Count.same("what Prometheus reads", room.good("metrics", "contrib/progress plan.txt --sizes bytes.csv --metrics"), "".join(
+            f'# TYPE migrate_plan_{name} gauge\nmigrate_plan_{name}{{plan="{digest}"}} {value}\n' for name, value in wanted.items()))
+        refused(room, "--metrics --every", "contrib/progress plan.txt --metrics --every 1", "--metrics goes neither with", 2)
+
+
+def hooks():
+    """What --hook is called with where a check fails, where run-plan stops, and where all is done."""
+    with Room() as room:
+        room.write("plan.txt", plan_text([[["x", "a", "0", "b", "0"]]]))
+        room.write("hook", 'echo "$1: $2" >>told; exit ${STATUS:-0}')
+        words = "--hook 'sh hook' --erase 'rm -rf mnt/{from}/{item}' plan.txt"
+        room.good("hooks", "mkdir -p mnt/a/x mnt/b; touch -d @5 mnt/a/x")
+        stopped = "stopped: plan.txt: stopped in round 1 of 1\n"
+        for name, command, status, wanted in (
+                ("a copy that lacks something", f"contrib/run-plan {words} cp -r mnt/{{from}}/{{item}} mnt/{{to}}/", 1, f"failed: plan.txt: not compared 1 x\n{stopped}"),
+                ("a guard", f"contrib/run-plan --guard 'test -e {{disk}}' {words} true {{item}}", 1, "failed: plan.txt: disk a is not as --guard asks\n"),
+                ("its time", f"OVER=hook contrib/run-plan {words} true {{item}}", 3, "ended: plan.txt: ended before round 1 of 1, as --until says\n"),
+                ("a hook that fails", f"STATUS=7 contrib/run-plan {words} cp -a mnt/{{from}}/{{item}} mnt/{{to}}/", 0, "done: plan.txt: all 1 rounds are carried out\n")):
+            ran = room.run(f"rm -f told; {command}")
+            Count.same(f"the hook, {name}", (ran.returncode, room.read("told")), (status, wanted))
+            Count.same(f"the hook's own status, {name}", "run-plan: --hook ended with status 7: sh hook\n" in ran.stderr, "7" in command)
+
+
 # Pauses
 
 def pauses():
@@ -325,4 +365,4 @@ def balanced():
             refused(room, words, f"contrib/{words}", said, status)
 
 
-CASES = (time_left, a_real_run, what_places_say, pauses, logs, sizes, balanced)
+CASES = (time_left, a_real_run, what_places_say, what_is_measured, hooks, pauses, logs, sizes, balanced)

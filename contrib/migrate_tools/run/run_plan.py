@@ -33,6 +33,7 @@ from ..clock import ENDED, Clock, add_times
 from ..command import Wrong, command, note, put, words
 from ..disks import Disks, check_disks, read_disks
 from ..folders.targets import names_of
+from ..hooks import add_hook, call
 from ..plans import Plan, Shift, read_plan
 from ..waiting import Waiting
 from .commands import PLACES, Steps, Values, check_inside, check_words, commands, ends_in, fill_in, filled
@@ -56,6 +57,7 @@ def read_words() -> argparse.Namespace:
     add("--names", metavar="FILE", help="the table of from-folders, names.csv")
     add("--eager", metavar="DISKS", help="begins each transfer as soon as the limits of this disks file let it")
     add_times(reader, "round, with --eager transfer,")
+    add_hook(reader)
     add("--jobs", metavar="N", type=int, default=65536, help="at most so many commands at once")
     add("--place", metavar="FILE", help="where the place is kept, else in PLAN.place")
     add("plan", metavar="PLAN")
@@ -141,8 +143,10 @@ def stopped(runner: Runner, where: str, is_over: bool = True) -> None:
     failed, or was stopped."""
     runner.place.times.tell("ends")
     if is_over and not runner.status and runner.clock.is_over():
+        call(runner.hook, "ended", f"{runner.name}: ended {where}, as --until says")
         note(f"ended {where}, as --until says; begin again with the same words")
         sys.exit(ENDED)
+    call(runner.hook, "stopped", f"{runner.name}: stopped {where}")
     note(f"stopped {where}, and nothing more is removed; begin again with the same words")
     sys.exit(runner.status or 1)
 
@@ -175,6 +179,7 @@ def main() -> None:
 
     path = given.place or f"{given.plan}.place"
     runner = Runner(given.jobs, guards, limits is not None)
+    runner.hook, runner.name = given.hook, given.plan
     if not runner.guarded(*guards):
         raise Wrong("nothing was begun")
     ends = [filled(paths, it) for round_ in rounds for it in round_ if paths]
@@ -193,4 +198,5 @@ def main() -> None:
     else:
         carrier.by_limits(limits)
     runner.place.times.tell("ends")
+    call(given.hook, "done", f"{given.plan}: all {len(rounds)} rounds are carried out")
     return put(f"all {len(rounds)} rounds are carried out\n")

@@ -5,6 +5,7 @@ from dataclasses import dataclass
 from typing import NoReturn
 from ..clock import Clock
 from ..command import Wrong, note
+from ..hooks import call
 from .compare import check_since, compare
 from .place import Place
 
@@ -43,6 +44,8 @@ class Runner:
     0. Where one fails, those that were handed over with it begin all the same, unless `is_strict`: then no copy begins
     either while `clock` holds."""
     place: Place
+    hook: Sequence[str] = ()
+    name = ""  # of the plan, for the hook
 
     def __init__(self, most: int, guards: Mapping[str, Sequence[str]], is_strict: bool = False) -> None:
         self.most, self.guards, self.is_strict, self.status, self.clock = most, guards, is_strict, 0, Clock()
@@ -76,6 +79,7 @@ class Runner:
                 code = error.strerror
             if code:
                 note(f"disk {disk} is not as --guard asks: {shlex.join(self.guards[disk])}: status {code}")
+                call(self.hook, "failed", f"{self.name}: disk {disk} is not as --guard asks")
                 self.status = self.status or 1
                 return False
         return True
@@ -171,6 +175,7 @@ class Runner:
         if code and said != NO:
             self.failed(f"not {job.kind} {job.line}: status {code}: {shlex.join(job.words)}")
         if code and (said == NO or job.kind in LOOKS):
+            call(self.hook, "failed", f"{self.name}: not {job.kind} {job.line}")
             self.place.add(f"not copied {job.line}", f"not erasing {job.line}")
         if job.kind == "compared":
             self.compared[job.line] = job.words[0], said.decode()
