@@ -16,6 +16,11 @@ def tool() -> str:
     return os.path.basename(sys.argv[0])
 
 
+def here() -> str:
+    """The folder of this command, in which the others are too."""
+    return os.path.dirname(os.path.abspath(sys.argv[0]))
+
+
 def note(text: object) -> None:
     print(f"{tool()}: {text}", file=sys.stderr)
 

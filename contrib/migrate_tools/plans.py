@@ -91,6 +91,16 @@ class PlanText:
         return Shift(item, source, self.number(slot, MOST_SLOTS - 1), target, self.number(to, MOST_SLOTS - 1))
 
 
+def plan_text(rounds: Iterable[Iterable[Shift]]) -> str:
+    """The text of a plan of these rounds."""
+    all_ = [list(it) for it in rounds]
+    lines = ["migration-plan 1", f"rounds {len(all_)}"]
+    for at, shifts in enumerate(all_, 1):
+        lines += [f"round {at} {len(shifts)}",
+                  *(f"{it.item} {it.source} {it.source_slot} {it.target} {it.target_slot}" for it in shifts)]
+    return "\n".join([*lines, "end", ""])
+
+
 def read_plan(path: str) -> Plan:
     """The plan of a plan text. What it does is for `check` and `after` to judge; its form is judged here."""
     text = PlanText(path)

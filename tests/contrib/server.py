@@ -5,7 +5,8 @@ import array, gc, importlib, importlib.util, os, select, shutil, signal, socket,
 
 HERE = os.path.dirname(os.path.realpath(__file__))
 CONTRIB = os.path.join(os.path.dirname(os.path.dirname(HERE)), "contrib")
-COMMANDS = {"from-lvm": "lvm.from_lvm", "to-lvm": "lvm.to_lvm", "lvm-step": "lvm.lvm_step",
+COMMANDS = {"from-lvm": "lvm.from_lvm", "to-lvm": "lvm.to_lvm", "lvm-step": "lvm.lvm_step", "plan-lvm": "lvm.plan_lvm",
+            "plan-folders": "folders.plan_folders",
             "from-ceph": "ceph.from_ceph", "to-ceph": "ceph.to_ceph",
             "from-folders": "folders.from_folders", "run-plan": "run.run_plan", "picture": "show.picture", "report": "show.report",
             "summary": "show.summary", "witness": "show.witness", "progress": "show.progress"}

@@ -22,7 +22,7 @@ from ..sizes import amount, size_rows
 from ..tight import Form, form_of, may_meet, unfit
 from ..wishes import Wishes, carry_out
 from .pvmoves import LEG
-from .reports import cut, extent_of, read_parts, read_reports, read_sizes, short
+from .reports import FIXED, cut, extent_of, read_parts, read_reports, read_sizes, short
 
 LEAST_UNIT, MOST_PVMOVES = 16, 300  # of the unit that is chosen, where the wish leaves a choice
 
@@ -187,6 +187,8 @@ def main() -> None:
         "next.csv": [["item", "disk"], *([names[at], disks[next_[at]]] for at in items)], "names.csv": stands,
         "bytes.csv": size_rows({names[at]: extent * bulk_of(items[at]) for at in items})}
     save_all({os.path.join(given.into, name): table(rows) for name, rows in files.items()}, [given.lvs, given.pvs])
+    if fixed := dict.fromkeys(it.volume for it in parts if it.fixed):
+        note(f"{', '.join(fixed)}: {FIXED}")
     going = sum(next_[at] != at[0] for at in items)
     note(f"unit {chosen.unit} extent{'s' * (chosen.unit > 1)}: {len(items)} items on {len(slots)} disks, {going} of "
          f"them go to another disk, by {chosen.pvmoves} pvmoves")

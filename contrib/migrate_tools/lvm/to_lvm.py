@@ -14,8 +14,8 @@ stripe of what it has, is refused. It needs root, and it is for /bin/sh; with --
   sh SCRIPT --until 06:00    no round begins from then on; where one is left the status is 3
 While a file `pause` is in the folder in which it was begun no further round begins. `lvm-step --help` has the other
 words; with --plain there are these alone. `progress --log` reads what it prints."""
-import os, shlex, sys
-from ..command import Wrong, command, put, words
+import shlex
+from ..command import Wrong, command, here, put, words
 from ..plans import read_plan
 from ..waiting import needed
 from .lvm_step import spot
@@ -53,8 +53,7 @@ def main() -> None:
         raise Wrong("moves nothing", given.plan)
     rounds, all_rounds = read_pvmoves(plan, given.names)[1], any(needed(shifts))
     title = f"{len(shifts)} transfers in {len(rounds)} rounds, plan {digest}"
-    folder = os.path.dirname(os.path.abspath(sys.argv[0]))
-    lines = [HEAD.replace("TITLE", title).replace("FOLDER", shlex.quote(folder)).replace(
+    lines = [HEAD.replace("TITLE", title).replace("FOLDER", shlex.quote(here())).replace(
         "WORDS", f"--plan {digest}{' --all-rounds' * all_rounds}")]
     for at, moves in enumerate(rounds, 1):
         lines += [f"\n# round {at}\n", *(f"{line_of(at, it)}\n" for it in moves)]

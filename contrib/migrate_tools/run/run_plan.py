@@ -60,6 +60,7 @@ def read_words() -> argparse.Namespace:
     add_hook(reader)
     add("--jobs", metavar="N", type=int, default=65536, help="at most so many commands at once")
     add("--place", metavar="FILE", help="where the place is kept, else in PLAN.place")
+    add("--undo", metavar="PLAN", help="PLAN is this one backwards: only what its place has is brought back")
     add("plan", metavar="PLAN")
     add("command", metavar="COMMAND", nargs="...")
     given = reader.parse_args()
@@ -138,6 +139,23 @@ def next_of(left: Mapping[str, collections.deque[Job]], kept: Sequence[Job]) -> 
     return [left[it.line].popleft() for it in kept if left[it.line]]
 
 
+def undo(path: str, plan: Plan, place: Place) -> None:
+    """Counts what another plan, of which this one is the way back, has not done as done here; and what it copied, and
+    did not begin to remove, as copied."""
+    there, forward = read_plan(path), Place(f"{path}.place", read_plan(path))
+    moved = collections.defaultdict(list)
+    for at, it in ((at, it) for at, round_ in enumerate(there.rounds, 1) for it in round_):
+        moved[it.item, it.target, it.target_slot].append(f"{at} {it.item}")
+    for at, it in ((at, it) for at, round_ in enumerate(plan.rounds, 1) for it in round_):
+        lines = moved[it.item, it.source, it.source_slot]
+        if len(lines) != 1:
+            raise Wrong(f"does not bring {it.item} to where this one takes it from", path)
+        line = f"{at} {it.item}"
+        if forward.has(f"erasing {lines[0]}", f"erased {lines[0]}") or place.has(f"copied {line}"):
+            continue
+        place.add(f"copied {line}", *[] if forward.has(f"copied {lines[0]}") else [f"erased {line}"])
+
+
 def stopped(runner: Runner, where: str, is_over: bool = True) -> None:
     """Ends where not all is done: as --until says, where nothing failed and its time has come; else since something
     failed, or was stopped."""
@@ -183,10 +201,13 @@ def main() -> None:
     if not runner.guarded(*guards):
         raise Wrong("nothing was begun")
     ends = [filled(paths, it) for round_ in rounds for it in round_ if paths]
-    look(path, ends)
+    if not given.undo:
+        look(path, ends)
     tops = dict(zip(names, (os.path.dirname(it.rstrip("/")) for both in ends for it in both)))
     runner.open({disk: disks[disk] for disk in tops} if given.names else tops)
     runner.place = Place(path, plan)
+    if given.undo:
+        undo(given.undo, plan, runner.place)
     runner.clock = Clock(given.until, runner.place.times.tell, given.window)
     does = {kind: words_ for kind, (_, words_) in steps.items() if words_}
     if given.erase and not given.unverified:
@@ -199,4 +220,6 @@ def main() -> None:
         carrier.by_limits(limits)
     runner.place.times.tell("ends")
     call(given.hook, "done", f"{given.plan}: all {len(rounds)} rounds are carried out")
+    for it in (f"{given.undo}.place", path) if given.undo else ():
+        os.unlink(it)  # both plans can be begun anew
     return put(f"all {len(rounds)} rounds are carried out\n")
