@@ -264,7 +264,9 @@ def eager_stops():
         room.write("job", AFTER)
         room.write("disks.csv", SPLIT + "".join(f"{it},1,1,9\n" for it in "abcd"))
         room.write("plan.txt", plan_text([[["bad", "a", "0", "b", "0"], ["long", "c", "0", "d", "0"]], [["more", "c", "1", "d", "1"]]]))
-        ran = room.run("contrib/run-plan --eager disks.csv --unverified --erase 'sh job erase {item}' plan.txt sh -c '[ $1 = bad ] && exit 3; sh job copy $1 \"run-plan: not copied 1 bad\" notes' sh {item} 2>notes")
+        ran = room.run("contrib/run-plan --eager disks.csv --unverified --erase 'sh job erase {item}' plan.txt sh -c "
+                       "'[ $1 = bad ] && exit 3; sh job copy $1 \"run-plan: not copied 1 bad\" notes' sh {item} "
+                       "2>notes")
         Count.same("nothing more begins once one fails", [(what, kind, item) for what, kind, item in events_of(room)], [("begin", "copy", "long"), ("end", "copy", "long")])
         Count.that("what is left is told", ran.returncode == 1 and "not copied 1 bad: status 3" in room.read("notes") and "stopped with 3 of 3 transfers left, and nothing more is removed" in room.read("notes"), (ran, room.read("notes")))
         Count.that("what ended well is kept", "copied 1 long\n" in room.read("plan.txt.place"))

@@ -74,9 +74,11 @@ def lvs(state):
 
 
 def pvs(state):
-    if WORDS == "--reportformat json --units b -o vg_name,pv_name,pv_attr,pv_pe_count,vg_extent_size -S vg_name=data".split():
+    columns = "vg_name,pv_name,pv_attr,pv_pe_count,vg_extent_size"
+    if WORDS == f"--reportformat json --units b -o {columns} -S vg_name=data".split():
         row = {"vg_name": "data", "pv_attr": "a--", "vg_extent_size": "4194304B"}
-        return print_report("pv", [{**row, "pv_name": device, "pv_pe_count": size} for device, size in state["devices"].items()])
+        return print_report("pv", [{**row, "pv_name": device, "pv_pe_count": size} for device,
+                                   size in state["devices"].items()])
     if WORDS[:-1] == "--noheadings -o pv_name".split():
         return print(f"  {WORDS[-1]}") if WORDS[-1] in state["devices"] else stop(f"  Failed to find physical volume \"{WORDS[-1]}\".")
     is_json = WORDS[:-1] == "--segments --reportformat json -o lv_name,pvseg_start,pvseg_size".split()

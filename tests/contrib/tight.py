@@ -137,7 +137,8 @@ def steps_of(script):
     """The moves of a script in their order: the volume, and the spots that it looks at: from where, to where, and where it goes later."""
     lines = [shlex.split(line)[3:] for line in script.splitlines() if line.startswith("lvm-step --round ")]
     spots = re.compile(r"(\S+):(\d+)-(\d+)")
-    return [(volume, [(it[1], int(it[2]), int(it[3])) for it in map(spots.fullmatch, those)]) for volume, *those in lines]
+    return [(volume, [(it[1], int(it[2]), int(it[3])) for it in map(spots.fullmatch, those)]) for volume,
+            *those in lines]
 
 
 def run_of(volumes, steps, most):
