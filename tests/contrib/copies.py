@@ -167,6 +167,20 @@ def a_source_that_changes():
                         said = str(wrong)
                 Count.that(f"a source that changes while it is compared: {name}",
                            "mnt/a/x" in said and " " in said and not said[0].isdigit(), said)
+    with Room() as room, contextlib.chdir(room.at):  # as it begins: all is as before, and only newer
+        room.good("as it begins", "mkdir -p mnt/a/x; echo 1 >mnt/a/x/one; cp -a mnt/a mnt/b")
+        real, done = compare.tree_of, []
+
+        def look(top):
+            done or done.append(os.chmod("mnt/a/x/one", os.stat("mnt/a/x/one").st_mode))
+            return real(top)
+
+        with mock.patch.object(compare, "tree_of", look):
+            try:
+                said = compare.compare("mnt/a/x", "mnt/b/x")
+            except compare.Wrong as wrong:
+                said = str(wrong)
+        Count.that("a source that changes as the comparison begins", said.startswith("mnt/a/x/one was changed"), said)
 
 
 def links_and_pipes():

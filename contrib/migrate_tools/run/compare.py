@@ -108,7 +108,7 @@ def compare(source: str, target: str) -> str:
         raise Wrong("has no copy" if inside in one else "is in the copy alone",
                     os.path.join(source if inside in one else target, inside))
     links, copied = links_of(one), links_of(two)
-    for inside, it in one.items():
+    for inside, it in sorted(one.items()):
         path, copy = (os.path.join(top, inside) if inside else top for top in (source, target))
         if not stat.S_ISDIR(it.st_mode) and it.st_nlink != len(links.get(inside, [inside])):
             raise Wrong(f"has another name outside of {source}, a hard link, which no copy of that keeps", path)
