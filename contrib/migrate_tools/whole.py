@@ -86,8 +86,8 @@ class Planner:
 
     def __init__(self, folder: str) -> None:
         self.folder, self.said = os.path.abspath(folder), folder
-        if os.path.exists(self.at("plan.txt.place")):
-            raise Wrong("has a plan that was begun", folder)
+        if os.path.exists(self.at("move.sh")):
+            raise Wrong("has a plan with its way back already: name another folder", folder)
         os.makedirs(self.at("back"), exist_ok=True)
         beside = os.path.join(os.path.dirname(here()), "migrate")
         self.program = beside if os.access(beside, os.X_OK) else shutil.which("migrate") or beside

@@ -149,8 +149,9 @@ def a_source_that_changes():
                        ran.returncode == 1 and "was changed since its copy was compared: stop what writes there"
                        in ran.stderr and "not erased 1 x: mnt/a/x"
                        in ran.stderr and os.path.exists(room.path("mnt/a/x")), (ran, room.read("looks")))
-            Count.that(f"the place does not say that it is being removed: {name}",
-                       "not erasing 1 x\n" in room.read("plan.txt.place"), room.read("plan.txt.place"))
+            lines = room.read("plan.txt.place").splitlines()
+            Count.that(f"the place never said that it is being removed: {name}",
+                       "erasing 1 x" not in lines and lines[-2:] == ["not copied 1 x", "not erasing 1 x"], lines)
             with contextlib.chdir(room.at):
                 room.good(name, "rm -rf mnt/?/*; mkdir -p mnt/a/x/sub; cd mnt/a/x; echo 1 >one; echo 2 >two; echo 3 "
                                 ">sub/three; cd ../../..; cp -a mnt/a/x mnt/b/")

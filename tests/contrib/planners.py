@@ -130,7 +130,7 @@ def plans_of_folders():
         room.good("plan-folders", "mkdir -p mnt/a/x mnt/b; contrib/plan-folders mnt/* --empty mnt/a --rate 1M --into "
                                   "p; sh p/move.sh")
         refused(room, "a plan that was begun", "contrib/plan-folders mnt/* --empty mnt/b --into p",
-                "p has a plan that was begun")
+                "p has a plan with its way back already")
         refused(room, "a wish that cannot be", "contrib/plan-folders mnt/* --empty mnt/none --into p/more",
                 "there is no disk ")
 

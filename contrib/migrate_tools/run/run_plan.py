@@ -26,7 +26,8 @@ with it. When what began and ended is written to FILE.times beside the place, fo
 
 With --eager no round waits for the one before. A transfer (its copy, what looks at it, and what removes its source)
 begins as soon as both its disks have a place free by the limits of DISKS, and those before it of its item and its slots
-are done. Where one fails nothing more begins."""
+are done. Where one fails nothing more begins. With --undo PLAN, of which this plan is the way back, only what that
+one's place has is brought back; then both can be begun anew."""
 import argparse, collections, functools, os, shlex, sys
 from collections.abc import Mapping, Sequence
 from ..clock import ENDED, Clock, add_times
