@@ -127,8 +127,11 @@ def plans_of_folders():
             Count.same(f"{name}: once more, and there", (room.run("sh p/move.sh").returncode, room.good(name,
                 "find mnt/a ! -type d")), (0, ""))
     with Room() as room:
-        room.good("plan-folders", "mkdir -p mnt/a/x mnt/b; contrib/plan-folders mnt/* --empty mnt/a --rate 1M --into "
-                                  "p; sh p/move.sh")
+        room.good("plan-folders", "mkdir -p mnt/a/x mnt/b; head -c 99999 /dev/zero >mnt/a/x/file")
+        said = room.good("plan-folders", "contrib/plan-folders mnt/* --empty mnt/a --into p")
+        Count.that("a rate that is measured", re.search(r"^  with .*iB a second, as \S*/mnt/a/x/file is read$", said,
+                                                        re.M), said)
+        room.good("plan-folders", "sh p/move.sh")
         refused(room, "a plan that was begun", "contrib/plan-folders mnt/* --empty mnt/b --into p",
                 "p has a plan with its way back already")
         refused(room, "a wish that cannot be", "contrib/plan-folders mnt/* --empty mnt/none --into p/more",
