@@ -40,7 +40,7 @@ class Balance:
         low = {it: math.ceil((part - self.percent / 100) * self.sizes[it]) for it in open_}
         high = {it: math.floor((part + self.percent / 100) * self.sizes[it]) for it in open_}
         free = [at for at in items if at not in loose and bulk[at] and next_.get(at, at[0]) == at[0] in open_
-                and all(it.movable for it in items[at])]
+                and not any(it.fixed for it in items[at])]
         self.least = len(loose) or fewest(free, bulk, used, low, high)
         best: Next | None = None
         why: Refused | None = None

@@ -9,13 +9,13 @@ from .command import Wrong
 @dataclass(frozen=True)
 class Part:
     """A part of an item, or all of it: `bulk` extents of a volume on a device, from `first` on, or a path with its
-    bytes. Whether it can be moved at all. LVM keeps the legs of a group, which are those of a raid or a mirror, or the
-    stripes of a segment, on devices of their own; elsewhere the group is None."""
+    bytes. Why it is not moved, empty where it may be. LVM keeps the legs of a group, which are those of a raid or a
+    mirror, or the stripes of a segment, on devices of their own; elsewhere the group is None."""
     volume: str
     bulk: int
     device: str = ""
     first: int = 0
-    movable: bool = True
+    fixed: str = ""
     group: Hashable = None
     leg: int = 0
 
@@ -36,6 +36,8 @@ class Refused(Wrong):
 
 def who(parts: Sequence[Part]) -> str:
     names = " and ".join(dict.fromkeys(it.volume for it in parts))
+    if not parts[0].device:
+        return names
     return f"extents {parts[0].first} to {parts[-1].last} of {parts[0].device} hold {names}"
 
 

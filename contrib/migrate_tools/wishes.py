@@ -25,10 +25,9 @@ def heed(items: Items, wishes: Wishes) -> tuple[dict[Spot, str], list[Spot]]:
         wished = {wishes.moves.get(it.volume) for it in parts}
         if len(wished) > 1:
             raise Refused(f"{who(parts)}, which are not to go to one place: take a smaller --unit")
-        wish, fixed = wished.pop(), [it for it in parts if not it.movable]
+        wish, fixed = wished.pop(), [it for it in parts if it.fixed]
         if fixed and (wish not in (None, at[0]) or wish is None and at[0] in wishes.empty):
-            raise Refused(f"{who(fixed)}: a snapshot, what has one, a part of a cache and the like are not planned; "
-                          "move it by LVM itself first")
+            raise Refused(f"{who(fixed)}: {fixed[0].fixed}")
         if wish is None and (at[0] in wishes.empty or wishes.spread and not fixed):
             loose.append(at)
         else:
@@ -110,15 +109,18 @@ def check(items: Items, next_: Next, slots: Slots) -> None:
 def carry_out(items: Items, slots: Slots, wishes: Wishes) -> dict[Spot, str]:
     """The next disk of each item: so that each has room for old and incoming items together, where dealing out can have
     that."""
+    closed = ", ".join(it for it in slots if it in wishes.closed - wishes.empty)
+    more = f"; nothing can come to {closed}, since LVM has it as not allocatable (pvchange -x y)" if closed else ""
     try:
         return dealt(items, slots, wishes, False)
     except Refused as refused:
-        if wishes.balance:
-            raise
-        try:
-            return dealt(items, slots, wishes, True)
-        except Refused:
-            raise refused from None
+        if not wishes.balance:
+            try:
+                return dealt(items, slots, wishes, True)
+            except Refused:
+                pass
+        is_room = "no room" in str(refused) or "no disk is left" in str(refused) or wishes.balance
+        raise Refused(f"{refused}{more if is_room else ''}") from None
 
 
 def dealt(items: Items, slots: Slots, wishes: Wishes, is_tight: bool) -> dict[Spot, str]:

@@ -2,13 +2,11 @@
 last byte, and what of a plan's picture a page shows. The functions of the package are called here, where that says most."""
 import contextlib, datetime, fcntl, fractions, os, re, subprocess, sys, time
 from unittest import mock
-import server
 from migrate_tools import balance, clock, command, items, plans, tight, wishes
 from migrate_tools.ceph import crush
 from migrate_tools.disks import Disk, Joint
 from migrate_tools.folders import found
 from migrate_tools.lvm import pvmoves
-from migrate_tools.run import place, runner
 from migrate_tools.show import done, left, progress
 import waiting
 from limits_model import plan_text
@@ -73,66 +71,6 @@ def saved_whole():
         room.good("spellings", "mkdir folder; ln plan.txt same; ln -s plan.txt link")
         for out in ("./plan.txt", "folder/../plan.txt", "same", "link", room.path("plan.txt")):
             refused(room, "other spellings", f"contrib/to-lvm plan.txt names.csv --out {out}", f"{out} was read, and is not written over")
-
-
-def order_of_a_move():
-    """For each item its copy, then the sync of its disk, then the place, which is synced, and only then what removes its source."""
-    with Room() as room, open(room.path("log"), "ab", buffering=0) as log:
-        def tell(text):
-            log.write(f"{text}\n".encode())
-
-        def added(self, *lines):
-            add(self, *lines)
-            for line in lines:
-                tell(f"place {line}")
-
-        def synced(handle):
-            tell(f"fsync {os.path.basename(os.readlink(f'/proc/self/fd/{handle}'))}")
-            return fsync(handle)
-
-        add, fsync = place.Place.add, os.fsync
-        room.write("plan.txt", PLAN)
-        room.write("disks.csv", "disk,limit,slots\na,1,9\nb,1,9\n")
-        job = "echo $0 $1 >>log"
-        for name, local, more in (("with its disks here", True, []), ("with disks that are elsewhere, as by ssh", False, []),
-                                  ("without rounds", True, ["--eager", "disks.csv"])):
-            room.good(name, "rm -f plan.txt.place*; : >log; " + "mkdir -p mnt/a mnt/b" * local)
-            words = ["run-plan", *more, "--erase", f"sh -c '{job}' erase {{item}} mnt/{{from}}/{{item}}", "plan.txt", "sh", "-c", job, "copy",
-                     "{item}", "mnt/{from}/{item}" if local else "host:{from}/{item}"]
-            if not local:
-                words[2] = f"sh -c '{job}' erase {{item}}"  # its words say no folder
-            with mock.patch.object(place.Place, "add", added), mock.patch.multiple(
-                    os, fsync=synced, sync=lambda: tell("sync of all")), mock.patch.object(runner, "LIBC") as libc, contextlib.chdir(room.at):
-                libc.syncfs = lambda handle: tell(f"syncfs {os.path.basename(os.readlink(f'/proc/self/fd/{handle}'))}") or 0
-                with mock.patch("sys.argv", words), open(os.devnull, "w", encoding="ascii") as nothing, contextlib.redirect_stdout(nothing):
-                    if (fork := os.fork()) == 0:  # its signals are its own
-                        with contextlib.suppress(BaseException):
-                            server.MAINS["run-plan"]()
-                        os._exit(0)
-                    os.waitpid(fork, 0)
-            wanted = []
-            for number, (item, source, target) in enumerate((("x", "a", "b"), ("y", "b", "a")), 1):
-                for kind, disk in (("copy", target), ("erase", source)):
-                    wanted += ["fsync plan.txt.place", f"place erasing {number} {item}"] * (kind == "erase")
-                    wanted += [f"{kind} {item}", f"syncfs {disk}" if local else "sync of all", "fsync plan.txt.place"]
-                    wanted += [f"place {'copied' if kind == 'copy' else 'erased'} {number} {item}"]
-            told = room.read("log").splitlines()
-            Count.same(f"the order of a move, {name}", [it for it in told if not it.startswith("place plan ")][1:], wanted)
-
-
-def half_erased():
-    """What removes a source is cut off half way through: no later run copies what is left over the whole one."""
-    with Room() as room:
-        room.write("plan.txt", plan_text([[["x", "a", "0", "b", "0"]]]))
-        room.good("half erased", "mkdir -p mnt/a/x mnt/b; echo 1 >mnt/a/x/one; echo 2 >mnt/a/x/two")
-        copy = "plan.txt sh -c 'echo copy >>log; rm -rf mnt/b/x; cp -a mnt/a/x mnt/b/'"
-        verify = "--verify 'diff -r mnt/{from}/{item} mnt/{to}/{item}'"
-        ran = room.run(f"contrib/run-plan {verify} --erase 'sh -c \"rm mnt/{{from}}/{{item}}/one; exit 1\"' {copy} {{item}}")
-        Count.that("half erased: it stops", ran.returncode == 1 and "not erased 1 x" in ran.stderr, ran)
-        Count.that("half erased: the place says so", "\nerasing 1 x\n" in room.read("plan.txt.place"), room.read("plan.txt.place"))
-        room.good("half erased", f"contrib/run-plan {verify} --erase 'rm -r mnt/{{from}}/{{item}}' {copy} {{item}}")
-        Count.same("half erased: what is there is whole, and was copied once", (room.read("mnt/b/x/one"), room.read("mnt/b/x/two"),
-                   room.read("log"), os.path.exists(room.path("mnt/a/x"))), ("1\n", "2\n", "copy\n", False))
 
 
 def what_commands_inherit():
@@ -301,5 +239,5 @@ def what_pages_show():
             refused(room, "a foreign certificate", f"contrib/{name}", "cert is the certificate of another plan")
 
 
-CASES = (saved_whole, order_of_a_move, half_erased, what_commands_inherit, times_of_day, time_that_is_left, strangers_lock, full_disks,
+CASES = (saved_whole, what_commands_inherit, times_of_day, time_that_is_left, strangers_lock, full_disks,
          kept_apart, pairs_of_ceph, what_pages_show, these_tests)

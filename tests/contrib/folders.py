@@ -1,6 +1,7 @@
 """What from-folders finds, and how run-plan carries a plan out: side by side, killed, with disks that go away and copies that are wrong;
 over folders, and over real file systems where this is root and there are loop devices."""
 import collections, os, random, shutil, signal, subprocess, time
+from copies import disk_at
 from rooms import Count, Room, refused, rows_of, shifts_of
 from waiting import LIMIT, until
 
@@ -145,7 +146,7 @@ gone "after $1 $2 from" $4; gone "after $1 $2 to" $5
 exit $status
 """
 MOMENTS = [("before copy", "to"), ("before copy", "from"), ("after copy", "to"), ("before verify", "to"), ("before verify", "from"), ("before erase", "to"), ("after erase", "from")]
-STEP = "sh at {} {{round}} {{item}} {{from}} {{to}}"
+STEP = "sh at {} {{round}} {{item}} {{from}} {{to}} mnt/{{from}}/{{item}}"
 
 
 def bring_back(room, disk):
@@ -350,15 +351,6 @@ def the_folders():
 
 
 # Real file systems
-
-def disk_at(room, name, image):
-    """A file system of ext4 of 8 MiB over a loop device, mounted below mnt. None where there is none to be had."""
-    room.good("real disks", f"mkdir -p mnt/{name} && truncate -s 8M {image} && mkfs.ext4 -qF {image}")
-    ran = room.run(f"losetup -f --show {image}")
-    if ran.returncode or room.run(f"/usr/bin/mount {ran.stdout.strip()} mnt/{name}").returncode:
-        return print(f"note: folders are tried without mounts alone: {ran.stderr.strip() or 'nothing can be mounted'}")
-    return ran.stdout.strip()
-
 
 def real_folders():
     """Three file systems: one is unmounted before and in the middle, one is full, one loses what is written to it."""

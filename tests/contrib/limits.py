@@ -165,7 +165,7 @@ def watch(room, name, case, shifts, kinds):
 JOB = "#!/bin/sh\necho begin $1 $2 >>log\nsleep $3\necho end $1 $2 >>log\n"
 # does so too, and ends once a line of the log, or of the file that its fourth word names, begins with its third word
 AFTER = "#!/bin/sh\necho begin $1 $2 >>log\nuntil [ -z \"$3\" ] || grep -qs \"^$3\" ${4:-log} || [ ! -e job ]; do sleep 0.1; done\necho end $1 $2 >>log\n"
-EAGER = "--verify 'sh job verify {item} 0' --erase 'sh job erase {item} 0'"
+EAGER = "--unverified --verify 'sh job verify {item} 0' --erase 'sh job erase {item} 0'"
 
 
 def eager_limits():
@@ -214,7 +214,7 @@ def no_barrier():
         room.write("disks.csv", SPLIT + "".join(f"{it},5,5,9\n" for it in "abc"))
         room.write("plan.txt", plan_text([[["x", "a", "0", "b", "0"], ["free", "c", "0", "b", "1"]], [["y", "b", "3", "a", "0"], ["x", "b", "0", "c", "0"]], [["z", "c", "2", "b", "0"]]]))
         room.write("waits", "for=''\ncase $1-$2 in x-1) for='begin copy free-1' ;; free-1) for='end copy y-2' ;; esac\nsh job copy $1-$2 \"$for\"\n")
-        words = "--eager disks.csv --erase 'sh job erase {item}-{round}' plan.txt sh waits {item} {round}"
+        words = "--eager disks.csv --unverified --erase 'sh job erase {item}-{round}' plan.txt sh waits {item} {round}"
         room.good("no barrier", f"rm -f log plan.txt.place; contrib/run-plan {words}")
         order = [(what, kind, item) for what, kind, item in events_of(room)]
         for one, other in (("x-1", "y-2"), ("x-1", "x-2"), ("free-1", "x-2"), ("x-2", "z-3")):
@@ -242,7 +242,9 @@ def eager_stops():
         room.write("job", AFTER)
         room.write("disks.csv", SPLIT + "".join(f"{it},1,1,9\n" for it in "abcd"))
         room.write("plan.txt", plan_text([[["bad", "a", "0", "b", "0"], ["long", "c", "0", "d", "0"]], [["more", "c", "1", "d", "1"]]]))
-        ran = room.run("contrib/run-plan --eager disks.csv --erase 'sh job erase {item}' plan.txt sh -c '[ $1 = bad ] && exit 3; sh job copy $1 \"run-plan: not copied 1 bad\" notes' sh {item} 2>notes")
+        ran = room.run("contrib/run-plan --eager disks.csv --unverified --erase 'sh job erase {item}' plan.txt sh -c "
+                       "'[ $1 = bad ] && exit 3; sh job copy $1 \"run-plan: not copied 1 bad\" notes' sh {item} "
+                       "2>notes")
         Count.same("nothing more begins once one fails", [(what, kind, item) for what, kind, item in events_of(room)], [("begin", "copy", "long"), ("end", "copy", "long")])
         Count.that("what is left is told", ran.returncode == 1 and "not copied 1 bad: status 3" in room.read("notes") and "stopped with 3 of 3 transfers left, and nothing more is removed" in room.read("notes"), (ran, room.read("notes")))
         Count.that("what ended well is kept", "copied 1 long\n" in room.read("plan.txt.place"))

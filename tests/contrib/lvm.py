@@ -1,9 +1,10 @@
 """LVM's cases: recorded reports, a stand-in, and the real tools where they are installed."""
 import collections, contextlib, hashlib, json, os, re, subprocess
+from waiting import LIMIT, until
 from rooms import HERE, Count, Room, page, refused, rows_of, shifts_of, sizes_of, volumes_of
 
 LVS = "lvs -a --segments --reportformat json -o vg_name,lv_name,lv_role,segtype,seg_pe_ranges"
-PVS = "pvs --reportformat json -o vg_name,pv_name,pv_attr,pv_pe_count"
+PVS = "pvs --reportformat json --units b -o vg_name,pv_name,pv_attr,pv_pe_count,vg_extent_size"
 PVMOVE = re.compile(r"pvmove -i 3 (?:--alloc anywhere )?-n (\S+) (\S+):(\d+)-(\d+) (\S+):(\d+)-(\d+)")
 
 
@@ -58,18 +59,22 @@ def carry_out(room, name, wish, unit, volumes, devices, look, planned=Room.plann
     last = planned(room, name)
     if not shifts_of(room.read("plan.txt")):
         return Count.that(f"{name}: something moves", False)
-    room.good(name, "contrib/to-lvm plan.txt names.csv --out moves.sh")
+    forms = ["", "--plain"] if len(wish) % 2 else ["--plain", ""]  # each form is tried with half of the wishes
+    for form, out in zip(forms, ("moves.sh", "other.sh")):
+        room.good(name, f"contrib/to-lvm plan.txt names.csv {form} --out {out}")
     wanted = wanted_extents(room, last, unit, volumes, devices)
     Count.that(f"{name}: something is wanted", wanted != volumes)
     printed = room.good(name, "sh moves.sh -n")
+    Count.same(f"{name}: both forms say the same commands", room.good(name, "sh other.sh -n"), printed)
     Count.same(f"{name}: the commands lead to where the plan ends", after_pvmoves(volumes, printed, devices), wanted)
     if look is None:
         return printed
     Count.same(f"{name}: -n moves nothing", look(), volumes)
     room.good(name, "sh moves.sh")
     Count.same(f"{name}: the volumes are where the plan ends", look(), wanted)
-    again = room.good(name, "sh moves.sh")
-    Count.that(f"{name}: a second time moves nothing", "goes from" not in again and look() == wanted, again)
+    for script in ("moves.sh", "other.sh"):
+        again = room.good(name, f"sh {script}")
+        Count.that(f"{name}: once more {script} moves nothing", "goes from" not in again and look() == wanted, again)
     return printed
 
 
@@ -141,6 +146,44 @@ def the_unit_of_lvm():
         chosen("--spread", "unit 512 extents: 293 items on 3 disks, 195 of them go to another disk, by 195 pvmoves")
 
 
+def what_reports_know():
+    """The bytes of an extent are those of the report; what is not allocatable is named; a leg's metadata go along with
+    it."""
+    with Room() as room:
+        room.good("extents", "cp contrib/samples/lvm/*.json . && cp contrib/samples/lvm/odd/closed-pvs.json .")
+        report = json.loads(room.read("pvs.json"))
+        for name, text, words, wanted in (("of the report", "33554432B", "", 32 << 20),
+                                          ("without a unit", "1048576", "", 1 << 20),
+                                          ("said twice", "33554432B", "--extent 32M", 32 << 20),
+                                          ("of none", None, "", 4 << 20), ("by a word", None, "--extent 8M", 8 << 20)):
+            for row in report["report"][0]["pv"]:
+                row.update({"vg_extent_size": text}) if text else row.pop("vg_extent_size", None)
+            room.keep("pvs.json", report)
+            ran = room.run(f"contrib/from-lvm lvs.json pvs.json --empty loop0 --unit 16 {words}")
+            Count.same(f"the bytes of 16 extents, {name}", (ran.returncode, room.read("bytes.csv").splitlines()[1]),
+                       (0, f"db.0,{16 * wanted}"))
+            Count.same(f"it is said that they are supposed, {name}", "supposes extents of 4 MiB" in ran.stderr,
+                       name == "of none")
+        for text, words, said in (("4.00m", "", "'4.00m' is no number of bytes of an extent"),
+                                  ("33554432B", "--extent 4M", "--extent is not 33554432 bytes, as pvs.json has it")):
+            report["report"][0]["pv"][0]["vg_extent_size"] = text
+            room.keep("pvs.json", report)
+            refused(room, "an extent", f"contrib/from-lvm lvs.json pvs.json --empty loop0 {words}", said)
+        refused(room, "closed", "contrib/from-lvm lvs.json closed-pvs.json --empty loop0 --empty loop2",
+                "nothing can come to /dev/loop1, since LVM has it as not allocatable (pvchange -x y)")
+    with Room() as room:
+        room.good("along", "cp contrib/samples/lvm/parts/*.json .")
+        ran = room.run("contrib/from-lvm lvs.json pvs.json --move r_rimage_0=loop3 --unit 1")
+        Count.that("a leg's metadata go along, and it is said",
+                   ran.returncode == 0 and "from-lvm: r_rmeta_0 goes along with r_rimage_0\n" in ran.stderr
+                   and {disk for item, disk in rows_of(room.read("next.csv")) if re.match(r"r_r(image|meta)_0\.",
+                       item)} == {"loop3"}, ran)
+        ran = room.run("contrib/from-lvm lvs.json pvs.json --move r_rimage_0=loop3 --move r_rmeta_0=loop4 --unit 1")
+        Count.that("where it is told it goes elsewhere",
+                   "goes along" not in ran.stderr and dict(rows_of(room.read("next.csv")))["r_rmeta_0.0"] == "loop4",
+                   ran)
+
+
 def lvm_of_parts():
     """Raids, a mirror, stripes and a pool, as they were recorded on active volumes. What the commands lead to is what lvs said then."""
     devices, volumes = sizes_of("parts/pvs.json"), dict(volumes_of("parts/lvs.json"))
@@ -170,38 +213,125 @@ def sorted_extents(volumes):
     return {volume: sorted(map(tuple, extents)) for volume, extents in volumes.items() if extents}
 
 
+WORDS_OF_SCRIPTS = (("{more}", 2, "there is no round {more}, but 1 to {rounds}"), ("x", 2, "x is no round"),
+                    ("0", 2, "there is no round 0"), ("-n 1x", 2, "1x is no round"), ("--until 6", 2, "--until"))
+
+
 def the_script_of_lvm():
-    """What the script of pvmoves does where something is in the way."""
+    """What the script of pvmoves does where something is in the way, with lvm-step and in the shell's own words."""
+    for form in ("", "--plain"):
+        with Room() as room:
+            room.good(form, "cp contrib/samples/lvm/*.json . && contrib/from-lvm lvs.json pvs.json --empty loop0 "
+                            "--unit 32")
+            wanted = wanted_extents(room, room.planned("to-lvm"), 32, dict(volumes_of()), sizes_of())
+            room.good(form, f"contrib/to-lvm plan.txt names.csv {form} --out moves.sh")
+            Count.same("to-lvm prints what it saves", room.good(form, f"contrib/to-lvm plan.txt names.csv {form}"),
+                       room.read("moves.sh"))
+            plan, rounds = shifts_of(room.read("plan.txt")), len(shifts_of(room.read("plan.txt")))
+            for words, status, said in WORDS_OF_SCRIPTS:
+                words, said = (it.format(more=rounds + 1, rounds=rounds) for it in (words, said))
+                ran = room.run(f"sh moves.sh {words}")
+                Count.that(f"sh moves.sh {form} {words}",
+                           ran.returncode == status and said in ran.stderr and not ran.stdout, ran)
+            room.write("state/fail-db-64", "")
+            failing = next(at for at, round_ in enumerate(plan, 1) if any(it[1:3] == ["loop0", "2"] for it in round_))
+            room.write("hook", 'echo "$@" >>told')
+            ran = room.run("sh moves.sh --hook 'sh hook'" if not form else "sh moves.sh")
+            Count.that(f"a pvmove that fails stops the script {form}",
+                       ran.returncode == 1 and "ended with status 5" in ran.stderr
+                       and f"stopped in round {failing}; begin again with: sh moves.sh {failing}" in ran.stderr, ran)
+            if not form:
+                Count.same("the hook is told", room.read("told"),
+                           f"failed moves.sh: a pvmove of round {failing} failed\nstopped moves.sh: stopped in round "
+                           f"{failing}; begin again\n")
+            line = next((it for it in room.read("moves.sh").splitlines()
+                         if it.startswith("lvm-step ") and " /dev/loop0:64-95 " in it), "")
+            if not form:  # a line by hand, with what the script's PATH has
+                ran = room.run(f"PATH=$PATH:contrib; {line}; {line}; {line.partition(' /dev/loop2')[0]} "
+                               f"/dev/loop2:200-231; echo $?")
+                Count.that("a line by hand", "db goes from /dev/loop0:64-95" in ran.stdout and " already\n"
+                           in ran.stdout and "neither at" in ran.stderr and ran.stdout.endswith("1\n"), ran)
+                Count.same("a line by hand, printed",
+                           room.good("by hand", f"PATH=$PATH:contrib; {line} -n").split()[:4],
+                           ["pvmove", "-i", "3", "-n"])
+            ran = room.run(f"sh moves.sh {failing}")
+            Count.that(f"it begins again there {form}",
+                       ran.returncode == 0
+                       and room.state("lvm.json")["volumes"] == wanted and f"round {failing - 1}:" not in ran.stdout,
+                       ran)
+            state = room.state("lvm.json")
+            state["volumes"]["db"] = [["/dev/loop1", at + 150] for at in range(100)]
+            room.keep("state/lvm.json", state)
+            ran = room.run("sh moves.sh")
+            Count.that(f"extents that are elsewhere stop the script {form}",
+                       ran.returncode == 1 and "db is neither at /dev/loop0:" in ran.stderr, ran)
+            room.keep("state/lvm.json", {**state, "volumes": volumes_of(), "moving": {"/dev/loop0": "log"}})
+            ran = room.run("sh moves.sh")
+            Count.that(f"a pvmove that was at work is seen {form}",
+                       ran.returncode == 1 and "was another pvmove from /dev/loop0 at work?" in ran.stderr, ran)
+    with Room() as room:  # one at a time; what a signal leaves; what LVM does not say
+        room.good("lvm-step", "cp contrib/samples/lvm/*.json . && contrib/from-lvm lvs.json pvs.json --empty loop0 "
+                              "--unit 32")
+        room.planned("lvm-step")
+        room.good("lvm-step", "alone/to-lvm plan.txt names.csv --out moves.sh; mkdir bin/real; mv bin/pvmove bin/real/")
+        room.write("bin/pvmove", '#!/bin/sh\necho at work >>at\nuntil [ -e go ] || [ ! -e at ]; do sleep 0.1; '
+                                 'done\nexec "${0%pvmove}real/pvmove" "$@"\n')
+        room.good("lvm-step", "chmod +x bin/pvmove")
+        ran = subprocess.Popen(["bash", "-c", "exec sh moves.sh >said 2>notes"], cwd=room.at, env=room.env)
+        until(lambda: room.read("at"), "a pvmove to begin")
+        refused(room, "a second one at once", "sh moves.sh", "moves.sh is being carried out already")
+        ran.terminate()
+        status, said = ran.wait(LIMIT), room.read("notes")
+        Count.that("a signal lets pvmove go on", status == 130 and "each pvmove under way goes on" in said
+                   and "sh moves.sh 1" in said, (status, said))
+        room.write("go", "")
+        until(lambda: "end " in (room.read("state/log") or ""), "the pvmove to go on")
+        room.good("lvm-step", "sh moves.sh")
+        room.good("lvm-step", "rm bin/pvs; printf '#!/bin/sh\\n[ $1 != --segments ] || echo {}\\n' >bin/pvs; chmod +x "
+                              "bin/pvs")
+        ran = room.run("sh moves.sh")
+        Count.that("what LVM does not say is no answer", ran.returncode == 1 and "does not say what it is asked for"
+                   in ran.stderr, ran)
+
+
+def the_log_of_lvm():
+    """A pause, a window, an end by --until, and what progress reads of them in the log of a script of steps."""
     with Room() as room:
-        room.good("to-lvm", "cp contrib/samples/lvm/*.json . && contrib/from-lvm lvs.json pvs.json --empty loop0 --unit 32")
-        last = room.planned("to-lvm")
-        wanted = wanted_extents(room, last, 32, dict(volumes_of()), sizes_of())
-        room.good("to-lvm", "contrib/to-lvm plan.txt names.csv --out moves.sh")
-        Count.same("to-lvm prints what it saves", room.good("to-lvm", "contrib/to-lvm plan.txt names.csv"), room.read("moves.sh"))
-        rounds = len(shifts_of(room.read("plan.txt")))
-        room.write("state/fail-db-64", "")
-        failing = next(at for at, round_ in enumerate(shifts_of(room.read("plan.txt")), 1) if any(it[1:3] == ["loop0", "2"] for it in round_))
-        ran = room.run("sh moves.sh")
-        Count.that("a pvmove that fails stops the script", ran.returncode == 1 and f"stopped in round {failing}; begin again with: sh moves.sh {failing}" in ran.stderr, ran)
-        ran = room.run(f"sh moves.sh {failing}")
-        Count.that("it begins again there", ran.returncode == 0 and room.state("lvm.json")["volumes"] == wanted and f"round {failing - 1}:" not in ran.stdout, ran)
-        for words, status, said in ((f"{rounds + 1}", 2, f"there is no round {rounds + 1}, but 1 to {rounds}"), ("x", 2, "x is no round"), ("0", 2, "no round 0"), ("-n 1x", 2, "1x is no round")):
-            ran = room.run(f"sh moves.sh {words}")
-            Count.that(f"sh moves.sh {words}", ran.returncode == status and said in ran.stderr and not ran.stdout, ran)
-        state = room.state("lvm.json")
-        state["volumes"]["db"] = [["/dev/loop1", at + 150] for at in range(100)]
-        room.keep("state/lvm.json", state)
-        ran = room.run("sh moves.sh")
-        Count.that("extents that are elsewhere stop the script", ran.returncode == 1 and "db is neither at /dev/loop0:" in ran.stderr, ran)
-    with Room() as room:
-        room.good("to-lvm", "cp contrib/samples/lvm/*.json . && contrib/from-lvm lvs.json pvs.json --empty loop0 --unit 32")
-        room.planned("to-lvm")
-        room.good("to-lvm", "contrib/to-lvm plan.txt names.csv --out moves.sh")
-        state = room.state("lvm.json")
-        state["moving"] = {"/dev/loop0": "log"}
-        room.keep("state/lvm.json", state)
-        ran = room.run("sh moves.sh")
-        Count.that("a pvmove that was at work is seen", ran.returncode == 1 and "was another pvmove from /dev/loop0 at work?" in ran.stderr, ran)
+        room.good("log", "cp contrib/samples/lvm/*.json . && contrib/from-lvm lvs.json pvs.json --empty loop0 --limit "
+                         "2 --unit 32")
+        room.planned("log")
+        room.good("log", "contrib/to-lvm plan.txt names.csv --out moves.sh; mkdir bin/real; mv bin/pvmove bin/real/")
+        room.write("bin/pvmove", '#!/bin/sh\n[ ! -e end ] || touch over\nexec "${0%pvmove}real/pvmove" "$@"\n')
+        plan, hook = shifts_of(room.read("plan.txt")), "--hook 'sh hook'"
+        room.write("hook", 'echo "$@" >>told')
+        room.write("clock", "1773180000")  # 2026-03-10, a Tuesday
+        words, zone = "plan.txt --log log --names names.csv --json", "TZ=UTC CLOCK=clock"
+        look = lambda: json.loads(room.good("log", f"contrib/progress {words}"))
+        waits = "(until grep -qs 'time .* paused' log; do sleep 0.1; done; touch over) & OVER=over"
+        room.good("log", "chmod +x bin/pvmove")
+        for name, first, more in (("a pause", "touch pause;", ""),
+                                  ("a window that is closed", "rm pause;", "--window 'mon,wed-sun 00:00-24:00'"),
+                                  ("two windows", "", "--window 20:00-21:59 --window 22:01-22:02")):
+            ran = room.run(f"rm -f log over; {first} {waits} {zone} sh moves.sh --until 06:00 {more} {hook} >log")
+            Count.that(f"{name}, up to --until", ran.returncode == 3 and "lvm-step: paused: " in ran.stderr
+                       and "ended before round 1, as --until says; begin again with: sh moves.sh 1" in ran.stderr
+                       and "round 1:" not in room.read("log"), ran)
+            found = look()
+            Count.same(f"{name}: nothing is done", (found["rounds_done"], found["items_done"], found["done"],
+                                                    found["seconds_left"]), (0, 0, False, None))
+        ran = room.run(f"rm -f pause over; touch end; OVER=over sh moves.sh --until 06:00 {hook} >>log")
+        Count.that("an end after the first round", ran.returncode == 3 and "ended before round 2" in ran.stderr
+                   and "round 2:" not in room.read("log"), ran)
+        found = look()
+        Count.same("the first round is done", (found["rounds_done"], found["items_done"], found["done"]),
+                   (1, len(plan[0]), False))
+        room.good("the rest", f"rm -f end over; {zone} sh moves.sh 2 --window 'tue 22:00-06:00' {hook} >>log; tail -n "
+                              f"1 log | grep -qx 'all rounds are carried out'")
+        found = look()
+        Count.same("all is done", (found["rounds_done"], found["items_done"], found["done"]),
+                   (len(plan), sum(map(len, plan)), True))
+        Count.same("what the hook is told", collections.Counter(it.split()[0] for it in room.read("told").splitlines()),
+                   {"ended": 4, "done": 1})
 
 
 def the_summary_of_lvm():
@@ -380,4 +510,5 @@ def real_lvm():
     return None
 
 
-CASES = (recorded_lvm, lvm_of_parts, the_unit_of_lvm, the_script_of_lvm, the_summary_of_lvm, real_lvm)
+CASES = (recorded_lvm, what_reports_know, lvm_of_parts, the_unit_of_lvm, the_script_of_lvm, the_log_of_lvm,
+         the_summary_of_lvm, real_lvm)

@@ -89,7 +89,8 @@ def a_real_run():
             Count.that("a real run: its time", abs(found["seconds_at_work"] - now) < 0.1, found)
             Count.that("a real run: who is at work", found["process"] is not None and not found["paused"], found)
 
-        status = carried_out(room, "--erase 'true {item}'", spans, look, [whole * part / 12 for part in (4, 5, 6, 8, 10)])
+        status = carried_out(room, "--unverified --erase 'true {item}'", spans, look,
+                             [whole * part / 12 for part in (4, 5, 6, 8, 10)])
         Count.same("a real run: it ends well, and was looked at", (status, len(seen)), (0, 5))
         total = f"{sum(sizes.values()) / 1024:.1f} KiB"
         Count.same("a real run: done", room.good("a real run", "contrib/progress plan.txt --sizes bytes.csv"), f"[{'#' * 30}] 9 of 9 rounds, 18 of 18 items, {total} of {total}, done\n")
@@ -130,6 +131,56 @@ def what_places_say():
             refused(room, f"progress {words}", f"contrib/progress {words}", said, status)
 
 
+def what_is_measured():
+    """The text for Prometheus; and no time left before a fifth is done, or a minute has passed."""
+    rounds = [[[f"i{at}", "a", str(at), "b", str(at)]] for at in range(10)]
+    with Room() as room:
+        room.write("plan.txt", plan_text(rounds))
+        room.write("bytes.csv", "item,bytes\n" + "".join(f"i{at},{1000 * (at + 1)}\n" for at in range(10)))
+        digest = room.good("metrics", "sha256sum <plan.txt").split()[0]
+        for done, seconds, left in ((1, 20, None), (1, 59, None), (1, 61, 549.0), (2, 20, 80.0), (10, 20, 0.0)):
+            room.write("plan.txt.place", f"plan {digest}\n" + "".join(f"copied {at + 1} i{at}\n" for at in range(done)))
+            ends = [seconds * (at + 1) / done for at in range(done)]
+            lines = ["0 begins copied rounds", *(f"{ends[at] - seconds / done} copying {at + 1} i{at}\n{ends[at]} "
+                                                 f"copied {at + 1} i{at}" for at in range(done)), f"{seconds} ends"]
+            room.write("plan.txt.place.times", "".join(f"{line}\n" for line in lines))
+            found = json.loads(room.good("time left", "contrib/progress plan.txt --json"))
+            Count.same(f"the time left once {done} of 10 are done in {seconds} s", found["seconds_left"], left)
+        room.write("plan.txt.place", f"plan {digest}\ncopied 1 i0\n")
+        room.write("plan.txt.place.times", "0 begins copied rounds\n0 copying 1 i0\n20 copied 1 i0\n20 ends\n")
+        wanted = {"rounds": 10, "items": 10, "bytes": 55000, "rounds_done": 1, "items_done": 1, "bytes_done": 1000,
+                  "seconds_at_work": 20.0, "paused": 0, "at_work": 0, "done": 0}
+        Count.same("what Prometheus reads", room.good("metrics", "contrib/progress plan.txt --sizes bytes.csv "
+                                                                 "--metrics"), "".join(
+            f'# TYPE migrate_plan_{name} gauge\nmigrate_plan_{name}{{plan="{digest}"}} {value}\n' for name,
+            value in wanted.items()))
+        refused(room, "--metrics --every", "contrib/progress plan.txt --metrics --every 1",
+                "--metrics goes neither with", 2)
+
+
+def hooks():
+    """What --hook is called with where a check fails, where run-plan stops, and where all is done."""
+    with Room() as room:
+        room.write("plan.txt", plan_text([[["x", "a", "0", "b", "0"]]]))
+        room.write("hook", 'echo "$1: $2" >>told; exit ${STATUS:-0}')
+        words = "--hook 'sh hook' --erase 'rm -rf mnt/{from}/{item}' plan.txt"
+        room.good("hooks", "mkdir -p mnt/a/x mnt/b; touch -d @5 mnt/a/x")
+        stopped = "stopped: plan.txt: stopped in round 1 of 1\n"
+        for name, command, status, wanted in (
+                ("a copy that lacks something", f"contrib/run-plan {words} cp -r mnt/{{from}}/{{item}} mnt/{{to}}/", 1,
+                 f"failed: plan.txt: not compared 1 x\n{stopped}"),
+                ("a guard", f"contrib/run-plan --guard 'test -e {{disk}}' {words} true {{item}}", 1,
+                 "failed: plan.txt: disk a is not as --guard asks\n"),
+                ("its time", f"OVER=hook contrib/run-plan {words} true {{item}}", 3,
+                 "ended: plan.txt: ended before round 1 of 1, as --until says\n"),
+                ("a hook that fails", f"STATUS=7 contrib/run-plan {words} cp -a mnt/{{from}}/{{item}} mnt/{{to}}/", 0,
+                 "done: plan.txt: all 1 rounds are carried out\n")):
+            ran = room.run(f"rm -f told; {command}")
+            Count.same(f"the hook, {name}", (ran.returncode, room.read("told")), (status, wanted))
+            Count.same(f"the hook's own status, {name}",
+                       "run-plan: --hook ended with status 7: sh hook\n" in ran.stderr, "7" in command)
+
+
 # Pauses
 
 def pauses():
@@ -141,7 +192,8 @@ def pauses():
         room.write("job", "#!/bin/sh\necho begin $1 $2 >>log\n[ $1 = copy ] && [ -e stop-$2 ] && touch $(cat stop-$2)\n"
                           f"until [ $1-$2 = copy-{rounds[0][0][0]} ] || grep -qx 'end copy {rounds[0][0][0]}' log || [ ! -e job ]; do sleep 0.1; done\necho end $1 $2 >>log\n")
         for eager in ("", "--eager disks.csv"):
-            words = f"{eager} --verify 'sh job verify {{item}}' --erase 'sh job erase {{item}}' plan.txt sh job copy {{item}}"
+            words = (f"{eager} --unverified --verify 'sh job verify {{item}}' --erase 'sh job erase {{item}}' "
+                     "plan.txt sh job copy {item}")
             stop = f"stop-{rounds[0][0][0]}"
             room.good("pauses", f"rm -f log notes pause over plan.txt.place*; echo pause >{stop}")
             ran = subprocess.Popen(["bash", "-c", f"exec alone/run-plan {words} >said 2>notes"], cwd=room.at, env=room.env)
@@ -190,7 +242,9 @@ def logs():
     """The scripts of to-lvm and to-ceph: a pause, an end by --until, and what progress reads in their logs."""
     with Room() as room:
         room.write("bin/date", DATE)
-        room.good("logs", "chmod +x bin/date; cp contrib/samples/lvm/*.json . && contrib/from-lvm lvs.json pvs.json --empty /dev/loop0 --limit 2 --unit 32 && ./migrate plan disks.csv now.csv next.csv plan.txt cert.txt && contrib/to-lvm plan.txt names.csv --out moves.sh")
+        room.good("logs", "chmod +x bin/date; cp contrib/samples/lvm/*.json . && contrib/from-lvm lvs.json pvs.json "
+                          "--empty /dev/loop0 --limit 2 --unit 32 && ./migrate plan disks.csv now.csv next.csv "
+                          "plan.txt cert.txt && contrib/to-lvm plan.txt names.csv --plain --out moves.sh")
         room.good("logs", "mkdir ceph && cd ceph && S=../contrib/samples/ceph && ../contrib/from-ceph $S/before $S/after $S/dump $S/crush --backfills 2 && ../migrate plan disks.csv now.csv next.csv plan.txt cert.txt && ../contrib/to-ceph plan.txt $S/before $S/after $S/dump $S/crush --plain --out upmaps.sh")
         refused(room, "no log yet", "contrib/progress plan.txt --log moves.sh", "is not the log of a script for this plan")
         for folder, script, names in (".", "moves.sh", "--names ../names.csv"), ("ceph", "upmaps.sh", ""):
@@ -325,4 +379,4 @@ def balanced():
             refused(room, words, f"contrib/{words}", said, status)
 
 
-CASES = (time_left, a_real_run, what_places_say, pauses, logs, sizes, balanced)
+CASES = (time_left, a_real_run, what_places_say, what_is_measured, hooks, pauses, logs, sizes, balanced)

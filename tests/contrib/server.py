@@ -7,9 +7,10 @@ import sys, termios, time, traceback
 
 HERE = os.path.dirname(os.path.realpath(__file__))
 CONTRIB = os.path.join(os.path.dirname(os.path.dirname(HERE)), "contrib")
-COMMANDS = {"from-lvm": "lvm.from_lvm", "to-lvm": "lvm.to_lvm", "from-ceph": "ceph.from_ceph",
-            "to-ceph": "ceph.to_ceph", "ceph-step": "ceph.ceph_step", "plan-ceph": "ceph.plan_ceph",
-            "from-folders": "folders.from_folders", "run-plan": "run.run_plan", "picture": "show.picture",
+COMMANDS = {"from-lvm": "lvm.from_lvm", "to-lvm": "lvm.to_lvm", "lvm-step": "lvm.lvm_step", "plan-lvm": "lvm.plan_lvm",
+            "from-ceph": "ceph.from_ceph", "to-ceph": "ceph.to_ceph", "ceph-step": "ceph.ceph_step",
+            "plan-ceph": "ceph.plan_ceph", "from-folders": "folders.from_folders",
+            "plan-folders": "folders.plan_folders", "run-plan": "run.run_plan", "picture": "show.picture",
             "report": "show.report", "summary": "show.summary", "witness": "show.witness", "progress": "show.progress"}
 STAND_INS = ["lvs", "pvs", "pvmove", "osdmaptool", "crushtool", "ceph"]
 WAITING = ["pvmove"]  # the one of these that takes its time

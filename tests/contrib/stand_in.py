@@ -71,21 +71,26 @@ def lvs(state):
 
 
 def pvs(state):
-    if WORDS == "--reportformat json -o vg_name,pv_name,pv_attr,pv_pe_count -S vg_name=data".split():
-        return print_report("pv", [{"vg_name": "data", "pv_name": device, "pv_attr": "a--", "pv_pe_count": size} for device, size in state["devices"].items()])
+    columns = "vg_name,pv_name,pv_attr,pv_pe_count,vg_extent_size"
+    if WORDS == f"--reportformat json --units b -o {columns} -S vg_name=data".split():
+        row = {"vg_name": "data", "pv_attr": "a--", "vg_extent_size": "4194304B"}
+        return print_report("pv", [{**row, "pv_name": device, "pv_pe_count": size} for device,
+                                   size in state["devices"].items()])
     if WORDS[:-1] == "--noheadings -o pv_name".split():
         return print(f"  {WORDS[-1]}") if WORDS[-1] in state["devices"] else stop(f"  Failed to find physical volume \"{WORDS[-1]}\".")
-    if WORDS[:-1] != "--noheadings --segments -o lv_name,pvseg_start,pvseg_size".split() or WORDS[-1] not in state["devices"]:
+    is_json = WORDS[:-1] == "--segments --reportformat json -o lv_name,pvseg_start,pvseg_size".split()
+    is_plain = WORDS[:-1] == "--noheadings --segments -o lv_name,pvseg_start,pvseg_size".split()
+    if not (is_json or is_plain) or WORDS[-1] not in state["devices"]:
         stop(f"pvs was not recorded with {' '.join(WORDS)}", 3)
     rows = [(first, last, f"[{volume}]" if family(volume) else volume)
             for volume, extents in state["volumes"].items() for device, first, last in runs(sorted(extents)) if device == WORDS[-1]]
-    at = 0
+    at, segments = 0, []
     for first, last, volume in [*sorted(rows), (state["devices"][WORDS[-1]], -1, "")]:
-        if at < first:
-            print(f"  {'':9} {at:5} {first - at:5}")
-        if volume:
-            print(f"  {volume:9} {first:5} {last - first + 1:5}")
+        segments += [("", at, first - at)] * (at < first) + [(volume, first, last - first + 1)] * bool(volume)
         at = last + 1
+    if is_json:
+        return print_report("pvseg", [dict(zip(("lv_name", "pvseg_start", "pvseg_size"), it)) for it in segments])
+    return [print(f"  {volume:9} {first:5} {size:5}") for volume, first, size in segments]
 
 
 def family(volume):

@@ -1,7 +1,7 @@
 """What from-folders finds on mounted disks, and which items it makes of it."""
 import collections, os, stat, unicodedata
 from collections.abc import Iterable, Mapping, Sequence
-from dataclasses import dataclass
+from dataclasses import dataclass, field
 from ..command import Wrong, note
 from ..items import Part
 from ..plans import MOST_DISKS
@@ -14,8 +14,10 @@ Nodes = dict[Node, str]  # the path of each disk
 
 @dataclass(frozen=True)
 class Item(Part):
-    """What is moved as a whole: its path, for wishes its volume, its bytes, and the path of it inside its disk."""
+    """What is moved as a whole: its path, for wishes its volume, its bytes, the path of it inside its disk, and the
+    first fifo, socket or device in it."""
     inside: str = ""
+    special: str = ""
 
 
 def look_at(path: str) -> tuple[os.stat_result, list[str]]:
@@ -45,11 +47,21 @@ def read_disks(mounts: Sequence[str], mounted: bool) -> Nodes:
     return disks
 
 
-def weigh(top: str, disk: str, device: int, disks: Nodes) -> tuple[int, set[Node]]:
-    """The bytes that are in use at `top` and below it, each file counted once; and which files there have several
-    names."""
-    total, todo = 0, [top]
-    seen: set[Node] = set()
+@dataclass
+class Weight:
+    """The bytes that are in use at a path and below it, each file counted once; the files there that have several
+    names, with how many of them were met and the first one; and the first fifo, socket or device."""
+    bytes: int = 0
+    linked: dict[Node, tuple[int, os.stat_result, str]] = field(default_factory=dict)
+    special: str = ""
+
+    def outside(self) -> str:
+        """The first file that has a name elsewhere too, as a hard link; empty where none has."""
+        return next((path for count, found, path in self.linked.values() if count < found.st_nlink), "")
+
+
+def weigh(top: str, disk: str, device: int, disks: Nodes) -> Weight:
+    weight, todo = Weight(), [top]
     while todo:
         path = todo.pop()
         found, inner = look_at(path)
@@ -59,13 +71,23 @@ def weigh(top: str, disk: str, device: int, disks: Nodes) -> tuple[int, set[Node
                 raise Wrong(f"{disks[node]} is inside {disk}, as {path}")
             if found.st_dev != device:
                 raise Wrong(f"is on another file system than {disk}; a copy of it would be no move", path)
-        elif found.st_nlink > 1:
-            total += 0 if node in seen else 512 * found.st_blocks
-            seen.add(node)
-            continue
-        total += 512 * found.st_blocks
+        elif not (stat.S_ISREG(found.st_mode) or stat.S_ISLNK(found.st_mode)):
+            weight.special = weight.special or path
+        if found.st_nlink > 1 and not stat.S_ISDIR(found.st_mode):
+            count, _, first = weight.linked.get(node, (0, found, path))
+            weight.linked[node] = count + 1, found, first
+            if count:
+                continue
+        weight.bytes += 512 * found.st_blocks
         todo += inner
-    return total, seen
+    return weight
+
+
+def item_of(path: str, inside: str, weight: Weight) -> Item:
+    """An item. What shares a file with something else stays where it is: a copy would be a file of its own."""
+    outside = weight.outside()
+    why = f"{outside} has another name outside of it (a hard link), which a copy would not keep" if outside else ""
+    return Item(path, weight.bytes, fixed=why, inside=inside, special=weight.special)
 
 
 def odd(path: str) -> str:
@@ -89,7 +111,7 @@ def read_items(disk: str, device: int, disks: Nodes) -> list[Item]:
             continue
         if why := odd(path):
             raise Wrong(why)
-        items.append(Item(path, weigh(path, disk, device, disks)[0], inside=name))
+        items.append(item_of(path, name, weigh(path, disk, device, disks)))
     return items
 
 
@@ -103,10 +125,10 @@ def parts_of(item: Item, disk: str, device: int, disks: Nodes) -> list[Item]:
     many = f"it has {len(paths)} parts, more than {MOST_PARTS}" if len(paths) > MOST_PARTS else ""
     why = many or next(filter(None, map(odd, paths)), "")
     for path in paths if not why else ():
-        bytes_, linked = weigh(path, disk, device, disks)
-        why = why or ("a file has names in several of its parts" if linked & seen else "")
-        seen |= linked
-        parts.append(Item(path, bytes_, inside=f"{item.inside}/{os.path.basename(path)}"))
+        weight = weigh(path, disk, device, disks)
+        why = why or ("a file has names in several of its parts" if weight.linked.keys() & seen else "")
+        seen |= weight.linked.keys()
+        parts.append(item_of(path, f"{item.inside}/{os.path.basename(path)}", weight))
     if why:
         note(f"{item.volume} is not split: {why}")
     return [item] if why else parts

@@ -145,6 +145,12 @@ def main() -> None:
     items = {(disk, slot): it for disk in disks for slot, it in enumerate(found[disk])}
     if len(items) > MOST_ITEMS:
         raise Wrong(f"there are {len(items)} items, more than {MOST_ITEMS}")
+    for it in items.values():
+        if it.fixed:
+            note(f"{it.volume} stays where it is: {it.fixed}")
+        if it.special:
+            note(f"{it.special} is a fifo, a socket or a device: cp -a makes it anew, diff and others stop at it; end "
+                 "what uses it first")
     wholes, stand = {at: [it] for at, it in items.items()}, {it.volume: (at[0], it.inside) for at, it in items.items()}
 
     limits = given_to(disks, given.limit, "--limit", lambda text: limits_of(text.split(","), "--limit"))

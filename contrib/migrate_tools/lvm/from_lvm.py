@@ -3,11 +3,11 @@ what is wished of it.
 
 LVS and PVS are files with what these two print for the volume group VG:
   lvs -a --segments --reportformat json -o vg_name,lv_name,lv_role,segtype,seg_pe_ranges VG
-  pvs --reportformat json -o vg_name,pv_name,pv_attr,pv_pe_count -S vg_name=VG
+  pvs --reportformat json --units b -o vg_name,pv_name,pv_attr,pv_pe_count,vg_extent_size -S vg_name=VG
 A disk is a physical volume. A slot is a run of UNIT extents of it, from extent 0 on; an item is what is used of such a
 run. The legs of a raid or a mirror, and stripes, only go to disks on which no other one of the same volume is or is to
 be. Snapshots, what has one, and the parts of a cache stay where they are. names.csv says what each name stands for, and
-to-lvm reads it; bytes.csv has the bytes of each item by --extent (vgs -o vg_extent_size), for summary and progress.
+to-lvm reads it; bytes.csv has the bytes of each item, for summary and progress.
 Where anything is wrong nothing is written. Standard error says whether each disk has room for old and incoming items
 together, for `migrate plan`, or it is for `plan-tight`."""
 import argparse, collections, os
@@ -21,7 +21,8 @@ from ..plans import MOST_DISKS, MOST_ITEMS, MOST_SLOTS, table
 from ..sizes import amount, size_rows
 from ..tight import Form, form_of, may_meet, unfit
 from ..wishes import Wishes, carry_out
-from .reports import cut, read_parts, read_reports, read_sizes, short
+from .pvmoves import LEG
+from .reports import FIXED, cut, extent_of, read_parts, read_reports, read_sizes, short
 
 LEAST_UNIT, MOST_PVMOVES = 16, 300  # of the unit that is chosen, where the wish leaves a choice
 
@@ -41,8 +42,8 @@ def read_words() -> argparse.Namespace:
         "pvmoves, or a smaller one where the wish needs it")
     add("--limit", metavar="[PV=]N|OUT,IN", action="append", default=[],
         help="transfers of a disk at once, or those that leave it and those that reach it; 1 where it is left out")
-    add("--extent", metavar="N", type=amount, default="4M",
-        help="the bytes of an extent, as 32M, for bytes.csv; 4M where it is left out")
+    add("--extent", metavar="N", type=amount,
+        help="the bytes of an extent, as 32M, for bytes.csv, where PVS does not have them; 4M where it is left out")
     add("--into", metavar="FOLDER", default=".", help="where the files are written")
     given = reader.parse_args()
     if not (given.move or given.empty or given.spread or given.balance):
@@ -86,6 +87,12 @@ def read_wishes(given: argparse.Namespace, sizes: Mapping[str, int], closed: set
         if volume in moves:
             raise Wrong(f"--move is given twice for {volume}")
         moves[volume] = device_of(device, sizes)
+    for volume, device in list(moves.items()):
+        found = LEG.fullmatch(volume)
+        meta = f"{found[1]}_rmeta_{found[3]}" if found and found[2] == "rimage" else ""
+        if meta in volumes and meta not in moves:
+            moves[meta] = device
+            note(f"{meta} goes along with {volume}")
     empty = {device_of(word, sizes) for word in given.empty}
     for volume, device in moves.items():
         if device in empty:
@@ -153,6 +160,12 @@ def main() -> None:
     parts = read_parts(segments, given.lvs, sizes)
     if not parts:
         raise Wrong("has no volume with extents", given.lvs)
+    extent = extent_of(rows, given.pvs)
+    if extent and given.extent not in (None, extent):
+        raise Wrong(f"--extent is not {extent} bytes, as {given.pvs} has it")
+    if not extent and not given.extent:
+        note(f"{given.pvs} lacks the column vg_extent_size, so bytes.csv supposes extents of 4 MiB")
+    extent = extent or given.extent or 4 << 20
     limits, wishes = read_limits(given, sizes), read_wishes(given, sizes, closed, parts)
     chosen = choose(parts, sizes, wishes, given.unit)
     items, slots, next_ = chosen.items, chosen.slots, chosen.next
@@ -172,8 +185,10 @@ def main() -> None:
                                "--limit"),
         "now.csv": [["item", "disk", "slot"], *([names[at], disks[at[0]], at[1]] for at in items)],
         "next.csv": [["item", "disk"], *([names[at], disks[next_[at]]] for at in items)], "names.csv": stands,
-        "bytes.csv": size_rows({names[at]: given.extent * bulk_of(items[at]) for at in items})}
+        "bytes.csv": size_rows({names[at]: extent * bulk_of(items[at]) for at in items})}
     save_all({os.path.join(given.into, name): table(rows) for name, rows in files.items()}, [given.lvs, given.pvs])
+    if fixed := dict.fromkeys(it.volume for it in parts if it.fixed):
+        note(f"{', '.join(fixed)}: {FIXED}")
     going = sum(next_[at] != at[0] for at in items)
     note(f"unit {chosen.unit} extent{'s' * (chosen.unit > 1)}: {len(items)} items on {len(slots)} disks, {going} of "
          f"them go to another disk, by {chosen.pvmoves} pvmoves")

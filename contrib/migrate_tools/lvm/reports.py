@@ -7,10 +7,12 @@ from ..plans import MOST_ITEMS, MOST_SLOTS, NAME
 from .pvmoves import leg_of, top_of
 
 LVS = "lvs -a --segments --reportformat json -o vg_name,lv_name,lv_role,segtype,seg_pe_ranges VG"
-PVS = "pvs --reportformat json -o vg_name,pv_name,pv_attr,pv_pe_count -S vg_name=VG"
+PVS = "pvs --reportformat json --units b -o vg_name,pv_name,pv_attr,pv_pe_count,vg_extent_size -S vg_name=VG"
 # What pvmove can move alone. A volume with a snapshot, a snapshot, and the parts of a cache have other roles.
 ROLES = {"public", "private,raid,image", "private,raid,metadata", "private,mirror,image", "private,mirror,log",
          "private,thin,pool,data", "private,thin,pool,metadata", "private,pool,spare"}
+
+FIXED = "a snapshot, what has one, a part of a cache and the like are not planned; move it by LVM itself first"
 
 Row = dict[str, str]
 
@@ -22,7 +24,7 @@ def report(path: str, key: str, command: str) -> list[Row]:
         rows = [dict(row) for part in json.loads(read_text(path))["report"] for row in part[key]]
     except (ValueError, KeyError, TypeError):
         raise Wrong(f"does not hold what this prints: {command}", path) from None
-    lacks = [it for it in columns if any(it not in row for row in rows)]
+    lacks = [it for it in columns if it != "vg_extent_size" and any(it not in row for row in rows)]
     if lacks:
         columns_ = f"column{'s' * (len(lacks) > 1)} {', '.join(lacks)}"
         raise Wrong(f"lacks the {columns_}; this prints all that is needed: {command}", path)
@@ -81,6 +83,17 @@ def read_sizes(rows: Sequence[Row], path: str, segments: Sequence[Row]) -> tuple
     return sizes, closed
 
 
+def extent_of(rows: Sequence[Row], path: str) -> int | None:
+    """The bytes of an extent; None where the report was made without them."""
+    sizes = {str(row["vg_extent_size"]) for row in rows if "vg_extent_size" in row}
+    if not sizes:
+        return None
+    found = re.fullmatch(r"([1-9][0-9]{0,14})B?", min(sizes), re.ASCII)
+    if len(sizes) > 1 or not found:
+        raise Wrong(f"{path}: '{min(sizes)}' is no number of bytes of an extent; this prints it: {PVS}")
+    return int(found[1])
+
+
 def ranges_of(volume: str, text: str | list[str], path: str) -> Iterator[tuple[str, int, int]]:
     """The ranges of extents of a segment: of a text, or in LVM's newer form of a list."""
     for word in text.split() if isinstance(text, str) else text:
@@ -112,7 +125,7 @@ def read_parts(rows: Sequence[Row], path: str, sizes: Mapping[str, int]) -> list
                             "both reports anew")
             stripe: tuple[Hashable, int] = ((volume, at), number) if len(ranges) > 1 else (None, 0)
             group, leg = leg_of(volume) or stripe
-            parts.append(Part(volume, last - first + 1, device, first, movable, group, leg))
+            parts.append(Part(volume, last - first + 1, device, first, "" if movable else FIXED, group, leg))
     parts.sort(key=lambda it: (it.device, it.first))
     for one, two in itertools.pairwise(parts):
         if one.device == two.device and two.first <= one.last:

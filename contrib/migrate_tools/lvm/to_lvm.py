@@ -1,105 +1,41 @@
-"""to-lvm PLAN NAMES [--out SCRIPT]: turns a plan into a shell script of pvmove calls; NAMES is the names.csv of
-from-lvm.
+"""to-lvm PLAN NAMES [--out SCRIPT] [--plain]: turns a plan into a shell script of steps for `lvm-step`, each of which
+is a pvmove; NAMES is the names.csv of from-lvm.
 
 The script carries out one round after the other, and the transfers of a round side by side. LVM moves only once at a
 time from one physical volume, and only once at a time of one volume, so what shares one of these within a round comes
-after the other. Each transfer looks first where its extents are: what is done is passed over, and where they are in
-neither place the script stops. So it can be begun again at any round, as a whole too. A plan of plan-tight may park an
-item: what has gone on from there is passed over too, and each run looks at all rounds, since one needs those before it.
-A plan that parks an item where the script could not see that, or beside another leg or stripe of what it has, is
-refused. It needs root, and it is for /bin/sh:
+after the other. Each step looks first where its extents are: what is done is passed over, and where they are in
+neither place the script stops. So it can be begun again at any round, as a whole too, and each line can be run by hand.
+A plan of plan-tight may park an item: what has gone on from there is passed over too, and each run looks at all rounds,
+since one needs those before it. A plan that parks an item where the script could not see that, or beside another leg or
+stripe of what it has, is refused. It needs root, and it is for /bin/sh; with --plain it does without Python:
   sh SCRIPT        carries out all rounds
   sh SCRIPT 3      begins at round 3
   sh SCRIPT -n     prints the commands alone
   sh SCRIPT --until 06:00    no round begins from then on; where one is left the status is 3
-While a file `pause` is in the folder in which it was begun no further round begins. `progress --log` reads what it
-prints."""
+While a file `pause` is in the folder in which it was begun no further round begins. `lvm-step --help` has the other
+words; with --plain there are these alone. `progress --log` reads what it prints."""
 import shlex
-from ..command import Wrong, command, put, words
+from ..command import Wrong, command, here, put, words
 from ..plans import read_plan
-from ..shell import words_of
 from ..waiting import needed
-from .pvmoves import Pvmove, apart, options, read_pvmoves
+from .lvm_step import spot
+from .plain import plain
+from .pvmoves import Pvmove, read_pvmoves
 
 HEAD = r"""#!/bin/sh
 # Carries out a plan by pvmove: TITLE.
-# sh THIS [-n] [--until HH:MM] [ROUND]: begins at a round, the first where none is named; -n prints the commands alone.
-# While the file `pause` is in this folder, and once it is HH:MM, no further round begins; ended so the status is 3.
-# Begin it again after a stop: what is done is passed over.
-set -u
-going='' failed=''
-WORDS
-say() { echo "round $round: $*"; }
-trap 'echo "$0: stopped in round $round; each pvmove under way goes on: when none is left, begin again with:" \
-    "sh $0 $round" >&2; exit 130' INT TERM
-
-holds() { # VOLUME PV FIRST-LAST: whether the volume has all of these extents
-    pvs --noheadings --segments -o lv_name,pvseg_start,pvseg_size "$2" |
-        awk -v volume="$1" -v first="${3%-*}" -v last="${3#*-}" '
-        NF == 3 && ($1 == volume || $1 == "[" volume "]") {
-            from = $2 > first + 0 ? $2 : first + 0; to = $2 + $3 - 1 < last + 0 ? $2 + $3 - 1 : last + 0
-            if (from <= to) found += to - from + 1
-        }
-        END { exit found != last - first + 1 }'
-}
-
-# VOLUME PV FIRST-LAST PV FIRST-LAST [PV FIRST-LAST].. OPTION..: those in brackets are where it goes in later rounds
-move() {
-    volume=$1 from=$2 old=$3 to=$4 new=$5; shift 5
-    if holds "$volume" "$to" "$new"; then say "$volume is at $to:$new already"; return 0; fi
-    while [ "${1#-}" = "$1" ]; do
-        if holds "$volume" "$1" "$2"; then say "$volume is past $to:$new, at $1:$2 already"; return 0; fi
-        shift 2
-    done
-    if ! holds "$volume" "$from" "$old"; then
-        say "$volume is neither at $from:$old nor at $to:$new" >&2
-        echo "where a pvmove is unfinished (lvs -a shows it), call pvmove without words, then begin again;" \
-            "else make a new plan" >&2
-        return 1
-    fi
-    say "$volume goes from $from:$old to $to:$new"
-    pvmove -i 3 "$@" "$from:$old" "$to:$new" ||
-        { say "pvmove of $volume from $from:$old to $to:$new ended with status $?" >&2; return 1; }
-    holds "$volume" "$to" "$new" ||
-        { say "pvmove ended, and $volume is not at $to:$new: was another pvmove from $from at work?" >&2; return 1; }
-    say "$volume is at $to:$new now"
-}
-
-go() {
-    if [ "$only_print" ]; then
-        from=$2:$3 to=$4:$5; shift 5
-        while [ "${1#-}" = "$1" ]; do shift 2; done
-        echo "pvmove -i 3 $* $from $to"
-        return 0
-    fi
-    move "$@" & going="$going $!"
-}
-together() { # waits for what goes
-    for it in $going; do wait "$it" || failed=yes; done
-    going=''
-    [ -z "$failed" ] || { echo "$0: stopped in round $round; begin again with: sh $0 $round" >&2; exit 1; }
-}
-begins() { round=$1; [ "$round" -ge "$first" ] && if [ "$only_print" ]; then echo "# round $round"; else hold; fi; }
-if [ -z "$only_print" ]; then
-    for it in DEVICES; do
-        pvs --noheadings -o pv_name "$it" >/dev/null ||
-            { echo "$0: pvs of $it fails, so nothing was begun; is this root?" >&2; exit 1; }
-    done
-    clock begins DIGEST
-fi
-
+# sh THIS [-n] [--until HH:MM] [--window '[DAYS] HH:MM-HH:MM'] [--hook COMMAND] [ROUND]: begins at a round, the first
+# where none is named; -n prints the commands alone. While the file `pause` is in this folder, outside of each --window,
+# and once it is HH:MM, no further round begins; ended so the status is 3. Begin it again after a stop: what is done is
+# passed over. Each line below is a step, which can be run by hand too.
+PATH=$PATH:FOLDER
+exec lvm-step --script "$0" WORDS "$@"
 """
 
 
-# A round needs those before it where a slot is used again, or an item is parked. By itself its place says nothing then.
-ALL_ROUNDS = '[ "$only_print" ] || first=1 # here a round needs those before it: each is looked at, from the first on\n'
-
-
-def words_for(move: Pvmove) -> str:
-    """What the script's `go` gets: volume, source, extents, target, extents, later places, and options of pvmove."""
-    spots = [(move.source, 0), (move.target, move.by), *move.later]
-    ranges = (it for device, by in spots for it in (device, f"{move.first + by}-{move.last + by}"))
-    return shlex.join([move.volume, *ranges, *options(move.volume)])
+def line_of(at: int, move: Pvmove) -> str:
+    spots = [spot(device, move, by) for device, by in ((move.source, 0), (move.target, move.by), *move.later)]
+    return shlex.join(["lvm-step", "--round", str(at), move.volume, *spots])
 
 
 @command
@@ -109,18 +45,17 @@ def main() -> None:
     reader.add_argument("names", metavar="NAMES")
     reader.add_argument("--out", metavar="SCRIPT",
                         help="where the script is saved; it is printed where this is left out")
+    reader.add_argument("--plain", action="store_true", help="a script that does without Python")
     given = reader.parse_args()
     plan = read_plan(given.plan)
     shifts, digest = plan.shifts(), plan.digest.hex()
     if not shifts:
         raise Wrong("moves nothing", given.plan)
-    rounds = read_pvmoves(plan, given.names)[1]
-    devices = shlex.join(dict.fromkeys(it for moves in rounds for move in moves for it in (move.source, move.target)))
-    head = HEAD.replace("TITLE", f"{len(shifts)} transfers in {len(rounds)} rounds, plan {digest}")
-    head = head.replace("WORDS\n", words_of(1, len(rounds)) + ALL_ROUNDS * any(needed(shifts)))
-    lines = [head.replace("DIGEST", digest).replace("DEVICES", devices)]
+    rounds, all_rounds = read_pvmoves(plan, given.names)[1], any(needed(shifts))
+    title = f"{len(shifts)} transfers in {len(rounds)} rounds, plan {digest}"
+    lines = [HEAD.replace("TITLE", title).replace("FOLDER", shlex.quote(here())).replace(
+        "WORDS", f"--plan {digest}{' --all-rounds' * all_rounds}")]
     for at, moves in enumerate(rounds, 1):
-        body = "".join("".join(f"    go {words_for(it)}\n" for it in step) + "    together\n" for step in apart(moves))
-        lines.append(f"if begins {at}; then\n{body or '    :' + chr(10)}fi\n")
-    lines.append('[ "$only_print" ] || echo "all rounds are carried out"\n')
-    put("".join(lines), given.out, [given.plan, given.names], 0o755)
+        lines += [f"\n# round {at}\n", *(f"{line_of(at, it)}\n" for it in moves)]
+    text = plain(title, digest, rounds, all_rounds) if given.plain else "".join(lines)
+    put(text, given.out, [given.plan, given.names], 0o755)

@@ -67,10 +67,10 @@ def fill_in(plan: Plan, disks: Values, items: Values, all_words: Sequence[str]) 
     return rounds
 
 
-def ends_of(rounds: Sequence[Sequence[Values]], all_words: Sequence[str]) -> list[list[str]]:
-    """Where each item stands, and where it is to stand, as far as these words tell."""
-    source = next((word for word in all_words if "{from}" in word and "{item}" in word and "{to}" not in word), None)
-    return [filled([source, source.replace("{from}", "{to}")], it) for round_ in rounds for it in round_ if source]
+def ends_in(all_words: Sequence[str]) -> list[str]:
+    """The words for where an item stands, and where it is to stand, as far as these words tell: two, or none."""
+    found = re.search(r"(?<![^\s'\"=])[^\s{}'\"=]*\{from\}[^\s{}'\"]*\{item\}", "\n".join(all_words))
+    return [found[0], found[0].replace("{from}", "{to}")] if found else []
 
 
 # by what it is to be: the step's name and its words, none where it is left out

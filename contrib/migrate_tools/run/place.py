@@ -40,6 +40,9 @@ class Place:
         self.times = Times(f"{path}.times", not kept)
         if not kept:
             self.add(head)
+            folder = os.open(os.path.dirname(os.path.realpath(path)), os.O_RDONLY | os.O_DIRECTORY)
+            os.fsync(folder)  # which keeps its name
+            os.close(folder)
 
     def add(self, *lines: str) -> None:
         try:

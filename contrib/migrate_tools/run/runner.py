@@ -2,17 +2,22 @@
 import collections, ctypes, os, shlex, signal, time
 from collections.abc import Callable, Iterable, Mapping, Sequence
 from dataclasses import dataclass
+from typing import NoReturn
 from ..clock import Clock
 from ..command import Wrong, note
+from ..hooks import call
+from .compare import check_since, compare
 from .place import Place
 
 LIBC = ctypes.CDLL(None, use_errno=True)
+BUFFER, NO = 1 << 10, b"no"  # what a process of its own tells, where it has said what is wrong
+LOOKS = ("verified", "compared")  # what is so for this run alone: the next one looks again
 
 
 @dataclass(frozen=True)
 class Job:
-    """A command for one transfer: what it is to be (copied, verified, erased), its round and item, its two disks, its
-    words."""
+    """A command for one transfer: what it is to be (copied, verified, compared, erased), its round and item, its two
+    disks, its words. What is to be compared has two paths instead, and run-plan itself does it."""
     kind: str
     line: str
     disks: tuple[str, str]
@@ -39,12 +44,15 @@ class Runner:
     0. Where one fails, those that were handed over with it begin all the same, unless `is_strict`: then no copy begins
     either while `clock` holds."""
     place: Place
+    hook: Sequence[str] = ()
+    name = ""  # of the plan, for the hook
 
     def __init__(self, most: int, guards: Mapping[str, Sequence[str]], is_strict: bool = False) -> None:
         self.most, self.guards, self.is_strict, self.status, self.clock = most, guards, is_strict, 0, Clock()
         self.handles: dict[str, int] = {}
         self.broken: set[str] = set()
-        self.running: dict[int, Job] = {}
+        self.running: dict[int, tuple[Job, int]] = {}
+        self.compared: dict[str, tuple[str, str]] = {}  # by a job's line its source, and what was seen there
         signal.signal(signal.SIGINT, self.stop)
         signal.signal(signal.SIGTERM, self.stop)
 
@@ -71,6 +79,7 @@ class Runner:
                 code = error.strerror
             if code:
                 note(f"disk {disk} is not as --guard asks: {shlex.join(self.guards[disk])}: status {code}")
+                call(self.hook, "failed", f"{self.name}: disk {disk} is not as --guard asks")
                 self.status = self.status or 1
                 return False
         return True
@@ -100,8 +109,8 @@ class Runner:
                     continue
             pid, status = os.wait()
             ended = self.running.pop(pid, None)  # none of these where whoever began run-plan had begun it
-            if ended and self.ends_well(ended, os.waitstatus_to_exitcode(status)):
-                fresh.append(ended)
+            if ended and self.ends_well(*ended, os.waitstatus_to_exitcode(status)):
+                fresh.append(ended[0])
             if not (self.running and has_ended()):  # what ended at once is kept at once
                 kept, fresh = self.keep(fresh), []
                 more = then(kept)
@@ -116,33 +125,70 @@ class Runner:
         self.status = self.status or int(self.is_strict)
 
     def begin(self, job: Job) -> None:
+        if job.kind == "compared" or job.line in self.compared:
+            told, tells = os.pipe()
+            pid = os.fork()
+            if not pid:
+                self.by_itself(job, tells)
+            os.close(tells)
+            self.running[pid] = job, told
+            return
         if job.kind == "erased":
             self.place.add(f"erasing {job.line}")
         if job.kind == "copied":
             self.place.times.tell(f"copying {job.line}")
         try:
-            self.running[spawn(job.words)] = job
+            self.running[spawn(job.words)] = job, -1
         except OSError as error:
             self.failed(f"not {job.kind} {job.line}: {error.strerror}: {shlex.join(job.words)}")
 
-    def ends_well(self, job: Job, code: int) -> bool:
+    def by_itself(self, job: Job, tells: int) -> NoReturn:
+        """In a process of its own: compares a copy with its source; or looks once more whether the source is as it was
+        then, and becomes the command that removes it."""
+        for it in (signal.SIGINT, signal.SIGTERM, signal.SIGPIPE):
+            signal.signal(it, signal.SIG_DFL)
+        try:
+            if job.kind == "compared":
+                os.write(tells, compare(job.words[0], job.words[1]).encode())
+                os._exit(0)
+            check_since(*self.compared[job.line])
+            self.place.add(f"erasing {job.line}")
+            os.dup2(os.open(os.devnull, os.O_RDONLY), 0)
+            os.execvp(job.words[0], job.words)
+        except Wrong as wrong:
+            note(f"not {job.kind} {job.line}: {wrong}")
+            os.write(tells, NO)
+        except OSError as error:
+            note(f"not {job.kind} {job.line}: {error.strerror}: {shlex.join(job.words)}")
+        finally:
+            os._exit(1)
+
+    def ends_well(self, job: Job, told: int, code: int) -> bool:
         """Whether what ended counts: its disks are still as they should be, and its status is 0. A copy that fails
-        --verify counts no more."""
+        --verify, or is not as its source, counts no more. Then nothing more begins."""
+        said = b""
+        if told >= 0:
+            said = os.read(told, BUFFER)
+            os.close(told)
         if not self.guarded(*job.disks):
             return False
-        if code:
+        if code and said != NO:
             self.failed(f"not {job.kind} {job.line}: status {code}: {shlex.join(job.words)}")
-            if job.kind == "verified":
-                self.place.add(f"not copied {job.line}")
+        if code and (said == NO or job.kind in LOOKS):
+            call(self.hook, "failed", f"{self.name}: not {job.kind} {job.line}")
+            self.place.add(f"not copied {job.line}", f"not erasing {job.line}")
+        if job.kind == "compared":
+            self.compared[job.line] = job.words[0], said.decode()
+        if code and told >= 0:
+            self.status = self.status or 1
         return not code
 
     def keep(self, jobs: Sequence[Job]) -> list[Job]:
-        """Keeps those of these that ended well and whose disks have what they wrote. What is verified is so for this
-        run alone."""
-        if not self.handles.keys() >= {it.disk() for it in jobs if it.kind != "verified"}:
+        """Keeps those of these that ended well and whose disks have what they wrote."""
+        if not self.handles.keys() >= {it.disk() for it in jobs if it.kind not in LOOKS}:
             os.sync()
-        kept = [it for it in jobs if it.kind == "verified" or self.reached(it.disk())]
-        if lines := [f"{it.kind} {it.line}" for it in kept if it.kind != "verified"]:
+        kept = [it for it in jobs if it.kind in LOOKS or self.reached(it.disk())]
+        if lines := [f"{it.kind} {it.line}" for it in kept if it.kind not in LOOKS]:
             self.place.add(*lines)
             self.place.times.tell(*lines)
         return kept

@@ -77,9 +77,12 @@ def of_transfers(plan: Plan, weights: Sequence[int], stand: Stand, disks: Disks)
 
 def seconds_left(plan: Plan, first: Sequence[int], weights: Sequence[int], stand: Stand, disks: Disks | None,
                  steps: Sequence[int] | None) -> float | None:
-    """The time that is left; None where nothing that is done tells it."""
+    """The time that is left; None where nothing that is done tells it, or too little: less than a fifth, in less than
+    a minute."""
     if len(stand.done) == first[-1]:
         return 0.0
+    if 5 * sum(weights[it] for it in stand.done) < sum(weights) and (stand.seconds or 0) < 60:
+        return None
     found = None
     if stand.way == "eager" and disks is not None:
         found = of_transfers(plan, weights, stand, disks)

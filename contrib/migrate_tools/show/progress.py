@@ -1,5 +1,5 @@
-"""progress PLAN [--place FILE | --log FILE | --journal FILE] [--sizes BYTES] [--json] [OPTION..]: shows how far a plan
-is, and when it will be done.
+"""progress PLAN [--place FILE | --log FILE | --journal FILE] [--sizes BYTES] [--json | --metrics] [OPTION..]: shows
+how far a plan is, and when it will be done.
 
 Where a plan parks items it counts transfers in place of items. It only reads: the place of run-plan (PLAN.place, with
 its times), the log of a script of to-lvm or to-ceph (--log moves.log; with --names what of a round is done too), or the
@@ -76,6 +76,17 @@ def told(given: argparse.Namespace, plan: Plan, sizes: dict[str, int] | None, di
                     "done": len(stand.done) == len(shifts), "process_can_be_seen": not stand.unseen}
 
 
+def metrics_of(it: dict[str, Any], plan: str) -> str:
+    """The text that Prometheus reads. What is not known has no line."""
+    kinds = [it_ for it_ in ("rounds", "items", "bytes") if it_ in it]
+    values: dict[str, Any] = {kind: it[kind] for kind in kinds} | {f"{kind}_done": it[f"{kind}_done"] for kind in kinds}
+    values |= {"seconds_at_work": it["seconds_at_work"], "seconds_left": it["seconds_left"]}
+    values |= {"paused": int(it["paused"]), "at_work": int(it["process"] is not None), "done": int(it["done"])}
+    values["at_work"] = values["at_work"] if it["process_can_be_seen"] else None
+    return "".join(f"# TYPE migrate_plan_{name} gauge\nmigrate_plan_{name}{{plan=\"{plan}\"}} {value}\n"
+                   for name, value in values.items() if value is not None)
+
+
 def line_of(it: dict[str, Any]) -> str:
     unit = "bytes" if it.get("bytes") else "items"
     width = 30 * it[f"{unit}_done"] // it[unit] if it[unit] else 30
@@ -110,6 +121,7 @@ def main() -> None:
     add("--since", metavar="TIME", type=read_time, help="when the move began")
     add("--every", metavar="SECONDS", type=float, help="looks again after so many seconds")
     add("--json", action="store_true", help="prints an object of JSON for each look")
+    add("--metrics", action="store_true", help="prints what Prometheus reads, as by its textfile collector")
     given = reader.parse_args()
     if given.every is not None and given.every <= 0:
         reader.error("--every is greater than 0")
@@ -117,6 +129,8 @@ def main() -> None:
         reader.error("--journal, --place and --log are three ways to say where to look: name one")
     if given.names and not given.log:
         reader.error("--names goes with --log")
+    if given.metrics and (given.json or given.every):
+        reader.error("--metrics goes neither with --json nor with --every")
     plan = read_plan(given.plan)
     sizes, disks = read_sizes(given.sizes, plan), read_disks(given.eager) if given.eager else None
     if disks is not None:
@@ -125,6 +139,8 @@ def main() -> None:
     try:
         while True:
             found = told(given, plan, sizes, disks, steps)
+            if given.metrics:
+                return print(metrics_of(found, plan.digest.hex()), end="", flush=True)
             print(json.dumps(found) if given.json else line_of(found), flush=True)
             if found["done"] or not given.every:
                 break

@@ -1,0 +1,191 @@
+"""lvm-step --script SCRIPT [-n] [OPTION..] [ROUND], lvm-step --round N VOLUME PV:FIRST-LAST PV:FIRST-LAST [LATER..]:
+carries out the steps of a script of to-lvm, or one of them.
+
+A step moves extents of a volume from a physical volume to another one by pvmove. It looks first where they are, by
+pvs: what is done is passed over, also where they are at a later place already, to which a later round brings them, and
+where they are at none of these places it stops. Then it calls pvmove, waits for it, looks again, and says what it did.
+A script begins at ROUND, or at the first one; -n prints the commands alone. LVM moves only once at a time from one
+physical volume, and of one volume, so what shares one of these within a round comes after the other. While a file
+`pause` is in the folder, outside of each --window, and once --until has come, no further round begins; ended so the
+status is 3. What it prints is for `progress --log`."""
+import argparse, fcntl, json, os, re, shlex, signal, subprocess, sys, time
+from collections.abc import Sequence
+from typing import NoReturn
+from ..clock import ENDED, Clock, add_times
+from ..command import Wrong, command, note, read_text, words
+from ..hooks import add_hook, call
+from .pvmoves import Pvmove, apart, options
+
+LOOK = ["pvs", "--segments", "--reportformat", "json", "-o", "lv_name,pvseg_start,pvseg_size"]
+SPOT = re.compile(r"(.+):([0-9]{1,12})-([0-9]{1,12})", re.ASCII)
+
+
+def tell(text: str) -> None:
+    print(f"time {int(time.time())} {text}", flush=True)
+
+
+def move_of(volume: str, spots: Sequence[str]) -> Pvmove:
+    """The step of these words: where the extents are, where they go, and where they go in later rounds."""
+    found = [SPOT.fullmatch(it) for it in spots]
+    ends = [(it[1], int(it[2]), int(it[3])) for it in found if it]
+    if len(ends) < 2 or len(ends) < len(spots) or len({last - first for _, first, last in ends}) > 1:
+        raise Wrong(f"'{' '.join(spots)}' are no places of as many extents, as /dev/sda:0-15 /dev/sdb:32-47")
+    source, first, last = ends[0]
+    (target, to, _), *later = ends[1:]
+    return Pvmove("", volume, source, first, last, target, to - first, [(it, at - first) for it, at, _ in later])
+
+
+def rounds_of(path: str) -> list[list[Pvmove]]:
+    """The steps of a script, by rounds."""
+    rounds: list[list[Pvmove]] = []
+    for line in read_text(path).splitlines():
+        if line.startswith("lvm-step --round "):
+            number, volume, *spots = shlex.split(line)[2:]
+            rounds += [[] for _ in range(int(number) - len(rounds))]
+            rounds[int(number) - 1].append(move_of(volume, spots))
+    if not rounds:
+        raise Wrong("has no steps; `to-lvm` writes them", path)
+    return rounds
+
+
+def spot(device: str, move: Pvmove, by: int) -> str:
+    return f"{device}:{move.first + by}-{move.last + by}"
+
+
+def commands(move: Pvmove) -> list[str]:
+    return ["pvmove", "-i", "3", *options(move.volume), spot(move.source, move, 0), spot(move.target, move, move.by)]
+
+
+def holds(move: Pvmove, device: str, by: int) -> bool:
+    """Whether the volume has all of these extents there."""
+    ran = subprocess.run([*LOOK, device], capture_output=True, text=True, check=False)
+    try:
+        rows = [row for part in json.loads(ran.stdout)["report"] for row in part["pvseg"]] if not ran.returncode else []
+        there = {at for row in rows if row["lv_name"].strip("[]") == move.volume
+                 for at in range(int(row["pvseg_start"]), int(row["pvseg_start"]) + int(row["pvseg_size"]))}
+    except (ValueError, LookupError, TypeError):
+        raise Wrong(f"{shlex.join([*LOOK, device])} does not say what it is asked for: {ran.stdout[:200]}") from None
+    if ran.returncode:
+        raise Wrong(f"{shlex.join([*LOOK, device])}: status {ran.returncode}: {ran.stderr.strip()}; is this root?")
+    return there.issuperset(range(move.first + by, move.last + by + 1))
+
+
+class Round:
+    """Carries out what a round needs."""
+
+    def __init__(self, number: int) -> None:
+        self.number = number
+
+    def say(self, text: str, is_wrong: bool = False) -> bool:
+        print(f"round {self.number}: {text}", flush=True, file=sys.stderr if is_wrong else sys.stdout)
+        return not is_wrong
+
+    def begin(self, it: Pvmove) -> subprocess.Popen[bytes] | bool:
+        """The pvmove that it needs, or whether it is done already."""
+        target = spot(it.target, it, it.by)
+        if holds(it, it.target, it.by):
+            return self.say(f"{it.volume} is at {target} already")
+        for device, by in it.later:
+            if holds(it, device, by):
+                return self.say(f"{it.volume} is past {target}, at {spot(device, it, by)} already")
+        if not holds(it, it.source, 0):
+            return self.say(f"{it.volume} is neither at {spot(it.source, it, 0)} nor at {target}\nwhere a pvmove is "
+                            "unfinished (lvs -a shows it), call pvmove without words, then begin again; else make a "
+                            "new plan", True)
+        self.say(f"{it.volume} goes from {spot(it.source, it, 0)} to {target}")
+        return subprocess.Popen(commands(it), stdin=subprocess.DEVNULL, start_new_session=True)
+
+    def ends(self, it: Pvmove, going: subprocess.Popen[bytes] | bool) -> bool:
+        """Waits for it, and answers whether its extents are where they are to be."""
+        if isinstance(going, bool):
+            return going
+        target = spot(it.target, it, it.by)
+        if status := going.wait():
+            return self.say(f"pvmove of {it.volume} from {spot(it.source, it, 0)} to {target} ended with status "
+                            f"{status}", True)
+        if not holds(it, it.target, it.by):
+            return self.say(f"pvmove ended, and {it.volume} is not at {target}: was another pvmove from {it.source} at "
+                            "work?", True)
+        return self.say(f"{it.volume} is at {target} now")
+
+    def run(self, moves: Sequence[Pvmove]) -> bool:
+        """Whether all of it is done. What shares a source or a volume comes one after the other."""
+        for step in apart(moves):
+            begun = [(it, self.begin(it)) for it in step]
+            if not all([self.ends(it, going) for it, going in begun]):
+                return False
+        return True
+
+
+class Script:
+    def __init__(self, given: argparse.Namespace) -> None:
+        self.given, self.rounds, self.number = given, rounds_of(given.script), given.first
+        if not 0 < self.number <= len(self.rounds):
+            print(f"lvm-step: there is no round {self.number}, but 1 to {len(self.rounds)}", file=sys.stderr)
+            sys.exit(2)
+        for it in (signal.SIGINT, signal.SIGTERM):
+            signal.signal(it, self.stopped)
+
+    def end(self, what: str, text: str, status: int) -> NoReturn:
+        note(f"{text} with: sh {self.given.script} {self.number}")
+        call(self.given.hook, what, f"{self.given.script}: {text}")
+        sys.exit(status)
+
+    def stopped(self, *_: object) -> None:
+        self.end("stopped", f"stopped in round {self.number}; each pvmove under way goes on: when none is left, begin "
+                 "again", 130)
+
+    def print_alone(self) -> None:
+        for number, moves in enumerate(self.rounds[self.number - 1:], self.number):
+            steps = [it for step in apart(moves) for it in step]
+            print("\n".join([f"# round {number}", *(shlex.join(commands(it)) for it in steps)]))
+
+    def run(self) -> None:
+        clock = Clock(self.given.until, tell, self.given.window)
+        with open(self.given.script, "rb") as file:
+            try:
+                fcntl.flock(file, fcntl.LOCK_EX | fcntl.LOCK_NB)
+            except OSError:
+                raise Wrong("is being carried out already", self.given.script) from None
+            for device in dict.fromkeys(end for moves in self.rounds for it in moves for end in (it.source, it.target)):
+                if subprocess.run(["pvs", "--noheadings", "-o", "pv_name", device], stdout=subprocess.DEVNULL,
+                                  check=False).returncode:
+                    raise Wrong(f"pvs of {device} fails, so nothing was begun; is this root?")
+            tell(f"begins {self.given.plan}")
+            for self.number in range(1 if self.given.all_rounds else self.number, len(self.rounds) + 1):
+                if not clock.wait():
+                    tell("ends")
+                    self.end("ended", f"ended before round {self.number}, as --until says; begin again", ENDED)
+                tell(f"round {self.number}")
+                if not Round(self.number).run(self.rounds[self.number - 1]):
+                    call(self.given.hook, "failed", f"{self.given.script}: a pvmove of round {self.number} failed")
+                    self.end("stopped", f"stopped in round {self.number}; begin again", 1)
+            print("all rounds are carried out", flush=True)
+            call(self.given.hook, "done", f"{self.given.script}: all rounds are carried out")
+
+
+@command
+def main() -> None:
+    reader = words(__doc__)
+    add = reader.add_argument
+    add("--script", metavar="SCRIPT", help="the script whose steps are carried out")
+    add("--plan", metavar="DIGEST", default="", help="the digest of its plan, for `progress`")
+    add("--all-rounds", action="store_true", help="each run looks at all rounds, since one needs those before it")
+    add("--round", metavar="N", type=int, help="the round of the one step that follows")
+    add("-n", action="store_true", help="prints the commands alone")
+    add("rest", metavar="ROUND | VOLUME PV:FIRST-LAST ..", nargs="*")
+    add_times(reader, "round")
+    add_hook(reader)
+    given = reader.parse_args()
+    if (given.script is None) == (given.round is None):
+        reader.error("say --script SCRIPT, or --round N and a step")
+    if given.script is None:
+        move = move_of(given.rest[0] if given.rest else "", given.rest[1:])
+        if given.n:
+            return print(shlex.join(commands(move)))
+        sys.exit(not Round(given.round).run([move]))
+    if len(given.rest) > 1 or not all(it.isdecimal() for it in given.rest):
+        reader.error(f"{' '.join(given.rest)} is no round; say: sh {given.script} [-n] [OPTION..] [ROUND]")
+    given.first = int(given.rest[0]) if given.rest else 1
+    script = Script(given)
+    return script.print_alone() if given.n else script.run()
