@@ -83,12 +83,11 @@ def hand_over(call, handles, texts, status):
     call.send(bytes([status]))
 
 
-def answer(call, calls, folder, words, environ, handles):
+def answer(call, calls, words, environ, handles):
     """Does a call in this process, which is a fork, and tells its status."""
     for at, handle in enumerate(handles):
         os.dup2(handle, at)
         os.close(handle)
-    os.chdir(folder)
     for name in os.environ.keys() - environ.keys():
         del os.environ[name]
     os.environ.update(environ.items() - os.environ.items())
@@ -136,6 +135,7 @@ def serve(listening, ready):
             call, _ = listening.accept()
             folder, words, environ, handles = heard(call)
             name = os.path.basename(words[0])
+            os.chdir(folder)
             told = said(stand_in.main, words, environ) if name in at_once else None
             if told and all(fits(it, sum(map(len, told[0]))) for it in handles[1:]):
                 hand_over(call, handles, *told)
@@ -143,7 +143,7 @@ def serve(listening, ready):
             else:
                 forks[call] = os.fork()
                 if not forks[call]:
-                    hand_over(call, handles, *told) if told else answer(call, calls, folder, words, environ, handles)
+                    hand_over(call, handles, *told) if told else answer(call, calls, words, environ, handles)
                     os._exit(0)
             for it in handles:
                 os.close(it)
