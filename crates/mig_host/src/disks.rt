@@ -2,9 +2,9 @@
 ghost use Rattle.std.specs.Prelude.{◌≤◌, ◌<◌, IfOk, length};
 
 use crate::failures::{Failure, too_many_open};
-use crate::identity::Node;
+use crate::identity::{Node, check_name, exchanged};
 use crate::journal::Journal;
-use crate::opened::{Opened, open_again, open_to_read, open_to_write};
+use crate::opened::{Opened, open_again, open_to_read, open_to_write, take};
 use crate::texts::DiskFile;
 use indexmap::{IndexMap, IndexSet};
 use mig_base::Name;
@@ -21,8 +21,10 @@ pub struct Disks {
     /// The place among them of the last one that was looked up.
     recent: usize,
     absent: IndexSet<Name>,
-    /// The disk of each file that was opened.
-    nodes: IndexMap<Node, Name>,
+    /// The file of each disk that was opened.
+    known: IndexMap<Name, Node>,
+    /// The disk that has this file, or, where that is told so, a part of it.
+    owners: IndexMap<Node, (Name, bool)>,
     /// The permissions of the first file that was opened: new ones get the same.
     mode: Option<u32>,
 }
@@ -34,7 +36,8 @@ impl Drop for Disks {
             open: _open,
             recent: _,
             absent: _absent,
-            nodes: _nodes,
+            known: _known,
+            owners: _owners,
             mode: _mode,
         } = self;
     }
@@ -48,7 +51,8 @@ impl Disks {
             open: IndexMap::new(alloc),
             recent: 0,
             absent: IndexSet::new(alloc),
-            nodes: IndexMap::new(alloc),
+            known: IndexMap::new(alloc),
+            owners: IndexMap::new(alloc),
             mode: None,
         }
     }
@@ -85,10 +89,11 @@ impl Disks {
         journal: &Journal,
         name: &Name,
     ) -> Result<Extent, Failure> {
+        let is_known = self.known.contains_key(name);
         match self.to_read(rt, journal, name) {
             Ok(Some(opened)) => Ok(opened.extent()),
             Ok(None) => Ok(Extent::Absent),
-            Err(failure) if failure.is_missing() => Ok(Extent::Absent),
+            Err(failure) if failure.is_missing() && !is_known => Ok(Extent::Absent),
             Err(failure) => Err(failure),
         }
     }
@@ -115,17 +120,18 @@ impl Disks {
         }
     }
 
-    /// Brings all that was written to a disk's file to the device, where the file is there.
+    /// Brings all that was written to a disk's file to the device, where the file is there. One that lost its name meanwhile is refused.
     pub fn sync<R: Files<File = File>>(
         &mut self,
         rt: &R,
         journal: &Journal,
         name: &Name,
     ) -> Result<(), Failure> {
+        let alloc = self.alloc;
         let Some(opened) = self.to_read(rt, journal, name)? else {
             return Ok(());
         };
-        match opened.sync() {
+        match sync_named(rt, alloc, name, opened) {
             Ok(()) => Ok(()),
             Err(error) => Err(Failure::OfDisk(*name, error)),
         }
@@ -159,18 +165,35 @@ impl Disks {
             Some(opened) if !opened.writable => opened.node,
             _ => return Ok(()),
         };
-        match self.find_again(rt, name) {
-            Ok(opened) => {
-                if opened.node != node {
-                    return Err(Failure::OfDisk(*name, exchanged()));
-                }
-                if let Err(error) = opened.lock() {
-                    return Err(Failure::OfDisk(*name, error));
-                }
-                self.keep(name, opened)
-            }
+        match self.find_to_write(rt, name) {
+            Ok((opened, _)) => self.keep_taken(rt, name, node, opened),
             Err(error) if is_read_only(&error) => Ok(()),
             Err(error) => Err(Failure::OfDisk(*name, error)),
+        }
+    }
+
+    /// Takes for this process alone what was opened for writing too, in place of the same file that is open for reading, which is closed first.
+    fn keep_taken<R: Files<File = File>>(
+        &mut self,
+        rt: &R,
+        name: &Name,
+        node: Node,
+        opened: Opened,
+    ) -> Result<(), Failure> {
+        if opened.node != node {
+            return Err(Failure::OfDisk(*name, exchanged()));
+        }
+        self.keep(name, opened)?;
+        let taken = match self.open.get(name) {
+            Some(opened) => self.take(rt, name, opened, false),
+            None => Ok(()),
+        };
+        match taken {
+            Ok(()) => Ok(()),
+            Err(error) => {
+                self.close(name);
+                Err(Failure::OfDisk(*name, error))
+            }
         }
     }
 
@@ -232,7 +255,7 @@ impl Disks {
         if !made && self.absent.contains(name) {
             return Err(Failure::OfDisk(*name, exchanged()));
         }
-        if let Err(error) = self.take(&opened, made) {
+        if let Err(error) = self.take(rt, name, &opened, made) {
             return Err(Failure::OfDisk(*name, error));
         }
         let _ = self.absent.swap_remove(name);
@@ -246,14 +269,11 @@ impl Disks {
         name: &Name,
     ) -> io::Result<Option<Opened>> {
         self.check_spare(name)?;
-        let path = format!(in self.alloc; "{}", DiskFile(name))?;
+        let path = path_of(self.alloc, name)?;
+        if self.known.contains_key(name) {
+            return Ok(Some(open_again(rt, self.alloc, path.as_str(), false)?));
+        }
         open_to_read(rt, self.alloc, path.as_str())
-    }
-
-    fn find_again<R: Files<File = File>>(&self, rt: &R, name: &Name) -> io::Result<Opened> {
-        self.check_spare(name)?;
-        let path = format!(in self.alloc; "{}", DiskFile(name))?;
-        open_again(rt, self.alloc, path.as_str())
     }
 
     fn find_to_write<R: Files<File = File>>(
@@ -262,7 +282,10 @@ impl Disks {
         name: &Name,
     ) -> io::Result<(Opened, bool)> {
         self.check_spare(name)?;
-        let path = format!(in self.alloc; "{}", DiskFile(name))?;
+        let path = path_of(self.alloc, name)?;
+        if self.known.contains_key(name) {
+            return Ok((open_again(rt, self.alloc, path.as_str(), true)?, false));
+        }
         open_to_write(rt, self.alloc, path.as_str())
     }
 
@@ -275,24 +298,53 @@ impl Disks {
     }
 
     /// Takes a file for this process alone.
-    fn take(&self, opened: &Opened, made: bool) -> io::Result<()> {
-        opened.lock()?;
+    fn take<R: Files<File = File>>(
+        &self,
+        rt: &R,
+        name: &Name,
+        opened: &Opened,
+        made: bool,
+    ) -> io::Result<()> {
+        let path = path_of(self.alloc, name)?;
+        take(rt, self.alloc, path.as_str(), opened)?;
         match self.mode {
             Some(mode) if made => opened.set_mode(mode),
             _ => Ok(()),
         }
     }
 
-    /// Notes which file the disk is, and refuses one that is another disk's or the journal's.
+    /// Notes which file the disk is, and refuses one that is another disk's or the journal's, or was another one before.
     fn identify(&mut self, journal: &Journal, name: &Name, opened: &Opened) -> Result<(), Failure> {
-        if journal.nodes().contains(&Some(opened.node)) {
+        if journal.overlaps(opened) {
             return Err(Failure::IsJournal(*name));
         }
-        match self.nodes.get(&opened.node) {
-            Some(other) if other != name => return Err(Failure::OneFile(*name, *other)),
-            _ => {}
+        if self
+            .known
+            .get(name)
+            .is_some_and(|node| *node != opened.node)
+        {
+            return Err(Failure::OfDisk(*name, exchanged()));
         }
-        match self.nodes.insert(opened.node, *name) {
+        self.note_owner(name, opened.node, true)?;
+        for part in opened.parts.iter() {
+            self.note_owner(name, part.node, part.whole)?;
+        }
+        match self.known.insert(*name, opened.node) {
+            Ok(_) => Ok(()),
+            Err(_) => Err(Failure::memory(*name)),
+        }
+    }
+
+    /// Notes that a disk has a file, or a part of it. Two of them may have parts of one file.
+    fn note_owner(&mut self, name: &Name, node: Node, whole: bool) -> Result<(), Failure> {
+        match self.owners.get(&node) {
+            Some((other, owns)) if other != name && (*owns || whole) => {
+                return Err(Failure::OneFile(*name, *other));
+            }
+            Some(_) => return Ok(()),
+            None => {}
+        }
+        match self.owners.insert(node, (*name, whole)) {
             Ok(_) => Ok(()),
             Err(_) => Err(Failure::memory(*name)),
         }
@@ -307,9 +359,20 @@ impl Disks {
     }
 }
 
-/// Another file has the disk's name than the one that was looked at.
-fn exchanged() -> Error {
-    Error::other("another process made or exchanged it meanwhile")
+/// The path of a disk's file.
+fn path_of(alloc: Global, name: &Name) -> io::Result<String> {
+    Ok(format!(in alloc; "{}", DiskFile(name))?)
+}
+
+/// Syncs a file that has the disk's name still.
+fn sync_named<R: Files<File = File>>(
+    rt: &R,
+    alloc: Global,
+    name: &Name,
+    opened: &Opened,
+) -> io::Result<()> {
+    check_name(rt, path_of(alloc, name)?.as_str(), opened.node)?;
+    opened.sync()
 }
 
 /// Whether a file can't be written, though it can be read.
