@@ -28,16 +28,16 @@ static void try_lock(const char *path) {
 /* The errno with which the call is to fail, or 0. */
 static int met(const char *call, const char *path) {
     static int count;
+    static FILE *to;
     char name[32] = "", file[4096] = "";
     int at = 0, error = 0;
     const char *wanted = getenv("CALLS_AT"), *log = getenv("CALLS_LOG"), *command = getenv("CALLS_RUN");
     if (inside)
         return 0;
     inside = 1;
-    if (log) {
-        FILE *to = fopen(log, "a");
+    if (log && (to || (to = fopen(log, "a")))) {
         fprintf(to, "%s %s\n", call, path);
-        fclose(to);
+        fflush(to);
     }
     if (wanted && sscanf(wanted, "%31s %4095s %d", name, file, &at) == 3 && !strcmp(name, call)) {
         size_t all = strlen(path), end = strlen(file);

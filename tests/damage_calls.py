@@ -1,11 +1,11 @@
 """What tests/damage does in the midst of a run, at a call that it picks (calls.c): files and folders that are exchanged, calls that are
 interrupted or fail, and locks that keep nobody out. It needs a C compiler; where there is none a line says so, and nothing is counted."""
-import collections, contextlib, errno, os, resource, shlex, shutil, stat, subprocess, tempfile
+import collections, contextlib, errno, itertools, os, resource, shlex, shutil, stat, subprocess, tempfile
 from session_cells import put_half_way, stores
 from session_inputs import DISKS, FILES, PLAN_TEXT, put
 from session_rooms import Count, Room, says
 from damage_rooms import LEFT, WORDS, Store, ring, stages
-from damages import JOURNAL
+from damages import JOURNAL, Slots, journal_of
 
 COPY = f"{JOURNAL}.copy.mig"
 ANEW = "cp -p {0} other && mv other {0}"
@@ -73,17 +73,19 @@ def exchanged_in_the_midst(run, program):
 
 @with_calls
 def exchanged_while_closed(run, program):
-    """A disk is replaced by a copy, or removed, while it is closed, since more disks are in use than files may be open."""
-    for change in (ANEW, "rm {0}"):
+    """A disk is replaced by a copy, or removed, while it is closed, since more disks are in use than files may be open: before the round's
+    first copy, or after the one to this disk. The round isn't marked, and its items stay where they were."""
+    for at, change in itertools.product(("pread disks/d30 1", "pwrite disks/d30 1"), (ANEW, "rm {0}")):
         with Room(program) as room:
             store = Store(room, ring(40))
             store.put(store.case.image(next(stages(store.case))[0]))
-            held = room.read("disks/d5")
-            ran = run(room, WORDS["move"], at="pread disks/d30 1", run=change.format("disks/d5"), limits=[(resource.RLIMIT_NOFILE, 16)])
-            what = f"{change.format('a closed disk')}"
-            Count.ended(what, ran, 5, "store fault\n")
-            Count.that(f"{what}: it is said", says(ran, "d5.disk"), ran)
-            Count.that(f"{what}: it stays", room.read("disks/d5") in (held, None))
+            ran = run(room, WORDS["move"], at=at, run=change.format("disks/d5"), limits=[(resource.RLIMIT_NOFILE, 16)])
+            what = f"{change.format('a closed disk')}, at {at}"
+            refused(room, what, ran, "d5.disk")
+            seen = Slots(store.case, store.seen())
+            left = {item for item, spot in store.case.now.items() if seen.item(spot) != item}
+            Count.that(f"{what}: the items stay", left <= ({"i5"} if change != ANEW else set()), left)
+            Count.same(f"{what}: the marked rounds", journal_of(store.seen(), 1)[2], 0)
 
 
 @with_calls

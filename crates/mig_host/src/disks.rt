@@ -25,6 +25,8 @@ pub struct Disks {
     known: IndexMap<Name, Node>,
     /// The disk that has this file, or, where that is told so, a part of it.
     owners: IndexMap<Node, (Name, bool)>,
+    /// The disks that were written since it was looked whether they have their names still.
+    written: IndexSet<Name>,
     /// The permissions of the first file that was opened: new ones get the same.
     mode: Option<u32>,
 }
@@ -38,6 +40,7 @@ impl Drop for Disks {
             absent: _absent,
             known: _known,
             owners: _owners,
+            written: _written,
             mode: _mode,
         } = self;
     }
@@ -53,6 +56,7 @@ impl Disks {
             absent: IndexSet::new(alloc),
             known: IndexMap::new(alloc),
             owners: IndexMap::new(alloc),
+            written: IndexSet::new(alloc),
             mode: None,
         }
     }
@@ -111,6 +115,9 @@ impl Disks {
         ensures some { IfOk result (λ written. 0 < length bytes.now → 0 < written.count) }
     {
         let made = self.open_for_writing(rt, journal, name)?;
+        if self.written.insert(*name).is_err() {
+            return Err(Failure::memory(*name));
+        }
         let Some(opened) = self.open.get_mut(name) else {
             return Err(Failure::memory(*name));
         };
@@ -127,12 +134,38 @@ impl Disks {
         journal: &Journal,
         name: &Name,
     ) -> Result<(), Failure> {
-        let alloc = self.alloc;
         let Some(opened) = self.to_read(rt, journal, name)? else {
             return Ok(());
         };
-        match sync_named(rt, alloc, name, opened) {
-            Ok(()) => Ok(()),
+        if let Err(error) = opened.sync() {
+            return Err(Failure::OfDisk(*name, error));
+        }
+        self.check_named(rt, name)
+    }
+
+    /// Whether a disk was written since it was looked whether those have their names still.
+    pub fn has_written(&self) -> bool {
+        !self.written.is_empty()
+    }
+
+    /// Looks whether they have, also those that were closed meanwhile.
+    pub fn check_written<R: Files<File = File>>(&mut self, rt: &R) -> Result<(), Failure> {
+        for name in self.written.iter() {
+            self.check_named(rt, name)?;
+        }
+        self.written.clear();
+        Ok(())
+    }
+
+    /// Refuses a disk whose name leads to another file than the one that was opened.
+    fn check_named<R: Files<File = File>>(&self, rt: &R, name: &Name) -> Result<(), Failure> {
+        let Some(node) = self.known.get(name) else {
+            return Ok(());
+        };
+        match path_of(self.alloc, name) {
+            Ok(path) => check_name(rt, path.as_str(), *node).map_err(|error| Failure::OfDisk(
+                *name, error,
+            )),
             Err(error) => Err(Failure::OfDisk(*name, error)),
         }
     }
@@ -161,39 +194,27 @@ impl Disks {
 
     /// Opens the disk's file for writing too, for this process alone, where it is open for reading. One that can't be written is left as it is.
     fn lock_open<R: Files<File = File>>(&mut self, rt: &R, name: &Name) -> Result<(), Failure> {
-        let node = match self.last_found(name) {
-            Some(opened) if !opened.writable => opened.node,
-            _ => return Ok(()),
-        };
+        if self.last_found(name).is_none_or(|opened| opened.writable) {
+            return Ok(());
+        }
         match self.find_to_write(rt, name) {
-            Ok((opened, _)) => self.keep_taken(rt, name, node, opened),
+            Ok((opened, made)) => self.keep_taken(rt, name, opened, made),
             Err(error) if is_read_only(&error) => Ok(()),
             Err(error) => Err(Failure::OfDisk(*name, error)),
         }
     }
 
-    /// Takes for this process alone what was opened for writing too, in place of the same file that is open for reading, which is closed first.
+    /// Takes a file for this process alone, and keeps it open, in place of the same one that was open for reading alone.
     fn keep_taken<R: Files<File = File>>(
         &mut self,
         rt: &R,
         name: &Name,
-        node: Node,
         opened: Opened,
+        made: bool,
     ) -> Result<(), Failure> {
-        if opened.node != node {
-            return Err(Failure::OfDisk(*name, exchanged()));
-        }
-        self.keep(name, opened)?;
-        let taken = match self.open.get(name) {
-            Some(opened) => self.take(rt, name, opened, false),
-            None => Ok(()),
-        };
-        match taken {
-            Ok(()) => Ok(()),
-            Err(error) => {
-                self.close(name);
-                Err(Failure::OfDisk(*name, error))
-            }
+        match self.take(rt, name, &opened, made) {
+            Ok(()) => self.keep(name, opened),
+            Err(error) => Err(Failure::OfDisk(*name, error)),
         }
     }
 
@@ -255,11 +276,8 @@ impl Disks {
         if !made && self.absent.contains(name) {
             return Err(Failure::OfDisk(*name, exchanged()));
         }
-        if let Err(error) = self.take(rt, name, &opened, made) {
-            return Err(Failure::OfDisk(*name, error));
-        }
+        self.keep_taken(rt, name, opened, made)?;
         let _ = self.absent.swap_remove(name);
-        self.keep(name, opened)?;
         Ok(made)
     }
 
@@ -270,10 +288,10 @@ impl Disks {
     ) -> io::Result<Option<Opened>> {
         self.check_spare(name)?;
         let path = path_of(self.alloc, name)?;
-        if self.known.contains_key(name) {
-            return Ok(Some(open_again(rt, self.alloc, path.as_str(), false)?));
+        match self.known.get(name) {
+            Some(node) => Ok(Some(open_again(rt, self.alloc, path.as_str(), *node, false)?)),
+            None => open_to_read(rt, self.alloc, path.as_str()),
         }
-        open_to_read(rt, self.alloc, path.as_str())
     }
 
     fn find_to_write<R: Files<File = File>>(
@@ -283,10 +301,13 @@ impl Disks {
     ) -> io::Result<(Opened, bool)> {
         self.check_spare(name)?;
         let path = path_of(self.alloc, name)?;
-        if self.known.contains_key(name) {
-            return Ok((open_again(rt, self.alloc, path.as_str(), true)?, false));
+        match self.known.get(name) {
+            Some(node) => Ok((
+                open_again(rt, self.alloc, path.as_str(), *node, true)?,
+                false,
+            )),
+            None => open_to_write(rt, self.alloc, path.as_str()),
         }
-        open_to_write(rt, self.alloc, path.as_str())
     }
 
     /// Two descriptors stay free for another part of the process, where another disk's file is open that could be closed.
@@ -313,17 +334,10 @@ impl Disks {
         }
     }
 
-    /// Notes which file the disk is, and refuses one that is another disk's or the journal's, or was another one before.
+    /// Notes which file the disk is, and refuses one that is another disk's or the journal's.
     fn identify(&mut self, journal: &Journal, name: &Name, opened: &Opened) -> Result<(), Failure> {
         if journal.overlaps(opened) {
             return Err(Failure::IsJournal(*name));
-        }
-        if self
-            .known
-            .get(name)
-            .is_some_and(|node| *node != opened.node)
-        {
-            return Err(Failure::OfDisk(*name, exchanged()));
         }
         self.note_owner(name, opened.node, true)?;
         for part in opened.parts.iter() {
@@ -350,7 +364,7 @@ impl Disks {
         }
     }
 
-    /// Keeps a file open, in place of the same one that was open for reading alone.
+    /// Keeps a file open.
     fn keep(&mut self, name: &Name, opened: Opened) -> Result<(), Failure> {
         match self.open.insert(*name, opened) {
             Ok(_) => Ok(()),
@@ -362,17 +376,6 @@ impl Disks {
 /// The path of a disk's file.
 fn path_of(alloc: Global, name: &Name) -> io::Result<String> {
     Ok(format!(in alloc; "{}", DiskFile(name))?)
-}
-
-/// Syncs a file that has the disk's name still.
-fn sync_named<R: Files<File = File>>(
-    rt: &R,
-    alloc: Global,
-    name: &Name,
-    opened: &Opened,
-) -> io::Result<()> {
-    check_name(rt, path_of(alloc, name)?.as_str(), opened.node)?;
-    opened.sync()
 }
 
 /// Whether a file can't be written, though it can be read.

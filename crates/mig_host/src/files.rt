@@ -98,13 +98,22 @@ impl HostFiles {
         ensures some { IfOk result (λ written. 0 < length bytes.now → 0 < written.count) }
     {
         match place {
-            Place::Disk(name) => {
-                self.journal.note_write();
-                self.disks.write_at(rt, &self.journal, name, offset, bytes)
+            Place::Disk(name) => self.disks.write_at(rt, &self.journal, name, offset, bytes),
+            Place::Journal => {
+                self.look_again(rt)?;
+                self.journal.write_at(offset, bytes)
             }
-            Place::Journal => self.journal.write_at(rt, offset, bytes),
             Place::Copy => self.journal.write_copy_at(rt, offset, bytes),
         }
+    }
+
+    /// Where disks were written since, looks whether they and the journal are under their names still.
+    fn look_again<R: Files<File = File>>(&mut self, rt: &R) -> Result<(), Failure> {
+        if !self.disks.has_written() {
+            return Ok(());
+        }
+        self.journal.look_again(rt)?;
+        self.disks.check_written(rt)
     }
 
     /// Brings all that was written to a file to the device.

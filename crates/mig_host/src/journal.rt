@@ -39,8 +39,6 @@ pub struct Journal {
     renamed: Option<File>,
     /// This process alone may write.
     locked: bool,
-    /// Nothing was written to a disk since it was seen that this is so.
-    looked: bool,
 }
 
 impl Drop for Journal {
@@ -52,7 +50,6 @@ impl Drop for Journal {
             copy: _copy,
             renamed: _renamed,
             locked: _,
-            looked: _,
         } = self;
     }
 }
@@ -67,7 +64,6 @@ impl Journal {
             copy: None,
             renamed: None,
             locked: false,
-            looked: false,
         }
     }
 
@@ -145,33 +141,21 @@ impl Journal {
         }
     }
 
-    /// A disk is written. Before the next write to the journal it is looked whether it is this process's still.
-    pub fn note_write(&mut self) {
-        self.looked = false;
-    }
-
-    fn look_again<R: Files<File = File>>(&mut self, rt: &R) -> Result<(), Failure> {
-        if self.looked {
-            return Ok(());
+    /// Looks whether the file is this process's still.
+    pub fn look_again<R: Files<File = File>>(&self, rt: &R) -> Result<(), Failure> {
+        match &self.opened {
+            Some(opened) => {
+                check_taken(rt, self.alloc, JOURNAL, opened).map_err(Failure::OfJournal)
+            }
+            None => Ok(()),
         }
-        if let Some(opened) = &self.opened {
-            check_taken(rt, self.alloc, JOURNAL, opened).map_err(Failure::OfJournal)?;
-        }
-        self.looked = true;
-        Ok(())
     }
 
     /// Writes some of the bytes to the file, which is locked.
-    pub fn write_at<R: Files<File = File>>(
-        &mut self,
-        rt: &R,
-        offset: u64,
-        bytes: &[u8],
-    ) -> Result<Written, Failure>
+    pub fn write_at(&mut self, offset: u64, bytes: &[u8]) -> Result<Written, Failure>
         ensures count { IfOk result (λ written. written.count ≤ length bytes.now) }
         ensures some { IfOk result (λ written. 0 < length bytes.now → 0 < written.count) }
     {
-        self.look_again(rt)?;
         match &mut self.opened {
             Some(opened) => write_some(opened, offset, bytes),
             None => Err(Failure::OfJournal(Error::other("it is not open"))),

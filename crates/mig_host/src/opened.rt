@@ -68,17 +68,23 @@ pub fn open_to_write<R: Files<File = File>>(
     }
 }
 
-/// Opens a file that was open before, and is still there.
+/// Opens a file that was open before, and has its name still.
 pub fn open_again<R: Files<File = File>>(
     rt: &R,
     alloc: Global,
     path: &str,
+    node: Node,
     writable: bool,
 ) -> io::Result<Opened> {
-    match found_at(rt, path)? {
-        Found::Nothing => Err(exchanged()),
-        Found::Device(number) => open_device(rt, alloc, number, writable),
-        Found::File => open_there(rt, alloc, path, writable),
+    let opened = match found_at(rt, path)? {
+        Found::Nothing => return Err(exchanged()),
+        Found::Device(number) => open_device(rt, alloc, number, writable)?,
+        Found::File => open_there(rt, alloc, path, writable)?,
+    };
+    if opened.node == node {
+        Ok(opened)
+    } else {
+        Err(exchanged())
     }
 }
 
@@ -155,10 +161,7 @@ pub fn check_taken<R: Files<File = File>>(
     path: &str,
     opened: &Opened,
 ) -> io::Result<()> {
-    let other = open_again(rt, alloc, path, true)?;
-    if other.node != opened.node {
-        return Err(exchanged());
-    }
+    let other = open_again(rt, alloc, path, opened.node, true)?;
     match other.file.try_lock() {
         Err(TryLockError::WouldBlock) => Ok(()),
         Ok(()) => Err(Error::other("locks keep nobody out on its file system")),
