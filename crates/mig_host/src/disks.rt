@@ -25,8 +25,10 @@ pub struct Disks {
     known: IndexMap<Name, Node>,
     /// The disk that has this file, or, where that is told so, a part of it.
     owners: IndexMap<Node, (Name, bool)>,
-    /// The disks that were written since it was looked whether they have their names still.
-    written: IndexSet<Name>,
+    /// A disk was written since it was looked whether all have their names still.
+    written: bool,
+    /// The disks that were closed since.
+    closed: IndexSet<Name>,
     /// The permissions of the first file that was opened: new ones get the same.
     mode: Option<u32>,
 }
@@ -40,7 +42,8 @@ impl Drop for Disks {
             absent: _absent,
             known: _known,
             owners: _owners,
-            written: _written,
+            written: _,
+            closed: _closed,
             mode: _mode,
         } = self;
     }
@@ -56,7 +59,8 @@ impl Disks {
             absent: IndexSet::new(alloc),
             known: IndexMap::new(alloc),
             owners: IndexMap::new(alloc),
-            written: IndexSet::new(alloc),
+            written: false,
+            closed: IndexSet::new(alloc),
             mode: None,
         }
     }
@@ -115,9 +119,7 @@ impl Disks {
         ensures some { IfOk result (λ written. 0 < length bytes.now → 0 < written.count) }
     {
         let made = self.open_for_writing(rt, journal, name)?;
-        if self.written.insert(*name).is_err() {
-            return Err(Failure::memory(*name));
-        }
+        self.written = true;
         let Some(opened) = self.open.get_mut(name) else {
             return Err(Failure::memory(*name));
         };
@@ -143,17 +145,18 @@ impl Disks {
         self.check_named(rt, name)
     }
 
-    /// Whether a disk was written since it was looked whether those have their names still.
+    /// Whether a disk was written since it was looked whether all have their names still.
     pub fn has_written(&self) -> bool {
-        !self.written.is_empty()
+        self.written
     }
 
-    /// Looks whether they have, also those that were closed meanwhile.
-    pub fn check_written<R: Files<File = File>>(&mut self, rt: &R) -> Result<(), Failure> {
-        for name in self.written.iter() {
+    /// Looks whether those that were closed meanwhile have them. Each of the others was looked at as it was synced.
+    pub fn check_closed<R: Files<File = File>>(&mut self, rt: &R) -> Result<(), Failure> {
+        for name in self.closed.iter() {
             self.check_named(rt, name)?;
         }
-        self.written.clear();
+        self.closed.clear();
+        self.written = false;
         Ok(())
     }
 
@@ -170,9 +173,11 @@ impl Disks {
         }
     }
 
-    /// Closes a disk's file.
+    /// Closes a disk's file. Where memory is refused it stays open.
     pub fn close(&mut self, name: &Name) {
-        let _ = self.open.swap_remove(name);
+        if self.closed.insert(*name).is_ok() {
+            let _ = self.open.swap_remove(name);
+        }
     }
 
     /// The disk's file, opened where it isn't, if it is there. Once this process has claimed the journal it locks a file before it looks at it: what is seen there stays until this process writes over it.

@@ -107,13 +107,13 @@ impl HostFiles {
         }
     }
 
-    /// Where disks were written since, looks whether they and the journal are under their names still.
+    /// Where disks were written since, looks whether the journal and the disks that were closed are under their names still.
     fn look_again<R: Files<File = File>>(&mut self, rt: &R) -> Result<(), Failure> {
         if !self.disks.has_written() {
             return Ok(());
         }
         self.journal.look_again(rt)?;
-        self.disks.check_written(rt)
+        self.disks.check_closed(rt)
     }
 
     /// Brings all that was written to a file to the device.
