@@ -2,7 +2,7 @@
 use crate::failures::unless_told;
 use crate::identity::{Node, node_of};
 use crate::mounts::check_mounts;
-use crate::system::{is_entry, major_and_minor, names_in, number_of, text_at};
+use crate::system::{is_entry, major_and_minor, names_in, number_of, text_at, text_if_there};
 use std::alloc::Global;
 use std::fs::{self, File};
 use std::io::{self, Error, ErrorKind};
@@ -100,7 +100,7 @@ fn note_use<R: Files<File = File>>(
 
 fn is_partition<R: Files<File = File>>(rt: &R, alloc: Global, folder: &str) -> io::Result<bool> {
     let path = format!(in alloc; "{folder}/partition")?;
-    fs::exists(rt, path.as_str())
+    Ok(text_if_there(rt, alloc, path.as_str())?.is_some())
 }
 
 /// The number of the device whose folder lies at this path from another one's.
@@ -177,10 +177,9 @@ fn note_parts<R: Files<File = File>>(
         whole,
     })?;
     let path = format!(in alloc; "{folder}/loop/backing_file")?;
-    if !fs::exists(rt, path.as_str())? {
+    let Some(told) = text_if_there(rt, alloc, path.as_str())? else {
         return Ok(());
-    }
-    let told = text_at(rt, alloc, path.as_str())?;
+    };
     match fs::metadata(rt, told.trim_end_matches('\n')) {
         Ok(found) => {
             let node = node_of(&found);

@@ -12,6 +12,19 @@ pub fn text_at<R: Files<File = File>>(rt: &R, alloc: Global, path: &str) -> io::
     Ok(String::from_utf8_lossy(alloc, &bytes)?)
 }
 
+/// The same of a file that may be missing.
+pub fn text_if_there<R: Files<File = File>>(
+    rt: &R,
+    alloc: Global,
+    path: &str,
+) -> io::Result<Option<String>> {
+    match text_at(rt, alloc, path) {
+        Ok(text) => Ok(Some(text)),
+        Err(error) if is_missing(&error) => Ok(None),
+        Err(error) => Err(error),
+    }
+}
+
 /// The names in a folder, and `.` and `..`, each ended by a NUL; none where it isn't there. A link is followed.
 pub fn names_in<R: Files<File = File>>(rt: &R, alloc: Global, path: &str) -> io::Result<String> {
     let path = format!(in alloc; "{path}/")?;
@@ -39,6 +52,10 @@ fn read_names<D: Read + Drop>(alloc: Global, mut dir: D) -> io::Result<Vec<u8>> 
 /// Whether a name of a folder is that of something in it.
 pub fn is_entry(name: &str) -> bool {
     !name.is_empty() && name != "." && name != ".."
+}
+
+fn is_missing(error: &io::Error) -> bool {
+    matches!(error.kind(), ErrorKind::NotFound | ErrorKind::NotADirectory)
 }
 
 /// The number of a device that is written as two numbers with a colon between.
