@@ -18,7 +18,7 @@ from types import FrameType
 from ..clock import ENDED, Clock, add_times
 from ..command import Wrong, command, note, put, read_text, words
 from ..locks import Lock
-from .cluster import AT_ONCE, Key, Silent, View, ceph, is_balancing, view
+from .cluster import AT_ONCE, LOCK, Key, Silent, View, ceph, is_balancing, view
 from .steps import Step, pairs_text, read_step
 
 MOST = {"ill": 3, "peering": 10, "elsewhere": 10}  # so many looks in a row, and it stops
@@ -312,4 +312,4 @@ def main() -> None:
         try:
             lock.release()
         except Silent:
-            note(f"the cluster does not answer, so its key {Key.__name__} stays: --force takes it over")
+            note(f"the cluster does not answer, so its key {LOCK} stays: --force takes it over")
