@@ -1,10 +1,11 @@
 """LVM's cases: recorded reports, a stand-in, and the real tools where they are installed."""
-import collections, contextlib, hashlib, json, os, re, subprocess
+import collections, contextlib, hashlib, itertools, json, os, re, subprocess
 from waiting import LIMIT, until
 from rooms import HERE, Count, Room, page, refused, rows_of, shifts_of, sizes_of, volumes_of
 
 LVS = "lvs -a --segments --reportformat json -o vg_name,lv_name,lv_role,segtype,seg_pe_ranges"
 PVS = "pvs --reportformat json --units b -o vg_name,pv_name,pv_attr,pv_pe_count,vg_extent_size"
+FORMS = itertools.cycle((("", "--plain"), ("--plain", "")))  # each form of the script is tried with half of the wishes
 PVMOVE = re.compile(r"pvmove -i 3 (?:--alloc anywhere )?-n (\S+) (\S+):(\d+)-(\d+) (\S+):(\d+)-(\d+)")
 
 
@@ -59,8 +60,7 @@ def carry_out(room, name, wish, unit, volumes, devices, look, planned=Room.plann
     last = planned(room, name)
     if not shifts_of(room.read("plan.txt")):
         return Count.that(f"{name}: something moves", False)
-    forms = ["", "--plain"] if len(wish) % 2 else ["--plain", ""]  # each form is tried with half of the wishes
-    for form, out in zip(forms, ("moves.sh", "other.sh")):
+    for form, out in zip(next(FORMS), ("moves.sh", "other.sh")):
         room.good(name, f"contrib/to-lvm plan.txt names.csv {form} --out {out}")
     wanted = wanted_extents(room, last, unit, volumes, devices)
     Count.that(f"{name}: something is wanted", wanted != volumes)
