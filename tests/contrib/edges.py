@@ -180,7 +180,8 @@ def kept_apart():
     steps = pvmoves.apart([move("x", "/dev/a", 0), move("x", "/dev/b", 0), move("y", "/dev/b", 4), move("y", "/dev/c", 4)])
     Count.same("no step moves a volume twice, or from a device twice", [[(it.volume, it.source[-1]) for it in step] for step in steps], [[("x", "a"), ("y", "b")], [("x", "b"), ("y", "c")]])
     told = []
-    with mock.patch.multiple(lvm_step.Round, begin=lambda self, it: not told.append(f"begin {it.volume} {it.source[-1]}"),
+    with mock.patch.multiple(lvm_step.Round, begin=lambda self,
+                             it: not told.append(f"begin {it.volume} {it.source[-1]}"),
                              ends=lambda self, it, going: not told.append(f"end {it.volume} {it.source[-1]}")):
         lvm_step.Round(1).run(sum(steps, []))
     Count.same("a step ends before the next one begins", told, [

@@ -301,13 +301,13 @@ def the_log_of_lvm():
                          "2 --unit 32")
         room.planned("log")
         room.good("log", "contrib/to-lvm plan.txt names.csv --out moves.sh; mkdir bin/real; mv bin/pvmove bin/real/")
-        room.write("bin/pvmove", '#!/bin/sh\n[ ! -e end ] || touch over\nexec "${0%pvmove}real/pvmove" "$@"\n')
+        room.write("bin/pvmove", '#!/bin/sh\n[ ! -e end ] || echo 1773190000 >clock\nexec "${0%pvmove}real/pvmove" "$@"\n')
         plan, hook = shifts_of(room.read("plan.txt")), "--hook 'sh hook'"
         room.write("hook", 'echo "$@" >>told')
         room.write("clock", "1773180000")  # 2026-03-10, a Tuesday
         words, zone = "plan.txt --log log --names names.csv --json", "TZ=UTC CLOCK=clock"
         look = lambda: json.loads(room.good("log", f"contrib/progress {words}"))
-        waits = "(until grep -qs 'time .* paused' log; do sleep 0.1; done; touch over) & OVER=over"
+        waits = "(until grep -qs 'time .* paused' log || ! kill -0 $$; do sleep 0.1; done; touch over) >err 2>&1 & OVER=over"
         room.good("log", "chmod +x bin/pvmove")
         for name, first, more in (("a pause", "touch pause;", ""),
                                   ("a window that is closed", "rm pause;", "--window 'mon,wed-sun 00:00-24:00'"),
@@ -319,13 +319,13 @@ def the_log_of_lvm():
             found = look()
             Count.same(f"{name}: nothing is done", (found["rounds_done"], found["items_done"], found["done"],
                                                     found["seconds_left"]), (0, 0, False, None))
-        ran = room.run(f"rm -f pause over; touch end; OVER=over sh moves.sh --until 06:00 {hook} >>log")
+        ran = room.run(f"rm -f pause over; touch end; {zone} sh moves.sh --until 22:30 {hook} >>log")
         Count.that("an end after the first round", ran.returncode == 3 and "ended before round 2" in ran.stderr
                    and "round 2:" not in room.read("log"), ran)
         found = look()
         Count.same("the first round is done", (found["rounds_done"], found["items_done"], found["done"]),
                    (1, len(plan[0]), False))
-        room.good("the rest", f"rm -f end over; {zone} sh moves.sh 2 --window 'tue 22:00-06:00' {hook} >>log; tail -n "
+        room.good("the rest", f"rm -f end; echo 1773180000 >clock; {zone} sh moves.sh 2 --window 'tue 22:00-06:00' {hook} >>log; tail -n "
                               f"1 log | grep -qx 'all rounds are carried out'")
         found = look()
         Count.same("all is done", (found["rounds_done"], found["items_done"], found["done"]),
