@@ -279,7 +279,7 @@ def the_script_of_lvm():
         room.good("lvm-step", "chmod +x bin/pvmove")
         ran = subprocess.Popen(["bash", "-c", "exec sh moves.sh >said 2>notes"], cwd=room.at, env=room.env)
         until(lambda: room.read("at"), "a pvmove to begin")
-        refused(room, "a second one at once", "sh moves.sh", "moves.sh is being carried out already")
+        refused(room, "a second one at once", "timeout 20 sh moves.sh", "moves.sh is being carried out already")
         ran.terminate()
         status, said = ran.wait(LIMIT), room.read("notes")
         Count.that("a signal lets pvmove go on", status == 130 and "each pvmove under way goes on" in said
@@ -301,13 +301,15 @@ def the_log_of_lvm():
                          "2 --unit 32")
         room.planned("log")
         room.good("log", "contrib/to-lvm plan.txt names.csv --out moves.sh; mkdir bin/real; mv bin/pvmove bin/real/")
-        room.write("bin/pvmove", '#!/bin/sh\n[ ! -e end ] || echo 1773190000 >clock\nexec "${0%pvmove}real/pvmove" "$@"\n')
+        room.write("bin/pvmove", '#!/bin/sh\n[ ! -e end ] || echo 1773190000 >clock\n'
+                   'exec "${0%pvmove}real/pvmove" "$@"\n')
         plan, hook = shifts_of(room.read("plan.txt")), "--hook 'sh hook'"
         room.write("hook", 'echo "$@" >>told')
         room.write("clock", "1773180000")  # 2026-03-10, a Tuesday
         words, zone = "plan.txt --log log --names names.csv --json", "TZ=UTC CLOCK=clock"
         look = lambda: json.loads(room.good("log", f"contrib/progress {words}"))
-        waits = "(until grep -qs 'time .* paused' log || ! kill -0 $$; do sleep 0.1; done; touch over) >err 2>&1 & OVER=over"
+        waits = ("(until grep -qs 'time .* paused' log || ! kill -0 $$; do sleep 0.1; done; touch over) >err 2>&1 & "
+                 "OVER=over")
         room.good("log", "chmod +x bin/pvmove")
         for name, first, more in (("a pause", "touch pause;", ""),
                                   ("a window that is closed", "rm pause;", "--window 'mon,wed-sun 00:00-24:00'"),
@@ -325,8 +327,8 @@ def the_log_of_lvm():
         found = look()
         Count.same("the first round is done", (found["rounds_done"], found["items_done"], found["done"]),
                    (1, len(plan[0]), False))
-        room.good("the rest", f"rm -f end; echo 1773180000 >clock; {zone} sh moves.sh 2 --window 'tue 22:00-06:00' {hook} >>log; tail -n "
-                              f"1 log | grep -qx 'all rounds are carried out'")
+        room.good("the rest", f"rm -f end; echo 1773180000 >clock; {zone} sh moves.sh 2 --window 'tue 22:00-06:00' "
+                  f"{hook} >>log; tail -n 1 log | grep -qx 'all rounds are carried out'")
         found = look()
         Count.same("all is done", (found["rounds_done"], found["items_done"], found["done"]),
                    (len(plan), sum(map(len, plan)), True))
