@@ -4,7 +4,7 @@ import argparse, collections, os, re, shutil, subprocess, sys, time
 from collections.abc import Mapping, Sequence
 from .certs import read_cert
 from .command import Wrong, here, read_text, save_all, words
-from .disks import Disks, is_split, limits_by_side, read_disks, sides_of
+from .disks import Disks, Side, is_split, limits_by_side, read_disks, sides_of
 from .plans import Plan, Shift, plan_text, read_plan, read_rows, table
 from .show.summary import queue, times_of
 from .sizes import amount, read_sizes, said
@@ -71,13 +71,13 @@ def turned(plan: Plan, disks: Disks) -> list[list[Shift]]:
     if not is_split(disks):
         return back
     shifts, limits, at = [it for round_ in back for it in round_], limits_by_side(disks), list[int]()
-    used: collections.Counter[tuple[int, str, str]] = collections.Counter()
+    used: collections.Counter[tuple[int, Side]] = collections.Counter()
     for it, before in zip(shifts, needed(shifts)):
         number = 1 + max((at[other] for other in before), default=-1)
-        while any(used[number, *side] >= limits[side] for side in sides_of(it, disks)):
+        while any(used[number, side] >= limits[side] for side in sides_of(it, disks)):
             number += 1
         at.append(number)
-        used.update((number, *side) for side in sides_of(it, disks))
+        used.update((number, side) for side in sides_of(it, disks))
     return [[it for it, number in zip(shifts, at) if number == round_] for round_ in range(max(at, default=-1) + 1)]
 
 

@@ -112,6 +112,9 @@ def what_plan_ceph_refuses():
             ran = room.run(f"contrib/plan-ceph {words} --into p; ls p/*.sh")
             is_refused = said in ran.stderr and not ran.stdout and "Traceback" not in ran.stderr
             Count.that(f"plan-ceph {words}", is_refused, ran)
+        room.keep("state/ceph.json", state)
+        ran = room.run(f"touch state/forgets; contrib/plan-ceph {WORDS}; rm state/forgets")
+        Count.that("what osdmaptool saves is looked at", "osdmaptool did not keep osd.5 as out" in ran.stderr, ran)
         for words in ("", "--out 5", "--into p", "--out 5 --continue s --into p", "--make p --into q"):
             refused(room, "plan-ceph", f"contrib/plan-ceph {words}", "say a change (--out, --reweight, --balance)", 2)
         room.keep("state/ceph.json", {**state, "most": {"osd.6": 3}})

@@ -34,7 +34,7 @@ def osdmaptool(words):
     with open(words[0], encoding="ascii") as file:
         now = json.load(file)
     said = dict(zip(words, [*words[1:], ""]))
-    if "--mark-out" in said:
+    if "--mark-out" in said and not os.path.exists(f"{os.environ['STAND_IN']}/forgets"):
         now["out"].append(int([two for one, two in zip(words, words[1:]) if one == "--mark-out"][-1]))
     weights = said.get("--adjust-crush-weight", "")
     now["weights"].update(it.split(":") for it in weights.split(",") if it)

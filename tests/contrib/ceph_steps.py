@@ -260,9 +260,10 @@ def copied(room):
 def what_stops_ceph():
     """What a step cannot mend, each with its cause; nothing more begins then, and the key is given back."""
     with Room() as room:
-        state = made(room, "1")
+        state = made(room, "9")
         lines = [it.split() for it in printed(room, "eager.sh")]
         group, other = lines[0][3], lines[5][3]
+        state["slow"] = {lines[1][3]: 6}
         raw, pairs = state["raw"][group], [(int(one), int(two)) for one, two in zip(lines[0][4::2], lines[0][5::2])]
         model = Cluster(room.read("crush"), room.read("dump"))
         stays = next(it for it in raw if it not in sum(pairs, ()))
@@ -311,7 +312,7 @@ def one_at_a_time():
 def held_ceph():
     """A new OSD: all is held first, and let go step by step."""
     with Room() as room:
-        state = made(room, "1", "--hold", HOLD)
+        state = made(room, "4", "--hold", HOLD)
         state["acting"] = {name: up for name, (_, up) in groups_in(room.read("before")).items()}
         for script in ("upmaps.sh", "eager.sh", "plain.sh"):
             begun(room, state, flags=["sortbitwise", "norebalance"])

@@ -184,6 +184,21 @@ def a_source_that_changes():
         Count.that("a source that changes as the comparison begins", said.startswith("mnt/a/x/one was changed"), said)
 
 
+def nothing_more():
+    """Where one copy of a round lacks something, no other source of the round is removed after it."""
+    with Room() as room:
+        room.write("plan.txt", plan_text([[["x", "a", "0", "b", "0"], ["y", "a", "1", "b", "1"]]]))
+        room.good("nothing more", "mkdir -p mnt/a/x mnt/a/y mnt/b; touch -d @5 mnt/a/x mnt/a/y")
+        copy = "sh -c 'cp -a mnt/a/$1 mnt/b/; [ $1 = y ] || touch mnt/b/x' sh {item}"
+        for eager in ("", "--eager disks.csv"):
+            room.write("disks.csv", "disk,limit,slots\na,1,9\nb,1,9\n")
+            ran = room.run(f"rm -rf mnt/b/* plan.txt.place*; contrib/run-plan {eager} --jobs 1 --erase 'rm -rf "
+                           f"mnt/{{from}}/{{item}}' plan.txt {copy}")
+            Count.that(f"nothing more is removed {eager}", ran.returncode == 1 and "not compared 1 x: mnt/b/x has "
+                       "another time" in ran.stderr
+                       and sorted(os.listdir(room.path("mnt/a"))) == ["x", "y"], ran)
+
+
 def links_and_pipes():
     with Room() as room:
         room.good("links", """mkdir -p mnt/a/x mnt/a/y mnt/a/z mnt/b; echo 1 >mnt/a/x/one
@@ -387,4 +402,5 @@ def half_erased():
                        (room.read("log"), os.path.exists(room.path("mnt/a/x"))), ("copy\n", False))
 
 
-CASES = (what_a_copy_lacks, a_source_that_changes, links_and_pipes, order_of_a_move, power_cuts, half_erased)
+CASES = (what_a_copy_lacks, nothing_more, a_source_that_changes, links_and_pipes, order_of_a_move, power_cuts,
+         half_erased)

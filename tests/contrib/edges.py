@@ -6,7 +6,7 @@ from migrate_tools import balance, clock, command, items, plans, tight, wishes
 from migrate_tools.ceph import crush
 from migrate_tools.disks import Disk, Joint
 from migrate_tools.folders import found
-from migrate_tools.lvm import pvmoves
+from migrate_tools.lvm import lvm_step, pvmoves
 from migrate_tools.show import done, left, progress
 import waiting
 from limits_model import plan_text
@@ -179,6 +179,13 @@ def kept_apart():
 
     steps = pvmoves.apart([move("x", "/dev/a", 0), move("x", "/dev/b", 0), move("y", "/dev/b", 4), move("y", "/dev/c", 4)])
     Count.same("no step moves a volume twice, or from a device twice", [[(it.volume, it.source[-1]) for it in step] for step in steps], [[("x", "a"), ("y", "b")], [("x", "b"), ("y", "c")]])
+    told = []
+    with mock.patch.multiple(lvm_step.Round, begin=lambda self,
+                             it: not told.append(f"begin {it.volume} {it.source[-1]}"),
+                             ends=lambda self, it, going: not told.append(f"end {it.volume} {it.source[-1]}")):
+        lvm_step.Round(1).run(sum(steps, []))
+    Count.same("a step ends before the next one begins", told, [
+        f"{what} {it}" for step in (("x a", "y b"), ("x b", "y c")) for what in ("begin", "end") for it in step])
     Count.same("two legs that change places meet in between", items.meeting([("r", 0, "a", "b"), ("r", 1, "b", "a")]), ("r", 0, "a", "b"))
     Count.same("what follows a leg that leaves meets it in between", items.meeting([("r", 0, "a", "c"), ("r", 1, "b", "a")]), ("r", 1, "b", "a"))
     Count.same("two that go to one disk meet there", items.meeting([("r", 0, "a", "c"), ("r", 1, "b", "c")]), ("r", 0, "a", "c"))

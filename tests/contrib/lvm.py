@@ -1,10 +1,11 @@
 """LVM's cases: recorded reports, a stand-in, and the real tools where they are installed."""
-import collections, contextlib, hashlib, json, os, re, subprocess
+import collections, contextlib, hashlib, itertools, json, os, re, subprocess
 from waiting import LIMIT, until
 from rooms import HERE, Count, Room, page, refused, rows_of, shifts_of, sizes_of, volumes_of
 
 LVS = "lvs -a --segments --reportformat json -o vg_name,lv_name,lv_role,segtype,seg_pe_ranges"
 PVS = "pvs --reportformat json --units b -o vg_name,pv_name,pv_attr,pv_pe_count,vg_extent_size"
+FORMS = itertools.cycle((("", "--plain"), ("--plain", "")))  # each form of the script is tried with half of the wishes
 PVMOVE = re.compile(r"pvmove -i 3 (?:--alloc anywhere )?-n (\S+) (\S+):(\d+)-(\d+) (\S+):(\d+)-(\d+)")
 
 
@@ -59,8 +60,7 @@ def carry_out(room, name, wish, unit, volumes, devices, look, planned=Room.plann
     last = planned(room, name)
     if not shifts_of(room.read("plan.txt")):
         return Count.that(f"{name}: something moves", False)
-    forms = ["", "--plain"] if len(wish) % 2 else ["--plain", ""]  # each form is tried with half of the wishes
-    for form, out in zip(forms, ("moves.sh", "other.sh")):
+    for form, out in zip(next(FORMS), ("moves.sh", "other.sh")):
         room.good(name, f"contrib/to-lvm plan.txt names.csv {form} --out {out}")
     wanted = wanted_extents(room, last, unit, volumes, devices)
     Count.that(f"{name}: something is wanted", wanted != volumes)
@@ -279,7 +279,7 @@ def the_script_of_lvm():
         room.good("lvm-step", "chmod +x bin/pvmove")
         ran = subprocess.Popen(["bash", "-c", "exec sh moves.sh >said 2>notes"], cwd=room.at, env=room.env)
         until(lambda: room.read("at"), "a pvmove to begin")
-        refused(room, "a second one at once", "sh moves.sh", "moves.sh is being carried out already")
+        refused(room, "a second one at once", "timeout 20 sh moves.sh", "moves.sh is being carried out already")
         ran.terminate()
         status, said = ran.wait(LIMIT), room.read("notes")
         Count.that("a signal lets pvmove go on", status == 130 and "each pvmove under way goes on" in said
@@ -301,13 +301,15 @@ def the_log_of_lvm():
                          "2 --unit 32")
         room.planned("log")
         room.good("log", "contrib/to-lvm plan.txt names.csv --out moves.sh; mkdir bin/real; mv bin/pvmove bin/real/")
-        room.write("bin/pvmove", '#!/bin/sh\n[ ! -e end ] || touch over\nexec "${0%pvmove}real/pvmove" "$@"\n')
+        room.write("bin/pvmove", '#!/bin/sh\n[ ! -e end ] || echo 1773190000 >clock\n'
+                   'exec "${0%pvmove}real/pvmove" "$@"\n')
         plan, hook = shifts_of(room.read("plan.txt")), "--hook 'sh hook'"
         room.write("hook", 'echo "$@" >>told')
         room.write("clock", "1773180000")  # 2026-03-10, a Tuesday
         words, zone = "plan.txt --log log --names names.csv --json", "TZ=UTC CLOCK=clock"
         look = lambda: json.loads(room.good("log", f"contrib/progress {words}"))
-        waits = "(until grep -qs 'time .* paused' log; do sleep 0.1; done; touch over) & OVER=over"
+        waits = ("(until grep -qs 'time .* paused' log || ! kill -0 $$; do sleep 0.1; done; touch over) >err 2>&1 & "
+                 "OVER=over")
         room.good("log", "chmod +x bin/pvmove")
         for name, first, more in (("a pause", "touch pause;", ""),
                                   ("a window that is closed", "rm pause;", "--window 'mon,wed-sun 00:00-24:00'"),
@@ -319,14 +321,14 @@ def the_log_of_lvm():
             found = look()
             Count.same(f"{name}: nothing is done", (found["rounds_done"], found["items_done"], found["done"],
                                                     found["seconds_left"]), (0, 0, False, None))
-        ran = room.run(f"rm -f pause over; touch end; OVER=over sh moves.sh --until 06:00 {hook} >>log")
+        ran = room.run(f"rm -f pause over; touch end; {zone} sh moves.sh --until 22:30 {hook} >>log")
         Count.that("an end after the first round", ran.returncode == 3 and "ended before round 2" in ran.stderr
                    and "round 2:" not in room.read("log"), ran)
         found = look()
         Count.same("the first round is done", (found["rounds_done"], found["items_done"], found["done"]),
                    (1, len(plan[0]), False))
-        room.good("the rest", f"rm -f end over; {zone} sh moves.sh 2 --window 'tue 22:00-06:00' {hook} >>log; tail -n "
-                              f"1 log | grep -qx 'all rounds are carried out'")
+        room.good("the rest", f"rm -f end; echo 1773180000 >clock; {zone} sh moves.sh 2 --window 'tue 22:00-06:00' "
+                  f"{hook} >>log; tail -n 1 log | grep -qx 'all rounds are carried out'")
         found = look()
         Count.same("all is done", (found["rounds_done"], found["items_done"], found["done"]),
                    (len(plan), sum(map(len, plan)), True))

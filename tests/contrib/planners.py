@@ -10,7 +10,8 @@ from tight import SWAP, full_group
 
 # a group, the words of a wish, and whether some item is parked or a slot is left first
 OF_LVM = ((None, "--empty /dev/loop0 --limit 2", False), (None, "--empty loop0 --limit 1,2 --limit loop1=3,1", False),
-          (None, "--spread --limit 2,1 --unit 32", False), (full_group, f"{SWAP} --unit 16", True))
+          (None, "--spread --limit 2,1 --unit 32", False), (full_group, f"{SWAP} --unit 16", True),
+          (None, "--move mail=loop1 --move web=loop2 --limit 2 --unit 4", False))
 
 
 def fills_of(room, sizes):

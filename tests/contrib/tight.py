@@ -45,6 +45,9 @@ def tight_lvm():
         wanted, parked = room.state("lvm.json")["volumes"], [it for it in sum(shifts_of(room.read("plan.txt")), []) if it[3] == "c"]
         Count.same("one item is parked", len(parked), 1)
         Count.same("db is on b, and web on a", {it[0] for it in wanted["db"]} | {it[0] + "!" for it in wanted["web"]}, {"/dev/b", "/dev/a!"})
+        full_group(room)
+        room.good("tight", f"sh moves.sh {len(shifts_of(room.read('plan.txt')))}")
+        Count.same("tight, begun at the last round: each is looked at", room.state("lvm.json")["volumes"], wanted)
         # it is begun again from each place where it stops, as a whole
         commands = [line.split() for line in room.good("tight", "sh moves.sh -n").splitlines() if line[0] != "#"]
         for at, words in list(enumerate(commands, 1))[::4]:  # `made_tight` has each of them

@@ -11,14 +11,14 @@ gets no place on an OSD that is too full, is degraded or can't be used at three 
 a group has come to rest elsewhere, since the weights are others than planned; and at HEALTH_ERR. What is under way then
 goes on. One such script works on a cluster at a time, by the key migrate/ceph-step of `ceph config-key`. The time
 between two looks is $PAUSE, 30 seconds."""
-import argparse, collections, os, re, signal, sys, time
+import argparse, collections, os, re, signal, sys, threading, time
 from collections.abc import Sequence
 from concurrent.futures import ThreadPoolExecutor
 from types import FrameType
 from ..clock import ENDED, Clock, add_times
 from ..command import Wrong, command, note, put, read_text, words
 from ..locks import Lock
-from .cluster import AT_ONCE, Key, Silent, View, ceph, is_balancing, view
+from .cluster import AT_ONCE, LOCK, Key, Silent, View, ceph, is_balancing, view
 from .steps import Step, pairs_text, read_step
 
 MOST = {"ill": 3, "peering": 10, "elsewhere": 10}  # so many looks in a row, and it stops
@@ -54,7 +54,7 @@ class Carrier:
         self.now: View | None = None
         self.ill_at_first: set[str] = set()
         self.looks: collections.Counter[tuple[str, str]] = collections.Counter()  # in a row, by group and what is seen
-        self.round, self.said = 0, ""
+        self.round, self.said, self.stopped = 0, "", threading.Event()
 
     def carry_out(self, first: int) -> None:
         """Round by round from this one on; with limits none but round 0 is waited for."""
@@ -69,12 +69,13 @@ class Carrier:
         is_new = True
         while True:
             if self.now is None and not self.look():
-                time.sleep(self.pause())
+                self.rest()
                 continue
             left = [it for it in numbers if it not in self.done]
             under = [it for it in left if self.place[it] <= self.at[self.steps[it].group]]
             if is_new and not eager:
-                if left and not self.clock.wait():
+                if left and not self.clock.wait(self.stopped.is_set):
+                    self.rest(0)
                     raise Ended(f"before round {self.round}")
                 tell(f"round {self.round}")
             is_new = False
@@ -90,10 +91,12 @@ class Carrier:
             if eager and self.clock.is_over() and not under and not begun:
                 raise Ended(f"with {len(left)} of {len(numbers)} steps left")
             self.now = None
-            time.sleep(self.pause())
+            self.rest()
 
-    def pause(self) -> float:
-        return float(os.environ.get("PAUSE", "30"))
+    def rest(self, seconds: float | None = None) -> None:
+        """Waits for the next look. Nothing is broken off by a signal but this."""
+        if self.stopped.wait(float(os.environ.get("PAUSE", "30")) if seconds is None else seconds):
+            raise Stopped
 
     def says(self, text: str) -> None:
         if text != self.said:
@@ -210,6 +213,7 @@ class Carrier:
         begun = 0
         with ThreadPoolExecutor(AT_ONCE) as pool:
             while begun < len(numbers) and not (eager and self.clock.holds()):
+                self.rest(0)
                 these = numbers[begun : begun + AT_ONCE]
                 for number in these:
                     self.each("copying", self.steps[number])
@@ -272,12 +276,6 @@ def read_words() -> tuple[argparse.Namespace, list[Step], int]:
     return given, steps, int(round_)
 
 
-def stop(_: int, __: FrameType | None) -> None:
-    signal.signal(signal.SIGINT, signal.SIG_IGN)
-    signal.signal(signal.SIGTERM, signal.SIG_IGN)
-    raise Stopped
-
-
 @command
 def main() -> None:
     given, steps, first = read_words()
@@ -288,6 +286,11 @@ def main() -> None:
     lock, clock = Lock(Key(), os.path.abspath(given.script or "a step")), Clock(given.until, tell, given.window)
     carrier = Carrier(steps, given.limits, given.ahead, clock, lock)
     again = f"begin again with: sh {given.script}" if given.script else "begin again with the same words"
+
+    def stop(number: int, _: FrameType | None) -> None:
+        carrier.stopped.set()
+        signal.signal(number, signal.SIG_DFL)  # a second one ends it at once
+
     signal.signal(signal.SIGINT, stop)
     signal.signal(signal.SIGTERM, stop)
     try:
@@ -304,6 +307,9 @@ def main() -> None:
         note(f"ended {where}, as --until says; {again}")
         sys.exit(ENDED)
     except (Wrong, Silent) as why:
+        if carrier.stopped.is_set():  # what it called was stopped with it
+            note(why)
+            sys.exit(130)
         raise Wrong(f"{why}; stopped in round {carrier.round}, what is under way goes on; {again}") from None
     except Stopped:
         note(f"stopped in round {carrier.round}; what is under way goes on; {again}")
@@ -312,4 +318,4 @@ def main() -> None:
         try:
             lock.release()
         except Silent:
-            note(f"the cluster does not answer, so its key {Key.__name__} stays: --force takes it over")
+            note(f"the cluster does not answer, so its key {LOCK} stays: --force takes it over")

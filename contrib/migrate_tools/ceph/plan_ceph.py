@@ -95,9 +95,8 @@ class Planner:
 
     def backfills(self, groups: Mapping[str, Group]) -> list[str]:
         """The words of from-ceph for osd_max_backfills, as the OSDs that take part have it."""
-        moves = [it for group in groups.values() for it in group.items() if it.source != it.target]
-        osds = sorted({it.target for it in moves} | {groups[it.name.split("s")[0].split("-")[0]].counted_at(it)
-                                                     for it in moves})
+        osds = sorted({osd for group in groups.values() for it in group.items() if it.source != it.target
+                       for osd in (group.counted_at(it), it.target)})
         said_ = all_of(*(["tell", f"osd.{it}", "config", "get", "osd_max_backfills"] for it in osds))
         most = [int(it["osd_max_backfills"]) for it in said_]
         common = collections.Counter(most).most_common(1)[0][0]
@@ -109,7 +108,7 @@ class Planner:
         """Plans by the four files of a folder, and gives the verdict."""
         four = (*FOUR[:3], os.path.relpath(self.at("crush"), folder))
         sizes = ["--sizes", "pgs.json"] if folder == self.folder else []
-        said_ = tool(f"{here()}/from-ceph", *four, "--leave-out", *backfills, *sizes, folder=folder)
+        said_ = tool(f"{here()}/from-ceph", *four, "--leave-out", "--moving", *backfills, *sizes, folder=folder)
         migrate = os.path.join(os.path.dirname(here()), "migrate")
         program = migrate if os.access(migrate, os.X_OK) else shutil.which("migrate") or migrate
         files = ("disks.csv", "now.csv", "next.csv", "plan.txt", "cert.txt")
