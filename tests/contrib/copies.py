@@ -1,10 +1,11 @@
 """What run-plan sees before it removes a source: copies that lack something, sources that change, over real file
 systems where this is root; and, by a record of the system's calls, what a power cut leaves after each of them."""
-import collections, contextlib, itertools, os, re, shutil, socket, struct, subprocess
+import collections, contextlib, itertools, os, re, shutil, socket, struct, subprocess, time
 from unittest import mock
 from migrate_tools.run import compare
 from limits_model import plan_text
 from rooms import Count, Room, refused
+from waiting import until
 
 ONE = plan_text([[["x", "a", "0", "b", "0"]]])
 RUN = "contrib/run-plan --erase 'rm -rf mnt/{from}/{item}' plan.txt"
@@ -170,6 +171,7 @@ def a_source_that_changes():
                            "mnt/a/x" in said and " " in said and not said[0].isdigit(), said)
     with Room() as room, contextlib.chdir(room.at):  # as it begins: all is as before, and only newer
         room.good("as it begins", "mkdir -p mnt/a/x; echo 1 >mnt/a/x/one; cp -a mnt/a mnt/b")
+        until(lambda: time.clock_gettime_ns(compare.COARSE) > os.stat("mnt/a/x").st_ctime_ns, "the clock of files to go on")
         real, done = compare.tree_of, []
 
         def look(top):
