@@ -1,11 +1,11 @@
-"""What tests/damage tries with block devices: one that is mounted, one under two names, and one that is too short. They are loop devices,
+"""What tests/damage tries with block devices: one that is in use, one under two names, and one that is too short. They are loop devices,
 which root alone can make; where that fails a line says so, and nothing is counted."""
-import itertools, os, shutil, stat, subprocess, tempfile
+import contextlib, fcntl, itertools, os, shlex, shutil, stat, subprocess, tempfile
 from session_cells import SLOT, cell
-from session_rooms import Count, Room, says
+from session_rooms import Count, Room, bytes_of, says
 from damage_names import merged, refused
 from damage_rooms import ENDS, LAYOUT, Store, case, changed, judge, reuse, stages, twins
-from damages import JOURNAL
+from damages import JOURNAL, journal_of
 
 
 def called(*words):
@@ -113,6 +113,165 @@ def mounted_devices(room, device):
         Count.same(f"{what}, once it isn't mounted", store.run(command).status, 0)
 
 
+# Devices in use
+
+@contextlib.contextmanager
+def mounted(source, point, kind="tmpfs"):
+    os.makedirs(point, exist_ok=True)
+    called("mount", "-t", kind, source, point)
+    try:
+        yield
+    finally:
+        called("umount", point)
+
+
+@contextlib.contextmanager
+def second_of_btrfs(room, device):
+    """The device is the second one of a file system: the table of mounts names the first one alone."""
+    with Loop(32768) as first, Loop(32768) as second:
+        called("mkfs.btrfs", "-q", "-f", "-d", "raid1", "-m", "raid1", first.name, second.name)
+        called("mount", "-o", f"device={first.name},device={second.name}", first.name, device.point)
+        try:
+            yield {"disk": second.name}
+        finally:
+            called("umount", device.point)
+
+
+@contextlib.contextmanager
+def by_blank(room, device):
+    """A file system with a number of its own: what was mounted is a node with a blank in its name. A line before it is no text."""
+    device.node(f"{device.folder}/a node")
+    with mounted("none", f"{device.folder}".encode() + b"/no\xfftext"), mounted(f"{device.folder}/a node", device.point):
+        yield {}
+
+
+@contextlib.contextmanager
+def by_partition(room, device):
+    """A partition of the device is mounted."""
+    called("addpart", device.name, "1", "0", "2048")
+    try:
+        with mounted(f"{device.name}p1", device.point):
+            yield {}
+    finally:
+        called("delpart", device.name, "1")
+
+
+@contextlib.contextmanager
+def by_whole(room, device):
+    """The device of which the disk is a partition is mounted."""
+    called("addpart", device.name, "1", "0", "2048")
+    try:
+        with mounted(device.name, device.point):
+            yield {"disk": f"{device.name}p1"}
+    finally:
+        called("delpart", device.name, "1")
+
+
+def apart(how):
+    """The words that run a command where a line of a shell was carried out, with a table of mounts of its own."""
+    return {"shell": lambda words: f"exec unshare -m sh -c {shlex.quote(f'{how} && exec ' + shlex.join(words))}"}
+
+
+@contextlib.contextmanager
+def without_table(room, device):
+    yield apart("mount -t tmpfs none /proc")
+
+
+@contextlib.contextmanager
+def with_other_nodes(room, device):
+    """As in a container, whose nodes are its own."""
+    number = os.stat(device.name).st_rdev
+    yield apart(f"mount -t tmpfs none /dev && mknod {device.name} b {os.major(number)} {os.minor(number)}")
+
+
+@contextlib.contextmanager
+def by_lock(room, device):
+    """Another process has locked the device; the folder has another node of it."""
+    device.node(room.path("node"))
+    with open(device.name, "rb") as held:
+        fcntl.flock(held, fcntl.LOCK_EX)
+        yield {"disk": "node"}
+    os.remove(room.path("node"))
+
+
+USES = {second_of_btrfs: "mounted", by_blank: "mounted", by_partition: "mounted", by_whole: "mounted", without_table: "can't be read",
+        with_other_nodes: "table of devices", by_lock: "another process"}
+
+
+@with_device(256)
+def devices_in_use(room, device):
+    """A device is in use in other ways, or it can't be known whether it is: it is refused, and nothing is written to it."""
+    store = Store(room, case("a,2,4 b,2,256", "p,a,0 q,b,200", "p,b q,b", ["p a 0 b 201"]))
+    for use, why in USES.items():
+        try:
+            with use(room, device) as how:
+                store.put(dict.fromkeys(store.case.image(0), b""))
+                disk = os.path.join(room.at, how.get("disk", device.name))
+                store.link("b", disk)
+                held = bytes_of(disk)
+                words = ["./migrate", "fill", "disks.csv", "now.csv"]
+                ran = room.run(how["shell"](words), shell=True) if "shell" in how else room.run(*words[1:])
+                Count.that(f"a device in use, {use.__name__}", ran.status == 5 and says(ran, "b.disk", why), ran)
+                Count.that(f"a device in use, {use.__name__}: it stays", bytes_of(disk) == held)
+        except (OSError, subprocess.CalledProcessError) as error:
+            print(f"left out: a device in use, {use.__name__}: {error}")
+
+
+# One device under two names
+
+def its_file(device, path):
+    os.symlink(f"{device.folder}/device", path)
+
+
+def its_partition(device, path):
+    called("addpart", device.name, "1", "0", "128")
+    os.symlink(f"{device.name}p1", path)
+
+
+def end_partition(device):
+    if os.path.exists(f"{device.name}p1"):
+        called("delpart", device.name, "1")
+
+
+@with_device(16)
+def parts_twice(room, device):
+    """One disk is a device, and another one the file that it lies in, or a partition of it; or one is that file, and the other that partition.
+    Two partitions are two disks."""
+    store = Store(room, twins())
+    spots = {stage: count for count, stage in stages(store.case)}
+    for pair, (command, stage) in itertools.product(itertools.permutations((by_link, its_file, its_partition), 2), (("fill", None), ("move", "before the gate"), ("resume", "round 1 marked"))):
+        try:
+            image = store.case.image(spots[stage]) if stage else dict.fromkeys(store.case.image(0), b"")
+            image = merged(image, "a.disk", "b.disk")
+            store.put(image)
+            held = image["a.disk"].ljust(16 * SLOT, b"\0")
+            device.write(0, held)
+            for disk, join in zip("ab", pair):
+                store.link(disk, None)
+                join(device, store.path(disk))
+            what = f"{pair[0].__name__} and {pair[1].__name__}, {stage or 'empty disks'}: {command}"
+            refused(store, what, command, "a.disk", "b.disk")
+            Count.that(f"{what}: the device stays", device.read(0, 16) == held)
+        except (FileNotFoundError, subprocess.CalledProcessError) as error:
+            print(f"left out: {pair[0].__name__} and {pair[1].__name__}: {error}")
+        finally:
+            end_partition(device)
+    try:
+        called("addpart", device.name, "1", "0", "64")
+        called("addpart", device.name, "2", "64", "64")
+    except (FileNotFoundError, subprocess.CalledProcessError) as error:
+        print(f"left out: two partitions: {error}")
+        return
+    store.put(dict.fromkeys(store.case.image(0), b""))
+    device.write(0, bytes(16 * SLOT))
+    for disk, number in zip("ab", "12"):
+        store.link(disk, f"{device.name}p{number}")
+    Count.ended("two partitions: fill", store.run("fill"), 0, "filled 4\n")
+    Count.ended("two partitions: move", store.run("move"), 0, "done 2 rounds, found 0\n")
+    for number in "12":
+        called("delpart", device.name, number)
+
+
 @with_device(16)
 def devices_twice(room, device):
     """Two disks are one device: by two links, or by two nodes of one number."""
@@ -168,6 +327,24 @@ def journals_on_devices(room, device):
     store.link("b", "disks/b")
     refused(store, "a journal on a mounted device: resume", "resume", JOURNAL, "mounted")
     Count.that("a journal on a mounted device: the file system is whole", device.kept())
+
+
+@with_device(256)
+def journals_in_memory(room, device):
+    """What memory has of a journal's device, which another process has open, was never brought there: `resume` brings it."""
+    store = Store(room, reuse())
+    for count, stage in stages(store.case):
+        image = store.case.image(count)
+        armed, head, found = journal_of(image, len(store.case.rounds))
+        if not armed:
+            continue
+        put_journal(store, device, image)
+        with open(device.name, "rb") as held, open(f"{device.folder}/device", "r+b", buffering=0) as below:
+            held.read(256 * SLOT)
+            os.pwrite(below.fileno(), bytes(16 * SLOT), 0)
+            Count.same(f"a journal in memory, {stage}: resume", store.run("resume").status, 0)
+        left = {**image, JOURNAL: device.read(0, 256)}
+        Count.same(f"a journal in memory, {stage}: what the device has", journal_of(left, len(store.case.rounds)), (True, head, len(store.case.rounds)))
 
 
 def put_journal(store, device, image):

@@ -3,7 +3,7 @@ import itertools, os, resource, stat
 from session_cells import SLOT, cell
 from session_inputs import DISKS, PLAN_TEXT, put
 from session_rooms import Count, Ran, Room, says
-from damage_rooms import LEFT, WORDS, Store, ended_well, example, ring, stages
+from damage_rooms import LAYOUT, LEFT, WORDS, Store, ended_well, example, ring, stages
 from damages import JOURNAL, wanted
 from waiting import ended
 
@@ -18,6 +18,19 @@ def few_files(program):
             Count.ended(what, ran, outcome.status, outcome.text)
             if outcome.status == 0 == ran.status:
                 ended_well(store, what, command, outcome)
+
+
+def last_files(program):
+    """More disks than files that may be open at once: the store leaves two to others, by which LAYOUT is looked at. One that holds no text stays."""
+    with Room(program) as room:
+        store = Store(room, ring(40))
+        for count, stage in stages(store.case):
+            if stage != "before the gate":
+                store.put(store.case.image(count))
+                store.write(LAYOUT, LEFT)
+                what = f"at most 12 open files, {stage}: halt with a layout that holds no text"
+                Count.ended(what, store.run("halt", limits=[(resource.RLIMIT_NOFILE, 12)]), 4, "folder fault\n")
+                Count.same(f"{what}: it stays", room.read(LAYOUT), LEFT)
 
 
 def modes(program):

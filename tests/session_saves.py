@@ -40,6 +40,19 @@ def other_places(program):
         Count.same("into a folder: files", held, (plan, ["cert.txt", "plan.txt"]))
 
 
+def links_to_nothing(program):
+    """A save makes the file that a link leads to, and the link stays; but not a disk or a journal."""
+    with Room(program) as room:
+        put(room, DISKS)
+        room.run(*PLAN)
+        plan = room.read("plan.txt")
+        for word, target, status in (("one", "new", 0), ("two", "new.disk", 4), ("three", "new.mig", 4)):
+            os.symlink(target, room.path(word))
+            ran = room.run("plan", *FILES, word, "cert.txt")
+            Count.same(f"through a link to nothing, {target}", (ran.status, room.read(target)), (status, None if status else plan))
+            Count.that(f"through a link to nothing, {target}: the link stays", os.path.islink(room.path(word)))
+
+
 # Saves that fail
 
 def failing_saves(program):
@@ -70,6 +83,27 @@ def saves_cut_short(program):
         Count.same("a save that fails in the middle: the old file stands", room.read("plan.txt"), b"old")
         Count.that("a save that fails in the middle is said", says(ran, "migrate: cannot save plan.txt: "), ran)
         Count.same("nothing is left over", [name for name in os.listdir(room.at) if name.endswith(".mig")], [])
+
+
+def places_in_use(program):
+    """What stands at a word with .new.mig behind is nothing that a save left: it stays. So does an empty disk that a link leads to."""
+    with Room(program) as room:
+        put(room, DISKS)
+        for make in (os.mkfifo, os.mkdir, lambda path: os.symlink("now.csv", path), lambda path: os.link(room.path("now.csv"), path)):
+            make(room.path("plan.txt.new.mig"))
+            room.own(room.path("plan.txt.new.mig"))
+            before = os.lstat(room.path("plan.txt.new.mig")).st_ino
+            ran = room.run(*PLAN)
+            Count.ended("a save whose new file's name is in use", ran, 4, "folder fault\n")
+            Count.that("a save whose new file's name is in use is said", says(ran, "migrate: cannot save plan.txt: ", "in the way"), ran)
+            Count.same("what has the name stays", os.lstat(room.path("plan.txt.new.mig")).st_ino, before)
+            (os.rmdir if os.path.isdir(room.path("plan.txt.new.mig")) and not os.path.islink(room.path("plan.txt.new.mig")) else os.remove)(room.path("plan.txt.new.mig"))
+        for name in ("empty.disk", "empty.mig"):
+            room.write(name, b"")
+            os.symlink(name, room.path("plan.txt"))
+            Count.ended(f"through a link to {name}", room.run(*PLAN), 4, "folder fault\n")
+            Count.same(f"through a link to {name}: it stays", (room.read(name), os.path.islink(room.path("plan.txt"))), (b"", True))
+            os.remove(room.path("plan.txt"))
 
 
 # Spellings
@@ -114,4 +148,4 @@ def the_plan_itself(program):
         Count.same("the plan, and an older name of it", held, (0, CERT_TEXT.encode(), plan, CERT_TEXT.encode()))
 
 
-CASES = [over_old_files, other_places, failing_saves, saves_cut_short, loaded_files, the_plan_itself]
+CASES = [over_old_files, other_places, links_to_nothing, failing_saves, saves_cut_short, places_in_use, loaded_files, the_plan_itself]

@@ -2,9 +2,9 @@
 ghost use Rattle.std.specs.Prelude.{◌≤◌, ◌<◌, IfOk, length};
 
 use crate::failures::{Failure, too_many_open};
-use crate::identity::Node;
+use crate::identity::{Node, check_name, exchanged};
 use crate::journal::Journal;
-use crate::opened::{Opened, open_again, open_to_read, open_to_write};
+use crate::opened::{Opened, open_again, open_to_read, open_to_write, take};
 use crate::texts::DiskFile;
 use indexmap::{IndexMap, IndexSet};
 use mig_base::Name;
@@ -21,8 +21,14 @@ pub struct Disks {
     /// The place among them of the last one that was looked up.
     recent: usize,
     absent: IndexSet<Name>,
-    /// The disk of each file that was opened.
-    nodes: IndexMap<Node, Name>,
+    /// The file of each disk that was opened.
+    known: IndexMap<Name, Node>,
+    /// The disk that has this file, or, where that is told so, a part of it.
+    owners: IndexMap<Node, (Name, bool)>,
+    /// A disk was written since it was looked whether all have their names still.
+    written: bool,
+    /// The disks that were closed since.
+    closed: IndexSet<Name>,
     /// The permissions of the first file that was opened: new ones get the same.
     mode: Option<u32>,
 }
@@ -34,7 +40,10 @@ impl Drop for Disks {
             open: _open,
             recent: _,
             absent: _absent,
-            nodes: _nodes,
+            known: _known,
+            owners: _owners,
+            written: _,
+            closed: _closed,
             mode: _mode,
         } = self;
     }
@@ -48,7 +57,10 @@ impl Disks {
             open: IndexMap::new(alloc),
             recent: 0,
             absent: IndexSet::new(alloc),
-            nodes: IndexMap::new(alloc),
+            known: IndexMap::new(alloc),
+            owners: IndexMap::new(alloc),
+            written: false,
+            closed: IndexSet::new(alloc),
             mode: None,
         }
     }
@@ -85,10 +97,11 @@ impl Disks {
         journal: &Journal,
         name: &Name,
     ) -> Result<Extent, Failure> {
+        let is_known = self.known.contains_key(name);
         match self.to_read(rt, journal, name) {
             Ok(Some(opened)) => Ok(opened.extent()),
             Ok(None) => Ok(Extent::Absent),
-            Err(failure) if failure.is_missing() => Ok(Extent::Absent),
+            Err(failure) if failure.is_missing() && !is_known => Ok(Extent::Absent),
             Err(failure) => Err(failure),
         }
     }
@@ -106,6 +119,7 @@ impl Disks {
         ensures some { IfOk result (λ written. 0 < length bytes.now → 0 < written.count) }
     {
         let made = self.open_for_writing(rt, journal, name)?;
+        self.written = true;
         let Some(opened) = self.open.get_mut(name) else {
             return Err(Failure::memory(*name));
         };
@@ -115,7 +129,7 @@ impl Disks {
         }
     }
 
-    /// Brings all that was written to a disk's file to the device, where the file is there.
+    /// Brings all that was written to a disk's file to the device, where the file is there. One that lost its name meanwhile is refused.
     pub fn sync<R: Files<File = File>>(
         &mut self,
         rt: &R,
@@ -125,15 +139,45 @@ impl Disks {
         let Some(opened) = self.to_read(rt, journal, name)? else {
             return Ok(());
         };
-        match opened.sync() {
-            Ok(()) => Ok(()),
+        if let Err(error) = opened.sync() {
+            return Err(Failure::OfDisk(*name, error));
+        }
+        self.check_named(rt, name)
+    }
+
+    /// Whether a disk was written since it was looked whether all have their names still.
+    pub fn has_written(&self) -> bool {
+        self.written
+    }
+
+    /// Looks whether those that were closed meanwhile have them. Each of the others was looked at as it was synced.
+    pub fn check_closed<R: Files<File = File>>(&mut self, rt: &R) -> Result<(), Failure> {
+        for name in self.closed.iter() {
+            self.check_named(rt, name)?;
+        }
+        self.closed.clear();
+        self.written = false;
+        Ok(())
+    }
+
+    /// Refuses a disk whose name leads to another file than the one that was opened.
+    fn check_named<R: Files<File = File>>(&self, rt: &R, name: &Name) -> Result<(), Failure> {
+        let Some(node) = self.known.get(name) else {
+            return Ok(());
+        };
+        match path_of(self.alloc, name) {
+            Ok(path) => check_name(rt, path.as_str(), *node).map_err(|error| Failure::OfDisk(
+                *name, error,
+            )),
             Err(error) => Err(Failure::OfDisk(*name, error)),
         }
     }
 
-    /// Closes a disk's file.
+    /// Closes a disk's file. Where memory is refused it stays open.
     pub fn close(&mut self, name: &Name) {
-        let _ = self.open.swap_remove(name);
+        if self.closed.insert(*name).is_ok() {
+            let _ = self.open.swap_remove(name);
+        }
     }
 
     /// The disk's file, opened where it isn't, if it is there. Once this process has claimed the journal it locks a file before it looks at it: what is seen there stays until this process writes over it.
@@ -155,21 +199,26 @@ impl Disks {
 
     /// Opens the disk's file for writing too, for this process alone, where it is open for reading. One that can't be written is left as it is.
     fn lock_open<R: Files<File = File>>(&mut self, rt: &R, name: &Name) -> Result<(), Failure> {
-        let node = match self.last_found(name) {
-            Some(opened) if !opened.writable => opened.node,
-            _ => return Ok(()),
-        };
-        match self.find_again(rt, name) {
-            Ok(opened) => {
-                if opened.node != node {
-                    return Err(Failure::OfDisk(*name, exchanged()));
-                }
-                if let Err(error) = opened.lock() {
-                    return Err(Failure::OfDisk(*name, error));
-                }
-                self.keep(name, opened)
-            }
+        if self.last_found(name).is_none_or(|opened| opened.writable) {
+            return Ok(());
+        }
+        match self.find_to_write(rt, name) {
+            Ok((opened, made)) => self.keep_taken(rt, name, opened, made),
             Err(error) if is_read_only(&error) => Ok(()),
+            Err(error) => Err(Failure::OfDisk(*name, error)),
+        }
+    }
+
+    /// Takes a file for this process alone, and keeps it open, in place of the same one that was open for reading alone.
+    fn keep_taken<R: Files<File = File>>(
+        &mut self,
+        rt: &R,
+        name: &Name,
+        opened: Opened,
+        made: bool,
+    ) -> Result<(), Failure> {
+        match self.take(rt, name, &opened, made) {
+            Ok(()) => self.keep(name, opened),
             Err(error) => Err(Failure::OfDisk(*name, error)),
         }
     }
@@ -232,11 +281,8 @@ impl Disks {
         if !made && self.absent.contains(name) {
             return Err(Failure::OfDisk(*name, exchanged()));
         }
-        if let Err(error) = self.take(&opened, made) {
-            return Err(Failure::OfDisk(*name, error));
-        }
+        self.keep_taken(rt, name, opened, made)?;
         let _ = self.absent.swap_remove(name);
-        self.keep(name, opened)?;
         Ok(made)
     }
 
@@ -246,14 +292,11 @@ impl Disks {
         name: &Name,
     ) -> io::Result<Option<Opened>> {
         self.check_spare(name)?;
-        let path = format!(in self.alloc; "{}", DiskFile(name))?;
-        open_to_read(rt, self.alloc, path.as_str())
-    }
-
-    fn find_again<R: Files<File = File>>(&self, rt: &R, name: &Name) -> io::Result<Opened> {
-        self.check_spare(name)?;
-        let path = format!(in self.alloc; "{}", DiskFile(name))?;
-        open_again(rt, self.alloc, path.as_str())
+        let path = path_of(self.alloc, name)?;
+        match self.known.get(name) {
+            Some(node) => Ok(Some(open_again(rt, self.alloc, path.as_str(), *node, false)?)),
+            None => open_to_read(rt, self.alloc, path.as_str()),
+        }
     }
 
     fn find_to_write<R: Files<File = File>>(
@@ -262,8 +305,14 @@ impl Disks {
         name: &Name,
     ) -> io::Result<(Opened, bool)> {
         self.check_spare(name)?;
-        let path = format!(in self.alloc; "{}", DiskFile(name))?;
-        open_to_write(rt, self.alloc, path.as_str())
+        let path = path_of(self.alloc, name)?;
+        match self.known.get(name) {
+            Some(node) => Ok((
+                open_again(rt, self.alloc, path.as_str(), *node, true)?,
+                false,
+            )),
+            None => open_to_write(rt, self.alloc, path.as_str()),
+        }
     }
 
     /// Two descriptors stay free for another part of the process, where another disk's file is open that could be closed.
@@ -275,8 +324,15 @@ impl Disks {
     }
 
     /// Takes a file for this process alone.
-    fn take(&self, opened: &Opened, made: bool) -> io::Result<()> {
-        opened.lock()?;
+    fn take<R: Files<File = File>>(
+        &self,
+        rt: &R,
+        name: &Name,
+        opened: &Opened,
+        made: bool,
+    ) -> io::Result<()> {
+        let path = path_of(self.alloc, name)?;
+        take(rt, self.alloc, path.as_str(), opened)?;
         match self.mode {
             Some(mode) if made => opened.set_mode(mode),
             _ => Ok(()),
@@ -285,20 +341,35 @@ impl Disks {
 
     /// Notes which file the disk is, and refuses one that is another disk's or the journal's.
     fn identify(&mut self, journal: &Journal, name: &Name, opened: &Opened) -> Result<(), Failure> {
-        if journal.nodes().contains(&Some(opened.node)) {
+        if journal.overlaps(opened) {
             return Err(Failure::IsJournal(*name));
         }
-        match self.nodes.get(&opened.node) {
-            Some(other) if other != name => return Err(Failure::OneFile(*name, *other)),
-            _ => {}
+        self.note_owner(name, opened.node, true)?;
+        for part in opened.parts.iter() {
+            self.note_owner(name, part.node, part.whole)?;
         }
-        match self.nodes.insert(opened.node, *name) {
+        match self.known.insert(*name, opened.node) {
             Ok(_) => Ok(()),
             Err(_) => Err(Failure::memory(*name)),
         }
     }
 
-    /// Keeps a file open, in place of the same one that was open for reading alone.
+    /// Notes that a disk has a file, or a part of it. Two of them may have parts of one file.
+    fn note_owner(&mut self, name: &Name, node: Node, whole: bool) -> Result<(), Failure> {
+        match self.owners.get(&node) {
+            Some((other, owns)) if other != name && (*owns || whole) => {
+                return Err(Failure::OneFile(*name, *other));
+            }
+            Some(_) => return Ok(()),
+            None => {}
+        }
+        match self.owners.insert(node, (*name, whole)) {
+            Ok(_) => Ok(()),
+            Err(_) => Err(Failure::memory(*name)),
+        }
+    }
+
+    /// Keeps a file open.
     fn keep(&mut self, name: &Name, opened: Opened) -> Result<(), Failure> {
         match self.open.insert(*name, opened) {
             Ok(_) => Ok(()),
@@ -307,9 +378,9 @@ impl Disks {
     }
 }
 
-/// Another file has the disk's name than the one that was looked at.
-fn exchanged() -> Error {
-    Error::other("another process made or exchanged it meanwhile")
+/// The path of a disk's file.
+fn path_of(alloc: Global, name: &Name) -> io::Result<String> {
+    Ok(format!(in alloc; "{}", DiskFile(name))?)
 }
 
 /// Whether a file can't be written, though it can be read.

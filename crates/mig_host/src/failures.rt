@@ -62,6 +62,15 @@ impl Failure {
     }
 }
 
+/// The error, where it tells what is wrong or the call may be made again, and else these words.
+pub fn unless_told(error: io::Error, words: &str) -> io::Error {
+    match error.kind() {
+        ErrorKind::Other | ErrorKind::OutOfMemory | ErrorKind::Interrupted => error,
+        _ if error.raw_os_error() == Some(TOO_MANY_OPEN) => error,
+        _ => io::Error::other(words),
+    }
+}
+
 /// The error where a process may open no more files.
 pub fn too_many_open() -> io::Error {
     io::Error::from_raw_os_error(TOO_MANY_OPEN)

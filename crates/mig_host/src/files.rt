@@ -81,12 +81,9 @@ impl HostFiles {
         }
     }
 
-    /// Whether no earlier process can have left the journal's file in memory other than on the device: it has no bytes, or is a device, which each process reads anew.
+    /// Whether no earlier process can have left the journal's file in memory other than on the device.
     pub fn is_fresh<R: Files<File = File>>(&mut self, rt: &R) -> Result<bool, Failure> {
-        match self.journal.len(rt)? {
-            Extent::Absent | Extent::Device { .. } => Ok(true),
-            Extent::File { len } => Ok(len == 0),
-        }
+        self.journal.is_fresh(rt)
     }
 
     /// Writes some of the bytes to a file. A disk's file is made where it isn't there.
@@ -102,9 +99,21 @@ impl HostFiles {
     {
         match place {
             Place::Disk(name) => self.disks.write_at(rt, &self.journal, name, offset, bytes),
-            Place::Journal => self.journal.write_at(offset, bytes),
+            Place::Journal => {
+                self.look_again(rt)?;
+                self.journal.write_at(offset, bytes)
+            }
             Place::Copy => self.journal.write_copy_at(rt, offset, bytes),
         }
+    }
+
+    /// Where disks were written since, looks whether the journal and the disks that were closed are under their names still.
+    fn look_again<R: Files<File = File>>(&mut self, rt: &R) -> Result<(), Failure> {
+        if !self.disks.has_written() {
+            return Ok(());
+        }
+        self.journal.look_again(rt)?;
+        self.disks.check_closed(rt)
     }
 
     /// Brings all that was written to a file to the device.
@@ -118,7 +127,7 @@ impl HostFiles {
 
     /// Brings the names of files that were made or renamed to the device.
     pub fn sync_names<R: Files<File = File>>(&mut self, rt: &R) -> Result<(), Failure> {
-        self.journal.sync_name(rt)?;
+        self.journal.sync_name()?;
         self.open_folder(rt)?;
         match &self.folder {
             Some(folder) => folder.sync_all().map_err(Failure::OfFolder),

@@ -1,7 +1,6 @@
 //! What stands at a path of the store, and which file of the system it is.
-use std::alloc::Global;
 use std::fs::{self, File, Metadata};
-use std::io::{self, Error, ErrorKind, Read};
+use std::io::{self, Error, ErrorKind};
 use std::os::unix::fs::{FileTypeExt, MetadataExt};
 use std::rt::Files;
 
@@ -26,18 +25,32 @@ pub fn node_of(found: &Metadata) -> Node {
 }
 
 /// What a path of the store leads to.
-#[derive(Clone, Copy, PartialEq, Eq)]
+#[derive(Clone, Copy)]
 pub enum Found {
     Nothing,
-    /// A plain file, or a block device.
-    Usable,
+    File,
+    /// A block device, with its number.
+    Device(u64),
 }
 
-/// Looks at a path before it is opened: a pipe would hang there. A device that is mounted is refused. So is a link that leads nowhere, since it is a disk that isn't there and not a new one.
-pub fn found_at<R: Files<File = File>>(rt: &R, alloc: Global, path: &str) -> io::Result<Found> {
-    match fs::metadata(rt, path) {
-        Ok(found) if found.is_file() => Ok(Found::Usable),
-        Ok(found) if found.file_type().is_block_device() => device_at(rt, alloc, found.rdev()),
+/// Makes a call again as long as a signal comes first.
+pub fn again<T, F: Fn() -> io::Result<T>>(call: F) -> io::Result<T>
+    requires { F.IsAlwaysCallable call }
+{
+    for _ in 0..u64::MAX {
+        match call() {
+            Err(error) if error.kind() == ErrorKind::Interrupted => {}
+            made => return made,
+        }
+    }
+    Err(ErrorKind::TimedOut.into())
+}
+
+/// Looks at a path before it is opened: a pipe would hang there. A link that leads nowhere is refused, since it is a disk that isn't there and not a new one.
+pub fn found_at<R: Files<File = File>>(rt: &R, path: &str) -> io::Result<Found> {
+    match again(|| fs::metadata(rt, path)) {
+        Ok(found) if found.is_file() => Ok(Found::File),
+        Ok(found) if found.file_type().is_block_device() => Ok(Found::Device(found.rdev())),
         Ok(found) if found.is_dir() => Err(ErrorKind::IsADirectory.into()),
         Ok(_) => Err(Error::other("it is neither a plain file nor a block device")),
         Err(error) if error.kind() == ErrorKind::NotFound => nothing_at(rt, path),
@@ -45,15 +58,8 @@ pub fn found_at<R: Files<File = File>>(rt: &R, alloc: Global, path: &str) -> io:
     }
 }
 
-fn device_at<R: Files<File = File>>(rt: &R, alloc: Global, number: u64) -> io::Result<Found> {
-    if is_mounted(rt, alloc, number)? {
-        return Err(Error::other("the device is mounted"));
-    }
-    Ok(Found::Usable)
-}
-
 fn nothing_at<R: Files<File = File>>(rt: &R, path: &str) -> io::Result<Found> {
-    match fs::symlink_metadata(rt, path) {
+    match again(|| fs::symlink_metadata(rt, path)) {
         Ok(found) if found.is_symlink() => Err(Error::new(
             ErrorKind::NotFound,
             "it is a link that leads nowhere: is the disk mounted?",
@@ -64,55 +70,16 @@ fn nothing_at<R: Files<File = File>>(rt: &R, path: &str) -> io::Result<Found> {
     }
 }
 
-/// The system's table of mounts.
-const MOUNTS: &str = "/proc/self/mountinfo";
-
-/// Whether the system's table of mounts names a device. Where there is no such table nothing is known.
-pub fn is_mounted<R: Files<File = File>>(rt: &R, alloc: Global, number: u64) -> io::Result<bool> {
-    let Ok(mut file) = fs::open(rt, MOUNTS) else {
-        return Ok(false);
-    };
-    let mut bytes = Vec::new(alloc);
-    file.read_to_end(&mut bytes)?;
-    let Ok(table) = std::str::from_utf8(&bytes) else {
-        return Ok(false);
-    };
-    for line in table.lines() {
-        if names_device(rt, line, number) {
-            return Ok(true);
-        }
+/// Refuses a name that leads to another file than this one.
+pub fn check_name<R: Files<File = File>>(rt: &R, path: &str, node: Node) -> io::Result<()> {
+    match again(|| fs::metadata(rt, path)) {
+        Ok(found) if node_of(&found) == node => Ok(()),
+        Err(error) if error.kind() != ErrorKind::NotFound => Err(error),
+        _ => Err(exchanged()),
     }
-    Ok(false)
 }
 
-/// Whether a line of the table names a device, by its number or by the path that was mounted: some file systems have a number of their own.
-fn names_device<R: Files<File = File>>(rt: &R, line: &str, number: u64) -> bool {
-    let mut words = line.split(' ');
-    if words.nth(2).and_then(device_number) == Some(number) {
-        return true;
-    }
-    let Some((_, mounted)) = line.split_once(" - ") else {
-        return false;
-    };
-    let Some(source) = mounted.split(' ').nth(1) else {
-        return false;
-    };
-    source.starts_with('/')
-        && fs::metadata(rt, source).is_ok_and(|found| found.file_type().is_block_device()
-            && found.rdev() == number)
-}
-
-/// The number of a device that is written as two numbers with a colon between.
-fn device_number(text: &str) -> Option<u64> {
-    let (major, minor) = text.split_once(':')?;
-    let (major, minor) = (major.parse::<u32>().ok()?, minor.parse::<u32>().ok()?);
-    Some(makedev(u64::from(major), u64::from(minor)))
-}
-
-/// The number as the C library packs it.
-fn makedev(major: u64, minor: u64) -> u64 {
-    ((major & 0xffff_f000) << 32)
-        | ((major & 0xfff) << 8)
-        | ((minor & 0xffff_ff00) << 12)
-        | (minor & 0xff)
+/// Another file has the name than the one that was looked at.
+pub fn exchanged() -> Error {
+    Error::other("another process made or exchanged it meanwhile")
 }

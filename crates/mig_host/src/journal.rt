@@ -2,14 +2,15 @@
 ghost use Rattle.std.specs.Prelude.{◌≤◌, ◌<◌, IfOk, length};
 
 use crate::failures::Failure;
-use crate::identity::{Node, node_of};
-use crate::opened::{Opened, make_new, open_to_read, open_to_write};
+use crate::identity::{Node, again, check_name};
+use crate::opened::{Opened, check_taken, make_new, open_to_read, open_to_write, take};
 use crate::texts::JOURNAL;
 use mig_calls::{Extent, Written};
 use std::alloc::Global;
 use std::fs::{self, File};
 use std::io::{self, Error, ErrorKind};
 use std::mem;
+use std::os::fd::AsRawFd;
 use std::path::Path;
 use std::rt::Files;
 
@@ -23,6 +24,8 @@ struct Copy {
     /// Its path, and the journal's.
     beside: String,
     path: String,
+    /// The folder of both, where a link leads there: the paths go through it, whatever becomes of its name.
+    folder: Option<File>,
 }
 
 /// The journal's file, which one process writes at a time.
@@ -32,8 +35,8 @@ pub struct Journal {
     /// The file that was found, before a copy took its place. It stays open, so that no new file gets its inode.
     found: Option<Opened>,
     copy: Option<Copy>,
-    /// The path at which a copy took the file's place, since names were synced.
-    renamed: Option<String>,
+    /// The folder, where it isn't the working folder, in which a copy took the file's place since names were synced.
+    renamed: Option<File>,
     /// This process alone may write.
     locked: bool,
 }
@@ -64,9 +67,10 @@ impl Journal {
         }
     }
 
-    /// Which files of the system it was and is, where it is open.
-    pub fn nodes(&self) -> [Option<Node>; 2] {
-        [node_in(&self.found), node_in(&self.opened)]
+    /// Whether another file has bytes in common with the file that it is, or was found.
+    pub fn overlaps(&self, opened: &Opened) -> bool {
+        let files = [&self.found, &self.opened];
+        files.iter().any(|file| file.as_ref().is_some_and(|file| file.overlaps(opened)))
     }
 
     /// Takes the file for this process alone until it ends, and makes it where it isn't there. It is refused where another process has it.
@@ -122,6 +126,31 @@ impl Journal {
         Ok(self.opened.as_ref())
     }
 
+    /// Whether no earlier process can have left it in memory other than on the device, as where it has no bytes. A device is written again, for another process may have kept what memory has of it.
+    pub fn is_fresh<R: Files<File = File>>(&mut self, rt: &R) -> Result<bool, Failure> {
+        match self.len(rt)? {
+            Extent::Absent => Ok(true),
+            Extent::File { len } => Ok(len == 0),
+            Extent::Device { .. } => match &self.opened {
+                Some(opened) if self.locked => opened
+                    .renew()
+                    .map_err(Failure::OfJournal)
+                    .map(|_| true),
+                _ => Ok(false),
+            },
+        }
+    }
+
+    /// Looks whether the file is this process's still.
+    pub fn look_again<R: Files<File = File>>(&self, rt: &R) -> Result<(), Failure> {
+        match &self.opened {
+            Some(opened) => {
+                check_taken(rt, self.alloc, JOURNAL, opened).map_err(Failure::OfJournal)
+            }
+            None => Ok(()),
+        }
+    }
+
     /// Writes some of the bytes to the file, which is locked.
     pub fn write_at(&mut self, offset: u64, bytes: &[u8]) -> Result<Written, Failure>
         ensures count { IfOk result (λ written. written.count ≤ length bytes.now) }
@@ -141,7 +170,7 @@ impl Journal {
         }
     }
 
-    /// Makes a new file beside the journal's, which has the same permissions and is this process's alone. A copy that a process left which was cut off is removed first.
+    /// Makes a new file beside the journal's, which has the same owner and permissions and is this process's alone. A copy that a process left which was cut off is removed first.
     pub fn make_copy<R: Files<File = File>>(&mut self, rt: &R) -> Result<(), Failure> {
         match self.new_copy(rt) {
             Ok(copy) => {
@@ -153,8 +182,17 @@ impl Journal {
     }
 
     fn new_copy<R: Files<File = File>>(&self, rt: &R) -> io::Result<Copy> {
-        let path = rt.canonicalize(self.alloc, JOURNAL)?;
-        let path = String::from_str(self.alloc, path.as_str())?;
+        let Some(
+            Opened {
+                node: node @ Node::Plain { .. },
+                ..
+            },
+        ) = &self.opened
+        else {
+            return Err(Error::other("there is no plain file to be renewed by a copy"));
+        };
+        let (folder, path) = find_place(rt, self.alloc)?;
+        check_name(rt, path.as_str(), *node)?;
         let beside = format!(in self.alloc; "{path}{COPY}")?;
         remove_left(rt, beside.as_str())?;
         match self.open_copy(rt, beside.as_str()) {
@@ -162,6 +200,7 @@ impl Journal {
                 opened,
                 beside,
                 path,
+                folder,
             }),
             Err(error) => {
                 let _ = fs::remove_file(rt, beside.as_str());
@@ -170,11 +209,12 @@ impl Journal {
         }
     }
 
-    /// Makes the copy's file, takes it for this process alone, and gives it the journal's permissions.
+    /// Makes the copy's file, takes it for this process alone, and gives it the journal's owner and permissions.
     fn open_copy<R: Files<File = File>>(&self, rt: &R, beside: &str) -> io::Result<Opened> {
-        let opened = make_new(rt, beside)?;
+        let opened = make_new(rt, self.alloc, beside)?;
         opened.lock()?;
         if let Some(journal) = &self.opened {
+            opened.set_owner(journal)?;
             opened.set_mode(journal.mode)?;
         }
         Ok(opened)
@@ -234,19 +274,19 @@ impl Journal {
         let Some(copy) = self.copy.take() else {
             return Err(no_copy());
         };
-        if let Err(error) = fs::rename(rt, copy.beside.as_str(), copy.path.as_str()) {
+        if let Err(error) = again(|| fs::rename(rt, copy.beside.as_str(), copy.path.as_str())) {
             let _ = fs::remove_file(rt, copy.beside.as_str());
             return Err(Failure::OfJournal(error));
         }
         self.found = mem::replace(&mut self.opened, Some(copy.opened));
-        self.renamed = Some(copy.path);
+        self.renamed = copy.folder;
         Ok(())
     }
 
-    /// Brings the name of a copy that took the file's place to the device.
-    pub fn sync_name<R: Files<File = File>>(&mut self, rt: &R) -> Result<(), Failure> {
-        if let Some(path) = &self.renamed {
-            sync_folder_of(rt, path.as_str()).map_err(Failure::OfJournal)?;
+    /// Brings the name of a copy that took the file's place to the device, where that isn't in the working folder.
+    pub fn sync_name(&mut self) -> Result<(), Failure> {
+        if let Some(folder) = &self.renamed {
+            folder.sync_all().map_err(Failure::OfJournal)?;
         }
         self.renamed = None;
         Ok(())
@@ -267,11 +307,6 @@ fn no_copy() -> Failure {
     Failure::OfJournal(ErrorKind::NotFound.into())
 }
 
-/// Which file of the system is open here.
-fn node_in(opened: &Option<Opened>) -> Option<Node> {
-    opened.as_ref().map(|opened| opened.node)
-}
-
 fn write_some(opened: &mut Opened, offset: u64, bytes: &[u8]) -> Result<Written, Failure>
     ensures count { IfOk result (λ written. written.count ≤ length bytes.now) }
     ensures some { IfOk result (λ written. 0 < length bytes.now → 0 < written.count) }
@@ -285,11 +320,23 @@ fn write_some(opened: &mut Opened, offset: u64, bytes: &[u8]) -> Result<Written,
 /// Opens the journal's file for writing, and locks it. Another process may have put a copy in its place since it was opened.
 fn open_and_lock<R: Files<File = File>>(rt: &R, alloc: Global) -> io::Result<Opened> {
     let (opened, _) = open_to_write(rt, alloc, JOURNAL)?;
-    opened.lock()?;
-    if !fs::metadata(rt, JOURNAL).is_ok_and(|found| node_of(&found) == opened.node) {
-        return Err(Error::other("another process is at work with it"));
-    }
+    take(rt, alloc, JOURNAL, &opened)?;
     Ok(opened)
+}
+
+/// The path of the journal's file, and the folder that it goes through where a link leads there.
+fn find_place<R: Files<File = File>>(rt: &R, alloc: Global) -> io::Result<(Option<File>, String)> {
+    if !again(|| fs::symlink_metadata(rt, JOURNAL))?.is_symlink() {
+        return Ok((None, String::from_str(alloc, JOURNAL)?));
+    }
+    let whole = rt.canonicalize(alloc, JOURNAL)?;
+    let whole = Path::new(whole.as_str());
+    let (Some(parent), Some(name)) = (whole.parent(), whole.file_name()) else {
+        return Err(ErrorKind::NotFound.into());
+    };
+    let folder = fs::open(rt, parent)?;
+    let path = format!(in alloc; "/proc/self/fd/{}/{name}", folder.as_raw_fd())?;
+    Ok((Some(folder), path))
 }
 
 /// Removes a copy that a process left which was cut off.
@@ -297,13 +344,5 @@ fn remove_left<R: Files<File = File>>(rt: &R, beside: &str) -> io::Result<()> {
     match fs::remove_file(rt, beside) {
         Err(error) if error.kind() != ErrorKind::NotFound => Err(error),
         _ => Ok(()),
-    }
-}
-
-/// Syncs the folder of a file whose whole path is given.
-fn sync_folder_of<R: Files<File = File>>(rt: &R, path: &str) -> io::Result<()> {
-    match Path::new(path).parent() {
-        Some(folder) => fs::open(rt, folder)?.sync_all(),
-        None => Ok(()),
     }
 }

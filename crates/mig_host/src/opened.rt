@@ -1,14 +1,19 @@
 //! A file that is open, with reads and writes at an offset.
 ghost use Rattle.std.specs.Prelude.{◌≤◌, ◌<◌, IfOk, length};
 
-use crate::identity::{Found, Node, found_at, node_of};
+use crate::devices::{Part, find_device};
+use crate::failures::unless_told;
+use crate::identity::{Found, Node, again, exchanged, found_at, node_of};
 use mig_calls::Extent;
 use std::alloc::Global;
 use std::fs::{File, OpenOptions, Permissions, TryLockError};
 use std::io::{self, Error, ErrorKind, Seek, SeekFrom};
 use std::os::fd::AsRawFd;
-use std::os::unix::fs::{FileExt, MetadataExt, PermissionsExt};
+use std::os::unix::fs::{FileExt, MetadataExt, PermissionsExt, fchown};
 use std::rt::Files;
+
+/// How many bytes of a journal have a mark of their own.
+const SECTOR: usize = 512;
 
 /// A file that is open.
 #[derive(Drop)]
@@ -17,8 +22,12 @@ pub struct Opened {
     pub writable: bool,
     /// Which file of the system it is.
     pub node: Node,
-    /// Its permissions.
+    /// What a device's bytes lie in.
+    pub parts: Vec<Part>,
+    /// Its permissions, its owner and its group.
     pub mode: u32,
+    uid: u32,
+    gid: u32,
     /// How many bytes it has.
     len: u64,
 }
@@ -29,13 +38,14 @@ pub fn open_to_read<R: Files<File = File>>(
     alloc: Global,
     path: &str,
 ) -> io::Result<Option<Opened>> {
-    if found_at(rt, alloc, path)? == Found::Nothing {
-        return Ok(None);
-    }
-    match OpenOptions::new().read(true).open(rt, path) {
-        Ok(file) => Ok(Some(look_at(file, false)?)),
-        Err(error) if error.kind() == ErrorKind::NotFound => Ok(None),
-        Err(error) => Err(error),
+    match found_at(rt, path)? {
+        Found::Nothing => Ok(None),
+        Found::Device(number) => Ok(Some(open_device(rt, alloc, number, false)?)),
+        Found::File => match open_there(rt, alloc, path, false) {
+            Ok(opened) => Ok(Some(opened)),
+            Err(error) if error.kind() == ErrorKind::NotFound => Ok(None),
+            Err(error) => Err(error),
+        },
     }
 }
 
@@ -45,41 +55,77 @@ pub fn open_to_write<R: Files<File = File>>(
     alloc: Global,
     path: &str,
 ) -> io::Result<(Opened, bool)> {
-    if found_at(rt, alloc, path)? == Found::Nothing {
-        match make_new(rt, path) {
+    match found_at(rt, path)? {
+        Found::Nothing => match make_new(rt, alloc, path) {
             // another process made it at this moment
-            Err(error) if error.kind() == ErrorKind::AlreadyExists => {}
-            made => return Ok((made?, true)),
-        }
+            Err(error) if error.kind() == ErrorKind::AlreadyExists => {
+                Ok((open_there(rt, alloc, path, true)?, false))
+            }
+            made => Ok((made?, true)),
+        },
+        Found::Device(number) => Ok((open_device(rt, alloc, number, true)?, false)),
+        Found::File => Ok((open_there(rt, alloc, path, true)?, false)),
     }
-    Ok((open_there(rt, path)?, false))
 }
 
-/// Opens a file for reading and writing that was open for reading, and is still there.
-pub fn open_again<R: Files<File = File>>(rt: &R, alloc: Global, path: &str) -> io::Result<Opened> {
-    if found_at(rt, alloc, path)? == Found::Nothing {
-        return Err(ErrorKind::NotFound.into());
+/// Opens a file that was open before, and has its name still.
+pub fn open_again<R: Files<File = File>>(
+    rt: &R,
+    alloc: Global,
+    path: &str,
+    node: Node,
+    writable: bool,
+) -> io::Result<Opened> {
+    let opened = match found_at(rt, path)? {
+        Found::Nothing => return Err(exchanged()),
+        Found::Device(number) => open_device(rt, alloc, number, writable)?,
+        Found::File => open_there(rt, alloc, path, writable)?,
+    };
+    if opened.node == node {
+        Ok(opened)
+    } else {
+        Err(exchanged())
     }
-    open_there(rt, path)
 }
 
-fn open_there<R: Files<File = File>>(rt: &R, path: &str) -> io::Result<Opened> {
+/// Opens a device by the node that the system has of it, whatever node has the path: all processes lock it there.
+fn open_device<R: Files<File = File>>(
+    rt: &R,
+    alloc: Global,
+    number: u64,
+    writable: bool,
+) -> io::Result<Opened> {
+    let device = find_device(rt, alloc, number)?;
+    let mut opened = open_there(rt, alloc, device.path.as_str(), writable)?;
+    if opened.node != (Node::Device { number }) {
+        return Err(Error::other("/dev has another node under the device's name"));
+    }
+    opened.parts = device.parts;
+    Ok(opened)
+}
+
+fn open_there<R: Files<File = File>>(
+    rt: &R,
+    alloc: Global,
+    path: &str,
+    writable: bool,
+) -> io::Result<Opened> {
     let mut options = OpenOptions::new();
-    options.read(true).write(true);
-    look_at(options.open(rt, path)?, true)
+    options.read(true).write(writable);
+    look_at(alloc, options.open(rt, path)?, writable)
 }
 
 /// Makes a new file, which must not be there.
-pub fn make_new<R: Files<File = File>>(rt: &R, path: &str) -> io::Result<Opened> {
+pub fn make_new<R: Files<File = File>>(rt: &R, alloc: Global, path: &str) -> io::Result<Opened> {
     let mut options = OpenOptions::new();
     options.read(true).write(true).create_new(true);
-    look_at(options.open(rt, path)?, true)
+    look_at(alloc, options.open(rt, path)?, true)
 }
 
 /// Notes what a file is that was opened.
-fn look_at(file: File, writable: bool) -> io::Result<Opened> {
+fn look_at(alloc: Global, file: File, writable: bool) -> io::Result<Opened> {
     let mut file = above_streams(file)?;
-    let found = file.metadata()?;
+    let found = again(|| file.metadata())?;
     let node = node_of(&found);
     let len = match node {
         Node::Plain { .. } => found.len(),
@@ -89,9 +135,38 @@ fn look_at(file: File, writable: bool) -> io::Result<Opened> {
         file,
         writable,
         node,
+        parts: Vec::new(alloc),
         mode: found.mode() & 0o777,
+        uid: found.uid(),
+        gid: found.gid(),
         len,
     })
+}
+
+/// Takes a file for this process alone, until it is closed.
+pub fn take<R: Files<File = File>>(
+    rt: &R,
+    alloc: Global,
+    path: &str,
+    opened: &Opened,
+) -> io::Result<()> {
+    opened.lock()?;
+    check_taken(rt, alloc, path, opened)
+}
+
+/// Sees that a path leads to a file that this process has taken, and that nobody who opens it there gets its lock.
+pub fn check_taken<R: Files<File = File>>(
+    rt: &R,
+    alloc: Global,
+    path: &str,
+    opened: &Opened,
+) -> io::Result<()> {
+    let other = open_again(rt, alloc, path, opened.node, true)?;
+    match other.file.try_lock() {
+        Err(TryLockError::WouldBlock) => Ok(()),
+        Ok(()) => Err(Error::other("locks keep nobody out on its file system")),
+        Err(TryLockError::Error(error)) => Err(error),
+    }
 }
 
 /// What is meant for a standard stream that was closed must not land in the file.
@@ -103,7 +178,7 @@ fn above_streams(file: File) -> io::Result<File> {
 }
 
 impl Opened {
-    /// Takes the file for this process alone, until it is closed.
+    /// Locks the file, until it is closed. It is refused where another process has done so.
     pub fn lock(&self) -> io::Result<()> {
         match self.file.try_lock() {
             Ok(()) => Ok(()),
@@ -112,6 +187,21 @@ impl Opened {
             )),
             Err(TryLockError::Error(error)) => Err(error),
         }
+    }
+
+    /// Whether both have bytes in common.
+    pub fn overlaps(&self, other: &Opened) -> bool {
+        self.node == other.node
+            || self.parts.iter().any(|part| other.lies_in(part))
+            || other.parts.iter().any(|part| self.node == part.node)
+    }
+
+    fn lies_in(&self, part: &Part) -> bool {
+        self.node == part.node
+            || self
+                .parts
+                .iter()
+                .any(|own| own.node == part.node && (own.whole || part.whole))
     }
 
     /// Whether this process may open three files: the next one, and two that another part of it may need.
@@ -147,6 +237,30 @@ impl Opened {
         }
         self.len = self.len.max(offset.saturating_add(count as u64));
         Ok(count)
+    }
+
+    /// Writes a device again as it reads, by sectors, up to the first mark that isn't set, and syncs it: what memory has of it may be what a sync has failed to bring there.
+    pub fn renew(&self) -> io::Result<()> {
+        let mut sector = [0; SECTOR];
+        for n in 0..self.len / SECTOR as u64 {
+            self.file.read_exact_at(&mut sector, n * SECTOR as u64)?;
+            self.file.write_all_at(&sector, n * SECTOR as u64)?;
+            if n > 0 && sector[0] != 1 {
+                break;
+            }
+        }
+        self.sync()
+    }
+
+    /// Gives the file the owner and the group of another one.
+    pub fn set_owner(&self, other: &Opened) -> io::Result<()> {
+        if (self.uid, self.gid) == (other.uid, other.gid) {
+            return Ok(());
+        }
+        again(|| fchown(&self.file, Some(other.uid), Some(other.gid))).map_err(|error| unless_told(
+            error,
+            "a copy of it can't be given to its owner",
+        ))
     }
 
     /// Gives the file these permissions.

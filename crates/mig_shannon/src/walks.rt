@@ -1,15 +1,15 @@
 //! Walks that free a colour for an edge.
-ghost use Rattle.std.specs.Prelude.{◌≡◌, ◌<◌, length, max, IfSome, MatchBool};
+ghost use Rattle.std.specs.Prelude.{◌≡◌, ◌<◌, length, IfSome, MatchBool};
 ghost use Rattle.mig_board.specs.Colouring.{IsMissing, IsProper};
 ghost use Rattle.mig_board.specs.Growth.{IsPlain, PaintsOne, Recolours};
-ghost use Rattle.mig_shannon.specs.Ways.{CanWalk};
+ghost use Rattle.mig_shannon.specs.Ways.{CanWalk, IsOpen};
 
 use crate::palettes::Effort;
 use mig_base::{Colour, CopyId, EdgeId};
 use mig_board::Board;
 
-/// One in so many colours is drawn from those that a second node lacks too.
-const WHILE: u32 = 8;
+/// How many colours are tried by single repaints after each walk that failed.
+const LOOKS: u32 = 8;
 
 /// The next colour of the palette that is missing at the node, from a number on, or else the first one.
 fn missing_after(board: &Board, node: CopyId, from: u32, size: u32) -> Option<Colour>
@@ -30,40 +30,6 @@ fn missing_after(board: &Board, node: CopyId, from: u32, size: u32) -> Option<Co
     None
 }
 
-/// A colour of the palette that is missing at the node and at a drawn one.
-fn missing_twice(board: &Board, node: CopyId, size: u32, effort: &mut Effort) -> Option<Colour>
-    requires { node.0 < board.now.nodes }
-    ensures missing { IfSome result (IsMissing board.now node) }
-    ensures below { IfSome result (λ colour. colour.0 < size) }
-{
-    let beside = CopyId(effort.draw(board.nodes()));
-    if let Some(colour) = board.common(node, beside) {
-        if colour.0 < size {
-            return Some(colour);
-        }
-    }
-    None
-}
-
-/// A colour of the palette that is missing at the node. Once in a while it is missing at a drawn node too, if there is such
-/// a colour.
-///
-/// In a tight palette most colours may be missing at one node alone, and a walk by two of these can only end at the edge's
-/// other end. A colour that is missing at more nodes gives it other ends. But some nodes may lack nearly all colours, and
-/// then that says nothing: so most are drawn from all.
-fn missing_rarely(board: &Board, node: CopyId, size: u32, effort: &mut Effort) -> Option<Colour>
-    requires { node.0 < board.now.nodes }
-    ensures missing { IfSome result (IsMissing board.now node) }
-    ensures below { IfSome result (λ colour. colour.0 < size) }
-{
-    if effort.draw(WHILE) == 0 {
-        if let Some(colour) = missing_twice(board, node, size, effort) {
-            return Some(colour);
-        }
-    }
-    missing_after(board, node, effort.draw(size), size)
-}
-
 /// Colours of the palette for a walk from an edge's first end: one that is missing there, and one that is missing at
 /// the second end.
 fn draw_pair(
@@ -78,7 +44,7 @@ fn draw_pair(
     ensures lacks { IfSome result (λ pair. IsMissing board.now first pair.0) }
     ensures has { IfSome result (λ pair. IsMissing board.now second pair.1) }
 {
-    let lacks = missing_rarely(board, first, size, effort)?;
+    let lacks = missing_after(board, first, effort.draw(size), size)?;
     let has = missing_after(board, second, effort.draw(size), size)?;
     Some((lacks, has))
 }
@@ -107,18 +73,87 @@ fn try_walk(
     true
 }
 
-/// A drawn number of the palette. Once in a while it is that of a colour that is missing at two drawn nodes.
+/// A drawn colour of the palette.
 fn draw_colour(board: &Board, size: u32, effort: &mut Effort) -> Colour
-    requires { 0 < board.now.nodes }
-    ensures { result.0 < max size 1 }
+    requires { 0 < board.now.colours }
+    ensures { result.0 < board.now.colours }
 {
-    if effort.draw(WHILE) == 0 {
-        let node = CopyId(effort.draw(board.nodes()));
-        if let Some(colour) = missing_twice(board, node, size, effort) {
-            return colour;
+    Colour(effort.draw(size.min(board.colours())))
+}
+
+/// Paints an edge, unless the colour is present at one of its ends.
+fn paint_free(
+    board: &mut Board,
+    edge: EdgeId,
+    first: CopyId,
+    second: CopyId,
+    colour: Colour,
+) -> bool
+    requires open { IsOpen board.old edge first second }
+    requires colour { colour.0 < board.old.colours }
+    ensures tried { MatchBool result (PaintsOne board.old board.new edge) (board.new ≡ board.old) }
+    ensures proper { IsProper board.new }
+{
+    if !board.is_missing(first, colour) || !board.is_missing(second, colour) {
+        return false;
+    }
+    board.paint(edge, colour);
+    true
+}
+
+/// Lets a colour be missing at the node, where it is or where its edge there can have the colour that the node lacks, and
+/// tells whether it does.
+fn let_lack(board: &mut Board, node: CopyId, lacks: Colour, colour: Colour) -> bool
+    requires node { node.0 < board.old.nodes }
+    requires lacks { lacks.0 < board.old.colours }
+    requires colour { colour.0 < board.old.colours }
+    ensures recolours { Recolours board.old board.new }
+    ensures proper { IsProper board.new }
+{
+    board.keeps_rules();
+    let Some(edge) = board.edge_at(node, colour) else {
+        return true;
+    };
+    let far = board.across(edge, node);
+    if !board.is_missing(node, lacks) || !board.is_missing(far, lacks) {
+        return false;
+    }
+    board.exchange(node, lacks, colour);
+    true
+}
+
+/// Tries to colour an edge by drawn colours, each after a repaint of one edge at each end, by the colour that this end
+/// lacks.
+///
+/// Where a single colour is left that can help, few walks find it, and each of these looks at some of them at little cost.
+fn try_colours(
+    board: &mut Board,
+    edge: EdgeId,
+    ends: (CopyId, CopyId),
+    lacks: (Colour, Colour),
+    size: u32,
+    effort: &mut Effort,
+) -> bool
+    requires open { IsOpen board.old edge ends.0 ends.1 }
+    requires first { lacks.0.0 < board.old.colours }
+    requires second { lacks.1.0 < board.old.colours }
+    ensures tried { MatchBool result (PaintsOne board.old board.new edge) (Recolours board.old board.new) }
+    ensures proper { IsProper board.new }
+{
+    let (first, second) = ends;
+    let (mut here, there) = lacks;
+    for _look in 0..LOOKS {
+        let colour = draw_colour(board, size, effort);
+        if let_lack(board, first, here, colour) {
+            here = colour;
+            if let_lack(board, second, there, colour)
+                && paint_free(board, edge, first, second, colour)
+            {
+                return true;
+            }
         }
     }
-    Colour(effort.draw(size))
+    false
 }
 
 /// Exchanges a colour of the palette that is missing at the node with another one.
@@ -127,20 +162,21 @@ fn stir(board: &mut Board, node: CopyId, size: u32, effort: &mut Effort)
     ensures recolours { Recolours board.old board.new }
     ensures proper { IsProper board.new }
 {
-    let colours = board.colours();
+    board.keeps_rules();
     let Some(lacks) = missing_after(board, node, effort.draw(size), size) else {
         return;
     };
     let has = draw_colour(board, size, effort);
-    if has.0 < colours && !board.is_missing(node, has) {
+    if !board.is_missing(node, has) {
         board.exchange(node, lacks, has);
     }
 }
 
 /// Tries to colour an edge within the palette.
 ///
-/// A walk that does not end at the edge's other end leaves both ends with one colour missing. After a walk that does,
-/// another one changes what is missing at the first end, and the ends change their parts.
+/// A walk that does not end at the edge's other end leaves both ends with one colour missing. After a walk that does, the
+/// ends have exchanged the colours that they lack: some others are tried, then another walk changes what is missing at the
+/// first end, and the ends change their parts.
 pub fn try_edge(board: &mut Board, edge: EdgeId, size: u32, effort: &mut Effort) -> bool
     requires in_range { edge.0 < length board.old.ends }
     requires plain { IsPlain board.old edge }
@@ -160,6 +196,9 @@ pub fn try_edge(board: &mut Board, edge: EdgeId, size: u32, effort: &mut Effort)
             return true;
         }
         effort.pay();
+        if try_colours(board, edge, (first, second), (has, lacks), size, effort) {
+            return true;
+        }
         stir(board, first, size, effort);
         (first, second) = (second, first);
     }

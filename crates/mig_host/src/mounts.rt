@@ -1,0 +1,90 @@
+//! The system's table of mounts.
+use crate::system::{number_of, text_at};
+use std::alloc::{AllocError, Global};
+use std::fs::{self, File};
+use std::io::{self, Error};
+use std::os::unix::fs::{FileTypeExt, MetadataExt};
+use std::rt::Files;
+
+const MOUNTS: &str = "/proc/self/mountinfo";
+
+/// What a line of the table tells.
+#[derive(Clone, Copy)]
+struct Mount<'a> {
+    /// The number of the file system, as two numbers with a colon between.
+    number: &'a str,
+    kind: &'a str,
+    source: &'a str,
+}
+
+/// Reads a line of the table.
+fn mount_of(line: &str) -> Option<Mount<'_>> {
+    let (place, mounted) = line.split_once(" - ")?;
+    let (kind, rest) = mounted.split_once(' ')?;
+    Some(Mount {
+        number: place.split(' ').nth(2)?,
+        kind,
+        source: rest.split(' ').next()?,
+    })
+}
+
+/// Refuses devices of which one is mounted, and a node that isn't one of the system's own table of devices, which has the number `table`.
+pub fn check_mounts<R: Files<File = File>>(
+    rt: &R,
+    alloc: Global,
+    numbers: &[u64],
+    table: u64,
+) -> io::Result<()> {
+    let text = text_at(rt, alloc, MOUNTS)?;
+    let mut is_own = false;
+    for line in text.lines() {
+        if let Some(mount) = mount_of(line) {
+            if names_one(rt, alloc, &mount, numbers)? {
+                return Err(Error::other("the device is mounted, or a part of it is"));
+            }
+            is_own = is_own || mount.kind == "devtmpfs" && number_of(mount.number) == Some(table);
+        }
+    }
+    if is_own {
+        return Ok(());
+    }
+    Err(Error::other("/dev isn't the system's own table of devices"))
+}
+
+/// Whether one of the devices is mounted: a file system has its number, or a number of its own, and then the path that was mounted tells.
+fn names_one<R: Files<File = File>>(
+    rt: &R,
+    alloc: Global,
+    mount: &Mount<'_>,
+    numbers: &[u64],
+) -> io::Result<bool> {
+    if number_of(mount.number).is_some_and(|number| numbers.contains(&number)) {
+        return Ok(true);
+    }
+    if !mount.number.starts_with("0:") || !mount.source.starts_with('/') {
+        return Ok(false);
+    }
+    let source = unescaped(alloc, mount.source)?;
+    if source.as_str().contains('\u{fffd}') {
+        return Err(Error::other("the table of mounts has a path that is no text"));
+    }
+    Ok(fs::metadata(rt, source.as_str()).is_ok_and(|found| {
+        found.file_type().is_block_device() && numbers.contains(&found.rdev())
+    }))
+}
+
+/// The path that a word of the table stands for: a blank is `\040` there, and a few other bytes are written so.
+fn unescaped(alloc: Global, word: &str) -> Result<String, AllocError> {
+    let mut parts = word.split('\\');
+    let mut path = String::from_str(alloc, parts.next().unwrap_or(""))?;
+    for part in parts {
+        match part.split_at_checked(3) {
+            Some((code, rest)) => {
+                path.push(char::from(u8::from_str_radix(code, 8).unwrap_or(b'?')))?;
+                path.push_str(rest)?;
+            }
+            None => path.push_str(part)?,
+        }
+    }
+    Ok(path)
+}
