@@ -128,17 +128,17 @@ fn items_are_read_after_each_step(rt: HostRuntime) {
     expect_reads(&rt, alloc, &LEFT_TWICE, "step 1\nread x\nread y\n", XY, 13);
 }
 
-// Asserts that a plan over files comes to its end where a session reads an item once, after any number of the plan's steps.
+// Asserts that a plan over files comes to its end where a session reads an item once, at any of so many moments: before the first step, or after one.
 fn expect_read_once(
     rt: &impl Abort,
     alloc: Global,
     case: &Case<'_>,
     read: &str,
     reply: &str,
-    steps: u32,
+    moments: u32,
 ) {
     let job = job_of(rt, alloc, case);
-    for before in 0..steps + 1 {
+    for before in 0..moments {
         let calls = MemCalls::new(alloc);
         let mut store = file_stops::store_over(rt, alloc, calls, Trouble::none(alloc));
         file_stops::fill(rt, &mut store, case);
@@ -148,7 +148,7 @@ fn expect_read_once(
             .extend_from_slice(read.as_bytes())
             .expect(rt, "ample memory");
         script
-            .extend_from_slice(repeated(rt, alloc, "step 1\n", steps - before).as_slice())
+            .extend_from_slice(repeated(rt, alloc, "step 1\n", moments - 1 - before).as_slice())
             .expect(rt, "ample memory");
         let came = carry(rt, alloc, &job, &mut store, &mut out, script.as_slice());
         assert!(rt; came == Ok((job.rounds(), 0)));
@@ -161,10 +161,10 @@ fn expect_read_once(
 fn an_item_is_read_once_over_files(rt: HostRuntime) {
     let alloc = rt.alloc();
     for (read, reply) in [("read x\n", X), ("read y\n", Y), ("read z\n", Z)] {
-        expect_read_once(&rt, alloc, &THREE_ITEMS, read, reply, 11);
+        expect_read_once(&rt, alloc, &THREE_ITEMS, read, reply, 12);
     }
     for (read, reply) in [("read x\n", X), ("read y\n", Y)] {
-        expect_read_once(&rt, alloc, &LEFT_TWICE, read, reply, 13);
+        expect_read_once(&rt, alloc, &LEFT_TWICE, read, reply, 14);
     }
 }
 
