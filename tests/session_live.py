@@ -44,6 +44,18 @@ def served_on_the_way(program):
         is_resumed("live to the end", room, 2)
 
 
+def read_at_one_moment(program):
+    """An item is read once, before the first step or after any one. Nothing is wrong then, so each session comes to its end."""
+    for steps in range(12):
+        for item in "pqr":
+            with Room(program) as room:
+                put_filled(room)
+                way = [f"step {steps}\n", f"read {item}\n", f"step {11 - steps}\n"]
+                put_script(room, "".join(line for line in way if line != "step 0\n"))
+                Count.ended(f"live that reads {item} after {steps} steps alone", room.run(*LIVE), 0, replied(item, "left 0\n"))
+                is_resumed(f"live that reads {item} after {steps} steps alone", room, 2)
+
+
 def left_in_the_middle(program):
     """After each number of steps the next session finds the marked rounds, and erases what the last of them left."""
     for steps in range(12):
@@ -161,4 +173,4 @@ def an_item_that_stays(program):
         Count.ended("live, the disk is back", room.run(*LIVE), 0, replied("psp", "left 10\n"))
 
 
-CASES = [served_on_the_way, left_in_the_middle, killed_in_the_middle, refusals, scripts, cut_off, an_item_that_stays]
+CASES = [served_on_the_way, read_at_one_moment, left_in_the_middle, killed_in_the_middle, refusals, scripts, cut_off, an_item_that_stays]

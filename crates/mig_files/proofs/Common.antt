@@ -1,6 +1,7 @@
 -- The names that the proofs of this crate cite, passed on from one place. Declares nothing.
+pub use Rattle.indexmap.specs.IndexMap.{insert_entry}
 pub use Rattle.indexmap.specs.IndexSet.{insert_key}
-pub use Rattle.mig_base.proofs.CellTests.{is_cell-same, is_cell-true}
+pub use Rattle.mig_base.proofs.CellTests.{is_cell-other, is_cell-same, is_cell-true}
 pub use Rattle.mig_base.specs.Cells.{cell_len, is_cell, is_slot}
 pub use Rattle.mig_base.specs.FaultCounts.{Rose}
 pub use Rattle.mig_base.specs.Flights.{began}
@@ -21,8 +22,9 @@ pub use Rattle.mig_calls.specs.declared.calls.CallError.TheVariants.{Failed, Ful
 pub use Rattle.mig_calls.specs.declared.calls.Extent.{Extent}
 pub use Rattle.mig_calls.specs.declared.places.Place.{Place}
 pub use Rattle.mig_calls.specs.declared.places.Place.TheVariants.{Copy, Disk, Journal}
+pub use Rattle.mig_files.specs.Counting.{AreCounted, IsNotedAt, count_of, is_item, one_if, times}
 pub use Rattle.mig_files.specs.Derived.{cell_state, cells-shape, cells_of, window}
-pub use Rattle.mig_files.specs.Seeing.{IsElsewhere, IsFree, IsFreeFor, SeesMore, seen_at}
+pub use Rattle.mig_files.specs.Seeing.{AreHeld, IsElsewhere, IsFree, IsFreeFor, IsHeldElsewhere, KeepsSeen, KeepsSeenBut, LosesNone, LosesNoneBut, seen_at}
 pub use Rattle.mig_files.specs.Tasks.{Alters, Leaves, LeavesUsable, Remakes, Unflushes, WasInterrupted}
 pub use Rattle.mig_files.specs.Tracking.{HasCopied, HasReadSome, HasSyncedSome, HasTried, HasWrittenSome, IsCopiedTo, IsCopyStep, IsNoted, IsQuiet, IsStep, IsTracked, IsWholeCopy, IsWriteStep}
 pub use Rattle.mig_files.specs.Tracking.{SameNotes, StaysAlive, StaysSame, WritesAlive}
@@ -33,9 +35,12 @@ pub use Rattle.std.proofs.Common.{Bool, Err, IfNone, IfSome, IsFalse, IsSome, Is
 pub use Rattle.std.proofs.Common.{inr, length, nat_eq, not, refl, replicate, rules, slice_index, slice_range, subst, suc, sym, take, true, zero, ℕ, ◌*◌, ◌++◌, ◌+◌, ◌-◌, ◌<◌, ◌↔◌, ◌∙◌, ◌∷◌, ◌≡◌}
 pub use Rattle.std.proofs.Common.{◌≤◌, ◌⊎◌}
 pub use Rattle.std.proofs.Math.Seq.{take-append_seam}
-pub use Rattle.std.proofs.lemmas.Bool.{cases_Bool, cases_lt, false_from_ne_true, false≢true}
+pub use Rattle.std.proofs.lemmas.Bool.{cases_Bool, cases_lt, false_from_ne_true, false≢true, ltb-false, ltb-true}
+pub use Rattle.std.specs.Prelude.{nat_lt}
 pub use Rattle.std.proofs.lemmas.List.{length-append, length-replicate, places}
 pub use Rattle.std.proofs.lemmas.List.Elements.{Contains-append_right}
 pub use Rattle.std.proofs.lemmas.Map.Views.{Contains-from_any, list_any-from_Contains}
 pub use Rattle.std.specs.Cmp.Lexicographic.{nat_list_eq_equiv, pointwise, same_text}
-pub use Rattle.std.specs.List.{Contains, list_any}
+pub use Rattle.std.proofs.lemmas.Map.Keys.{IsDistinct-head, IsDistinct-tail}
+pub use Rattle.std.specs.List.{AllByRecursion, Contains, IsDistinct, list_any}
+pub use Rattle.std.specs.Map.{keys_of, lookup}

@@ -1,10 +1,11 @@
 -- What the first bytes of a slot say.
 use Rattle.mig_files.proofs.Common.{Cell, EndsAt, Err, FilesLook, FilesState, Gate, HasBytes, Head, HoldsItem, IfSome, IsCopy, IsElsewhere, IsFree, IsFreeFor, IsName, IsSome, IsTrue, List, Mark}
-use Rattle.mig_files.proofs.Common.{None, Ok, OnOk, Option, Result, SeesMore, Slot, Some, WhereTold, ap, arith, cell_len, cells_of, false≢true, file_of, header_of, is_slot, length, length-append}
+use Rattle.mig_files.proofs.Common.{None, Ok, OnOk, Option, Result, Slot, Some, WhereTold, ap, arith, cell_len, cells_of, false≢true, file_of, header_of, is_slot, length, length-append}
 use Rattle.mig_files.proofs.Common.{length-replicate, offset_of, places, refl, replicate, rules, slice_index, slice_range, subst, sym, take, take-append_seam, ℕ, ◌++◌, ◌+◌, ◌-◌, ◌<◌, ◌↔◌, ◌∙◌}
 use Rattle.mig_files.proofs.Common.{◌≡◌, ◌≤◌}
 use Rattle.mig_files.proofs.Derivation.{window-has, cell_read, cell_written}
 use Rattle.mig_files.proofs.FilesSteps.{told_before, told_after, bytes_after, bytes_before}
+use Rattle.mig_files.proofs.SeenItems.{Sights}
 
 header_len : (item : List ℕ) → length item ≤ 32 → length (header_of item) ≡ 34
 header_len item short =
@@ -87,34 +88,27 @@ pub held_after : {a b : FilesState} → FilesLook a b → (slot : Cell) (item : 
 held_after look slot item holds = bytes_after look (file_of slot) (offset_of slot) 34 (header_of item) holds
 
 -- what is free was so before it was looked at
-pub free_before : {a b : FilesState} → FilesLook a b → (seen : List (List ℕ × Cell)) (slot : Cell) → IsFree b seen slot → IsFree a seen slot
+pub free_before : {a b : FilesState} → FilesLook a b → (seen : Sights) (slot : Cell) → IsFree b seen slot → IsFree a seen slot
 free_before {a} {b} look seen slot free item name told holds = free item name (told_after look (file_of slot) told) (held_after look slot item holds)
 
 -- a slot that is free is free for any item
-pub free_for_any : (s : FilesState) (seen : List (List ℕ × Cell)) (slot : Cell) (item : List ℕ) → IsFree s seen slot → IsFreeFor s seen slot item
+pub free_for_any : (s : FilesState) (seen : Sights) (slot : Cell) (item : List ℕ) → IsFree s seen slot → IsFreeFor s seen slot item
 free_for_any s seen slot item free other name apart told holds = free other name told holds
 
 -- with an item's header it holds no other
-pub free_for_own : (s : FilesState) (seen : List (List ℕ × Cell)) (slot : Cell) (item first : List ℕ) → length first ≡ 34 → first ≡ header_of item
+pub free_for_own : (s : FilesState) (seen : Sights) (slot : Cell) (item first : List ℕ) → length first ≡ 34 → first ≡ header_of item
     → WhereTold s slot (HasBytes (s.reads (file_of slot)) (offset_of slot) 34 first) → IsFreeFor s seen slot item
 free_for_own s seen slot item first len is has other name apart told holds =
     absurd (apart (same_item other item name.short (sym (held_is s slot first other len name.short (has told) holds) ∙ is)))
 
 -- with one that was seen elsewhere it is free
-pub free_by : (s : FilesState) (seen : List (List ℕ × Cell)) (slot : Cell) (item first : List ℕ) → length first ≡ 34 → first ≡ header_of item
+pub free_by : (s : FilesState) (seen : Sights) (slot : Cell) (item first : List ℕ) → length first ≡ 34 → first ≡ header_of item
     → WhereTold s slot (HasBytes (s.reads (file_of slot)) (offset_of slot) 34 first) → IsElsewhere seen item slot → IsFree s seen slot
 free_by s seen slot item first len is has elsewhere other name told holds =
     let same : other ≡ item = same_item other item name.short (sym (held_is s slot first other len name.short (has told) holds) ∙ is) in
     subst (λ (i : List ℕ). IsElsewhere seen i slot) (sym same) elsewhere
 
 -- with no item's it is
-pub free_none : (s : FilesState) (seen : List (List ℕ × Cell)) (slot : Cell) (first : List ℕ) → length first ≡ 34 → ((item : List ℕ) → IsName item → ¬ (first ≡ header_of item))
+pub free_none : (s : FilesState) (seen : Sights) (slot : Cell) (first : List ℕ) → length first ≡ 34 → ((item : List ℕ) → IsName item → ¬ (first ≡ header_of item))
     → WhereTold s slot (HasBytes (s.reads (file_of slot)) (offset_of slot) 34 first) → IsFree s seen slot
 free_none s seen slot first len none has item name told holds = absurd (none item name (held_is s slot first item len name.short (has told) holds))
-
--- what is free for an item was so before another slot was looked at, and the item seen there
-pub copy_free : {a b : FilesState} → FilesLook a b → (old new : List (List ℕ × Cell)) (slot : Cell) (item : List ℕ) → SeesMore old new item → IsFreeFor b new slot item
-    → IsFreeFor a old slot item
-copy_free look old new slot item more free other name apart told holds =
-    let found = free other name apart (told_after look (file_of slot) told) (held_after look slot other holds) in
-    (found.0, sym (more other apart) ∙ found.1, found.2)

@@ -6,6 +6,7 @@ pub mod TrackingSteps
 pub mod RestSteps
 pub mod CopySteps
 pub mod Headers
+pub mod Holding
 pub mod Errs
 pub mod SeenItems
 pub mod TaskSteps

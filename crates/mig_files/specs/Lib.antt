@@ -1,3 +1,4 @@
+pub mod Counting
 pub mod Derived
 pub mod Tracking
 pub mod Serving

@@ -1,29 +1,45 @@
 -- Where items were seen, and which slots are free.
-use Rattle.std.specs.Prelude.{◌≡◌, ◌<◌, ℕ, nat_eq, List, Option, Some, IsTrue, length, slice_index}
-use Rattle.std.specs.Map.{lookup}
-use Rattle.std.specs.Cmp.Lexicographic.{pointwise}
+use Rattle.std.specs.Prelude.{◌≡◌, ◌<◌, ℕ, List, [], ◌∷◌, Option, Some, None, IsTrue, if◌then◌else◌, length, slice_index}
 use Rattle.mig_base.specs.declared.cells.Cell.{Cell}
-use Rattle.mig_base.specs.Cells.{is_slot}
+use Rattle.mig_base.specs.Cells.{is_cell, is_slot}
 use Rattle.mig_base.specs.Naming.{IsName}
 use Rattle.mig_calls.specs.Places.{file_of}
 use Rattle.mig_calls.specs.Files.{FilesState}
 use Rattle.mig_calls.specs.Refusals.{HoldsItem, WhereTold}
 
--- the slot where the item was seen last, if it was
-abbrev pub seen_at : List (List ℕ × Cell) → List ℕ → Option Cell
-seen_at seen item = lookup (pointwise nat_eq item) seen
+-- the item that was seen at the slot, where the slot wasn't written since
+abbrev pub seen_at : List (Cell × Option (List ℕ)) → Cell → Option (List ℕ)
+seen_at [] slot = None
+seen_at (e ∷ seen) slot = if is_cell slot e.0 then e.1 else seen_at seen slot
 
--- it was seen last at another slot than this one
-abbrev pub IsElsewhere : List (List ℕ × Cell) → List ℕ → Cell → Type 0
-IsElsewhere seen item slot = (other : Cell) × (seen_at seen item ≡ Some other) × ¬ (other ≡ slot)
+-- it was seen at another slot than this one
+abbrev pub IsElsewhere : List (Cell × Option (List ℕ)) → List ℕ → Cell → Type 0
+IsElsewhere seen item slot = (other : Cell) × (seen_at seen other ≡ Some item) × ¬ (other ≡ slot)
 
 -- where its file is told, the slot holds no item but this one that wasn't seen elsewhere
-abbrev pub IsFreeFor : FilesState → List (List ℕ × Cell) → Cell → List ℕ → Type 0
+abbrev pub IsFreeFor : FilesState → List (Cell × Option (List ℕ)) → Cell → List ℕ → Type 0
 IsFreeFor s seen slot item = (other : List ℕ) → IsName other → ¬ (other ≡ item) → IsTrue (s.told (file_of slot)) → HoldsItem s slot other → IsElsewhere seen other slot
 
 -- it holds none that wasn't seen elsewhere
-abbrev pub IsFree : FilesState → List (List ℕ × Cell) → Cell → Type 0
+abbrev pub IsFree : FilesState → List (Cell × Option (List ℕ)) → Cell → Type 0
 IsFree s seen slot = (item : List ℕ) → IsName item → IsTrue (s.told (file_of slot)) → HoldsItem s slot item → IsElsewhere seen item slot
+
+-- each item is still where it was seen, where its file is told
+pub record AreHeld (s : FilesState) (seen : List (Cell × Option (List ℕ))) : Type 0 where
+  pub slots : (slot : Cell) (item : List ℕ) → seen_at seen slot ≡ Some item → IsTrue (is_slot slot)
+  pub holds : (slot : Cell) (item : List ℕ) → seen_at seen slot ≡ Some item → WhereTold s slot (HoldsItem s slot item)
+
+-- another slot holds the item, where its file is told
+abbrev pub IsHeldElsewhere : FilesState → List ℕ → Cell → Type 0
+IsHeldElsewhere s item slot = (other : Cell) × IsTrue (is_slot other) × ¬ (other ≡ slot) × WhereTold s other (HoldsItem s other item)
+
+-- no item but this one is lost where the slot is written over
+abbrev pub LosesNoneBut : FilesState → Cell → List ℕ → Type 0
+LosesNoneBut s slot item = (other : List ℕ) → IsName other → ¬ (other ≡ item) → WhereTold s slot (HoldsItem s slot other → IsHeldElsewhere s other slot)
+
+-- no item is lost where it is emptied
+abbrev pub LosesNone : FilesState → Cell → Type 0
+LosesNone s slot = (item : List ℕ) → IsName item → WhereTold s slot (HoldsItem s slot item → IsHeldElsewhere s item slot)
 
 -- all of the bytes are zeros
 abbrev pub AreZeros : List ℕ → Type 0
@@ -34,12 +50,20 @@ pub record IsErasure (cell : Cell) (bytes : List ℕ) : Type 0 where
   pub slot : IsTrue (is_slot cell)
   pub zeros : AreZeros bytes
 
--- no other item was seen anew
-abbrev pub SeesMore : List (List ℕ × Cell) → List (List ℕ × Cell) → List ℕ → Type 0
-SeesMore old new item = (other : List ℕ) → ¬ (other ≡ item) → seen_at new other ≡ seen_at old other
+-- what was seen at any other slot is known still, and no more
+abbrev pub KeepsSeen : List (Cell × Option (List ℕ)) → List (Cell × Option (List ℕ)) → Cell → Type 0
+KeepsSeen old new slot = (other : Cell) → ¬ (other ≡ slot) → seen_at new other ≡ seen_at old other
 
--- the first slot holds the item, and the second is free for it
-pub record MayCopy (s : FilesState) (seen : List (List ℕ × Cell)) (from to : Cell) (item : List ℕ) : Type 0 where
+-- so is what was seen at any slot but these two
+abbrev pub KeepsSeenBut : List (Cell × Option (List ℕ)) → List (Cell × Option (List ℕ)) → Cell → Cell → Type 0
+KeepsSeenBut old new from to = (other : Cell) → ¬ (other ≡ from) → ¬ (other ≡ to) → seen_at new other ≡ seen_at old other
+
+-- the same item was seen at both
+abbrev pub IsSeenAtBoth : List (Cell × Option (List ℕ)) → Cell → Cell → Type 0
+IsSeenAtBoth seen from to = (item : List ℕ) × (seen_at seen from ≡ Some item) × (seen_at seen to ≡ Some item)
+
+-- the first slot holds the item, and no other is lost where the second is written over
+pub record MayCopy (s : FilesState) (from to : Cell) (item : List ℕ) : Type 0 where
   pub name : IsName item
   pub held : WhereTold s from (HoldsItem s from item)
-  pub free : IsFreeFor s seen to item
+  pub free : LosesNoneBut s to item

@@ -1,5 +1,5 @@
 -- What a store over files is made of, beside what it tells.
-use Rattle.std.specs.Prelude.{ℕ, Bool, List}
+use Rattle.std.specs.Prelude.{ℕ, Bool, List, Option}
 use Rattle.mig_base.specs.declared.cells.Cell.{Cell}
 use Rattle.mig_calls.specs.declared.calls.Calls.{Ghosts}
 use Rattle.mig_calls.specs.Files.{FilesState}
@@ -14,5 +14,5 @@ abbrev pub has_failed : {C : Type 0} {k : Ghosts C} → FileStore C k → Bool
 has_failed s = s.tracked.notes.lost
 
 -- where this process has seen items
-abbrev pub seen_of : {C : Type 0} {k : Ghosts C} → FileStore C k → List (List ℕ × Cell)
+abbrev pub seen_of : {C : Type 0} {k : Ghosts C} → FileStore C k → List (Cell × Option (List ℕ))
 seen_of s = s.seen

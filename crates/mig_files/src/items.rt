@@ -5,7 +5,7 @@ ghost use Rattle.mig_base.specs.Cells.{cell_len, is_slot};
 ghost use Rattle.mig_calls.specs.Places.{file_of, offset_of};
 ghost use Rattle.mig_calls.specs.Files.{EndsAt, HasBytes, len_of};
 ghost use Rattle.mig_calls.specs.Refusals.{HoldsItem, WhereTold};
-ghost use Rattle.mig_files.specs.Seeing.{seen_at, SeesMore, IsElsewhere, IsFree, IsFreeFor};
+ghost use Rattle.mig_files.specs.Seeing.{seen_at, AreHeld, KeepsSeen, IsElsewhere, IsFree, IsFreeFor};
 ghost use Rattle.mig_files.specs.Tracking.{IsTracked, IsStep, StaysAlive, StaysSame};
 
 use crate::cells::{open_place, read_part};
@@ -49,9 +49,12 @@ pub fn note_held<C: Calls>(
     requires slot { IsTrue (is_slot slot.now) }
     requires tracked { IsTracked tracked.now.notes (C.Calls.state calls.old) }
     requires end { WhereTold (C.Calls.state calls.old) slot.now (EndsAt ((C.Calls.state calls.old).reads (file_of slot.now)) (len_of found.now)) }
+    requires holds { WhereTold (C.Calls.state calls.old) slot.now (HoldsItem (C.Calls.state calls.old) slot.now item.now) }
+    requires held { AreHeld (C.Calls.state calls.old) seen.old }
     ensures whole { OnOk result (offset_of slot.now + cell_len slot.now ≤ len_of found.now) }
-    ensures noted { OnOk result (seen_at seen.new item.now ≡ Some slot.now) }
-    ensures others { OnOk result (SeesMore seen.old seen.new item.now) }
+    ensures noted { OnOk result (seen_at seen.new slot.now ≡ Some item.now) }
+    ensures others { KeepsSeen seen.old seen.new slot.now }
+    ensures held { AreHeld (C.Calls.state calls.new) seen.new }
     ensures step { IsStep tracked.now.notes (C.Calls.state calls.old) (C.Calls.state calls.new) }
     ensures cause { OnErr result (Rose (C.Calls.state calls.old).faults (C.Calls.state calls.new).faults) }
 {
@@ -71,9 +74,13 @@ pub fn note_seen<C: Calls>(
     slot: &Cell,
     item: &Name,
 ) -> Result<(), StoreFailed>
+    requires slot { IsTrue (is_slot slot.now) }
     requires tracked { IsTracked tracked.now.notes (C.Calls.state calls.old) }
-    ensures noted { OnOk result (seen_at seen.new item.now ≡ Some slot.now) }
-    ensures others { OnOk result (SeesMore seen.old seen.new item.now) }
+    requires holds { WhereTold (C.Calls.state calls.old) slot.now (HoldsItem (C.Calls.state calls.old) slot.now item.now) }
+    requires held { AreHeld (C.Calls.state calls.old) seen.old }
+    ensures noted { OnOk result (seen_at seen.new slot.now ≡ Some item.now) }
+    ensures others { KeepsSeen seen.old seen.new slot.now }
+    ensures held { AreHeld (C.Calls.state calls.new) seen.new }
     ensures step { IsStep tracked.now.notes (C.Calls.state calls.old) (C.Calls.state calls.new) }
     ensures cause { OnErr result (Rose (C.Calls.state calls.old).faults (C.Calls.state calls.new).faults) }
 {
@@ -97,7 +104,11 @@ pub fn expects<C: Calls>(
     requires slot { IsTrue (is_slot slot.now) }
     requires alive { IsFalse tracked.old.notes.lost }
     requires tracked { IsTracked tracked.old.notes (C.Calls.state calls.old) }
-    ensures held { OnOk result (WhereTold (C.Calls.state calls.old) slot.now (HoldsItem (C.Calls.state calls.old) slot.now item.now)) }
+    requires held { AreHeld (C.Calls.state calls.old) seen.old }
+    ensures holds { OnOk result (WhereTold (C.Calls.state calls.old) slot.now (HoldsItem (C.Calls.state calls.old) slot.now item.now)) }
+    ensures noted { OnOk result (seen_at seen.new slot.now ≡ Some item.now) }
+    ensures others { KeepsSeen seen.old seen.new slot.now }
+    ensures held { AreHeld (C.Calls.state calls.new) seen.new }
     ensures step { IsStep tracked.new.notes (C.Calls.state calls.old) (C.Calls.state calls.new) }
     ensures cause { OnErr result (Rose (C.Calls.state calls.old).faults (C.Calls.state calls.new).faults) }
 {

@@ -4,6 +4,7 @@ ghost use Rattle.mig_base.specs.FaultCounts.{Rose};
 ghost use Rattle.mig_calls.specs.Files.{FilesLook};
 ghost use Rattle.mig_calls.specs.declared.places.Place.TheVariants.{Disk as DiskFile};
 ghost use Rattle.mig_files.specs.Derived.{ShowsFiles};
+ghost use Rattle.mig_files.specs.Seeing.{AreHeld};
 ghost use Rattle.mig_files.specs.Tracking.{IsTracked};
 
 mod serving;
@@ -21,13 +22,14 @@ use std::num::NonZeroUsize;
 /// How many files are kept open. Most systems allow 1,024 for a process.
 pub const MOST_OPEN: usize = 900;
 
-/// The store over these calls. It tells of its cells what the files tell of their bytes. A missing file, and what lies past a file's end, reads as zeros. A copy has ended when `begin` returns; a slot that holds no item isn't copied, and no item is written over or erased that was seen nowhere else. After a sync that failed each call fails.
+/// The store over these calls. It tells of its cells what the files tell of their bytes. A missing file, and what lies past a file's end, reads as zeros. A copy has ended when `begin` returns; a slot that holds no item isn't copied, and no item is written over or erased that was seen nowhere else. What was seen at a slot is known until this store writes to it. After a sync that failed each call fails.
 #[derive(Drop)]
 pub struct FileStore<C: Calls> {
     calls: C,
     tracked: Tracked,
     seen: Seen,
     ghost tracks: { IsTracked tracked.notes (C.Calls.state calls) },
+    ghost held: { AreHeld (C.Calls.state calls) seen },
 }
 
 /// No disk's file is open.
@@ -39,6 +41,7 @@ fn none_open(alloc: Global) -> Result<LruCache<Name, ()>, AllocError> {
 }
 
 impl<C: Calls + Drop> FileStore<C> {
+    #[tactic(auto, using(crate::proofs::Errs::err_any, crate::proofs::Holding::none_held))]
     /// The store over these calls, which has opened no file. The disks are handed in whose files the device may lack some bytes of, as where an earlier process ended without a sync; all others count so once they are looked at. An error is want of memory.
     pub fn new(alloc: Global, calls: C, dirty: DiskSet) -> Result<FileStore<C>, AllocError>
         requires usable { IsTrue (C.Calls.state calls).usable }
@@ -80,6 +83,7 @@ impl<C: Calls> FileStore<C> {
         calls
     }
 
+    #[tactic(auto, using(crate::proofs::Errs::err_any, crate::proofs::Holding::held_looked))]
     /// Refuses since a sync failed before.
     fn after_sync(&mut self) -> StoreFailed
         requires { IsTrue self.old.tracked.notes.lost }
@@ -87,6 +91,7 @@ impl<C: Calls> FileStore<C> {
         ensures later { (C.Calls.state self.old.calls).faults ≤ (C.Calls.state self.new.calls).faults }
         ensures rose { Rose (C.Calls.state self.old.calls).faults (C.Calls.state self.new.calls).faults }
         ensures lost { self.new.tracked.notes.lost ≡ self.old.tracked.notes.lost }
+        ensures seen { self.new.seen ≡ self.old.seen }
     {
         refuse_with(&mut self.calls, &self.tracked, &Refusal::AfterSync)
     }

@@ -1,13 +1,14 @@
 //! Writes of cells and copies of slots, by which no item is lost that was seen nowhere else.
-ghost use Rattle.std.specs.Prelude.{◌≡◌, ◌≤◌, ◌<◌, ◌+◌, ℕ, List, IsTrue, IsFalse, IfOk, IfSome, MatchBool, OnOk, OnErr, length, slice_index, slice_range};
+ghost use Rattle.std.specs.Prelude.{◌≡◌, ◌≢◌, ◌≤◌, ◌<◌, ◌+◌, ℕ, List, Some, None, IsTrue, IsFalse, IfOk, IfSome, MatchBool, OnOk, OnErr, length, slice_index, slice_range};
 ghost use Rattle.mig_base.specs.FaultCounts.{Rose};
 ghost use Rattle.mig_base.specs.Cells.{cell_len, is_slot};
 ghost use Rattle.mig_base.specs.Images.{IsCopy};
 ghost use Rattle.mig_base.specs.Naming.{IsName};
+ghost use Rattle.mig_base.specs.Slots.{header_of};
 ghost use Rattle.mig_calls.specs.Places.{file_of, offset_of};
 ghost use Rattle.mig_calls.specs.Refusals.{HoldsItem, WhereTold};
 ghost use Rattle.mig_files.specs.Derived.{cells_of};
-ghost use Rattle.mig_files.specs.Seeing.{AreZeros, IsErasure, IsFree, IsFreeFor, SeesMore, MayCopy};
+ghost use Rattle.mig_files.specs.Seeing.{seen_at, AreHeld, AreZeros, IsErasure, IsSeenAtBoth, KeepsSeen, KeepsSeenBut, LosesNone, LosesNoneBut, MayCopy};
 ghost use Rattle.mig_files.specs.Tracking.{IsTracked, IsStep, IsWriteStep};
 
 use crate::cells::{read_part, write_cell};
@@ -41,15 +42,19 @@ fn empties(cell: &Cell, bytes: &[u8]) -> bool
 pub fn write_item<C: Calls>(
     calls: &mut C,
     tracked: &mut Tracked,
-    seen: &Seen,
+    seen: &mut Seen,
     cell: &Cell,
     bytes: &[u8],
 ) -> Result<(), StoreFailed>
     requires length { length bytes.now ≡ cell_len cell.now }
     requires alive { IsFalse tracked.old.notes.lost }
     requires tracked { IsTracked tracked.old.notes (C.Calls.state calls.old) }
+    requires held { AreHeld (C.Calls.state calls.old) seen.old }
     ensures written { OnOk result (IfSome (cells_of (C.Calls.state calls.new).told (C.Calls.state calls.new).reads cell.now) (λ told. told ≡ bytes.now)) }
-    ensures free { IsErasure cell.now bytes.now → OnOk result (IsFree (C.Calls.state calls.old) seen.now cell.now) }
+    ensures free { IsErasure cell.now bytes.now → OnOk result (LosesNone (C.Calls.state calls.old) cell.now) }
+    ensures forgotten { OnOk result (seen_at seen.new cell.now ≡ None) }
+    ensures others { KeepsSeen seen.old seen.new cell.now }
+    ensures held { AreHeld (C.Calls.state calls.new) seen.new }
     ensures step { IsWriteStep tracked.new.notes (file_of cell.now) (offset_of cell.now) (cell_len cell.now) (C.Calls.state calls.old) (C.Calls.state calls.new) }
     ensures cause { OnErr result (Rose (C.Calls.state calls.old).faults (C.Calls.state calls.new).faults) }
 {
@@ -57,6 +62,7 @@ pub fn write_item<C: Calls>(
     if empties(cell, bytes) {
         return empty(calls, tracked, seen, cell, bytes);
     }
+    seen.forget(cell);
     write_cell(calls, tracked, cell, bytes)
 }
 
@@ -64,7 +70,7 @@ pub fn write_item<C: Calls>(
 fn empty<C: Calls>(
     calls: &mut C,
     tracked: &mut Tracked,
-    seen: &Seen,
+    seen: &mut Seen,
     slot: &Cell,
     zeros: &[u8],
 ) -> Result<(), StoreFailed>
@@ -74,12 +80,17 @@ fn empty<C: Calls>(
     requires claimed { IsTrue (C.Calls.state calls.old).claimed }
     requires alive { IsFalse tracked.old.notes.lost }
     requires tracked { IsTracked tracked.old.notes (C.Calls.state calls.old) }
+    requires held { AreHeld (C.Calls.state calls.old) seen.old }
     ensures written { OnOk result (IfSome (cells_of (C.Calls.state calls.new).told (C.Calls.state calls.new).reads slot.now) (λ told. told ≡ zeros.now)) }
-    ensures free { OnOk result (IsFree (C.Calls.state calls.old) seen.now slot.now) }
+    ensures free { OnOk result (LosesNone (C.Calls.state calls.old) slot.now) }
+    ensures forgotten { OnOk result (seen_at seen.new slot.now ≡ None) }
+    ensures others { KeepsSeen seen.old seen.new slot.now }
+    ensures held { AreHeld (C.Calls.state calls.new) seen.new }
     ensures step { IsWriteStep tracked.new.notes (file_of slot.now) (offset_of slot.now) (cell_len slot.now) (C.Calls.state calls.old) (C.Calls.state calls.new) }
     ensures cause { OnErr result (Rose (C.Calls.state calls.old).faults (C.Calls.state calls.new).faults) }
 {
     let found = expects_free(calls, tracked, seen, slot)?;
+    seen.forget(slot);
     let (_, offset) = place_of(slot);
     if found.len() <= offset {
         return Ok(());
@@ -111,9 +122,13 @@ fn read_item<C: Calls>(
     requires whole { 34 ≤ length bytes.old }
     requires alive { IsFalse tracked.old.notes.lost }
     requires tracked { IsTracked tracked.old.notes (C.Calls.state calls.old) }
+    requires held { AreHeld (C.Calls.state calls.old) seen.old }
     ensures bytes { OnOk result (IfSome (cells_of (C.Calls.state calls.old).told (C.Calls.state calls.old).reads slot.now) (λ told. bytes.new ≡ told)) }
-    ensures held { IfOk result (λ item. IsName item × WhereTold (C.Calls.state calls.old) slot.now (HoldsItem (C.Calls.state calls.old) slot.now item)) }
-    ensures others { IfOk result (λ item. SeesMore seen.old seen.new item) }
+    ensures named { IfOk result (λ item. IsName item × (slice_range bytes.new 0 34 ≡ header_of item)) }
+    ensures holds { IfOk result (λ item. WhereTold (C.Calls.state calls.old) slot.now (HoldsItem (C.Calls.state calls.old) slot.now item)) }
+    ensures noted { IfOk result (λ item. seen_at seen.new slot.now ≡ Some item) }
+    ensures others { KeepsSeen seen.old seen.new slot.now }
+    ensures held { AreHeld (C.Calls.state calls.new) seen.new }
     ensures step { IsStep tracked.new.notes (C.Calls.state calls.old) (C.Calls.state calls.new) }
     ensures alive { OnOk result (IsFalse tracked.new.notes.lost) }
     ensures cause { OnErr result (Rose (C.Calls.state calls.old).faults (C.Calls.state calls.new).faults) }
@@ -138,16 +153,22 @@ fn put_item<C: Calls>(
     bytes: &[u8],
 ) -> Result<(), StoreFailed>
     requires slot { IsTrue (is_slot slot.now) }
+    requires named { slice_range bytes.now 0 34 ≡ header_of item.now }
     requires length { length bytes.now ≡ cell_len slot.now }
     requires alive { IsFalse tracked.old.notes.lost }
     requires tracked { IsTracked tracked.old.notes (C.Calls.state calls.old) }
+    requires held { AreHeld (C.Calls.state calls.old) seen.old }
     ensures written { OnOk result (IfSome (cells_of (C.Calls.state calls.new).told (C.Calls.state calls.new).reads slot.now) (λ told. told ≡ bytes.now)) }
-    ensures free { OnOk result (IsFreeFor (C.Calls.state calls.old) seen.old slot.now item.now) }
+    ensures free { OnOk result (LosesNoneBut (C.Calls.state calls.old) slot.now item.now) }
+    ensures noted { OnOk result (seen_at seen.new slot.now ≡ Some item.now) }
+    ensures others { KeepsSeen seen.old seen.new slot.now }
+    ensures held { AreHeld (C.Calls.state calls.new) seen.new }
     ensures step { IsWriteStep tracked.new.notes (file_of slot.now) (offset_of slot.now) (cell_len slot.now) (C.Calls.state calls.old) (C.Calls.state calls.new) }
     ensures cause { OnErr result (Rose (C.Calls.state calls.old).faults (C.Calls.state calls.new).faults) }
 {
     expects_free_for(calls, tracked, seen, slot, item)?;
     claim(calls, tracked)?;
+    seen.forget(slot);
     write_cell(calls, tracked, slot, bytes)?;
     note_seen(calls, tracked, seen, slot, item)
 }
@@ -161,10 +182,15 @@ pub fn copy_item<C: Calls>(
     to: &Cell,
 ) -> Result<(), StoreFailed>
     requires slots { IsTrue (is_slot from.now) × IsTrue (is_slot to.now) }
+    requires apart { from.now ≢ to.now }
     requires alive { IsFalse tracked.old.notes.lost }
     requires tracked { IsTracked tracked.old.notes (C.Calls.state calls.old) }
+    requires held { AreHeld (C.Calls.state calls.old) seen.old }
     ensures copied { OnOk result (IsCopy (cells_of (C.Calls.state calls.old).told (C.Calls.state calls.old).reads from.now) (cells_of (C.Calls.state calls.new).told (C.Calls.state calls.new).reads to.now)) }
-    ensures free { OnOk result ((item : List ℕ) × MayCopy (C.Calls.state calls.old) seen.old from.now to.now item) }
+    ensures free { OnOk result ((item : List ℕ) × MayCopy (C.Calls.state calls.old) from.now to.now item) }
+    ensures noted { OnOk result (IsSeenAtBoth seen.new from.now to.now) }
+    ensures others { KeepsSeenBut seen.old seen.new from.now to.now }
+    ensures held { AreHeld (C.Calls.state calls.new) seen.new }
     ensures step { IsWriteStep tracked.new.notes (file_of to.now) (offset_of to.now) (cell_len to.now) (C.Calls.state calls.old) (C.Calls.state calls.new) }
     ensures cause { OnErr result (Rose (C.Calls.state calls.old).faults (C.Calls.state calls.new).faults) }
 {

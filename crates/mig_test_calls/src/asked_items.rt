@@ -65,8 +65,11 @@ fn expect_emptied<C: Calls>(
     y: &Name,
 ) {
     assert!(rt; !empties(store, disk, 1) && holds(store, disk, 1, y));
-    assert!(rt; !empties(store, disk, 3) && holds(store, disk, 3, x));
-    assert!(rt; copies(store, disk, 0, 3) && empties(store, disk, 0) && !holds(store, disk, 0, x));
+    // of two slots that hold it either may be emptied, and then the other one not
+    assert!(rt; empties(store, disk, 3) && !empties(store, disk, 0) && holds(store, disk, 0, x));
+    // that it is seen where it was copied from doesn't hide where it was copied to
+    assert!(rt; copies(store, disk, 0, 3) && holds(store, disk, 0, x));
+    assert!(rt; empties(store, disk, 0) && !holds(store, disk, 0, x) && !empties(store, disk, 3));
     // no item, and past the end
     assert!(rt; empties(store, disk, 2) && empties(store, disk, 9));
 }

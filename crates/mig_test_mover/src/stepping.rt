@@ -1,18 +1,24 @@
 //! Plans that are carried out one step at a time, with reads in between, as scripts say.
 
 use crate::cases::{Case, LEFT_TWICE, THREE_ITEMS, job_of};
+use crate::file_stops;
 use crate::stores::{filled, is_reached};
+use mig_calls::{MemCalls, Trouble};
 use mig_io::MemSink;
 use mig_jobs::Job;
 use mig_lanes::resume_lanes;
 use mig_live::{Live, ServeFault, read_script, serve};
-use mig_store::{MemStore, Pick};
+use mig_store::{MemStore, Pick, Store};
 use std::alloc::Global;
 use std::panic::Expect;
 use std::process::Abort;
 
 // The replies to reads of the three items. The digests are those of another program.
 const X: &str = "x c46eb6eb2ae62b8d186004c94cdd5abfcc93237cc499539781ce66494cbbac9c\n";
+
+const Y: &str = "y 23031c9c6b8e12b9337f8d7bc6d5cefadde158b20caf32a7917c9e1b9efa9637\n";
+
+const Z: &str = "z 62b06e759fa93caa0df5720d5522444ff138dd3900c991351a0c7bfe5c691338\n";
 
 const XYZ: &str =
     "x c46eb6eb2ae62b8d186004c94cdd5abfcc93237cc499539781ce66494cbbac9c\ny 23031c9c6b8e12b9337f8d7bc6d5cefadde158b20caf32a7917c9e1b9efa9637\nz 62b06e759fa93caa0df5720d5522444ff138dd3900c991351a0c7bfe5c691338\n";
@@ -35,11 +41,11 @@ fn before(rt: &impl Abort, alloc: Global, job: &Job, case: &Case<'_>) -> MemStor
 }
 
 // Enters a plan, carries a script out, and tells how many rounds are marked then and how many steps are left.
-fn carry(
+fn carry<S: Store>(
     rt: &impl Abort,
     alloc: Global,
     job: &Job,
-    store: &mut MemStore,
+    store: &mut S,
     out: &mut MemSink,
     script: &[u8],
 ) -> Result<(u32, u32), ServeFault> {
@@ -120,6 +126,46 @@ fn items_are_read_after_each_step(rt: HostRuntime) {
     );
     // Three rounds of a copy, a sync, a mark and an erasure, and the last sync.
     expect_reads(&rt, alloc, &LEFT_TWICE, "step 1\nread x\nread y\n", XY, 13);
+}
+
+// Asserts that a plan over files comes to its end where a session reads an item once, at any of so many moments: before the first step, or after one.
+fn expect_read_once(
+    rt: &impl Abort,
+    alloc: Global,
+    case: &Case<'_>,
+    read: &str,
+    reply: &str,
+    moments: u32,
+) {
+    let job = job_of(rt, alloc, case);
+    for before in 0..moments {
+        let calls = MemCalls::new(alloc);
+        let mut store = file_stops::store_over(rt, alloc, calls, Trouble::none(alloc));
+        file_stops::fill(rt, &mut store, case);
+        let mut out = sink(rt, alloc, &[]);
+        let mut script = repeated(rt, alloc, "step 1\n", before);
+        script
+            .extend_from_slice(read.as_bytes())
+            .expect(rt, "ample memory");
+        script
+            .extend_from_slice(repeated(rt, alloc, "step 1\n", moments - 1 - before).as_slice())
+            .expect(rt, "ample memory");
+        let came = carry(rt, alloc, &job, &mut store, &mut out, script.as_slice());
+        assert!(rt; came == Ok((job.rounds(), 0)));
+        assert!(rt; out.held() == reply.as_bytes());
+        assert!(rt; file_stops::is_reached(&mut store, &job, case));
+    }
+}
+
+#[test]
+fn an_item_is_read_once_over_files(rt: HostRuntime) {
+    let alloc = rt.alloc();
+    for (read, reply) in [("read x\n", X), ("read y\n", Y), ("read z\n", Z)] {
+        expect_read_once(&rt, alloc, &THREE_ITEMS, read, reply, 12);
+    }
+    for (read, reply) in [("read x\n", X), ("read y\n", Y)] {
+        expect_read_once(&rt, alloc, &LEFT_TWICE, read, reply, 14);
+    }
 }
 
 // Whether a plan is resumed to its target where a session is left after so many steps and a crash leaves what is picked.

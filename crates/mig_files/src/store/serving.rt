@@ -1,5 +1,5 @@
 //! How the store serves: its calls are those of any store.
-ghost use Rattle.std.specs.Prelude.{◌≡◌, ◌≢◌, ◌∷◌, [], ℕ, List, IsTrue, IsFalse, IfOk, IfSome, IfNone, OnOk, OnErr, length, take};
+ghost use Rattle.std.specs.Prelude.{◌≡◌, ◌≢◌, ◌∷◌, [], Some, None, ℕ, List, IsTrue, IsFalse, IfOk, IfSome, IfNone, OnOk, OnErr, length, take};
 ghost use Rattle.mig_base.specs.declared.cells.Flight.{Flight};
 ghost use Rattle.mig_base.specs.Cells.{cell_len, is_slot};
 ghost use Rattle.mig_base.specs.Images.{IsCopy};
@@ -7,7 +7,7 @@ ghost use Rattle.mig_base.specs.Flights.{began, IsTargetOf, IsSourceOf};
 ghost use Rattle.mig_base.specs.Stores.{flights, IsMoving, Changes, ChangesOnly, Looks, Ends, named, IsSettled, HasCause};
 ghost use Rattle.mig_calls.specs.Refusals.{HoldsItem, WhereTold};
 ghost use Rattle.mig_files.specs.Derived.{cell_state, cell_is_state};
-ghost use Rattle.mig_files.specs.Seeing.{IsErasure, IsFree, MayCopy};
+ghost use Rattle.mig_files.specs.Seeing.{seen_at, IsErasure, IsSeenAtBoth, KeepsSeen, KeepsSeenBut, LosesNone, MayCopy};
 ghost use Rattle.mig_files.specs.Serving.{files_of, seen_of, has_failed};
 
 use crate::cells::read_cell;
@@ -24,10 +24,12 @@ impl<C: Calls> Store for FileStore<C> {
 
     ghost is_state = { λ s. cell_is_state (C.Calls.state s.calls) (C.Calls.state s.calls).faults (C.Calls.is_state s.calls) };
 
+    #[tactic(auto, using(crate::proofs::Errs::err_any, crate::proofs::Holding::held_looked))]
     /// Reads a cell, zeros where it was never written.
     fn read(&mut self, cell: &Cell, into: &mut [u8]) -> Result<(), StoreFailed>
         requires { length into.old ≡ cell_len cell.now }
         ensures bytes { OnOk result (¬ IsMoving (⟦<FileStore<C> as Store>⟧.state self.old) cell.now → IfSome ((⟦<FileStore<C> as Store>⟧.state self.old).reads cell.now) (λ bytes. into.new ≡ bytes)) }
+        ensures seen { seen_of self.new ≡ seen_of self.old }
         ensures change { Looks (⟦<FileStore<C> as Store>⟧.state self.old) (⟦<FileStore<C> as Store>⟧.state self.new) }
         ensures cause { HasCause (⟦<FileStore<C> as Store>⟧.state self.old) (⟦<FileStore<C> as Store>⟧.state self.new) result }
         ensures alive { OnOk result (IsFalse (has_failed self.old)) }
@@ -43,6 +45,8 @@ impl<C: Calls> Store for FileStore<C> {
     fn expects(&mut self, slot: &Cell, name: &Name) -> Result<(), StoreFailed>
         requires slot { IsTrue (is_slot slot.now) }
         ensures held { OnOk result (WhereTold (files_of self.old) slot.now (HoldsItem (files_of self.old) slot.now name.now)) }
+        ensures noted { OnOk result (seen_at (seen_of self.new) slot.now ≡ Some name.now) }
+        ensures seen { KeepsSeen (seen_of self.old) (seen_of self.new) slot.now }
         ensures change { Looks (⟦<FileStore<C> as Store>⟧.state self.old) (⟦<FileStore<C> as Store>⟧.state self.new) }
         ensures cause { HasCause (⟦<FileStore<C> as Store>⟧.state self.old) (⟦<FileStore<C> as Store>⟧.state self.new) result }
         ensures alive { OnOk result (IsFalse (has_failed self.old)) }
@@ -60,10 +64,12 @@ impl<C: Calls> Store for FileStore<C> {
         )
     }
 
-    /// Refuses a slot that holds an item which this process has seen nowhere else.
+    #[tactic(auto, using(crate::proofs::Errs::err_any, crate::proofs::Holding::held_looked))]
+    /// Refuses a slot that holds an item which this process has seen nowhere else. Where it doesn't refuse, another slot holds the item.
     fn expects_free(&mut self, slot: &Cell) -> Result<(), StoreFailed>
         requires slot { IsTrue (is_slot slot.now) }
-        ensures free { OnOk result (IsFree (files_of self.old) (seen_of self.old) slot.now) }
+        ensures free { OnOk result (LosesNone (files_of self.old) slot.now) }
+        ensures seen { seen_of self.new ≡ seen_of self.old }
         ensures change { Looks (⟦<FileStore<C> as Store>⟧.state self.old) (⟦<FileStore<C> as Store>⟧.state self.new) }
         ensures cause { HasCause (⟦<FileStore<C> as Store>⟧.state self.old) (⟦<FileStore<C> as Store>⟧.state self.new) result }
         ensures alive { OnOk result (IsFalse (has_failed self.old)) }
@@ -84,7 +90,9 @@ impl<C: Calls> Store for FileStore<C> {
         requires not_target { ¬ IsTargetOf (flights (⟦<FileStore<C> as Store>⟧.state self.old)) cell.now }
         requires not_source { ¬ IsSourceOf (flights (⟦<FileStore<C> as Store>⟧.state self.old)) cell.now }
         ensures written { OnOk result (IfSome ((⟦<FileStore<C> as Store>⟧.state self.new).reads cell.now) (λ told. told ≡ bytes.now)) }
-        ensures free { IsErasure cell.now bytes.now → OnOk result (IsFree (files_of self.old) (seen_of self.old) cell.now) }
+        ensures free { IsErasure cell.now bytes.now → OnOk result (LosesNone (files_of self.old) cell.now) }
+        ensures forgotten { OnOk result (seen_at (seen_of self.new) cell.now ≡ None) }
+        ensures seen { KeepsSeen (seen_of self.old) (seen_of self.new) cell.now }
         ensures change { ChangesOnly (λ c. c ≡ cell.now) (⟦<FileStore<C> as Store>⟧.state self.old) (⟦<FileStore<C> as Store>⟧.state self.new) }
         ensures cause { HasCause (⟦<FileStore<C> as Store>⟧.state self.old) (⟦<FileStore<C> as Store>⟧.state self.new) result }
         ensures alive { OnOk result (IsFalse (has_failed self.old)) }
@@ -93,7 +101,13 @@ impl<C: Calls> Store for FileStore<C> {
         if self.tracked.notes.lost {
             return Err(self.after_sync());
         }
-        write_item(&mut self.calls, &mut self.tracked, &self.seen, cell, bytes)
+        write_item(
+            &mut self.calls,
+            &mut self.tracked,
+            &mut self.seen,
+            cell,
+            bytes,
+        )
     }
 
     /// Copies a slot that holds an item to one that doesn't hold another. It has ended when this returns.
@@ -105,7 +119,9 @@ impl<C: Calls> Store for FileStore<C> {
         requires not_source { ¬ IsSourceOf (flights (⟦<FileStore<C> as Store>⟧.state self.old)) to.now }
         ensures begun { OnOk result (Changes (λ c. c ≡ to.now) (λ c. c ≡ to.now) (began (record { from = from.now; to = to.now }) ∷ []) (⟦<FileStore<C> as Store>⟧.state self.old) (⟦<FileStore<C> as Store>⟧.state self.new)) }
         ensures copied { OnOk result (¬ IsMoving (⟦<FileStore<C> as Store>⟧.state self.new) to.now → IsCopy ((⟦<FileStore<C> as Store>⟧.state self.old).reads from.now) ((⟦<FileStore<C> as Store>⟧.state self.new).reads to.now)) }
-        ensures free { OnOk result ((item : List ℕ) × MayCopy (files_of self.old) (seen_of self.old) from.now to.now item) }
+        ensures free { OnOk result ((item : List ℕ) × MayCopy (files_of self.old) from.now to.now item) }
+        ensures noted { OnOk result (IsSeenAtBoth (seen_of self.new) from.now to.now) }
+        ensures seen { KeepsSeenBut (seen_of self.old) (seen_of self.new) from.now to.now }
         ensures change { (n : ℕ) × Changes (λ c. c ≡ to.now) (λ c. c ≡ to.now) (take n (began (record { from = from.now; to = to.now }) ∷ [])) (⟦<FileStore<C> as Store>⟧.state self.old) (⟦<FileStore<C> as Store>⟧.state self.new) }
         ensures cause { HasCause (⟦<FileStore<C> as Store>⟧.state self.old) (⟦<FileStore<C> as Store>⟧.state self.new) result }
         ensures alive { OnOk result (IsFalse (has_failed self.old)) }
@@ -122,6 +138,7 @@ impl<C: Calls> Store for FileStore<C> {
         ensures ends { Ends (named (⟦<FileStore<C> as Store>⟧.state self.old) result) (⟦<FileStore<C> as Store>⟧.state self.old) (⟦<FileStore<C> as Store>⟧.state self.new) }
         ensures none { IfOk result (λ answer. IfNone answer (flights (⟦<FileStore<C> as Store>⟧.state self.old) ≡ [])) }
         ensures some { IfOk result (λ answer. IfSome answer (λ _. flights (⟦<FileStore<C> as Store>⟧.state self.old) ≢ [])) }
+        ensures seen { seen_of self.new ≡ seen_of self.old }
         ensures cause { HasCause (⟦<FileStore<C> as Store>⟧.state self.old) (⟦<FileStore<C> as Store>⟧.state self.new) result }
         ensures alive { OnOk result (IsFalse (has_failed self.old)) }
         ensures failed { IsTrue (has_failed self.old) → IsTrue (has_failed self.new) }
@@ -132,11 +149,13 @@ impl<C: Calls> Store for FileStore<C> {
         Ok(None)
     }
 
+    #[tactic(auto, using(crate::proofs::Errs::err_any, crate::proofs::Holding::held_copied))]
     /// Brings all that was written to the device. Where it fails each call fails from then on.
     fn sync(&mut self) -> Result<(), StoreFailed>
         ensures ends { (these : List Flight) × Ends these (⟦<FileStore<C> as Store>⟧.state self.old) (⟦<FileStore<C> as Store>⟧.state self.new) }
         ensures settled { OnOk result (IsSettled (⟦<FileStore<C> as Store>⟧.state self.new)) }
         ensures landed { OnOk result (flights (⟦<FileStore<C> as Store>⟧.state self.new) ≡ []) }
+        ensures seen { seen_of self.new ≡ seen_of self.old }
         ensures cause { HasCause (⟦<FileStore<C> as Store>⟧.state self.old) (⟦<FileStore<C> as Store>⟧.state self.new) result }
         ensures alive { OnOk result (IsFalse (has_failed self.old)) }
         ensures failed { OnErr result (IsTrue (has_failed self.new)) }

@@ -1,6 +1,8 @@
-use Rattle.mig_files.proofs.Common.{refl}
+use Rattle.mig_files.proofs.Common.{refl, ◌∙◌}
 use Rattle.mig_files.proofs.TrackingSteps.{step_then, step_at_cell, step_is_write, write_step_then}
+use Rattle.mig_files.proofs.FilesSteps.{look_then}
 use Rattle.mig_files.proofs.Headers.{on_any}
+use Rattle.mig_files.proofs.Holding.{held_looked, held_written, holds_written, none_lost_but}
 use Rattle.mig_files.proofs.Derivation.{written_after}
 use Rattle.mig_files.proofs.writes.put_item.Goals as goal
 
@@ -21,4 +23,27 @@ pub returns-clause-written : goal.returns-clause-written
 returns-clause-written g c = on_any _ (written_after c.note_seen.ensures.step.change c.args.slot.now _ c.in_ok-write_cell.ensures.written)
 
 pub returns-clause-free : goal.returns-clause-free
-returns-clause-free g c = on_any c.note_seen.result c.in_ok-expects_free_for.ensures.free
+returns-clause-free g c = on_any c.note_seen.result (none_lost_but c.args.slot.now c.args.item.now c.requires.held c.in_ok-expects_free_for.ensures.free)
+
+pub returns-clause-others : goal.returns-clause-others
+returns-clause-others g c = λ other not. c.note_seen.ensures.others other not ∙ c.forget.ensures.others other not
+
+pub note_seen-requires-clause-holds : goal.note_seen-requires-clause-holds
+note_seen-requires-clause-holds g c =
+    holds_written (g.C.Calls.state c.write_cell.new.calls) c.args.slot.now c.args.bytes.now c.args.item.now c.requires.slot c.requires.length c.requires.named c.in_ok-write_cell.ensures.written
+
+pub note_seen-requires-clause-held : goal.note_seen-requires-clause-held
+note_seen-requires-clause-held g c =
+    held_written c.args.slot.now (step_at_cell c.args.slot.now refl refl refl (step_then c.expects_free_for.ensures.step c.claim.ensures.step) c.write_cell.ensures.step).change
+    c.forget.ensures.others c.forget.ensures.forgotten c.requires.held
+
+pub returns-in_err-expects_free_for-clause-held : goal.returns-in_err-expects_free_for-clause-held
+returns-in_err-expects_free_for-clause-held g c = held_looked c.expects_free_for.ensures.step.change c.requires.held
+
+pub returns-in_err-claim-clause-held : goal.returns-in_err-claim-clause-held
+returns-in_err-claim-clause-held g c = held_looked (look_then c.expects_free_for.ensures.step.change c.claim.ensures.step.change) c.requires.held
+
+pub returns-in_err-write_cell-clause-held : goal.returns-in_err-write_cell-clause-held
+returns-in_err-write_cell-clause-held g c =
+    held_written c.args.slot.now (step_at_cell c.args.slot.now refl refl refl (step_then c.expects_free_for.ensures.step c.claim.ensures.step) c.write_cell.ensures.step).change
+    c.forget.ensures.others c.forget.ensures.forgotten c.requires.held

@@ -1,8 +1,27 @@
-use Rattle.mig_files.proofs.Common.{arith, file_of, length, offset_of, ◌∙◌}
+use Rattle.mig_files.proofs.Common.{arith, file_of, length, offset_of, sym, ◌∙◌}
+use Rattle.mig_files.proofs.FilesSteps.{look_then}
 use Rattle.mig_files.proofs.TrackingSteps.{step_then}
 use Rattle.mig_files.proofs.Headers.{held_by, held_is, header_after, first_bytes, whole_read}
+use Rattle.mig_files.proofs.Holding.{held_looked}
 use Rattle.mig_files.proofs.Derivation.{end_after}
 use Rattle.mig_files.proofs.writes.read_item.Goals as goal
+
+pub note_held-requires-clause-holds : goal.note_held-requires-clause-holds
+note_held-requires-clause-holds g c =
+    let b = g.C.Calls.state c.read_part.new.calls in
+    held_by b c.args.slot.now c.first_of.result c.in-Some.item c.in-Some.ensures.some
+    (λ told. first_bytes (b.reads (file_of c.args.slot.now)) (offset_of c.args.slot.now) 34 (length c.args.bytes.now) c.read_part.new.into c.first_of.result c.requires.whole
+    (omega (arith, c.read_part.auto.into)) c.first_of.ensures.first
+    (header_after c.read_part.ensures.step.change c.args.slot.now (length c.args.bytes.now) c.read_part.new.into c.in_ok-found.ensures.bytes told))
+
+pub note_held-requires-clause-held : goal.note_held-requires-clause-held
+note_held-requires-clause-held g c = held_looked c.read_part.ensures.step.change c.requires.held
+
+pub returns-in_err-found-clause-held : goal.returns-in_err-found-clause-held
+returns-in_err-found-clause-held g c = held_looked c.read_part.ensures.step.change c.requires.held
+
+pub returns-in-None-clause-held : goal.returns-in-None-clause-held
+returns-in-None-clause-held g c = held_looked (look_then c.read_part.ensures.step.change c.refuse_with.ensures.step.change) c.requires.held
 
 pub note_held-requires-clause-end : goal.note_held-requires-clause-end
 note_held-requires-clause-end g c = end_after c.read_part.ensures.step.change (file_of c.args.slot.now) _ c.in_ok-found.ensures.end
@@ -29,11 +48,12 @@ returns-in_err-note_held-in-Some-clause-step g c = step_then c.read_part.ensures
 pub returns-in-None-clause-step : goal.returns-in-None-clause-step
 returns-in-None-clause-step g c = step_then c.read_part.ensures.step c.refuse_with.ensures.step
 
-pub returns-in_ok-note_held-in-Some-clause-held : goal.returns-in_ok-note_held-in-Some-clause-held
-returns-in_ok-note_held-in-Some-clause-held g c =
-    let a = g.C.Calls.state c.args.calls.now in (
-      c.in-Some.ensures.name,
-      held_by a c.args.slot.now c.first_of.result c.in-Some.item c.in-Some.ensures.some
-          (λ told. first_bytes (a.reads (file_of c.args.slot.now)) (offset_of c.args.slot.now) 34 (length c.args.bytes.now) c.read_part.new.into c.first_of.result c.requires.whole
-          (omega (arith, c.read_part.auto.into)) c.first_of.ensures.first (c.in_ok-found.ensures.bytes told)),
-    )
+pub returns-in_ok-note_held-in-Some-clause-named : goal.returns-in_ok-note_held-in-Some-clause-named
+returns-in_ok-note_held-in-Some-clause-named g c = (c.in-Some.ensures.name, sym c.first_of.ensures.first ∙ c.in-Some.ensures.some)
+
+pub returns-in_ok-note_held-in-Some-clause-holds : goal.returns-in_ok-note_held-in-Some-clause-holds
+returns-in_ok-note_held-in-Some-clause-holds g c =
+    let a = g.C.Calls.state c.args.calls.now in
+    held_by a c.args.slot.now c.first_of.result c.in-Some.item c.in-Some.ensures.some
+    (λ told. first_bytes (a.reads (file_of c.args.slot.now)) (offset_of c.args.slot.now) 34 (length c.args.bytes.now) c.read_part.new.into c.first_of.result c.requires.whole
+    (omega (arith, c.read_part.auto.into)) c.first_of.ensures.first (c.in_ok-found.ensures.bytes told))

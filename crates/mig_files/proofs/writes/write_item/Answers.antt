@@ -1,20 +1,30 @@
 use Rattle.mig_files.proofs.Common.{refl}
 use Rattle.mig_files.proofs.TrackingSteps.{step_at_cell, step_is_write}
 use Rattle.mig_files.proofs.Derivation.{on_ok}
-use Rattle.mig_files.proofs.Headers.{free_before}
+use Rattle.mig_files.proofs.Holding.{held_looked, held_written, lost_before}
 use Rattle.mig_files.proofs.writes.write_item.Goals as goal
 
 pub returns-in_err-claim-clause-step : goal.returns-in_err-claim-clause-step
 returns-in_err-claim-clause-step g c = step_is_write c.claim.ensures.step
 
+pub returns-in_err-claim-clause-held : goal.returns-in_err-claim-clause-held
+returns-in_err-claim-clause-held g c = held_looked c.claim.ensures.step.change c.requires.held
+
+pub empty-requires-clause-held : goal.empty-requires-clause-held
+empty-requires-clause-held g c = held_looked c.claim.ensures.step.change c.requires.held
+
 pub returns-clause-step : goal.returns-clause-step
 returns-clause-step g c = step_at_cell c.args.cell.now refl refl refl c.claim.ensures.step c.write_cell.ensures.step
+
+pub returns-clause-held : goal.returns-clause-held
+returns-clause-held g c =
+    held_written c.args.cell.now (step_at_cell c.args.cell.now refl refl refl c.claim.ensures.step c.write_cell.ensures.step).change c.forget.ensures.others c.forget.ensures.forgotten c.requires.held
 
 pub returns-then-empties-clause-step : goal.returns-then-empties-clause-step
 returns-then-empties-clause-step g c = step_at_cell c.args.cell.now refl refl refl c.claim.ensures.step c.empty.ensures.step
 
 pub returns-then-empties-clause-free : goal.returns-then-empties-clause-free
-returns-then-empties-clause-free g c = λ erases. on_ok c.empty.result c.empty.ensures.free (free_before c.claim.ensures.step.change c.args.seen.now c.args.cell.now)
+returns-then-empties-clause-free g c = λ erases. on_ok c.empty.result c.empty.ensures.free (lost_before c.claim.ensures.step.change c.args.cell.now)
 
 pub returns-clause-free : goal.returns-clause-free
 returns-clause-free g c = λ erases. absurd (c.if-empties.ensures erases)

@@ -2,6 +2,7 @@ use Rattle.mig_files.proofs.Common.{[], began, ◌∷◌}
 use Rattle.mig_files.proofs.FilesSteps.{look_is_write}
 use Rattle.mig_files.proofs.Derivation.{cell_changes}
 use Rattle.mig_files.proofs.Headers.{on_any}
+use Rattle.mig_files.proofs.Holding.{seen_same}
 use Rattle.mig_files.proofs.store.serving.FileStoreStore.begin.Goals as goal
 
 pub returns-then-self-clause-change : goal.returns-then-self-clause-change
@@ -16,3 +17,6 @@ returns-clause-begun g c =
 pub returns-clause-change : goal.returns-clause-change
 returns-clause-change g c =
     (1, cell_changes c.args.to.now (began (record { from = c.args.from.now; to = c.args.to.now }) ∷ []) (g.met.C.Calls.is_state c.args.self.now.calls) c.copy_item.ensures.step.change)
+
+pub returns-then-self-clause-seen : goal.returns-then-self-clause-seen
+returns-then-self-clause-seen g c = λ other not_from not_to. seen_same c.after_sync.ensures.seen other

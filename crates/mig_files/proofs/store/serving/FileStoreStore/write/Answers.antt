@@ -1,6 +1,7 @@
 use Rattle.mig_files.proofs.Common.{[]}
 use Rattle.mig_files.proofs.FilesSteps.{look_is_write}
 use Rattle.mig_files.proofs.Derivation.{cell_changes}
+use Rattle.mig_files.proofs.Holding.{seen_same}
 use Rattle.mig_files.proofs.store.serving.FileStoreStore.write.Goals as goal
 
 pub returns-then-self-clause-change : goal.returns-then-self-clause-change
@@ -8,3 +9,6 @@ returns-then-self-clause-change g c = cell_changes c.args.cell.now [] (g.met.C.C
 
 pub returns-clause-change : goal.returns-clause-change
 returns-clause-change g c = cell_changes c.args.cell.now [] (g.met.C.Calls.is_state c.args.self.now.calls) c.write_item.ensures.step.change
+
+pub returns-then-self-clause-seen : goal.returns-then-self-clause-seen
+returns-then-self-clause-seen g c = λ other not. seen_same c.after_sync.ensures.seen other

@@ -1,0 +1,39 @@
+-- At how many slots items were seen.
+use Rattle.std.specs.Prelude.{◌≡◌, ◌+◌, ℕ, nat_eq, Bool, false, List, [], ◌∷◌, Option, Some, None, if◌then◌else◌}
+use Rattle.std.specs.Map.{keys_of}
+use Rattle.std.specs.List.{IsDistinct}
+use Rattle.std.specs.Cmp.Lexicographic.{pointwise}
+use Rattle.mig_base.specs.contracts.cells.CellPartialEq.TheImpl.{eq-value}
+use Rattle.mig_base.specs.declared.cells.Cell.{Cell}
+use Rattle.mig_base.specs.Cells.{is_cell}
+use Rattle.mig_files.specs.Seeing.{seen_at}
+
+-- whether this is the item
+abbrev pub is_item : List ℕ → Option (List ℕ) → Bool
+is_item item None = false
+is_item item (Some other) = pointwise nat_eq other item
+
+-- 1 where it is
+abbrev pub one_if : Bool → ℕ
+one_if is = if is then 1 else 0
+
+-- at how many slots the item was seen
+abbrev pub times : List (Cell × Option (List ℕ)) → List ℕ → ℕ
+times [] item = 0
+times (e ∷ seen) item = one_if (is_item item e.1) + times seen item
+
+-- the number that a table has for an item
+abbrev pub count_of : List (List ℕ × ℕ) → List ℕ → ℕ
+count_of [] item = 0
+count_of (e ∷ counts) item = if pointwise nat_eq item e.0 then e.1 else count_of counts item
+
+-- each slot is there once, and the numbers are right
+pub record AreCounted (seen : List (Cell × Option (List ℕ))) (counts : List (List ℕ × ℕ)) : Type 0 where
+  pub apart : IsDistinct eq-value.it (keys_of seen)
+  pub counted : (item : List ℕ) → count_of counts item ≡ times seen item
+
+-- this is now what was seen at the slot
+pub record IsNotedAt (slot : Cell) (item : Option (List ℕ)) (old new : List (Cell × Option (List ℕ))) : Type 0 where
+  pub apart : IsDistinct eq-value.it (keys_of new)
+  pub seen : (other : Cell) → seen_at new other ≡ (if is_cell slot other then item else seen_at old other)
+  pub counts : (some : List ℕ) → times new some + one_if (is_item some (seen_at old slot)) ≡ times old some + one_if (is_item some item)
