@@ -11,6 +11,7 @@ ghost use Rattle.mig_files.specs.Tracking.{IsTracked, IsStep, IsWriteStep, Stays
 use crate::opening::{enter, extent};
 use crate::pieces::write_all;
 use crate::places::{end_of, place_of};
+use crate::slot_header::item_of;
 use crate::tracked::{Tracked, refuse_with};
 use crate::tries::read_all;
 use mig_base::Cell;
@@ -113,7 +114,7 @@ pub fn write_cell<C: Calls>(
     write_all(calls, tracked, &place, offset, bytes)
 }
 
-/// Reads a cell, zeros where it was never written. A slot past the end of a device is refused.
+/// Reads a cell, zeros where it was never written. A slot past the end of a device is refused, and an item that its file's end cuts.
 pub fn read_cell<C: Calls>(
     calls: &mut C,
     tracked: &mut Tracked,
@@ -128,7 +129,33 @@ pub fn read_cell<C: Calls>(
     ensures cause { OnErr result (Rose (C.Calls.state calls.old).faults (C.Calls.state calls.new).faults) }
 {
     let found = read_part(calls, tracked, cell, into)?;
-    check_room(calls, tracked, cell, &found)
+    check_room(calls, tracked, cell, &found)?;
+    check_whole(calls, tracked, cell, into, &found)
+}
+
+/// Refuses an item, which these bytes are, where its file ends before its slot does.
+fn check_whole<C: Calls>(
+    calls: &mut C,
+    tracked: &Tracked,
+    cell: &Cell,
+    bytes: &[u8],
+    found: &Extent,
+) -> Result<(), StoreFailed>
+    requires tracked { IsTracked tracked.now.notes (C.Calls.state calls.old) }
+    requires end { WhereTold (C.Calls.state calls.old) cell.now (EndsAt ((C.Calls.state calls.old).reads (file_of cell.now)) (len_of found.now)) }
+    ensures step { IsStep tracked.now.notes (C.Calls.state calls.old) (C.Calls.state calls.new) }
+    ensures cause { OnErr result (Rose (C.Calls.state calls.old).faults (C.Calls.state calls.new).faults) }
+{
+    if found.len() >= end_of(cell) {
+        return Ok(());
+    }
+    match bytes.first_chunk().and_then(item_of) {
+        Some(item) => {
+            let slot = *cell;
+            Err(refuse_with(calls, tracked, &Refusal::Cut { slot, item }))
+        }
+        None => Ok(()),
+    }
 }
 
 /// Refuses a slot past the end of a device.
