@@ -37,11 +37,12 @@ pub use Rattle.mig_base.specs.declared.ids.Shift.{Shift}
 pub use Rattle.mig_base.specs.declared.ids.Spot.{Spot}
 pub use Rattle.mig_base.specs.declared.limits.TheConstants.{MAX_FILE_BYTES}
 pub use Rattle.mig_base.specs.declared.names.Name.{Name}
-pub use Rattle.mig_io.specs.Held.{Extends, ExtendsInPart, SinkState}
+pub use Rattle.mig_io.specs.Held.{Extends, ExtendsByPrefix, ExtendsInPart, SinkState}
 pub use Rattle.mig_jobs.proofs.JobRounds.{round_short}
 pub use Rattle.mig_journal.proofs.Steps.{look_quiet, on_ok_is}
+pub use Rattle.mig_live.specs.Actions.{Action, AllWrite, AreMade, AreMadeInPart, Copy, Erase, IsMade, MakesFirst, SetMark, Sync, Writes, actions_after, actions_from, actions_left, actions_since, all_events, copies, erasures, events_of}
 pub use Rattle.mig_live.specs.Orders.{IsOrder, all_reads, all_steps, order_line, order_words, reads_of, steps_of}
-pub use Rattle.mig_live.specs.Replies.{AreCutOff, ArePut, AreReplies, replies, reply_line}
+pub use Rattle.mig_live.specs.Replies.{AreCutOff, ArePut, ArePutUpTo, AreReplies, replies, reply_line}
 pub use Rattle.mig_live.specs.Scripts.{IsScriptError, IsStopAt, Over, Piece, ScriptLine, ScriptNext, ScriptPlace, ScriptText, WereRead}
 pub use Rattle.mig_live.specs.Sessions.{InStep, Session, done_in, is_synced, marks_by, steps_after}
 pub use Rattle.mig_live.specs.Underways.{ChangesWork, IsAmong, IsAtStep, IsFilledBy, IsLeftBy, IsLoose, IsUnderway, shifts_in, steps_in}
@@ -57,13 +58,13 @@ pub use Rattle.mig_text.proofs.Common.{decimal_injective}
 pub use Rattle.mig_words.proofs.PutTexts.{begins_more, puts_nothing, then_begins, then_extends}
 pub use Rattle.mig_words.specs.Puts.{Puts}
 pub use Rattle.sha2.specs.Sha256.{sha256}
-pub use Rattle.std.proofs.Common.{Bool, Err, IfNone, IfSome, IsErrAnd, List, None, Ok, OnOk, Option, Result, Some, [], ap, append-nil, append_assoc, arith, drop, false, get_or, inl, inr}
+pub use Rattle.std.proofs.Common.{Bool, Err, drop-drop, take-add, IfNone, IfSome, IsErrAnd, List, None, Ok, OnOk, Option, Result, Some, [], ap, append-nil, append_assoc, arith, drop, false, get_or, inl, inr}
 pub use Rattle.std.proofs.Common.{length, length-append, map, refl, subst, suc, sym, take, true, zero, ℕ, ⊎_elim, ◌*◌, ◌++◌, ◌+◌, ◌-◌, ◌<◌, ◌∙◌, ◌∷◌, ◌≡◌, ◌≢◌, ◌≤◌, ◌⊎◌}
 pub use Rattle.std.proofs.Math.Seq.{drop-cons}
 pub use Rattle.std.proofs.lemmas.Bool.Decides.{nat_tests}
 pub use Rattle.std.proofs.lemmas.Bool.{cases_Bool, cases_eq, cases_lt, cond-true, eqb-true}
 pub use Rattle.std.proofs.lemmas.Grind.{flat_map-append}
-pub use Rattle.std.proofs.lemmas.List.{map-append, nil_from_length, take-append-drop, take_all, take_more}
+pub use Rattle.std.proofs.lemmas.List.{drop_all, map-append, nil_from_length, take-append-drop, take_all, take_more}
 pub use Rattle.std.proofs.lemmas.List.Elements.{All-contains, Contains-get_or}
 pub use Rattle.std.proofs.lemmas.List.Sorted.{Contains-permutation, IsPermutation-sym, length_permutation}
 pub use Rattle.std.proofs.lemmas.List.Sums.{sum_by-cons}

@@ -1,3 +1,4 @@
+pub mod ActionLaws
 mod OneCopy
 mod Places
 mod ReplyLaws

@@ -1,8 +1,8 @@
 -- Replies that are put, order by order.
-use Rattle.mig_live.proofs.Common.{AreCutOff, ArePut, AreReplies, Bool, Contents, Err, Extends, InStep, IsErrAnd, ItemId, List, Lists, Ok, Order, Read, Result, ServeFault, Session, SinkState}
+use Rattle.mig_live.proofs.Common.{ArePut, ArePutUpTo, AreReplies, Bool, Contents, Err, Extends, ExtendsByPrefix, ExtendsInPart, IfSome, InStep, None, Option, Some, IsErrAnd, ItemId, List, Lists, Ok, Order, Read, Result, ServeFault, Session, SinkState}
 use Rattle.mig_live.proofs.Common.{State, Step, Task, [], all_reads, all_steps, ap, append-nil, append_assoc, arith, codes, encode_lower, flat_map-append, get_or, item_name, length, map}
-use Rattle.mig_live.proofs.Common.{map-append, named, puts_nothing, reads_of, refl, replies, reply_line, sha256, steps_of, subst, suc, sym, take, take_more, text_of_lines, then_begins}
-use Rattle.mig_live.proofs.Common.{then_extends, words, zero, ℕ, ◌++◌, ◌+◌, ◌<◌, ◌∙◌, ◌∷◌, ◌≡◌}
+use Rattle.mig_live.proofs.Common.{map-append, named, puts_nothing, reads_of, refl, replies, reply_line, sha256, steps_of, subst, sym, take, take_more, text_of_lines}
+use Rattle.mig_live.proofs.Common.{then_extends, words, ℕ, ◌++◌, ◌+◌, ◌<◌, ◌∙◌, ◌∷◌, ◌≡◌}
 use Rattle.mig_live.specs.declared.serving.ServeFault.TheVariants as serve_fault
 
 -- the parts of a reply's line
@@ -48,15 +48,24 @@ module _ (input : Lists) (contents : Contents) where
 
 -- Before an order nothing is put, and steps are replied nothing
 
-pub store_failed : (live : Session) (store : State) (orders : List Order) (x : SinkState) → AreCutOff live store orders x x serve_fault.Store
-store_failed live store orders x = (0, ([], λ asked contents at. refl, extends_nothing x))
+pub store_failed : (live : Session) (store : State) (x : SinkState) → ArePut live store [] x x
+store_failed live store x = ([], λ asked contents at. refl, extends_nothing x)
+
+-- a part of a reply, after nothing
+if_some_weaker : {A : Type 0} {P Q : A → Type 0} (o : Option A) → ((a : A) → P a → Q a) → IfSome o P → IfSome o Q
+if_some_weaker None gives h = tt
+if_some_weaker (Some a) gives h = gives a h
+
+pub part_put : (live : Session) (store : State) (item : ItemId) (more : List ℕ) (x y : SinkState) → AreReplies live store (Read item ∷ []) more → ExtendsInPart more x y
+    → ArePutUpTo live store [] (Read item) x y serve_fault.Sink
+part_put live store item more x y are part = (
+  item,
+  refl,
+  ([], more, λ asked contents at. refl, are, if_some_weaker x.held (λ held h. subst (λ (l : List ℕ). ExtendsByPrefix more l y.held) (sym (append-nil held)) h) part),
+)
 
 pub steps_served : (live : Session) (store : State) (order : Order) (count : ℕ) (x : SinkState) → order ≡ Step count → ArePut live store (order ∷ []) x x
 steps_served live store order count x is = subst (λ (o : Order). ArePut live store (o ∷ []) x x) (sym is) ([], λ asked contents at. refl, extends_nothing x)
-
-take_none : (n : ℕ) → take {A = Order} n [] ≡ []
-take_none zero = refl
-take_none (suc n) = refl
 
 -- Orders are carried out, and then one more
 module _ (live mid : Session) (same : mid.task ≡ live.task) (old now : State) (goes : (asked : Bool) (contents : Contents) → InStep asked live contents old → InStep asked mid contents now)
@@ -80,19 +89,27 @@ module _ (live mid : Session) (same : mid.task ≡ live.task) (old now : State) 
   pub served_more : ArePut mid now (this ∷ []) y z → ArePut live old (take (i + 1) orders) x z
   served_more (more, are, put) = (sofar.0 ++ more, both (this ∷ []) more are (take (i + 1) orders) one_more, then_extends sofar.0 more x y z sofar.2 put)
 
-  -- how many of the orders the replies are to, where they are those to the first n of the last one
-  first_of : (n : ℕ) → (m : ℕ) × (take i orders ++ take n (this ∷ []) ≡ take m orders)
-  first_of zero = (i, append-nil (take i orders))
-  first_of (suc n) = (i + 1, ap (λ (rest : List Order). take i orders ++ (this ∷ rest)) (take_none n) ∙ one_more)
+  -- or a fault comes at it
+  none_more : take i orders ++ [] ≡ take i orders
+  none_more = append-nil (take i orders)
 
-  -- or it isn't
-  pub served_stops : (e : ServeFault) → AreCutOff mid now (this ∷ []) y z e → AreCutOff live old orders x z e
-  served_stops serve_fault.Sink (n, more, are, part) =
-      let (m, is) = first_of n in
-      (m, sofar.0 ++ more, both (take n (this ∷ [])) more are (take m orders) is, then_begins sofar.0 more x y z sofar.2 part)
-  served_stops serve_fault.Store (n, (more, are, put)) =
-      let (m, is) = first_of n in
-      (m, (sofar.0 ++ more, both (take n (this ∷ [])) more are (take m orders) is, then_extends sofar.0 more x y z sofar.2 put))
+  pub served_stops : (e : ServeFault) → ArePutUpTo mid now [] this y z e → ArePutUpTo live old (take i orders) this x z e
+  served_stops serve_fault.Store (text, are, put) = (sofar.0 ++ text, both [] text are (take i orders) none_more, then_extends sofar.0 text x y z sofar.2 put)
+  served_stops serve_fault.Sink (item, is, (text, more, are, part, put)) = (
+    item,
+    is,
+    (
+      sofar.0 ++ text,
+      more,
+      both [] text are (take i orders) none_more,
+      λ asked contents at. part asked contents (goes asked contents at) ∙ ap (λ (t : Task). replies t.input contents (this ∷ [])) same,
+      by x.held sofar.2,
+    ),
+  )
+    where
+      by : (held : Option (List ℕ)) → IfSome held (λ h. y.held ≡ Some (h ++ sofar.0)) → IfSome held (λ h. ExtendsByPrefix more (h ++ (sofar.0 ++ text)) z.held)
+      by None first = tt
+      by (Some h) first = subst (λ (l : List ℕ). ExtendsByPrefix more l z.held) (append_assoc h sofar.0 text) (subst (λ (o : Option (List ℕ)). IfSome o (λ k. ExtendsByPrefix more (k ++ text) z.held)) first put)
 
 -- a `?` hands on an error
 pub handed : {C E : Type 0} (P : Result C E → Type 0) (r : Result C E) (e : E) → IsErrAnd r (λ x. x ≡ e) → P (Err e) → P r

@@ -4,6 +4,8 @@ use Rattle.mig_live.proofs.Common.{IsUnderway, LeavesOnly, List, Lists, Looks, N
 use Rattle.mig_live.proofs.Common.{done_in, drop, eqb-true, flights_same, get_or, inl, inr, is_synced, leaves_then, length, look_quiet, marks_by, reached, round_at, same_image}
 use Rattle.mig_live.proofs.Common.{settled_change, shifts_in, slice_get-get_or, slice_get_within, slot_of, steps_after, steps_in, subst, suc, sym, true, zero, zeros, ℕ, ◌*◌, ◌+◌, ◌-◌, ◌<◌, ◌↔◌}
 use Rattle.mig_live.proofs.Common.{◌∙◌, ◌≡◌, ◌≤◌, ◌⊎◌}
+use Rattle.mig_live.proofs.ActionLaws.{count_since}
+use Rattle.mig_live.proofs.Common.{Action, AreMadeInPart, IsMade, actions_left, actions_since, drop_all, refl, take, ◌∷◌}
 use Rattle.mig_live.proofs.Middle.{from_done}
 use Rattle.mig_live.proofs.StepCounts.{marks_after, marks_before, marks_none, shifts_past, steps_fall, steps_from, steps_last, steps_more, steps_next}
 
@@ -49,6 +51,10 @@ module _ (task : Task) (marked left done : ℕ) (sum : done + left ≡ shifts_in
     | inr past ↦ absurd (omega (arith, sum, full, some, steps_last task.plan marked past, shifts_past task.plan marked past))
   ]
 
+  -- the steps that are left
+  pub left_here : (live : Session) → live ≡ session → (p : ℕ) → done ≡ p → actions_left live ≡ drop p (actions_since task marked)
+  left_here live it p here = ap actions_left it ∙ ap (λ (n : ℕ). drop n (actions_since task marked)) (done_is ∙ here)
+
   module _ (live : Session) (it : live ≡ session) where
     pub at_mark : is_synced live ≡ true → done ≡ steps_in task.plan marked
     at_mark is = sym done_is ∙ eqb-true (done_in session) (steps_in task.plan marked) (ap is_synced (sym it) ∙ is)
@@ -85,6 +91,25 @@ module _ (task : Task) (marked left done : ℕ) (sum : done + left ≡ shifts_in
   kept_mark lt full =
       let suc_is : shifts_in task.plan (suc marked) ≡ shifts_in task.plan (marked + 1) = ap (shifts_in task.plan) (let e : suc marked ≡ marked + 1 = omega arith in e) in
       omega (arith, sum, full, suc_is, steps_more task.plan marked lt)
+
+-- A step is the first of those that are left
+module _ (task : Task) (marked left done : ℕ) (sum : done + left ≡ shifts_in task.plan marked + steps_after task.plan marked) (live : Session) (it : live ≡ record { task = task; marked = marked; left = left })
+    (p : ℕ) (here : done ≡ p) (old new : State) where
+  pub part_here : AreMadeInPart [] (take 1 (drop p (actions_since task marked))) old new → AreMadeInPart [] (take 1 (actions_left live)) old new
+  part_here = subst (λ (l : List Action). AreMadeInPart [] (take 1 l) old new) (sym (left_here task marked left done sum live it p here))
+
+  pub made_here : (rest : List Action) (k more since : ℕ) → since + more ≡ shifts_in task.plan k + steps_after task.plan k → rest ≡ drop since (actions_since task k)
+      → (a : Action) × (drop p (actions_since task marked) ≡ a ∷ rest) × IsMade a old new
+      → (a : Action) × (actions_left live ≡ a ∷ actions_left (record { task = task; marked = k; left = more })) × IsMade a old new
+  made_here rest k more since total is (a, first, made) = (
+    a,
+    left_here task marked left done sum live it p here ∙ first ∙ ap (λ (l : List Action). a ∷ l) (is ∙ sym (left_here task k more since total (record { task = task; marked = k; left = more }) refl since refl)),
+    made,
+  )
+
+-- with no step left there is none
+pub none_left : (live : Session) → live.left ≡ 0 → actions_left live ≡ []
+none_left live none = drop_all (done_in live) (actions_since live.task live.marked) (omega (arith, none, count_since live.task live.marked))
 
 -- Entering
 

@@ -1,3 +1,4 @@
+pub mod Actions
 pub mod Orders
 pub mod Replies
 pub mod Scripts

@@ -1,15 +1,18 @@
 -- What orders are replied.
-use Rattle.std.specs.Prelude.{◌≡◌, Bool, ℕ, List, [], ◌∷◌, map, take}
+use Rattle.std.specs.Prelude.{◌≡◌, ◌++◌, Bool, ℕ, List, [], ◌∷◌, IfSome, Some, drop, map, slice_get, take}
 use Rattle.hex.specs.Hex.{encode_lower}
 use Rattle.mig_base.specs.FaultCounts.{Rose}
 use Rattle.mig_base.specs.InputLists.{Lists}
 use Rattle.mig_base.specs.Safety.{Contents}
 use Rattle.mig_base.specs.Stores.{State}
 use Rattle.mig_base.specs.Texts.{item_name, text_of_lines, words}
-use Rattle.mig_io.specs.Held.{SinkState, Extends, ExtendsInPart}
-use Rattle.mig_live.specs.Orders.{all_reads}
+use Rattle.mig_io.specs.Held.{SinkState, Extends, ExtendsByPrefix}
+use Rattle.mig_live.specs.Actions.{Action, AreMade, AreMadeInPart, actions_left}
+use Rattle.mig_live.specs.Orders.{all_reads, all_steps, steps_of}
 use Rattle.mig_live.specs.Sessions.{Session, InStep}
+use Rattle.mig_base.specs.declared.ids.ItemId.{ItemId}
 use Rattle.mig_live.specs.declared.orders.Order.{Order}
+use Rattle.mig_live.specs.declared.orders.Order.TheVariants.{Read}
 use Rattle.mig_live.specs.declared.serving.ServeFault.{ServeFault}
 use Rattle.mig_live.specs.declared.serving.ServeFault.TheVariants as serve_fault
 use Rattle.sha2.specs.Sha256.{sha256}
@@ -30,10 +33,28 @@ AreReplies live store orders text = (asked : Bool) (contents : Contents) → InS
 abbrev pub ArePut : Session → State → List Order → SinkState → SinkState → Type 0
 ArePut live store orders old new = (text : List ℕ) × AreReplies live store orders text × Extends text old new
 
--- a fault of the store left the replies to the orders before the one at which it failed, and one of the sink a beginning of those up to the one at which it failed
-abbrev pub AreCutOff : Session → State → List Order → SinkState → SinkState → ServeFault → Type 0
-AreCutOff live store orders old new serve_fault.Store = (n : ℕ) × ArePut live store (take n orders) old new
-AreCutOff live store orders old new serve_fault.Sink = (n : ℕ) × (text : List ℕ) × AreReplies live store (take n orders) text × ExtendsInPart text old new
+-- they were put, and then a beginning of the reply to one order more
+abbrev pub ArePutAndPart : Session → State → List Order → Order → SinkState → SinkState → Type 0
+ArePutAndPart live store orders order old new =
+    (text : List ℕ) × (more : List ℕ) × AreReplies live store orders text × AreReplies live store (order ∷ []) more × IfSome old.held (λ held. ExtendsByPrefix more (held ++ text) new.held)
+
+-- the replies to these orders were put; and where the sink failed, a beginning of that to the read after them
+abbrev pub ArePutUpTo : Session → State → List Order → Order → SinkState → SinkState → ServeFault → Type 0
+ArePutUpTo live store orders order old new serve_fault.Store = ArePut live store orders old new
+ArePutUpTo live store orders order old new serve_fault.Sink = (item : ItemId) × (order ≡ Read item) × ArePutAndPart live store orders order old new
+
+-- these steps were made; and where the store failed, some of the others
+abbrev pub AreMadeUpTo : List Action → List Action → State → State → ServeFault → Type 0
+AreMadeUpTo actions others old new serve_fault.Store = AreMadeInPart actions others old new
+AreMadeUpTo actions others old new serve_fault.Sink = AreMade actions old new
+
+-- A fault ended a session at one of its orders: those before it were replied to, their steps were made, and nothing was done of those after it.
+pub record AreCutOff (live : Session) (store now : State) (orders : List Order) (old new : SinkState) (fault : ServeFault) : Type 0 where
+  pub whole : ℕ
+  pub order : Order
+  pub at : slice_get orders whole ≡ Some order
+  pub put : ArePutUpTo live store (take whole orders) order old new fault
+  pub made : AreMadeUpTo (take (all_steps (take whole orders)) (actions_left live)) (take (steps_of order) (drop (all_steps (take whole orders)) (actions_left live))) store now fault
 
 -- a fault comes only where the count of what failed rose
 abbrev pub IsServeFault : State → State → SinkState → SinkState → ServeFault → Type 0

@@ -1,5 +1,5 @@
 //! Sessions: plans that are carried out one step at a time.
-ghost use Rattle.std.specs.Prelude.{◌≡◌, ◌↔◌, ◌+◌, ◌-◌, ◌<◌, ◌≤◌, Bool, ℕ, [], if◌then◌else◌, IfErr, IfOk, OnOk, IfSome, IsSome, drop, true, length};
+ghost use Rattle.std.specs.Prelude.{◌≡◌, ◌↔◌, ◌+◌, ◌-◌, ◌<◌, ◌≤◌, ◌∷◌, Bool, ℕ, [], if◌then◌else◌, IfErr, IfOk, OnErr, OnOk, IfSome, IsSome, drop, take, true, length};
 ghost use Rattle.mig_base.specs.Arrivals.{IsReached};
 ghost use Rattle.mig_base.specs.declared.cells.Cell.TheVariants.{Gate, Head};
 ghost use Rattle.mig_base.specs.Flights.{AreFlights};
@@ -11,6 +11,7 @@ ghost use Rattle.mig_base.specs.Safety.{Contents, IsSafe, IsSound, IsSoundAfter}
 ghost use Rattle.mig_base.specs.Stores.{State, flights, Looks, LeavesOnly, IsSettled, HasCause};
 ghost use Rattle.mig_base.specs.Tasks.{Task, IsTask};
 ghost use Rattle.mig_mover.specs.Moves.{Keeps, Enters, IsFault, IsResumeFault, MayBeHalting, StaysArmed};
+ghost use Rattle.mig_live.specs.Actions.{Action, AreMade, AreMadeInPart, IsMade, actions_left};
 ghost use Rattle.mig_live.specs.Sessions.{Session, InStep, is_synced, marks_by, steps_after};
 ghost use Rattle.mig_live.specs.Underways.{ChangesWork, shifts_in, steps_in};
 
@@ -140,6 +141,9 @@ impl<'a> Live<'a> {
         ensures task { IfOk result (λ live. live.task ≡ self.entry.task) }
         ensures left { IfOk result (λ live. live.left + 1 ≡ self.entry.left) }
         ensures marked { IfOk result (λ live. live.marked ≡ (if is_synced self.entry then self.entry.marked + 1 else self.entry.marked)) }
+        // It is the first of the steps that are left; where it fails, a part of it may have been made.
+        ensures made { IfOk result (λ live. (a : Action) × (actions_left self.entry ≡ a ∷ actions_left live) × IsMade a (S.state store.old) (S.state store.new)) }
+        ensures part { AreMadeInPart [] (take 1 (actions_left self.entry)) (S.state store.old) (S.state store.new) }
         ensures any_moment { (asked : Bool) (contents : Contents) → InStep asked self.entry contents (S.state store.old) →
             LeavesOnly (IsSound asked self.entry.task.input self.entry.task.plan self.entry.task.digest contents) (S.state store.old) (S.state store.new) }
         ensures in_step { IfOk result (λ live. (asked : Bool) (contents : Contents) → InStep asked self.entry contents (S.state store.old) → InStep asked live contents (S.state store.new)) }
@@ -175,6 +179,9 @@ impl<'a> Live<'a> {
         requires { flights (S.state store.old) ≡ [] }
         ensures task { IfOk result (λ live. live.task ≡ self.entry.task) }
         ensures left { IfOk result (λ live. live.left ≡ self.entry.left - count) }
+        ensures rest { IfOk result (λ live. actions_left live ≡ drop count (actions_left self.entry)) }
+        ensures made { OnOk result (AreMade (take count (actions_left self.entry)) (S.state store.old) (S.state store.new)) }
+        ensures part { OnErr result (AreMadeInPart [] (take count (actions_left self.entry)) (S.state store.old) (S.state store.new)) }
         ensures any_moment { (asked : Bool) (contents : Contents) → InStep asked self.entry contents (S.state store.old) →
             LeavesOnly (IsSound asked self.entry.task.input self.entry.task.plan self.entry.task.digest contents) (S.state store.old) (S.state store.new) }
         ensures in_step { IfOk result (λ live. (asked : Bool) (contents : Contents) → InStep asked self.entry contents (S.state store.old) → InStep asked live contents (S.state store.new)) }

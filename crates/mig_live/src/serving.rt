@@ -1,12 +1,13 @@
 //! Orders that are carried out one after the other, with a reply to each read.
-ghost use Rattle.std.specs.Prelude.{◌≡◌, ◌-◌, ◌<◌, ◌≤◌, ◌∷◌, Bool, ℕ, [], All, IfErr, IfOk, OnOk, length};
+ghost use Rattle.std.specs.Prelude.{◌≡◌, ◌-◌, ◌<◌, ◌≤◌, ◌∷◌, Bool, ℕ, [], All, IfErr, IfOk, OnOk, drop, length, take};
 ghost use Rattle.hex.specs.Hex.{encode_lower};
 ghost use Rattle.mig_base.specs.Safety.{Contents, IsSound};
 ghost use Rattle.mig_base.specs.Stores.{State, flights, Looks, LeavesOnly};
 ghost use Rattle.mig_base.specs.Tasks.{Task, IsTask};
 ghost use Rattle.mig_base.specs.Texts.{text_of_lines, words};
+ghost use Rattle.mig_live.specs.Actions.{AreMade, actions_left};
 ghost use Rattle.mig_live.specs.Orders.{all_steps, steps_of, IsOrder};
-ghost use Rattle.mig_live.specs.Replies.{AreCutOff, ArePut, IsServeFault};
+ghost use Rattle.mig_live.specs.Replies.{AreCutOff, AreMadeUpTo, ArePut, ArePutUpTo, IsServeFault};
 ghost use Rattle.mig_live.specs.Sessions.{Session, InStep};
 ghost use Rattle.mig_live.specs.Underways.{ChangesWork};
 ghost use Rattle.mig_live.specs.declared.orders.Order.TheVariants.{Read};
@@ -78,7 +79,7 @@ fn reply<K: Sink, S: Store>(
 ) -> Result<(), ServeFault>
     requires item { item.0 < length live.now.task.input.items }
     ensures served { OnOk result (ArePut live.now (S.state store.old) (Read item ∷ []) (K.state out.old) (K.state out.new)) }
-    ensures cut_off { IfErr result (AreCutOff live.now (S.state store.old) (Read item ∷ []) (K.state out.old) (K.state out.new)) }
+    ensures put { IfErr result (ArePutUpTo live.now (S.state store.old) [] (Read item) (K.state out.old) (K.state out.new)) }
     ensures in_step { (asked : Bool) (contents : Contents) → InStep asked live.now contents (S.state store.old) → InStep asked live.now contents (S.state store.new) }
     ensures change { Looks (S.state store.old) (S.state store.new) }
     ensures later { (S.state store.old).faults ≤ (S.state store.new).faults }
@@ -104,7 +105,10 @@ fn carry_out<'a, K: Sink, S: Store>(
     ensures task { IfOk result (λ after. after.task ≡ live.entry.task) }
     ensures left { IfOk result (λ after. after.left ≡ live.entry.left - steps_of order) }
     ensures served { OnOk result (ArePut live.entry (S.state store.old) (order ∷ []) (K.state out.old) (K.state out.new)) }
-    ensures cut_off { IfErr result (AreCutOff live.entry (S.state store.old) (order ∷ []) (K.state out.old) (K.state out.new)) }
+    ensures rest { IfOk result (λ after. actions_left after ≡ drop (steps_of order) (actions_left live.entry)) }
+    ensures made { OnOk result (AreMade (take (steps_of order) (actions_left live.entry)) (S.state store.old) (S.state store.new)) }
+    ensures put { IfErr result (ArePutUpTo live.entry (S.state store.old) [] order (K.state out.old) (K.state out.new)) }
+    ensures part { IfErr result (AreMadeUpTo [] (take (steps_of order) (actions_left live.entry)) (S.state store.old) (S.state store.new)) }
     ensures in_step { IfOk result (λ after. (asked : Bool) (contents : Contents) → InStep asked live.entry contents (S.state store.old) → InStep asked after contents (S.state store.new)) }
     ensures any_moment { (asked : Bool) (contents : Contents) → InStep asked live.entry contents (S.state store.old) →
         LeavesOnly (IsSound asked live.entry.task.input live.entry.task.plan live.entry.task.digest contents) (S.state store.old) (S.state store.new) }
@@ -143,7 +147,8 @@ pub fn serve<'a, K: Sink, S: Store>(
     ensures task { IfOk result (λ after. after.task ≡ live.entry.task) }
     ensures left { IfOk result (λ after. after.left ≡ live.entry.left - all_steps orders.now) }
     ensures served { OnOk result (ArePut live.entry (S.state store.old) orders.now (K.state out.old) (K.state out.new)) }
-    ensures cut_off { IfErr result (AreCutOff live.entry (S.state store.old) orders.now (K.state out.old) (K.state out.new)) }
+    ensures made { OnOk result (AreMade (take (all_steps orders.now) (actions_left live.entry)) (S.state store.old) (S.state store.new)) }
+    ensures cut_off { IfErr result (AreCutOff live.entry (S.state store.old) (S.state store.new) orders.now (K.state out.old) (K.state out.new)) }
     ensures in_step { IfOk result (λ after. (asked : Bool) (contents : Contents) → InStep asked live.entry contents (S.state store.old) → InStep asked after contents (S.state store.new)) }
     ensures any_moment { (asked : Bool) (contents : Contents) → InStep asked live.entry contents (S.state store.old) →
         LeavesOnly (IsSound asked live.entry.task.input live.entry.task.plan live.entry.task.digest contents) (S.state store.old) (S.state store.new) }

@@ -1,13 +1,14 @@
 //! The steps of a round, one at a time.
-ghost use Rattle.std.specs.Prelude.{◌≡◌, ◌≢◌, ◌+◌, ◌<◌, ◌≤◌, Bool, ℕ, List, suc, [], IsTrue, OnOk, length};
-ghost use Rattle.mig_base.specs.declared.cells.Event.{Event};
+ghost use Rattle.std.specs.Prelude.{◌≡◌, ◌≢◌, ◌+◌, ◌<◌, ◌≤◌, ◌∷◌, Bool, ℕ, suc, [], IsTrue, OnOk, drop, length, take};
 ghost use Rattle.mig_base.specs.declared.limits.TheConstants.{MAX_FILE_BYTES};
 ghost use Rattle.mig_base.specs.Cells.{is_slot};
+ghost use Rattle.mig_base.specs.Flights.{began, ended};
 ghost use Rattle.mig_base.specs.Images.{IsCopy, NoCell};
 ghost use Rattle.mig_base.specs.Layouts.{round_at};
 ghost use Rattle.mig_base.specs.Safety.{Contents, IsSound};
 ghost use Rattle.mig_base.specs.Stores.{State, flights, Changes, ChangesOnly, LeavesOnly, IsSettled, HasCause};
 ghost use Rattle.mig_base.specs.Tasks.{Task};
+ghost use Rattle.mig_live.specs.Actions.{MakesFirst, actions_after, actions_since};
 ghost use Rattle.mig_live.specs.Underways.{ChangesWork, IsUnderway, IsAtStep, shifts_in, steps_in};
 
 use mig_base::Cell;
@@ -23,7 +24,8 @@ fn copy_slot<S: Store>(store: &mut S, from: &Cell, to: &Cell) -> Result<(), Stor
     requires none { flights (S.state store.old) ≡ [] }
     ensures copied { OnOk result (IsCopy ((S.state store.old).reads from.now) ((S.state store.new).reads to.now)) }
     ensures landed { OnOk result (flights (S.state store.new) ≡ []) }
-    ensures change { (added : List Event) × Changes (λ c. c ≡ to.now) (λ c. c ≡ to.now) added (S.state store.old) (S.state store.new) }
+    ensures made { OnOk result (Changes (λ c. c ≡ to.now) (λ c. c ≡ to.now) (began (record { from = from.now; to = to.now }) ∷ ended (record { from = from.now; to = to.now }) ∷ []) (S.state store.old) (S.state store.new)) }
+    ensures part { (n : ℕ) × Changes (λ c. c ≡ to.now) (λ c. c ≡ to.now) (take n (began (record { from = from.now; to = to.now }) ∷ ended (record { from = from.now; to = to.now }) ∷ [])) (S.state store.old) (S.state store.new) }
     ensures cause { HasCause (S.state store.old) (S.state store.new) result }
 {
     store.begin(from, to)?;
@@ -40,6 +42,7 @@ fn erase_next<S: Store>(job: &Job, store: &mut S, k: u32, place: u32) -> Result<
         LeavesOnly (IsSound asked job.now.input job.now.plan job.now.digest contents) (S.state store.old) (S.state store.new) }
     ensures done { OnOk result ((asked : Bool) (contents : Contents) → IsUnderway asked job.now.input job.now.plan job.now.digest contents (S.state store.old) k place 0 →
         IsUnderway asked job.now.input job.now.plan job.now.digest contents (S.state store.new) k (place + 1) 0) }
+    ensures first { MakesFirst (drop place (actions_since job.now k)) (drop (place + 1) (actions_since job.now k)) (S.state store.old) (S.state store.new) result }
     ensures landed { OnOk result (flights (S.state store.new) ≡ []) }
     ensures change { ChangesWork job.now.input job.now.plan (S.state store.old) (S.state store.new) }
     ensures cause { HasCause (S.state store.old) (S.state store.new) result }
@@ -58,6 +61,7 @@ fn copy_next<S: Store>(job: &Job, store: &mut S, k: u32, place: u32) -> Result<(
         LeavesOnly (IsSound asked job.now.input job.now.plan job.now.digest contents) (S.state store.old) (S.state store.new) }
     ensures done { OnOk result ((asked : Bool) (contents : Contents) (e : ℕ) → IsUnderway asked job.now.input job.now.plan job.now.digest contents (S.state store.old) k e place →
         IsUnderway asked job.now.input job.now.plan job.now.digest contents (S.state store.new) k e (place + 1)) }
+    ensures first { MakesFirst (drop place (actions_after job.now k)) (drop (place + 1) (actions_after job.now k)) (S.state store.old) (S.state store.new) result }
     ensures landed { OnOk result (flights (S.state store.new) ≡ []) }
     ensures change { ChangesWork job.now.input job.now.plan (S.state store.old) (S.state store.new) }
     ensures cause { HasCause (S.state store.old) (S.state store.new) result }
@@ -108,6 +112,7 @@ pub(crate) fn step_within<S: Store>(
         LeavesOnly (IsSound asked job.now.input job.now.plan job.now.digest contents) (S.state store.old) (S.state store.new) }
     ensures done { OnOk result ((asked : Bool) (contents : Contents) → IsAtStep asked job.now.input job.now.plan job.now.digest contents (S.state store.old) k p →
         IsAtStep asked job.now.input job.now.plan job.now.digest contents (S.state store.new) k (p + 1)) }
+    ensures first { MakesFirst (drop p (actions_since job.now k)) (drop (p + 1) (actions_since job.now k)) (S.state store.old) (S.state store.new) result }
     ensures landed { OnOk result (flights (S.state store.new) ≡ []) }
     ensures change { ChangesWork job.now.input job.now.plan (S.state store.old) (S.state store.new) }
     ensures cause { HasCause (S.state store.old) (S.state store.new) result }
@@ -136,6 +141,7 @@ pub(crate) fn mark_next<S: Store>(job: &Job, store: &mut S, k: u32) -> Result<()
         LeavesOnly (IsSound asked job.now.input job.now.plan job.now.digest contents) (S.state store.old) (S.state store.new) }
     ensures done { OnOk result ((asked : Bool) (contents : Contents) → IsAtStep asked job.now.input job.now.plan job.now.digest contents (S.state store.old) k (steps_in job.now.plan k) →
         IsAtStep asked job.now.input job.now.plan job.now.digest contents (S.state store.new) (k + 1) 0) }
+    ensures first { MakesFirst (drop (steps_in job.now.plan k) (actions_since job.now k)) (actions_since job.now (k + 1)) (S.state store.old) (S.state store.new) result }
     ensures landed { OnOk result (flights (S.state store.new) ≡ []) }
     ensures change { ChangesWork job.now.input job.now.plan (S.state store.old) (S.state store.new) }
     ensures cause { HasCause (S.state store.old) (S.state store.new) result }

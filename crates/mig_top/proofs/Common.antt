@@ -115,7 +115,7 @@ pub use Rattle.mig_top.specs.Bodies.{drain_texts_of, scripted_read}
 pub use Rattle.mig_top.specs.Common.{Drain, IsReached, IsSafeAfter, Keeps, Live, NoDisk, NoRoom, Order, ScriptLine, ScriptText, all_steps, joined, marks_by, replies}
 pub use Rattle.mig_top.specs.Common.{steps_after}
 pub use Rattle.mig_top.specs.Ends.{IsCut}
-pub use Rattle.mig_top.specs.live.Leaves.{AreOfScripted, IsCutOff, KeepsSound, LiveLeaves, ServesAll, WentOn}
+pub use Rattle.mig_top.specs.live.Leaves.{AreOfScripted, GoesOn, LiveLeaves, MakesAll, ServesAll, WentOn}
 pub use Rattle.mig_top.specs.live.Looks.{AreAnswers, Holds, IsServed, left_text, steps_left}
 pub use Rattle.mig_top.specs.live.Promise.{ServesWell}
 pub use Rattle.mig_top.specs.live.Reads.{AreScripted, IsNoScript, Scripted, reads_script, reads_scripted, scripted_in}

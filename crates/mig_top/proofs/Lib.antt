@@ -5,6 +5,7 @@ pub mod DrainHeadline
 pub mod DrainSaves
 pub mod EndsOf
 pub mod Exactness
+pub mod Following
 pub mod Forms
 pub mod Headline
 pub mod Layouts
@@ -13,6 +14,7 @@ pub mod LiveHeadline
 pub mod Plainly
 pub mod PlanSaves
 pub mod Rehearsing
+pub mod SessionEvents
 pub mod Steps
 pub mod StoreCommands
 pub mod StoreEnds

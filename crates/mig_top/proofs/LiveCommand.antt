@@ -1,24 +1,100 @@
 -- How `live` ends.
-use Rattle.mig_top.proofs.Common.{AreAnswers, AreOfScripted, Bool, Call, Contents, Done, Extends, ExtendsInPart, FormEndsAs, Image, IsFault, IsJobCell, IsReached, IsResumable, IsResumeFault}
-use Rattle.mig_top.proofs.Common.{IsResumeRefusal, IsSafeAfter, IsServed, IsSettled, IsSound, Keeps, KeepsSound, LeavesOnly, List, Live, MoveFault, Names, Order, Rose, Scripted, ServesAll}
-use Rattle.mig_top.proofs.Common.{SettlesTo, Shows, SinkFault, SinkState, State, Step, StoreFault, Task, Tells, Untouched, WentOn, WorldEnds, after, all_steps, ap, arith, codes, drop}
-use Rattle.mig_top.proofs.Common.{fault_outcome, finds, inl, inr, leaves_then, left_text, length, marks_by, refl, replies, resumes, scripted_in, steps_after, steps_left, subst, sym, take}
-use Rattle.mig_top.proofs.Common.{then_begins, then_extends, true, ℕ, ⊎_elim, ◌++◌, ◌+◌, ◌-◌, ◌∙◌, ◌≡◌, ◌≤◌}
+use Rattle.mig_top.proofs.Common.{Adds, AreAnswers, AreOfScripted, BeginsRun, Bool, Call, Carries, Cell, Contents, Done, Event, Extends, ExtendsInPart, FormEndsAs, Gate, GoesOn, IfSome, Image, IsFault, IsInput}
+use Rattle.mig_top.proofs.Common.{IsJobCell, IsReached, IsResumable, IsResumeFault, IsResumeRefusal, IsSafeAfter, IsServed, IsSettled, IsSome, IsSound, IsTargetOf, Keeps, LeavesOnly, List, Live, MakesAll, MoveFault}
+use Rattle.mig_top.proofs.Common.{Names, None, Option, Order, Rose, Runs, Scripted, ServesAll, SettlesTo, Shows, SinkFault, SinkState, Some, State, StaysArmed, Step, StoreFault, Task, Tells, Untouched, WentOn}
+use Rattle.mig_top.proofs.Common.{WorldEnds, [], after, all_steps, ap, append_assoc, arith, changes_then, changes_wider, codes, count_most, count_of, drop, false≢true, fault_outcome, finds, flights, inl, inr, is_armed}
+use Rattle.mig_top.proofs.Common.{is_one, leaves_then, left_text, length, length-append, marks_by, option_map, refl, replies, resumes, scripted_in, steps_after, steps_left, subst, sym, take, then_begins, then_extends}
+use Rattle.mig_top.proofs.Common.{true, ℕ, ⊎_elim, ◌++◌, ◌+◌, ◌-◌, ◌∙◌, ◌∷◌, ◌≡◌, ◌≤◌, ◌⊎◌}
+use Rattle.mig_base.proofs.StoreSteps.{changes_leave}
+use Rattle.mig_base.specs.JobCells.{IsWorkCell}
+use Rattle.mig_base.specs.RoundEvents.{IsRun}
+use Rattle.mig_io.specs.Held.{ExtendsByPrefix}
+use Rattle.mig_live.proofs.ActionLaws.{past_erasures}
+use Rattle.mig_live.specs.Actions.{Action, AreMade, AreMadeInPart, actions_after, actions_left, all_events}
+use Rattle.mig_live.specs.Orders.{steps_of}
 use Rattle.mig_live.specs.Replies.{AreCutOff, ArePut, AreReplies}
-use Rattle.mig_live.specs.Sessions.{InStep, Session}
+use Rattle.mig_live.specs.Sessions.{InStep, Session, done_in}
+use Rattle.mig_live.specs.Underways.{ChangesWork}
 use Rattle.mig_live.specs.declared.serving.ServeFault.TheVariants as serve_fault
+use Rattle.mig_mover.proofs.Settling.{armed_told}
 use Rattle.mig_mover.specs.declared.faults.MoveFault.TheVariants as fault
 use Rattle.mig_top.proofs.EndsOf.{shown}
+use Rattle.mig_top.proofs.SessionEvents.{made_of_all, part_of_all, refused_events, refused_slots, session_events, session_slots, stopped_events, whole_events, whole_landed}
 use Rattle.mig_top.proofs.StoreCommands.{rest_cause, shown_by}
+use Rattle.mig_top.specs.Stores.{HasFound}
+use Rattle.std.proofs.Math.Seq.{take-append-add}
 
 -- what is left of it once its files are read
 abbrev pub live_rest : State → Scripted → Step (List ℕ)
 live_rest store read = after (resumes read.task store) (λ found. finds (IsServed read store found))
 
-pub keeps_sound : (task : Task) (old new : State) → Keeps task old new → KeepsSound task old new
-keeps_sound task old new keeps = λ asked contents held. keeps.sound asked contents held.0 held.1
+-- Cells
 
-module _ (k : Call) (names : Names) (script : List ℕ) (same : Untouched k.before.folder k.after.folder) (read : Scripted) (are : AreOfScripted k.before.folder names script read) where
+work_job : (task : Task) (cell : Cell) → IsWorkCell task.input task.plan cell → IsJobCell task.input task.plan cell
+work_job task cell (inl mark) = inl (inr (inr mark))
+work_job task cell (inr slot) = inr slot
+
+gate_no_work : (task : Task) → IsWorkCell task.input task.plan Gate → ⊥
+gate_no_work task (inl mark) = let e = mark.3 in cc
+gate_no_work task (inr slot) = let e = slot.2 in cc
+
+settles_now : (P : Image → Type 0) (s : State) → SettlesTo P s → P s.reads
+settles_now P s (inl now) = now.0
+settles_now P s (inr told) = told.0 s.reads told.1
+
+-- a plan that is entered, and steps that change what rounds may change
+module _ (task : Task) (old mid new : State) (keeps : Keeps task old mid) (stays : StaysArmed old mid) (gate : IsSome (old.reads Gate) → (image : Image) → mid.may_leave image → is_armed image ≡ true)
+    (moment : (asked : Bool) (contents : Contents) → Tells (IsJobCell task.input task.plan) old.reads → SettlesTo (IsSound asked task.input task.plan task.digest contents) old
+    → LeavesOnly (IsSound asked task.input task.plan task.digest contents) mid new)
+    (work : ChangesWork task.input task.plan mid new) (later : mid.faults ≤ new.faults) where
+  abbrev Armed : Image → Type 0
+  Armed image = is_armed image ≡ true
+
+  abbrev Job : Cell → Type 0
+  Job = IsJobCell task.input task.plan
+
+  abbrev Work : Cell → Type 0
+  Work = IsWorkCell task.input task.plan
+
+  session_armed : IsSome (old.reads Gate) → (image : Image) → new.may_leave image → is_armed image ≡ true
+  session_armed told image left =
+      let from = work.1.crash image left in
+      ap is_one (from.2.same Gate (gate_no_work task)) ∙ gate told from.0 from.1
+
+  session_carries : Carries task old new
+  session_carries = record {
+    keeps = record {
+      sound = λ asked contents tells before. leaves_then (IsSound asked task.input task.plan task.digest contents) old mid new (keeps.sound asked contents tells before) (moment asked contents tells before);
+      ready = λ tells before. leaves_then _ old mid new (keeps.ready tells before)
+          (changes_leave _ Work Work work.0 mid new work.1
+          (λ from image left same idle. absurd (false≢true (sym idle ∙ ap is_one (same.same Gate (gate_no_work task)) ∙ gate (tells Gate (inl (inr (inl refl)))) from left))));
+      change = (
+        keeps.change.0 ++ work.0,
+        changes_then (λ cell. IsTargetOf (flights old) cell ⊎ Job cell) Job keeps.change.0 work.0 old mid new keeps.change.1
+            (changes_wider (λ cell. IsTargetOf (flights old) cell ⊎ Job cell) Job Work Work (λ cell of. inr (work_job task cell of)) (work_job task) work.0 mid new work.1),
+      );
+      later = omega (arith, keeps.later, later);
+    };
+    armed = λ before. leaves_then Armed old mid new (stays before)
+        (changes_leave Armed Work Work work.0 mid new work.1 (λ from image left same. ap is_one (same.same Gate (gate_no_work task)) ∙ gate (armed_told old.reads (settles_now Armed old before)) from left));
+  }
+
+-- a beginning of a text that follows others is one of both
+begun_both : (answers next : List ℕ) (old new : Option (List ℕ)) → IfSome old (λ held. ExtendsByPrefix next (held ++ answers) new) → IfSome old (λ held. ExtendsByPrefix (answers ++ next) held new)
+begun_both answers next None new h = tt
+begun_both answers next (Some held) new (n, le, is) = (
+  length answers + n,
+  omega (arith, le, length-append answers next),
+  is ∙ ap (λ (l : List ℕ). Some l) (append_assoc held answers (take n next) ∙ ap (λ (l : List ℕ). held ++ l) (sym (take-append-add answers next n))),
+)
+
+-- at its beginning a session has the steps after the marked rounds left
+left_begun : (live : Session) (task : Task) → live.task ≡ task → live.left ≡ steps_after task.plan live.marked → actions_left live ≡ actions_after task live.marked
+left_begun live task it left =
+    past_erasures live.task live.marked (done_in live) 0 (omega (arith, left, ap (λ (t : Task). steps_after t.plan live.marked) it)) ∙ ap (λ (t : Task). actions_after t live.marked) it
+
+module _ (k : Call) (names : Names) (script : List ℕ) (same : Untouched k.before.folder k.after.folder) (read : Scripted) (are : AreOfScripted k.before.folder names script read)
+    (valid : IsInput read.task.input) (runs : Runs read.task.input read.task.plan) where
   abbrev old : State
   old = k.before.store
 
@@ -26,85 +102,174 @@ module _ (k : Call) (names : Names) (script : List ℕ) (same : Untouched k.befo
   new = k.after.store
 
   -- the plan isn't entered
-  pub live_refused : Keeps read.task old new → (f : MoveFault) → IsFault read.task old new f → IsResumeFault f → WorldEnds k (Live names script) (fault_outcome read.task.input f)
-  live_refused keeps fault.Store h kind =
-      record { cause = (h, (read, are, (0, λ asked contents held. refl))); leaves = same; store = (read, are, keeps_sound read.task old new keeps) }
-  live_refused keeps fault.NotStarted h kind = absurd kind
-  live_refused keeps fault.Started h kind = absurd kind
-  live_refused keeps f h kind = record {
-    cause = rest_cause k (scripted_in names script) (live_rest old) read are (fault_outcome read.task.input f) (inl (shown_by k read.task.input f h.0 (IsResumeRefusal read.task) h.1));
-    leaves = same;
-    store = (read, are, (keeps_sound read.task old new keeps, h.0));
-  }
+  module _ (keeps : Keeps read.task old new) (stays : StaysArmed old new) (part : Adds (BeginsRun (flights old) []) old new) where
+    goes_refused : GoesOn read.task old new (count_of (length read.task.plan) old.reads)
+    goes_refused = record {
+      carries = record { keeps = keeps; armed = stays };
+      found = record { most = count_most (length read.task.plan) old.reads; found = λ tells are. refl };
+      events = refused_events read.task valid runs (count_of (length read.task.plan) old.reads) old new part;
+      slots = refused_slots read.task valid runs (count_of (length read.task.plan) old.reads) old new part keeps.change.0 keeps.change.1.events;
+    }
+
+    pub live_refused : (f : MoveFault) → IsFault read.task old new f → IsResumeFault f → WorldEnds k (Live names script) (fault_outcome read.task.input f)
+    live_refused fault.Store h kind = record { cause = (h, tt); leaves = same; store = (read, are, (count_of (length read.task.plan) old.reads, goes_refused, inl (refl, part))) }
+    live_refused fault.NotStarted h kind = absurd kind
+    live_refused fault.Started h kind = absurd kind
+    live_refused f h kind = record {
+      cause = rest_cause k (scripted_in names script) (live_rest old) read are (fault_outcome read.task.input f) (inl (shown_by k read.task.input f h.0 (IsResumeRefusal read.task) h.1));
+      leaves = same;
+      store = (read, are, (count_of (length read.task.plan) old.reads, goes_refused, h.0));
+    }
 
   -- it is entered, and orders are carried out
-  module _ (mid : State) (live : Session) (it : live.task ≡ read.task) (keeps : Keeps read.task old mid)
+  module _ (mid : State) (live : Session) (it : live.task ≡ read.task) (left : live.left ≡ steps_after read.task.plan live.marked) (keeps : Keeps read.task old mid) (stays : StaysArmed old mid)
+      (gate : IsSome (old.reads Gate) → (image : Image) → mid.may_leave image → is_armed image ≡ true) (ended : Adds (IsRun (flights old) []) old mid) (landed : flights mid ≡ [])
+      (found : HasFound read.task old live.marked)
       (in_step : (asked : Bool) (contents : Contents) → Tells (IsJobCell read.task.input read.task.plan) old.reads
       → SettlesTo (IsSound asked read.task.input read.task.plan read.task.digest contents) old → InStep asked live contents mid)
-      (serves : (asked : Bool) (contents : Contents) → InStep asked live contents mid → LeavesOnly (IsSound asked live.task.input live.task.plan live.task.digest contents) mid new) where
+      (serves : (asked : Bool) (contents : Contents) → InStep asked live contents mid → LeavesOnly (IsSound asked live.task.input live.task.plan live.task.digest contents) mid new)
+      (work : ChangesWork live.task.input live.task.plan mid new) (on : mid.faults ≤ new.faults) where
     abbrev Sound : Bool → Contents → Task → Image → Type 0
     Sound asked contents task = IsSound asked task.input task.plan task.digest contents
 
-    kept : KeepsSound read.task old new
-    kept = λ asked contents held. leaves_then (Sound asked contents read.task) old mid new (keeps.sound asked contents held.0 held.1)
-        (subst (λ (t : Task). LeavesOnly (Sound asked contents t) mid new) it (serves asked contents (in_step asked contents held.0 held.1)))
+    work_here : ChangesWork read.task.input read.task.plan mid new
+    work_here = subst (λ (t : Task). ChangesWork t.input t.plan mid new) it work
+
+    moment : (asked : Bool) (contents : Contents) → Tells (IsJobCell read.task.input read.task.plan) old.reads → SettlesTo (IsSound asked read.task.input read.task.plan read.task.digest contents) old
+        → LeavesOnly (IsSound asked read.task.input read.task.plan read.task.digest contents) mid new
+    moment asked contents tells before = subst (λ (t : Task). LeavesOnly (Sound asked contents t) mid new) it (serves asked contents (in_step asked contents tells before))
+
+    carries : Carries read.task old new
+    carries = session_carries read.task old mid new keeps stays gate moment work_here on
 
     answers : (orders : List Order) (text : List ℕ) → AreReplies live mid orders text → AreAnswers read.task old orders text
     answers orders text replied = λ asked contents held. replied asked contents (in_step asked contents held.0 held.1) ∙ ap (λ (t : Task). replies t.input contents orders) it
 
-    -- the sink failed at a reply
-    pub live_unput : AreCutOff live mid read.orders k.before.sink k.after.sink serve_fault.Sink → Rose k.before.sink.faults k.after.sink.faults → FormEndsAs k (Live names script) 6
-    live_unput (n, text, replied, part) rose = record {
-      outcome = SinkFault text;
-      is = refl;
-      so = (rose, inr (record { cause = (read, are, (n, answers (take n read.orders) text replied)); leaves = same; store = (read, are, kept) }));
-      says = record { begun = part; whole = λ fine. absurd (fine rose); done = λ zero. absurd (omega (arith, zero)) };
+    abbrev all : List Action
+    all = actions_after read.task live.marked
+
+    these : actions_left live ≡ actions_after read.task live.marked
+    these = left_begun live read.task it left
+
+    goes : (b more : List Event) → b ++ more ≡ all_events all → new.events ≡ option_map (λ before. before ++ b) mid.events → GoesOn read.task old new live.marked
+    goes b more is steps = record {
+      carries = carries;
+      found = found;
+      events = session_events read.task valid runs live.marked old mid new ended landed b more is steps;
+      slots = session_slots read.task valid runs live.marked old mid new ended landed b more is steps carries.keeps.change.0 carries.keeps.change.1.events;
     }
+
+    makes : (orders : List Order) → AreMade (take (all_steps orders) (actions_left live)) mid new → MakesAll read orders old new live.marked
+    makes orders made = record {
+      goes = goes (all_events (take (all_steps orders) all)) (all_events (drop (all_steps orders) all)) (made_of_all (all_steps orders) all) here.events;
+      events = whole_events read.task valid runs live.marked old mid new ended landed (take (all_steps orders) all) here.events;
+      landed = whole_landed mid new (take (all_steps orders) all) landed here.events;
+      armed = session_armed read.task old mid new keeps stays gate moment work_here on;
+    }
+      where
+        here : AreMade (take (all_steps orders) (actions_after read.task live.marked)) mid new
+        here = subst (λ (l : List Action). AreMade (take (all_steps orders) l) mid new) these made
+
+    -- the sink failed at a reply
+    pub live_unput : AreCutOff live mid new read.orders k.before.sink k.after.sink serve_fault.Sink → Rose k.before.sink.faults k.after.sink.faults → FormEndsAs k (Live names script) 6
+    live_unput cut rose =
+        let (item, is, (text, next, replied, reply, put)) = cut.put in
+        record {
+          outcome = SinkFault (text ++ next);
+          is = refl;
+          so = (
+            rose,
+            inr (record {
+              cause = tt;
+              leaves = same;
+              store = (
+                read,
+                are,
+                (
+                  live.marked,
+                  record {
+                    whole = cut.whole;
+                    item = item;
+                    at = cut.at ∙ ap (λ (o : Order). Some o) is;
+                    makes = makes (take cut.whole read.orders) cut.made;
+                    answers = text;
+                    next = next;
+                    replied = answers (take cut.whole read.orders) text replied;
+                    reply = subst (λ (o : Order). AreAnswers read.task old (o ∷ []) next) is (answers (cut.order ∷ []) next reply);
+                    is = refl;
+                    put = put;
+                  },
+                ),
+              );
+            }),
+          );
+          says = record { begun = begun_both text next k.before.sink.held k.after.sink.held put; whole = λ fine. absurd (fine rose); done = λ zero. absurd (omega (arith, zero)) };
+        }
 
     module _ (out : SinkState) (later : k.before.sink.faults ≤ out.faults) {status : ℕ} where
       -- the store failed at an order, and that was told
-      pub live_failed : AreCutOff live mid read.orders k.before.sink out serve_fault.Store → Rose old.faults new.faults → status ≡ 5
+      pub live_failed : AreCutOff live mid new read.orders k.before.sink out serve_fault.Store → Rose old.faults new.faults → status ≡ 5
           → ExtendsInPart (codes "store fault\n") out k.after.sink → ((Rose out.faults k.after.sink.faults → ⊥) → Extends (codes "store fault\n") out k.after.sink)
           → FormEndsAs k (Live names script) status
-      live_failed (n, (text, replied, put)) rose is begun whole = record {
-        outcome = StoreFault text;
-        is = is;
-        so = record { cause = (rose, (read, are, (n, answers (take n read.orders) text replied))); leaves = same; store = (read, are, kept) };
-        says = record {
-          begun = then_begins text (codes "store fault\n") k.before.sink out k.after.sink put begun;
-          whole = λ fine. then_extends text (codes "store fault\n") k.before.sink out k.after.sink put (whole (λ rose. fine (omega (arith, later, rose))));
-          done = λ zero. absurd (omega (arith, zero));
-        };
-      }
+      live_failed cut rose is begun whole =
+          let (text, replied, put) = cut.put in
+          let m = all_steps (take cut.whole read.orders) in
+          let p = subst (λ (l : List Action). AreMadeInPart (take m l) (take (steps_of cut.order) (drop m l)) mid new) these cut.made in
+          record {
+            outcome = StoreFault text;
+            is = is;
+            so = record {
+              cause = (rose, tt);
+              leaves = same;
+              store = (
+                read,
+                are,
+                (
+                  live.marked,
+                  goes (all_events (take m all ++ p.made) ++ take p.events (all_events p.begun)) (drop p.events (all_events p.begun) ++ (all_events p.left ++ all_events (drop (steps_of cut.order) (drop m all))))
+                      (part_of_all m (steps_of cut.order) all mid new p) p.change.events,
+                  inr (record {
+                    whole = cut.whole;
+                    order = cut.order;
+                    at = cut.at;
+                    replied = answers (take cut.whole read.orders) text replied;
+                    events = stopped_events read.task valid runs live.marked old mid new ended landed (take m all) (take (steps_of cut.order) (drop m all)) p;
+                  }),
+                ),
+              );
+            };
+            says = record {
+              begun = then_begins text (codes "store fault\n") k.before.sink out k.after.sink put begun;
+              whole = λ fine. then_extends text (codes "store fault\n") k.before.sink out k.after.sink put (whole (λ rose. fine (omega (arith, later, rose))));
+              done = λ zero. absurd (omega (arith, zero));
+            };
+          }
 
       -- each was carried out, and it is put how many steps are left
       pub live_done : IsResumable read.task old live.marked → ((contents : Contents) → InStep true live contents mid → WentOn read contents new live.marked)
-          → ArePut live mid read.orders k.before.sink out → Shows (left_text (steps_left read live.marked)) out k.after.sink status → FormEndsAs k (Live names script) status
-      live_done resumable went (text, replied, put) after = shown (text ++ left) ends (record {
+          → AreMade (take (all_steps read.orders) (actions_left live)) mid new → ArePut live mid read.orders k.before.sink out → Shows (left_text (steps_left read live.marked)) out k.after.sink status
+          → FormEndsAs k (Live names script) status
+      live_done resumable went made (text, replied, put) after = shown (text ++ last) ends (record {
         status = ⊎_elim (λ is. inl is) (λ failed. let rose = failed.1 in inr (failed.0, omega (arith, later, rose))) after.status;
-        begun = then_begins text left k.before.sink out k.after.sink put after.begun;
-        done = λ is. then_extends text left k.before.sink out k.after.sink put (after.done is);
+        begun = then_begins text last k.before.sink out k.after.sink put after.begun;
+        done = λ is. then_extends text last k.before.sink out k.after.sink put (after.done is);
         later = omega (arith, later, after.later);
       })
         where
-          left : List ℕ
-          left = left_text (steps_left read live.marked)
+          last : List ℕ
+          last = left_text (steps_left read live.marked)
 
-          is : IsServed read old live.marked (text ++ left)
+          is : IsServed read old live.marked (text ++ last)
           is = (text, answers read.orders text replied, refl)
 
-          all : ServesAll read old new live.marked
-          all = record {
-            keeps = kept;
-            found = record { most = resumable.most; found = resumable.found };
-            went = λ contents held. went contents (in_step true contents held.0 held.1);
-          }
+          served : ServesAll read old new live.marked
+          served = record { makes = makes read.orders made; went = λ contents held. went contents (in_step true contents held.0 held.1) }
 
-          ends : WorldEnds k (Live names script) (Done (text ++ left))
+          ends : WorldEnds k (Live names script) (Done (text ++ last))
           ends = record {
-            cause = rest_cause k (scripted_in names script) (live_rest old) read are (Done (text ++ left)) (live.marked, resumable, is);
+            cause = rest_cause k (scripted_in names script) (live_rest old) read are (Done (text ++ last)) (live.marked, resumable, is);
             leaves = same;
-            store = (read, are, (live.marked, all, is));
+            store = (read, are, (live.marked, served, is));
           }
 
 -- where a session is after its orders

@@ -1,17 +1,21 @@
 -- What `live` promises, from the causes of its outcomes and what it leaves.
-use Rattle.mig_top.proofs.Common.{AreOfScripted, Bool, Call, Contents, Done, EndsAs, Extends, Files, FolderFailed, Found, Image, IsJobCell, IsListed, IsOrNotPut, IsServed, IsSound, IsState}
-use Rattle.mig_top.proofs.Common.{IsUntouched, KeepsSound, List, Live, LiveLeaves, Names, Outcome, Refusal, ResumesInFlight, ResumesWell, Says, Scripted, ServesAll, ServesWell, SinkFailed}
-use Rattle.mig_top.proofs.Common.{SinkFault, Some, State, StoreFailed, StoreFault, Tells, WorldEnds, ap, arith, code, count_most, count_of, inl, inr, left_text, length, refl, resumes}
-use Rattle.mig_top.proofs.Common.{scripted_in, steps_left, subst, sym, ℕ, ⊎_elim, ◌++◌, ◌∙◌, ◌≡◌, ◌⊎◌}
+use Rattle.mig_top.proofs.Common.{AreOfScripted, Bool, Call, Cell, Contents, Done, EndsAs, Extends, Files, FolderFailed, Found, Gate, GoesOn, Holds, Image, IsInput, IsJobCell, IsListed, IsMoving}
+use Rattle.mig_top.proofs.Common.{IsOrNotPut, IsReadyIdle, IsServed, IsSome, IsSound, IsState, IsTargetOf, IsUntouched, LeavesOnly, List, Live, LiveLeaves, MakesAll, Names, NoCell, Order, Outcome}
+use Rattle.mig_top.proofs.Common.{Refusal, ResumesInFlight, ResumesWell, Runs, Says, Scripted, ServesAll, ServesWell, SinkFailed, SinkFault, Some, State, StoreFailed, StoreFault, WentOn, WorldEnds, []}
+use Rattle.mig_top.proofs.Common.{ap, arith, changes_wider, code, count_most, count_of, events_none, flights, inl, inr, is_armed, left_text, length, refl, replies, resumes, scripted_in, steps_left, subst}
+use Rattle.mig_top.proofs.Common.{sym, take, told_kept, true, ℕ, ⊎_elim, ◌++◌, ◌∙◌, ◌≡◌, ◌⊎◌}
 use Rattle.mig_top.proofs.EndsOf.{ends_of, finding_apart, refusal_between, told_at}
 use Rattle.mig_top.proofs.Exactness.{is_scripted, scripted_exact}
 use Rattle.mig_top.proofs.LiveCommand.{live_rest}
+use Rattle.mig_top.proofs.SessionEvents.{refused_events, refused_slots, within_kept}
+use Rattle.mig_top.proofs.StoreEnds.{untouched_looks}
 use Rattle.mig_top.proofs.StoreExact.{resumes_exact}
 use Rattle.mig_top.proofs.Steps.{follow, only_done}
-use Rattle.mig_top.proofs.TaskHeadline.{is_resumable, leaves_same, no_resume_refusal, status_so}
+use Rattle.mig_top.proofs.TaskHeadline.{by_untouched, is_resumable, leaves_same, no_resume_refusal, status_so}
+use Rattle.mig_top.specs.live.Promise.{MayGoOn}
 use Rattle.mig_words.specs.declared.endings.StoreRefusal.TheVariants as refusal
 
-module _ {k : Call} {words : List (List ℕ)} {status : ℕ} (ends : EndsAs k words status) (law : IsState k.before.store) (files : Files) (names : Names) (script : List ℕ) (read : Scripted)
+module _ {k : Call} {words : List (List ℕ)} {status : ℕ} (ends : EndsAs k words status) (law : IsState k.before.store) (last : IsState k.after.store) (files : Files) (names : Names) (script : List ℕ) (read : Scripted)
     (is : k.before.folder.files ≡ Some files) (holds : (scripted_in names script files).Passes read) (l : IsListed words (Live names script)) where
   abbrev old : State
   old = k.before.store
@@ -23,64 +27,112 @@ module _ {k : Call} {words : List (List ℕ)} {status : ℕ} (ends : EndsAs k wo
   same : (r : Scripted) → AreOfScripted k.before.folder names script r → r ≡ read
   same r are = (scripted_exact names script files).one_found r read (told_at (λ f. (scripted_in names script f).Passes r) k.before.folder.files files is are) holds
 
+  valid : IsInput read.task.input × Runs read.task.input read.task.plan
+  valid = is_scripted files names script read holds
+
   -- What is left, by outcome
 
-  untouched_sound : IsUntouched old new → KeepsSound read.task old new
-  untouched_sound kept = λ asked contents held. leaves_same (IsSound asked read.task.input read.task.plan read.task.digest contents) old new kept
-
-  of_this : (r : Scripted) → AreOfScripted k.before.folder names script r → KeepsSound r.task old new → KeepsSound read.task old new
-  of_this r are = subst (λ (s : Scripted). KeepsSound s.task old new) (same r are)
-
-  kept : (o : Outcome) → LiveLeaves k.before.folder old new names script o → KeepsSound read.task old new
-  kept (Done text) h = of_this h.0 h.1 h.2.1.keeps
-  kept (SinkFault text) h = of_this h.0 h.1 h.2
-  kept (StoreFault before) h = of_this h.0 h.1 h.2
-  kept (Refusal refusal.NotStarted) h = untouched_sound h
-  kept (Refusal r) h = of_this h.0 h.1 h.2.0
-  kept o h = untouched_sound h
-
-  safe : KeepsSound read.task old new → (asked : Bool) (contents : Contents) → Tells (IsJobCell read.task.input read.task.plan) old.reads → old.may_leave old.reads
-      → ((image : Image) → old.may_leave image → IsSound asked read.task.input read.task.plan read.task.digest contents image)
-      → (image : Image) → new.left_since old.moment image → IsSound asked read.task.input read.task.plan read.task.digest contents image
-  safe keeps asked contents tells images all image left =
-      ⊎_elim (λ past. all image (law.only_now image past)) (λ sound. sound) ((keeps asked contents (tells, inr (all, images))).since old.moment image (omega arith) left)
-
-  -- with another status than 0
-  undone : KeepsSound read.task old new → (status ≡ 0 → ⊥) → ServesWell k read status
-  undone keeps not = record {
-    safe = safe keeps;
-    rounds = count_of (length read.task.plan) old.reads;
+  untouched_goes : IsUntouched old new → GoesOn read.task old new (count_of (length read.task.plan) old.reads)
+  untouched_goes kept = record {
+    carries = record {
+      keeps = record {
+        sound = λ asked contents tells before. leaves_same _ old new kept;
+        ready = λ tells before. leaves_same _ old new kept;
+        change = ([], changes_wider (λ cell. IsTargetOf (flights old) cell ⊎ IsJobCell read.task.input read.task.plan cell) (IsJobCell read.task.input read.task.plan) (IsMoving old) NoCell (λ cell moving. inl moving.1) (λ cell none. absurd none) [] old new (untouched_looks old new kept));
+        later = omega (arith, kept.faults);
+      };
+      armed = λ before. leaves_same _ old new kept;
+    };
     found = record { most = count_most (length read.task.plan) old.reads; found = λ tells are. refl };
-    told = λ zero. absurd (not zero);
-    went = λ zero. absurd (not zero);
+    events = refused_events read.task valid.0 valid.1 (count_of (length read.task.plan) old.reads) old new (by_untouched old new law kept).ended;
+    slots = refused_slots read.task valid.0 valid.1 (count_of (length read.task.plan) old.reads) old new (by_untouched old new law kept).ended [] (kept.events ∙ events_none old.events);
   }
+
+  abbrev Goes : Type 0
+  Goes = (n : ℕ) × GoesOn read.task old new n
+
+  of_this : (r : Scripted) → AreOfScripted k.before.folder names script r → (n : ℕ) → GoesOn r.task old new n → Goes
+  of_this r are n h = (n, subst (λ (s : Scripted). GoesOn s.task old new n) (same r are) h)
+
+  goes : (o : Outcome) → LiveLeaves k names script o → Goes
+  goes (Done text) h = of_this h.0 h.1 h.2.0 h.2.1.makes.goes
+  goes (SinkFault text) h = of_this h.0 h.1 h.2.0 h.2.1.makes.goes
+  goes (StoreFault before) h = of_this h.0 h.1 h.2.0 h.2.1
+  goes (Refusal refusal.NotStarted) h = (count_of (length read.task.plan) old.reads, untouched_goes h)
+  goes (Refusal r) h = of_this h.0 h.1 h.2.0 h.2.1
+  goes o h = (count_of (length read.task.plan) old.reads, untouched_goes h)
+
+  module _ (n : ℕ) (g : GoesOn read.task old new n) where
+    since : (P : Image → Type 0) → LeavesOnly P old new → ((image : Image) → old.may_leave image → P image) → (image : Image) → new.left_since old.moment image → P image
+    since P leaves all image left = ⊎_elim (λ past. all image (law.only_now image past)) (λ p. p) (leaves.since old.moment image (omega arith) left)
+
+    -- what a crash may leave now it might have left since the beginning
+    now_since : (image : Image) → new.may_leave image → new.left_since old.moment image
+    now_since image left = last.counts_now old.moment image g.carries.keeps.change.1.time.later left
+
+    again : (contents : Contents) → MayGoOn read.task contents old → MayGoOn read.task contents new
+    again contents may =
+        let change = g.carries.keeps.change.1 in
+        let tells = λ (cell : Cell). told_kept _ old.reads new.reads change.told cell in
+        record {
+          ready = record {
+            cells = λ cell of. tells cell (may.ready.cells cell of);
+            images = change.images may.ready.images;
+            slots = g.slots may.ready.slots;
+            ready = λ image left. since (IsReadyIdle read.task) (g.carries.keeps.ready may.ready.cells (inr (may.ready.ready, may.ready.images))) may.ready.ready image (now_since image left);
+          };
+          cells = λ cell of. tells cell (may.cells cell of);
+          sound = λ image left. since (IsSound true read.task.input read.task.plan read.task.digest contents) (g.carries.keeps.sound true contents may.ready.cells (inr (may.sound, may.ready.images))) may.sound image (now_since image left);
+          within = within_kept read.task n old new g.carries.keeps.change.0 change.events g.events may.within;
+        }
+
+    well : ((status ≡ 0) ⊎ (status ≡ 6) → (flights new ≡ []) × (IsSome (old.reads Gate) → (image : Image) → new.may_leave image → is_armed image ≡ true))
+        → (status ≡ 0 → (asked : Bool) (contents : Contents) → Holds asked read.task contents old → Extends (replies read.task.input contents read.orders ++ left_text (steps_left read n)) k.before.sink k.after.sink)
+        → (status ≡ 0 → (contents : Contents) → Holds true read.task contents old → WentOn read contents new n) → ServesWell k read status
+    well done told went = record {
+      safe = λ asked contents tells images all. since (IsSound asked read.task.input read.task.plan read.task.digest contents) (g.carries.keeps.sound asked contents tells (inr (all, images))) all;
+      rounds = n;
+      goes = g;
+      again = again;
+      landed = λ d. (done d).0;
+      armed = λ d. (done d).1;
+      told = told;
+      went = went;
+    }
+
+  -- with another status than 0, and than 6
+  undone : Goes → ((status ≡ 0) ⊎ (status ≡ 6) → ⊥) → ServesWell k read status
+  undone (n, g) not = well n g (λ d. absurd (not d)) (λ zero. absurd (not (inl zero))) (λ zero. absurd (not (inl zero)))
+
+  -- with 6
+  unput : (r : Scripted) → AreOfScripted k.before.folder names script r → (orders : List Order) (n : ℕ) → MakesAll r orders old new n → (status ≡ 0 → ⊥) → ServesWell k read status
+  unput r are orders n made not =
+      let m = subst (λ (s : Scripted). MakesAll s orders old new n) (same r are) made in
+      well n m.goes (λ d. (m.landed, m.armed)) (λ zero. absurd (not zero)) (λ zero. absurd (not zero))
 
   done : (text : List ℕ) (found : ℕ) → ServesAll read old new found → IsServed read old found text → (status ≡ 0 → Extends text k.before.sink k.after.sink) → ServesWell k read status
-  done text found all (answers, are, said) put = record {
-    safe = safe all.keeps;
-    rounds = found;
-    found = all.found;
-    told = λ zero asked contents held.
-        let left = left_text (steps_left read found) in
-        subst (λ (t : List ℕ). Extends t k.before.sink k.after.sink) (said ∙ ap (λ (replied : List ℕ). replied ++ left) (are asked contents held)) (put zero);
-    went = λ zero. all.went;
-  }
+  done text found all (answers, are, said) put = well found all.makes.goes (λ d. (all.makes.landed, all.makes.armed))
+      (λ zero asked contents held.
+      let left = left_text (steps_left read found) in
+      subst (λ (t : List ℕ). Extends t k.before.sink k.after.sink) (said ∙ ap (λ (replied : List ℕ). replied ++ left) (are asked contents held)) (put zero))
+      (λ zero. all.went)
 
   -- the same for what the files stand for
   done_of : (text : List ℕ) (r : Scripted) (found : ℕ) → r ≡ read → ServesAll r old new found × IsServed r old found text
       → (status ≡ 0 → Extends text k.before.sink k.after.sink) → ServesWell k read status
   done_of text r found it h put = let (all, served) = subst (λ (s : Scripted). ServesAll s old new found × IsServed s old found text) it h in done text found all served put
 
-  not_zero : {n : ℕ} → status ≡ n → (n ≡ 0 → ⊥) → status ≡ 0 → ⊥
-  not_zero at not zero = not (sym at ∙ zero)
+  neither : {n : ℕ} → status ≡ n → (n ≡ 0 → ⊥) → (n ≡ 6 → ⊥) → (status ≡ 0) ⊎ (status ≡ 6) → ⊥
+  neither at zero six (inl e) = zero (sym at ∙ e)
+  neither at zero six (inr e) = six (sym at ∙ e)
 
   well_at : (o : Outcome) → status ≡ code o → IsOrNotPut (WorldEnds k (Live names script)) k.before.sink k.after.sink o → Says k.before.sink k.after.sink o → ServesWell k read status
   well_at (Done text) at h says = let s = h.store in done_of text s.0 s.2.0 (same s.0 s.1) (s.2.1, s.2.2) (λ zero. says.done refl)
-  well_at (SinkFault text) at (rose, inl h) says = undone (kept (Done text) h.store) (not_zero at (λ e. cc))
-  well_at (SinkFault text) at (rose, inr h) says = undone (kept (SinkFault text) h.store) (not_zero at (λ e. cc))
-  well_at (Refusal r) at h says = let many = (refusal_between r).0 in undone (kept (Refusal r) h.store) (not_zero at (λ e. omega (arith, e, many)))
-  well_at (Found f) at h says = undone (kept (Found f) h.store) (not_zero at (finding_apart f).0)
-  well_at o at h says = undone (kept o h.store) (not_zero at (λ e. cc))
+  well_at (SinkFault text) at (rose, inl h) says = let s = h.store in unput s.0 s.1 s.0.orders s.2.0 s.2.1.makes (λ zero. absurd (omega (arith, at, zero)))
+  well_at (SinkFault text) at (rose, inr h) says = let s = h.store in unput s.0 s.1 (take s.2.1.whole s.0.orders) s.2.0 s.2.1.makes (λ zero. absurd (omega (arith, at, zero)))
+  well_at (Refusal r) at h says = let many = (refusal_between r).0 in undone (goes (Refusal r) h.store) (neither at (λ e. omega (arith, e, many)) (λ e. omega (arith, e, many)))
+  well_at (Found f) at h says = undone (goes (Found f) h.store) (neither at (finding_apart f).0 (finding_apart f).1)
+  well_at o at h says = undone (goes o h.store) (neither at (λ e. omega (arith, e)) (λ e. omega (arith, e)))
 
   pub serves_well : ServesWell k read status
   serves_well = let e = ends_of ends (Live names script) l in well_at e.outcome e.is e.so e.says
@@ -93,8 +145,7 @@ module _ {k : Call} {words : List (List ℕ)} {status : ℕ} (ends : EndsAs k wo
 
   pub live_resumes : ResumesWell k read.task status
   live_resumes tells before =
-      let valid = is_scripted files names script read holds in
       unrefused (λ o stops. (resumes_exact read.task old valid.0 valid.1 tells).not_both (count_of (length read.task.plan) old.reads) o (is_resumable read.task old before) stops)
 
   pub live_in_flight : ResumesInFlight k read.task status
-  live_in_flight ready named = let valid = is_scripted files names script read holds in unrefused (no_resume_refusal read.task old valid.0 valid.1 ready named)
+  live_in_flight ready named = unrefused (no_resume_refusal read.task old valid.0 valid.1 ready named)

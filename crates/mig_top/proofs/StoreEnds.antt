@@ -16,7 +16,7 @@ untouched =
 pub looks_none : (store : State) → Looks store store
 looks_none store = changes_none (IsMoving store) NoCell store
 
-untouched_looks : (old new : State) → IsUntouched old new → Looks old new
+pub untouched_looks : (old new : State) → IsUntouched old new → Looks old new
 untouched_looks old new same =
     let none = looks_none old in
     record {
@@ -99,7 +99,7 @@ module _ (k : Call) (law : IsState k.before.store) where
   form_quiet (Resume names) (out.Refusal refusal.NotStarted) h not = untouched_quiet k.before.store k.after.store law h
   form_quiet (Resume names) (out.Refusal r) h not = settled_quiet k.before.store k.after.store law h.2.settles
   form_quiet (Live names script) (out.Refusal refusal.NotStarted) h not = untouched_quiet k.before.store k.after.store law h
-  form_quiet (Live names script) (out.Refusal r) h not = settled_quiet k.before.store k.after.store law h.2.1
+  form_quiet (Live names script) (out.Refusal r) h not = settled_quiet k.before.store k.after.store law h.2.2
   form_quiet (Halt names layout) (out.Refusal refusal.NotStarted) h not = settled_quiet k.before.store k.after.store law h
   form_quiet (Halt names layout) (out.Refusal (refusal.OtherPlan kept ours)) h not = settled_quiet k.before.store k.after.store law h
   form_quiet (Halt names layout) out.FolderFault h not = unwritten_quiet k.before.store k.after.store law h

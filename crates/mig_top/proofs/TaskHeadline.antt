@@ -113,7 +113,7 @@ module _ (old new : State) (law : IsState old) where
   none_ended : BeginsRun (flights old) [] []
   none_ended = (map ended (flights old), record { order = flights old; rest = []; each_once = IsPermutation-refl (flights old); is = sym (append-nil (map ended (flights old))); then_rounds = refl })
 
-  by_untouched : IsUntouched old new → IsQuiet old new
+  pub by_untouched : IsUntouched old new → IsQuiet old new
   by_untouched same = record {
     wrote = untouched_quiet old new law same;
     kept = same.leaves;

@@ -1,13 +1,14 @@
 -- The save of `plan-tight`.
-use Rattle.mig_top.proofs.Common.{Done, Files, FolderFault, FolderState, IfSome, IsSomeAnd, IsTightSaved, Names, None, Option, Outcome, Saves, Some, Tight, TightLeaves, TightTexts, Untouched}
-use Rattle.mig_top.proofs.Common.{plans_tight_texts, subst, ◌≡◌}
-use Rattle.mig_top.proofs.EndsOf.{IsUnread, one_changed}
+use Rattle.mig_top.proofs.Common.{Done, Files, FolderFault, FolderState, IfSome, IsSomeAnd, IsTightSaved, Names, None, Option, OthersStay, Outcome, Saves, Some, Tight, TightLeaves, TightTexts, Untouched}
+use Rattle.mig_top.proofs.Common.{inl, plans_tight_texts, subst, ◌≡◌}
+use Rattle.mig_top.proofs.EndsOf.{IsUnread}
 use Rattle.mig_top.proofs.Plainly.{found_input}
+use Rattle.mig_top.specs.plan_tight.Texts.{IsTightFound}
 
 -- a plan that wasn't made isn't saved
 pub unread_tight : (old new : FolderState) (names : Names) (o : Outcome) → IsUnread o → Untouched old new → TightLeaves old new names o
 unread_tight old new names (Done text) u same = absurd u
-unread_tight old new names FolderFault u same = one_changed old new names.plan same
+unread_tight old new names FolderFault u same = inl same
 unread_tight old new names o u same = same
 
 module _ (names : Names) (texts : TightTexts) where
@@ -29,3 +30,13 @@ module _ (names : Names) (texts : TightTexts) where
       → IfSome loaded (λ old. IsSomeAnd end (Saves names.plan texts.plan old)) → IfSome before (λ old. IsSomeAnd end (IsTightSaved names texts.told old))
   tight_saved None loaded end same made save = tt
   tight_saved (Some old) loaded end same made save = by_end old end made (subst (λ (o : Option Files). IfSome o (λ f. IsSomeAnd end (Saves names.plan texts.plan f))) same save)
+
+  -- a save that failed
+  unsaved : (old : Files) (end : Option Files) → (plans_tight_texts names old).Passes texts → IsSomeAnd end (OthersStay names.plan old) → IsSomeAnd end (λ new. IsTightFound names old × OthersStay names.plan old new)
+  unsaved old None made others = absurd others
+  unsaved old (Some new) made others = ((made.0, found_input Tight old names made.0 made.1, texts, made.2.2), others)
+
+  pub tight_unsaved : (before loaded end : Option Files) → loaded ≡ before → IfSome before (λ files. (plans_tight_texts names files).Passes texts)
+      → IfSome loaded (λ old. IsSomeAnd end (OthersStay names.plan old)) → IfSome before (λ old. IsSomeAnd end (λ new. IsTightFound names old × OthersStay names.plan old new))
+  tight_unsaved None loaded end same made others = tt
+  tight_unsaved (Some old) loaded end same made others = unsaved old end made (subst (λ (o : Option Files). IfSome o (λ f. IsSomeAnd end (OthersStay names.plan f))) same others)

@@ -1,3 +1,5 @@
+pub mod Events
+pub mod Following
 pub mod Leaves
 pub mod Looks
 pub mod Promise

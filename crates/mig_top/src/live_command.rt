@@ -74,6 +74,7 @@ pub fn run_live<F: Folder, K: Sink, S: Store>(
         Ok(read) => read,
         Err(ending) => return tell(out, ending, &names),
     };
+    read.job.keeps_rules();
     let live = match Live::enter(&read.job, store) {
         Ok(live) => live,
         Err(fault) => return tell(out, fault_ending(read.job.input(), fault), &names),

@@ -1,5 +1,5 @@
 -- What `drain` finds, saves and puts.
-use Rattle.std.specs.Prelude.{List, Some, [], codes, length, ℕ, ◌<◌, ◌≤◌, ◌∷◌, ◌≡◌}
+use Rattle.std.specs.Prelude.{List, Some, [], codes, length, ℕ, ◌<◌, ◌≤◌, ◌∷◌, ◌≡◌, ◌⊎◌}
 use Rattle.mig_top.specs.Common.{Done, Files, Finding, FolderState, Lists, NoDisk, NoRoom, OthersStay, Outcome, decimal, file, joined, quotient, transfers}
 use Rattle.mig_base.specs.declared.ids.DiskId.{DiskId}
 use Rattle.mig_base.specs.Draining.{AreDealt, AreFewest, Empties, NeedsToEmpty, PlansHave, free_elsewhere, places, with_next}
@@ -72,8 +72,12 @@ pub record IsDrainSaved (disks now name next text : List ℕ) (old new : Files) 
   pub saved : file new next ≡ Some next_text
   pub others : OthersStay next old new
 
--- what `drain` leaves in the folder; where the folder failed, no file changed but that of the next disks perhaps
+-- the two files stand for a layout with a disk of the name, for which next disks are found
+abbrev pub IsDrainFound : List ℕ → List ℕ → List ℕ → Files → Type 0
+IsDrainFound disks now name files = (input : Lists) × HoldsLayout files disks now input × (v : ℕ) × IsNamed input name v × (texts : DrainTexts) × AreDrainTexts input v texts
+
+-- what `drain` leaves in the folder; where a load failed no file changed, and where the save of what was found failed none but that of the next disks
 abbrev pub DrainLeaves : FolderState → FolderState → List ℕ → List ℕ → List ℕ → List ℕ → Outcome → Type 0
 DrainLeaves old new disks now name next (Done text) = Changes old new (IsDrainSaved disks now name next text)
-DrainLeaves old new disks now name next FolderFault = Changes old new (OthersStay next)
+DrainLeaves old new disks now name next FolderFault = Untouched old new ⊎ Changes old new (λ f g. IsDrainFound disks now name f × OthersStay next f g)
 DrainLeaves old new disks now name next _ = Untouched old new

@@ -1,8 +1,16 @@
 -- What `live` leaves in a store.
-use Rattle.std.specs.Prelude.{Bool, List, drop, true, ℕ, ◌+◌, ◌≡◌}
-use Rattle.mig_top.specs.Common.{Contents, Done, FolderState, IfSome, IsReached, IsSafeAfter, IsSettled, IsSound, LeavesOnly, Names, Outcome, Refusal, Settles, SinkFault, State, StoreFault, Task}
-use Rattle.mig_top.specs.Common.{all_steps, marks_by}
-use Rattle.mig_top.specs.live.Looks.{Holds, IsServed, IsServedInPart, steps_left}
+use Rattle.std.specs.Prelude.{IsSome, List, Some, [], drop, slice_get, take, true, ℕ, ◌++◌, ◌+◌, ◌∷◌, ◌≡◌, ◌⊎◌}
+use Rattle.mig_base.specs.declared.ids.ItemId.{ItemId}
+use Rattle.mig_io.specs.Held.{ExtendsByPrefix}
+use Rattle.mig_live.specs.Actions.{actions_after}
+use Rattle.mig_live.specs.Orders.{steps_of}
+use Rattle.mig_live.specs.declared.orders.Order.TheVariants.{Read}
+use Rattle.mig_top.specs.Calls.{Call}
+use Rattle.mig_top.specs.Common.{Adds, AreFlights, BeginsRun, Contents, Done, FolderState, Gate, IfSome, Image, IsReached, IsRun, IsSafeAfter, IsSettled, Names, Order, Outcome, Refusal, Settles}
+use Rattle.mig_top.specs.Common.{SinkFault, State, StoreFault, Task, all_steps, flights, is_armed, marks_by}
+use Rattle.mig_top.specs.carry.Leaves.{Carries}
+use Rattle.mig_top.specs.live.Events.{IsRunAndPart, IsSession, lone_copies, steps_by}
+use Rattle.mig_top.specs.live.Looks.{AreAnswers, Holds, IsServed, steps_left}
 use Rattle.mig_top.specs.live.Reads.{Scripted, scripted_in}
 use Rattle.mig_top.specs.Stores.{HasFound, IsUntouched}
 use Rattle.mig_words.specs.declared.endings.StoreRefusal.TheVariants as refusal
@@ -14,10 +22,6 @@ AreOfScripted folder names script read = IfSome folder.files (λ files. (scripte
 abbrev pub ForScripted : FolderState → Names → List ℕ → (Scripted → Type 0) → Type 0
 ForScripted folder names script P = (read : Scripted) × AreOfScripted folder names script read × P read
 
--- what a crash leaves at each moment is sound with the contents that the store held
-abbrev pub KeepsSound : Task → State → State → Type 0
-KeepsSound task old new = (asked : Bool) (contents : Contents) → Holds asked task contents old → LeavesOnly (IsSound asked task.input task.plan task.digest contents) old new
-
 -- with these contents a session went on from k marked rounds by so many steps as its orders ask for, or to its end
 pub record WentOn (read : Scripted) (contents : Contents) (new : State) (k : ℕ) : Type 0 where
   -- as many rounds are marked as were, and those whose copies, sync and mark are among the steps
@@ -26,21 +30,59 @@ pub record WentOn (read : Scripted) (contents : Contents) (new : State) (k : ℕ
   pub reached : steps_left read k ≡ 0 → IsReached read.task.input read.task.plan read.task.digest contents new.reads
   pub settled : steps_left read k ≡ 0 → IsSettled new
 
+-- what a session does whatever its outcome, after k rounds that were marked before
+pub record GoesOn (task : Task) (old new : State) (k : ℕ) : Type 0 where
+  pub carries : Carries task old new
+  pub found : HasFound task old k
+  pub events : Adds (IsSession task old k) old new
+  -- copies that are then in flight are between slots, to different ones, and none reads another's target, if those before were so
+  pub slots : AreFlights (flights old) → AreFlights (flights new)
+
+-- the steps of these orders were made, and nothing else was done
+pub record MakesAll (read : Scripted) (orders : List Order) (old new : State) (k : ℕ) : Type 0 where
+  pub goes : GoesOn read.task old new k
+  pub events : Adds (IsRun (flights old) (lone_copies (steps_by read k orders))) old new
+  pub landed : flights new ≡ []
+  -- the gate is 1 then
+  pub armed : IsSome (old.reads Gate) → (image : Image) → new.may_leave image → is_armed image ≡ true
+
 -- all orders were carried out
 pub record ServesAll (read : Scripted) (old new : State) (k : ℕ) : Type 0 where
-  pub keeps : KeepsSound read.task old new
-  pub found : HasFound read.task old k
+  pub makes : MakesAll read read.orders old new k
   pub went : (contents : Contents) → Holds true read.task contents old → WentOn read contents new k
 
--- A refusal of the store settled it; a fault of it, or of the sink, leaves a session that isn't done.
-abbrev pub LiveLeaves : FolderState → State → State → Names → List ℕ → Outcome → Type 0
-LiveLeaves folder old new names script (Done text) = ForScripted folder names script (λ read. (k : ℕ) × ServesAll read old new k × IsServed read old k text)
-LiveLeaves folder old new names script (SinkFault text) = ForScripted folder names script (λ read. KeepsSound read.task old new)
-LiveLeaves folder old new names script (StoreFault before) = ForScripted folder names script (λ read. KeepsSound read.task old new)
-LiveLeaves folder old new names script (Refusal refusal.NotStarted) = IsUntouched old new
-LiveLeaves folder old new names script (Refusal r) = ForScripted folder names script (λ read. KeepsSound read.task old new × Settles old new)
-LiveLeaves folder old new names script o = IsUntouched old new
+-- The sink failed at the reply to a read: the orders before it were carried out, their replies were put, and then a beginning of this one.
+pub record StopsAtReply (call : Call) (read : Scripted) (k : ℕ) (text : List ℕ) : Type 0 where
+  pub whole : ℕ
+  pub item : ItemId
+  pub at : slice_get read.orders whole ≡ Some (Read item)
+  pub makes : MakesAll read (take whole read.orders) call.before.store call.after.store k
+  pub answers : List ℕ
+  pub next : List ℕ
+  pub replied : AreAnswers read.task call.before.store (take whole read.orders) answers
+  pub reply : AreAnswers read.task call.before.store (Read item ∷ []) next
+  pub is : text ≡ answers ++ next
+  pub put : IfSome call.before.sink.held (λ held. ExtendsByPrefix next (held ++ answers) call.after.sink.held)
 
--- what was put of a session that isn't done
-abbrev pub IsCutOff : FolderState → State → Names → List ℕ → List ℕ → Type 0
-IsCutOff folder old names script text = ForScripted folder names script (λ read. IsServedInPart read old text)
+-- The store failed at an order: those before it were carried out, their replies are the text, and of its own steps some were made. Or it failed before all.
+pub record StopsAtOrder (read : Scripted) (old new : State) (k : ℕ) (text : List ℕ) : Type 0 where
+  pub whole : ℕ
+  pub order : Order
+  pub at : slice_get read.orders whole ≡ Some order
+  pub replied : AreAnswers read.task old (take whole read.orders) text
+  pub events : Adds (IsRunAndPart (flights old) (steps_by read k (take whole read.orders)) (take (steps_of order) (drop (all_steps (take whole read.orders)) (actions_after read.task k)))) old new
+
+abbrev pub StopsAtOnce : State → State → List ℕ → Type 0
+StopsAtOnce old new text = (text ≡ []) × Adds (BeginsRun (flights old) []) old new
+
+-- A refusal of the store settled it; a fault of it, or of the sink, leaves a session that isn't done.
+abbrev pub LiveLeaves : Call → Names → List ℕ → Outcome → Type 0
+LiveLeaves call names script (Done text) =
+    ForScripted call.before.folder names script (λ read. (k : ℕ) × ServesAll read call.before.store call.after.store k × IsServed read call.before.store k text)
+LiveLeaves call names script (SinkFault text) = ForScripted call.before.folder names script (λ read. (k : ℕ) × StopsAtReply call read k text)
+LiveLeaves call names script (StoreFault before) = ForScripted call.before.folder names script (λ read. (k : ℕ) × GoesOn read.task call.before.store call.after.store k
+    × (StopsAtOnce call.before.store call.after.store before ⊎ StopsAtOrder read call.before.store call.after.store k before))
+LiveLeaves call names script (Refusal refusal.NotStarted) = IsUntouched call.before.store call.after.store
+LiveLeaves call names script (Refusal r) =
+    ForScripted call.before.folder names script (λ read. (k : ℕ) × GoesOn read.task call.before.store call.after.store k × Settles call.before.store call.after.store)
+LiveLeaves call names script o = IsUntouched call.before.store call.after.store

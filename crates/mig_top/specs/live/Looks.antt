@@ -1,5 +1,5 @@
 -- What a session of `live` puts.
-use Rattle.std.specs.Prelude.{Bool, List, [], codes, take, ℕ, ◌++◌, ◌-◌, ◌∷◌, ◌≡◌}
+use Rattle.std.specs.Prelude.{Bool, List, [], codes, ℕ, ◌++◌, ◌-◌, ◌∷◌, ◌≡◌}
 use Rattle.mig_top.specs.Common.{Contents, IsJobCell, IsSound, Order, SettlesTo, State, Task, Tells, all_steps, decimal, joined, replies, steps_after}
 use Rattle.mig_top.specs.live.Reads.{Scripted}
 
@@ -19,9 +19,6 @@ steps_left read found = steps_after read.task.plan found - all_steps read.orders
 abbrev pub left_text : ℕ → List ℕ
 left_text n = joined (codes "left " ∷ decimal n ∷ codes "\n" ∷ [])
 
--- the text of a session that is done, and of one that is cut off: the replies to the first of its orders
+-- the text of a session that is done
 abbrev pub IsServed : Scripted → State → ℕ → List ℕ → Type 0
 IsServed read store found text = (answers : List ℕ) × AreAnswers read.task store read.orders answers × (text ≡ answers ++ left_text (steps_left read found))
-
-abbrev pub IsServedInPart : Scripted → State → List ℕ → Type 0
-IsServedInPart read store text = (n : ℕ) × AreAnswers read.task store (take n read.orders) text

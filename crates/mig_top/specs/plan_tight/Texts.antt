@@ -1,5 +1,5 @@
 -- What `plan-tight` finds, saves and puts.
-use Rattle.std.specs.Prelude.{List, Some, [], codes, length, ℕ, ◌∷◌, ◌≡◌}
+use Rattle.std.specs.Prelude.{List, Some, [], codes, length, ℕ, ◌∷◌, ◌≡◌, ◌⊎◌}
 use Rattle.mig_top.specs.Common.{Done, Files, Finding, Fits, FolderState, HasFreeSlot, HasMove, IsTightPlan, Lists, Names, NoFreeSlot, OthersStay, Outcome, PlanText, Shift, Tight}
 use Rattle.mig_top.specs.Common.{TooMany, decimal, disk_listed, file, joined, parked}
 use Rattle.mig_tight.specs.Causes.{IsFirstOverfull}
@@ -42,8 +42,12 @@ pub record IsTightSaved (names : Names) (text : List ℕ) (old new : Files) : Ty
   pub saved : file new names.plan ≡ Some plan_text
   pub others : OthersStay names.plan old new
 
--- what `plan-tight` leaves in the folder; where the folder failed, no file changed but that of the plan perhaps
+-- the three files stand for an input for which a plan is found
+abbrev pub IsTightFound : Names → Files → Type 0
+IsTightFound names files = (input : Lists) × StandsBy Tight files names input × (texts : TightTexts) × AreTightTexts input texts
+
+-- what `plan-tight` leaves in the folder; where a load failed no file changed, and where the save of what was found failed none but that of the plan
 abbrev pub TightLeaves : FolderState → FolderState → Names → Outcome → Type 0
 TightLeaves old new names (Done text) = Changes old new (IsTightSaved names text)
-TightLeaves old new names FolderFault = Changes old new (OthersStay names.plan)
+TightLeaves old new names FolderFault = Untouched old new ⊎ Changes old new (λ f g. IsTightFound names f × OthersStay names.plan f g)
 TightLeaves old new names _ = Untouched old new

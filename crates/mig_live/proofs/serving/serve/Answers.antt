@@ -1,4 +1,6 @@
-use Rattle.mig_live.proofs.Common.{AreCutOff, ArePut, IfErr, List, Order, [], arith, inl, refl, subst, take_all, ◌∙◌}
+use Rattle.mig_live.proofs.ActionLaws.{made_many, made_none, made_up_to}
+use Rattle.mig_live.proofs.Common.{Action, AreCutOff, AreMade, ArePut, IfErr, List, Order, [], actions_left, all_steps, ap, arith, drop, drop-drop, get_or, inl, refl, slice_get-get_or, steps_of, subst, sym, take, take_all, ℕ, ◌∙◌}
+use Rattle.mig_live.specs.Replies.{AreMadeUpTo}
 use Rattle.mig_live.proofs.ReplyLaws.{extends_nothing, handed, no_order, served_more, served_stops, steps_one_more}
 use Rattle.mig_live.proofs.SessionLaws.{more_steps}
 use Rattle.mig_live.proofs.WorkCells.{works_more, works_none}
@@ -15,17 +17,31 @@ returns-in_err-after-clause-change g c = works_more c.args.live.task c.loop-orde
 pub returns-in_err-after-clause-cut_off : goal.returns-in_err-after-clause-cut_off
 returns-in_err-after-clause-cut_off g c =
     let old = g.S.Store.state c.args.store.now in
+    let mid = g.S.Store.state c.loop-order.store in
+    let now = g.S.Store.state c.carry_out.new.store in
     let first = g.K.Sink.state c.args.out.now in
-    let mid = g.K.Sink.state c.loop-order.out in
+    let between = g.K.Sink.state c.loop-order.out in
     let last = g.K.Sink.state c.carry_out.new.out in
-    handed (λ r. IfErr r (AreCutOff c.args.live old c.args.orders.now first last)) c.from_residual.result c.in_err-after.field-0.0 c.from_residual.ensures.1
-    (served_stops c.args.live c.loop-order.after c.loop-order.invariant.task old (g.S.Store.state c.loop-order.store) c.loop-order.invariant.in_step c.args.orders.now c.loop-order.order-index no_order
-    c.loop-order-test.true first mid last c.loop-order.invariant.served c.in_err-after.field-0.0 c.in_err-after.ensures.cut_off)
+    let i = c.loop-order.order-index in
+    let this = get_or c.args.orders.now i no_order in
+    let fault = c.in_err-after.field-0.0 in
+    let before = take (all_steps (take i c.args.orders.now)) (actions_left c.args.live) in
+    handed (λ r. IfErr r (AreCutOff c.args.live old now c.args.orders.now first last)) c.from_residual.result fault c.from_residual.ensures.1 (record {
+      whole = i;
+      order = this;
+      at = slice_get-get_or c.args.orders.now i no_order c.loop-order-test.true;
+      put = served_stops c.args.live c.loop-order.after c.loop-order.invariant.task old mid c.loop-order.invariant.in_step c.args.orders.now i no_order
+          c.loop-order-test.true first between last c.loop-order.invariant.served fault c.in_err-after.ensures.put;
+      made = made_up_to before (take (steps_of this) (drop (all_steps (take i c.args.orders.now)) (actions_left c.args.live))) old mid now fault c.loop-order.invariant.made
+          (subst (λ (l : List Action). AreMadeUpTo [] (take (steps_of this) l) mid now fault) c.loop-order.invariant.rest c.in_err-after.ensures.part);
+    })
 
 pub loop-order-init : goal.loop-order-init
 loop-order-init g c = record {
   task = refl;
   left = omega arith;
+  rest = refl;
+  made = made_none (g.S.Store.state c.args.store.now);
   served = ([], λ asked contents at. refl, extends_nothing (g.K.Sink.state c.args.out.now));
   in_step = λ asked contents at. at;
   any_moment = λ asked contents at. record { later = omega arith; since = λ t image le left. inl left };
@@ -39,6 +55,15 @@ pub loop-order-preserved : goal.loop-order-preserved
 loop-order-preserved g c = record {
   task = c.in_ok-after.ensures.task ∙ c.loop-order.invariant.task;
   left = omega (arith, c.in_ok-after.ensures.left, c.loop-order.invariant.left, steps_one_more c.args.orders.now c.loop-order.order-index no_order c.loop-order-test.true);
+  rest = c.in_ok-after.ensures.rest ∙ ap (λ (l : List Action). drop (steps_of (get_or c.args.orders.now c.loop-order.order-index no_order)) l) c.loop-order.invariant.rest
+      ∙ drop-drop (steps_of (get_or c.args.orders.now c.loop-order.order-index no_order)) (all_steps (take c.loop-order.order-index c.args.orders.now)) (actions_left c.args.live)
+      ∙ ap (λ (n : ℕ). drop n (actions_left c.args.live)) (sym (steps_one_more c.args.orders.now c.loop-order.order-index no_order c.loop-order-test.true));
+  made = subst (λ (n : ℕ). AreMade (take n (actions_left c.args.live)) (g.S.Store.state c.args.store.now) (g.S.Store.state c.carry_out.new.store))
+      (sym (steps_one_more c.args.orders.now c.loop-order.order-index no_order c.loop-order-test.true))
+      (made_many (all_steps (take c.loop-order.order-index c.args.orders.now)) (steps_of (get_or c.args.orders.now c.loop-order.order-index no_order)) (actions_left c.args.live)
+      (g.S.Store.state c.args.store.now) (g.S.Store.state c.loop-order.store) (g.S.Store.state c.carry_out.new.store) c.loop-order.invariant.made
+      (subst (λ (l : List Action). AreMade (take (steps_of (get_or c.args.orders.now c.loop-order.order-index no_order)) l) (g.S.Store.state c.loop-order.store) (g.S.Store.state c.carry_out.new.store))
+      c.loop-order.invariant.rest c.in_ok-after.ensures.made));
   served = served_more c.args.live c.loop-order.after c.loop-order.invariant.task (g.S.Store.state c.args.store.now) (g.S.Store.state c.loop-order.store) c.loop-order.invariant.in_step c.args.orders.now
       c.loop-order.order-index no_order c.loop-order-test.true (g.K.Sink.state c.args.out.now) (g.K.Sink.state c.loop-order.out) (g.K.Sink.state c.carry_out.new.out) c.loop-order.invariant.served c.in_ok-after.ensures.served;
   in_step = λ asked contents at. c.in_ok-after.ensures.in_step asked contents (c.loop-order.invariant.in_step asked contents at);
@@ -54,3 +79,8 @@ pub returns-clause-served : goal.returns-clause-served
 returns-clause-served g c =
     subst (λ (orders : List Order). ArePut c.args.live (g.S.Store.state c.args.store.now) orders (g.K.Sink.state c.args.out.now) (g.K.Sink.state c.loop-order.out))
     (take_all c.loop-order.order-index c.args.orders.now (omega (arith, c.loop-order-test.false))) c.loop-order.invariant.served
+
+pub returns-clause-made : goal.returns-clause-made
+returns-clause-made g c =
+    subst (λ (orders : List Order). AreMade (take (all_steps orders) (actions_left c.args.live)) (g.S.Store.state c.args.store.now) (g.S.Store.state c.loop-order.store))
+    (take_all c.loop-order.order-index c.args.orders.now (omega (arith, c.loop-order-test.false))) c.loop-order.invariant.made

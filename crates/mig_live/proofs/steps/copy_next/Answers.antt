@@ -1,4 +1,5 @@
-use Rattle.mig_live.proofs.Common.{Cell, Changes, Flight, IsCopy, ap, arith, is_slot, slot_of, subst, sym, ◌∙◌, ◌≡◌}
+use Rattle.mig_live.proofs.ActionLaws.{left_copy, makes}
+use Rattle.mig_live.proofs.Common.{Cell, Changes, Copy, Flight, IsCopy, [], actions_after, ap, arith, began, drop, ended, flight_of, is_slot, slot_of, subst, sym, take, ◌+◌, ◌∙◌, ◌∷◌, ◌≡◌}
 use Rattle.mig_live.proofs.Middle.{copy_leaves, copy_more, copy_apart}
 use Rattle.mig_live.proofs.Places.{shift_next}
 use Rattle.mig_live.proofs.StepLaws.{on_ok_both}
@@ -23,8 +24,8 @@ returns-clause-any_moment g c =
     let s = shift_next c.args.job.now.input c.args.job.now.plan c.args.k c.args.place f c.copy-from.ensures in
     let old = g.S.Store.state c.args.store.now in
     let new = g.S.Store.state c.copy_slot.new.store in
-    λ asked contents e way. copy_leaves c.args.job.now.input c.keeps_rules.ensures.valid c.args.job.now.plan c.keeps_rules.ensures.runs c.args.job.now.digest contents c.args.k (omega (arith, c.requires.more)) asked c.requires.more s.0 old new e c.args.place s.1 c.copy_slot.ensures.change.0
-    (subst (λ (cell : Cell). Changes (λ k. k ≡ cell) (λ k. k ≡ cell) c.copy_slot.ensures.change.0 old new) s.3 c.copy_slot.ensures.change.1) way
+    λ asked contents e way. copy_leaves c.args.job.now.input c.keeps_rules.ensures.valid c.args.job.now.plan c.keeps_rules.ensures.runs c.args.job.now.digest contents c.args.k (omega (arith, c.requires.more)) asked c.requires.more s.0 old new e c.args.place s.1 (take c.copy_slot.ensures.part.0 (began f ∷ ended f ∷ []))
+    (subst (λ (cell : Cell). Changes (λ k. k ≡ cell) (λ k. k ≡ cell) (take c.copy_slot.ensures.part.0 (began f ∷ ended f ∷ [])) old new) s.3 c.copy_slot.ensures.part.1) way
 
 pub returns-clause-done : goal.returns-clause-done
 returns-clause-done g c =
@@ -32,8 +33,8 @@ returns-clause-done g c =
     let s = shift_next c.args.job.now.input c.args.job.now.plan c.args.k c.args.place f c.copy-from.ensures in
     let old = g.S.Store.state c.args.store.now in
     let new = g.S.Store.state c.copy_slot.new.store in
-    on_ok_both c.copy_slot.result (λ copied landed asked contents e way. copy_more c.args.job.now.input c.keeps_rules.ensures.valid c.args.job.now.plan c.keeps_rules.ensures.runs c.args.job.now.digest contents c.args.k (omega (arith, c.requires.more)) asked c.requires.more s.0 old new e c.args.place s.1 c.copy_slot.ensures.change.0
-    (subst (λ (cell : Cell). Changes (λ k. k ≡ cell) (λ k. k ≡ cell) c.copy_slot.ensures.change.0 old new) s.3 c.copy_slot.ensures.change.1) way
+    on_ok_both c.copy_slot.result (λ copied landed asked contents e way. copy_more c.args.job.now.input c.keeps_rules.ensures.valid c.args.job.now.plan c.keeps_rules.ensures.runs c.args.job.now.digest contents c.args.k (omega (arith, c.requires.more)) asked c.requires.more s.0 old new e c.args.place s.1 (take c.copy_slot.ensures.part.0 (began f ∷ ended f ∷ []))
+    (subst (λ (cell : Cell). Changes (λ k. k ≡ cell) (λ k. k ≡ cell) (take c.copy_slot.ensures.part.0 (began f ∷ ended f ∷ [])) old new) s.3 c.copy_slot.ensures.part.1) way
     (subst (λ (cell : Cell). IsCopy (old.reads (slot_of c.args.job.now.input s.0.from)) (new.reads cell)) s.3 (subst (λ (cell : Cell). IsCopy (old.reads cell) (new.reads c.copy-from.result.1)) s.2 copied)) landed)
     c.copy_slot.ensures.copied c.copy_slot.ensures.landed
 
@@ -41,4 +42,15 @@ pub returns-clause-change : goal.returns-clause-change
 returns-clause-change g c =
     let f : Flight = record { from = c.copy-from.result.0; to = c.copy-from.result.1 } in
     let s = shift_next c.args.job.now.input c.args.job.now.plan c.args.k c.args.place f c.copy-from.ensures in
-    copy_works c.args.job.now.input c.args.job.now.plan c.args.k c.args.place s.0 s.1 c.copy-from.result.1 s.3 c.copy_slot.ensures.change.0 (g.S.Store.state c.args.store.now) (g.S.Store.state c.copy_slot.new.store) c.copy_slot.ensures.change.1
+    copy_works c.args.job.now.input c.args.job.now.plan c.args.k c.args.place s.0 s.1 c.copy-from.result.1 s.3 (take c.copy_slot.ensures.part.0 (began f ∷ ended f ∷ [])) (g.S.Store.state c.args.store.now) (g.S.Store.state c.copy_slot.new.store) c.copy_slot.ensures.part.1
+
+pub returns-clause-first : goal.returns-clause-first
+returns-clause-first g c =
+    let f : Flight = record { from = c.copy-from.result.0; to = c.copy-from.result.1 } in
+    let s = shift_next c.args.job.now.input c.args.job.now.plan c.args.k c.args.place f c.copy-from.ensures in
+    let all = drop c.args.place (actions_after c.args.job.now c.args.k) in
+    let left = drop (c.args.place + 1) (actions_after c.args.job.now c.args.k) in
+    let it : flight_of c.args.job.now.input s.0 ≡ f = λ i. record { from = sym s.2 i; to = sym s.3 i } in
+    makes c.copy_slot.result all left (Copy f) (g.S.Store.state c.args.store.now) (g.S.Store.state c.copy_slot.new.store)
+    (subst (λ (h : Flight). all ≡ Copy h ∷ left) it (left_copy c.args.job.now c.args.k c.requires.more c.args.place s.0 s.1)) c.copy_slot.ensures.part.0 c.copy_slot.ensures.part.1
+    (on_ok_both c.copy_slot.result (λ made copied. record { change = made; leaves = copied }) c.copy_slot.ensures.made c.copy_slot.ensures.copied)

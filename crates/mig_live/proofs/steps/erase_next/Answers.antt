@@ -1,4 +1,5 @@
-use Rattle.mig_live.proofs.Common.{AreZeros, Cell, ChangesOnly, Flight, ap, flights_same, is_slot, on_ok_is, on_ok_weaker, round_at, subst, ◌∙◌, ◌≡◌}
+use Rattle.mig_live.proofs.ActionLaws.{left_erase, makes}
+use Rattle.mig_live.proofs.Common.{AreZeros, Cell, ChangesOnly, Erase, Flight, actions_since, ap, drop, flights_same, is_slot, on_ok_is, on_ok_weaker, round_at, subst, sym, ◌+◌, ◌∙◌, ◌∷◌, ◌≡◌}
 use Rattle.mig_live.proofs.Middle.{erase_leaves, erase_more}
 use Rattle.mig_live.proofs.Places.{shift_of}
 use Rattle.mig_live.proofs.WorkCells.{erase_works}
@@ -36,3 +37,13 @@ returns-clause-change g c =
     let f : Flight = record { from = c.copy-from.result.0; to = c.copy-from.result.1 } in
     let s = shift_of c.args.job.now.input (round_at c.args.job.now.plan c.args.k) c.args.place f c.copy-from.ensures in
     erase_works c.args.job.now.input c.args.job.now.plan c.args.k c.args.place s.0 s.1 c.copy-from.result.0 s.2 (g.S.Store.state c.args.store.now) (g.S.Store.state c.erase.new.store) c.erase.ensures.change
+
+pub returns-clause-first : goal.returns-clause-first
+returns-clause-first g c =
+    let f : Flight = record { from = c.copy-from.result.0; to = c.copy-from.result.1 } in
+    let s = shift_of c.args.job.now.input (round_at c.args.job.now.plan c.args.k) c.args.place f c.copy-from.ensures in
+    let all = drop c.args.place (actions_since c.args.job.now c.args.k) in
+    let left = drop (c.args.place + 1) (actions_since c.args.job.now c.args.k) in
+    makes c.erase.result all left (Erase c.copy-from.result.0) (g.S.Store.state c.args.store.now) (g.S.Store.state c.erase.new.store)
+    (subst (λ (cell : Cell). all ≡ Erase cell ∷ left) (sym s.2) (left_erase c.args.job.now c.args.k c.args.place s.0 s.1)) 0 c.erase.ensures.change
+    (on_ok_weaker c.erase.result (λ erased. record { change = c.erase.ensures.change; leaves = erased }) c.erase.ensures.erased)

@@ -1,4 +1,5 @@
-use Rattle.mig_live.proofs.Common.{arith, ◌+◌}
+use Rattle.mig_live.proofs.ActionLaws.{left_mark, makes}
+use Rattle.mig_live.proofs.Common.{SetMark, actions_since, arith, drop, steps_in, ◌+◌}
 use Rattle.mig_live.proofs.StepLaws.{leaves_mark, after_mark, on_ok_both}
 use Rattle.mig_live.proofs.WorkCells.{mark_works}
 use Rattle.mig_live.proofs.steps.mark_next.Goals as goal
@@ -13,3 +14,11 @@ returns-clause-done g c = on_ok_both c.mark.result (λ marked settled asked cont
 
 pub returns-clause-change : goal.returns-clause-change
 returns-clause-change g c = mark_works c.args.job.now.input c.args.job.now.plan (c.args.k + 1) (omega arith) (omega (arith, c.requires.more)) (g.S.Store.state c.args.store.now) (g.S.Store.state c.mark.new.store) c.mark.ensures.change
+
+pub returns-clause-first : goal.returns-clause-first
+returns-clause-first g c =
+    let job = c.args.job.now in
+    let next = c.args.k + 1 in
+    makes c.mark.result (drop (steps_in job.plan c.args.k) (actions_since job c.args.k)) (actions_since job next) (SetMark next) (g.S.Store.state c.args.store.now) (g.S.Store.state c.mark.new.store)
+    (left_mark job c.args.k c.requires.more (steps_in job.plan c.args.k) next (omega arith) (omega arith)) 0 c.mark.ensures.change
+    (on_ok_both c.mark.result (λ marked settled. record { change = c.mark.ensures.change; leaves = (marked, settled) }) c.mark.ensures.marked c.mark.ensures.settled)

@@ -1,4 +1,5 @@
-use Rattle.mig_live.proofs.Common.{List, Shift, ap, arith, flights_same, on_ok_is, on_ok_weaker, shifts_in, suc, sym, ℕ, ◌+◌, ◌-◌, ◌<◌, ◌∙◌, ◌≡◌, ◌≤◌}
+use Rattle.mig_live.proofs.ActionLaws.{makes, makes_same, past_erasures, syncs_next}
+use Rattle.mig_live.proofs.Common.{Action, List, Shift, Sync, actions_after, actions_since, ap, arith, drop, flights_same, on_ok_is, on_ok_weaker, shifts_in, suc, sym, ℕ, ◌+◌, ◌-◌, ◌<◌, ◌∙◌, ◌∷◌, ◌≡◌, ◌≤◌}
 use Rattle.mig_live.proofs.StepLaws.{before_erase, after_erase, before_copy, after_copy, sync_leaves, after_sync}
 use Rattle.mig_live.proofs.WorkCells.{works_quiet}
 use Rattle.mig_live.proofs.steps.step_within.Goals as goal
@@ -53,3 +54,24 @@ returns-clause-landed g c = on_ok_is c.settle.result (flights_same (g.S.Store.st
 
 pub returns-clause-change : goal.returns-clause-change
 returns-clause-change g c = works_quiet c.args.job.now.input c.args.job.now.plan (g.S.Store.state c.args.store.now) (g.S.Store.state c.settle.new.store) c.settle.ensures.change
+
+pub returns-then-p-erasures-2-clause-first : goal.returns-then-p-erasures-2-clause-first
+returns-then-p-erasures-2-clause-first g c =
+    let job = c.args.job.now in
+    let place = c.args.p - c.shifts_of_round-erasures.result in
+    makes_same c.copy_next.result (drop place (actions_after job c.args.k)) (drop (place + 1) (actions_after job c.args.k)) (drop c.args.p (actions_since job c.args.k)) (drop (c.args.p + 1) (actions_since job c.args.k))
+    (g.S.Store.state c.args.store.now) (g.S.Store.state c.copy_next.new.store)
+    (past_erasures job c.args.k c.args.p place (omega (arith, c.if-p-erasures.false, c.shifts_of_round-erasures.ensures.count)))
+    (past_erasures job c.args.k (c.args.p + 1) (place + 1) (omega (arith, c.if-p-erasures.false, c.shifts_of_round-erasures.ensures.count))) c.copy_next.ensures.first
+
+pub returns-clause-first : goal.returns-clause-first
+returns-clause-first g c =
+    let job = c.args.job.now in
+    let k = c.args.k in
+    let place = c.args.p - shifts_in job.plan k in
+    let low : shifts_in job.plan k ≤ c.args.p = omega (arith, c.if-p-erasures.false, c.shifts_of_round-erasures.ensures.count) in
+    let high = past c.args.p k job.plan _ _ c.shifts_of_round-erasures.ensures.count c.shifts_of_round-copies.ensures.count c.if-p-erasures-2.false in
+    makes c.settle.result (drop c.args.p (actions_since job k)) (drop (c.args.p + 1) (actions_since job k)) Sync (g.S.Store.state c.args.store.now) (g.S.Store.state c.settle.new.store)
+    (past_erasures job k c.args.p place (omega (arith, low)) ∙ syncs_next job k place (omega (arith, low, high, c.requires.place))
+    ∙ ap (λ (l : List Action). Sync ∷ l) (sym (past_erasures job k (c.args.p + 1) (place + 1) (omega (arith, low))))) 0 c.settle.ensures.change
+    (on_ok_weaker c.settle.result (λ settled. record { change = c.settle.ensures.change; leaves = settled }) c.settle.ensures.settled)

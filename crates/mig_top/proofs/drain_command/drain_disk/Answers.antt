@@ -1,5 +1,5 @@
-use Rattle.mig_top.proofs.Common.{Files, IfSome, IsSomeAnd, Option, OthersStay, [], arith, drain_texts_of, drains_disk, err_from_is_err_and, subst, ◌∷◌}
-use Rattle.mig_top.proofs.DrainSaves.{drain_saved, unread_drain}
+use Rattle.mig_top.proofs.Common.{[], arith, drain_texts_of, drains_disk, err_from_is_err_and, inr, ◌∷◌}
+use Rattle.mig_top.proofs.DrainSaves.{drain_saved, drain_unsaved, unread_drain}
 use Rattle.mig_top.proofs.EndsOf.{files_unread}
 use Rattle.mig_top.proofs.Steps.{if_map}
 use Rattle.mig_top.proofs.drain_command.drain_disk.Goals as goal
@@ -19,7 +19,8 @@ returns-in_err-save g c =
     let p = err_from_is_err_and c.from_residual-in_err-save.result c.from_residual-in_err-save.ensures.1 in
     rw (p.1, p.2) (record {
       cause = omega (arith, c.load_drain.ensures.later, c.in_err-save.ensures.failed);
-      leaves = subst (λ (o : Option Files). IfSome o (λ files. IsSomeAnd new.files (OthersStay c.args.next.now files))) c.load_drain.ensures.same c.save.ensures.others;
+      leaves = inr (drain_unsaved c.args.disks.now c.args.now.now c.args.name c.args.next.now (drain_texts_of c.in_ok-text.text) (g.F.Folder.state c.args.folder.now).files (g.F.Folder.state c.load_drain.new.folder).files
+          new.files c.load_drain.ensures.same c.in_ok-text.ensures.takes.passes c.save.ensures.others);
     })
 
 pub returns : goal.returns

@@ -18,7 +18,8 @@ returns-in-Err-enter g c =
     let bad = c.in-Err-enter.ensures in
     let t = c.tell-in-Err-enter.ensures in
     refused names c.fault_ending.result c.input.result.now read.task.input c.in-Err-enter.fault (c.fault_ending.ensures names) c.input.ensures.value
-    (live_refused _ (names_in c.args.files) c.args.script.now c.load_scripted.ensures.same read c.in-Ok.ensures.takes.passes c.enter.ensures.keeps c.in-Err-enter.fault bad.fault bad.kind)
+    (live_refused _ (names_in c.args.files) c.args.script.now c.load_scripted.ensures.same read c.in-Ok.ensures.takes.passes c.keeps_rules.ensures.valid c.keeps_rules.ensures.runs
+    c.enter.ensures.keeps c.enter.ensures.armed c.enter.ensures.part c.in-Err-enter.fault bad.fault bad.kind)
     t.status t.begun t.whole
 
 pub returns-in-Ok-serve : goal.returns-in-Ok-serve
@@ -29,14 +30,14 @@ returns-in-Ok-serve g c =
     let en = c.in-Ok-enter.ensures in
     let ok = c.in-Ok-serve.ensures in
     let left = rw c.orders.ensures at ok.left in
-    live_done _ (names_in c.args.files) c.args.script.now c.load_scripted.ensures.same read c.in-Ok.ensures.takes.passes
-    (g.S.Store.state c.enter.new.store) live en.task c.enter.ensures.keeps en.in_step
-    c.serve.ensures.any_moment (g.K.Sink.state c.serve.new.out) c.serve.ensures.sink_later
+    live_done _ (names_in c.args.files) c.args.script.now c.load_scripted.ensures.same read c.in-Ok.ensures.takes.passes c.keeps_rules.ensures.valid c.keeps_rules.ensures.runs
+    (g.S.Store.state c.enter.new.store) live en.task en.left c.enter.ensures.keeps c.enter.ensures.armed en.enters.armed en.ended en.enters.landed (record { most = en.enters.most; found = en.enters.found })
+    en.in_step c.serve.ensures.any_moment c.serve.ensures.change c.serve.ensures.later (g.K.Sink.state c.serve.new.out) c.serve.ensures.sink_later
     (record { most = en.enters.most; found = en.enters.found; ours = en.ours; ready = en.enters.ready })
     (λ contents at. went_on read live after contents (g.S.Store.state c.serve.new.store) en.task ok.task en.left left en.enters.most c.marks_follow_steps.ensures.count
     (λ none. c.target_is_reached.ensures.reached none contents (ok.in_step true contents at)) (λ none. c.target_is_reached.ensures.settled none true contents (ok.in_step true contents at))
     (ok.in_step true contents at))
-    (rw c.orders.ensures at ok.served)
+    (rw c.orders.ensures at ok.made) (rw c.orders.ensures at ok.served)
     (subst (λ (n : ℕ). Shows (left_text n) (g.K.Sink.state c.serve.new.out) (g.K.Sink.state c.show_parts.new.out) c.show_parts.result)
     (c.left.ensures ∙ left ∙ ap (λ (n : ℕ). n - all_steps read.orders) en.left) c.show_parts.ensures)
 
@@ -49,9 +50,10 @@ returns-in-Err-Sink g c =
     let first = g.K.Sink.state c.args.out.now in
     let last = g.K.Sink.state c.serve.new.out in
     let bad = c.in-Err-Sink.ensures in
-    live_unput _ (names_in c.args.files) c.args.script.now c.load_scripted.ensures.same read c.in-Ok.ensures.takes.passes old c.in-Ok-enter.live en.task c.enter.ensures.keeps en.in_step
-    c.serve.ensures.any_moment
-    (subst (λ (f : ServeFault). AreCutOff c.in-Ok-enter.live old read.orders first last f) c.in-Err-Sink.field-0-is (rw c.orders.ensures at bad.cut_off))
+    live_unput _ (names_in c.args.files) c.args.script.now c.load_scripted.ensures.same read c.in-Ok.ensures.takes.passes c.keeps_rules.ensures.valid c.keeps_rules.ensures.runs
+    old c.in-Ok-enter.live en.task en.left c.enter.ensures.keeps c.enter.ensures.armed en.enters.armed en.ended en.enters.landed (record { most = en.enters.most; found = en.enters.found })
+    en.in_step c.serve.ensures.any_moment c.serve.ensures.change c.serve.ensures.later
+    (subst (λ (f : ServeFault). AreCutOff c.in-Ok-enter.live old new read.orders first last f) c.in-Err-Sink.field-0-is (rw c.orders.ensures at bad.cut_off))
     (subst (λ (f : ServeFault). IsServeFault old new first last f) c.in-Err-Sink.field-0-is bad.fault)
 
 pub returns : goal.returns
@@ -65,7 +67,8 @@ returns g c =
     let bad = c.in-Err-Store.ensures in
     let t = c.tell-in-Err-Store.ensures in
     let rose = subst (λ (f : ServeFault). IsServeFault old new first last f) c.in-Err-Store.field-0-is bad.fault in
-    live_failed _ (names_in c.args.files) c.args.script.now c.load_scripted.ensures.same read c.in-Ok.ensures.takes.passes old c.in-Ok-enter.live en.task c.enter.ensures.keeps en.in_step
-    c.serve.ensures.any_moment last c.serve.ensures.sink_later
-    (subst (λ (f : ServeFault). AreCutOff c.in-Ok-enter.live old read.orders first last f) c.in-Err-Store.field-0-is (rw c.orders.ensures at bad.cut_off))
+    live_failed _ (names_in c.args.files) c.args.script.now c.load_scripted.ensures.same read c.in-Ok.ensures.takes.passes c.keeps_rules.ensures.valid c.keeps_rules.ensures.runs
+    old c.in-Ok-enter.live en.task en.left c.enter.ensures.keeps c.enter.ensures.armed en.enters.armed en.ended en.enters.landed (record { most = en.enters.most; found = en.enters.found })
+    en.in_step c.serve.ensures.any_moment c.serve.ensures.change c.serve.ensures.later last c.serve.ensures.sink_later
+    (subst (λ (f : ServeFault). AreCutOff c.in-Ok-enter.live old new read.orders first last f) c.in-Err-Store.field-0-is (rw c.orders.ensures at bad.cut_off))
     (omega (arith, c.enter.ensures.keeps.later, rose)) t.status t.begun t.whole

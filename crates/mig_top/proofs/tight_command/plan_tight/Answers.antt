@@ -1,7 +1,7 @@
-use Rattle.mig_top.proofs.Common.{Files, IfSome, IsSomeAnd, Option, OthersStay, [], arith, err_from_is_err_and, four_and, names_in, plans_tight, subst, tight_texts_of}
+use Rattle.mig_top.proofs.Common.{[], arith, err_from_is_err_and, four_and, inr, names_in, plans_tight, tight_texts_of}
 use Rattle.mig_top.proofs.EndsOf.{files_unread}
 use Rattle.mig_top.proofs.Steps.{if_map}
-use Rattle.mig_top.proofs.TightSaves.{tight_saved, unread_tight}
+use Rattle.mig_top.proofs.TightSaves.{tight_saved, tight_unsaved, unread_tight}
 use Rattle.mig_top.proofs.tight_command.plan_tight.Goals as goal
 
 pub returns-in_err-text : goal.returns-in_err-text
@@ -19,7 +19,8 @@ returns-in_err-save g c =
     let p = err_from_is_err_and c.from_residual-in_err-save.result c.from_residual-in_err-save.ensures.1 in
     rw (p.1, p.2) (record {
       cause = omega (arith, c.load_tight.ensures.later, c.in_err-save.ensures.failed);
-      leaves = subst (λ (o : Option Files). IfSome o (λ files. IsSomeAnd new.files (OthersStay c.args.files.plan.now files))) c.load_tight.ensures.same c.save.ensures.others;
+      leaves = inr (tight_unsaved (names_in c.args.files) (tight_texts_of c.in_ok-text.text) (g.F.Folder.state c.args.folder.now).files (g.F.Folder.state c.load_tight.new.folder).files new.files
+          c.load_tight.ensures.same c.in_ok-text.ensures.takes.passes c.save.ensures.others);
     })
 
 pub returns : goal.returns

@@ -1,7 +1,14 @@
-use Rattle.mig_live.proofs.Common.{arith, inl, refl, ◌∙◌}
-use Rattle.mig_live.proofs.SessionLaws.{more_steps}
+use Rattle.mig_live.proofs.ActionLaws.{made_more, made_none, part_after, taken_all}
+use Rattle.mig_live.proofs.Common.{Action, AreMade, AreMadeInPart, Err, IsMade, List, Ok, Result, Session, State, [], actions_left, arith, cases_lt, drop, inl, inr, refl, subst, sym, take, ℕ, ◌+◌, ◌∙◌, ◌∷◌, ◌≡◌, ◌≤◌, ◌⊎◌}
+use Rattle.std.specs.Prelude.{OnErr, min}
+use Rattle.mig_live.proofs.SessionLaws.{more_steps, none_left}
 use Rattle.mig_live.proofs.WorkCells.{works_more, works_none}
 use Rattle.mig_live.proofs.live.Live.advance.Goals as goal
+
+-- one step more is made
+more : (n : ℕ) (actions now left : List Action) (old mid new : State) → now ≡ drop n actions → AreMade (take n actions) old mid → (a : Action) × (now ≡ a ∷ left) × IsMade a mid new
+    → AreMade (take (n + 1) actions) old new × (left ≡ drop (n + 1) actions)
+more n actions now left old mid new rest made (a, first, one) = made_more n actions left a old mid new (sym rest ∙ first) made one
 
 pub returns-in_err-live-clause-any_moment : goal.returns-in_err-live-clause-any_moment
 returns-in_err-live-clause-any_moment g c = more_steps c.args.self c.loop.live c.loop.invariant.task (g.S.Store.state c.args.store.now) (g.S.Store.state c.loop.store) (g.S.Store.state c.step.new.store)
@@ -11,6 +18,8 @@ pub loop-init : goal.loop-init
 loop-init g c = record {
   task = refl;
   left = omega arith;
+  rest = refl;
+  made = made_none (g.S.Store.state c.args.store.now);
   any_moment = λ asked contents at. record { later = omega arith; since = λ t image le left. inl left };
   in_step = λ asked contents at. at;
   landed = c.requires;
@@ -22,6 +31,10 @@ pub loop-preserved : goal.loop-preserved
 loop-preserved g c = record {
   task = c.in_ok-live.ensures.task ∙ c.loop.invariant.task;
   left = omega (arith, c.in_ok-live.ensures.left, c.loop.invariant.left);
+  rest = (more c.loop.counter (actions_left c.args.self) (actions_left c.loop.live) (actions_left c.in_ok-live.live) (g.S.Store.state c.args.store.now) (g.S.Store.state c.loop.store) (g.S.Store.state c.step.new.store)
+      c.loop.invariant.rest c.loop.invariant.made c.in_ok-live.ensures.made).1;
+  made = (more c.loop.counter (actions_left c.args.self) (actions_left c.loop.live) (actions_left c.in_ok-live.live) (g.S.Store.state c.args.store.now) (g.S.Store.state c.loop.store) (g.S.Store.state c.step.new.store)
+      c.loop.invariant.rest c.loop.invariant.made c.in_ok-live.ensures.made).0;
   any_moment = more_steps c.args.self c.loop.live c.loop.invariant.task (g.S.Store.state c.args.store.now) (g.S.Store.state c.loop.store) (g.S.Store.state c.step.new.store)
       c.loop.invariant.any_moment c.loop.invariant.in_step c.step.ensures.any_moment;
   in_step = λ asked contents at. c.in_ok-live.ensures.in_step asked contents (c.loop.invariant.in_step asked contents at);
@@ -32,3 +45,36 @@ loop-preserved g c = record {
 
 pub returns-in_err-live-clause-change : goal.returns-in_err-live-clause-change
 returns-in_err-live-clause-change g c = works_more c.args.self.task c.loop.live.task c.loop.invariant.task (g.S.Store.state c.args.store.now) (g.S.Store.state c.loop.store) (g.S.Store.state c.step.new.store) c.loop.invariant.change c.step.ensures.change
+
+on_err_is : {T E P : Type 0} (r : Result T E) → P → OnErr r P
+on_err_is (Ok x) p = tt
+on_err_is (Err e) p = p
+
+pub returns-in_err-live-clause-part : goal.returns-in_err-live-clause-part
+returns-in_err-live-clause-part g c =
+    let old = g.S.Store.state c.args.store.now in
+    let mid = g.S.Store.state c.loop.store in
+    let new = g.S.Store.state c.step.new.store in
+    on_err_is c.from_residual.result (part_after c.loop.counter c.args.count (actions_left c.args.self) old mid new (omega (arith, c.loop-test.true, c.min-end.ensures)) c.loop.invariant.made
+    (subst (λ (l : List Action). AreMadeInPart [] (take 1 l) mid new) c.loop.invariant.rest c.step.ensures.part))
+
+-- as many as are left are made, or as many as were asked for
+all_made : (counter count : ℕ) (first live : Session) → counter ≤ min count first.left → min count first.left ≤ counter → live.left + counter ≡ first.left → actions_left live ≡ drop counter (actions_left first)
+    → (counter ≡ count) ⊎ (drop counter (actions_left first) ≡ [])
+all_made counter count first live low high sum rest = elim (cases_lt first.left count) [
+  | inl few ↦ inr (sym rest ∙ none_left live (omega (arith, low, high, sum, few)))
+  | inr many ↦ inl (omega (arith, low, high, many))
+]
+
+pub returns-clause-rest : goal.returns-clause-rest
+returns-clause-rest g c =
+    c.loop.invariant.rest ∙ (taken_all c.loop.counter c.args.count (actions_left c.args.self) (omega (arith, c.loop.auto.counter-end, c.min-end.ensures))
+    (all_made c.loop.counter c.args.count c.args.self c.loop.live (omega (arith, c.loop.auto.counter-end, c.min-end.ensures, c.left.ensures)) (omega (arith, c.loop-test.false, c.min-end.ensures, c.left.ensures))
+    c.loop.invariant.left c.loop.invariant.rest)).1
+
+pub returns-clause-made : goal.returns-clause-made
+returns-clause-made g c =
+    subst (λ (l : List Action). AreMade l (g.S.Store.state c.args.store.now) (g.S.Store.state c.loop.store))
+    (taken_all c.loop.counter c.args.count (actions_left c.args.self) (omega (arith, c.loop.auto.counter-end, c.min-end.ensures))
+    (all_made c.loop.counter c.args.count c.args.self c.loop.live (omega (arith, c.loop.auto.counter-end, c.min-end.ensures, c.left.ensures)) (omega (arith, c.loop-test.false, c.min-end.ensures, c.left.ensures))
+    c.loop.invariant.left c.loop.invariant.rest)).0 c.loop.invariant.made

@@ -1,10 +1,12 @@
-use Rattle.mig_live.proofs.Common.{Bool, ChangesWork, Contents, InStep, IsSound, LeavesOnly, [], flights, ◌+◌, ◌≡◌, ◌≤◌}
+use Rattle.mig_live.proofs.Common.{AreMade, Bool, ChangesWork, Contents, InStep, IsSound, LeavesOnly, [], actions_left, drop, flights, take, ◌+◌, ◌≡◌, ◌≤◌}
 use Rattle.mig_live.proofs.live.Live.advance.Given as goal
 
 abbrev pub invariant-loop : goal.invariant-loop
 invariant-loop g l = record {
   task : l.live.task ≡ l.initial.live.task;
   left : l.live.left + l.counter ≡ l.initial.live.left;
+  rest : actions_left l.live ≡ drop l.counter (actions_left l.initial.live);
+  made : AreMade (take l.counter (actions_left l.initial.live)) (g.S.Store.state l.initial.store) (g.S.Store.state l.store);
   any_moment : (asked : Bool) (contents : Contents) → InStep asked l.initial.live contents (g.S.Store.state l.initial.store)
       → LeavesOnly (IsSound asked l.initial.live.task.input l.initial.live.task.plan l.initial.live.task.digest contents) (g.S.Store.state l.initial.store) (g.S.Store.state l.store);
   in_step : (asked : Bool) (contents : Contents) → InStep asked l.initial.live contents (g.S.Store.state l.initial.store) → InStep asked l.live contents (g.S.Store.state l.store);

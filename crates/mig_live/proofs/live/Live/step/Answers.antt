@@ -1,6 +1,6 @@
-use Rattle.mig_live.proofs.Common.{Session, ap, arith, refl, steps_in, suc, sym, ◌∙◌}
+use Rattle.mig_live.proofs.Common.{Session, actions_since, ap, arith, drop, refl, steps_in, suc, sym, ◌+◌, ◌-◌, ◌∙◌}
 use Rattle.mig_live.proofs.StepCounts.{shifts_few}
-use Rattle.mig_live.proofs.SessionLaws.{any_step, within_step, mark_step, at_mark, round_left, some_left, kept_mark}
+use Rattle.mig_live.proofs.SessionLaws.{made_here, part_here, any_step, within_step, mark_step, at_mark, round_left, some_left, kept_mark}
 use Rattle.mig_live.proofs.WorkCells.{works_of}
 use Rattle.mig_live.proofs.live.Live.step.Goals as goal
 
@@ -64,3 +64,41 @@ returns-in_err-step_within-clause-change g c = works_of c.self.inside.job.now c.
 
 pub returns-clause-change : goal.returns-clause-change
 returns-clause-change g c = works_of c.self.inside.job.now c.args.self.task (ap (λ (l : Session). l.task) c.self.view_is) (g.S.Store.state c.args.store.now) (g.S.Store.state c.step_within.new.store) c.step_within.ensures.change
+
+pub returns-in_err-mark_next-clause-part : goal.returns-in_err-mark_next-clause-part
+returns-in_err-mark_next-clause-part g c =
+    let i = c.self.inside in
+    let full = at_mark i.job.now i.marked i.left i.done c.self.invariant.1 c.args.self (sym c.self.view_is) (sym c.is_at_mark.ensures ∙ c.if-is_at_mark.true) in
+    part_here i.job.now i.marked i.left i.done c.self.invariant.1 c.args.self (sym c.self.view_is) (steps_in i.job.now.plan i.marked) full (g.S.Store.state c.args.store.now) (g.S.Store.state c.mark_next.new.store) c.mark_next.ensures.first.part
+
+pub returns-then-is_at_mark-clause-part : goal.returns-then-is_at_mark-clause-part
+returns-then-is_at_mark-clause-part g c =
+    let i = c.self.inside in
+    let full = at_mark i.job.now i.marked i.left i.done c.self.invariant.1 c.args.self (sym c.self.view_is) (sym c.is_at_mark.ensures ∙ c.if-is_at_mark.true) in
+    part_here i.job.now i.marked i.left i.done c.self.invariant.1 c.args.self (sym c.self.view_is) (steps_in i.job.now.plan i.marked) full (g.S.Store.state c.args.store.now) (g.S.Store.state c.mark_next.new.store) c.mark_next.ensures.first.part
+
+pub returns-then-is_at_mark-clause-made : goal.returns-then-is_at_mark-clause-made
+returns-then-is_at_mark-clause-made g c =
+    let i = c.self.inside in
+    let full = at_mark i.job.now i.marked i.left i.done c.self.invariant.1 c.args.self (sym c.self.view_is) (sym c.is_at_mark.ensures ∙ c.if-is_at_mark.true) in
+    let some = some_left i.job.now i.marked i.left i.done c.self.invariant.1 c.args.self (sym c.self.view_is) c.requires.left in
+    let lt = round_left i.job.now i.marked i.left i.done c.self.invariant.1 c.self.invariant.0 full some in
+    made_here i.job.now i.marked i.left i.done c.self.invariant.1 c.args.self (sym c.self.view_is) (steps_in i.job.now.plan i.marked) full (g.S.Store.state c.args.store.now) (g.S.Store.state c.mark_next.new.store)
+    (actions_since i.job.now (i.marked + 1)) (i.marked + 1) (i.left - 1) 0 (kept_mark i.job.now i.marked i.left i.done c.self.invariant.1 lt full) refl c.in_ok-mark_next.ensures.first.made
+
+pub returns-in_err-step_within-clause-part : goal.returns-in_err-step_within-clause-part
+returns-in_err-step_within-clause-part g c =
+    let i = c.self.inside in
+    part_here i.job.now i.marked i.left i.done c.self.invariant.1 c.args.self (sym c.self.view_is) i.done refl (g.S.Store.state c.args.store.now) (g.S.Store.state c.step_within.new.store) c.step_within.ensures.first.part
+
+pub returns-clause-part : goal.returns-clause-part
+returns-clause-part g c =
+    let i = c.self.inside in
+    part_here i.job.now i.marked i.left i.done c.self.invariant.1 c.args.self (sym c.self.view_is) i.done refl (g.S.Store.state c.args.store.now) (g.S.Store.state c.step_within.new.store) c.step_within.ensures.first.part
+
+pub returns-clause-made : goal.returns-clause-made
+returns-clause-made g c =
+    let i = c.self.inside in
+    let some = some_left i.job.now i.marked i.left i.done c.self.invariant.1 c.args.self (sym c.self.view_is) c.requires.left in
+    made_here i.job.now i.marked i.left i.done c.self.invariant.1 c.args.self (sym c.self.view_is) i.done refl (g.S.Store.state c.args.store.now) (g.S.Store.state c.step_within.new.store)
+    (drop (i.done + 1) (actions_since i.job.now i.marked)) i.marked (i.left - 1) (i.done + 1) (omega (arith, some, c.self.invariant.1)) refl c.in_ok-step_within.ensures.first.made
