@@ -148,7 +148,7 @@ def real_plans():
         made.placed("next", "after")
         there = {osd for _, up in groups_in(room.read("after")).values() for osd in up}
         Count.same("each OSD has something, those that are out nothing", {*range(32)} - there, {5, 7})
-        planner = plan_ceph.Planner(room.at)
+        planner = plan_ceph.CephPlanner(room.at)
         planner.crush = made.crush("map")
         uneven = []
         for balance in (None, ""):

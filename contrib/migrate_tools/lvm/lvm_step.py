@@ -13,7 +13,7 @@ from collections.abc import Sequence
 from typing import NoReturn
 from ..clock import ENDED, Clock, add_times
 from ..command import Wrong, command, note, read_text, words
-from ..hooks import add_hook, call
+from ..calls import add_hook, call
 from .pvmoves import Pvmove, apart, options
 
 LOOK = ["pvs", "--segments", "--reportformat", "json", "-o", "lv_name,pvseg_start,pvseg_size"]

@@ -34,7 +34,7 @@ from ..clock import ENDED, Clock, add_times
 from ..command import Wrong, command, note, put, words
 from ..disks import Disks, check_disks, read_disks
 from ..folders.targets import names_of
-from ..hooks import add_hook, call
+from ..calls import add_hook, call
 from ..plans import Plan, Shift, read_plan
 from ..waiting import Waiting
 from .commands import PLACES, Steps, Values, check_inside, check_words, commands, ends_in, fill_in, filled

@@ -1,7 +1,21 @@
-"""What is called where a run ends or something fails, as --hook says."""
-import argparse, shlex, subprocess
+"""What is called: a program whose output is read; and --hook, where a run ends or something fails."""
+import argparse, shlex, subprocess, sys
 from collections.abc import Sequence
-from .command import note
+from .command import Wrong, note
+
+
+def output(*words: str, folder: str = ".", passes: bool = False) -> str:
+    """What a program prints, which has to end well. What it says besides is passed on where it `passes`."""
+    try:
+        ran = subprocess.run(words, cwd=folder, capture_output=True, text=True, check=False, stdin=subprocess.DEVNULL)
+    except OSError as error:
+        raise Wrong(f"there is no command {words[0]}: {error.strerror}") from None
+    if ran.returncode:
+        said = (ran.stderr or ran.stdout).strip()[-1000:]
+        raise Wrong(f"{' '.join(words)} ended with status {ran.returncode}: {said}")
+    if passes:
+        sys.stderr.write(ran.stderr)
+    return ran.stdout
 
 
 def add_hook(reader: argparse.ArgumentParser) -> None:
