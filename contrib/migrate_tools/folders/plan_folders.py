@@ -9,6 +9,7 @@ import os, shlex
 from ..command import command, here, put, save_all
 from ..fullness import Room
 from ..plans import Plan, read_plan, read_rows, table
+from ..shell import filled
 from ..whole import Planner, WishPlanner, handed_on, reader_of
 from .found import bytes_of
 from .targets import HEADER, names_of
@@ -35,14 +36,10 @@ def names_back(path: str, plan: Plan) -> str:
 
 
 def script(planner: Planner, what: str, sub: str, more: str, copy: list[str], guard: str, plan: Plan) -> str:
-    texts = {"WHAT": what, "TITLE": f"{len(plan.shifts())} transfers, plan {plan.digest.hex()}", "MORE": more,
-             "HERE": shlex.quote(here()), "DISKS": shlex.quote(planner.at("disks.csv")), "GUARD": shlex.quote(guard),
-             "NAMES": shlex.quote(planner.at(f"{sub}names.csv")), "PLAN": shlex.quote(planner.at(f"{sub}plan.txt")),
-             "COPY": shlex.join(copy)}
-    text = SCRIPT
-    for name, it in texts.items():
-        text = text.replace(name, it)
-    return text
+    return filled(SCRIPT, WHAT=what, TITLE=f"{len(plan.shifts())} transfers, plan {plan.digest.hex()}", MORE=more,
+                  HERE=shlex.quote(here()), DISKS=shlex.quote(planner.at("disks.csv")), GUARD=shlex.quote(guard),
+                  NAMES=shlex.quote(planner.at(f"{sub}names.csv")), PLAN=shlex.quote(planner.at(f"{sub}plan.txt")),
+                  COPY=shlex.join(copy))
 
 
 @command
