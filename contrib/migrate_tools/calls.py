@@ -1,7 +1,11 @@
-"""What is called: a program whose output is read; and --hook, where a run ends or something fails."""
+"""What is called: a program whose output is read; and --hook, where a run ends or something fails. And how a run ends.
+"""
 import argparse, shlex, subprocess, sys
-from collections.abc import Sequence
-from .command import Wrong, note
+from collections.abc import Callable, Sequence
+from dataclasses import dataclass
+from typing import NoReturn
+from .clock import ENDED
+from .command import Wrong, note, put
 
 
 def output(*words: str, folder: str = ".", passes: bool = False) -> str:
@@ -31,3 +35,31 @@ def call(hook: Sequence[str], what: str, text: str) -> None:
             note(f"--hook ended with status {ran.returncode}: {shlex.join(hook)}")
     except OSError as error:
         note(f"--hook cannot be called: {error.strerror}: {shlex.join(hook)}")
+
+
+@dataclass
+class Ending:
+    """How a run ends: what `tell` logs, what is said, what the hook is told of the `name`, the status. `again` says how
+    to begin again."""
+    tell: Callable[[str], None]
+    name: str
+    again: str
+    hook: Sequence[str] = ()
+
+    def end(self, what: str, text: str, more: str, status: int) -> NoReturn:
+        note(f"{text}{more}; {self.again}")
+        call(self.hook, what, f"{self.name}: {text}")
+        sys.exit(status)
+
+    def over(self, where: str) -> NoReturn:
+        """As --until says."""
+        self.tell("ends")
+        self.end("ended", f"ended {where}, as --until says", "", ENDED)
+
+    def stop(self, where: str, more: str, status: int) -> NoReturn:
+        """Something failed, or a signal came; `more` says what that leaves."""
+        self.end("stopped", f"stopped {where}", more, status)
+
+    def done(self, text: str = "all rounds are carried out") -> None:
+        call(self.hook, "done", f"{self.name}: {text}")
+        put(f"{text}\n")

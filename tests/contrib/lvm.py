@@ -243,7 +243,7 @@ def the_script_of_lvm():
             if not form:
                 Count.same("the hook is told", room.read("told"),
                            f"failed moves.sh: a pvmove of round {failing} failed\nstopped moves.sh: stopped in round "
-                           f"{failing}; begin again\n")
+                           f"{failing}\n")
             line = next((it for it in room.read("moves.sh").splitlines()
                          if it.startswith("lvm-step ") and " /dev/loop0:64-95 " in it), "")
             if not form:  # a line by hand, with what the script's PATH has
