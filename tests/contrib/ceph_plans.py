@@ -122,6 +122,8 @@ def what_plan_ceph_refuses():
         limits = {name: both for name, *both, _ in rows_of(room.read("plan/disks.csv"))}
         found = limits["osd.6"], limits["osd.7"]
         Count.same("osd_max_backfills is each daemon's own", found, (["3", "3"], ["1", "1"]))
+        said = "plan has a plan with its way back already: name another folder"
+        refused(room, "a folder with a plan", f"contrib/plan-ceph {WORDS}", said)
 
 
 def fuller_and_fuller():

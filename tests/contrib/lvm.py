@@ -277,7 +277,7 @@ def the_script_of_lvm():
         room.write("bin/pvmove", '#!/bin/sh\necho at work >>at\nuntil [ -e go ] || [ ! -e at ]; do sleep 0.1; '
                                  'done\nexec "${0%pvmove}real/pvmove" "$@"\n')
         room.good("lvm-step", "chmod +x bin/pvmove")
-        ran = subprocess.Popen(["bash", "-c", "exec sh moves.sh >said 2>notes"], cwd=room.at, env=room.env)
+        ran = room.begin("exec sh moves.sh >said 2>notes")
         until(lambda: room.read("at"), "a pvmove to begin")
         refused(room, "a second one at once", "timeout 20 sh moves.sh", "moves.sh is being carried out already")
         ran.terminate()

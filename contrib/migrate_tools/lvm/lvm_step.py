@@ -10,9 +10,9 @@ physical volume, and of one volume, so what shares one of these within a round c
 status is 3. What it prints is for `progress --log`."""
 import argparse, fcntl, json, re, shlex, signal, subprocess, sys
 from collections.abc import Sequence
-from ..calls import Ending, add_hook, call
+from ..calls import Ending, add_hook, call, output
 from ..clock import Clock, add_times, round_of, tell
-from ..command import Wrong, command, put, read_text, words
+from ..command import Wrong, command, read_text, words
 from .pvmoves import Pvmove, apart, options
 
 LOOK = ["pvs", "--segments", "--reportformat", "json", "-o", "lv_name,pvseg_start,pvseg_size"]
@@ -53,15 +53,13 @@ def commands(move: Pvmove) -> list[str]:
 
 def holds(move: Pvmove, device: str, by: int) -> bool:
     """Whether the volume has all of these extents there."""
-    ran = subprocess.run([*LOOK, device], capture_output=True, text=True, check=False)
+    said = output(*LOOK, device)
     try:
-        rows = [row for part in json.loads(ran.stdout)["report"] for row in part["pvseg"]] if not ran.returncode else []
+        rows = [row for part in json.loads(said)["report"] for row in part["pvseg"]]
         there = {at for row in rows if row["lv_name"].strip("[]") == move.volume
                  for at in range(int(row["pvseg_start"]), int(row["pvseg_start"]) + int(row["pvseg_size"]))}
     except (ValueError, LookupError, TypeError):
-        raise Wrong(f"{shlex.join([*LOOK, device])} does not say what it is asked for: {ran.stdout[:200]}") from None
-    if ran.returncode:
-        raise Wrong(f"{shlex.join([*LOOK, device])}: status {ran.returncode}: {ran.stderr.strip()}; is this root?")
+        raise Wrong(f"{shlex.join([*LOOK, device])} does not say what it is asked for: {said[:200]}") from None
     return there.issuperset(range(move.first + by, move.last + by + 1))
 
 
