@@ -1,7 +1,6 @@
-"""What is called: a program whose output is read; and --hook, where a run ends or something fails. And how a run ends.
-"""
+"""What is called: a program whose output is read, and --hook, where something fails or a run ends; how it ends."""
 import argparse, shlex, subprocess, sys
-from collections.abc import Callable, Sequence
+from collections.abc import Sequence
 from dataclasses import dataclass
 from typing import NoReturn
 from .clock import ENDED
@@ -39,26 +38,17 @@ def call(hook: Sequence[str], what: str, text: str) -> None:
 
 @dataclass
 class Ending:
-    """How a run ends: what `tell` logs, what is said, what the hook is told of the `name`, the status. `again` says how
-    to begin again."""
-    tell: Callable[[str], None]
+    """How a run of this name ends: what is said, and what its hook is told. `again` says how to begin it again."""
     name: str
     again: str
     hook: Sequence[str] = ()
 
-    def end(self, what: str, text: str, more: str, status: int) -> NoReturn:
+    def end(self, what: str, where: str, more: str = "", status: int = ENDED) -> NoReturn:
+        """`what` is ended, as --until says, or stopped; `more` says what that leaves."""
+        text = f"{what} {where}" + ", as --until says" * (what == "ended")
         note(f"{text}{more}; {self.again}")
         call(self.hook, what, f"{self.name}: {text}")
         sys.exit(status)
-
-    def over(self, where: str) -> NoReturn:
-        """As --until says."""
-        self.tell("ends")
-        self.end("ended", f"ended {where}, as --until says", "", ENDED)
-
-    def stop(self, where: str, more: str, status: int) -> NoReturn:
-        """Something failed, or a signal came; `more` says what that leaves."""
-        self.end("stopped", f"stopped {where}", more, status)
 
     def done(self, text: str = "all rounds are carried out") -> None:
         call(self.hook, "done", f"{self.name}: {text}")

@@ -47,8 +47,10 @@ def measured(path: str) -> int | None:
         with open(path, "rb", buffering=0) as file:
             os.posix_fadvise(file.fileno(), 0, 0, os.POSIX_FADV_DONTNEED)
             begun, count = time.monotonic(), 0
-            while (data := file.read(1 << 20)) and time.monotonic() < begun + 1:
+            while data := file.read(1 << 20):
                 count += len(data)
+                if time.monotonic() > begun + 1:
+                    break
             return int(count / (time.monotonic() - begun)) if count else None
     except OSError:
         return None

@@ -277,7 +277,7 @@ def main() -> None:
     lock, clock = Lock(Key(), os.path.abspath(given.script or "a step")), Clock(given.until, tell, given.window)
     carrier = Carrier(steps, given.limits, given.ahead, clock, lock)
     name = given.script or "a step"
-    ending = Ending(tell, name, f"begin again with{f': sh {name}' if given.script else ' the same words'}")
+    ending = Ending(name, f"begin again with{f': sh {name}' if given.script else ' the same words'}")
 
     def stop(number: int, _: FrameType | None) -> None:
         carrier.stopped.set()
@@ -295,12 +295,13 @@ def main() -> None:
         tell("ends")
         return ending.done()
     except Ended as where:
-        ending.over(str(where))
+        tell("ends")
+        ending.end("ended", str(where))
     except (Wrong, Silent, Stopped) as why:
         if not isinstance(why, Stopped):
             note(why)
         status = 130 if carrier.stopped.is_set() else 1  # what it called is stopped with it
-        ending.stop(f"in round {carrier.round}", "; what is under way goes on", status)
+        ending.end("stopped", f"in round {carrier.round}", "; what is under way goes on", status)
     finally:
         try:
             lock.release()

@@ -114,17 +114,16 @@ class Script:
     """Carries out these rounds from this one on."""
 
     def __init__(self, given: argparse.Namespace, rounds: Sequence[Sequence[Pvmove]], first: int) -> None:
-        self.given, self.rounds = given, rounds
-        self.ending = Ending(tell, given.script, "", given.hook)
-        self.goes_to(first)
+        self.given, self.rounds, self.number = given, rounds, first
         for it in (signal.SIGINT, signal.SIGTERM):
             signal.signal(it, self.stopped)
 
-    def goes_to(self, number: int) -> None:
-        self.number, self.ending.again = number, f"begin again with: sh {self.given.script} {number}"
+    def ending(self) -> Ending:
+        return Ending(self.given.script, f"begin again with: sh {self.given.script} {self.number}", self.given.hook)
 
     def stopped(self, *_: object) -> None:
-        self.ending.stop(f"in round {self.number}", "; each pvmove under way goes on: when none is left", 130)
+        more = "; each pvmove under way goes on: when none is left"
+        self.ending().end("stopped", f"in round {self.number}", more, 130)
 
     def print_alone(self) -> None:
         for number, moves in enumerate(self.rounds[self.number - 1:], self.number):
@@ -143,15 +142,15 @@ class Script:
                                   check=False).returncode:
                     raise Wrong(f"pvs of {device} fails, so nothing was begun; is this root?")
             tell(f"begins {self.given.plan}")
-            for number in range(1 if self.given.all_rounds else self.number, len(self.rounds) + 1):
-                self.goes_to(number)
+            for self.number in range(1 if self.given.all_rounds else self.number, len(self.rounds) + 1):
                 if not clock.wait():
-                    self.ending.over(f"before round {number}")
-                tell(f"round {number}")
-                if not Round(number).run(self.rounds[number - 1]):
-                    call(self.given.hook, "failed", f"{self.given.script}: a pvmove of round {number} failed")
-                    self.ending.stop(f"in round {number}", "", 1)
-            self.ending.done()
+                    tell("ends")
+                    self.ending().end("ended", f"before round {self.number}")
+                tell(f"round {self.number}")
+                if not Round(self.number).run(self.rounds[self.number - 1]):
+                    call(self.given.hook, "failed", f"{self.given.script}: a pvmove of round {self.number} failed")
+                    self.ending().end("stopped", f"in round {self.number}", status=1)
+            self.ending().done()
 
 
 @command

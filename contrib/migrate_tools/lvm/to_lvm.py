@@ -1,13 +1,11 @@
 """to-lvm PLAN NAMES [--out SCRIPT] [--plain]: turns a plan into a shell script of steps for `lvm-step`, each of which
 is a pvmove; NAMES is the names.csv of from-lvm.
 
-The script carries out one round after the other, and the transfers of a round side by side. LVM moves only once at a
-time from one physical volume, and only once at a time of one volume, so what shares one of these within a round comes
-after the other. Each step looks first where its extents are: what is done is passed over, and where they are in
-neither place the script stops. So it can be begun again at any round, as a whole too, and each line can be run by hand.
-A plan of plan-tight may park an item: what has gone on from there is passed over too, and each run looks at all rounds,
-since one needs those before it. A plan that parks an item where the script could not see that, or beside another leg or
-stripe of what it has, is refused. It needs root, and it is for /bin/sh; with --plain it does without Python:
+The script carries out one round after the other, and the transfers of a round side by side, as far as LVM does that;
+`lvm-step --help` says how. It can be begun again at any round, as a whole too, and each line can be run by hand. Of a
+plan of plan-tight, which may park items, each run looks at all rounds, since one needs those before it. One that parks
+an item where the script could not see that, or beside another leg or stripe of what it has, is refused. It needs root,
+and it is for /bin/sh; with --plain it does without Python:
   sh SCRIPT        carries out all rounds
   sh SCRIPT 3      begins at round 3
   sh SCRIPT -n     prints the commands alone

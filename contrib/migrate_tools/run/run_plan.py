@@ -159,17 +159,16 @@ def undo(path: str, plan: Plan, place: Place) -> None:
 
 
 def ending_of(runner: Runner) -> Ending:
-    return Ending(runner.place.times.tell, runner.name, "begin again with the same words", runner.hook)
+    return Ending(runner.name, "begin again with the same words", runner.hook)
 
 
 def stopped(runner: Runner, where: str, is_over: bool = True) -> NoReturn:
     """Ends where not all is done: as --until says, where nothing failed and its time has come; else since something
     failed, or was stopped."""
-    ending = ending_of(runner)
+    runner.place.times.tell("ends")
     if is_over and not runner.status and runner.clock.is_over():
-        ending.over(where)
-    ending.tell("ends")
-    ending.stop(where, ", and nothing more is removed", runner.status or 1)
+        ending_of(runner).end("ended", where)
+    ending_of(runner).end("stopped", where, ", and nothing more is removed", runner.status or 1)
 
 
 @command
