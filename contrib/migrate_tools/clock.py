@@ -3,7 +3,7 @@
 import argparse, datetime, os, re, time
 from collections.abc import Callable, Iterable, Sequence
 from dataclasses import dataclass
-from .command import note
+from .command import note, put
 
 PAUSE, ENDED = "pause", 3  # the file, of the working folder; the status of a run that --until ended before all was done
 DAYS = ("mon", "tue", "wed", "thu", "fri", "sat", "sun")
@@ -53,6 +53,21 @@ def add_times(reader: argparse.ArgumentParser, what: str) -> None:
                         help=f"no {what} begins once the clock shows this; where one is left the status is {ENDED}")
     reader.add_argument("--window", metavar="'[DAYS] HH:MM-HH:MM'", type=window, action="append", default=[],
                         help=f"{what}s begin within these times alone, as 22:00-06:00 or 'mon-fri 22:00-06:00'")
+
+
+def round_of(reader: argparse.ArgumentParser, words: Sequence[str], first: int, last: int) -> int:
+    """The round that these words name; the first one where there are none."""
+    if len(words) > 1 or not all(re.fullmatch("[0-9]{1,9}", it) for it in words):
+        reader.error(f"{' '.join(words)} is no round")
+    found = int(words[0]) if words else first
+    if not first <= found <= last:
+        reader.error(f"there is no round {found}, but {first} to {last}")
+    return found
+
+
+def tell(text: str) -> None:
+    """A line of a script's log, for `progress`."""
+    put(f"time {time.time():.0f} {text}\n")
 
 
 class Clock:

@@ -1,28 +1,18 @@
-"""What plan-lvm and plan-folders share: from the three files to a plan, its way back, and what an operator decides
-by."""
-import argparse, collections, os, re, shutil, subprocess, sys, time
-from collections.abc import Mapping, Sequence
+"""What plan-lvm, plan-folders and plan-ceph share: from the three files to a plan, its way back, and what an operator
+decides by."""
+import argparse, collections, os, re, shutil, subprocess, time
+from collections.abc import Callable, Iterable, Mapping, Sequence
+from .calls import output
 from .certs import read_cert
 from .command import Wrong, here, read_text, save_all, words
 from .disks import Disks, Side, is_split, limits_by_side, read_disks, sides_of
+from .fullness import Room, fullest
 from .plans import Plan, Shift, plan_text, read_plan, read_rows, table
 from .show.summary import queue, times_of
 from .sizes import amount, read_sizes, said
 from .waiting import needed
 
-FILES = ("disks.csv", "now.csv", "next.csv", "plan.txt")
-
-
-def tool(*words_: str, folder: str) -> str:
-    """What a command prints, which has to end well. What it says besides is passed on."""
-    try:
-        ran = subprocess.run(words_, cwd=folder, capture_output=True, text=True, check=False, stdin=subprocess.DEVNULL)
-    except OSError as error:
-        raise Wrong(f"there is no command {words_[0]}: {error.strerror}") from None
-    if ran.returncode:
-        raise Wrong(f"{' '.join(words_)} ended with status {ran.returncode}: {(ran.stderr or ran.stdout).strip()}")
-    sys.stderr.write(ran.stderr)
-    return ran.stdout
+FILES, NOW = ("disks.csv", "now.csv", "next.csv", "plan.txt"), "item,disk,slot"
 
 
 def reader_of(doc: str | None, several: Sequence[str], single: Sequence[str], flags: Sequence[str]
@@ -57,8 +47,10 @@ def measured(path: str) -> int | None:
         with open(path, "rb", buffering=0) as file:
             os.posix_fadvise(file.fileno(), 0, 0, os.POSIX_FADV_DONTNEED)
             begun, count = time.monotonic(), 0
-            while (data := file.read(1 << 20)) and time.monotonic() < begun + 1:
+            while data := file.read(1 << 20):
                 count += len(data)
+                if time.monotonic() > begun + 1:
+                    break
             return int(count / (time.monotonic() - begun)) if count else None
     except OSError:
         return None
@@ -82,7 +74,7 @@ def turned(plan: Plan, disks: Disks) -> list[list[Shift]]:
 
 
 class Planner:
-    """Makes the files of a folder. `program` is `migrate`."""
+    """A folder in which a plan and its way back are made. `program` is `migrate`."""
 
     def __init__(self, folder: str) -> None:
         self.folder, self.said = os.path.abspath(folder), folder
@@ -95,81 +87,86 @@ class Planner:
     def at(self, name: str) -> str:
         return os.path.join(self.folder, name)
 
-    def plan(self) -> str:
-        """Plans, and gives the verdict."""
+    def command(self, name: str, *words_: str, sub: str = "", passes: bool = True) -> str:
+        """What a command of these prints, in the folder or one below it."""
+        return output(os.path.join(here(), name), *words_, folder=self.at(sub), passes=passes)
+
+    def migrate(self, *words_: str, sub: str = "") -> str:
+        return output(self.program, *words_, folder=self.at(sub), passes=True)
+
+    def checked(self, sub: str = "") -> str:
+        """The verdict on a plan."""
+        return self.migrate("check", *FILES, "cert.txt", sub=sub).strip()
+
+    def lines(self, what: str, verdict: str, sizes: Mapping[str, int], more: Iterable[str],
+              scripts: Iterable[str]) -> str:
+        """What is said of the plan, and where all is."""
+        plan = read_plan(self.at("plan.txt"))
+        first = f"{what} move, {said(sum(sizes[it.item] for it in plan.shifts()))}, in {len(plan.rounds)} rounds: "
+        return "\n".join([first + verdict, *more, *(os.path.join(self.said, it) for it in scripts), ""])
+
+
+class WishPlanner(Planner):
+    """Plans a wish of plan-lvm or plan-folders, also where space is tight."""
+
+    def plan(self, names_back: Callable[[str, Plan], str]) -> tuple[Plan, Plan]:
+        """The plan and its way back, both checked; `names_back` makes the names.csv of the way back."""
         ran = subprocess.run([self.program, "plan", *FILES, "cert.txt"], cwd=self.folder, capture_output=True,
                              text=True, check=False)
         self.is_tight = ran.returncode == 3 and "no room" in ran.stdout
         if self.is_tight:
-            tool(self.program, "plan-tight", *FILES, folder=self.folder)
-            return self.followed(self.folder)
-        if ran.returncode:
+            self.migrate("plan-tight", *FILES)
+        elif ran.returncode:
             raise Wrong(f"{self.program} plan ended with status {ran.returncode}: {ran.stdout}{ran.stderr}".strip())
-        return tool(self.program, "check", *FILES, "cert.txt", folder=self.folder).strip()
+        self.verdict, plan = self.judged(), read_plan(self.at("plan.txt"))
+        self.back(plan)
+        self.way_back = self.judged("back")
+        save_all({self.at("back/names.csv"): names_back(self.at("names.csv"), plan)})
+        return plan, read_plan(self.at("back/plan.txt"))
 
-    def followed(self, folder: str) -> str:
-        """Whether a plan for tight space leads to the next file."""
-        last = tool(self.program, "after-tight", *FILES, folder=folder).splitlines()
-        if [it.rpartition(",")[0] for it in last] != read_text(f"{folder}/next.csv").splitlines():
-            raise Wrong("does not lead to next.csv", f"{folder}/plan.txt")
+    def judged(self, sub: str = "") -> str:
+        """The verdict on a plan; of one for tight space whether it leads to the next file."""
+        if not self.is_tight:
+            return self.checked(sub)
+        last = self.migrate("after-tight", *FILES, sub=sub).splitlines()
+        if [it.rpartition(",")[0] for it in last] != read_text(os.path.join(self.at(sub), "next.csv")).splitlines():
+            raise Wrong("does not lead to next.csv", os.path.join(self.at(sub), "plan.txt"))
         return "followed to its end, one at a time"
 
-    def back(self) -> tuple[Plan, str]:
-        """The way back: the same plan backwards, checked; and its verdict."""
-        plan, disks = read_plan(self.at("plan.txt")), read_disks(self.at("disks.csv"))
-        now = {item: disk for _, (item, disk, _) in read_rows(self.at("now.csv"), "item,disk,slot")}
+    def back(self, plan: Plan) -> None:
+        """Makes the way back: the same plan backwards."""
+        disks, rows = read_disks(self.at("disks.csv")), [row for _, row in read_rows(self.at("now.csv"), NOW)]
         last = {it.item: (it.target, it.target_slot) for it in plan.shifts()}
-        rows = [[item, *last.get(item, (disk, slot))]
-                for _, (item, disk, slot) in read_rows(self.at("now.csv"), "item,disk,slot")]
-        save_all({self.at("back/now.csv"): table([["item", "disk", "slot"], *rows]),
-                  self.at("back/next.csv"): table([["item", "disk"], *([item, now[item]] for item, *_ in rows)]),
+        now = [[item, *last.get(item, (disk, slot))] for item, disk, slot in rows]
+        save_all({self.at("back/now.csv"): table([NOW.split(","), *now]),
+                  self.at("back/next.csv"): table([["item", "disk"], *(row[:2] for row in rows)]),
                   self.at("back/disks.csv"): read_text(self.at("disks.csv"))})
-        text, folder = plan_text(turned(plan, disks)), self.at("back")
-        if self.is_tight:
-            save_all({self.at("back/plan.txt"): text})
-            return read_plan(self.at("back/plan.txt")), self.followed(folder)
-        tool(self.program, "plan", *FILES, "cert.txt", folder=folder)
-        cert = re.sub(r"^rounds \d+$", text.split("\n")[1], read_text(self.at("back/cert.txt")), count=1, flags=re.M)
-        save_all({self.at("back/plan.txt"): text, self.at("back/cert.txt"): cert})
-        verdict = tool(self.program, "check", *FILES, "cert.txt", folder=folder).strip()
-        return read_plan(self.at("back/plan.txt")), verdict
+        files = {self.at("back/plan.txt"): plan_text(turned(plan, disks))}
+        if not self.is_tight:
+            self.migrate("plan", *FILES, "cert.txt", sub="back")
+            count = files[self.at("back/plan.txt")].split("\n")[1]
+            cert = read_text(self.at("back/cert.txt"))
+            files[self.at("back/cert.txt")] = re.sub(r"^rounds \d+$", count, cert, count=1, flags=re.M)
+        save_all(files)
 
-    def told(self, verdict: str, back: str, rate: int | None, by: str, fills: Mapping[str, tuple[int, int]],
-             steps: Sequence[float] | None, unit: float) -> str:
-        """What an operator decides by. `fills` has the bytes in use of each disk, and its size."""
+    def told(self, rate: int | None, source: str, name: str, rooms: Mapping[str, Room], steps: Sequence[float] | None,
+             unit: float) -> str:
+        """Makes the report, and says what an operator decides by. Without a rate the `source`, which has this name, is
+        read."""
+        self.command("report", *FILES[3:], *FILES[:2], *["cert.txt"] * (not self.is_tight), "--out", "report.html")
         plan, disks = read_plan(self.at("plan.txt")), read_disks(self.at("disks.csv"))
-        sizes = read_sizes(self.at("bytes.csv"), plan) or {}
-        count = len({it.item for it in plan.shifts()})
-        lines = [f"{count} of {len(read_rows(self.at('now.csv'), 'item,disk,slot'))} items move, "
-                 f"{said(sum(sizes[it.item] for it in plan.shifts()))}, in {len(plan.rounds)} rounds: {verdict}"]
+        sizes, lines = read_sizes(self.at("bytes.csv"), plan) or {}, []
         if not self.is_tight:
             bound = read_cert(self.at("cert.txt"), disks).bound
             lines += [f"bottleneck {bound.said()}"] if bound else []
             lines.append(f"first come, first served: {queue(plan, disks, self.at('now.csv'))} rounds")
+        rate, by = (rate, "as is given") if rate else (measured(source), f"as {name} is read")
         lines += [*times_of(plan, rate, unit, sizes, disks, steps)[0], f"  with {said(rate)} a second, {by}"
                   ] if rate else ["how long it takes is not known: say --rate"]
-        peaks = {disk: (part, at) for disk, (part, at) in peaks_of(plan, sizes, fills).items() if at}
+        moves = ([(it.item, it.source, it.target) for it in round_] for round_ in plan.rounds)
+        peaks = {disk: peak for disk, peak in fullest(moves, sizes, rooms).items() if peak[0] > rooms[disk].part()}
         for disk, (part, at) in sorted(peaks.items(), key=lambda it: (-it[1][0], it[0]))[:5]:
             lines.append(f"disk {disk} is {100 * part:.0f} % full at most, in round {at}")
-        files = [os.path.join(self.said, it) for it in ("move.sh", "back.sh", "report.html")]
-        return "\n".join([*lines, f"way back: {back}", *files, ""])
-
-    def report(self) -> None:
-        tool(f"{here()}/report", *FILES[3:], *FILES[:2], *["cert.txt"] * (not self.is_tight), "--out", "report.html",
-             folder=self.folder)
-
-
-def peaks_of(plan: Plan, sizes: Mapping[str, int],
-             fills: Mapping[str, tuple[int, int]]) -> dict[str, tuple[float, int]]:
-    """How full each disk gets at most, and in which round, 0 for before the first one. What leaves makes room only once
-    the round is over."""
-    used = {disk: bytes_ for disk, (bytes_, _) in fills.items()}
-    found = {disk: (bytes_ / max(1, size), 0) for disk, (bytes_, size) in fills.items()}
-    for at, shifts in enumerate(plan.rounds, 1):
-        for it in shifts:
-            used[it.target] += sizes[it.item]
-        for disk in {it.target for it in shifts}:
-            found[disk] = max(found[disk], (used[disk] / max(1, fills[disk][1]), at), key=lambda it: it[0])
-        for it in shifts:
-            used[it.source] -= sizes[it.item]
-    return found
+        lines.append(f"way back: {self.way_back}")
+        count, all_ = len({it.item for it in plan.shifts()}), len(read_rows(self.at("now.csv"), NOW))
+        return self.lines(f"{count} of {all_} items", self.verdict, sizes, lines, ("move.sh", "back.sh", "report.html"))

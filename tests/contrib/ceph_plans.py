@@ -122,6 +122,8 @@ def what_plan_ceph_refuses():
         limits = {name: both for name, *both, _ in rows_of(room.read("plan/disks.csv"))}
         found = limits["osd.6"], limits["osd.7"]
         Count.same("osd_max_backfills is each daemon's own", found, (["3", "3"], ["1", "1"]))
+        said = "plan has a plan with its way back already: name another folder"
+        refused(room, "a folder with a plan", f"contrib/plan-ceph {WORDS}", said)
 
 
 def fuller_and_fuller():
@@ -148,7 +150,7 @@ def real_plans():
         made.placed("next", "after")
         there = {osd for _, up in groups_in(room.read("after")).values() for osd in up}
         Count.same("each OSD has something, those that are out nothing", {*range(32)} - there, {5, 7})
-        planner = plan_ceph.Planner(room.at)
+        planner = plan_ceph.CephPlanner(room.at)
         planner.crush = made.crush("map")
         uneven = []
         for balance in (None, ""):

@@ -1,6 +1,6 @@
 """Tries the scripts of to-ceph over a stand-in of a cluster, which takes reservations for backfills as Ceph does: what
 they run, what they wait for, what they pass over, and what they stop for."""
-import collections, json, os, random, re, subprocess, time
+import collections, json, os, random, re, time
 from ceph import FILES, FOUR
 from ceph_model import Cluster, filling, groups_in, up_of
 from migrate_tools.ceph import ceph_step, cluster, steps
@@ -215,10 +215,9 @@ def eager_ceph_stops():
         name = "to-ceph --eager, stopped"
         state = made(room)
         room.good(name, "sed -i 's/^PATH=.*/PATH=$PATH:alone/' eager.sh")  # a signal reaches it there
-        env = {**room.env, "PAUSE": "0.05"}
         for _ in range(3):  # again and again, each time once more is done
             before = copied(room)
-            ran = subprocess.Popen(["bash", "-c", "exec sh eager.sh >>log 2>notes"], cwd=room.at, env=env)
+            ran = room.begin("exec sh eager.sh >>log 2>notes", PAUSE="0.05")
             until(lambda: copied(room) > before + 1 or ran.poll() is not None, "a step to be done")
             ran.terminate()
             how = ran.wait(LIMIT), "begin again with: sh eager.sh" in room.read("notes")
@@ -229,16 +228,15 @@ def eager_ceph_stops():
         # outside of a window, a pause, and an end by --until
         begun(room, state)
         hours = "-".join(time.strftime("%H:%M", time.localtime(time.time() + it * 3600)) for it in (2, 3))
-        ran = subprocess.Popen(["bash", "-c", f"exec sh eager.sh --window {hours} >log 2>notes"], cwd=room.at, env=env)
+        ran = room.begin(f"exec sh eager.sh --window {hours} >log 2>notes", PAUSE="0.05")
         said = f"paused: nothing more begins outside of --window {hours}"
         until(lambda: said in (room.read("notes") or "") or ran.poll() is not None, "what keeps it")
         ran.terminate()
         how = ran.wait(LIMIT), room.read("state/log")
         Count.same(f"{name}: nothing begins outside of a window", how, (130, None))
         begun(room, state)
-        warm = {**env, "PATH": f"{room.path('contrib')}:{env['PATH']}"}
-        line = "touch pause; OVER=over exec sh eager.sh --until 06:00 >log 2>notes"
-        ran = subprocess.Popen(["bash", "-c", line], cwd=room.at, env=warm)
+        warm = f"PAUSE=0.05 OVER=over PATH={room.path('contrib')}:$PATH"
+        ran = room.begin(f"touch pause; {warm} exec sh eager.sh --until 06:00 >log 2>notes")
         until(lambda: "paused: nothing more begins until" in (room.read("notes") or ""), "a pause")
         Count.same(f"{name}: nothing begins in a pause", room.read("state/log"), None)
         os.unlink(room.path("pause"))
@@ -295,12 +293,12 @@ def one_at_a_time():
     """A second script is refused; by force it takes the place of the first, which then stops."""
     with Room() as room:
         made(room)
-        ran = subprocess.Popen(["bash", "-c", "touch pause; exec sh upmaps.sh >log 2>notes"], cwd=room.at, env=room.env)
+        ran = room.begin("touch pause; exec sh upmaps.sh >log 2>notes")
         until(lambda: "paused" in (room.read("notes") or ""), "a pause")
         second, said = room.run("mkdir other; cd other; sh ../eager.sh"), f"{room.path('upmaps.sh')}, process "
         is_refused = second.returncode == 1 and said in second.stderr and "--force" in second.stderr
         Count.that("a second script is refused", is_refused and room.read("state/log") is None, second)
-        forced = subprocess.Popen(["bash", "-c", "exec sh eager.sh --force >log2 2>notes2"], cwd=room.at, env=room.env)
+        forced = room.begin("exec sh eager.sh --force >log2 2>notes2")
         until(lambda: "paused" in (room.read("notes2") or ""), "a pause of the second")
         os.unlink(room.path("pause"))
         how = ran.wait(LIMIT), "took the place of this script by --force" in room.read("notes")

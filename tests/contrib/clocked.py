@@ -1,6 +1,6 @@
 """Runs of run-plan by a clock that a test hands in: each copy ends when the test says, so that nothing depends on how busy the machine
 is."""
-import errno, os, re, subprocess
+import errno, os, re
 from waiting import until
 
 START = 1700000000  # the time at which a run begins by that clock
@@ -39,7 +39,7 @@ def carried_out(room, options, spans, look=lambda now: None, looks=()):
     for item in spans:
         os.path.exists(room.path(f"go-{item}")) or os.mkfifo(room.path(f"go-{item}"))
     command = f"CLOCK=clock exec contrib/run-plan {options} plan.txt sh job {{item}} >said 2>notes"
-    ran = subprocess.Popen(["bash", "-c", command], cwd=room.at, env=room.env)
+    ran = room.begin(command)
     try:
         for now in sorted({at for span in spans.values() for at in span} | set(looks)):
             set_clock(room, now)

@@ -243,7 +243,7 @@ def the_script_of_lvm():
             if not form:
                 Count.same("the hook is told", room.read("told"),
                            f"failed moves.sh: a pvmove of round {failing} failed\nstopped moves.sh: stopped in round "
-                           f"{failing}; begin again\n")
+                           f"{failing}\n")
             line = next((it for it in room.read("moves.sh").splitlines()
                          if it.startswith("lvm-step ") and " /dev/loop0:64-95 " in it), "")
             if not form:  # a line by hand, with what the script's PATH has
@@ -277,7 +277,7 @@ def the_script_of_lvm():
         room.write("bin/pvmove", '#!/bin/sh\necho at work >>at\nuntil [ -e go ] || [ ! -e at ]; do sleep 0.1; '
                                  'done\nexec "${0%pvmove}real/pvmove" "$@"\n')
         room.good("lvm-step", "chmod +x bin/pvmove")
-        ran = subprocess.Popen(["bash", "-c", "exec sh moves.sh >said 2>notes"], cwd=room.at, env=room.env)
+        ran = room.begin("exec sh moves.sh >said 2>notes")
         until(lambda: room.read("at"), "a pvmove to begin")
         refused(room, "a second one at once", "timeout 20 sh moves.sh", "moves.sh is being carried out already")
         ran.terminate()

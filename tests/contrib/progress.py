@@ -1,5 +1,5 @@
 """What progress tells of runs of run-plan and of the scripts, pauses and --until, sizes, and balanced disks."""
-import collections, contextlib, fcntl, fractions, itertools, json, os, random, re, subprocess, time
+import collections, contextlib, fcntl, fractions, itertools, json, os, random, re, time
 from clocked import START, carried_out, set_clock
 from limits import made_case
 from limits_model import Case, plan_text
@@ -196,7 +196,7 @@ def pauses():
                      "plan.txt sh job copy {item}")
             stop = f"stop-{rounds[0][0][0]}"
             room.good("pauses", f"rm -f log notes pause over plan.txt.place*; echo pause >{stop}")
-            ran = subprocess.Popen(["bash", "-c", f"exec alone/run-plan {words} >said 2>notes"], cwd=room.at, env=room.env)
+            ran = room.begin(f"exec alone/run-plan {words} >said 2>notes")
             until(lambda: "paused" in (room.read("notes") or ""), "a pause")
             until(lambda: room.read("log").count("begin copy ") == room.read("log").count("end erase "), "what is under way to end")
             time.sleep(0.5)
@@ -225,7 +225,7 @@ def pauses():
             Count.that(f"--until and a failure, {eager or 'rounds'}", failed.returncode == 1 and "not copied" in failed.stderr, failed)
             # stopped while it is paused
             room.good("pauses", "rm -f log notes over plan.txt.place*; touch pause")
-            ran = subprocess.Popen(["bash", "-c", f"exec alone/run-plan {words} >said 2>notes"], cwd=room.at, env=room.env)
+            ran = room.begin(f"exec alone/run-plan {words} >said 2>notes")
             until(lambda: "paused" in (room.read("notes") or ""), "a pause")
             ran.terminate()
             Count.that(f"a pause that is stopped, {eager or 'rounds'}", ran.wait(LIMIT) == 130 and room.read("log") is None and "begin again with the same words" in room.read("notes"), room.read("notes"))

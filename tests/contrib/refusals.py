@@ -1,10 +1,7 @@
 """What the scripts of contrib/ refuse: each with a sentence, a status other than 0, and no file."""
 import json, os, re
 from rooms import FILES, SAMPLES, Count, Room, page, refused, rows_of, shifts_of
-
-
-def segment(volume, ranges, role="public", kind="linear"):
-    return {"vg_name": "data", "lv_name": volume, "lv_role": role, "segtype": kind, "seg_pe_ranges": ranges}
+from tight import segment
 
 
 def without(text, *columns):

@@ -101,6 +101,10 @@ class Room:
         return subprocess.run(["bash", "-c", command], cwd=self.at, env=self.env, stdin=subprocess.DEVNULL, capture_output=True, text=True,
                               errors="replace", timeout=LIMIT, check=False)
 
+    def begin(self, command, **env):
+        """Begins a command of a shell, which goes on."""
+        return subprocess.Popen(["bash", "-c", command], cwd=self.at, env={**self.env, **env})
+
     def good(self, name, command):
         """Runs a command that has to succeed, and gives what it printed."""
         ran = self.run(command)

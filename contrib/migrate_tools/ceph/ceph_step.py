@@ -11,11 +11,12 @@ gets no place on an OSD that is too full, is degraded or can't be used at three 
 a group has come to rest elsewhere, since the weights are others than planned; and at HEALTH_ERR. What is under way then
 goes on. One such script works on a cluster at a time, by the key migrate/ceph-step of `ceph config-key`. The time
 between two looks is $PAUSE, 30 seconds."""
-import argparse, collections, os, re, signal, sys, threading, time
+import argparse, collections, os, signal, threading
 from collections.abc import Sequence
 from concurrent.futures import ThreadPoolExecutor
 from types import FrameType
-from ..clock import ENDED, Clock, add_times
+from ..calls import Ending
+from ..clock import Clock, add_times, round_of, tell
 from ..command import Wrong, command, note, put, read_text, words
 from ..locks import Lock
 from .cluster import AT_ONCE, LOCK, Key, Silent, View, ceph, is_balancing, view
@@ -30,11 +31,6 @@ class Ended(Exception):
 
 class Stopped(Exception):
     """By a signal."""
-
-
-def tell(text: str) -> None:
-    """A line of the log, for `progress`."""
-    put(f"time {time.time():.0f} {text}\n")
 
 
 class Carrier:
@@ -268,12 +264,7 @@ def read_words() -> tuple[argparse.Namespace, list[Step], int]:
         return given, steps, steps[0].round
     steps = read_script(given.script)
     first, last = steps[0].round, 1 if given.limits else steps[-1].round
-    round_ = given.words[0] if given.words else str(first)
-    if len(given.words) > 1 or not re.fullmatch("[0-9]+", round_):
-        reader.error(f"{' '.join(given.words)} is no round")
-    if not min(first, 1) <= int(round_) <= last:
-        reader.error(f"there is no round {round_}, but {min(first, 1)} to {last}")
-    return given, steps, int(round_)
+    return given, steps, round_of(reader, given.words, min(first, 1), last)
 
 
 @command
@@ -285,7 +276,8 @@ def main() -> None:
         raise Wrong("the balancer is on, and would work against the plan: ceph balancer off")
     lock, clock = Lock(Key(), os.path.abspath(given.script or "a step")), Clock(given.until, tell, given.window)
     carrier = Carrier(steps, given.limits, given.ahead, clock, lock)
-    again = f"begin again with: sh {given.script}" if given.script else "begin again with the same words"
+    name = given.script or "a step"
+    ending = Ending(name, f"begin again with{f': sh {name}' if given.script else ' the same words'}")
 
     def stop(number: int, _: FrameType | None) -> None:
         carrier.stopped.set()
@@ -301,19 +293,15 @@ def main() -> None:
         tell(f"begins {given.plan}")
         carrier.carry_out(first)
         tell("ends")
-        return put("all rounds are carried out\n")
+        return ending.done()
     except Ended as where:
         tell("ends")
-        note(f"ended {where}, as --until says; {again}")
-        sys.exit(ENDED)
-    except (Wrong, Silent) as why:
-        if carrier.stopped.is_set():  # what it called was stopped with it
+        ending.end("ended", str(where))
+    except (Wrong, Silent, Stopped) as why:
+        if not isinstance(why, Stopped):
             note(why)
-            sys.exit(130)
-        raise Wrong(f"{why}; stopped in round {carrier.round}, what is under way goes on; {again}") from None
-    except Stopped:
-        note(f"stopped in round {carrier.round}; what is under way goes on; {again}")
-        sys.exit(130)
+        status = 130 if carrier.stopped.is_set() else 1  # what it called is stopped with it
+        ending.end("stopped", f"in round {carrier.round}", "; what is under way goes on", status)
     finally:
         try:
             lock.release()

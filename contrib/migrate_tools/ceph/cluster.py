@@ -1,9 +1,10 @@
 """What a cluster says of itself, by `ceph --format json`, and what it is told."""
-import json, subprocess
+import json
 from collections.abc import Sequence
 from concurrent.futures import ThreadPoolExecutor
 from dataclasses import dataclass
 from typing import Any
+from ..calls import output
 from ..command import Wrong
 from .crush import Pairs
 
@@ -18,12 +19,9 @@ class Silent(Exception):
 def ceph(*words: str) -> str:
     """What a command of `ceph` prints."""
     try:
-        ran = subprocess.run(["ceph", *words], capture_output=True, text=True, check=False, stdin=subprocess.DEVNULL)
-    except OSError as error:
-        raise Silent(f"ceph cannot be begun: {error.strerror}") from None
-    if ran.returncode:
-        raise Silent(f"ceph {' '.join(words)} ended with status {ran.returncode}: {ran.stderr.strip()[-300:]}")
-    return ran.stdout
+        return output("ceph", *words)
+    except Wrong as why:
+        raise Silent(why) from None
 
 
 def asked(words: Sequence[str]) -> Any:

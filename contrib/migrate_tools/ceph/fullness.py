@@ -1,17 +1,11 @@
 """How full OSDs get while a plan is carried out."""
 from collections.abc import Mapping
-from dataclasses import dataclass
 from typing import Any
+from .. import fullness
 from ..command import Wrong
+from ..fullness import Room
 from ..plans import Plan
 from .groups import Group
-
-
-@dataclass(frozen=True)
-class Room:
-    """The bytes of an OSD, and how many of them are used."""
-    size: int
-    used: int
 
 
 def rooms_of(df: Any) -> dict[int, Room]:
@@ -21,22 +15,9 @@ def rooms_of(df: Any) -> dict[int, Room]:
 
 def fullest(plan: Plan, groups: Mapping[str, Group], sizes: Mapping[str, int],
             rooms: Mapping[int, Room]) -> dict[int, tuple[float, int]]:
-    """By OSD that gets something the greatest part of it that is used, and the first round in which it is. What comes
-    counts from its round on, what goes up to its own."""
-    ends = {it.name: it for group in groups.values() for it in group.items()}
-    used = {osd: it.used for osd, it in rooms.items()}
-    found: dict[int, tuple[float, int]] = {}
-    for at, shifts in enumerate(plan.rounds, 1):
-        items = [ends[it.item] for it in shifts]
-        for it in items:
-            used[it.target] += sizes[it.name]
-        for osd in (it.target for it in items if rooms[it.target].size):
-            part = used[osd] / rooms[osd].size
-            if part > found.get(osd, (0.0, 0))[0]:
-                found[osd] = part, at
-        for it in items:
-            used[it.source] -= sizes[it.name]
-    return found
+    """By OSD, as of disks: a copy goes from the OSD that gives it up, wherever it counts."""
+    ends = {it.name: (it.name, it.source, it.target) for group in groups.values() for it in group.items()}
+    return fullness.fullest(([ends[it.item] for it in shifts] for shifts in plan.rounds), sizes, rooms)
 
 
 def check_rooms(found: Mapping[int, tuple[float, int]], nearfull: float) -> None:

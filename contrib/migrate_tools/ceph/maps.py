@@ -1,23 +1,12 @@
 """Maps of a cluster in files, changed by osdmaptool, which is looked at before it is believed."""
-import json, os, re, shutil, subprocess
+import json, os, re, shutil
 from collections.abc import Mapping, Sequence
 from dataclasses import dataclass
 from typing import Any
+from ..calls import output
 from ..command import Wrong, read_text
 
 DUMP = "--clear-temp --test-map-pgs-dump-all"
-
-
-def tool(*words: str, folder: str = ".") -> str:
-    """What a command prints, which has to end well."""
-    try:
-        ran = subprocess.run(words, cwd=folder, capture_output=True, text=True, check=False, stdin=subprocess.DEVNULL)
-    except OSError as error:
-        raise Wrong(f"there is no command {words[0]}: {error.strerror}") from None
-    if ran.returncode:
-        said = (ran.stderr or ran.stdout).strip()[-500:]
-        raise Wrong(f"{' '.join(words)} ended with status {ran.returncode}: {said}")
-    return ran.stdout
 
 
 @dataclass(frozen=True)
@@ -42,7 +31,7 @@ class Maps:
         self.folder = folder
 
     def osdmaptool(self, *words: str) -> str:
-        return tool("osdmaptool", *words, folder=self.folder)
+        return output("osdmaptool", *words, folder=self.folder)
 
     def save(self, name: str, text: str) -> None:
         with open(os.path.join(self.folder, name), "w", encoding="utf-8") as file:
@@ -55,7 +44,7 @@ class Maps:
     def crush(self, map_: str) -> Any:
         """Saves the tree and the rules of a map in `crush`."""
         self.osdmaptool(map_, "--export-crush", "crush.bin")
-        self.save("crush", tool("crushtool", "-i", "crush.bin", "--dump", folder=self.folder))
+        self.save("crush", output("crushtool", "-i", "crush.bin", "--dump", folder=self.folder))
         return json.loads(read_text(os.path.join(self.folder, "crush")))
 
     def changed(self, map_: str, new: str, change: Change, crush: Any) -> None:

@@ -1,20 +1,11 @@
 """The script of to-ceph --plain, for where `ceph` is, and no Python: rounds alone, in the words of a shell."""
 from collections.abc import Sequence
-from ..shell import words_of
+from .. import shell
 from .steps import Step
 
-HEAD = r"""#!/bin/sh
-# Carries out a plan by exceptions of placement groups: TITLE.
-# sh THIS [-n] [--until HH:MM] [ROUND]: begins at a round, the first where none is named; -n prints the commands alone.
-# While the file `pause` is in this folder, and once it is HH:MM, no further round begins; ended so the status is 3.
-# Begin it again after a stop: what is done is passed over. It keeps no second script away from the cluster.
-set -u
-wanted='' dump=''
-WORDS
+WHAT = "exceptions of placement groups"
+OWN = r"""wanted='' dump=''
 stop() { echo "$0: $*; stopped in round $round; begin again with: sh $0 $round" >&2; exit 1; }
-trap 'echo "$0: stopped in round $round; what is under way goes on; begin again with: sh $0 $round" >&2
-    exit 130' INT TERM
-
 flag() {
     if [ "$only_print" ]; then echo "ceph osd $*"; else ceph osd "$@" || stop "ceph osd $* ended with status $?"; fi
 }
@@ -61,30 +52,21 @@ together() { # waits for the groups of the round
     echo "round $round: ${said#* }"
     wanted=''
 }
-begins() {
-    round=$1
-    [ "$round" -ge "$first" ] || return
-    if [ "$only_print" ]; then echo "# round $round"; else hold; dump=$(ceph osd dump) || stop "no answer"; fi
+look_first() { dump=$(ceph osd dump) || stop "no answer"; }
+ready() {
+    ceph balancer status | grep -q '"active": true' || return 0
+    echo "$0: the balancer is on, and would work against the plan: ceph balancer off" >&2
+    exit 1
 }
-if [ -z "$only_print" ]; then
-    if ceph balancer status | grep -q '"active": true'; then
-        echo "$0: the balancer is on, and would work against the plan: ceph balancer off" >&2
-        exit 1
-    fi
-    clock begins DIGEST
-fi
-
 """
 
 
 def plain(steps: Sequence[Step], digest: str, last: int) -> str:
     """The text of the script."""
-    first, copies = min(1, steps[0].round), sum(len(it.items) for it in steps)
-    head = HEAD.replace("TITLE", f"{copies} copies in {last} rounds, plan {digest}").replace("DIGEST", digest)
-    lines = [head.replace("WORDS\n", words_of(first, last))]
-    for at in range(first, last + 1):
-        lines.append(f"if begins {at}; then\n")
-        lines += [f"    go {it.group} {it.order}{''.join(f' {osd}' for pair in it.pairs for osd in pair)}\n"
-                  for it in steps if it.round == at]
-        lines += ["    flag unset norebalance\n" * (at == 0), "    together\nfi\n"]
-    return "".join([*lines, '[ "$only_print" ] || echo "all rounds are carried out"\n'])
+    rounds = {at: "" for at in range(min(1, steps[0].round), last + 1)}
+    for it in steps:
+        rounds[it.round] += f"    go {it.group} {it.order}{''.join(f' {osd}' for pair in it.pairs for osd in pair)}\n"
+    rounds = {at: f"{body}{'    flag unset norebalance' + chr(10) if not at else ''}    together\n"
+              for at, body in rounds.items()}
+    title = f"{sum(len(it.items) for it in steps)} copies in {last} rounds"
+    return shell.plain(WHAT, title, digest, OWN, "what is under way goes on;", rounds)

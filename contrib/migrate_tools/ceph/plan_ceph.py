@@ -11,19 +11,19 @@ it. --balance takes the moves that `osdmaptool --upmap` chooses, after the chang
   plan-ceph --make FOLDER [-n]                what change.sh calls: looks which groups would move for the change now,
                                               makes it where the plan moves none of them, in one epoch where it can
 A plan that would fill an OSD past nearfull in any round is refused, with the OSD and the round."""
-import argparse, collections, json, os, re, shlex, shutil
+import argparse, collections, json, os, re, shlex
 from collections.abc import Mapping, Sequence
 from ..command import Wrong, command, here, note, put, read_text, save_all, words
 from ..disks import read_disks
 from ..plans import Plan, read_plan
-from ..sizes import said
+from ..whole import FILES, Planner
 from .ceph_step import read_script
 from .change import make
 from .cluster import Silent, all_of, ceph
 from .crush import landed
 from .fullness import check_rooms, fullest, rooms_of
 from .groups import Group, read_change, read_groups, read_pools
-from .maps import DUMP, Change, Maps, tool
+from .maps import DUMP, Change, Maps
 from .sizes import sizes_of
 from .steps import Step, counts_of, limits_text, read_rounds, steps_of
 from .to_ceph import script
@@ -47,14 +47,12 @@ def listed(groups: Mapping[str, tuple[Sequence[int], Sequence[int]]]) -> str:
     return "checking for upmap cleanups\n" + "".join(line_of(name, *both) for name, both in groups.items())
 
 
-class Planner:
-    """Makes the files of a folder."""
+class CephPlanner(Planner):
+    """Plans a change of a cluster."""
 
     def __init__(self, folder: str) -> None:
-        self.folder, self.maps = folder, Maps(folder)
-
-    def at(self, name: str) -> str:
-        return os.path.join(self.folder, name)
+        super().__init__(folder)
+        self.maps = Maps(self.folder)
 
     def look(self) -> None:
         """The cluster as it is: its map, where its groups are, how full its OSDs are."""
@@ -104,21 +102,17 @@ class Planner:
         odd = [f"--backfills=osd.{osd}={count}" for osd, count in zip(osds, most) if count != common]
         return [f"--backfills={common}", *odd]
 
-    def plan(self, folder: str, backfills: Sequence[str]) -> str:
+    def plan(self, sub: str, backfills: Sequence[str]) -> str:
         """Plans by the four files of a folder, and gives the verdict."""
-        four = (*FOUR[:3], os.path.relpath(self.at("crush"), folder))
-        sizes = ["--sizes", "pgs.json"] if folder == self.folder else []
-        said_ = tool(f"{here()}/from-ceph", *four, "--leave-out", "--moving", *backfills, *sizes, folder=folder)
-        migrate = os.path.join(os.path.dirname(here()), "migrate")
-        program = migrate if os.access(migrate, os.X_OK) else shutil.which("migrate") or migrate
-        files = ("disks.csv", "now.csv", "next.csv", "plan.txt", "cert.txt")
-        tool(program, "plan", *files, folder=folder)
-        return said_ + tool(program, "check", *files, folder=folder).strip()
+        four = (*FOUR[:3], os.path.relpath(self.at("crush"), self.at(sub)))
+        sizes = [] if sub else ["--sizes", "pgs.json"]
+        self.command("from-ceph", *four, "--leave-out", "--moving", *backfills, *sizes, sub=sub, passes=False)
+        self.migrate("plan", *FILES, "cert.txt", sub=sub)
+        return self.checked(sub)
 
     def back(self, groups: Mapping[str, Group], steps: Sequence[Step], backfills: Sequence[str]) -> tuple[str, str]:
         """back.sh and its verdict: one step for each group, from any state in which move.sh leaves it."""
         last, folder = {it.group: it for it in steps}, self.at("back")
-        os.makedirs(folder, exist_ok=True)
         ends = {name: [int(it) for it in step.order.removeprefix("=").split(",")] for name, step in last.items()}
         before = read_groups(self.at("before"), False)
         now = {name: (chosen, ends.get(name, up)) for name, (chosen, up) in before.items()}
@@ -128,7 +122,7 @@ class Planner:
                  for name, step in last.items() if step.pairs]
         for name, text in (("before", listed(now)), ("after", listed(before)), ("dump", "\n".join(kept) + "\n")):
             Maps(folder).save(name, text)
-        verdict = self.plan(folder, backfills)
+        verdict = self.plan("back", backfills)
         given = argparse.Namespace(hold=False, crush=self.at("crush"),
                                    **{name: os.path.join(folder, name) for name in FOUR[:3]})
         plan, disks = read_plan(f"{folder}/plan.txt"), read_disks(f"{folder}/disks.csv")
@@ -150,7 +144,7 @@ class Planner:
         if not moving:
             raise Wrong("no placement group moves for this, so there is nothing to plan")
         backfills = self.backfills(moving)
-        verdict = self.plan(self.folder, backfills)
+        verdict = self.plan("", backfills)
         plan, disks = read_plan(self.at("plan.txt")), read_disks(self.at("disks.csv"))
         items = {it.name for group in moving.values() for it in group.items()}
         sizes = sizes_of(self.at("pgs.json"), self.at("dump"), groups, items)
@@ -167,20 +161,19 @@ class Planner:
             files |= {"change.sh": text}
         save_all({self.at("change.json"): json.dumps(kept) + "\n"})
         save_all({self.at(name): text for name, text in files.items()}, mode=0o755)
-        return self.told(plan, sizes, found, verdict, back, files)
+        return self.told(sizes, found, verdict, back, files)
 
-    def told(self, plan: Plan, sizes: Mapping[str, int], found: Mapping[int, tuple[float, int]], verdict: str,
-             back: str, files: Mapping[str, str]) -> str:
+    def told(self, sizes: Mapping[str, int], found: Mapping[int, tuple[float, int]], verdict: str, back: str,
+             files: Mapping[str, str]) -> str:
         """What an operator decides by."""
-        bytes_ = sum(sizes[it.item] for it in plan.shifts())
+        count = len(read_plan(self.at("plan.txt")).shifts())
         bound = next((it for it in read_text(self.at("cert.txt")).split("\n") if it.startswith("bound ")), "")
-        lines = [f"{len(plan.shifts())} copies move, {said(bytes_)}, in {len(plan.rounds)} rounds: {verdict}, {bound}"]
+        lines = [f"the way back: {back}"]
         if found:
             osd, (part, at) = max(found.items(), key=lambda it: it[1])
-            lines.append(f"fullest: osd.{osd} with {part:.1%}, in round {at}; nearly full is {self.nearfull:.0%}")
-        lines.append(f"the way back: {back}")
+            lines.insert(0, f"fullest: osd.{osd} with {part:.1%}, in round {at}; nearly full is {self.nearfull:.0%}")
         names = [it for it in ("move.sh", "change.sh", "back.sh") if it in files]
-        return "\n".join([*lines, *(os.path.join(self.folder, it) for it in names), ""])
+        return self.lines(f"{count} copies", f"{verdict}, {bound}", sizes, lines, names)
 
 
 def read_words() -> argparse.Namespace:
@@ -223,8 +216,7 @@ def main() -> None:
             return make(given.make, given.only_print)
         change = change_of(given)
         steps = read_script(given.script) if given.script else []
-        os.makedirs(given.into, exist_ok=True)
-        planner = Planner(given.into)
+        planner = CephPlanner(given.into)
         planner.look()
         if steps:
             planner.go_on(steps)

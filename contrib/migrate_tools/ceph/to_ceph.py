@@ -11,26 +11,16 @@ as BEFORE, and copies go to the OSDs that AFTER will want: change the weights af
 holds each copy where it was, then clears the flag norebalance, and each round lets its own go. Use this for new OSDs.
 Set norebalance before the weights are changed. With --eager DISKS the script has no rounds: a group's exceptions are
 set as soon as each OSD at which Ceph counts its copies has a place free by the limits of this file."""
-import argparse, collections, hashlib, shlex
+import argparse, collections, hashlib
 from collections.abc import Sequence
 from dataclasses import replace
-from ..command import command, here, note, put, save_all
+from ..command import command, note, put, save_all
 from ..disks import Disks, check_disks, limits_by_side, read_disks
 from ..plans import Plan, Shift, plan_text, read_plan
+from ..shell import steps_head
 from .groups import read_change, reader
-from .plain import plain
+from .plain import WHAT, plain
 from .steps import Step, limits_text, read_rounds, steps_of
-
-HEAD = r"""#!/bin/sh
-# Carries out a plan by exceptions of placement groups: TITLE.
-# sh THIS [-n] [--until HH:MM] [--window '[DAYS] HH:MM-HH:MM'] [--force] [ROUND]: begins at a round, the first where
-# none is named; -n prints the commands alone. While the file `pause` is in this folder, outside of each --window, and
-# once it is HH:MM, nothing more begins; ended so the status is 3. Begin it again after a stop: what is done is passed
-# over. Each line below is a step, which can be run by hand too.
-PATH=$PATH:FOLDER
-exec ceph-step --script "$0" WORDS "$@"
-
-"""
 
 
 def within(steps: Sequence[Step], disks: Disks) -> list[Step]:
@@ -67,10 +57,9 @@ def carried(steps: Sequence[Step], plan: Plan) -> str:
 
 def script(steps: Sequence[Step], digest: str, limits: str) -> str:
     """The text of a script of these steps."""
-    title = f"{sum(len(it.items) for it in steps)} copies in {max(it.round for it in steps)} rounds, plan {digest}"
-    title += "; no round waits for another, and round 1 is all of them" * bool(limits)
-    head = HEAD.replace("TITLE", title).replace("FOLDER", shlex.quote(here()))
-    lines = [head.replace("WORDS", f"--plan {digest}" + limits)]
+    title = f"{sum(len(it.items) for it in steps)} copies in {max(it.round for it in steps)} rounds"
+    title += " (no round waits for another, and round 1 is all of them)" * bool(limits)
+    lines = [steps_head(WHAT, title, digest + limits, "ceph-step", "--force")]
     for at, step in enumerate(steps):
         lines.append(f"{step.line()}\n")
         is_held = step.round == 0 and (at + 1 == len(steps) or steps[at + 1].round)

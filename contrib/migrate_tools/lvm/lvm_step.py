@@ -8,20 +8,15 @@ A script begins at ROUND, or at the first one; -n prints the commands alone. LVM
 physical volume, and of one volume, so what shares one of these within a round comes after the other. While a file
 `pause` is in the folder, outside of each --window, and once --until has come, no further round begins; ended so the
 status is 3. What it prints is for `progress --log`."""
-import argparse, fcntl, json, os, re, shlex, signal, subprocess, sys, time
+import argparse, fcntl, json, re, shlex, signal, subprocess, sys
 from collections.abc import Sequence
-from typing import NoReturn
-from ..clock import ENDED, Clock, add_times
-from ..command import Wrong, command, note, read_text, words
-from ..hooks import add_hook, call
+from ..calls import Ending, add_hook, call, output
+from ..clock import Clock, add_times, round_of, tell
+from ..command import Wrong, command, read_text, words
 from .pvmoves import Pvmove, apart, options
 
 LOOK = ["pvs", "--segments", "--reportformat", "json", "-o", "lv_name,pvseg_start,pvseg_size"]
 SPOT = re.compile(r"(.+):([0-9]{1,12})-([0-9]{1,12})", re.ASCII)
-
-
-def tell(text: str) -> None:
-    print(f"time {int(time.time())} {text}", flush=True)
 
 
 def move_of(volume: str, spots: Sequence[str]) -> Pvmove:
@@ -58,15 +53,13 @@ def commands(move: Pvmove) -> list[str]:
 
 def holds(move: Pvmove, device: str, by: int) -> bool:
     """Whether the volume has all of these extents there."""
-    ran = subprocess.run([*LOOK, device], capture_output=True, text=True, check=False)
+    said = output(*LOOK, device)
     try:
-        rows = [row for part in json.loads(ran.stdout)["report"] for row in part["pvseg"]] if not ran.returncode else []
+        rows = [row for part in json.loads(said)["report"] for row in part["pvseg"]]
         there = {at for row in rows if row["lv_name"].strip("[]") == move.volume
                  for at in range(int(row["pvseg_start"]), int(row["pvseg_start"]) + int(row["pvseg_size"]))}
     except (ValueError, LookupError, TypeError):
-        raise Wrong(f"{shlex.join([*LOOK, device])} does not say what it is asked for: {ran.stdout[:200]}") from None
-    if ran.returncode:
-        raise Wrong(f"{shlex.join([*LOOK, device])}: status {ran.returncode}: {ran.stderr.strip()}; is this root?")
+        raise Wrong(f"{shlex.join([*LOOK, device])} does not say what it is asked for: {said[:200]}") from None
     return there.issuperset(range(move.first + by, move.last + by + 1))
 
 
@@ -118,22 +111,19 @@ class Round:
 
 
 class Script:
-    def __init__(self, given: argparse.Namespace) -> None:
-        self.given, self.rounds, self.number = given, rounds_of(given.script), given.first
-        if not 0 < self.number <= len(self.rounds):
-            print(f"lvm-step: there is no round {self.number}, but 1 to {len(self.rounds)}", file=sys.stderr)
-            sys.exit(2)
+    """Carries out these rounds from this one on."""
+
+    def __init__(self, given: argparse.Namespace, rounds: Sequence[Sequence[Pvmove]], first: int) -> None:
+        self.given, self.rounds, self.number = given, rounds, first
         for it in (signal.SIGINT, signal.SIGTERM):
             signal.signal(it, self.stopped)
 
-    def end(self, what: str, text: str, status: int) -> NoReturn:
-        note(f"{text} with: sh {self.given.script} {self.number}")
-        call(self.given.hook, what, f"{self.given.script}: {text}")
-        sys.exit(status)
+    def ending(self) -> Ending:
+        return Ending(self.given.script, f"begin again with: sh {self.given.script} {self.number}", self.given.hook)
 
     def stopped(self, *_: object) -> None:
-        self.end("stopped", f"stopped in round {self.number}; each pvmove under way goes on: when none is left, begin "
-                 "again", 130)
+        more = "; each pvmove under way goes on: when none is left"
+        self.ending().end("stopped", f"in round {self.number}", more, 130)
 
     def print_alone(self) -> None:
         for number, moves in enumerate(self.rounds[self.number - 1:], self.number):
@@ -155,13 +145,12 @@ class Script:
             for self.number in range(1 if self.given.all_rounds else self.number, len(self.rounds) + 1):
                 if not clock.wait():
                     tell("ends")
-                    self.end("ended", f"ended before round {self.number}, as --until says; begin again", ENDED)
+                    self.ending().end("ended", f"before round {self.number}")
                 tell(f"round {self.number}")
                 if not Round(self.number).run(self.rounds[self.number - 1]):
                     call(self.given.hook, "failed", f"{self.given.script}: a pvmove of round {self.number} failed")
-                    self.end("stopped", f"stopped in round {self.number}; begin again", 1)
-            print("all rounds are carried out", flush=True)
-            call(self.given.hook, "done", f"{self.given.script}: all rounds are carried out")
+                    self.ending().end("stopped", f"in round {self.number}", status=1)
+            self.ending().done()
 
 
 @command
@@ -184,8 +173,6 @@ def main() -> None:
         if given.n:
             return print(shlex.join(commands(move)))
         sys.exit(not Round(given.round).run([move]))
-    if len(given.rest) > 1 or not all(it.isdecimal() for it in given.rest):
-        reader.error(f"{' '.join(given.rest)} is no round; say: sh {given.script} [-n] [OPTION..] [ROUND]")
-    given.first = int(given.rest[0]) if given.rest else 1
-    script = Script(given)
+    rounds = rounds_of(given.script)
+    script = Script(given, rounds, round_of(reader, given.rest, 1, len(rounds)))
     return script.print_alone() if given.n else script.run()

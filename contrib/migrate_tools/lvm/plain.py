@@ -1,21 +1,11 @@
 """The script of pvmoves for a machine without Python: what lvm-step does, in the shell's own words."""
 import shlex
 from collections.abc import Sequence
-from ..shell import words_of
+from .. import shell
 from .pvmoves import Pvmove, apart, options
 
-HEAD = r"""#!/bin/sh
-# Carries out a plan by pvmove: TITLE.
-# sh THIS [-n] [--until HH:MM] [ROUND]: begins at a round, the first where none is named; -n prints the commands alone.
-# While the file `pause` is in this folder, and once it is HH:MM, no further round begins; ended so the status is 3.
-# Begin it again after a stop: what is done is passed over.
-set -u
-going='' failed=''
-WORDS
+OWN = r"""going='' failed=''
 say() { echo "round $round: $*"; }
-trap 'echo "$0: stopped in round $round; each pvmove under way goes on: when none is left, begin again with:" \
-    "sh $0 $round" >&2; exit 130' INT TERM
-
 holds() { # VOLUME PV FIRST-LAST: whether the volume has all of these extents
     pvs --noheadings --segments -o lv_name,pvseg_start,pvseg_size "$2" |
         awk -v volume="$1" -v first="${3%-*}" -v last="${3#*-}" '
@@ -62,17 +52,14 @@ together() { # waits for what goes
     going=''
     [ -z "$failed" ] || { echo "$0: stopped in round $round; begin again with: sh $0 $round" >&2; exit 1; }
 }
-begins() { round=$1; [ "$round" -ge "$first" ] && if [ "$only_print" ]; then echo "# round $round"; else hold; fi; }
-if [ -z "$only_print" ]; then
+look_first() { :; }
+ready() {
     for it in DEVICES; do
         pvs --noheadings -o pv_name "$it" >/dev/null ||
             { echo "$0: pvs of $it fails, so nothing was begun; is this root?" >&2; exit 1; }
     done
-    clock begins DIGEST
-fi
-
+}
 """
-
 
 # A round needs those before it where a slot is used again, or an item is parked. By itself its place says nothing then.
 ALL_ROUNDS = '[ "$only_print" ] || first=1 # here a round needs those before it: each is looked at, from the first on\n'
@@ -88,9 +75,8 @@ def words_for(move: Pvmove) -> str:
 def plain(title: str, digest: str, rounds: Sequence[Sequence[Pvmove]], all_rounds: bool) -> str:
     """The script. `all_rounds` says that each run looks at all of them."""
     devices = shlex.join(dict.fromkeys(it for moves in rounds for move in moves for it in (move.source, move.target)))
-    head = HEAD.replace("TITLE", title).replace("WORDS\n", words_of(1, len(rounds)) + ALL_ROUNDS * all_rounds)
-    lines = [head.replace("DIGEST", digest).replace("DEVICES", devices)]
-    for at, moves in enumerate(rounds, 1):
-        body = "".join("".join(f"    go {words_for(it)}\n" for it in step) + "    together\n" for step in apart(moves))
-        lines.append(f"if begins {at}; then\n{body or '    :' + chr(10)}fi\n")
-    return "".join([*lines, '[ "$only_print" ] || echo "all rounds are carried out"\n'])
+    bodies = ("".join("".join(f"    go {words_for(it)}\n" for it in step) + "    together\n" for step in apart(moves))
+              for moves in rounds)
+    return shell.plain("pvmove", title, digest, ALL_ROUNDS * all_rounds + OWN.replace("DEVICES", devices),
+                       "each pvmove under way goes on: when none is left,",
+                       {at: it or "    :\n" for at, it in enumerate(bodies, 1)})

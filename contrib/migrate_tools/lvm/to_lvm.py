@@ -1,13 +1,11 @@
 """to-lvm PLAN NAMES [--out SCRIPT] [--plain]: turns a plan into a shell script of steps for `lvm-step`, each of which
 is a pvmove; NAMES is the names.csv of from-lvm.
 
-The script carries out one round after the other, and the transfers of a round side by side. LVM moves only once at a
-time from one physical volume, and only once at a time of one volume, so what shares one of these within a round comes
-after the other. Each step looks first where its extents are: what is done is passed over, and where they are in
-neither place the script stops. So it can be begun again at any round, as a whole too, and each line can be run by hand.
-A plan of plan-tight may park an item: what has gone on from there is passed over too, and each run looks at all rounds,
-since one needs those before it. A plan that parks an item where the script could not see that, or beside another leg or
-stripe of what it has, is refused. It needs root, and it is for /bin/sh; with --plain it does without Python:
+The script carries out one round after the other, and the transfers of a round side by side, as far as LVM does that;
+`lvm-step --help` says how. It can be begun again at any round, as a whole too, and each line can be run by hand. Of a
+plan of plan-tight, which may park items, each run looks at all rounds, since one needs those before it. One that parks
+an item where the script could not see that, or beside another leg or stripe of what it has, is refused. It needs root,
+and it is for /bin/sh; with --plain it does without Python:
   sh SCRIPT        carries out all rounds
   sh SCRIPT 3      begins at round 3
   sh SCRIPT -n     prints the commands alone
@@ -15,22 +13,13 @@ stripe of what it has, is refused. It needs root, and it is for /bin/sh; with --
 While a file `pause` is in the folder in which it was begun no further round begins. `lvm-step --help` has the other
 words; with --plain there are these alone. `progress --log` reads what it prints."""
 import shlex
-from ..command import Wrong, command, here, put, words
+from ..command import Wrong, command, put, words
 from ..plans import read_plan
+from ..shell import steps_head
 from ..waiting import needed
 from .lvm_step import spot
 from .plain import plain
 from .pvmoves import Pvmove, read_pvmoves
-
-HEAD = r"""#!/bin/sh
-# Carries out a plan by pvmove: TITLE.
-# sh THIS [-n] [--until HH:MM] [--window '[DAYS] HH:MM-HH:MM'] [--hook COMMAND] [ROUND]: begins at a round, the first
-# where none is named; -n prints the commands alone. While the file `pause` is in this folder, outside of each --window,
-# and once it is HH:MM, no further round begins; ended so the status is 3. Begin it again after a stop: what is done is
-# passed over. Each line below is a step, which can be run by hand too.
-PATH=$PATH:FOLDER
-exec lvm-step --script "$0" WORDS "$@"
-"""
 
 
 def line_of(at: int, move: Pvmove) -> str:
@@ -52,9 +41,8 @@ def main() -> None:
     if not shifts:
         raise Wrong("moves nothing", given.plan)
     rounds, all_rounds = read_pvmoves(plan, given.names)[1], any(needed(shifts))
-    title = f"{len(shifts)} transfers in {len(rounds)} rounds, plan {digest}"
-    lines = [HEAD.replace("TITLE", title).replace("FOLDER", shlex.quote(here())).replace(
-        "WORDS", f"--plan {digest}{' --all-rounds' * all_rounds}")]
+    title, words_ = f"{len(shifts)} transfers in {len(rounds)} rounds", digest + " --all-rounds" * all_rounds
+    lines = [steps_head("pvmove", title, words_, "lvm-step", "--hook COMMAND")]
     for at, moves in enumerate(rounds, 1):
         lines += [f"\n# round {at}\n", *(f"{line_of(at, it)}\n" for it in moves)]
     text = plain(title, digest, rounds, all_rounds) if given.plain else "".join(lines)

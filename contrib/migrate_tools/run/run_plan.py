@@ -28,13 +28,14 @@ With --eager no round waits for the one before. A transfer (its copy, what looks
 begins as soon as both its disks have a place free by the limits of DISKS, and those before it of its item and its slots
 are done. Where one fails nothing more begins. With --undo PLAN, of which this plan is the way back, only what that
 one's place has is brought back; then both can be begun anew."""
-import argparse, collections, functools, os, shlex, sys
+import argparse, collections, functools, os, shlex
 from collections.abc import Mapping, Sequence
-from ..clock import ENDED, Clock, add_times
-from ..command import Wrong, command, note, put, words
+from typing import NoReturn
+from ..calls import Ending, add_hook
+from ..clock import Clock, add_times
+from ..command import Wrong, command, put, words
 from ..disks import Disks, check_disks, read_disks
 from ..folders.targets import names_of
-from ..hooks import add_hook, call
 from ..plans import Plan, Shift, read_plan
 from ..waiting import Waiting
 from .commands import PLACES, Steps, Values, check_inside, check_words, commands, ends_in, fill_in, filled
@@ -157,17 +158,17 @@ def undo(path: str, plan: Plan, place: Place) -> None:
         place.add(f"copied {line}", *[] if forward.has(f"copied {lines[0]}") else [f"erased {line}"])
 
 
-def stopped(runner: Runner, where: str, is_over: bool = True) -> None:
+def ending_of(runner: Runner) -> Ending:
+    return Ending(runner.name, "begin again with the same words", runner.hook)
+
+
+def stopped(runner: Runner, where: str, is_over: bool = True) -> NoReturn:
     """Ends where not all is done: as --until says, where nothing failed and its time has come; else since something
     failed, or was stopped."""
     runner.place.times.tell("ends")
     if is_over and not runner.status and runner.clock.is_over():
-        call(runner.hook, "ended", f"{runner.name}: ended {where}, as --until says")
-        note(f"ended {where}, as --until says; begin again with the same words")
-        sys.exit(ENDED)
-    call(runner.hook, "stopped", f"{runner.name}: stopped {where}")
-    note(f"stopped {where}, and nothing more is removed; begin again with the same words")
-    sys.exit(runner.status or 1)
+        ending_of(runner).end("ended", where)
+    ending_of(runner).end("stopped", where, ", and nothing more is removed", runner.status or 1)
 
 
 @command
@@ -220,7 +221,6 @@ def main() -> None:
     else:
         carrier.by_limits(limits)
     runner.place.times.tell("ends")
-    call(given.hook, "done", f"{given.plan}: all {len(rounds)} rounds are carried out")
     for it in (f"{given.undo}.place", path) if given.undo else ():
         os.unlink(it)  # both plans can be begun anew
-    return put(f"all {len(rounds)} rounds are carried out\n")
+    return ending_of(runner).done(f"all {len(rounds)} rounds are carried out")

@@ -5,7 +5,7 @@ from dataclasses import dataclass
 from typing import NoReturn
 from ..clock import Clock
 from ..command import Wrong, note
-from ..hooks import call
+from ..calls import call
 from .compare import check_since, compare
 from .place import Place
 
