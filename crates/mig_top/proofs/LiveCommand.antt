@@ -1,5 +1,5 @@
 -- How `live` ends.
-use Rattle.mig_top.proofs.Common.{AreAnswers, AreOfScripted, Bool, Call, Contents, Done, Extends, ExtendsInPart, FormEndsAs, Image, IsFault, IsJobCell, IsReached, IsResumable, IsResumeFault}
+use Rattle.mig_top.proofs.Common.{AreAnswers, AreOfScripted, Bool, Call, Contents, Done, Err, Extends, ExtendsInPart, FormEndsAs, Image, IsFault, IsJobCell, IsReached, IsResumable, IsResumeFault}
 use Rattle.mig_top.proofs.Common.{IsResumeRefusal, IsSafeAfter, IsServed, IsSettled, IsSound, Keeps, KeepsSound, LeavesOnly, List, Live, MoveFault, Names, Order, Rose, Scripted, ServesAll}
 use Rattle.mig_top.proofs.Common.{SettlesTo, Shows, SinkFault, SinkState, State, Step, StoreFault, Task, Tells, Untouched, WentOn, WorldEnds, after, all_steps, ap, arith, codes, drop}
 use Rattle.mig_top.proofs.Common.{fault_outcome, finds, inl, inr, leaves_then, left_text, length, marks_by, refl, replies, resumes, scripted_in, steps_after, steps_left, subst, sym, take}
@@ -9,6 +9,8 @@ use Rattle.mig_live.specs.Sessions.{InStep, Session}
 use Rattle.mig_live.specs.declared.serving.ServeFault.TheVariants as serve_fault
 use Rattle.mig_mover.specs.declared.faults.MoveFault.TheVariants as fault
 use Rattle.mig_top.proofs.EndsOf.{shown}
+use Rattle.mig_top.specs.Ends.{FormFinishes}
+use Rattle.mig_words.specs.declared.endings.Ending.TheVariants as ending
 use Rattle.mig_top.proofs.StoreCommands.{rest_cause, shown_by}
 
 -- what is left of it once its files are read
@@ -61,22 +63,18 @@ module _ (k : Call) (names : Names) (script : List ℕ) (same : Untouched k.befo
       says = record { begun = part; whole = λ fine. absurd (fine rose); done = λ zero. absurd (omega (arith, zero)) };
     }
 
-    module _ (out : SinkState) (later : k.before.sink.faults ≤ out.faults) {status : ℕ} where
-      -- the store failed at an order, and that was told
-      pub live_failed : AreCutOff live mid read.orders k.before.sink out serve_fault.Store → Rose old.faults new.faults → status ≡ 5
-          → ExtendsInPart (codes "store fault\n") out k.after.sink → ((Rose out.faults k.after.sink.faults → ⊥) → Extends (codes "store fault\n") out k.after.sink)
-          → FormEndsAs k (Live names script) status
-      live_failed (n, (text, replied, put)) rose is begun whole = record {
-        outcome = StoreFault text;
-        is = is;
-        so = record { cause = (rose, (read, are, (n, answers (take n read.orders) text replied))); leaves = same; store = (read, are, kept) };
-        says = record {
-          begun = then_begins text (codes "store fault\n") k.before.sink out k.after.sink put begun;
-          whole = λ fine. then_extends text (codes "store fault\n") k.before.sink out k.after.sink put (whole (λ rose. fine (omega (arith, later, rose))));
-          done = λ zero. absurd (omega (arith, zero));
-        };
-      }
+    -- the store failed at an order
+    pub live_failed : k.before.sink.faults ≤ k.after.sink.faults → AreCutOff live mid read.orders k.before.sink k.after.sink serve_fault.Store → Rose old.faults new.faults
+        → FormFinishes k (Live names script) (Err ending.StoreFault)
+    live_failed later (n, (text, replied, put)) rose = record {
+      before = text;
+      put = put;
+      later = later;
+      bare = tt;
+      so = record { cause = (rose, (read, are, (n, answers (take n read.orders) text replied))); leaves = same; store = (read, are, kept) };
+    }
 
+    module _ (out : SinkState) (later : k.before.sink.faults ≤ out.faults) {status : ℕ} where
       -- each was carried out, and it is put how many steps are left
       pub live_done : IsResumable read.task old live.marked → ((contents : Contents) → InStep true live contents mid → WentOn read contents new live.marked)
           → ArePut live mid read.orders k.before.sink out → Shows (left_text (steps_left read live.marked)) out k.after.sink status → FormEndsAs k (Live names script) status
