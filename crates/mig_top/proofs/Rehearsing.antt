@@ -4,17 +4,18 @@ use Rattle.mig_top.proofs.Common.{StoreFault, Untouched, WorldEnds, [], ap, appe
 use Rattle.mig_top.proofs.EndsOf.{ends_of, finishes_map, put_by}
 use Rattle.mig_top.specs.Ends.{Finishes, FormFinishes}
 
-module _ {k : Call} {words : List (List ℕ)} {status : ℕ} (disks per_pair limit : List ℕ) where
+module _ (k : Call) (disks per_pair limit : List ℕ) where
   -- whatever folder and store tell, it does nothing with either
   pub rehearsal_finishes : Untouched k.before.folder k.after.folder → IsUntouched k.before.store k.after.store → (result : Result ℕ Ending)
       → Finishes [] (IsRehearsalEnd (case_in disks per_pair limit)) k.before.sink k.after.sink result → FormFinishes k (Rehearse disks per_pair limit) result
-  rehearsal_finishes same kept result h = finishes_map ends result h
+  rehearsal_finishes same kept result h = finishes_map [] k.before.sink k.after.sink ends result h
     where
       ends : (o : Outcome) → IsRehearsalEnd (case_in disks per_pair limit) o → WorldEnds k (Rehearse disks per_pair limit) o
       ends (Done text) h = record { cause = h; leaves = same; store = kept }
       ends Memory h = record { cause = tt; leaves = same; store = kept }
       ends _ h = absurd h
 
+module _ {k : Call} {words : List (List ℕ)} {status : ℕ} (disks per_pair limit : List ℕ) where
   pub rehearses_well : EndsAs k words status → IsListed words (Rehearse disks per_pair limit) → RehearsesWell k.before.sink k.after.sink (case_in disks per_pair limit) status
   rehearses_well ends l =
       let e = ends_of ends (Rehearse disks per_pair limit) l in

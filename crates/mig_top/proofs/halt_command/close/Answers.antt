@@ -27,8 +27,8 @@ returns-in-Ok-halt g c before names are same later =
     shown (halted_text task.plan found) (halt_done task are (g.F.Folder.state c.args.folder.now) same found c.in_ok-save_layout.ensures.saved all (is_standing task old mid found stood))
     (rw c.rounds.ensures.count at c.show_halted.ensures)
 
-pub returns : goal.returns
-returns g c before names are same later =
+pub returns-in-Err-halt : goal.returns-in-Err-halt
+returns-in-Err-halt g c before names are same later =
     let task = c.args.job.now in
     let found = c.in-Ok.found in
     let h = c.halt.ensures in
