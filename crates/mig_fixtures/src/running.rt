@@ -3,7 +3,7 @@
 use crate::clusters::Cluster;
 use mig_io::{Folder, MemFolder, MemSink, Sink};
 use mig_store::{Store, SureStore};
-use mig_top::run;
+use mig_top::{Machine, Program};
 use std::alloc::{AllocError, Global};
 
 /// The line that plans, over the files of a folder that `folder_of` gives.

@@ -1,10 +1,12 @@
 -- The lines of an audit, and how `audit` ends.
-use Rattle.mig_top.proofs.Common.{AreOfLayout, AreSightLines, Audit, AuditStops, Bool, Call, Cell, Done, Extends, ExtendsInPart, Flight, FormEndsAs, HasHeader, HasPutSight, HavePutSights, IfSome}
+use Rattle.mig_top.proofs.Common.{AreOfLayout, AreSightLines, Audit, AuditStops, Bool, Call, Cell, Done, Err, Extends, ExtendsInPart, Flight, FormEndsAs, HasHeader, HasPutSight, HavePutSights, IfSome}
 use Rattle.mig_top.proofs.Common.{IsAudit, IsMoving, IsSightOf, IsTargetOf, List, Lists, Looks, MatchBool, None, Option, Rose, Shows, Sight, SightStops, SinkFault, SinkState, SinkStops, Some}
 use Rattle.mig_top.proofs.Common.{State, Stop, StoreFault, StoreStops, Untouched, WorldEnds, [], append-nil, append_assoc, arith, begins_more, bytes_eq, bytes_eq-Decides, codes, false}
 use Rattle.mig_top.proofs.Common.{false≢true, flights_same, header_of, if◌then◌else◌, inl, inr, item_cell, item_name, length, puts_nothing, refl, sha256, sight_count, sight_line, subst}
 use Rattle.mig_top.proofs.Common.{suc, sym, take, then_begins, then_extends, true, zero, ℕ, ⊎_elim, ◌++◌, ◌+◌, ◌-◌, ◌<◌, ◌∙◌, ◌≡◌, ◌≤◌}
 use Rattle.mig_top.proofs.EndsOf.{shown}
+use Rattle.mig_top.specs.Ends.{FormFinishes}
+use Rattle.mig_words.specs.declared.endings.Ending.TheVariants as ending
 use Rattle.mig_top.proofs.Steps.{if_map}
 use Rattle.mig_top.specs.declared.audit_command.Stop.TheVariants as stop
 
@@ -133,22 +135,17 @@ module _ {k : Call} {disks now : List ℕ} (same : Untouched k.before.folder k.a
         };
       }
 
-  module _ (mid : SinkState) (later : k.before.sink.faults ≤ mid.faults) {status : ℕ} where
-    -- the store failed before a line, and that was told
-    pub store_stops : StoreStops input k.before.store k.after.store k.before.sink mid → status ≡ 5
-        → ExtendsInPart (codes "store fault\n") mid k.after.sink → ((Rose mid.faults k.after.sink.faults → ⊥) → Extends (codes "store fault\n") mid k.after.sink)
-        → FormEndsAs k (Audit disks now) status
-    store_stops stops is begun whole = record {
-      outcome = StoreFault stops.lines;
-      is = is;
-      so = record { cause = (stops.rose, (input, layout, (stops.item, stops.here, stops.within, stops.are))); leaves = same; store = looks };
-      says = record {
-        begun = then_begins stops.lines (codes "store fault\n") k.before.sink mid k.after.sink stops.put begun;
-        whole = λ fine. then_extends stops.lines (codes "store fault\n") k.before.sink mid k.after.sink stops.put (whole (λ rose. fine (omega (arith, later, rose))));
-        done = λ zero. absurd (omega (arith, zero));
-      };
-    }
+  -- the store failed before a line
+  pub store_stops : k.before.sink.faults ≤ k.after.sink.faults → StoreStops input k.before.store k.after.store k.before.sink k.after.sink → FormFinishes k (Audit disks now) (Err ending.StoreFault)
+  store_stops later stops = record {
+    before = stops.lines;
+    put = stops.put;
+    later = later;
+    bare = tt;
+    so = record { cause = (stops.rose, (input, layout, (stops.item, stops.here, stops.within, stops.are))); leaves = same; store = looks };
+  }
 
+  module _ (mid : SinkState) (later : k.before.sink.faults ≤ mid.faults) {status : ℕ} where
     -- each line was put, and then the count
     pub lines_end : (here : ℕ) → HavePutSights input k.before.store (length input.items) k.before.sink mid here → Shows (sight_count input here) mid k.after.sink status
         → FormEndsAs k (Audit disks now) status

@@ -1,5 +1,5 @@
 -- How `live` ends.
-use Rattle.mig_top.proofs.Common.{Adds, AreAnswers, AreOfScripted, BeginsRun, Bool, Call, Carries, Cell, Contents, Done, Event, Extends, ExtendsInPart, FormEndsAs, Gate, GoesOn, IfSome, Image, IsFault, IsInput}
+use Rattle.mig_top.proofs.Common.{Adds, AreAnswers, AreOfScripted, BeginsRun, Bool, Call, Carries, Cell, Contents, Done, Err, Event, Extends, ExtendsInPart, FormEndsAs, Gate, GoesOn, IfSome, Image, IsFault, IsInput}
 use Rattle.mig_top.proofs.Common.{IsJobCell, IsReached, IsResumable, IsResumeFault, IsResumeRefusal, IsSafeAfter, IsServed, IsSettled, IsSome, IsSound, IsTargetOf, Keeps, LeavesOnly, List, Live, MakesAll, MoveFault}
 use Rattle.mig_top.proofs.Common.{Names, None, Option, Order, Rose, Runs, Scripted, ServesAll, SettlesTo, Shows, SinkFault, SinkState, Some, State, StaysArmed, Step, StoreFault, Task, Tells, Untouched, WentOn}
 use Rattle.mig_top.proofs.Common.{WorldEnds, [], after, all_steps, ap, append_assoc, arith, changes_then, changes_wider, codes, count_most, count_of, drop, false≢true, fault_outcome, finds, flights, inl, inr, is_armed}
@@ -20,6 +20,8 @@ use Rattle.mig_mover.proofs.Settling.{armed_told}
 use Rattle.mig_mover.specs.declared.faults.MoveFault.TheVariants as fault
 use Rattle.mig_top.proofs.EndsOf.{shown}
 use Rattle.mig_top.proofs.SessionEvents.{made_of_all, part_of_all, refused_events, refused_slots, session_events, session_slots, stopped_events, whole_events, whole_landed}
+use Rattle.mig_top.specs.Ends.{FormFinishes}
+use Rattle.mig_words.specs.declared.endings.Ending.TheVariants as ending
 use Rattle.mig_top.proofs.StoreCommands.{rest_cause, shown_by}
 use Rattle.mig_top.specs.Stores.{HasFound}
 use Rattle.std.proofs.Math.Seq.{take-append-add}
@@ -206,45 +208,41 @@ module _ (k : Call) (names : Names) (script : List ℕ) (same : Untouched k.befo
           says = record { begun = begun_both text next k.before.sink.held k.after.sink.held put; whole = λ fine. absurd (fine rose); done = λ zero. absurd (omega (arith, zero)) };
         }
 
-    module _ (out : SinkState) (later : k.before.sink.faults ≤ out.faults) {status : ℕ} where
-      -- the store failed at an order, and that was told
-      pub live_failed : AreCutOff live mid new read.orders k.before.sink out serve_fault.Store → Rose old.faults new.faults → status ≡ 5
-          → ExtendsInPart (codes "store fault\n") out k.after.sink → ((Rose out.faults k.after.sink.faults → ⊥) → Extends (codes "store fault\n") out k.after.sink)
-          → FormEndsAs k (Live names script) status
-      live_failed cut rose is begun whole =
-          let (text, replied, put) = cut.put in
-          let m = all_steps (take cut.whole read.orders) in
-          let p = subst (λ (l : List Action). AreMadeInPart (take m l) (take (steps_of cut.order) (drop m l)) mid new) these cut.made in
-          record {
-            outcome = StoreFault text;
-            is = is;
-            so = record {
-              cause = (rose, tt);
-              leaves = same;
-              store = (
-                read,
-                are,
-                (
-                  live.marked,
-                  goes (all_events (take m all ++ p.made) ++ take p.events (all_events p.begun)) (drop p.events (all_events p.begun) ++ (all_events p.left ++ all_events (drop (steps_of cut.order) (drop m all))))
-                      (part_of_all m (steps_of cut.order) all mid new p) p.change.events,
-                  inr (record {
-                    whole = cut.whole;
-                    order = cut.order;
-                    at = cut.at;
-                    replied = answers (take cut.whole read.orders) text replied;
-                    events = stopped_events read.task valid runs live.marked old mid new ended landed (take m all) (take (steps_of cut.order) (drop m all)) p;
-                  }),
-                ),
-              );
-            };
-            says = record {
-              begun = then_begins text (codes "store fault\n") k.before.sink out k.after.sink put begun;
-              whole = λ fine. then_extends text (codes "store fault\n") k.before.sink out k.after.sink put (whole (λ rose. fine (omega (arith, later, rose))));
-              done = λ zero. absurd (omega (arith, zero));
-            };
-          }
+    -- the store failed at an order
+    pub live_failed : k.before.sink.faults ≤ k.after.sink.faults → AreCutOff live mid new read.orders k.before.sink k.after.sink serve_fault.Store → Rose old.faults new.faults
+        → FormFinishes k (Live names script) (Err ending.StoreFault)
+    live_failed later cut rose =
+        let (text, replied, put) = cut.put in
+        let m = all_steps (take cut.whole read.orders) in
+        let p = subst (λ (l : List Action). AreMadeInPart (take m l) (take (steps_of cut.order) (drop m l)) mid new) these cut.made in
+        record {
+          before = text;
+          put = put;
+          later = later;
+          bare = tt;
+          so = record {
+            cause = (rose, tt);
+            leaves = same;
+            store = (
+              read,
+              are,
+              (
+                live.marked,
+                goes (all_events (take m all ++ p.made) ++ take p.events (all_events p.begun)) (drop p.events (all_events p.begun) ++ (all_events p.left ++ all_events (drop (steps_of cut.order) (drop m all))))
+                    (part_of_all m (steps_of cut.order) all mid new p) p.change.events,
+                inr (record {
+                  whole = cut.whole;
+                  order = cut.order;
+                  at = cut.at;
+                  replied = answers (take cut.whole read.orders) text replied;
+                  events = stopped_events read.task valid runs live.marked old mid new ended landed (take m all) (take (steps_of cut.order) (drop m all)) p;
+                }),
+              ),
+            );
+          };
+        }
 
+    module _ (out : SinkState) (later : k.before.sink.faults ≤ out.faults) {status : ℕ} where
       -- each was carried out, and it is put how many steps are left
       pub live_done : IsResumable read.task old live.marked → ((contents : Contents) → InStep true live contents mid → WentOn read contents new live.marked)
           → AreMade (take (all_steps read.orders) (actions_left live)) mid new → ArePut live mid read.orders k.before.sink out → Shows (left_text (steps_left read live.marked)) out k.after.sink status

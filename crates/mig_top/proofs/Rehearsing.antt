@@ -1,19 +1,21 @@
 -- How a rehearsal ends, as a call of the program and as its promise; and lines that are added one by one.
-use Rattle.mig_top.proofs.Common.{Call, Done, EndsAs, EndsBy, FolderFault, IsListed, IsOrNotPut, IsRehearsalEnd, IsUntouched, List, Memory, Outcome, Rehearse, RehearsesWell, Rose, SinkFault}
+use Rattle.mig_top.proofs.Common.{Call, Done, Ending, EndsAs, EndsBy, FolderFault, IsListed, IsOrNotPut, IsRehearsalEnd, IsUntouched, List, Memory, Outcome, Rehearse, RehearsesWell, Result, Rose, SinkFault}
 use Rattle.mig_top.proofs.Common.{StoreFault, Untouched, WorldEnds, [], ap, append-nil, case_in, code, flat_map_more, inl, inr, sym, text_of_lines, ℕ, ◌++◌, ◌∙◌, ◌∷◌, ◌≡◌, ◌⊎◌}
-use Rattle.mig_top.proofs.EndsOf.{ends_map, ends_of, put_by}
+use Rattle.mig_top.proofs.EndsOf.{ends_of, finishes_map, put_by}
+use Rattle.mig_top.specs.Ends.{Finishes, FormFinishes}
 
-module _ {k : Call} {words : List (List ℕ)} {status : ℕ} (disks per_pair limit : List ℕ) where
+module _ (k : Call) (disks per_pair limit : List ℕ) where
   -- whatever folder and store tell, it does nothing with either
-  pub rehearsal_known : Untouched k.before.folder k.after.folder → IsUntouched k.before.store k.after.store → IsListed words (Rehearse disks per_pair limit)
-      → EndsBy (IsRehearsalEnd (case_in disks per_pair limit)) k.before.sink k.after.sink status → EndsAs k words status
-  rehearsal_known same kept l e = inr (Rehearse disks per_pair limit, l, ends_map ends e)
+  pub rehearsal_finishes : Untouched k.before.folder k.after.folder → IsUntouched k.before.store k.after.store → (result : Result ℕ Ending)
+      → Finishes [] (IsRehearsalEnd (case_in disks per_pair limit)) k.before.sink k.after.sink result → FormFinishes k (Rehearse disks per_pair limit) result
+  rehearsal_finishes same kept result h = finishes_map [] k.before.sink k.after.sink ends result h
     where
       ends : (o : Outcome) → IsRehearsalEnd (case_in disks per_pair limit) o → WorldEnds k (Rehearse disks per_pair limit) o
       ends (Done text) h = record { cause = h; leaves = same; store = kept }
       ends Memory h = record { cause = tt; leaves = same; store = kept }
       ends _ h = absurd h
 
+module _ {k : Call} {words : List (List ℕ)} {status : ℕ} (disks per_pair limit : List ℕ) where
   pub rehearses_well : EndsAs k words status → IsListed words (Rehearse disks per_pair limit) → RehearsesWell k.before.sink k.after.sink (case_in disks per_pair limit) status
   rehearses_well ends l =
       let e = ends_of ends (Rehearse disks per_pair limit) l in

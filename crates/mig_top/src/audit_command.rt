@@ -4,7 +4,7 @@ ghost use Rattle.mig_base.specs.declared.limits.TheConstants.{MAX_ITEMS};
 ghost use Rattle.mig_base.specs.Stores.{Looks};
 ghost use Rattle.mig_top.specs.audit.Sights.{AuditStops, HasPutSight, HavePutSights, SightStops};
 ghost use Rattle.mig_top.specs.Calls.{call, world};
-ghost use Rattle.mig_top.specs.Ends.{FormEndsAs};
+ghost use Rattle.mig_top.specs.Ends.{FormFinishes};
 ghost use Rattle.mig_words.specs.Puts.{Puts};
 ghost use Rattle.mig_top.specs.audit.Sights.{sight_line};
 ghost use Rattle.mig_words.specs.Words.{Audit};
@@ -15,7 +15,7 @@ use mig_fill::{Sight, sight};
 use mig_io::{Folder, Sink, SinkFailed};
 use mig_store::{Store, StoreFailed};
 use mig_words::Part::{Hex, Number, Text};
-use mig_words::{Ending, put_parts, show_parts, tell};
+use mig_words::{Ending, put_parts, show_parts};
 use std::alloc::Global;
 
 /// Why an audit isn't done.
@@ -135,15 +135,12 @@ pub fn run_audit<F: Folder, K: Sink, S: Store>(
     store: &mut S,
     disks: &str,
     now: &str,
-) -> u8
-    ensures { FormEndsAs (call (world (F.state folder.old) (K.state out.old) (S.state store.old)) (world (F.state folder.new) (K.state out.new) (S.state store.new))) (Audit disks.now now.now) result }
+) -> Result<u8, Ending>
+    ensures { FormFinishes (call (world (F.state folder.old) (K.state out.old) (S.state store.old)) (world (F.state folder.new) (K.state out.new) (S.state store.new))) (Audit disks.now now.now) result }
 {
-    let input = match load_layout(alloc, folder, disks, now) {
-        Ok(input) => input,
-        Err(ending) => return tell(out, ending, &[disks, now]),
-    };
+    let input = load_layout(alloc, folder, disks, now)?;
     match put_sights(out, store, &input) {
-        Ok(here) => show_parts(
+        Ok(here) => Ok(show_parts(
             out,
             &[
                 Number(here),
@@ -151,8 +148,8 @@ pub fn run_audit<F: Folder, K: Sink, S: Store>(
                 Number(item_count(&input) - here),
                 Text(b" lost\n"),
             ],
-        ),
-        Err(Stop::Sink) => 6,
-        Err(Stop::Store) => tell(out, Ending::StoreFault, &[]),
+        )),
+        Err(Stop::Sink) => Ok(6),
+        Err(Stop::Store) => Err(Ending::StoreFault),
     }
 }

@@ -4,7 +4,7 @@ ghost use Rattle.mig_base.specs.Readiness.{shifts_of};
 ghost use Rattle.mig_drill.specs.Drills.{drill_text};
 ghost use Rattle.mig_top.specs.Calls.{Untouched};
 ghost use Rattle.mig_top.specs.Causes.{drills, fits_drill};
-ghost use Rattle.mig_top.specs.Ends.{FilesEndAs};
+ghost use Rattle.mig_top.specs.Ends.{Finishes, FolderEnds};
 ghost use Rattle.mig_top.specs.Steps.{Takes, TakesFrom};
 ghost use Rattle.mig_words.specs.Commands.{names_in};
 ghost use Rattle.mig_words.specs.Words.{four_and};
@@ -14,7 +14,7 @@ use mig_base::{MAX_FILE_BYTES, Plan};
 use mig_drill::{DrillFault, MAX_DRILL_SHIFTS, drill};
 use mig_io::{Folder, Sink};
 use mig_jobs::{Job, count_shifts, prepare};
-use mig_words::{Ending, Finding, PlanFiles, Reader, TaskFiles, tell};
+use mig_words::{Ending, Finding, PlanFiles, Reader, TaskFiles};
 use std::alloc::Global;
 
 /// Refuses a plan that is too large for a drill.
@@ -55,17 +55,13 @@ pub fn run_drill<F: Folder, K: Sink>(
     folder: &mut F,
     out: &mut K,
     files: PlanFiles<'_>,
-) -> u8
-    ensures { FilesEndAs (F.state folder.old) (F.state folder.new) (K.state out.old) (K.state out.new) (drills (names_in files.entry)) (λ o. Untouched (F.state folder.old) (F.state folder.new)) result }
+) -> Result<u8, Ending>
+    ensures { Finishes (four_and (names_in files.entry) []) (FolderEnds (F.state folder.old) (F.state folder.new) (drills (names_in files.entry)) (λ o. Untouched (F.state folder.old) (F.state folder.new))) (K.state out.old) (K.state out.new) result }
 {
-    let names = [files.disks, files.now, files.next, files.plan];
-    let job = match load_small_job(alloc, folder, files) {
-        Ok(job) => job,
-        Err(ending) => return tell(out, ending, &names),
-    };
+    let job = load_small_job(alloc, folder, files)?;
     match drill(alloc, job.input(), &job, out) {
-        Ok(_) => 0,
-        Err(DrillFault::Sink) => 6,
-        Err(DrillFault::Memory) => tell(out, Ending::Memory, &names),
+        Ok(_) => Ok(0),
+        Err(DrillFault::Sink) => Ok(6),
+        Err(DrillFault::Memory) => Err(Ending::Memory),
     }
 }

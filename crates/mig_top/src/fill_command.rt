@@ -1,6 +1,6 @@
 //! `fill`: writes made items to where a layout lists items.
 ghost use Rattle.mig_top.specs.Calls.{call, world};
-ghost use Rattle.mig_top.specs.Ends.{FormEndsAs};
+ghost use Rattle.mig_top.specs.Ends.{FormFinishes};
 ghost use Rattle.mig_words.specs.Words.{Fill};
 
 use crate::layout_reads::{item_count, load_layout};
@@ -8,7 +8,7 @@ use mig_fill::fill;
 use mig_io::{Folder, Sink};
 use mig_store::Store;
 use mig_words::Part::{Number, Text};
-use mig_words::{fault_ending, show_parts, tell};
+use mig_words::{Ending, fault_ending, show_parts};
 use std::alloc::Global;
 
 /// `fill`, with its text. Once the files are read it takes no memory.
@@ -19,18 +19,15 @@ pub fn run_fill<F: Folder, K: Sink, S: Store>(
     store: &mut S,
     disks: &str,
     now: &str,
-) -> u8
-    ensures { FormEndsAs (call (world (F.state folder.old) (K.state out.old) (S.state store.old)) (world (F.state folder.new) (K.state out.new) (S.state store.new))) (Fill disks.now now.now) result }
+) -> Result<u8, Ending>
+    ensures { FormFinishes (call (world (F.state folder.old) (K.state out.old) (S.state store.old)) (world (F.state folder.new) (K.state out.new) (S.state store.new))) (Fill disks.now now.now) result }
 {
-    let input = match load_layout(alloc, folder, disks, now) {
-        Ok(input) => input,
-        Err(ending) => return tell(out, ending, &[disks, now]),
-    };
+    let input = load_layout(alloc, folder, disks, now)?;
     match fill(&input, store) {
-        Ok(()) => show_parts(
+        Ok(()) => Ok(show_parts(
             out,
             &[Text(b"filled "), Number(item_count(&input)), Text(b"\n")],
-        ),
-        Err(fault) => tell(out, fault_ending(&input, fault), &[disks, now]),
+        )),
+        Err(fault) => Err(fault_ending(&input, fault)),
     }
 }

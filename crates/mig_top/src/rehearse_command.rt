@@ -7,7 +7,7 @@ ghost use Rattle.mig_base.specs.Running.{PlanFits};
 ghost use Rattle.mig_base.specs.Targets.{IsRoomy};
 ghost use Rattle.mig_base.specs.Texts.{text_of_lines, words};
 ghost use Rattle.mig_best.specs.Certified.{IsCertified};
-ghost use Rattle.mig_top.specs.Ends.{EndsBy, IsRehearsalEnd};
+ghost use Rattle.mig_top.specs.Ends.{Finishes, IsRehearsalEnd};
 ghost use Rattle.mig_top.specs.rehearse.Texts.{IsPlanDigest, IsRehearsed, case_in, eight_lines, six_lines, verdict_word};
 ghost use Rattle.mig_words.specs.Words.{AreCaseWords};
 
@@ -19,7 +19,7 @@ use mig_graph::Graph;
 use mig_io::Sink;
 use mig_journal::digest_of;
 use mig_text::{print_plan, push_count};
-use mig_words::{Ending, number_in, show, tell};
+use mig_words::{Ending, number_in, show};
 use std::alloc::{AllocError, Global};
 
 /// The verdict on a plan and its certificate, by the checker.
@@ -149,12 +149,10 @@ pub fn run_rehearse<K: Sink>(
     disks: &str,
     per_pair: &str,
     limit: &str,
-) -> u8
+) -> Result<u8, Ending>
     requires { AreCaseWords disks.now per_pair.now limit.now }
-    ensures { EndsBy (IsRehearsalEnd (case_in disks.now per_pair.now limit.now)) (K.state out.old) (K.state out.new) result }
+    ensures { Finishes [] (IsRehearsalEnd (case_in disks.now per_pair.now limit.now)) (K.state out.old) (K.state out.new) result }
 {
-    match rehearse(alloc, disks, per_pair, limit) {
-        Ok(text) => show(out, &text),
-        Err(AllocError) => tell(out, Ending::Memory, &[]),
-    }
+    let text = rehearse(alloc, disks, per_pair, limit)?;
+    Ok(show(out, &text))
 }

@@ -1,6 +1,6 @@
 //! `resume`: carries out what is left of a plan.
 ghost use Rattle.mig_top.specs.Calls.{call, world};
-ghost use Rattle.mig_top.specs.Ends.{FormEndsAs};
+ghost use Rattle.mig_top.specs.Ends.{FormFinishes};
 ghost use Rattle.mig_words.specs.Commands.{task_names};
 ghost use Rattle.mig_words.specs.Words.{Resume};
 
@@ -8,7 +8,7 @@ use crate::tasks::load_job;
 use mig_io::{Folder, Sink};
 use mig_lanes::resume_lanes;
 use mig_store::Store;
-use mig_words::{TaskFiles, fault_ending, show_rounds, tell};
+use mig_words::{Ending, TaskFiles, fault_ending, show_rounds};
 use std::alloc::Global;
 
 /// `resume`, with its text. Once the job is made it takes no memory.
@@ -18,17 +18,12 @@ pub fn run_resume<F: Folder, K: Sink, S: Store>(
     out: &mut K,
     store: &mut S,
     task: TaskFiles<'_>,
-) -> u8
-    ensures { FormEndsAs (call (world (F.state folder.old) (K.state out.old) (S.state store.old)) (world (F.state folder.new) (K.state out.new) (S.state store.new))) (Resume (task_names task.entry)) result }
+) -> Result<u8, Ending>
+    ensures { FormFinishes (call (world (F.state folder.old) (K.state out.old) (S.state store.old)) (world (F.state folder.new) (K.state out.new) (S.state store.new))) (Resume (task_names task.entry)) result }
 {
-    let files = task.files;
-    let names = [files.disks, files.now, files.next, files.plan];
-    let job = match load_job(alloc, folder, task) {
-        Ok(job) => job,
-        Err(ending) => return tell(out, ending, &names),
-    };
+    let job = load_job(alloc, folder, task)?;
     match resume_lanes(&job, store) {
-        Ok(found) => show_rounds(out, job.rounds(), found),
-        Err(fault) => tell(out, fault_ending(job.input(), fault), &names),
+        Ok(found) => Ok(show_rounds(out, job.rounds(), found)),
+        Err(fault) => Err(fault_ending(job.input(), fault)),
     }
 }

@@ -246,13 +246,13 @@ fn put_text<K: Sink>(out: &mut K, ending: &Ending, names: &[&str]) -> Result<(),
 
 /// Puts the text of an ending of a command that loads the files of these names, and answers the number of its status.
 /// A fault of the sink ends the text there.
-pub fn tell<K: Sink>(out: &mut K, ending: Ending, names: &[&str]) -> u8
-    ensures status { result ≡ code (outcome_of (map (λ n. n.now) names.now) ending) }
-    ensures begun { ExtendsInPart (text_of (outcome_of (map (λ n. n.now) names.now) ending)) (K.state out.old) (K.state out.new) }
-    ensures whole { (Rose (K.state out.old).faults (K.state out.new).faults → ⊥) → Extends (text_of (outcome_of (map (λ n. n.now) names.now) ending)) (K.state out.old) (K.state out.new) }
+pub fn tell<K: Sink>(out: &mut K, ending: &Ending, names: &[&str]) -> u8
+    ensures status { result ≡ code (outcome_of (map (λ n. n.now) names.now) ending.now) }
+    ensures begun { ExtendsInPart (text_of (outcome_of (map (λ n. n.now) names.now) ending.now)) (K.state out.old) (K.state out.new) }
+    ensures whole { (Rose (K.state out.old).faults (K.state out.new).faults → ⊥) → Extends (text_of (outcome_of (map (λ n. n.now) names.now) ending.now)) (K.state out.old) (K.state out.new) }
     ensures later { (K.state out.old).faults ≤ (K.state out.new).faults }
 {
-    let _ = put_text(out, &ending, names);
+    let _ = put_text(out, ending, names);
     ending.code()
 }
 

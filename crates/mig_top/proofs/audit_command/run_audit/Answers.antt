@@ -1,28 +1,27 @@
-use Rattle.mig_top.proofs.Common.{IsAudit, Lists, [], finds, ◌∷◌}
-use Rattle.mig_top.proofs.EndsOf.{told}
+use Rattle.mig_top.proofs.Common.{IsAudit, Lists, err_from_is_err_and, finds}
+use Rattle.mig_top.proofs.EndsOf.{stopped}
 use Rattle.mig_top.proofs.StoreEnds.{unread, untouched}
 use Rattle.mig_top.proofs.Auditing.{lines_end, sink_stops, store_stops}
 use Rattle.mig_top.proofs.audit_command.run_audit.Goals as goal
 
-pub returns-in-Err : goal.returns-in-Err
-returns-in-Err g c =
+pub returns-in_err-input : goal.returns-in_err-input
+returns-in_err-input g c =
     let rest = λ (input : Lists). finds (IsAudit input (g.S.Store.state c.args.store.now)) in
-    told (c.args.disks.now ∷ c.args.now.now ∷ []) c.in-Err.ending c.tell.ensures.status
-    (unread rest (λ o h. h) tt (λ o u. c.load_layout.ensures.same) untouched c.in-Err.ensures.takes) c.tell.ensures.begun c.tell.ensures.whole
+    let p = err_from_is_err_and c.from_residual.result c.from_residual.ensures.1 in
+    rw (p.1, p.2) (stopped (g.K.Sink.state c.args.out.now) c.in_err-input.field-0.0 (unread rest (λ o h. h) tt (λ o u. c.load_layout.ensures.same) untouched c.in_err-input.ensures.takes))
 
-pub returns-in-Ok-put_sights : goal.returns-in-Ok-put_sights
-returns-in-Ok-put_sights g c =
+pub returns-in-Ok : goal.returns-in-Ok
+returns-in-Ok g c =
     let mid = g.K.Sink.state c.put_sights.new.out in
-    let here = c.in-Ok-put_sights.here in
-    lines_end c.load_layout.ensures.same c.put_sights.ensures.looks c.in-Ok.input c.in-Ok.ensures.takes.passes mid c.put_sights.ensures.later here c.in-Ok-put_sights.ensures.put
+    let here = c.in-Ok.here in
+    lines_end c.load_layout.ensures.same c.put_sights.ensures.looks c.in_ok-input.input c.in_ok-input.ensures.takes.passes mid c.put_sights.ensures.later here c.in-Ok.ensures.put
     (rw c.item_count.ensures.count at c.show_parts.ensures)
 
 pub returns-in-Err-Sink : goal.returns-in-Err-Sink
 returns-in-Err-Sink g c =
-    sink_stops c.load_layout.ensures.same c.put_sights.ensures.looks c.in-Ok.input c.in-Ok.ensures.takes.passes (rw c.in-Err-Sink.field-0-is at c.in-Err-Sink.ensures.stopped)
+    sink_stops c.load_layout.ensures.same c.put_sights.ensures.looks c.in_ok-input.input c.in_ok-input.ensures.takes.passes (rw c.in-Err-Sink.field-0-is at c.in-Err-Sink.ensures.stopped)
 
 pub returns : goal.returns
 returns g c =
-    let e = c.tell-in-Err-Store.ensures in
-    store_stops c.load_layout.ensures.same c.put_sights.ensures.looks c.in-Ok.input c.in-Ok.ensures.takes.passes (g.K.Sink.state c.put_sights.new.out) c.put_sights.ensures.later
-    (rw c.in-Err-Store.field-0-is at c.in-Err-Store.ensures.stopped) e.status e.begun e.whole
+    store_stops c.load_layout.ensures.same c.put_sights.ensures.looks c.in_ok-input.input c.in_ok-input.ensures.takes.passes c.put_sights.ensures.later
+    (rw c.in-Err-Store.field-0-is at c.in-Err-Store.ensures.stopped)

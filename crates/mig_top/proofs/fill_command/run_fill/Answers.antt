@@ -1,25 +1,23 @@
-use Rattle.mig_top.proofs.Common.{[], filled_text, refl, ◌∷◌}
+use Rattle.mig_top.proofs.Common.{[], err_from_is_err_and, filled_text, refl, ◌∷◌}
 use Rattle.mig_top.proofs.StoreCommands.{fill_done, fill_refused, fill_rest}
-use Rattle.mig_top.proofs.EndsOf.{refused, shown, told}
+use Rattle.mig_top.proofs.EndsOf.{refused, shown, stopped}
 use Rattle.mig_top.proofs.StoreEnds.{unread, untouched}
 use Rattle.mig_top.proofs.fill_command.run_fill.Goals as goal
 
-pub returns-in-Err : goal.returns-in-Err
-returns-in-Err g c =
-    told (c.args.disks.now ∷ c.args.now.now ∷ []) c.in-Err.ending c.tell.ensures.status
-    (unread (fill_rest (g.S.Store.state c.args.store.now)) (λ o h. h) tt (λ o u. c.load_layout.ensures.same) untouched c.in-Err.ensures.takes) c.tell.ensures.begun c.tell.ensures.whole
+pub returns-in_err-input : goal.returns-in_err-input
+returns-in_err-input g c =
+    let p = err_from_is_err_and c.from_residual.result c.from_residual.ensures.1 in
+    rw (p.1, p.2) (stopped (g.K.Sink.state c.args.out.now) c.in_err-input.field-0.0 (unread (fill_rest (g.S.Store.state c.args.store.now)) (λ o h. h) tt (λ o u. c.load_layout.ensures.same) untouched c.in_err-input.ensures.takes))
 
-pub returns-in-Ok-fill : goal.returns-in-Ok-fill
-returns-in-Ok-fill g c =
-    let input = c.in-Ok.input in
-    let e = c.in-Ok-fill.ensures in
+pub returns-in-Ok : goal.returns-in-Ok
+returns-in-Ok g c =
+    let input = c.in_ok-input.input in
+    let e = c.in-Ok.ensures in
     shown (filled_text input)
-    (fill_done c.load_layout.ensures.same input c.in-Ok.ensures.takes.passes c.fill.ensures.change e.made e.settled e.landed e.idle e.fillable) (rw c.item_count.ensures.count at c.show_parts.ensures)
+    (fill_done c.load_layout.ensures.same input c.in_ok-input.ensures.takes.passes c.fill.ensures.change e.made e.settled e.landed e.idle e.fillable) (rw c.item_count.ensures.count at c.show_parts.ensures)
 
 pub returns : goal.returns
 returns g c =
-    let input = c.in-Ok.input in
-    let names = c.args.disks.now ∷ c.args.now.now ∷ [] in
-    let e = c.tell-in-Err-fill.ensures in
-    refused names c.fault_ending.result input input c.in-Err-fill.fault (c.fault_ending.ensures names) refl
-    (fill_refused c.load_layout.ensures.same input c.in-Ok.ensures.takes.passes c.fill.ensures.change c.in-Err-fill.fault c.in-Err-fill.ensures.fault) e.status e.begun e.whole
+    let input = c.in_ok-input.input in
+    refused (g.K.Sink.state c.args.out.now) c.fault_ending.result input input c.in-Err.fault (c.fault_ending.ensures (c.args.disks.now ∷ c.args.now.now ∷ [])) refl
+    (fill_refused c.load_layout.ensures.same input c.in_ok-input.ensures.takes.passes c.fill.ensures.change c.in-Err.fault c.in-Err.ensures.fault)

@@ -1,24 +1,21 @@
-use Rattle.mig_top.proofs.Common.{[], arith, four_and, halted_text, task_names}
+use Rattle.mig_top.proofs.Common.{[], arith, err_from_is_err_and, four_and, halted_text}
 use Rattle.mig_top.proofs.StoreCommands.{halt_done, halt_failed, halt_refused, halt_unsaved, in_part, in_whole, is_standing}
-use Rattle.mig_top.proofs.EndsOf.{refused, shown, told}
+use Rattle.mig_top.proofs.EndsOf.{refused, shown, stopped}
 use Rattle.mig_top.proofs.halt_command.close.Goals as goal
 
 pub returns-in-Err : goal.returns-in-Err
-returns-in-Err g c before are same later =
-    let names = four_and (task_names c.args.task).files [] in
-    let t = c.tell.ensures in
-    refused names c.fault_ending.result c.input.result.now c.args.job.now.input c.in-Err.fault (c.fault_ending.ensures names) c.input.ensures.value
-    (halt_refused c.args.job.now are same c.stand.ensures.lands c.in-Err.fault c.in-Err.ensures.fault) t.status t.begun t.whole
+returns-in-Err g c before names are same later =
+    refused (g.K.Sink.state c.args.out.now) c.fault_ending.result c.input.result.now c.args.job.now.input c.in-Err.fault (c.fault_ending.ensures (four_and names.files [])) c.input.ensures.value
+    (halt_refused c.args.job.now are same c.stand.ensures.lands c.in-Err.fault c.in-Err.ensures.fault)
 
-pub returns-in-Err-save_layout : goal.returns-in-Err-save_layout
-returns-in-Err-save_layout g c before are same later =
-    let e = c.in-Err-save_layout in
-    let t = c.tell-in-Err-save_layout.ensures in
-    told (four_and (task_names c.args.task).files []) e.ending t.status
-    (halt_unsaved (g.F.Folder.state c.args.folder.now) same later c.in-Ok.ensures.stands.settles e.ending e.ensures.failed) t.begun t.whole
+pub returns-in_err-save_layout : goal.returns-in_err-save_layout
+returns-in_err-save_layout g c before names are same later =
+    let e = c.in_err-save_layout in
+    let p = err_from_is_err_and c.from_residual.result c.from_residual.ensures.1 in
+    rw (p.1, p.2) (stopped (g.K.Sink.state c.args.out.now) e.field-0.0 (halt_unsaved (g.F.Folder.state c.args.folder.now) same later c.in-Ok.ensures.stands.settles e.field-0.0 e.ensures.failed))
 
 pub returns-in-Ok-halt : goal.returns-in-Ok-halt
-returns-in-Ok-halt g c before are same later =
+returns-in-Ok-halt g c before names are same later =
     let task = c.args.job.now in
     let found = c.in-Ok.found in
     let stood = c.in-Ok.ensures.stands in
@@ -27,20 +24,18 @@ returns-in-Ok-halt g c before are same later =
     let mid = g.S.Store.state c.stand.new.store in
     let all = in_whole task old mid found stood (g.met.S.Store.is_state c.args.store.now) (g.met.S.Store.is_state c.stand.new.store) (g.S.Store.state c.halt.new.store)
     (g.met.S.Store.is_state c.halt.new.store) h.any_moment h.change c.in-Ok-halt.ensures.halted c.in-Ok-halt.ensures.settled in
-    shown (halted_text task.plan found) (halt_done task are (g.F.Folder.state c.args.folder.now) same found c.in_default.ensures.saved all (is_standing task old mid found stood))
+    shown (halted_text task.plan found) (halt_done task are (g.F.Folder.state c.args.folder.now) same found c.in_ok-save_layout.ensures.saved all (is_standing task old mid found stood))
     (rw c.rounds.ensures.count at c.show_halted.ensures)
 
 pub returns-in-Err-halt : goal.returns-in-Err-halt
-returns-in-Err-halt g c before are same later =
-    let names = four_and (task_names c.args.task).files [] in
+returns-in-Err-halt g c before names are same later =
     let task = c.args.job.now in
     let found = c.in-Ok.found in
     let h = c.halt.ensures in
     let bad = c.in-Err-halt.ensures.fault in
     let rose = bad.1 in
-    let t = c.tell-in-Err-halt.ensures in
     let part = in_part task (g.S.Store.state c.args.store.now) (g.S.Store.state c.stand.new.store) found c.in-Ok.ensures.stands (g.met.S.Store.is_state c.args.store.now)
     (g.met.S.Store.is_state c.stand.new.store) (g.S.Store.state c.halt.new.store) (g.met.S.Store.is_state c.halt.new.store) h.any_moment h.change in
-    refused names c.fault_ending-in-Err-halt.result c.input-in-Err-halt.result.now task.input c.in-Err-halt.fault (c.fault_ending-in-Err-halt.ensures names) c.input-in-Err-halt.ensures.value
-    (halt_failed task are (g.F.Folder.state c.args.folder.now) same found c.in_default.ensures.saved part (omega (arith, c.stand.ensures.later, rose)) c.in-Err-halt.fault bad.0)
-    t.status t.begun t.whole
+    refused (g.K.Sink.state c.args.out.now) c.fault_ending-in-Err-halt.result c.input-in-Err-halt.result.now task.input c.in-Err-halt.fault (c.fault_ending-in-Err-halt.ensures (four_and names.files []))
+    c.input-in-Err-halt.ensures.value
+    (halt_failed task are (g.F.Folder.state c.args.folder.now) same found c.in_ok-save_layout.ensures.saved part (omega (arith, c.stand.ensures.later, rose)) c.in-Err-halt.fault bad.0)

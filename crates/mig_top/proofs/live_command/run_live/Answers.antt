@@ -1,36 +1,34 @@
-use Rattle.mig_top.proofs.Common.{Shows, [], all_steps, ap, arith, four_and, left_text, names_in, scripted_read, subst, true, ℕ, ◌-◌, ◌∙◌, ◌∷◌}
+use Rattle.mig_top.proofs.Common.{Shows, [], all_steps, ap, arith, err_from_is_err_and, four_and, left_text, names_in, scripted_read, subst, true, ℕ, ◌-◌, ◌∙◌, ◌∷◌}
 use Rattle.mig_live.specs.Replies.{AreCutOff, IsServeFault}
 use Rattle.mig_live.specs.declared.serving.ServeFault.{ServeFault}
-use Rattle.mig_top.proofs.EndsOf.{refused, told}
+use Rattle.mig_top.proofs.EndsOf.{refused, stopped}
 use Rattle.mig_top.proofs.LiveCommand.{live_done, live_failed, live_refused, live_rest, live_unput, went_on}
 use Rattle.mig_top.proofs.StoreEnds.{unread, untouched}
 use Rattle.mig_top.proofs.live_command.run_live.Goals as goal
 
+pub returns-in_err-read : goal.returns-in_err-read
+returns-in_err-read g c =
+    let p = err_from_is_err_and c.from_residual.result c.from_residual.ensures.1 in
+    rw (p.1, p.2) (stopped (g.K.Sink.state c.args.out.now) c.in_err-read.field-0.0 (unread (live_rest (g.S.Store.state c.args.store.now)) (λ o h. h) tt (λ o u. c.load_scripted.ensures.same) untouched c.in_err-read.ensures.takes))
+
 pub returns-in-Err : goal.returns-in-Err
 returns-in-Err g c =
-    told (four_and (names_in c.args.files) (c.args.script.now ∷ [])) c.in-Err.ending c.tell.ensures.status
-    (unread (live_rest (g.S.Store.state c.args.store.now)) (λ o h. h) tt (λ o u. c.load_scripted.ensures.same) untouched c.in-Err.ensures.takes) c.tell.ensures.begun c.tell.ensures.whole
-
-pub returns-in-Err-enter : goal.returns-in-Err-enter
-returns-in-Err-enter g c =
-    let read = scripted_read c.in-Ok.read in
+    let read = scripted_read c.in_ok-read.read in
     let names = four_and (names_in c.args.files) (c.args.script.now ∷ []) in
-    let bad = c.in-Err-enter.ensures in
-    let t = c.tell-in-Err-enter.ensures in
-    refused names c.fault_ending.result c.input.result.now read.task.input c.in-Err-enter.fault (c.fault_ending.ensures names) c.input.ensures.value
-    (live_refused _ (names_in c.args.files) c.args.script.now c.load_scripted.ensures.same read c.in-Ok.ensures.takes.passes c.keeps_rules.ensures.valid c.keeps_rules.ensures.runs
-    c.enter.ensures.keeps c.enter.ensures.armed c.enter.ensures.part c.in-Err-enter.fault bad.fault bad.kind)
-    t.status t.begun t.whole
+    let bad = c.in-Err.ensures in
+    refused (g.K.Sink.state c.args.out.now) c.fault_ending.result c.input.result.now read.task.input c.in-Err.fault (c.fault_ending.ensures names) c.input.ensures.value
+    (live_refused _ (names_in c.args.files) c.args.script.now c.load_scripted.ensures.same read c.in_ok-read.ensures.takes.passes c.keeps_rules.ensures.valid c.keeps_rules.ensures.runs
+    c.enter.ensures.keeps c.enter.ensures.armed c.enter.ensures.part c.in-Err.fault bad.fault bad.kind)
 
 pub returns-in-Ok-serve : goal.returns-in-Ok-serve
 returns-in-Ok-serve g c =
-    let read = scripted_read c.in-Ok.read in
-    let live = c.in-Ok-enter.live in
+    let read = scripted_read c.in_ok-read.read in
+    let live = c.in-Ok.live in
     let after = c.in-Ok-serve.after in
-    let en = c.in-Ok-enter.ensures in
+    let en = c.in-Ok.ensures in
     let ok = c.in-Ok-serve.ensures in
     let left = rw c.orders.ensures at ok.left in
-    live_done _ (names_in c.args.files) c.args.script.now c.load_scripted.ensures.same read c.in-Ok.ensures.takes.passes c.keeps_rules.ensures.valid c.keeps_rules.ensures.runs
+    live_done _ (names_in c.args.files) c.args.script.now c.load_scripted.ensures.same read c.in_ok-read.ensures.takes.passes c.keeps_rules.ensures.valid c.keeps_rules.ensures.runs
     (g.S.Store.state c.enter.new.store) live en.task en.left c.enter.ensures.keeps c.enter.ensures.armed en.enters.armed en.ended en.enters.landed (record { most = en.enters.most; found = en.enters.found })
     en.in_step c.serve.ensures.any_moment c.serve.ensures.change c.serve.ensures.later (g.K.Sink.state c.serve.new.out) c.serve.ensures.sink_later
     (record { most = en.enters.most; found = en.enters.found; ours = en.ours; ready = en.enters.ready })
@@ -43,32 +41,31 @@ returns-in-Ok-serve g c =
 
 pub returns-in-Err-Sink : goal.returns-in-Err-Sink
 returns-in-Err-Sink g c =
-    let read = scripted_read c.in-Ok.read in
-    let en = c.in-Ok-enter.ensures in
+    let read = scripted_read c.in_ok-read.read in
+    let en = c.in-Ok.ensures in
     let old = g.S.Store.state c.enter.new.store in
     let new = g.S.Store.state c.serve.new.store in
     let first = g.K.Sink.state c.args.out.now in
     let last = g.K.Sink.state c.serve.new.out in
     let bad = c.in-Err-Sink.ensures in
-    live_unput _ (names_in c.args.files) c.args.script.now c.load_scripted.ensures.same read c.in-Ok.ensures.takes.passes c.keeps_rules.ensures.valid c.keeps_rules.ensures.runs
-    old c.in-Ok-enter.live en.task en.left c.enter.ensures.keeps c.enter.ensures.armed en.enters.armed en.ended en.enters.landed (record { most = en.enters.most; found = en.enters.found })
+    live_unput _ (names_in c.args.files) c.args.script.now c.load_scripted.ensures.same read c.in_ok-read.ensures.takes.passes c.keeps_rules.ensures.valid c.keeps_rules.ensures.runs
+    old c.in-Ok.live en.task en.left c.enter.ensures.keeps c.enter.ensures.armed en.enters.armed en.ended en.enters.landed (record { most = en.enters.most; found = en.enters.found })
     en.in_step c.serve.ensures.any_moment c.serve.ensures.change c.serve.ensures.later
-    (subst (λ (f : ServeFault). AreCutOff c.in-Ok-enter.live old new read.orders first last f) c.in-Err-Sink.field-0-is (rw c.orders.ensures at bad.cut_off))
+    (subst (λ (f : ServeFault). AreCutOff c.in-Ok.live old new read.orders first last f) c.in-Err-Sink.field-0-is (rw c.orders.ensures at bad.cut_off))
     (subst (λ (f : ServeFault). IsServeFault old new first last f) c.in-Err-Sink.field-0-is bad.fault)
 
 pub returns : goal.returns
 returns g c =
-    let read = scripted_read c.in-Ok.read in
-    let en = c.in-Ok-enter.ensures in
+    let read = scripted_read c.in_ok-read.read in
+    let en = c.in-Ok.ensures in
     let old = g.S.Store.state c.enter.new.store in
     let new = g.S.Store.state c.serve.new.store in
     let first = g.K.Sink.state c.args.out.now in
     let last = g.K.Sink.state c.serve.new.out in
     let bad = c.in-Err-Store.ensures in
-    let t = c.tell-in-Err-Store.ensures in
     let rose = subst (λ (f : ServeFault). IsServeFault old new first last f) c.in-Err-Store.field-0-is bad.fault in
-    live_failed _ (names_in c.args.files) c.args.script.now c.load_scripted.ensures.same read c.in-Ok.ensures.takes.passes c.keeps_rules.ensures.valid c.keeps_rules.ensures.runs
-    old c.in-Ok-enter.live en.task en.left c.enter.ensures.keeps c.enter.ensures.armed en.enters.armed en.ended en.enters.landed (record { most = en.enters.most; found = en.enters.found })
-    en.in_step c.serve.ensures.any_moment c.serve.ensures.change c.serve.ensures.later last c.serve.ensures.sink_later
-    (subst (λ (f : ServeFault). AreCutOff c.in-Ok-enter.live old new read.orders first last f) c.in-Err-Store.field-0-is (rw c.orders.ensures at bad.cut_off))
-    (omega (arith, c.enter.ensures.keeps.later, rose)) t.status t.begun t.whole
+    live_failed _ (names_in c.args.files) c.args.script.now c.load_scripted.ensures.same read c.in_ok-read.ensures.takes.passes c.keeps_rules.ensures.valid c.keeps_rules.ensures.runs
+    old c.in-Ok.live en.task en.left c.enter.ensures.keeps c.enter.ensures.armed en.enters.armed en.ended en.enters.landed (record { most = en.enters.most; found = en.enters.found })
+    en.in_step c.serve.ensures.any_moment c.serve.ensures.change c.serve.ensures.later c.serve.ensures.sink_later
+    (subst (λ (f : ServeFault). AreCutOff c.in-Ok.live old new read.orders first last f) c.in-Err-Store.field-0-is (rw c.orders.ensures at bad.cut_off))
+    (omega (arith, c.enter.ensures.keeps.later, rose))

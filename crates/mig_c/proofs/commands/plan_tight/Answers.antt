@@ -1,8 +1,0 @@
-use Rattle.mig_c.proofs.Common.{ap, bodies, texts, ◌∙◌}
-use Rattle.mig_c.proofs.Ending.{ends_plan_tight, if_ok}
-use Rattle.mig_c.proofs.commands.plan_tight.Goals as goal
-
-pub returns : goal.returns
-returns c =
-    let words = ap texts c.deref.ensures.value ∙ c.in_ok-words.ensures in
-    if_ok c.carry_out.result (λ e h. ends_plan_tight (bodies c.args.disks.now c.args.now.now c.args.next.now) c.in_ok-folder.ensures.0 (rw words at h)) c.carry_out.ensures
