@@ -79,7 +79,8 @@ pub fn status_over<F: Folder, K: Sink, S: Store>(
     store: &mut S,
 ) -> Result<u8, AllocError> {
     let words = words_of(alloc, line)?;
-    Ok(run(alloc, &words, folder, out, store))
+    let mut machine = Machine { folder, out, store };
+    Ok(machine.run(alloc, &words).status)
 }
 
 /// The same over a store without cells.
