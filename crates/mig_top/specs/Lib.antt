@@ -5,6 +5,7 @@ pub mod Causes
 pub mod Common
 pub mod Ends
 pub mod Loads
+pub mod Making
 pub mod Steps
 pub mod Stores
 pub mod audit
