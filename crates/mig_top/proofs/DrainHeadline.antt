@@ -1,6 +1,6 @@
 -- What `drain` promises, from the causes of its outcomes and what it leaves.
 use Rattle.mig_top.proofs.Common.{Call, CannotDrain, Done, Drain, DrainsWell, EndsAs, Files, Finding, Form, FormCause, Found, HasDrained, HoldsLayout, IsDrainSaved, IsEndOf, IsListed, IsNamed, IsNoDisk}
-use Rattle.mig_top.proofs.Common.{IsSomeAnd, LacksSlots, List, Lists, NoDisk, NoRoom, Outcome, Refused, Some, Step, WorldEnds, after, arith, finding_code, finds, finds_disk, fits_others}
+use Rattle.mig_top.proofs.Common.{IsSomeAnd, LacksSlots, List, Lists, NoDisk, NoRoom, Outcome, Refused, Some, Step, after, arith, finding_code, finds, finds_disk, fits_others}
 use Rattle.mig_top.proofs.Common.{free_elsewhere, inl, inr, layout_in, present, refl, subst, ℕ, ◌<◌, ◌≡◌, ◌⊎◌}
 use Rattle.mig_top.proofs.EndsOf.{cause_at, told_at}
 use Rattle.mig_top.proofs.Exactness.{disk_exact, layout_in_exact}

@@ -1,8 +1,8 @@
 -- How `live` ends.
-use Rattle.mig_top.proofs.Common.{Adds, AreAnswers, AreOfScripted, BeginsRun, Bool, Call, Carries, Cell, Contents, Done, Err, Event, Extends, ExtendsInPart, FormEndsAs, Gate, GoesOn, IfSome, Image, IsFault, IsInput}
+use Rattle.mig_top.proofs.Common.{Adds, AreAnswers, AreOfScripted, BeginsRun, Bool, Call, Carries, Cell, Contents, Done, Err, Event, FormEndsAs, Gate, GoesOn, IfSome, Image, IsFault, IsInput}
 use Rattle.mig_top.proofs.Common.{IsJobCell, IsReached, IsResumable, IsResumeFault, IsResumeRefusal, IsSafeAfter, IsServed, IsSettled, IsSome, IsSound, IsTargetOf, Keeps, LeavesOnly, List, Live, MakesAll, MoveFault}
 use Rattle.mig_top.proofs.Common.{Names, None, Option, Order, Rose, Runs, Scripted, ServesAll, SettlesTo, Shows, SinkFault, SinkState, Some, State, StaysArmed, Step, StoreFault, Task, Tells, Untouched, WentOn}
-use Rattle.mig_top.proofs.Common.{WorldEnds, [], after, all_steps, ap, append_assoc, arith, changes_then, changes_wider, codes, count_most, count_of, drop, false≢true, fault_outcome, finds, flights, inl, inr, is_armed}
+use Rattle.mig_top.proofs.Common.{WorldEnds, [], after, all_steps, ap, append_assoc, arith, changes_then, changes_wider, count_most, count_of, drop, false≢true, fault_outcome, finds, flights, inl, inr, is_armed}
 use Rattle.mig_top.proofs.Common.{is_one, leaves_then, left_text, length, length-append, marks_by, option_map, refl, replies, resumes, scripted_in, steps_after, steps_left, subst, sym, take, then_begins, then_extends}
 use Rattle.mig_top.proofs.Common.{true, ℕ, ⊎_elim, ◌++◌, ◌+◌, ◌-◌, ◌∙◌, ◌∷◌, ◌≡◌, ◌≤◌, ◌⊎◌}
 use Rattle.mig_base.proofs.StoreSteps.{changes_leave}
