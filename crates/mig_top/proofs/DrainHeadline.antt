@@ -72,6 +72,6 @@ module _ (k : Call) (disks now name next : List ℕ) (files : Files) (is : k.bef
   }
 
   pub drains_well : {words : List (List ℕ)} {status : ℕ} → EndsAs k words status → IsListed words form → DrainsWell k files disks now name next status
-  drains_well ends l = makes_well is maker (omega arith) (HasDrained k disks now name next files) (λ text h put.
+  drains_well ends l = makes_well is maker (omega arith) (omega arith) (HasDrained k disks now name next files) (λ text h put.
       some_and_map (IsDrainSaved disks now name next text files) (HasDrained k disks now name next files) k.after.folder.files (λ new saved. (text, saved, put))
       (told_at (λ old. IsSomeAnd k.after.folder.files (IsDrainSaved disks now name next text old)) k.before.folder.files files is h.leaves)) ends l
