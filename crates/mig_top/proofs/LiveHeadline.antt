@@ -1,7 +1,7 @@
 -- What `live` promises, from the causes of its outcomes and what it leaves.
 use Rattle.mig_top.proofs.Common.{AreOfScripted, Bool, Call, Cell, Contents, Done, EndsAs, Extends, Files, FolderFailed, Found, Gate, GoesOn, Holds, Image, IsInput, IsJobCell, IsListed, IsMoving}
 use Rattle.mig_top.proofs.Common.{IsOrNotPut, IsReadyIdle, IsServed, IsSome, IsSound, IsState, IsTargetOf, IsUntouched, LeavesOnly, List, Live, LiveLeaves, MakesAll, Names, NoCell, Order, Outcome}
-use Rattle.mig_top.proofs.Common.{Refusal, ResumesInFlight, ResumesWell, Runs, Says, Scripted, ServesAll, ServesWell, SinkFailed, SinkFault, Some, State, StoreFailed, StoreFault, WentOn, WorldEnds, []}
+use Rattle.mig_top.proofs.Common.{Refusal, ResumesInFlight, ResumesWell, Runs, Says, Scripted, ServesAll, ServesWell, SettlesTo, SinkFailed, SinkFault, Some, State, StoreFailed, StoreFault, WentOn, WorldEnds, []}
 use Rattle.mig_top.proofs.Common.{ap, arith, changes_wider, code, count_most, count_of, events_none, flights, inl, inr, is_armed, left_text, length, refl, replies, resumes, scripted_in, steps_left, subst}
 use Rattle.mig_top.proofs.Common.{sym, take, told_kept, true, ℕ, ⊎_elim, ◌++◌, ◌∙◌, ◌≡◌, ◌⊎◌}
 use Rattle.mig_top.proofs.EndsOf.{ends_of, finding_apart, refusal_between, told_at}

@@ -131,7 +131,7 @@ module _ (task : Task) (valid : IsInput task.input) (runs : Runs task.input task
 
     session : (added : List Event) → BeginsRun (flights old) (lone_after task k) added → IsSession added
     session added = part_of task.input.disks (flights old) (lone_after task k) added
-        (all_lone task.input (AreWithinLimits task.input.disks) (drop k task.plan) (λ j d lt i s less. lone_within task.input valid (flight_of task.input s))) all_proper
+        (all_lone task.input (AreWithinLimits task.input.disks) (drop k task.plan) (λ j d lt i s less. lone_within task.input valid (flight_of task.input (get_or (get_or (drop k task.plan) j d) i s)))) all_proper
 
     -- the plan isn't entered
     pub refused_events : (new : State) → Adds (BeginsRun (flights old) []) old new → Adds IsSession old new
