@@ -1,0 +1,7 @@
+pub mod Counts
+pub mod Founds
+pub mod Inputs
+pub mod Kept
+pub mod Lists
+pub mod Marks
+pub mod Rows
