@@ -5,3 +5,4 @@ pub mod Kept
 pub mod Lists
 pub mod Marks
 pub mod Rows
+pub mod Slotless
