@@ -76,7 +76,7 @@ module _ (split : Bool) (disks : List DiskNumbers) (items : List ItemNumbers) (f
     one_kind = all_of (disk_in split disks) (length disks) (λ disk. is_split disk.limits ≡ is_duplex made) one_kind;
     few_items = omega (arith, length-map-range_with_len made_item 0 (length items), few.few_items);
     named_items = all_of made_item (length items) IsName (λ i lt. numbered_is_name 105 i refl (omega (arith, lt, few.few_items)));
-    made_items = pairs_of made_item (length items) (λ a b. a ≢ b) (λ i j lt below e. let same = same_number 105 i j (omega (arith, lt, below, few.few_items)) (omega (arith, below, few.few_items)) e in omega (arith, lt, same));
+    item_names = pairs_of made_item (length items) (λ a b. a ≢ b) (λ i j lt below e. let same = same_number 105 i j (omega (arith, lt, below, few.few_items)) (omega (arith, below, few.few_items)) e in omega (arith, lt, same));
     spots_len = length-map items spot_of ∙ sym (length-map-range_with_len made_item 0 (length items));
     next_len = length-map items next_of ∙ sym (length-map-range_with_len made_item 0 (length items));
     on_disks = all_in spot_of items no_item (IsSpotOf made) on_disk;
