@@ -204,8 +204,8 @@ module _ (split : Bool) (disks : List DiskNumbers) (items : List ItemNumbers) (p
       let r = All-filter before (IsMoveRow input targets (length plan)) rows move_rows i d lt in
       let less : row.item < move_at input move = ltb-true row.item (move_at input move) (filter_passes before rows i d lt) in
       let low : r.move < move = elim (cases_lt r.move move) [
-        | inl yes ↦ yes
-        | inr no ↦ elim (cases_lt move r.move) [ inl more ↦ absurd (omega (arith, less, r.item_is, ascending move r.move more r.within)) | inr le ↦ absurd (omega (arith, less, r.item_is, ap (move_at input) (omega_same move r.move no le))) ]
+        | inl less_too ↦ less_too
+        | inr ge ↦ elim (cases_lt move r.move) [ inl more ↦ absurd (omega (arith, less, r.item_is, ascending move r.move more r.within)) | inr le ↦ absurd (omega (arith, less, r.item_is, ap (move_at input) (omega_same move r.move ge le))) ]
       ] in
       let len = made.targets.1.len in
       let long = length-take-le move targets (omega (arith, len, within)) in

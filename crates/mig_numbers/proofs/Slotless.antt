@@ -30,7 +30,7 @@ left_le input v (suc m) k len e = omega (arith, left_over-next input v k (omega 
 
 abbrev IsOther : Refusal → Type 0
 IsOther Memory = ⊥
-IsOther _ = 0 ≡ 0
+IsOther _ = ◌≡◌ {A = ℕ} 0 0
 
 no_limits : LimitNumbers
 no_limits = record { out_limit = 0; in_limit = 0 }

@@ -1,5 +1,6 @@
 use Rattle.mig_base.proofs.Common.{ap, arith, disk_at, inr, no_disk, subst, sym, ◌-◌, ◌∙◌, ◌≡◌}
 use Rattle.mig_base.proofs.Scheduled.{is_at}
+use Rattle.mig_base.specs.declared.faults.Why.{Why}
 use Rattle.mig_base.specs.declared.faults.Why.TheVariants.{NoRoom as no_room}
 use Rattle.mig_base.specs.declared.inputs.Disk.{Disk}
 use Rattle.mig_csv.specs.Lists.{RefusesRoom}
@@ -13,7 +14,8 @@ pub returns-in-Err-Refused-default-default-NoRoom : goal.returns-in-Err-Refused-
 returns-in-Err-Refused-default-default-NoRoom c =
     let input = c.args.input.now in
     let at = c.in-Err-Refused-default-default-NoRoom in
-    let r : RefusesRoom input (Refused at.field-0-0 at.row (no_room at.field-0-2-0 at.needs at.slots)) = at.ensures.lacking in
+    let r : RefusesRoom input (Refused at.field-0-0 at.row (no_room at.field-0-2-0 at.needs at.slots)) =
+    subst (RefusesRoom input) (at.field-0-is ∙ ap (λ (w : Why). Refused at.field-0-0 at.row w) at.field-0-2-is) at.ensures.lacking in
     let k = r.1 in
     let within = slice_get_within input.disks k r.2 r.4 in
     let disk : disk_at input.disks k ≡ r.2 = is_at input.disks k no_disk r.2 within r.4 in
