@@ -1,5 +1,5 @@
 -- How many rows there are, of each item and of all.
-use Rattle.mig_base.proofs.Common.{Bool, List, [], add-one, ap, arith, cond, count_by, false, get_or, is_of, is_relocated, length, length-append, map, not, range_with_len, refl, subst, suc, sum_by, sum_by-append, sum_by-cons, sym, take, take_all, true, zero, ℕ, ◌++◌, ◌+◌, ◌<◌, ◌==◌, ◌∙◌, ◌∷◌, ◌≡◌, ◌≤◌}
+use Rattle.mig_base.proofs.Common.{Bool, List, [], add-one, ap, arith, cond, count_by, false, get_or, is_of, length, length-append, map, not, range_with_len, refl, subst, suc, sum_by, sum_by-append, sum_by-cons, take, take_all, true, zero, ℕ, ◌+◌, ◌<◌, ◌==◌, ◌∙◌, ◌∷◌, ◌≡◌, ◌≤◌}
 use Rattle.mig_base.proofs.Counting.{sum_by-map}
 use Rattle.mig_base.proofs.Common.{length-map-range_with_len, no_spot, shift_count}
 use Rattle.mig_base.specs.Layouts.{round_at}

@@ -1,11 +1,9 @@
 -- Numbers that are sound stand for an input.
-use Rattle.mig_base.proofs.Common.{All, Bool, Contains, IsDiskInRange, IsInput, IsName, IsSomeAnd, IsSpotOf, List, Option, Some, [], ap, arith, false, get_or, get_or-map-range_with_len, get_or-take, inl, inr, is_duplex, is_split, length}
-use Rattle.mig_base.proofs.Common.{cases_lt, length-map-range_with_len, map, map-append, no_disk, range_with_len, refl, slice_get, slice_get-get_or, subst, sym, take, true, ℕ, ◌++◌, ◌+◌, ◌<◌, ◌∙◌, ◌∷◌, ◌≡◌, ◌≢◌, ◌≤◌}
+use Rattle.mig_base.proofs.Common.{Bool, IsDiskInRange, IsInput, IsName, IsSomeAnd, IsSpotOf, List, Option, Some, [], ap, arith, false, get_or, get_or-map-range_with_len, get_or-take, inl, inr, is_duplex, is_split, length}
+use Rattle.mig_base.proofs.Common.{cases_lt, length-map-range_with_len, map, map-append, no_disk, range_with_len, refl, slice_get, slice_get-get_or, subst, sym, take, true, ℕ, ◌++◌, ◌+◌, ◌<◌, ◌∙◌, ◌∷◌, ◌≡◌, ◌≢◌}
 use Rattle.mig_base.proofs.Elements.{range_more}
-use Rattle.mig_base.specs.declared.ids.DiskId.{DiskId}
 use Rattle.mig_base.specs.declared.ids.Spot.{Spot}
 use Rattle.mig_base.specs.declared.inputs.Disk.{Disk}
-use Rattle.mig_base.specs.declared.limits.TheConstants.{MAX_DISKS, MAX_ITEMS}
 use Rattle.mig_gen.proofs.MadeNames.{numbered_is_name, same_number}
 use Rattle.mig_gen.proofs.MadeLists.{all_of, pairs_of}
 use Rattle.mig_gen.specs.MadeCases.{made_item}

@@ -1,12 +1,11 @@
 -- What a plan's rows keep: whose they are, where they go, and the limits of each round.
-use Rattle.mig_base.proofs.Common.{All, All-append, All-contains, All-filter, All-map, AllPairs, AreTargets, Bool, Contains, Contains-append_cases, Contains-append_left, Contains-append_right, IsLowestFree, IsMoveShift, List, Lists}
-use Rattle.mig_base.proofs.Common.{[], add-one, ap, append-nil, arith, cases_lt, cond, eqb, false, filter, filter-append, filter_passes, get_or, get_or-take, inl, inr, is_of, is_relocated, length, length-map-range_with_len, length-take-le, map}
-use Rattle.mig_base.proofs.Common.{move_at, move_shift, moves, nat_tests, no_disk, no_spot, range_with_len, refl, round_at, shift_count, source, subst, suc, sym, take, target, target_at, trip_of, true, zero, ℕ, ⊎_elim, ◌++◌, ◌+◌, ◌<◌, ◌==◌, ◌∙◌, ◌∷◌, ◌≡◌, ◌≤◌}
+use Rattle.mig_base.proofs.Common.{All, All-append, All-contains, All-filter, All-map, Bool, Contains, Contains-append_cases, Contains-append_left, Contains-append_right, IsLowestFree, IsMoveShift, List, Lists}
+use Rattle.mig_base.proofs.Common.{[], add-one, ap, append-nil, arith, cases_lt, cond, false, filter, filter-append, filter_passes, get_or, get_or-take, inl, inr, is_relocated, length, length-map-range_with_len, length-take-le, map}
+use Rattle.mig_base.proofs.Common.{move_at, moves, nat_tests, no_spot, refl, round_at, shift_count, source, subst, suc, sym, take, target, target_at, trip_of, true, zero, ℕ, ⊎_elim, ◌++◌, ◌+◌, ◌<◌, ◌==◌, ◌∙◌, ◌∷◌, ◌≡◌, ◌≤◌}
 use Rattle.mig_base.proofs.Components.{increasing_filter}
 use Rattle.mig_base.proofs.Planned.{move_relocated, move_there}
 use Rattle.mig_base.proofs.Room.{lowest_at}
 use Rattle.mig_base.proofs.Scheduled.{shifted_first, shifted_round}
-use Rattle.mig_base.specs.InputLists.{disk_at}
 use Rattle.mig_base.specs.MadePlans.{IsPlanOf}
 use Rattle.mig_base.specs.Schedules.{Needs}
 use Rattle.mig_base.specs.Transfers.{KeepsLimit, Trip}
@@ -15,7 +14,6 @@ use Rattle.mig_base.specs.declared.ids.DiskId.{DiskId}
 use Rattle.mig_base.specs.declared.ids.Shift.{Shift}
 use Rattle.mig_base.specs.declared.ids.Spot.{Spot}
 use Rattle.mig_base.specs.declared.inputs.Disk.{Disk}
-use Rattle.mig_base.specs.declared.inputs.Limits.{Limits}
 use Rattle.mig_best.specs.Certified.{IsCertified}
 use Rattle.mig_gen.specs.MadeCases.{made_item}
 use Rattle.mig_numbers.proofs.Counts.{once_rows}

@@ -1,6 +1,6 @@
 -- The rounds that pairs are given are a schedule that keeps each limit.
 use Rattle.mig_base.proofs.Common.{All, Bool, IsSchedule, List, Obeys, [], ap, arith, cases_lt, cond, count_by, eq-eqb, false, filter, filter_passes, get_or, get_or-le-sum_by, get_or-map-range_with_len, inl, inr, is_of, is_relocated, length, length-map-range_with_len}
-use Rattle.mig_base.proofs.Common.{list_any, map, moves, position_or_len, range_with_len, refl, round_at, round_of, shift_count, subst, suc, sum_by, sum_by-cons, sym, trip, trips_in, true, zero, ℕ, ◌+◌, ◌<◌, ◌==◌, ◌||◌, ◌∙◌, ◌∷◌, ◌≡◌, ◌≢◌, ◌≤◌}
+use Rattle.mig_base.proofs.Common.{list_any, map, moves, position_or_len, range_with_len, refl, round_at, round_of, shift_count, subst, suc, sum_by-cons, sym, trip, true, zero, ℕ, ◌+◌, ◌<◌, ◌==◌, ◌||◌, ◌∙◌, ◌∷◌, ◌≡◌, ◌≢◌, ◌≤◌}
 use Rattle.mig_base.proofs.Scheduled.{IsShiftedAt, moves_there, obeys, scheduled, shifted_first}
 use Rattle.mig_base.specs.Schedules.{Needs}
 use Rattle.mig_base.specs.Transfers.{KeepsLimits}

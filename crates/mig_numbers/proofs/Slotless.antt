@@ -1,11 +1,10 @@
 -- A schedule is refused for neither slots nor room: each pair has a slot of its own, and there is one for each.
-use Rattle.mig_base.proofs.Common.{Bool, Contains, List, Lists, ap, arith, cases_eq, cond, eqb, false, get_or, get_or-map-range_with_len, get_or-take, inl, inr, length, length-map-range_with_len, map, nat_tests, no_disk, not, range_with_len, refl, source, subst, suc, sym, take, target, true, zero, ℕ, ◌&&◌, ◌+◌, ◌<◌, ◌==◌, ◌∙◌, ◌≡◌, ◌≤◌, ⊎_elim}
+use Rattle.mig_base.proofs.Common.{Bool, List, Lists, ap, arith, get_or, get_or-map-range_with_len, get_or-take, inl, inr, length, length-map-range_with_len, map, nat_tests, no_disk, range_with_len, refl, source, subst, suc, sym, take, target, zero, ℕ, ◌+◌, ◌<◌, ◌∙◌, ◌≡◌, ◌≤◌, ⊎_elim}
 use Rattle.mig_base.specs.InputLists.{disk_at}
-use Rattle.mig_base.specs.Targets.{incoming, present}
 use Rattle.mig_base.specs.declared.ids.DiskId.{DiskId}
 use Rattle.mig_base.specs.declared.ids.Spot.{Spot}
 use Rattle.mig_base.specs.declared.inputs.Disk.{Disk}
-use Rattle.mig_base.specs.declared.limits.TheConstants.{MAX_ITEMS, MAX_SLOTS}
+use Rattle.mig_base.specs.declared.limits.TheConstants.{MAX_SLOTS}
 use Rattle.mig_csv.proofs.Needs.{left_over, left_over-end, left_over-next, left_over-start}
 use Rattle.mig_csv.specs.Lists.{slots_for}
 use Rattle.mig_gen.specs.MadeCases.{made_item}

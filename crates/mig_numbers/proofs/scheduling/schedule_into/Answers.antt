@@ -1,4 +1,4 @@
-use Rattle.std.proofs.Common.{List, Option, arith, inl, inr, length, subst, sym, ◌<◌, ◌∙◌, ◌≡◌}
+use Rattle.std.proofs.Common.{List, arith, inl, inr, length, subst, sym, ◌∙◌, ◌≡◌}
 use Rattle.mig_base.proofs.Common.{length-map-range_with_len}
 use Rattle.mig_base.specs.InputLists.{Lists}
 use Rattle.mig_base.specs.Targets.{IsRoomy}

@@ -1,4 +1,4 @@
-use Rattle.std.proofs.Common.{[], arith, get_or, length, sym, ◌∙◌}
+use Rattle.std.proofs.Common.{[], arith, get_or, sym, ◌∙◌}
 use Rattle.mig_base.specs.declared.ids.DiskId.{DiskId}
 use Rattle.mig_numbers.proofs.Rows.{covered_none, cover_next}
 use Rattle.mig_numbers.proofs.writing.write_ids.Goals as goal
