@@ -1,5 +1,5 @@
 -- How many rows there are, of each item and of all.
-use Rattle.mig_base.proofs.Common.{Bool, List, [], add-one, ap, arith, cond, count_by, false, get_or, is_of, is_relocated, length, length-append, map, not, range_with_len, refl, subst, suc, sum_by, sum_by-append, sum_by-cons, sym, take, take_all, true, zero, ℕ, ◌++◌, ◌+◌, ◌<◌, ◌==◌, ◌∙◌, ◌∷◌, ◌≡◌, ◌≤◌}
+use Rattle.mig_base.proofs.Common.{Bool, List, [], add-one, ap, arith, cond, count_by, false, get_or, is_of, length, length-append, map, not, range_with_len, refl, subst, suc, sum_by, sum_by-append, sum_by-cons, take, take_all, true, zero, ℕ, ◌+◌, ◌<◌, ◌==◌, ◌∙◌, ◌∷◌, ◌≡◌, ◌≤◌}
 use Rattle.mig_base.proofs.Counting.{sum_by-map}
 use Rattle.mig_base.proofs.Common.{length-map-range_with_len, no_spot, shift_count}
 use Rattle.mig_base.specs.Layouts.{round_at}
@@ -67,17 +67,18 @@ module _ (split : Bool) (disks : List DiskNumbers) (items : List ItemNumbers) (p
   items_len : length (map made_item (range_with_len 0 (length items))) ≡ length items
   items_len = length-map-range_with_len made_item 0 (length items)
 
-  pub once_rows : (i : ℕ) → i < length items → count_by (is_row_of i) (rows_of plan) ≡ rows_for (get_or items i no_item)
-  once_rows i lt =
+  pub once_shift : (i : ℕ) → i < length items → shift_count plan i ≡ rows_for (get_or items i no_item)
+  once_shift i lt =
       let item = get_or items i no_item in
       let from : (get_or (map spot_of items) i no_spot).disk.0 ≡ item.disk = ap (λ (s : Spot). s.disk.0) (get_or-map spot_of items i no_item no_spot lt) in
       let to : (get_or (map next_of items) i (record { 0 = 0 })).0 ≡ item.next_disk = ap (λ (v : DiskId). v.0) (get_or-map next_of items i no_item (record { 0 = 0 }) lt) in
-      rows_count plan i (length plan) (omega arith)
-      ∙ ap (λ (p : List (List Shift)). shift_count p i) (take_all (length plan) plan (omega arith))
-      ∙ made.once i (omega (arith, lt, items_len))
+      made.once i (omega (arith, lt, items_len))
       ∙ ap (λ a. where_not (a == (get_or (map next_of items) i (record { 0 = 0 })).0)) from
       ∙ ap (λ b. where_not (item.disk == b)) to
       ∙ turned (item.disk == item.next_disk)
+
+  pub once_rows : (i : ℕ) → i < length items → count_by (is_row_of i) (rows_of plan) ≡ rows_for (get_or items i no_item)
+  once_rows i lt = rows_count plan i (length plan) (omega arith) ∙ ap (λ (p : List (List Shift)). shift_count p i) (take_all (length plan) plan (omega arith)) ∙ once_shift i lt
 
   pub few_rows : length (rows_of plan) ≤ length items
   few_rows =

@@ -1,11 +1,9 @@
 -- Numbers that are sound stand for an input.
-use Rattle.mig_base.proofs.Common.{All, Bool, Contains, IsDiskInRange, IsInput, IsName, IsSomeAnd, IsSpotOf, List, Option, Some, [], ap, arith, false, get_or, get_or-map-range_with_len, get_or-take, inl, inr, is_duplex, is_split, length}
-use Rattle.mig_base.proofs.Common.{cases_lt, length-map-range_with_len, map, map-append, no_disk, range_with_len, refl, slice_get, slice_get-get_or, subst, sym, take, true, ℕ, ◌++◌, ◌+◌, ◌<◌, ◌∙◌, ◌∷◌, ◌≡◌, ◌≢◌, ◌≤◌}
+use Rattle.mig_base.proofs.Common.{Bool, IsDiskInRange, IsInput, IsName, IsSomeAnd, IsSpotOf, List, Option, Some, [], ap, arith, false, get_or, get_or-map-range_with_len, get_or-take, inl, inr, is_duplex, is_split, length}
+use Rattle.mig_base.proofs.Common.{cases_lt, length-map-range_with_len, map, map-append, no_disk, range_with_len, refl, slice_get, slice_get-get_or, subst, sym, take, true, ℕ, ◌++◌, ◌+◌, ◌<◌, ◌∙◌, ◌∷◌, ◌≡◌, ◌≢◌}
 use Rattle.mig_base.proofs.Elements.{range_more}
-use Rattle.mig_base.specs.declared.ids.DiskId.{DiskId}
 use Rattle.mig_base.specs.declared.ids.Spot.{Spot}
 use Rattle.mig_base.specs.declared.inputs.Disk.{Disk}
-use Rattle.mig_base.specs.declared.limits.TheConstants.{MAX_DISKS, MAX_ITEMS}
 use Rattle.mig_gen.proofs.MadeNames.{numbered_is_name, same_number}
 use Rattle.mig_gen.proofs.MadeLists.{all_of, pairs_of}
 use Rattle.mig_gen.specs.MadeCases.{made_item}
@@ -76,7 +74,7 @@ module _ (split : Bool) (disks : List DiskNumbers) (items : List ItemNumbers) (f
     one_kind = all_of (disk_in split disks) (length disks) (λ disk. is_split disk.limits ≡ is_duplex made) one_kind;
     few_items = omega (arith, length-map-range_with_len made_item 0 (length items), few.few_items);
     named_items = all_of made_item (length items) IsName (λ i lt. numbered_is_name 105 i refl (omega (arith, lt, few.few_items)));
-    made_items = pairs_of made_item (length items) (λ a b. a ≢ b) (λ i j lt below e. let same = same_number 105 i j (omega (arith, lt, below, few.few_items)) (omega (arith, below, few.few_items)) e in omega (arith, lt, same));
+    item_names = pairs_of made_item (length items) (λ a b. a ≢ b) (λ i j lt below e. let same = same_number 105 i j (omega (arith, lt, below, few.few_items)) (omega (arith, below, few.few_items)) e in omega (arith, lt, same));
     spots_len = length-map items spot_of ∙ sym (length-map-range_with_len made_item 0 (length items));
     next_len = length-map items next_of ∙ sym (length-map-range_with_len made_item 0 (length items));
     on_disks = all_in spot_of items no_item (IsSpotOf made) on_disk;

@@ -1,19 +1,19 @@
 -- What a plan's rows keep: whose they are, where they go, and the limits of each round.
-use Rattle.mig_base.proofs.Common.{All, All-append, All-contains, All-filter, All-map, AllPairs, AreTargets, Bool, Contains, Contains-append_cases, Contains-append_left, Contains-append_right, IsLowestFree, IsMoveShift, List, Lists, Shift, Spot}
-use Rattle.mig_base.proofs.Common.{[], add-one, ap, append-nil, arith, cases_lt, cond, eqb, false, filter, filter-append, filter_passes, get_or, get_or-take, inl, inr, is_of, is_relocated, length, length-map-range_with_len, length-take-le, map}
-use Rattle.mig_base.proofs.Common.{move_at, move_shift, moves, nat_tests, no_disk, no_spot, range_with_len, refl, round_at, shift_count, source, subst, suc, sym, take, target, target_at, trip_of, true, zero, ℕ, ⊎_elim, ◌++◌, ◌+◌, ◌<◌, ◌==◌, ◌∙◌, ◌∷◌, ◌≡◌, ◌≤◌}
+use Rattle.mig_base.proofs.Common.{All, All-append, All-contains, All-filter, All-map, Bool, Contains, Contains-append_cases, Contains-append_left, Contains-append_right, IsLowestFree, IsMoveShift, List, Lists}
+use Rattle.mig_base.proofs.Common.{[], add-one, ap, append-nil, arith, cases_lt, cond, false, filter, filter-append, filter_passes, get_or, get_or-take, inl, inr, is_relocated, length, length-map-range_with_len, length-take-le, map}
+use Rattle.mig_base.proofs.Common.{move_at, moves, nat_tests, no_spot, refl, round_at, shift_count, source, subst, suc, sym, take, target, target_at, trip_of, true, zero, ℕ, ⊎_elim, ◌++◌, ◌+◌, ◌<◌, ◌==◌, ◌∙◌, ◌∷◌, ◌≡◌, ◌≤◌}
 use Rattle.mig_base.proofs.Components.{increasing_filter}
 use Rattle.mig_base.proofs.Planned.{move_relocated, move_there}
 use Rattle.mig_base.proofs.Room.{lowest_at}
 use Rattle.mig_base.proofs.Scheduled.{shifted_first, shifted_round}
-use Rattle.mig_base.specs.InputLists.{disk_at}
 use Rattle.mig_base.specs.MadePlans.{IsPlanOf}
 use Rattle.mig_base.specs.Schedules.{Needs}
 use Rattle.mig_base.specs.Transfers.{KeepsLimit, Trip}
 use Rattle.mig_base.specs.declared.certs.Cert.{Cert}
 use Rattle.mig_base.specs.declared.ids.DiskId.{DiskId}
+use Rattle.mig_base.specs.declared.ids.Shift.{Shift}
+use Rattle.mig_base.specs.declared.ids.Spot.{Spot}
 use Rattle.mig_base.specs.declared.inputs.Disk.{Disk}
-use Rattle.mig_base.specs.declared.inputs.Limits.{Limits}
 use Rattle.mig_best.specs.Certified.{IsCertified}
 use Rattle.mig_gen.specs.MadeCases.{made_item}
 use Rattle.mig_numbers.proofs.Counts.{once_rows}
@@ -123,10 +123,10 @@ round_rows plan k (suc n) lt =
 
 -- Free slots
 
-lowest_in : (as bs : List Spot) (v w : ℕ) (s t : Spot) → ((x : Spot) → Contains as x → Contains bs x) → ((x : Spot) → Contains bs x → Contains as x) → v ≡ w → s ≡ t → IsLowestFree as v s → IsLowestFree bs w t
-lowest_in as bs v w s t forth back e f l =
-    let here : IsLowestFree bs v s = record { on_disk = l.on_disk; free = λ c. l.free (back s c); lowest = λ slot lt. forth (record { disk = s.disk; slot = slot }) (l.lowest slot lt) } in
-    subst (IsLowestFree bs w) f (subst (λ n. IsLowestFree bs n s) e here)
+lowest_in : (xs ys : List Spot) (v w : ℕ) (s t : Spot) → ((x : Spot) → Contains xs x → Contains ys x) → ((x : Spot) → Contains ys x → Contains xs x) → v ≡ w → s ≡ t → IsLowestFree xs v s → IsLowestFree ys w t
+lowest_in xs ys v w s t forth back e f l =
+    let here : IsLowestFree ys v s = record { on_disk = l.on_disk; free = λ c. l.free (back s c); lowest = λ slot lt. forth (record { disk = s.disk; slot = slot }) (l.lowest slot lt) } in
+    subst (IsLowestFree ys w) f (subst (λ n. IsLowestFree ys n s) e here)
 
 -- a row is that of a move
 record IsMoveRow (input : Lists) (targets : List Spot) (rounds : ℕ) (row : ShiftNumbers) : Type 0 where
@@ -202,8 +202,8 @@ module _ (split : Bool) (disks : List DiskNumbers) (items : List ItemNumbers) (p
       let r = All-filter before (IsMoveRow input targets (length plan)) rows move_rows i d lt in
       let less : row.item < move_at input move = ltb-true row.item (move_at input move) (filter_passes before rows i d lt) in
       let low : r.move < move = elim (cases_lt r.move move) [
-        | inl yes ↦ yes
-        | inr no ↦ elim (cases_lt move r.move) [ inl more ↦ absurd (omega (arith, less, r.item_is, ascending move r.move more r.within)) | inr le ↦ absurd (omega (arith, less, r.item_is, ap (move_at input) (omega_same move r.move no le))) ]
+        | inl less_too ↦ less_too
+        | inr ge ↦ elim (cases_lt move r.move) [ inl more ↦ absurd (omega (arith, less, r.item_is, ascending move r.move more r.within)) | inr le ↦ absurd (omega (arith, less, r.item_is, ap (move_at input) (omega_same move r.move ge le))) ]
       ] in
       let len = made.targets.1.len in
       let long = length-take-le move targets (omega (arith, len, within)) in

@@ -5,4 +5,5 @@ pub mod Kept
 pub mod Lists
 pub mod Marks
 pub mod Rows
+pub mod Scheduled
 pub mod Slotless

@@ -1,6 +1,6 @@
 -- Lists by their elements.
-use Rattle.mig_base.proofs.Common.{All, AllPairs, List, [], ap, arith, get_or, length, map, range_with_len, refl, subst, suc, sym, take, zero, ℕ, ◌+◌, ◌++◌, ◌<◌, ◌∙◌, ◌∷◌, ◌≡◌}
-use Rattle.std.proofs.lemmas.List.{get_or-map, length-map, length-take, take_more}
+use Rattle.mig_base.proofs.Common.{All, AllPairs, List, [], ap, arith, get_or, length, map, subst, sym, take, ℕ, ◌+◌, ◌++◌, ◌<◌, ◌∙◌, ◌∷◌, ◌≡◌}
+use Rattle.std.proofs.lemmas.List.{get_or-map, length-map, take_more}
 
 -- what is so of each element of a list is so of the list that is made of it, and the same of two
 module _ {A X : Type 0} (f : A → X) (xs : List A) (z : A) where

@@ -1,15 +1,15 @@
 -- A schedule is refused for neither slots nor room: each pair has a slot of its own, and there is one for each.
-use Rattle.mig_base.proofs.Common.{Bool, Contains, DiskId, List, Lists, ap, arith, cases_eq, cond, eqb, false, get_or, get_or-map-range_with_len, get_or-take, inl, inr, length, length-map-range_with_len, map, nat_tests, no_disk, not, range_with_len, refl, source, subst, suc, sym, take, target, true, zero, ℕ, ◌&&◌, ◌+◌, ◌<◌, ◌==◌, ◌∙◌, ◌≡◌, ◌≢◌, ◌≤◌, ⊎_elim}
+use Rattle.mig_base.proofs.Common.{Bool, List, Lists, ap, arith, get_or, get_or-map-range_with_len, get_or-take, inl, inr, length, length-map-range_with_len, map, nat_tests, no_disk, range_with_len, refl, source, subst, suc, sym, take, target, zero, ℕ, ◌+◌, ◌<◌, ◌∙◌, ◌≡◌, ◌≤◌, ⊎_elim}
 use Rattle.mig_base.specs.InputLists.{disk_at}
-use Rattle.mig_base.specs.Targets.{incoming, present}
+use Rattle.mig_base.specs.declared.ids.DiskId.{DiskId}
 use Rattle.mig_base.specs.declared.ids.Spot.{Spot}
 use Rattle.mig_base.specs.declared.inputs.Disk.{Disk}
-use Rattle.mig_base.specs.declared.limits.TheConstants.{MAX_ITEMS, MAX_SLOTS}
+use Rattle.mig_base.specs.declared.limits.TheConstants.{MAX_SLOTS}
 use Rattle.mig_csv.proofs.Needs.{left_over, left_over-end, left_over-next, left_over-start}
 use Rattle.mig_csv.specs.Lists.{slots_for}
 use Rattle.mig_gen.specs.MadeCases.{made_item}
 use Rattle.mig_numbers.specs.Numbers.{disk_in, input_of, no_item, no_numbers, spot_of}
-use Rattle.mig_numbers.specs.Refusals.{AreFew, IsFirstItemFault, IsItemFault, IsRefusal, IsRoomFault, refused_of}
+use Rattle.mig_numbers.specs.Refusals.{AreFew, IsDiskFault, IsFirstItemFault, IsRefusal, IsRoomFault, IsSizeFault, refused_of}
 use Rattle.mig_numbers.specs.Rounds.{IsOfPairs, disk_for, disks_for, item_for, items_for}
 use Rattle.mig_numbers.specs.declared.numbers.DiskNumbers.{DiskNumbers}
 use Rattle.mig_numbers.specs.declared.numbers.ItemNumbers.{ItemNumbers}
@@ -26,6 +26,10 @@ slots_le on to v = grind (arith, nat_tests)
 left_le : (input : Lists) (v m k : ℕ) → length input.spots ≡ length input.items → k + m ≡ length input.items → left_over input v k ≤ m
 left_le input v zero k len e = omega (arith, left_over-end input v k (omega (arith, e)) len)
 left_le input v (suc m) k len e = omega (arith, left_over-next input v k (omega (arith, e)) len, slots_le (record { 0 = source input k }) (record { 0 = target input k }) v, left_le input v m (k + 1) len (omega (arith, e)))
+
+abbrev IsOther : Refusal → Type 0
+IsOther Memory = ⊥
+IsOther _ = ◌≡◌ {A = ℕ} 0 0
 
 no_limits : LimitNumbers
 no_limits = record { out_limit = 0; in_limit = 0 }
@@ -70,16 +74,19 @@ module _ (split : Bool) (limits : List LimitNumbers) (pairs : List PairNumbers) 
       let has : (disk_at input.disks k).slots ≡ MAX_SLOTS = ap (λ (x : Disk). x.slots) (get_or-map-range_with_len (disk_in split disks) 0 (length disks) k k no_disk there (omega arith)) ∙ slots_at k there in
       omega (arith, r.1, r.2, r.3, has, left_over-start input k, left_le input k (length items) 0 spots (omega (arith, names)), few.few_items)
 
-  pub slotless : (why : Refusal) → IsRefusal split disks items why → why ≢ Memory → IsOfPairs (refused_of why).cause
-  slotless TooManyDisks h n = inl (omega arith)
-  slotless TooManyItems h n = inl (omega arith)
-  slotless (OutOfRange k) h n = inl (omega arith)
-  slotless (UnknownDisk i) h n = inl (omega arith)
-  slotless (SlotTooHigh i) h n = ⊎_elim (λ m. absurd (n m)) (λ a. ⊎_elim (λ no. absurd no) (λ b. ⊎_elim (λ d. absurd d.1) (λ c. ⊎_elim (λ f. absurd (not_high i f.0 f.2)) (λ r. absurd r.3) c) b) a) h
-  slotless (SlotTaken i) h n = ⊎_elim (λ m. absurd (n m)) (λ a. ⊎_elim (λ no. absurd no) (λ b. ⊎_elim (λ d. absurd d.1) (λ c. ⊎_elim (λ f. absurd (not_taken i f.2)) (λ r. absurd r.3) c) b) a) h
-  slotless (UnknownNext i) h n = inr refl
-  slotless (NoRoom k needs slots) h n = ⊎_elim (λ m. absurd (n m)) (λ a. ⊎_elim (λ no. absurd no) (λ b. ⊎_elim (λ d. absurd d.1) (λ c. ⊎_elim (λ f. absurd (no_room_at f.2)) (λ r. absurd (not_full k needs slots r.0 r.3)) c) b) a) h
-    where
-      no_room_at : IsFirstItemFault disks items (NoRoom k needs slots) → ⊥
-      no_room_at f = f.holds no_item
-  slotless Memory h n = absurd (n refl)
+  -- a cause other than want of memory has one of four grounds
+  first_of_items : (why : Refusal) → IsOther why → (IsSizeFault disks items why → ⊥) → (IsDiskFault split disks why → ⊥) → (AreFew disks items → IsFirstItemFault disks items why → ⊥)
+      → (AreFew disks items → IsRoomFault (input_of split disks items) why → ⊥) → IsRefusal split disks items why → ⊥
+  first_of_items why o size disk item room h =
+      ⊎_elim (λ m. subst IsOther m o) (λ a. ⊎_elim size (λ b. ⊎_elim (λ d. disk d.1) (λ c. ⊎_elim (λ f. item f.0 f.2) (λ r. room r.0 r.3) c) b) a) h
+
+  pub slotless : (why : Refusal) → IsRefusal split disks items why → IsOfPairs (refused_of why).cause
+  slotless TooManyDisks h = inl (omega arith)
+  slotless TooManyItems h = inl (omega arith)
+  slotless (OutOfRange k) h = inl (omega arith)
+  slotless (UnknownDisk i) h = inl (omega arith)
+  slotless (SlotTooHigh i) h = absurd (first_of_items (SlotTooHigh i) refl (λ no. no) (λ no. no) (λ few f. not_high i few f) (λ few no. no) h)
+  slotless (SlotTaken i) h = absurd (first_of_items (SlotTaken i) refl (λ no. no) (λ no. no) (λ few f. not_taken i f) (λ few no. no) h)
+  slotless (UnknownNext i) h = inr refl
+  slotless (NoRoom k needs slots) h = absurd (first_of_items (NoRoom k needs slots) refl (λ no. no) (λ no. no) (λ few f. f.holds no_item) (λ few r. not_full k needs slots few r) h)
+  slotless Memory h = inl (omega arith)

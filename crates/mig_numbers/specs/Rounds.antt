@@ -3,7 +3,7 @@ use Rattle.std.specs.Prelude.{Bool, List, if◌then◌else◌, length, map, slic
 use Rattle.std.specs.List.{list_any, range_with_len}
 use Rattle.mig_base.specs.Layouts.{round_at}
 use Rattle.mig_base.specs.Running.{is_of}
-use Rattle.mig_base.specs.Schedules.{Needs}
+use Rattle.mig_base.specs.Schedules.{IsSchedule, Needs, Obeys}
 use Rattle.mig_base.specs.declared.certs.Cert.{Cert}
 use Rattle.mig_base.specs.declared.ids.Shift.{Shift}
 use Rattle.mig_base.specs.declared.limits.TheConstants.{MAX_SLOTS}
@@ -42,7 +42,8 @@ round_in plan (suc k) i = if list_any (is_of i) (round_at plan (suc k)) then k +
 abbrev pub round_for : List ℕ → ℕ → ℕ
 round_for rounds i = slice_index_or rounds i 0
 
--- There is a plan for these items, as is promised of the best one, with its certificate, and each pair has the round that shifts its item, or 0 where both ends are one disk
+-- There is a plan for these items, as is promised of the best one, with its certificate, and each pair has the round that shifts its item. The rounds are a schedule that keeps
+-- each limit; a pair whose ends are one disk has none. Every schedule needs as many rounds as the value says.
 pub record IsScheduled (split : Bool) (limits : List LimitNumbers) (pairs : List PairNumbers) (rounds set : List ℕ) (found : Found) : Type 0 where
   pub sound : AreSound split (disks_for limits) (items_for pairs)
   pub plan : List (List Shift)
@@ -51,6 +52,9 @@ pub record IsScheduled (split : Bool) (limits : List LimitNumbers) (pairs : List
   pub set_is : set ≡ set_in certificate.bound
   pub found_is : found ≡ found_of certificate
   pub each : (i : ℕ) → i < length pairs → round_for rounds i ≡ round_in plan (length plan) i
+  pub takes : IsSchedule (input_of split (disks_for limits) (items_for pairs)) found.rounds (round_for rounds)
+  pub obeys : Obeys (input_of split (disks_for limits) (items_for pairs)) found.rounds (round_for rounds)
+  pub rests : (i : ℕ) → i < length pairs → (slice_index_or pairs i no_pair).from ≡ (slice_index_or pairs i no_pair).to → round_for rounds i ≡ 0
   pub needs : Needs (input_of split (disks_for limits) (items_for pairs)) found.value
 
 -- and the disks of its bound's set are handed back

@@ -1,8 +1,8 @@
 //! The input that the numbers stand for.
-ghost use Rattle.std.specs.Prelude.{◌≡◌, ◌≤◌, ◌<◌, ◌⊎◌, ◌↔◌, IfErr, IfOk, IsTrue, MatchOption, MatchResult, length, map, ℕ};
+ghost use Rattle.std.specs.Prelude.{◌≡◌, ◌≤◌, ◌<◌, ◌⊎◌, ◌↔◌, IfErr, IfOk, IsTrue, MatchOption, length, map};
 ghost use Rattle.std.specs.List.{range_with_len};
 ghost use Rattle.mig_base.specs.Targets.{IsRoomy};
-ghost use Rattle.mig_numbers.specs.Numbers.{disk_by, disk_in, input_of, limits_of, next_of, spot_of};
+ghost use Rattle.mig_numbers.specs.Numbers.{disk_in, input_of, limits_of, next_of, spot_of};
 ghost use Rattle.mig_numbers.specs.Refusals.{AreDisksSound, AreFew, AreItemsSound, AreSound, IsDiskFault, IsDiskSound, IsFirstItemFault, IsItemFault, IsItemSound, IsRefusal, IsRoomFault, IsSizeFault};
 
 use crate::numbers::{DiskNumbers, ItemNumbers, Refusal};

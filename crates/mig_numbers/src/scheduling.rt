@@ -1,9 +1,9 @@
 //! Schedules: a round for each pair of disks.
 ghost use Rattle.std.specs.Prelude.{◌≡◌, ◌≢◌, ◌↔◌, ◌⊎◌, ◌≤◌, ◌<◌, All, IfErr, IfOk, ℕ, if◌then◌else◌, length, map, slice_index_or};
-ghost use Rattle.std.specs.List.{list_any, range_with_len};
+ghost use Rattle.std.specs.List.{list_any};
 ghost use Rattle.mig_base.specs.Running.{is_of};
 ghost use Rattle.mig_numbers.specs.Refusals.{IsRefusal, Refuses};
-ghost use Rattle.mig_numbers.specs.Rounds.{HandsRounds, IsOfPairs, disk_for, disks_for, item_for, items_for, round_in};
+ghost use Rattle.mig_numbers.specs.Rounds.{HandsRounds, IsOfPairs, disk_for, disks_for, items_for, round_in};
 
 use crate::numbers::{
     DiskNumbers, Found, ItemNumbers, LimitNumbers, PairNumbers, Refusal, Refused,

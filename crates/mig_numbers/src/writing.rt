@@ -123,14 +123,21 @@ pub(crate) fn found_in(cert: &Cert) -> Found
     }
 }
 
+/// The disks of a bound that is a set.
+fn ids_in(bound: &Bound) -> &[DiskId]
+    ensures { numbers result.now ≡ set_in bound.now }
+{
+    match bound {
+        Bound::OfSet { disks, .. } => disks.ids(),
+        Bound::Nothing | Bound::OfDisk { .. } | Bound::OfSide { .. } => &[],
+    }
+}
+
 /// Puts the disks of a bound that is a set, as far as they fit, and answers how many there are.
 pub(crate) fn write_set(set: &mut [u32], bound: &Bound) -> usize
     ensures { IsHanded (set_in bound.now) set.old set.new result }
 {
-    match bound {
-        Bound::OfSet { disks, .. } => write_ids(set, disks.ids()),
-        _ => 0,
-    }
+    write_ids(set, ids_in(bound))
 }
 
 /// Puts disks, as far as they fit, and answers how many there are.

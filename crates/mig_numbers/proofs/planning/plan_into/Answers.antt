@@ -1,4 +1,4 @@
-use Rattle.std.proofs.Common.{ap, arith, refl, subst, sym, ◌∙◌}
+use Rattle.std.proofs.Common.{arith, subst}
 use Rattle.mig_base.specs.InputLists.{Lists}
 use Rattle.mig_best.specs.Certified.{IsCertified}
 use Rattle.mig_numbers.proofs.Counts.{few_rows}

@@ -1,4 +1,4 @@
-use Rattle.std.proofs.Common.{false, get_or, refl, rules, ◌≡◌}
+use Rattle.std.proofs.Common.{false, get_or, rules, ◌≡◌}
 use Rattle.std.specs.Result.{is_err}
 use Rattle.mig_csv.proofs.Common.{on-ok}
 use Rattle.mig_numbers.proofs.Inputs.{sound_next, spots_next}

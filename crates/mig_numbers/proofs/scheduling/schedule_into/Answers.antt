@@ -1,4 +1,4 @@
-use Rattle.std.proofs.Common.{List, Option, arith, inl, inr, length, subst, sym, ◌<◌, ◌∙◌, ◌≡◌}
+use Rattle.std.proofs.Common.{List, arith, inl, inr, length, subst, sym, ◌∙◌, ◌≡◌}
 use Rattle.mig_base.proofs.Common.{length-map-range_with_len}
 use Rattle.mig_base.specs.InputLists.{Lists}
 use Rattle.mig_base.specs.Targets.{IsRoomy}
@@ -6,6 +6,8 @@ use Rattle.mig_best.specs.Certified.{IsCertified}
 use Rattle.mig_gen.specs.MadeCases.{made_item}
 use Rattle.mig_numbers.specs.Numbers.{input_of}
 use Rattle.mig_numbers.specs.Refusals.{AreSound}
+use Rattle.mig_numbers.proofs.Scheduled.{scheduled_pairs}
+use Rattle.mig_numbers.specs.Handed.{set_in}
 use Rattle.mig_numbers.specs.Rounds.{disk_for, disks_for, item_for, items_for}
 use Rattle.mig_numbers.specs.declared.numbers.DiskNumbers.{DiskNumbers}
 use Rattle.mig_numbers.specs.declared.numbers.ItemNumbers.{ItemNumbers}
@@ -43,17 +45,9 @@ returns-clause-scheduled c =
     let made2 = subst (λ (is : List ItemNumbers). IsCertified (input_of split c.deref.result.now is) plan cert) items made in
     let sound = subst (λ (is : List ItemNumbers). AreSound split c.deref.result.now is) items read.sound in
     let made3 = subst (λ (ds : List DiskNumbers). IsCertified (input_of split ds (items_for c.args.pairs.now)) plan cert) disks made2 in
+    let sound2 = subst (λ (ds : List DiskNumbers). AreSound split ds (items_for c.args.pairs.now)) disks sound in
     record {
       within = set_in cert.bound;
-      scheduled = record {
-        sound = subst (λ (ds : List DiskNumbers). AreSound split ds (items_for c.args.pairs.now)) disks sound;
-        plan = plan;
-        certificate = cert;
-        certified = made3;
-        set_is = refl;
-        found_is = c.found_in.ensures;
-        each = λ i lt. c.mark_plan.ensures i (omega (arith, lt, c.requires, c.clear.auto.rounds));
-        needs = subst (Needs (input_of split (disks_for c.args.limits.now) (items_for c.args.pairs.now))) (sym (ap (λ (f : Found). f.value) c.found_in.ensures ∙ found_value cert)) made3.needs;
-      };
+      scheduled = scheduled_pairs split c.args.limits.now c.args.pairs.now plan cert c.found_in.result c.mark_plan.new.rounds sound2 made3 c.found_in.ensures (λ i lt. c.mark_plan.ensures i (omega (arith, lt, c.requires, c.clear.auto.rounds)));
       in_set = c.write_set.ensures;
     }
