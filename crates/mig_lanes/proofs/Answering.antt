@@ -1,9 +1,9 @@
 -- What is answered where the journal names a plan, and the store doesn't fail.
 use Rattle.mig_lanes.proofs.Common.{All-contains, AreFlights, CanTake, Contains, Gate, HasHeader, Head, IfSome, Image, IsFault, IsFirstLost, IsFirstUsed, IsJobCell, IsJournalFault, IsPlanSpot}
 use Rattle.mig_lanes.proofs.Common.{IsReady, IsReadyIdle, IsResumeFault, IsRunning, IsSome, IsStartFault, IsTask, IsUnused, List, MoveFault, None, NotStarted, NotThere, Occupied, Option}
-use Rattle.mig_lanes.proofs.Common.{OtherPlan, Rose, Settles, SettlesTo, Shift, Some, Spot, Started, State, Store, Task, Tells, arith, false, false≢true, first_byte, flights, gate_kept, get_or}
-use Rattle.mig_lanes.proofs.Common.{get_or_from_slice_get, inl, inr, is_armed, item_cell, item_name, journal_kept, no_spot, refl, round_at, settled_reads, shifts_of, slice_get-get_or}
-use Rattle.mig_lanes.proofs.Common.{slice_get_within, slot_of, subst, suc, sym, tells_more, true, ℕ, ◌∙◌, ◌≡◌}
+use Rattle.mig_lanes.proofs.Common.{OtherPlan, Rose, Settles, SettlesTo, Some, Spot, Started, State, Store, Task, Tells, arith, false, false≢true, first_byte, flights, gate_kept, get_or}
+use Rattle.mig_lanes.proofs.Common.{get_or_from_slice_get, inl, inr, is_armed, item_cell, item_name, journal_kept, no_spot, refl, settled_reads, shifts_of, slice_get-get_or}
+use Rattle.mig_lanes.proofs.Common.{slice_get_within, slot_of, subst, sym, tells_more, true, ℕ, ◌∙◌, ◌≡◌}
 use Rattle.mig_lanes.proofs.ShiftedSlots.{shifted_named, target_named}
 
 pub if_some_is : (cell : Option (List ℕ)) (bytes : List ℕ) (P : List ℕ → Type 0) → cell ≡ Some bytes → IfSome cell P → P bytes

@@ -2,7 +2,7 @@
 use Rattle.mig_lanes.proofs.Common.{All, At, Bool, Cell, Changes, ChangesOnly, Contains, Contains-get_or, Contents, Event, HasCopied, HasDone, Image, IsCopied, IsCopy, IsInUse, IsJobCell}
 use Rattle.mig_lanes.proofs.Common.{IsLegal, IsSettled, IsSound, IsSoundAfter, IsSourceSlot, IsTaken, IsTargetOf, IsTargetSlot, IsTask, IsWorkCell, LeavesOnly, List, Option, SameBut, Shift, Some}
 use Rattle.mig_lanes.proofs.Common.{Spot, State, Task, Tells, [], ap, arith, at_target, changes_leave, changes_then, changes_wider, contains_any, copies_of, get_or, inl, inr, leaves, length}
-use Rattle.mig_lanes.proofs.Common.{on_disks, other_bytes, refl, round_at, same_then, same_wider, slot_apart, slot_of, sound_after, subst, suc, tells_kept, told_is, zero, zeros, ℕ, ◌++◌, ◌+◌}
+use Rattle.mig_lanes.proofs.Common.{on_disks, other_bytes, refl, round_at, same_then, same_wider, slot_apart, slot_of, sound_after, subst, suc, tells_kept, told_is, zero, zeros, ℕ, ◌++◌}
 use Rattle.mig_lanes.proofs.Common.{◌<◌, ◌∙◌, ◌≡◌, ◌≤◌}
 use Rattle.mig_lanes.proofs.RoundCopies.{of_shifts, target_slot}
 

@@ -2,7 +2,7 @@
 use Rattle.mig_lanes.proofs.Common.{All, AreZeros, Bool, Cell, ChangesOnly, Contains, Contains-get_or, Contents, HasCopied, HasDone, IfSome, Image, IsInUse, IsJobCell, IsSettled, IsSound}
 use Rattle.mig_lanes.proofs.Common.{IsSoundAfter, IsSourceSlot, IsTask, IsWorkCell, LeavesOnly, Mark, NoCell, SameBut, Shift, Some, State, Task, Tells, [], ap, arith, cases_Bool, changes_leave}
 use Rattle.mig_lanes.proofs.Common.{changes_then, changes_wider, from_same, get_or, inl, inr, is_marked, is_one, leaves_then, length, marking, other_bytes, refl, round_at, same_wider}
-use Rattle.mig_lanes.proofs.Common.{settled_change, slot_of, sound_after, subst, suc, sym, tells_kept, told_is, unmarked, ℕ, ⊎_elim, ◌<◌, ◌∙◌, ◌∷◌, ◌≡◌, ◌≤◌, ◌⊎◌}
+use Rattle.mig_lanes.proofs.Common.{settled_change, slot_of, sound_after, subst, suc, sym, tells_kept, told_is, unmarked, ℕ, ⊎_elim, ◌<◌, ◌∙◌, ◌∷◌, ◌≡◌, ◌≤◌}
 
 module _ (task : Task) (is : IsTask task) (k : ℕ) (lt : k < length task.plan) where
   source_job : (s : Shift) → Contains (round_at task.plan (suc k)) s → IsJobCell task.input task.plan (slot_of task.input s.from)

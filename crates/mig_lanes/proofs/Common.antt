@@ -41,7 +41,7 @@ pub use Rattle.mig_base.specs.declared.inputs.Disk.{Disk}
 pub use Rattle.mig_jobs.proofs.JobRounds.{on_disks}
 pub use Rattle.mig_journal.proofs.Steps.{on_ok_is}
 pub use Rattle.mig_lanes.specs.LaneSteps.{BeginsRound, BeginsRounds, HasCopied, HaveLanded, copies_of, later_rounds}
-pub use Rattle.mig_lanes.specs.Runs.{Finishes, IsJournalFault, IsPart}
+pub use Rattle.mig_lanes.specs.Runs.{Finishes, IsJournalFault, IsPart, IsPartOf}
 pub use Rattle.mig_mover.proofs.Settling.{armed_told, gate_kept, journal_kept, settled_reads, tells_more}
 pub use Rattle.mig_mover.proofs.TargetLaws.{in_round}
 pub use Rattle.mig_mover.specs.Erasures.{AreZeros}

@@ -3,14 +3,14 @@ mod Beginning
 mod Carrying
 mod CarryingOn
 mod Closing
-mod EventSteps
 mod Keeping
 mod Limiting
 mod RoundCopies
-mod RoundLists
 mod Rounding
-mod RunFlights
-mod RunLaws
-mod RunLimits
+mod Staying
 pub mod Common
+pub mod EventSteps
+pub mod RoundLists
+pub mod RunKeeps
+pub mod RunLaws
 pub mod ShiftedSlots

@@ -1,7 +1,7 @@
 -- The events of rounds, one after the other.
 use Rattle.mig_lanes.proofs.Common.{AreRounds, BeginsRound, BeginsRounds, Event, Flight, IsPermutation, IsPermutation-refl, IsRound, List, Task, [], ap, append-nil, append_assoc, arith, began}
 use Rattle.mig_lanes.proofs.Common.{copies_of, drop, ended, later_rounds, length, map, map-append, map_more, range_with_len, refl, subst, suc, sym, take, take-append-drop, take_all, ℕ, ⊎_elim}
-use Rattle.mig_lanes.proofs.Common.{◌++◌, ◌+◌, ◌-◌, ◌<◌, ◌∙◌, ◌∷◌, ◌≡◌, ◌≤◌, ◌⊎◌}
+use Rattle.mig_lanes.proofs.Common.{◌++◌, ◌+◌, ◌-◌, ◌<◌, ◌∙◌, ◌∷◌, ◌≡◌, ◌≤◌}
 
 -- part of a round's events is a prefix of a whole round's
 part_is_prefix : (round : List Flight) (added : List Event) → BeginsRound round added → (more : List Event) × IsRound round (added ++ more)

@@ -2,7 +2,7 @@
 use Rattle.mig_lanes.proofs.Common.{All-contains, AreFlights, BeginsRound, Cell, Changes, Contains, Contains-append_left, Contains-get_or, Contains-permutation, Ends, Event, Flight, HaveLanded}
 use Rattle.mig_lanes.proofs.Common.{IsCopy, IsPermutation, IsPermutation-refl, IsPermutation-sym, IsRound, IsSome, IsTargetOf, List, NoCell, None, Option, State, [], any_contains, ap, append-nil}
 use Rattle.mig_lanes.proofs.Common.{arith, began, cases_cell, changes_then, changes_wider, contains_any, ended, false≢true, flights, flights_none, get_or, inl, inr, length, map, one_by, refl}
-use Rattle.mig_lanes.proofs.Common.{subst, suc, sym, take, take_all, target_cases, target_permuted, zero, ℕ, ⊎_elim, ◌++◌, ◌<◌, ◌∙◌, ◌∷◌, ◌≡◌, ◌≢◌, ◌⊎◌}
+use Rattle.mig_lanes.proofs.Common.{subst, suc, sym, take, take_all, target_cases, target_permuted, zero, ℕ, ⊎_elim, ◌++◌, ◌<◌, ◌∙◌, ◌∷◌, ◌≡◌, ◌⊎◌}
 use Rattle.mig_lanes.proofs.Beginning.{flights_all_began, flights_after}
 
 pub cases_target : (fs : List Flight) (cell : Cell) → IsTargetOf fs cell ⊎ (IsTargetOf fs cell → ⊥)

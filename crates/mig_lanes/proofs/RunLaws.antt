@@ -1,12 +1,11 @@
 -- A plan that is entered, and whose rounds are then carried out.
-use Rattle.mig_lanes.proofs.Common.{Adds, AreRounds, BeginsRounds, BeginsRun, Bool, Cell, Changes, Contents, Enters, Event, Finishes, Flight, Gate, HasDone, Image, IsJobCell, IsPart, IsReached}
+use Rattle.mig_lanes.proofs.Common.{Adds, AreRounds, BeginsRounds, BeginsRun, Bool, Cell, Changes, Contents, Enters, Event, Finishes, Flight, Gate, HasDone, Image, IsJobCell, IsPart, IsReached, SameBut, IsSome}
 use Rattle.mig_lanes.proofs.Common.{IsReadyIdle, IsRun, IsSafe, IsSettled, IsSound, IsTargetOf, IsTask, IsWorkCell, Keeps, LeavesOnly, List, SettlesTo, State, StaysArmed, Task, Tells, [], ap}
 use Rattle.mig_lanes.proofs.Common.{append-nil, append_assoc, arith, armed_told, changes_leave, changes_then, changes_wider, ended, false, false≢true, flights, inl, inr, is_armed, is_one}
 use Rattle.mig_lanes.proofs.Common.{later_rounds, leaves_then, leaves_wider, length, map, reached, reached_sound, refl, sound_after, subst, sym, true, ℕ, ◌++◌, ◌∙◌, ◌≡◌, ◌≤◌, ◌⊎◌}
 use Rattle.mig_lanes.proofs.EventSteps.{adds_then, adds_wider}
 use Rattle.mig_lanes.proofs.RoundLists.{some_rounds}
-use Rattle.mig_lanes.proofs.RunFlights.{job_flights}
-use Rattle.mig_lanes.proofs.RunLimits.{job_within}
+use Rattle.mig_lanes.proofs.RunKeeps.{job_part}
 
 settles_wider : (P Q : Image → Type 0) (s : State) → ((image : Image) → P image → Q image) → SettlesTo P s → SettlesTo Q s
 settles_wider P Q s gives (inl now) = inl (gives s.reads now.0, now.1)
@@ -31,28 +30,45 @@ gate_no_work task (inr slot) = let e = slot.2 in cc
 gate_job : (task : Task) → IsJobCell task.input task.plan Gate
 gate_job task = inl (inr (inl refl))
 
+-- a plan is entered, and then cells are changed that rounds may change
+module _ (task : Task) (old mid new : State) (keeps : Keeps task old mid) (gate : IsSome (old.reads Gate) → (image : Image) → mid.may_leave image → is_armed image ≡ true)
+    (moment : (asked : Bool) (contents : Contents) → Tells (IsJobCell task.input task.plan) old.reads → SettlesTo (IsSound asked task.input task.plan task.digest contents) old
+    → LeavesOnly (IsSound asked task.input task.plan task.digest contents) mid new)
+    (change : (added : List Event) × Changes (IsWorkCell task.input task.plan) (IsWorkCell task.input task.plan) added mid new) (later : mid.faults ≤ new.faults) where
+  armed_from : IsSome (old.reads Gate) → (from image : Image) → mid.may_leave from → SameBut (IsWorkCell task.input task.plan) from image → is_armed image ≡ true
+  armed_from told from image left same = ap is_one (same.same Gate (gate_no_work task)) ∙ gate told from left
+
+  pub work_armed : IsSome (old.reads Gate) → (image : Image) → new.may_leave image → is_armed image ≡ true
+  work_armed told image left = let from = change.1.crash image left in armed_from told from.0 image from.1 from.2
+
+  pub work_keeps : Keeps task old new
+  work_keeps = record {
+    sound = λ asked contents tells before. leaves_then (IsSound asked task.input task.plan task.digest contents) old mid new (keeps.sound asked contents tells before) (moment asked contents tells before);
+    ready = λ tells before. leaves_then (IsReadyIdle task) old mid new (keeps.ready tells before)
+        (changes_leave (IsReadyIdle task) (IsWorkCell task.input task.plan) (IsWorkCell task.input task.plan) change.0 mid new change.1
+        (λ from image left same idle. absurd (false≢true (sym idle ∙ armed_from (tells Gate (gate_job task)) from image left same))));
+    change = (
+      keeps.change.0 ++ change.0,
+      changes_then (λ cell. IsTargetOf (flights old) cell ⊎ IsJobCell task.input task.plan cell) (IsJobCell task.input task.plan) keeps.change.0 change.0 old mid new keeps.change.1
+          (changes_wider (λ cell. IsTargetOf (flights old) cell ⊎ IsJobCell task.input task.plan cell) (IsJobCell task.input task.plan) (IsWorkCell task.input task.plan) (IsWorkCell task.input task.plan) (λ cell of. inr (work_job task cell of)) (work_job task) change.0 mid new change.1),
+    );
+    later = omega (arith, keeps.later, later);
+  }
+
+  -- a gate that is 1 stays 1
+  pub work_stays : StaysArmed old mid → StaysArmed old new
+  work_stays stays before = leaves_then (λ image. is_armed image ≡ true) old mid new (stays before)
+      (changes_leave (λ image. is_armed image ≡ true) (IsWorkCell task.input task.plan) (IsWorkCell task.input task.plan) change.0 mid new change.1
+      (armed_from (armed_told old.reads (settles_now (λ image. is_armed image ≡ true) old before))))
+
 module _ (task : Task) (is : IsTask task) (old mid new : State) (keeps : Keeps task old mid) (k : ℕ) (enters : Enters task old mid k) where
   module _ (moment : (asked : Bool) (contents : Contents) → HasDone asked task.input task.plan task.digest contents mid k → LeavesOnly (IsSound asked task.input task.plan task.digest contents) mid new)
       (change : (added : List Event) × Changes (IsWorkCell task.input task.plan) (IsWorkCell task.input task.plan) added mid new) (later : mid.faults ≤ new.faults) where
     pub run_keeps : Keeps task old new
-    run_keeps = record {
-      sound = λ asked contents tells before. leaves_then (IsSound asked task.input task.plan task.digest contents) old mid new (keeps.sound asked contents tells before) (moment asked contents (enters.done asked contents tells before));
-      ready = λ tells before. leaves_then (IsReadyIdle task) old mid new (keeps.ready tells before)
-          (changes_leave (IsReadyIdle task) (IsWorkCell task.input task.plan) (IsWorkCell task.input task.plan) change.0 mid new change.1
-          (λ from image left same idle. absurd (false≢true (sym idle ∙ ap is_one (same.same Gate (gate_no_work task)) ∙ enters.armed (tells Gate (gate_job task)) from left))));
-      change = (
-        keeps.change.0 ++ change.0,
-        changes_then (λ cell. IsTargetOf (flights old) cell ⊎ IsJobCell task.input task.plan cell) (IsJobCell task.input task.plan) keeps.change.0 change.0 old mid new keeps.change.1
-            (changes_wider (λ cell. IsTargetOf (flights old) cell ⊎ IsJobCell task.input task.plan cell) (IsJobCell task.input task.plan) (IsWorkCell task.input task.plan) (IsWorkCell task.input task.plan) (λ cell of. inr (work_job task cell of)) (work_job task) change.0 mid new change.1),
-      );
-      later = omega (arith, keeps.later, later);
-    }
+    run_keeps = work_keeps task old mid new keeps enters.armed (λ asked contents tells before. moment asked contents (enters.done asked contents tells before)) change later
 
-    -- a gate that is 1 stays 1
     pub run_armed : StaysArmed old mid → StaysArmed old new
-    run_armed stays before = leaves_then (λ image. is_armed image ≡ true) old mid new (stays before)
-        (changes_leave (λ image. is_armed image ≡ true) (IsWorkCell task.input task.plan) (IsWorkCell task.input task.plan) change.0 mid new change.1
-        (λ from image left same. ap is_one (same.same Gate (gate_no_work task)) ∙ enters.armed (armed_told old.reads (settles_now (λ image. is_armed image ≡ true) old before)) from left))
+    run_armed = work_stays task old mid new keeps enters.armed (λ asked contents tells before. moment asked contents (enters.done asked contents tells before)) change later
 
     -- where closing the plan early was stopped
     pub run_halting : (contents : Contents) → LeavesOnly (IsSafe task.input task.plan task.digest contents) old mid → HasDone false task.input task.plan task.digest contents mid k → LeavesOnly (IsSafe task.input task.plan task.digest contents) old new
@@ -80,7 +96,7 @@ still_reached task is old new k finishes contents tells before = finishes.reache
 
 -- Events
 
-run_then : (before : List Flight) (rounds : List (List Flight)) (a b : List Event) → IsRun before [] a → AreRounds rounds b → IsRun before rounds (a ++ b)
+pub run_then : (before : List Flight) (rounds : List (List Flight)) (a b : List Event) → IsRun before [] a → AreRounds rounds b → IsRun before rounds (a ++ b)
 run_then before rounds a b first are = record {
   order = first.order;
   rest = b;
@@ -89,21 +105,17 @@ run_then before rounds a b first are = record {
   then_rounds = are;
 }
 
-begins_then : (before : List Flight) (rounds : List (List Flight)) (a b : List Event) → IsRun before [] a → BeginsRounds rounds b → BeginsRun before rounds (a ++ b)
+pub begins_then : (before : List Flight) (rounds : List (List Flight)) (a b : List Event) → IsRun before [] a → BeginsRounds rounds b → BeginsRun before rounds (a ++ b)
 begins_then before rounds a b first begins = (begins.0, subst (IsRun before rounds) (sym (append_assoc a b begins.0)) (run_then before rounds a (b ++ begins.0) first begins.1))
 
-begins_only : (before : List Flight) (rounds : List (List Flight)) (a : List Event) → BeginsRun before [] a → BeginsRun before rounds a
+pub begins_only : (before : List Flight) (rounds : List (List Flight)) (a : List Event) → BeginsRun before [] a → BeginsRun before rounds a
 begins_only before rounds a begins =
     let more = some_rounds rounds in
     (begins.0 ++ more.0, subst (IsRun before rounds) (append_assoc a begins.0 more.0) (run_then before rounds (a ++ begins.0) more.0 begins.1 more.1))
 
 module _ (task : Task) (is : IsTask task) (k : ℕ) (most : k ≤ length task.plan) (old mid : State) where
   part : (added : List Event) → BeginsRun (flights old) (later_rounds task k) added → IsPart task old k added
-  part added begins = record {
-    begins = begins;
-    within = job_within task is (flights old) k most added begins;
-    slots = job_flights task is (flights old) k most added begins;
-  }
+  part = job_part task is old k most
 
   pub enter_part : Adds (BeginsRun (flights old) []) old mid → Adds (IsPart task old k) old mid
   enter_part = adds_wider (BeginsRun (flights old) []) (IsPart task old k) old mid (λ added begins. part added (begins_only (flights old) (later_rounds task k) added begins))

@@ -1,5 +1,5 @@
 -- An item that a plan shifts is where its first shift leaves it: at a slot that the plan names.
-use Rattle.mig_lanes.proofs.Common.{All-contains, At, Bool, Contains, IsPlanSpot, IsShifted, List, Lists, None, Option, Runs, Shift, Some, Spot, [], ap, arith, eqb, eqb-true, false, get_or}
+use Rattle.mig_lanes.proofs.Common.{All-contains, At, Bool, Contains, IsPlanSpot, IsShifted, List, Lists, None, Option, Runs, Shift, Some, Spot, [], ap, arith, eqb, eqb-true, false}
 use Rattle.mig_lanes.proofs.Common.{if◌then◌else◌, in_round, inl, inr, last_target, length, option_or, refl, round_at, shifts_of, slice_get, suc, sym, true, zero, ℕ, ⊎_elim, ◌<◌, ◌∙◌, ◌∷◌, ◌≡◌}
 use Rattle.mig_lanes.proofs.Common.{◌≤◌, ◌⊎◌}
 

@@ -4,7 +4,6 @@ use Rattle.std.specs.List.{range_with_len}
 use Rattle.std.specs.List.Sorted.{IsPermutation}
 use Rattle.mig_base.specs.declared.cells.Event.{Event}
 use Rattle.mig_base.specs.declared.cells.Flight.{Flight}
-use Rattle.mig_base.specs.declared.ids.Shift.{Shift}
 use Rattle.mig_base.specs.Flights.{began, ended, IsTargetOf}
 use Rattle.mig_base.specs.Images.{Image, IsCopy}
 use Rattle.mig_base.specs.JobCells.{IsJobCell, Tells}

@@ -1,6 +1,8 @@
 -- What carrying out a plan gives.
 use Rattle.std.specs.Prelude.{◌≡◌, ◌≤◌, true, ℕ, List, [], length}
 use Rattle.mig_base.specs.declared.cells.Event.{Event}
+use Rattle.mig_base.specs.declared.cells.Flight.{Flight}
+use Rattle.mig_base.specs.declared.inputs.Disk.{Disk}
 use Rattle.mig_base.specs.Arrivals.{IsArrived, IsReached}
 use Rattle.mig_base.specs.Flights.{after_events, AreFlights, AreWithinLimits}
 use Rattle.mig_base.specs.Journals.{count_of}
@@ -25,12 +27,15 @@ pub record Finishes (task : Task) (old new : State) (k : ℕ) : Type 0 where
   pub found : Tells (IsJobCell task.input task.plan) old.reads → AreFlights (flights old) → k ≡ count_of (length task.plan) old.reads
   pub ready : WasReady task old
 
--- The events are the first of those that carrying out the rounds after the first k adds, and keep limits. The copies that are then in flight are as those before:
--- between slots, to different ones, and none reads another's target.
-pub record IsPart (task : Task) (old : State) (k : ℕ) (added : List Event) : Type 0 where
-  pub begins : BeginsRun (flights old) (later_rounds task k) added
-  pub within : AreWithinLimits task.input.disks (flights old) → StayWithinLimits task.input.disks (flights old) added
-  pub slots : AreFlights (flights old) → AreFlights (after_events (flights old) added)
+-- the events are the first of those by which the copies before end and the rounds are carried out; they keep limits, and what copies in flight keep
+pub record IsPartOf (disks : List Disk) (before : List Flight) (rounds : List (List Flight)) (added : List Event) : Type 0 where
+  pub begins : BeginsRun before rounds added
+  pub within : AreWithinLimits disks before → StayWithinLimits disks before added
+  pub slots : AreFlights before → AreFlights (after_events before added)
+
+-- the same of the rounds after the first k of a plan
+abbrev pub IsPart : Task → State → ℕ → List Event → Type 0
+IsPart task old k = IsPartOf task.input.disks (flights old) (later_rounds task k)
 
 -- the fault is the store's, or what the journal shows
 abbrev pub IsJournalFault : MoveFault → Type 0

@@ -1,7 +1,7 @@
 -- The steps that are left, and what many of them write and add.
 use Rattle.mig_live.proofs.Common.{Cell, Changes, ChangesOnly, Event, List, Lists, NoCell, OnOk, Result, Shift, Some, State, Task, [], ap, append-nil, append_assoc, arith, cases_lt, changes_none}
 use Rattle.mig_live.proofs.Common.{changes_then, changes_wider, drop, drop-drop, flight_of, inl, inr, length, length-append, length-map, map, on_ok_weaker, refl, round_at, shifts_in, slice_get}
-use Rattle.mig_live.proofs.Common.{slice_get_within, slot_of, steps_after, subst, suc, sum_by, sum_by-cons, sym, take, take-add, zero, ℕ, ◌*◌, ◌++◌, ◌+◌, ◌-◌, ◌<◌, ◌∙◌, ◌∷◌, ◌≡◌, ◌≤◌, ◌⊎◌}
+use Rattle.mig_live.proofs.Common.{slice_get_within, slot_of, steps_after, subst, suc, sum_by, sum_by-cons, sym, take, take-add, take-append-drop, zero, ℕ, ◌*◌, ◌++◌, ◌+◌, ◌-◌, ◌<◌, ◌∙◌, ◌∷◌, ◌≡◌, ◌≤◌, ◌⊎◌}
 use Rattle.mig_live.specs.Actions.{Action, AllWrite, AreMade, AreMadeInPart, Copy, Erase, IsMade, MakesFirst, SetMark, Sync, Writes, actions_after, actions_from, actions_since, all_events, copies}
 use Rattle.mig_live.specs.Actions.{erasures, events_of}
 use Rattle.mig_live.proofs.StepCounts.{shifts_past}
@@ -46,13 +46,13 @@ drop_past f (t ∷ ts) ys zero n is = absurd (omega (arith, is))
 drop_past f (t ∷ ts) ys (suc p) n is = drop_past f ts ys p n (omega (arith, is))
 
 module _ (input : Lists) where
-  after_round : (n k : ℕ) (plan : List (List Shift)) → k < length plan
+  pub after_round : (n k : ℕ) (plan : List (List Shift)) → k < length plan
       → actions_from input n (drop k plan) ≡ copies input (round_at plan (suc k)) ++ (Sync ∷ SetMark (suc n) ∷ (erasures input (round_at plan (suc k)) ++ actions_from input (suc n) (drop (suc k) plan)))
   after_round n k [] lt = absurd (omega (arith, lt))
   after_round n zero (r ∷ rs) lt = refl
   after_round n (suc k) (r ∷ rs) lt = after_round n k rs (omega (arith, lt))
 
-  after_last : (n k : ℕ) (plan : List (List Shift)) → length plan ≤ k → actions_from input n (drop k plan) ≡ Sync ∷ []
+  pub after_last : (n k : ℕ) (plan : List (List Shift)) → length plan ≤ k → actions_from input n (drop k plan) ≡ Sync ∷ []
   after_last n zero [] le = refl
   after_last n (suc k) [] le = refl
   after_last n zero (r ∷ rs) le = absurd (omega (arith, le))
@@ -127,7 +127,7 @@ count_since task k = omega (
 
 -- Many steps
 
-write_left : (xs ys : List Action) (cell : Cell) → AllWrite xs cell → AllWrite (xs ++ ys) cell
+pub write_left : (xs ys : List Action) (cell : Cell) → AllWrite xs cell → AllWrite (xs ++ ys) cell
 write_left [] ys cell any = absurd any
 write_left (x ∷ xs) ys cell (inl here) = inl here
 write_left (x ∷ xs) ys cell (inr there) = inr (write_left xs ys cell there)
@@ -169,6 +169,16 @@ part_change : (xs ys : List Action) (old mid new : State) → AreMade xs old mid
 part_change xs ys old mid new first p = subst (λ (l : List Event). Changes (AllWrite (xs ++ (p.made ++ p.begun))) (AllWrite (xs ++ (p.made ++ p.begun))) l old new)
     (sym (append_assoc (all_events xs) (all_events p.made) (take p.events (all_events p.begun))) ∙ ap (λ (l : List Event). l ++ take p.events (all_events p.begun)) (sym (events_append xs p.made)))
     (then_changes xs (p.made ++ p.begun) (all_events p.made ++ take p.events (all_events p.begun)) old mid new first p.change)
+
+-- the first m steps, of the next s some, and the others are all
+pub part_of_all : (m s : ℕ) (all : List Action) (old new : State) → (p : AreMadeInPart (take m all) (take s (drop m all)) old new) → (take m all ++ (p.made ++ p.begun)) ++ (p.left ++ drop s (drop m all)) ≡ all
+part_of_all m s all old new p =
+    append_assoc (take m all) (p.made ++ p.begun) (p.left ++ drop s (drop m all))
+    ∙ ap (λ (l : List Action). take m all ++ l) (
+    sym (append_assoc (p.made ++ p.begun) p.left (drop s (drop m all)))
+    ∙ ap (λ (l : List Action). l ++ drop s (drop m all)) (append_assoc p.made p.begun p.left ∙ sym p.are)
+    ∙ take-append-drop s (drop m all))
+    ∙ take-append-drop m all
 
 -- these may be told as the first of all
 pub part_then : (xs ys : List Action) (old mid new : State) → AreMade xs old mid → AreMadeInPart [] ys mid new → AreMadeInPart xs ys old new

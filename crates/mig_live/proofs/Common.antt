@@ -41,11 +41,11 @@ pub use Rattle.mig_io.specs.Held.{Extends, ExtendsByPrefix, ExtendsInPart, SinkS
 pub use Rattle.mig_jobs.proofs.JobRounds.{round_short}
 pub use Rattle.mig_journal.proofs.Steps.{look_quiet, on_ok_is}
 pub use Rattle.mig_live.specs.Actions.{Action, AllWrite, AreMade, AreMadeInPart, Copy, Erase, IsMade, MakesFirst, SetMark, Sync, Writes, actions_after, actions_from, actions_left, actions_since, all_events, copies, erasures, events_of}
-pub use Rattle.mig_live.specs.Orders.{IsOrder, all_reads, all_steps, order_line, order_words, reads_of, steps_of}
+pub use Rattle.mig_live.specs.Orders.{IsOrder, all_reads, all_steps, order_line, order_words, steps_of}
 pub use Rattle.mig_live.specs.Replies.{AreCutOff, ArePut, ArePutUpTo, AreReplies, replies, reply_line}
 pub use Rattle.mig_live.specs.Scripts.{IsScriptError, IsStopAt, Over, Piece, ScriptLine, ScriptNext, ScriptPlace, ScriptText, WereRead}
 pub use Rattle.mig_live.specs.Sessions.{InStep, Session, done_in, is_synced, marks_by, steps_after}
-pub use Rattle.mig_live.specs.Underways.{ChangesWork, IsAmong, IsAtStep, IsFilledBy, IsLeftBy, IsLoose, IsUnderway, shifts_in, steps_in}
+pub use Rattle.mig_live.specs.Underways.{IsAmong, IsAtStep, IsFilledBy, IsLeftBy, IsLoose, IsUnderway, shifts_in, steps_in}
 pub use Rattle.mig_live.specs.declared.limits.TheConstants.{MAX_ORDERS}
 pub use Rattle.mig_live.specs.declared.orders.Order.{Order}
 pub use Rattle.mig_live.specs.declared.orders.Order.TheVariants.{Read, Step}

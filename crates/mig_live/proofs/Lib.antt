@@ -4,7 +4,7 @@ mod Places
 mod ReplyLaws
 mod StepCounts
 mod StepLaws
-mod WorkCells
+pub mod WorkCells
 pub mod Common
 pub mod Middle
 pub mod ScriptLaws

@@ -1,7 +1,7 @@
 -- The middle of a round, by the laws of safe images.
 use Rattle.mig_live.proofs.Common.{All-contains, AreZeros, At, Bool, Cell, Changes, ChangesOnly, Contains, Contains-get_or, Contents, Event, HasDone, IfSome, Image, IsAmong, IsCopied, IsCopy}
 use Rattle.mig_live.proofs.Common.{IsFilledBy, IsInUse, IsInput, IsJobCell, IsLeftBy, IsLegal, IsLoose, IsSettled, IsSound, IsSoundAfter, IsSourceSlot, IsTaken, IsUnderway, LeavesOnly, List}
-use Rattle.mig_live.proofs.Common.{Lists, Mark, NoCell, Option, Runs, SameBut, Shift, Some, Spot, State, Tells, [], any_contains, ap, arith, at_target, cases_Bool, cases_cell, cases_eq}
+use Rattle.mig_live.proofs.Common.{Lists, Mark, NoCell, Option, Runs, SameBut, SettledBut, Shift, Some, Spot, State, Tells, [], any_contains, ap, arith, at_target, cases_Bool, cases_cell, cases_eq}
 use Rattle.mig_live.proofs.Common.{changes_leave, changes_wider, flights, flights_same, from_disk, get_or, get_or_from_slice_get, here, in_some, inl, inr, is_marked, is_one, layout_at, leaves}
 use Rattle.mig_live.proofs.Common.{length, marking, moved_cases, one_target, other_bytes, refl, round_at, same_image, same_wider, settled_change, slice_get, slice_get-get_or, slice_get_within}
 use Rattle.mig_live.proofs.Common.{slot_apart, slot_of, sound_after, source_facts, subst, suc, sym, target_free, to_disk, told_is, told_kept, unmarked, zero, zeros, ℕ, ⊎_elim, ◌+◌, ◌<◌, ◌∙◌, ◌∷◌}
@@ -41,6 +41,18 @@ loose_more input plan k e c f d cell le_e le_c (inr to) = inr (filled_more input
 pub loose_in_use : (input : Lists) (plan : List (List Shift)) (k e c : ℕ) (cell : Cell) → IsLoose input plan k e c cell → IsInUse input plan k cell
 loose_in_use input plan k e c cell (inl (s, among, at)) = inl (s.from, any_contains (λ (t : Shift). t.from ≡ s.from) (round_at plan k) s (among_has e (round_at plan k) s among) refl, at)
 loose_in_use input plan k e c cell (inr (s, among, at)) = inr (s.to, any_contains (λ (t : Shift). t.to ≡ s.to) (round_at plan (suc k)) s (among_has c (round_at plan (suc k)) s among) refl, at)
+
+-- the same is read, and no other cell is unsettled
+pub way_on : (asked : Bool) (input : Lists) (plan : List (List Shift)) (digest : List ℕ) (contents : Contents) (k : ℕ) (old new : State) (e c : ℕ) → old.reads ≡ new.reads → SettledBut (IsLoose input plan k e c) new → flights new ≡ []
+    → IsUnderway asked input plan digest contents old k e c → IsUnderway asked input plan digest contents new k e c
+way_on asked input plan digest contents k old new e c same settled landed way = record {
+  sound = subst (λ (image : Image). IsSoundAfter asked input plan digest contents image k) same way.sound;
+  copied = λ m among. subst (λ (image : Image). image (slot_of input m.to) ≡ Some (contents m.item.0)) same (way.copied m among);
+  erased = λ m among out. subst (λ (image : Image). image (slot_of input m.from) ≡ Some zeros) same (way.erased m among out);
+  settled = settled;
+  landed = landed;
+  tells = subst (λ (image : Image). Tells (IsJobCell input plan) image) same way.tells;
+}
 
 module _ (input : Lists) (valid : IsInput input) (plan : List (List Shift)) (runs : Runs input plan) (digest : List ℕ) (contents : Contents) (k : ℕ) (most : k ≤ length plan) (asked : Bool) where
   abbrev pub Sound : Image → Type 0
@@ -139,14 +151,7 @@ module _ (input : Lists) (valid : IsInput input) (plan : List (List Shift)) (run
 
   -- nothing changes but that all is settled
   pub way_settled : (old new : State) (e c : ℕ) → old.reads ≡ new.reads → IsSettled new → flights new ≡ [] → IsUnderway asked input plan digest contents old k e c → IsUnderway asked input plan digest contents new k e c
-  way_settled old new e c same settled landed way = record {
-    sound = subst (λ (image : Image). IsSoundAfter asked input plan digest contents image k) same way.sound;
-    copied = λ m among. subst (λ (image : Image). image (slot_of input m.to) ≡ Some (contents m.item.0)) same (way.copied m among);
-    erased = λ m among out. subst (λ (image : Image). image (slot_of input m.from) ≡ Some zeros) same (way.erased m among out);
-    settled = λ image left. same_wider NoCell (IsLoose input plan k e c) (λ cell none. absurd none) new.reads image (settled image left);
-    landed = landed;
-    tells = subst (λ (image : Image). Tells (IsJobCell input plan) image) same way.tells;
-  }
+  way_settled old new e c same settled = way_on asked input plan digest contents k old new e c same (λ image left. same_wider NoCell (IsLoose input plan k e c) (λ cell none. absurd none) new.reads image (settled image left))
 
   -- a round that is done is the beginning of the middle of the next
   pub from_done : (s : State) (e : ℕ) → length (round_at plan k) ≤ e → flights s ≡ [] → HasDone asked input plan digest contents s k → IsUnderway asked input plan digest contents s k e 0

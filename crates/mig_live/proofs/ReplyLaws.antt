@@ -1,7 +1,7 @@
 -- Replies that are put, order by order.
 use Rattle.mig_live.proofs.Common.{ArePut, ArePutUpTo, AreReplies, Bool, Contents, Err, Extends, ExtendsByPrefix, ExtendsInPart, IfSome, InStep, None, Option, Some, IsErrAnd, ItemId, List, Lists, Ok, Order, Read, Result, ServeFault, Session, SinkState}
 use Rattle.mig_live.proofs.Common.{State, Step, Task, [], all_reads, all_steps, ap, append-nil, append_assoc, arith, codes, encode_lower, flat_map-append, get_or, item_name, length, map}
-use Rattle.mig_live.proofs.Common.{map-append, named, puts_nothing, reads_of, refl, replies, reply_line, sha256, steps_of, subst, sym, take, take_more, text_of_lines}
+use Rattle.mig_live.proofs.Common.{map-append, named, puts_nothing, refl, replies, reply_line, sha256, steps_of, subst, sym, take, take_more, text_of_lines}
 use Rattle.mig_live.proofs.Common.{then_extends, words, ℕ, ◌++◌, ◌+◌, ◌<◌, ◌∙◌, ◌∷◌, ◌≡◌}
 use Rattle.mig_live.specs.declared.serving.ServeFault.TheVariants as serve_fault
 
@@ -30,7 +30,8 @@ steps_one_more orders i d lt = let e = ap all_steps (take_more orders i d lt) in
 
 reads_append : (xs ys : List Order) → all_reads (xs ++ ys) ≡ all_reads xs ++ all_reads ys
 reads_append [] ys = refl
-reads_append (x ∷ xs) ys = ap (λ (l : List ℕ). reads_of x ++ l) (reads_append xs ys) ∙ sym (append_assoc (reads_of x) (all_reads xs) (all_reads ys))
+reads_append (Read item ∷ xs) ys = ap (λ (l : List ℕ). item.0 ∷ l) (reads_append xs ys)
+reads_append (Step count ∷ xs) ys = reads_append xs ys
 
 module _ (input : Lists) (contents : Contents) where
   replies_append : (xs ys : List Order) → replies input contents (xs ++ ys) ≡ replies input contents xs ++ replies input contents ys

@@ -1,37 +1,25 @@
 -- What the calls of a session keep.
-use Rattle.mig_live.proofs.Common.{All, Bool, Cell, ChangesOnly, Contents, Enters, Image, InStep, IsAtStep, IsFilledBy, IsJobCell, IsLoose, IsReached, IsSettled, IsSound, IsSoundAfter, IsTask}
+use Rattle.mig_live.proofs.Common.{All, Bool, Cell, ChangesOnly, Contents, Enters, InStep, IsAtStep, IsFilledBy, IsJobCell, IsLoose, IsReached, IsSettled, IsSound, IsSoundAfter, IsTask}
 use Rattle.mig_live.proofs.Common.{IsUnderway, LeavesOnly, List, Lists, Looks, NoCell, Session, SettledBut, SettlesTo, Shift, Some, State, Task, Tells, [], ap, arith, cases_lt, changes_wider}
 use Rattle.mig_live.proofs.Common.{done_in, drop, eqb-true, flights_same, get_or, inl, inr, is_synced, leaves_then, length, look_quiet, marks_by, reached, round_at, same_image}
 use Rattle.mig_live.proofs.Common.{settled_change, shifts_in, slice_get-get_or, slice_get_within, slot_of, steps_after, steps_in, subst, suc, sym, true, zero, zeros, ℕ, ◌*◌, ◌+◌, ◌-◌, ◌<◌, ◌↔◌}
 use Rattle.mig_live.proofs.Common.{◌∙◌, ◌≡◌, ◌≤◌, ◌⊎◌}
 use Rattle.mig_live.proofs.ActionLaws.{count_since}
 use Rattle.mig_live.proofs.Common.{Action, AreMadeInPart, IsMade, actions_left, actions_since, drop_all, refl, take, ◌∷◌}
-use Rattle.mig_live.proofs.Middle.{from_done}
+use Rattle.mig_live.proofs.Middle.{from_done, way_on}
 use Rattle.mig_live.proofs.StepCounts.{marks_after, marks_before, marks_none, shifts_past, steps_fall, steps_from, steps_last, steps_more, steps_next}
 
 module _ (asked : Bool) (input : Lists) (plan : List (List Shift)) (digest : List ℕ) (contents : Contents) (k : ℕ) (old new : State) where
   settled_quiet : (P : Cell → Type 0) → ChangesOnly NoCell old new → SettledBut P old → SettledBut P new
   settled_quiet P quiet = settled_change P [] old new (changes_wider P P NoCell NoCell (λ cell none. absurd none) (λ cell none. absurd none) [] old new quiet)
 
-  way_quiet : (e c : ℕ) → ChangesOnly NoCell old new → IsUnderway asked input plan digest contents old k e c → IsUnderway asked input plan digest contents new k e c
-  way_quiet e c quiet way = record {
-    sound = subst (λ (image : Image). IsSoundAfter asked input plan digest contents image k) same way.sound;
-    copied = λ m among. subst (λ (image : Image). image (slot_of input m.to) ≡ Some (contents m.item.0)) same (way.copied m among);
-    erased = λ m among out. subst (λ (image : Image). image (slot_of input m.from) ≡ Some zeros) same (way.erased m among out);
-    settled = settled_quiet (IsLoose input plan k e c) quiet way.settled;
-    landed = flights_same old new quiet.events ∙ way.landed;
-    tells = subst (λ (image : Image). Tells (IsJobCell input plan) image) same way.tells;
-  }
-    where
-      same : old.reads ≡ new.reads
-      same = same_image old.reads new.reads quiet.told
-
   -- a look changes nothing
   pub step_looked : (p : ℕ) → Looks old new → IsAtStep asked input plan digest contents old k p → IsAtStep asked input plan digest contents new k p
   step_looked p look at =
       let quiet = look_quiet old new at.underway.landed look in
       record {
-        underway = way_quiet p _ quiet at.underway;
+        underway = way_on asked input plan digest contents k old new p _ (same_image old.reads new.reads quiet.told) (settled_quiet (IsLoose input plan k p (p - shifts_in plan k)) quiet at.underway.settled)
+            (flights_same old new quiet.events ∙ at.underway.landed) at.underway;
         synced = λ high. settled_quiet NoCell quiet (at.synced high);
       }
 

@@ -1,40 +1,50 @@
--- Which cells the steps write.
-use Rattle.mig_live.proofs.Common.{Cell, Changes, ChangesOnly, ChangesWork, Contains, Event, IsWorkCell, List, Lists, Mark, NoCell, Shift, Some, State, Task, [], any_contains, changes_none}
-use Rattle.mig_live.proofs.Common.{changes_then, changes_wider, get_or_from_slice_get, here, inl, inr, length, refl, round_at, slice_get, slice_get_within, slot_of, subst, suc, sym, ℕ, ◌++◌, ◌∙◌}
-use Rattle.mig_live.proofs.Common.{◌≡◌, ◌≤◌}
+-- The steps write no cells but those that rounds may change.
+use Rattle.mig_live.proofs.Common.{Action, AllWrite, AreMade, AreMadeInPart, Cell, Changes, Contains, Copy, Erase, Event, IsWorkCell, List, SetMark, Shift, State, Sync, Task, [], actions_after, all_events}
+use Rattle.mig_live.proofs.Common.{any_contains, arith, changes_wider, drop, flight_of, here, inl, inr, length, map, refl, round_at, slot_of, subst, suc, sym, take, take-append-drop}
+use Rattle.mig_live.proofs.Common.{zero, ℕ, ⊎_elim, ◌++◌, ◌+◌, ◌-◌, ◌∷◌, ◌≡◌, ◌≤◌, ◌⊎◌}
+use Rattle.mig_live.proofs.ActionLaws.{after_last, after_round, part_of_all, write_left}
+use Rattle.mig_live.specs.Actions.{Writes, actions_since}
 
-at_place : (shifts : List Shift) (place : ℕ) (s : Shift) → slice_get shifts place ≡ Some s → Contains shifts s
-at_place shifts place s at = (place, slice_get_within shifts place s at, get_or_from_slice_get shifts place s s at)
+-- steps of shifts, and others
+write_cases : (f : Shift → Action) (shifts : List Shift) (rest : List Action) (cell : Cell) → AllWrite (map f shifts ++ rest) cell → ((s : Shift) × Contains shifts s × Writes (f s) cell) ⊎ AllWrite rest cell
+write_cases f [] rest cell any = inr any
+write_cases f (s ∷ ss) rest cell (inl at) = inl (s, here s ss, at)
+write_cases f (s ∷ ss) rest cell (inr any) = ⊎_elim (λ of. inl (of.0, (suc of.1.0, (let lt = of.1.1 in omega arith), of.1.2), of.2)) (λ other. inr other) (write_cases f ss rest cell any)
 
-module _ (input : Lists) (plan : List (List Shift)) where
-  pub works : (P : Cell → Type 0) (added : List Event) (old new : State) → ((cell : Cell) → P cell → IsWorkCell input plan cell) → Changes P P added old new → ChangesWork input plan old new
-  works P added old new within change = (added, changes_wider (IsWorkCell input plan) (IsWorkCell input plan) P P within within added old new change)
+module _ (task : Task) where
+  abbrev Work : Cell → Type 0
+  Work = IsWorkCell task.input task.plan
 
-  pub works_none : (s : State) → ChangesWork input plan s s
-  works_none s = ([], changes_none (IsWorkCell input plan) (IsWorkCell input plan) s)
+  from_works : (k : ℕ) (cell : Cell) → (s : Shift) × Contains (round_at task.plan k) s × (cell ≡ slot_of task.input s.from) → Work cell
+  from_works k cell (s, has, at) = inr (s.from, (k, inl (any_contains (λ (t : Shift). t.from ≡ s.from) (round_at task.plan k) s has refl)), sym at)
 
-  pub works_then : (old mid new : State) → ChangesWork input plan old mid → ChangesWork input plan mid new → ChangesWork input plan old new
-  works_then old mid new (a, first) (b, second) = (a ++ b, changes_then (IsWorkCell input plan) (IsWorkCell input plan) a b old mid new first second)
+  to_works : (k : ℕ) (cell : Cell) → (s : Shift) × Contains (round_at task.plan k) s × (cell ≡ slot_of task.input s.to) → Work cell
+  to_works k cell (s, has, at) = inr (s.to, (k, inr (any_contains (λ (t : Shift). t.to ≡ s.to) (round_at task.plan k) s has refl)), sym at)
 
-  pub works_quiet : (old new : State) → ChangesOnly NoCell old new → ChangesWork input plan old new
-  works_quiet old new quiet = works NoCell [] old new (λ cell out. absurd out) quiet
+  -- those after mark k
+  after_works : (more k : ℕ) → more + k ≡ length task.plan → (cell : Cell) → AllWrite (actions_after task k) cell → Work cell
+  after_works zero k all cell any = elim (subst (λ (l : List Action). AllWrite l cell) (after_last task.input k k task.plan (omega (arith, all))) any) [ inl none ↦ absurd none | inr none ↦ absurd none ]
+  after_works (suc more) k all cell any = ⊎_elim (to_works (suc k) cell) (λ rest. elim rest [
+    | inl none ↦ absurd none
+    | inr (inl mark) ↦ inl (suc k, omega arith, omega (arith, all), mark)
+    | inr (inr others) ↦ ⊎_elim (from_works (suc k) cell) (after_works more (suc k) (omega (arith, all)) cell)
+        (write_cases (λ s. Erase (slot_of task.input s.from)) (round_at task.plan (suc k)) (actions_after task (suc k)) cell others)
+  ]) (write_cases (λ s. Copy (flight_of task.input s)) (round_at task.plan (suc k)) (Sync ∷ SetMark (suc k) ∷ actions_since task (suc k)) cell
+      (subst (λ (l : List Action). AllWrite l cell) (after_round task.input k k task.plan (omega (arith, all))) any))
 
-  -- an erasure, a copy and a mark
-  pub erase_works : (k place : ℕ) (s : Shift) → slice_get (round_at plan k) place ≡ Some s → (from : Cell) → from ≡ slot_of input s.from → (old new : State) → ChangesOnly (λ c. c ≡ from) old new → ChangesWork input plan old new
-  erase_works k place s here from is old new = works (λ c. c ≡ from) [] old new
-      (λ cell at. inr (s.from, (k, inl (any_contains (λ (t : Shift). t.from ≡ s.from) (round_at plan k) s (at_place (round_at plan k) place s here) refl)), sym (at ∙ is)))
+  module _ (k : ℕ) (most : k ≤ length task.plan) (old new : State) where
+    abbrev pub Works : Type 0
+    Works = (added : List Event) × Changes (IsWorkCell task.input task.plan) (IsWorkCell task.input task.plan) added old new
 
-  pub copy_works : (k place : ℕ) (s : Shift) → slice_get (round_at plan (suc k)) place ≡ Some s → (to : Cell) → to ≡ slot_of input s.to → (added : List Event) (old new : State) → Changes (λ c. c ≡ to) (λ c. c ≡ to) added old new → ChangesWork input plan old new
-  copy_works k place s here to is added old new = works (λ c. c ≡ to) added old new
-      (λ cell at. inr (s.to, (suc k, inr (any_contains (λ (t : Shift). t.to ≡ s.to) (round_at plan (suc k)) s (at_place (round_at plan (suc k)) place s here) refl)), sym (at ∙ is)))
+    -- of the first of these
+    some_work : (these rest : List Action) (added : List Event) → these ++ rest ≡ actions_after task k → Changes (AllWrite these) (AllWrite these) added old new → Works
+    some_work these rest added is change =
+        let works : (cell : Cell) → AllWrite these cell → Work cell =
+        λ cell any. after_works (length task.plan - k) k (omega (arith, most)) cell (subst (λ (l : List Action). AllWrite l cell) is (write_left these rest cell any)) in
+        (added, changes_wider Work Work (AllWrite these) (AllWrite these) works works added old new change)
 
-  pub mark_works : (n : ℕ) → 1 ≤ n → n ≤ length plan → (old new : State) → ChangesOnly (λ c. c ≡ Mark n) old new → ChangesWork input plan old new
-  mark_works n low high old new = works (λ c. c ≡ Mark n) [] old new (λ cell at. inl (n, low, high, at))
+    pub made_works : (m : ℕ) → AreMade (take m (actions_after task k)) old new → Works
+    made_works m = some_work (take m (actions_after task k)) (drop m (actions_after task k)) (all_events (take m (actions_after task k))) (take-append-drop m (actions_after task k))
 
--- of another name for the same task
-pub works_of : (task other : Task) → task ≡ other → (old new : State) → ChangesWork task.input task.plan old new → ChangesWork other.input other.plan old new
-works_of task other same old new = subst (λ (t : Task). ChangesWork t.input t.plan old new) same
-
--- what was done before, and what is done then by a session of the same task
-pub works_more : (task other : Task) → other ≡ task → (old mid new : State) → ChangesWork task.input task.plan old mid → ChangesWork other.input other.plan mid new → ChangesWork task.input task.plan old new
-works_more task other same old mid new first second = works_then task.input task.plan old mid new first (works_of other task same mid new second)
+    pub part_works : (m s : ℕ) → AreMadeInPart (take m (actions_after task k)) (take s (drop m (actions_after task k))) old new → Works
+    part_works m s p = some_work (take m (actions_after task k) ++ (p.made ++ p.begun)) (p.left ++ drop s (drop m (actions_after task k))) _ (part_of_all m s (actions_after task k) old new p) p.change

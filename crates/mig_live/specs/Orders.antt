@@ -1,5 +1,5 @@
 -- What a session is asked to do.
-use Rattle.std.specs.Prelude.{◌+◌, ◌<◌, ◌≤◌, ◌++◌, ℕ, List, [], ◌∷◌, codes, length}
+use Rattle.std.specs.Prelude.{◌+◌, ◌<◌, ◌≤◌, ℕ, List, [], ◌∷◌, codes, length}
 use Rattle.std.specs.Fmt.{decimal}
 use Rattle.mig_base.specs.InputLists.{Lists}
 use Rattle.mig_base.specs.Texts.{item_name, words}
@@ -20,12 +20,7 @@ order_words input (Step count) = codes "step" ∷ decimal count ∷ []
 abbrev pub order_line : Lists → Order → List ℕ
 order_line input order = words (order_words input order)
 
--- the items that an order reads
-abbrev pub reads_of : Order → List ℕ
-reads_of (Read item) = item.0 ∷ []
-reads_of (Step count) = []
-
--- the steps that it asks for
+-- the steps that an order asks for
 abbrev pub steps_of : Order → ℕ
 steps_of (Read item) = 0
 steps_of (Step count) = count
@@ -33,7 +28,8 @@ steps_of (Step count) = count
 -- the items that orders read, and the steps that they ask for
 abbrev pub all_reads : List Order → List ℕ
 all_reads [] = []
-all_reads (order ∷ orders) = reads_of order ++ all_reads orders
+all_reads (Read item ∷ orders) = item.0 ∷ all_reads orders
+all_reads (Step count ∷ orders) = all_reads orders
 
 abbrev pub all_steps : List Order → ℕ
 all_steps [] = 0

@@ -13,7 +13,7 @@ ghost use Rattle.mig_base.specs.Tasks.{Task, IsTask};
 ghost use Rattle.mig_mover.specs.Moves.{Keeps, Enters, IsFault, IsResumeFault, MayBeHalting, StaysArmed};
 ghost use Rattle.mig_live.specs.Actions.{Action, AreMade, AreMadeInPart, IsMade, actions_left};
 ghost use Rattle.mig_live.specs.Sessions.{Session, InStep, is_synced, marks_by, steps_after};
-ghost use Rattle.mig_live.specs.Underways.{ChangesWork, shifts_in, steps_in};
+ghost use Rattle.mig_live.specs.Underways.{shifts_in, steps_in};
 
 use crate::steps::{mark_next, shifts_of_round, step_within};
 use mig_base::ItemId;
@@ -148,7 +148,6 @@ impl<'a> Live<'a> {
             LeavesOnly (IsSound asked self.entry.task.input self.entry.task.plan self.entry.task.digest contents) (S.state store.old) (S.state store.new) }
         ensures in_step { IfOk result (λ live. (asked : Bool) (contents : Contents) → InStep asked self.entry contents (S.state store.old) → InStep asked live contents (S.state store.new)) }
         ensures landed { OnOk result (flights (S.state store.new) ≡ []) }
-        ensures change { ChangesWork self.entry.task.input self.entry.task.plan (S.state store.old) (S.state store.new) }
         ensures cause { HasCause (S.state store.old) (S.state store.new) result }
     {
         self.job.keeps_rules();
@@ -186,7 +185,6 @@ impl<'a> Live<'a> {
             LeavesOnly (IsSound asked self.entry.task.input self.entry.task.plan self.entry.task.digest contents) (S.state store.old) (S.state store.new) }
         ensures in_step { IfOk result (λ live. (asked : Bool) (contents : Contents) → InStep asked self.entry contents (S.state store.old) → InStep asked live contents (S.state store.new)) }
         ensures landed { OnOk result (flights (S.state store.new) ≡ []) }
-        ensures change { ChangesWork self.entry.task.input self.entry.task.plan (S.state store.old) (S.state store.new) }
         ensures cause { HasCause (S.state store.old) (S.state store.new) result }
     {
         let mut live = self;

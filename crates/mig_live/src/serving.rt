@@ -9,7 +9,6 @@ ghost use Rattle.mig_live.specs.Actions.{AreMade, actions_left};
 ghost use Rattle.mig_live.specs.Orders.{all_steps, steps_of, IsOrder};
 ghost use Rattle.mig_live.specs.Replies.{AreCutOff, AreMadeUpTo, ArePut, ArePutUpTo, IsServeFault};
 ghost use Rattle.mig_live.specs.Sessions.{Session, InStep};
-ghost use Rattle.mig_live.specs.Underways.{ChangesWork};
 ghost use Rattle.mig_live.specs.declared.orders.Order.TheVariants.{Read};
 ghost use Rattle.mig_words.specs.Puts.{Puts};
 
@@ -113,7 +112,6 @@ fn carry_out<'a, K: Sink, S: Store>(
     ensures any_moment { (asked : Bool) (contents : Contents) → InStep asked live.entry contents (S.state store.old) →
         LeavesOnly (IsSound asked live.entry.task.input live.entry.task.plan live.entry.task.digest contents) (S.state store.old) (S.state store.new) }
     ensures landed { OnOk result (flights (S.state store.new) ≡ []) }
-    ensures change { ChangesWork live.entry.task.input live.entry.task.plan (S.state store.old) (S.state store.new) }
     ensures later { (S.state store.old).faults ≤ (S.state store.new).faults }
     ensures sink_later { (K.state out.old).faults ≤ (K.state out.new).faults }
     ensures fault { IfErr result (IsServeFault (S.state store.old) (S.state store.new) (K.state out.old) (K.state out.new)) }
@@ -153,7 +151,6 @@ pub fn serve<'a, K: Sink, S: Store>(
     ensures any_moment { (asked : Bool) (contents : Contents) → InStep asked live.entry contents (S.state store.old) →
         LeavesOnly (IsSound asked live.entry.task.input live.entry.task.plan live.entry.task.digest contents) (S.state store.old) (S.state store.new) }
     ensures landed { OnOk result (flights (S.state store.new) ≡ []) }
-    ensures change { ChangesWork live.entry.task.input live.entry.task.plan (S.state store.old) (S.state store.new) }
     ensures later { (S.state store.old).faults ≤ (S.state store.new).faults }
     ensures sink_later { (K.state out.old).faults ≤ (K.state out.new).faults }
     ensures fault { IfErr result (IsServeFault (S.state store.old) (S.state store.new) (K.state out.old) (K.state out.new)) }

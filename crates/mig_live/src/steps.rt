@@ -9,7 +9,7 @@ ghost use Rattle.mig_base.specs.Safety.{Contents, IsSound};
 ghost use Rattle.mig_base.specs.Stores.{State, flights, Changes, ChangesOnly, LeavesOnly, IsSettled, HasCause};
 ghost use Rattle.mig_base.specs.Tasks.{Task};
 ghost use Rattle.mig_live.specs.Actions.{MakesFirst, actions_after, actions_since};
-ghost use Rattle.mig_live.specs.Underways.{ChangesWork, IsUnderway, IsAtStep, shifts_in, steps_in};
+ghost use Rattle.mig_live.specs.Underways.{IsUnderway, IsAtStep, shifts_in, steps_in};
 
 use mig_base::Cell;
 use mig_jobs::Job;
@@ -44,7 +44,6 @@ fn erase_next<S: Store>(job: &Job, store: &mut S, k: u32, place: u32) -> Result<
         IsUnderway asked job.now.input job.now.plan job.now.digest contents (S.state store.new) k (place + 1) 0) }
     ensures first { MakesFirst (drop place (actions_since job.now k)) (drop (place + 1) (actions_since job.now k)) (S.state store.old) (S.state store.new) result }
     ensures landed { OnOk result (flights (S.state store.new) ≡ []) }
-    ensures change { ChangesWork job.now.input job.now.plan (S.state store.old) (S.state store.new) }
     ensures cause { HasCause (S.state store.old) (S.state store.new) result }
 {
     job.keeps_rules();
@@ -63,7 +62,6 @@ fn copy_next<S: Store>(job: &Job, store: &mut S, k: u32, place: u32) -> Result<(
         IsUnderway asked job.now.input job.now.plan job.now.digest contents (S.state store.new) k e (place + 1)) }
     ensures first { MakesFirst (drop place (actions_after job.now k)) (drop (place + 1) (actions_after job.now k)) (S.state store.old) (S.state store.new) result }
     ensures landed { OnOk result (flights (S.state store.new) ≡ []) }
-    ensures change { ChangesWork job.now.input job.now.plan (S.state store.old) (S.state store.new) }
     ensures cause { HasCause (S.state store.old) (S.state store.new) result }
 {
     job.keeps_rules();
@@ -114,7 +112,6 @@ pub(crate) fn step_within<S: Store>(
         IsAtStep asked job.now.input job.now.plan job.now.digest contents (S.state store.new) k (p + 1)) }
     ensures first { MakesFirst (drop p (actions_since job.now k)) (drop (p + 1) (actions_since job.now k)) (S.state store.old) (S.state store.new) result }
     ensures landed { OnOk result (flights (S.state store.new) ≡ []) }
-    ensures change { ChangesWork job.now.input job.now.plan (S.state store.old) (S.state store.new) }
     ensures cause { HasCause (S.state store.old) (S.state store.new) result }
 {
     job.keeps_rules();
@@ -143,7 +140,6 @@ pub(crate) fn mark_next<S: Store>(job: &Job, store: &mut S, k: u32) -> Result<()
         IsAtStep asked job.now.input job.now.plan job.now.digest contents (S.state store.new) (k + 1) 0) }
     ensures first { MakesFirst (drop (steps_in job.now.plan k) (actions_since job.now k)) (actions_since job.now (k + 1)) (S.state store.old) (S.state store.new) result }
     ensures landed { OnOk result (flights (S.state store.new) ≡ []) }
-    ensures change { ChangesWork job.now.input job.now.plan (S.state store.old) (S.state store.new) }
     ensures cause { HasCause (S.state store.old) (S.state store.new) result }
 {
     job.keeps_rules();

@@ -1,6 +1,6 @@
 -- What `drain` promises, from the causes of its outcomes and what it leaves.
 use Rattle.mig_top.proofs.Common.{Call, CannotDrain, Done, Drain, DrainsWell, EndsAs, Files, Finding, Form, FormCause, Found, HasDrained, HoldsLayout, IsDrainSaved, IsEndOf, IsListed, IsNamed, IsNoDisk}
-use Rattle.mig_top.proofs.Common.{IsSomeAnd, LacksSlots, List, Lists, NoDisk, NoRoom, Outcome, Refused, Some, Step, WorldEnds, after, arith, finding_code, finds, finds_disk, fits_others}
+use Rattle.mig_top.proofs.Common.{IsSomeAnd, LacksSlots, List, Lists, NoDisk, NoRoom, Outcome, Refused, Some, Step, after, arith, finding_code, finds, finds_disk, fits_others}
 use Rattle.mig_top.proofs.Common.{free_elsewhere, inl, inr, layout_in, present, refl, subst, ℕ, ◌<◌, ◌≡◌, ◌⊎◌}
 use Rattle.mig_top.proofs.EndsOf.{cause_at, told_at}
 use Rattle.mig_top.proofs.Exactness.{disk_exact, layout_in_exact}
@@ -72,6 +72,6 @@ module _ (k : Call) (disks now name next : List ℕ) (files : Files) (is : k.bef
   }
 
   pub drains_well : {words : List (List ℕ)} {status : ℕ} → EndsAs k words status → IsListed words form → DrainsWell k files disks now name next status
-  drains_well = makes_well is maker (omega arith) (HasDrained k disks now name next files) (λ text h put.
+  drains_well ends l = makes_well is maker (omega arith) (HasDrained k disks now name next files) (λ text h put.
       some_and_map (IsDrainSaved disks now name next text files) (HasDrained k disks now name next files) k.after.folder.files (λ new saved. (text, saved, put))
-      (told_at (λ old. IsSomeAnd k.after.folder.files (IsDrainSaved disks now name next text old)) k.before.folder.files files is h.leaves))
+      (told_at (λ old. IsSomeAnd k.after.folder.files (IsDrainSaved disks now name next text old)) k.before.folder.files files is h.leaves)) ends l

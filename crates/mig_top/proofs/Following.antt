@@ -36,7 +36,7 @@ module _ (first between last : World) (read : Scripted) (contents : Contents) (s
   pub served : (other : Scripted) → other.task ≡ read.task → (next : ℕ) → (well : ServesWell (call between last) other next) → ResumesInFlight (call between last) other.task next
       → ServesAfter (call between last) other contents next well.rounds
   served other same next well in_flight = record {
-    safe = well.safe true contents here.ready.cells here.ready.images here.sound;
+    safe = λ image left. ⊎_elim (here.sound image) (λ p. p) (well.safe true contents here.ready.cells (inr (here.sound, here.ready.images)) image left);
     told = λ zero. well.told zero true contents (here.ready.cells, inr (here.sound, here.ready.images));
     went = λ zero. well.went zero contents (here.ready.cells, inr (here.sound, here.ready.images));
     again = well.again contents here;

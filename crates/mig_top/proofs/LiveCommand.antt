@@ -1,25 +1,23 @@
 -- How `live` ends.
-use Rattle.mig_top.proofs.Common.{Adds, AreAnswers, AreOfScripted, BeginsRun, Bool, Call, Carries, Cell, Contents, Done, Err, Event, Extends, ExtendsInPart, FormEndsAs, Gate, GoesOn, IfSome, Image, IsFault, IsInput}
+use Rattle.mig_top.proofs.Common.{Adds, AreAnswers, AreOfScripted, BeginsRun, Bool, Call, Carries, Cell, Contents, Done, Err, Event, FormEndsAs, Gate, GoesOn, IfSome, Image, IsFault, IsInput}
 use Rattle.mig_top.proofs.Common.{IsJobCell, IsReached, IsResumable, IsResumeFault, IsResumeRefusal, IsSafeAfter, IsServed, IsSettled, IsSome, IsSound, IsTargetOf, Keeps, LeavesOnly, List, Live, MakesAll, MoveFault}
 use Rattle.mig_top.proofs.Common.{Names, None, Option, Order, Rose, Runs, Scripted, ServesAll, SettlesTo, Shows, SinkFault, SinkState, Some, State, StaysArmed, Step, StoreFault, Task, Tells, Untouched, WentOn}
-use Rattle.mig_top.proofs.Common.{WorldEnds, [], after, all_steps, ap, append_assoc, arith, changes_then, changes_wider, codes, count_most, count_of, drop, false≢true, fault_outcome, finds, flights, inl, inr, is_armed}
+use Rattle.mig_top.proofs.Common.{WorldEnds, [], after, all_steps, ap, append_assoc, arith, changes_then, changes_wider, count_most, count_of, drop, false≢true, fault_outcome, finds, flights, inl, inr, is_armed}
 use Rattle.mig_top.proofs.Common.{is_one, leaves_then, left_text, length, length-append, marks_by, option_map, refl, replies, resumes, scripted_in, steps_after, steps_left, subst, sym, take, then_begins, then_extends}
 use Rattle.mig_top.proofs.Common.{true, ℕ, ⊎_elim, ◌++◌, ◌+◌, ◌-◌, ◌∙◌, ◌∷◌, ◌≡◌, ◌≤◌, ◌⊎◌}
-use Rattle.mig_base.proofs.StoreSteps.{changes_leave}
-use Rattle.mig_base.specs.JobCells.{IsWorkCell}
 use Rattle.mig_base.specs.RoundEvents.{IsRun}
 use Rattle.mig_io.specs.Held.{ExtendsByPrefix}
-use Rattle.mig_live.proofs.ActionLaws.{past_erasures}
+use Rattle.mig_lanes.proofs.RunLaws.{work_armed, work_keeps, work_stays}
+use Rattle.mig_live.proofs.ActionLaws.{part_of_all, past_erasures}
+use Rattle.mig_live.proofs.WorkCells.{Works, made_works, part_works}
 use Rattle.mig_live.specs.Actions.{Action, AreMade, AreMadeInPart, actions_after, actions_left, all_events}
 use Rattle.mig_live.specs.Orders.{steps_of}
 use Rattle.mig_live.specs.Replies.{AreCutOff, ArePut, AreReplies}
 use Rattle.mig_live.specs.Sessions.{InStep, Session, done_in}
-use Rattle.mig_live.specs.Underways.{ChangesWork}
 use Rattle.mig_live.specs.declared.serving.ServeFault.TheVariants as serve_fault
-use Rattle.mig_mover.proofs.Settling.{armed_told}
 use Rattle.mig_mover.specs.declared.faults.MoveFault.TheVariants as fault
 use Rattle.mig_top.proofs.EndsOf.{shown}
-use Rattle.mig_top.proofs.SessionEvents.{made_of_all, part_of_all, refused_events, refused_slots, session_events, session_slots, stopped_events, whole_events, whole_landed}
+use Rattle.mig_top.proofs.SessionEvents.{made_of_all, refused_events, session_events, split_events, stopped_events, whole_events, whole_landed}
 use Rattle.mig_top.specs.Ends.{FormFinishes}
 use Rattle.mig_words.specs.declared.endings.Ending.TheVariants as ending
 use Rattle.mig_top.proofs.StoreCommands.{rest_cause, shown_by}
@@ -29,57 +27,6 @@ use Rattle.std.proofs.Math.Seq.{take-append-add}
 -- what is left of it once its files are read
 abbrev pub live_rest : State → Scripted → Step (List ℕ)
 live_rest store read = after (resumes read.task store) (λ found. finds (IsServed read store found))
-
--- Cells
-
-work_job : (task : Task) (cell : Cell) → IsWorkCell task.input task.plan cell → IsJobCell task.input task.plan cell
-work_job task cell (inl mark) = inl (inr (inr mark))
-work_job task cell (inr slot) = inr slot
-
-gate_no_work : (task : Task) → IsWorkCell task.input task.plan Gate → ⊥
-gate_no_work task (inl mark) = let e = mark.3 in cc
-gate_no_work task (inr slot) = let e = slot.2 in cc
-
-settles_now : (P : Image → Type 0) (s : State) → SettlesTo P s → P s.reads
-settles_now P s (inl now) = now.0
-settles_now P s (inr told) = told.0 s.reads told.1
-
--- a plan that is entered, and steps that change what rounds may change
-module _ (task : Task) (old mid new : State) (keeps : Keeps task old mid) (stays : StaysArmed old mid) (gate : IsSome (old.reads Gate) → (image : Image) → mid.may_leave image → is_armed image ≡ true)
-    (moment : (asked : Bool) (contents : Contents) → Tells (IsJobCell task.input task.plan) old.reads → SettlesTo (IsSound asked task.input task.plan task.digest contents) old
-    → LeavesOnly (IsSound asked task.input task.plan task.digest contents) mid new)
-    (work : ChangesWork task.input task.plan mid new) (later : mid.faults ≤ new.faults) where
-  abbrev Armed : Image → Type 0
-  Armed image = is_armed image ≡ true
-
-  abbrev Job : Cell → Type 0
-  Job = IsJobCell task.input task.plan
-
-  abbrev Work : Cell → Type 0
-  Work = IsWorkCell task.input task.plan
-
-  session_armed : IsSome (old.reads Gate) → (image : Image) → new.may_leave image → is_armed image ≡ true
-  session_armed told image left =
-      let from = work.1.crash image left in
-      ap is_one (from.2.same Gate (gate_no_work task)) ∙ gate told from.0 from.1
-
-  session_carries : Carries task old new
-  session_carries = record {
-    keeps = record {
-      sound = λ asked contents tells before. leaves_then (IsSound asked task.input task.plan task.digest contents) old mid new (keeps.sound asked contents tells before) (moment asked contents tells before);
-      ready = λ tells before. leaves_then _ old mid new (keeps.ready tells before)
-          (changes_leave _ Work Work work.0 mid new work.1
-          (λ from image left same idle. absurd (false≢true (sym idle ∙ ap is_one (same.same Gate (gate_no_work task)) ∙ gate (tells Gate (inl (inr (inl refl)))) from left))));
-      change = (
-        keeps.change.0 ++ work.0,
-        changes_then (λ cell. IsTargetOf (flights old) cell ⊎ Job cell) Job keeps.change.0 work.0 old mid new keeps.change.1
-            (changes_wider (λ cell. IsTargetOf (flights old) cell ⊎ Job cell) Job Work Work (λ cell of. inr (work_job task cell of)) (work_job task) work.0 mid new work.1),
-      );
-      later = omega (arith, keeps.later, later);
-    };
-    armed = λ before. leaves_then Armed old mid new (stays before)
-        (changes_leave Armed Work Work work.0 mid new work.1 (λ from image left same. ap is_one (same.same Gate (gate_no_work task)) ∙ gate (armed_told old.reads (settles_now Armed old before)) from left));
-  }
 
 -- a beginning of a text that follows others is one of both
 begun_both : (answers next : List ℕ) (old new : Option (List ℕ)) → IfSome old (λ held. ExtendsByPrefix next (held ++ answers) new) → IfSome old (λ held. ExtendsByPrefix (answers ++ next) held new)
@@ -110,7 +57,6 @@ module _ (k : Call) (names : Names) (script : List ℕ) (same : Untouched k.befo
       carries = record { keeps = keeps; armed = stays };
       found = record { most = count_most (length read.task.plan) old.reads; found = λ tells are. refl };
       events = refused_events read.task valid runs (count_of (length read.task.plan) old.reads) old new part;
-      slots = refused_slots read.task valid runs (count_of (length read.task.plan) old.reads) old new part keeps.change.0 keeps.change.1.events;
     }
 
     pub live_refused : (f : MoveFault) → IsFault read.task old new f → IsResumeFault f → WorldEnds k (Live names script) (fault_outcome read.task.input f)
@@ -129,20 +75,16 @@ module _ (k : Call) (names : Names) (script : List ℕ) (same : Untouched k.befo
       (found : HasFound read.task old live.marked)
       (in_step : (asked : Bool) (contents : Contents) → Tells (IsJobCell read.task.input read.task.plan) old.reads
       → SettlesTo (IsSound asked read.task.input read.task.plan read.task.digest contents) old → InStep asked live contents mid)
-      (serves : (asked : Bool) (contents : Contents) → InStep asked live contents mid → LeavesOnly (IsSound asked live.task.input live.task.plan live.task.digest contents) mid new)
-      (work : ChangesWork live.task.input live.task.plan mid new) (on : mid.faults ≤ new.faults) where
+      (serves : (asked : Bool) (contents : Contents) → InStep asked live contents mid → LeavesOnly (IsSound asked live.task.input live.task.plan live.task.digest contents) mid new) (on : mid.faults ≤ new.faults) where
     abbrev Sound : Bool → Contents → Task → Image → Type 0
     Sound asked contents task = IsSound asked task.input task.plan task.digest contents
-
-    work_here : ChangesWork read.task.input read.task.plan mid new
-    work_here = subst (λ (t : Task). ChangesWork t.input t.plan mid new) it work
 
     moment : (asked : Bool) (contents : Contents) → Tells (IsJobCell read.task.input read.task.plan) old.reads → SettlesTo (IsSound asked read.task.input read.task.plan read.task.digest contents) old
         → LeavesOnly (IsSound asked read.task.input read.task.plan read.task.digest contents) mid new
     moment asked contents tells before = subst (λ (t : Task). LeavesOnly (Sound asked contents t) mid new) it (serves asked contents (in_step asked contents tells before))
 
-    carries : Carries read.task old new
-    carries = session_carries read.task old mid new keeps stays gate moment work_here on
+    abbrev Worked : Type 0
+    Worked = Works read.task live.marked found.most mid new
 
     answers : (orders : List Order) (text : List ℕ) → AreReplies live mid orders text → AreAnswers read.task old orders text
     answers orders text replied = λ asked contents held. replied asked contents (in_step asked contents held.0 held.1) ∙ ap (λ (t : Task). replies t.input contents orders) it
@@ -153,24 +95,26 @@ module _ (k : Call) (names : Names) (script : List ℕ) (same : Untouched k.befo
     these : actions_left live ≡ actions_after read.task live.marked
     these = left_begun live read.task it left
 
-    goes : (b more : List Event) → b ++ more ≡ all_events all → new.events ≡ option_map (λ before. before ++ b) mid.events → GoesOn read.task old new live.marked
-    goes b more is steps = record {
-      carries = carries;
+    goes : Worked → (b more : List Event) → b ++ more ≡ all_events all → new.events ≡ option_map (λ before. before ++ b) mid.events → GoesOn read.task old new live.marked
+    goes work b more is steps = record {
+      carries = record { keeps = work_keeps read.task old mid new keeps gate moment work on; armed = work_stays read.task old mid new keeps gate moment work on stays };
       found = found;
-      events = session_events read.task valid runs live.marked old mid new ended landed b more is steps;
-      slots = session_slots read.task valid runs live.marked old mid new ended landed b more is steps carries.keeps.change.0 carries.keeps.change.1.events;
+      events = session_events read.task valid runs live.marked old mid new ended b more is steps;
     }
 
     makes : (orders : List Order) → AreMade (take (all_steps orders) (actions_left live)) mid new → MakesAll read orders old new live.marked
     makes orders made = record {
-      goes = goes (all_events (take (all_steps orders) all)) (all_events (drop (all_steps orders) all)) (made_of_all (all_steps orders) all) here.events;
-      events = whole_events read.task valid runs live.marked old mid new ended landed (take (all_steps orders) all) here.events;
+      goes = goes work (all_events (take (all_steps orders) all)) (all_events (drop (all_steps orders) all)) (made_of_all (all_steps orders) all) here.events;
+      events = whole_events read.task valid runs live.marked old mid new ended (take (all_steps orders) all) here.events;
       landed = whole_landed mid new (take (all_steps orders) all) landed here.events;
-      armed = session_armed read.task old mid new keeps stays gate moment work_here on;
+      armed = work_armed read.task old mid new keeps gate moment work on;
     }
       where
         here : AreMade (take (all_steps orders) (actions_after read.task live.marked)) mid new
         here = subst (λ (l : List Action). AreMade (take (all_steps orders) l) mid new) these made
+
+        work : Worked
+        work = made_works read.task live.marked found.most mid new (all_steps orders) here
 
     -- the sink failed at a reply
     pub live_unput : AreCutOff live mid new read.orders k.before.sink k.after.sink serve_fault.Sink → Rose k.before.sink.faults k.after.sink.faults → FormEndsAs k (Live names script) 6
@@ -228,14 +172,14 @@ module _ (k : Call) (names : Names) (script : List ℕ) (same : Untouched k.befo
               are,
               (
                 live.marked,
-                goes (all_events (take m all ++ p.made) ++ take p.events (all_events p.begun)) (drop p.events (all_events p.begun) ++ (all_events p.left ++ all_events (drop (steps_of cut.order) (drop m all))))
-                    (part_of_all m (steps_of cut.order) all mid new p) p.change.events,
+                goes (part_works read.task live.marked found.most mid new m (steps_of cut.order) p) _ _
+                    (split_events (take m all) p.made p.begun (p.left ++ drop (steps_of cut.order) (drop m all)) all p.events (part_of_all m (steps_of cut.order) all mid new p)) p.change.events,
                 inr (record {
                   whole = cut.whole;
                   order = cut.order;
                   at = cut.at;
                   replied = answers (take cut.whole read.orders) text replied;
-                  events = stopped_events read.task valid runs live.marked old mid new ended landed (take m all) (take (steps_of cut.order) (drop m all)) p;
+                  events = stopped_events read.task valid runs live.marked old mid new ended (take m all) (take (steps_of cut.order) (drop m all)) p;
                 }),
               ),
             );

@@ -7,12 +7,12 @@ use Rattle.mig_top.proofs.Common.{sym, take, told_kept, true, ℕ, ⊎_elim, ◌
 use Rattle.mig_top.proofs.EndsOf.{ends_of, finding_apart, refusal_between, told_at}
 use Rattle.mig_top.proofs.Exactness.{is_scripted, scripted_exact}
 use Rattle.mig_top.proofs.LiveCommand.{live_rest}
-use Rattle.mig_top.proofs.SessionEvents.{refused_events, refused_slots, within_kept}
+use Rattle.mig_top.proofs.SessionEvents.{refused_events, slots_kept, within_kept}
 use Rattle.mig_top.proofs.StoreEnds.{untouched_looks}
 use Rattle.mig_top.proofs.StoreExact.{resumes_exact}
 use Rattle.mig_top.proofs.Steps.{follow, only_done}
 use Rattle.mig_top.proofs.TaskHeadline.{by_untouched, is_resumable, leaves_same, no_resume_refusal, status_so}
-use Rattle.mig_top.specs.live.Promise.{MayGoOn}
+use Rattle.mig_top.specs.live.Promise.{LeavesStill, MayGoOn}
 use Rattle.mig_words.specs.declared.endings.StoreRefusal.TheVariants as refusal
 
 module _ {k : Call} {words : List (List ℕ)} {status : ℕ} (ends : EndsAs k words status) (law : IsState k.before.store) (last : IsState k.after.store) (files : Files) (names : Names) (script : List ℕ) (read : Scripted)
@@ -45,7 +45,6 @@ module _ {k : Call} {words : List (List ℕ)} {status : ℕ} (ends : EndsAs k wo
     };
     found = record { most = count_most (length read.task.plan) old.reads; found = λ tells are. refl };
     events = refused_events read.task valid.0 valid.1 (count_of (length read.task.plan) old.reads) old new (by_untouched old new law kept).ended;
-    slots = refused_slots read.task valid.0 valid.1 (count_of (length read.task.plan) old.reads) old new (by_untouched old new law kept).ended [] (kept.events ∙ events_none old.events);
   }
 
   abbrev Goes : Type 0
@@ -63,8 +62,11 @@ module _ {k : Call} {words : List (List ℕ)} {status : ℕ} (ends : EndsAs k wo
   goes o h = (count_of (length read.task.plan) old.reads, untouched_goes h)
 
   module _ (n : ℕ) (g : GoesOn read.task old new n) where
-    since : (P : Image → Type 0) → LeavesOnly P old new → ((image : Image) → old.may_leave image → P image) → (image : Image) → new.left_since old.moment image → P image
-    since P leaves all image left = ⊎_elim (λ past. all image (law.only_now image past)) (λ p. p) (leaves.since old.moment image (omega arith) left)
+    since : (P : Image → Type 0) → (SettlesTo P old → LeavesOnly P old new) → LeavesStill k P
+    since P leaves before image left = ⊎_elim (λ past. inl (law.only_now image past)) (λ p. inr p) ((leaves before).since old.moment image (omega arith) left)
+
+    all_since : (P : Image → Type 0) → (SettlesTo P old → LeavesOnly P old new) → ((image : Image) → old.may_leave image → P image) → old.may_leave old.reads → (image : Image) → new.left_since old.moment image → P image
+    all_since P leaves all images image left = ⊎_elim (all image) (λ p. p) (since P leaves (inr (all, images)) image left)
 
     -- what a crash may leave now it might have left since the beginning
     now_since : (image : Image) → new.may_leave image → new.left_since old.moment image
@@ -72,27 +74,32 @@ module _ {k : Call} {words : List (List ℕ)} {status : ℕ} (ends : EndsAs k wo
 
     again : (contents : Contents) → MayGoOn read.task contents old → MayGoOn read.task contents new
     again contents may =
+        let added = g.carries.keeps.change.0 in
         let change = g.carries.keeps.change.1 in
         let tells = λ (cell : Cell). told_kept _ old.reads new.reads change.told cell in
         record {
           ready = record {
             cells = λ cell of. tells cell (may.ready.cells cell of);
             images = change.images may.ready.images;
-            slots = g.slots may.ready.slots;
-            ready = λ image left. since (IsReadyIdle read.task) (g.carries.keeps.ready may.ready.cells (inr (may.ready.ready, may.ready.images))) may.ready.ready image (now_since image left);
+            slots = slots_kept read.task valid.0 valid.1 n old new added change.events g.events may.ready.slots;
+            ready = λ image left. all_since (IsReadyIdle read.task) (g.carries.keeps.ready may.ready.cells) may.ready.ready may.ready.images image (now_since image left);
           };
           cells = λ cell of. tells cell (may.cells cell of);
-          sound = λ image left. since (IsSound true read.task.input read.task.plan read.task.digest contents) (g.carries.keeps.sound true contents may.ready.cells (inr (may.sound, may.ready.images))) may.sound image (now_since image left);
-          within = within_kept read.task n old new g.carries.keeps.change.0 change.events g.events may.within;
+          sound = λ image left. all_since (IsSound true read.task.input read.task.plan read.task.digest contents) (g.carries.keeps.sound true contents may.ready.cells) may.sound may.ready.images image (now_since image left);
+          within = within_kept read.task valid.0 valid.1 n old new added change.events g.events may.within;
         }
 
     well : ((status ≡ 0) ⊎ (status ≡ 6) → (flights new ≡ []) × (IsSome (old.reads Gate) → (image : Image) → new.may_leave image → is_armed image ≡ true))
         → (status ≡ 0 → (asked : Bool) (contents : Contents) → Holds asked read.task contents old → Extends (replies read.task.input contents read.orders ++ left_text (steps_left read n)) k.before.sink k.after.sink)
         → (status ≡ 0 → (contents : Contents) → Holds true read.task contents old → WentOn read contents new n) → ServesWell k read status
     well done told went = record {
-      safe = λ asked contents tells images all. since (IsSound asked read.task.input read.task.plan read.task.digest contents) (g.carries.keeps.sound asked contents tells (inr (all, images))) all;
+      safe = λ asked contents tells. since (IsSound asked read.task.input read.task.plan read.task.digest contents) (g.carries.keeps.sound asked contents tells);
+      ready = λ tells. since (IsReadyIdle read.task) (g.carries.keeps.ready tells);
+      stays = since (λ image. is_armed image ≡ true) g.carries.armed;
+      change = g.carries.keeps.change;
       rounds = n;
-      goes = g;
+      found = g.found;
+      events = g.events;
       again = again;
       landed = λ d. (done d).0;
       armed = λ d. (done d).1;

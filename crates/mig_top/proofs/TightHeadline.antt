@@ -66,5 +66,5 @@ module _ (k : Call) (names : Names) (files : Files) (is : k.before.folder.files 
   }
 
   pub plans_tight_well : {words : List (List ℕ)} {status : ℕ} → EndsAs k words status → IsListed words form → PlansTightWell k files names status
-  plans_tight_well = makes_well is maker (omega arith) (HasPlannedTight k names files)
-      (λ text h put. some_and_map (IsTightSaved names text files) (HasPlannedTight k names files) k.after.folder.files (λ new is. (text, is, put)) (saved text h))
+  plans_tight_well ends l = makes_well is maker (omega arith) (HasPlannedTight k names files)
+      (λ text h put. some_and_map (IsTightSaved names text files) (HasPlannedTight k names files) k.after.folder.files (λ new is. (text, is, put)) (saved text h)) ends l

@@ -1,13 +1,16 @@
 -- The copies of a session.
-use Rattle.std.specs.Prelude.{List, [], take, ℕ, ◌++◌, ◌∷◌, ◌≡◌}
-use Rattle.mig_base.specs.Flights.{AreWithinLimits}
-use Rattle.mig_base.specs.RoundEvents.{StayWithinLimits}
+use Rattle.std.specs.Prelude.{List, [], drop, flat_map, map, take, ℕ, ◌++◌, ◌∷◌, ◌≡◌}
+use Rattle.mig_base.specs.RoundEvents.{flight_of}
 use Rattle.mig_base.specs.declared.cells.Flight.{Flight}
 use Rattle.mig_live.specs.Actions.{Action, Copy, actions_after}
-use Rattle.mig_top.specs.Common.{BeginsRun, Event, IsRun, Order, State, Task, all_steps, flights}
+use Rattle.mig_top.specs.Common.{BeginsRun, Event, IsRun, Order, Task, all_steps}
 use Rattle.mig_top.specs.live.Reads.{Scripted}
 
--- the copies among these steps, each a round of its own
+-- the copies of the rounds after the first k, each a round of its own
+abbrev pub lone_after : Task → ℕ → List (List Flight)
+lone_after task k = flat_map (λ shifts. map (λ s. flight_of task.input s ∷ []) shifts) (drop k task.plan)
+
+-- those among these steps
 abbrev pub lone_copies : List Action → List (List Flight)
 lone_copies [] = []
 lone_copies (Copy c ∷ actions) = (c ∷ []) ∷ lone_copies actions
@@ -16,11 +19,6 @@ lone_copies (_ ∷ actions) = lone_copies actions
 -- the steps that orders ask for, where so many rounds were marked before
 abbrev pub steps_by : Scripted → ℕ → List Order → List Action
 steps_by read k orders = take (all_steps orders) (actions_after read.task k)
-
--- First each copy that was in flight ends, and then the copies of the steps after mark k begin and end, one by one and in order; in flight they are within limits. These are the first of such events.
-pub record IsSession (task : Task) (old : State) (k : ℕ) (added : List Event) : Type 0 where
-  pub begins : BeginsRun (flights old) (lone_copies (actions_after task k)) added
-  pub within : AreWithinLimits task.input.disks (flights old) → StayWithinLimits task.input.disks (flights old) added
 
 -- the events of these steps, and then the first of those of others
 abbrev pub IsRunAndPart : List Flight → List Action → List Action → List Event → Type 0

@@ -2,14 +2,15 @@
 use Rattle.std.specs.Prelude.{IsSome, List, Some, [], drop, slice_get, take, true, ℕ, ◌++◌, ◌+◌, ◌∷◌, ◌≡◌, ◌⊎◌}
 use Rattle.mig_base.specs.declared.ids.ItemId.{ItemId}
 use Rattle.mig_io.specs.Held.{ExtendsByPrefix}
+use Rattle.mig_lanes.specs.Runs.{IsPartOf}
 use Rattle.mig_live.specs.Actions.{actions_after}
 use Rattle.mig_live.specs.Orders.{steps_of}
 use Rattle.mig_live.specs.declared.orders.Order.TheVariants.{Read}
 use Rattle.mig_top.specs.Calls.{Call}
-use Rattle.mig_top.specs.Common.{Adds, AreFlights, BeginsRun, Contents, Done, FolderState, Gate, IfSome, Image, IsReached, IsRun, IsSafeAfter, IsSettled, Names, Order, Outcome, Refusal, Settles}
+use Rattle.mig_top.specs.Common.{Adds, BeginsRun, Contents, Done, FolderState, Gate, IfSome, Image, IsReached, IsRun, IsSafeAfter, IsSettled, Names, Order, Outcome, Refusal, Settles}
 use Rattle.mig_top.specs.Common.{SinkFault, State, StoreFault, Task, all_steps, flights, is_armed, marks_by}
 use Rattle.mig_top.specs.carry.Leaves.{Carries}
-use Rattle.mig_top.specs.live.Events.{IsRunAndPart, IsSession, lone_copies, steps_by}
+use Rattle.mig_top.specs.live.Events.{IsRunAndPart, lone_after, lone_copies, steps_by}
 use Rattle.mig_top.specs.live.Looks.{AreAnswers, Holds, IsServed, steps_left}
 use Rattle.mig_top.specs.live.Reads.{Scripted, scripted_in}
 use Rattle.mig_top.specs.Stores.{HasFound, IsUntouched}
@@ -22,11 +23,9 @@ AreOfScripted folder names script read = IfSome folder.files (λ files. (scripte
 abbrev pub ForScripted : FolderState → Names → List ℕ → (Scripted → Type 0) → Type 0
 ForScripted folder names script P = (read : Scripted) × AreOfScripted folder names script read × P read
 
--- with these contents a session went on from k marked rounds by so many steps as its orders ask for, or to its end
+-- A session went on from k marked rounds by as many steps as its orders ask for: with these contents those rounds are marked too whose marks are among them, and where no step is left the target is reached.
 pub record WentOn (read : Scripted) (contents : Contents) (new : State) (k : ℕ) : Type 0 where
-  -- as many rounds are marked as were, and those whose copies, sync and mark are among the steps
   pub marked : IsSafeAfter read.task.input read.task.plan read.task.digest contents new.reads (k + marks_by (drop k read.task.plan) (all_steps read.orders))
-  -- where no step is left the target is reached, and a crash leaves what reads give
   pub reached : steps_left read k ≡ 0 → IsReached read.task.input read.task.plan read.task.digest contents new.reads
   pub settled : steps_left read k ≡ 0 → IsSettled new
 
@@ -34,9 +33,7 @@ pub record WentOn (read : Scripted) (contents : Contents) (new : State) (k : ℕ
 pub record GoesOn (task : Task) (old new : State) (k : ℕ) : Type 0 where
   pub carries : Carries task old new
   pub found : HasFound task old k
-  pub events : Adds (IsSession task old k) old new
-  -- copies that are then in flight are between slots, to different ones, and none reads another's target, if those before were so
-  pub slots : AreFlights (flights old) → AreFlights (flights new)
+  pub events : Adds (IsPartOf task.input.disks (flights old) (lone_after task k)) old new
 
 -- the steps of these orders were made, and nothing else was done
 pub record MakesAll (read : Scripted) (orders : List Order) (old new : State) (k : ℕ) : Type 0 where

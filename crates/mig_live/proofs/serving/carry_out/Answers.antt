@@ -1,6 +1,5 @@
 use Rattle.mig_live.proofs.ActionLaws.{made_quiet, none_up_to}
 use Rattle.mig_live.proofs.Common.{AreMade, ArePut, ArePutUpTo, IsSound, NoCell, Order, [], actions_left, drop, look_quiet, quiet_leaves, refl, steps_of, subst, sym, take, ◌∷◌, ◌≡◌}
-use Rattle.mig_live.proofs.WorkCells.{works_quiet}
 use Rattle.mig_live.proofs.serving.carry_out.Goals as goal
 
 pub returns-in-Ok-clause-served : goal.returns-in-Ok-clause-served
@@ -33,11 +32,3 @@ returns-in-Err-clause-part g c =
 pub returns-in-Err-clause-any_moment : goal.returns-in-Err-clause-any_moment
 returns-in-Err-clause-any_moment g c = λ asked contents at. quiet_leaves (IsSound asked c.args.live.task.input c.args.live.task.plan c.args.live.task.digest contents) NoCell [] (g.S.Store.state c.args.store.now) (g.S.Store.state c.reply.new.store)
     (g.met.S.Store.is_state c.args.store.now) (look_quiet (g.S.Store.state c.args.store.now) (g.S.Store.state c.reply.new.store) c.requires.none c.reply.ensures.change)
-
-pub returns-in-Ok-clause-change : goal.returns-in-Ok-clause-change
-returns-in-Ok-clause-change g c = works_quiet c.args.live.task.input c.args.live.task.plan (g.S.Store.state c.args.store.now) (g.S.Store.state c.reply.new.store)
-    (look_quiet (g.S.Store.state c.args.store.now) (g.S.Store.state c.reply.new.store) c.requires.none c.reply.ensures.change)
-
-pub returns-in-Err-clause-change : goal.returns-in-Err-clause-change
-returns-in-Err-clause-change g c = works_quiet c.args.live.task.input c.args.live.task.plan (g.S.Store.state c.args.store.now) (g.S.Store.state c.reply.new.store)
-    (look_quiet (g.S.Store.state c.args.store.now) (g.S.Store.state c.reply.new.store) c.requires.none c.reply.ensures.change)

@@ -3,16 +3,11 @@ use Rattle.mig_live.proofs.Common.{Action, AreCutOff, AreMade, ArePut, IfErr, Li
 use Rattle.mig_live.specs.Replies.{AreMadeUpTo}
 use Rattle.mig_live.proofs.ReplyLaws.{extends_nothing, handed, no_order, served_more, served_stops, steps_one_more}
 use Rattle.mig_live.proofs.SessionLaws.{more_steps}
-use Rattle.mig_live.proofs.WorkCells.{works_more, works_none}
 use Rattle.mig_live.proofs.serving.serve.Goals as goal
 
 pub returns-in_err-after-clause-any_moment : goal.returns-in_err-after-clause-any_moment
 returns-in_err-after-clause-any_moment g c = more_steps c.args.live c.loop-order.after c.loop-order.invariant.task (g.S.Store.state c.args.store.now) (g.S.Store.state c.loop-order.store) (g.S.Store.state c.carry_out.new.store)
     c.loop-order.invariant.any_moment c.loop-order.invariant.in_step c.carry_out.ensures.any_moment
-
-pub returns-in_err-after-clause-change : goal.returns-in_err-after-clause-change
-returns-in_err-after-clause-change g c = works_more c.args.live.task c.loop-order.after.task c.loop-order.invariant.task (g.S.Store.state c.args.store.now) (g.S.Store.state c.loop-order.store) (g.S.Store.state c.carry_out.new.store)
-    c.loop-order.invariant.change c.carry_out.ensures.change
 
 pub returns-in_err-after-clause-cut_off : goal.returns-in_err-after-clause-cut_off
 returns-in_err-after-clause-cut_off g c =
@@ -46,7 +41,6 @@ loop-order-init g c = record {
   in_step = λ asked contents at. at;
   any_moment = λ asked contents at. record { later = omega arith; since = λ t image le left. inl left };
   landed = c.requires.none;
-  change = works_none c.args.live.task.input c.args.live.task.plan (g.S.Store.state c.args.store.now);
   later = omega arith;
   sink_later = omega arith;
 }
@@ -70,7 +64,6 @@ loop-order-preserved g c = record {
   any_moment = more_steps c.args.live c.loop-order.after c.loop-order.invariant.task (g.S.Store.state c.args.store.now) (g.S.Store.state c.loop-order.store) (g.S.Store.state c.carry_out.new.store)
       c.loop-order.invariant.any_moment c.loop-order.invariant.in_step c.carry_out.ensures.any_moment;
   landed = c.in_ok-after.ensures.landed;
-  change = works_more c.args.live.task c.loop-order.after.task c.loop-order.invariant.task (g.S.Store.state c.args.store.now) (g.S.Store.state c.loop-order.store) (g.S.Store.state c.carry_out.new.store) c.loop-order.invariant.change c.carry_out.ensures.change;
   later = omega (arith, c.loop-order.invariant.later, c.carry_out.ensures.later);
   sink_later = omega (arith, c.loop-order.invariant.sink_later, c.carry_out.ensures.sink_later);
 }

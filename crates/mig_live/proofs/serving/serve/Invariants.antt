@@ -1,4 +1,4 @@
-use Rattle.mig_live.proofs.Common.{AreMade, ArePut, Bool, ChangesWork, Contents, InStep, IsSound, LeavesOnly, [], actions_left, all_steps, drop, flights, take, ◌-◌, ◌≡◌, ◌≤◌}
+use Rattle.mig_live.proofs.Common.{AreMade, ArePut, Bool, Contents, InStep, IsSound, LeavesOnly, [], actions_left, all_steps, drop, flights, take, ◌-◌, ◌≡◌, ◌≤◌}
 use Rattle.mig_live.proofs.serving.serve.Given as goal
 
 -- the orders so far are carried out
@@ -13,7 +13,6 @@ invariant-loop-order g l = record {
   any_moment : (asked : Bool) (contents : Contents) → InStep asked l.initial.after contents (g.S.Store.state l.initial.store)
       → LeavesOnly (IsSound asked l.initial.after.task.input l.initial.after.task.plan l.initial.after.task.digest contents) (g.S.Store.state l.initial.store) (g.S.Store.state l.store);
   landed : flights (g.S.Store.state l.store) ≡ [];
-  change : ChangesWork l.initial.after.task.input l.initial.after.task.plan (g.S.Store.state l.initial.store) (g.S.Store.state l.store);
   later : (g.S.Store.state l.initial.store).faults ≤ (g.S.Store.state l.store).faults;
   sink_later : (g.K.Sink.state l.initial.out).faults ≤ (g.K.Sink.state l.out).faults;
 }

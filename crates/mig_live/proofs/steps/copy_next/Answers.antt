@@ -3,7 +3,6 @@ use Rattle.mig_live.proofs.Common.{Cell, Changes, Copy, Flight, IsCopy, [], acti
 use Rattle.mig_live.proofs.Middle.{copy_leaves, copy_more, copy_apart}
 use Rattle.mig_live.proofs.Places.{shift_next}
 use Rattle.mig_live.proofs.StepLaws.{on_ok_both}
-use Rattle.mig_live.proofs.WorkCells.{copy_works}
 use Rattle.mig_live.proofs.steps.copy_next.Goals as goal
 
 pub copy_slot-requires-clause-slots : goal.copy_slot-requires-clause-slots
@@ -37,12 +36,6 @@ returns-clause-done g c =
     (subst (λ (cell : Cell). Changes (λ k. k ≡ cell) (λ k. k ≡ cell) (take c.copy_slot.ensures.part.0 (began f ∷ ended f ∷ [])) old new) s.3 c.copy_slot.ensures.part.1) way
     (subst (λ (cell : Cell). IsCopy (old.reads (slot_of c.args.job.now.input s.0.from)) (new.reads cell)) s.3 (subst (λ (cell : Cell). IsCopy (old.reads cell) (new.reads c.copy-from.result.1)) s.2 copied)) landed)
     c.copy_slot.ensures.copied c.copy_slot.ensures.landed
-
-pub returns-clause-change : goal.returns-clause-change
-returns-clause-change g c =
-    let f : Flight = record { from = c.copy-from.result.0; to = c.copy-from.result.1 } in
-    let s = shift_next c.args.job.now.input c.args.job.now.plan c.args.k c.args.place f c.copy-from.ensures in
-    copy_works c.args.job.now.input c.args.job.now.plan c.args.k c.args.place s.0 s.1 c.copy-from.result.1 s.3 (take c.copy_slot.ensures.part.0 (began f ∷ ended f ∷ [])) (g.S.Store.state c.args.store.now) (g.S.Store.state c.copy_slot.new.store) c.copy_slot.ensures.part.1
 
 pub returns-clause-first : goal.returns-clause-first
 returns-clause-first g c =

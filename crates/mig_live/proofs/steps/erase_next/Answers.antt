@@ -2,7 +2,6 @@ use Rattle.mig_live.proofs.ActionLaws.{left_erase, makes}
 use Rattle.mig_live.proofs.Common.{AreZeros, Cell, ChangesOnly, Erase, Flight, actions_since, ap, drop, flights_same, is_slot, on_ok_is, on_ok_weaker, round_at, subst, sym, ◌+◌, ◌∙◌, ◌∷◌, ◌≡◌}
 use Rattle.mig_live.proofs.Middle.{erase_leaves, erase_more}
 use Rattle.mig_live.proofs.Places.{shift_of}
-use Rattle.mig_live.proofs.WorkCells.{erase_works}
 use Rattle.mig_live.proofs.steps.erase_next.Goals as goal
 
 pub erase-requires-clause-slot : goal.erase-requires-clause-slot
@@ -31,12 +30,6 @@ returns-clause-done g c =
 
 pub returns-clause-landed : goal.returns-clause-landed
 returns-clause-landed g c = on_ok_is c.erase.result (flights_same (g.S.Store.state c.args.store.now) (g.S.Store.state c.erase.new.store) c.erase.ensures.change.events ∙ c.requires.none)
-
-pub returns-clause-change : goal.returns-clause-change
-returns-clause-change g c =
-    let f : Flight = record { from = c.copy-from.result.0; to = c.copy-from.result.1 } in
-    let s = shift_of c.args.job.now.input (round_at c.args.job.now.plan c.args.k) c.args.place f c.copy-from.ensures in
-    erase_works c.args.job.now.input c.args.job.now.plan c.args.k c.args.place s.0 s.1 c.copy-from.result.0 s.2 (g.S.Store.state c.args.store.now) (g.S.Store.state c.erase.new.store) c.erase.ensures.change
 
 pub returns-clause-first : goal.returns-clause-first
 returns-clause-first g c =

@@ -1,7 +1,6 @@
 use Rattle.mig_live.proofs.ActionLaws.{left_mark, makes}
 use Rattle.mig_live.proofs.Common.{SetMark, actions_since, arith, drop, steps_in, ◌+◌}
 use Rattle.mig_live.proofs.StepLaws.{leaves_mark, after_mark, on_ok_both}
-use Rattle.mig_live.proofs.WorkCells.{mark_works}
 use Rattle.mig_live.proofs.steps.mark_next.Goals as goal
 
 pub returns-clause-any_moment : goal.returns-clause-any_moment
@@ -11,9 +10,6 @@ returns-clause-any_moment g c = λ asked contents at. leaves_mark c.args.job.now
 pub returns-clause-done : goal.returns-clause-done
 returns-clause-done g c = on_ok_both c.mark.result (λ marked settled asked contents at. after_mark c.args.job.now c.keeps_rules.ensures c.args.k (omega (arith, c.requires.more)) asked contents c.requires.more
     (g.S.Store.state c.args.store.now) (g.S.Store.state c.mark.new.store) (c.args.k + 1) (omega arith) c.mark.ensures.change marked settled at) c.mark.ensures.marked c.mark.ensures.settled
-
-pub returns-clause-change : goal.returns-clause-change
-returns-clause-change g c = mark_works c.args.job.now.input c.args.job.now.plan (c.args.k + 1) (omega arith) (omega (arith, c.requires.more)) (g.S.Store.state c.args.store.now) (g.S.Store.state c.mark.new.store) c.mark.ensures.change
 
 pub returns-clause-first : goal.returns-clause-first
 returns-clause-first g c =

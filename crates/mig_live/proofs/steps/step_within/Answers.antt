@@ -1,7 +1,6 @@
 use Rattle.mig_live.proofs.ActionLaws.{makes, makes_same, past_erasures, syncs_next}
 use Rattle.mig_live.proofs.Common.{Action, List, Shift, Sync, actions_after, actions_since, ap, arith, drop, flights_same, on_ok_is, on_ok_weaker, shifts_in, suc, sym, ℕ, ◌+◌, ◌-◌, ◌<◌, ◌∙◌, ◌∷◌, ◌≡◌, ◌≤◌}
 use Rattle.mig_live.proofs.StepLaws.{before_erase, after_erase, before_copy, after_copy, sync_leaves, after_sync}
-use Rattle.mig_live.proofs.WorkCells.{works_quiet}
 use Rattle.mig_live.proofs.steps.step_within.Goals as goal
 
 past : (p k : ℕ) (plan : List (List Shift)) (erasures copies : ℕ) → erasures ≡ shifts_in plan k → copies ≡ shifts_in plan (k + 1) → copies ≤ p - erasures → shifts_in plan (suc k) ≤ p - shifts_in plan k
@@ -51,9 +50,6 @@ returns-clause-done g c = on_ok_weaker c.settle.result (λ settled asked content
 
 pub returns-clause-landed : goal.returns-clause-landed
 returns-clause-landed g c = on_ok_is c.settle.result (flights_same (g.S.Store.state c.args.store.now) (g.S.Store.state c.settle.new.store) c.settle.ensures.change.events ∙ c.requires.none)
-
-pub returns-clause-change : goal.returns-clause-change
-returns-clause-change g c = works_quiet c.args.job.now.input c.args.job.now.plan (g.S.Store.state c.args.store.now) (g.S.Store.state c.settle.new.store) c.settle.ensures.change
 
 pub returns-then-p-erasures-2-clause-first : goal.returns-then-p-erasures-2-clause-first
 returns-then-p-erasures-2-clause-first g c =

@@ -30,7 +30,7 @@ returns-in-Ok-serve g c =
     let left = rw c.orders.ensures at ok.left in
     live_done _ (names_in c.args.files) c.args.script.now c.load_scripted.ensures.same read c.in_ok-read.ensures.takes.passes c.keeps_rules.ensures.valid c.keeps_rules.ensures.runs
     (g.S.Store.state c.enter.new.store) live en.task en.left c.enter.ensures.keeps c.enter.ensures.armed en.enters.armed en.ended en.enters.landed (record { most = en.enters.most; found = en.enters.found })
-    en.in_step c.serve.ensures.any_moment c.serve.ensures.change c.serve.ensures.later (g.K.Sink.state c.serve.new.out) c.serve.ensures.sink_later
+    en.in_step c.serve.ensures.any_moment c.serve.ensures.later (g.K.Sink.state c.serve.new.out) c.serve.ensures.sink_later
     (record { most = en.enters.most; found = en.enters.found; ours = en.ours; ready = en.enters.ready })
     (λ contents at. went_on read live after contents (g.S.Store.state c.serve.new.store) en.task ok.task en.left left en.enters.most c.marks_follow_steps.ensures.count
     (λ none. c.target_is_reached.ensures.reached none contents (ok.in_step true contents at)) (λ none. c.target_is_reached.ensures.settled none true contents (ok.in_step true contents at))
@@ -50,7 +50,7 @@ returns-in-Err-Sink g c =
     let bad = c.in-Err-Sink.ensures in
     live_unput _ (names_in c.args.files) c.args.script.now c.load_scripted.ensures.same read c.in_ok-read.ensures.takes.passes c.keeps_rules.ensures.valid c.keeps_rules.ensures.runs
     old c.in-Ok.live en.task en.left c.enter.ensures.keeps c.enter.ensures.armed en.enters.armed en.ended en.enters.landed (record { most = en.enters.most; found = en.enters.found })
-    en.in_step c.serve.ensures.any_moment c.serve.ensures.change c.serve.ensures.later
+    en.in_step c.serve.ensures.any_moment c.serve.ensures.later
     (subst (λ (f : ServeFault). AreCutOff c.in-Ok.live old new read.orders first last f) c.in-Err-Sink.field-0-is (rw c.orders.ensures at bad.cut_off))
     (subst (λ (f : ServeFault). IsServeFault old new first last f) c.in-Err-Sink.field-0-is bad.fault)
 
@@ -66,6 +66,6 @@ returns g c =
     let rose = subst (λ (f : ServeFault). IsServeFault old new first last f) c.in-Err-Store.field-0-is bad.fault in
     live_failed _ (names_in c.args.files) c.args.script.now c.load_scripted.ensures.same read c.in_ok-read.ensures.takes.passes c.keeps_rules.ensures.valid c.keeps_rules.ensures.runs
     old c.in-Ok.live en.task en.left c.enter.ensures.keeps c.enter.ensures.armed en.enters.armed en.ended en.enters.landed (record { most = en.enters.most; found = en.enters.found })
-    en.in_step c.serve.ensures.any_moment c.serve.ensures.change c.serve.ensures.later c.serve.ensures.sink_later
+    en.in_step c.serve.ensures.any_moment c.serve.ensures.later c.serve.ensures.sink_later
     (subst (λ (f : ServeFault). AreCutOff c.in-Ok.live old new read.orders first last f) c.in-Err-Store.field-0-is (rw c.orders.ensures at bad.cut_off))
     (omega (arith, c.enter.ensures.keeps.later, rose))

@@ -2,7 +2,6 @@ use Rattle.mig_live.proofs.ActionLaws.{made_more, made_none, part_after, taken_a
 use Rattle.mig_live.proofs.Common.{Action, AreMade, AreMadeInPart, Err, IsMade, List, Ok, Result, Session, State, [], actions_left, arith, cases_lt, drop, inl, inr, refl, subst, sym, take, ℕ, ◌+◌, ◌∙◌, ◌∷◌, ◌≡◌, ◌≤◌, ◌⊎◌}
 use Rattle.std.specs.Prelude.{OnErr, min}
 use Rattle.mig_live.proofs.SessionLaws.{more_steps, none_left}
-use Rattle.mig_live.proofs.WorkCells.{works_more, works_none}
 use Rattle.mig_live.proofs.live.Live.advance.Goals as goal
 
 -- one step more is made
@@ -23,7 +22,6 @@ loop-init g c = record {
   any_moment = λ asked contents at. record { later = omega arith; since = λ t image le left. inl left };
   in_step = λ asked contents at. at;
   landed = c.requires;
-  change = works_none c.args.self.task.input c.args.self.task.plan (g.S.Store.state c.args.store.now);
   later = omega arith;
 }
 
@@ -39,12 +37,8 @@ loop-preserved g c = record {
       c.loop.invariant.any_moment c.loop.invariant.in_step c.step.ensures.any_moment;
   in_step = λ asked contents at. c.in_ok-live.ensures.in_step asked contents (c.loop.invariant.in_step asked contents at);
   landed = c.in_ok-live.ensures.landed;
-  change = works_more c.args.self.task c.loop.live.task c.loop.invariant.task (g.S.Store.state c.args.store.now) (g.S.Store.state c.loop.store) (g.S.Store.state c.step.new.store) c.loop.invariant.change c.step.ensures.change;
   later = omega (arith, c.loop.invariant.later, c.step.ensures.cause.later);
 }
-
-pub returns-in_err-live-clause-change : goal.returns-in_err-live-clause-change
-returns-in_err-live-clause-change g c = works_more c.args.self.task c.loop.live.task c.loop.invariant.task (g.S.Store.state c.args.store.now) (g.S.Store.state c.loop.store) (g.S.Store.state c.step.new.store) c.loop.invariant.change c.step.ensures.change
 
 on_err_is : {T E P : Type 0} (r : Result T E) → P → OnErr r P
 on_err_is (Ok x) p = tt

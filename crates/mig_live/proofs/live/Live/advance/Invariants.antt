@@ -1,4 +1,4 @@
-use Rattle.mig_live.proofs.Common.{AreMade, Bool, ChangesWork, Contents, InStep, IsSound, LeavesOnly, [], actions_left, drop, flights, take, ◌+◌, ◌≡◌, ◌≤◌}
+use Rattle.mig_live.proofs.Common.{AreMade, Bool, Contents, InStep, IsSound, LeavesOnly, [], actions_left, drop, flights, take, ◌+◌, ◌≡◌, ◌≤◌}
 use Rattle.mig_live.proofs.live.Live.advance.Given as goal
 
 abbrev pub invariant-loop : goal.invariant-loop
@@ -11,6 +11,5 @@ invariant-loop g l = record {
       → LeavesOnly (IsSound asked l.initial.live.task.input l.initial.live.task.plan l.initial.live.task.digest contents) (g.S.Store.state l.initial.store) (g.S.Store.state l.store);
   in_step : (asked : Bool) (contents : Contents) → InStep asked l.initial.live contents (g.S.Store.state l.initial.store) → InStep asked l.live contents (g.S.Store.state l.store);
   landed : flights (g.S.Store.state l.store) ≡ [];
-  change : ChangesWork l.initial.live.task.input l.initial.live.task.plan (g.S.Store.state l.initial.store) (g.S.Store.state l.store);
   later : (g.S.Store.state l.initial.store).faults ≤ (g.S.Store.state l.store).faults;
 }

@@ -1,7 +1,6 @@
-use Rattle.mig_live.proofs.Common.{Session, actions_since, ap, arith, drop, refl, steps_in, suc, sym, ◌+◌, ◌-◌, ◌∙◌}
+use Rattle.mig_live.proofs.Common.{actions_since, arith, drop, refl, steps_in, suc, sym, ◌+◌, ◌-◌, ◌∙◌}
 use Rattle.mig_live.proofs.StepCounts.{shifts_few}
 use Rattle.mig_live.proofs.SessionLaws.{made_here, part_here, any_step, within_step, mark_step, at_mark, round_left, some_left, kept_mark}
-use Rattle.mig_live.proofs.WorkCells.{works_of}
 use Rattle.mig_live.proofs.live.Live.step.Goals as goal
 
 pub returns-in_err-mark_next-clause-any_moment : goal.returns-in_err-mark_next-clause-any_moment
@@ -52,18 +51,6 @@ returns-clause-in_step g c =
     let i = c.self.inside in
     let some = some_left i.job.now i.marked i.left i.done c.self.invariant.1 c.args.self (sym c.self.view_is) c.requires.left in
     within_step i.job.now i.marked i.left i.done c.self.invariant.1 c.args.self (sym c.self.view_is) (g.S.Store.state c.args.store.now) (g.S.Store.state c.step_within.new.store) i.done refl some c.in_ok-step_within.ensures.done
-
-pub returns-in_err-mark_next-clause-change : goal.returns-in_err-mark_next-clause-change
-returns-in_err-mark_next-clause-change g c = works_of c.self.inside.job.now c.args.self.task (ap (λ (l : Session). l.task) c.self.view_is) (g.S.Store.state c.args.store.now) (g.S.Store.state c.mark_next.new.store) c.mark_next.ensures.change
-
-pub returns-then-is_at_mark-clause-change : goal.returns-then-is_at_mark-clause-change
-returns-then-is_at_mark-clause-change g c = works_of c.self.inside.job.now c.args.self.task (ap (λ (l : Session). l.task) c.self.view_is) (g.S.Store.state c.args.store.now) (g.S.Store.state c.mark_next.new.store) c.mark_next.ensures.change
-
-pub returns-in_err-step_within-clause-change : goal.returns-in_err-step_within-clause-change
-returns-in_err-step_within-clause-change g c = works_of c.self.inside.job.now c.args.self.task (ap (λ (l : Session). l.task) c.self.view_is) (g.S.Store.state c.args.store.now) (g.S.Store.state c.step_within.new.store) c.step_within.ensures.change
-
-pub returns-clause-change : goal.returns-clause-change
-returns-clause-change g c = works_of c.self.inside.job.now c.args.self.task (ap (λ (l : Session). l.task) c.self.view_is) (g.S.Store.state c.args.store.now) (g.S.Store.state c.step_within.new.store) c.step_within.ensures.change
 
 pub returns-in_err-mark_next-clause-part : goal.returns-in_err-mark_next-clause-part
 returns-in_err-mark_next-clause-part g c =
