@@ -98,7 +98,7 @@ none_before plan k (suc n) h =
     let other : (n + 1 == k + 1) ≡ false = grind (arith, nat_tests) in
     let more = map (row_of (n + 1)) (round_at plan (suc n)) in
     let step : filter p (rows_upto plan (n + 1)) ≡ [] = ap (filter p) (rows_next plan n) ∙ filter-append p (rows_upto plan n) more
-        ∙ ap (λ (rs : List ShiftNumbers). rs ++ filter p more) (none_before plan k n (omega (arith, h))) ∙ in_round (n + 1) (k + 1) false (round_at plan (suc n)) other in
+    ∙ ap (λ (rs : List ShiftNumbers). rs ++ filter p more) (none_before plan k n (omega (arith, h))) ∙ in_round (n + 1) (k + 1) false (round_at plan (suc n)) other in
     subst (λ m. filter p (rows_upto plan m) ≡ []) (add-one n) step
 
 -- the rows in a round are those of its shifts
@@ -232,13 +232,13 @@ module _ (split : Bool) (disks : List DiskNumbers) (items : List ItemNumbers) (p
       let lowest : IsLowestFree (map spot_of items ++ used) (get_or items item no_item).next_disk (row_spot row) =
       lowest_in (map spot_of items ++ take r.move targets) (map spot_of items ++ used) (target input item) (get_or items item no_item).next_disk (target_at targets r.move) (row_spot row)
       (λ x c. ⊎_elim
-          (λ old. Contains-append_left (map spot_of items) used x old)
-          (λ given. Contains-append_right (map spot_of items) used x (forth r.move x r.within given))
-          (Contains-append_cases (map spot_of items) (take r.move targets) x c))
+      (λ old. Contains-append_left (map spot_of items) used x old)
+      (λ given. Contains-append_right (map spot_of items) used x (forth r.move x r.within given))
+      (Contains-append_cases (map spot_of items) (take r.move targets) x c))
       (λ x c. ⊎_elim
-          (λ old. Contains-append_left (map spot_of items) (take r.move targets) x old)
-          (λ given. Contains-append_right (map spot_of items) (take r.move targets) x (All-contains (Contains (take r.move targets)) used x (earlier_target r.move r.within) given))
-          (Contains-append_cases (map spot_of items) used x c))
+      (λ old. Contains-append_left (map spot_of items) (take r.move targets) x old)
+      (λ given. Contains-append_right (map spot_of items) (take r.move targets) x (All-contains (Contains (take r.move targets)) used x (earlier_target r.move r.within) given))
+      (Contains-append_cases (map spot_of items) used x c))
       goes (sym r.spot_is) (lowest_at input targets made.targets.1 r.move r.within) in
       record {
         item = omega (arith, there, r.item_is);

@@ -100,13 +100,13 @@ module _ (split : Bool) (limits : List LimitNumbers) (pairs : List PairNumbers) 
         found_is = is;
         each = each;
         takes = subst (λ n. IsSchedule input n (round_for rounds)) (sym count) (λ k d lt.
-        subst (λ r. (1 ≤ r) × (r ≤ length plan)) (same k d lt) (all k d lt));
+            subst (λ r. (1 ≤ r) × (r ≤ length plan)) (same k d lt) (all k d lt));
         obeys = subst (λ n. Obeys input n (round_for rounds)) (sym count) (λ r least most.
-        subst (λ ms. KeepsLimits input.disks (map (trip input) ms)) (filter_alike (round_of plan) (round_for rounds) r (moves input) same) (obeys input plan valid made.planned.runs once r least most));
+            subst (λ ms. KeepsLimits input.disks (map (trip input) ms)) (filter_alike (round_of plan) (round_for rounds) r (moves input) same) (obeys input plan valid made.planned.runs once r least most));
         rests = λ i lt ends.
-        let item = get_or-map-range_with_len (item_for pairs) 0 (length pairs) i i no_item lt (omega arith) in
-        let none : shift_count plan i ≡ 0 = once_shift split (disks_for limits) items plan made.planned i (omega (arith, lt, items_len)) ∙ ap rows_for item ∙ ap (λ b. cond b 0 1) (eq-eqb (get_or pairs i no_pair).from (get_or pairs i no_pair).to ends) in
-        each i lt ∙ no_round plan i (length plan) none (omega arith);
+            let item = get_or-map-range_with_len (item_for pairs) 0 (length pairs) i i no_item lt (omega arith) in
+            let none : shift_count plan i ≡ 0 = once_shift split (disks_for limits) items plan made.planned i (omega (arith, lt, items_len)) ∙ ap rows_for item ∙ ap (λ b. cond b 0 1) (eq-eqb (get_or pairs i no_pair).from (get_or pairs i no_pair).to ends) in
+            each i lt ∙ no_round plan i (length plan) none (omega arith);
         needs = subst (Needs input) (sym (ap (λ (f : Found). f.value) is ∙ found_value cert)) made.needs;
       }
     where

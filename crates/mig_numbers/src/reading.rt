@@ -146,7 +146,10 @@ fn make_spots(alloc: Global, items: &[ItemNumbers]) -> Result<Vec<Spot>, AllocEr
 fn make_next(alloc: Global, items: &[ItemNumbers]) -> Result<Vec<DiskId>, AllocError>
     ensures { IfOk result (λ v. v.items ≡ map next_of items.now) }
 {
-    items.iter().map(|item| DiskId(item.next_disk)).collect(alloc)
+    items
+        .iter()
+        .map(|item| DiskId(item.next_disk))
+        .collect(alloc)
 }
 
 /// The input of numbers that are sound, whether or not there is room.
@@ -174,11 +177,13 @@ fn room_fault(alloc: Global, input: &Input) -> Option<Refusal>
 {
     match check_room(alloc, input) {
         Ok(()) => None,
-        Err(InputError::Refused {
-            row,
-            why: Why::NoRoom { needs, slots, .. },
-            ..
-        }) => Some(Refusal::NoRoom {
+        Err(
+            InputError::Refused {
+                row,
+                why: Why::NoRoom { needs, slots, .. },
+                ..
+            },
+        ) => Some(Refusal::NoRoom {
             disk: row - 1,
             needs,
             slots,
