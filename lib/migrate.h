@@ -54,6 +54,9 @@ enum {
 /* The version of the library that is linked. */
 const char *migrate_version(void);
 
+/* So much room is enough for any plan, and so much for its certificate. */
+#define MIGRATE_ROOM 16777216
+
 /* Plans. `plan`: the plan. `text`: its certificate with status 0, and why there is no plan with another one.
  * Statuses: 0, 3, 7, 100. */
 uint32_t migrate_plan(const uint8_t *disks, size_t disks_len, const uint8_t *now, size_t now_len, const uint8_t *next, size_t next_len,
