@@ -1,6 +1,6 @@
 -- Room that always suffices for a plan.
 use Rattle.mig_base.specs.declared.limits.TheConstants.{MAX_FILE_BYTES}
-use Rattle.mig_c.proofs.Common.{Answers, Bodies, Found, HandsBoth, List, Outcome, Refusal, Roomy, Slice, TOO_SHORT, accepted_valid, arith, code, length, plans_bytes, refl, sym, zero, suc, ℕ, ⊎_elim, ◌∙◌, ◌≡◌, ◌≢◌}
+use Rattle.mig_c.proofs.Common.{Answers, Bodies, Found, HandsBoth, Outcome, Refusal, Roomy, Slice, TOO_SHORT, accepted_valid, arith, code, length, plans_bytes, refl, sym, zero, suc, ℕ, ⊎_elim, ◌∙◌, ◌≡◌, ◌≢◌}
 use Rattle.std.proofs.Common.{◌≤◌}
 use Rattle.mig_c.proofs.HandedBack.{ends_done}
 use Rattle.mig_cert.proofs.CertLengths.{short_text as short_cert}
