@@ -18,7 +18,7 @@
  *
  * All memory is the caller's, but for what a call takes from malloc and gives back before it ends. Where malloc refuses, the status is
  * MIGRATE_NO_MEMORY. A call over texts needs at most 100 KiB of
- * stack. A text of few lines with very many commas is the worst: reading it may take 24 times its bytes of memory.
+ * stack. A text of few lines with very many commas is the worst: reading it may take 32 times its bytes of memory.
  *
  * Threads: there is no state between calls, and any number of threads may call at once, as long as none writes into what another one
  * has handed in or out. Don't call from a signal handler, nor from the forked child of a process with several threads.
