@@ -17,7 +17,8 @@
  * neither what is handed in nor each other: a plan written over the tables would be no plan of them, and nothing can tell.
  *
  * All memory is the caller's, but for what a call takes from malloc and gives back before it ends. Where malloc refuses, the status is
- * MIGRATE_NO_MEMORY. A call needs up to 256 KiB of stack.
+ * MIGRATE_NO_MEMORY. A call over texts needs at most 100 KiB of
+ * stack. A text of few lines with very many commas is the worst: reading it may take 32 times its bytes of memory.
  *
  * Threads: there is no state between calls, and any number of threads may call at once, as long as none writes into what another one
  * has handed in or out. Don't call from a signal handler, nor from the forked child of a process with several threads.
@@ -27,11 +28,12 @@
 #ifndef MIGRATE_H
 #define MIGRATE_H
 
+#include <stdbool.h>
 #include <stddef.h>
 #include <stdint.h>
 
 /* The version of these calls and of the formats. A program that was linked with another one of the same first number runs with this one. */
-#define MIGRATE_VERSION "1.1.0"
+#define MIGRATE_VERSION "1.2.0"
 
 #ifdef __cplusplus
 extern "C" {
@@ -51,6 +53,9 @@ enum {
 
 /* The version of the library that is linked. */
 const char *migrate_version(void);
+
+/* So much room is enough for any plan, and so much for its certificate. */
+#define MIGRATE_ROOM 16777216
 
 /* Plans. `plan`: the plan. `text`: its certificate with status 0, and why there is no plan with another one.
  * Statuses: 0, 3, 7, 100. */
@@ -84,6 +89,49 @@ uint32_t migrate_after_tight(const uint8_t *disks, size_t disks_len, const uint8
  * Statuses: 0, 2, 3, 7, 14, 100. */
 uint32_t migrate_drain(const uint8_t *disks, size_t disks_len, const uint8_t *now, size_t now_len, const uint8_t *name, size_t name_len,
                        uint8_t *next, size_t next_room, size_t *next_len, uint8_t *text, size_t text_room, size_t *text_len);
+
+/* The same planner over numbers: no text is made and none is read, and a call needs at most 16 KiB of stack. Disks and items are named by their places in
+ * their tables, from 0; slots count from 0, rounds from 1. Limits are split, an outgoing and an incoming one, or joint: then `out_limit` is the limit, and
+ * `in_limit` isn't looked at. At most 1,024 disks, 65,536 items, limits of 1 to 1,024, and 1 to 65,536 slots. */
+struct migrate_disk { uint32_t out_limit, in_limit, slots; };
+struct migrate_item { uint32_t disk, slot, next_disk; };
+struct migrate_shift { uint32_t item, to_disk, to_slot, round; };
+struct migrate_limits { uint32_t out_limit, in_limit; };
+struct migrate_pair { uint32_t from, to; };
+
+/* What is found: the rounds, the greatest quotient of a disk's transfers and its limit, the class, and the bound, which `value` rounds or more are needed for:
+ * of `load` transfers of `disk`, of one of its sides (0 out, 1 in), or inside of a set of disks. */
+struct migrate_found { uint32_t rounds, quotient, limits, bound, disk, side, load, value; };
+enum { MIGRATE_EVEN = 0, MIGRATE_GENERAL = 1, MIGRATE_SPLIT = 2 };
+enum { MIGRATE_BOUND_NOTHING = 0, MIGRATE_BOUND_DISK = 1, MIGRATE_BOUND_SIDE = 2, MIGRATE_BOUND_SET = 3 };
+
+/* Why there is no plan: the first thing that is wrong, in the sizes, then the disks, then the items, then the room of the disks; at which disk or item, and of
+ * a disk that lacks room how many slots it needs and has. */
+struct migrate_refused { uint32_t cause, place, needs, has; };
+enum {
+    MIGRATE_TOO_MANY_DISKS = 1, MIGRATE_TOO_MANY_ITEMS = 2,
+    MIGRATE_OUT_OF_RANGE = 3,  /* a limit or the slots of the disk */
+    MIGRATE_UNKNOWN_DISK = 4,  /* the one that the item is on */
+    MIGRATE_SLOT_TOO_HIGH = 5, /* the item's */
+    MIGRATE_SLOT_TAKEN = 6,    /* by an item before it */
+    MIGRATE_UNKNOWN_NEXT = 7,  /* the disk that the item is to go to */
+    MIGRATE_NO_ROOM = 8,       /* for the items that are on the disk and those that come to it */
+};
+
+/* Plans. `shifts`: one for each item that is to go to another disk, in the order of their rounds, each to the lowest slot that is free then. There are never
+ * more than items; where there is room for fewer than there are, as many as fit are written, and the status is MIGRATE_TOO_SHORT. `set`: the disks of a bound
+ * that is a set, as many as fit, and their number. With MIGRATE_REFUSED `refused` is written in place of all others. NULL may stand where there is no room.
+ * Statuses: 0, 3, 7, 100. */
+uint32_t migrate_plan_numbers(bool split, const struct migrate_disk *disks, size_t disk_count, const struct migrate_item *items, size_t item_count,
+                              struct migrate_shift *shifts, size_t shift_room, size_t *shift_count, uint32_t *set, size_t set_room, size_t *set_count,
+                              struct migrate_found *found, struct migrate_refused *refused);
+
+/* Schedules transfers between disks, without slots. `rounds`: for each pair its round, or 0 where both ends are one disk; with less room than there are pairs
+ * nothing is written, and the status is MIGRATE_TOO_SHORT. In `refused` a pair is an item: its `from` the disk that it is on, its `to` the one that it is to go to.
+ * Statuses: 0, 3, 7, 100. */
+uint32_t migrate_schedule(bool split, const struct migrate_limits *limits, size_t disk_count, const struct migrate_pair *pairs, size_t pair_count,
+                          uint32_t *rounds, size_t round_room, uint32_t *set, size_t set_room, size_t *set_count,
+                          struct migrate_found *found, struct migrate_refused *refused);
 
 #ifdef __cplusplus
 }

@@ -3,13 +3,16 @@
     library = migrate.Library()                     # or Library("/a/folder/libmigrate.so")
     plan, certificate = library.plan(disks, now, next)
     verdict = library.check(disks, now, next, plan, certificate)
+    made = library.plan_numbers([(2, 0, 9), (2, 0, 9)], [(0, 0, 1)])    # disks, and items on them, as numbers
 
 What is wrong is an Error with the status and the text of the command of the same name. Any number of threads may call at once."""
 from __future__ import annotations
 
 import ctypes
 import ctypes.util
+import itertools
 import os
+from collections.abc import Iterable, Sequence
 from typing import NamedTuple
 
 SHARED = "libmigrate.so.1"
@@ -22,6 +25,35 @@ class Error(Exception):
         super().__init__(text.rstrip("\n"))
         self.status = status
         self.text = text
+
+
+class Refused(Error):
+    """Numbers that stand for no input: the cause, which disk or item it is at, and of a disk that lacks room how many slots it needs and has."""
+
+    CAUSES = ("no memory", "too many disks", "too many items", "out of range", "unknown disk", "slot too high", "slot taken", "unknown next disk", "no room")
+
+    def __init__(self, status: int, cause: int, place: int, needs: int, has: int) -> None:
+        super().__init__(status, f"{self.CAUSES[cause]} at {place}" + (f", needs {needs}, has {has}" if cause == 8 else ""))
+        self.cause, self.place, self.needs, self.has = cause, place, needs, has
+
+
+class Found(NamedTuple):
+    """As `struct migrate_found` of migrate.h."""
+
+    rounds: int
+    quotient: int
+    limits: int
+    bound: int
+    disk: int
+    side: int
+    load: int
+    value: int
+
+
+class Numbers(NamedTuple):
+    rows: memoryview  # of a plan (item, to_disk, to_slot, round) each, of a schedule the round of each pair; numpy.asarray takes it as it is
+    found: Found
+    set: list[int]  # the disks of a bound that is a set
 
 
 class Plan(NamedTuple):
@@ -100,3 +132,44 @@ class Library:
         """Next disks that empty the disk of this name in the fewest rounds."""
         next, text = self._done("drain", disks, now, name.encode(), texts=2)
         return Drain(next, text.decode())
+
+    def plan_numbers(self, disks: Iterable[Sequence[int]], items: Iterable[Sequence[int]], split: bool = False) -> Numbers:
+        """Plans over rows (out_limit, in_limit, slots) and (disk, slot, next_disk), or arrays of them with 32 bits a number."""
+        return self._numbers("plan_numbers", split, _table(disks, 3), _table(items, 3), 4)
+
+    def schedule(self, limits: Iterable[Sequence[int]], pairs: Iterable[Sequence[int]], split: bool = False) -> Numbers:
+        """A round for each pair of disks, over rows (out_limit, in_limit) and (from, to)."""
+        return self._numbers("schedule", split, _table(limits, 2), _table(pairs, 2), 1)
+
+    def _numbers(self, name: str, split: bool, disks: _Table, items: _Table, width: int) -> Numbers:
+        function = getattr(self._library, f"migrate_{name}")
+        function.restype = ctypes.c_uint32
+        rows, members = (ctypes.c_uint32 * (width * items.rows))(), (ctypes.c_uint32 * 1024)()
+        found, refused = (ctypes.c_uint32 * 8)(), (ctypes.c_uint32 * 4)()
+        row_count, member_count = ctypes.c_size_t(items.rows), ctypes.c_size_t()
+        size = ctypes.c_size_t
+        counted = [ctypes.byref(row_count)] if width == 4 else []
+        status: int = function(ctypes.c_bool(split), disks.numbers, size(disks.rows), items.numbers, size(items.rows), rows, size(items.rows), *counted,
+                               members, size(1024), ctypes.byref(member_count), found, refused)
+        if status != 0:
+            raise Refused(status, *(refused if status == 3 else (0, 0, 0, 0)))
+        flat = memoryview(rows).cast("B")[: 4 * width * row_count.value]
+        shaped = flat.cast("I", [row_count.value, width]) if width > 1 and row_count.value > 0 else flat.cast("I")
+        return Numbers(shaped, Found(*found), members[: member_count.value])
+
+
+class _Table(NamedTuple):
+    numbers: ctypes.Array[ctypes.c_uint32]
+    rows: int
+
+
+def _table(rows: Iterable[Sequence[int]], width: int) -> _Table:
+    """Rows of so many numbers each, as C has them."""
+    try:
+        view = memoryview(rows)  # type: ignore[arg-type]
+    except TypeError:
+        flat = list(itertools.chain.from_iterable(rows))
+        return _Table((ctypes.c_uint32 * len(flat))(*flat), len(flat) // width)
+    if view.itemsize != 4 or not view.c_contiguous or view.ndim != 2 or view.shape is None or view.shape[1] != width:
+        raise ValueError(f"an array of {width} numbers of 32 bits in each row is wanted")
+    return _Table((ctypes.c_uint32 * (view.nbytes // 4)).from_buffer_copy(view.cast("B")), view.shape[0])

@@ -2,7 +2,7 @@
  *     library short NAME DISKS NOW NEXT    each function with as much room as it needs, and with a byte less for each text in turn
  *     library random CALLS SEED            with tables, plans, certificates and names that were changed at random, and with random room
  *     library threads CALLS TABLES TABLES  in two threads at the same time, each over three tables of its own and with a stack of 256 KiB
- *     library none                         with NULL for bytes and room of which there are none
+ *     library none                         with NULL for bytes and room of which there are none, and with a GiB that may not be touched
  *     library time RUNS DISKS NOW NEXT     the least seconds of a plan
  * Whatever is handed over ends at a page that may not be touched, and what is handed back begins behind bytes that must stay. */
 #define _GNU_SOURCE
@@ -354,6 +354,23 @@ static void no_bytes(void)
     MUST(migrate_plan(in[0], len[0], in[1], len[1], in[2], len[2], NULL, 0, &plan, NULL, 0, &text) == MIGRATE_TOO_SHORT && plan > 0 && text > 0);
 }
 
+/* Of a GiB that is handed in nothing is touched: it is too long. */
+static void too_long(void)
+{
+    enum { HUGE_LEN = 1 << 30 };
+    const char disks[] = "disk,limit,slots\na,1,9\n", now[] = "item,disk,slot\n";
+    const uint8_t *in[] = {(const uint8_t *)disks, (const uint8_t *)now, NULL}, *huge = mmap(NULL, HUGE_LEN, PROT_NONE, MAP_PRIVATE | MAP_ANONYMOUS | MAP_NORESERVE, -1, 0);
+    MUST(huge != MAP_FAILED);
+    for (int at = 0; at < 3; at++) {
+        size_t len[] = {sizeof disks - 1, sizeof now - 1, 0}, plan = 9, text = 0;
+        const uint8_t *given[] = {in[0], in[1], in[2]};
+        given[at] = huge, len[at] = HUGE_LEN;
+        uint8_t told[64];
+        MUST(migrate_plan(given[0], len[0], given[1], len[1], given[2], len[2], NULL, 0, &plan, told, sizeof told, &text) == MIGRATE_REFUSED && plan == 0);
+        MUST(text < sizeof told && memcmp(told + text - 9, "too long\n", 9) == 0);
+    }
+}
+
 static void time_of(long runs, char **names)
 {
     enum { MOST = 16 << 20 };
@@ -381,7 +398,7 @@ int main(int count, char **words)
     else if (count == 9 && strcmp(words[1], "threads") == 0)
         two_threads(atol(words[2]), words + 3);
     else if (count == 2 && strcmp(words[1], "none") == 0)
-        no_bytes();
+        no_bytes(), too_long();
     else if (count == 6 && strcmp(words[1], "time") == 0)
         time_of(atol(words[2]), words + 3);
     else

@@ -11,7 +11,7 @@ ghost use Rattle.mig_csv.specs.Opened.{IsOpened};
 ghost use Rattle.mig_csv.specs.Refusals.{DisksFault, IsRefusalOf};
 
 use crate::errors::{InputError, refused};
-use crate::files::{has_sides, rows_after_header};
+use crate::files::{has_sides, read_header};
 use crate::rows::{Records, field};
 use csv::ByteRecord;
 use mig_base::{Disk, FileKind, Limits, MAX_DISKS, MAX_LIMIT, MAX_SLOTS, Name, Why, read_digits};
@@ -50,6 +50,7 @@ impl DiskList {
 }
 
 /// The disks that a disks file lists, in its order, or the first fault of the file.
+#[inline(never)]
 pub(crate) fn read_disks(alloc: Global, bytes: &[u8]) -> Result<DiskList, InputError>
     ensures value { IfOk result (λ r. r.disks.items ≡ disks_of bytes.now) }
     ensures few { IfOk result (λ r. length r.disks.items ≤ MAX_DISKS) }
@@ -58,7 +59,8 @@ pub(crate) fn read_disks(alloc: Global, bytes: &[u8]) -> Result<DiskList, InputE
     ensures fault { IfErr result (IsRefusalOf file.Disks (DisksFault bytes.now)) }
 {
     let mut row = ByteRecord::new(alloc);
-    let mut records = rows_after_header(alloc, FileKind::Disks, bytes, &mut row)?;
+    let mut records = Records::of(alloc, bytes);
+    read_header(FileKind::Disks, bytes, &mut records, &mut row)?;
     let sides = has_sides(&row);
     let mut listed = DiskList::new(alloc);
     add_disks(sides, &mut records, &mut row, &mut listed)?;

@@ -9,28 +9,29 @@ use crate::errors::{InputError, refused};
 use crate::rows::{Records, field};
 use csv::ByteRecord;
 use mig_base::{FileKind, MAX_FILE_BYTES, Why};
-use std::alloc::Global;
 
-/// The records of a file after its header, which is read into `row`.
-pub(crate) fn rows_after_header<'a>(
-    alloc: Global,
+/// Reads the header of a file, whose records these are, into `row`. Whoever reads a file owns its records, and hands them on by
+/// reference: they are 33 KB of stack.
+#[inline(never)]
+pub(crate) fn read_header(
     file: FileKind,
-    bytes: &'a [u8],
+    bytes: &[u8],
+    records: &mut Records<'_>,
     row: &mut ByteRecord,
-) -> Result<Records<'a>, InputError>
-    ensures opened { IfOk result (IsOpened file bytes.now) }
+) -> Result<(), InputError>
+    requires { records.old ≡ records_of bytes.now }
+    ensures opened { IfOk result (λ _. IsOpened file bytes.now records.new) }
     ensures header { IfOk result (λ _. slice_get (records_of bytes.now) 0 ≡ Some (fields_of row.new)) }
     ensures refused { IfErr result (RefusesHeader file bytes.now) }
 {
     if bytes.len() > MAX_FILE_BYTES {
         return Err(refused(file, 0, Why::TooLong));
     }
-    let mut records = Records::of(alloc, bytes);
     let found = records.read(row)?;
     if !found || !is_header(file, row) {
         return Err(refused(file, 0, Why::BadHeader));
     }
-    Ok(records)
+    Ok(())
 }
 
 /// Whether the row has four fields: a disks file that begins so has two limits in each row.

@@ -14,7 +14,7 @@ ghost use Rattle.mig_csv.specs.Refusals.{IsRefusalOf, NowFault};
 
 use crate::disks::DiskList;
 use crate::errors::{InputError, refused};
-use crate::files::rows_after_header;
+use crate::files::read_header;
 use crate::rows::{Records, field};
 use csv::ByteRecord;
 use mig_base::{DiskId, FileKind, MAX_DISKS, MAX_ITEMS, Name, Spot, Why, read_digits};
@@ -71,6 +71,7 @@ impl Layout {
 }
 
 /// The items that a now file lists, in its order, or the first fault of the file.
+#[inline(never)]
 pub(crate) fn read_now(alloc: Global, bytes: &[u8], disks: &DiskList) -> Result<Layout, InputError>
     requires named { disks.now.names ≡ map (λ d. d.name) disks.now.disks.items }
     requires few { length disks.now.disks.items ≤ MAX_DISKS }
@@ -83,7 +84,8 @@ pub(crate) fn read_now(alloc: Global, bytes: &[u8], disks: &DiskList) -> Result<
     ensures fault { IfErr result (IsRefusalOf file.Now (NowFault disks.now.disks.items bytes.now)) }
 {
     let mut row = ByteRecord::new(alloc);
-    let mut records = rows_after_header(alloc, FileKind::Now, bytes, &mut row)?;
+    let mut records = Records::of(alloc, bytes);
+    read_header(FileKind::Now, bytes, &mut records, &mut row)?;
     let Ok(mut layout) = Layout::with_capacity(alloc, likely_rows(bytes.len())) else {
         return Err(InputError::Memory);
     };

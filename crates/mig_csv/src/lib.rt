@@ -16,3 +16,4 @@ pub use errors::InputError;
 pub use inputs::{read_input, read_tight};
 pub use layouts::read_layout;
 pub use mig_base::{FileKind, Why};
+pub use room::check_room;

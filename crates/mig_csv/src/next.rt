@@ -15,7 +15,7 @@ ghost use Rattle.mig_csv.specs.Refusals.{IsRefusalOf, NextFault};
 
 use crate::disks::DiskList;
 use crate::errors::{InputError, refused};
-use crate::files::rows_after_header;
+use crate::files::read_header;
 use crate::rows::{Records, field};
 use csv::ByteRecord;
 use mig_base::{DiskId, FileKind, MAX_DISKS, MAX_ITEMS, Name, Why};
@@ -30,6 +30,7 @@ pub(crate) struct Way {
 }
 
 /// The next disks that a next file gives, or its first fault.
+#[inline(never)]
 pub(crate) fn read_next(
     alloc: Global,
     bytes: &[u8],
@@ -43,7 +44,8 @@ pub(crate) fn read_next(
     ensures fault { IfErr result (IsRefusalOf file.Next (NextFault disks.now.disks.items present.now bytes.now)) }
 {
     let mut row = ByteRecord::new(alloc);
-    let mut records = rows_after_header(alloc, FileKind::Next, bytes, &mut row)?;
+    let mut records = Records::of(alloc, bytes);
+    read_header(FileKind::Next, bytes, &mut records, &mut row)?;
     let Ok(mut next) = vec![in alloc; None; present.len()] else {
         return Err(InputError::Memory);
     };

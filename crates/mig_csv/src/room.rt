@@ -30,7 +30,11 @@ pub(crate) fn all_next(alloc: Global, next: &[Option<DiskId>]) -> Result<Vec<Dis
 }
 
 /// Whether each disk has room for what is on it and what comes to it.
-pub(crate) fn check_room(alloc: Global, input: &Input) -> Result<(), InputError>
+///
+/// # Errors
+///
+/// `Refused` names the first disk that lacks room. `Memory` is want of memory.
+pub fn check_room(alloc: Global, input: &Input) -> Result<(), InputError>
     ensures roomy { IfOk result (λ _. IsRoomy input.now) }
     ensures lacking { IfErr result (RefusesRoom input.now) }
 {

@@ -1,6 +1,6 @@
 mod Grids
 pub mod MadeInput
-mod MadeLists
+pub mod MadeLists
 pub mod MadeNames
 pub mod MadeRoom
 pub mod Common

@@ -5,3 +5,4 @@ mod cases;
 mod lists;
 
 pub use cases::{is_case_size, make_case};
+pub use lists::{make_items, numbered};

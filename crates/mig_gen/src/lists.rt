@@ -23,7 +23,7 @@ fn name_of(bytes: &[u8]) -> Name
 }
 
 /// The name that is a letter and a number.
-fn numbered(letter: u8, number: u32) -> Name
+pub fn numbered(letter: u8, number: u32) -> Name
     requires { IsTrue (is_ascii_alphanumeric letter) }
     ensures { result ≡ letter ∷ decimal number }
 {

@@ -1,4 +1,5 @@
 use Rattle.mig_c.proofs.HandedBack.{plan_done}
+use Rattle.mig_c.proofs.Rooms.{plan_fits}
 use Rattle.mig_c.proofs.Statuses.{plan_statuses}
 use Rattle.mig_c.proofs.migrate_plan.Goals as goal
 
@@ -7,3 +8,6 @@ returns-clause-planned c = λ none. plan_done c.call_plan.ensures none
 
 pub returns-clause-statuses : goal.returns-clause-statuses
 returns-clause-statuses c = plan_statuses c.call_plan.ensures
+
+pub returns-clause-roomy : goal.returns-clause-roomy
+returns-clause-roomy c plan_room text_room short = plan_fits c.call_plan.ensures plan_room text_room short

@@ -1,0 +1,66 @@
+//! The calls over numbers, which are those of mig_numbers.
+ghost use Rattle.std.specs.Prelude.{◌≡◌, ◌≢◌, ◌↔◌, ◌⊎◌, ◌≤◌, ◌<◌, length};
+ghost use Rattle.mig_c.specs.Slices.{TOO_SHORT};
+ghost use Rattle.mig_numbers.specs.Handed.{HandsPlan};
+ghost use Rattle.mig_numbers.specs.Refusals.{Refuses};
+ghost use Rattle.mig_numbers.specs.Rounds.{HandsRounds, IsOfPairs, disks_for, items_for};
+
+use mig_numbers::{
+    DiskNumbers, Found, ItemNumbers, LimitNumbers, PairNumbers, Refused, ShiftNumbers,
+    plan_numbers, schedule,
+};
+use std::alloc::Global;
+
+/// Plans over numbers: the shifts, the disks of a bound that is a set, and what was found, or why there is no plan.
+#[unsafe(no_mangle)]
+pub extern "C" fn migrate_plan_numbers(
+    alloc: Global,
+    split: bool,
+    disks: &[DiskNumbers],
+    items: &[ItemNumbers],
+    shifts: &mut [ShiftNumbers],
+    count: &mut usize,
+    set: &mut [u32],
+    set_count: &mut usize,
+    found: &mut Found,
+    refused: &mut Refused,
+) -> u32
+    // Each item that is to go to another disk has one row, to the lowest free slot of that disk; no round is past the limit of a disk; the bound holds.
+    ensures done { result ≡ 0 → HandsPlan split disks.now items.now shifts.old shifts.new count.new set.old set.new set_count.new found.new × (count.new ≤ length shifts.old) }
+    ensures short { result ≡ TOO_SHORT → HandsPlan split disks.now items.now shifts.old shifts.new count.new set.old set.new set_count.new found.new × (length shifts.old < count.new) }
+    ensures roomy { length items.now ≤ length shifts.old → result ≢ TOO_SHORT }
+    ensures refused { result ≡ 3 → Refuses split disks.now items.now refused.new }
+    ensures kept { (result ≡ 3) ⊎ (result ≡ 7) → (shifts.new ≡ shifts.old) × (set.new ≡ set.old) }
+    ensures statuses { (result ≡ 0) ⊎ (result ≡ 3) ⊎ (result ≡ 7) ⊎ (result ≡ TOO_SHORT) }
+{
+    plan_numbers(
+        alloc, split, disks, items, shifts, count, set, set_count, found, refused,
+    )
+}
+
+/// Schedules transfers without slots: a round for each pair of disks.
+#[unsafe(no_mangle)]
+pub extern "C" fn migrate_schedule(
+    alloc: Global,
+    split: bool,
+    limits: &[LimitNumbers],
+    pairs: &[PairNumbers],
+    rounds: &mut [u32],
+    set: &mut [u32],
+    set_count: &mut usize,
+    found: &mut Found,
+    refused: &mut Refused,
+) -> u32
+    ensures done { result ≡ 0 → HandsRounds split limits.now pairs.now rounds.new set.old set.new set_count.new found.new }
+    ensures short { (result ≡ TOO_SHORT) ↔ (length rounds.old < length pairs.now) }
+    ensures refused { result ≡ 3 → Refuses split (disks_for limits.now) (items_for pairs.now) refused.new }
+
+    // Neither slots nor room are a cause.
+    ensures slotless { result ≡ 3 → IsOfPairs refused.new.cause }
+    ensures kept { result ≢ 0 → (rounds.new ≡ rounds.old) × (set.new ≡ set.old) }
+    ensures statuses { (result ≡ 0) ⊎ (result ≡ 3) ⊎ (result ≡ 7) ⊎ (result ≡ TOO_SHORT) }
+{
+    schedule(
+        alloc, split, limits, pairs, rounds, set, set_count, found, refused,
+    )
+}

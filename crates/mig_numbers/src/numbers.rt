@@ -1,0 +1,97 @@
+//! What C hands in and gets back.
+
+/// A disk: its limit on transfers that leave it in a round, that on those that reach it (of joint limits the first is both, and
+/// the second isn't looked at), and how many slots it has.
+#[repr(C)]
+#[derive(Clone, Copy)]
+pub struct DiskNumbers {
+    pub out_limit: u32,
+    pub in_limit: u32,
+    pub slots: u32,
+}
+
+/// An item: the disk and the slot where it is, and the disk that it is to go to. Disks and items are named by their places.
+#[repr(C)]
+#[derive(Clone, Copy)]
+pub struct ItemNumbers {
+    pub disk: u32,
+    pub slot: u32,
+    pub next_disk: u32,
+}
+
+/// A shift: the item, the disk and the slot that it goes to, and the round, counted from 1.
+#[repr(C)]
+#[derive(Clone, Copy)]
+pub struct ShiftNumbers {
+    pub item: u32,
+    pub to_disk: u32,
+    pub to_slot: u32,
+    pub round: u32,
+}
+
+/// What was found: the number of rounds, the greatest quotient, the class (0 even, 1 general, 2 split limits), and the bound: its
+/// kind (0 nothing, 1 a disk, 2 a side of a disk, 3 a set of disks), its disk, its side (0 outgoing, 1 incoming), how many moves
+/// count, and how many rounds they need.
+#[repr(C)]
+#[derive(Clone, Copy)]
+pub struct Found {
+    pub rounds: u32,
+    pub quotient: u32,
+    pub class: u32,
+    pub bound: u32,
+    pub disk: u32,
+    pub side: u32,
+    pub load: u32,
+    pub value: u32,
+}
+
+/// Why there is no plan.
+#[derive(Clone, Copy, Drop)]
+pub enum Refusal {
+    /// There are more disks than there may be.
+    TooManyDisks,
+    /// There are more items than there may be.
+    TooManyItems,
+    /// A limit or the slots of the disk are out of range.
+    OutOfRange { disk: u32 },
+    /// The disk that the item is on isn't there.
+    UnknownDisk { item: u32 },
+    /// The item's slot isn't below the disk's slots.
+    SlotTooHigh { item: u32 },
+    /// An earlier item has the spot.
+    SlotTaken { item: u32 },
+    /// The disk that the item is to go to isn't there.
+    UnknownNext { item: u32 },
+    /// The items on the disk and those that come to it are more than its slots.
+    NoRoom { disk: u32, needs: u32, slots: u32 },
+    /// Want of memory.
+    Memory,
+}
+
+/// A refusal in numbers: 1 for too many disks, 2 for too many items, 3 for a limit or slots out of range, 4 for an item on a disk that
+/// isn't there, 5 for one in a slot that isn't there, 6 for one in another's slot, 7 for one that is to go to a disk that isn't there,
+/// 8 for a disk that lacks room; the place of the disk or the item; and of a disk that lacks room, how many slots it needs and has.
+#[repr(C)]
+#[derive(Clone, Copy)]
+pub struct Refused {
+    pub cause: u32,
+    pub place: u32,
+    pub needs: u32,
+    pub has: u32,
+}
+
+/// The limits of a disk, as in `DiskNumbers`.
+#[repr(C)]
+#[derive(Clone, Copy)]
+pub struct LimitNumbers {
+    pub out_limit: u32,
+    pub in_limit: u32,
+}
+
+/// A transfer from one disk to another.
+#[repr(C)]
+#[derive(Clone, Copy)]
+pub struct PairNumbers {
+    pub from: u32,
+    pub to: u32,
+}

@@ -1,0 +1,117 @@
+"""The calls over numbers, for tests/library: on made clusters they give the plans, the bounds and the refusals of the calls over texts, spelled out."""
+import random
+from session_rooms import Count
+import migrate
+
+CLASSES, SIDES = ("even", "general", "duplex"), ("out", "in")
+
+
+def made(chance):
+    """Disks, items and whether limits are split, with a fault now and then."""
+    count, split, kind = chance.randint(1, 12 if chance.random() < 0.8 else 60), chance.random() < 0.5, chance.randrange(3)
+    if chance.random() < 0.15:  # three disks that share their items alone: a set is the bound
+        count, split, kind = chance.randint(3, 6), False, 3
+    limit = lambda: (2 * chance.randint(1, 4), chance.randint(1, 7), 1 + 2 * chance.randrange(3), 1)[kind]
+    near = lambda: chance.randrange(3 if kind == 3 else count)
+    used, comes, items = [0] * count, [0] * count, []
+    for _ in range(chance.randrange(60 if chance.random() < 0.8 else 1500)):
+        disk, next_disk = near(), near()
+        items.append([disk, used[disk], next_disk])
+        used[disk] += 1
+        comes[next_disk] += disk != next_disk
+    disks = [[limit(), limit(), max(1, a + b + chance.choice([0, 0, 1, 4]))] for a, b in zip(used, comes)]
+    for item in items:
+        if item[0] % 3 == 1:
+            item[1] = disks[item[0]][2] - 1 - item[1]
+    fault = chance.randrange(20)
+    if fault == 0:
+        chance.choice(disks)[chance.choice([0, 2])] = chance.choice([0, 65537])
+    elif fault == 1 and items:
+        chance.choice(items)[2] = count + chance.randrange(3)
+    elif fault == 2 and items:
+        chance.choice(items)[0] = count
+    elif fault == 3 and items:
+        item = chance.choice(items)
+        item[1] = disks[item[0]][2]
+    elif fault == 4 and len(items) > 1:
+        items[-1][:2] = items[0][:2]
+    elif fault == 5:
+        disk = chance.randrange(count)
+        disks[disk][2] = max([1] + [slot + 1 for at, slot, _ in items if at == disk])
+    return disks, items, split
+
+
+def tables(disks, items, split):
+    lines = lambda head, rows: "".join(f"{it}\n" for it in [head, *rows]).encode()
+    return (lines("disk,out,in,slots" if split else "disk,limit,slots", (f"d{k},{a},{b},{slots}" if split else f"d{k},{a},{slots}" for k, (a, b, slots) in enumerate(disks))),
+            lines("item,disk,slot", (f"i{k},d{disk},{slot}" for k, (disk, slot, _) in enumerate(items))), lines("item,disk", (f"i{k},d{to}" for k, (_, _, to) in enumerate(items))))
+
+
+def spelled(disks, items, split, numbers):
+    """The plan and the certificate that the numbers are."""
+    found, rows, plan = numbers.found, numbers.rows.tolist(), [f"migration-plan 1", f"rounds {numbers.found.rounds}"]
+    for round in range(1, found.rounds + 1):
+        these = [it for it in rows if it[3] == round]
+        plan += [f"round {round} {len(these)}"] + [f"i{item} d{items[item][0]} {items[item][1]} d{disk} {slot}" for item, disk, slot, _ in these]
+    bound = {0: "nothing", 1: f"disk d{found.disk} {found.load} {disks[found.disk][0]} {found.value}", 3: f"set {len(numbers.set)} {found.load} {found.value}",
+             2: f"side d{found.disk} {SIDES[found.side]} {found.load} {disks[found.disk][found.side]} {found.value}"}[found.bound]
+    cert = [f"migration-certificate {1 + split}", f"rounds {found.rounds}", f"quotient {found.quotient}", f"class {CLASSES[found.limits]}", f"bound {bound}", *(f"d{it}" for it in numbers.set)]
+    return tuple("".join(f"{it}\n" for it in [*lines, "end"]).encode() for lines in (plan, cert))
+
+
+def why(refused):
+    """The text of a refusal over numbers."""
+    place, named = refused.place + 1, {3: "disks row {}: out of range", 4: "now row {}: unknown disk", 5: "now row {}: slot too high", 6: "now row {}: slot taken", 7: "next row {}: unknown disk",
+                                       8: f"disks row {{}}: no room on d{refused.place}, needs {refused.needs}, has {refused.has}"}
+    return f"refused {named[refused.cause]}\n".format(place)
+
+
+def answer(call):
+    try:
+        return call()
+    except migrate.Refused as refused:
+        return refused.status, why(refused)
+    except migrate.Error as error:
+        return error.status, error.text
+
+
+def the_numbers(library, clusters):
+    chance, bounds, causes = random.Random(60), set(), set()
+    for it in range(clusters):
+        disks, items, split = made(chance)
+        texts = answer(lambda: tuple(library.plan(*tables(disks, items, split))))
+        numbers = answer(lambda: library.plan_numbers(disks, items, split))
+        if isinstance(numbers, migrate.Numbers):
+            bounds.add(numbers.found.bound)
+            numbers = spelled(disks, items, split, numbers)
+        else:
+            causes.add(numbers[1].split(":")[1].split(" on ")[0])
+        Count.same(f"plan_numbers of cluster {it}", numbers, texts)
+        the_schedule(library, it, disks, items, split)
+    Count.same("each kind of bound, and each cause", (bounds, len(causes)), ({0, 1, 2, 3}, 5))
+    for name, call, refused in (
+        ("too many disks", lambda: library.plan_numbers([(1, 1, 1)] * 1025, []), (3, 1, 0)),
+        ("too many items", lambda: library.plan_numbers([(1, 1, 1)], [(0, 0, 0)] * 65537), (3, 2, 0)),
+        ("a pair of no disk", lambda: library.schedule([(1, 1)], [(0, 0), (0, 1)]), (3, 7, 1)),
+        ("a limit of 0", lambda: library.schedule([(1, 1), (0, 1)], [(0, 1)]), (3, 3, 1)),
+    ):
+        try:
+            found = call()
+        except migrate.Refused as error:
+            found = error.status, error.cause, error.place
+        Count.same(f"over numbers: {name}", found, refused)
+
+
+def the_schedule(library, it, disks, items, split):
+    """The rounds of the pairs keep each limit, and are as many as they say; slots and room don't matter."""
+    try:
+        made = library.schedule([row[:2] for row in disks], [(a, b) for a, _, b in items], split)
+    except migrate.Refused as refused:
+        Count.that(f"schedule of cluster {it} is refused for limits or disks", refused.cause in (3, 4, 7), refused)
+        return
+    rounds, counts = made.rows.tolist(), {}
+    for round, (a, _, b) in zip(rounds, items):
+        for key in ([("out", a, round), ("in", b, round)] if split else [(None, a, round), (None, b, round)]) if a != b else []:
+            counts[key] = counts.get(key, 0) + 1
+    kept = all(count <= disks[disk][side == "in"] for (side, disk, _), count in counts.items())
+    Count.that(f"schedule of cluster {it}", kept and all((round > 0) == (a != b) for round, (a, _, b) in zip(rounds, items)) and max([0, *rounds]) == made.found.rounds >= made.found.value)
