@@ -49,6 +49,16 @@ REFUSALS = [
     ("now.csv", now.replace("q,left,1", "q,left").replace("\n", "\r"), "now row 2: bad width", ["now.csv, line 3: q,left\n"]),
     ("now.csv", now.replace("q,left,1", "q\x1b[2J,left,1"), "now row 2: bad name", ["now.csv, line 3: q\\x1b[2J,left,1\n", "byte 2 of `q\\x1b[2J`"]),
     ("now.csv", now.replace("q,left,1", "q" * 200 + ",left,1"), "now row 2: bad name", [f"now.csv, line 3: {'q' * 60} ..\n"]),
+    ("disks.csv", "\ufeff\ufeff" + disks, "disks row 0: bad header", ["disks.csv, line 1: \\xfeffdisk,limit,slots\n", "two byte order marks"]),
+    ("disks.csv", disks.replace("\n", ",,\n"), "disks row 0: bad header", ["disks.csv, line 1: disk,limit,slots,,\n", "delete the empty columns at its end: the first line must be disk,limit,slots\n"]),
+    ("disks.csv", disks.replace("2,4\n", "2,4,,\n", 1), "disks row 1: bad width", ["disks.csv, line 2: left,2,4,,\n", "here are 5: delete the empty columns at its end"]),
+    ("disks.csv", disks + ",,\n", "disks row 3: bad name", ["disks.csv, line 4: ,,\n", "an empty row, as spreadsheets write them: delete it"]),
+    ("next.csv", next_ + ",,\n", "next row 4: bad width", ["next.csv, line 5: ,,\n", "an empty row"]),
+    ("now.csv", "sep=,\n" + now, "now row 0: bad header", ["now.csv, line 1: sep=,\n", "remove this line: the first line must be item,disk,slot\n"]),
+    ("now.csv", "# of today\n" + now, "now row 0: bad header", ["now.csv, line 1: # of today\n", "remove this line"]),
+    ("now.csv", now + "# the end\n", "now row 4: bad width", ["now.csv, line 5: # the end\n", "there are no comments: remove this line"]),
+    ("disks.csv", disks.replace("left", "my\u00a0disk"), "disks row 1: bad name", ["disks.csv, line 2: my\\xa0disk,2,4\n", "byte 3 of `my\\xa0disk`, the name of the disk, is the first of a no-break space"]),
+    ("now.csv", now.replace("q,left,1", "caf\u00e9,left,1").encode("latin-1"), "now row 2: bad name", ["now.csv, line 3: caf\u00e9,left,1\n", "byte 4 of `caf\u00e9`, the name of the item, is 0xe9"]),
 ]
 
 MISFITS = [
@@ -66,10 +76,16 @@ MISFITS = [
     ("plan.txt", PLAN_TEXT + "x", "plan line 9", ["plan.txt, line 9: x\n", "nothing may follow"]),
     ("plan.txt", PLAN_TEXT + "\n", "plan line 10", ["nothing may follow"]),
     ("plan.txt", PLAN_TEXT.replace("\n", "\r\n"), "plan line 1", ["LF alone, and not with CR LF"]),
+    ("plan.txt", "\ufeff" + PLAN_TEXT, "plan line 1", ["plan.txt, line 1: \\xfeffmigration-plan 1\n", "a byte order mark"]),
+    ("plan.txt", PLAN_TEXT.replace("r left 2", "r left  2"), "plan line 7", ["plan.txt, line 7: r left  2 right 2\n", "two blanks side by side, or one at an end: just one stands between two words"]),
+    ("plan.txt", PLAN_TEXT.replace("right 2", "right 2 "), "plan line 7", ["two blanks side by side, or one at an end"]),
     ("plan.txt", PLAN_TEXT + "x" * (1 << 24), "plan line 0", ["plan.txt: the text has more than 16777216 bytes"]),
     ("cert.txt", PLAN_TEXT, "certificate line 1", ["cert.txt, line 1: migration-plan 1\n", "is this the file of CERT?"]),
     ("cert.txt", CERT_TEXT.replace("even", "odd"), "certificate line 4", ["cert.txt, line 4: class odd\n", "wanted is `class even` or `class general`"]),
-    ("cert.txt", CERT_TEXT.replace("3 2 2", "3 3 2"), "certificate line 5", ["cert.txt, line 5: bound disk left 3 3 2\n", "`bound disk NAME LOAD LIMIT VALUE` with the disk's limit"]),
+    ("cert.txt", "\ufeff" + CERT_TEXT, "certificate line 1", ["cert.txt, line 1: \\xfeffmigration-certificate 1\n", "a byte order mark"]),
+    ("cert.txt", CERT_TEXT.replace("3 2 2", "2 2"), "certificate line 5", ["cert.txt, line 5: bound disk left 2 2\n", "`bound disk NAME LOAD LIMIT VALUE` with the disk's limit"]),
+    ("cert.txt", CERT_TEXT.replace("3 2 2", "3 3 2"), "certificate line 5", ["cert.txt, line 5: bound disk left 3 3 2\n", "the limit of `left` is 3 here, and 2 in disks.csv: was it changed since `plan`? Plan again"]),
+    ("disks.csv", disks.replace("left,2", "left,1"), "certificate line 5", ["cert.txt, line 5: bound disk left 3 2 2\n", "the limit of `left` is 2 here, and 1 in disks.csv"]),
     ("cert.txt", CERT_TEXT.replace("end", "left\nend"), "certificate line 6", ["wanted is the line `end`"]),
 ]
 
@@ -80,7 +96,7 @@ BLAMES = [
     ("plan.txt", HEAD.replace("2", "1") + "round 1 2\np left 0 right 0\np left 0 right 1\nend\n", "twice in round 1 item p", ["plan.txt, line 5: p left 0 right 1\n", "line 4 moves this item in the same round"]),
     ("plan.txt", PLAN_TEXT.replace("right 1", "right 0"), "slot not free round 1 item q", ["plan.txt, line 5: q left 1 right 0\n", "slot 0 of `right` has an item before round 1, or an earlier line"]),
     ("plan.txt", PLAN_TEXT.replace("right 2", "right 4"), "slot not free round 2 item r", ["plan.txt, line 7: r left 2 right 4\n", "`right` has 4 slots, which count from 0"]),
-    ("plan.txt", HEAD + FIRST.replace("1 2", "1 3", 1) + "r left 2 right 2\nround 2 0\nend\n", "over limit round 1 disk left count 3", ["plan.txt, line 3: round 1 3\n", "`left` is an end of 3 shifts of this round, and its limit is 2"]),
+    ("plan.txt", HEAD + FIRST.replace("1 2", "1 3", 1) + "r left 2 right 2\nround 2 0\nend\n", "over limit round 1 disk left count 3", ["plan.txt, line 3: round 1 3\n", "3 shifts of this round leave or reach `left`, and its limit is 2"]),
     ("plan.txt", HEAD.replace("2", "1") + FIRST + "end\n", "wrong end item r", ["plan.txt: no line moves `r`, and next.csv wants it on `right`"]),
     ("plan.txt", HEAD.replace("rounds 2", "rounds 3") + FIRST + SECOND + "round 3 1\np right 0 right 3\nend\n", "moved too often item p count 2", ["plan.txt, line 9: p right 0 right 3\n", "an earlier line moves `p` too"]),
     ("cert.txt", CERT_TEXT.replace("rounds 2", "rounds 3"), "rounds differ kept 3 counted 2", ["cert.txt, line 2: rounds 3\n", "are PLAN and CERT of one `plan`?"]),
@@ -123,12 +139,14 @@ APART_REFUSALS = [
 ]
 
 APART_MISFITS = [
-    ("cert.txt", CERT_TEXT, "certificate line 1", ["cert.txt, line 1: migration-certificate 1\n", "`migration-certificate 2` where disks have two limits"]),
+    ("cert.txt", CERT_TEXT, "certificate line 1", ["cert.txt, line 1: migration-certificate 1\n", "this certificate was made for joint limits, one for each disk, and disks.csv has two for each: plan again"]),
+    ("cert.txt", THREE, "certificate line 1", ["`migration-certificate 2` where disks have two limits: is this the file of CERT?"]),
     ("cert.txt", TEXT_2.replace("duplex", "even"), "certificate line 4", ["cert.txt, line 4: class even\n", "`class duplex` where disks have two limits"]),
-    ("cert.txt", TEXT_2.replace("in 3 1 3", "out 3 1 3"), "certificate line 5", ["cert.txt, line 5: bound side right out 3 1 3\n", "`bound side NAME out LOAD LIMIT VALUE` or the same with `in`"]),
-    ("cert.txt", TEXT_2.replace("side right in", "disk right"), "certificate line 5", ["cert.txt, line 5: bound disk right 3 1 3\n", "where disks have two limits"]),
+    ("cert.txt", TEXT_2.replace("in 3 1 3", "out 3 1 3"), "certificate line 5", ["cert.txt, line 5: bound side right out 3 1 3\n", "the limit of `right` is 1 here, and 2 in disks.csv"]),
+    ("cert.txt", TEXT_2.replace("side right in", "disk right"), "certificate line 5", ["cert.txt, line 5: bound disk right 3 1 3\n", "`bound side NAME out LOAD LIMIT VALUE` or the same with `in`"]),
+    ("disks.csv", apart.replace("2,1,4", "2,2,4"), "certificate line 5", ["the limit of `right` is 1 here, and 2 in disks.csv"]),
     ("cert.txt", TEXT_2.replace("end", "right\nend"), "certificate line 6", ["wanted is the line `end`"]),
-    ("disks.csv", disks, "certificate line 1", ["cert.txt, line 1: migration-certificate 2\n", "a certificate begins with the line `migration-certificate 1`"]),
+    ("disks.csv", disks, "certificate line 1", ["cert.txt, line 1: migration-certificate 2\n", "this certificate was made for split limits, two for each disk, and disks.csv has one for each: plan again"]),
 ]
 
 APART_BLAMES = [
@@ -178,6 +196,12 @@ def of_others(program):
             tells(f"{words}", room.run(*words), 1, "not here round 1 item q\n", ["migrate: wrong.txt, line 5: q left 2 right 1\n"])
         tells("no plan", room.run("check", *FILES, "p", "c"), 16, "no file p\n", ["migrate: p, the word for PLAN, leads to no file; `plan` makes it\n"])
         tells("no next", room.run("plan", "disks.csv", "now.csv", "nxt.csv", "p", "c"), 16, "no file nxt.csv\n", ["migrate: nxt.csv, the word for NEXT, leads to no file\n"])
+        tells("`-` as a file", room.run("plan", "disks.csv", "-", *PLAN[3:]), 16, "no file -\n", ["migrate: -, the word for NOW, leads to no file; /dev/stdin reads standard input\n"])
+        tells("an option as a file", room.run("after", "-v", *AFTER[2:]), 16, "no file -v\n", ["migrate: -v, the word for DISKS, leads to no file; there are no options\n"])
+        tells("NEXT NAME", room.run("drain", "disks.csv", "now.csv", "out.csv", "left"), 14, "no disk out.csv\n", ["migrate: disks.csv lists no disk `out.csv`, and `left` stands for NEXT: the order is NAME NEXT\n"])
+        room.write("tight.csv", disks.replace("right,2,4", "right,2,2"))
+        for command in (AFTER, MOVE, RESUME, HALT):
+            tells(f"{command[0]} of a tight plan", room.run(command[0], "tight.csv", *command[2:]), 3, "refused disks row 2: no room on right, needs 3, has 2\n", [f"a plan of `plan-tight` is for `{command[0]}-tight`\n"])
         ran = room.run("printf 'bad\\n' | ./migrate plan disks.csv /dev/stdin next.csv p c", shell=True)
         Count.ended("a pipe", ran, 3, "refused now row 0: bad header\n")
         Count.same("a pipe is not read twice", ran.err, b"")

@@ -34,10 +34,10 @@ FIRST_LINES = [
     ([], "no word is given, and a command is wanted"),
     (["plann", *PLAN[1:]], "`plann` is no command; is it `plan`?"),
     (["MOVE", *MOVE[1:]], "`MOVE` is no command; is it `move`?"),
-    (["--help"], "`--help` is no command\n"),
     (["what"], "`what` is no command\n"),
     (PLAN[:5], "`plan` is followed by 5 words, and here by 4: CERT is missing"),
-    ([*AUDIT, "--verbose"], "`audit` is followed by 2 words, and here by 3: `--verbose` is too many"),
+    ([*AUDIT, "--verbose"], "there are no options; `--verbose` is one\n"),
+    ([*AUDIT, "more"], "`audit` is followed by 2 words, and here by 3: `more` is too many"),
     (["fill", "disks.csv", ""], "the word for NOW is empty"),
     (["plan", *FILES, "a" * 256, "c"], "the word for PLAN has 256 bytes, and a file's name at most 255"),
     (["plan", *FILES, "a.disk", "c"], "`a.disk`, the word for PLAN, is named as a disk's file or the journal"),
@@ -58,6 +58,9 @@ FIRST_LINES = [
     (["rehearse", "2", "1", "0"], "LIMIT is 0, and must be 1 to 1024"),
     (["rehearse", "+2", "1", "1"], "N is `+2`, and must be 1 to 10 digits"),
     (["rehearse", "257", "1", "3"], "N times N - 1 times PERPAIR is 65792, and must be 1 to 65536"),
+    (["paln", *FILES], "`paln` is no command; is it `plan`?\n"),
+    (["--help"], "`--help` is no command, and there are no options\n"),
+    (["plan", "-v", *PLAN[1:]], "there are no options; `-v` is one\n"),
     (["rehearse", "64", "16"], "`rehearse` is followed by 3 words, and here by 2: LIMIT is missing"),
 ]
 

@@ -1,299 +1,211 @@
-//! Status 1: which line of the plan or of the certificate is blamed, and why.
+//! Which line of a plan or of its certificate is not right, and why.
 
-use crate::excerpts::Shown;
-use crate::places::{Place, point_to};
-use crate::plan_lines::{Step, head_line, last_step, line_at, step_from_elsewhere, step_in_round};
-use crate::refusals::InputFiles;
-use crate::rows::Typed;
-use mig_base::{Blame, Disk, DiskId, Input, ItemId, Limits, Plan, Spot};
-use mig_cert::read_cert;
-use mig_check::{judge, runs};
-use mig_text::read_plan;
-use std::alloc::{AllocError, Global};
+use crate::excerpts::{Said, Shown, point, point_whole};
+use crate::files::{Given, Typed};
+use crate::plans::{Step, Want, count_at, line_at, look_for};
+use crate::rows::{Key, field, number_at};
+use mig_base::{Blame, read_digits};
 
-/// What is wrong with the plan, or else with its certificate, if anything is.
-pub(crate) fn blame_hint(
-    alloc: Global,
-    files: &InputFiles<'_>,
-    text: &Typed<'_>,
-    cert: Option<Typed<'_>>,
-) -> Result<Option<String>, AllocError> {
-    let Ok(input) = files.read(alloc) else {
-        return Ok(None);
-    };
-    let Ok(plan) = read_plan(alloc, &input, text.bytes) else {
-        return Ok(None);
-    };
-    let Some(cert) = cert else {
-        return match runs(alloc, &input, &plan) {
-            Ok(()) => Ok(None),
-            Err(blame) => plan_hint(alloc, &input, files, text, &plan, &blame),
-        };
-    };
-    let Ok(read) = read_cert(alloc, &input, cert.bytes) else {
-        return Ok(None);
-    };
-    let Err(blame) = judge(alloc, &input, &plan, &read) else {
-        return Ok(None);
-    };
-    match cert_hint(&blame) {
-        Some((line, wanted)) => Ok(Some(point(alloc, &cert, Some(line), wanted)?)),
-        None => plan_hint(alloc, &input, files, text, &plan, &blame),
+/// What is said of a plan or a certificate that is not right. The name is that of the item or the disk.
+pub(crate) fn say_blame(f: &mut String, given: &Given<'_>, blame: &Blame, name: &[u8]) -> Said {
+    match (cert_line(blame), given.file("CERT"), given.file("PLAN")) {
+        (Some((line, wanted)), Some(cert), _) => {
+            let text = line_at(cert.bytes, line).unwrap_or(&[]);
+            point(f, cert.word, line as usize, text)?;
+            f.push_str(wanted)
+        }
+        (None, _, Some(plan)) => say_plan(f, given, &plan, blame, name),
+        _ => Ok(()),
     }
 }
 
-/// Points to a line of a text.
-fn point(
-    alloc: Global,
-    typed: &Typed<'_>,
-    line: Option<u32>,
-    wanted: &str,
-) -> Result<String, AllocError> {
-    let place = match line {
-        Some(number) => line_at(typed.bytes, number).map(|text| Place {
-            word: typed.word,
-            line: number as usize,
-            text,
-        }),
-        None => None,
-    };
-    point_to(alloc, typed.word, place, wanted)
-}
+/// What is said where the three files give another number than the certificate.
+const COUNTED: &str =
+    "counted from the three files it is another number: was a file changed since `plan`?";
 
-/// The line of the certificate that is blamed, and why.
-fn cert_hint(blame: &Blame) -> Option<(u32, &'static str)> {
+/// The line of the certificate that is not right, and why.
+fn cert_line(blame: &Blame) -> Option<(u32, &'static str)> {
     match blame {
         Blame::RoundsDiffer { .. } => Some((
             2,
             "the plan has another number of rounds: are PLAN and CERT of one `plan`?",
         )),
-        Blame::QuotientDiffers { .. } => Some((
-            3,
-            "counted from the three files it is another number: was a file changed since `plan`?",
-        )),
+        Blame::QuotientDiffers { .. } => Some((3, COUNTED)),
         Blame::ClassDiffers => Some((
             4,
             "`even` is right where each disk that takes part has an even limit, and else `general`",
         )),
-        Blame::LoadDiffers { .. } | Blame::ValueDiffers { .. } => Some((
-            5,
-            "counted from the three files it is another number: was a file changed since `plan`?",
-        )),
+        Blame::LoadDiffers { .. } | Blame::ValueDiffers { .. } => Some((5, COUNTED)),
         _ => None,
     }
 }
 
-/// The line of the plan that is blamed, and why.
-fn plan_hint(
-    alloc: Global,
-    input: &Input,
-    files: &InputFiles<'_>,
-    text: &Typed<'_>,
-    plan: &Plan,
+/// Points to a line of the plan, or to the whole where it has no such line.
+fn point_step(f: &mut String, plan: &Typed<'_>, step: Option<Step<'_>>) -> Said {
+    match step {
+        Some(step) => point(f, plan.word, step.line as usize, step.text.unwrap_or(&[])),
+        None => point_whole(f, plan.word),
+    }
+}
+
+/// The shifts of an item in a round.
+fn in_round(item: &[u8], round: u32) -> Want<'_> {
+    Want::Shifts(round, round.saturating_add(1), 0, item)
+}
+
+fn say_plan(
+    f: &mut String,
+    given: &Given<'_>,
+    plan: &Typed<'_>,
     blame: &Blame,
-) -> Result<Option<String>, AllocError> {
-    let (line, wanted) = match blame {
-        Blame::EmptyRound { round } => (
-            Some(head_line(plan, *round)),
-            String::from_str(alloc, "a round has one shift at least")?,
-        ),
-        Blame::OverLimit { round, disk, count } => (
-            Some(head_line(plan, *round)),
-            limit_hint(alloc, input, plan, *round, *disk, *count)?,
-        ),
-        Blame::NotHere { round, item } => not_here(alloc, input, plan, *round, *item)?,
-        Blame::TwiceInRound { round, item } => twice(alloc, plan, *round, *item)?,
-        Blame::SlotNotFree { round, item } => not_free(alloc, input, plan, *round, *item)?,
-        Blame::WrongEnd { item } => wrong_end(alloc, input, files, plan, *item)?,
-        Blame::MovedTooOften { item, .. } => too_often(alloc, input, plan, *item)?,
-        _ => return Ok(None),
-    };
-    Ok(Some(point(alloc, text, line, wanted.as_str())?))
-}
-
-/// The bytes of a disk's name.
-fn disk_bytes(input: &Input, disk: DiskId) -> &[u8] {
-    match input.disks().get(disk.0 as usize) {
-        Some(disk) => disk.name.bytes(),
-        None => &[],
-    }
-}
-
-/// The bytes of an item's name.
-fn item_bytes(input: &Input, item: ItemId) -> &[u8] {
-    match input.items().get(item.0 as usize) {
-        Some(name) => name.bytes(),
-        None => &[],
-    }
-}
-
-fn line_in(step: Option<Step>) -> Option<u32> {
-    step.map(|step| step.line)
-}
-
-/// How many shifts of a round leave a disk.
-fn leaving(plan: &Plan, round: u32, disk: DiskId) -> usize {
-    match plan.rounds().get(round.saturating_sub(1) as usize) {
-        Some(round) => {
-            let shifts = round.shifts().iter();
-            shifts.filter(|shift| shift.from.disk == disk).count()
+    name: &[u8],
+) -> Said {
+    match blame {
+        Blame::EmptyRound { round } => {
+            point_step(f, plan, look_for(plan.bytes, &Want::Head(*round)).first)?;
+            f.push_str("a round has one shift at least")
         }
-        None => 0,
+        Blame::OverLimit { round, count, .. } => say_limit(f, given, plan, *round, name, *count),
+        Blame::NotHere { round, .. } => say_elsewhere(f, given, plan, *round, name),
+        Blame::TwiceInRound { round, .. } => {
+            let steps = look_for(plan.bytes, &in_round(name, *round));
+            let first = steps.first.map_or(0, |step| step.line);
+            point_step(f, plan, steps.second)?;
+            write!(
+                f,
+                "line {first} moves this item in the same round: a round moves an item once"
+            )
+        }
+        Blame::SlotNotFree { round, .. } => say_not_free(f, given, plan, *round, name),
+        Blame::WrongEnd { .. } => say_wrong_end(f, given, plan, name),
+        Blame::MovedTooOften { .. } => say_too_often(f, given, plan, name),
+        _ => Ok(()),
     }
 }
 
-fn limit_hint(
-    alloc: Global,
-    input: &Input,
-    plan: &Plan,
+fn say_limit(
+    f: &mut String,
+    given: &Given<'_>,
+    plan: &Typed<'_>,
     round: u32,
-    disk: DiskId,
+    disk: &[u8],
     count: u32,
-) -> Result<String, AllocError> {
-    let name = Shown(disk_bytes(input, disk));
-    match input.disks().get(disk.0 as usize) {
-        Some(
-            Disk {
-                limits: Limits::Split { outgoing, incoming },
-                ..
-            },
-        ) if leaving(plan, round, disk) > *outgoing as usize => format!(in alloc;
-            "{count} shifts of this round leave `{name}`, and its outgoing limit is {outgoing}"
-        ),
-        Some(
-            Disk {
-                limits: Limits::Split { incoming, .. },
-                ..
-            },
-        ) => format!(in alloc;
-            "{count} shifts of this round reach `{name}`, and its incoming limit is {incoming}"
-        ),
-        Some(
-            Disk {
-                limits: Limits::Joint { limit },
-                ..
-            },
-        ) => format!(in alloc;
-            "`{name}` is an end of {count} shifts of this round, and its limit is {limit}"
-        ),
-        None => format!(in alloc; "`{name}` is over its limit"),
+) -> Said {
+    point_step(f, plan, look_for(plan.bytes, &Want::Head(round)).first)?;
+    let shifts = Want::Shifts(round, round.saturating_add(1), 1, disk);
+    let leaving = look_for(plan.bytes, &shifts).count;
+    let name = Shown(disk);
+    write!(f, "{count} shifts of this round ")?;
+    let Some(disks) = given.file("DISKS") else {
+        return write!(f, "are too many for `{name}`");
+    };
+    let row = disks
+        .find(&Key::First(disk))
+        .map_or([].as_slice(), |row| row.text);
+    let first = number_at(row, 1);
+    let second = number_at(row, 2);
+    if !disks.has_sides() {
+        return write!(f, "leave or reach `{name}`, and its limit is {first}");
     }
-}
-
-/// Where an item is before a round.
-fn spot_before(input: &Input, plan: &Plan, round: u32, item: ItemId) -> Option<Spot> {
-    match last_step(plan, item, round) {
-        Some(step) => Some(step.shift.to),
-        None => input.now().get(item.0 as usize).copied(),
+    if u64::from(leaving) > first {
+        return write!(f, "leave `{name}`, and its outgoing limit is {first}");
     }
+    write!(f, "reach `{name}`, and its incoming limit is {second}")
 }
 
-/// The line of a shift, and what is said of it.
-type Pointed = (Option<u32>, String);
-
-fn not_here(
-    alloc: Global,
-    input: &Input,
-    plan: &Plan,
+/// Where an item is before a round: where an earlier shift left it, or where the file of now lists it.
+fn spot_before<'a>(
+    given: &Given<'a>,
+    plan: &Typed<'a>,
     round: u32,
-    item: ItemId,
-) -> Result<Pointed, AllocError> {
-    let name = Shown(item_bytes(input, item));
-    let Some(spot) = spot_before(input, plan, round, item) else {
-        return Ok((None, format!(in alloc; "`{name}` is elsewhere")?));
-    };
-    let disk = Shown(disk_bytes(input, spot.disk));
-    let slot = spot.slot;
-    let line = line_in(step_from_elsewhere(plan, round, item, spot));
-    let wanted = format!(in alloc;
-        "before round {round} `{name}` is in slot {slot} of `{disk}`, and a shift leaves where its item is: was NOW changed since `plan`?"
-    )?;
-    Ok((line, wanted))
+    item: &[u8],
+) -> Option<(&'a [u8], u64)> {
+    if let Some(step) = look_for(plan.bytes, &Want::Shifts(0, round, 0, item)).last {
+        return Some((step.word(3), read_digits(step.word(4))?));
+    }
+    let row = given.file("NOW")?.find(&Key::First(item))?;
+    Some((field(row.text, 1), number_at(row.text, 2)))
 }
 
-fn twice(alloc: Global, plan: &Plan, round: u32, item: ItemId) -> Result<Pointed, AllocError> {
-    let line = line_in(step_in_round(plan, round, item, 1));
-    let first = line_in(step_in_round(plan, round, item, 0)).unwrap_or(0);
-    let wanted = format!(in alloc;
-        "line {first} moves this item in the same round: a round moves an item once"
-    )?;
-    Ok((line, wanted))
-}
-
-fn not_free(
-    alloc: Global,
-    input: &Input,
-    plan: &Plan,
+fn say_elsewhere(
+    f: &mut String,
+    given: &Given<'_>,
+    plan: &Typed<'_>,
     round: u32,
-    item: ItemId,
-) -> Result<Pointed, AllocError> {
-    let Some(step) = step_in_round(plan, round, item, 0) else {
-        return Ok((None, String::from_str(alloc, "the slot is not free")?));
+    item: &[u8],
+) -> Said {
+    let Some((disk, slot)) = spot_before(given, plan, round, item) else {
+        return Ok(());
     };
-    let spot = step.shift.to;
-    let disk = Shown(disk_bytes(input, spot.disk));
-    let slot = spot.slot;
-    let slots = match input.disks().get(spot.disk.0 as usize) {
-        Some(disk) => disk.slots,
-        None => 0,
+    let steps = look_for(plan.bytes, &in_round(item, round));
+    let step = match steps.first {
+        Some(step) if step.word(1) == disk && read_digits(step.word(2)) == Some(slot) =>
+            steps.second,
+        other => other,
     };
-    let wanted = if slot >= slots {
-        format!(in alloc; "`{disk}` has {slots} slots, which count from 0")?
-    } else {
-        format!(in alloc;
+    point_step(f, plan, step)?;
+    let name = Shown(item);
+    let disk = Shown(disk);
+    write!(
+        f,
+        "before round {round} `{name}` is in slot {slot} of `{disk}`, "
+    )?;
+    f.push_str("and a shift leaves where its item is: was NOW changed since `plan`?")
+}
+
+fn say_not_free(
+    f: &mut String,
+    given: &Given<'_>,
+    plan: &Typed<'_>,
+    round: u32,
+    item: &[u8],
+) -> Said {
+    let step = look_for(plan.bytes, &in_round(item, round)).first;
+    point_step(f, plan, step)?;
+    let name = step.map_or([].as_slice(), |step| step.word(3));
+    let slot = step.map_or(0, |step| u64::from(count_at(step.text.unwrap_or(&[]), 4)));
+    let disk = Shown(name);
+    match given.file("DISKS").and_then(|disks| disks.slots_of(name)) {
+        Some(slots) if slot >= slots => write!(f, "`{disk}` has {slots} slots, which count from 0"),
+        _ => write!(
+            f,
             "slot {slot} of `{disk}` has an item before round {round}, or an earlier line of the round goes there"
-        )?
-    };
-    Ok((Some(step.line), wanted))
-}
-
-fn wrong_end(
-    alloc: Global,
-    input: &Input,
-    files: &InputFiles<'_>,
-    plan: &Plan,
-    item: ItemId,
-) -> Result<Pointed, AllocError> {
-    let name = Shown(item_bytes(input, item));
-    let wanted = match input.next().get(item.0 as usize) {
-        Some(disk) => Shown(disk_bytes(input, *disk)),
-        None => Shown(b""),
-    };
-    let next = match &files.next {
-        Some(next) => Shown(next.word.as_bytes()),
-        None => Shown(b"NEXT"),
-    };
-    match last_step(plan, item, u32::MAX) {
-        Some(step) => Ok((
-            Some(step.line),
-            format!(in alloc; "no later line moves `{name}`, and {next} wants it on `{wanted}`")?,
-        )),
-        None => Ok((
-            None,
-            format!(in alloc; "no line moves `{name}`, and {next} wants it on `{wanted}`")?,
-        )),
+        ),
     }
 }
 
-fn too_often(
-    alloc: Global,
-    input: &Input,
-    plan: &Plan,
-    item: ItemId,
-) -> Result<Pointed, AllocError> {
-    let name = Shown(item_bytes(input, item));
-    let line = line_in(last_step(plan, item, u32::MAX));
-    let stays = match (
-        input.now().get(item.0 as usize),
-        input.next().get(item.0 as usize),
-    ) {
-        (Some(spot), Some(disk)) => spot.disk == *disk,
-        _ => false,
-    };
-    let wanted = if stays {
-        format!(in alloc; "`{name}` stays on its disk, and a plan moves no item that stays")?
-    } else {
-        format!(in alloc; "an earlier line moves `{name}` too: a plan moves an item once")?
-    };
-    Ok((line, wanted))
+/// The disk of an item in the file with this role.
+fn disk_in<'a>(given: &Given<'a>, role: &str, item: &[u8]) -> Option<&'a [u8]> {
+    let row = given.file(role)?.find(&Key::First(item))?;
+    Some(field(row.text, 1))
+}
+
+fn say_wrong_end(f: &mut String, given: &Given<'_>, plan: &Typed<'_>, item: &[u8]) -> Said {
+    let last = look_for(plan.bytes, &Want::Shifts(0, u32::MAX, 0, item)).last;
+    let name = Shown(item);
+    let next = given.shown("NEXT");
+    let disk = Shown(disk_in(given, "NEXT", item).unwrap_or(b"another disk"));
+    let later = if last.is_some() { "later " } else { "" };
+    point_step(f, plan, last)?;
+    write!(
+        f,
+        "no {later}line moves `{name}`, and {next} wants it on `{disk}`"
+    )
+}
+
+fn say_too_often(f: &mut String, given: &Given<'_>, plan: &Typed<'_>, item: &[u8]) -> Said {
+    let last = look_for(plan.bytes, &Want::Shifts(0, u32::MAX, 0, item)).last;
+    point_step(f, plan, last)?;
+    let name = Shown(item);
+    let now = disk_in(given, "NOW", item);
+    if now.is_some() && now == disk_in(given, "NEXT", item) {
+        return write!(
+            f,
+            "`{name}` stays on its disk, and a plan moves no item that stays"
+        );
+    }
+    write!(
+        f,
+        "an earlier line moves `{name}` too: a plan moves an item once"
+    )
 }

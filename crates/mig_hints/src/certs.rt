@@ -1,53 +1,95 @@
 //! The lines of a certificate's text.
 
-use crate::misfits::after_end;
-use crate::plan_lines::line_at;
-use mig_text::{Parts, last_number};
-use std::alloc::{AllocError, Global};
+use crate::excerpts::{Said, Shown};
+use crate::files::Given;
+use crate::plans::{line_at, word_at};
+use crate::rows::{Key, number_at};
+use crate::texts::after_end;
+use mig_base::read_digits;
 
 /// What was expected at a line of a certificate.
-pub(crate) fn cert_line(alloc: Global, text: &[u8], number: u32) -> Result<String, AllocError> {
-    let wanted = match number {
-        0 | 1 =>
-            "a certificate begins with the line `migration-certificate 1`, or `migration-certificate 2` where disks have two limits: is this the file of CERT?",
-        2 => "wanted is `rounds N`, the number of the plan's rounds",
-        3 => "wanted is `quotient N`",
-        4 =>
+pub(crate) fn say_cert_line(f: &mut String, given: &Given<'_>, text: &[u8], number: u32) -> Said {
+    let line = line_at(text, number).unwrap_or(&[]);
+    match number {
+        0 | 1 => say_title(f, given, line),
+        2 => f.push_str("wanted is `rounds N`, the number of the plan's rounds"),
+        3 => f.push_str("wanted is `quotient N`"),
+        4 => f.push_str(
             "wanted is `class even` or `class general`, or `class duplex` where disks have two limits",
-        5 =>
-            "wanted is `bound nothing`, `bound disk NAME LOAD LIMIT VALUE` with the disk's limit, or `bound set COUNT INSIDE VALUE`; where disks have two limits `bound nothing`, or `bound side NAME out LOAD LIMIT VALUE` or the same with `in`",
-        _ => return member_line(alloc, text, number.saturating_sub(6)),
-    };
-    String::from_str(alloc, wanted)
+        ),
+        5 => say_bound(f, given, line),
+        _ => f.push_str(member_line(text, number)),
+    }
 }
 
-/// What was expected so many lines after that of the bound.
-fn member_line(alloc: Global, text: &[u8], after: u32) -> Result<String, AllocError> {
-    let members = members_of(line_at(text, 5));
-    if after < members {
-        return String::from_str(
-            alloc,
-            "wanted is the name of the set's next disk, in the order of DISKS",
+/// The first line, which says whether disks have two limits.
+fn say_title(f: &mut String, given: &Given<'_>, line: &[u8]) -> Said {
+    let disks = given.shown("DISKS");
+    let sides = given.file("DISKS").map(|disks| disks.has_sides());
+    match (line, sides) {
+        (b"migration-certificate 1", Some(true)) => write!(
+            f,
+            "this certificate was made for joint limits, one for each disk, and {disks} has two for each: plan again"
+        ),
+        (b"migration-certificate 2", Some(false)) => write!(
+            f,
+            "this certificate was made for split limits, two for each disk, and {disks} has one for each: plan again"
+        ),
+        _ => f.push_str(
+            "a certificate begins with the line `migration-certificate 1`, or `migration-certificate 2` where disks have two limits: is this the file of CERT?",
+        ),
+    }
+}
+
+/// The line of the bound, which may name a disk and its limit.
+fn say_bound(f: &mut String, given: &Given<'_>, line: &[u8]) -> Said {
+    let Some((there, listed)) = limits_of(given, line) else {
+        return f.push_str(
+            "wanted is `bound nothing`, `bound disk NAME LOAD LIMIT VALUE` with the disk's limit, or `bound set COUNT INSIDE VALUE`; where disks have two limits `bound nothing`, or `bound side NAME out LOAD LIMIT VALUE` or the same with `in`",
         );
+    };
+    let name = Shown(word_at(line, 2));
+    let disks = given.shown("DISKS");
+    write!(
+        f,
+        "the limit of `{name}` is {there} here, and {listed} in {disks}: was it changed since `plan`? Plan again"
+    )
+}
+
+/// The limit in the line of a bound and that in the file of disks, where they are two.
+fn limits_of(given: &Given<'_>, line: &[u8]) -> Option<(u64, u64)> {
+    let disks = given.file("DISKS")?;
+    let (place, last) = match (word_at(line, 1), word_at(line, 3), disks.has_sides()) {
+        (b"disk", _, false) => (1, 5),
+        (b"side", b"out", true) => (1, 6),
+        (b"side", b"in", true) => (2, 6),
+        _ => return None,
+    };
+    if word_at(line, last).is_empty() {
+        return None;
+    }
+    let there = read_digits(word_at(line, last - 1))?;
+    let listed = number_at(disks.find(&Key::First(word_at(line, 2)))?.text, place);
+    if there == listed {
+        return None;
+    }
+    Some((there, listed))
+}
+
+/// What was expected after the line of the bound.
+fn member_line(text: &[u8], number: u32) -> &'static str {
+    let after = u64::from(number.saturating_sub(6));
+    let members = match line_at(text, 5) {
+        Some(line) if word_at(line, 1) == b"set".as_slice() => read_digits(word_at(
+            line, 2,
+        )).unwrap_or(0),
+        _ => 0,
+    };
+    if after < members {
+        return "wanted is the name of the set's next disk, in the order of DISKS";
     }
     if after == members {
-        return String::from_str(alloc, "wanted is the line `end`");
+        return "wanted is the line `end`";
     }
-    after_end(alloc, line_at(text, after.saturating_add(6)))
-}
-
-/// How many names follow the line of a bound.
-fn members_of(line: Option<&[u8]>) -> u32 {
-    let Some(line) = line else {
-        return 0;
-    };
-    let mut parts = Parts::of(line, b' ');
-    let _bound = parts.take_part();
-    if parts.take_part() != Some(b"set".as_slice()) {
-        return 0;
-    }
-    match parts.take_part() {
-        Some(count) => last_number(Parts::of(count, b' '), 1024).unwrap_or(0),
-        None => 0,
-    }
+    after_end(line_at(text, number))
 }

@@ -21,9 +21,6 @@ pub(crate) const COMMANDS: [&str; 17] = [
     "halt-tight",
 ];
 
-/// How the names of those end that read an input without asking whether each disk has room.
-const TIGHT: &str = "-tight";
-
 static WITH_CERT: [&str; 5] = ["DISKS", "NOW", "NEXT", "PLAN", "CERT"];
 
 static WITH_LAYOUT: [&str; 5] = ["DISKS", "NOW", "NEXT", "PLAN", "LAYOUT"];
@@ -81,10 +78,11 @@ pub(crate) fn roles_of(command: &str) -> Option<&'static [&'static str]> {
 }
 
 /// How the name of the command ends: `-tight` where no disk is asked for room, and else with nothing more.
-pub(crate) fn ending_of(words: &[String]) -> &'static str {
-    match words.first() {
-        Some(command) if command.as_str().ends_with(TIGHT) => TIGHT,
-        _ => "",
+pub(crate) fn ending_of(command: &str) -> &'static str {
+    if command.ends_with("-tight") {
+        "-tight"
+    } else {
+        ""
     }
 }
 
@@ -97,21 +95,4 @@ pub(crate) fn is_saved(command: &str, role: &str) -> bool {
         "NEXT" => command == "drain",
         _ => false,
     }
-}
-
-/// The word that has this role, if the command has one.
-pub(crate) fn word_for<'a>(words: &'a [String], role: &str) -> Option<&'a str> {
-    let (command, files) = words.split_first()?;
-    let roles = roles_of(command.as_str())?;
-    let place = roles.iter().position(|it| *it == role)?;
-    Some(files.get(place)?.as_str())
-}
-
-/// The word of the file with this role that the command reads, if it reads one.
-pub(crate) fn read_word<'a>(words: &'a [String], role: &str) -> Option<&'a str> {
-    let command = words.first()?;
-    if is_saved(command.as_str(), role) {
-        return None;
-    }
-    word_for(words, role)
 }

@@ -1,11 +1,12 @@
-//! Bytes as they are shown.
+//! Bytes as they are shown, and the line that a hint points to.
 
+use std::alloc::AllocError;
 use std::fmt::{self, Formatter};
 
 /// How many characters of a text are shown.
 const MOST: usize = 60;
 
-/// The first characters of a text, each as it is or, where it is none that can be printed, as the number of its byte.
+/// The first characters of a text, each as it is or, where it is none that can be seen, as its number.
 #[derive(Clone, Copy)]
 pub(crate) struct Shown<'a>(pub(crate) &'a [u8]);
 
@@ -18,9 +19,19 @@ impl<'a> fmt::Display for Shown<'a> {
     }
 }
 
-/// Whether a terminal shows the character and does nothing else.
-fn is_plain(c: char) -> bool {
-    matches!(c, ' '..='~') || c >= '\u{a0}'
+/// Whether a terminal shows the character with this number, and not as a blank.
+fn is_plain(code: u32) -> bool {
+    (code >= 0x20 && code < 0x7f)
+        || (code > 0xa0 && code < 0x2000)
+        || (code >= 0x2070 && code != 0xfeff)
+}
+
+fn write_one<W: fmt::Write>(c: char, f: &mut Formatter<W>) -> fmt::Result {
+    let code = u32::from(c);
+    if is_plain(code) {
+        return f.write_char(c);
+    }
+    write!(f, "\\x{code:02x}")
 }
 
 fn write_text<W: fmt::Write>(text: &str, f: &mut Formatter<W>) -> fmt::Result {
@@ -29,31 +40,33 @@ fn write_text<W: fmt::Write>(text: &str, f: &mut Formatter<W>) -> fmt::Result {
         if shown >= MOST {
             return f.write_str(" ..");
         }
-        if is_plain(c) {
-            f.write_char(c)?;
-        } else {
-            let code = u32::from(c);
-            write!(f, "\\x{code:02x}")?;
-        }
+        write_one(c, f)?;
         shown = shown.saturating_add(1);
     }
     Ok(())
 }
 
+/// Bytes that are no UTF-8 are shown as those of Latin-1.
 fn write_bytes<W: fmt::Write>(bytes: &[u8], f: &mut Formatter<W>) -> fmt::Result {
-    let mut shown = 0usize;
-    for byte in bytes {
-        if shown >= MOST {
-            return f.write_str(" ..");
-        }
-        if matches!(*byte, b' '..=b'~') {
-            f.write_char(char::from(*byte))?;
-            shown = shown.saturating_add(1);
-        } else {
-            let code = *byte;
-            write!(f, "\\x{code:02x}")?;
-            shown = shown.saturating_add(4);
-        }
+    let part = bytes.get(..MOST).unwrap_or(bytes);
+    for byte in part {
+        write_one(char::from(*byte), f)?;
     }
-    Ok(())
+    f.write_str(if part.len() < bytes.len() { " .." } else { "" })
+}
+
+/// What comes of adding to a hint: want of memory gives none.
+pub(crate) type Said = Result<(), AllocError>;
+
+/// Points to a line of a file. Lines count from 1.
+pub(crate) fn point(f: &mut String, word: &str, line: usize, text: &[u8]) -> Said {
+    let word = Shown(word.as_bytes());
+    let text = Shown(text);
+    write!(f, "migrate: {word}, line {line}: {text}\nmigrate: ")
+}
+
+/// Points to a file as a whole.
+pub(crate) fn point_whole(f: &mut String, word: &str) -> Said {
+    let word = Shown(word.as_bytes());
+    write!(f, "migrate: {word}: ")
 }

@@ -1,47 +1,9 @@
 //! Why the first line of a file is no header.
 
-use crate::rows::{Typed, without_mark};
+use crate::excerpts::Said;
+use crate::files::Typed;
+use crate::rows::without_mark;
 use mig_base::FileKind;
-use mig_lines::{line_from, row_start};
-use std::alloc::{AllocError, Global};
-
-/// The header of a disks file with an outgoing and an incoming limit in each row.
-const SIDES: &str = "disk,out,in,slots";
-
-/// The header of a file; of a disks file that of rows with one limit.
-fn header_of(file: FileKind) -> &'static str {
-    match file {
-        FileKind::Disks => "disk,limit,slots",
-        FileKind::Now => "item,disk,slot",
-        FileKind::Next => "item,disk",
-    }
-}
-
-/// What the first line of a file may be.
-fn headers_of(file: FileKind) -> &'static str {
-    match file {
-        FileKind::Disks =>
-            "disk,limit,slots, or disk,out,in,slots where a disk has an outgoing and an incoming limit",
-        other => header_of(other),
-    }
-}
-
-/// The header that a line is meant to be: in a disks file the one with as many fields. The line has commas for other marks.
-fn meant_by(file: FileKind, plain: &[u8]) -> &'static str {
-    if file == FileKind::Disks && plain.iter().filter(|b| **b == b',').count() == 3 {
-        return SIDES;
-    }
-    header_of(file)
-}
-
-/// Whether the rows of a disks file with these bytes have two limits: its header has four fields.
-pub(crate) fn has_sides(bytes: &[u8]) -> bool {
-    let bytes = without_mark(bytes);
-    match row_start(bytes, 0) {
-        Some(at) => line_from(bytes, at).iter().filter(|b| **b == b',').count() == 3,
-        None => false,
-    }
-}
 
 /// The word that a file is given by.
 pub(crate) fn role_of(file: FileKind) -> &'static str {
@@ -52,41 +14,50 @@ pub(crate) fn role_of(file: FileKind) -> &'static str {
     }
 }
 
-/// What is said where the first row of a file is not its header.
-pub(crate) fn header_hint(
-    alloc: Global,
-    file: FileKind,
-    typed: &Typed<'_>,
-) -> Result<String, AllocError> {
-    let bytes = without_mark(typed.bytes);
-    if is_utf16(bytes) {
-        return String::from_str(alloc, "the file is in UTF-16; save it as CSV UTF-8");
+/// What the first line of a file may be.
+fn headers_of(file: FileKind) -> &'static str {
+    match file {
+        FileKind::Disks =>
+            "disk,limit,slots, or disk,out,in,slots where a disk has an outgoing and an incoming limit",
+        FileKind::Now => "item,disk,slot",
+        FileKind::Next => "item,disk",
     }
-    if bytes.starts_with(b"PK\x03\x04") {
-        return String::from_str(
-            alloc,
-            "this is a spreadsheet or an archive, no text; save it as CSV UTF-8",
-        );
+}
+
+/// The header that a line is meant to be: in a disks file the one with as many fields.
+fn meant_by(file: FileKind, line: &[u8]) -> &'static str {
+    let is_mark = |b: &&u8| matches!(**b, b',' | b';' | b'\t');
+    match file {
+        FileKind::Disks if line.iter().filter(is_mark).count() == 3 => "disk,out,in,slots",
+        FileKind::Disks => "disk,limit,slots",
+        _ => headers_of(file),
     }
-    let wanted = headers_of(file);
-    let Some(at) = row_start(bytes, 0) else {
-        return format!(in alloc; "the file is empty; its first line must be {wanted}");
-    };
-    let first = line_from(bytes, at);
-    if let Some(other) = other_file(alloc, file, first)? {
-        return other_header(alloc, file, other);
+}
+
+/// Whether a line is the header of a file but for capitals, blanks, quotes, and other marks in the place of commas.
+fn is_meant(file: FileKind, line: &[u8]) -> bool {
+    let header = meant_by(file, line).as_bytes();
+    let mut passed = 0usize;
+    for byte in line {
+        let plain = match *byte {
+            b' ' | b'"' => continue,
+            b';' | b'\t' => b',',
+            other => other.to_ascii_lowercase(),
+        };
+        if header.get(passed) != Some(&plain) {
+            return false;
+        }
+        passed = passed.saturating_add(1);
     }
-    let plain = plain_text(alloc, first)?;
-    let meant = meant_by(file, plain.as_slice());
-    if let Some(marks) = other_marks(first) {
-        return format!(in alloc;
-            "the fields are separated by {marks}; separate by commas: {meant}"
-        );
+    passed == header.len()
+}
+
+/// A row without the empty fields at its end.
+pub(crate) fn without_empty(row: &[u8]) -> &[u8] {
+    match row.iter().rposition(|b| *b != b',') {
+        Some(last) => row.get(..=last).unwrap_or(row),
+        None => &[],
     }
-    if plain.as_slice() == meant.as_bytes() {
-        return format!(in alloc; "small letters and no blanks are wanted: {meant}");
-    }
-    format!(in alloc; "the first line must be {wanted}")
 }
 
 /// Whether the first bytes are those of a text in UTF-16, with or without its mark.
@@ -98,49 +69,85 @@ fn is_utf16(bytes: &[u8]) -> bool {
     }
 }
 
-/// What separates the fields in the place of commas.
-fn other_marks(line: &[u8]) -> Option<&'static str> {
-    if line.contains(&b',') {
-        return None;
-    }
-    if line.contains(&b';') {
-        return Some("semicolons");
-    }
-    if line.contains(&b'\t') {
-        return Some("tabs");
+/// The other file whose header the line is.
+fn other_file(file: FileKind, line: &[u8]) -> Option<FileKind> {
+    for other in [FileKind::Disks, FileKind::Now, FileKind::Next] {
+        if other != file && is_meant(other, line) {
+            return Some(other);
+        }
     }
     None
 }
 
-/// The line in small letters, without blanks and quotes, and with commas for other marks.
-fn plain_text(alloc: Global, line: &[u8]) -> Result<Vec<u8>, AllocError> {
-    let mut plain = Vec::new(alloc);
-    for byte in line {
-        match *byte {
-            b' ' | b'"' => {}
-            b';' | b'\t' => plain.push(b',')?,
-            other => plain.push(other.to_ascii_lowercase())?,
-        }
+/// Why the first bytes of a file are no text of rows.
+fn other_kind(bytes: &[u8]) -> Option<&'static str> {
+    if is_utf16(bytes) {
+        return Some("the file is in UTF-16; save it as CSV UTF-8");
     }
-    Ok(plain)
+    if bytes.starts_with(b"PK\x03\x04") {
+        return Some("this is a spreadsheet or an archive, no text; save it as CSV UTF-8");
+    }
+    if bytes.starts_with(b"\xef\xbb\xbf") {
+        return Some("the file begins with two byte order marks; keep one or none");
+    }
+    None
 }
 
-/// The other file whose header the line is.
-fn other_file(alloc: Global, file: FileKind, line: &[u8]) -> Result<Option<FileKind>, AllocError> {
-    let plain = plain_text(alloc, line)?;
-    for other in [FileKind::Disks, FileKind::Now, FileKind::Next] {
-        if other != file && plain.as_slice() == meant_by(other, plain.as_slice()).as_bytes() {
-            return Ok(Some(other));
-        }
+/// Why a line is not the header of a file, and which one is wanted.
+fn fault_of(file: FileKind, line: &[u8]) -> (&'static str, &'static str) {
+    let meant = meant_by(file, line);
+    let whole = without_empty(line);
+    if line.starts_with(b"sep=") || line.starts_with(b"#") {
+        return (
+            "remove this line: the first line must be ",
+            headers_of(file),
+        );
     }
-    Ok(None)
+    if !line.contains(&b',') && line.contains(&b';') {
+        return (
+            "the fields are separated by semicolons; separate by commas: ",
+            meant,
+        );
+    }
+    if !line.contains(&b',') && line.contains(&b'\t') {
+        return (
+            "the fields are separated by tabs; separate by commas: ",
+            meant,
+        );
+    }
+    if is_meant(file, line) {
+        return ("small letters and no blanks are wanted: ", meant);
+    }
+    if whole.len() < line.len() && is_meant(file, whole) {
+        return (
+            "delete the empty columns at its end: the first line must be ",
+            meant_by(file, whole),
+        );
+    }
+    ("the first line must be ", headers_of(file))
 }
 
-fn other_header(alloc: Global, file: FileKind, other: FileKind) -> Result<String, AllocError> {
-    let here = role_of(file);
-    let there = role_of(other);
+/// What is said where the first row of a file is not its header.
+pub(crate) fn say_no_header(f: &mut String, file: FileKind, typed: &Typed<'_>) -> Said {
+    if let Some(kind) = other_kind(without_mark(typed.bytes)) {
+        return f.push_str(kind);
+    }
     let wanted = headers_of(file);
-    format!(in alloc;
-        "this is the header of {there}, and this word stands for {here}, whose header is {wanted}: the words come in the order DISKS NOW NEXT"
-    )
+    let Some(row) = typed.row(0) else {
+        return write!(f, "the file is empty; its first line must be {wanted}");
+    };
+    if let Some(other) = other_file(file, row.text) {
+        let here = role_of(file);
+        let there = role_of(other);
+        write!(
+            f,
+            "this is the header of {there}, and this word stands for {here}, "
+        )?;
+        return write!(
+            f,
+            "whose header is {wanted}: the words come in the order DISKS NOW NEXT"
+        );
+    }
+    let (fault, header) = fault_of(file, row.text);
+    write!(f, "{fault}{header}")
 }

@@ -1,29 +1,32 @@
-//! Says on standard error what a status means.
+//! Says on standard error why a command ended as it did.
 
-use crate::blames::blame_hint;
-use crate::commands::{FORMS, ending_of, read_word, word_for};
-use crate::emptying::drain_hint;
-use crate::found::read_again;
-use crate::journals::journal_hint;
-use crate::misfits::{misfit_hint, script_hint};
-use crate::missing::missing_hint;
-use crate::ready::{fill_hint, move_hint};
-use crate::refusals::{InputFiles, refusal_hint};
-use crate::rows::Typed;
-use crate::tight::tight_hint;
-use crate::wrong_words::words_hint;
-use std::alloc::AllocError;
+use crate::commands::FORMS;
+use crate::excerpts::Said;
+use crate::files::{Given, Seen, load};
+use crate::findings::{say_finding, say_no_file};
+use crate::journals::{say_begun, say_idle, say_other};
+use crate::stores::{say_lost, say_used};
+use crate::wrong_words::say_words;
+use mig_words::{Ending, StoreRefusal};
 use std::fs::File;
 use std::rt::Files;
 
-/// What is said where a plan is too large for a drill.
-const TOO_LARGE: &str =
-    "migrate: a drill takes a plan of at most 256 shifts; `rehearse` and `check` take larger ones";
-
-/// Says on standard error what the status of a command of these words means, as far as its files can be read again. What
-/// can't be read, and want of memory, give no hint.
-pub fn hint<R: AllocGlobal + Files<File = File> + Eprint>(rt: &R, words: &[String], status: u8) {
-    if let Ok(Some(text)) = hint_for(rt, words, status) {
+/// Says on standard error what the status of a command of these words means, and why it ended so where that was found. It
+/// says nothing where a file has changed since it was `seen` before the command, nor where memory is refused.
+pub fn hint<R: AllocGlobal + Files<File = File> + Eprint>(
+    rt: &R,
+    words: &[String],
+    seen: &Seen,
+    status: u8,
+    ending: Option<Ending>,
+) {
+    let mut text = String::new(rt.alloc());
+    let said = match ending {
+        None if status == 2 => say_words(rt.alloc(), &mut text, words),
+        Some(ending) => say_ending(rt, &mut text, words, seen, &ending),
+        None => Ok(()),
+    };
+    if said.is_ok() && !text.is_empty() {
         let _ = eprintln!(rt; "{text}");
     }
     if status == 2 {
@@ -31,131 +34,44 @@ pub fn hint<R: AllocGlobal + Files<File = File> + Eprint>(rt: &R, words: &[Strin
     }
 }
 
-fn hint_for<R: AllocGlobal + Files<File = File>>(
+fn say_ending<R: AllocGlobal + Files<File = File>>(
     rt: &R,
+    f: &mut String,
     words: &[String],
-    status: u8,
-) -> Result<Option<String>, AllocError> {
-    match status {
-        1 | 3 | 9 | 10 | 13 | 14 | 15 => files_hint(rt, words, status),
-        2 => {
-            let alloc = rt.alloc();
-            let reason = words_hint(alloc, words)?;
-            Ok(Some(format!(in alloc; "migrate: {reason}")?))
-        }
-        8 => journal_hint(rt, words),
-        11 => Ok(Some(String::from_str(rt.alloc(), TOO_LARGE)?)),
-        16 => missing_hint(rt, words),
-        _ => Ok(None),
+    seen: &Seen,
+    ending: &Ending,
+) -> Said {
+    let texts = load(rt, words, seen)?;
+    if !seen.is_same(rt, words) {
+        return Ok(());
     }
-}
-
-/// The bytes of a command's files; None for one that the command doesn't have, or that can't be read again.
-struct Loaded {
-    disks: Option<Vec<u8>>,
-    now: Option<Vec<u8>>,
-    next: Option<Vec<u8>>,
-    plan: Option<Vec<u8>>,
-    cert: Option<Vec<u8>>,
-    script: Option<Vec<u8>>,
-}
-
-impl Drop for Loaded {
-    fn drop(self) {
-        let Loaded {
-            disks: _disks,
-            now: _now,
-            next: _next,
-            plan: _plan,
-            cert: _cert,
-            script: _script,
-        } = self;
-    }
-}
-
-impl Loaded {
-    /// Reads the files of the command; the texts too where they were read before.
-    fn of<R: AllocGlobal + Files<File = File>>(rt: &R, words: &[String], texts: bool) -> Loaded {
-        Loaded {
-            disks: load_word(rt, words, "DISKS"),
-            now: load_word(rt, words, "NOW"),
-            next: load_word(rt, words, "NEXT"),
-            plan: if texts {
-                load_word(rt, words, "PLAN")
-            } else {
-                None
-            },
-            cert: if texts {
-                load_word(rt, words, "CERT")
-            } else {
-                None
-            },
-            script: if texts {
-                load_word(rt, words, "SCRIPT")
-            } else {
-                None
-            },
-        }
-    }
-
-    /// The files of the input, as they were typed.
-    fn input<'a>(&'a self, words: &'a [String]) -> Option<InputFiles<'a>> {
-        let next = typed(words, "NEXT", &self.next);
-        if next.is_none() && read_word(words, "NEXT").is_some() {
-            return None;
-        }
-        Some(InputFiles {
-            disks: typed(words, "DISKS", &self.disks)?,
-            now: typed(words, "NOW", &self.now)?,
-            next,
-            roomy: ending_of(words).is_empty(),
-        })
-    }
-}
-
-fn load_word<R: AllocGlobal + Files<File = File>>(
-    rt: &R,
-    words: &[String],
-    role: &str,
-) -> Option<Vec<u8>> {
-    read_again(rt, read_word(words, role)?)
-}
-
-/// A file as it was typed.
-fn typed<'a>(words: &'a [String], role: &str, bytes: &'a Option<Vec<u8>>) -> Option<Typed<'a>> {
-    match (read_word(words, role), bytes) {
-        (Some(word), Some(bytes)) => Some(Typed {
-            word,
-            bytes: bytes.as_slice(),
-        }),
-        _ => None,
-    }
-}
-
-/// What is said of the files, where they can be read again.
-fn files_hint<R: AllocGlobal + Files<File = File>>(
-    rt: &R,
-    words: &[String],
-    status: u8,
-) -> Result<Option<String>, AllocError> {
-    let alloc = rt.alloc();
-    let loaded = Loaded::of(rt, words, status != 3 && status != 13 && status != 14);
-    let Some(files) = loaded.input(words) else {
-        return Ok(None);
+    let given = Given {
+        words,
+        texts: texts.as_slice(),
     };
-    let plan = typed(words, "PLAN", &loaded.plan);
-    let cert = typed(words, "CERT", &loaded.cert);
-    if status == 15 {
-        return script_hint(alloc, &files, typed(words, "SCRIPT", &loaded.script));
+    match ending {
+        Ending::NoFile { place } => say_no_file(f, &given, *place),
+        Ending::Found(finding) => say_finding(f, &given, finding),
+        Ending::Refusal(refusal) => say_refusal(rt, f, &given, refusal),
+        _ => Ok(()),
     }
-    match (status, plan) {
-        (3, _) => refusal_hint(alloc, &files),
-        (13, _) => tight_hint(alloc, &files),
-        (14, _) => drain_hint(alloc, &files, word_for(words, "NAME")),
-        (1, Some(plan)) => blame_hint(alloc, &files, &plan, cert),
-        (10, Some(plan)) => misfit_hint(alloc, &files, &plan, cert),
-        (9, Some(plan)) => move_hint(rt, &files, &plan),
-        (9, None) if word_for(words, "PLAN").is_none() => fill_hint(rt, &files),
-        _ => Ok(None),
+}
+
+fn say_refusal<R: AllocGlobal + Files<File = File>>(
+    rt: &R,
+    f: &mut String,
+    given: &Given<'_>,
+    refusal: &StoreRefusal,
+) -> Said {
+    match refusal {
+        StoreRefusal::Started => say_begun(rt, f, given),
+        StoreRefusal::OtherPlan { kept: _, ours: _ } => say_other(f, given),
+        StoreRefusal::NotStarted => say_idle(rt, f),
+        StoreRefusal::NotThere { item: Some(item) } => say_lost(rt, f, given, item),
+        StoreRefusal::Occupied {
+            disk: Some(disk),
+            slot,
+        } => say_used(rt, f, given, disk, *slot),
+        _ => Ok(()),
     }
 }

@@ -2,26 +2,23 @@
 #![tactic(auto)]
 
 mod blames;
+mod causes;
 mod certs;
 mod commands;
-mod emptying;
 mod excerpts;
-mod found;
+mod files;
+mod findings;
 mod headers;
 mod hinting;
 mod journals;
-mod misfits;
-mod missing;
 mod names;
-mod places;
-mod plan_lines;
-mod ready;
-mod refusals;
-mod row_causes;
+mod plans;
 mod rows;
 mod slots;
-mod tight;
+mod stores;
+mod texts;
 mod wrong_words;
 
 pub use commands::FORMS;
+pub use files::Seen;
 pub use hinting::hint;

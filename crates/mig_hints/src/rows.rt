@@ -1,17 +1,14 @@
-//! The rows of a CSV file that was refused, read again by the same reader.
-ghost use Rattle.std.specs.Prelude.{◌≡◌};
+//! The rows of a CSV file, for what is said of one.
 
-use crate::places::Place;
-use csv::{ByteRecord, ReaderBuilder};
+use crate::files::Typed;
 use mig_base::read_digits;
 use mig_lines::{line_from, line_of, row_start};
-use std::alloc::Global;
 
-/// A file of the input, as it was typed, and what it holds.
+/// A row, and the line that it stands in. Lines count from 1.
 #[derive(Clone, Copy)]
-pub(crate) struct Typed<'a> {
-    pub(crate) word: &'a str,
-    pub(crate) bytes: &'a [u8],
+pub(crate) struct Row<'a> {
+    pub(crate) line: usize,
+    pub(crate) text: &'a [u8],
 }
 
 /// The bytes after the byte order mark, if there is one.
@@ -22,51 +19,70 @@ pub(crate) fn without_mark(bytes: &[u8]) -> &[u8] {
     }
 }
 
+fn row_at(bytes: &[u8], at: usize) -> Option<Row<'_>> {
+    if at >= bytes.len() {
+        return None;
+    }
+    Some(Row {
+        line: line_of(bytes, at),
+        text: line_from(bytes, at),
+    })
+}
+
 impl<'a> Typed<'a> {
-    /// Where a row stands, if there is such a row. Row 0 is the header.
-    pub(crate) fn place_of_row(&self, row: u32) -> Option<Place<'a>> {
+    /// A row, if there is such a row. Row 0 is the header.
+    pub(crate) fn row(&self, number: u32) -> Option<Row<'a>> {
         let bytes = without_mark(self.bytes);
-        let at = row_start(bytes, row as usize)?;
-        Some(Place {
-            word: self.word,
-            line: line_of(bytes, at),
-            text: line_from(bytes, at),
-        })
+        row_at(bytes, row_start(bytes, number as usize)?)
     }
 
-    /// The fields of a row.
-    pub(crate) fn row(&self, alloc: Global, row: u32) -> Option<ByteRecord> {
-        let mut reader = ReaderBuilder::new()
-            .has_headers(false)
-            .flexible(true)
-            .from_reader(alloc, self.bytes);
-        let mut record = ByteRecord::new(alloc);
-        for _ in 0..u64::from(row) + 1 {
-            match reader.read_byte_record(&mut record) {
-                Ok(true) => {}
-                _ => return None,
-            }
-        }
-        Some(record)
-    }
-
-    /// The number of the first row after the header that has this key.
-    pub(crate) fn find(&self, alloc: Global, key: &Key<'_>) -> Option<u32> {
-        let mut reader = ReaderBuilder::new()
-            .has_headers(false)
-            .flexible(true)
-            .from_reader(alloc, self.bytes);
-        let mut record = ByteRecord::new(alloc);
-        for row in 0..u32::MAX {
-            match reader.read_byte_record(&mut record) {
-                Ok(true) => {}
-                _ => return None,
-            }
-            if row > 0 && key.fits(&record) {
-                return Some(row);
+    /// The first row after the header with this key.
+    pub(crate) fn find(&self, key: &Key<'_>) -> Option<Row<'a>> {
+        let bytes = without_mark(self.bytes);
+        let mut rows = Rows::of(self);
+        for _ in 0..bytes.len() {
+            let (at, text) = rows.take_row()?;
+            if key.fits(text) {
+                return row_at(bytes, at);
             }
         }
         None
+    }
+
+    /// How many slots a file of disks gives a disk.
+    pub(crate) fn slots_of(&self, disk: &[u8]) -> Option<u64> {
+        let row = self.find(&Key::First(disk))?;
+        Some(number_at(row.text, if self.has_sides() { 3 } else { 2 }))
+    }
+
+    /// Whether the rows have two limits, as in a disks file whose header has four fields.
+    pub(crate) fn has_sides(&self) -> bool {
+        self.row(0).map_or(false, |header| width(header.text) == 4)
+    }
+}
+
+/// The rows after the header that are still to come.
+#[derive(Clone, Copy)]
+pub(crate) struct Rows<'a> {
+    bytes: &'a [u8],
+    at: usize,
+}
+
+impl<'a> Rows<'a> {
+    pub(crate) fn of(typed: &Typed<'a>) -> Rows<'a> {
+        let bytes = without_mark(typed.bytes);
+        let at = row_start(bytes, 1).unwrap_or(bytes.len());
+        Rows { bytes, at }
+    }
+
+    /// The byte at which the next row begins, and the row.
+    pub(crate) fn take_row(&mut self) -> Option<(usize, &'a [u8])> {
+        let rest = self.bytes.get(self.at..)?;
+        let start = row_start(rest, 0)?;
+        let text = line_from(rest, start);
+        let at = self.at.saturating_add(start);
+        self.at = at.saturating_add(text.len());
+        Some((at, text))
     }
 }
 
@@ -82,7 +98,7 @@ pub(crate) enum Key<'a> {
 }
 
 impl<'a> Key<'a> {
-    fn fits(&self, row: &ByteRecord) -> bool {
+    fn fits(&self, row: &[u8]) -> bool {
         match self {
             Key::First(name) => field(row, 0) == *name,
             Key::AnyCase(name) => field(row, 0).eq_ignore_ascii_case(name),
@@ -93,10 +109,52 @@ impl<'a> Key<'a> {
     }
 }
 
-/// The field at a place, or no bytes where the row has none there.
-pub(crate) fn field(row: &ByteRecord, place: usize) -> &[u8] {
-    match row.get(place) {
-        Some(bytes) => bytes,
+/// How many fields a row has.
+pub(crate) fn width(row: &[u8]) -> usize {
+    let mut fields = 1usize;
+    let mut quoted = false;
+    for byte in row {
+        match *byte {
+            b'"' => quoted = !quoted,
+            b',' if !quoted => fields = fields.saturating_add(1),
+            _ => {}
+        }
+    }
+    fields
+}
+
+/// The field at a place, without its quotes; no bytes where the row has none there.
+pub(crate) fn field(row: &[u8], place: usize) -> &[u8] {
+    let mut start = 0;
+    let mut passed = 0usize;
+    let mut quoted = false;
+    for at in 0..row.len() {
+        match row[at] {
+            b'"' => quoted = !quoted,
+            b',' if !quoted && passed == place => return unquoted(row.get(start..at)),
+            b',' if !quoted => {
+                passed = passed.saturating_add(1);
+                start = at + 1;
+            }
+            _ => {}
+        }
+    }
+    if passed == place {
+        unquoted(row.get(start..))
+    } else {
+        &[]
+    }
+}
+
+/// The number in the field at a place, or 0.
+pub(crate) fn number_at(row: &[u8], place: usize) -> u64 {
+    read_digits(field(row, place)).unwrap_or(0)
+}
+
+fn unquoted(field: Option<&[u8]>) -> &[u8] {
+    match field {
+        Some([b'"', inner @ .., b'"']) => inner,
+        Some(field) => field,
         None => &[],
     }
 }

@@ -1,10 +1,10 @@
 //! What a slot of a disk holds, read from the disk's file.
 
 use crate::excerpts::Shown;
-use crate::found::{is_missing, read_at};
+use crate::files::{is_missing, read_at};
 use mig_base::Name;
 use mig_lines::{HEADER, SLOT};
-use std::alloc::{AllocError, Global};
+use std::alloc::AllocError;
 use std::fmt::{self, Display, Formatter};
 use std::fs::File;
 use std::rt::Files;
@@ -47,17 +47,8 @@ impl Held {
 
     /// Whether the slot's header names the item.
     pub(crate) fn is_item(&self, name: &Name) -> bool {
-        match self {
-            Held::Item(found) => found.bytes() == name.bytes(),
-            _ => false,
-        }
+        matches!(self, Held::Item(found) if found.bytes() == name.bytes())
     }
-}
-
-/// The name of a disk's file.
-pub(crate) fn disk_file(alloc: Global, disk: &Name) -> Result<String, AllocError> {
-    let name = Shown(disk.bytes());
-    format!(in alloc; "{name}.disk")
 }
 
 /// Reads a slot of a disk, and says what it holds.
@@ -67,37 +58,26 @@ pub(crate) fn look<R: Files<File = File> + AllocGlobal>(
     slot: u32,
     bytes: &mut [u8; SLOT],
 ) -> Result<Held, AllocError> {
-    let file = disk_file(rt.alloc(), disk)?;
+    let name = Shown(disk.bytes());
+    let file = format!(in rt.alloc(); "{name}.disk")?;
     if is_missing(rt, file.as_str()) {
         return Ok(Held::NoFile);
     }
-    if !read_at(rt, file.as_str(), u64::from(slot) * SLOT as u64, bytes) {
-        return Ok(Held::Unread);
+    match read_at(rt, file.as_str(), u64::from(slot) * SLOT as u64, bytes) {
+        Some(()) => Ok(held_in(bytes)),
+        None => Ok(Held::Unread),
     }
-    Ok(held_in(bytes))
 }
 
-/// What the bytes of a slot are.
+/// What the bytes of a slot are: in its header the name is followed by zeros.
 fn held_in(bytes: &[u8; SLOT]) -> Held {
     if bytes.iter().all(|b| *b == 0) {
         return Held::Zeros;
     }
     let used = bytes[0] == 1;
-    match name_in(bytes) {
-        Some(name) if used => Held::Item(name),
+    let end = (2 + bytes[1] as usize).min(HEADER);
+    match Name::read(&bytes[2..end]) {
+        Some(name) if used && bytes[end..HEADER].iter().all(|b| *b == 0) => Held::Item(name),
         _ => Held::NoItem { used },
     }
-}
-
-/// The name in a header, followed by zeros.
-fn name_in(bytes: &[u8; SLOT]) -> Option<Name> {
-    let count = bytes[1] as usize;
-    if count > 32 {
-        return None;
-    }
-    let end = 2 + count;
-    if !bytes[end..HEADER].iter().all(|b| *b == 0) {
-        return None;
-    }
-    Name::read(&bytes[2..end])
 }

@@ -1,0 +1,118 @@
+//! What is said of what was found wrong with the files.
+
+use crate::blames::say_blame;
+use crate::causes::say_cause;
+use crate::excerpts::{Said, Shown, point, point_whole};
+use crate::files::Given;
+use crate::headers::{role_of, say_no_header};
+use crate::rows::Key;
+use crate::texts::say_not_spelled;
+use mig_base::{FileKind, MAX_FILE_BYTES, Name, Why};
+use mig_words::Finding;
+
+/// What is said where a plan is too large for a drill.
+const TOO_LARGE: &str =
+    "migrate: a drill takes a plan of at most 256 shifts; `rehearse` and `check` take larger ones";
+
+/// What is said where each slot of each disk has an item in it.
+const NO_FREE: &str =
+    "migrate: each slot of each disk has an item in it, so no item can be moved, in whatever order\nmigrate: one free slot on any disk will do: add a slot or a disk, or take an item away";
+
+/// The bytes of a name, if there is one.
+fn bytes_of(name: &Option<Name>) -> &[u8] {
+    match name {
+        Some(name) => name.bytes(),
+        None => &[],
+    }
+}
+
+/// What is said of what was found.
+pub(crate) fn say_finding(f: &mut String, given: &Given<'_>, finding: &Finding) -> Said {
+    match finding {
+        Finding::Blamed { blame, name } => say_blame(f, given, blame, bytes_of(name)),
+        Finding::Refused { file, row, why } => say_refused(f, given, *file, *row, why),
+        Finding::NotSpelled { text, line } => say_not_spelled(f, given, text, *line),
+        Finding::TooLarge { shifts: _ } => f.push_str(TOO_LARGE),
+        Finding::TooMany { disk, needs, slots } => {
+            let next = given.shown("NEXT");
+            point_disk(f, given, bytes_of(disk))?;
+            write!(
+                f,
+                "{next} gives this disk {needs} items, and it has {slots} slots: "
+            )?;
+            f.push_str("no plan helps, so add slots, or give it fewer items")
+        }
+        Finding::NoFreeSlot => f.push_str(NO_FREE),
+        Finding::NoDisk { name } => say_no_disk(f, given, name),
+        Finding::NoRoom { items, free } => {
+            let now = given.shown("NOW");
+            point_disk(f, given, given.word("NAME").unwrap_or("").as_bytes())?;
+            write!(
+                f,
+                "{now} has {items} items on this disk, and leaves {free} slots of "
+            )?;
+            f.push_str("the other disks free: add slots or a disk, or take items away")
+        }
+    }
+}
+
+/// Which line of the three files is refused, and what was expected there.
+fn say_refused(f: &mut String, given: &Given<'_>, file: FileKind, number: u32, why: &Why) -> Said {
+    let Some(typed) = given.file(role_of(file)) else {
+        return Ok(());
+    };
+    if *why == Why::TooLong {
+        point_whole(f, typed.word)?;
+        return write!(f, "the file has more than {MAX_FILE_BYTES} bytes");
+    }
+    match typed.row(number) {
+        Some(row) => point(f, typed.word, row.line, row.text)?,
+        None => point_whole(f, typed.word)?,
+    }
+    let row = typed.row(number).map_or([].as_slice(), |row| row.text);
+    match why {
+        Why::BadHeader => say_no_header(f, file, &typed),
+        _ => say_cause(f, given, file, &typed, why, row),
+    }
+}
+
+/// Points to the row of a disk.
+fn point_disk(f: &mut String, given: &Given<'_>, disk: &[u8]) -> Said {
+    if let Some(disks) = given.file("DISKS") {
+        if let Some(row) = disks.find(&Key::First(disk)) {
+            return point(f, disks.word, row.line, row.text);
+        }
+    }
+    let name = Shown(disk);
+    write!(f, "migrate: disk `{name}`: ")
+}
+
+/// No disk has the name of the one that is to be emptied.
+fn say_no_disk(f: &mut String, given: &Given<'_>, name: &Name) -> Said {
+    let next = given.word("NEXT").unwrap_or("").as_bytes();
+    f.push_str("migrate: ")?;
+    given.say_unlisted(f, name.bytes())?;
+    let disks = given.file("DISKS");
+    if disks.is_some_and(|disks| disks.find(&Key::First(next)).is_some()) {
+        let next = Shown(next);
+        return write!(f, ", and `{next}` stands for NEXT: the order is NAME NEXT");
+    }
+    Ok(())
+}
+
+/// Which word leads to no file.
+pub(crate) fn say_no_file(f: &mut String, given: &Given<'_>, place: usize) -> Said {
+    let Some(role) = given.roles().get(place) else {
+        return Ok(());
+    };
+    let word = given.word(role).unwrap_or("");
+    let shown = Shown(word.as_bytes());
+    write!(f, "migrate: {shown}, the word for {role}, leads to no file")?;
+    f.push_str(match (word, *role) {
+        ("-", _) => "; /dev/stdin reads standard input",
+        (option, _) if option.starts_with("-") => "; there are no options",
+        (_, "PLAN" | "CERT") if given.command().ends_with("-tight") => "; `plan-tight` makes it",
+        (_, "PLAN" | "CERT") => "; `plan` makes it",
+        _ => "",
+    })
+}

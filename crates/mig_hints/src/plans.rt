@@ -1,0 +1,159 @@
+//! The lines of a plan's text.
+
+use mig_base::read_digits;
+
+/// What a line of a plan's text is to be, where the lines before it are right.
+#[derive(Clone, Copy, PartialEq, Eq)]
+pub(crate) enum Place {
+    /// Before the first line.
+    Start,
+    Title,
+    Count,
+    Head,
+    Shift,
+    End,
+    /// What follows the line `end`.
+    Nothing,
+}
+
+/// The word at a place of a line, from 0; no bytes where it has none there.
+pub(crate) fn word_at(line: &[u8], place: usize) -> &[u8] {
+    line.split(|b| *b == b' ').nth(place).unwrap_or(&[])
+}
+
+/// The line with this number, if the text has one. Lines count from 1, and each ends with LF.
+pub(crate) fn line_at(text: &[u8], number: u32) -> Option<&[u8]> {
+    text.split(|b| *b == b'\n')
+        .nth(number.checked_sub(1)? as usize)
+}
+
+/// The number that is the word at a place of a line, 0 where none is.
+pub(crate) fn count_at(line: &[u8], place: usize) -> u32 {
+    let number = read_digits(word_at(line, place)).unwrap_or(0);
+    u32::try_from(number).unwrap_or(0)
+}
+
+/// A line of a plan's text, if it has one there. Lines and rounds count from 1; a round's head is in its round.
+#[derive(Clone, Copy)]
+pub(crate) struct Step<'a> {
+    pub(crate) line: u32,
+    pub(crate) round: u32,
+    pub(crate) place: Place,
+    pub(crate) text: Option<&'a [u8]>,
+    rest: Option<&'a [u8]>,
+    rounds: u32,
+    /// How many shifts of the round are still to come.
+    left: u32,
+}
+
+impl<'a> Step<'a> {
+    /// The word at a place of the line, from 0.
+    pub(crate) fn word(&self, place: usize) -> &'a [u8] {
+        word_at(self.text.unwrap_or(&[]), place)
+    }
+
+    /// The next line is taken from the rest; there is no text where there is none.
+    fn take_line(&mut self) {
+        self.text = self.rest;
+        self.rest = None;
+        if let Some(text) = self.text {
+            if let Some(end) = text.iter().position(|b| *b == b'\n') {
+                self.text = text.get(..end);
+                self.rest = text.get(end + 1..);
+            }
+        }
+    }
+
+    fn next_place(&self) -> Place {
+        match self.place {
+            Place::Start => Place::Title,
+            Place::Title => Place::Count,
+            Place::End | Place::Nothing => Place::Nothing,
+            _ if self.left > 0 => Place::Shift,
+            _ if self.round < self.rounds => Place::Head,
+            _ => Place::End,
+        }
+    }
+
+    fn advance(&mut self) {
+        self.take_line();
+        self.line = self.line.saturating_add(1);
+        self.place = self.next_place();
+        match self.place {
+            Place::Count => self.rounds = count_at(self.text.unwrap_or(&[]), 1),
+            Place::Head => {
+                self.round = self.round.saturating_add(1);
+                self.left = count_at(self.text.unwrap_or(&[]), 2);
+            }
+            Place::Shift => self.left = self.left.saturating_sub(1),
+            _ => {}
+        }
+    }
+}
+
+/// Which lines are looked for.
+#[derive(Clone, Copy)]
+pub(crate) enum Want<'a> {
+    /// That with this number.
+    Line(u32),
+    /// The head of a round.
+    Head(u32),
+    /// The shifts in the rounds from the first on that come before the last, whose word at a place is this one.
+    Shifts(u32, u32, usize, &'a [u8]),
+}
+
+impl<'a> Want<'a> {
+    fn fits(&self, step: &Step<'_>) -> bool {
+        match (self, step.place) {
+            (Want::Line(line), _) => step.line == *line,
+            (Want::Head(round), Place::Head) => step.round == *round,
+            (Want::Shifts(first, last, place, word), Place::Shift) => {
+                step.round >= *first && step.round < *last && step.word(*place) == *word
+            }
+            _ => false,
+        }
+    }
+}
+
+/// The lines that are looked for: the first, the second and the last of them, and how many they are.
+#[derive(Clone, Copy)]
+pub(crate) struct Steps<'a> {
+    pub(crate) first: Option<Step<'a>>,
+    pub(crate) second: Option<Step<'a>>,
+    pub(crate) last: Option<Step<'a>>,
+    pub(crate) count: u32,
+}
+
+/// Looks through a plan's text, up to the place after its last line.
+pub(crate) fn look_for<'a>(text: &'a [u8], want: &Want<'_>) -> Steps<'a> {
+    let mut found = Steps {
+        first: None,
+        second: None,
+        last: None,
+        count: 0,
+    };
+    let mut step = Step {
+        line: 0,
+        round: 0,
+        place: Place::Start,
+        text: None,
+        rest: Some(text),
+        rounds: 0,
+        left: 0,
+    };
+    for _ in 0..=text.len() {
+        step.advance();
+        if want.fits(&step) {
+            if found.count == 1 {
+                found.second = Some(step);
+            }
+            found.first = found.first.or(Some(step));
+            found.last = Some(step);
+            found.count = found.count.saturating_add(1);
+        }
+        if step.text.is_none() {
+            break;
+        }
+    }
+    found
+}

@@ -1,0 +1,130 @@
+//! Which line of a plan, a certificate or a script is refused, and what was expected there.
+
+use crate::certs::say_cert_line;
+use crate::excerpts::{Said, Shown, point, point_whole};
+use crate::files::{Given, Typed};
+use crate::plans::{Place, Want, line_at, look_for, word_at};
+use crate::rows::Key;
+use mig_base::{MAX_FILE_BYTES, MAX_ROUNDS, MAX_SHIFTS, MAX_SLOTS, read_digits};
+use mig_words::TextFile;
+
+/// What is expected at a line of a script.
+const SCRIPT_LINE: &str =
+    "wanted is `read ITEM`, with an item of NOW, or `step N`, with N from 1 to 1000000, and LF after it; there are at most 65536 lines";
+
+/// What is said of a text that is refused at a line; line 0 says that it is too long.
+pub(crate) fn say_not_spelled(
+    f: &mut String,
+    given: &Given<'_>,
+    text: &TextFile,
+    number: u32,
+) -> Said {
+    let role = match text {
+        TextFile::Plan => "PLAN",
+        TextFile::Cert => "CERT",
+        TextFile::Script => "SCRIPT",
+    };
+    let Some(typed) = given.file(role) else {
+        return Ok(());
+    };
+    if number == 0 {
+        point_whole(f, typed.word)?;
+        return write!(f, "the text has more than {MAX_FILE_BYTES} bytes");
+    }
+    let line = line_at(typed.bytes, number);
+    let shown = line.unwrap_or(b"(the text ends before it)".as_slice());
+    point(f, typed.word, number as usize, shown)?;
+    match (other_form(line.unwrap_or(&[])), text) {
+        (Some(form), _) => f.push_str(form),
+        (None, TextFile::Plan) => say_plan_line(f, given, typed.bytes, number),
+        (None, TextFile::Cert) => say_cert_line(f, given, typed.bytes, number),
+        (None, TextFile::Script) => f.push_str(SCRIPT_LINE),
+    }
+}
+
+/// What is wrong with a line that an editor wrote in another form, whatever stands in it.
+fn other_form(line: &[u8]) -> Option<&'static str> {
+    if line.ends_with(b"\r") {
+        return Some("a line ends with LF alone, and not with CR LF");
+    }
+    if line.starts_with(b"\xef\xbb\xbf") {
+        return Some("the text begins with a byte order mark: save it without one");
+    }
+    let has_no_word = line.split(|b| *b == b' ').any(|word| word.is_empty());
+    if has_no_word && !line.is_empty() {
+        return Some("two blanks side by side, or one at an end: just one stands between two words");
+    }
+    None
+}
+
+/// What was expected at a line of a plan.
+fn say_plan_line(f: &mut String, given: &Given<'_>, text: &[u8], number: u32) -> Said {
+    let Some(step) = look_for(text, &Want::Line(number)).first else {
+        return f.push_str("the text ends here");
+    };
+    match step.place {
+        Place::Start | Place::Title => f.push_str(
+            "a plan begins with the line `migration-plan 1`: is this the file of PLAN?",
+        ),
+        Place::Count => write!(
+            f,
+            "wanted is `rounds R`, the number of the plan's rounds, at most {MAX_ROUNDS}"
+        ),
+        Place::Head => {
+            let round = step.round;
+            write!(
+                f,
+                "wanted is `round {round} C`, C the number of the lines that follow for it, at most {MAX_SHIFTS}"
+            )
+        }
+        Place::Shift => say_shift(f, given, step.text.unwrap_or(&[])),
+        Place::End => f.push_str("wanted is the line `end`: all rounds were there"),
+        Place::Nothing => f.push_str(after_end(step.text)),
+    }
+}
+
+/// What is said after the line `end`.
+pub(crate) fn after_end(line: Option<&[u8]>) -> &'static str {
+    match line {
+        Some(_) => "nothing may follow the line `end` and its LF",
+        None => "the line `end` is to end with LF: was the text cut off?",
+    }
+}
+
+/// What was expected at the line of a shift.
+fn say_shift(f: &mut String, given: &Given<'_>, line: &[u8]) -> Said {
+    let now = given.shown("NOW");
+    let disks = given.shown("DISKS");
+    let last = MAX_SLOTS - 1;
+    for place in 0..5 {
+        let word = word_at(line, place);
+        let shown = Shown(word);
+        match place {
+            _ if word.is_empty() => {}
+            0 if is_unlisted(given.file("NOW"), word) => {
+                return write!(f, "{now} lists no item `{shown}`");
+            }
+            1 | 3 if is_unlisted(given.file("DISKS"), word) => {
+                return write!(f, "{disks} lists no disk `{shown}`");
+            }
+            2 | 4 if !is_slot(word) => {
+                return write!(
+                    f,
+                    "`{shown}` is no slot: 0 to {last}, without a leading zero"
+                );
+            }
+            _ => {}
+        }
+    }
+    f.push_str("wanted is a shift: ITEM FROM FROMSLOT TO TOSLOT, with one blank between two words")
+}
+
+/// Whether a file that can be read again has no row for the name.
+fn is_unlisted(list: Option<Typed<'_>>, name: &[u8]) -> bool {
+    list.is_some_and(|list| list.find(&Key::First(name)).is_none())
+}
+
+fn is_slot(word: &[u8]) -> bool {
+    let is_plain = word == b"0".as_slice() || !word.starts_with(b"0");
+    is_plain && read_digits(word).is_some_and(|slot| slot < u64::from(MAX_SLOTS))
+}
