@@ -1,7 +1,7 @@
 /* Preloaded by tests/damage: writes each call that it knows and the file that it is about into the file CALLS_LOG. At the call that
    CALLS_AT names, as "rename journal.mig 2" for the second rename of a file whose path ends so, it runs the command CALLS_RUN first, makes
    the file "taken" where the file CALLS_LOCK can be locked, and then fails with the errno CALLS_ERRNO, where these are there. With
-   CALLS_FREE each lock is given, and locks nothing. */
+   CALLS_FREE each lock is given, and locks nothing; with CALLS_FULL no file can be made but in the folder elsewhere, and none can grow. */
 #define _GNU_SOURCE
 #include <dlfcn.h>
 #include <errno.h>
@@ -70,6 +70,7 @@ int open(const char *path, int flags, ...) {
     mode_t mode = va_arg(more, mode_t);
     va_end(more);
     FAIL(met(flags & O_CREAT ? "make" : "open", path));
+    FAIL(getenv("CALLS_FULL") && flags & O_CREAT && strncmp(path, "elsewhere/", 10) && access(path, F_OK) ? ENOSPC : 0);
     return REAL(open)(path, flags, mode);
 }
 
@@ -105,7 +106,9 @@ int unlink(const char *path) {
 }
 
 ssize_t pwrite(int file, const void *bytes, size_t count, off_t at) {
+    struct stat held;
     FAIL(met_open("pwrite", file));
+    FAIL(getenv("CALLS_FULL") && !fstat(file, &held) && S_ISREG(held.st_mode) && at + (off_t)count > held.st_size ? ENOSPC : 0);
     return REAL(pwrite)(file, bytes, count, at);
 }
 

@@ -1,13 +1,13 @@
 """What tests/damage does in the midst of a run, at a call that it picks (calls.c): files and folders that are exchanged, calls that are
 interrupted or fail, and locks that keep nobody out. It needs a C compiler; where there is none a line says so, and nothing is counted."""
-import collections, contextlib, errno, itertools, os, resource, shlex, shutil, stat, subprocess, tempfile
+import collections, contextlib, errno, itertools, os, resource, shlex, shutil, subprocess, tempfile
 from session_cells import put_half_way, stores
 from session_inputs import DISKS, FILES, PLAN_TEXT, put
 from session_rooms import Count, Room, says
 from damage_rooms import LEFT, WORDS, Store, ring, stages
 from damages import JOURNAL, Slots, journal_of
 
-COPY = f"{JOURNAL}.copy.mig"
+NOTE = "unsynced.mig"
 ANEW = "cp -p {0} other && mv other {0}"
 
 
@@ -27,7 +27,7 @@ def with_calls(trial):
 
 
 def called(room, words, env):
-    """Runs the program with calls.c, which is told by the names `at`, `run`, `lock`, `errno`, `log` and `free` what to do; `limits` are those of a room."""
+    """Runs the program with calls.c, which is told by the names `at`, `run`, `lock`, `errno`, `log`, `free` and `full` what to do; `limits` are those of a room."""
     limits = {"limits": env.pop("limits")} if "limits" in env else {}
     told = [f"{name if name == 'LD_PRELOAD' else f'CALLS_{name.upper()}'}={shlex.quote(str(value))}" for name, value in env.items()]
     return room.run(" ".join([*told, "exec", "./migrate", *map(shlex.quote, words)]), shell=True, **limits)
@@ -128,9 +128,9 @@ def free_locks(run, program):
 
 @with_calls
 def held_locks(run, program):
-    """Each disk is locked when it is looked at, and when it is made; the journal, once its copy took its place."""
+    """Each disk is locked when it is looked at, and when it is made; the journal all the while."""
     for command, at, name in (("move", "pread left.disk 1", "left.disk"), ("move", "pwrite right.disk 1", "right.disk"), ("resume", "pread right.disk 1", "right.disk"),
-                              ("move", "pwrite left.disk 1", JOURNAL), ("resume", "pwrite right.disk 1", JOURNAL), ("resume", f"rename {COPY} 1", COPY)):
+                              ("move", "pwrite left.disk 1", JOURNAL), ("resume", "pwrite right.disk 1", JOURNAL)):
         with begun(program, command) as room:
             ran, what = run(room, WORDS[command], at=at, lock=name), f"{command}, at {at}"
             moved(room, what, ran, 0 if command == "move" else 1)
@@ -166,56 +166,47 @@ def interruptions(run, program):
 
 @with_calls
 def failures(run, program):
-    """Each call fails once: that is status 5, and what is said is that, and no other process; no copy is left, and `resume` goes on."""
+    """Each call fails once: that is status 5, and what is said is that, and no other process; `resume` goes on, after a sync that failed only once its note is gone."""
     for command in ("move", "resume"):
         for room, call, name, at in each_call(run, program, command):
             ran, what = run(room, WORDS[command], at=at, errno=errno.EDQUOT), f"{command}, failed at {at}"
             Count.ended(what, ran, 5, "store fault\n")
             Count.that(f"{what}: why is said", says(ran, "quota exceeded") and not says(ran, "another process"), ran)
-            Count.same(f"{what}: no copy is left", room.read(COPY), None)
+            Count.same(f"{what}: a sync that failed is noted", room.read(NOTE) is not None, call in ("fsync", "fdatasync"))
+            if room.read(NOTE):
+                refused(room, f"{what}: resume before a new mount", room.run(*WORDS["resume"]), name if name in (JOURNAL, "left.disk", "right.disk") else ".", "a sync of it has failed")
+                os.remove(room.path(NOTE))
             ran = room.run(*WORDS["resume"])
             Count.that(f"{what}: resume goes on", ran.status == 0 and room.read("right.disk") == LEFT, ran)
 
 
-# The journal's copy
+# What is full, and whose it is
 
 @with_calls
-def copies(run, program):
-    """The journal's copy has its mode and its owner. Where a link leads to it, its folder is synced; a folder that is exchanged meanwhile gets none."""
+def full(run, program):
+    """Where no file can be made and none can grow, a plan whose slots and journal are there is carried on, and closed."""
+    for command in ("resume", "halt"):
+        with begun(program, command) as room:
+            for name, length in (("right.disk", len(LEFT)), (JOURNAL, 4 * 512)):
+                os.truncate(room.path(name), max(length, os.path.getsize(room.path(name))))
+            room.mkdir("elsewhere")
+            ran = run(room, [*WORDS[command][:5], *(["elsewhere/layout.csv"] if command == "halt" else [])], full=1)
+            Count.ended(f"{command} on a full file system", ran, 0, "done 2 rounds, found 1\n" if command == "resume" else "halted after 1 of 2\n")
+
+
+@with_calls
+def owners(run, program):
+    """The journal keeps its owner and its mode where root carries the plan on, and a link to it stays one."""
     with begun(program, "resume") as room:
         os.chmod(room.path(JOURNAL), 0o640)
-        moved(room, "resume with a journal of mode 640", room.run(*WORDS["resume"]), 1)
-        Count.same("the copy's mode", stat.S_IMODE(os.stat(room.path(JOURNAL)).st_mode), 0o640)
-    with begun(program, "resume") as room:
-        owner = os.stat(room.path(JOURNAL)).st_uid
-        room.user = {}
-        moved(room, "resume by root", room.run(*WORDS["resume"]), 1)
-        Count.same("the copy's owner", os.stat(room.path(JOURNAL)).st_uid, owner)
-    for change in (None, "mv there moved && mkdir there && cp moved/journal.mig there/"):
-        with begun(program, "resume") as room:
-            room.mkdir("there")
-            os.rename(room.path(JOURNAL), room.path(f"there/{JOURNAL}"))
-            os.symlink(f"there/{JOURNAL}", room.path(JOURNAL))
-            ran = run(room, WORDS["resume"], log="log", **({"at": f"unlink {COPY} 1", "run": change} if change else {}))
-            if change:
-                refused(room, "a linked journal's folder is exchanged", ran, JOURNAL, "exchanged")
-                Count.same("it gets no copy", os.listdir(room.path("there")), [JOURNAL])
-                continue
-            moved(room, "a linked journal", ran, 1)
-            Count.that("a linked journal: the link stays", os.path.islink(room.path(JOURNAL)))
-            Count.that("a linked journal: its folder is synced", f"fsync {os.path.realpath(room.path('there'))}\n" in room.read("log").decode())
-    with begun(program, "resume") as room:
-        for name in os.listdir(room.at):
-            if name not in ("migrate", "work"):
-                room.mkdir("work") if not os.path.isdir(room.path("work")) else None
-                os.rename(room.path(name), room.path(f"work/{name}"))
-        os.symlink("../migrate", room.path("work/migrate"))
-        at, room.at = room.at, room.path("work")
-        ran = run(room, WORDS["resume"], at=f"unlink {COPY} 1", run="mv ../work ../moved && mkdir ../work")
-        room.at = f"{at}/moved"
-        moved(room, "the working folder is exchanged", ran, 1)
-        room.at = at
-        Count.same("the other one stays empty", os.listdir(room.path("work")), [])
+        room.mkdir("there")
+        os.rename(room.path(JOURNAL), room.path(f"there/{JOURNAL}"))
+        os.symlink(f"there/{JOURNAL}", room.path(JOURNAL))
+        before, room.user = os.stat(room.path(JOURNAL)), {}
+        moved(room, "resume by root", run(room, WORDS["resume"]), 1)
+        after = os.stat(room.path(JOURNAL))
+        Count.same("the journal is the same file", (after.st_ino, after.st_uid, after.st_mode), (before.st_ino, before.st_uid, before.st_mode))
+        Count.that("the link stays", os.path.islink(room.path(JOURNAL)))
 
 
-CALLS = [exchanged_in_the_midst, exchanged_while_closed, exchanged_before_the_lock, exchanged_saves, free_locks, held_locks, interruptions, failures, copies]
+CALLS = [exchanged_in_the_midst, exchanged_while_closed, exchanged_before_the_lock, exchanged_saves, free_locks, held_locks, interruptions, failures, full, owners]

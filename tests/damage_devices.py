@@ -5,7 +5,7 @@ from session_cells import SLOT, cell
 from session_rooms import Count, Room, bytes_of, says
 from damage_names import merged, refused
 from damage_rooms import ENDS, LAYOUT, Store, case, changed, judge, reuse, stages, twins
-from damages import JOURNAL, journal_of
+from damages import JOURNAL
 
 
 def called(*words):
@@ -327,24 +327,6 @@ def journals_on_devices(room, device):
     store.link("b", "disks/b")
     refused(store, "a journal on a mounted device: resume", "resume", JOURNAL, "mounted")
     Count.that("a journal on a mounted device: the file system is whole", device.kept())
-
-
-@with_device(256)
-def journals_in_memory(room, device):
-    """What memory has of a journal's device, which another process has open, was never brought there: `resume` brings it."""
-    store = Store(room, reuse())
-    for count, stage in stages(store.case):
-        image = store.case.image(count)
-        armed, head, found = journal_of(image, len(store.case.rounds))
-        if not armed:
-            continue
-        put_journal(store, device, image)
-        with open(device.name, "rb") as held, open(f"{device.folder}/device", "r+b", buffering=0) as below:
-            held.read(256 * SLOT)
-            os.pwrite(below.fileno(), bytes(16 * SLOT), 0)
-            Count.same(f"a journal in memory, {stage}: resume", store.run("resume").status, 0)
-        left = {**image, JOURNAL: device.read(0, 256)}
-        Count.same(f"a journal in memory, {stage}: what the device has", journal_of(left, len(store.case.rounds)), (True, head, len(store.case.rounds)))
 
 
 def put_journal(store, device, image):

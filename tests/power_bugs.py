@@ -1,6 +1,6 @@
 """The bugs that tests/power must find. Each is made in the calls of a run of the program: a call is not made, though the program
 is told that it was; or it fails, and the program is told that it did not; or it is made on something else."""
-from power_rooms import CLOSE, COPY, JOURNAL, OPEN, SYNC, WRITE
+from power_rooms import CLOSE, JOURNAL, NOTE, OPEN, SYNC, WRITE
 
 
 # What a call is
@@ -22,7 +22,7 @@ def is_sync_of_folder(run, call):
 
 
 def is_sync_of_saved(run, call):
-    return call.kind == SYNC and call.path in run.world.names and not is_disk(call.path) and call.path not in (JOURNAL, COPY)
+    return call.kind == SYNC and call.path in run.world.names and not is_disk(call.path) and call.path not in (JOURNAL, NOTE)
 
 
 def was_synced(run, call):
@@ -65,9 +65,9 @@ def sync_another_folder(run, call):
         call.path = "." if call.path != "." else "sub"
 
 
-def keep_the_journal(run, call):
-    """The copy is made and named, but stands for what the file was before."""
-    call.is_hidden = call.path == COPY
+def keep_no_note(run, call):
+    """That a sync failed is noted nowhere."""
+    call.is_hidden = call.path == NOTE
 
 
 MOVING = ["moves", "moves_what_fill_left"]
@@ -78,9 +78,7 @@ BUGS = [
     ("`written` is asked the wrong way round", drop(is_sync_of_journal, was_written), MOVING),
     ("the journal is not synced", drop(is_sync_of_journal), MOVING),
     ("the journal's failed sync is passed over", let_pass(is_sync_of_journal), MOVING),
-    ("the journal is not renewed", keep_the_journal, MOVING),
-    ("the journal's copy is not synced", drop(lambda run, call: call.kind == SYNC and call.path == COPY), MOVING),
-    ("the failed sync of the journal's copy is passed over", let_pass(lambda run, call: call.path == COPY), MOVING),
+    ("a sync that failed is not noted", keep_no_note, MOVING),
     ("no disk is synced", drop(is_sync_of_disk), MOVING),
     ("a disk's failed sync is passed over", let_pass(is_sync_of_disk), MOVING),
     ("a disk that was synced once is not synced again", drop(is_sync_of_disk, was_synced), MOVING),
@@ -89,7 +87,7 @@ BUGS = [
     ("a file that was written is closed without a sync", drop(is_sync_of_disk, is_closing), ["moves_with_few_files"]),
     ("the folder is not synced after a disk was made", drop(is_sync_of_folder, lambda run, call: is_made(run, call, is_disk)), MOVING),
     ("the folder is not synced after the journal was made", drop(is_sync_of_folder, lambda run, call: is_made(run, call, JOURNAL.__eq__)), MOVING),
-    ("the folder is synced only for what the run made itself", drop(is_sync_of_folder, lambda run, call: not any(it.made and it.path != COPY for it in run.calls)), MOVING),
+    ("the folder is synced only for what the run made itself", drop(is_sync_of_folder, lambda run, call: not any(it.made for it in run.calls)), MOVING),
     ("the folder's failed sync is passed over", let_pass(is_sync_of_folder), MOVING),
     ("a saved file is not synced: PLAN", drop(is_sync_of_saved), ["plans"]),
     ("a saved file is not synced: LAYOUT", drop(is_sync_of_saved), ["halts"]),

@@ -4,7 +4,10 @@ import errno, fcntl, functools, os, random, shutil, socket, struct, subprocess, 
 from waiting import LIMIT, ended, in_vain
 
 HERE = os.path.dirname(os.path.realpath(__file__))
-SLOT, SECTOR, JOURNAL, COPY = 4096, 512, "journal.mig", "journal.mig.copy.mig"
+SLOT, SECTOR, JOURNAL, NOTE = 4096, 512, "journal.mig", "unsynced.mig"
+with open("/proc/sys/kernel/random/boot_id", "rb") as file:
+    BOOT = file.read().strip()
+ANOTHER_BOOT = b"0" * len(BOOT)
 OPEN, WRITE, LENGTH, SYNC, RENAME, REMOVE, LINK, CLOSE = range(8)
 KINDS_OF_CALLS = ["open", "write", "length", "sync", "rename", "remove", "link", "close"]
 GO_ON, DONE = 0, -1
@@ -22,14 +25,15 @@ class Held:
     any other file is one cell."""
 
     def __init__(self, name, memory=b""):
-        self.unit = SLOT if name.endswith(".disk") else SECTOR if name in (JOURNAL, COPY) else 0
+        self.unit = SLOT if name.endswith(".disk") else SECTOR if name == JOURNAL else 0
         self.memory, self.device = bytearray(memory), bytearray(memory)
         self.unsettled = {}  # the cells that were written since the last sync, with what was written
+        self.lost = set()  # those whose sync failed, since when no sync brings them to the device
 
     def copy(self):
         it = Held.__new__(Held)
         it.unit, it.memory, it.device = self.unit, bytearray(self.memory), bytearray(self.device)
-        it.unsettled = {cell: list(values) for cell, values in self.unsettled.items()}
+        it.unsettled, it.lost = {cell: list(values) for cell, values in self.unsettled.items()}, set(self.lost)
         return it
 
     def cell(self, held, number):
@@ -62,12 +66,14 @@ class Held:
 
     def settle(self):
         """A sync succeeds."""
-        for number in self.unsettled:
+        for number in self.unsettled.keys() - self.lost:
             self.put(self.device, number, self.cell(self.memory, number))
         self.unsettled.clear()
 
     def lose(self, chance):
-        """A sync fails: what was written counts as settled, though the device may lack it, and reads go on showing it."""
+        """A sync fails: what was written counts as settled, though the device may lack it, and reads go on showing it. So does what is
+        written there later, until the file is mounted anew."""
+        self.lost |= self.unsettled.keys()
         for number in self.unsettled:
             self.leave(self.device, number, chance.choice(["old", "old", *KINDS]), chance)
         self.unsettled.clear()
@@ -99,6 +105,7 @@ class World:
     def __init__(self, files=()):
         self.names = {path: Held(path, held) for path, held in dict(files).items()}
         self.settled = dict(self.names)
+        self.lost = self.untold = ()  # the folders whose sync failed, and the paths of files of which the next sync is to tell a loss
         self.changes = []  # of names, since their folder's last sync: the folder, the names that go, the name that comes, its file
 
     def copy(self):
@@ -108,6 +115,7 @@ class World:
         it.names = {path: copies[id(held)] for path, held in self.names.items()}
         it.settled = {path: copies[id(held)] for path, held in self.settled.items()}
         it.changes = [(folder, gone, come, held and copies[id(held)]) for folder, gone, come, held in self.changes]
+        it.lost, it.untold = self.lost, self.untold
         return it
 
     def change(self, gone, come=None, held=None):
@@ -121,6 +129,8 @@ class World:
         return [come or gone for at, gone, come, _ in self.changes if at == folder]
 
     def settle_names(self, folder):
+        if folder in self.lost:
+            return
         for change in self.changes:
             if change[0] == folder:
                 apply(self.settled, change)
@@ -136,10 +146,36 @@ class World:
                 apply(names, change)
         it = World()
         for path, held in names.items():
-            kind = disks if path.endswith(".disk") else journal if path in (JOURNAL, COPY) else others
+            kind = disks if path.endswith(".disk") else journal if path == JOURNAL else others
             it.names[path] = held.after_cut(chance, path, kind)
+        it.start_anew()
         it.settled = dict(it.names)
         return it
+
+    def mounted(self, chance):
+        """The files once their file systems were unmounted, which settles all that can be settled, and mounted; the note that a sync
+        failed is removed."""
+        it, names = World(), dict(self.settled)
+        for change in self.changes:
+            if change[0] not in self.lost or chance.random() < 0.5:
+                apply(names, change)
+        for path, held in names.items():
+            held.settle()
+            it.names[path] = Held(path, held.device)
+        it.names.pop(NOTE, None)
+        it.settled = dict(it.names)
+        return it
+
+    def start_anew(self):
+        """What is noted is of another boot of the machine."""
+        held = self.names.get(NOTE)
+        if held and held.memory.startswith(BOOT):
+            self.names[NOTE] = Held(NOTE, ANOTHER_BOOT + held.memory[len(BOOT) :])
+
+    def is_unsynced(self):
+        """Whether a sync failed since the machine was started, as far as the note tells."""
+        held = self.names.get(NOTE)
+        return held is not None and (held.memory.startswith(BOOT) or not held.memory.endswith(b"\n"))
 
     def files(self):
         return {path: bytes(held.memory) for path, held in self.names.items()}
@@ -193,7 +229,9 @@ def make(world, call, chance):
         world.change(None, call.names[1], held)
     elif call.kind == REMOVE:
         world.change(call.path)
-    elif call.kind == SYNC and held is None and not call.fails and not call.drops:
+    elif call.kind == SYNC and held is None and call.fails:
+        world.lost = (*world.lost, call.path)
+    elif call.kind == SYNC and held is None and not call.drops:
         world.settle_names(call.path)
     elif held is None or call.drops:
         pass
@@ -218,10 +256,11 @@ class Run:
         self.start, self.world, self.words, self.seed = world, world.copy(), words, seed
         self.fails, self.loses, self.bug, self.meanwhile, self.room = fails, loses, bug, meanwhile, room
         self.calls, self.syncs, self.writes, self.has_failed = [], 0, 0, False
-        self.open, self.owed = {}, set()  # the paths by their descriptors, and the descriptors that are to be told of a loss
+        # the paths by their descriptors, the descriptors that are to be told of a loss, and their paths after each call
+        self.open, self.owed, self.owing = {}, set(), []
         self.paths = room.put(world)
         self.status, self.out, self.err = room.run(words, self.answer, files)
-        unlike = room.unlike(self.world)
+        unlike = [path for path in room.unlike(self.world) if path != NOTE or not bug]
         if unlike and not meanwhile:
             raise AssertionError(f"{words[0]} changed {unlike} by calls that are not told")
 
@@ -235,6 +274,7 @@ class Run:
             self.bug(self, call)
         self.has_failed = self.has_failed or call.fails
         self.calls.append(call)
+        self.owing.append(tuple({self.open[descriptor] for descriptor in self.owed}))
         self.make(self.world, len(self.calls), call)
         self.follow(call)
         if call.kind in (OPEN, CLOSE):
@@ -253,6 +293,8 @@ class Run:
             self.syncs += 1
         if call.kind == OPEN:
             self.open[call.descriptor] = call.path
+            if call.path in self.start.untold:
+                self.owed.add(call.descriptor)
         elif call.kind == CLOSE:
             self.open.pop(call.descriptor, None)
         if call.is_lost:
@@ -278,13 +320,17 @@ class Run:
     def stops(self, begin=0):
         """The numbers of calls, from `begin` on, after which the run may be stopped: all of them, or up to a call that does something."""
         does = (number for number, call in enumerate(self.calls, 1) if call.made or call.kind not in (OPEN, CLOSE))
-        return sorted({0, len(self.calls), *does} - set(range(begin)))
+        # nobody can tell that a sync failed where the process ends before it notes that
+        failed = next((number for number, call in enumerate(self.calls, 1) if call.kind == SYNC and call.fails), len(self.calls))
+        noted = next((number for number, call in enumerate(self.calls, 1) if call.made and call.path == NOTE), failed)
+        return sorted({0, len(self.calls), *does} - set(range(begin)) - set(range(failed, noted)))
 
     def at(self, count):
         """The world after so many calls."""
         world = self.start.copy()
         for number, call in enumerate(self.calls[:count], 1):
             self.make(world, number, call)
+        world.untold = self.owing[count - 1] if count else self.start.untold
         return world
 
 

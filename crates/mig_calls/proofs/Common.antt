@@ -2,7 +2,7 @@
 pub use Rattle.indexmap.specs.IndexSet.{IndexSet, IsUnique, insert_key}
 pub use Rattle.mig_base.specs.InputLists.{AreDifferent}
 pub use Rattle.mig_calls.specs.FileBytes.{byte_at, no_byte, picked, settled, settled_as, with_written, written_over}
-pub use Rattle.mig_calls.specs.Files.{FileChange, Files, FilesChange, FilesLook, FilesState, FilesWrite, HasBytes, InFile, IsLeftFilesBut, IsSettledAt, IsWithin, KeepsFlags, NoByte, SameFilesBut}
+pub use Rattle.mig_calls.specs.Files.{Files, FilesChange, FilesLook, FilesState, FilesWrite, HasBytes, IsLeftFilesBut, IsSettledAt, IsWithin, KeepsFlags, KeepsRights, NoByte, SameFilesBut}
 pub use Rattle.mig_calls.specs.Files.{TouchesFile}
 pub use Rattle.mig_calls.specs.MemFiles.{FileMoment, Seen, after_write, change_at, changed, crashed, first_or, left_file, look, moment_of, no_file, on_file, place_of, seen_all, seen_of}
 pub use Rattle.mig_calls.specs.MemFiles.{takes_old, with_name}
@@ -13,12 +13,12 @@ pub use Rattle.mig_calls.specs.declared.file_bytes.Byte.{Byte}
 pub use Rattle.mig_calls.specs.declared.mem_disk.Step.{Step}
 pub use Rattle.mig_calls.specs.declared.mem_disk.Step.TheVariants.{Changed, Crashed, Named}
 pub use Rattle.mig_calls.specs.declared.mem_file.Change.{Change}
-pub use Rattle.mig_calls.specs.declared.mem_file.Change.TheVariants.{Emptied, Lost, Made, Synced, Took, Wrote}
+pub use Rattle.mig_calls.specs.declared.mem_file.Change.TheVariants.{Made, Synced, Wrote}
 pub use Rattle.mig_calls.specs.declared.mem_file.MemFile.{MemFile}
 pub use Rattle.mig_calls.specs.declared.pick.Pick.{Pick}
 pub use Rattle.mig_calls.specs.declared.pick.Pick.TheVariants.{Back, Front, New, Old, Ones}
 pub use Rattle.mig_calls.specs.declared.places.Place.{Place}
-pub use Rattle.mig_calls.specs.declared.places.Place.TheVariants.{Copy, Disk, Journal}
+pub use Rattle.mig_calls.specs.declared.places.Place.TheVariants.{Disk, Journal}
 pub use Rattle.std.proofs.Common.{Bool, Err, List, MatchOption, None, Ok, OnErr, OnOk, Option, Result, Some, [], ap, arith, cond, drop, false, get_or, inl, inr, is_some, length, length-append}
 pub use Rattle.std.proofs.Common.{map, not, position, refl, set, subst, suc, sym, take, true, zero, ℕ, ◌&&◌, ◌++◌, ◌+◌, ◌-◌, ◌<◌, ◌∙◌, ◌∷◌, ◌≡◌, ◌≤◌, ◌⊎◌}
 pub use Rattle.std.proofs.Math.Bool.{and-false}

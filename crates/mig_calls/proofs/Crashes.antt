@@ -1,6 +1,6 @@
 -- What a crash leaves of files in memory.
 use Rattle.mig_calls.proofs.Common.{Bool, Byte, Crashed, FileMoment, Fits, FitsOne, IsSettledAt, IsTrue, List, MayHold, MayLeave, Memory, Moment, Pick, Place, [], after, after_step, ap, cond}
-use Rattle.mig_calls.proofs.Common.{cond-false, false, first_or, inl, inr, left_file, mem_is_state, mem_state, not, picked, reads_of, subst, sym, takes_old, true, ℕ, ◌++◌, ◌∙◌, ◌∷◌, ◌≡◌}
+use Rattle.mig_calls.proofs.Common.{cond-false, false, first_or, inl, inr, left_file, mem_is_state, mem_state, picked, reads_of, subst, sym, takes_old, true, ℕ, ◌++◌, ◌∙◌, ◌∷◌, ◌≡◌}
 use Rattle.mig_calls.proofs.Disks.{after-push}
 
 -- what is left under a name may be left
@@ -31,8 +31,5 @@ module _ (x y : Memory) (pick : Pick) (pushed : y.steps ≡ x.steps ++ Crashed p
   pub crash_flushed : (place : Place) → IsTrue ((mem_state y).flushed place)
   crash_flushed place = ap (λ (m : Moment). (m.files place).flushed) crashed_is
 
-  pub crash_fresh : (place : Place) → IsTrue ((mem_state y).fresh place)
-  crash_fresh place = ap (λ (m : Moment). not (m.files place).stale) crashed_is
-
-  pub crash_settled : (place : Place) → IsSettledAt (mem_state y) place
-  crash_settled place = (mem_is_state y).settled crash_named place (crash_flushed place) (crash_fresh place)
+  pub crash_settled : IsTrue y.usable → (place : Place) → IsSettledAt (mem_state y) place
+  crash_settled usable place = (mem_is_state y).settled usable crash_named place (crash_flushed place)

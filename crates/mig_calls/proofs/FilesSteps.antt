@@ -1,5 +1,5 @@
 -- One change of files after another.
-use Rattle.mig_calls.proofs.Common.{Bool, Err, Files, FilesChange, FilesLook, FilesState, IsLeftFilesBut, IsWithin, KeepsFlags, Ok, OnErr, OnOk, Place, Result, TouchesFile, arith, inl, inr, ℕ}
+use Rattle.mig_calls.proofs.Common.{Bool, Err, Files, FilesChange, FilesLook, FilesState, IsLeftFilesBut, IsWithin, KeepsFlags, KeepsRights, Ok, OnErr, OnOk, Place, Result, TouchesFile, arith, inl, inr, ℕ}
 use Rattle.mig_calls.proofs.Common.{◌∙◌, ◌≡◌, ◌≤◌, ◌⊎◌}
 
 module _ {P : Place → ℕ → Type 0} {a b c : FilesState} (first : FilesChange P P a b) (second : FilesChange P P b c) where
@@ -44,19 +44,11 @@ change_within {P} {Q} {a} {b} within change = record {
 pub look_change : {P : Place → ℕ → Type 0} {a b : FilesState} → FilesLook a b → FilesChange P P a b
 look_change = change_within (λ place i none. absurd none)
 
-pub flags_then : {a b c : FilesState} → KeepsFlags a b → KeepsFlags b c → KeepsFlags a c
-flags_then first second = record {
-  claimed = second.claimed ∙ first.claimed;
-  named = second.named ∙ first.named;
-  flushed = second.flushed ∙ first.flushed;
-  fresh = second.fresh ∙ first.fresh;
-}
+pub rights_then : {a b c : FilesState} → KeepsRights a b → KeepsRights b c → KeepsRights a c
+rights_then first second = record { claimed = second.claimed ∙ first.claimed; usable = second.usable ∙ first.usable }
 
 pub touches_then : {place : Place} {a b c : FilesState} → TouchesFile place a b → TouchesFile place b c → TouchesFile place a c
-touches_then first second = record {
-  claimed = second.claimed ∙ first.claimed;
-  others = λ other not. second.others other not ∙ first.others other not;
-}
+touches_then first second = record { others = λ other not. second.others other not ∙ first.others other not }
 
 pub either : {T E A B C : Type 0} (r : Result T E) → OnOk r A → OnErr r B → (A → C) → (B → C) → C
 either (Ok x) a b f g = f a
@@ -65,8 +57,8 @@ either (Err e) a b f g = g b
 pub at_place : {f g : Place → Bool} → f ≡ g → (place : Place) → f place ≡ g place
 at_place same place j = same j place
 
-pub touches_of : (place : Place) {a b : FilesState} → b.claimed ≡ a.claimed → b.flushed ≡ a.flushed → TouchesFile place a b
-touches_of place claimed flushed = record { claimed = claimed; others = λ other out. at_place flushed other }
+pub touches_of : (place : Place) {a b : FilesState} → b.flushed ≡ a.flushed → TouchesFile place a b
+touches_of place flushed = record { others = λ other out. at_place flushed other }
 
 pub within_more : (file : Place) (at n m : ℕ) → n ≤ m → (place : Place) (i : ℕ) → IsWithin file at n place i → IsWithin file at m place i
 within_more file at n m few place i is = record { in_file = is.in_file; from = is.from; below = omega (arith, few, is.below) }

@@ -1,9 +1,9 @@
 -- What steps change of files in memory.
-use Rattle.mig_calls.proofs.Common.{Bool, Byte, Change, Changed, Emptied, FileChange, FileMoment, Files, FilesChange, FilesLook, FilesWrite, Fits, HasBytes, InFile, IsLeftFilesBut, IsWithin}
-use Rattle.mig_calls.proofs.Common.{KeepsFlags, LeftSince, List, Lost, Made, MayHold, MayLeave, Memory, Moment, Named, NoByte, Option, Place, SameFilesBut, Step, Synced, Took, TouchesFile, Wrote}
-use Rattle.mig_calls.proofs.Common.{[], after, after_step, after_write, and-false, and_from, ap, arith, byte_at, cases_Bool, cases_lt, changed, cond, cond-false, cond-true, false, false≢true}
-use Rattle.mig_calls.proofs.Common.{inl, inr, is_place, le-ltb, length, length-append, lt-ltb, mem_state, nat_lt, not, reads_of, refl, settled, slice_get, slice_get-get_or, slice_get_past}
-use Rattle.mig_calls.proofs.Common.{slice_index, subst, sym, take-append-le, take_all, true, with_name, with_written, written_over, ℕ, ◌&&◌, ◌++◌, ◌+◌, ◌-◌, ◌<◌, ◌∙◌, ◌∷◌, ◌≡◌, ◌≤◌, ◌⊎◌}
+use Rattle.mig_calls.proofs.Common.{Bool, Byte, Change, Changed, FileMoment, Files, FilesChange, FilesLook, FilesWrite, Fits, HasBytes, IsLeftFilesBut, IsWithin}
+use Rattle.mig_calls.proofs.Common.{KeepsFlags, KeepsRights, LeftSince, List, Made, MayHold, MayLeave, Memory, Moment, Named, NoByte, Option, Place, SameFilesBut, Step, Synced, TouchesFile, Wrote}
+use Rattle.mig_calls.proofs.Common.{[], after, after_step, after_write, and-false, and_from, ap, arith, cases_Bool, cases_lt, changed, cond, cond-false, cond-true, false, false≢true}
+use Rattle.mig_calls.proofs.Common.{inl, inr, is_place, le-ltb, length, length-append, lt-ltb, mem_state, nat_lt, not, reads_of, refl, slice_get, slice_get-get_or, slice_get_past}
+use Rattle.mig_calls.proofs.Common.{slice_index, subst, sym, take-append-le, take_all, with_name, with_written, written_over, ℕ, ◌&&◌, ◌++◌, ◌+◌, ◌-◌, ◌<◌, ◌∙◌, ◌∷◌, ◌≡◌, ◌≤◌, ◌⊎◌}
 use Rattle.mig_calls.proofs.PlaceTests.{is_place-true, is_place-itself, is_place-other}
 use Rattle.mig_calls.proofs.Disks.{after-push}
 
@@ -19,12 +19,14 @@ kept_change P x y same = subst (λ (l : List Step). FilesChange P P (mem_state x
   images = λ was p. inl (λ i calm. refl);
 })
 
-pub kept_flags : (x y : Memory) → y.steps ≡ x.steps → y.claimed ≡ x.claimed → KeepsFlags (mem_state x) (mem_state y)
-kept_flags x y same claimed = record {
-  claimed = claimed;
+pub kept_rights : (x y : Memory) → y.claimed ≡ x.claimed → y.usable ≡ x.usable → KeepsRights (mem_state x) (mem_state y)
+kept_rights x y claimed usable = record { claimed = λ j. claimed j && usable j; usable = usable }
+
+pub kept_flags : (x y : Memory) → y.steps ≡ x.steps → y.claimed ≡ x.claimed → y.usable ≡ x.usable → KeepsFlags (mem_state x) (mem_state y)
+kept_flags x y same claimed usable = record {
+  rights = kept_rights x y claimed usable;
   named = λ j. (after (same j)).named;
   flushed = λ j place. ((after (same j)).files place).flushed;
-  fresh = λ j place. not ((after (same j)).files place).stale;
 }
 
 pub kept_at : (P : Place → ℕ → Type 0) (x : Memory) (steps : List Step) (faults unmade : ℕ) (claimed usable : Bool) → steps ≡ x.steps
@@ -115,35 +117,11 @@ module _ (x y : Memory) (place : Place) where
       one (inr fits) = fits
 
   pub synced_look : y.steps ≡ x.steps ++ Changed place Synced ∷ [] → FilesLook (mem_state x) (mem_state y)
-  synced_look = changed_step NoByte m place Synced (λ i out. told (m.files place).stale (m.files place).now i) (λ bytes fits. (bytes, one bytes fits, λ i out. refl)) x y refl
+  synced_look = changed_step NoByte m place Synced (λ i out. refl) (λ bytes fits. (bytes, one bytes fits, λ i out. refl)) x y refl
     where
-      told : (stale : Bool) (file : ℕ → Byte) (i : ℕ) → (cond stale file (λ k. settled (file k)) i).shown ≡ (file i).shown
-      told true file i = refl
-      told false file i = refl
-
-      all : (stale : Bool) (file : ℕ → Byte) (bytes : ℕ → ℕ) → Fits (cond stale file (λ k. settled (file k))) bytes → Fits file bytes
-      all true file bytes fits = fits
-      all false file bytes fits = λ i calm. fits i refl
-
       one : (bytes : ℕ → ℕ) → MayHold (changed Synced (m.files place)) bytes → MayHold (m.files place) bytes
-      one bytes (inl fits) = inl (all (m.files place).stale (m.files place).now bytes fits)
+      one bytes (inl fits) = inl (λ i calm. fits i refl)
       one bytes (inr fits) = inr fits
-
-  pub lost_look : y.steps ≡ x.steps ++ Changed place Lost ∷ [] → FilesLook (mem_state x) (mem_state y)
-  lost_look = changed_step NoByte m place Lost (λ i out. refl) (λ bytes fits. (bytes, fits, λ i out. refl)) x y refl
-
-  pub emptied_change : y.steps ≡ x.steps ++ Changed place Emptied ∷ [] → FileChange place (mem_state x) (mem_state y)
-  emptied_change = changed_step (InFile place) m place Emptied (λ i out. absurd (out refl))
-      (λ bytes fits. ((λ i. ((m.files place).now i).shown), inl (λ i calm. refl), λ i out. absurd (out refl))) x y refl
-
-  -- a file that shows the same bytes took the name
-  pub took_look : (bytes : List Byte) → ((i : ℕ) → (byte_at bytes i).shown ≡ ((m.files place).now i).shown)
-      → y.steps ≡ x.steps ++ Changed place (Took bytes) ∷ [] → FilesLook (mem_state x) (mem_state y)
-  took_look bytes same = changed_step NoByte m place (Took bytes) (λ i out. same i) (λ values fits. (values, one values fits, λ i out. refl)) x y refl
-    where
-      one : (values : ℕ → ℕ) → MayHold (changed (Took bytes) (m.files place)) values → MayHold (m.files place) values
-      one values (inl fits) = inl (λ i calm. fits i refl ∙ same i)
-      one values (inr fits) = inr fits
 
 -- Values that were written
 module _ (at : ℕ) (values : List ℕ) (file : ℕ → Byte) where
@@ -223,11 +201,11 @@ module _ (x y : Memory) (place : Place) (change : Change) (pushed : y.steps ≡ 
   pub file_other : (other : Place) → ¬ (other ≡ place) → (after y.steps).files other ≡ (after x.steps).files other
   file_other other out = ap (λ (m : Moment). m.files other) moment_is ∙ cond-false _ _ _ (is_place-other place other (λ same. out (sym same)))
 
-  pub touches : y.claimed ≡ x.claimed → TouchesFile place (mem_state x) (mem_state y)
-  touches claimed = record { claimed = claimed; others = λ other out. ap (λ (f : FileMoment). f.flushed) (file_other other out) }
+  pub touches : TouchesFile place (mem_state x) (mem_state y)
+  touches = record { others = λ other out. ap (λ (f : FileMoment). f.flushed) (file_other other out) }
 
-pub kept_touches : (place : Place) (x y : Memory) → y.steps ≡ x.steps → y.claimed ≡ x.claimed → TouchesFile place (mem_state x) (mem_state y)
-kept_touches place x y same claimed = record { claimed = claimed; others = λ other out. ap (λ (l : List Step). ((after l).files other).flushed) same }
+pub kept_touches : (place : Place) (x y : Memory) → y.steps ≡ x.steps → TouchesFile place (mem_state x) (mem_state y)
+kept_touches place x y same = record { others = λ other out. ap (λ (l : List Step). ((after l).files other).flushed) same }
 
 -- a file has the values that were written
 module _ (x y : Memory) (place : Place) (at : ℕ) (values : List ℕ) (pushed : y.steps ≡ x.steps ++ Changed place (Wrote at values) ∷ []) where

@@ -1,18 +1,13 @@
 -- Whether files are the same, and lists of different files.
-use Rattle.mig_calls.proofs.Common.{AllPairs-from_IsDistinct, AreDifferent, Bool, Contains, Contains-from_any, Copy, Decides, Disk, IndexSet, IsEquivalence, IsUnique, Journal, List, MatchOption}
+use Rattle.mig_calls.proofs.Common.{AllPairs-from_IsDistinct, AreDifferent, Bool, Contains, Contains-from_any, Decides, Disk, IndexSet, IsEquivalence, IsUnique, Journal, List, MatchOption}
 use Rattle.mig_calls.proofs.Common.{None, Option, Place, Some, [], ap, bytes_eq, cases_Bool, cond, eq-value, false, false_from_ne_true, false≢true, inl, inr, insert_key, is_place, is_some}
 use Rattle.mig_calls.proofs.Common.{list_any, list_any-from_Contains, other_text, position, position-Some, refl, same_text, slice_get, slice_get-get_or, sym, true, ℕ, ◌++◌, ◌∙◌, ◌∷◌, ◌≡◌}
 
 pub is_place-true : (p q : Place) → is_place p q ≡ true → p ≡ q
 is_place-true (Disk d) (Disk e) is = ap Disk (same_text d e (sym is))
 is_place-true Journal Journal is = refl
-is_place-true Copy Copy is = refl
 is_place-true (Disk d) Journal is = absurd (false≢true is)
-is_place-true (Disk d) Copy is = absurd (false≢true is)
 is_place-true Journal (Disk e) is = absurd (false≢true is)
-is_place-true Journal Copy is = absurd (false≢true is)
-is_place-true Copy (Disk e) is = absurd (false≢true is)
-is_place-true Copy Journal is = absurd (false≢true is)
 
 pub is_place-itself : (p : Place) → is_place p p ≡ true
 is_place-itself (Disk d) = elim (cases_Bool (bytes_eq d d)) [
@@ -20,7 +15,6 @@ is_place-itself (Disk d) = elim (cases_Bool (bytes_eq d d)) [
   | inr not ↦ absurd (other_text d d (sym not) refl)
 ]
 is_place-itself Journal = refl
-is_place-itself Copy = refl
 
 pub is_place-same : (p q : Place) → p ≡ q → is_place p q ≡ true
 is_place-same p q same = ap (is_place p) (sym same) ∙ is_place-itself p
@@ -34,13 +28,8 @@ eq = eq-value.it
 eq-is : (a b : Place) → eq a b ≡ is_place a b
 eq-is (Disk d) (Disk e) = refl
 eq-is Journal Journal = refl
-eq-is Copy Copy = refl
 eq-is (Disk d) Journal = refl
-eq-is (Disk d) Copy = refl
 eq-is Journal (Disk e) = refl
-eq-is Journal Copy = refl
-eq-is Copy (Disk e) = refl
-eq-is Copy Journal = refl
 
 -- files that pass the test are the same
 pub eq-same : (a b : Place) → eq a b ≡ true → a ≡ b

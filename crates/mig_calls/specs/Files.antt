@@ -1,5 +1,5 @@
 -- What the files of a store tell of themselves, and how they change.
-use Rattle.std.specs.Prelude.{◌≡◌, ◌⊎◌, ◌+◌, ◌<◌, ◌≤◌, ℕ, Bool, IsTrue, List, slice_index, Result, Ok, Err, IfErr, ⊤}
+use Rattle.std.specs.Prelude.{◌≡◌, ◌⊎◌, ◌+◌, ◌<◌, ◌≤◌, ℕ, Bool, IsTrue, IsFalse, List, slice_index, Result, Ok, Err, IfErr}
 use Rattle.mig_base.specs.FaultCounts.{Rose}
 use Rattle.mig_calls.specs.declared.places.Place.{Place}
 use Rattle.mig_calls.specs.declared.calls.CallError.{CallError}
@@ -24,10 +24,6 @@ pub record IsWithin (file : Place) (at n : ℕ) (place : Place) (i : ℕ) : Type
   pub from : at ≤ i
   pub below : i < at + n
 
--- any byte of a file
-abbrev pub InFile : Place → Place → ℕ → Type 0
-InFile file place i = place ≡ file
-
 -- What files tell at one moment.
 pub record FilesState : Type 1 where
   -- whether a file's bytes are told
@@ -44,15 +40,13 @@ pub record FilesState : Type 1 where
   pub faults : ℕ
   -- how often a call was not made, and might be made again
   pub unmade : ℕ
-  -- this process alone may write
+  -- this process may write, and no other
   pub claimed : Bool
   -- the device has the names of all files that are there
   pub named : Bool
   -- whether all that was written to a file was brought to the device, by whatever name
   pub flushed : Place → Bool
-  -- whether no sync of the file failed in an earlier process: else the system may call bytes clean that never reached the device
-  pub fresh : Place → Bool
-  -- no sync has failed in this process
+  -- no sync has failed since the files were mounted, in whatever process: else the system may call bytes clean that never reached the device
   pub usable : Bool
 
 -- no byte of the file is unsettled: a crash leaves what reads give
@@ -67,8 +61,10 @@ pub record IsFilesState (s : FilesState) : Type 0 where
   pub only_now : (files : Files) → s.left_since s.moment files → s.may_leave files
   -- what reads give is what a crash may leave, where that is told
   pub reads_left : (files : Files) → s.may_leave files → s.may_leave s.reads
-  -- a file is settled once the device has its bytes and its name
-  pub settled : IsTrue s.named → (place : Place) → IsTrue (s.flushed place) → IsTrue (s.fresh place) → IsSettledAt s place
+  -- nobody may write once a sync has failed
+  pub sure : IsTrue s.claimed → IsTrue s.usable
+  -- where none has failed a file is settled once the device has its bytes and its name
+  pub settled : IsTrue s.usable → IsTrue s.named → (place : Place) → IsTrue (s.flushed place) → IsSettledAt s place
 
 -- the files come by other bytes at these offsets from some that a crash may leave
 abbrev pub IsLeftFilesBut : (Place → ℕ → Type 0) → FilesState → Files → Type 0
@@ -93,29 +89,24 @@ FilesLook = FilesChange NoByte NoByte
 abbrev pub FilesWrite : Place → ℕ → ℕ → FilesState → FilesState → Type 0
 FilesWrite file at n = FilesChange (IsWithin file at n) (IsWithin file at n)
 
--- other bytes come only in this file
-abbrev pub FileChange : Place → FilesState → FilesState → Type 0
-FileChange file = FilesChange (InFile file) (InFile file)
-
--- what the device has of names and bytes, and who may write, is as it was
-pub record KeepsFlags (old new : FilesState) : Type 0 where
+-- who may write, and whether a sync has failed, is as it was
+pub record KeepsRights (old new : FilesState) : Type 0 where
   pub claimed : new.claimed ≡ old.claimed
+  pub usable : new.usable ≡ old.usable
+
+-- so is what the device has of names and bytes
+pub record KeepsFlags (old new : FilesState) : Type 0 where
+  pub rights : KeepsRights old new
   pub named : new.named ≡ old.named
   pub flushed : new.flushed ≡ old.flushed
-  pub fresh : new.fresh ≡ old.fresh
 
--- who may write, and what the device has of each file's bytes but this one's, is as it was
+-- what the device has of each file's bytes but this one's is as it was
 pub record TouchesFile (place : Place) (old new : FilesState) : Type 0 where
-  pub claimed : new.claimed ≡ old.claimed
   pub others : (other : Place) → ¬ (other ≡ place) → new.flushed other ≡ old.flushed other
 
 -- what the device has it goes on having
 abbrev pub KeepsFlushed : FilesState → FilesState → Type 0
 KeepsFlushed old new = (place : Place) → IsTrue (old.flushed place) → IsTrue (new.flushed place)
-
--- each file but this one is as fresh as it was
-abbrev pub KeepsFreshBut : Place → FilesState → FilesState → Type 0
-KeepsFreshBut place old new = (other : Place) → ¬ (other ≡ place) → new.fresh other ≡ old.fresh other
 
 -- the first n of these bytes are the file's, from an offset on
 abbrev pub HasBytes : (ℕ → ℕ) → ℕ → ℕ → List ℕ → Type 0
@@ -142,16 +133,9 @@ pub record HasCallCause {T : Type 0} (old new : FilesState) (result : Result T C
   pub more : old.unmade ≤ new.unmade
   pub cause : IfErr result (IsCallCause old new)
 
--- where a sync didn't fail the files stay usable, and each is as fresh as it was
+-- a sync that fails leaves that it did
 abbrev pub StaysUsable : {T : Type 0} → FilesState → FilesState → Result T CallError → Type 0
-StaysUsable old new (Ok done) = IsTrue new.usable × (new.fresh ≡ old.fresh)
-StaysUsable old new (Err Failed) = ⊤
-StaysUsable old new (Err Interrupted) = IsTrue new.usable × (new.fresh ≡ old.fresh)
-StaysUsable old new (Err Full) = IsTrue new.usable × (new.fresh ≡ old.fresh)
-
--- where a call wasn't made nothing was written
-abbrev pub IsUndone : {T : Type 0} → FilesState → FilesState → Result T CallError → Type 0
-IsUndone old new (Ok done) = ⊤
-IsUndone old new (Err Failed) = ⊤
-IsUndone old new (Err Interrupted) = FilesLook old new
-IsUndone old new (Err Full) = FilesLook old new
+StaysUsable old new (Ok done) = KeepsRights old new
+StaysUsable old new (Err Failed) = IsFalse new.usable
+StaysUsable old new (Err Interrupted) = KeepsRights old new
+StaysUsable old new (Err Full) = KeepsRights old new

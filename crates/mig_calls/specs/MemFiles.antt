@@ -3,7 +3,7 @@ use Rattle.std.specs.Prelude.{ℕ, Bool, true, false, List, [], ◌∷◌, if◌
 use Rattle.mig_calls.specs.declared.file_bytes.Byte.{Byte}
 use Rattle.mig_calls.specs.declared.mem_file.MemFile.{MemFile}
 use Rattle.mig_calls.specs.declared.mem_file.Change.{Change}
-use Rattle.mig_calls.specs.declared.mem_file.Change.TheVariants.{Made, Wrote, Synced, Lost, Emptied, Took}
+use Rattle.mig_calls.specs.declared.mem_file.Change.TheVariants.{Made, Wrote, Synced}
 use Rattle.mig_calls.specs.declared.pick.Pick.{Pick}
 use Rattle.mig_calls.specs.declared.pick.Pick.TheVariants.{Old, Back}
 use Rattle.mig_calls.specs.declared.places.Place.{Place}
@@ -18,37 +18,28 @@ pub record FileMoment : Type 0 where
   pub olds : List (ℕ → Byte)
   -- all that was written to the file was brought to the device
   pub flushed : Bool
-  -- a sync of the file failed, since when a sync brings nothing more to the device
-  pub stale : Bool
 
 -- no file
 abbrev pub no_file : FileMoment
-no_file = record { now = λ i. no_byte; olds = []; flushed = true; stale = false }
+no_file = record { now = λ i. no_byte; olds = []; flushed = true }
 
 -- what the program keeps of it
 abbrev pub moment_of : MemFile → FileMoment
-moment_of f = record { now = byte_at f.now; olds = map byte_at f.olds.items; flushed = f.flushed; stale = f.stale }
+moment_of f = record { now = byte_at f.now; olds = map byte_at f.olds.items; flushed = f.flushed }
 
 -- a file after values were written to it from an offset on
 abbrev pub after_write : ℕ → List ℕ → FileMoment → FileMoment
-after_write at values f = record { now = with_written at values f.now; olds = f.olds; flushed = false; stale = f.stale }
-
--- another file of these bytes, which the device has, under the same name
-abbrev pub after_held : (ℕ → Byte) → FileMoment → FileMoment
-after_held bytes f = record { now = bytes; olds = f.olds; flushed = true; stale = false }
+after_write at values f = record { now = with_written at values f.now; olds = f.olds; flushed = false }
 
 -- a file after a change
 abbrev pub changed : Change → FileMoment → FileMoment
-changed Made f = record { now = f.now; olds = f.now ∷ f.olds; flushed = f.flushed; stale = f.stale }
+changed Made f = record { now = f.now; olds = f.now ∷ f.olds; flushed = f.flushed }
 changed (Wrote at values) f = after_write at values f
-changed Synced f = record { now = if f.stale then f.now else (λ i. settled (f.now i)); olds = f.olds; flushed = true; stale = f.stale }
-changed Lost f = record { now = f.now; olds = f.olds; flushed = f.flushed; stale = true }
-changed Emptied f = after_held (λ i. no_byte) f
-changed (Took bytes) f = after_held (λ i. settled (byte_at bytes i)) f
+changed Synced f = record { now = λ i. settled (f.now i); olds = f.olds; flushed = true }
 
 -- a file whose name was brought to the device
 abbrev pub with_name : FileMoment → FileMoment
-with_name f = record { now = f.now; olds = []; flushed = f.flushed; stale = f.stale }
+with_name f = record { now = f.now; olds = []; flushed = f.flushed }
 
 -- whether a crash leaves the file that the device had under the name
 abbrev pub takes_old : Pick → Bool
@@ -67,7 +58,7 @@ left_file pick f = if takes_old pick then first_or f.now f.olds else f.now
 
 -- a file after a crash
 abbrev pub crashed : Pick → FileMoment → FileMoment
-crashed pick f = record { now = λ i. settled_as (picked pick i (left_file pick f i)); olds = []; flushed = true; stale = false }
+crashed pick f = record { now = λ i. settled_as (picked pick i (left_file pick f i)); olds = []; flushed = true }
 
 -- what a list of files shows of one of them
 pub record Seen : Type 0 where

@@ -1,12 +1,12 @@
 -- Files in memory, as the steps that were made on them tell.
-use Rattle.std.specs.Prelude.{◌≡◌, ◌⊎◌, ◌≤◌, ◌&&◌, Bool, true, false, not, ℕ, List, [], ◌∷◌, IsTrue, IsFalse, length, take, fold, map, refl}
+use Rattle.std.specs.Prelude.{◌≡◌, ◌⊎◌, ◌≤◌, ◌&&◌, Bool, true, false, ℕ, List, [], ◌∷◌, IsTrue, IsFalse, length, take, fold, map, refl}
 use Rattle.std.proofs.Common.{inl, inr, sym, ◌∙◌, ap, subst, arith}
 use Rattle.std.proofs.lemmas.Bool.{cases_Bool, cond-true, cond-false, and_parts, false≢true}
 use Rattle.std.proofs.lemmas.List.{take_all}
 use Rattle.mig_calls.specs.declared.places.Place.{Place}
 use Rattle.mig_calls.specs.declared.file_bytes.Byte.{Byte}
 use Rattle.mig_calls.specs.declared.mem_file.Change.{Change}
-use Rattle.mig_calls.specs.declared.mem_file.Change.TheVariants.{Made, Wrote, Synced, Lost, Emptied, Took}
+use Rattle.mig_calls.specs.declared.mem_file.Change.TheVariants.{Made, Wrote, Synced}
 use Rattle.mig_calls.specs.declared.mem_disk.Step.{Step}
 use Rattle.mig_calls.specs.declared.mem_disk.Step.TheVariants.{Changed, Named, Crashed}
 use Rattle.mig_calls.specs.Files.{Files, FilesState, IsFilesState}
@@ -72,9 +72,9 @@ pub record Memory : Type 0 where
   pub faults : ℕ
   -- how often a call was not made, and might be made again
   pub unmade : ℕ
-  -- this process alone may write
+  -- this process has claimed the right to write
   pub claimed : Bool
-  -- no sync has failed in this process
+  -- no sync has failed since the files were mounted
   pub usable : Bool
 
 -- what they tell
@@ -87,18 +87,17 @@ mem_state m = record {
   left_since = LeftSince m.steps;
   faults = m.faults;
   unmade = m.unmade;
-  claimed = m.claimed;
+  claimed = m.claimed && m.usable;
   named = (after m.steps).named;
   flushed = λ place. ((after m.steps).files place).flushed;
-  fresh = λ place. not ((after m.steps).files place).stale;
   usable = m.usable;
 }
 
 -- What every moment keeps
 
--- all bytes of a file that was synced, where no sync failed, are settled
+-- all bytes of a file that was synced are settled
 abbrev pub IsSound : FileMoment → Type 0
-IsSound f = IsTrue f.flushed → IsFalse f.stale → (i : ℕ) → IsFalse (f.now i).loose
+IsSound f = IsTrue f.flushed → (i : ℕ) → IsFalse (f.now i).loose
 
 pub record IsMoment (m : Moment) : Type 0 where
   -- once the device has the names it has no other files under them
@@ -108,18 +107,12 @@ pub record IsMoment (m : Moment) : Type 0 where
 change_sound : (change : Change) (f : FileMoment) → IsSound f → IsSound (changed change f)
 change_sound Made f is = is
 change_sound (Wrote at values) f is = λ flushed. absurd (false≢true flushed)
-change_sound Synced f is = λ flushed fresh i. ap (λ (file : ℕ → Byte). (file i).loose) (cond-false _ _ _ fresh)
-change_sound Lost f is = λ flushed fresh. absurd (false≢true (sym fresh))
-change_sound Emptied f is = λ flushed fresh i. refl
-change_sound (Took bytes) f is = λ flushed fresh i. refl
+change_sound Synced f is = λ flushed i. refl
 
 change_olds : (change : Change) (f : FileMoment) → IsTrue (keeps_name change) → (changed change f).olds ≡ f.olds
 change_olds Made f keeps = absurd (false≢true keeps)
 change_olds (Wrote at values) f keeps = refl
 change_olds Synced f keeps = refl
-change_olds Lost f keeps = refl
-change_olds Emptied f keeps = refl
-change_olds (Took bytes) f keeps = refl
 
 step_kept : (m : Moment) (step : Step) → IsMoment m → IsMoment (after_step m step)
 step_kept m (Changed place change) is = record {
@@ -135,14 +128,14 @@ step_kept m (Changed place change) is = record {
   ];
 }
 step_kept m Named is = record { olds = λ named place. refl; sound = λ place. is.sound place }
-step_kept m (Crashed pick) is = record { olds = λ named place. refl; sound = λ place flushed fresh i. refl }
+step_kept m (Crashed pick) is = record { olds = λ named place. refl; sound = λ place flushed i. refl }
 
 steps_kept : (m : Moment) (steps : List Step) → IsMoment m → IsMoment (fold after_step m steps)
 steps_kept m [] is = is
 steps_kept m (step ∷ steps) is = steps_kept (after_step m step) steps (step_kept m step is)
 
 pub is_moment : (steps : List Step) → IsMoment (after steps)
-is_moment steps = steps_kept blank steps (record { olds = λ named place. refl; sound = λ place flushed fresh i. refl })
+is_moment steps = steps_kept blank steps (record { olds = λ named place. refl; sound = λ place flushed i. refl })
 
 -- where the device has no other file under the name
 only_now_fits : (now : ℕ → Byte) (olds : List (ℕ → Byte)) (bytes : ℕ → ℕ) → olds ≡ [] → FitsOne (now ∷ olds) bytes → Fits now bytes
@@ -151,17 +144,14 @@ only_now_fits now olds bytes none fits = elim (subst (λ (l : List (ℕ → Byte
   | inr other ↦ absurd other
 ]
 
-not_true : (b : Bool) → IsTrue (not b) → IsFalse b
-not_true true is = absurd (false≢true is)
-not_true false is = refl
-
 pub mem_is_state : (m : Memory) → IsFilesState (mem_state m)
 mem_is_state m = record {
   counts_now = λ t files le left. (length m.steps, le, omega arith, subst (λ (l : List Step). MayLeave (after l) files) (sym (take_all (length m.steps) m.steps (omega arith))) left);
   only_now = λ files left. subst (λ (l : List Step). MayLeave (after l) files) (take_all left.0 m.steps left.1) left.3;
   reads_left = λ files left place. inl (λ i calm. refl);
-  settled = λ named place flushed fresh files left i.
+  sure = λ is. (and_parts m.claimed m.usable is).1;
+  settled = λ usable named place flushed files left i.
       let is = is_moment m.steps in
       only_now_fits ((after m.steps).files place).now ((after m.steps).files place).olds (files place) (is.olds named place) (left place) i
-      (is.sound place flushed (not_true ((after m.steps).files place).stale fresh) i);
+      (is.sound place flushed i);
 }

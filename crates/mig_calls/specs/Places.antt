@@ -27,5 +27,4 @@ offset_of (Mark n) = mark_at n
 abbrev pub is_place : Place → Place → Bool
 is_place (place.Disk d) (place.Disk e) = bytes_eq d e
 is_place place.Journal place.Journal = true
-is_place place.Copy place.Copy = true
 is_place p q = false

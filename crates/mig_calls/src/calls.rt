@@ -1,8 +1,7 @@
 //! What the store asks of the system: a few calls on files by their place.
 ghost use Rattle.std.specs.Prelude.{◌≡◌, ◌≤◌, ◌<◌, ℕ, IsTrue, IsFalse, IfOk, OnOk, length};
 ghost use Rattle.mig_base.specs.FaultCounts.{Rose};
-ghost use Rattle.mig_calls.specs.declared.places.Place.TheVariants.{Journal as JournalFile, Copy as CopyFile};
-ghost use Rattle.mig_calls.specs.Files.{FilesState, IsFilesState, FilesLook, FilesWrite, FileChange, KeepsFlags, TouchesFile, KeepsFlushed, KeepsFreshBut, HasBytes, EndsAt, len_of, HasCallCause, StaysUsable, IsUndone};
+ghost use Rattle.mig_calls.specs.Files.{FilesState, IsFilesState, FilesLook, FilesWrite, KeepsFlags, KeepsRights, TouchesFile, HasBytes, EndsAt, len_of, HasCallCause, StaysUsable};
 ghost use Rattle.mig_calls.specs.Refusals.{IsRefusalCause};
 
 use crate::places::Place;
@@ -51,28 +50,26 @@ impl Extent {
     }
 }
 
-/// The calls on the store's files, none of which may be made after a sync that failed.
+/// The calls on the store's files.
+///
+/// A sync that failed may have lost bytes that reads still give, and no later sync brings them back. So from then on no process may write, until the files are mounted anew.
 ///
 /// A file is named by its place, and opened by the first call on it. One that isn't there reads as one of no bytes, and the first write makes it.
 pub trait Calls {
     /// What the files tell of themselves.
     ghost state: { Self → FilesState };
 
-    /// Takes the right to write for this process alone, until it ends. The journal is made for it where it isn't there.
+    /// Takes the right to write for this process alone, until it ends. The journal is made for it where it isn't there. It fails where a sync has failed since the files were mounted.
     fn claim(&mut self) -> Result<(), CallError>
-        requires { IsTrue (state self.old).usable }
-        ensures usable { IsTrue (state self.new).usable }
+        ensures usable { (state self.new).usable ≡ (state self.old).usable }
         ensures claimed { OnOk result (IsTrue (state self.new).claimed) }
         ensures kept { IsTrue (state self.old).claimed → IsTrue (state self.new).claimed }
         ensures flushed { (state self.new).flushed ≡ (state self.old).flushed }
-        ensures fresh { (state self.new).fresh ≡ (state self.old).fresh }
         ensures change { FilesLook (state self.old) (state self.new) }
         ensures cause { HasCallCause (state self.old) (state self.new) result };
 
     /// Reads some bytes from an offset on; none only at the file's end.
     fn read_at(&mut self, place: &Place, offset: u64, into: &mut [u8]) -> Result<usize, CallError>
-        requires { IsTrue (state self.old).usable }
-        ensures usable { IsTrue (state self.new).usable }
         ensures count { IfOk result (λ n. n ≤ length into.old) }
         ensures bytes { IfOk result (λ n. IsTrue ((state self.old).told place.now) → HasBytes ((state self.old).reads place.now) offset n into.new) }
         ensures end { IfOk result (λ n. n ≡ 0 → 0 < length into.old → IsTrue ((state self.old).told place.now) → EndsAt ((state self.old).reads place.now) offset) }
@@ -82,39 +79,25 @@ pub trait Calls {
 
     /// How many bytes a file has; what lies behind them reads as zeros.
     fn len(&mut self, place: &Place) -> Result<Extent, CallError>
-        requires { IsTrue (state self.old).usable }
-        ensures usable { IsTrue (state self.new).usable }
         ensures end { IfOk result (λ found. IsTrue ((state self.old).told place.now) → EndsAt ((state self.old).reads place.now) (len_of found)) }
-        ensures flags { KeepsFlags (state self.old) (state self.new) }
-        ensures change { FilesLook (state self.old) (state self.new) }
-        ensures cause { HasCallCause (state self.old) (state self.new) result };
-
-    /// Whether the journal is surely fresh, as where it has no bytes, or is a device, which each process reads anew.
-    fn is_fresh(&mut self) -> Result<bool, CallError>
-        requires { IsTrue (state self.old).usable }
-        ensures usable { IsTrue (state self.new).usable }
-        ensures fresh { IfOk result (λ sure. IsTrue sure → IsTrue ((state self.new).fresh JournalFile)) }
         ensures flags { KeepsFlags (state self.old) (state self.new) }
         ensures change { FilesLook (state self.old) (state self.new) }
         ensures cause { HasCallCause (state self.old) (state self.new) result };
 
     /// Writes some of the bytes from an offset on, at least one where there are some, and makes the file where it isn't there. Until it and the names are synced a crash may leave any bytes where they were to go, also where the call failed.
     fn write_at(&mut self, place: &Place, offset: u64, bytes: &[u8]) -> Result<Written, CallError>
-        requires usable { IsTrue (state self.old).usable }
-        requires claimed { IsTrue (state self.old).claimed }
-        ensures usable { IsTrue (state self.new).usable }
+        requires { IsTrue (state self.old).claimed }
+        ensures rights { KeepsRights (state self.old) (state self.new) }
         ensures count { IfOk result (λ written. written.count ≤ length bytes.now) }
         ensures some { IfOk result (λ written. 0 < length bytes.now → 0 < written.count) }
         ensures written { IfOk result (λ written. IsTrue ((state self.new).told place.now) → HasBytes ((state self.new).reads place.now) offset written.count bytes.now) }
         ensures named { IfOk result (λ written. IsFalse written.made → IsTrue (state self.old).named → IsTrue (state self.new).named) }
         ensures flags { TouchesFile place.now (state self.old) (state self.new) }
-        ensures fresh { (state self.new).fresh ≡ (state self.old).fresh }
         ensures change { FilesWrite place.now offset (length bytes.now) (state self.old) (state self.new) }
         ensures cause { HasCallCause (state self.old) (state self.new) result };
 
-    /// Brings all that was written to a file to the device.
+    /// Brings all that was written to a file to the device, unless a sync has failed.
     fn sync(&mut self, place: &Place) -> Result<(), CallError>
-        requires { IsTrue (state self.old).usable }
         ensures usable { StaysUsable (state self.old) (state self.new) result }
         ensures flushed { OnOk result (IsTrue ((state self.new).flushed place.now)) }
         ensures named { (state self.new).named ≡ (state self.old).named }
@@ -124,48 +107,15 @@ pub trait Calls {
 
     /// Brings the names of all files to the device.
     fn sync_names(&mut self) -> Result<(), CallError>
-        requires { IsTrue (state self.old).usable }
         ensures usable { StaysUsable (state self.old) (state self.new) result }
         ensures done { OnOk result (IsTrue (state self.new).named) }
-        ensures claimed { (state self.new).claimed ≡ (state self.old).claimed }
         ensures flushed { (state self.new).flushed ≡ (state self.old).flushed }
         ensures change { FilesLook (state self.old) (state self.new) }
         ensures cause { HasCallCause (state self.old) (state self.new) result };
 
-    /// Makes a new file of no bytes for the journal's copy, in place of one that an earlier process left.
-    fn make_copy(&mut self) -> Result<(), CallError>
-        requires usable { IsTrue (state self.old).usable }
-        requires claimed { IsTrue (state self.old).claimed }
-        ensures usable { IsTrue (state self.new).usable }
-        ensures empty { OnOk result (IsTrue ((state self.new).told CopyFile) → EndsAt ((state self.new).reads CopyFile) 0) }
-        ensures new_one { OnOk result (IsTrue ((state self.new).fresh CopyFile)) }
-        ensures flags { TouchesFile CopyFile (state self.old) (state self.new) }
-        ensures fresh { KeepsFreshBut CopyFile (state self.old) (state self.new) }
-        ensures change { FileChange CopyFile (state self.old) (state self.new) }
-        ensures cause { HasCallCause (state self.old) (state self.new) result };
-
-    /// Gives the journal's copy, which the device has whole and which has the bytes that reads of the journal give, the journal's name. Reads of the journal are the copy's from then on. Until the names are synced a crash leaves either file under the name, also where the call failed.
-    fn rename(&mut self) -> Result<(), CallError>
-        requires usable { IsTrue (state self.old).usable }
-        requires claimed { IsTrue (state self.old).claimed }
-        requires flushed { IsTrue ((state self.old).flushed CopyFile) }
-        requires fresh { IsTrue ((state self.old).fresh CopyFile) }
-        requires same { IsTrue ((state self.old).told JournalFile) → IsTrue ((state self.old).told CopyFile) → (i : ℕ) → (state self.old).reads CopyFile i ≡ (state self.old).reads JournalFile i }
-        ensures usable { IsTrue (state self.new).usable }
-        ensures renewed { OnOk result (IsTrue ((state self.new).flushed JournalFile) × IsTrue ((state self.new).fresh JournalFile)) }
-        ensures claimed { (state self.new).claimed ≡ (state self.old).claimed }
-        ensures flushed { KeepsFlushed (state self.old) (state self.new) }
-        ensures fresh { KeepsFreshBut JournalFile (state self.old) (state self.new) }
-        ensures kept { IsTrue ((state self.old).fresh JournalFile) → IsTrue ((state self.new).fresh JournalFile) }
-        ensures change { FileChange CopyFile (state self.old) (state self.new) }
-        ensures undone { IsUndone (state self.old) (state self.new) result }
-        ensures cause { HasCallCause (state self.old) (state self.new) result };
-
     /// Closes a file, which the next call on it opens again. Only who has a file open is told of a write that came to nothing, so the device has to have all of it.
     fn close(&mut self, place: &Place)
-        requires usable { IsTrue (state self.old).usable }
         requires flushed { IsTrue ((state self.old).flushed place.now) }
-        ensures usable { IsTrue (state self.new).usable }
         ensures flags { KeepsFlags (state self.old) (state self.new) }
         ensures change { FilesLook (state self.old) (state self.new) }
         ensures later { (state self.old).faults ≤ (state self.new).faults }
@@ -174,7 +124,6 @@ pub trait Calls {
     /// Counts that the store refuses, and says why to whom it may concern. It needs a cause.
     fn refuse(&mut self, why: &Refusal)
         requires { IsRefusalCause (state self.old) why.now }
-        ensures usable { (state self.new).usable ≡ (state self.old).usable }
         ensures flags { KeepsFlags (state self.old) (state self.new) }
         ensures change { FilesLook (state self.old) (state self.new) }
         ensures rose { Rose (state self.old).faults (state self.new).faults }

@@ -1,11 +1,9 @@
 //! A device with files in memory, and what was done to them.
-ghost use Rattle.std.specs.Prelude.{◌≡◌, ◌≤◌, ◌<◌, ◌+◌, ◌++◌, ◌∷◌, [], ℕ, OnOk, OnErr, IfSome, IfNone, IfOk, length, slice_index};
-ghost use Rattle.mig_calls.specs.FileBytes.{byte_at};
+ghost use Rattle.std.specs.Prelude.{◌≡◌, ◌≤◌, ◌<◌, ◌+◌, ◌++◌, ◌∷◌, [], ℕ, OnOk, OnErr, IfSome, IfNone, length, slice_index};
 ghost use Rattle.mig_calls.specs.MemFiles.{no_file, moment_of};
 ghost use Rattle.mig_calls.specs.Memory.{after, reads_of};
 ghost use Rattle.mig_calls.specs.declared.mem_disk.Step.TheVariants.{Changed, Named, Crashed};
 
-use crate::file_bytes::FileBytes;
 use crate::growing::push;
 use crate::mem_file::{Change, MemFile};
 use crate::mem_files;
@@ -149,26 +147,6 @@ impl MemDisk {
         match self.file(place) {
             Some(file) => (file.now.len(), file.there),
             None => (0, false),
-        }
-    }
-
-    /// Whether a sync of the file failed.
-    pub fn is_stale(&self, place: &Place) -> bool
-        ensures { result ≡ ((after self.now).files place.now).stale }
-    {
-        match self.file(place) {
-            Some(file) => file.stale,
-            None => false,
-        }
-    }
-
-    /// A copy of the bytes of a file. An error is want of memory.
-    pub fn copied(&self, place: &Place) -> Result<FileBytes, AllocError>
-        ensures { IfOk result (λ bytes. (i : ℕ) → (byte_at bytes i).shown ≡ reads_of (after self.now) place.now i) }
-    {
-        match self.file(place) {
-            Some(file) => file.now.copied(self.alloc),
-            None => Ok(FileBytes::new(self.alloc)),
         }
     }
 }

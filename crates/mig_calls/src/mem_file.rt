@@ -1,7 +1,7 @@
 //! A file in memory: what is under its name, and what the device may have under it.
 ghost use Rattle.std.specs.Prelude.{◌≡◌, OnOk, OnErr, map};
-ghost use Rattle.mig_calls.specs.declared.mem_file.Change.TheVariants.{Made, Synced, Took};
-ghost use Rattle.mig_calls.specs.MemFiles.{no_file, moment_of, changed, after_write, after_held, with_name, first_or, crashed};
+ghost use Rattle.mig_calls.specs.declared.mem_file.Change.TheVariants.{Made, Synced};
+ghost use Rattle.mig_calls.specs.MemFiles.{no_file, moment_of, changed, after_write, with_name, first_or, crashed};
 ghost use Rattle.mig_calls.specs.FileBytes.{byte_at};
 
 use crate::file_bytes::FileBytes;
@@ -13,18 +13,12 @@ use std::alloc::{AllocError, Global};
 /// How a file changes.
 #[derive(Drop)]
 pub enum Change {
-    /// The file was made, or is about to be another one. The device may have under the name what was there before.
+    /// The file was made. The device may have none under the name.
     Made,
     /// Values were written from an offset on.
     Wrote { at: u64, values: Values },
     /// A sync succeeded.
     Synced,
-    /// A sync failed.
-    Lost,
-    /// It is a new file of no bytes.
-    Emptied,
-    /// It is another file of these bytes, which the device has.
-    Took { bytes: FileBytes },
 }
 
 /// A file in memory.
@@ -37,8 +31,6 @@ pub struct MemFile {
     pub olds: Vec<FileBytes>,
     /// All that was written to it was brought to the device.
     pub flushed: bool,
-    /// A sync of it failed.
-    pub stale: bool,
     /// The file was made.
     pub there: bool,
 }
@@ -54,7 +46,6 @@ impl MemFile {
             now: FileBytes::new(alloc),
             olds: Vec::new(alloc),
             flushed: true,
-            stale: false,
             there: false,
         }
     }
@@ -87,30 +78,8 @@ impl MemFile {
         ensures place { self.new.place ≡ self.old.place }
         ensures done { moment_of self.new ≡ changed Synced (moment_of self.old) }
     {
-        if !self.stale {
-            self.now.settle();
-        }
+        self.now.settle();
         self.flushed = true;
-    }
-
-    // Is another file of these bytes, which the device has.
-    fn hold(&mut self, bytes: FileBytes)
-        ensures place { self.new.place ≡ self.old.place }
-        ensures done { moment_of self.new ≡ after_held (byte_at bytes) (moment_of self.old) }
-    {
-        self.there = true;
-        self.now = bytes;
-        self.flushed = true;
-        self.stale = false;
-    }
-
-    fn take(&mut self, bytes: FileBytes)
-        ensures place { self.new.place ≡ self.old.place }
-        ensures done { moment_of self.new ≡ changed (Took bytes) (moment_of self.old) }
-    {
-        let mut device = bytes;
-        device.settle();
-        self.hold(device);
     }
 
     /// Changes the file. An error is want of memory, and changes nothing.
@@ -123,9 +92,6 @@ impl MemFile {
             Change::Made => self.make(alloc)?,
             Change::Wrote { at, values } => self.write(*at, values)?,
             Change::Synced => self.sync(),
-            Change::Lost => self.stale = true,
-            Change::Emptied => self.hold(FileBytes::new(alloc)),
-            Change::Took { bytes } => self.take(bytes.copied(alloc)?),
         }
         Ok(())
     }
@@ -159,7 +125,6 @@ impl MemFile {
         self.now.crash(pick);
         self.olds.clear();
         self.flushed = true;
-        self.stale = false;
         self.there = self.now.len() > 0;
     }
 }

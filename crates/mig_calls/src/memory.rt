@@ -2,17 +2,15 @@
 ghost use Rattle.std.specs.Prelude.{◌≡◌, ◌≤◌, ◌<◌, ◌+◌, true, false, ◌++◌, ◌∷◌, [], ℕ, IsTrue, IsFalse, IfOk, IfErr, OnOk, OnErr, length, slice_index};
 ghost use Rattle.mig_base.specs.FaultCounts.{Rose};
 ghost use Rattle.mig_calls.specs.declared.calls.CallError.TheVariants.{Failed};
-ghost use Rattle.mig_calls.specs.declared.places.Place.TheVariants.{Journal as JournalFile, Copy as CopyFile};
-ghost use Rattle.mig_calls.specs.declared.mem_file.Change.TheVariants.{Made, Took, Emptied};
+ghost use Rattle.mig_calls.specs.declared.mem_file.Change.TheVariants.{Made};
 ghost use Rattle.mig_calls.specs.declared.mem_disk.Step.TheVariants.{Changed, Crashed};
 ghost use Rattle.mig_calls.specs.declared.places.Place.{Place as Places};
-ghost use Rattle.mig_calls.specs.FileBytes.{byte_at, picked};
+ghost use Rattle.mig_calls.specs.FileBytes.{picked};
 ghost use Rattle.mig_calls.specs.MemFiles.{left_file};
-ghost use Rattle.mig_calls.specs.Files.{FilesState, FilesLook, FilesWrite, FileChange, KeepsFlags, TouchesFile, KeepsFlushed, KeepsFreshBut, IsSettledAt, HasBytes, EndsAt, HasCallCause};
+ghost use Rattle.mig_calls.specs.Files.{FilesState, FilesLook, FilesWrite, KeepsFlags, TouchesFile, IsSettledAt, HasBytes, EndsAt, HasCallCause};
 ghost use Rattle.mig_calls.specs.Memory.{Memory, mem_state, mem_is_state, after, reads_of};
 
 use crate::calls::{CallError, Calls, Extent, Written};
-use crate::file_bytes::FileBytes;
 use crate::mem_disk::MemDisk;
 use crate::mem_file::Change;
 use crate::pick::Pick;
@@ -93,14 +91,21 @@ impl MemCalls {
         self.number
     }
 
-    /// The files as the next process finds them: none is open, and nothing goes wrong.
+    /// The files as the next process finds them: none is open, and nothing goes wrong. That a sync failed stays so.
     pub fn restart(&mut self)
-        ensures { self.new ≡ record self.old { claimed = false; usable = true } }
+        ensures { self.new ≡ record self.old { claimed = false } }
     {
         self.opened.clear();
         self.trouble = Trouble::none(self.alloc);
         self.number = 0;
         self.claimed = false;
+    }
+
+    // The files as the first process finds them once they were mounted.
+    fn mount(&mut self)
+        ensures { self.new ≡ record self.old { claimed = false; usable = true } }
+    {
+        self.restart();
         self.usable = true;
     }
 
@@ -112,11 +117,11 @@ impl MemCalls {
         ensures settled { IfOk result (λ left. (place : Places) → IsSettledAt (mem_state left) place) }
         ensures named { IfOk result (λ left. IsTrue (mem_state left).named) }
         ensures flushed { IfOk result (λ left. (place : Places) → IsTrue ((mem_state left).flushed place)) }
-        ensures fresh { IfOk result (λ left. (place : Places) → IsTrue ((mem_state left).fresh place)) }
+        ensures usable { IfOk result (λ left. IsTrue (mem_state left).usable) }
     {
         let mut left = self;
         left.crash_disk(pick)?;
-        left.restart();
+        left.mount();
         Ok(left)
     }
 
@@ -216,12 +221,11 @@ impl MemCalls {
         }
     }
 
-    // Another file is about to have the name: the device may go on having this one there.
+    // The file is made: the device may go on having none under its name.
     fn mark(&mut self, place: &Place) -> Result<(), CallError>
         ensures look { FilesLook (mem_state self.old) (mem_state self.new) }
         ensures shown { reads_of (after self.new.steps) ≡ reads_of (after self.old.steps) }
         ensures flushed { (mem_state self.new).flushed ≡ (mem_state self.old).flushed }
-        ensures fresh { (mem_state self.new).fresh ≡ (mem_state self.old).fresh }
         ensures failed { IfErr result (λ error. error ≡ Failed) }
         ensures claimed { self.new.claimed ≡ self.old.claimed }
         ensures usable { self.new.usable ≡ self.old.usable }
@@ -234,7 +238,6 @@ impl MemCalls {
     fn make(&mut self, place: &Place) -> Result<bool, CallError>
         ensures look { FilesLook (mem_state self.old) (mem_state self.new) }
         ensures flushed { (mem_state self.new).flushed ≡ (mem_state self.old).flushed }
-        ensures fresh { (mem_state self.new).fresh ≡ (mem_state self.old).fresh }
         ensures named { IfOk result (λ made. IsFalse made → (mem_state self.new).named ≡ (mem_state self.old).named) }
         ensures claimed { self.new.claimed ≡ self.old.claimed }
         ensures usable { self.new.usable ≡ self.old.usable }
@@ -257,7 +260,7 @@ impl MemCalls {
         ensures change { FilesWrite place.now at (length values.now) (mem_state self.old) (mem_state self.new) }
         ensures flags { TouchesFile place.now (mem_state self.old) (mem_state self.new) }
         ensures named { (mem_state self.new).named ≡ (mem_state self.old).named }
-        ensures fresh { (mem_state self.new).fresh ≡ (mem_state self.old).fresh }
+        ensures claimed { self.new.claimed ≡ self.old.claimed }
         ensures usable { self.new.usable ≡ self.old.usable }
         ensures cause { HasCallCause (mem_state self.old) (mem_state self.new) result }
     {
@@ -267,103 +270,41 @@ impl MemCalls {
         }
     }
 
-    // The bytes of the journal's copy.
-    fn copy_bytes(&mut self) -> Result<FileBytes, CallError>
-        ensures bytes { IfOk result (λ bytes. (i : ℕ) → (byte_at bytes i).shown ≡ (mem_state self.old).reads CopyFile i) }
-        ensures look { FilesLook (mem_state self.old) (mem_state self.new) }
-        ensures flags { KeepsFlags (mem_state self.old) (mem_state self.new) }
-        ensures steps { self.new.steps ≡ self.old.steps }
-        ensures failed { IfErr result (λ error. error ≡ Failed) }
-        ensures claimed { self.new.claimed ≡ self.old.claimed }
-        ensures usable { self.new.usable ≡ self.old.usable }
-        ensures cause { HasCallCause (mem_state self.old) (mem_state self.new) result }
-    {
-        match self.disk.copied(&Place::Copy) {
-            Ok(bytes) => Ok(bytes),
-            Err(_) => Err(self.fail()),
-        }
-    }
-
-    // The bytes of the journal's copy, which is about to take the journal's name. The device may go on having either file under its name.
-    fn ready_copy(&mut self) -> Result<FileBytes, CallError>
-        ensures look { FilesLook (mem_state self.old) (mem_state self.new) }
-        ensures shown { reads_of (after self.new.steps) ≡ reads_of (after self.old.steps) }
-        ensures bytes { IfOk result (λ bytes. (i : ℕ) → (byte_at bytes i).shown ≡ (mem_state self.old).reads CopyFile i) }
-        ensures flushed { (mem_state self.new).flushed ≡ (mem_state self.old).flushed }
-        ensures fresh { (mem_state self.new).fresh ≡ (mem_state self.old).fresh }
-        ensures failed { IfErr result (λ error. error ≡ Failed) }
-        ensures claimed { self.new.claimed ≡ self.old.claimed }
-        ensures usable { self.new.usable ≡ self.old.usable }
-        ensures cause { HasCallCause (mem_state self.old) (mem_state self.new) result }
-    {
-        let bytes = self.copy_bytes()?;
-        self.mark(&Place::Journal)?;
-        self.mark(&Place::Copy)?;
-        Ok(bytes)
-    }
-
-    // The journal is another file of these bytes, which the device has.
-    fn take(&mut self, bytes: FileBytes) -> Result<(), CallError>
-        requires { (i : ℕ) → (byte_at bytes i).shown ≡ (mem_state self.old).reads JournalFile i }
-        ensures look { FilesLook (mem_state self.old) (mem_state self.new) }
-        ensures renewed { OnOk result (IsTrue ((mem_state self.new).flushed JournalFile) × IsTrue ((mem_state self.new).fresh JournalFile)) }
-        ensures flushed { KeepsFlushed (mem_state self.old) (mem_state self.new) }
-        ensures fresh { KeepsFreshBut JournalFile (mem_state self.old) (mem_state self.new) }
-        ensures kept { IsTrue ((mem_state self.old).fresh JournalFile) → IsTrue ((mem_state self.new).fresh JournalFile) }
-        ensures failed { IfErr result (λ error. error ≡ Failed) }
-        ensures claimed { self.new.claimed ≡ self.old.claimed }
-        ensures usable { self.new.usable ≡ self.old.usable }
-        ensures cause { HasCallCause (mem_state self.old) (mem_state self.new) result }
-    {
-        self.change(&Place::Journal, Change::Took { bytes })
-    }
-
-    // The journal's copy is a new file of no bytes.
-    fn empty_copy(&mut self) -> Result<(), CallError>
-        ensures change { FileChange CopyFile (mem_state self.old) (mem_state self.new) }
-        ensures empty { OnOk result ((i : ℕ) → (mem_state self.new).reads CopyFile i ≡ 0) }
-        ensures new_one { OnOk result (IsTrue ((mem_state self.new).fresh CopyFile)) }
-        ensures flags { TouchesFile CopyFile (mem_state self.old) (mem_state self.new) }
-        ensures flushed { KeepsFlushed (mem_state self.old) (mem_state self.new) }
-        ensures fresh { KeepsFreshBut CopyFile (mem_state self.old) (mem_state self.new) }
-        ensures kept { IsTrue ((mem_state self.old).fresh CopyFile) → IsTrue ((mem_state self.new).fresh CopyFile) }
-        ensures failed { IfErr result (λ error. error ≡ Failed) }
-        ensures usable { self.new.usable ≡ self.old.usable }
-        ensures cause { HasCallCause (mem_state self.old) (mem_state self.new) result }
-    {
-        self.change(&Place::Copy, Change::Emptied)
-    }
-
     // This process alone may write from now on.
     fn own(&mut self)
         ensures same { self.new ≡ record self.old { claimed = true } }
+        ensures claimed { IsTrue self.old.usable → IsTrue (mem_state self.new).claimed }
         ensures look { FilesLook (mem_state self.old) (mem_state self.new) }
         ensures flushed { (mem_state self.new).flushed ≡ (mem_state self.old).flushed }
-        ensures fresh { (mem_state self.new).fresh ≡ (mem_state self.old).fresh }
     {
         self.claimed = true;
     }
 
-    // No call may be made from now on.
+    // A sync failed: nobody may write from now on.
     fn give_up(&mut self)
         ensures same { self.new ≡ record self.old { usable = false } }
         ensures look { FilesLook (mem_state self.old) (mem_state self.new) }
-        ensures flags { KeepsFlags (mem_state self.old) (mem_state self.new) }
+        ensures named { (mem_state self.new).named ≡ (mem_state self.old).named }
+        ensures flushed { (mem_state self.new).flushed ≡ (mem_state self.old).flushed }
     {
         self.usable = false;
     }
 
-    // A sync of the file failed, so that nothing written to it may ever reach the device.
-    fn lose(&mut self, place: &Place)
+    // Brings a file to the device, unless a sync has failed.
+    fn bring(&mut self, place: &Place) -> Result<(), CallError>
         ensures look { FilesLook (mem_state self.old) (mem_state self.new) }
-        ensures flushed { (mem_state self.new).flushed ≡ (mem_state self.old).flushed }
+        ensures brought { OnOk result (IsTrue ((mem_state self.new).flushed place.now)) }
+        ensures flags { TouchesFile place.now (mem_state self.old) (mem_state self.new) }
         ensures named { (mem_state self.new).named ≡ (mem_state self.old).named }
         ensures claimed { self.new.claimed ≡ self.old.claimed }
-        ensures later { self.old.faults ≤ self.new.faults }
-        ensures more { self.old.unmade ≤ self.new.unmade }
+        ensures usable { self.new.usable ≡ self.old.usable }
+        ensures cause { HasCallCause (mem_state self.old) (mem_state self.new) result }
     {
-        let _lost = self.change(place, Change::Lost);
-        self.give_up();
+        if !self.usable {
+            return Err(self.fail());
+        }
+        self.open(place)?;
+        self.change(place, Change::Synced)
     }
 
     // Brings the names of all files to the device.
@@ -371,7 +312,6 @@ impl MemCalls {
         ensures look { FilesLook (mem_state self.old) (mem_state self.new) }
         ensures done { OnOk result (IsTrue (mem_state self.new).named) }
         ensures flushed { (mem_state self.new).flushed ≡ (mem_state self.old).flushed }
-        ensures fresh { (mem_state self.new).fresh ≡ (mem_state self.old).fresh }
         ensures claimed { self.new.claimed ≡ self.old.claimed }
         ensures usable { self.new.usable ≡ self.old.usable }
         ensures cause { HasCallCause (mem_state self.old) (mem_state self.new) result }
@@ -380,6 +320,22 @@ impl MemCalls {
             Ok(()) => Ok(()),
             Err(_) => Err(self.fail()),
         }
+    }
+
+    // Does so unless a sync has failed.
+    fn bring_names(&mut self) -> Result<(), CallError>
+        ensures look { FilesLook (mem_state self.old) (mem_state self.new) }
+        ensures done { OnOk result (IsTrue (mem_state self.new).named) }
+        ensures flushed { (mem_state self.new).flushed ≡ (mem_state self.old).flushed }
+        ensures claimed { self.new.claimed ≡ self.old.claimed }
+        ensures usable { self.new.usable ≡ self.old.usable }
+        ensures cause { HasCallCause (mem_state self.old) (mem_state self.new) result }
+    {
+        if !self.usable {
+            return Err(self.fail());
+        }
+        self.enter()?;
+        self.name()
     }
 
     // The file isn't open.
@@ -406,6 +362,9 @@ impl Calls for MemCalls {
 
     fn claim(&mut self) -> Result<(), CallError> {
         self.open(&Place::Journal)?;
+        if !self.usable {
+            return Err(self.fail());
+        }
         let _made = self.make(&Place::Journal)?;
         self.own();
         Ok(())
@@ -426,11 +385,6 @@ impl Calls for MemCalls {
         Ok(Extent::File { len: len as u64 })
     }
 
-    fn is_fresh(&mut self) -> Result<bool, CallError> {
-        self.open(&Place::Journal)?;
-        Ok(!self.disk.is_stale(&Place::Journal))
-    }
-
     fn write_at(&mut self, place: &Place, offset: u64, bytes: &[u8]) -> Result<Written, CallError> {
         self.open(place)?;
         let made = self.make(place)?;
@@ -440,19 +394,8 @@ impl Calls for MemCalls {
     }
 
     fn sync(&mut self, place: &Place) -> Result<(), CallError> {
-        match self.open(place) {
-            Ok(()) => self.change(place, Change::Synced),
-            Err(CallError::Failed) => {
-                self.lose(place);
-                Err(CallError::Failed)
-            }
-            Err(error) => Err(error),
-        }
-    }
-
-    fn sync_names(&mut self) -> Result<(), CallError> {
-        match self.enter() {
-            Ok(()) => self.name(),
+        match self.bring(place) {
+            Ok(()) => Ok(()),
             Err(CallError::Failed) => {
                 self.give_up();
                 Err(CallError::Failed)
@@ -461,17 +404,15 @@ impl Calls for MemCalls {
         }
     }
 
-    fn make_copy(&mut self) -> Result<(), CallError> {
-        self.open(&Place::Copy)?;
-        self.mark(&Place::Copy)?;
-        self.empty_copy()
-    }
-
-    fn rename(&mut self) -> Result<(), CallError> {
-        self.enter()?;
-        let bytes = self.ready_copy()?;
-        self.take(bytes)?;
-        self.empty_copy()
+    fn sync_names(&mut self) -> Result<(), CallError> {
+        match self.bring_names() {
+            Ok(()) => Ok(()),
+            Err(CallError::Failed) => {
+                self.give_up();
+                Err(CallError::Failed)
+            }
+            Err(error) => Err(error),
+        }
     }
 
     fn close(&mut self, place: &Place) {

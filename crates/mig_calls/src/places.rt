@@ -7,6 +7,4 @@ pub enum Place {
     /// The disk of this name.
     Disk(Name),
     Journal,
-    /// The copy of the journal that is to take its place.
-    Copy,
 }

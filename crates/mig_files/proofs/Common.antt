@@ -13,7 +13,7 @@ pub use Rattle.mig_base.specs.contracts.cells.CellPartialEq.TheImpl.{eq-value}
 pub use Rattle.mig_base.specs.declared.cells.Cell.{Cell}
 pub use Rattle.mig_base.specs.declared.cells.Cell.TheVariants.{Gate, Head, Mark, Slot}
 pub use Rattle.mig_base.specs.declared.cells.Event.{Event}
-pub use Rattle.mig_calls.specs.Files.{EndsAt, FileChange, Files, FilesChange, FilesLook, FilesState, FilesWrite, HasBytes, HasCallCause, InFile, IsCallCause, IsFilesState, IsLeftFilesBut}
+pub use Rattle.mig_calls.specs.Files.{EndsAt, Files, FilesChange, FilesLook, FilesState, FilesWrite, HasBytes, HasCallCause, IsCallCause, IsFilesState, IsLeftFilesBut}
 pub use Rattle.mig_calls.specs.Files.{IsSettledAt, IsWithin, KeepsFlags, KeepsFlushed, NoByte, SameFilesBut, TouchesFile, len_of}
 pub use Rattle.mig_calls.specs.Places.{file_of, mark_at, offset_of}
 pub use Rattle.mig_calls.specs.Refusals.{HoldsItem, WhereTold}
@@ -21,16 +21,16 @@ pub use Rattle.mig_calls.specs.declared.calls.CallError.{CallError}
 pub use Rattle.mig_calls.specs.declared.calls.CallError.TheVariants.{Failed, Full, Interrupted}
 pub use Rattle.mig_calls.specs.declared.calls.Extent.{Extent}
 pub use Rattle.mig_calls.specs.declared.places.Place.{Place}
-pub use Rattle.mig_calls.specs.declared.places.Place.TheVariants.{Copy, Disk, Journal}
+pub use Rattle.mig_calls.specs.declared.places.Place.TheVariants.{Disk, Journal}
 pub use Rattle.mig_files.specs.Counting.{AreCounted, IsNotedAt, count_of, is_item, one_if, times}
 pub use Rattle.mig_files.specs.Derived.{cell_state, cells-shape, cells_of, window}
 pub use Rattle.mig_files.specs.Seeing.{AreHeld, IsElsewhere, IsFree, IsFreeFor, IsHeldElsewhere, KeepsSeen, KeepsSeenBut, LosesNone, LosesNoneBut, seen_at}
-pub use Rattle.mig_files.specs.Tasks.{Alters, Leaves, LeavesUsable, Remakes, Unflushes, WasInterrupted}
-pub use Rattle.mig_files.specs.Tracking.{HasCopied, HasReadSome, HasSyncedSome, HasTried, HasWrittenSome, IsCopiedTo, IsCopyStep, IsNoted, IsQuiet, IsStep, IsTracked, IsWholeCopy, IsWriteStep}
+pub use Rattle.mig_files.specs.Tasks.{KeepsClaim, Leaves, Unflushes, WasInterrupted}
+pub use Rattle.mig_files.specs.Tracking.{HasReadSome, HasSyncedSome, HasTried, HasWrittenSome, IsNoted, IsQuiet, IsStep, IsTracked, IsWriteStep}
 pub use Rattle.mig_files.specs.Tracking.{SameNotes, StaysAlive, StaysSame, WritesAlive}
 pub use Rattle.mig_files.specs.declared.tracked.Notes.{Notes}
 pub use Rattle.mig_files.specs.declared.tries.Task.{Task}
-pub use Rattle.mig_files.specs.declared.tries.Task.TheVariants.{Claim, MakeCopy, Rename, Sync, SyncNames}
+pub use Rattle.mig_files.specs.declared.tries.Task.TheVariants.{Claim, Sync, SyncNames}
 pub use Rattle.std.proofs.Common.{Bool, Err, IfNone, IfSome, IsFalse, IsSome, IsTrue, List, MatchBool, None, Ok, OnErr, OnOk, Option, Result, Some, [], ap, arith, cond, false, if◌then◌else◌, inl}
 pub use Rattle.std.proofs.Common.{inr, length, nat_eq, not, refl, replicate, rules, slice_index, slice_range, subst, suc, sym, take, true, zero, ℕ, ◌*◌, ◌++◌, ◌+◌, ◌-◌, ◌<◌, ◌↔◌, ◌∙◌, ◌∷◌, ◌≡◌}
 pub use Rattle.std.proofs.Common.{◌≤◌, ◌⊎◌}

@@ -1,7 +1,7 @@
 -- A change of files is a change of the cells that are read off them.
-use Rattle.mig_files.proofs.Common.{Bool, Cell, Changes, Copy, Ends, EndsAt, Err, Event, FileChange, Files, FilesChange, FilesLook, FilesState, FilesWrite, Gate, HasBytes, Head, IfSome, Image}
-use Rattle.mig_files.proofs.Common.{InFile, IsFilesState, IsLeftBut, IsLeftFilesBut, IsSettled, IsSettledAt, IsTrue, IsWithin, List, Mark, NoByte, NoCell, None, Ok, OnOk, Option, Place, Result}
-use Rattle.mig_files.proofs.Common.{SameBut, SameFilesBut, Slot, Some, [], ap, arith, cell_len, cell_state, cells-shape, cells_of, false, file_of, if◌then◌else◌, inl, inr, length, offset_of}
+use Rattle.mig_files.proofs.Common.{Bool, Cell, Changes, Ends, EndsAt, Err, Event, Files, FilesChange, FilesLook, FilesState, FilesWrite, HasBytes, IfSome, Image}
+use Rattle.mig_files.proofs.Common.{IsFilesState, IsLeftBut, IsLeftFilesBut, IsSettled, IsSettledAt, IsTrue, IsWithin, List, NoByte, NoCell, None, Ok, OnOk, Option, Place, Result}
+use Rattle.mig_files.proofs.Common.{SameBut, SameFilesBut, Some, [], ap, arith, cell_len, cell_state, cells-shape, cells_of, false, file_of, if◌then◌else◌, inl, inr, length, offset_of}
 use Rattle.mig_files.proofs.Common.{refl, rules, subst, suc, sym, true, zero, ℕ, ◌+◌, ◌<◌, ◌∙◌, ◌∷◌, ◌≡◌}
 use Rattle.mig_files.specs.Derived.{window}
 use Rattle.mig_files.proofs.Apart.{apart}
@@ -36,13 +36,6 @@ Spares R P = (cell : Cell) → ¬ R cell → (i : ℕ) → i < cell_len cell →
 
 pub spares_none : (R : Cell → Type 0) → Spares R NoByte
 spares_none R cell out i lt none = none
-
--- the journal's copy has no cell
-pub spares_copy : (R : Cell → Type 0) → Spares R (InFile Copy)
-spares_copy R (Slot d s) out i lt is = cc
-spares_copy R Head out i lt is = cc
-spares_copy R Gate out i lt is = cc
-spares_copy R (Mark n) out i lt is = cc
 
 pub spares_cell : (cell : Cell) → Spares (λ c. c ≡ cell) (IsWithin (file_of cell) (offset_of cell) (cell_len cell))
 spares_cell cell c out i lt is = apart c cell out i lt is
@@ -119,13 +112,9 @@ cell_changes cell added {old} {new} {a} {b} law change =
 pub cell_looks : {R : Cell → Type 0} {old new : FilesState} {a b : ℕ} → IsFilesState old → FilesLook old new → Changes R NoCell [] (cell_state old a) (cell_state new b)
 cell_looks {R} {old} {new} {a} {b} law look = lifted R NoCell NoByte NoByte (spares_none R) (spares_none NoCell) [] old new a b law look
 
--- only the journal's copy is written
-pub copy_looks : {R : Cell → Type 0} {old new : FilesState} {a b : ℕ} → IsFilesState old → FileChange Copy old new → Changes R NoCell [] (cell_state old a) (cell_state new b)
-copy_looks {R} {old} {new} {a} {b} law change = lifted R NoCell (InFile Copy) (InFile Copy) (spares_copy R) (spares_copy NoCell) [] old new a b law change
-
-pub ends_none : {old new : FilesState} {a b : ℕ} → IsFilesState old → FileChange Copy old new → Ends [] (cell_state old a) (cell_state new b)
-ends_none {old} {new} {a} {b} law change = record {
-  change = copy_looks law change;
+pub ends_none : {old new : FilesState} {a b : ℕ} → IsFilesState old → FilesLook old new → Ends [] (cell_state old a) (cell_state new b)
+ends_none {old} {new} {a} {b} law look = record {
+  change = cell_looks law look;
   copied = λ k d lt. absurd (omega (arith, lt));
   gone = λ k d lt. absurd (omega (arith, lt));
   others = search rules;

@@ -1,6 +1,6 @@
 -- That items are still where they were seen.
-use Rattle.mig_files.proofs.Common.{AreHeld, Bool, Cell, Copy, FileChange, FilesLook, FilesState, FilesWrite, Gate, HasBytes, Head, HoldsItem, IfSome, IsFree, IsFreeFor, IsHeldElsewhere, IsTrue}
-use Rattle.mig_files.proofs.Common.{KeepsSeen, List, LosesNone, LosesNoneBut, Mark, None, Slot, Some, WhereTold, ap, arith, cell_len, cells_of, false≢true, file_of, header_of, if◌then◌else◌, inl, inr}
+use Rattle.mig_files.proofs.Common.{AreHeld, Bool, Cell, FilesLook, FilesState, FilesWrite, HasBytes, HoldsItem, IfSome, IsFree, IsFreeFor, IsHeldElsewhere, IsTrue}
+use Rattle.mig_files.proofs.Common.{KeepsSeen, List, LosesNone, LosesNoneBut, None, Some, WhereTold, ap, arith, cell_len, cells_of, file_of, header_of, if◌then◌else◌, inl, inr}
 use Rattle.mig_files.proofs.Common.{[], is_slot, length, offset_of, refl, seen_at, slice_index, slice_range, subst, suc, sym, zero, ℕ, ◌+◌, ◌∙◌, ◌≡◌, ◌⊎◌}
 use Rattle.mig_base.proofs.CellTests.{cases_cell}
 use Rattle.mig_files.specs.Derived.{window}
@@ -8,26 +8,13 @@ use Rattle.mig_files.proofs.Apart.{apart}
 use Rattle.mig_files.proofs.FilesSteps.{told_before, told_after}
 use Rattle.mig_files.proofs.Headers.{first_bytes, slot_len}
 use Rattle.mig_files.proofs.SeenItems.{Sights, none_some}
-use Rattle.mig_files.proofs.TrackingSteps.{look_is_copy}
-
--- a slot's file isn't the journal's copy
-slot_file : (slot : Cell) → IsTrue (is_slot slot) → ¬ (file_of slot ≡ Copy)
-slot_file (Slot d s) is same = cc
-slot_file Head is same = absurd (false≢true is)
-slot_file Gate is same = absurd (false≢true is)
-slot_file (Mark n) is same = absurd (false≢true is)
-
--- where only the journal's copy was written
-pub held_copied : {a b : FilesState} {seen : Sights} → FileChange Copy a b → AreHeld a seen → AreHeld b seen
-held_copied {a} {b} change held = record {
-  slots = held.slots;
-  holds = λ slot item is told k lt.
-      held.holds slot item is (told_before change (file_of slot) told) k lt ∙ sym (change.bytes (file_of slot) (offset_of slot + k) (slot_file slot (held.slots slot item is)));
-}
 
 -- where nothing was written
 pub held_looked : {a b : FilesState} {seen : Sights} → FilesLook a b → AreHeld a seen → AreHeld b seen
-held_looked look held = held_copied (look_is_copy look) held
+held_looked look held = record {
+  slots = held.slots;
+  holds = λ slot item is told k lt. held.holds slot item is (told_before look (file_of slot) told) k lt ∙ sym (look.bytes (file_of slot) (offset_of slot + k) (λ none. none));
+}
 
 -- where a cell was written of which nothing is known
 pub held_written : {a b : FilesState} {old new : Sights} (cell : Cell) → FilesWrite (file_of cell) (offset_of cell) (cell_len cell) a b → KeepsSeen old new cell → seen_at new cell ≡ None

@@ -4,7 +4,6 @@ pub mod FilesSteps
 pub mod Derivation
 pub mod TrackingSteps
 pub mod RestSteps
-pub mod CopySteps
 pub mod Headers
 pub mod Holding
 pub mod Errs

@@ -1,11 +1,10 @@
 -- How what calls leave goes one after another.
-use Rattle.mig_files.proofs.Common.{Alters, Bool, FilesState, IsQuiet, Leaves, NoByte, Place, Task, ap, arith, ◌∙◌}
-use Rattle.mig_files.proofs.FilesSteps.{change_then, change_wide}
+use Rattle.mig_files.proofs.Common.{Bool, FilesState, IsQuiet, Leaves, Place, Task, ap, arith, ◌∙◌}
+use Rattle.mig_files.proofs.FilesSteps.{change_then}
 
 pub leaves_then : {task : Task} {a b c : FilesState} → Leaves task a b → Leaves task b c → Leaves task a c
 leaves_then first then = record {
   change = change_then first.change then.change;
-  claimed = λ is. then.claimed (first.claimed is);
   named = λ keeps. then.named keeps ∙ first.named keeps;
   flushed = λ file out is. then.flushed file out (first.flushed file out is);
   later = omega (arith, first.later, then.later);
@@ -15,8 +14,7 @@ leaves_then first then = record {
 -- a call that only counts leaves all
 pub quiet_leaves : {task : Task} {a b : FilesState} → IsQuiet a b → Leaves task a b
 quiet_leaves {task} {a} {b} quiet = record {
-  change = change_wide NoByte NoByte (Alters task) (λ place i none. absurd none) (λ place i none. absurd none) a b quiet.change;
-  claimed = λ is. quiet.flags.claimed ∙ is;
+  change = quiet.change;
   named = λ keeps. quiet.flags.named;
   flushed = λ file out is. ap (λ (f : Place → Bool). f file) quiet.flags.flushed ∙ is;
   later = quiet.later;

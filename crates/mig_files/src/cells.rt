@@ -32,7 +32,7 @@ fn enter_place<C: Calls>(
 {
     match place {
         Place::Disk(name) => enter(calls, tracked, name),
-        Place::Journal | Place::Copy => Ok(()),
+        Place::Journal => Ok(()),
     }
 }
 

@@ -7,7 +7,6 @@ mod items;
 mod opening;
 mod pieces;
 mod places;
-mod renewal;
 mod seen;
 mod slot_header;
 mod store;

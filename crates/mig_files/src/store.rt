@@ -44,9 +44,7 @@ impl<C: Calls + Drop> FileStore<C> {
     #[tactic(auto, using(crate::proofs::Errs::err_any, crate::proofs::Holding::none_held))]
     /// The store over these calls, which has opened no file. The disks are handed in whose files the device may lack some bytes of, as where an earlier process ended without a sync; all others count so once they are looked at. An error is want of memory.
     pub fn new(alloc: Global, calls: C, dirty: DiskSet) -> Result<FileStore<C>, AllocError>
-        requires usable { IsTrue (C.Calls.state calls).usable }
-        requires flushed { (disk : List ℕ) → ¬ Contains dirty disk → IsTrue ((C.Calls.state calls).flushed (DiskFile disk)) }
-        requires fresh { (disk : List ℕ) → IsTrue ((C.Calls.state calls).fresh (DiskFile disk)) }
+        requires { (disk : List ℕ) → ¬ Contains dirty disk → IsTrue ((C.Calls.state calls).flushed (DiskFile disk)) }
         ensures shows { IfOk result (λ store. ShowsFiles (C.Calls.state calls) (⟦<FileStore<C> as Store>⟧.state store)) }
     {
         let open = none_open(alloc)?;
@@ -56,7 +54,6 @@ impl<C: Calls + Drop> FileStore<C> {
                 notes: Notes {
                     dirty,
                     unsynced: true,
-                    renewed: false,
                     claimed: false,
                     made: true,
                     lost: false,

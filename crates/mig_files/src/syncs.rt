@@ -5,9 +5,8 @@ ghost use Rattle.mig_base.specs.declared.cells.Cell.{Cell};
 ghost use Rattle.mig_calls.specs.declared.places.Place.TheVariants.{Disk as DiskFile};
 ghost use Rattle.mig_calls.specs.Places.{file_of};
 ghost use Rattle.mig_calls.specs.Files.{IsSettledAt};
-ghost use Rattle.mig_files.specs.Tracking.{IsTracked, IsQuiet, IsStep, IsCopyStep, StaysAlive};
+ghost use Rattle.mig_files.specs.Tracking.{IsTracked, IsQuiet, IsStep, StaysAlive};
 
-use crate::renewal::renew;
 use crate::tracked::{Tracked, claim, sync_disk, sync_journal, sync_names};
 use mig_base::Name;
 use mig_calls::{Calls, Place};
@@ -15,10 +14,8 @@ use mig_store::StoreFailed;
 
 /// Closes a disk's file that isn't one of those that are kept open.
 fn close_unkept<C: Calls>(calls: &mut C, tracked: &Tracked, name: &Name)
-    requires usable { IsTrue (C.Calls.state calls.old).usable }
-    requires flushed { IsTrue ((C.Calls.state calls.old).flushed (DiskFile name.now)) }
-    ensures usable { IsTrue (C.Calls.state calls.new).usable }
-    ensures quiet { IsQuiet (C.Calls.state calls.old) (C.Calls.state calls.new) }
+    requires { IsTrue ((C.Calls.state calls.old).flushed (DiskFile name.now)) }
+    ensures { IsQuiet (C.Calls.state calls.old) (C.Calls.state calls.new) }
 {
     if tracked.open.contains(name) {
         return;
@@ -58,16 +55,15 @@ fn sync_disks<C: Calls>(calls: &mut C, tracked: &mut Tracked) -> Result<(), Stor
     Ok(())
 }
 
-/// Syncs all that was written, and the names of files that were made; the journal is renewed before.
+/// Syncs all that was written, and the names of files that were made.
 pub fn sync_cells<C: Calls>(calls: &mut C, tracked: &mut Tracked) -> Result<(), StoreFailed>
     requires alive { IsFalse tracked.old.notes.lost }
     requires tracked { IsTracked tracked.old.notes (C.Calls.state calls.old) }
     ensures settled { OnOk result ((cell : Cell) → IsSettledAt (C.Calls.state calls.new) (file_of cell)) }
-    ensures step { IsCopyStep tracked.new.notes (C.Calls.state calls.old) (C.Calls.state calls.new) }
+    ensures step { IsStep tracked.new.notes (C.Calls.state calls.old) (C.Calls.state calls.new) }
     ensures cause { OnErr result (Rose (C.Calls.state calls.old).faults (C.Calls.state calls.new).faults) }
 {
     claim(calls, tracked)?;
-    renew(calls, tracked)?;
     sync_journal(calls, tracked)?;
     sync_disks(calls, tracked)?;
     sync_names(calls, tracked)?;

@@ -21,8 +21,6 @@ pub struct Notes {
     pub dirty: DiskSet,
     /// The device may lack some bytes of the journal.
     pub unsynced: bool,
-    /// The journal is fresh.
-    pub renewed: bool,
     /// This process alone may write.
     pub claimed: bool,
     /// A file may have been made since the names were synced.
@@ -90,7 +88,6 @@ pub fn note_write(tracked: &mut Tracked, place: &Place) -> Result<(), AllocError
             tracked.notes.unsynced = true;
             Ok(())
         }
-        Place::Copy => Ok(()),
     }
 }
 

@@ -1,10 +1,10 @@
 //! Calls that are made again where they were interrupted.
-ghost use Rattle.std.specs.Prelude.{◌≡◌, ◌≤◌, ◌<◌, ◌+◌, ◌^◌, IsTrue, IsFalse, IfOk, OnOk, OnErr, length};
+ghost use Rattle.std.specs.Prelude.{◌≡◌, ◌≤◌, ◌<◌, ◌+◌, ◌^◌, IsTrue, IfOk, OnOk, OnErr, length};
 ghost use Rattle.mig_base.specs.FaultCounts.{Rose};
 ghost use Rattle.mig_calls.specs.Files.{HasBytes, HasCallCause};
 ghost use Rattle.mig_calls.specs.Refusals.{IsRefusalCause};
 ghost use Rattle.mig_files.specs.Tracking.{IsQuiet};
-ghost use Rattle.mig_files.specs.Tasks.{file_of_task, is_sync, IsReady, IsDone, Leaves, LeavesUsable, CanTryAgain};
+ghost use Rattle.mig_files.specs.Tasks.{file_of_task, IsDone, Leaves, KeepsClaim, StaysClaimed};
 
 use mig_calls::{CallError, Calls, Place, Refusal};
 use mig_store::StoreFailed;
@@ -12,7 +12,6 @@ use mig_store::StoreFailed;
 /// Says why the store refuses, which counts as a fault.
 pub fn refuse<C: Calls>(calls: &mut C, why: &Refusal) -> StoreFailed
     requires { IsRefusalCause (C.Calls.state calls.old) why.now }
-    ensures usable { (C.Calls.state calls.new).usable ≡ (C.Calls.state calls.old).usable }
     ensures quiet { IsQuiet (C.Calls.state calls.old) (C.Calls.state calls.new) }
     ensures rose { Rose (C.Calls.state calls.old).faults (C.Calls.state calls.new).faults }
 {
@@ -29,10 +28,6 @@ pub enum Task {
     Sync { place: Place },
     /// Brings the names of all files to the device.
     SyncNames,
-    /// Makes a new file for the journal's copy.
-    MakeCopy,
-    /// Gives the copy, which the device has whole, the journal's name.
-    Rename,
 }
 
 impl Task {
@@ -42,40 +37,30 @@ impl Task {
     {
         match self {
             Task::Sync { place } => *place,
-            Task::MakeCopy => Place::Copy,
-            Task::Claim | Task::SyncNames | Task::Rename => Place::Journal,
+            Task::Claim | Task::SyncNames => Place::Journal,
         }
     }
 }
 
 /// Makes the call once.
 fn try_once<C: Calls>(calls: &mut C, task: &Task) -> Result<(), CallError>
-    requires usable { IsTrue (C.Calls.state calls.old).usable }
-    requires ready { IsReady task.now (C.Calls.state calls.old) }
     ensures done { OnOk result (IsDone task.now (C.Calls.state calls.new)) }
     ensures leaves { Leaves task.now (C.Calls.state calls.old) (C.Calls.state calls.new) }
-    ensures usable { OnOk result (LeavesUsable task.now (C.Calls.state calls.old) (C.Calls.state calls.new)) }
-    ensures kept { IsFalse (is_sync task.now) → LeavesUsable task.now (C.Calls.state calls.old) (C.Calls.state calls.new) }
-    ensures again { CanTryAgain task.now (C.Calls.state calls.old) (C.Calls.state calls.new) result }
+    ensures claimed { StaysClaimed (C.Calls.state calls.old) (C.Calls.state calls.new) result }
     ensures cause { HasCallCause (C.Calls.state calls.old) (C.Calls.state calls.new) result }
 {
     match task {
         Task::Claim => calls.claim(),
         Task::Sync { place } => calls.sync(place),
         Task::SyncNames => calls.sync_names(),
-        Task::MakeCopy => calls.make_copy(),
-        Task::Rename => calls.rename(),
     }
 }
 
 /// Makes the call until it is not interrupted.
 pub fn make<C: Calls>(calls: &mut C, task: &Task) -> Result<(), StoreFailed>
-    requires usable { IsTrue (C.Calls.state calls.old).usable }
-    requires ready { IsReady task.now (C.Calls.state calls.old) }
     ensures done { OnOk result (IsDone task.now (C.Calls.state calls.new)) }
     ensures leaves { Leaves task.now (C.Calls.state calls.old) (C.Calls.state calls.new) }
-    ensures usable { OnOk result (LeavesUsable task.now (C.Calls.state calls.old) (C.Calls.state calls.new)) }
-    ensures kept { IsFalse (is_sync task.now) → LeavesUsable task.now (C.Calls.state calls.old) (C.Calls.state calls.new) }
+    ensures claimed { OnOk result (KeepsClaim (C.Calls.state calls.old) (C.Calls.state calls.new)) }
     ensures cause { OnErr result (Rose (C.Calls.state calls.old).faults (C.Calls.state calls.new).faults) }
 {
     let place = task.place();
@@ -98,7 +83,6 @@ fn read_more<C: Calls>(
     into: &mut [u8],
     done: usize,
 ) -> Result<usize, StoreFailed>
-    requires usable { IsTrue (C.Calls.state calls.old).usable }
     requires within { done < length into.old }
     requires room { offset + length into.old < 2 ^ 64 }
     requires read { IsTrue ((C.Calls.state calls.old).told place.now) → HasBytes ((C.Calls.state calls.old).reads place.now) offset done into.old }
@@ -106,7 +90,6 @@ fn read_more<C: Calls>(
     ensures bytes { IfOk result (λ n. IsTrue ((C.Calls.state calls.old).told place.now) → HasBytes ((C.Calls.state calls.old).reads place.now) offset n into.new) }
     ensures progress { IfOk result (λ n. Rose (done + (C.Calls.state calls.old).unmade) (n + (C.Calls.state calls.new).unmade)) }
     ensures quiet { IsQuiet (C.Calls.state calls.old) (C.Calls.state calls.new) }
-    ensures usable { IsTrue (C.Calls.state calls.new).usable }
     ensures cause { OnErr result (Rose (C.Calls.state calls.old).faults (C.Calls.state calls.new).faults) }
 {
     match calls.read_at(place, offset + done as u64, &mut into[done..]) {
@@ -128,12 +111,10 @@ pub fn read_all<C: Calls>(
     offset: u64,
     into: &mut [u8],
 ) -> Result<(), StoreFailed>
-    requires usable { IsTrue (C.Calls.state calls.old).usable }
     requires room { offset + length into.old < 2 ^ 64 }
     requires short { length into.old < 2 ^ 62 }
     ensures bytes { OnOk result (IsTrue ((C.Calls.state calls.old).told place.now) → HasBytes ((C.Calls.state calls.old).reads place.now) offset (length into.old) into.new) }
     ensures quiet { IsQuiet (C.Calls.state calls.old) (C.Calls.state calls.new) }
-    ensures usable { IsTrue (C.Calls.state calls.new).usable }
     ensures cause { OnErr result (Rose (C.Calls.state calls.old).faults (C.Calls.state calls.new).faults) }
 {
     let mut done = 0;

@@ -8,7 +8,7 @@ use crate::opened::{Opened, open_again, open_to_read, open_to_write, take};
 use crate::texts::DiskFile;
 use indexmap::{IndexMap, IndexSet};
 use mig_base::Name;
-use mig_calls::{Extent, Written};
+use mig_calls::{Extent, Place, Written};
 use std::alloc::Global;
 use std::fs::File;
 use std::io::{self, Error, ErrorKind};
@@ -140,7 +140,7 @@ impl Disks {
             return Ok(());
         };
         if let Err(error) = opened.sync() {
-            return Err(Failure::OfDisk(*name, error));
+            return Err(Failure::OfSync(Some(Place::Disk(*name)), error));
         }
         self.check_named(rt, name)
     }

@@ -1,11 +1,16 @@
 //! What went wrong, and with which file.
-use crate::texts::{DiskFile, JOURNAL};
+use crate::texts::{DiskFile, FileOf, JOURNAL};
 use mig_base::Name;
+use mig_calls::Place;
 use std::fmt::{self, Display, Formatter};
 use std::io::{self, ErrorKind};
 
 /// The system's error where a process may open no more files (EMFILE).
 const TOO_MANY_OPEN: i32 = 24;
+
+/// What helps after a sync that failed: what reads give may not be on the device, and no later sync brings it there.
+const ANEW: &str =
+    "mount its file system anew and then remove unsynced.mig, or start the machine anew";
 
 /// What went wrong, and with which file.
 #[derive(Clone, Copy)]
@@ -13,6 +18,10 @@ pub enum Failure {
     OfDisk(Name, io::Error),
     OfJournal(io::Error),
     OfFolder(io::Error),
+    /// The sync of a file failed, or that of the folder.
+    OfSync(Option<Place>, io::Error),
+    /// It failed in an earlier process, or in this one.
+    Unsynced(Option<Place>),
     /// Two disks are one file.
     OneFile(Name, Name),
     /// The disk is the journal's file.
@@ -28,10 +37,11 @@ impl Failure {
     /// The system's error, where there is one.
     fn error(&self) -> Option<io::Error> {
         match self {
-            Failure::OfDisk(_, error) | Failure::OfJournal(error) | Failure::OfFolder(error) => {
-                Some(*error)
-            }
-            Failure::OneFile(..) | Failure::IsJournal(_) => None,
+            Failure::OfDisk(_, error)
+            | Failure::OfJournal(error)
+            | Failure::OfFolder(error)
+            | Failure::OfSync(_, error) => Some(*error),
+            Failure::Unsynced(_) | Failure::OneFile(..) | Failure::IsJournal(_) => None,
         }
     }
 
@@ -82,6 +92,12 @@ impl Display for Failure {
             Failure::OfDisk(name, error) => write!(f, "{}: {error}", DiskFile(name)),
             Failure::OfJournal(error) => write!(f, "{JOURNAL}: {error}"),
             Failure::OfFolder(error) => write!(f, ".: {error}"),
+            Failure::OfSync(place, error) => write!(f, "{}: {error}: {ANEW}", FileOf(place)),
+            Failure::Unsynced(place) => write!(
+                f,
+                "{}: a sync of it has failed: {ANEW}",
+                FileOf(place)
+            ),
             Failure::OneFile(disk, other) => {
                 write!(f, "{} and {} are one file", DiskFile(disk), DiskFile(other))
             }

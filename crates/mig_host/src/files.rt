@@ -4,13 +4,16 @@ ghost use Rattle.std.specs.Prelude.{◌≤◌, ◌<◌, IfOk, length};
 use crate::disks::Disks;
 use crate::failures::Failure;
 use crate::journal::Journal;
+use crate::unsynced;
 use mig_calls::{Extent, Place, Written};
 use std::alloc::Global;
 use std::fs::{self, File};
+use std::io::ErrorKind;
 use std::rt::Files;
 
 /// The files of the working folder.
 pub struct HostFiles {
+    alloc: Global,
     disks: Disks,
     journal: Journal,
     /// The folder, kept open so that it can be synced when no more files can be opened.
@@ -20,6 +23,7 @@ pub struct HostFiles {
 impl Drop for HostFiles {
     fn drop(self) {
         let HostFiles {
+            alloc: _,
             disks: _disks,
             journal: _journal,
             folder: _folder,
@@ -31,6 +35,7 @@ impl HostFiles {
     /// No file is open yet.
     pub fn new(alloc: Global) -> HostFiles {
         HostFiles {
+            alloc,
             disks: Disks::new(alloc),
             journal: Journal::new(alloc),
             folder: None,
@@ -42,9 +47,10 @@ impl HostFiles {
         self.disks.has_open()
     }
 
-    /// Takes the journal for this process alone, and keeps the folder open.
+    /// Takes the journal for this process alone, and keeps the folder open. It is refused where a sync failed since the machine was started.
     pub fn claim<R: Files<File = File>>(&mut self, rt: &R) -> Result<(), Failure> {
         self.journal.claim(rt)?;
+        unsynced::check(rt, self.alloc)?;
         self.open_folder(rt)
     }
 
@@ -68,7 +74,6 @@ impl HostFiles {
         match place {
             Place::Disk(name) => self.disks.read_at(rt, &self.journal, name, offset, into),
             Place::Journal => self.journal.read_at(rt, offset, into),
-            Place::Copy => self.journal.read_copy_at(offset, into),
         }
     }
 
@@ -77,13 +82,7 @@ impl HostFiles {
         match place {
             Place::Disk(name) => self.disks.len(rt, &self.journal, name),
             Place::Journal => self.journal.len(rt),
-            Place::Copy => Ok(self.journal.copy_len()),
         }
-    }
-
-    /// Whether no earlier process can have left the journal's file in memory other than on the device.
-    pub fn is_fresh<R: Files<File = File>>(&mut self, rt: &R) -> Result<bool, Failure> {
-        self.journal.is_fresh(rt)
     }
 
     /// Writes some of the bytes to a file. A disk's file is made where it isn't there.
@@ -103,7 +102,6 @@ impl HostFiles {
                 self.look_again(rt)?;
                 self.journal.write_at(offset, bytes)
             }
-            Place::Copy => self.journal.write_copy_at(rt, offset, bytes),
         }
     }
 
@@ -116,33 +114,40 @@ impl HostFiles {
         self.disks.check_closed(rt)
     }
 
-    /// Brings all that was written to a file to the device.
+    /// Brings all that was written to a file to the device. Where that fails it is noted for those processes that come.
     pub fn sync<R: Files<File = File>>(&mut self, rt: &R, place: &Place) -> Result<(), Failure> {
-        match place {
+        let synced = match place {
             Place::Disk(name) => self.disks.sync(rt, &self.journal, name),
             Place::Journal => self.journal.sync(),
-            Place::Copy => self.journal.sync_copy(rt),
-        }
+        };
+        self.noted(rt, synced)
     }
 
     /// Brings the names of files that were made or renamed to the device.
     pub fn sync_names<R: Files<File = File>>(&mut self, rt: &R) -> Result<(), Failure> {
-        self.journal.sync_name()?;
         self.open_folder(rt)?;
-        match &self.folder {
-            Some(folder) => folder.sync_all().map_err(Failure::OfFolder),
+        let synced = match &self.folder {
+            Some(folder) => folder
+                .sync_all()
+                .map_err(|error| Failure::OfSync(None, error)),
             None => Ok(()),
+        };
+        self.noted(rt, synced)
+    }
+
+    /// What a sync gave; where it failed, that is noted. Where that fails too nothing can be done.
+    fn noted<R: Files<File = File>>(
+        &self,
+        rt: &R,
+        synced: Result<(), Failure>,
+    ) -> Result<(), Failure> {
+        match &synced {
+            Err(Failure::OfSync(place, error)) if error.kind() != ErrorKind::Interrupted => {
+                let _ = unsynced::note(rt, self.alloc, place);
+            }
+            _ => {}
         }
-    }
-
-    /// Makes a new file for the journal's copy.
-    pub fn make_copy<R: Files<File = File>>(&mut self, rt: &R) -> Result<(), Failure> {
-        self.journal.make_copy(rt)
-    }
-
-    /// Gives the copy the journal's name.
-    pub fn rename<R: Files<File = File>>(&mut self, rt: &R) -> Result<(), Failure> {
-        self.journal.rename(rt)
+        synced
     }
 
     /// Closes a disk's file. The journal's stays open, with its lock.

@@ -1,7 +1,7 @@
 //! The calls on the files of the working folder.
 ghost use Rattle.std.specs.Prelude.{◌≡◌, ◌≤◌, IsTrue};
 ghost use Rattle.mig_calls.specs.declared.places.Place.{Place as Places};
-ghost use Rattle.mig_calls.specs.Files.{HasCallCause, IsCallCause};
+ghost use Rattle.mig_calls.specs.Files.{HasCallCause, IsCallCause, StaysUsable};
 ghost use Rattle.mig_host.specs.Untold.{host_state, host_is_state};
 
 use crate::failures::Failure;
@@ -12,12 +12,13 @@ use std::alloc::Global;
 use std::fs::File;
 use std::rt::Files;
 
-/// The calls over this runtime's files. They tell nothing but how many failed or were not made. What failed, and why, is said on standard error.
+/// The calls over this runtime's files. They tell nothing but how many failed or were not made, and whether a sync failed in this process. What failed, and why, is said on standard error.
 pub struct HostCalls<'a, R: Files<File = File> + Eprint> {
     rt: &'a R,
     files: HostFiles,
     faults: u64,
     unmade: u64,
+    usable: bool,
 }
 
 impl<'a, R: Files<File = File> + Eprint> Drop for HostCalls<'a, R> {
@@ -27,6 +28,7 @@ impl<'a, R: Files<File = File> + Eprint> Drop for HostCalls<'a, R> {
             files,
             faults: _,
             unmade: _,
+            usable: _,
         } = self;
         drop(files);
     }
@@ -37,7 +39,6 @@ impl<'a, R: Files<File = File> + Eprint> HostCalls<'a, R> {
     pub fn new(rt: &'a R, alloc: Global) -> Self
         ensures usable { IsTrue (⟦<HostCalls<'a, R> as Calls>⟧.state result).usable }
         ensures flushed { (place : Places) → IsTrue ((⟦<HostCalls<'a, R> as Calls>⟧.state result).flushed place) }
-        ensures fresh { (place : Places) → IsTrue ((⟦<HostCalls<'a, R> as Calls>⟧.state result).fresh place) }
         ensures faults { (⟦<HostCalls<'a, R> as Calls>⟧.state result).faults ≡ 0 }
     {
         HostCalls {
@@ -45,12 +46,14 @@ impl<'a, R: Files<File = File> + Eprint> HostCalls<'a, R> {
             files: HostFiles::new(alloc),
             faults: 0,
             unmade: 0,
+            usable: true,
         }
     }
 
     /// Counts a call that failed, and says why. One that may be made again is counted apart, and not told.
     fn counted(&mut self, failure: Failure) -> CallError
-        ensures cause { IsCallCause (host_state self.old.faults self.old.unmade) (host_state self.new.faults self.new.unmade) result }
+        ensures cause { IsCallCause (host_state self.old.faults self.old.unmade self.old.usable) (host_state self.new.faults self.new.unmade self.new.usable) result }
+        ensures usable { self.new.usable ≡ self.old.usable }
         ensures later { self.old.faults ≤ self.new.faults }
         ensures more { self.old.unmade ≤ self.new.unmade }
     {
@@ -69,21 +72,40 @@ impl<'a, R: Files<File = File> + Eprint> HostCalls<'a, R> {
 
     /// What a call gave; where it failed, that is counted.
     fn answer<T>(&mut self, made: Result<T, Failure>) -> Result<T, CallError>
-        ensures { HasCallCause (host_state self.old.faults self.old.unmade) (host_state self.new.faults self.new.unmade) result }
+        ensures cause { HasCallCause (host_state self.old.faults self.old.unmade self.old.usable) (host_state self.new.faults self.new.unmade self.new.usable) result }
+        ensures usable { self.new.usable ≡ self.old.usable }
     {
         match made {
             Ok(given) => Ok(given),
             Err(failure) => Err(self.counted(failure)),
         }
     }
+
+    /// The same of a sync: after one that failed nothing may be written.
+    fn synced(&mut self, made: Result<(), Failure>) -> Result<(), CallError>
+        ensures cause { HasCallCause (host_state self.old.faults self.old.unmade self.old.usable) (host_state self.new.faults self.new.unmade self.new.usable) result }
+        ensures usable { StaysUsable (host_state self.old.faults self.old.unmade self.old.usable) (host_state self.new.faults self.new.unmade self.new.usable) result }
+    {
+        match self.answer(made) {
+            Ok(()) => Ok(()),
+            Err(CallError::Failed) => {
+                self.usable = false;
+                Err(CallError::Failed)
+            }
+            Err(error) => Err(error),
+        }
+    }
 }
 
 impl<'a, R: Files<File = File> + Eprint> Calls for HostCalls<'a, R> {
-    ghost state = { λ h. host_state h.faults h.unmade };
+    ghost state = { λ h. host_state h.faults h.unmade h.usable };
 
-    ghost is_state = { λ h. host_is_state h.faults h.unmade };
+    ghost is_state = { λ h. host_is_state h.faults h.unmade h.usable };
 
     fn claim(&mut self) -> Result<(), CallError> {
+        if !self.usable {
+            return Err(self.counted(Failure::Unsynced(None)));
+        }
         let made = self.files.claim(self.rt);
         self.answer(made)
     }
@@ -100,11 +122,6 @@ impl<'a, R: Files<File = File> + Eprint> Calls for HostCalls<'a, R> {
         self.answer(made)
     }
 
-    fn is_fresh(&mut self) -> Result<bool, CallError> {
-        let made = self.files.is_fresh(self.rt);
-        self.answer(made)
-    }
-
     fn write_at(&mut self, place: &Place, offset: u64, bytes: &[u8]) -> Result<Written, CallError> {
         match self.files.write_at(self.rt, place, offset, bytes) {
             Ok(written) => Ok(written),
@@ -114,22 +131,12 @@ impl<'a, R: Files<File = File> + Eprint> Calls for HostCalls<'a, R> {
 
     fn sync(&mut self, place: &Place) -> Result<(), CallError> {
         let made = self.files.sync(self.rt, place);
-        self.answer(made)
+        self.synced(made)
     }
 
     fn sync_names(&mut self) -> Result<(), CallError> {
         let made = self.files.sync_names(self.rt);
-        self.answer(made)
-    }
-
-    fn make_copy(&mut self) -> Result<(), CallError> {
-        let made = self.files.make_copy(self.rt);
-        self.answer(made)
-    }
-
-    fn rename(&mut self) -> Result<(), CallError> {
-        let made = self.files.rename(self.rt);
-        self.answer(made)
+        self.synced(made)
     }
 
     fn close(&mut self, place: &Place) {

@@ -12,5 +12,6 @@ mod mounts;
 mod opened;
 mod system;
 mod texts;
+mod unsynced;
 
 pub use host::HostCalls;

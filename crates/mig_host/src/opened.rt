@@ -2,18 +2,14 @@
 ghost use Rattle.std.specs.Prelude.{◌≤◌, ◌<◌, IfOk, length};
 
 use crate::devices::{Part, find_device};
-use crate::failures::unless_told;
 use crate::identity::{Found, Node, again, exchanged, found_at, node_of};
 use mig_calls::Extent;
 use std::alloc::Global;
 use std::fs::{File, OpenOptions, Permissions, TryLockError};
 use std::io::{self, Error, ErrorKind, Seek, SeekFrom};
 use std::os::fd::AsRawFd;
-use std::os::unix::fs::{FileExt, MetadataExt, PermissionsExt, fchown};
+use std::os::unix::fs::{FileExt, MetadataExt, PermissionsExt};
 use std::rt::Files;
-
-/// How many bytes of a journal have a mark of their own.
-const SECTOR: usize = 512;
 
 /// A file that is open.
 #[derive(Drop)]
@@ -24,10 +20,8 @@ pub struct Opened {
     pub node: Node,
     /// What a device's bytes lie in.
     pub parts: Vec<Part>,
-    /// Its permissions, its owner and its group.
+    /// Its permissions.
     pub mode: u32,
-    uid: u32,
-    gid: u32,
     /// How many bytes it has.
     len: u64,
 }
@@ -116,7 +110,7 @@ fn open_there<R: Files<File = File>>(
 }
 
 /// Makes a new file, which must not be there.
-pub fn make_new<R: Files<File = File>>(rt: &R, alloc: Global, path: &str) -> io::Result<Opened> {
+fn make_new<R: Files<File = File>>(rt: &R, alloc: Global, path: &str) -> io::Result<Opened> {
     let mut options = OpenOptions::new();
     options.read(true).write(true).create_new(true);
     look_at(alloc, options.open(rt, path)?, true)
@@ -137,8 +131,6 @@ fn look_at(alloc: Global, file: File, writable: bool) -> io::Result<Opened> {
         node,
         parts: Vec::new(alloc),
         mode: found.mode() & 0o777,
-        uid: found.uid(),
-        gid: found.gid(),
         len,
     })
 }
@@ -239,30 +231,6 @@ impl Opened {
         Ok(count)
     }
 
-    /// Writes a device again as it reads, by sectors, up to the first mark that isn't set, and syncs it: what memory has of it may be what a sync has failed to bring there.
-    pub fn renew(&self) -> io::Result<()> {
-        let mut sector = [0; SECTOR];
-        for n in 0..self.len / SECTOR as u64 {
-            self.file.read_exact_at(&mut sector, n * SECTOR as u64)?;
-            self.file.write_all_at(&sector, n * SECTOR as u64)?;
-            if n > 0 && sector[0] != 1 {
-                break;
-            }
-        }
-        self.sync()
-    }
-
-    /// Gives the file the owner and the group of another one.
-    pub fn set_owner(&self, other: &Opened) -> io::Result<()> {
-        if (self.uid, self.gid) == (other.uid, other.gid) {
-            return Ok(());
-        }
-        again(|| fchown(&self.file, Some(other.uid), Some(other.gid))).map_err(|error| unless_told(
-            error,
-            "a copy of it can't be given to its owner",
-        ))
-    }
-
     /// Gives the file these permissions.
     pub fn set_mode(&self, mode: u32) -> io::Result<()> {
         self.file.set_permissions(Permissions::from_mode(mode))
@@ -271,10 +239,5 @@ impl Opened {
     /// Waits until the device has all that was written to the file, by whatever process. It need not be writable.
     pub fn sync(&self) -> io::Result<()> {
         self.file.sync_data()
-    }
-
-    /// The same, with all that the file is.
-    pub fn sync_all(&self) -> io::Result<()> {
-        self.file.sync_all()
     }
 }

@@ -23,15 +23,16 @@ impl<'a> Display for DiskFile<'a> {
 /// The journal's file, as it is called there.
 pub const JOURNAL: &str = "journal.mig";
 
-/// A file of the store.
+/// A file of the store, or the folder.
 #[derive(Clone, Copy)]
-struct FileOf<'a>(&'a Place);
+pub struct FileOf<'a>(pub &'a Option<Place>);
 
 impl<'a> Display for FileOf<'a> {
     fn fmt<W: fmt::Write>(&self, f: &mut Formatter<W>) -> fmt::Result {
         match self.0 {
-            Place::Disk(name) => write!(f, "{}", DiskFile(name)),
-            Place::Journal | Place::Copy => f.write_str(JOURNAL),
+            Some(Place::Disk(name)) => write!(f, "{}", DiskFile(name)),
+            Some(Place::Journal) => f.write_str(JOURNAL),
+            None => f.write_str("."),
         }
     }
 }
@@ -96,7 +97,7 @@ impl<'a> Display for Told<'a> {
 }
 
 fn write_error<W: fmt::Write>(f: &mut Formatter<W>, place: &Place, error: Error) -> fmt::Result {
-    write!(f, "{}: {error}", FileOf(place))
+    write!(f, "{}: {error}", FileOf(&Some(*place)))
 }
 
 /// The slot should hold the item: what it does, and what to look at.

@@ -300,10 +300,12 @@ fn write_to(file: &mut Option<File>, bytes: &[u8]) -> io::Result<usize>
     Ok(count)
 }
 
-/// Refuses a file that holds no text, where it can be read: it may be a disk or the journal under another name. A disk's slot has a byte 0 or 1 in its first bytes, and so has a journal.
+/// Refuses a file that holds no text, where this process may read it: it may be a disk or the journal under another name. A disk's slot has a byte 0 or 1 in its first bytes, and so has a journal.
 fn check_text<R: Files<File = File>>(rt: &R, name: &str) -> io::Result<()> {
-    let Ok(mut file) = fs::open(rt, name) else {
-        return Ok(());
+    let mut file = match fs::open(rt, name) {
+        Ok(file) => file,
+        Err(error) if error.kind() == ErrorKind::PermissionDenied => return Ok(()),
+        Err(error) => return Err(error),
     };
     let mut first = [0u8; 4096];
     let count = file.read(&mut first)?;
@@ -384,7 +386,7 @@ fn sync_whole(file: Option<File>) -> io::Result<()> {
     }
 }
 
-/// Syncs the folder that the name stands in, where it can be opened.
+/// Syncs the folder that the name stands in, where this process may open it.
 fn sync_folder_of<R: Files<File = File>>(rt: &R, name: &str) -> io::Result<()> {
     let folder = match Path::new(name).parent() {
         Some(folder) if !folder.as_str().is_empty() => folder,
@@ -392,6 +394,7 @@ fn sync_folder_of<R: Files<File = File>>(rt: &R, name: &str) -> io::Result<()> {
     };
     match fs::open(rt, folder) {
         Ok(folder) => folder.sync_all(),
-        Err(_) => Ok(()),
+        Err(error) if error.kind() == ErrorKind::PermissionDenied => Ok(()),
+        Err(error) => Err(error),
     }
 }

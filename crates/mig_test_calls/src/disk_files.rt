@@ -174,7 +174,7 @@ fn expect_nothing_written<H: Abort + AllocGlobal + Files, R: Files<File = File> 
     assert!(rt; fs::exists(rt, "a.disk").is_ok_and(|is| !is));
 }
 
-/// Asserts that a slot is written over, and that each call fails after a sync that does: a folder stands where the journal's copy is to be.
+/// Asserts that a slot is written over, and that each call fails after a sync that does: the disk's file was exchanged.
 fn expect_broken<H: Abort + AllocGlobal + Files, R: Files<File = File> + Eprint>(
     rt: &H,
     store: &mut RealStore<'_, R>,
@@ -182,9 +182,9 @@ fn expect_broken<H: Abort + AllocGlobal + Files, R: Files<File = File> + Eprint>
 ) {
     assert!(rt; put(store, cell, 1));
     assert!(rt; store.write(&Cell::Gate, &[1]).is_ok());
-    assert!(rt; fs::create_dir(rt, "journal.mig.copy.mig").is_ok());
+    assert!(rt; fs::rename(rt, "a.disk", "kept").is_ok());
     assert!(rt; store.sync().is_err());
-    assert!(rt; fs::remove_dir(rt, "journal.mig.copy.mig").is_ok());
+    assert!(rt; fs::rename(rt, "kept", "a.disk").is_ok());
     assert!(rt; !has(store, cell, 1));
     assert!(rt; !put(store, cell, 2));
     assert!(rt; store.ended().is_err());

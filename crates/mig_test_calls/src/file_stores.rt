@@ -26,9 +26,7 @@ pub fn real_store<'a, R: Abort + Files<File = File> + Eprint>(
 
 /// A store over files in memory that has opened none.
 pub fn mem_store(rt: &impl Abort, alloc: Global, calls: MemCalls) -> FileStore<MemCalls>
-    requires usable { IsTrue (mem_state calls).usable }
-    requires flushed { (disk : List ℕ) → IsTrue ((mem_state calls).flushed (DiskFile disk)) }
-    requires fresh { (disk : List ℕ) → IsTrue ((mem_state calls).fresh (DiskFile disk)) }
+    requires { (disk : List ℕ) → IsTrue ((mem_state calls).flushed (DiskFile disk)) }
 {
     FileStore::new(alloc, calls, DiskSet::new(alloc)).expect(rt, "ample memory")
 }

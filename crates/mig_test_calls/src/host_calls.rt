@@ -3,10 +3,10 @@ ghost use Rattle.std.specs.Prelude.{◌≡◌, IsTrue};
 
 use crate::work_folder::{enter, leave};
 use mig_base::Name;
-use mig_calls::{CallError, Calls, Extent, MemCalls, Place, Refusal};
+use mig_calls::{CallError, Calls, Extent, MemCalls, Pick, Place, Refusal, Trouble};
 use mig_host::HostCalls;
-use std::fs::{self, File, Permissions};
-use std::os::unix::fs::{MetadataExt, PermissionsExt, symlink};
+use std::fs::{self, File};
+use std::os::unix::fs::{MetadataExt, symlink};
 use std::panic::Expect;
 use std::process::Abort;
 use std::rt::Files;
@@ -21,8 +21,6 @@ fn disk_of(name: &[u8]) -> Place {
 
 /// Whether these bytes, and no more, are read from an offset on.
 fn has<C: Calls>(calls: &mut C, place: &Place, offset: u64, bytes: &[u8]) -> bool
-    requires { IsTrue (C.Calls.state calls.old).usable }
-    ensures usable { IsTrue (C.Calls.state calls.new).usable }
     ensures claimed { (C.Calls.state calls.new).claimed ≡ (C.Calls.state calls.old).claimed }
 {
     let mut found = [9; 16];
@@ -34,9 +32,7 @@ fn has<C: Calls>(calls: &mut C, place: &Place, offset: u64, bytes: &[u8]) -> boo
 
 /// Whether all of these bytes are written at an offset, and whether the file was made for it as it should.
 fn writes<C: Calls>(calls: &mut C, place: &Place, offset: u64, bytes: &[u8], made: bool) -> bool
-    requires usable { IsTrue (C.Calls.state calls.old).usable }
     requires claimed { IsTrue (C.Calls.state calls.old).claimed }
-    ensures usable { IsTrue (C.Calls.state calls.new).usable }
     ensures claimed { IsTrue (C.Calls.state calls.new).claimed }
 {
     match calls.write_at(place, offset, bytes) {
@@ -47,8 +43,6 @@ fn writes<C: Calls>(calls: &mut C, place: &Place, offset: u64, bytes: &[u8], mad
 
 /// Whether a file has so many bytes, or isn't there.
 fn extends<C: Calls>(calls: &mut C, place: &Place, wanted: Extent) -> bool
-    requires { IsTrue (C.Calls.state calls.old).usable }
-    ensures usable { IsTrue (C.Calls.state calls.new).usable }
     ensures claimed { (C.Calls.state calls.new).claimed ≡ (C.Calls.state calls.old).claimed }
 {
     match calls.len(place) {
@@ -58,32 +52,19 @@ fn extends<C: Calls>(calls: &mut C, place: &Place, wanted: Extent) -> bool
 }
 
 /// Asserts that a file isn't there, and has no bytes.
-fn expect_absent<C: Calls>(rt: &impl Abort, calls: &mut C, place: &Place)
-    requires { IsTrue (C.Calls.state calls.old).usable }
-    ensures { IsTrue (C.Calls.state calls.new).usable }
-{
+fn expect_absent<C: Calls>(rt: &impl Abort, calls: &mut C, place: &Place) {
     assert!(rt; extends(calls, place, Extent::Absent));
     assert!(rt; has(calls, place, 0, b""));
 }
 
 /// Asserts that no file is there.
-fn expect_none<C: Calls>(rt: &impl Abort, calls: &mut C)
-    requires { IsTrue (C.Calls.state calls.old).usable }
-    ensures { IsTrue (C.Calls.state calls.new).usable }
-{
+fn expect_none<C: Calls>(rt: &impl Abort, calls: &mut C) {
     expect_absent(rt, calls, &disk_of(b"a"));
     expect_absent(rt, calls, &Place::Journal);
-    expect_absent(rt, calls, &Place::Copy);
-    match calls.is_fresh() {
-        Ok(sure) => assert!(rt; sure),
-        Err(_) => assert!(rt; false),
-    }
 }
 
 /// Takes the right to write.
 fn claim<C: Calls>(rt: &impl Abort, calls: &mut C)
-    requires { IsTrue (C.Calls.state calls.old).usable }
-    ensures usable { IsTrue (C.Calls.state calls.new).usable }
     ensures claimed { IsTrue (C.Calls.state calls.new).claimed }
 {
     match calls.claim() {
@@ -94,8 +75,6 @@ fn claim<C: Calls>(rt: &impl Abort, calls: &mut C)
 
 /// Syncs a file, and closes it.
 fn sync_and_close<C: Calls>(rt: &impl Abort, calls: &mut C, place: &Place)
-    requires { IsTrue (C.Calls.state calls.old).usable }
-    ensures usable { IsTrue (C.Calls.state calls.new).usable }
     ensures claimed { (C.Calls.state calls.new).claimed ≡ (C.Calls.state calls.old).claimed }
 {
     match calls.sync(place) {
@@ -106,9 +85,7 @@ fn sync_and_close<C: Calls>(rt: &impl Abort, calls: &mut C, place: &Place)
 
 /// Asserts that a disk's file is made, written, synced, closed and read again.
 fn expect_written<C: Calls>(rt: &impl Abort, calls: &mut C)
-    requires usable { IsTrue (C.Calls.state calls.old).usable }
     requires claimed { IsTrue (C.Calls.state calls.old).claimed }
-    ensures usable { IsTrue (C.Calls.state calls.new).usable }
     ensures claimed { IsTrue (C.Calls.state calls.new).claimed }
 {
     let disk = disk_of(b"a");
@@ -125,10 +102,7 @@ fn expect_written<C: Calls>(rt: &impl Abort, calls: &mut C)
 }
 
 /// Asserts what is read and written of files that aren't there yet.
-fn expect_files<C: Calls>(rt: &impl Abort, calls: &mut C)
-    requires { IsTrue (C.Calls.state calls.old).usable }
-    ensures { IsTrue (C.Calls.state calls.new).usable }
-{
+fn expect_files<C: Calls>(rt: &impl Abort, calls: &mut C) {
     expect_none(rt, calls);
     claim(rt, calls);
     claim(rt, calls);
@@ -141,27 +115,41 @@ fn each_call_over_files_in_memory(rt: HostRuntime) {
     expect_files(&rt, &mut MemCalls::new(rt.alloc()));
 }
 
-/// Asserts that the journal is written, that a copy takes its place, and that it is this process's alone all the while.
-fn expect_renewed<H: Abort + AllocGlobal + Files, R: Files<File = File> + Eprint>(
-    rt: &H,
-    calls: &mut HostCalls<'_, R>,
-) {
-    assert!(rt; writes(calls, &Place::Journal, 512, b"gate", false));
-    assert!(rt; calls.sync(&Place::Journal).is_ok());
-    assert!(rt; calls.is_fresh().is_ok_and(|sure| !sure));
-    assert!(rt; fs::set_permissions(rt, "journal.mig", Permissions::from_mode(0o640)).is_ok());
-    assert!(rt; fs::write(rt, "journal.mig.copy.mig", b"left by a crash").is_ok());
-    assert!(rt; calls.make_copy().is_ok());
-    assert!(rt; writes(calls, &Place::Copy, 0, b"a copy", false));
-    assert!(rt; has(calls, &Place::Copy, 0, b"a copy"));
-    assert!(rt; extends(calls, &Place::Copy, Extent::File { len: 6 }));
-    assert!(rt; has(calls, &Place::Journal, 512, b"gate"));
-    assert!(rt; calls.sync(&Place::Copy).is_ok());
-    assert!(rt; calls.rename().is_ok());
-    assert!(rt; calls.sync_names().is_ok());
-    assert!(rt; has(calls, &Place::Journal, 0, b"a copy"));
-    assert!(rt; fs::exists(rt, "journal.mig.copy.mig").is_ok_and(|is| !is));
-    assert!(rt; fs::metadata(rt, "journal.mig").is_ok_and(|found| found.len() == 6));
+/// Leaves a note that a sync of a disk failed, in this boot of the machine or in another one.
+fn note_failed<H: Abort + AllocGlobal + Files>(rt: &H, boot: &str) {
+    let note = format!(in rt.alloc(); "{} a.disk\n", boot.trim_end()).expect(rt, "ample memory");
+    assert!(rt; fs::write(rt, "unsynced.mig", note.as_bytes()).is_ok());
+}
+
+#[test]
+fn after_a_sync_that_failed(rt: HostRuntime) {
+    enter(&rt, "unsynced").expect(&rt, "a folder");
+    let alloc = rt.alloc();
+    let boot = fs::read_to_string(&rt, "/proc/sys/kernel/random/boot_id").expect(&rt, "a boot");
+    note_failed(&rt, boot.as_str());
+    assert!(rt; HostCalls::new(&rt, alloc).claim() == Err(CallError::Failed));
+    assert!(rt; fs::write(&rt, "unsynced.mig", b"").is_ok());
+    assert!(rt; HostCalls::new(&rt, alloc).claim() == Err(CallError::Failed));
+    note_failed(&rt, "0c2fd6c9-34a3-4f8a-8f0c-57c9d0a6a7c6");
+    assert!(rt; HostCalls::new(&rt, alloc).claim().is_ok());
+    assert!(rt; fs::exists(&rt, "unsynced.mig").is_ok_and(|is| !is));
+    leave(&rt, "unsynced").expect(&rt, "a folder");
+}
+
+#[test]
+fn after_a_sync_that_failed_in_memory(rt: HostRuntime) {
+    let mut calls = MemCalls::new(rt.alloc());
+    let mut trouble = Trouble::none(rt.alloc());
+    trouble.failing = vec![in rt.alloc(); 2].expect(&rt, "ample memory");
+    calls.trouble(trouble);
+    assert!(rt; calls.claim().is_ok());
+    assert!(rt; calls.sync(&disk_of(b"a")).is_err());
+    calls.restart();
+    assert!(rt; calls.claim() == Err(CallError::Failed));
+    assert!(rt; calls.sync_names() == Err(CallError::Failed));
+    let mut mounted = calls.crash(Pick::New).expect(&rt, "ample memory");
+    assert!(rt; mounted.claim().is_ok());
+    assert!(rt; mounted.sync(&disk_of(b"a")).is_ok());
 }
 
 #[test]
@@ -176,8 +164,9 @@ fn each_call_over_real_files(rt: HostRuntime) {
     expect_files(&rt, &mut calls);
     assert!(rt; fs::metadata(&rt, "a.disk").is_ok_and(|found| found.len() == 4103));
     assert!(rt; HostCalls::new(&rt, alloc).claim() == Err(CallError::Failed));
-    expect_renewed(&rt, &mut calls);
-    assert!(rt; HostCalls::new(&rt, alloc).claim() == Err(CallError::Failed));
+    assert!(rt; writes(&mut calls, &Place::Journal, 512, b"gate", false));
+    assert!(rt; calls.sync(&Place::Journal).is_ok());
+    assert!(rt; calls.sync_names().is_ok());
     calls.refuse(&Refusal::Memory {
         place: Place::Journal,
     });

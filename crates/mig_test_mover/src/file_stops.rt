@@ -82,9 +82,7 @@ pub fn store_over(
     mut calls: MemCalls,
     trouble: Trouble,
 ) -> FileStore<MemCalls>
-    requires usable { IsTrue (mem_state calls).usable }
-    requires flushed { (disk : List ℕ) → IsTrue ((mem_state calls).flushed (DiskFile disk)) }
-    requires fresh { (disk : List ℕ) → IsTrue ((mem_state calls).fresh (DiskFile disk)) }
+    requires { (disk : List ℕ) → IsTrue ((mem_state calls).flushed (DiskFile disk)) }
 {
     calls.trouble(trouble);
     FileStore::new(alloc, calls, DiskSet::new(alloc)).expect(rt, "ample memory")

@@ -149,7 +149,7 @@ impl<C: Calls> Store for FileStore<C> {
         Ok(None)
     }
 
-    #[tactic(auto, using(crate::proofs::Errs::err_any, crate::proofs::Holding::held_copied))]
+    #[tactic(auto, using(crate::proofs::Errs::err_any, crate::proofs::Holding::held_looked))]
     /// Brings all that was written to the device. Where it fails each call fails from then on.
     fn sync(&mut self) -> Result<(), StoreFailed>
         ensures ends { (these : List Flight) × Ends these (⟦<FileStore<C> as Store>⟧.state self.old) (⟦<FileStore<C> as Store>⟧.state self.new) }

@@ -9,7 +9,7 @@ pub returns-clause-end : goal.returns-clause-end
 returns-clause-end g c = end_at_cell (g.C.Calls.state c.args.calls.now) c.args.cell.now _ c.place_of-place.ensures.file c.in_ok-found.ensures.end
 
 pub returns-clause-step : goal.returns-clause-step
-returns-clause-step g c = step_then c.open_place.ensures.step (quiet_step c.open_place.ensures.step.tracked c.read_all.ensures.quiet (λ off. c.read_all.ensures.usable))
+returns-clause-step g c = step_then c.open_place.ensures.step (quiet_step c.open_place.ensures.step.tracked c.read_all.ensures.quiet)
 
 pub returns-in_err-read_all-clause-step : goal.returns-in_err-read_all-clause-step
-returns-in_err-read_all-clause-step g c = step_then c.open_place.ensures.step (quiet_step c.open_place.ensures.step.tracked c.read_all.ensures.quiet (λ off. c.read_all.ensures.usable))
+returns-in_err-read_all-clause-step g c = step_then c.open_place.ensures.step (quiet_step c.open_place.ensures.step.tracked c.read_all.ensures.quiet)

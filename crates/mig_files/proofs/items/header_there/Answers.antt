@@ -21,11 +21,11 @@ returns-clause-end g c = end_at_cell (g.C.Calls.state c.args.calls.now) c.args.s
 
 pub returns-clause-step : goal.returns-clause-step
 returns-clause-step g c =
-    step_then (step_then c.open_place.ensures.step c.check_there.ensures.step) (quiet_step c.check_there.ensures.step.tracked c.read_all.ensures.quiet (λ off. c.read_all.ensures.usable))
+    step_then (step_then c.open_place.ensures.step c.check_there.ensures.step) (quiet_step c.check_there.ensures.step.tracked c.read_all.ensures.quiet)
 
 pub returns-in_err-read_all-clause-step : goal.returns-in_err-read_all-clause-step
 returns-in_err-read_all-clause-step g c =
-    step_then (step_then c.open_place.ensures.step c.check_there.ensures.step) (quiet_step c.check_there.ensures.step.tracked c.read_all.ensures.quiet (λ off. c.read_all.ensures.usable))
+    step_then (step_then c.open_place.ensures.step c.check_there.ensures.step) (quiet_step c.check_there.ensures.step.tracked c.read_all.ensures.quiet)
 
 pub returns-in_err-check_there-clause-step : goal.returns-in_err-check_there-clause-step
 returns-in_err-check_there-clause-step g c =

@@ -5,8 +5,7 @@ use Rattle.mig_files.proofs.opening.ask_len.Goals as goal
 pub returns-in_ok-make_way-in-Err-Full-clause-step : goal.returns-in_ok-make_way-in-Err-Full-clause-step
 returns-in_ok-make_way-in-Err-Full-clause-step g c =
     step_then
-    (quiet_step c.requires.tracked (record { flags = c.len.ensures.flags; change = c.len.ensures.change; later = c.len.ensures.cause.later; more = c.len.ensures.cause.more })
-    (λ off. c.len.ensures.usable))
+    (quiet_step c.requires.tracked (record { flags = c.len.ensures.flags; change = c.len.ensures.change; later = c.len.ensures.cause.later; more = c.len.ensures.cause.more }))
     c.make_way.ensures.step
 
 pub returns-in-Ok-clause-step : goal.returns-in-Ok-clause-step
@@ -14,8 +13,7 @@ returns-in-Ok-clause-step g c =
     let a = g.C.Calls.state c.args.calls.now in
     let b = g.C.Calls.state c.len.new.self in
     subst (λ (t : Notes). IsStep t a b) (sym c.keep_open.ensures.notes)
-    (quiet_step c.requires.tracked (record { flags = c.len.ensures.flags; change = c.len.ensures.change; later = c.len.ensures.cause.later; more = c.len.ensures.cause.more })
-    (λ off. c.len.ensures.usable))
+    (quiet_step c.requires.tracked (record { flags = c.len.ensures.flags; change = c.len.ensures.change; later = c.len.ensures.cause.later; more = c.len.ensures.cause.more }))
 
 pub returns-in-Ok-clause-kept : goal.returns-in-Ok-clause-kept
 returns-in-Ok-clause-kept g c =

@@ -1,4 +1,4 @@
-use Rattle.mig_files.proofs.Common.{Bool, Place, ap, ◌∙◌}
+use Rattle.mig_files.proofs.Common.{◌∙◌}
 use Rattle.mig_files.proofs.TrackingSteps.{tracked_more, step_is_write, unsynced_back}
 use Rattle.mig_files.proofs.pieces.try_write.Goals as goal
 
@@ -14,6 +14,5 @@ returns-in-Err-clause-step g c = step_is_write c.no_memory.ensures.step
 pub returns-in-Err-clause-kept : goal.returns-in-Err-clause-kept
 returns-in-Err-clause-kept g c = record {
   alive = c.note_write.ensures.notes.lost ∙ c.requires.alive;
-  fresh = λ file is. ap (λ (f : Place → Bool). f file) c.no_memory.ensures.flags.fresh ∙ is;
-  claimed = λ is. c.no_memory.ensures.flags.claimed ∙ is;
+  claimed = λ is. c.no_memory.ensures.flags.rights.claimed ∙ is;
 }

@@ -1,7 +1,5 @@
-use Rattle.mig_files.proofs.Common.{◌∙◌}
 use Rattle.mig_files.proofs.TrackingSteps.{quiet_step}
 use Rattle.mig_files.proofs.tracked.refuse_with.Goals as goal
 
 pub returns-clause-step : goal.returns-clause-step
-returns-clause-step g c =
-    quiet_step c.requires.tracked c.refuse.ensures.quiet (λ off. c.refuse.ensures.usable ∙ c.requires.tracked.usable off)
+returns-clause-step g c = quiet_step c.requires.tracked c.refuse.ensures.quiet

@@ -7,7 +7,7 @@ returns-in-Ok-clause-step g c =
     let leaves = c.make.ensures.leaves in
     record {
       tracked = place_synced (Disk c.args.name.now) c.requires.tracked c.requires.alive
-          (record { renewed = refl; claimed = refl; made = refl; lost = refl }) leaves c.in-Ok.ensures.usable c.in-Ok.ensures.done
+          (record { claimed = refl; made = refl; lost = refl }) leaves c.in-Ok.ensures.claimed c.in-Ok.ensures.done
           (λ p out. c.remove.ensures.kept p (λ e. out (ap Disk e))) (λ out off. off);
       change = leaves.change;
       later = leaves.later;
@@ -15,4 +15,4 @@ returns-in-Ok-clause-step g c =
     }
 
 pub returns-in-Ok-clause-kept : goal.returns-in-Ok-clause-kept
-returns-in-Ok-clause-kept g c = synced_alive c.requires.alive c.make.ensures.leaves c.in-Ok.ensures.usable c.in-Ok.ensures.done
+returns-in-Ok-clause-kept g c = synced_alive c.requires.alive c.make.ensures.leaves c.in-Ok.ensures.claimed c.in-Ok.ensures.done

@@ -15,8 +15,8 @@ returns-in-Ok-clause-change c = either c.change.result c.change.ensures.done c.c
 
 pub returns-in-Ok-clause-flags : goal.returns-in-Ok-clause-flags
 returns-in-Ok-clause-flags c = either c.change.result c.change.ensures.done c.change.ensures.nothing
-    (λ is. touches c.args.self.now c.change.new.self c.args.place.now (Wrote c.args.at c.in-Ok.values) is c.change.ensures.claimed)
-    (λ is. kept_touches c.args.place.now c.args.self.now c.change.new.self is c.change.ensures.claimed)
+    (λ is. touches c.args.self.now c.change.new.self c.args.place.now (Wrote c.args.at c.in-Ok.values) is)
+    (λ is. kept_touches c.args.place.now c.args.self.now c.change.new.self is)
 
 pub returns-in-Err-clause-change : goal.returns-in-Err-clause-change
 returns-in-Err-clause-change c =

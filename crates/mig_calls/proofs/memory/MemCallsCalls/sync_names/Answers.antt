@@ -1,5 +1,5 @@
 use Rattle.mig_calls.proofs.FilesSteps.{change_then}
 use Rattle.mig_calls.proofs.memory.MemCallsCalls.sync_names.Goals as goal
 
-pub returns-in-Ok-clause-change : goal.returns-in-Ok-clause-change
-returns-in-Ok-clause-change c = change_then c.enter.ensures.look c.name.ensures.look
+pub returns-in-Err-Failed-clause-change : goal.returns-in-Err-Failed-clause-change
+returns-in-Err-Failed-clause-change c = change_then c.bring_names.ensures.look c.give_up.ensures.look

@@ -7,14 +7,14 @@ pub returns-in_err-open-clause-change : goal.returns-in_err-open-clause-change
 returns-in_err-open-clause-change c = look_change c.open.ensures.look
 
 pub returns-in_err-made-clause-flags : goal.returns-in_err-made-clause-flags
-returns-in_err-made-clause-flags c = touches_of c.args.place.now (c.make.ensures.claimed ∙ c.open.ensures.claimed) (c.make.ensures.flushed ∙ c.open.ensures.flags.flushed)
+returns-in_err-made-clause-flags c = touches_of c.args.place.now (c.make.ensures.flushed ∙ c.open.ensures.flags.flushed)
 
 pub returns-in_err-made-clause-change : goal.returns-in_err-made-clause-change
 returns-in_err-made-clause-change c = look_change (change_then c.open.ensures.look c.make.ensures.look)
 
 pub returns-in_err-put-clause-flags : goal.returns-in_err-put-clause-flags
 returns-in_err-put-clause-flags c =
-    touches_then (touches_of c.args.place.now (c.make.ensures.claimed ∙ c.open.ensures.claimed) (c.make.ensures.flushed ∙ c.open.ensures.flags.flushed))
+    touches_then (touches_of c.args.place.now (c.make.ensures.flushed ∙ c.open.ensures.flags.flushed))
     c.put.ensures.flags
 
 pub returns-in_err-put-clause-change : goal.returns-in_err-put-clause-change
@@ -24,7 +24,7 @@ returns-in_err-put-clause-change c =
 
 pub returns-clause-flags : goal.returns-clause-flags
 returns-clause-flags c =
-    touches_then (touches_of c.args.place.now (c.make.ensures.claimed ∙ c.open.ensures.claimed) (c.make.ensures.flushed ∙ c.open.ensures.flags.flushed))
+    touches_then (touches_of c.args.place.now (c.make.ensures.flushed ∙ c.open.ensures.flags.flushed))
     c.put.ensures.flags
 
 pub returns-clause-change : goal.returns-clause-change
