@@ -1,13 +1,13 @@
 """What run-plan sees before it removes a source: copies that lack something, sources that change, over real file
 systems where this is root; and, by a record of the system's calls, what a power cut leaves after each of them."""
-import collections, contextlib, itertools, os, re, shutil, socket, struct, subprocess, time
+import contextlib, itertools, os, re, shutil, socket, struct, subprocess, time
 from unittest import mock
 from migrate_tools.run import compare
 from limits_model import plan_text
-from rooms import Count, Room, refused
+from rooms import Count, Room, plan_of, refused
 from waiting import until
 
-ONE = plan_text([[["x", "a", "0", "b", "0"]]])
+ONE = plan_of("x a 0 b 0")
 RUN = "contrib/run-plan --erase 'rm -rf mnt/{from}/{item}' plan.txt"
 KINDS = {"ext4": ("8M", "-qF"), "xfs": ("300M", "-qf"),
          "btrfs": ("128M", "-qf")}  # the least sizes, and options of mkfs
@@ -29,7 +29,8 @@ def disks_of(room, kinds):
     loops, names = [], "abc"[:len(kinds)]
     can = not os.geteuid() and shutil.which("losetup") and all(shutil.which(f"mkfs.{it}") for it in kinds)
     room.good("disks", f"mkdir -p {' '.join(f'mnt/{it}' for it in names)}; rm -f bin/mount bin/umount bin/mountpoint")
-    can or print(f"note: {' and '.join(kinds)} are tried as folders: this is not root, or there is no losetup or mkfs")
+    if not can:
+        print(f"note: {' and '.join(kinds)} are tried as folders: this is not root, or there is no losetup or mkfs")
     try:
         for name, kind in zip(names, kinds if can else ()):
             loops.append(disk_at(room, name, f"state/{name}.img", kind))
@@ -93,15 +94,15 @@ def what_a_copy_lacks():
         room.write("plan.txt", ONE)
         tools = {"setfattr", "setfacl", "rsync"} | ({"mknod", "chown", "chgrp"} if not os.geteuid() else set())
         missing = {it for it in tools if not shutil.which(it)}
-        missing and print(f"note: what a copy lacks is tried in part: there is no {' and no '.join(sorted(missing))}")
+        if missing:
+            print(f"note: what a copy lacks is tried in part: there is no {' and no '.join(sorted(missing))}")
         for spoil, said in LACKS:
             if not set(spoil.replace(";", "").split()) & (missing | ({"chown", "chgrp", "mknod"} - tools)):
                 copy = f"cp -a mnt/a/x mnt/b/; (cd mnt/b/x; {spoil}); [ ! -e mnt/b/x ] || touch -r mnt/a/x mnt/b/x"
                 room.write("copy", copy)
-                ran = room.run(f"rm -rf mnt/b/x; {RUN} sh copy {{item}}; rm plan.txt.place")
-                Count.that(f"a copy that lacks something: {spoil}", ran.returncode == 0 and said in ran.stderr
-                           and "not compared 1 x: " in ran.stderr and "stopped in round 1 of 1" in ran.stderr,
-                           ran.stderr)
+                room.says(f"a copy that lacks something: {spoil}",
+                          f"rm -rf mnt/b/x; {RUN} sh copy {{item}}; rm plan.txt.place", said, "not compared 1 x: ",
+                          "stopped in round 1 of 1")
         for copy in LOSSY if not missing else ():
             words = copy.format(**{"from": "mnt/{from}/{item}", "to": "mnt/{to}/"})
             ran = room.run(f"rm -rf mnt/b/x; {RUN} {words}; echo $?; rm plan.txt.place")
@@ -159,7 +160,8 @@ def a_source_that_changes():
                 real, done = compare.bytes_differ, []
 
                 def write(*words):
-                    done or done.append(room.good(name, f"cd mnt/a/x; {how}"))
+                    if not done:
+                        done.append(room.good(name, f"cd mnt/a/x; {how}"))
                     return real(*words)
 
                 with mock.patch.object(compare, "bytes_differ", write):
@@ -171,11 +173,13 @@ def a_source_that_changes():
                            "mnt/a/x" in said and " " in said and not said[0].isdigit(), said)
     with Room() as room, contextlib.chdir(room.at):  # as it begins: all is as before, and only newer
         room.good("as it begins", "mkdir -p mnt/a/x; echo 1 >mnt/a/x/one; cp -a mnt/a mnt/b")
-        until(lambda: time.clock_gettime_ns(compare.COARSE) > os.stat("mnt/a/x").st_ctime_ns, "the clock of files to go on")
+        until(lambda: time.clock_gettime_ns(compare.COARSE) > os.stat("mnt/a/x").st_ctime_ns,
+              "the clock of files to go on")
         real, done = compare.tree_of, []
 
         def look(top):
-            done or done.append(os.chmod("mnt/a/x/one", os.stat("mnt/a/x/one").st_mode))
+            if not done:
+                done.append(os.chmod("mnt/a/x/one", os.stat("mnt/a/x/one").st_mode))
             return real(top)
 
         with mock.patch.object(compare, "tree_of", look):
@@ -189,7 +193,7 @@ def a_source_that_changes():
 def nothing_more():
     """Where one copy of a round lacks something, no other source of the round is removed after it."""
     with Room() as room:
-        room.write("plan.txt", plan_text([[["x", "a", "0", "b", "0"], ["y", "a", "1", "b", "1"]]]))
+        room.write("plan.txt", plan_of("x a 0 b 0, y a 1 b 1"))
         room.good("nothing more", "mkdir -p mnt/a/x mnt/a/y mnt/b; touch -d @5 mnt/a/x mnt/a/y")
         copy = "sh -c 'cp -a mnt/a/$1 mnt/b/; [ $1 = y ] || touch mnt/b/x' sh {item}"
         for eager in ("", "--eager disks.csv"):
@@ -274,7 +278,7 @@ def order_of(events, items):
     return kinds
 
 
-TWO = plan_text([[["x", "a", "0", "b", "0"]], [["y", "b", "1", "a", "1"]]])
+TWO = plan_of("x a 0 b 0", "y b 1 a 1")
 
 
 def two_items(room):
@@ -349,7 +353,8 @@ def worlds(events, moves):
 def put_world(room, moves, text, states):
     """Makes what a power cut left."""
     room.good("power", "rm -rf mnt plan.txt.place*; mkdir -p mnt/a mnt/b")
-    text is None or room.write("plan.txt.place", text)
+    if text is not None:
+        room.write("plan.txt.place", text)
     for (item, source, target), (_, (there, gone)) in zip(moves, states):
         if item not in gone:
             room.good("power", f"cp -a kept/{item} mnt/{source}/; rm -f "

@@ -1,4 +1,5 @@
-"""`drain` beside the wish to empty a device: over made volume groups its plan has no more rounds than that of what `from-lvm --empty` deals out."""
+"""`drain` beside the wish to empty a device: over made volume groups its plan has no more rounds than that of what
+`from-lvm --empty` deals out."""
 import random, re
 from tight import group_of, segment
 from rooms import Count, Room
@@ -7,7 +8,8 @@ UNIT = 16
 
 
 def made_group(room, draw):
-    """A group of three to six devices, each in use from its beginning on by volumes of some units; gives the words for their limits."""
+    """A group of three to six devices, each in use from its beginning on by volumes of some units; gives the words for
+    their limits."""
     sizes = {it: UNIT * draw.randrange(4, 13) for it in "abcdef"[:draw.randrange(3, 7)]}
     segments = []
     for device, size in sizes.items():

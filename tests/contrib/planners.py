@@ -103,7 +103,8 @@ def plans_of_folders():
         with Room() as room:
             room.good(name, """mkdir -p mnt/a mnt/b mnt/c; for it in 1 2 3 4; do mkdir "mnt/a/it $it"
                 head -c ${it}00000 /dev/urandom >"mnt/a/it $it/one"; cp "mnt/a/it $it/one" "mnt/a/it $it/two"; done""")
-            stop == "none" and make_all_kinds(room)
+            if stop == "none":
+                make_all_kinds(room)
             room.good(name, "mkdir kept; cp -a mnt/a kept/")
             said = room.good(name, f"contrib/plan-folders mnt/* {wish} --rate 1M --into p")
             Count.that(f"{name}: what is said", re.match(r"\d+ of \d+ items move, .* rounds: optimal\nbottleneck a",
