@@ -66,8 +66,8 @@ LACKS = [("rm -r sub/empty", "mnt/a/x/sub/empty has no copy"),
          ("rm device; mknod device c 1 5", "mnt/b/x/device is of another kind"),
          ("chown -h 7 link", "mnt/b/x/link has another owner"), ("chgrp 7 sub", "mnt/b/x/sub has another owner"),
          ("chmod u-s file", "has another mode than mnt/a/x/"), ("chmod -t sub", "mnt/b/x/sub has another mode"),
-         ("touch -h -d @5 link", "mnt/b/x/link has another time"), ("touch -d '2001-02-03 04:05:06.123456788' file",
-                                                                    "has another time"),
+         ("touch -h -d @5 link", "mnt/b/x/link has another time"),
+         ("touch -d '2001-02-03 04:05:06.123456788' file", "has another time"),
          ("touch sub", "mnt/b/x/sub has another time than mnt/a/x/sub"),
          ("setfattr -x user.note file", "mnt/b/x/file has other attributes or ACLs (user.note)"),
          ("setfattr -n user.note -v texT file", "has other attributes or ACLs (user.note)"),
@@ -80,15 +80,14 @@ LACKS = [("rm -r sub/empty", "mnt/a/x/sub/empty has no copy"),
          ("rm sub/again; cp -a file sub/again; touch -r ../../a/x/sub sub", "does not have the hard links of mnt/a/x/"),
          ("ln 'two  words' third", "mnt/b/x/third is in the copy alone"),
          ("dd if=holes of=more bs=1M status=none; mv more holes; chmod 644 holes; touch -r ../../a/x/holes holes",
-          "mnt/b/x/holes has fewer holes"),
-         ("cd ..; rm -r x", "mnt/b/x cannot be read: No such file or directory")]
+          "mnt/b/x/holes has fewer holes"), ("cd ..; rm -r x", "mnt/b/x cannot be read: No such file or directory")]
 WHOLE = ["cp -a {from} {to}", "rsync -aHAXS --numeric-ids {from} {to}"]
 LOSSY = ["cp -r {from} {to}", "cp -dR --preserve=mode,ownership,timestamps,links {from} {to}", "rsync -a {from} {to}",
          "rsync -aHAX {from} {to}"]
 
 
-def what_a_copy_lacks():
-    with Room() as room, disks_of(room, ("ext4", "xfs", "btrfs")):
+def what_a_copy_lacks(room):
+    with disks_of(room, ("ext4", "xfs", "btrfs")):
         make_all_kinds(room)
         start = compare.state_of(compare.tree_of(room.path("mnt/a")))
         room.write("plan.txt", ONE)
@@ -136,9 +135,8 @@ def a_source_that_changes():
     """What is written to a source once its copy is being compared is never removed: while it is compared, or up to the
     erase."""
     for name, how in (("a new file", "echo 1 >new"), ("other bytes", "echo 2 >one"), ("the same bytes", "echo 1 >one"),
-                      ("a mode", "chmod 600 two"),
-                      ("an old time", "echo 2 >one; touch -d @5 one"), ("a folder's file", "rm sub/three"),
-                      ("another name", "mv two four")):
+                      ("a mode", "chmod 600 two"), ("an old time", "echo 2 >one; touch -d @5 one"),
+                      ("a folder's file", "rm sub/three"), ("another name", "mv two four")):
         with Room() as room:
             room.write("plan.txt", ONE)
             room.good(name, "mkdir -p mnt/b mnt/a/x/sub; cd mnt/a/x; echo 1 >one; echo 2 >two; echo 3 >sub/three")
@@ -190,41 +188,38 @@ def a_source_that_changes():
         Count.that("a source that changes as the comparison begins", said.startswith("mnt/a/x/one was changed"), said)
 
 
-def nothing_more():
+def nothing_more(room):
     """Where one copy of a round lacks something, no other source of the round is removed after it."""
-    with Room() as room:
-        room.write("plan.txt", plan_of("x a 0 b 0, y a 1 b 1"))
-        room.good("nothing more", "mkdir -p mnt/a/x mnt/a/y mnt/b; touch -d @5 mnt/a/x mnt/a/y")
-        copy = "sh -c 'cp -a mnt/a/$1 mnt/b/; [ $1 = y ] || touch mnt/b/x' sh {item}"
-        for eager in ("", "--eager disks.csv"):
-            room.write("disks.csv", "disk,limit,slots\na,1,9\nb,1,9\n")
-            ran = room.run(f"rm -rf mnt/b/* plan.txt.place*; contrib/run-plan {eager} --jobs 1 --erase 'rm -rf "
-                           f"mnt/{{from}}/{{item}}' plan.txt {copy}")
-            Count.that(f"nothing more is removed {eager}", ran.returncode == 1 and "not compared 1 x: mnt/b/x has "
-                       "another time" in ran.stderr
-                       and sorted(os.listdir(room.path("mnt/a"))) == ["x", "y"], ran)
+    room.write("plan.txt", plan_of("x a 0 b 0, y a 1 b 1"))
+    room.good("nothing more", "mkdir -p mnt/a/x mnt/a/y mnt/b; touch -d @5 mnt/a/x mnt/a/y")
+    copy = "sh -c 'cp -a mnt/a/$1 mnt/b/; [ $1 = y ] || touch mnt/b/x' sh {item}"
+    for eager in ("", "--eager disks.csv"):
+        room.write("disks.csv", "disk,limit,slots\na,1,9\nb,1,9\n")
+        room.says(f"nothing more is removed {eager}",
+                  f"rm -rf mnt/b/* plan.txt.place*; contrib/run-plan {eager} --jobs 1 --erase 'rm -rf "
+                  f"mnt/{{from}}/{{item}}' plan.txt {copy}", "not compared 1 x: mnt/b/x has another time", status=1)
+        Count.that(f"nothing more is removed {eager}", sorted(os.listdir(room.path("mnt/a"))) == ["x", "y"])
 
 
-def links_and_pipes():
-    with Room() as room:
-        room.good("links", """mkdir -p mnt/a/x mnt/a/y mnt/a/z mnt/b; echo 1 >mnt/a/x/one
-            ln mnt/a/x/one mnt/a/y/two; echo 3 >mnt/a/z/three; ln mnt/a/z/three mnt/a/z/four""")
-        said = "mnt/a/x: mnt/a/x/one has another name outside of it (a hard link), which a copy would not keep"
-        for wish in ("--empty a", "--move mnt/a/x=b"):
-            refused(room, "a hard link between two items", f"contrib/from-folders mnt/* {wish}", said)
-        ran = room.run("mkfifo mnt/a/z/pipe; contrib/from-folders mnt/* --spread --slots 9")
-        Count.that("they stay, and it is said", ran.returncode == 0 and all(it in ran.stderr for it in (
-            "mnt/a/x stays where it is: mnt/a/x/one has", "mnt/a/y stays where it is: mnt/a/y/two has",
-            "mnt/a/z/pipe is a fifo, a socket or a device")), ran)
-        Count.same("those that share no file may go", room.read("next.csv"), "item,disk\nx,a\ny,a\nz,b\n")
-        room.planned("links")
-        room.good("what has a fifo goes", "contrib/run-plan --names names.csv --erase 'rm -rf {from}/{item}' plan.txt "
-                                          "cp -a {from}/{item} {to}/")
-        room.write("plan.txt", ONE)
-        ran = room.run(f"rm plan.txt.place; {RUN} cp -a mnt/{{from}}/{{item}} mnt/{{to}}/")
-        Count.that("run-plan does not break a hard link either",
-                   ran.returncode == 1 and "mnt/a/x/one has another name outside of mnt/a/x, a hard link" in ran.stderr
-                   and os.path.exists(room.path("mnt/a/x/one")), ran)
+def links_and_pipes(room):
+    room.good("links", """mkdir -p mnt/a/x mnt/a/y mnt/a/z mnt/b; echo 1 >mnt/a/x/one
+        ln mnt/a/x/one mnt/a/y/two; echo 3 >mnt/a/z/three; ln mnt/a/z/three mnt/a/z/four""")
+    said = "mnt/a/x: mnt/a/x/one has another name outside of it (a hard link), which a copy would not keep"
+    for wish in ("--empty a", "--move mnt/a/x=b"):
+        refused(room, "a hard link between two items", f"contrib/from-folders mnt/* {wish}", said)
+    ran = room.run("mkfifo mnt/a/z/pipe; contrib/from-folders mnt/* --spread --slots 9")
+    Count.that("they stay, and it is said", ran.returncode == 0 and all(it in ran.stderr for it in (
+        "mnt/a/x stays where it is: mnt/a/x/one has", "mnt/a/y stays where it is: mnt/a/y/two has",
+        "mnt/a/z/pipe is a fifo, a socket or a device")), ran)
+    Count.same("those that share no file may go", room.read("next.csv"), "item,disk\nx,a\ny,a\nz,b\n")
+    room.planned("links")
+    room.good("what has a fifo goes", "contrib/run-plan --names names.csv --erase 'rm -rf {from}/{item}' plan.txt "
+                                      "cp -a {from}/{item} {to}/")
+    room.write("plan.txt", ONE)
+    room.says("run-plan does not break a hard link either",
+              f"rm plan.txt.place; {RUN} cp -a mnt/{{from}}/{{item}} mnt/{{to}}/",
+              "mnt/a/x/one has another name outside of mnt/a/x, a hard link", status=1)
+    Count.that("run-plan does not break a hard link either", os.path.exists(room.path("mnt/a/x/one")))
 
 
 # Calls, and power cuts
@@ -240,8 +235,7 @@ def record_of(room, words):
     log, events = room.path("calls"), []
     env = {**room.env, "PATH": f"/usr/bin:{room.env['PATH']}"}
     ran = subprocess.run(["strace", "-f", "-y", "-s", "99", "-o", log, "-e", f"trace={','.join(CHANGES)}",
-                          "alone/run-plan", *words],
-                         cwd=room.at, env=env, capture_output=True, text=True, check=False)
+                          "alone/run-plan", *words], cwd=room.at, env=env, capture_output=True, text=True, check=False)
     Count.that("a run under strace", ran.returncode == 0, ran)
     top = os.path.realpath(room.at)
     with open(log, errors="replace") as file:

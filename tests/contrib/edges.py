@@ -46,49 +46,47 @@ def next_of(those, slots, *wish):
 
 # What is saved
 
-def saved_whole():
-    with Room() as room:
-        order, sync, replace = [], os.fsync, os.replace
+def saved_whole(room):
+    order, sync, replace = [], os.fsync, os.replace
 
-        def synced(handle):
-            order.append(("sync", os.readlink(f"/proc/self/fd/{handle}"), os.fstat(handle).st_size))
-            sync(handle)
+    def synced(handle):
+        order.append(("sync", os.readlink(f"/proc/self/fd/{handle}"), os.fstat(handle).st_size))
+        sync(handle)
 
-        def replaced(one, two):
-            order.append(("replace", one, two))
-            replace(one, two)
+    def replaced(one, two):
+        order.append(("replace", one, two))
+        replace(one, two)
 
-        with mock.patch.multiple(os, fsync=synced, replace=replaced):
-            command.save_all({room.path("one"): "1\n", room.path("two"): "22\n"})
-        kinds, new = [it[0] for it in order], [it[1] for it in order]
-        Count.same("a saved text is synced, with all of it, before it has its name",
-                   (kinds, [it[2] for it in order[:2]], new[:2]),
-                   (["sync", "sync", "replace", "replace"], [2, 3], new[2:]))
-        Count.same("where the second text has no folder",
-                   wrong(command.save_all, {room.path("three"): "", room.path("no/four"): ""}),
-                   f"{os.path.realpath(room.path('no/four'))} cannot be written: No such file or directory")
-        Count.same("neither it nor the first one is left", [it for it in room.files() if it not in ("one", "two")], [])
-        room.good("spellings",
-                  "cp contrib/samples/lvm/*.json . && contrib/from-lvm lvs.json pvs.json --empty loop0 --unit 32")
-        room.planned("spellings")
-        room.good("spellings", "mkdir folder; ln plan.txt same; ln -s plan.txt link")
-        for out in ("./plan.txt", "folder/../plan.txt", "same", "link", room.path("plan.txt")):
-            refused(room, "other spellings", f"contrib/to-lvm plan.txt names.csv --out {out}",
-                    f"{out} was read, and is not written over")
+    with mock.patch.multiple(os, fsync=synced, replace=replaced):
+        command.save_all({room.path("one"): "1\n", room.path("two"): "22\n"})
+    kinds, new = [it[0] for it in order], [it[1] for it in order]
+    Count.same("a saved text is synced, with all of it, before it has its name",
+               (kinds, [it[2] for it in order[:2]], new[:2]),
+               (["sync", "sync", "replace", "replace"], [2, 3], new[2:]))
+    Count.same("where the second text has no folder",
+               wrong(command.save_all, {room.path("three"): "", room.path("no/four"): ""}),
+               f"{os.path.realpath(room.path('no/four'))} cannot be written: No such file or directory")
+    Count.same("neither it nor the first one is left", [it for it in room.files() if it not in ("one", "two")], [])
+    room.good("spellings",
+              "cp contrib/samples/lvm/*.json . && contrib/from-lvm lvs.json pvs.json --empty loop0 --unit 32")
+    room.planned("spellings")
+    room.good("spellings", "mkdir folder; ln plan.txt same; ln -s plan.txt link")
+    for out in ("./plan.txt", "folder/../plan.txt", "same", "link", room.path("plan.txt")):
+        refused(room, "other spellings", f"contrib/to-lvm plan.txt names.csv --out {out}",
+                f"{out} was read, and is not written over")
 
 
-def what_commands_inherit():
-    with Room() as room:
-        room.write("plan.txt", PLAN)
-        room.write("job", "#!/bin/sh\ncat >>in-$1\ngrep SigIgn /proc/self/status >ignored-$1\n")
-        room.good("inherited", "echo data | alone/run-plan --guard 'sh job {disk}' plan.txt sh job {item}")
-        for name in ("x", "a"):
-            Count.same(f"a command has no input: {name}", room.read(f"in-{name}"), "")
-            ignored = int((room.read(f"ignored-{name}") or "x 1000").split()[1], 16)
-            Count.that(f"a command ends where its reader has gone: {name}", not ignored & 1 << 13 - 1, hex(ignored))
-        room.good("dangling", "rm plan.txt.place*; mkdir -p b; ln -s nowhere b/x")
-        refused(room, "a target that is a dangling link", "contrib/run-plan plan.txt cp -a {from}/{item} {to}/",
-                "no place is kept in plan.txt.place, but 1 of 2 items are at their target, the first one as b/x")
+def what_commands_inherit(room):
+    room.write("plan.txt", PLAN)
+    room.write("job", "#!/bin/sh\ncat >>in-$1\ngrep SigIgn /proc/self/status >ignored-$1\n")
+    room.good("inherited", "echo data | alone/run-plan --guard 'sh job {disk}' plan.txt sh job {item}")
+    for name in ("x", "a"):
+        Count.same(f"a command has no input: {name}", room.read(f"in-{name}"), "")
+        ignored = int((room.read(f"ignored-{name}") or "x 1000").split()[1], 16)
+        Count.that(f"a command ends where its reader has gone: {name}", not ignored & 1 << 13 - 1, hex(ignored))
+    room.good("dangling", "rm plan.txt.place*; mkdir -p b; ln -s nowhere b/x")
+    refused(room, "a target that is a dangling link", "contrib/run-plan plan.txt cp -a {from}/{item} {to}/",
+            "no place is kept in plan.txt.place, but 1 of 2 items are at their target, the first one as b/x")
 
 
 # Times
@@ -134,23 +132,21 @@ def time_that_is_left():
                    wanted)
 
 
-def strangers_lock():
-    with Room() as room:
-        room.write("plan.txt", plan_of("x a 0 b 0", "y a 1 b 1"))
-        room.good("locks",
-                  "contrib/run-plan plan.txt true {item}; head -n 2 plan.txt.place >kept; mv kept plan.txt.place; : "
-                  ">other")
-        with open(room.path("other"), "rb") as other, open(room.path("plan.txt.place"), "r+b") as own:
-            fcntl.flock(other, fcntl.LOCK_EX)
-            said = room.good("locks", "contrib/progress plan.txt")
-            Count.that("who has another file locked is not at work here", said.endswith(", nothing is at work here\n"),
-                       said)
-            fcntl.lockf(own, fcntl.LOCK_EX)
-            said = room.good("locks", "contrib/progress plan.txt")
-            Count.that("nor is who has it locked in another way", said.endswith(", nothing is at work here\n"), said)
-            fcntl.flock(own, fcntl.LOCK_EX)
-            said = room.good("locks", "contrib/progress plan.txt")
-            Count.that("who has it locked is", said.endswith(f", process {os.getpid()} is at work\n"), said)
+def strangers_lock(room):
+    room.write("plan.txt", plan_of("x a 0 b 0", "y a 1 b 1"))
+    room.good("locks",
+              "contrib/run-plan plan.txt true {item}; head -n 2 plan.txt.place >kept; mv kept plan.txt.place; : >other")
+    with open(room.path("other"), "rb") as other, open(room.path("plan.txt.place"), "r+b") as own:
+        fcntl.flock(other, fcntl.LOCK_EX)
+        said = room.good("locks", "contrib/progress plan.txt")
+        Count.that("who has another file locked is not at work here", said.endswith(", nothing is at work here\n"),
+                   said)
+        fcntl.lockf(own, fcntl.LOCK_EX)
+        said = room.good("locks", "contrib/progress plan.txt")
+        Count.that("nor is who has it locked in another way", said.endswith(", nothing is at work here\n"), said)
+        fcntl.flock(own, fcntl.LOCK_EX)
+        said = room.good("locks", "contrib/progress plan.txt")
+        Count.that("who has it locked is", said.endswith(f", process {os.getpid()} is at work\n"), said)
 
 
 # Disks
@@ -269,24 +265,23 @@ def these_tests():
 
 # Pages
 
-def what_pages_show():
-    with Room() as room:
-        room.write("disks.csv", "disk,limit,slots\na,1,9\nb,1,9\n")
-        room.write("now.csv", "item,disk,slot\nx,a,0\ny,a,1\n")
-        room.write("a<b>&.txt", plan_of("x a 0 b 0, y a 1 b 1"))
-        page = room.good("pages", "contrib/report 'a<b>&.txt' disks.csv now.csv")
-        Count.that("a name of a file is text in the page",
-                   '<p class="soft">a&lt;b&gt;&amp;.txt</p>' in page and "a<b>" not in page)
-        Count.that("the page marks more than a limit",
-                   "pen.fillStyle = sum > most ? over : sum === most ? full : part;" in page
-                   and 'get("over").hidden = !data.disks.some((it, disk) => it[3].some((limit, way) => '
-                       'uses[disk][way].some(n => n > limit)));' in page)
-        picture = room.good("pages", "contrib/picture 'a<b>&.txt' disks.csv")
-        Count.same("the picture marks more than a limit",
-                   len(re.findall(r'<rect x="\S+" y="\S+" width="58" height="28" fill="#c0392b"/>', picture)), 2)
-        room.write("cert", "migration-certificate 1\nrounds 2\nquotient 2\nclass general\nbound disk a 2 1 2\nend\n")
-        for name in ("witness 'a<b>&.txt' disks.csv cert", "report 'a<b>&.txt' disks.csv now.csv cert"):
-            refused(room, "a foreign certificate", f"contrib/{name}", "cert is the certificate of another plan")
+def what_pages_show(room):
+    room.write("disks.csv", "disk,limit,slots\na,1,9\nb,1,9\n")
+    room.write("now.csv", "item,disk,slot\nx,a,0\ny,a,1\n")
+    room.write("a<b>&.txt", plan_of("x a 0 b 0, y a 1 b 1"))
+    page = room.good("pages", "contrib/report 'a<b>&.txt' disks.csv now.csv")
+    Count.that("a name of a file is text in the page",
+               '<p class="soft">a&lt;b&gt;&amp;.txt</p>' in page and "a<b>" not in page)
+    Count.that("the page marks more than a limit",
+               "pen.fillStyle = sum > most ? over : sum === most ? full : part;" in page
+               and 'get("over").hidden = !data.disks.some((it, disk) => it[3].some((limit, way) => '
+                   'uses[disk][way].some(n => n > limit)));' in page)
+    picture = room.good("pages", "contrib/picture 'a<b>&.txt' disks.csv")
+    Count.same("the picture marks more than a limit",
+               len(re.findall(r'<rect x="\S+" y="\S+" width="58" height="28" fill="#c0392b"/>', picture)), 2)
+    room.write("cert", "migration-certificate 1\nrounds 2\nquotient 2\nclass general\nbound disk a 2 1 2\nend\n")
+    for name in ("witness 'a<b>&.txt' disks.csv cert", "report 'a<b>&.txt' disks.csv now.csv cert"):
+        refused(room, "a foreign certificate", f"contrib/{name}", "cert is the certificate of another plan")
 
 
 CASES = (saved_whole, what_commands_inherit, times_of_day, time_that_is_left, strangers_lock, full_disks,

@@ -45,73 +45,70 @@ def at_rest(run):
 
 # The runner
 
-def the_runner():
-    with Room() as room:
-        room.good("run-plan", MOUNT)
-        start, rounds, wanted = tree(room), shifts_of(room.read("plan.txt")), wanted_of(room)
-        words = f"{GUARD} {VERIFY} {ERASE} plan.txt {COPY}"
-        lines = ["# guard",
-                 *(f"test -e mnt/{it}/.here"
-                   for it in dict.fromkeys(disk for shifts in rounds for it in shifts for disk in it[1:4:2]))]
-        for at, shifts in enumerate(rounds, 1):
-            lines += [f"# round {at}, copy", *(f"cp -a mnt/{it[1]}/{it[0]} mnt/{it[3]}/" for it in shifts)]
-            lines += [f"# round {at}, verify", *(f"diff -r mnt/{it[1]}/{it[0]} mnt/{it[3]}/{it[0]}" for it in shifts)]
-            lines += [f"# round {at}, erase", *(f"rm -rf mnt/{it[1]}/{it[0]}" for it in shifts)]
-        Count.same("run-plan --dry-run", room.good("run-plan", f"contrib/run-plan --dry-run {words}"),
-                   "\n".join([*lines, ""]))
-        big = room.run(f"contrib/run-plan --dry-run plan.txt sh -c {'x' * 100000} {{item}} | head -n 1; echo "
-                       f"${{PIPESTATUS[0]}}")
-        Count.same("--dry-run, whose reader goes early", (big.stdout, big.stderr), ("# round 1, copy\n0\n", ""))
-        Count.that("--dry-run does nothing", tree(room) == start and room.read("plan.txt.place") is None)
-        # the second round's first source is away: the others go on, and the place is kept
-        item, source = rounds[1][0][:2]
-        room.good("run-plan", f"mv mnt/{source}/{item} away")
-        room.says("a copy that fails stops it", f"contrib/run-plan {words}",
-                  f"not copied 2 {item}: status 1: cp -a mnt/{source}/{item}", "stopped in round 2 of 3", status=1)
-        found = tree(room)
-        for name, *_, target, _ in rounds[0]:
-            Count.same(f"round 1 is done: {name}", found[name], {target})
-        for name, old, _, target, _ in rounds[1][1:]:
-            Count.same(f"round 2, the others: {name}", found[name], {old, target})
-        room.good("run-plan", f"mv away mnt/{source}/{item}")
-        ran = room.run(f"contrib/run-plan {words}")
-        Count.that("it goes on there", ran.returncode == 0 and ran.stdout.startswith("round 2 of 3: 1 to be copied\n"),
-                   ran)
-        Count.same("all is where it is to be", tree(room), wanted)
-        ran = room.run(f"contrib/run-plan {words}")
-        Count.same("once more", (ran.returncode, ran.stdout), (0, "all 3 rounds are carried out\n"))
-        room.good("run-plan, a disk that is no folder here",
-                  "sleep 0.2 & exec alone/run-plan --place other plan.txt true remote:{from}/{item}")
-        room.write("plan2.txt", room.read("plan.txt").replace("db2 ssd1 1 ssd2 2", "db2 ssd1 1 ssd2 3"))
-        room.says("the place of another plan", f"contrib/run-plan --place plan.txt.place plan2.txt {COPY}",
-                  "keeps the place of another plan", status=1)
+def the_runner(room):
+    room.good("run-plan", MOUNT)
+    start, rounds, wanted = tree(room), shifts_of(room.read("plan.txt")), wanted_of(room)
+    words = f"{GUARD} {VERIFY} {ERASE} plan.txt {COPY}"
+    lines = ["# guard",
+             *(f"test -e mnt/{it}/.here"
+               for it in dict.fromkeys(disk for shifts in rounds for it in shifts for disk in it[1:4:2]))]
+    for at, shifts in enumerate(rounds, 1):
+        lines += [f"# round {at}, copy", *(f"cp -a mnt/{it[1]}/{it[0]} mnt/{it[3]}/" for it in shifts)]
+        lines += [f"# round {at}, verify", *(f"diff -r mnt/{it[1]}/{it[0]} mnt/{it[3]}/{it[0]}" for it in shifts)]
+        lines += [f"# round {at}, erase", *(f"rm -rf mnt/{it[1]}/{it[0]}" for it in shifts)]
+    Count.same("run-plan --dry-run", room.good("run-plan", f"contrib/run-plan --dry-run {words}"),
+               "\n".join([*lines, ""]))
+    big = room.run(f"contrib/run-plan --dry-run plan.txt sh -c {'x' * 100000} {{item}} | head -n 1; echo "
+                   f"${{PIPESTATUS[0]}}")
+    Count.same("--dry-run, whose reader goes early", (big.stdout, big.stderr), ("# round 1, copy\n0\n", ""))
+    Count.that("--dry-run does nothing", tree(room) == start and room.read("plan.txt.place") is None)
+    # the second round's first source is away: the others go on, and the place is kept
+    item, source = rounds[1][0][:2]
+    room.good("run-plan", f"mv mnt/{source}/{item} away")
+    room.says("a copy that fails stops it", f"contrib/run-plan {words}",
+              f"not copied 2 {item}: status 1: cp -a mnt/{source}/{item}", "stopped in round 2 of 3", status=1)
+    found = tree(room)
+    for name, *_, target, _ in rounds[0]:
+        Count.same(f"round 1 is done: {name}", found[name], {target})
+    for name, old, _, target, _ in rounds[1][1:]:
+        Count.same(f"round 2, the others: {name}", found[name], {old, target})
+    room.good("run-plan", f"mv away mnt/{source}/{item}")
+    ran = room.run(f"contrib/run-plan {words}")
+    Count.that("it goes on there", ran.returncode == 0 and ran.stdout.startswith("round 2 of 3: 1 to be copied\n"), ran)
+    Count.same("all is where it is to be", tree(room), wanted)
+    ran = room.run(f"contrib/run-plan {words}")
+    Count.same("once more", (ran.returncode, ran.stdout), (0, "all 3 rounds are carried out\n"))
+    room.good("run-plan, a disk that is no folder here",
+              "sleep 0.2 & exec alone/run-plan --place other plan.txt true remote:{from}/{item}")
+    room.write("plan2.txt", room.read("plan.txt").replace("db2 ssd1 1 ssd2 2", "db2 ssd1 1 ssd2 3"))
+    room.says("the place of another plan", f"contrib/run-plan --place plan.txt.place plan2.txt {COPY}",
+              "keeps the place of another plan", status=1)
 
 
-def side_by_side():
+def side_by_side(room):
     """A round after the other, and all of a round at once; at most as many as --jobs says."""
-    with Room() as room:
-        room.good("run-plan", MOUNT)
-        for at, shifts in enumerate(shifts_of(room.read("plan.txt")), 1):
-            room.write(f"count{at}", str(len(shifts)))
-        # a job waits until all of its round have begun; with two at once until one more has than when it began, if
-        # there is one, and a while then
-        room.write("job",
-                   "#!/bin/sh\necho begin $1 $2 >>log\nall=$(cat count$1)\n"
-                   "[ -z \"$3\" ] || { at=$(grep \"^begin $1 \" log | grep -n \" $2\\$\" | cut -d: -f1); [ $at -ge "
-                   "$all ] || all=$((at + 1)); }\n"
-                   "until [ $(grep -c \"^begin $1 \" log) -ge $all ] || [ ! -e job ]; do sleep 0.1; done\n[ -z \"$3\" "
-                   "] || sleep 0.2\necho end $1 $2 >>log\n")
-        for jobs, most in (("", None), ("--jobs 2", 2)):
-            room.good("run-plan",
-                      f"rm -f log plan.txt.place; contrib/run-plan {jobs} plan.txt sh job {{round}} {{item}} "
-                      f"'{most or ''}'")
-            rounds, at, most_at_once, order = shifts_of(room.read("plan.txt")), 0, 0, []
-            for line in room.read("log").splitlines():
-                at += 1 if line.startswith("begin") else -1
-                most_at_once = max(most_at_once, at)
-                order.append(line.split()[1][0])
-            Count.same(f"side by side {jobs}", most_at_once, most or max(map(len, rounds)))
-            Count.same(f"one round after the other {jobs}", order, sorted(order))
+    room.good("run-plan", MOUNT)
+    for at, shifts in enumerate(shifts_of(room.read("plan.txt")), 1):
+        room.write(f"count{at}", str(len(shifts)))
+    # a job waits until all of its round have begun; with two at once until one more has than when it began, if
+    # there is one, and a while then
+    room.write("job",
+               "#!/bin/sh\necho begin $1 $2 >>log\nall=$(cat count$1)\n"
+               "[ -z \"$3\" ] || { at=$(grep \"^begin $1 \" log | grep -n \" $2\\$\" | cut -d: -f1); [ $at -ge "
+               "$all ] || all=$((at + 1)); }\n"
+               "until [ $(grep -c \"^begin $1 \" log) -ge $all ] || [ ! -e job ]; do sleep 0.1; done\n[ -z \"$3\" "
+               "] || sleep 0.2\necho end $1 $2 >>log\n")
+    for jobs, most in (("", None), ("--jobs 2", 2)):
+        room.good("run-plan",
+                  f"rm -f log plan.txt.place; contrib/run-plan {jobs} plan.txt sh job {{round}} {{item}} "
+                  f"'{most or ''}'")
+        rounds, at, most_at_once, order = shifts_of(room.read("plan.txt")), 0, 0, []
+        for line in room.read("log").splitlines():
+            at += 1 if line.startswith("begin") else -1
+            most_at_once = max(most_at_once, at)
+            order.append(line.split()[1][0])
+        Count.same(f"side by side {jobs}", most_at_once, most or max(map(len, rounds)))
+        Count.same(f"one round after the other {jobs}", order, sorted(order))
 
 
 def killed_or_stopped():
@@ -221,11 +218,11 @@ def a_disk_goes_away():
         shifts = shifts_of(room.read("plan.txt"))[0]
         first, *rest = shifts
         item, source, _, target, _ = next(it for it in rest if it[3] not in (first[1], first[3]))
-        ran = room.run(f"contrib/run-plan {GUARD} {VERIFY} --erase 'sh -c \"rm -rf mnt/{{from}}/{{item}}; [ {{item}} "
-                       f"!= {first[0]} ] || mv mnt/{target} gone\"' --jobs 1 plan.txt {COPY}")
-        Count.that("nothing of a disk that is away is removed",
-                   ran.returncode == 1 and f"disk {target} is not as --guard asks" in ran.stderr
-                   and source in tree(room)[item], ran)
+        room.says("nothing of a disk that is away is removed",
+                  f"contrib/run-plan {GUARD} {VERIFY} --erase 'sh -c \"rm -rf mnt/{{from}}/{{item}}; [ {{item}} != "
+                  f"{first[0]} ] || mv mnt/{target} gone\"' --jobs 1 plan.txt {COPY}",
+                  f"disk {target} is not as --guard asks", status=1)
+        Count.that("nothing of a disk that is away is removed", source in tree(room)[item])
 
 
 def a_copy_is_wrong():
@@ -234,12 +231,11 @@ def a_copy_is_wrong():
         shifts = shifts_of(room.read("plan.txt"))[0]
         item, source, _, target, _ = shifts[1]
         start = tree(room)
-        ran = room.run(f"contrib/run-plan {VERIFY} {ERASE} plan.txt sh -c '{COPY} && {{ [ {{item}} != {item} ] || rm "
-                       f"mnt/{{to}}/{{item}}/data; }}'")
-        Count.that("a copy that is wrong stops it",
-                   ran.returncode == 1
-                   and f"not verified 1 {item}: status 1: diff -r mnt/{source}/{item} mnt/{target}/{item}\n"
-                   in ran.stderr and "erased" not in ran.stdout, ran)
+        ran = room.says("a copy that is wrong stops it",
+                        f"contrib/run-plan {VERIFY} {ERASE} plan.txt sh -c '{COPY} && {{ [ {{item}} != {item} ] || rm "
+                        f"mnt/{{to}}/{{item}}/data; }}'",
+                        f"not verified 1 {item}: status 1: diff -r mnt/{source}/{item} mnt/{target}/{item}\n", status=1)
+        Count.that("a copy that is wrong stops it", "erased" not in ran.stdout, ran)
         found = tree(room)
         Count.that("nothing of its round is removed", all(start[it] <= found[it] for it in start), found)
         ran = room.run(f"contrib/run-plan {VERIFY} {ERASE} plan.txt {COPY}")
@@ -257,10 +253,9 @@ def a_copy_is_wrong():
                    "".join(line
                            for line in room.read("plan.txt.place").splitlines(True) if not line.startswith("erasing")))
         room.good("run-plan", f"rm -r mnt/{target}/{item}")
-        ran = room.run(f"contrib/run-plan {VERIFY} {ERASE} plan.txt {COPY}")
-        Count.that("a copy that went away meanwhile",
-                   ran.returncode == 1 and f"not verified 1 {item}: status 2" in ran.stderr
-                   and source in tree(room)[item], ran)
+        room.says("a copy that went away meanwhile", f"contrib/run-plan {VERIFY} {ERASE} plan.txt {COPY}",
+                  f"not verified 1 {item}: status 2", status=1)
+        Count.that("a copy that went away meanwhile", source in tree(room)[item])
 
 
 def whole(room):
@@ -316,30 +311,29 @@ def killed_at_random(count=15):
         Count.that("kills met it at work", counts[-9] > 0, counts)
 
 
-def the_place_is_lost():
-    with Room() as room:
-        room.good("run-plan", MOUNT)
-        rounds, wanted = shifts_of(room.read("plan.txt")), wanted_of(room)
-        item, source = rounds[1][0][:2]
-        room.good("run-plan", f"mv mnt/{source}/{item} away")
-        room.run(f"contrib/run-plan {ERASE} plan.txt {COPY}")
-        room.good("run-plan", f"mv away mnt/{source}/{item}; mv plan.txt.place kept")
-        done, count = len(rounds[0]), len(rounds[0]) + len(rounds[1]) - 1
-        first = f"mnt/{rounds[0][0][3]}/{rounds[0][0][0]}"
-        said = (f"no place is kept in plan.txt.place, but {count} of {sum(map(len, rounds))} items are at their "
-                f"target, the first one as {first}; {done} of them have left their source")
-        for words in (f"{ERASE} plan.txt {COPY}", f"{GUARD} {VERIFY} {ERASE} plan.txt {COPY}", f"plan.txt {COPY}"):
-            refused(room, "the place is lost", f"contrib/run-plan {words}", said)
-        room.write("plan.txt.place", "")
-        refused(room, "the place is empty", f"contrib/run-plan {ERASE} plan.txt {COPY}", said)
-        # a place that is written by hand
-        room.good("run-plan", "echo plan $(sha256sum <plan.txt | cut -d' ' -f1) >plan.txt.place")
-        with open(room.path("plan.txt.place"), "a", encoding="ascii") as file:
-            file.write("".join(f"{what} 1 {it[0]}\n" for it in rounds[0] for what in ("copied", "erased")))
-        ran = room.run(f"contrib/run-plan {ERASE} plan.txt {COPY}")
-        Count.that("a place by hand",
-                   ran.returncode == 0 and ran.stdout.startswith(f"round 2 of 3: {len(rounds[1])} to be copied\n"), ran)
-        Count.same("a place by hand: all is where it is to be", tree(room), wanted)
+def the_place_is_lost(room):
+    room.good("run-plan", MOUNT)
+    rounds, wanted = shifts_of(room.read("plan.txt")), wanted_of(room)
+    item, source = rounds[1][0][:2]
+    room.good("run-plan", f"mv mnt/{source}/{item} away")
+    room.run(f"contrib/run-plan {ERASE} plan.txt {COPY}")
+    room.good("run-plan", f"mv away mnt/{source}/{item}; mv plan.txt.place kept")
+    done, count = len(rounds[0]), len(rounds[0]) + len(rounds[1]) - 1
+    first = f"mnt/{rounds[0][0][3]}/{rounds[0][0][0]}"
+    said = (f"no place is kept in plan.txt.place, but {count} of {sum(map(len, rounds))} items are at their "
+            f"target, the first one as {first}; {done} of them have left their source")
+    for words in (f"{ERASE} plan.txt {COPY}", f"{GUARD} {VERIFY} {ERASE} plan.txt {COPY}", f"plan.txt {COPY}"):
+        refused(room, "the place is lost", f"contrib/run-plan {words}", said)
+    room.write("plan.txt.place", "")
+    refused(room, "the place is empty", f"contrib/run-plan {ERASE} plan.txt {COPY}", said)
+    # a place that is written by hand
+    room.good("run-plan", "echo plan $(sha256sum <plan.txt | cut -d' ' -f1) >plan.txt.place")
+    with open(room.path("plan.txt.place"), "a", encoding="ascii") as file:
+        file.write("".join(f"{what} 1 {it[0]}\n" for it in rounds[0] for what in ("copied", "erased")))
+    ran = room.run(f"contrib/run-plan {ERASE} plan.txt {COPY}")
+    Count.that("a place by hand",
+               ran.returncode == 0 and ran.stdout.startswith(f"round 2 of 3: {len(rounds[1])} to be copied\n"), ran)
+    Count.same("a place by hand: all is where it is to be", tree(room), wanted)
 
 
 # Folders
@@ -382,52 +376,50 @@ def odd_folders(room):
               "1/{item}' 'mnt/disk 2/{item}'")
 
 
-def the_folders():
-    with Room() as room:
-        odd_folders(room)
-        room.good("folders", "contrib/from-folders mnt/* --limit 2 --limit mnt/empty=3 --slots empty=9")
-        Count.same("without a wish all stays", room.read("next.csv"),
-                   "".join(line.rpartition(",")[0] + "\n" for line in room.read("now.csv").splitlines()))
-        room.good("folders", "touch mnt/empty/lost+found/#12")
-        Count.that("what was found again stays",
-                   "mnt/empty/lost+found is not empty, and stays\n"
-                   in room.run("contrib/from-folders mnt/* --into examples").stderr)
-        disks, names = names_in(room)
-        Count.same("each folder and file has a row", collections.Counter(map(os.path.basename, names)),
-                   collections.Counter([*ODD, *PLAIN, "a file", "{item}"]))
-        for path, (name, bytes_) in names.items():
-            real = os.path.basename(path)
-            wanted = real if real in PLAIN else {**ODD, "a file": "a-file-"}[real] + digits_of(path if real == "{item}"
-                                                                                               else real)
-            Count.same(f"the name of {real}", name, wanted)
-            du = subprocess.run(["du", "-s", "--block-size=1", "--", path], cwd=room.at, capture_output=True, text=True,
-                                check=True)
-            Count.same(f"the bytes of {name}", bytes_, du.stdout.split("\t")[0])
-        wanted = [[f"disk-{it}-{digits_of(f'disk {it}')}", "2", str(len(names))] for it in range(3)] + [["empty", "3",
-                                                                                                         "9"]]
-        Count.same("the disks, also the empty one, their limits and slots", rows_of(room.read("disks.csv")), wanted)
-        os.rename(room.path("mnt/disk 2/{item}"), room.path("mnt/disk 2/another"))
-        room.good("folders",
-                  "contrib/from-folders --spread --empty 'disk 0' --limit 2 --move 'mnt/disk 1/-rf=mnt/disk 2' mnt/*")
-        disks, names = names_in(room)
-        next_ = dict(rows_of(room.read("next.csv")))
-        counts = collections.Counter(next_.values())
-        Count.that("--spread and --empty",
-                   disks["mnt/disk 0"][0] not in counts and max(counts.values()) - min(counts.values()) <= 2
-                   and len(counts) == 3, counts)
-        Count.same("--move", next_[names["mnt/disk 1/-rf"][0]], disks["mnt/disk 2"][0])
-        start = contents(room)
-        room.planned("folders")
-        room.good("folders",
-                  f"contrib/run-plan --names names.csv {REAL.replace('mountpoint -q', 'test -d')} plan.txt cp -a "
-                  f"{{from}}/{{item}} {{to}}/")
-        Count.same("odd names: nothing is lost or changed", contents(room), start)
-        room.says("what is no folder, file or link",
-                  "mkfifo mnt/empty/pipe; contrib/from-folders mnt/*; status=$?; rm mnt/empty/pipe; exit $status",
-                  "mnt/empty/pipe is neither a folder, a file nor a link", status=1)
-        room.good("folders", "mkdir found && contrib/from-folders --into found mnt/*")
-        Count.same("odd names: all is where it is to be, under the same names",
-                   {item: disk for item, disk, _ in rows_of(room.read("found/now.csv"))}, next_)
+def the_folders(room):
+    odd_folders(room)
+    room.good("folders", "contrib/from-folders mnt/* --limit 2 --limit mnt/empty=3 --slots empty=9")
+    Count.same("without a wish all stays", room.read("next.csv"),
+               "".join(line.rpartition(",")[0] + "\n" for line in room.read("now.csv").splitlines()))
+    room.good("folders", "touch mnt/empty/lost+found/#12")
+    Count.that("what was found again stays",
+               "mnt/empty/lost+found is not empty, and stays\n"
+               in room.run("contrib/from-folders mnt/* --into examples").stderr)
+    disks, names = names_in(room)
+    Count.same("each folder and file has a row", collections.Counter(map(os.path.basename, names)),
+               collections.Counter([*ODD, *PLAIN, "a file", "{item}"]))
+    for path, (name, bytes_) in names.items():
+        real = os.path.basename(path)
+        wanted = real if real in PLAIN else {**ODD, "a file": "a-file-"}[real] + digits_of(path if real == "{item}"
+                                                                                           else real)
+        Count.same(f"the name of {real}", name, wanted)
+        du = subprocess.run(["du", "-s", "--block-size=1", "--", path], cwd=room.at, capture_output=True, text=True,
+                            check=True)
+        Count.same(f"the bytes of {name}", bytes_, du.stdout.split("\t")[0])
+    wanted = [[f"disk-{it}-{digits_of(f'disk {it}')}", "2", str(len(names))] for it in range(3)] + [["empty", "3", "9"]]
+    Count.same("the disks, also the empty one, their limits and slots", rows_of(room.read("disks.csv")), wanted)
+    os.rename(room.path("mnt/disk 2/{item}"), room.path("mnt/disk 2/another"))
+    room.good("folders",
+              "contrib/from-folders --spread --empty 'disk 0' --limit 2 --move 'mnt/disk 1/-rf=mnt/disk 2' mnt/*")
+    disks, names = names_in(room)
+    next_ = dict(rows_of(room.read("next.csv")))
+    counts = collections.Counter(next_.values())
+    Count.that("--spread and --empty",
+               disks["mnt/disk 0"][0] not in counts and max(counts.values()) - min(counts.values()) <= 2
+               and len(counts) == 3, counts)
+    Count.same("--move", next_[names["mnt/disk 1/-rf"][0]], disks["mnt/disk 2"][0])
+    start = contents(room)
+    room.planned("folders")
+    room.good("folders",
+              f"contrib/run-plan --names names.csv {REAL.replace('mountpoint -q', 'test -d')} plan.txt cp -a "
+              f"{{from}}/{{item}} {{to}}/")
+    Count.same("odd names: nothing is lost or changed", contents(room), start)
+    room.says("what is no folder, file or link",
+              "mkfifo mnt/empty/pipe; contrib/from-folders mnt/*; status=$?; rm mnt/empty/pipe; exit $status",
+              "mnt/empty/pipe is neither a folder, a file nor a link", status=1)
+    room.good("folders", "mkdir found && contrib/from-folders --into found mnt/*")
+    Count.same("odd names: all is where it is to be, under the same names",
+               {item: disk for item, disk, _ in rows_of(room.read("found/now.csv"))}, next_)
 
 
 # Real file systems
@@ -474,19 +466,17 @@ def try_real_folders(room, loops):
             "disk b is not as --guard asks: mountpoint -q mnt/b: status 32\nrun-plan: nothing was begun")
     refused(room, "real disks, --mounted", "contrib/from-folders mnt/a mnt/b --mounted", "nothing is mounted at mnt/b")
     room.good("real disks", f"mount {loops['b']} mnt/b")
-    ran = room.run(f"{carry_out} plan.txt sh -c 'umount -l \"$1\" && cp -a \"$0\" \"$1\"/' {{from}}/{{item}} {{to}}")
-    Count.that("real disks, one is unmounted in the middle",
-               ran.returncode == 1 and "disk b is not as --guard asks" in ran.stderr and stand("a") == start
-               and len(stand("b")) == 1, ran)
+    room.says("real disks, one is unmounted in the middle",
+              f"{carry_out} plan.txt sh -c 'umount -l \"$1\" && cp -a \"$0\" \"$1\"/' {{from}}/{{item}} {{to}}",
+              "disk b is not as --guard asks", status=1)
+    Count.that("real disks, one is unmounted in the middle", stand("a") == start and len(stand("b")) == 1)
     room.good("real disks", f"rm mnt/b/item*; mount {loops['b']} mnt/b")
     Count.same("real disks, nothing came to the one that was unmounted", stand("b"), {})
     room.good("real disks", "head -c 5M /dev/zero >mnt/b/filler")
     refused(room, "real disks, one has too few bytes", "contrib/from-folders mnt/a mnt/b --empty a",
             "there is no room on mnt/b: 4500480 bytes are to come to it, and ")
-    ran = room.run(f"{carry_out} {copy}")
-    Count.that("real disks, one is full",
-               ran.returncode == 1 and "No space left on device" in ran.stderr
-               and {**stand("b"), **stand("a")} == start, ran)
+    room.says("real disks, one is full", f"{carry_out} {copy}", "No space left on device", status=1)
+    Count.that("real disks, one is full", {**stand("b"), **stand("a")} == start)
     room.good("real disks", "rm mnt/b/filler")
     room.good("real disks, the full one has room again", f"{carry_out} {copy}")
     Count.same("real disks, all is where it is to be", (stand("a"), stand("b")), ({}, start))

@@ -27,29 +27,28 @@ def windows():
         Count.same(f"--window '{text}' is none", found, None)
 
 
-def locked_out():
+def locked_out(room):
     """One at a time; who has ended keeps nobody away, who is there is taken over by force alone, and finds it out."""
-    with Room() as room:
-        store = locks.File(room.path("lock"))
-        one, two = locks.Lock(store, "one.sh"), locks.Lock(store, "two.sh")
-        one.take(False)
-        for name, what, said in (("a second one", lambda: two.take(False), f"one.sh, process {os.getpid()} of "),
-                                 ("force", lambda: two.take(True), ""),
-                                 ("the one before", one.check, "two.sh, process"),
-                                 ("the first again", lambda: one.take(False), "two.sh, process")):
-            try:
-                what()
-                Count.same(f"a lock: {name}", "", said)
-            except command.Wrong as why:
-                Count.that(f"a lock: {name}", said and str(why).startswith(said), why)
-        one.release()
-        Count.same("what another has is not released", store.get(), two.text)
-        two.release()
-        Count.same("what is released is gone", store.get(), "")
-        with subprocess.Popen(["true"]) as ended:
-            store.set(two.text.replace(f'"process": {os.getpid()}', f'"process": {ended.pid}'))
-        one.take(False)
-        Count.same("who has ended keeps nobody away", store.get(), one.text)
+    store = locks.File(room.path("lock"))
+    one, two = locks.Lock(store, "one.sh"), locks.Lock(store, "two.sh")
+    one.take(False)
+    for name, what, said in (("a second one", lambda: two.take(False), f"one.sh, process {os.getpid()} of "),
+                             ("force", lambda: two.take(True), ""),
+                             ("the one before", one.check, "two.sh, process"),
+                             ("the first again", lambda: one.take(False), "two.sh, process")):
+        try:
+            what()
+            Count.same(f"a lock: {name}", "", said)
+        except command.Wrong as why:
+            Count.that(f"a lock: {name}", said and str(why).startswith(said), why)
+    one.release()
+    Count.same("what another has is not released", store.get(), two.text)
+    two.release()
+    Count.same("what is released is gone", store.get(), "")
+    with subprocess.Popen(["true"]) as ended:
+        store.set(two.text.replace(f'"process": {os.getpid()}', f'"process": {ended.pid}'))
+    one.take(False)
+    Count.same("who has ended keeps nobody away", store.get(), one.text)
 
 
 CASES = (windows, locked_out)

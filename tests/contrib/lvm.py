@@ -135,29 +135,27 @@ def what_ran(room, name, printed):
     Count.same(f"{name}: one round after the other", ran, sorted(ran))
 
 
-def the_unit_of_lvm():
+def the_unit_of_lvm(room):
     """The unit that is chosen makes some hundred pvmoves at most, and goes below 16 extents only where the wish needs
     it."""
-    with Room() as room:
-        room.good("unit", "cp contrib/samples/lvm/*.json .")
+    room.good("unit", "cp contrib/samples/lvm/*.json .")
 
-        def chosen(wish, said):
-            room.says(f"the unit is told: {wish}", f"contrib/from-lvm lvs.json pvs.json {wish}", said)
-            room.planned(f"the unit of {wish}")
+    def chosen(wish, said):
+        room.says(f"the unit is told: {wish}", f"contrib/from-lvm lvs.json pvs.json {wish}", said)
+        room.planned(f"the unit of {wish}")
 
-        # 200 extents are 13 runs of 16 extents; the one from 96 on has two volumes
-        chosen("--empty loop0", "unit 16 extents: 19 items on 3 disks, 13 of them go to another disk, by 14 pvmoves")
-        # db ends at extent 99, and what follows is to stay: a run of 4 extents is the greatest that has db alone
-        chosen("--move db=loop1", "unit 4 extents: 73 items on 3 disks, 25 of them go to another disk, by 25 pvmoves")
-        room.write("pvs.json", page("contrib/samples/lvm/pvs.json").replace("255", "200000"))
-        rows = [{**json.loads(room.read("lvs.json"))["report"][0]["seg"][0], "lv_name": "huge",
-                 "seg_pe_ranges": "/dev/loop0:0-149999"}]
-        room.keep("lvs.json", {"report": [{"seg": rows}]})
-        # 150000 extents are 293 runs of 512, and 586 of 256
-        chosen("--empty loop0",
-               "unit 512 extents: 293 items on 3 disks, 293 of them go to another disk, by 293 pvmoves")
-        Count.same("its slots", room.read("disks.csv"), "disk,limit,slots\nloop0,1,390\nloop1,1,390\nloop2,1,390\n")
-        chosen("--spread", "unit 512 extents: 293 items on 3 disks, 195 of them go to another disk, by 195 pvmoves")
+    # 200 extents are 13 runs of 16 extents; the one from 96 on has two volumes
+    chosen("--empty loop0", "unit 16 extents: 19 items on 3 disks, 13 of them go to another disk, by 14 pvmoves")
+    # db ends at extent 99, and what follows is to stay: a run of 4 extents is the greatest that has db alone
+    chosen("--move db=loop1", "unit 4 extents: 73 items on 3 disks, 25 of them go to another disk, by 25 pvmoves")
+    room.write("pvs.json", page("contrib/samples/lvm/pvs.json").replace("255", "200000"))
+    rows = [{**json.loads(room.read("lvs.json"))["report"][0]["seg"][0], "lv_name": "huge",
+             "seg_pe_ranges": "/dev/loop0:0-149999"}]
+    room.keep("lvs.json", {"report": [{"seg": rows}]})
+    # 150000 extents are 293 runs of 512, and 586 of 256
+    chosen("--empty loop0", "unit 512 extents: 293 items on 3 disks, 293 of them go to another disk, by 293 pvmoves")
+    Count.same("its slots", room.read("disks.csv"), "disk,limit,slots\nloop0,1,390\nloop1,1,390\nloop2,1,390\n")
+    chosen("--spread", "unit 512 extents: 293 items on 3 disks, 195 of them go to another disk, by 195 pvmoves")
 
 
 def what_reports_know():
@@ -187,11 +185,12 @@ def what_reports_know():
                 "nothing can come to /dev/loop1, since LVM has it as not allocatable (pvchange -x y)")
     with Room() as room:
         room.good("along", "cp contrib/samples/lvm/parts/*.json .")
-        ran = room.run("contrib/from-lvm lvs.json pvs.json --move r_rimage_0=loop3 --unit 1")
+        room.says("a leg's metadata go along, and it is said",
+                  "contrib/from-lvm lvs.json pvs.json --move r_rimage_0=loop3 --unit 1",
+                  "from-lvm: r_rmeta_0 goes along with r_rimage_0\n")
         Count.that("a leg's metadata go along, and it is said",
-                   ran.returncode == 0 and "from-lvm: r_rmeta_0 goes along with r_rimage_0\n" in ran.stderr
-                   and {disk for item, disk in rows_of(room.read("next.csv")) if re.match(r"r_r(image|meta)_0\.",
-                       item)} == {"loop3"}, ran)
+                   {disk for item, disk in rows_of(room.read("next.csv")) if re.match(r"r_r(image|meta)_0\.", item)}
+                   == {"loop3"})
         ran = room.run("contrib/from-lvm lvs.json pvs.json --move r_rimage_0=loop3 --move r_rmeta_0=loop4 --unit 1")
         Count.that("where it is told it goes elsewhere",
                    "goes along" not in ran.stderr and dict(rows_of(room.read("next.csv")))["r_rmeta_0.0"] == "loop4",
@@ -262,9 +261,8 @@ def the_script_of_lvm():
             plan, rounds = shifts_of(room.read("plan.txt")), len(shifts_of(room.read("plan.txt")))
             for words, status, said in WORDS_OF_SCRIPTS:
                 words, said = (it.format(more=rounds + 1, rounds=rounds) for it in (words, said))
-                ran = room.run(f"sh moves.sh {words}")
-                Count.that(f"sh moves.sh {form} {words}",
-                           ran.returncode == status and said in ran.stderr and not ran.stdout, ran)
+                ran = room.says(f"sh moves.sh {form} {words}", f"sh moves.sh {words}", said, status=status)
+                Count.that(f"sh moves.sh {form} {words}", not ran.stdout, ran)
             room.write("state/fail-db-64", "")
             failing = next(at for at, round_ in enumerate(plan, 1) if any(it[1:3] == ["loop0", "2"] for it in round_))
             room.write("hook", 'echo "$@" >>told')
@@ -321,64 +319,64 @@ def the_script_of_lvm():
         room.says("what LVM does not say is no answer", "sh moves.sh", "does not say what it is asked for", status=1)
 
 
-def the_log_of_lvm():
+def the_log_of_lvm(room):
     """A pause, a window, an end by --until, and what progress reads of them in the log of a script of steps."""
-    with Room() as room:
-        room.good("log", "cp contrib/samples/lvm/*.json . && contrib/from-lvm lvs.json pvs.json --empty loop0 --limit "
-                         "2 --unit 32")
-        room.planned("log")
-        room.good("log", "contrib/to-lvm plan.txt names.csv --out moves.sh; mkdir bin/real; mv bin/pvmove bin/real/")
-        room.write("bin/pvmove", '#!/bin/sh\n[ ! -e end ] || echo 1773190000 >clock\n'
-                   'exec "${0%pvmove}real/pvmove" "$@"\n')
-        plan, hook = shifts_of(room.read("plan.txt")), "--hook 'sh hook'"
-        room.write("hook", 'echo "$@" >>told')
-        room.write("clock", "1773180000")  # 2026-03-10, a Tuesday
-        words, zone = "plan.txt --log log --names names.csv --json", "TZ=UTC CLOCK=clock"
-        look = lambda: json.loads(room.good("log", f"contrib/progress {words}"))
-        waits = ("(until grep -qs 'time .* paused' log || ! kill -0 $$; do sleep 0.1; done; touch over) >err 2>&1 & "
-                 "OVER=over")
-        room.good("log", "chmod +x bin/pvmove")
-        for name, first, more in (("a pause", "touch pause;", ""),
-                                  ("a window that is closed", "rm pause;", "--window 'mon,wed-sun 00:00-24:00'"),
-                                  ("two windows", "", "--window 20:00-21:59 --window 22:01-22:02")):
-            ran = room.run(f"rm -f log over; {first} {waits} {zone} sh moves.sh --until 06:00 {more} {hook} >log")
-            Count.that(f"{name}, up to --until", ran.returncode == 3 and "lvm-step: paused: " in ran.stderr
-                       and "ended before round 1, as --until says; begin again with: sh moves.sh 1" in ran.stderr
-                       and "round 1:" not in room.read("log"), ran)
-            found = look()
-            Count.same(f"{name}: nothing is done", (found["rounds_done"], found["items_done"], found["done"],
-                                                    found["seconds_left"]), (0, 0, False, None))
-        ran = room.run(f"rm -f pause over; touch end; {zone} sh moves.sh --until 22:30 {hook} >>log")
-        Count.that("an end after the first round", ran.returncode == 3 and "ended before round 2" in ran.stderr
-                   and "round 2:" not in room.read("log"), ran)
+    room.good("log", "cp contrib/samples/lvm/*.json . && contrib/from-lvm lvs.json pvs.json --empty loop0 --limit "
+                     "2 --unit 32")
+    room.planned("log")
+    room.good("log", "contrib/to-lvm plan.txt names.csv --out moves.sh; mkdir bin/real; mv bin/pvmove bin/real/")
+    room.write("bin/pvmove", '#!/bin/sh\n[ ! -e end ] || echo 1773190000 >clock\n'
+               'exec "${0%pvmove}real/pvmove" "$@"\n')
+    plan, hook = shifts_of(room.read("plan.txt")), "--hook 'sh hook'"
+    room.write("hook", 'echo "$@" >>told')
+    room.write("clock", "1773180000")  # 2026-03-10, a Tuesday
+    words, zone = "plan.txt --log log --names names.csv --json", "TZ=UTC CLOCK=clock"
+    look = lambda: json.loads(room.good("log", f"contrib/progress {words}"))
+    waits = ("(until grep -qs 'time .* paused' log || ! kill -0 $$; do sleep 0.1; done; touch over) >err 2>&1 & "
+             "OVER=over")
+    room.good("log", "chmod +x bin/pvmove")
+    for name, first, more in (("a pause", "touch pause;", ""),
+                              ("a window that is closed", "rm pause;", "--window 'mon,wed-sun 00:00-24:00'"),
+                              ("two windows", "", "--window 20:00-21:59 --window 22:01-22:02")):
+        room.says(f"{name}, up to --until",
+                  f"rm -f log over; {first} {waits} {zone} sh moves.sh --until 06:00 {more} {hook} >log",
+                  "lvm-step: paused: ", "ended before round 1, as --until says; begin again with: sh moves.sh 1",
+                  status=3)
+        Count.that(f"{name}, up to --until", "round 1:" not in room.read("log"))
         found = look()
-        Count.same("the first round is done", (found["rounds_done"], found["items_done"], found["done"]),
-                   (1, len(plan[0]), False))
-        room.good("the rest", f"rm -f end; echo 1773180000 >clock; {zone} sh moves.sh 2 --window 'tue 22:00-06:00' "
-                  f"{hook} >>log; tail -n 1 log | grep -qx 'all rounds are carried out'")
-        found = look()
-        Count.same("all is done", (found["rounds_done"], found["items_done"], found["done"]),
-                   (len(plan), sum(map(len, plan)), True))
-        Count.same("what the hook is told", collections.Counter(it.split()[0] for it in room.read("told").splitlines()),
-                   {"ended": 4, "done": 1})
+        Count.same(f"{name}: nothing is done", (found["rounds_done"], found["items_done"], found["done"],
+                                                found["seconds_left"]), (0, 0, False, None))
+    room.says("an end after the first round",
+              f"rm -f pause over; touch end; {zone} sh moves.sh --until 22:30 {hook} >>log", "ended before round 2",
+              status=3)
+    Count.that("an end after the first round", "round 2:" not in room.read("log"))
+    found = look()
+    Count.same("the first round is done", (found["rounds_done"], found["items_done"], found["done"]),
+               (1, len(plan[0]), False))
+    room.good("the rest", f"rm -f end; echo 1773180000 >clock; {zone} sh moves.sh 2 --window 'tue 22:00-06:00' "
+              f"{hook} >>log; tail -n 1 log | grep -qx 'all rounds are carried out'")
+    found = look()
+    Count.same("all is done", (found["rounds_done"], found["items_done"], found["done"]),
+               (len(plan), sum(map(len, plan)), True))
+    Count.same("what the hook is told", collections.Counter(it.split()[0] for it in room.read("told").splitlines()),
+               {"ended": 4, "done": 1})
 
 
-def the_summary_of_lvm():
+def the_summary_of_lvm(room):
     """A round of four items: three leave a, of two volumes, and one leaves b. So b's goes beside the first of a, and
     three steps are needed."""
-    with Room() as room:
-        room.write("names",
-                   "kind,name,device,extents\nunit,8,,\n" + "".join(f"disk,{it},/dev/{it},64\n" for it in "abc")
-                   + "item,x.0,/dev/a,x:0-7\nitem,x.1,/dev/a,x:8-9\n"
-                     "item,y.0,/dev/a,y:18-19 z:20-23\nitem,w.0,/dev/b,w:0-7\n")
-        room.write("p", plan_of("x.0 a 0 c 0, x.1 a 1 c 1, w.0 b 0 c 2", "y.0 a 2 b 1"))
-        lines = room.good("summary", "contrib/summary p --names names").splitlines()
-        Count.same("summary counts pvmoves and steps", lines[-1], "pvmoves 5, in 4 steps one after the other")
-        # 8, 2, 2 and 4 extents of 8 that take 8 s: 8 + 2 + 2 + 4 seconds
-        lines = room.good("summary", "contrib/summary p --names names --bytes 8M --rate 1M").splitlines()
-        Count.same("summary has the time of the steps", lines[-1], "time 16 s: 4 steps of at most 8 s each")
-        refused(room, "summary, names of another plan", "contrib/summary p --names contrib/samples/README.md",
-                "does not begin with the row kind,name,device,extents")
+    room.write("names",
+               "kind,name,device,extents\nunit,8,,\n" + "".join(f"disk,{it},/dev/{it},64\n" for it in "abc")
+               + "item,x.0,/dev/a,x:0-7\nitem,x.1,/dev/a,x:8-9\n"
+                 "item,y.0,/dev/a,y:18-19 z:20-23\nitem,w.0,/dev/b,w:0-7\n")
+    room.write("p", plan_of("x.0 a 0 c 0, x.1 a 1 c 1, w.0 b 0 c 2", "y.0 a 2 b 1"))
+    lines = room.good("summary", "contrib/summary p --names names").splitlines()
+    Count.same("summary counts pvmoves and steps", lines[-1], "pvmoves 5, in 4 steps one after the other")
+    # 8, 2, 2 and 4 extents of 8 that take 8 s: 8 + 2 + 2 + 4 seconds
+    lines = room.good("summary", "contrib/summary p --names names --bytes 8M --rate 1M").splitlines()
+    Count.same("summary has the time of the steps", lines[-1], "time 16 s: 4 steps of at most 8 s each")
+    refused(room, "summary, names of another plan", "contrib/summary p --names contrib/samples/README.md",
+            "does not begin with the row kind,name,device,extents")
 
 
 # The real tools

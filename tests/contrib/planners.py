@@ -75,8 +75,8 @@ def plans_of_lvm():
         for words, said, status in (("data --into p", "a wish is needed", 1),
                                     ("other --empty loop0 --into p", "lvs -a --segments", 1),
                                     ("data --empty loop0", "--into", 2)):
-            ran = room.run(f"contrib/plan-lvm {words}")
-            Count.that(f"plan-lvm {words}", ran.returncode == status and said in ran.stderr and not ran.stdout, ran)
+            ran = room.says(f"plan-lvm {words}", f"contrib/plan-lvm {words}", said, status=status)
+            Count.that(f"plan-lvm {words}", not ran.stdout, ran)
 
 
 def sorted_of(volumes):
@@ -97,8 +97,7 @@ def plans_of_folders():
     """The copy of an item fails, or what removes its source is cut off, in the middle; then back, and once more from
     the start."""
     for wish, stop in (("--empty mnt/a", "cp"), ("--empty mnt/a", "rm"), ("--empty mnt/a --limit 1,2", "none"),
-                       ("--empty mnt/a --unit 100K", "cp"),
-                       ("--empty mnt/a", "written")):
+                       ("--empty mnt/a --unit 100K", "cp"), ("--empty mnt/a", "written")):
         name = f"plan-folders {wish}, {stop}"
         with Room() as room:
             room.good(name, """mkdir -p mnt/a mnt/b mnt/c; for it in 1 2 3 4; do mkdir "mnt/a/it $it"

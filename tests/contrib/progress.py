@@ -76,88 +76,82 @@ def time_left():
                        (len(done), sum(sizes[it] for it in done), sum(sizes.values()), False, False))
 
 
-def a_real_run():
+def a_real_run(room):
     """A run of run-plan, whose copies take about as long as their bytes say by a clock of the test: looked at again and
     again."""
-    with Room() as room:
-        rnd, rounds = random.Random(5), [[[f"i{at}.{n}", f"s{n}", str(at), f"t{n}", str(at)] for n in range(2)]
-                                         for at in range(9)]
-        room.write("plan.txt", plan_text(rounds))
-        sizes = {it[0]: 200 + 100 * ((at * 5 + n) % 7) for at, round_ in enumerate(rounds) for n,
-                 it in enumerate(round_)}
-        room.write("bytes.csv", "item,bytes\n" + "".join(f"{item},{size}\n" for item, size in sizes.items()))
-        spans = simulated(None, rounds, {item: size * rnd.uniform(0.9, 1.1) for item, size in sizes.items()}, False)
-        whole, seen = max(end for _, end in spans.values()), []
+    rnd, rounds = random.Random(5), [[[f"i{at}.{n}", f"s{n}", str(at), f"t{n}", str(at)] for n in range(2)]
+                                     for at in range(9)]
+    room.write("plan.txt", plan_text(rounds))
+    sizes = {it[0]: 200 + 100 * ((at * 5 + n) % 7) for at, round_ in enumerate(rounds) for n, it in enumerate(round_)}
+    room.write("bytes.csv", "item,bytes\n" + "".join(f"{item},{size}\n" for item, size in sizes.items()))
+    spans = simulated(None, rounds, {item: size * rnd.uniform(0.9, 1.1) for item, size in sizes.items()}, False)
+    whole, seen = max(end for _, end in spans.values()), []
 
-        def look(now):
-            found = json.loads(room.good("a real run",
-                                         "CLOCK=clock contrib/progress plan.txt --json --sizes bytes.csv"))
-            seen.append(found)
-            # a source is removed after its round
-            done = [it[0] for round_ in rounds if all(spans[it[0]][1] <= now for it in round_) for it in round_]
-            left = whole - now
-            Count.that(f"a real run: the time left after {now / whole:.2f} of it",
-                       found["done"] or abs(found["seconds_left"] - left) <= left / 5, (found, left))
-            Count.same("a real run: what is done", (found["items_done"], found["bytes_done"]),
-                       (len(done), sum(sizes[it] for it in done)))
-            Count.that("a real run: its time", abs(found["seconds_at_work"] - now) < 0.1, found)
-            Count.that("a real run: who is at work", found["process"] is not None and not found["paused"], found)
+    def look(now):
+        found = json.loads(room.good("a real run", "CLOCK=clock contrib/progress plan.txt --json --sizes bytes.csv"))
+        seen.append(found)
+        # a source is removed after its round
+        done = [it[0] for round_ in rounds if all(spans[it[0]][1] <= now for it in round_) for it in round_]
+        left = whole - now
+        Count.that(f"a real run: the time left after {now / whole:.2f} of it",
+                   found["done"] or abs(found["seconds_left"] - left) <= left / 5, (found, left))
+        Count.same("a real run: what is done", (found["items_done"], found["bytes_done"]),
+                   (len(done), sum(sizes[it] for it in done)))
+        Count.that("a real run: its time", abs(found["seconds_at_work"] - now) < 0.1, found)
+        Count.that("a real run: who is at work", found["process"] is not None and not found["paused"], found)
 
-        status = carried_out(room, "--unverified --erase 'true {item}'", spans, look,
-                             [whole * part / 12 for part in (4, 5, 6, 8, 10)])
-        Count.same("a real run: it ends well, and was looked at", (status, len(seen)), (0, 5))
-        total = f"{sum(sizes.values()) / 1024:.1f} KiB"
-        Count.same("a real run: done", room.good("a real run", "contrib/progress plan.txt --sizes bytes.csv"),
-                   f"[{'#' * 30}] 9 of 9 rounds, 18 of 18 items, {total} of {total}, done\n")
+    status = carried_out(room, "--unverified --erase 'true {item}'", spans, look,
+                         [whole * part / 12 for part in (4, 5, 6, 8, 10)])
+    Count.same("a real run: it ends well, and was looked at", (status, len(seen)), (0, 5))
+    total = f"{sum(sizes.values()) / 1024:.1f} KiB"
+    Count.same("a real run: done", room.good("a real run", "contrib/progress plan.txt --sizes bytes.csv"),
+               f"[{'#' * 30}] 9 of 9 rounds, 18 of 18 items, {total} of {total}, done\n")
 
 
-def what_places_say():
+def what_places_say(room):
     """A place without times, one of another plan, one with copies whose sources still stand, a run that was killed."""
-    with Room() as room:
-        room.good("places", "cp examples/*.csv . && ./migrate plan disks.csv now.csv next.csv plan.txt cert.txt")
-        rounds, digest = shifts_of(room.read("plan.txt")), room.good("places", "sha256sum <plan.txt").split()[0]
-        head = f"plan {digest}\n"
-        copied = "".join(f"copied 1 {it[0]}\n" for it in rounds[0])
-        for name, place, times, wanted in (("without times", head + copied, "", " 1 of 3 rounds, 3 of 11 items, "),
-                                           ("a line that is cut off", head + copied[:-1], "",
-                                            " 0 of 3 rounds, 2 of 11 items, "),
-                                           ("one that counts no more",
-                                            head + copied + f"not copied 1 {rounds[0][0][0]}\n", "",
-                                            " 0 of 3 rounds, 2 of 11 items, "),
-                                           ("copied, and to be erased", head + copied,
-                                            "1700000000.5 begins copied,erased rounds\n",
-                                            " 0 of 3 rounds, 0 of 11 items, time left not known yet"),
-                                           ("erased", head + copied + copied.replace("copied", "erased"),
-                                            "1700000000.5 begins copied,erased rounds\n",
-                                            " 1 of 3 rounds, 3 of 11 items, "),
-                                           ("erasing without times", head + copied + f"erasing 1 {rounds[0][0][0]}\n",
-                                            "", " 0 of 3 rounds, 0 of 11 items, "),
-                                           ("times that are none", head + copied, "x\n\0\xff begins\n12 \n",
-                                            " 1 of 3 rounds, 3 of 11 items, ")):
-            room.write("plan.txt.place", place)
-            room.write("plan.txt.place.times", times)
-            said = room.good(f"places, {name}", "contrib/progress plan.txt")
-            Count.that(f"places, {name}", wanted in said and ", done" not in said and "nothing is at work here" in said,
-                       said)
-        # two runs: what lies between them doesn't count, and the time left goes by both
-        room.write("plan.txt.place", head + copied)
-        lines = [(0, "begins copied rounds"), *((0, f"copying 1 {it[0]}") for it in rounds[0]),
-                 *((100, f"copied 1 {it[0]}") for it in rounds[0]), (100, f"copying 2 {rounds[1][0][0]}"),
-                 (90000, "begins copied rounds"), (90000, f"copying 2 {rounds[1][0][0]}"), (90010, "ends")]
-        room.write("plan.txt.place.times", "".join(f"{1700000000 + at} {text}\n" for at, text in lines))
-        found = json.loads(room.good("places", "contrib/progress plan.txt --json"))
-        Count.same("two runs", (found["seconds_at_work"], found["seconds_left"], found["process"]),
-                   (110.0, 200.0, None))
-        room.write("other.txt", room.read("plan.txt").replace("db2 ssd1 1 ssd2 2", "db2 ssd1 1 ssd2 3"))
-        room.write("no", "item,bytes\ndb2,1\n")
-        room.write("bad", "item,bytes\ndb2,1.5\n")
-        for words, said, status in (("other.txt --place plan.txt.place", "keeps the place of another plan", 1),
-                                    ("plan.txt --log plan.txt", "is not the log of a script for this plan", 1),
-                                    ("plan.txt --sizes no", "no does not list", 1),
-                                    ("plan.txt --sizes bad", "bad row 1: ", 1),
-                                    ("plan.txt --names names.csv", "--names goes with --log", 2),
-                                    ("plan.txt --log a --place b", "name one", 2)):
-            refused(room, f"progress {words}", f"contrib/progress {words}", said, status)
+    room.example()
+    rounds, digest = shifts_of(room.read("plan.txt")), room.good("places", "sha256sum <plan.txt").split()[0]
+    head = f"plan {digest}\n"
+    copied = "".join(f"copied 1 {it[0]}\n" for it in rounds[0])
+    for name, place, times, wanted in (("without times", head + copied, "", " 1 of 3 rounds, 3 of 11 items, "),
+                                       ("a line that is cut off", head + copied[:-1], "",
+                                        " 0 of 3 rounds, 2 of 11 items, "),
+                                       ("one that counts no more", head + copied + f"not copied 1 {rounds[0][0][0]}\n",
+                                        "", " 0 of 3 rounds, 2 of 11 items, "),
+                                       ("copied, and to be erased", head + copied,
+                                        "1700000000.5 begins copied,erased rounds\n",
+                                        " 0 of 3 rounds, 0 of 11 items, time left not known yet"),
+                                       ("erased", head + copied + copied.replace("copied", "erased"),
+                                        "1700000000.5 begins copied,erased rounds\n",
+                                        " 1 of 3 rounds, 3 of 11 items, "),
+                                       ("erasing without times", head + copied + f"erasing 1 {rounds[0][0][0]}\n", "",
+                                        " 0 of 3 rounds, 0 of 11 items, "),
+                                       ("times that are none", head + copied, "x\n\0\xff begins\n12 \n",
+                                        " 1 of 3 rounds, 3 of 11 items, ")):
+        room.write("plan.txt.place", place)
+        room.write("plan.txt.place.times", times)
+        said = room.good(f"places, {name}", "contrib/progress plan.txt")
+        Count.that(f"places, {name}", wanted in said and ", done" not in said and "nothing is at work here" in said,
+                   said)
+    # two runs: what lies between them doesn't count, and the time left goes by both
+    room.write("plan.txt.place", head + copied)
+    lines = [(0, "begins copied rounds"), *((0, f"copying 1 {it[0]}") for it in rounds[0]),
+             *((100, f"copied 1 {it[0]}") for it in rounds[0]), (100, f"copying 2 {rounds[1][0][0]}"),
+             (90000, "begins copied rounds"), (90000, f"copying 2 {rounds[1][0][0]}"), (90010, "ends")]
+    room.write("plan.txt.place.times", "".join(f"{1700000000 + at} {text}\n" for at, text in lines))
+    found = json.loads(room.good("places", "contrib/progress plan.txt --json"))
+    Count.same("two runs", (found["seconds_at_work"], found["seconds_left"], found["process"]), (110.0, 200.0, None))
+    room.write("other.txt", room.read("plan.txt").replace("db2 ssd1 1 ssd2 2", "db2 ssd1 1 ssd2 3"))
+    room.write("no", "item,bytes\ndb2,1\n")
+    room.write("bad", "item,bytes\ndb2,1.5\n")
+    for words, said, status in (("other.txt --place plan.txt.place", "keeps the place of another plan", 1),
+                                ("plan.txt --log plan.txt", "is not the log of a script for this plan", 1),
+                                ("plan.txt --sizes no", "no does not list", 1),
+                                ("plan.txt --sizes bad", "bad row 1: ", 1),
+                                ("plan.txt --names names.csv", "--names goes with --log", 2),
+                                ("plan.txt --log a --place b", "name one", 2)):
+        refused(room, f"progress {words}", f"contrib/progress {words}", said, status)
 
 
 def what_is_measured():
@@ -187,171 +181,166 @@ def what_is_measured():
                 "--metrics goes neither with", 2)
 
 
-def hooks():
+def hooks(room):
     """What --hook is called with where a check fails, where run-plan stops, and where all is done."""
-    with Room() as room:
-        room.write("plan.txt", plan_of("x a 0 b 0"))
-        room.write("hook", 'echo "$1: $2" >>told; exit ${STATUS:-0}')
-        words = "--hook 'sh hook' --erase 'rm -rf mnt/{from}/{item}' plan.txt"
-        room.good("hooks", "mkdir -p mnt/a/x mnt/b; touch -d @5 mnt/a/x")
-        stopped = "stopped: plan.txt: stopped in round 1 of 1\n"
-        for name, command, status, wanted in (
-                ("a copy that lacks something", f"contrib/run-plan {words} cp -r mnt/{{from}}/{{item}} mnt/{{to}}/", 1,
-                 f"failed: plan.txt: not compared 1 x\n{stopped}"),
-                ("a guard", f"contrib/run-plan --guard 'test -e {{disk}}' {words} true {{item}}", 1,
-                 "failed: plan.txt: disk a is not as --guard asks\n"),
-                ("its time", f"OVER=hook contrib/run-plan {words} true {{item}}", 3,
-                 "ended: plan.txt: ended before round 1 of 1, as --until says\n"),
-                ("a hook that fails", f"STATUS=7 contrib/run-plan {words} cp -a mnt/{{from}}/{{item}} mnt/{{to}}/", 0,
-                 "done: plan.txt: all 1 rounds are carried out\n")):
-            ran = room.run(f"rm -f told; {command}")
-            Count.same(f"the hook, {name}", (ran.returncode, room.read("told")), (status, wanted))
-            Count.same(f"the hook's own status, {name}",
-                       "run-plan: --hook ended with status 7: sh hook\n" in ran.stderr, "7" in command)
+    room.write("plan.txt", plan_of("x a 0 b 0"))
+    room.write("hook", 'echo "$1: $2" >>told; exit ${STATUS:-0}')
+    words = "--hook 'sh hook' --erase 'rm -rf mnt/{from}/{item}' plan.txt"
+    room.good("hooks", "mkdir -p mnt/a/x mnt/b; touch -d @5 mnt/a/x")
+    stopped = "stopped: plan.txt: stopped in round 1 of 1\n"
+    for name, command, status, wanted in (
+            ("a copy that lacks something", f"contrib/run-plan {words} cp -r mnt/{{from}}/{{item}} mnt/{{to}}/", 1,
+             f"failed: plan.txt: not compared 1 x\n{stopped}"),
+            ("a guard", f"contrib/run-plan --guard 'test -e {{disk}}' {words} true {{item}}", 1,
+             "failed: plan.txt: disk a is not as --guard asks\n"),
+            ("its time", f"OVER=hook contrib/run-plan {words} true {{item}}", 3,
+             "ended: plan.txt: ended before round 1 of 1, as --until says\n"),
+            ("a hook that fails", f"STATUS=7 contrib/run-plan {words} cp -a mnt/{{from}}/{{item}} mnt/{{to}}/", 0,
+             "done: plan.txt: all 1 rounds are carried out\n")):
+        ran = room.run(f"rm -f told; {command}")
+        Count.same(f"the hook, {name}", (ran.returncode, room.read("told")), (status, wanted))
+        Count.same(f"the hook's own status, {name}",
+                   "run-plan: --hook ended with status 7: sh hook\n" in ran.stderr, "7" in command)
 
 
 # Pauses
 
-def pauses():
-    with Room() as room:
-        room.good("pauses", "cp examples/*.csv . && ./migrate plan disks.csv now.csv next.csv plan.txt cert.txt")
-        rounds = shifts_of(room.read("plan.txt"))
-        first, all_ = {it[0] for it in rounds[0]}, {it[0] for round_ in rounds for it in round_}
-        # each other copy ends after the first one, so that not all have begun by then
-        room.write("job",
-                   "#!/bin/sh\necho begin $1 $2 >>log\n[ $1 = copy ] && [ -e stop-$2 ] && touch $(cat stop-$2)\n"
-                   f"until [ $1-$2 = copy-{rounds[0][0][0]} ] || grep -qx 'end copy {rounds[0][0][0]}' log || [ ! -e "
-                   f"job ]; do sleep 0.1; done\necho end $1 $2 >>log\n")
-        for eager in ("", "--eager disks.csv"):
-            words = (f"{eager} --unverified --verify 'sh job verify {{item}}' --erase 'sh job erase {{item}}' "
-                     "plan.txt sh job copy {item}")
-            stop = f"stop-{rounds[0][0][0]}"
-            room.good("pauses", f"rm -f log notes pause over plan.txt.place*; echo pause >{stop}")
-            ran = room.begin(f"exec alone/run-plan {words} >said 2>notes")
-            until(lambda: "paused" in (room.read("notes") or ""), "a pause")
-            until(lambda: room.read("log").count("begin copy ") == room.read("log").count("end erase "),
-                  "what is under way to end")
-            time.sleep(0.5)
-            log = [it.split() for it in room.read("log").splitlines()]
-            begun = {item for what, kind, item in log if (what, kind) == ("begin", "copy")}
-            Count.that(f"a pause, {eager or 'rounds'}: nothing begins",
-                       begun < all_ and (eager or begun == first) and ran.poll() is None, log)
-            found = json.loads(room.good("pauses", "contrib/progress plan.txt --json"))
-            Count.that(f"a pause, {eager or 'rounds'}: progress says so", found["paused"] and not found["done"], found)
-            if not eager:
-                Count.same("a pause between rounds: the round is whole", collections.Counter(map(tuple, log)),
-                           collections.Counter((what, kind, it) for it in first for kind in ("copy", "verify", "erase")
-                                               for what in ("begin", "end")))
-            os.unlink(room.path("pause"))
-            Count.same(f"a pause that is over, {eager or 'rounds'}",
-                       (ran.wait(LIMIT), room.read("said").splitlines()[-1]), (0, "all 3 rounds are carried out"))
-            # its time comes in the first round: what began is ended, and the status is not 0
-            room.good("until", f"rm -f log pause plan.txt.place*; echo over >{stop}")
-            ended = room.run(f"OVER=over contrib/run-plan {words}")
-            log = [it.split() for it in room.read("log").splitlines()]
-            Count.that(f"--until, {eager or 'rounds'}",
-                       ended.returncode == 3 and "as --until says; begin again with the same words" in ended.stderr
-                       and "all" not in ended.stdout.splitlines()[-1:], ended)
-            Count.that(f"--until, {eager or 'rounds'}: what began is whole",
-                       log and all(collections.Counter(item for *_, item in log)[item] == 6 for *_, item in log), log)
-            room.good("until", f"rm {stop} over")
-            Count.that(f"--until, {eager or 'rounds'}: the rest",
-                       room.good("until", f"contrib/run-plan {words}").endswith("all 3 rounds are carried out\n"))
-            Count.same(f"--until, {eager or 'rounds'}: each once", collections.Counter(room.read("log").splitlines()),
-                       collections.Counter(f"{what} {kind} {it}" for it in all_ for kind in ("copy", "verify", "erase")
+def pauses(room):
+    room.example()
+    rounds = shifts_of(room.read("plan.txt"))
+    first, all_ = {it[0] for it in rounds[0]}, {it[0] for round_ in rounds for it in round_}
+    # each other copy ends after the first one, so that not all have begun by then
+    room.write("job",
+               "#!/bin/sh\necho begin $1 $2 >>log\n[ $1 = copy ] && [ -e stop-$2 ] && touch $(cat stop-$2)\n"
+               f"until [ $1-$2 = copy-{rounds[0][0][0]} ] || grep -qx 'end copy {rounds[0][0][0]}' log || [ ! -e "
+               f"job ]; do sleep 0.1; done\necho end $1 $2 >>log\n")
+    for eager in ("", "--eager disks.csv"):
+        words = (f"{eager} --unverified --verify 'sh job verify {{item}}' --erase 'sh job erase {{item}}' "
+                 "plan.txt sh job copy {item}")
+        stop = f"stop-{rounds[0][0][0]}"
+        room.good("pauses", f"rm -f log notes pause over plan.txt.place*; echo pause >{stop}")
+        ran = room.begin(f"exec alone/run-plan {words} >said 2>notes")
+        until(lambda: "paused" in (room.read("notes") or ""), "a pause")
+        until(lambda: room.read("log").count("begin copy ") == room.read("log").count("end erase "),
+              "what is under way to end")
+        time.sleep(0.5)
+        log = [it.split() for it in room.read("log").splitlines()]
+        begun = {item for what, kind, item in log if (what, kind) == ("begin", "copy")}
+        Count.that(f"a pause, {eager or 'rounds'}: nothing begins",
+                   begun < all_ and (eager or begun == first) and ran.poll() is None, log)
+        found = json.loads(room.good("pauses", "contrib/progress plan.txt --json"))
+        Count.that(f"a pause, {eager or 'rounds'}: progress says so", found["paused"] and not found["done"], found)
+        if not eager:
+            Count.same("a pause between rounds: the round is whole", collections.Counter(map(tuple, log)),
+                       collections.Counter((what, kind, it) for it in first for kind in ("copy", "verify", "erase")
                                            for what in ("begin", "end")))
-            Count.same(f"--until, when all is done, {eager or 'rounds'}",
-                       room.run(f"touch over; OVER=over contrib/run-plan {words}").returncode, 0)
-            # a copy that fails while its time has come is a failure, and not an end by --until
-            room.good("until", "rm -f log over plan.txt.place*")
-            room.says(f"--until and a failure, {eager or 'rounds'}",
-                      f"OVER=over contrib/run-plan {eager} plan.txt sh -c 'touch over; sleep 0.3; test $1 != "
-                      f"{rounds[0][0][0]}' sh {{item}}", "not copied", status=1)
-            # stopped while it is paused
-            room.good("pauses", "rm -f log notes over plan.txt.place*; touch pause")
-            ran = room.begin(f"exec alone/run-plan {words} >said 2>notes")
-            until(lambda: "paused" in (room.read("notes") or ""), "a pause")
-            ran.terminate()
-            Count.that(f"a pause that is stopped, {eager or 'rounds'}",
-                       ran.wait(LIMIT) == 130 and room.read("log") is None
-                       and "begin again with the same words" in room.read("notes"), room.read("notes"))
-            ended = room.run(f"rm notes; (until grep -qs paused notes || ! kill -0 $$; do sleep 0.1; done; touch over) "
-                             f"& OVER=over contrib/run-plan {words} 2>notes")
-            Count.that(f"a pause up to --until, {eager or 'rounds'}",
-                       ended.returncode == 3 and room.read("log") is None, ended)
-        refused(room, "--until of no time", "contrib/run-plan --until 25:00 plan.txt true {item}", "--until", 2)
+        os.unlink(room.path("pause"))
+        Count.same(f"a pause that is over, {eager or 'rounds'}",
+                   (ran.wait(LIMIT), room.read("said").splitlines()[-1]), (0, "all 3 rounds are carried out"))
+        # its time comes in the first round: what began is ended, and the status is not 0
+        room.good("until", f"rm -f log pause plan.txt.place*; echo over >{stop}")
+        ended = room.run(f"OVER=over contrib/run-plan {words}")
+        log = [it.split() for it in room.read("log").splitlines()]
+        Count.that(f"--until, {eager or 'rounds'}",
+                   ended.returncode == 3 and "as --until says; begin again with the same words" in ended.stderr
+                   and "all" not in ended.stdout.splitlines()[-1:], ended)
+        Count.that(f"--until, {eager or 'rounds'}: what began is whole",
+                   log and all(collections.Counter(item for *_, item in log)[item] == 6 for *_, item in log), log)
+        room.good("until", f"rm {stop} over")
+        Count.that(f"--until, {eager or 'rounds'}: the rest",
+                   room.good("until", f"contrib/run-plan {words}").endswith("all 3 rounds are carried out\n"))
+        Count.same(f"--until, {eager or 'rounds'}: each once", collections.Counter(room.read("log").splitlines()),
+                   collections.Counter(f"{what} {kind} {it}" for it in all_ for kind in ("copy", "verify", "erase")
+                                       for what in ("begin", "end")))
+        Count.same(f"--until, when all is done, {eager or 'rounds'}",
+                   room.run(f"touch over; OVER=over contrib/run-plan {words}").returncode, 0)
+        # a copy that fails while its time has come is a failure, and not an end by --until
+        room.good("until", "rm -f log over plan.txt.place*")
+        room.says(f"--until and a failure, {eager or 'rounds'}",
+                  f"OVER=over contrib/run-plan {eager} plan.txt sh -c 'touch over; sleep 0.3; test $1 != "
+                  f"{rounds[0][0][0]}' sh {{item}}", "not copied", status=1)
+        # stopped while it is paused
+        room.good("pauses", "rm -f log notes over plan.txt.place*; touch pause")
+        ran = room.begin(f"exec alone/run-plan {words} >said 2>notes")
+        until(lambda: "paused" in (room.read("notes") or ""), "a pause")
+        ran.terminate()
+        Count.that(f"a pause that is stopped, {eager or 'rounds'}",
+                   ran.wait(LIMIT) == 130 and room.read("log") is None
+                   and "begin again with the same words" in room.read("notes"), room.read("notes"))
+        ended = room.run(f"rm notes; (until grep -qs paused notes || ! kill -0 $$; do sleep 0.1; done; touch over) "
+                         f"& OVER=over contrib/run-plan {words} 2>notes")
+        Count.that(f"a pause up to --until, {eager or 'rounds'}",
+                   ended.returncode == 3 and room.read("log") is None, ended)
+    refused(room, "--until of no time", "contrib/run-plan --until 25:00 plan.txt true {item}", "--until", 2)
 
 
 # the time of --until has come once the file `over` is there
 DATE = "#!/bin/sh\n[ \"$1\" = -d ] && echo 5000000000 || { [ -e over ] && echo 5000000001; } || exec /bin/date \"$@\"\n"
 
 
-def logs():
+def logs(room):
     """The scripts of to-lvm and to-ceph: a pause, an end by --until, and what progress reads in their logs."""
-    with Room() as room:
-        room.write("bin/date", DATE)
-        room.good("logs", "chmod +x bin/date; cp contrib/samples/lvm/*.json . && contrib/from-lvm lvs.json pvs.json "
-                          "--empty /dev/loop0 --limit 2 --unit 32 && ./migrate plan disks.csv now.csv next.csv "
-                          "plan.txt cert.txt && contrib/to-lvm plan.txt names.csv --plain --out moves.sh")
-        room.good("logs",
-                  "mkdir ceph && cd ceph && S=../contrib/samples/ceph && ../contrib/from-ceph $S/before $S/after "
-                  "$S/dump $S/crush --backfills 2 && ../migrate plan disks.csv now.csv next.csv plan.txt cert.txt && "
-                  "../contrib/to-ceph plan.txt $S/before $S/after $S/dump $S/crush --plain --out upmaps.sh")
-        refused(room, "no log yet", "contrib/progress plan.txt --log moves.sh",
-                "is not the log of a script for this plan")
-        for folder, script, names in (".", "moves.sh", "--names ../names.csv"), ("ceph", "upmaps.sh", ""):
-            plan, words = (shifts_of(room.read(f"{folder}/plan.txt")),
-                           f"plan.txt --log log --json --sizes bytes.csv {names.replace('../', '')}")
-            room.write(f"{folder}/bytes.csv",
-                       "item,bytes\n"
-                       + "".join(f"{it[0]},{at + 1}\n" for at, it in enumerate(it for round_ in plan for it in round_)))
-            at = "cd " + folder + " && "
-            look = at + ("contrib" if folder == "." else "../contrib") + f"/progress {words}"
-            count = sum(map(len, plan))
-            # paused before the first round, up to its time
-            ran = room.run(f"{at}touch pause; (until grep -qs paused log; do sleep 0.1; done; touch over) & sh "
-                           f"{script} --until 06:00 >log; echo $?; rm pause over")
-            Count.that(f"{script}: a pause up to --until",
-                       ran.stdout == "3\n" and "paused before round 1" in ran.stderr
-                       and f"begin again with: sh {script} 1" in ran.stderr
-                       and "round 1:" not in room.read(f"{folder}/log"), ran)
-            found = json.loads(room.good(script, look))
-            Count.same(f"{script}: nothing is done",
-                       (found["rounds_done"], found["items_done"], found["done"], found["seconds_left"]),
-                       (0, 0, False, None))
-            # its time comes in the first round
-            ran = room.run(f"{at}sed 's/^if begins 2; then/touch over; if begins 2; then/' {script} >half.sh; sh "
-                           f"half.sh --until 06:00 >>log; echo $?; rm -f over")
-            found = json.loads(room.good(script, look))
-            Count.that(f"{script}: an end after the first round",
-                       ran.stdout == "3\n" and "round 2:" not in room.read(f"{folder}/log"), ran)
-            Count.same(f"{script}: the first round is done",
-                       (found["rounds_done"], found["items_done"], found["bytes_done"], found["done"]),
-                       (1, len(plan[0]), sum(range(len(plan[0]) + 1)), False))
-            if names:
-                Count.that(f"{script}: the rest",
-                           room.good(script, f"{at}sh {script} 2 >>log; tail -n 1 log")
-                           == "all rounds are carried out\n")
-            else:  # what it prints is made here: a run of all takes its time
-                digest = room.good(script, f"{at}sha256sum <plan.txt").split()[0]
-                rest = "".join(f"time {int(time.time())} round {it}\nround {it}: 0 of 2 groups are clean where they "
-                               f"are to be\nround {it}: 2 of 2 groups are clean where they are to be\n"
-                               for it in range(2, len(plan) + 1))
-                room.write(f"{folder}/log",
-                           f"{room.read(f'{folder}/log')}time {int(time.time())} begins {digest}\n{rest}all rounds are "
-                           f"carried out\n")
-            found = json.loads(room.good(script, look))
-            Count.same(f"{script}: all is done", (found["rounds_done"], found["items_done"], found["done"]),
-                       (len(plan), count, True))
-            # a log that begins in the middle says what it saw
-            if names:
-                found = json.loads(room.good(script, f"{at}sh {script} {len(plan)} >log; {look.removeprefix(at)}"))
-                Count.same(f"{script}: a log of the last round",
-                           (found["done"], found["rounds_done"], found["items_done"]), (False, 1, len(plan[-1])))
-            for word in ("6", "24:00", "06:60", ""):
-                ran = room.run(f"{at}sh {script} --until '{word}'")
-                Count.that(f"{script} --until '{word}'", ran.returncode == 2 and not ran.stdout, ran)
-            room.says(f"{script} --until alone", f"{at}sh {script} --until", "is no time of day", status=2)
+    room.write("bin/date", DATE)
+    room.good("logs", "chmod +x bin/date; cp contrib/samples/lvm/*.json . && contrib/from-lvm lvs.json pvs.json "
+                      "--empty /dev/loop0 --limit 2 --unit 32 && ./migrate plan disks.csv now.csv next.csv "
+                      "plan.txt cert.txt && contrib/to-lvm plan.txt names.csv --plain --out moves.sh")
+    room.good("logs",
+              "mkdir ceph && cd ceph && S=../contrib/samples/ceph && ../contrib/from-ceph $S/before $S/after "
+              "$S/dump $S/crush --backfills 2 && ../migrate plan disks.csv now.csv next.csv plan.txt cert.txt && "
+              "../contrib/to-ceph plan.txt $S/before $S/after $S/dump $S/crush --plain --out upmaps.sh")
+    refused(room, "no log yet", "contrib/progress plan.txt --log moves.sh", "is not the log of a script for this plan")
+    for folder, script, names in (".", "moves.sh", "--names ../names.csv"), ("ceph", "upmaps.sh", ""):
+        plan, words = (shifts_of(room.read(f"{folder}/plan.txt")),
+                       f"plan.txt --log log --json --sizes bytes.csv {names.replace('../', '')}")
+        room.write(f"{folder}/bytes.csv",
+                   "item,bytes\n"
+                   + "".join(f"{it[0]},{at + 1}\n" for at, it in enumerate(it for round_ in plan for it in round_)))
+        at = "cd " + folder + " && "
+        look = at + ("contrib" if folder == "." else "../contrib") + f"/progress {words}"
+        count = sum(map(len, plan))
+        # paused before the first round, up to its time
+        ran = room.run(f"{at}touch pause; (until grep -qs paused log; do sleep 0.1; done; touch over) & sh "
+                       f"{script} --until 06:00 >log; echo $?; rm pause over")
+        Count.that(f"{script}: a pause up to --until",
+                   ran.stdout == "3\n" and "paused before round 1" in ran.stderr
+                   and f"begin again with: sh {script} 1" in ran.stderr
+                   and "round 1:" not in room.read(f"{folder}/log"), ran)
+        found = json.loads(room.good(script, look))
+        Count.same(f"{script}: nothing is done",
+                   (found["rounds_done"], found["items_done"], found["done"], found["seconds_left"]),
+                   (0, 0, False, None))
+        # its time comes in the first round
+        ran = room.run(f"{at}sed 's/^if begins 2; then/touch over; if begins 2; then/' {script} >half.sh; sh "
+                       f"half.sh --until 06:00 >>log; echo $?; rm -f over")
+        found = json.loads(room.good(script, look))
+        Count.that(f"{script}: an end after the first round",
+                   ran.stdout == "3\n" and "round 2:" not in room.read(f"{folder}/log"), ran)
+        Count.same(f"{script}: the first round is done",
+                   (found["rounds_done"], found["items_done"], found["bytes_done"], found["done"]),
+                   (1, len(plan[0]), sum(range(len(plan[0]) + 1)), False))
+        if names:
+            Count.that(f"{script}: the rest",
+                       room.good(script, f"{at}sh {script} 2 >>log; tail -n 1 log") == "all rounds are carried out\n")
+        else:  # what it prints is made here: a run of all takes its time
+            digest = room.good(script, f"{at}sha256sum <plan.txt").split()[0]
+            rest = "".join(f"time {int(time.time())} round {it}\nround {it}: 0 of 2 groups are clean where they "
+                           f"are to be\nround {it}: 2 of 2 groups are clean where they are to be\n"
+                           for it in range(2, len(plan) + 1))
+            room.write(f"{folder}/log",
+                       f"{room.read(f'{folder}/log')}time {int(time.time())} begins {digest}\n{rest}all rounds are "
+                       f"carried out\n")
+        found = json.loads(room.good(script, look))
+        Count.same(f"{script}: all is done", (found["rounds_done"], found["items_done"], found["done"]),
+                   (len(plan), count, True))
+        # a log that begins in the middle says what it saw
+        if names:
+            found = json.loads(room.good(script, f"{at}sh {script} {len(plan)} >log; {look.removeprefix(at)}"))
+            Count.same(f"{script}: a log of the last round",
+                       (found["done"], found["rounds_done"], found["items_done"]), (False, 1, len(plan[-1])))
+        for word in ("6", "24:00", "06:60", ""):
+            ran = room.run(f"{at}sh {script} --until '{word}'")
+            Count.that(f"{script} --until '{word}'", ran.returncode == 2 and not ran.stdout, ran)
+        room.says(f"{script} --until alone", f"{at}sh {script} --until", "is no time of day", status=2)
 
 
 # Sizes

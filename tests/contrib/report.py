@@ -60,64 +60,61 @@ def judge(room, name):
     return found
 
 
-def the_report():
-    with Room() as room:
-        room.good("report", "cp examples/*.csv . && ./migrate plan disks.csv now.csv next.csv plan.txt cert.txt")
-        found = judge(room, "report, the README's plan")
-        Count.that("its bound",
-                   found.has("11 transfers in 3 rounds on 6 disks",
-                             "Why no schedule is shorter hdd1 takes part in 5 transfers, in at most 2 at once. That "
-                             "needs 3 rounds: 5 / 2, rounded up. The plan has 3. No schedule is shorter."), found.told)
-        Count.that("its busiest disks",
-                   found.has("hdd1523", "tape313", "ssd1441") and not re.search(r"and \d+ more", found.told),
-                   found.told)
-        room.good("report", f"contrib/report {FILES} --out page.html")
-        Count.same("--out saves the same", room.read("page.html"), room.good("report", f"contrib/report {FILES}"))
-        for words, said in cases(f"""
-                plan.txt disks.csv examples/next.csv cert.txt | does not begin with the row item,disk,slot
-                plan.txt disks.csv now.csv plan.txt | plan.txt is no certificate
-                plan.txt disks.csv later.csv cert.txt | is not at slot 0 of hdd2 by later.csv; it is of another plan
-                plan.txt disks.csv now.csv other.txt | other.txt is the certificate of another plan
-                {FILES} --out plan.txt | plan.txt was read, and is not written over"""):
-            room.write("later.csv",
-                       "item,disk,slot\n"
-                       + "".join(f"{item},{disk},{int(slot) + 1}\n" for item, disk,
-                                 slot in rows_of(room.read("now.csv")) if disk != "tape"))
-            room.write("other.txt", room.read("cert.txt").replace("rounds 3", "rounds 4"))
-            refused(room, "report", f"contrib/report {words}", said)
-        # a set, of which a better bound is found; and nothing to move
-        write_case(room, [1] * 7, [(a, b) for a in range(5) for b in range(a)] * 6 + [(4, 5), (5, 6), (6, 0)])
-        room.good("report", "./migrate plan disks.csv now.csv next.csv plan.txt cert.txt")
-        Count.that("a bound that is less",
-                   judge(room, "report, bounded").has("How short a schedule can be",
-                                                      "No schedule has fewer than 25 rounds. Whether one has fewer "
-                                                      "than 30 is not known; contrib/witness looks"))
-        room.good("report",
-                  "contrib/witness plan.txt disks.csv cert.txt --seconds 1e9 --out best.txt && mv best.txt cert.txt")
-        Count.that("a set",
-                   judge(room, "report, a set").has("Among 5 disks are 60 transfers.",
-                                                    "together they have 5 places in a round, so at most 2 of these "
-                                                    "transfers can run at once. That needs 30 rounds",
-                                                    "No schedule is shorter.", "d0 d1 d2 d3 d4"))
-        room.good("report",
-                  "cut -d, -f1,2 now.csv >next.csv; ./migrate plan disks.csv now.csv next.csv plan.txt cert.txt")
-        found = Page(room.good("report", f"contrib/report {FILES}"))
-        Count.that("nothing to move",
-                   found.has("0 transfers in 0 rounds on 7 disks", "Nothing is to be moved.")
-                   and found.data["rounds"] == [], found.told)
-        # both kinds of limits
-        for seed in range(4):
-            made_case(room, random.Random(seed), is_split=seed % 2 == 1)
-            case = Case(room.read)
-            room.planned(f"report, made case {seed}")
-            if case.is_split:
-                bound = case.bound()
-                told = {"out": f"{bound.load} transfers leave {bound.disk}, at most {bound.limit} at once.",
-                        "in": f"{bound.load} transfers reach {bound.disk}, at most {bound.limit} at once."}[bound.way]
-                Count.that(f"report, made case {seed}: its side", judge(room, f"report, made case {seed}").has(told),
-                           told)
-            else:
-                judge(room, f"report, made case {seed}")
+def the_report(room):
+    room.example()
+    found = judge(room, "report, the README's plan")
+    Count.that("its bound",
+               found.has("11 transfers in 3 rounds on 6 disks",
+                         "Why no schedule is shorter hdd1 takes part in 5 transfers, in at most 2 at once. That "
+                         "needs 3 rounds: 5 / 2, rounded up. The plan has 3. No schedule is shorter."), found.told)
+    Count.that("its busiest disks",
+               found.has("hdd1523", "tape313", "ssd1441") and not re.search(r"and \d+ more", found.told),
+               found.told)
+    room.good("report", f"contrib/report {FILES} --out page.html")
+    Count.same("--out saves the same", room.read("page.html"), room.good("report", f"contrib/report {FILES}"))
+    for words, said in cases(f"""
+            plan.txt disks.csv examples/next.csv cert.txt | does not begin with the row item,disk,slot
+            plan.txt disks.csv now.csv plan.txt | plan.txt is no certificate
+            plan.txt disks.csv later.csv cert.txt | is not at slot 0 of hdd2 by later.csv; it is of another plan
+            plan.txt disks.csv now.csv other.txt | other.txt is the certificate of another plan
+            {FILES} --out plan.txt | plan.txt was read, and is not written over"""):
+        room.write("later.csv",
+                   "item,disk,slot\n"
+                   + "".join(f"{item},{disk},{int(slot) + 1}\n" for item, disk,
+                             slot in rows_of(room.read("now.csv")) if disk != "tape"))
+        room.write("other.txt", room.read("cert.txt").replace("rounds 3", "rounds 4"))
+        refused(room, "report", f"contrib/report {words}", said)
+    # a set, of which a better bound is found; and nothing to move
+    write_case(room, [1] * 7, [(a, b) for a in range(5) for b in range(a)] * 6 + [(4, 5), (5, 6), (6, 0)])
+    room.good("report", "./migrate plan disks.csv now.csv next.csv plan.txt cert.txt")
+    Count.that("a bound that is less",
+               judge(room, "report, bounded").has("How short a schedule can be",
+                                                  "No schedule has fewer than 25 rounds. Whether one has fewer "
+                                                  "than 30 is not known; contrib/witness looks"))
+    room.good("report",
+              "contrib/witness plan.txt disks.csv cert.txt --seconds 1e9 --out best.txt && mv best.txt cert.txt")
+    Count.that("a set",
+               judge(room, "report, a set").has("Among 5 disks are 60 transfers.",
+                                                "together they have 5 places in a round, so at most 2 of these "
+                                                "transfers can run at once. That needs 30 rounds",
+                                                "No schedule is shorter.", "d0 d1 d2 d3 d4"))
+    room.good("report", "cut -d, -f1,2 now.csv >next.csv; ./migrate plan disks.csv now.csv next.csv plan.txt cert.txt")
+    found = Page(room.good("report", f"contrib/report {FILES}"))
+    Count.that("nothing to move",
+               found.has("0 transfers in 0 rounds on 7 disks", "Nothing is to be moved.")
+               and found.data["rounds"] == [], found.told)
+    # both kinds of limits
+    for seed in range(4):
+        made_case(room, random.Random(seed), is_split=seed % 2 == 1)
+        case = Case(room.read)
+        room.planned(f"report, made case {seed}")
+        if case.is_split:
+            bound = case.bound()
+            told = {"out": f"{bound.load} transfers leave {bound.disk}, at most {bound.limit} at once.",
+                    "in": f"{bound.load} transfers reach {bound.disk}, at most {bound.limit} at once."}[bound.way]
+            Count.that(f"report, made case {seed}: its side", judge(room, f"report, made case {seed}").has(told), told)
+        else:
+            judge(room, f"report, made case {seed}")
 
 
 ROWS = """[...document.querySelectorAll("#rows tbody tr")].map(it => [0, 1, 2].map(at => it.cells[at].textContent))"""

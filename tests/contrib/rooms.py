@@ -122,6 +122,10 @@ class Room:
                    ran.returncode == status and all(it in ran.stdout + ran.stderr for it in texts), (texts, ran))
         return ran
 
+    def example(self):
+        """Plans the README's example here."""
+        self.good("example", "cp examples/*.csv . && ./migrate plan disks.csv now.csv next.csv plan.txt cert.txt")
+
     def planned(self, name):
         """Plans, checks and follows the three files; gives the last layout: item, disk and slot. A plan for two limits
         of each disk is always optimal, and counted again by limits_model.py."""
@@ -131,8 +135,7 @@ class Room:
         Count.that(f"{name}: the verdict", verdict == "optimal\n" or verdict == "bounded\n" and not case.is_split,
                    verdict)
         if case.is_split:
-            Count.same(f"{name}: what the plan misses",
-                                     misses(case, self.read("plan.txt"), self.read("cert.txt")), {})
+            Count.same(f"{name}: what the plan misses", misses(case, self.read("plan.txt"), self.read("cert.txt")), {})
         last = self.good(name, "./migrate after disks.csv now.csv next.csv plan.txt")
         return {item: (disk, int(slot)) for item, disk, slot in list(csv.reader(last.splitlines()))[1:]}
 

@@ -36,53 +36,51 @@ def full_group(room):
 SWAP = "--move db=b --move web=a"
 
 
-def tight_lvm():
-    with Room() as room:
-        devices, volumes = full_group(room)
-        room.says("the form for tight space", f"contrib/from-lvm lvs.json pvs.json {SWAP} --unit 16",
-                  "/dev/b would need 8 slots for old and incoming items together, and has 4: the form to use is "
-                  "`migrate plan-tight`")
-        room.says("`plan` has no room", "./migrate plan disks.csv now.csv next.csv plan.txt cert.txt",
-                  "no room on a, needs 8, has 4", status=3)
-        carry_out(room, "tight", SWAP, 16, volumes, devices, lambda: room.state("lvm.json")["volumes"],
-                  Room.planned_tight)
-        wanted, parked = room.state("lvm.json")["volumes"], [
-            it for it in sum(shifts_of(room.read("plan.txt")), []) if it[3] == "c"]
-        Count.same("one item is parked", len(parked), 1)
-        Count.same("db is on b, and web on a", {it[0] for it in wanted["db"]} | {it[0] + "!" for it in wanted["web"]},
-                   {"/dev/b", "/dev/a!"})
+def tight_lvm(room):
+    devices, volumes = full_group(room)
+    room.says("the form for tight space", f"contrib/from-lvm lvs.json pvs.json {SWAP} --unit 16",
+              "/dev/b would need 8 slots for old and incoming items together, and has 4: the form to use is "
+              "`migrate plan-tight`")
+    room.says("`plan` has no room", "./migrate plan disks.csv now.csv next.csv plan.txt cert.txt",
+              "no room on a, needs 8, has 4", status=3)
+    carry_out(room, "tight", SWAP, 16, volumes, devices, lambda: room.state("lvm.json")["volumes"], Room.planned_tight)
+    wanted, parked = room.state("lvm.json")["volumes"], [
+        it for it in sum(shifts_of(room.read("plan.txt")), []) if it[3] == "c"]
+    Count.same("one item is parked", len(parked), 1)
+    Count.same("db is on b, and web on a", {it[0] for it in wanted["db"]} | {it[0] + "!" for it in wanted["web"]},
+               {"/dev/b", "/dev/a!"})
+    full_group(room)
+    room.good("tight", f"sh moves.sh {len(shifts_of(room.read('plan.txt')))}")
+    Count.same("tight, begun at the last round: each is looked at", room.state("lvm.json")["volumes"], wanted)
+    # it is begun again from each place where it stops, as a whole
+    commands = [line.split() for line in room.good("tight", "sh moves.sh -n").splitlines() if line[0] != "#"]
+    for at, words in list(enumerate(commands, 1))[::4]:  # `made_tight` has each of them
         full_group(room)
-        room.good("tight", f"sh moves.sh {len(shifts_of(room.read('plan.txt')))}")
-        Count.same("tight, begun at the last round: each is looked at", room.state("lvm.json")["volumes"], wanted)
-        # it is begun again from each place where it stops, as a whole
-        commands = [line.split() for line in room.good("tight", "sh moves.sh -n").splitlines() if line[0] != "#"]
-        for at, words in list(enumerate(commands, 1))[::4]:  # `made_tight` has each of them
-            full_group(room)
-            volume, first = words[4], re.search(r":(\d+)-", words[5])[1]
-            room.write(f"state/fail-{volume}-{first}", "")
-            failed = room.run("sh moves.sh")
-            again = room.run("sh moves.sh")
-            Count.that(f"tight, stopped at {words}",
-                       failed.returncode == 1 and "stopped in round" in failed.stderr and again.returncode == 0
-                       and "all rounds" in again.stdout, (failed, again))
-            Count.same(f"tight, begun again after {words}", room.state("lvm.json")["volumes"], wanted)
-        full_group(room)
-        room.good("tight", f"sh moves.sh {len(commands)}")
-        Count.same("tight, begun at the last round all are carried out", room.state("lvm.json")["volumes"], wanted)
-        # what the log says of it
-        full_group(room)
-        room.good("tight", "sh moves.sh >moves.log; sh moves.sh >again.log")
-        Count.that("what has gone on is passed over",
-                   f"is past {parked[0][3].replace('c', '/dev/c')}:16-31, at /dev/b:" in room.read("again.log"),
-                   room.read("again.log"))
-        for log in ("moves.log", "again.log"):
-            room.says(f"progress by {log}", f"contrib/progress plan.txt --log {log} --names names.csv",
-                      f"{len(commands)} of {len(commands)} rounds, {len(commands)} of {len(commands)} transfers, done")
-        # with the log of a run that stopped before the end the later transfer to a slot isn't taken for done
-        part = room.read("moves.log").split("time ")
-        room.write("part.log", "time ".join(part[: len(commands) // 2]))
-        said = json.loads(room.good("tight", "contrib/progress plan.txt --log part.log --names names.csv --json"))
-        Count.that("progress of a part", 0 < said["items_done"] < len(commands) and said["parked"] == 1, said)
+        volume, first = words[4], re.search(r":(\d+)-", words[5])[1]
+        room.write(f"state/fail-{volume}-{first}", "")
+        failed = room.run("sh moves.sh")
+        again = room.run("sh moves.sh")
+        Count.that(f"tight, stopped at {words}",
+                   failed.returncode == 1 and "stopped in round" in failed.stderr and again.returncode == 0
+                   and "all rounds" in again.stdout, (failed, again))
+        Count.same(f"tight, begun again after {words}", room.state("lvm.json")["volumes"], wanted)
+    full_group(room)
+    room.good("tight", f"sh moves.sh {len(commands)}")
+    Count.same("tight, begun at the last round all are carried out", room.state("lvm.json")["volumes"], wanted)
+    # what the log says of it
+    full_group(room)
+    room.good("tight", "sh moves.sh >moves.log; sh moves.sh >again.log")
+    Count.that("what has gone on is passed over",
+               f"is past {parked[0][3].replace('c', '/dev/c')}:16-31, at /dev/b:" in room.read("again.log"),
+               room.read("again.log"))
+    for log in ("moves.log", "again.log"):
+        room.says(f"progress by {log}", f"contrib/progress plan.txt --log {log} --names names.csv",
+                  f"{len(commands)} of {len(commands)} rounds, {len(commands)} of {len(commands)} transfers, done")
+    # with the log of a run that stopped before the end the later transfer to a slot isn't taken for done
+    part = room.read("moves.log").split("time ")
+    room.write("part.log", "time ".join(part[: len(commands) // 2]))
+    said = json.loads(room.good("tight", "contrib/progress plan.txt --log part.log --names names.csv --json"))
+    Count.that("progress of a part", 0 < said["items_done"] < len(commands) and said["parked"] == 1, said)
 
 
 def parked_of_lvm():
