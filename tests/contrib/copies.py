@@ -25,7 +25,7 @@ def disk_at(room, name, image, kind="ext4"):
 
 @contextlib.contextmanager
 def disks_of(room, kinds):
-    """The disks a, b, .. of these kinds; folders where nothing can be mounted."""
+    """The disks a, b, .. of these kinds, and their loop devices; folders, and none, where nothing can be mounted."""
     loops, names = [], "abc"[:len(kinds)]
     can = not os.geteuid() and shutil.which("losetup") and all(shutil.which(f"mkfs.{it}") for it in kinds)
     room.good("disks", f"mkdir -p {' '.join(f'mnt/{it}' for it in names)}; rm -f bin/mount bin/umount bin/mountpoint")
@@ -34,7 +34,7 @@ def disks_of(room, kinds):
     try:
         for name, kind in zip(names, kinds if can else ()):
             loops.append(disk_at(room, name, f"state/{name}.img", kind))
-        yield
+        yield loops
     finally:
         room.run("umount -l mnt/*")
         for loop in filter(None, loops):
@@ -83,7 +83,7 @@ LACKS = [("rm -r sub/empty", "mnt/a/x/sub/empty has no copy"),
           "mnt/b/x/holes has fewer holes"), ("cd ..; rm -r x", "mnt/b/x cannot be read: No such file or directory")]
 WHOLE = ["cp -a {from} {to}", "rsync -aHAXS --numeric-ids {from} {to}"]
 LOSSY = ["cp -r {from} {to}", "cp -dR --preserve=mode,ownership,timestamps,links {from} {to}", "rsync -a {from} {to}",
-         "rsync -aHAX {from} {to}"]
+         "rsync -aHAX {from} {to}", "rclone copy -q --links --metadata {from} {to}{{item}}"]
 
 
 def what_a_copy_lacks(room):
@@ -102,7 +102,7 @@ def what_a_copy_lacks(room):
                 room.says(f"a copy that lacks something: {spoil}",
                           f"rm -rf mnt/b/x; {RUN} sh copy {{item}}; rm plan.txt.place", said, "not compared 1 x: ",
                           "stopped in round 1 of 1")
-        for copy in LOSSY if not missing else ():
+        for copy in (it for it in LOSSY if not missing and shutil.which(it.split()[0])):
             words = copy.format(**{"from": "mnt/{from}/{item}", "to": "mnt/{to}/"})
             ran = room.run(f"rm -rf mnt/b/x; {RUN} {words}; echo $?; rm plan.txt.place")
             Count.that(f"a command that loses something: {copy}",
@@ -383,6 +383,38 @@ def power_cuts():
                 return
 
 
+# what copies, and what removes, x or y in two steps; after each the disks are as a power cut would leave them
+SNAP = "to=cuts/$(ls cuts | wc -l); mkdir $to; cp state/?.img $to/"
+STEPS = {"snap": SNAP,
+         "copy": "mkdir -p $2/$3; cp -a $1/one $2/$3/; sync -f $2; sh snap; cp -a $1 $2/; sh snap",
+         "erase": "rm $1/one; sync -f $1; sh snap; rm -r $1; sh snap"}
+
+
+def power_cuts_on_disks(room):
+    """The same over loop devices: what they hold before, within and after each command is what a power cut leaves.
+    There each file system repairs itself, the same words go on, and each item ends whole and nowhere else."""
+    two_items(room)
+    words = "--jobs 1 --place mnt/c/place --erase 'rm -rf mnt/{from}/{item}' plan.txt cp -a mnt/{from}/{item} mnt/{to}/"
+    cut = words.replace("cp -a mnt/{from}/{item} mnt/{to}/", "sh copy mnt/{from}/{item} mnt/{to} {item}").replace(
+        "rm -rf", "sh erase")
+    with disks_of(room, ("ext4", "ext4", "ext4")) as loops:
+        if not loops:
+            return
+        for name, text in STEPS.items():
+            room.write(name, text)
+        room.good("cuts", f"mkdir cuts; cp -a kept/x mnt/a/; cp -a kept/y mnt/b/; sync; contrib/run-plan --guard 'sh "
+                          f"snap {{disk}}' {cut} && umount -l mnt/*")
+        states = {room.good("cuts", f"cat cuts/{it}/*.img | cksum"): it
+                  for it in sorted(os.listdir(room.path("cuts")), key=int)}
+        Count.that("a power cut has many ends", len(states) > 9, len(states))
+        for cut in states.values():
+            ran = room.run(f"for it in a b c; do mount -o loop cuts/{cut}/$it.img mnt/$it || exit 9; done; "
+                           f"contrib/run-plan {words}; status=$?; diff -r kept/x mnt/b/x && diff -r kept/y mnt/a/y "
+                           "&& ls mnt/a mnt/b; umount -l mnt/*; exit $status")
+            Count.that(f"a power cut over disks, {cut}", ran.returncode == 0 and ran.stdout.endswith(
+                "mnt/a:\nlost+found\ny\n\nmnt/b:\nlost+found\nx\n"), ran)
+
+
 def half_erased():
     """What removes a source is cut off half way through, by an error or with run-plan itself: no later run copies what
     is left over the whole one."""
@@ -404,4 +436,4 @@ def half_erased():
 
 
 CASES = (what_a_copy_lacks, nothing_more, a_source_that_changes, links_and_pipes, order_of_a_move, power_cuts,
-         half_erased)
+         power_cuts_on_disks, half_erased)

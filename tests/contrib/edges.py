@@ -198,17 +198,17 @@ def kept_apart():
         return pvmoves.Pvmove("i", volume, source, first, first + 3, "/dev/z", 0, [])
 
     steps = pvmoves.apart([move("x", "/dev/a", 0), move("x", "/dev/b", 0), move("y", "/dev/b", 4),
-                           move("y", "/dev/c", 4)])
+                           move("y", "/dev/c", 4), move("z", "/dev/a", 8)])
     Count.same("no step moves a volume twice, or from a device twice",
                [[(it.volume, it.source[-1]) for it in step] for step in steps],
-               [[("x", "a"), ("y", "b")], [("x", "b"), ("y", "c")]])
+               [[("x", "a"), ("y", "b")], [("x", "b"), ("y", "c"), ("z", "a")]])
     told = []
     with mock.patch.multiple(lvm_step.Round, begin=lambda self,
                              it: not told.append(f"begin {it.volume} {it.source[-1]}"),
                              ends=lambda self, it, going: not told.append(f"end {it.volume} {it.source[-1]}")):
         lvm_step.Round(1).run(sum(steps, []))
     Count.same("a step ends before the next one begins", told, [
-        f"{what} {it}" for step in (("x a", "y b"), ("x b", "y c")) for what in ("begin", "end") for it in step])
+        f"{what} {it}" for step in (("x a", "y b"), ("x b", "y c", "z a")) for what in ("begin", "end") for it in step])
     Count.same("two legs that change places meet in between", items.meeting([("r", 0, "a", "b"), ("r", 1, "b", "a")]),
                ("r", 0, "a", "b"))
     Count.same("what follows a leg that leaves meets it in between",
