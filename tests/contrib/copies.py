@@ -4,7 +4,7 @@ import contextlib, itertools, os, re, shutil, socket, struct, subprocess, time
 from unittest import mock
 from migrate_tools.run import compare
 from limits_model import plan_text
-from rooms import Count, Room, plan_of, refused
+from rooms import Room, plan_of, refused, same, that
 from waiting import until
 
 ONE = plan_of("x a 0 b 0")
@@ -105,12 +105,12 @@ def what_a_copy_lacks(room):
         for copy in (it for it in LOSSY if not missing and shutil.which(it.split()[0])):
             words = copy.format(**{"from": "mnt/{from}/{item}", "to": "mnt/{to}/"})
             ran = room.run(f"rm -rf mnt/b/x; {RUN} {words}; echo $?; rm plan.txt.place")
-            Count.that(f"a command that loses something: {copy}",
-                       ran.stdout.endswith("\n1\n") and "not compared 1 x: " in ran.stderr, ran)
-        Count.same("nothing of the source was touched", compare.state_of(compare.tree_of(room.path("mnt/a"))), start)
+            that(f"a command that loses something: {copy}",
+                 ran.stdout.endswith("\n1\n") and "not compared 1 x: " in ran.stderr, ran)
+        same("nothing of the source was touched", compare.state_of(compare.tree_of(room.path("mnt/a"))), start)
         ran = room.run(f"rm -rf mnt/b/x; {RUN.replace(' --', ' --unverified --')} sh -c 'mkdir -p $1' sh "
                        f"mnt/{{to}}/{{item}}; rm plan.txt.place; ls mnt/a")
-        Count.that("--unverified looks at nothing", ran.returncode == 0 and "x" not in ran.stdout.split(), ran)
+        that("--unverified looks at nothing", ran.returncode == 0 and "x" not in ran.stdout.split(), ran)
         make_all_kinds(room)
         room.good("the item, kept", "mkdir kept && cp -a mnt/a/x kept/")
         # from each kind of file system to each other one, by the commands that the pages name
@@ -120,15 +120,15 @@ def what_a_copy_lacks(room):
             room.write("plan.txt", plan_text([[["x", one, "0", two, "0"]]]))
             words = copy.format(**{"from": "mnt/{from}/{item}", "to": "mnt/{to}/"})
             room.good("whole copies", f"rm -f plan.txt.place; {RUN} {words}")
-            Count.same(f"{copy}, {one} to {two}: all is there",
-                       (os.listdir(room.path("mnt/b")).count("x"), os.path.lexists(room.path(f"mnt/{one}/x"))),
-                       (int(two == "b"), False))
+            same(f"{copy}, {one} to {two}: all is there",
+                 (os.listdir(room.path("mnt/b")).count("x"), os.path.lexists(room.path(f"mnt/{one}/x"))),
+                 (int(two == "b"), False))
             try:
                 compare.compare(room.path("kept/x"), room.path(f"mnt/{two}/x"))
                 why = ""
             except compare.Wrong as wrong:
                 why = str(wrong)
-            Count.same(f"{copy}, {one} to {two}: nothing is lacking", why, "")
+            same(f"{copy}, {one} to {two}: nothing is lacking", why, "")
 
 
 def a_source_that_changes():
@@ -145,13 +145,13 @@ def a_source_that_changes():
                                 f"{{ touch done; cd mnt/a/x && {how}; }}")
             ran = room.run(f"{RUN.replace(' --', ' --guard ' + chr(39) + 'sh guard {disk}' + chr(39) + ' --', 1)} cp "
                            f"-a mnt/{{from}}/{{item}} mnt/{{to}}/")
-            Count.that(f"a source that changes before its erase: {name}",
-                       ran.returncode == 1 and "was changed since its copy was compared: stop what writes there"
-                       in ran.stderr and "not erased 1 x: mnt/a/x"
-                       in ran.stderr and os.path.exists(room.path("mnt/a/x")), (ran, room.read("looks")))
+            that(f"a source that changes before its erase: {name}",
+                 ran.returncode == 1 and "was changed since its copy was compared: stop what writes there" in ran.stderr
+                     and "not erased 1 x: mnt/a/x" in ran.stderr and os.path.exists(room.path("mnt/a/x")),
+                 (ran, room.read("looks")))
             lines = room.read("plan.txt.place").splitlines()
-            Count.that(f"the place never said that it is being removed: {name}",
-                       "erasing 1 x" not in lines and lines[-2:] == ["not copied 1 x", "not erasing 1 x"], lines)
+            that(f"the place never said that it is being removed: {name}",
+                 "erasing 1 x" not in lines and lines[-2:] == ["not copied 1 x", "not erasing 1 x"], lines)
             with contextlib.chdir(room.at):
                 room.good(name, "rm -rf mnt/?/*; mkdir -p mnt/a/x/sub; cd mnt/a/x; echo 1 >one; echo 2 >two; echo 3 "
                                 ">sub/three; cd ../../..; cp -a mnt/a/x mnt/b/")
@@ -167,8 +167,8 @@ def a_source_that_changes():
                         said = compare.compare("mnt/a/x", "mnt/b/x")
                     except compare.Wrong as wrong:
                         said = str(wrong)
-                Count.that(f"a source that changes while it is compared: {name}",
-                           "mnt/a/x" in said and " " in said and not said[0].isdigit(), said)
+                that(f"a source that changes while it is compared: {name}",
+                     "mnt/a/x" in said and " " in said and not said[0].isdigit(), said)
     with Room() as room, contextlib.chdir(room.at):  # as it begins: all is as before, and only newer
         room.good("as it begins", "mkdir -p mnt/a/x; echo 1 >mnt/a/x/one; cp -a mnt/a mnt/b")
         until(lambda: time.clock_gettime_ns(compare.COARSE) > os.stat("mnt/a/x").st_ctime_ns,
@@ -185,7 +185,7 @@ def a_source_that_changes():
                 said = compare.compare("mnt/a/x", "mnt/b/x")
             except compare.Wrong as wrong:
                 said = str(wrong)
-        Count.that("a source that changes as the comparison begins", said.startswith("mnt/a/x/one was changed"), said)
+        that("a source that changes as the comparison begins", said.startswith("mnt/a/x/one was changed"), said)
 
 
 def nothing_more(room):
@@ -198,7 +198,7 @@ def nothing_more(room):
         room.says(f"nothing more is removed {eager}",
                   f"rm -rf mnt/b/* plan.txt.place*; contrib/run-plan {eager} --jobs 1 --erase 'rm -rf "
                   f"mnt/{{from}}/{{item}}' plan.txt {copy}", "not compared 1 x: mnt/b/x has another time", status=1)
-        Count.that(f"nothing more is removed {eager}", sorted(os.listdir(room.path("mnt/a"))) == ["x", "y"])
+        that(f"nothing more is removed {eager}", sorted(os.listdir(room.path("mnt/a"))) == ["x", "y"])
 
 
 def links_and_pipes(room):
@@ -208,10 +208,10 @@ def links_and_pipes(room):
     for wish in ("--empty a", "--move mnt/a/x=b"):
         refused(room, "a hard link between two items", f"contrib/from-folders mnt/* {wish}", said)
     ran = room.run("mkfifo mnt/a/z/pipe; contrib/from-folders mnt/* --spread --slots 9")
-    Count.that("they stay, and it is said", ran.returncode == 0 and all(it in ran.stderr for it in (
+    that("they stay, and it is said", ran.returncode == 0 and all(it in ran.stderr for it in (
         "mnt/a/x stays where it is: mnt/a/x/one has", "mnt/a/y stays where it is: mnt/a/y/two has",
         "mnt/a/z/pipe is a fifo, a socket or a device")), ran)
-    Count.same("those that share no file may go", room.read("next.csv"), "item,disk\nx,a\ny,a\nz,b\n")
+    same("those that share no file may go", room.read("next.csv"), "item,disk\nx,a\ny,a\nz,b\n")
     room.planned("links")
     room.good("what has a fifo goes", "contrib/run-plan --names names.csv --erase 'rm -rf {from}/{item}' plan.txt "
                                       "cp -a {from}/{item} {to}/")
@@ -219,7 +219,7 @@ def links_and_pipes(room):
     room.says("run-plan does not break a hard link either",
               f"rm plan.txt.place; {RUN} cp -a mnt/{{from}}/{{item}} mnt/{{to}}/",
               "mnt/a/x/one has another name outside of mnt/a/x, a hard link", status=1)
-    Count.that("run-plan does not break a hard link either", os.path.exists(room.path("mnt/a/x/one")))
+    that("run-plan does not break a hard link either", os.path.exists(room.path("mnt/a/x/one")))
 
 
 # Calls, and power cuts
@@ -236,7 +236,7 @@ def record_of(room, words):
     env = {**room.env, "PATH": f"/usr/bin:{room.env['PATH']}"}
     ran = subprocess.run(["strace", "-f", "-y", "-s", "99", "-o", log, "-e", f"trace={','.join(CHANGES)}",
                           "alone/run-plan", *words], cwd=room.at, env=env, capture_output=True, text=True, check=False)
-    Count.that("a run under strace", ran.returncode == 0, ran)
+    that("a run under strace", ran.returncode == 0, ran)
     top = os.path.realpath(room.at)
     with open(log, errors="replace") as file:
         calls = [it.groups() for it in map(CALL.match, file) if it]
@@ -306,10 +306,10 @@ def order_of_a_move():
                                f"place {'copied' if kind == 'copy' else 'erased'} {number} {item}",
                                "fsync plan.txt.place"]
             found = order_of(events, "xy")
-            Count.same(f"the order of a move, {name}", found[3:], wanted)
-            Count.same(f"the place has its name before anything is copied, {name}",
-                       ([it.split()[:2] for it in found[:1]], found[1:3]),
-                       ([["place", "plan"]], ["fsync plan.txt.place", "fsync ."]))
+            same(f"the order of a move, {name}", found[3:], wanted)
+            same(f"the place has its name before anything is copied, {name}",
+                 ([it.split()[:2] for it in found[:1]], found[1:3]),
+                 ([["place", "plan"]], ["fsync plan.txt.place", "fsync ."]))
 
 
 def worlds(events, moves):
@@ -371,13 +371,13 @@ def power_cuts():
         events = record_of(room, ["--erase", "rm -rf mnt/{from}/{item}", "plan.txt", "cp", "-a", "mnt/{from}/{item}",
                                   "mnt/{to}/"])
         found, _ = worlds(events, moves)
-        Count.that("a power cut has many ends", len(found) > 20, len(found))
+        that("a power cut has many ends", len(found) > 20, len(found))
         for (text, *states), cut in found.items():
             put_world(room, moves, text, states)
             ran = room.run(f"{RUN} cp -a mnt/{{from}}/{{item}} mnt/{{to}}/")
             stands = {f"{disk}/{item}": room.run(f"diff -r kept/{item} mnt/{disk}/{item}").returncode
                       for item in "xy" for disk in "ab"}
-            if not Count.that(f"a power cut after {events[cut - 1] if cut else 'nothing'}",
+            if not that(f"a power cut after {events[cut - 1] if cut else 'nothing'}",
                               ran.returncode == 0 and stands == {"b/x": 0, "a/x": 2, "a/y": 0, "b/y": 2},
                               (text, states, ran, stands)):
                 return
@@ -406,13 +406,13 @@ def power_cuts_on_disks(room):
                           f"snap {{disk}}' {cut} && umount -l mnt/*")
         states = {room.good("cuts", f"cat cuts/{it}/*.img | cksum"): it
                   for it in sorted(os.listdir(room.path("cuts")), key=int)}
-        Count.that("a power cut has many ends", len(states) > 9, len(states))
+        that("a power cut has many ends", len(states) > 9, len(states))
         for cut in states.values():
             ran = room.run(f"for it in a b c; do mount -o loop cuts/{cut}/$it.img mnt/$it || exit 9; done; "
                            f"contrib/run-plan {words}; status=$?; diff -r kept/x mnt/b/x && diff -r kept/y mnt/a/y "
                            "&& ls mnt/a mnt/b; umount -l mnt/*; exit $status")
-            Count.that(f"a power cut over disks, {cut}", ran.returncode == 0 and ran.stdout.endswith(
-                "mnt/a:\nlost+found\ny\n\nmnt/b:\nlost+found\nx\n"), ran)
+            that(f"a power cut over disks, {cut}",
+                 ran.returncode == 0 and ran.stdout.endswith("mnt/a:\nlost+found\ny\n\nmnt/b:\nlost+found\nx\n"), ran)
 
 
 def half_erased():
@@ -427,12 +427,12 @@ def half_erased():
             room.write("copy", "echo copy >>log; rm -rf mnt/b/x; cp -a $1 mnt/b/")
             words = "--erase 'sh erase mnt/{from}/{item}' plan.txt sh copy mnt/{from}/{item}"
             ran = room.run(f"alone/run-plan {words}")
-            Count.that(f"half erased, {how}: it stops", ran.returncode == (1 if how == "exit 1" else -9), ran)
-            Count.that(f"half erased, {how}: the place says so",
-                       room.read("plan.txt.place").endswith("\nerasing 1 x\n"), room.read("plan.txt.place"))
+            that(f"half erased, {how}: it stops", ran.returncode == (1 if how == "exit 1" else -9), ran)
+            that(f"half erased, {how}: the place says so", room.read("plan.txt.place").endswith("\nerasing 1 x\n"),
+                 room.read("plan.txt.place"))
             room.good(f"half erased, {how}", f"contrib/run-plan {words}; diff -r kept mnt/b/x")
-            Count.same(f"half erased, {how}: it was copied once, and is gone",
-                       (room.read("log"), os.path.exists(room.path("mnt/a/x"))), ("copy\n", False))
+            same(f"half erased, {how}: it was copied once, and is gone",
+                 (room.read("log"), os.path.exists(room.path("mnt/a/x"))), ("copy\n", False))
 
 
 CASES = (what_a_copy_lacks, nothing_more, a_source_that_changes, links_and_pipes, order_of_a_move, power_cuts,

@@ -2,7 +2,7 @@
 copies that are wrong; over folders, and over real file systems where this is root and there are loop devices."""
 import collections, os, random, shutil, signal, subprocess, time
 from copies import disk_at
-from rooms import Count, Room, cases, refused, rows_of, shifts_of
+from rooms import Room, cases, refused, same, that
 from waiting import LIMIT, until
 
 MOUNT = """
@@ -23,13 +23,13 @@ def tree(room):
         for name in names if folder.count("/") > room.path("mnt/disk").count("/") else ():
             disk, item = folder.split("/")[-2:]
             with open(f"{folder}/{name}", encoding="ascii") as file:
-                Count.same(f"the contents of {item}", file.read(), f"{item}\n")
+                same(f"the contents of {item}", file.read(), f"{item}\n")
             found.setdefault(item, set()).add(disk)
     return found
 
 
 def wanted_of(room):
-    return {item: {disk} for item, disk in rows_of(room.read("next.csv"))}
+    return {item: {disk} for item, disk in room.rows("next.csv")}
 
 
 def wait_for(room, name):
@@ -47,7 +47,7 @@ def at_rest(run):
 
 def the_runner(room):
     room.good("run-plan", MOUNT)
-    start, rounds, wanted = tree(room), shifts_of(room.read("plan.txt")), wanted_of(room)
+    start, rounds, wanted = tree(room), room.shifts(), wanted_of(room)
     words = f"{GUARD} {VERIFY} {ERASE} plan.txt {COPY}"
     lines = ["# guard",
              *(f"test -e mnt/{it}/.here"
@@ -56,12 +56,11 @@ def the_runner(room):
         lines += [f"# round {at}, copy", *(f"cp -a mnt/{it[1]}/{it[0]} mnt/{it[3]}/" for it in shifts)]
         lines += [f"# round {at}, verify", *(f"diff -r mnt/{it[1]}/{it[0]} mnt/{it[3]}/{it[0]}" for it in shifts)]
         lines += [f"# round {at}, erase", *(f"rm -rf mnt/{it[1]}/{it[0]}" for it in shifts)]
-    Count.same("run-plan --dry-run", room.good("run-plan", f"contrib/run-plan --dry-run {words}"),
-               "\n".join([*lines, ""]))
+    same("run-plan --dry-run", room.good("run-plan", f"contrib/run-plan --dry-run {words}"), "\n".join([*lines, ""]))
     big = room.run(f"contrib/run-plan --dry-run plan.txt sh -c {'x' * 100000} {{item}} | head -n 1; echo "
                    f"${{PIPESTATUS[0]}}")
-    Count.same("--dry-run, whose reader goes early", (big.stdout, big.stderr), ("# round 1, copy\n0\n", ""))
-    Count.that("--dry-run does nothing", tree(room) == start and room.read("plan.txt.place") is None)
+    same("--dry-run, whose reader goes early", (big.stdout, big.stderr), ("# round 1, copy\n0\n", ""))
+    that("--dry-run does nothing", tree(room) == start and room.read("plan.txt.place") is None)
     # the second round's first source is away: the others go on, and the place is kept
     item, source = rounds[1][0][:2]
     room.good("run-plan", f"mv mnt/{source}/{item} away")
@@ -69,15 +68,15 @@ def the_runner(room):
               f"not copied 2 {item}: status 1: cp -a mnt/{source}/{item}", "stopped in round 2 of 3", status=1)
     found = tree(room)
     for name, *_, target, _ in rounds[0]:
-        Count.same(f"round 1 is done: {name}", found[name], {target})
+        same(f"round 1 is done: {name}", found[name], {target})
     for name, old, _, target, _ in rounds[1][1:]:
-        Count.same(f"round 2, the others: {name}", found[name], {old, target})
+        same(f"round 2, the others: {name}", found[name], {old, target})
     room.good("run-plan", f"mv away mnt/{source}/{item}")
     ran = room.run(f"contrib/run-plan {words}")
-    Count.that("it goes on there", ran.returncode == 0 and ran.stdout.startswith("round 2 of 3: 1 to be copied\n"), ran)
-    Count.same("all is where it is to be", tree(room), wanted)
+    that("it goes on there", ran.returncode == 0 and ran.stdout.startswith("round 2 of 3: 1 to be copied\n"), ran)
+    same("all is where it is to be", tree(room), wanted)
     ran = room.run(f"contrib/run-plan {words}")
-    Count.same("once more", (ran.returncode, ran.stdout), (0, "all 3 rounds are carried out\n"))
+    same("once more", (ran.returncode, ran.stdout), (0, "all 3 rounds are carried out\n"))
     room.good("run-plan, a disk that is no folder here",
               "sleep 0.2 & exec alone/run-plan --place other plan.txt true remote:{from}/{item}")
     room.write("plan2.txt", room.read("plan.txt").replace("db2 ssd1 1 ssd2 2", "db2 ssd1 1 ssd2 3"))
@@ -88,7 +87,7 @@ def the_runner(room):
 def side_by_side(room):
     """A round after the other, and all of a round at once; at most as many as --jobs says."""
     room.good("run-plan", MOUNT)
-    for at, shifts in enumerate(shifts_of(room.read("plan.txt")), 1):
+    for at, shifts in enumerate(room.shifts(), 1):
         room.write(f"count{at}", str(len(shifts)))
     # a job waits until all of its round have begun; with two at once until one more has than when it began, if
     # there is one, and a while then
@@ -102,13 +101,13 @@ def side_by_side(room):
         room.good("run-plan",
                   f"rm -f log plan.txt.place; contrib/run-plan {jobs} plan.txt sh job {{round}} {{item}} "
                   f"'{most or ''}'")
-        rounds, at, most_at_once, order = shifts_of(room.read("plan.txt")), 0, 0, []
+        rounds, at, most_at_once, order = room.shifts(), 0, 0, []
         for line in room.read("log").splitlines():
             at += 1 if line.startswith("begin") else -1
             most_at_once = max(most_at_once, at)
             order.append(line.split()[1][0])
-        Count.same(f"side by side {jobs}", most_at_once, most or max(map(len, rounds)))
-        Count.same(f"one round after the other {jobs}", order, sorted(order))
+        same(f"side by side {jobs}", most_at_once, most or max(map(len, rounds)))
+        same(f"one round after the other {jobs}", order, sorted(order))
 
 
 def killed_or_stopped():
@@ -126,12 +125,12 @@ def killed_or_stopped():
         room.write("go", "")
         until(lambda: room.run(f"contrib/run-plan {ERASE} plan.txt {COPY}").returncode == 0,
               "the commands of the first to end")
-        Count.same("killed and begun again, all is where it is to be", tree(room), wanted_of(room))
+        same("killed and begun again, all is where it is to be", tree(room), wanted_of(room))
         place = room.read("plan.txt.place")
         room.write("plan.txt.place", place[: place.rindex("\n", 0, len(place) - 1) + 4])
         room.good("run-plan", f"contrib/run-plan {ERASE} plan.txt true {{item}}")
-        Count.same("a line that was cut off is written again", set(room.read("plan.txt.place").splitlines()),
-                   set(place.splitlines()))
+        same("a line that was cut off is written again", set(room.read("plan.txt.place").splitlines()),
+             set(place.splitlines()))
     with Room() as room, open(room.path("notes"), "wb") as notes:  # stopped by a signal
         room.good("run-plan", MOUNT)
         begun = subprocess.Popen(["alone/run-plan", "--jobs", "1", "plan.txt", "sh", "-c",
@@ -143,10 +142,10 @@ def killed_or_stopped():
         room.write("go", "")
         begun.wait(LIMIT)
         said = room.read("notes")
-        Count.that("stopped by a signal",
-                   begun.returncode == 130 and "waiting for the transfers that run" in said and "begin again" in said,
-                   (begun.returncode, said))
-        Count.same("what ran is kept", len(room.read("plan.txt.place").splitlines()), 2)
+        that("stopped by a signal",
+             begun.returncode == 130 and "waiting for the transfers that run" in said and "begin again" in said,
+             (begun.returncode, said))
+        same("what ran is kept", len(room.read("plan.txt.place").splitlines()), 2)
 
 
 # Disks that go away, copies that are wrong
@@ -187,7 +186,7 @@ def a_disk_goes_away():
     with Room() as room:
         room.good("run-plan", MOUNT)
         room.write("at", AT)
-        rounds, wanted = shifts_of(room.read("plan.txt")), wanted_of(room)
+        rounds, wanted = room.shifts(), wanted_of(room)
         words = (f"{GUARD} --verify '{STEP.format('verify')}' --erase '{STEP.format('erase')}' --jobs 1 plan.txt "
                  f"{STEP.format('copy')}")
         disk = rounds[0][0][1]
@@ -201,49 +200,48 @@ def a_disk_goes_away():
                 room.write("take", f"{moment}\n")
                 ran = room.run(f"contrib/run-plan {words}")
                 gone = [it for it in os.listdir(room.path("mnt")) if not os.path.exists(room.path(f"mnt/{it}/.here"))]
-                Count.that(f"{moment}: it stops",
+                that(f"{moment}: it stops",
                            ran.returncode == 1 and len(gone) == 1
                            and f"disk {gone[0]} is not as --guard asks: test -e" in ran.stderr
                            and f"stopped in round {at} of 3" in ran.stderr, ran)
                 bring_back(room, gone[0])
                 found = tree(room)
-                Count.same(f"{moment}: nothing is lost", set(found), set(wanted))
+                same(f"{moment}: nothing is lost", set(found), set(wanted))
                 if "erase" not in kind:
-                    Count.same(f"{moment}: nothing is removed", [it[0] for it in shifts if it[1] not in found[it[0]]],
-                               [])
+                    same(f"{moment}: nothing is removed", [it[0] for it in shifts if it[1] not in found[it[0]]], [])
         room.good("run-plan", f"contrib/run-plan {words}")
-        Count.same("in the end all is where it is to be", tree(room), wanted)
+        same("in the end all is where it is to be", tree(room), wanted)
     with Room() as room:  # a disk that goes away between two commands, which are of other disks
         room.good("run-plan", MOUNT)
-        shifts = shifts_of(room.read("plan.txt"))[0]
+        shifts = room.shifts()[0]
         first, *rest = shifts
         item, source, _, target, _ = next(it for it in rest if it[3] not in (first[1], first[3]))
         room.says("nothing of a disk that is away is removed",
                   f"contrib/run-plan {GUARD} {VERIFY} --erase 'sh -c \"rm -rf mnt/{{from}}/{{item}}; [ {{item}} != "
                   f"{first[0]} ] || mv mnt/{target} gone\"' --jobs 1 plan.txt {COPY}",
                   f"disk {target} is not as --guard asks", status=1)
-        Count.that("nothing of a disk that is away is removed", source in tree(room)[item])
+        that("nothing of a disk that is away is removed", source in tree(room)[item])
 
 
 def a_copy_is_wrong():
     with Room() as room:
         room.good("run-plan", MOUNT)
-        shifts = shifts_of(room.read("plan.txt"))[0]
+        shifts = room.shifts()[0]
         item, source, _, target, _ = shifts[1]
         start = tree(room)
         ran = room.says("a copy that is wrong stops it",
                         f"contrib/run-plan {VERIFY} {ERASE} plan.txt sh -c '{COPY} && {{ [ {{item}} != {item} ] || rm "
                         f"mnt/{{to}}/{{item}}/data; }}'",
                         f"not verified 1 {item}: status 1: diff -r mnt/{source}/{item} mnt/{target}/{item}\n", status=1)
-        Count.that("a copy that is wrong stops it", "erased" not in ran.stdout, ran)
+        that("a copy that is wrong stops it", "erased" not in ran.stdout, ran)
         found = tree(room)
-        Count.that("nothing of its round is removed", all(start[it] <= found[it] for it in start), found)
+        that("nothing of its round is removed", all(start[it] <= found[it] for it in start), found)
         ran = room.run(f"contrib/run-plan {VERIFY} {ERASE} plan.txt {COPY}")
-        Count.that("it alone is copied again",
+        that("it alone is copied again",
                    ran.returncode == 0
                    and ran.stdout.startswith(f"round 1 of 3: 1 to be copied\nround 1 of 3: {len(shifts)} to be "
                                              f"verified\n"), ran)
-        Count.same("a wrong copy, copied again", tree(room), wanted_of(room))
+        same("a wrong copy, copied again", tree(room), wanted_of(room))
     with Room() as room:  # what was verified in an earlier run is looked at again before it is removed
         room.good("run-plan", MOUNT)
         room.says("what cannot be removed stops it",
@@ -255,7 +253,7 @@ def a_copy_is_wrong():
         room.good("run-plan", f"rm -r mnt/{target}/{item}")
         room.says("a copy that went away meanwhile", f"contrib/run-plan {VERIFY} {ERASE} plan.txt {COPY}",
                   f"not verified 1 {item}: status 2", status=1)
-        Count.that("a copy that went away meanwhile", source in tree(room)[item])
+        that("a copy that went away meanwhile", source in tree(room)[item])
 
 
 def whole(room):
@@ -269,51 +267,49 @@ def whole(room):
     return found
 
 
-def killed_at_random(count=15):
-    """With guards and verification; alone, or with all its commands, as where the machine goes down; and disks go away
-    meanwhile."""
+def killed_at_random(room):
+    """With guards and verification, with --eager and without it; alone, or with all its commands, as where the machine
+    goes down; and disks go away meanwhile."""
     chance = random.Random(7)
-    with Room() as room:
-        room.good("run-plan",
-                  MOUNT
-                  + "; for it in mnt/*/*/data; do yes \"$(cat $it)\" | head -n 20000 >more; cp more $it; mv more "
-                    "${it%data}more; done")
-        wanted, counts = wanted_of(room), collections.Counter()
-        Count.same("all items are there", set(whole(room)), set(wanted))
-        words = ["alone/run-plan", "--guard", "test -e mnt/{disk}/.here", "--verify",
-                 "diff -r mnt/{from}/{item} mnt/{to}/{item}", "--erase", "rm -rf mnt/{from}/{item}", "--jobs", "2",
-                 "plan.txt", "sh", "-c",
-                 "cp -a mnt/{from}/{item} mnt/{to}/ && sleep 0.3 && until [ ! -e hold ]; do sleep 0.1; done"]
-        room.write("hold", "")  # what the first kill meets cannot have ended by itself
-        for at in range(count):
-            begun = subprocess.Popen(words, cwd=room.at, env=room.env, stdout=subprocess.DEVNULL,
-                                     stderr=subprocess.PIPE, text=True, start_new_session=True)
-            time.sleep(0.1 + chance.random() / 4)
-            disk = chance.choice(os.listdir(room.path("mnt"))) if chance.random() < 0.5 else None
-            if disk:
-                os.rename(room.path(f"mnt/{disk}"), room.path("gone"))
-                os.mkdir(room.path(f"mnt/{disk}"))
-                time.sleep(0.1)
-            os.killpg(begun.pid, signal.SIGKILL) if chance.random() < 0.5 else begun.kill()
-            room.run("rm -f hold")
-            begun.communicate()
-            counts[begun.returncode] += 1
-            if disk:
-                room.run("flock plan.txt.place true")  # a command that runs on has not the disk back under its hands
-                bring_back(room, disk)
-            lost = set(wanted) - set(whole(room))
-            if not Count.that(f"nothing is lost after kill {at + 1}", not lost, (lost, counts)):
-                return
-        ran = at_rest(lambda: subprocess.run(words, cwd=room.at, env=room.env, capture_output=True, text=True,
-                                             check=False))
-        Count.that("it ends well after all kills", ran.returncode == 0, (ran, counts))
-        Count.same("after all kills", whole(room), wanted)
-        Count.that("kills met it at work", counts[-9] > 0, counts)
+    room.good("run-plan",
+              MOUNT
+              + "; for it in mnt/*/*/data; do yes \"$(cat $it)\" | head -n 20000 >more; cp more $it; mv more "
+                "${it%data}more; done")
+    wanted, counts = wanted_of(room), collections.Counter()
+    same("all items are there", set(whole(room)), set(wanted))
+    words = ["alone/run-plan", "--guard", "test -e mnt/{disk}/.here", "--verify",
+             "diff -r mnt/{from}/{item} mnt/{to}/{item}", "--erase", "rm -rf mnt/{from}/{item}", "--jobs", "2",
+             "plan.txt", "sh", "-c",
+             "cp -a mnt/{from}/{item} mnt/{to}/ && sleep 0.3 && until [ ! -e hold ]; do sleep 0.1; done"]
+    room.write("hold", "")  # what the first kill meets cannot have ended by itself
+    for at in range(15):
+        begun = subprocess.Popen([words[0], *["--eager", "disks.csv"] * (at % 2), *words[1:]], cwd=room.at, env=room.env,
+                                 stdout=subprocess.DEVNULL, stderr=subprocess.PIPE, start_new_session=True)
+        time.sleep(0.1 + chance.random() / 4)
+        disk = chance.choice(os.listdir(room.path("mnt"))) if chance.random() < 0.5 else None
+        if disk:
+            os.rename(room.path(f"mnt/{disk}"), room.path("gone"))
+            os.mkdir(room.path(f"mnt/{disk}"))
+            time.sleep(0.1)
+        os.killpg(begun.pid, signal.SIGKILL) if chance.random() < 0.5 else begun.kill()
+        room.run("rm -f hold")
+        begun.communicate()
+        counts[begun.returncode] += 1
+        if disk:
+            room.run("flock plan.txt.place true")  # a command that runs on has not the disk back under its hands
+            bring_back(room, disk)
+        lost = set(wanted) - set(whole(room))
+        if not that(f"nothing is lost after kill {at + 1}", not lost, (lost, counts)):
+            return
+    ran = at_rest(lambda: subprocess.run(words, cwd=room.at, env=room.env, capture_output=True, text=True, check=False))
+    that("it ends well after all kills", ran.returncode == 0, (ran, counts))
+    same("after all kills", whole(room), wanted)
+    that("kills met it at work", counts[-9] > 0, counts)
 
 
 def the_place_is_lost(room):
     room.good("run-plan", MOUNT)
-    rounds, wanted = shifts_of(room.read("plan.txt")), wanted_of(room)
+    rounds, wanted = room.shifts(), wanted_of(room)
     item, source = rounds[1][0][:2]
     room.good("run-plan", f"mv mnt/{source}/{item} away")
     room.run(f"contrib/run-plan {ERASE} plan.txt {COPY}")
@@ -331,9 +327,9 @@ def the_place_is_lost(room):
     with open(room.path("plan.txt.place"), "a", encoding="ascii") as file:
         file.write("".join(f"{what} 1 {it[0]}\n" for it in rounds[0] for what in ("copied", "erased")))
     ran = room.run(f"contrib/run-plan {ERASE} plan.txt {COPY}")
-    Count.that("a place by hand",
-               ran.returncode == 0 and ran.stdout.startswith(f"round 2 of 3: {len(rounds[1])} to be copied\n"), ran)
-    Count.same("a place by hand: all is where it is to be", tree(room), wanted)
+    that("a place by hand",
+         ran.returncode == 0 and ran.stdout.startswith(f"round 2 of 3: {len(rounds[1])} to be copied\n"), ran)
+    same("a place by hand: all is where it is to be", tree(room), wanted)
 
 
 # Folders
@@ -356,7 +352,7 @@ def contents(room):
 
 
 def names_in(room, path="names.csv"):
-    rows = rows_of(room.read(path))
+    rows = room.rows(path)
     return [{real: (name, bytes_) for kind, name, real, bytes_ in rows if kind == wanted}
             for wanted in ("disk", "item")]
 
@@ -379,47 +375,47 @@ def odd_folders(room):
 def the_folders(room):
     odd_folders(room)
     room.good("folders", "contrib/from-folders mnt/* --limit 2 --limit mnt/empty=3 --slots empty=9")
-    Count.same("without a wish all stays", room.read("next.csv"),
-               "".join(line.rpartition(",")[0] + "\n" for line in room.read("now.csv").splitlines()))
+    same("without a wish all stays", room.read("next.csv"),
+         "".join(line.rpartition(",")[0] + "\n" for line in room.read("now.csv").splitlines()))
     room.good("folders", "touch mnt/empty/lost+found/#12")
-    Count.that("what was found again stays",
-               "mnt/empty/lost+found is not empty, and stays\n"
-               in room.run("contrib/from-folders mnt/* --into examples").stderr)
+    that("what was found again stays",
+         "mnt/empty/lost+found is not empty, and stays\n"
+         in room.run("contrib/from-folders mnt/* --into examples").stderr)
     disks, names = names_in(room)
-    Count.same("each folder and file has a row", collections.Counter(map(os.path.basename, names)),
-               collections.Counter([*ODD, *PLAIN, "a file", "{item}"]))
+    same("each folder and file has a row", collections.Counter(map(os.path.basename, names)),
+         collections.Counter([*ODD, *PLAIN, "a file", "{item}"]))
     for path, (name, bytes_) in names.items():
         real = os.path.basename(path)
         wanted = real if real in PLAIN else {**ODD, "a file": "a-file-"}[real] + digits_of(path if real == "{item}"
                                                                                            else real)
-        Count.same(f"the name of {real}", name, wanted)
+        same(f"the name of {real}", name, wanted)
         du = subprocess.run(["du", "-s", "--block-size=1", "--", path], cwd=room.at, capture_output=True, text=True,
                             check=True)
-        Count.same(f"the bytes of {name}", bytes_, du.stdout.split("\t")[0])
+        same(f"the bytes of {name}", bytes_, du.stdout.split("\t")[0])
     wanted = [[f"disk-{it}-{digits_of(f'disk {it}')}", "2", str(len(names))] for it in range(3)] + [["empty", "3", "9"]]
-    Count.same("the disks, also the empty one, their limits and slots", rows_of(room.read("disks.csv")), wanted)
+    same("the disks, also the empty one, their limits and slots", room.rows("disks.csv"), wanted)
     os.rename(room.path("mnt/disk 2/{item}"), room.path("mnt/disk 2/another"))
     room.good("folders",
               "contrib/from-folders --spread --empty 'disk 0' --limit 2 --move 'mnt/disk 1/-rf=mnt/disk 2' mnt/*")
     disks, names = names_in(room)
-    next_ = dict(rows_of(room.read("next.csv")))
+    next_ = dict(room.rows("next.csv"))
     counts = collections.Counter(next_.values())
-    Count.that("--spread and --empty",
-               disks["mnt/disk 0"][0] not in counts and max(counts.values()) - min(counts.values()) <= 2
-               and len(counts) == 3, counts)
-    Count.same("--move", next_[names["mnt/disk 1/-rf"][0]], disks["mnt/disk 2"][0])
+    that("--spread and --empty",
+         disks["mnt/disk 0"][0] not in counts and max(counts.values()) - min(counts.values()) <= 2 and len(counts) == 3,
+         counts)
+    same("--move", next_[names["mnt/disk 1/-rf"][0]], disks["mnt/disk 2"][0])
     start = contents(room)
     room.planned("folders")
     room.good("folders",
               f"contrib/run-plan --names names.csv {REAL.replace('mountpoint -q', 'test -d')} plan.txt cp -a "
               f"{{from}}/{{item}} {{to}}/")
-    Count.same("odd names: nothing is lost or changed", contents(room), start)
+    same("odd names: nothing is lost or changed", contents(room), start)
     room.says("what is no folder, file or link",
               "mkfifo mnt/empty/pipe; contrib/from-folders mnt/*; status=$?; rm mnt/empty/pipe; exit $status",
               "mnt/empty/pipe is neither a folder, a file nor a link", status=1)
     room.good("folders", "mkdir found && contrib/from-folders --into found mnt/*")
-    Count.same("odd names: all is where it is to be, under the same names",
-               {item: disk for item, disk, _ in rows_of(room.read("found/now.csv"))}, next_)
+    same("odd names: all is where it is to be, under the same names",
+         {item: disk for item, disk, _ in room.rows("found/now.csv")}, next_)
 
 
 # Real file systems
@@ -459,7 +455,7 @@ def try_real_folders(room, loops):
     room.good("real disks",
               "contrib/from-folders mnt/a mnt/b mnt/thin --mounted --empty a --slots thin=1 --move 'item 0=b' --move "
               "'item 1=b' --move 'item 2=b'")
-    Count.same("lost+found is no item", len(rows_of(room.read("now.csv"))), 3)
+    same("lost+found is no item", len(room.rows("now.csv")), 3)
     room.planned("real disks")
     room.good("real disks", "umount mnt/b")
     refused(room, "real disks, one is not mounted", f"{carry_out} {copy}",
@@ -469,23 +465,23 @@ def try_real_folders(room, loops):
     room.says("real disks, one is unmounted in the middle",
               f"{carry_out} plan.txt sh -c 'umount -l \"$1\" && cp -a \"$0\" \"$1\"/' {{from}}/{{item}} {{to}}",
               "disk b is not as --guard asks", status=1)
-    Count.that("real disks, one is unmounted in the middle", stand("a") == start and len(stand("b")) == 1)
+    that("real disks, one is unmounted in the middle", stand("a") == start and len(stand("b")) == 1)
     room.good("real disks", f"rm mnt/b/item*; mount {loops['b']} mnt/b")
-    Count.same("real disks, nothing came to the one that was unmounted", stand("b"), {})
+    same("real disks, nothing came to the one that was unmounted", stand("b"), {})
     room.good("real disks", "head -c 5M /dev/zero >mnt/b/filler")
     refused(room, "real disks, one has too few bytes", "contrib/from-folders mnt/a mnt/b --empty a",
             "there is no room on mnt/b: 4500480 bytes are to come to it, and ")
     room.says("real disks, one is full", f"{carry_out} {copy}", "No space left on device", status=1)
-    Count.that("real disks, one is full", {**stand("b"), **stand("a")} == start)
+    that("real disks, one is full", {**stand("b"), **stand("a")} == start)
     room.good("real disks", "rm mnt/b/filler")
     room.good("real disks, the full one has room again", f"{carry_out} {copy}")
-    Count.same("real disks, all is where it is to be", (stand("a"), stand("b")), ({}, start))
+    same("real disks, all is where it is to be", (stand("a"), stand("b")), ({}, start))
     room.good("real disks",
               "rm plan.txt.place; contrib/from-folders mnt/a mnt/b mnt/thin --mounted --move 'item 0=thin' --move "
               "'item 1=thin' --move 'item 2=thin' --limit 3")
     room.planned("real disks")
     ran = room.run(f"{carry_out} {copy}")
-    Count.that("real disks, one loses what is written to it",
+    that("real disks, one loses what is written to it",
                ran.returncode == 1
                and any(it in ran.stderr
                        for it in ("what was written to disk thin did not reach it", "not copied 1 item-"))
@@ -504,9 +500,9 @@ UNITS = "--verify 'diff -r --no-dereference {from}/{item} {to}/{item}' --erase '
 
 def told_of(room):
     """The path inside its disk of each item of names.csv; the disk that each is on by now.csv."""
-    rows, top = rows_of(room.read("names.csv")), f"{room.at}/mnt/"
+    rows, top = room.rows("names.csv"), f"{room.at}/mnt/"
     return {row[1]: row[2].removeprefix(top).partition("/")[2] for row in rows if row[0] == "item"}, {
-        it: disk for it, disk, _ in rows_of(room.read("now.csv"))}
+        it: disk for it, disk, _ in room.rows("now.csv")}
 
 
 def files_below(room):
@@ -527,27 +523,25 @@ def units_of_folders():
         words = 'contrib/from-folders "$PWD"/mnt/* --unit 100K'
         ran = room.run(f"{words} --empty a")
         paths, now = told_of(room)
-        Count.that("the folders that are split",
+        that("the folders that are split",
                    ran.returncode == 0
                    and {(now[it], path) for it, path in paths.items()}
                    == {("a", it)
                        for it in ("media/films/x", "media/films/y", "media/music", "media/note", "media/link", "small")}
                    | {("b", "media/clips"), ("b", "odd")}, (ran, paths))
         last, before = room.planned("units"), files_below(room)
-        Count.that("nothing stays on a", {disk for disk, _ in last.values()} == {"b", "c"}, last)
+        that("nothing stays on a", {disk for disk, _ in last.values()} == {"b", "c"}, last)
         refused(room, "a copy to the top", "contrib/run-plan --names names.csv plan.txt cp -a {from}/{item} {to}/",
                 "to the top of a disk, and not into its folder")
         refused(room, "another one", "contrib/run-plan --names names.csv plan.txt cp -rp {from}/{item} {to}",
                 "to the top of a disk, and not into its folder")
         room.good("units", f"contrib/run-plan {UNITS} plan.txt {INSIDE}")
-        Count.same("each file is where it is to be", files_below(room),
-                   {(inside, data):
-                    {last[next(it for it, path in paths.items() if f"{inside}/".startswith(f"{path}/"))][0]} for inside,
-                    data in before})
+        same("each file is where it is to be", files_below(room),
+             {(inside, data): {last[next(it for it, path in paths.items() if f"{inside}/".startswith(f"{path}/"))][0]}
+              for inside, data in before})
         room.good("units", f"find mnt/a -mindepth 1 -type d -empty -delete; {words}")
-        Count.same("the same items are found there", told_of(room),
-                   (paths, {it: disk for it, (disk, _) in last.items()}))
-        Count.same("other words for the disks",
+        same("the same items are found there", told_of(room), (paths, {it: disk for it, (disk, _) in last.items()}))
+        same("other words for the disks",
                    room.good("units",
                              "mkdir again && cd again && ../contrib/from-folders ../mnt/* --unit 100K && cut -d, -f1 "
                              "now.csv | sort | cmp - <(cut -d, -f1 ../now.csv | sort)"), "")
@@ -561,11 +555,11 @@ def units_of_folders():
                 --unit 0 | invalid amount value"""):
             refused(room, words, f"contrib/from-folders mnt/* --unit 100K {words}", said, 2 if "--unit" in words else 1)
         room.good("units", "contrib/from-folders mnt/* --unit 100K --move mnt/a/media=c")
-        next_, (paths, _) = dict(rows_of(room.read("next.csv"))), told_of(room)
-        names = {row[1]: row[2] for row in rows_of(room.read("names.csv")) if row[0] == "item"}
-        Count.same("--move of a folder that is split",
-                   {it: disk for it, disk in next_.items() if names[it].startswith("mnt/a/media/")},
-                   {it: "c" for it in names if names[it].startswith("mnt/a/media/")})
+        next_, (paths, _) = dict(room.rows("next.csv")), told_of(room)
+        names = {row[1]: row[2] for row in room.rows("names.csv") if row[0] == "item"}
+        same("--move of a folder that is split",
+             {it: disk for it, disk in next_.items() if names[it].startswith("mnt/a/media/")},
+             {it: "c" for it in names if names[it].startswith("mnt/a/media/")})
         for make, words, said in cases("""
                 mkdir mnt/a/media/clips | --move mnt/a/media/clips=b | mnt/a/media/clips and mnt/b/media/clips have \
                     one name, and mnt/b/media/clips can only be one of them
@@ -584,12 +578,11 @@ def units_of_folders():
                   "range(2, 4098)]'")
         ran = room.says("a pipe does so", "contrib/from-folders mnt/* --unit 100K",
                         "mnt/a/media/films is not split: mnt/a/media/films/pipe is neither a folder, a file nor a link")
-        Count.that("many parts do so", "mnt/a/media/many is not split: it has 4098 parts, more than 4096" in ran.stderr,
-                   ran)
+        that("many parts do so", "mnt/a/media/many is not split: it has 4098 parts, more than 4096" in ran.stderr, ran)
         room.good("units", "contrib/from-folders mnt/*")
-        Count.same("without --unit nothing is split",
-                   {row[2] for row in rows_of(room.read("names.csv")) if row[0] == "item"},
-                   {"mnt/a/media", "mnt/a/small", "mnt/b/media", "mnt/b/odd", "mnt/c/media"})
+        same("without --unit nothing is split",
+             {row[2] for row in room.rows("names.csv") if row[0] == "item"},
+             {"mnt/a/media", "mnt/a/small", "mnt/b/media", "mnt/b/odd", "mnt/c/media"})
     with Room() as room:
         room.good("units",
                   "mkdir -p mnt/a/all mnt/b; for it in 1 2 3 4 5 6 7 8; do mkdir mnt/a/all/$it; head -c 60000 "
@@ -597,8 +590,8 @@ def units_of_folders():
         refused(room, "one folder", "contrib/from-folders mnt/* --balance 10 --size 1M",
                 "not each disk can be filled to the same part")
         room.good("units", "contrib/from-folders mnt/* --balance 10 --size 1M --unit 100K")
-        Count.same("as few of its parts as can be",
-                   collections.Counter(disk for _, disk in rows_of(room.read("next.csv"))), {"a": 5, "b": 3})
+        same("as few of its parts as can be", collections.Counter(disk for _, disk in room.rows("next.csv")),
+             {"a": 5, "b": 3})
         room.planned("units")
 
 

@@ -4,9 +4,9 @@ by joint ones. What is right is counted by limits_model.py."""
 import collections, itertools, os, random, re
 import xml.etree.ElementTree as xml
 from clocked import START, carried_out
-from folders import COPY, ERASE, GUARD, MOUNT, VERIFY, at_rest, tree, wanted_of
+from folders import COPY, ERASE, GUARD, MOUNT, VERIFY, tree, wanted_of
 from limits_model import Case, plan_text
-from rooms import Count, Room, cases, plan_of, refused, rows_of, shifts_of
+from rooms import Room, cases, plan_of, refused, same, that
 
 SPLIT = "disk,out,in,slots\n"
 
@@ -21,11 +21,10 @@ def split_lvm(room):
     room.good("LVM",
               "cp contrib/samples/lvm/*.json . && contrib/from-lvm lvs.json pvs.json --empty loop0 --unit 16 "
               "--limit 1,2 --limit loop1=3,4")
-    Count.same("from-lvm writes both limits", room.read("disks.csv"),
-               f"{SPLIT}loop0,1,2,15\nloop1,3,4,15\nloop2,1,2,15\n")
+    same("from-lvm writes both limits", room.read("disks.csv"), f"{SPLIT}loop0,1,2,15\nloop1,3,4,15\nloop2,1,2,15\n")
     room.good("LVM", "contrib/from-lvm lvs.json pvs.json --empty loop0 --unit 16 --limit loop1=3,4")
-    Count.same("from-lvm, the others have 1 and 1", room.read("disks.csv"),
-               f"{SPLIT}loop0,1,1,15\nloop1,3,4,15\nloop2,1,1,15\n")
+    same("from-lvm, the others have 1 and 1", room.read("disks.csv"),
+         f"{SPLIT}loop0,1,1,15\nloop1,3,4,15\nloop2,1,1,15\n")
     for words, said in cases("""
             --limit 2 --limit loop1=1,2 | --limit: loop0 has one limit and loop1 has two; write OUT,IN for each disk
             --limit 1,0 | --limit: '0' is no number from 1 to 1024
@@ -37,15 +36,15 @@ def split_lvm(room):
 def split_folders(room):
     room.good("folders",
               "mkdir -p mnt/{a,b,c} mnt/a/{x,y,z} && contrib/from-folders mnt/* --empty a --limit 2,1 --limit b=1,3")
-    Count.same("from-folders writes both limits", room.read("disks.csv"), f"{SPLIT}a,2,1,3\nb,1,3,3\nc,2,1,3\n")
+    same("from-folders writes both limits", room.read("disks.csv"), f"{SPLIT}a,2,1,3\nb,1,3,3\nc,2,1,3\n")
     room.planned("folders")
     room.good("folders",
               "contrib/run-plan --names names.csv --eager disks.csv --erase 'rmdir {from}/{item}' plan.txt cp -a "
               "{from}/{item} {to}/")
-    Count.that("all is where it is to be",
-               not os.listdir(room.path("mnt/a"))
-               and {it[0] for it in rows_of(room.read("next.csv"))}
-               == {*os.listdir(room.path("mnt/b")), *os.listdir(room.path("mnt/c"))})
+    that("all is where it is to be",
+         not os.listdir(room.path("mnt/a"))
+         and {it[0] for it in room.rows("next.csv")}
+         == {*os.listdir(room.path("mnt/b")), *os.listdir(room.path("mnt/c"))})
     for words, said in cases("""
             --limit 1,2 --limit c=1 | --limit: c has one limit and a has two; write OUT,IN for each disk
             --limit 1,x | --limit: 'x' is no number from 1 to 1024
@@ -69,24 +68,24 @@ SUMMARY = """busiest disks
 def split_summary(room):
     room.write("d", DISKS)
     room.write("p", PLAN)
-    Count.that("summary", room.good("summary", "contrib/summary p d").endswith(SUMMARY),
-               room.run("contrib/summary p d").stdout)
+    that("summary", room.good("summary", "contrib/summary p d").endswith(SUMMARY),
+         room.run("contrib/summary p d").stdout)
     room.write("n", "item,disk,slot\n" + "".join(f"{it},a,{at}\n" for at, it in enumerate("zyxwvu")))
     # z and y leave a at once, and w finds no place at c; x waits for a; v and u for the limit of c
-    Count.same("a queue", room.good("summary", "contrib/summary p d --queue n").splitlines()[-1],
-               "rounds of first come, first served 3")
+    same("a queue", room.good("summary", "contrib/summary p d --queue n").splitlines()[-1],
+         "rounds of first come, first served 3")
     for seed in range(20):  # made cases: the queue's rounds are those of the model
         made_case(room, random.Random(seed), is_split=seed % 4 > 0)
         case = Case(room.read)
         rounds = case.first_come()
         room.write("plan.txt", plan_text(rounds))
         lines = room.good("summary", "contrib/summary plan.txt disks.csv --queue now.csv --all").splitlines()
-        Count.same(f"first come, first served, made case {seed}", lines[-1],
-                   f"rounds of first come, first served {len(rounds)}")
+        same(f"first come, first served, made case {seed}", lines[-1],
+             f"rounds of first come, first served {len(rounds)}")
         bound = case.bound()
-        Count.that(f"the busiest disk, made case {seed}",
-                   lines[lines.index("busiest disks") + 1].endswith(f"needs {bound.value} "
-                                                                    f"round{'s' * (bound.value > 1)}"), lines)
+        that(f"the busiest disk, made case {seed}",
+             lines[lines.index("busiest disks") + 1].endswith(f"needs {bound.value} round{'s' * (bound.value > 1)}"),
+             lines)
 
 
 def made_case(room, rnd, is_split, disks=6, items=40):
@@ -112,18 +111,18 @@ def split_pictures(room):
     room.write("c", CERT)
     svg = room.good("picture", "contrib/picture p d --cert c")
     texts = [it.text for it in xml.fromstring(svg).iter("{http://www.w3.org/2000/svg}text")]
-    Count.same("a row for each side of each disk", [it for it in texts if re.fullmatch("[abc] (out|in)", it)],
-               ["a out", "a in", "b out", "b in", "c out", "c in"])
-    Count.same("its numbers", [it for it in texts if "/" in it],
-               ["2/2", "1/2", "1/1", "1/1", "1/1", "1/1", "1/1", "1/1", "1/2", "2/2"])
-    Count.that("its bound",
+    same("a row for each side of each disk", [it for it in texts if re.fullmatch("[abc] (out|in)", it)],
+         ["a out", "a in", "b out", "b in", "c out", "c in"])
+    same("its numbers", [it for it in texts if "/" in it],
+         ["2/2", "1/2", "1/1", "1/1", "1/1", "1/1", "1/1", "1/1", "1/2", "2/2"])
+    that("its bound",
                "the bound, b in: it has 3 incoming transfers and the incoming limit 1, so no schedule has fewer "
                "than 3 rounds" in texts, texts)
-    Count.same("one side is marked", svg.count('stroke="#c0392b"'), 1)
+    same("one side is marked", svg.count('stroke="#c0392b"'), 1)
     room.write("c", CERT.replace("b in 3 1 3", "b out 1 1 1"))
-    Count.that("a bound of one",
-               "the bound, b out: it has 1 outgoing transfer and the outgoing limit 1, so no schedule has fewer "
-               "than 1 round<" in room.good("picture", "contrib/picture p d --cert c"))
+    that("a bound of one",
+         "the bound, b out: it has 1 outgoing transfer and the outgoing limit 1, so no schedule has fewer than 1 round<"
+         in room.good("picture", "contrib/picture p d --cert c"))
     room.says("without a certificate the side that needs most", "contrib/picture p d",
               "b in: it needs 3 rounds for its own transfers, the most of all")
     room.write("d2", DISKS.replace("c,1,2", "c,1,1"))
@@ -148,9 +147,9 @@ def split_pictures(room):
     room.write("d", SPLIT + "".join(f"d{it},1,1,4\n" for it in range(40)))
     room.write("p", plan_text([[[f"i{it}", f"d{it}", "0", f"d{(it + 1) % 40}", "1"] for it in range(40)]]))
     svg = room.good("picture", "contrib/picture p d")
-    Count.that("80 rows, in use to the limit",
-               svg.count('fill="#1f4e8c"') == 80 + 1 and "80 sides of disks: each needs 1 round for" in svg,
-               svg[-300:])
+    that("80 rows, in use to the limit",
+         svg.count('fill="#1f4e8c"') == 80 + 1 and "80 sides of disks: each needs 1 round for" in svg,
+         svg[-300:])
 
 
 def refusals_of_limits(room):
@@ -197,11 +196,10 @@ def watch(room, name, case, shifts, kinds):
             held.discard(item)
             now.subtract(ends[item])
         most = max(most, len(held))
-    Count.same(f"{name}: more than a limit at once", worst, None)
+    same(f"{name}: more than a limit at once", worst, None)
     wanted = [(what, kind) for kind in kinds for what in ("begin", "end")]
-    Count.same(f"{name}: each transfer in its order", {item: steps for item, steps in seen.items() if steps != wanted},
-               {})
-    Count.same(f"{name}: each transfer", set(seen), set(ends))
+    same(f"{name}: each transfer in its order", {item: steps for item, steps in seen.items() if steps != wanted}, {})
+    same(f"{name}: each transfer", set(seen), set(ends))
     return most
 
 
@@ -222,19 +220,19 @@ def eager_limits():
             made_case(room, random.Random(seed), is_split, items=30)
             room.write("job", JOB)
             room.planned(name)
-            case, rounds = Case(room.read), shifts_of(room.read("plan.txt"))
+            case, rounds = Case(room.read), room.shifts()
             shifts = [it for shifts in rounds for it in shifts]
             printed = room.good(name,
                                 f"contrib/run-plan --eager disks.csv {EAGER} plan.txt sh job copy {{item}} 0.0{seed}")
-            Count.that(f"{name}: its end",
+            that(f"{name}: its end",
                        printed.endswith(f"{len(shifts)} of {len(shifts)} transfers are done\nall {len(rounds)} rounds "
                                         f"are carried out\n"), printed)
             told = [int(line.split()[0]) for line in printed.splitlines()[:-1]]
-            Count.that(f"{name}: what is done grows", told == sorted(set(told)), told)
+            that(f"{name}: what is done grows", told == sorted(set(told)), told)
             watch(room, name, case, shifts, ("copy", "verify", "erase"))
-            Count.same(f"{name}: a second time",
-                       room.good(name, f"contrib/run-plan --eager disks.csv {EAGER} plan.txt sh job copy {{item}} 0"),
-                       f"all {len(rounds)} rounds are carried out\n")
+            same(f"{name}: a second time",
+                 room.good(name, f"contrib/run-plan --eager disks.csv {EAGER} plan.txt sh job copy {{item}} 0"),
+                 f"all {len(rounds)} rounds are carried out\n")
             os.unlink(room.path("plan.txt.place"))
             os.unlink(room.path("log"))
             (first, *_), (second, *_) = rounds[0][:2]
@@ -243,8 +241,7 @@ def eager_limits():
             room.good(name,
                       f"contrib/run-plan --eager disks.csv --jobs 3 {EAGER.replace(' 0', '')} plan.txt sh waits "
                       f"{{item}}")
-            Count.that(f"{name}: --jobs",
-                       watch(room, f"{name}, --jobs 3", case, shifts, ("copy", "verify", "erase")) >= 2)
+            that(f"{name}: --jobs", watch(room, f"{name}, --jobs 3", case, shifts, ("copy", "verify", "erase")) >= 2)
 
 
 def no_barrier(room):
@@ -263,11 +260,10 @@ def no_barrier(room):
         room.good("no barrier", "rm -f log plan.txt.place; contrib/run-plan --eager disks.csv plan.txt sh waits {item}")
         order = [(what, item) for what, _, item in events_of(room)]
         at = order.index(("end", "long"))
-        Count.that(f"what needs other disks goes on, {limits}",
-                   all(order.index(("end", it)) < at for it in ("s1", "s2", "s3")), order)
+        that(f"what needs other disks goes on, {limits}",
+             all(order.index(("end", it)) < at for it in ("s1", "s2", "s3")), order)
         # with one limit of 1 what leaves b waits until the long one has come to b; apart, it does not
-        Count.same(f"what leaves b waits for what comes to it, {limits}", order.index(("begin", "after")) > at,
-                   not back)
+        same(f"what leaves b waits for what comes to it, {limits}", order.index(("begin", "after")) > at, not back)
     # a slot that is left first, and an item that moves twice: each waits, though its disks have places free
     room.write("disks.csv", SPLIT + "".join(f"{it},5,5,9\n" for it in "abc"))
     room.write("plan.txt", plan_of("x a 0 b 0, free c 0 b 1", "y b 3 a 0, x b 0 c 0", "z c 2 b 0"))
@@ -278,19 +274,19 @@ def no_barrier(room):
     room.good("no barrier", f"rm -f log plan.txt.place; contrib/run-plan {words}")
     order = [(what, kind, item) for what, kind, item in events_of(room)]
     for one, other in (("x-1", "y-2"), ("x-1", "x-2"), ("free-1", "x-2"), ("x-2", "z-3")):
-        Count.that(f"{other} waits for {one}",
-                   order.index(("begin", "copy", other)) > order.index(("end", "erase", one)), order)
-    Count.that("what needs nothing begins at once",
-               order.index(("begin", "copy", "free-1")) < order.index(("end", "copy", "x-1")), order)
+        that(f"{other} waits for {one}", order.index(("begin", "copy", other)) > order.index(("end", "erase", one)),
+             order)
+    that("what needs nothing begins at once",
+         order.index(("begin", "copy", "free-1")) < order.index(("end", "copy", "x-1")), order)
     # begun again where the first round is done: what needed it begins
     lines = room.read("plan.txt.place").splitlines(True)
     room.write("plan.txt.place", "".join(it for it in lines if it.split()[0] == "plan" or it.split()[1] == "1"))
     printed = room.good("no barrier", f"rm log; contrib/run-plan {words}")
     order = collections.Counter(events_of(room))
-    Count.same("it goes on after the first round", order,
-               collections.Counter((what, kind, it) for it in ("y-2", "x-2", "z-3") for kind in ("copy", "erase")
-                                   for what in ("begin", "end")))
-    Count.that("and says so",
+    same("it goes on after the first round", order,
+         collections.Counter((what, kind, it) for it in ("y-2", "x-2", "z-3") for kind in ("copy", "erase")
+                             for what in ("begin", "end")))
+    that("and says so",
                re.fullmatch(r"(3 of 5 transfers are done\n)?(4 of 5 transfers are done\n)?5 of 5 transfers are "
                             r"done\nall 3 rounds are carried out\n", printed), printed)
     # s is free, and the first that waits for it finds t1 in use: the next one begins
@@ -299,9 +295,9 @@ def no_barrier(room):
     room.write("waits", "for=''\n[ $1 = long ] && for='begin copy next'\nsh job copy $1 \"$for\"\n")
     room.good("no barrier", "rm -f log plan.txt.place; contrib/run-plan --eager disks.csv plan.txt sh waits {item}")
     order = [(what, item) for what, _, item in events_of(room)]
-    Count.that("the next one begins",
-               order.index(("begin", "next")) < order.index(("end", "long")) < order.index(("begin", "held")),
-               order)
+    that("the next one begins",
+         order.index(("begin", "next")) < order.index(("end", "long")) < order.index(("begin", "held")),
+         order)
 
 
 def eager_stops():
@@ -314,58 +310,45 @@ def eager_stops():
         ran = room.run("contrib/run-plan --eager disks.csv --unverified --erase 'sh job erase {item}' plan.txt sh -c "
                        "'[ $1 = bad ] && exit 3; sh job copy $1 \"run-plan: not copied 1 bad\" notes' sh {item} "
                        "2>notes")
-        Count.same("nothing more begins once one fails", [(what, kind, item) for what, kind, item in events_of(room)],
-                   [("begin", "copy", "long"), ("end", "copy", "long")])
-        Count.that("what is left is told",
-                   ran.returncode == 1 and "not copied 1 bad: status 3" in room.read("notes")
-                   and "stopped with 3 of 3 transfers left, and nothing more is removed" in room.read("notes"),
-                   (ran, room.read("notes")))
-        Count.that("what ended well is kept", "copied 1 long\n" in room.read("plan.txt.place"))
+        same("nothing more begins once one fails", [(what, kind, item) for what, kind, item in events_of(room)],
+             [("begin", "copy", "long"), ("end", "copy", "long")])
+        that("what is left is told",
+             ran.returncode == 1 and "not copied 1 bad: status 3" in room.read("notes")
+                 and "stopped with 3 of 3 transfers left, and nothing more is removed" in room.read("notes"),
+             (ran, room.read("notes")))
+        that("what ended well is kept", "copied 1 long\n" in room.read("plan.txt.place"))
     with Room() as room:
         room.good("run-plan", MOUNT)
-        rounds, wanted = shifts_of(room.read("plan.txt")), wanted_of(room)
+        rounds, wanted = room.shifts(), wanted_of(room)
         count = sum(map(len, rounds))
         words = f"{GUARD} {VERIFY} {ERASE} plan.txt {COPY}"
-        Count.same("--dry-run prints the same",
-                   room.good("run-plan", f"contrib/run-plan --dry-run --eager disks.csv {words}"),
-                   room.good("run-plan", f"contrib/run-plan --dry-run {words}"))
+        same("--dry-run prints the same",
+             room.good("run-plan", f"contrib/run-plan --dry-run --eager disks.csv {words}"),
+             room.good("run-plan", f"contrib/run-plan --dry-run {words}"))
         item, source, _, target, _ = rounds[1][0]
         room.good("run-plan", f"mv mnt/{source}/{item} away")
         ran = room.says("a copy that fails stops it", f"contrib/run-plan --eager disks.csv {words}",
                         f"not copied 2 {item}: status 1: cp -a mnt/{source}/{item}", status=1)
-        Count.that("a copy that fails stops it",
+        that("a copy that fails stops it",
                    re.search(rf"^run-plan: stopped with [1-9][0-9]* of {count} transfers left, and nothing more is "
                              rf"removed; begin again with the same words\n\Z", ran.stderr, re.M)
                    and f"{count} of {count}" not in ran.stdout, ran)
         found = tree(room)
-        Count.that("nothing is lost", set(found) == set(wanted) - {item} and all(found.values()), found)
+        that("nothing is lost", set(found) == set(wanted) - {item} and all(found.values()), found)
         room.good("run-plan", f"mv away mnt/{source}/{item} && mv mnt/{target} gone && mkdir mnt/{target}")
         room.says("a disk that is gone", f"contrib/run-plan --eager disks.csv {words}",
                   f"disk {target} is not as --guard asks", status=1)
-        Count.that("a disk that is gone", not os.listdir(room.path(f"mnt/{target}")))
+        that("a disk that is gone", not os.listdir(room.path(f"mnt/{target}")))
         room.good("run-plan", f"rmdir mnt/{target} && mv gone mnt/{target}")
         room.says("what cannot be removed stops it",
                   f"contrib/run-plan --eager disks.csv --jobs 1 {GUARD} {VERIFY} --erase 'sh -c \"test {{item}} != "
                   f"{item} && rm -rf mnt/{{from}}/{{item}}\"' plan.txt {COPY}", f"not erased 2 {item}: status 1",
                   status=1)
-        Count.that("what cannot be removed stops it", {source, target} == tree(room)[item])
+        that("what cannot be removed stops it", {source, target} == tree(room)[item])
         room.good("run-plan, without --eager", f"contrib/run-plan {words}")
-        Count.same("all is where it is to be", tree(room), wanted)
-        Count.same("with --eager nothing is left", room.good("run-plan", f"contrib/run-plan --eager disks.csv {words}"),
-                   "all 3 rounds are carried out\n")
-    with Room() as room:  # killed in the middle, again and again
-        room.good("run-plan", MOUNT)
-        wanted, rnd = wanted_of(room), random.Random(3)
-        words = (f"--eager disks.csv {GUARD} {VERIFY} {ERASE} plan.txt sh -c 'cp -a mnt/$1/$2 mnt/$3/ && sleep 0.1' sh "
-                 f"{{from}} {{item}} {{to}}")
-        for at in range(8):
-            room.run(f"timeout -s KILL {0.15 + rnd.random() / 4:.2f} alone/run-plan {words}")
-            whole = {it for disk in os.listdir(room.path("mnt"))
-                     for it in os.listdir(room.path(f"mnt/{disk}"))
-                     if it != ".here" and room.read(f"mnt/{disk}/{it}/data") == f"{it}\n"}
-            Count.same(f"nothing is lost after kill {at + 1}", set(wanted) - whole, set())
-        ran = at_rest(lambda: room.run(f"contrib/run-plan {words}"))
-        Count.that("it ends well after all kills", ran.returncode == 0 and tree(room) == wanted, ran)
+        same("all is where it is to be", tree(room), wanted)
+        same("with --eager nothing is left", room.good("run-plan", f"contrib/run-plan --eager disks.csv {words}"),
+             "all 3 rounds are carried out\n")
 
 
 def eager_gains(room):
@@ -381,8 +364,8 @@ def eager_gains(room):
         room.good("gains", "rm -f plan.txt.place*")
         status = carried_out(room, options, spans)
         last = room.read("plan.txt.place.times").splitlines()[-1]
-        Count.same(f"how long it takes, {options or 'rounds'}", (status, last),
-                   (0, f"{START + max(end for _, end in spans.values()):.3f} ends"))
+        same(f"how long it takes, {options or 'rounds'}", (status, last),
+             (0, f"{START + max(end for _, end in spans.values()):.3f} ends"))
 
 
 CASES = (split_lvm, split_folders, split_summary, split_pictures, refusals_of_limits, eager_limits, no_barrier,

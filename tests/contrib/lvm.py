@@ -1,7 +1,7 @@
 """LVM's cases: recorded reports, a stand-in, and the real tools where they are installed."""
 import collections, contextlib, hashlib, itertools, json, os, re, subprocess
 from waiting import LIMIT, until
-from rooms import HERE, Count, Room, cases, page, plan_of, refused, rows_of, shifts_of, sizes_of, volumes_of
+from rooms import HERE, Room, cases, page, plan_of, refused, same, shifts_of, sizes_of, that, volumes_of
 
 LVS = "lvs -a --segments --reportformat json -o vg_name,lv_name,lv_role,segtype,seg_pe_ranges"
 PVS = "pvs --reportformat json --units b -o vg_name,pv_name,pv_attr,pv_pe_count,vg_extent_size"
@@ -11,14 +11,14 @@ PVMOVE = re.compile(r"pvmove -i 3 (?:--alloc anywhere )?-n (\S+) (\S+):(\d+)-(\d
 
 def wanted_extents(room, last, unit, volumes, devices):
     """Each volume's extents after the last layout: what a slot holds keeps its place in it."""
-    rows = rows_of(room.read("names.csv"))
+    rows = room.rows("names.csv")
     stands = {name: device for kind, name, device, _ in rows if kind == "disk"}
     spots = {}
     for kind, name, device, extents in rows:
         if kind == "item":
             at = int(re.search(r":(\d+)-", extents)[1]) // unit
             spots[device, at] = (stands[last[name][0]], last[name][1])
-    Count.same("the table has each device", set(stands.values()), set(devices))
+    same("the table has each device", set(stands.values()), set(devices))
     wanted = {}
     for volume, extents in volumes.items():
         to = [spots[device, at // unit] for device, at in extents]
@@ -51,9 +51,9 @@ def after_pvmoves(volumes, printed, devices):
         moved = [it for it,
                  extents in found.items()
                  if re.fullmatch(rf"{re.escape(name)}(_rmeta_\d+)?", it) and set(goes) <= set(map(tuple, extents))]
-        if Count.that(f"LVM can carry it out: {line}", good and len(moved) == 1, moved):
+        if that(f"LVM can carry it out: {line}", good and len(moved) == 1, moved):
             found[moved[0]] = [goes.get(tuple(it), it) for it in found[moved[0]]]
-        Count.same(f"each leg has disks of its own after {line}", legs_together(found) - legs_together(volumes), set())
+        same(f"each leg has disks of its own after {line}", legs_together(found) - legs_together(volumes), set())
     return found
 
 
@@ -62,23 +62,23 @@ def carry_out(room, name, wish, unit, volumes, devices, look, planned=Room.plann
     Where nothing can be looked at, the commands are followed."""
     room.good(name, f"contrib/from-lvm lvs.json pvs.json {wish} --unit {unit}")
     last = planned(room, name)
-    if not shifts_of(room.read("plan.txt")):
-        return Count.that(f"{name}: something moves", False)
+    if not room.shifts():
+        return that(f"{name}: something moves", False)
     for form, out in zip(next(FORMS), ("moves.sh", "other.sh")):
         room.good(name, f"contrib/to-lvm plan.txt names.csv {form} --out {out}")
     wanted = wanted_extents(room, last, unit, volumes, devices)
-    Count.that(f"{name}: something is wanted", wanted != volumes)
+    that(f"{name}: something is wanted", wanted != volumes)
     printed = room.good(name, "sh moves.sh -n")
-    Count.same(f"{name}: both forms say the same commands", room.good(name, "sh other.sh -n"), printed)
-    Count.same(f"{name}: the commands lead to where the plan ends", after_pvmoves(volumes, printed, devices), wanted)
+    same(f"{name}: both forms say the same commands", room.good(name, "sh other.sh -n"), printed)
+    same(f"{name}: the commands lead to where the plan ends", after_pvmoves(volumes, printed, devices), wanted)
     if look is None:
         return printed
-    Count.same(f"{name}: -n moves nothing", look(), volumes)
+    same(f"{name}: -n moves nothing", look(), volumes)
     room.good(name, "sh moves.sh")
-    Count.same(f"{name}: the volumes are where the plan ends", look(), wanted)
+    same(f"{name}: the volumes are where the plan ends", look(), wanted)
     for script in ("moves.sh", "other.sh"):
         again = room.good(name, f"sh {script}")
-        Count.that(f"{name}: once more {script} moves nothing", "goes from" not in again and look() == wanted, again)
+        that(f"{name}: once more {script} moves nothing", "goes from" not in again and look() == wanted, again)
     return printed
 
 
@@ -100,15 +100,14 @@ def recorded_lvm():
             if runs:
                 what_ran(room, name, printed)
             for device in re.findall(r"--empty (\S+)", wish):
-                Count.same(f"{name}: {device} is empty",
-                           [it for extents in last.values() for it in extents if it[0].endswith(device)], [])
+                same(f"{name}: {device} is empty",
+                     [it for extents in last.values() for it in extents if it[0].endswith(device)], [])
             for volume, device in re.findall(r"--move (\S+)=(\S+)", wish):
                 found = {it[0] for it in last[volume]}
-                Count.that(f"{name}: {volume} is on {device}", len(found) == 1 and found.pop().endswith(device))
+                that(f"{name}: {volume} is on {device}", len(found) == 1 and found.pop().endswith(device))
             if wish == "--spread":
                 used = collections.Counter(it[0] for extents in last.values() for it in extents)
-                Count.that("spread: each disk has about the same", max(used.values()) - min(used.values()) <= 2 * unit,
-                           used)
+                that("spread: each disk has about the same", max(used.values()) - min(used.values()) <= 2 * unit, used)
     with Room() as room:  # a disk's last extents are fewer than a unit: what is there can leave, and nothing can come
         volumes = {**volumes, "end": [["/dev/loop1", at] for at in range(240, 255)]}
         report = json.loads(page("contrib/samples/lvm/lvs.json"))
@@ -117,22 +116,22 @@ def recorded_lvm():
         room.keep("lvs.json", report)
         room.good("the last extents", "cp contrib/samples/lvm/pvs.json .")
         printed = carry_out(room, "the last extents", "--empty loop1", 32, volumes, devices, None)
-        Count.that("what is in the last extents leaves", "-n end /dev/loop1:240-254 " in printed, printed)
-        Count.that("they are a slot where they are in use",
-                   "loop1,1,8\n" in room.read("disks.csv") and "loop0,1,7\n" in room.read("disks.csv"))
+        that("what is in the last extents leaves", "-n end /dev/loop1:240-254 " in printed, printed)
+        that("they are a slot where they are in use",
+             "loop1,1,8\n" in room.read("disks.csv") and "loop0,1,7\n" in room.read("disks.csv"))
 
 
 def what_ran(room, name, printed):
     """What -n prints is what the stand-in was called with, a round after the other."""
     moves = [line.removeprefix("begin ") for line in room.read("state/log").splitlines() if line.startswith("begin ")]
-    Count.same(f"{name}: what -n prints is what runs",
-               sorted(line.removeprefix("pvmove ") for line in printed.splitlines() if line[0] != "#"), sorted(moves))
+    same(f"{name}: what -n prints is what runs",
+         sorted(line.removeprefix("pvmove ") for line in printed.splitlines() if line[0] != "#"), sorted(moves))
     rounds, at = {}, 0
     for line in printed.splitlines():
         at += line[0] == "#"
         rounds[line.removeprefix("pvmove ")] = at
     ran = [rounds[it] for it in moves]
-    Count.same(f"{name}: one round after the other", ran, sorted(ran))
+    same(f"{name}: one round after the other", ran, sorted(ran))
 
 
 def the_unit_of_lvm(room):
@@ -154,7 +153,7 @@ def the_unit_of_lvm(room):
     room.keep("lvs.json", {"report": [{"seg": rows}]})
     # 150000 extents are 293 runs of 512, and 586 of 256
     chosen("--empty loop0", "unit 512 extents: 293 items on 3 disks, 293 of them go to another disk, by 293 pvmoves")
-    Count.same("its slots", room.read("disks.csv"), "disk,limit,slots\nloop0,1,390\nloop1,1,390\nloop2,1,390\n")
+    same("its slots", room.read("disks.csv"), "disk,limit,slots\nloop0,1,390\nloop1,1,390\nloop2,1,390\n")
     chosen("--spread", "unit 512 extents: 293 items on 3 disks, 195 of them go to another disk, by 195 pvmoves")
 
 
@@ -172,10 +171,10 @@ def what_reports_know():
                 row.update({"vg_extent_size": text}) if text else row.pop("vg_extent_size", None)
             room.keep("pvs.json", report)
             ran = room.run(f"contrib/from-lvm lvs.json pvs.json --empty loop0 --unit 16 {words}")
-            Count.same(f"the bytes of 16 extents, {name}", (ran.returncode, room.read("bytes.csv").splitlines()[1]),
-                       (0, f"db.0,{16 * wanted}"))
-            Count.same(f"it is said that they are supposed, {name}", "supposes extents of 4 MiB" in ran.stderr,
-                       name == "of none")
+            same(f"the bytes of 16 extents, {name}", (ran.returncode, room.read("bytes.csv").splitlines()[1]),
+                 (0, f"db.0,{16 * wanted}"))
+            same(f"it is said that they are supposed, {name}", "supposes extents of 4 MiB" in ran.stderr,
+                 name == "of none")
         for text, words, said in (("4.00m", "", "'4.00m' is no number of bytes of an extent"),
                                   ("33554432B", "--extent 4M", "--extent is not 33554432 bytes, as pvs.json has it")):
             report["report"][0]["pv"][0]["vg_extent_size"] = text
@@ -188,13 +187,12 @@ def what_reports_know():
         room.says("a leg's metadata go along, and it is said",
                   "contrib/from-lvm lvs.json pvs.json --move r_rimage_0=loop3 --unit 1",
                   "from-lvm: r_rmeta_0 goes along with r_rimage_0\n")
-        Count.that("a leg's metadata go along, and it is said",
-                   {disk for item, disk in rows_of(room.read("next.csv")) if re.match(r"r_r(image|meta)_0\.", item)}
-                   == {"loop3"})
+        that("a leg's metadata go along, and it is said",
+             {disk for item, disk in room.rows("next.csv") if re.match(r"r_r(image|meta)_0\.", item)} == {"loop3"})
         ran = room.run("contrib/from-lvm lvs.json pvs.json --move r_rimage_0=loop3 --move r_rmeta_0=loop4 --unit 1")
-        Count.that("where it is told it goes elsewhere",
-                   "goes along" not in ran.stderr and dict(rows_of(room.read("next.csv")))["r_rmeta_0.0"] == "loop4",
-                   ran)
+        that("where it is told it goes elsewhere",
+             "goes along" not in ran.stderr and dict(room.rows("next.csv"))["r_rmeta_0.0"] == "loop4",
+             ran)
 
 
 def lvm_of_parts():
@@ -208,9 +206,9 @@ def lvm_of_parts():
         room.good("parts",
                   "cp contrib/samples/lvm/parts/plan.txt . && contrib/to-lvm plan.txt names.csv --out moves.sh")
         printed = room.good("parts", "sh moves.sh -n")
-        Count.same("the recorded plan leads to what lvs said after it",
-                   sorted_extents(after_pvmoves(volumes, printed, devices)),
-                   sorted_extents(volumes_of("parts/after.json")))
+        same("the recorded plan leads to what lvs said after it",
+             sorted_extents(after_pvmoves(volumes, printed, devices)),
+             sorted_extents(volumes_of("parts/after.json")))
     for wish, unit in cases("""
             --empty loop0 --limit 2 | 4
             --empty loop0 --empty loop1 | 4
@@ -231,13 +229,12 @@ def lvm_of_parts():
             printed = carry_out(room, name, wish, unit, volumes, devices,
                                 (lambda room=room: room.state("lvm.json")["volumes"]) if unit >= 16 else None)
             last = after_pvmoves(volumes, printed, devices)
-            Count.same(f"{name}: what was to be empty is",
+            same(f"{name}: what was to be empty is",
                        [it for extents in last.values()
                         for it in extents if any(it[0].endswith(at) for at in re.findall(r"--empty (\S+)", wish))], [])
             if wish == "--spread":
                 used = collections.Counter(it[0] for extents in last.values() for it in extents)
-                Count.that("parts, spread: each disk has about the same", max(used.values()) - min(used.values()) <= 4,
-                           used)
+                that("parts, spread: each disk has about the same", max(used.values()) - min(used.values()) <= 4, used)
 
 
 def sorted_extents(volumes):
@@ -256,13 +253,13 @@ def the_script_of_lvm():
                             "--unit 32")
             wanted = wanted_extents(room, room.planned("to-lvm"), 32, dict(volumes_of()), sizes_of())
             room.good(form, f"contrib/to-lvm plan.txt names.csv {form} --out moves.sh")
-            Count.same("to-lvm prints what it saves", room.good(form, f"contrib/to-lvm plan.txt names.csv {form}"),
-                       room.read("moves.sh"))
-            plan, rounds = shifts_of(room.read("plan.txt")), len(shifts_of(room.read("plan.txt")))
+            same("to-lvm prints what it saves", room.good(form, f"contrib/to-lvm plan.txt names.csv {form}"),
+                 room.read("moves.sh"))
+            plan, rounds = room.shifts(), len(room.shifts())
             for words, status, said in WORDS_OF_SCRIPTS:
                 words, said = (it.format(more=rounds + 1, rounds=rounds) for it in (words, said))
                 ran = room.says(f"sh moves.sh {form} {words}", f"sh moves.sh {words}", said, status=status)
-                Count.that(f"sh moves.sh {form} {words}", not ran.stdout, ran)
+                that(f"sh moves.sh {form} {words}", not ran.stdout, ran)
             room.write("state/fail-db-64", "")
             failing = next(at for at, round_ in enumerate(plan, 1) if any(it[1:3] == ["loop0", "2"] for it in round_))
             room.write("hook", 'echo "$@" >>told')
@@ -270,24 +267,24 @@ def the_script_of_lvm():
                             "sh moves.sh --hook 'sh hook'" if not form else "sh moves.sh", "ended with status 5",
                             f"stopped in round {failing}; begin again with: sh moves.sh {failing}", status=1)
             if not form:
-                Count.same("the hook is told", room.read("told"),
-                           f"failed moves.sh: a pvmove of round {failing} failed\nstopped moves.sh: stopped in round "
-                           f"{failing}\n")
+                same("the hook is told", room.read("told"),
+                     f"failed moves.sh: a pvmove of round {failing} failed\nstopped moves.sh: stopped in round "
+                     f"{failing}\n")
             line = next((it for it in room.read("moves.sh").splitlines()
                          if it.startswith("lvm-step ") and " /dev/loop0:64-95 " in it), "")
             if not form:  # a line by hand, with what the script's PATH has
                 ran = room.run(f"PATH=$PATH:contrib; {line}; {line}; {line.partition(' /dev/loop2')[0]} "
                                f"/dev/loop2:200-231; echo $?")
-                Count.that("a line by hand", "db goes from /dev/loop0:64-95" in ran.stdout and " already\n"
+                that("a line by hand", "db goes from /dev/loop0:64-95" in ran.stdout and " already\n"
                            in ran.stdout and "neither at" in ran.stderr and ran.stdout.endswith("1\n"), ran)
-                Count.same("a line by hand, printed",
-                           room.good("by hand", f"PATH=$PATH:contrib; {line} -n").split()[:4],
-                           ["pvmove", "-i", "3", "-n"])
+                same("a line by hand, printed",
+                     room.good("by hand", f"PATH=$PATH:contrib; {line} -n").split()[:4],
+                     ["pvmove", "-i", "3", "-n"])
             ran = room.run(f"sh moves.sh {failing}")
-            Count.that(f"it begins again there {form}",
-                       ran.returncode == 0
-                       and room.state("lvm.json")["volumes"] == wanted and f"round {failing - 1}:" not in ran.stdout,
-                       ran)
+            that(f"it begins again there {form}",
+                 ran.returncode == 0 and room.state("lvm.json")["volumes"] == wanted
+                     and f"round {failing - 1}:" not in ran.stdout,
+                 ran)
             state = room.state("lvm.json")
             state["volumes"]["db"] = [["/dev/loop1", at + 150] for at in range(100)]
             room.keep("state/lvm.json", state)
@@ -309,8 +306,8 @@ def the_script_of_lvm():
         refused(room, "a second one at once", "timeout 20 sh moves.sh", "moves.sh is being carried out already")
         ran.terminate()
         status, said = ran.wait(LIMIT), room.read("notes")
-        Count.that("a signal lets pvmove go on", status == 130 and "each pvmove under way goes on" in said
-                   and "sh moves.sh 1" in said, (status, said))
+        that("a signal lets pvmove go on",
+             status == 130 and "each pvmove under way goes on" in said and "sh moves.sh 1" in said, (status, said))
         room.write("go", "")
         until(lambda: "end " in (room.read("state/log") or ""), "the pvmove to go on")
         room.good("lvm-step", "sh moves.sh")
@@ -327,7 +324,7 @@ def the_log_of_lvm(room):
     room.good("log", "contrib/to-lvm plan.txt names.csv --out moves.sh; mkdir bin/real; mv bin/pvmove bin/real/")
     room.write("bin/pvmove", '#!/bin/sh\n[ ! -e end ] || echo 1773190000 >clock\n'
                'exec "${0%pvmove}real/pvmove" "$@"\n')
-    plan, hook = shifts_of(room.read("plan.txt")), "--hook 'sh hook'"
+    plan, hook = room.shifts(), "--hook 'sh hook'"
     room.write("hook", 'echo "$@" >>told')
     room.write("clock", "1773180000")  # 2026-03-10, a Tuesday
     words, zone = "plan.txt --log log --names names.csv --json", "TZ=UTC CLOCK=clock"
@@ -342,24 +339,24 @@ def the_log_of_lvm(room):
                   f"rm -f log over; {first} {waits} {zone} sh moves.sh --until 06:00 {more} {hook} >log",
                   "lvm-step: paused: ", "ended before round 1, as --until says; begin again with: sh moves.sh 1",
                   status=3)
-        Count.that(f"{name}, up to --until", "round 1:" not in room.read("log"))
+        that(f"{name}, up to --until", "round 1:" not in room.read("log"))
         found = look()
-        Count.same(f"{name}: nothing is done", (found["rounds_done"], found["items_done"], found["done"],
-                                                found["seconds_left"]), (0, 0, False, None))
+        same(f"{name}: nothing is done",
+             (found["rounds_done"], found["items_done"], found["done"], found["seconds_left"]), (0, 0, False, None))
     room.says("an end after the first round",
               f"rm -f pause over; touch end; {zone} sh moves.sh --until 22:30 {hook} >>log", "ended before round 2",
               status=3)
-    Count.that("an end after the first round", "round 2:" not in room.read("log"))
+    that("an end after the first round", "round 2:" not in room.read("log"))
     found = look()
-    Count.same("the first round is done", (found["rounds_done"], found["items_done"], found["done"]),
-               (1, len(plan[0]), False))
+    same("the first round is done", (found["rounds_done"], found["items_done"], found["done"]),
+         (1, len(plan[0]), False))
     room.good("the rest", f"rm -f end; echo 1773180000 >clock; {zone} sh moves.sh 2 --window 'tue 22:00-06:00' "
               f"{hook} >>log; tail -n 1 log | grep -qx 'all rounds are carried out'")
     found = look()
-    Count.same("all is done", (found["rounds_done"], found["items_done"], found["done"]),
-               (len(plan), sum(map(len, plan)), True))
-    Count.same("what the hook is told", collections.Counter(it.split()[0] for it in room.read("told").splitlines()),
-               {"ended": 4, "done": 1})
+    same("all is done", (found["rounds_done"], found["items_done"], found["done"]),
+         (len(plan), sum(map(len, plan)), True))
+    same("what the hook is told", collections.Counter(it.split()[0] for it in room.read("told").splitlines()),
+         {"ended": 4, "done": 1})
 
 
 def the_summary_of_lvm(room):
@@ -371,10 +368,10 @@ def the_summary_of_lvm(room):
                  "item,y.0,/dev/a,y:18-19 z:20-23\nitem,w.0,/dev/b,w:0-7\n")
     room.write("p", plan_of("x.0 a 0 c 0, x.1 a 1 c 1, w.0 b 0 c 2", "y.0 a 2 b 1"))
     lines = room.good("summary", "contrib/summary p --names names").splitlines()
-    Count.same("summary counts pvmoves and steps", lines[-1], "pvmoves 5, in 4 steps one after the other")
+    same("summary counts pvmoves and steps", lines[-1], "pvmoves 5, in 4 steps one after the other")
     # 8, 2, 2 and 4 extents of 8 that take 8 s: 8 + 2 + 2 + 4 seconds
     lines = room.good("summary", "contrib/summary p --names names --bytes 8M --rate 1M").splitlines()
-    Count.same("summary has the time of the steps", lines[-1], "time 16 s: 4 steps of at most 8 s each")
+    same("summary has the time of the steps", lines[-1], "time 16 s: 4 steps of at most 8 s each")
     refused(room, "summary, names of another plan", "contrib/summary p --names contrib/samples/README.md",
             "does not begin with the row kind,name,device,extents")
 
@@ -419,7 +416,7 @@ class Lab:
         sums = self.sums()
         carry_out(self.room, f"real LVM, {wish}", wish, unit, self.look(), {it: 63 for it in self.loops}, self.look,
                   planned)
-        Count.same(f"real LVM, {wish}: what the volumes hold", self.sums(), sums)
+        same(f"real LVM, {wish}: what the volumes hold", self.sums(), sums)
 
     def sums(self):
         """The digests of the active volumes; where none can be active, of the first bytes of each extent, in the order
@@ -475,10 +472,10 @@ class Lab:
         self.fill()
         self.report()
         said = self.room.run(f"contrib/from-lvm lvs.json pvs.json --move db={b} --move web={a} --unit 8").stderr
-        Count.that("real LVM, tight: the form", "the form to use is `migrate plan-tight`" in said, said)
+        that("real LVM, tight: the form", "the form to use is `migrate plan-tight`" in said, said)
         self.carry_out(f"--move db={b} --move web={a}", 8, Room.planned_tight)
-        Count.that("real LVM, tight: an item is parked",
-                   any(it[3] == os.path.basename(c) for it in sum(shifts_of(self.room.read("plan.txt")), [])))
+        that("real LVM, tight: an item is parked",
+             any(it[3] == os.path.basename(c) for it in sum(shifts_of(self.room.read("plan.txt")), [])))
 
     def under_way(self):
         """A pvmove that was begun, and is at no end."""
@@ -510,7 +507,7 @@ class Lab:
         used = dict(line.split()
                     for line in self.do(f"pvs --noheadings -o pv_name,pv_pe_alloc_count -S "
                                         f"vg_name={self.group}").splitlines())
-        Count.same("real LVM says that it is empty", used[a], "0")
+        same("real LVM says that it is empty", used[a], "0")
         self.do(f"vgreduce {self.group} {a}")
         self.report()
         refused(self.room, "real LVM, legs", f"contrib/from-lvm lvs.json pvs.json --move five_rimage_1={c} --unit 1",

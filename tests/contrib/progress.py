@@ -3,7 +3,7 @@ import collections, contextlib, fcntl, fractions, itertools, json, os, random, r
 from clocked import START, carried_out, set_clock
 from limits import made_case
 from limits_model import Case, plan_text
-from rooms import Count, Room, cases, page, plan_of, refused, rows_of, shifts_of
+from rooms import Room, cases, page, plan_of, refused, same, shifts_of, that
 from waiting import LIMIT, until
 
 
@@ -69,11 +69,11 @@ def time_left():
                                              f"CLOCK=clock contrib/progress plan.txt --json --sizes bytes.csv "
                                              f"{'--eager disks.csv' if eager else ''}"))
             left = whole * 2 / 3
-            Count.that(name, abs(found["seconds_left"] - left) <= left / 5, (found, left))
+            that(name, abs(found["seconds_left"] - left) <= left / 5, (found, left))
             done = [item for item, (_, end) in spans.items() if end <= whole / 3]
-            Count.same(f"{name}: what is done",
-                       (found["items_done"], found["bytes_done"], found["bytes"], found["done"], found["paused"]),
-                       (len(done), sum(sizes[it] for it in done), sum(sizes.values()), False, False))
+            same(f"{name}: what is done",
+                 (found["items_done"], found["bytes_done"], found["bytes"], found["done"], found["paused"]),
+                 (len(done), sum(sizes[it] for it in done), sum(sizes.values()), False, False))
 
 
 def a_real_run(room):
@@ -93,25 +93,25 @@ def a_real_run(room):
         # a source is removed after its round
         done = [it[0] for round_ in rounds if all(spans[it[0]][1] <= now for it in round_) for it in round_]
         left = whole - now
-        Count.that(f"a real run: the time left after {now / whole:.2f} of it",
-                   found["done"] or abs(found["seconds_left"] - left) <= left / 5, (found, left))
-        Count.same("a real run: what is done", (found["items_done"], found["bytes_done"]),
-                   (len(done), sum(sizes[it] for it in done)))
-        Count.that("a real run: its time", abs(found["seconds_at_work"] - now) < 0.1, found)
-        Count.that("a real run: who is at work", found["process"] is not None and not found["paused"], found)
+        that(f"a real run: the time left after {now / whole:.2f} of it",
+             found["done"] or abs(found["seconds_left"] - left) <= left / 5, (found, left))
+        same("a real run: what is done", (found["items_done"], found["bytes_done"]),
+             (len(done), sum(sizes[it] for it in done)))
+        that("a real run: its time", abs(found["seconds_at_work"] - now) < 0.1, found)
+        that("a real run: who is at work", found["process"] is not None and not found["paused"], found)
 
     status = carried_out(room, "--unverified --erase 'true {item}'", spans, look,
                          [whole * part / 12 for part in (4, 5, 6, 8, 10)])
-    Count.same("a real run: it ends well, and was looked at", (status, len(seen)), (0, 5))
+    same("a real run: it ends well, and was looked at", (status, len(seen)), (0, 5))
     total = f"{sum(sizes.values()) / 1024:.1f} KiB"
-    Count.same("a real run: done", room.good("a real run", "contrib/progress plan.txt --sizes bytes.csv"),
-               f"[{'#' * 30}] 9 of 9 rounds, 18 of 18 items, {total} of {total}, done\n")
+    same("a real run: done", room.good("a real run", "contrib/progress plan.txt --sizes bytes.csv"),
+         f"[{'#' * 30}] 9 of 9 rounds, 18 of 18 items, {total} of {total}, done\n")
 
 
 def what_places_say(room):
     """A place without times, one of another plan, one with copies whose sources still stand, a run that was killed."""
     room.example()
-    rounds, digest = shifts_of(room.read("plan.txt")), room.good("places", "sha256sum <plan.txt").split()[0]
+    rounds, digest = room.shifts(), room.good("places", "sha256sum <plan.txt").split()[0]
     head = f"plan {digest}\n"
     copied = "".join(f"copied 1 {it[0]}\n" for it in rounds[0])
     for name, place, times, wanted in (("without times", head + copied, "", " 1 of 3 rounds, 3 of 11 items, "),
@@ -132,8 +132,7 @@ def what_places_say(room):
         room.write("plan.txt.place", place)
         room.write("plan.txt.place.times", times)
         said = room.good(f"places, {name}", "contrib/progress plan.txt")
-        Count.that(f"places, {name}", wanted in said and ", done" not in said and "nothing is at work here" in said,
-                   said)
+        that(f"places, {name}", wanted in said and ", done" not in said and "nothing is at work here" in said, said)
     # two runs: what lies between them doesn't count, and the time left goes by both
     room.write("plan.txt.place", head + copied)
     lines = [(0, "begins copied rounds"), *((0, f"copying 1 {it[0]}") for it in rounds[0]),
@@ -141,7 +140,7 @@ def what_places_say(room):
              (90000, "begins copied rounds"), (90000, f"copying 2 {rounds[1][0][0]}"), (90010, "ends")]
     room.write("plan.txt.place.times", "".join(f"{1700000000 + at} {text}\n" for at, text in lines))
     found = json.loads(room.good("places", "contrib/progress plan.txt --json"))
-    Count.same("two runs", (found["seconds_at_work"], found["seconds_left"], found["process"]), (110.0, 200.0, None))
+    same("two runs", (found["seconds_at_work"], found["seconds_left"], found["process"]), (110.0, 200.0, None))
     room.write("other.txt", room.read("plan.txt").replace("db2 ssd1 1 ssd2 2", "db2 ssd1 1 ssd2 3"))
     room.write("no", "item,bytes\ndb2,1\n")
     room.write("bad", "item,bytes\ndb2,1.5\n")
@@ -168,15 +167,14 @@ def what_is_measured():
                                                  f"copied {at + 1} i{at}" for at in range(done)), f"{seconds} ends"]
             room.write("plan.txt.place.times", "".join(f"{line}\n" for line in lines))
             found = json.loads(room.good("time left", "contrib/progress plan.txt --json"))
-            Count.same(f"the time left once {done} of 10 are done in {seconds} s", found["seconds_left"], left)
+            same(f"the time left once {done} of 10 are done in {seconds} s", found["seconds_left"], left)
         room.write("plan.txt.place", f"plan {digest}\ncopied 1 i0\n")
         room.write("plan.txt.place.times", "0 begins copied rounds\n0 copying 1 i0\n20 copied 1 i0\n20 ends\n")
         wanted = {"rounds": 10, "items": 10, "bytes": 55000, "rounds_done": 1, "items_done": 1, "bytes_done": 1000,
                   "seconds_at_work": 20.0, "paused": 0, "at_work": 0, "done": 0}
-        Count.same("what Prometheus reads", room.good("metrics", "contrib/progress plan.txt --sizes bytes.csv "
-                                                                 "--metrics"), "".join(
-            f'# TYPE migrate_plan_{name} gauge\nmigrate_plan_{name}{{plan="{digest}"}} {value}\n' for name,
-            value in wanted.items()))
+        same("what Prometheus reads", room.good("metrics", "contrib/progress plan.txt --sizes bytes.csv --metrics"),
+             "".join(f'# TYPE migrate_plan_{name} gauge\nmigrate_plan_{name}{{plan="{digest}"}} {value}\n' for name,
+                     value in wanted.items()))
         refused(room, "--metrics --every", "contrib/progress plan.txt --metrics --every 1",
                 "--metrics goes neither with", 2)
 
@@ -198,16 +196,16 @@ def hooks(room):
             ("a hook that fails", f"STATUS=7 contrib/run-plan {words} cp -a mnt/{{from}}/{{item}} mnt/{{to}}/", 0,
              "done: plan.txt: all 1 rounds are carried out\n")):
         ran = room.run(f"rm -f told; {command}")
-        Count.same(f"the hook, {name}", (ran.returncode, room.read("told")), (status, wanted))
-        Count.same(f"the hook's own status, {name}",
-                   "run-plan: --hook ended with status 7: sh hook\n" in ran.stderr, "7" in command)
+        same(f"the hook, {name}", (ran.returncode, room.read("told")), (status, wanted))
+        same(f"the hook's own status, {name}", "run-plan: --hook ended with status 7: sh hook\n" in ran.stderr,
+             "7" in command)
 
 
 # Pauses
 
 def pauses(room):
     room.example()
-    rounds = shifts_of(room.read("plan.txt"))
+    rounds = room.shifts()
     first, all_ = {it[0] for it in rounds[0]}, {it[0] for round_ in rounds for it in round_}
     # each other copy ends after the first one, so that not all have begun by then
     room.write("job",
@@ -226,34 +224,34 @@ def pauses(room):
         time.sleep(0.5)
         log = [it.split() for it in room.read("log").splitlines()]
         begun = {item for what, kind, item in log if (what, kind) == ("begin", "copy")}
-        Count.that(f"a pause, {eager or 'rounds'}: nothing begins",
-                   begun < all_ and (eager or begun == first) and ran.poll() is None, log)
+        that(f"a pause, {eager or 'rounds'}: nothing begins",
+             begun < all_ and (eager or begun == first) and ran.poll() is None, log)
         found = json.loads(room.good("pauses", "contrib/progress plan.txt --json"))
-        Count.that(f"a pause, {eager or 'rounds'}: progress says so", found["paused"] and not found["done"], found)
+        that(f"a pause, {eager or 'rounds'}: progress says so", found["paused"] and not found["done"], found)
         if not eager:
-            Count.same("a pause between rounds: the round is whole", collections.Counter(map(tuple, log)),
-                       collections.Counter((what, kind, it) for it in first for kind in ("copy", "verify", "erase")
-                                           for what in ("begin", "end")))
+            same("a pause between rounds: the round is whole", collections.Counter(map(tuple, log)),
+                 collections.Counter((what, kind, it) for it in first for kind in ("copy", "verify", "erase")
+                                     for what in ("begin", "end")))
         os.unlink(room.path("pause"))
-        Count.same(f"a pause that is over, {eager or 'rounds'}",
-                   (ran.wait(LIMIT), room.read("said").splitlines()[-1]), (0, "all 3 rounds are carried out"))
+        same(f"a pause that is over, {eager or 'rounds'}", (ran.wait(LIMIT), room.read("said").splitlines()[-1]),
+             (0, "all 3 rounds are carried out"))
         # its time comes in the first round: what began is ended, and the status is not 0
         room.good("until", f"rm -f log pause plan.txt.place*; echo over >{stop}")
         ended = room.run(f"OVER=over contrib/run-plan {words}")
         log = [it.split() for it in room.read("log").splitlines()]
-        Count.that(f"--until, {eager or 'rounds'}",
+        that(f"--until, {eager or 'rounds'}",
                    ended.returncode == 3 and "as --until says; begin again with the same words" in ended.stderr
                    and "all" not in ended.stdout.splitlines()[-1:], ended)
-        Count.that(f"--until, {eager or 'rounds'}: what began is whole",
-                   log and all(collections.Counter(item for *_, item in log)[item] == 6 for *_, item in log), log)
+        that(f"--until, {eager or 'rounds'}: what began is whole",
+             log and all(collections.Counter(item for *_, item in log)[item] == 6 for *_, item in log), log)
         room.good("until", f"rm {stop} over")
-        Count.that(f"--until, {eager or 'rounds'}: the rest",
-                   room.good("until", f"contrib/run-plan {words}").endswith("all 3 rounds are carried out\n"))
-        Count.same(f"--until, {eager or 'rounds'}: each once", collections.Counter(room.read("log").splitlines()),
-                   collections.Counter(f"{what} {kind} {it}" for it in all_ for kind in ("copy", "verify", "erase")
-                                       for what in ("begin", "end")))
-        Count.same(f"--until, when all is done, {eager or 'rounds'}",
-                   room.run(f"touch over; OVER=over contrib/run-plan {words}").returncode, 0)
+        that(f"--until, {eager or 'rounds'}: the rest",
+             room.good("until", f"contrib/run-plan {words}").endswith("all 3 rounds are carried out\n"))
+        same(f"--until, {eager or 'rounds'}: each once", collections.Counter(room.read("log").splitlines()),
+             collections.Counter(f"{what} {kind} {it}" for it in all_ for kind in ("copy", "verify", "erase")
+                                 for what in ("begin", "end")))
+        same(f"--until, when all is done, {eager or 'rounds'}",
+             room.run(f"touch over; OVER=over contrib/run-plan {words}").returncode, 0)
         # a copy that fails while its time has come is a failure, and not an end by --until
         room.good("until", "rm -f log over plan.txt.place*")
         room.says(f"--until and a failure, {eager or 'rounds'}",
@@ -264,13 +262,12 @@ def pauses(room):
         ran = room.begin(f"exec alone/run-plan {words} >said 2>notes")
         until(lambda: "paused" in (room.read("notes") or ""), "a pause")
         ran.terminate()
-        Count.that(f"a pause that is stopped, {eager or 'rounds'}",
+        that(f"a pause that is stopped, {eager or 'rounds'}",
                    ran.wait(LIMIT) == 130 and room.read("log") is None
                    and "begin again with the same words" in room.read("notes"), room.read("notes"))
         ended = room.run(f"rm notes; (until grep -qs paused notes || ! kill -0 $$; do sleep 0.1; done; touch over) "
                          f"& OVER=over contrib/run-plan {words} 2>notes")
-        Count.that(f"a pause up to --until, {eager or 'rounds'}",
-                   ended.returncode == 3 and room.read("log") is None, ended)
+        that(f"a pause up to --until, {eager or 'rounds'}", ended.returncode == 3 and room.read("log") is None, ended)
     refused(room, "--until of no time", "contrib/run-plan --until 25:00 plan.txt true {item}", "--until", 2)
 
 
@@ -301,26 +298,26 @@ def logs(room):
         # paused before the first round, up to its time
         ran = room.run(f"{at}touch pause; (until grep -qs paused log; do sleep 0.1; done; touch over) & sh "
                        f"{script} --until 06:00 >log; echo $?; rm pause over")
-        Count.that(f"{script}: a pause up to --until",
-                   ran.stdout == "3\n" and "paused before round 1" in ran.stderr
-                   and f"begin again with: sh {script} 1" in ran.stderr
-                   and "round 1:" not in room.read(f"{folder}/log"), ran)
+        that(f"{script}: a pause up to --until",
+             ran.stdout == "3\n" and "paused before round 1" in ran.stderr
+                 and f"begin again with: sh {script} 1" in ran.stderr and "round 1:" not in room.read(f"{folder}/log"),
+             ran)
         found = json.loads(room.good(script, look))
-        Count.same(f"{script}: nothing is done",
-                   (found["rounds_done"], found["items_done"], found["done"], found["seconds_left"]),
-                   (0, 0, False, None))
+        same(f"{script}: nothing is done",
+             (found["rounds_done"], found["items_done"], found["done"], found["seconds_left"]),
+             (0, 0, False, None))
         # its time comes in the first round
         ran = room.run(f"{at}sed 's/^if begins 2; then/touch over; if begins 2; then/' {script} >half.sh; sh "
                        f"half.sh --until 06:00 >>log; echo $?; rm -f over")
         found = json.loads(room.good(script, look))
-        Count.that(f"{script}: an end after the first round",
-                   ran.stdout == "3\n" and "round 2:" not in room.read(f"{folder}/log"), ran)
-        Count.same(f"{script}: the first round is done",
-                   (found["rounds_done"], found["items_done"], found["bytes_done"], found["done"]),
-                   (1, len(plan[0]), sum(range(len(plan[0]) + 1)), False))
+        that(f"{script}: an end after the first round",
+             ran.stdout == "3\n" and "round 2:" not in room.read(f"{folder}/log"), ran)
+        same(f"{script}: the first round is done",
+             (found["rounds_done"], found["items_done"], found["bytes_done"], found["done"]),
+             (1, len(plan[0]), sum(range(len(plan[0]) + 1)), False))
         if names:
-            Count.that(f"{script}: the rest",
-                       room.good(script, f"{at}sh {script} 2 >>log; tail -n 1 log") == "all rounds are carried out\n")
+            that(f"{script}: the rest",
+                 room.good(script, f"{at}sh {script} 2 >>log; tail -n 1 log") == "all rounds are carried out\n")
         else:  # what it prints is made here: a run of all takes its time
             digest = room.good(script, f"{at}sha256sum <plan.txt").split()[0]
             rest = "".join(f"time {int(time.time())} round {it}\nround {it}: 0 of 2 groups are clean where they "
@@ -330,16 +327,16 @@ def logs(room):
                        f"{room.read(f'{folder}/log')}time {int(time.time())} begins {digest}\n{rest}all rounds are "
                        f"carried out\n")
         found = json.loads(room.good(script, look))
-        Count.same(f"{script}: all is done", (found["rounds_done"], found["items_done"], found["done"]),
-                   (len(plan), count, True))
+        same(f"{script}: all is done", (found["rounds_done"], found["items_done"], found["done"]),
+             (len(plan), count, True))
         # a log that begins in the middle says what it saw
         if names:
             found = json.loads(room.good(script, f"{at}sh {script} {len(plan)} >log; {look.removeprefix(at)}"))
-            Count.same(f"{script}: a log of the last round",
-                       (found["done"], found["rounds_done"], found["items_done"]), (False, 1, len(plan[-1])))
+            same(f"{script}: a log of the last round", (found["done"], found["rounds_done"], found["items_done"]),
+                 (False, 1, len(plan[-1])))
         for word in ("6", "24:00", "06:60", ""):
             ran = room.run(f"{at}sh {script} --until '{word}'")
-            Count.that(f"{script} --until '{word}'", ran.returncode == 2 and not ran.stdout, ran)
+            that(f"{script} --until '{word}'", ran.returncode == 2 and not ran.stdout, ran)
         room.says(f"{script} --until alone", f"{at}sh {script} --until", "is no time of day", status=2)
 
 
@@ -350,24 +347,24 @@ def sizes():
         room.good("sizes",
                   "for it in a b; do mkdir -p mnt/$it; done; for it in 1 2 30; do mkdir mnt/a/i$it; head -c ${it}0000 "
                   "/dev/zero >mnt/a/i$it/data; done; contrib/from-folders mnt/* --empty a")
-        names = {row[1]: row[3] for row in rows_of(room.read("names.csv")) if row[0] == "item"}
-        Count.same("bytes.csv of folders is what names.csv has", dict(rows_of(room.read("bytes.csv"))), names)
+        names = {row[1]: row[3] for row in room.rows("names.csv") if row[0] == "item"}
+        same("bytes.csv of folders is what names.csv has", dict(room.rows("bytes.csv")), names)
         room.good("sizes", "./migrate plan disks.csv now.csv next.csv plan.txt cert.txt")
         found = json.loads(room.good("sizes", "contrib/summary plan.txt disks.csv --sizes bytes.csv --rate 1K --json"))
         total = sum(map(int, names.values()))
-        Count.same("summary --json",
+        same("summary --json",
                    (found["moves"], found["rounds"], found["bytes"], found["transfers_by_round"], found["seconds"],
                     found["seconds_without_rounds"]), (3, 3, total, [1, 1, 1], total / 1024, total / 1024))
-        Count.same("its disks", found["disks"],
-                   [{"disk": it, "transfers": 3, "bytes": total, "sides": [{"way": "", "transfers": 3, "limit": 1}],
-                     "rounds": 3} for it in "ab"])
+        same("its disks", found["disks"],
+             [{"disk": it, "transfers": 3, "bytes": total, "sides": [{"way": "", "transfers": 3, "limit": 1}],
+               "rounds": 3} for it in "ab"])
     with Room() as room:
         # two rounds of a long and a short one each, on disks of their own: without rounds they take half the time
         room.write("plan.txt", plan_of("x a 0 b 0, y c 0 d 0", "z a 1 b 1, w c 1 d 1"))
         room.write("disks.csv", "disk,limit,slots\n" + "".join(f"{it},1,4\n" for it in "abcd"))
         room.write("bytes.csv", "item,bytes\nx,9216\ny,1024\nz,1024\nw,9216\nmore,5\n")
         said = room.good("sizes", "contrib/summary plan.txt disks.csv --sizes bytes.csv --rate 1K")
-        Count.that("the time of rounds of unequal sizes",
+        that("the time of rounds of unequal sizes",
                    said.startswith("moves 4\nbytes 20.0 KiB\nrounds 2\n")
                    and "  a: 2 transfers, limit 1, 10.0 KiB, needs 2 rounds\n" in said
                    and said.endswith("time 18 s: 2 rounds, each as long as its greatest item\ntime without rounds 10 "
@@ -384,19 +381,18 @@ def sizes():
         room.good("sizes",
                   "cp contrib/samples/lvm/*.json . && contrib/from-lvm lvs.json pvs.json --empty loop0 --extent 32M")
         extents = {row[1]: sum(int(last) - int(first) + 1 for first, last in re.findall(r":(\d+)-(\d+)", row[3]))
-                   for row in rows_of(room.read("names.csv")) if row[0] == "item"}
-        Count.same("bytes.csv of LVM", {item: int(it) for item, it in rows_of(room.read("bytes.csv"))},
-                   {item: it * 32 << 20 for item, it in extents.items()})
+                   for row in room.rows("names.csv") if row[0] == "item"}
+        same("bytes.csv of LVM", {item: int(it) for item, it in room.rows("bytes.csv")},
+             {item: it * 32 << 20 for item, it in extents.items()})
         groups = sorted(set(re.findall(r"^(\d+\.[0-9a-f]+) raw", page("contrib/samples/ceph/before"), re.M)))
         room.keep("pgs.json",
                   {"pg_map":
                    {"pg_stats": [{"pgid": it, "stat_sum": {"num_bytes": 4000 * at}} for at, it in enumerate(groups)]}})
         words = "contrib/from-ceph S/before S/after S/dump S/crush".replace("S/", "contrib/samples/ceph/")
         room.good("sizes", f"{words} --sizes pgs.json --moving")
-        found = {item: int(it) for item, it in rows_of(room.read("bytes.csv"))}
-        Count.same("bytes.csv of Ceph has the items of now.csv", list(found),
-                   [row[0] for row in rows_of(room.read("now.csv"))])
-        Count.that("a shard of four has a quarter",
+        found = {item: int(it) for item, it in room.rows("bytes.csv")}
+        same("bytes.csv of Ceph has the items of now.csv", list(found), [row[0] for row in room.rows("now.csv")])
+        that("a shard of four has a quarter",
                    all(it == 4000 * groups.index(re.split("[s-]", item)[0]) / (4 if item.startswith("4.") else 1)
                        for item, it in found.items()), found)
         room.keep("pgs.json", {"pg_stats": []})
@@ -437,20 +433,20 @@ def balanced():
                      for it in sorted(os.listdir(room.path(f"mnt/{disk}")))}
             best = fewest(items, disks, size, percent)
             if best is None:
-                Count.that(f"balance, case {seed}: no way does",
+                that(f"balance, case {seed}: no way does",
                            ran.returncode == 1 and "not each disk can be filled to the same part" in ran.stderr
                            and room.read("now.csv") is None, ran)
                 continue
-            now, next_ = {it[0]: it[1] for it in rows_of(room.read("now.csv"))}, dict(rows_of(room.read("next.csv")))
+            now, next_ = {it[0]: it[1] for it in room.rows("now.csv")}, dict(room.rows("next.csv"))
             used = collections.Counter()
             for (_, it), bytes_ in items.items():
                 used[next_[it]] += bytes_
             part = sum(used.values()) / sum(size.values())
-            Count.that(f"balance, case {seed}: each disk's part",
-                       all(abs(used[it] / size[it] - part) <= percent / 100 + 1e-9 for it in disks), (used, size))
-            Count.same(f"balance, case {seed}: as few as can be", sum(now[it] != next_[it] for it in now), best)
-            Count.that(f"balance, case {seed}: how few have to is not more",
-                       int(re.search(r"; (\d+) at least have to", ran.stderr)[1]) <= best, ran.stderr)
+            that(f"balance, case {seed}: each disk's part",
+                 all(abs(used[it] / size[it] - part) <= percent / 100 + 1e-9 for it in disks), (used, size))
+            same(f"balance, case {seed}: as few as can be", sum(now[it] != next_[it] for it in now), best)
+            that(f"balance, case {seed}: how few have to is not more",
+                 int(re.search(r"; (\d+) at least have to", ran.stderr)[1]) <= best, ran.stderr)
     with Room() as room:
         room.good("balance", "cp contrib/samples/lvm/*.json .")
         for words, percent, gone in (("--balance 4", 4, ()), ("--balance 2.5 --empty loop0", 2.5, ("loop0",)),
@@ -458,12 +454,12 @@ def balanced():
             room.good("balance", f"contrib/from-lvm lvs.json pvs.json {words}")
             last = room.planned(f"from-lvm {words}")
             bulk = {row[1]: sum(int(two) - int(one) + 1 for one, two in re.findall(r":(\d+)-(\d+)", row[3]))
-                    for row in rows_of(room.read("names.csv")) if row[0] == "item"}
+                    for row in room.rows("names.csv") if row[0] == "item"}
             used = collections.Counter(dict.fromkeys((it for it in ("loop0", "loop1", "loop2") if it not in gone), 0))
             for item, (disk, _) in last.items():
                 used[disk] += bulk[item]
             part = sum(used.values()) / len(used) / 255
-            Count.that(f"from-lvm {words}: each disk's part",
+            that(f"from-lvm {words}: each disk's part",
                        set(used) == {"loop0", "loop1", "loop2"} - set(gone)
                        and all(abs(it / 255 - part) <= percent / 100 for it in used.values()), used)
         os.makedirs(room.path("mnt/a"))

@@ -1,7 +1,7 @@
 """What the scripts of contrib/ refuse: each with a sentence, a status other than 0, and no file."""
 import json, os, re
 from limits_model import plan_text
-from rooms import FILES, SAMPLES, Count, Room, all_refused, cases, page, plan_of, refused, rows_of, shifts_of
+from rooms import FILES, SAMPLES, Room, all_refused, cases, page, plan_of, refused, same, shifts_of, that
 from tight import segment
 
 
@@ -58,8 +58,8 @@ def reports_of_lvm(room, lvs, pvs):
         refused(room, "from-lvm, not allocatable", f"contrib/from-lvm lvs.json closed-pvs.json {wish}", said)
     room.good("from-lvm, what is not allocatable gets nothing",
               "contrib/from-lvm lvs.json closed-pvs.json --empty loop0")
-    Count.same("nothing goes there",
-               [it for it in rows_of(room.read("next.csv")) if it[1] == "loop1" and not it[0].startswith("web.")], [])
+    same("nothing goes there",
+         [it for it in room.rows("next.csv") if it[1] == "loop1" and not it[0].startswith("web.")], [])
     room.good("from-lvm, what is not allocatable is emptied",
               "contrib/from-lvm lvs.json closed-pvs.json --spread --empty loop1")
     for wish, said in cases("""
@@ -191,13 +191,13 @@ def odd_names_of_lvm():
                      [segment(volume, f"/dev/sda1:{4 * at}-{4 * at + 3}") for at, volume in enumerate(volumes)]}]})
         room.good("odd names", "contrib/from-lvm lvs.json pvs.json --spread")
         room.planned("odd names")
-        rows = rows_of(room.read("names.csv"))
+        rows = room.rows("names.csv")
         for kind in ("disk", "item"):
             names = [name for it, name, *_ in rows if it == kind]
-            Count.that(f"names of a {kind}",
-                       len(set(names)) == len(names)
-                       and all(re.fullmatch(r"[A-Za-z0-9_.-]{1,32}", it, re.A) for it in names), names)
-        Count.same("what the disks stand for", [device for kind, _, device, _ in rows if kind == "disk"], list(devices))
+            that(f"names of a {kind}",
+                 len(set(names)) == len(names) and all(re.fullmatch(r"[A-Za-z0-9_.-]{1,32}", it, re.A) for it in names),
+                 names)
+        same("what the disks stand for", [device for kind, _, device, _ in rows if kind == "disk"], list(devices))
         room.good("odd names", "contrib/to-lvm plan.txt names.csv --out moves.sh && sh moves.sh -n")
         refused(room, "two devices of one short name", "contrib/from-lvm lvs.json pvs.json --empty sda1",
                 "there is no physical volume sda1")
@@ -363,7 +363,7 @@ def refusals_of_groups():
                 "others")
         room.says("--leave-out names the group", "contrib/from-ceph before after dump crush --leave-out",
                   "placement group 2.0 cannot be held")
-        Count.that("--leave-out names the group", "2.0" not in room.read("next.csv"))
+        that("--leave-out names the group", "2.0" not in room.read("next.csv"))
         for name in FILES:
             os.unlink(room.path(name))
         room.write("after", lists(("1.0", "0,2,4", "0,2,9"), ("2.0", "0,2,4,8")).partition("\n")[2])
@@ -386,7 +386,7 @@ def refusals_of_ceph():
                                   re.sub(r"^(\S+) raw .* acting \((\[.*\]), p(\d+)\)", "\\1\t\\2\t\\3", before,
                                          flags=re.M), "lists no placement group")):
             room.write("odd", text)
-            Count.that(f"the case '{name}' differs", text != before)
+            that(f"the case '{name}' differs", text != before)
             refused(room, f"from-ceph, {name}", "contrib/from-ceph odd after dump crush", said)
         crush = json.loads(page("contrib/samples/ceph/crush"))
         all_refused(room, "from-ceph, DUMP", "contrib/from-ceph before after odd crush", "odd",

@@ -37,6 +37,9 @@ class Count:
         return cls.that(name, found == wanted, f"{str(found)[:600]}; wanted {str(wanted)[:600]}")
 
 
+that, same = Count.that, Count.same
+
+
 class Room:
     """A folder with the program, the commands, the examples and stand-ins for the tools. What is below `contrib` runs
     in a warm interpreter, and what is below `alone` by itself."""
@@ -86,6 +89,12 @@ class Room:
         except FileNotFoundError:
             return None
 
+    def rows(self, name):
+        return rows_of(self.read(name))
+
+    def shifts(self, name="plan.txt"):
+        return shifts_of(self.read(name))
+
     def state(self, name):
         return json.loads(self.read(f"state/{name}"))
 
@@ -111,15 +120,15 @@ class Room:
     def good(self, name, command):
         """Runs a command that has to succeed, and gives what it printed."""
         ran = self.run(command)
-        Count.that(f"{name}: {command}", ran.returncode == 0,
-                   f"status {ran.returncode}, {ran.stdout[-300:]!r}, {ran.stderr[-600:]!r}")
+        that(f"{name}: {command}", ran.returncode == 0,
+             f"status {ran.returncode}, {ran.stdout[-300:]!r}, {ran.stderr[-600:]!r}")
         return ran.stdout
 
     def says(self, name, command, *texts, status=0):
         """Runs a command that ends with this status and prints or says each of these texts, and gives the run."""
         ran = self.run(command)
-        Count.that(f"{name}: {command}",
-                   ran.returncode == status and all(it in ran.stdout + ran.stderr for it in texts), (texts, ran))
+        that(f"{name}: {command}", ran.returncode == status and all(it in ran.stdout + ran.stderr for it in texts),
+             (texts, ran))
         return ran
 
     def example(self):
@@ -132,10 +141,9 @@ class Room:
         case = Case(self.read)
         self.good(name, "./migrate plan disks.csv now.csv next.csv plan.txt cert.txt")
         verdict = self.good(name, "./migrate check disks.csv now.csv next.csv plan.txt cert.txt")
-        Count.that(f"{name}: the verdict", verdict == "optimal\n" or verdict == "bounded\n" and not case.is_split,
-                   verdict)
+        that(f"{name}: the verdict", verdict == "optimal\n" or verdict == "bounded\n" and not case.is_split, verdict)
         if case.is_split:
-            Count.same(f"{name}: what the plan misses", misses(case, self.read("plan.txt"), self.read("cert.txt")), {})
+            same(f"{name}: what the plan misses", misses(case, self.read("plan.txt"), self.read("cert.txt")), {})
         last = self.good(name, "./migrate after disks.csv now.csv next.csv plan.txt")
         return {item: (disk, int(slot)) for item, disk, slot in list(csv.reader(last.splitlines()))[1:]}
 
@@ -145,8 +153,8 @@ class Room:
         self.good(name, "./migrate plan-tight disks.csv now.csv next.csv plan.txt")
         last = self.good(name, "./migrate after-tight disks.csv now.csv next.csv plan.txt")
         found = {item: (disk, int(slot)) for item, disk, slot in list(csv.reader(last.splitlines()))[1:]}
-        Count.same(f"{name}: each is on its next disk", {item: disk for item, (disk, _) in found.items()},
-                   dict(rows_of(self.read("next.csv"))))
+        same(f"{name}: each is on its next disk", {item: disk for item, (disk, _) in found.items()},
+             dict(self.rows("next.csv")))
         return found
 
 
@@ -197,8 +205,8 @@ def refused(room, name, command, said, status=1):
     """The command fails with a sentence that has this, and no file is there that was not, or is another."""
     before = room.files()
     ran = room.run(command)
-    Count.that(f"{name}: {command}",
-               ran.returncode == status and said in ran.stderr and "Traceback" not in ran.stderr and not ran.stdout,
-               f"status {ran.returncode}, {ran.stdout[-200:]!r}, {ran.stderr[-700:]!r}; wanted {said!r}")
+    that(f"{name}: {command}",
+         ran.returncode == status and said in ran.stderr and "Traceback" not in ran.stderr and not ran.stdout,
+         f"status {ran.returncode}, {ran.stdout[-200:]!r}, {ran.stderr[-700:]!r}; wanted {said!r}")
     after = room.files()
-    Count.that(f"{name}: no file", after == before, set(after) ^ set(before))
+    that(f"{name}: no file", after == before, set(after) ^ set(before))

@@ -2,7 +2,7 @@
 shifts."""
 import copy, json, os, random, re, shlex
 from lvm import after_pvmoves, carry_out, wanted_extents
-from rooms import Count, Room, all_refused, plan_of, refused, shifts_of
+from rooms import Room, all_refused, plan_of, refused, same, that
 
 
 def segment(volume, ranges, role="public", kind="linear"):
@@ -44,14 +44,13 @@ def tight_lvm(room):
     room.says("`plan` has no room", "./migrate plan disks.csv now.csv next.csv plan.txt cert.txt",
               "no room on a, needs 8, has 4", status=3)
     carry_out(room, "tight", SWAP, 16, volumes, devices, lambda: room.state("lvm.json")["volumes"], Room.planned_tight)
-    wanted, parked = room.state("lvm.json")["volumes"], [
-        it for it in sum(shifts_of(room.read("plan.txt")), []) if it[3] == "c"]
-    Count.same("one item is parked", len(parked), 1)
-    Count.same("db is on b, and web on a", {it[0] for it in wanted["db"]} | {it[0] + "!" for it in wanted["web"]},
-               {"/dev/b", "/dev/a!"})
+    wanted, parked = room.state("lvm.json")["volumes"], [it for it in sum(room.shifts(), []) if it[3] == "c"]
+    same("one item is parked", len(parked), 1)
+    same("db is on b, and web on a", {it[0] for it in wanted["db"]} | {it[0] + "!" for it in wanted["web"]},
+         {"/dev/b", "/dev/a!"})
     full_group(room)
-    room.good("tight", f"sh moves.sh {len(shifts_of(room.read('plan.txt')))}")
-    Count.same("tight, begun at the last round: each is looked at", room.state("lvm.json")["volumes"], wanted)
+    room.good("tight", f"sh moves.sh {len(room.shifts())}")
+    same("tight, begun at the last round: each is looked at", room.state("lvm.json")["volumes"], wanted)
     # it is begun again from each place where it stops, as a whole
     commands = [line.split() for line in room.good("tight", "sh moves.sh -n").splitlines() if line[0] != "#"]
     for at, words in list(enumerate(commands, 1))[::4]:  # `made_tight` has each of them
@@ -60,19 +59,19 @@ def tight_lvm(room):
         room.write(f"state/fail-{volume}-{first}", "")
         failed = room.run("sh moves.sh")
         again = room.run("sh moves.sh")
-        Count.that(f"tight, stopped at {words}",
+        that(f"tight, stopped at {words}",
                    failed.returncode == 1 and "stopped in round" in failed.stderr and again.returncode == 0
                    and "all rounds" in again.stdout, (failed, again))
-        Count.same(f"tight, begun again after {words}", room.state("lvm.json")["volumes"], wanted)
+        same(f"tight, begun again after {words}", room.state("lvm.json")["volumes"], wanted)
     full_group(room)
     room.good("tight", f"sh moves.sh {len(commands)}")
-    Count.same("tight, begun at the last round all are carried out", room.state("lvm.json")["volumes"], wanted)
+    same("tight, begun at the last round all are carried out", room.state("lvm.json")["volumes"], wanted)
     # what the log says of it
     full_group(room)
     room.good("tight", "sh moves.sh >moves.log; sh moves.sh >again.log")
-    Count.that("what has gone on is passed over",
-               f"is past {parked[0][3].replace('c', '/dev/c')}:16-31, at /dev/b:" in room.read("again.log"),
-               room.read("again.log"))
+    that("what has gone on is passed over",
+         f"is past {parked[0][3].replace('c', '/dev/c')}:16-31, at /dev/b:" in room.read("again.log"),
+         room.read("again.log"))
     for log in ("moves.log", "again.log"):
         room.says(f"progress by {log}", f"contrib/progress plan.txt --log {log} --names names.csv",
                   f"{len(commands)} of {len(commands)} rounds, {len(commands)} of {len(commands)} transfers, done")
@@ -80,7 +79,7 @@ def tight_lvm(room):
     part = room.read("moves.log").split("time ")
     room.write("part.log", "time ".join(part[: len(commands) // 2]))
     said = json.loads(room.good("tight", "contrib/progress plan.txt --log part.log --names names.csv --json"))
-    Count.that("progress of a part", 0 < said["items_done"] < len(commands) and said["parked"] == 1, said)
+    that("progress of a part", 0 < said["items_done"] < len(commands) and said["parked"] == 1, said)
 
 
 def parked_of_lvm():
@@ -97,9 +96,9 @@ def parked_of_lvm():
                     "round 1: x.0 is parked, and goes on to slot 0 of /dev/b, where x.1 of the same volume x is")
         room.write("p", plan_of("x.0 a 0 c 1", "y.0 c 0 a 0", "x.0 c 1 b 1"))
         printed = room.good("parked", "contrib/to-lvm p names.csv --out s && sh s -n")
-        Count.same("each shift begins where the item then is", printed,
-                   "# round 1\npvmove -i 3 -n x /dev/a:0-15 /dev/c:16-31\n# round 2\npvmove -i 3 -n y /dev/c:0-15 "
-                   "/dev/a:0-15\n" "# round 3\npvmove -i 3 -n x /dev/c:16-31 /dev/b:16-31\n")
+        same("each shift begins where the item then is", printed,
+             "# round 1\npvmove -i 3 -n x /dev/a:0-15 /dev/c:16-31\n# round 2\npvmove -i 3 -n y /dev/c:0-15 "
+             "/dev/a:0-15\n" "# round 3\npvmove -i 3 -n x /dev/c:16-31 /dev/b:16-31\n")
         all_refused(room, "to-lvm", "contrib/to-lvm p names.csv --out s2", "p",
                     (("from where it is no more", plan_of("x.0 a 0 c 1", "x.0 a 0 b 1"),
                       "round 2: x.0 is not in slot 0 of a"),
@@ -227,31 +226,30 @@ def made_tight():
             name = f"made group {seed}, {wish}"
             ran = room.run(f"contrib/from-lvm lvs.json pvs.json {wish} --unit 4")
             if ran.returncode:
-                Count.that(f"{name}: why not", ran.returncode == 1 and "there is no room" in ran.stderr, ran)
+                that(f"{name}: why not", ran.returncode == 1 and "there is no room" in ran.stderr, ran)
                 continue
             is_tight = "the form to use is `migrate plan-tight`" in ran.stderr
             ran = room.run("./migrate plan disks.csv now.csv next.csv plan.txt cert.txt")
-            Count.that(f"{name}: the form",
-                       (ran.returncode, "no room on" in ran.stdout) == ((3, True) if is_tight else (0, False)), ran)
+            that(f"{name}: the form",
+                 (ran.returncode, "no room on" in ran.stdout) == ((3, True) if is_tight else (0, False)), ran)
             last = room.planned_tight(name)
-            if not shifts_of(room.read("plan.txt")):
+            if not room.shifts():
                 continue
             ran = room.run("contrib/to-lvm plan.txt names.csv --out moves.sh")
             if ran.returncode:
-                Count.that(f"{name}: why to-lvm refuses",
-                           "of the same volume" in ran.stderr
-                           or not is_tight and "does not fit at the end" in ran.stderr, ran)
+                that(f"{name}: why to-lvm refuses",
+                     "of the same volume" in ran.stderr or not is_tight and "does not fit at the end" in ran.stderr,
+                     ran)
                 continue
             kinds[is_tight] += 1
             wanted, steps = wanted_extents(room, last, 4, volumes, devices), steps_of(room.read("moves.sh"))
-            Count.same(f"{name}: the commands", after_pvmoves(volumes, room.good(name, "sh moves.sh -n"), devices),
-                       wanted)
+            same(f"{name}: the commands", after_pvmoves(volumes, room.good(name, "sh moves.sh -n"), devices), wanted)
             for most in range(len(steps) + 1):
                 found = copy.deepcopy(volumes)
                 ends = run_of(found, steps, most), run_of(found, steps, -1)
-                Count.that(f"{name}: begun again after {most} moves",
-                           ends == ("stopped" if most < len(steps) else "done", "done") and found == wanted, ends)
-    Count.that("both forms were met", all(kinds.values()), kinds)
+                that(f"{name}: begun again after {most} moves",
+                     ends == ("stopped" if most < len(steps) else "done", "done") and found == wanted, ends)
+    that("both forms were met", all(kinds.values()), kinds)
 
 
 TREE = ("rm -rf mnt; mkdir -p mnt/a/x1 mnt/a/x2 mnt/b/y1 mnt/b/y2 mnt/c; for it in a/x1 a/x2 b/y1 b/y2; do echo $it "
@@ -272,9 +270,9 @@ def tight_folders():
                         "mnt/b would need 4 slots for old and incoming items together, and has 2: the form to use is "
                         "`migrate plan-tight`", "the fullest target by bytes, mnt/")
         room.planned_tight("folders")
-        shifts = sum(shifts_of(room.read("plan.txt")), [])
+        shifts = sum(room.shifts(), [])
         parked = next(it for it in shifts if it[3] == "c")
-        Count.same("folders, parked and moved on", [it[1::2] for it in shifts if it[0] == parked[0]][0][1], "c")
+        same("folders, parked and moved on", [it[1::2] for it in shifts if it[0] == parked[0]][0][1], "c")
         room.says("folders, each shift begins where the item is", CARRY.replace("run-plan", "run-plan --dry-run"),
                   f"cp -a mnt/{parked[1]}/{parked[0]} mnt/c/\n", f"cp -a mnt/c/{parked[0]} mnt/")
         wanted = {"x1": "b", "x2": "b", "y1": "a", "y2": "a"}
@@ -282,9 +280,9 @@ def tight_folders():
         for name, more in (("rounds", ""), ("eager", " --eager disks.csv")):
             room.good("folders", "rm -rf mnt plan.txt.place*; cp -a before mnt")
             room.good(f"folders, {name}", CARRY.replace("run-plan", f"run-plan{more}"))
-            Count.same(f"folders, {name}: where each is", where_is(room), wanted)
-            Count.same(f"folders, {name}: what it holds", room.good("folders", "cat mnt/*/*/data | sort"),
-                       "a/x1\na/x2\nb/y1\nb/y2\n")
+            same(f"folders, {name}: where each is", where_is(room), wanted)
+            same(f"folders, {name}: what it holds", room.good("folders", "cat mnt/*/*/data | sort"),
+                 "a/x1\na/x2\nb/y1\nb/y2\n")
             room.says(f"folders, {name}: progress", "contrib/progress plan.txt",
                       f"{len(shifts)} of {len(shifts)} transfers, done")
         # stopped after each number of commands, and begun again
@@ -295,8 +293,8 @@ def tight_folders():
             ran = room.run(counted)
             stopped = ran.returncode != 0
             again = room.run(CARRY.replace("plan.txt cp", f"plan.txt sh -c '\"$@\"' sh cp") if stopped else "true")
-            Count.that(f"folders, stopped after {count} copies", again.returncode == 0 and where_is(room) == wanted,
-                       (ran.stderr[-300:], again.stderr[-300:], where_is(room)))
+            that(f"folders, stopped after {count} copies", again.returncode == 0 and where_is(room) == wanted,
+                 (ran.stderr[-300:], again.stderr[-300:], where_is(room)))
             if not stopped:
                 break
         # where an item of one name is on the disk on which it would be parked
@@ -316,7 +314,7 @@ def tight_folders():
     with Room() as room:
         room.good("folders", TREE)
         for name in ("disks.csv", "now.csv", "next.csv"):
-            Count.that("no file yet", room.read(name) is None)
+            that("no file yet", room.read(name) is None)
         for words, said in (("--slots a=2 --slots b=1 --slots c=1",
                              "there is no room on mnt/a: it needs 4 slots, and has 2; nor can `migrate plan-tight` do "
                              "it: 2 items are to be on mnt/b, which has 1 slots"), ("--slots a=2 --slots b=2", "")):
@@ -334,17 +332,16 @@ def tight_pages():
         room.planned_tight("pages")
         room.write("bytes.csv", "item,bytes\nx,1024\ny,2048\n")
         lines = room.good("pages", "contrib/summary plan.txt disks.csv --sizes bytes.csv --rate 1K").splitlines()
-        Count.same("summary", lines[:4],
-                   ["moves 3, 1 of them from where an item was parked", "bytes 4.0 KiB", "rounds 3",
-                    "transfers by round"])
-        Count.same("summary, the time", lines[-2:],
-                   ["time 4 s: 3 rounds, each as long as its greatest item",
-                    "time without rounds 4 s: each transfer as soon as the limits let it"])
-        Count.same("summary --json", json.loads(room.good("pages", "contrib/summary plan.txt --json"))["parked"], 1)
+        same("summary", lines[:4],
+             ["moves 3, 1 of them from where an item was parked", "bytes 4.0 KiB", "rounds 3", "transfers by round"])
+        same("summary, the time", lines[-2:],
+             ["time 4 s: 3 rounds, each as long as its greatest item",
+              "time without rounds 4 s: each transfer as soon as the limits let it"])
+        same("summary --json", json.loads(room.good("pages", "contrib/summary plan.txt --json"))["parked"], 1)
         refused(room, "pages", "contrib/summary plan.txt disks.csv --queue now.csv",
                 "transfers of this plan need others to be done first")
-        Count.that("picture",
-                   "3 transfers in 3 rounds on 3 disks" in room.good("pages", "contrib/picture plan.txt disks.csv"))
+        that("picture",
+             "3 transfers in 3 rounds on 3 disks" in room.good("pages", "contrib/picture plan.txt disks.csv"))
         room.says("report without a certificate", "contrib/report plan.txt disks.csv now.csv",
                   "No certificate was given, so that nothing is said of it. 1 transfer of this plan goes on from where "
                   "an item was parked.", '"rounds":[[["x",0,2]],[["y",1,0]],[["x",2,1]]]')
@@ -352,14 +349,14 @@ def tight_pages():
         refused(room, "pages", "contrib/report p disks.csv now.csv", "round 3: x is not at slot 0 of a")
         if room.run("./migrate fill disks.csv now.csv").returncode == 0:
             room.good("pages", "./migrate move-tight disks.csv now.csv next.csv plan.txt")
-            Count.same("progress by the journal", room.good("pages", "contrib/progress plan.txt"),
-                       f"[{'#' * 30}] 3 of 3 rounds, 3 of 3 transfers, done\n")
+            same("progress by the journal", room.good("pages", "contrib/progress plan.txt"),
+                 f"[{'#' * 30}] 3 of 3 rounds, 3 of 3 transfers, done\n")
     with Room() as room:
         room.good("pages",
                   "cp contrib/samples/ceph/{before,after,dump,crush} . && contrib/from-ceph before after dump crush "
                   "--backfills 2")
         room.planned("pages")
-        item, source, slot, target, to = shifts_of(room.read("plan.txt"))[0][0]
+        item, source, slot, target, to = room.shifts()[0][0]
         room.write("p", plan_of(f"{item} {source} {slot} osd.99 0", f"{item} osd.99 0 {target} {to}"))
         refused(room, "to-ceph, parked", "contrib/to-ceph p before after dump crush --out s",
                 f"{item} from {source} to osd.99 is no move of a plan")
