@@ -283,8 +283,9 @@ def killed_at_random(room):
              "cp -a mnt/{from}/{item} mnt/{to}/ && sleep 0.3 && until [ ! -e hold ]; do sleep 0.1; done"]
     room.write("hold", "")  # what the first kill meets cannot have ended by itself
     for at in range(15):
-        begun = subprocess.Popen([words[0], *["--eager", "disks.csv"] * (at % 2), *words[1:]], cwd=room.at, env=room.env,
-                                 stdout=subprocess.DEVNULL, stderr=subprocess.PIPE, start_new_session=True)
+        begun = subprocess.Popen([words[0], *["--eager", "disks.csv"] * (at % 2), *words[1:]], cwd=room.at,
+                                 env=room.env, stdout=subprocess.DEVNULL, stderr=subprocess.PIPE,
+                                 start_new_session=True)
         time.sleep(0.1 + chance.random() / 4)
         disk = chance.choice(os.listdir(room.path("mnt"))) if chance.random() < 0.5 else None
         if disk:
