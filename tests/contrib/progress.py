@@ -271,8 +271,14 @@ def pauses(room):
     refused(room, "--until of no time", "contrib/run-plan --until 25:00 plan.txt true {item}", "--until", 2)
 
 
-# the time of --until has come once the file `over` is there
-DATE = "#!/bin/sh\n[ \"$1\" = -d ] && echo 5000000000 || { [ -e over ] && echo 5000000001; } || exec /bin/date \"$@\"\n"
+# the time of --until is that of tomorrow, and has come once the file `over` is there
+DATE = """#!/bin/sh
+case $1$2 in
+-dtomorrow*) echo 5000000000 ;;
+-d*) echo 1 ;;
+*) { [ -e over ] && echo 5000000001; } || exec /bin/date "$@" ;;
+esac
+"""
 
 
 def logs(room):
@@ -296,8 +302,8 @@ def logs(room):
         look = at + ("contrib" if folder == "." else "../contrib") + f"/progress {words}"
         count = sum(map(len, plan))
         # paused before the first round, up to its time
-        ran = room.run(f"{at}touch pause; (until grep -qs paused log; do sleep 0.1; done; touch over) & sh "
-                       f"{script} --until 06:00 >log; echo $?; rm pause over")
+        ran = room.run(f"{at}touch pause; (until grep -qs paused log || ! kill -0 $$; do sleep 0.1; done; touch over) "
+                       f"& sh {script} --until 06:00 >log; echo $?; rm pause over")
         that(f"{script}: a pause up to --until",
              ran.stdout == "3\n" and "paused before round 1" in ran.stderr
                  and f"begin again with: sh {script} 1" in ran.stderr and "round 1:" not in room.read(f"{folder}/log"),
