@@ -303,7 +303,7 @@ def logs(room):
         count = sum(map(len, plan))
         # paused before the first round, up to its time
         ran = room.run(f"{at}touch pause; (until grep -qs paused log || ! kill -0 $$; do sleep 0.1; done; touch over) "
-                       f"& sh {script} --until 06:00 >log; echo $?; rm pause over")
+                       f">/dev/null 2>&1 & sh {script} --until 06:00 >log; echo $?; rm pause over")
         that(f"{script}: a pause up to --until",
              ran.stdout == "3\n" and "paused before round 1" in ran.stderr
                  and f"begin again with: sh {script} 1" in ran.stderr and "round 1:" not in room.read(f"{folder}/log"),
