@@ -147,7 +147,7 @@ def a_source_that_changes():
                            f"-a mnt/{{from}}/{{item}} mnt/{{to}}/")
             that(f"a source that changes before its erase: {name}",
                  ran.returncode == 1 and "was changed since its copy was compared: stop what writes there" in ran.stderr
-                     and "not erased 1 x: mnt/a/x" in ran.stderr and os.path.exists(room.path("mnt/a/x")),
+                 and "not erased 1 x: mnt/a/x" in ran.stderr and os.path.exists(room.path("mnt/a/x")),
                  (ran, room.read("looks")))
             lines = room.read("plan.txt.place").splitlines()
             that(f"the place never said that it is being removed: {name}",

@@ -201,9 +201,9 @@ def a_disk_goes_away():
                 ran = room.run(f"contrib/run-plan {words}")
                 gone = [it for it in os.listdir(room.path("mnt")) if not os.path.exists(room.path(f"mnt/{it}/.here"))]
                 that(f"{moment}: it stops",
-                           ran.returncode == 1 and len(gone) == 1
-                           and f"disk {gone[0]} is not as --guard asks: test -e" in ran.stderr
-                           and f"stopped in round {at} of 3" in ran.stderr, ran)
+                     ran.returncode == 1 and len(gone) == 1
+                     and f"disk {gone[0]} is not as --guard asks: test -e" in ran.stderr
+                     and f"stopped in round {at} of 3" in ran.stderr, ran)
                 bring_back(room, gone[0])
                 found = tree(room)
                 same(f"{moment}: nothing is lost", set(found), set(wanted))
@@ -238,9 +238,9 @@ def a_copy_is_wrong():
         that("nothing of its round is removed", all(start[it] <= found[it] for it in start), found)
         ran = room.run(f"contrib/run-plan {VERIFY} {ERASE} plan.txt {COPY}")
         that("it alone is copied again",
-                   ran.returncode == 0
-                   and ran.stdout.startswith(f"round 1 of 3: 1 to be copied\nround 1 of 3: {len(shifts)} to be "
-                                             f"verified\n"), ran)
+             ran.returncode == 0
+             and ran.stdout.startswith(f"round 1 of 3: 1 to be copied\nround 1 of 3: {len(shifts)} to be "
+                                       f"verified\n"), ran)
         same("a wrong copy, copied again", tree(room), wanted_of(room))
     with Room() as room:  # what was verified in an earlier run is looked at again before it is removed
         room.good("run-plan", MOUNT)
@@ -292,7 +292,8 @@ def killed_at_random(room):
             os.rename(room.path(f"mnt/{disk}"), room.path("gone"))
             os.mkdir(room.path(f"mnt/{disk}"))
             time.sleep(0.1)
-        os.killpg(begun.pid, signal.SIGKILL) if chance.random() < 0.5 else begun.kill()
+        kill = os.killpg if chance.random() < 0.5 else os.kill  # with all its commands, or alone
+        kill(begun.pid, signal.SIGKILL)
         room.run("rm -f hold")
         begun.communicate()
         counts[begun.returncode] += 1
@@ -483,10 +484,10 @@ def try_real_folders(room, loops):
     room.planned("real disks")
     ran = room.run(f"{carry_out} {copy}")
     that("real disks, one loses what is written to it",
-               ran.returncode == 1
-               and any(it in ran.stderr
-                       for it in ("what was written to disk thin did not reach it", "not copied 1 item-"))
-               and stand("b") == start, ran)
+         ran.returncode == 1
+         and any(it in ran.stderr
+                 for it in ("what was written to disk thin did not reach it", "not copied 1 item-"))
+         and stand("b") == start, ran)
 
 
 # Folders in units
@@ -525,11 +526,11 @@ def units_of_folders():
         ran = room.run(f"{words} --empty a")
         paths, now = told_of(room)
         that("the folders that are split",
-                   ran.returncode == 0
-                   and {(now[it], path) for it, path in paths.items()}
-                   == {("a", it)
-                       for it in ("media/films/x", "media/films/y", "media/music", "media/note", "media/link", "small")}
-                   | {("b", "media/clips"), ("b", "odd")}, (ran, paths))
+             ran.returncode == 0
+             and {(now[it], path) for it, path in paths.items()}
+             == {("a", it)
+                 for it in ("media/films/x", "media/films/y", "media/music", "media/note", "media/link", "small")}
+             | {("b", "media/clips"), ("b", "odd")}, (ran, paths))
         last, before = room.planned("units"), files_below(room)
         that("nothing stays on a", {disk for disk, _ in last.values()} == {"b", "c"}, last)
         refused(room, "a copy to the top", "contrib/run-plan --names names.csv plan.txt cp -a {from}/{item} {to}/",
@@ -543,9 +544,9 @@ def units_of_folders():
         room.good("units", f"find mnt/a -mindepth 1 -type d -empty -delete; {words}")
         same("the same items are found there", told_of(room), (paths, {it: disk for it, (disk, _) in last.items()}))
         same("other words for the disks",
-                   room.good("units",
-                             "mkdir again && cd again && ../contrib/from-folders ../mnt/* --unit 100K && cut -d, -f1 "
-                             "now.csv | sort | cmp - <(cut -d, -f1 ../now.csv | sort)"), "")
+             room.good("units",
+                       "mkdir again && cd again && ../contrib/from-folders ../mnt/* --unit 100K && cut -d, -f1 "
+                       "now.csv | sort | cmp - <(cut -d, -f1 ../now.csv | sort)"), "")
     with Room() as room:
         room.good("units", TREE)
         for words, said in cases("""

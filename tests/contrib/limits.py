@@ -116,8 +116,8 @@ def split_pictures(room):
     same("its numbers", [it for it in texts if "/" in it],
          ["2/2", "1/2", "1/1", "1/1", "1/1", "1/1", "1/1", "1/1", "1/2", "2/2"])
     that("its bound",
-               "the bound, b in: it has 3 incoming transfers and the incoming limit 1, so no schedule has fewer "
-               "than 3 rounds" in texts, texts)
+         "the bound, b in: it has 3 incoming transfers and the incoming limit 1, so no schedule has fewer "
+         "than 3 rounds" in texts, texts)
     same("one side is marked", svg.count('stroke="#c0392b"'), 1)
     room.write("c", CERT.replace("b in 3 1 3", "b out 1 1 1"))
     that("a bound of one",
@@ -225,8 +225,8 @@ def eager_limits():
             printed = room.good(name,
                                 f"contrib/run-plan --eager disks.csv {EAGER} plan.txt sh job copy {{item}} 0.0{seed}")
             that(f"{name}: its end",
-                       printed.endswith(f"{len(shifts)} of {len(shifts)} transfers are done\nall {len(rounds)} rounds "
-                                        f"are carried out\n"), printed)
+                 printed.endswith(f"{len(shifts)} of {len(shifts)} transfers are done\nall {len(rounds)} rounds "
+                                  f"are carried out\n"), printed)
             told = [int(line.split()[0]) for line in printed.splitlines()[:-1]]
             that(f"{name}: what is done grows", told == sorted(set(told)), told)
             watch(room, name, case, shifts, ("copy", "verify", "erase"))
@@ -287,8 +287,8 @@ def no_barrier(room):
          collections.Counter((what, kind, it) for it in ("y-2", "x-2", "z-3") for kind in ("copy", "erase")
                              for what in ("begin", "end")))
     that("and says so",
-               re.fullmatch(r"(3 of 5 transfers are done\n)?(4 of 5 transfers are done\n)?5 of 5 transfers are "
-                            r"done\nall 3 rounds are carried out\n", printed), printed)
+         re.fullmatch(r"(3 of 5 transfers are done\n)?(4 of 5 transfers are done\n)?5 of 5 transfers are "
+                      r"done\nall 3 rounds are carried out\n", printed), printed)
     # s is free, and the first that waits for it finds t1 in use: the next one begins
     room.write("disks.csv", "disk,limit,slots\n" + "".join(f"{it},1,9\n" for it in ("s", "t1", "t2", "t3", "x")))
     room.write("plan.txt", plan_of("long x 0 t1 0, first s 0 t3 0", "held s 1 t1 1", "next s 2 t2 0"))
@@ -314,7 +314,7 @@ def eager_stops():
              [("begin", "copy", "long"), ("end", "copy", "long")])
         that("what is left is told",
              ran.returncode == 1 and "not copied 1 bad: status 3" in room.read("notes")
-                 and "stopped with 3 of 3 transfers left, and nothing more is removed" in room.read("notes"),
+             and "stopped with 3 of 3 transfers left, and nothing more is removed" in room.read("notes"),
              (ran, room.read("notes")))
         that("what ended well is kept", "copied 1 long\n" in room.read("plan.txt.place"))
     with Room() as room:
@@ -330,9 +330,9 @@ def eager_stops():
         ran = room.says("a copy that fails stops it", f"contrib/run-plan --eager disks.csv {words}",
                         f"not copied 2 {item}: status 1: cp -a mnt/{source}/{item}", status=1)
         that("a copy that fails stops it",
-                   re.search(rf"^run-plan: stopped with [1-9][0-9]* of {count} transfers left, and nothing more is "
-                             rf"removed; begin again with the same words\n\Z", ran.stderr, re.M)
-                   and f"{count} of {count}" not in ran.stdout, ran)
+             re.search(rf"^run-plan: stopped with [1-9][0-9]* of {count} transfers left, and nothing more is "
+                       rf"removed; begin again with the same words\n\Z", ran.stderr, re.M)
+             and f"{count} of {count}" not in ran.stdout, ran)
         found = tree(room)
         that("nothing is lost", set(found) == set(wanted) - {item} and all(found.values()), found)
         room.good("run-plan", f"mv away mnt/{source}/{item} && mv mnt/{target} gone && mkdir mnt/{target}")

@@ -168,7 +168,8 @@ def what_reports_know():
                                           ("said twice", "33554432B", "--extent 32M", 32 << 20),
                                           ("of none", None, "", 4 << 20), ("by a word", None, "--extent 8M", 8 << 20)):
             for row in report["report"][0]["pv"]:
-                row.update({"vg_extent_size": text}) if text else row.pop("vg_extent_size", None)
+                row.pop("vg_extent_size", None)
+                row.update({"vg_extent_size": text} if text else {})
             room.keep("pvs.json", report)
             ran = room.run(f"contrib/from-lvm lvs.json pvs.json --empty loop0 --unit 16 {words}")
             same(f"the bytes of 16 extents, {name}", (ran.returncode, room.read("bytes.csv").splitlines()[1]),
@@ -230,8 +231,8 @@ def lvm_of_parts():
                                 (lambda room=room: room.state("lvm.json")["volumes"]) if unit >= 16 else None)
             last = after_pvmoves(volumes, printed, devices)
             same(f"{name}: what was to be empty is",
-                       [it for extents in last.values()
-                        for it in extents if any(it[0].endswith(at) for at in re.findall(r"--empty (\S+)", wish))], [])
+                 [it for extents in last.values()
+                  for it in extents if any(it[0].endswith(at) for at in re.findall(r"--empty (\S+)", wish))], [])
             if wish == "--spread":
                 used = collections.Counter(it[0] for extents in last.values() for it in extents)
                 that("parts, spread: each disk has about the same", max(used.values()) - min(used.values()) <= 4, used)
@@ -276,14 +277,14 @@ def the_script_of_lvm():
                 ran = room.run(f"PATH=$PATH:contrib; {line}; {line}; {line.partition(' /dev/loop2')[0]} "
                                f"/dev/loop2:200-231; echo $?")
                 that("a line by hand", "db goes from /dev/loop0:64-95" in ran.stdout and " already\n"
-                           in ran.stdout and "neither at" in ran.stderr and ran.stdout.endswith("1\n"), ran)
+                     in ran.stdout and "neither at" in ran.stderr and ran.stdout.endswith("1\n"), ran)
                 same("a line by hand, printed",
                      room.good("by hand", f"PATH=$PATH:contrib; {line} -n").split()[:4],
                      ["pvmove", "-i", "3", "-n"])
             ran = room.run(f"sh moves.sh {failing}")
             that(f"it begins again there {form}",
                  ran.returncode == 0 and room.state("lvm.json")["volumes"] == wanted
-                     and f"round {failing - 1}:" not in ran.stdout,
+                 and f"round {failing - 1}:" not in ran.stdout,
                  ran)
             state = room.state("lvm.json")
             state["volumes"]["db"] = [["/dev/loop1", at + 150] for at in range(100)]

@@ -47,13 +47,15 @@ def plans_of_lvm():
                                  f"rounds: "), said)
             found = dict(re.findall(r"^disk (\S+) is (.*)$", said, re.M))
             full = fills_of(room, {os.path.basename(it): size << 22 for it, size in devices.items()})
-            same(f"{name}: how full each disk gets", found, full) if not is_tight else that(f"{name}: full", found,
-                                                                                            said)
+            if is_tight:
+                that(f"{name}: full", found, said)
+            else:
+                same(f"{name}: how full each disk gets", found, full)
             same(f"{name}: the way back is checked", re.findall(r"^way back: (.*)$", said, re.M),
                  ["followed to its end, one at a time" if is_tight else "optimal"])
             that(f"{name}: what decides it", is_tight or re.search(r"^bottleneck .*so no schedule has fewer "
-                                                                         r"than \d+ rounds?\nfirst come, first "
-                                                                         r"served: \d+ rounds$", said, re.M), said)
+                                                                   r"than \d+ rounds?\nfirst come, first "
+                                                                   r"served: \d+ rounds$", said, re.M), said)
             that(f"{name}: nothing was moved", room.state("lvm.json")["volumes"] == volumes)
             commands = [it.split() for it in room.good(name, "sh p/move.sh -n").splitlines() if it[0] != "#"]
             there = after_pvmoves(volumes, room.good(name, "sh p/move.sh -n"), devices)
@@ -107,7 +109,7 @@ def plans_of_folders():
             room.good(name, "mkdir kept; cp -a mnt/a kept/")
             said = room.good(name, f"contrib/plan-folders mnt/* {wish} --rate 1M --into p")
             that(f"{name}: what is said", re.match(r"\d+ of \d+ items move, .* rounds: optimal\nbottleneck a",
-                                                         said) and "way back: optimal" in said, said)
+                                                   said) and "way back: optimal" in said, said)
             for tool in ("cp", "rm"):
                 room.write(f"bin/{tool}", STOPS.replace("TOOL", tool))
                 os.chmod(room.path(f"bin/{tool}"), 0o755)

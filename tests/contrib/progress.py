@@ -240,8 +240,8 @@ def pauses(room):
         ended = room.run(f"OVER=over contrib/run-plan {words}")
         log = [it.split() for it in room.read("log").splitlines()]
         that(f"--until, {eager or 'rounds'}",
-                   ended.returncode == 3 and "as --until says; begin again with the same words" in ended.stderr
-                   and "all" not in ended.stdout.splitlines()[-1:], ended)
+             ended.returncode == 3 and "as --until says; begin again with the same words" in ended.stderr
+             and "all" not in ended.stdout.splitlines()[-1:], ended)
         that(f"--until, {eager or 'rounds'}: what began is whole",
              log and all(collections.Counter(item for *_, item in log)[item] == 6 for *_, item in log), log)
         room.good("until", f"rm {stop} over")
@@ -263,8 +263,8 @@ def pauses(room):
         until(lambda: "paused" in (room.read("notes") or ""), "a pause")
         ran.terminate()
         that(f"a pause that is stopped, {eager or 'rounds'}",
-                   ran.wait(LIMIT) == 130 and room.read("log") is None
-                   and "begin again with the same words" in room.read("notes"), room.read("notes"))
+             ran.wait(LIMIT) == 130 and room.read("log") is None
+             and "begin again with the same words" in room.read("notes"), room.read("notes"))
         ended = room.run(f"rm notes; (until grep -qs paused notes || ! kill -0 $$; do sleep 0.1; done; touch over) "
                          f"& OVER=over contrib/run-plan {words} 2>notes")
         that(f"a pause up to --until, {eager or 'rounds'}", ended.returncode == 3 and room.read("log") is None, ended)
@@ -306,7 +306,7 @@ def logs(room):
                        f">/dev/null 2>&1 & sh {script} --until 06:00 >log; echo $?; rm pause over")
         that(f"{script}: a pause up to --until",
              ran.stdout == "3\n" and "paused before round 1" in ran.stderr
-                 and f"begin again with: sh {script} 1" in ran.stderr and "round 1:" not in room.read(f"{folder}/log"),
+             and f"begin again with: sh {script} 1" in ran.stderr and "round 1:" not in room.read(f"{folder}/log"),
              ran)
         found = json.loads(room.good(script, look))
         same(f"{script}: nothing is done",
@@ -359,8 +359,8 @@ def sizes():
         found = json.loads(room.good("sizes", "contrib/summary plan.txt disks.csv --sizes bytes.csv --rate 1K --json"))
         total = sum(map(int, names.values()))
         same("summary --json",
-                   (found["moves"], found["rounds"], found["bytes"], found["transfers_by_round"], found["seconds"],
-                    found["seconds_without_rounds"]), (3, 3, total, [1, 1, 1], total / 1024, total / 1024))
+             (found["moves"], found["rounds"], found["bytes"], found["transfers_by_round"], found["seconds"],
+              found["seconds_without_rounds"]), (3, 3, total, [1, 1, 1], total / 1024, total / 1024))
         same("its disks", found["disks"],
              [{"disk": it, "transfers": 3, "bytes": total, "sides": [{"way": "", "transfers": 3, "limit": 1}],
                "rounds": 3} for it in "ab"])
@@ -371,10 +371,10 @@ def sizes():
         room.write("bytes.csv", "item,bytes\nx,9216\ny,1024\nz,1024\nw,9216\nmore,5\n")
         said = room.good("sizes", "contrib/summary plan.txt disks.csv --sizes bytes.csv --rate 1K")
         that("the time of rounds of unequal sizes",
-                   said.startswith("moves 4\nbytes 20.0 KiB\nrounds 2\n")
-                   and "  a: 2 transfers, limit 1, 10.0 KiB, needs 2 rounds\n" in said
-                   and said.endswith("time 18 s: 2 rounds, each as long as its greatest item\ntime without rounds 10 "
-                                     "s: each transfer as soon as the limits let it\n"), said)
+             said.startswith("moves 4\nbytes 20.0 KiB\nrounds 2\n")
+             and "  a: 2 transfers, limit 1, 10.0 KiB, needs 2 rounds\n" in said
+             and said.endswith("time 18 s: 2 rounds, each as long as its greatest item\ntime without rounds 10 "
+                               "s: each transfer as soon as the limits let it\n"), said)
         for text, said in (("item,bytes\nx,1\n", "does not list y"),
                            ("item,bytes\nx,1\nx,2\n", "row 2: 'x' is no name or is listed twice"),
                            ("item,size\n", "does not begin with the row item,bytes"),
@@ -399,8 +399,8 @@ def sizes():
         found = {item: int(it) for item, it in room.rows("bytes.csv")}
         same("bytes.csv of Ceph has the items of now.csv", list(found), [row[0] for row in room.rows("now.csv")])
         that("a shard of four has a quarter",
-                   all(it == 4000 * groups.index(re.split("[s-]", item)[0]) / (4 if item.startswith("4.") else 1)
-                       for item, it in found.items()), found)
+             all(it == 4000 * groups.index(re.split("[s-]", item)[0]) / (4 if item.startswith("4.") else 1)
+                 for item, it in found.items()), found)
         room.keep("pgs.json", {"pg_stats": []})
         refused(room, "a group without bytes", f"{words} --sizes pgs.json", "pgs.json has no placement group 3.0")
         room.write("pgs.json", "{}")
@@ -440,8 +440,8 @@ def balanced():
             best = fewest(items, disks, size, percent)
             if best is None:
                 that(f"balance, case {seed}: no way does",
-                           ran.returncode == 1 and "not each disk can be filled to the same part" in ran.stderr
-                           and room.read("now.csv") is None, ran)
+                     ran.returncode == 1 and "not each disk can be filled to the same part" in ran.stderr
+                     and room.read("now.csv") is None, ran)
                 continue
             now, next_ = {it[0]: it[1] for it in room.rows("now.csv")}, dict(room.rows("next.csv"))
             used = collections.Counter()
@@ -466,8 +466,8 @@ def balanced():
                 used[disk] += bulk[item]
             part = sum(used.values()) / len(used) / 255
             that(f"from-lvm {words}: each disk's part",
-                       set(used) == {"loop0", "loop1", "loop2"} - set(gone)
-                       and all(abs(it / 255 - part) <= percent / 100 for it in used.values()), used)
+                 set(used) == {"loop0", "loop1", "loop2"} - set(gone)
+                 and all(abs(it / 255 - part) <= percent / 100 for it in used.values()), used)
         os.makedirs(room.path("mnt/a"))
         os.makedirs(room.path("mnt/b"))
         for words, said, status in cases("""

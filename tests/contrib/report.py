@@ -63,9 +63,9 @@ def the_report(room):
     room.example()
     found = judge(room, "report, the README's plan")
     that("its bound",
-               found.has("11 transfers in 3 rounds on 6 disks",
-                         "Why no schedule is shorter hdd1 takes part in 5 transfers, in at most 2 at once. That "
-                         "needs 3 rounds: 5 / 2, rounded up. The plan has 3. No schedule is shorter."), found.told)
+         found.has("11 transfers in 3 rounds on 6 disks",
+                   "Why no schedule is shorter hdd1 takes part in 5 transfers, in at most 2 at once. That "
+                   "needs 3 rounds: 5 / 2, rounded up. The plan has 3. No schedule is shorter."), found.told)
     that("its busiest disks",
          found.has("hdd1523", "tape313", "ssd1441") and not re.search(r"and \d+ more", found.told),
          found.told)

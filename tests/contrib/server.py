@@ -144,7 +144,10 @@ def serve(listening, ready):
             else:
                 forks[call] = os.fork()
                 if not forks[call]:
-                    hand_over(call, handles, *told) if told else answer(call, calls, words, environ, handles)
+                    if told:
+                        hand_over(call, handles, *told)
+                    else:
+                        answer(call, calls, words, environ, handles)
                     os._exit(0)
             for it in handles:
                 os.close(it)

@@ -31,8 +31,8 @@ def the_picture(room):
     room.write("p", plan_of("x a 0 b 1, y b 0 c 1, z c 0 a 1"))
     svg = room.good("picture", "contrib/picture p d --cert c")
     that("a set is marked",
-               svg.count('stroke="#c0392b"') == 3
-               and "among these 3 disks are 3 transfers, so no schedule has fewer than 3 rounds" in svg, svg[-500:])
+         svg.count('stroke="#c0392b"') == 3
+         and "among these 3 disks are 3 transfers, so no schedule has fewer than 3 rounds" in svg, svg[-500:])
     that("more than the limit is shown", svg.count(">2/1<") == 3, svg)
     # 200 disks, and more rounds than columns
     room.write("d", "disk,limit,slots\n" + "".join(f"d{it},1,4\n" for it in range(200)))

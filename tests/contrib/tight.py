@@ -60,8 +60,8 @@ def tight_lvm(room):
         failed = room.run("sh moves.sh")
         again = room.run("sh moves.sh")
         that(f"tight, stopped at {words}",
-                   failed.returncode == 1 and "stopped in round" in failed.stderr and again.returncode == 0
-                   and "all rounds" in again.stdout, (failed, again))
+             failed.returncode == 1 and "stopped in round" in failed.stderr and again.returncode == 0
+             and "all rounds" in again.stdout, (failed, again))
         same(f"tight, begun again after {words}", room.state("lvm.json")["volumes"], wanted)
     full_group(room)
     room.good("tight", f"sh moves.sh {len(commands)}")

@@ -89,8 +89,8 @@ def the_answers_of_witness(room):
     found = says("a set", "a set of 5 disks needs 30 rounds, where 25 were shown; the plan has 30, so it is optimal")
     same("the set", found, cert.split("bound")[0] + "bound set 5 60 30\nd0\nd1\nd2\nd3\nd4\nend\n")
     same("no time",
-               says("no time", "the time is over; the best bound so far is 25 rounds, and the plan has 30",
-                    "plan.txt disks.csv cert.txt --seconds 0"), cert)
+         says("no time", "the time is over; the best bound so far is 25 rounds, and the plan has 30",
+              "plan.txt disks.csv cert.txt --seconds 0"), cert)
     room.write("less.txt", cert.replace("bound disk d0 25 1 25", "bound disk d5 2 1 2"))
     that("a certificate with a poor bound",
          says("a poor bound",
@@ -98,9 +98,9 @@ def the_answers_of_witness(room):
               "plan.txt disks.csv less.txt") == found)
     room.write("best.txt", found)
     same("optimal already",
-               says("optimal",
-                    "the plan has 30 rounds, which the bound shows to be needed: it is optimal, and there is no "
-                    "better bound", "plan.txt disks.csv best.txt"), found)
+         says("optimal",
+              "the plan has 30 rounds, which the bound shows to be needed: it is optimal, and there is no "
+              "better bound", "plan.txt disks.csv best.txt"), found)
     # the Petersen graph: three rounds for each disk, and no schedule with three
     write_case(room, [1] * 10,
                [(a, (a + 1) % 5) for a in range(5)] + [(a, a + 5) for a in range(5)]
@@ -124,9 +124,9 @@ def the_answers_of_witness(room):
     room.write("disks.csv", "disk,out,in,slots\n" + "".join(f"d{it},1,2,9\n" for it in range(10)))
     room.good("witness", "./migrate plan disks.csv now.csv next.csv plan.txt cert.txt")
     same("split limits",
-               says("split limits",
-                    "the disks have an outgoing and an incoming limit each; then one side of a disk always shows "
-                    "the best bound, and there is no better one"), room.read("cert.txt"))
+         says("split limits",
+              "the disks have an outgoing and an incoming limit each; then one side of a disk always shows "
+              "the best bound, and there is no better one"), room.read("cert.txt"))
 
 
 CASES = (made_witnesses, the_answers_of_witness)
