@@ -326,8 +326,8 @@ def worlds(events, moves):
         for item, source, target in moves:
             own = [n for n, (call, where, what) in enumerate(events[:cut]) if where == target
                    and what.split("/")[0] == item and call != "unlinkat"]
-            is_synced = own and any(n > own[-1] and it[:2] in (("syncfs", target), ("sync", ".")) for n,
-                                    it in enumerate(events[:cut]))
+            is_synced = own and any(n > own[-1] and it[:2] in (("syncfs", target), ("sync", "."))
+                                    for n, it in enumerate(events[:cut]))
             gone = [what for call, where, what in events[:cut] if call == "unlinkat" and (where,
                 what.split("/")[0]) == (source, item)]
             gone = [it.split("/")[-1] for it in gone]

@@ -202,8 +202,8 @@ def kept_apart():
          [[(it.volume, it.source[-1]) for it in step] for step in steps],
          [[("x", "a"), ("y", "b")], [("x", "b"), ("y", "c"), ("z", "a")]])
     told = []
-    with mock.patch.multiple(lvm_step.Round, begin=lambda self,
-                             it: not told.append(f"begin {it.volume} {it.source[-1]}"),
+    with mock.patch.multiple(lvm_step.Round,
+                             begin=lambda self, it: not told.append(f"begin {it.volume} {it.source[-1]}"),
                              ends=lambda self, it, going: not told.append(f"end {it.volume} {it.source[-1]}")):
         lvm_step.Round(1).run(sum(steps, []))
     same("a step ends before the next one begins", told, [

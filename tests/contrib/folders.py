@@ -388,8 +388,8 @@ def the_folders(room):
          collections.Counter([*ODD, *PLAIN, "a file", "{item}"]))
     for path, (name, bytes_) in names.items():
         real = os.path.basename(path)
-        wanted = real if real in PLAIN else {**ODD, "a file": "a-file-"}[real] + digits_of(path if real == "{item}"
-                                                                                           else real)
+        digits = digits_of(path if real == "{item}" else real)
+        wanted = real if real in PLAIN else {**ODD, "a file": "a-file-"}[real] + digits
         same(f"the name of {real}", name, wanted)
         du = subprocess.run(["du", "-s", "--block-size=1", "--", path], cwd=room.at, capture_output=True, text=True,
                             check=True)

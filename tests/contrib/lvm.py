@@ -48,8 +48,8 @@ def after_pvmoves(volumes, printed, devices):
         used = {tuple(it) for extents in found.values() for it in extents}
         good = int(end) - int(to) == int(last) - int(first) and int(end) < devices[target] and not used & {
             tuple(it) for it in goes.values()}
-        moved = [it for it,
-                 extents in found.items()
+        moved = [it
+                 for it, extents in found.items()
                  if re.fullmatch(rf"{re.escape(name)}(_rmeta_\d+)?", it) and set(goes) <= set(map(tuple, extents))]
         if that(f"LVM can carry it out: {line}", good and len(moved) == 1, moved):
             found[moved[0]] = [goes.get(tuple(it), it) for it in found[moved[0]]]

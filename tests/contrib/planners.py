@@ -28,8 +28,8 @@ def fills_of(room, sizes):
             most[target] = max(most.get(target, (0, 0)), (used[target], at), key=lambda it: it[0])
         for item, source, *_ in shifts:
             used[source] -= bytes_[item]
-    return {disk: f"{100 * count / sizes[disk]:.0f} % full at most, in round {at}" for disk,
-            (count, at) in most.items() if at}
+    return {disk: f"{100 * count / sizes[disk]:.0f} % full at most, in round {at}"
+            for disk, (count, at) in most.items() if at}
 
 
 def plans_of_lvm():
@@ -53,9 +53,10 @@ def plans_of_lvm():
                 same(f"{name}: how full each disk gets", found, full)
             same(f"{name}: the way back is checked", re.findall(r"^way back: (.*)$", said, re.M),
                  ["followed to its end, one at a time" if is_tight else "optimal"])
-            that(f"{name}: what decides it", is_tight or re.search(r"^bottleneck .*so no schedule has fewer "
-                                                                   r"than \d+ rounds?\nfirst come, first "
-                                                                   r"served: \d+ rounds$", said, re.M), said)
+            that(f"{name}: what decides it",
+                 is_tight
+                 or re.search(r"^bottleneck .*so no schedule has fewer than \d+ rounds?\nfirst come, first served: \d+ "
+                              r"rounds$", said, re.M), said)
             that(f"{name}: nothing was moved", room.state("lvm.json")["volumes"] == volumes)
             commands = [it.split() for it in room.good(name, "sh p/move.sh -n").splitlines() if it[0] != "#"]
             there = after_pvmoves(volumes, room.good(name, "sh p/move.sh -n"), devices)

@@ -54,13 +54,13 @@ def time_left():
             seconds = {item: 20 + size / 2 ** 17 * rnd.uniform(0.9, 1.1) for item, size in sizes.items()}
             room.write("bytes.csv", "item,bytes\n" + "".join(f"{item},{size}\n" for item, size in sizes.items()))
             spans = simulated(case, rounds, seconds, eager)
-            whole, round_of = max(end for _, end in spans.values()), {it[0]: at for at,
-                                                                      round_ in enumerate(rounds, 1) for it in round_}
+            whole = max(end for _, end in spans.values())
+            round_of = {it[0]: at for at, round_ in enumerate(rounds, 1) for it in round_}
             digest = room.good(name, "sha256sum <plan.txt").split()[0]
             set_clock(room, whole / 3)
             events = [(0, "begins copied " + ("eager" if eager else "rounds"))]
-            events += [(at, f"{word} {round_of[item]} {item}") for item, span in spans.items() for at,
-                       word in zip(span, ("copying", "copied")) if at <= whole / 3]
+            events += [(at, f"{word} {round_of[item]} {item}") for item, span in spans.items()
+                       for at, word in zip(span, ("copying", "copied")) if at <= whole / 3]
             room.write("plan.txt.place",
                        f"plan {digest}\n" + "".join(f"{it}\n" for _, it in sorted(events) if it.startswith("copied")))
             room.write("plan.txt.place.times", "".join(f"{START + at:.3f} {it}\n" for at, it in sorted(events)))
@@ -173,8 +173,8 @@ def what_is_measured():
         wanted = {"rounds": 10, "items": 10, "bytes": 55000, "rounds_done": 1, "items_done": 1, "bytes_done": 1000,
                   "seconds_at_work": 20.0, "paused": 0, "at_work": 0, "done": 0}
         same("what Prometheus reads", room.good("metrics", "contrib/progress plan.txt --sizes bytes.csv --metrics"),
-             "".join(f'# TYPE migrate_plan_{name} gauge\nmigrate_plan_{name}{{plan="{digest}"}} {value}\n' for name,
-                     value in wanted.items()))
+             "".join(f'# TYPE migrate_plan_{name} gauge\nmigrate_plan_{name}{{plan="{digest}"}} {value}\n'
+                     for name, value in wanted.items()))
         refused(room, "--metrics --every", "contrib/progress plan.txt --metrics --every 1",
                 "--metrics goes neither with", 2)
 

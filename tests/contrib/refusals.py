@@ -183,8 +183,8 @@ def odd_names_of_lvm():
         room.keep("pvs.json",
                   {"report":
                    [{"pv":
-                     [{"vg_name": "data", "pv_name": name, "pv_attr": "a--", "pv_pe_count": str(size)} for name,
-                      size in devices.items()]}]})
+                     [{"vg_name": "data", "pv_name": name, "pv_attr": "a--", "pv_pe_count": str(size)}
+                      for name, size in devices.items()]}]})
         room.keep("lvs.json",
                   {"report":
                    [{"seg":
@@ -295,17 +295,17 @@ SMALL = {"epoch":
                   [{"rule_id": it,
                     "steps":
                     [{"op": "take", "item": -1, "item_name": "default"},
-                     {"op": f"chooseleaf_{kind}", "num": 0, "type": "host"}, {"op": "emit"}]} for it,
-                   kind in enumerate(("firstn", "indep"))]})}
+                     {"op": f"chooseleaf_{kind}", "num": 0, "type": "host"}, {"op": "emit"}]}
+                   for it, kind in enumerate(("firstn", "indep"))]})}
 
 NONE = "2147483647"  # no OSD, as Ceph writes it
 
 
 def lists(*groups):
     """What osdmaptool prints of groups: their names, what CRUSH chooses, where they are, and who has their data."""
-    return "checking for upmap cleanups\n" + "".join(f"{name} raw ([{chosen}], p1) up ([{up}], p1) acting ([{acting}], "
-                                                     f"p1)\n" for name, chosen, up,
-                                                     acting in ((*it, *it[-1:] * (4 - len(it))) for it in groups))
+    rows = ((*it, *it[-1:] * (4 - len(it))) for it in groups)
+    return "checking for upmap cleanups\n" + "".join(
+        f"{name} raw ([{chosen}], p1) up ([{up}], p1) acting ([{acting}], p1)\n" for name, chosen, up, acting in rows)
 
 
 def refusals_of_groups():

@@ -1,6 +1,6 @@
 """Tries report: that its page needs no network, and that what it says of disks, rounds and the bound is what is counted
 here. Where there is a Chromium, pages of 3 and of 300 disks are opened in it too, and the slider is moved."""
-import collections, contextlib, html.parser, json, random, re
+import collections, contextlib, html.parser, itertools, json, random, re
 from browser import Browser
 from limits import made_case
 from witness import write_case
@@ -20,8 +20,8 @@ class Page(html.parser.HTMLParser):
 
     def handle_starttag(self, tag, attrs):
         self.inside = dict(attrs).get("id") if tag == "script" else tag if tag == "style" else ""
-        self.links += [value for name,
-                       value in attrs if name in ("src", "href", "srcset", "action", "background", "data")]
+        self.links += [value
+                       for name, value in attrs if name in ("src", "href", "srcset", "action", "background", "data")]
 
     def handle_endtag(self, tag):
         self.inside = ""
@@ -45,13 +45,13 @@ def judge(room, name):
          found.links)
     used = collections.Counter(disk for disk, _ in case.spots.values())
     loads = case.loads(it[1:] for it in case.moves)
-    needs = {disk: max(-(-loads[disk, way] // limit) for way, limit in limits.items()) for disk,
-             limits in case.limits.items()}
+    needs = {disk: max(-(-loads[disk, way] // limit) for way, limit in limits.items())
+             for disk, limits in case.limits.items()}
     bound = room.read("cert.txt").split("\nbound ")[1].split("\nend\n")[0].split()
     marked = set(bound[4:] if bound[0] == "set" else bound[1:2])
     same(f"{name}: disks", found.data["disks"],
-         [[it, used[it], case.slots[it], list(limits.values()), needs[it], it in marked] for it,
-          limits in case.limits.items()])
+         [[it, used[it], case.slots[it], list(limits.values()), needs[it], it in marked]
+          for it, limits in case.limits.items()])
     numbers = {it: at for at, it in enumerate(case.limits)}
     same(f"{name}: rounds", found.data["rounds"],
          [[[it[0], numbers[it[1]], numbers[it[3]]] for it in shifts] for shifts in room.shifts()])
@@ -79,8 +79,8 @@ def the_report(room):
             {FILES} --out plan.txt | plan.txt was read, and is not written over"""):
         room.write("later.csv",
                    "item,disk,slot\n"
-                   + "".join(f"{item},{disk},{int(slot) + 1}\n" for item, disk,
-                             slot in room.rows("now.csv") if disk != "tape"))
+                   + "".join(f"{item},{disk},{int(slot) + 1}\n"
+                             for item, disk, slot in room.rows("now.csv") if disk != "tape"))
         room.write("other.txt", room.read("cert.txt").replace("rounds 3", "rounds 4"))
         refused(room, "report", f"contrib/report {words}", said)
     # a set, of which a better bound is found; and nothing to move
@@ -141,8 +141,8 @@ def rows_at(case, rounds, at):
     busy = case.loads((it[1], it[3]) for it in (rounds[at - 1] if at else []))
     return {disk:
             [f"{used[disk]} / {case.slots[disk]}",
-             "  ".join(f"{busy[disk, way]}/{limit}" for way, limit in limits.items())] for disk,
-            limits in case.limits.items()}
+             "  ".join(f"{busy[disk, way]}/{limit}" for way, limit in limits.items())]
+            for disk, limits in case.limits.items()}
 
 
 def look(room, browser, name, wide, dark):
@@ -185,13 +185,13 @@ def in_a_browser():
             if is_split:
                 room.write("disks.csv",
                            "disk,out,in,slots\n"
-                           + "".join(f"{name},{limit},{rnd.randint(1, 3)},{slots}\n" for name, limit,
-                                     slots in room.rows("disks.csv")))
+                           + "".join(f"{name},{limit},{rnd.randint(1, 3)},{slots}\n"
+                                     for name, limit, slots in room.rows("disks.csv")))
             room.good("report",
                       f"./migrate plan disks.csv now.csv next.csv plan.txt cert.txt; contrib/report {FILES} --out "
                       f"page.html")
-            for wide, dark in ((400, False), (400, True), (1600, False), (1600, True)) if not is_split else ((1600,
-                                                                                                              False),):
+            looks = itertools.product((400, 1600), (False, True)) if not is_split else [(1600, False)]
+            for wide, dark in looks:
                 look(room, browser, f"report in a browser, {disks} disks, {wide} pixels, {'dark' if dark else 'light'}",
                      wide, dark)
 

@@ -67,8 +67,8 @@ def said(main, words, environ):
 def fits(handle, size):
     """Whether so many bytes can be written without a wait: a pipe has nothing in it, and room."""
     try:
-        return size <= fcntl.fcntl(handle, fcntl.F_GETPIPE_SZ) and not any(fcntl.ioctl(handle, termios.FIONREAD,
-                                                                                       bytes(4)))
+        room = fcntl.fcntl(handle, fcntl.F_GETPIPE_SZ)
+        return size <= room and not any(fcntl.ioctl(handle, termios.FIONREAD, bytes(4)))
     except OSError:
         return True  # it is no pipe
 

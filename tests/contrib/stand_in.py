@@ -69,25 +69,27 @@ def lvs(state):
         stop(f"lvs was not recorded with {' '.join(WORDS)}", 3)
     print_report("seg",
                  [{"vg_name": "data", "lv_name": volume, "lv_role": "public", "segtype": "linear",
-                   "seg_pe_ranges": f"{device}:{first}-{last}"} for volume,
-                  extents in state["volumes"].items() for device, first, last in runs(extents)])
+                   "seg_pe_ranges": f"{device}:{first}-{last}"} for volume, extents in state["volumes"].items()
+                  for device, first, last in runs(extents)])
 
 
 def pvs(state):
     columns = "vg_name,pv_name,pv_attr,pv_pe_count,vg_extent_size"
     if WORDS == f"--reportformat json --units b -o {columns} -S vg_name=data".split():
         row = {"vg_name": "data", "pv_attr": "a--", "vg_extent_size": "4194304B"}
-        return print_report("pv", [{**row, "pv_name": device, "pv_pe_count": size} for device,
-                                   size in state["devices"].items()])
+        return print_report("pv",
+                            [{**row, "pv_name": device, "pv_pe_count": size}
+                             for device, size in state["devices"].items()])
     if WORDS[:-1] == "--noheadings -o pv_name".split():
-        return print(f"  {WORDS[-1]}") if WORDS[-1] in state["devices"] else stop(f"  Failed to find physical volume "
-                                                                                  f"\"{WORDS[-1]}\".")
+        if WORDS[-1] not in state["devices"]:
+            stop(f"  Failed to find physical volume \"{WORDS[-1]}\".")
+        return print(f"  {WORDS[-1]}")
     is_json = WORDS[:-1] == "--segments --reportformat json -o lv_name,pvseg_start,pvseg_size".split()
     is_plain = WORDS[:-1] == "--noheadings --segments -o lv_name,pvseg_start,pvseg_size".split()
     if not (is_json or is_plain) or WORDS[-1] not in state["devices"]:
         stop(f"pvs was not recorded with {' '.join(WORDS)}", 3)
-    rows = [(first, last, f"[{volume}]" if family(volume) else volume) for volume,
-            extents in state["volumes"].items() for device, first, last in runs(sorted(extents)) if device == WORDS[-1]]
+    rows = [(first, last, f"[{volume}]" if family(volume) else volume) for volume, extents in state["volumes"].items()
+            for device, first, last in runs(sorted(extents)) if device == WORDS[-1]]
     at, segments = 0, []
     for first, last, volume in [*sorted(rows), (state["devices"][WORDS[-1]], -1, "")]:
         segments += [("", at, first - at)] * (at < first) + [(volume, first, last - first + 1)] * bool(volume)
@@ -115,16 +117,16 @@ def pvmove():
             return
         if "_rmeta_" in name:
             stop(f"  Can't find sub LV {family(name)}_rimage__.")
-        volume = next((it for it,
-                       extents in state["volumes"].items()
+        volume = next((it
+                       for it, extents in state["volumes"].items()
                        if name in (it, family(it)) and all(at in extents for at in wanted)), None)
         if volume in state["moving"].values():
             stop(f"  Skipping locked LV {volume}\n  No data to move for data.")
         if volume is None:
             stop("  No data to move for data.")
         used = {tuple(at): it for it, extents in state["volumes"].items() for at in extents}
-        near = {at[0] for at,
-                it in used.items() if re.search(r"_[rm](image|meta)_", volume) and family(it) == family(volume)}
+        near = {at[0]
+                for at, it in used.items() if re.search(r"_[rm](image|meta)_", volume) and family(it) == family(volume)}
         if target in near and not anywhere:
             stop(f"  Insufficient free space: {last - first + 1} extents needed, but only 0 available")
         if last - first != end - to or any((target, at) in used for at in range(to, end + 1)) or end >= state[

@@ -20,8 +20,8 @@ def group_of(room, sizes, segments, attrs=()):
     volumes = {}
     for it in segments:
         for device, first, last in re.findall(r"(/dev/\S+):(\d+)-(\d+)", it["seg_pe_ranges"]):
-            volumes.setdefault(it["lv_name"].strip("[]"), []).extend([device, at]
-                                                                     for at in range(int(first), int(last) + 1))
+            extents = volumes.setdefault(it["lv_name"].strip("[]"), [])
+            extents += [[device, at] for at in range(int(first), int(last) + 1)]
     devices = {f"/dev/{it}": size for it, size in sizes.items()}
     room.keep("state/lvm.json", {"devices": devices, "volumes": volumes, "moving": {}})
     return devices, volumes
@@ -173,8 +173,8 @@ def steps_of(script):
     it goes later."""
     lines = [shlex.split(line)[3:] for line in script.splitlines() if line.startswith("lvm-step --round ")]
     spots = re.compile(r"(\S+):(\d+)-(\d+)")
-    return [(volume, [(it[1], int(it[2]), int(it[3])) for it in map(spots.fullmatch, those)]) for volume,
-            *those in lines]
+    return [(volume, [(it[1], int(it[2]), int(it[3])) for it in map(spots.fullmatch, those)])
+            for volume, *those in lines]
 
 
 def run_of(volumes, steps, most):
@@ -258,8 +258,8 @@ CARRY = "contrib/run-plan --names names.csv --erase 'rm -rf {from}/{item}' plan.
 
 
 def where_is(room):
-    return {name: os.path.basename(folder) for folder, names,
-            _ in os.walk(room.path("mnt")) for name in names if re.fullmatch(r"[xy]\d", name)}
+    return {name: os.path.basename(folder) for folder, names, _ in os.walk(room.path("mnt"))
+            for name in names if re.fullmatch(r"[xy]\d", name)}
 
 
 def tight_folders():
