@@ -1,8 +1,8 @@
 """Disks files, with one limit for each disk or with two: reading and writing them, and at which limits a transfer
 counts."""
-from collections.abc import Mapping, Sequence
+from collections.abc import Callable, Iterable, Mapping, Sequence
 from dataclasses import dataclass
-from typing import NamedTuple
+from typing import NamedTuple, TypeVar
 from .command import Wrong
 from .plans import MOST_DISKS, MOST_LIMIT, MOST_SLOTS, NAME, Plan, Shift, number, read_rows
 
@@ -24,6 +24,7 @@ class Split(NamedTuple):
         return {"out": self.outgoing, "in": self.incoming}
 
 
+T = TypeVar("T")
 Limits = Joint | Split
 HEADERS: dict[type[Joint] | type[Split], str] = {Joint: "disk,limit,slots", Split: "disk,out,in,slots"}
 
@@ -53,6 +54,19 @@ def limits_of(texts: Sequence[str], where: str) -> Limits:
         raise Wrong(f"{where}: '{','.join(texts)}' is neither a limit N nor two, OUT,IN")
     found = [number(it, 1, MOST_LIMIT, where) for it in texts]
     return Joint(*found) if len(found) == 1 else Split(*found)
+
+
+def given_to(disks: Iterable[str], words: Iterable[str], what: str, find: Callable[[str], str],
+             read: Callable[[str], T]) -> dict[str, T | None]:
+    """What each disk has by words [DISK=]VALUE: its own, or else what is given without a disk, or else None. `find`
+    gives the disk that a word means."""
+    found: dict[str | None, T] = {}
+    for disk, is_, text in (word.rpartition("=") for word in words):
+        key = find(disk) if is_ else None
+        if key in found:
+            raise Wrong(f"{what} is given twice for {key or 'all disks'}")
+        found[key] = read(text)
+    return {disk: found.get(disk, found.get(None)) for disk in disks}
 
 
 def read_disks(path: str) -> dict[str, Disk]:

@@ -4,7 +4,8 @@ from waiting import LIMIT
 
 
 class Browser:
-    """A page of a given width, light or dark. `seen` has what the browser tells besides, as errors and what is fetched."""
+    """A page of a given width, light or dark. `seen` has what the browser tells besides, as errors and what is
+    fetched."""
 
     @staticmethod
     def found():
@@ -14,12 +15,16 @@ class Browser:
         self.seen, self.text, self.count, self.session = [], b"", 0, {}
         self.profile = tempfile.mkdtemp(prefix="migrate-browser-")
         ends = [*os.pipe(), *os.pipe()]
-        pipes = [fcntl.fcntl(it, fcntl.F_DUPFD_CLOEXEC, 10) for it in ends]  # beside 3 and 4, which the browser has for its own
+        # beside 3 and 4, which the browser has for its own
+        pipes = [fcntl.fcntl(it, fcntl.F_DUPFD_CLOEXEC, 10) for it in ends]
         for it in ends:
             os.close(it)
-        words = [self.found(), "--headless", "--no-sandbox", "--disable-gpu", "--disable-gpu-watchdog", "--disable-hang-monitor", f"--user-data-dir={self.profile}", "--remote-debugging-pipe", "about:blank"]
-        shell = ["bash", "-c", f'exec 3<&{pipes[0]} 4>&{pipes[3]} {pipes[0]}<&- {pipes[3]}>&-; exec "$@"', "bash", *words]
-        self.process = subprocess.Popen(shell, pass_fds=(pipes[0], pipes[3]), stdin=subprocess.DEVNULL, stdout=subprocess.DEVNULL, stderr=subprocess.DEVNULL)
+        words = [self.found(), "--headless", "--no-sandbox", "--disable-gpu", "--disable-gpu-watchdog",
+                 "--disable-hang-monitor", f"--user-data-dir={self.profile}", "--remote-debugging-pipe", "about:blank"]
+        shell = ["bash", "-c", f'exec 3<&{pipes[0]} 4>&{pipes[3]} {pipes[0]}<&- {pipes[3]}>&-; exec "$@"', "bash",
+                 *words]
+        self.process = subprocess.Popen(shell, pass_fds=(pipes[0], pipes[3]), stdin=subprocess.DEVNULL,
+                                        stdout=subprocess.DEVNULL, stderr=subprocess.DEVNULL)
         os.close(pipes[0])
         os.close(pipes[3])
         self.out, self.in_ = pipes[1], pipes[2]
@@ -55,7 +60,8 @@ class Browser:
 
     def ask(self, method, **words):
         self.count += 1
-        os.write(self.out, json.dumps({"id": self.count, "method": method, "params": words, **self.session}).encode() + b"\0")
+        os.write(self.out,
+                 json.dumps({"id": self.count, "method": method, "params": words, **self.session}).encode() + b"\0")
         while (it := self.hear()).get("id") != self.count:
             self.seen.append(it)
         if "error" in it:
@@ -65,7 +71,8 @@ class Browser:
     def open(self, url, wide=1600, high=1000, dark=False):
         """Opens a page, and waits until it stands."""
         self.ask("Emulation.setDeviceMetricsOverride", width=wide, height=high, deviceScaleFactor=1, mobile=wide < 600)
-        self.ask("Emulation.setEmulatedMedia", features=[{"name": "prefers-color-scheme", "value": "dark" if dark else "light"}])
+        self.ask("Emulation.setEmulatedMedia",
+                 features=[{"name": "prefers-color-scheme", "value": "dark" if dark else "light"}])
         for it in ("about:blank", url):  # to another place in the same page would be no new page
             self.seen.clear()
             self.ask("Page.navigate", url=it)

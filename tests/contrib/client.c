@@ -1,5 +1,5 @@
-/* Called under the name of a command or a tool, hands its words, folder, environment, input and outputs to the warm interpreter of
-   server.py, and ends with the status that it answers. SERVER is its socket. */
+/* Called under the name of a command or a tool, hands its words, folder, environment, input and outputs to the warm
+   interpreter of server.py, and ends with the status that it answers. SERVER is its socket. */
 #include <stdio.h>
 #include <stdlib.h>
 #include <string.h>
@@ -31,7 +31,8 @@ int main(int argc, char **argv) {
     memcpy(text, &size, sizeof size);
 
     struct iovec data = {text, end - text};
-    struct msghdr message = {.msg_iov = &data, .msg_iovlen = 1, .msg_control = handles, .msg_controllen = sizeof handles};
+    struct msghdr message = {.msg_iov = &data, .msg_iovlen = 1, .msg_control = handles,
+                             .msg_controllen = sizeof handles};
     struct cmsghdr *head = CMSG_FIRSTHDR(&message);
     head->cmsg_level = SOL_SOCKET;
     head->cmsg_type = SCM_RIGHTS;

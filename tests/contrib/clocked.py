@@ -1,5 +1,5 @@
-"""Runs of run-plan by a clock that a test hands in: each copy ends when the test says, so that nothing depends on how busy the machine
-is."""
+"""Runs of run-plan by a clock that a test hands in: each copy ends when the test says, so that nothing depends on how
+busy the machine is."""
 import errno, os, re
 from waiting import until
 
@@ -32,12 +32,14 @@ def told(room, word):
 
 
 def carried_out(room, options, spans, look=lambda now: None, looks=()):
-    """Carries plan.txt out by copies that do nothing, and end at their times: `spans` has when each begins and ends. The run only goes
-    on where just these begin then. `look` is called at each of the times `looks`. Gives the status."""
+    """Carries plan.txt out by copies that do nothing, and end at their times: `spans` has when each begins and ends.
+    The run only goes on where just these begin then. `look` is called at each of the times `looks`. Gives the
+    status."""
     set_clock(room, 0)
     room.write("job", "#!/bin/sh\nread go <go-$1\n")
     for item in spans:
-        os.path.exists(room.path(f"go-{item}")) or os.mkfifo(room.path(f"go-{item}"))
+        if not os.path.exists(room.path(f'go-{item}')):
+            os.mkfifo(room.path(f"go-{item}"))
     command = f"CLOCK=clock exec contrib/run-plan {options} plan.txt sh job {{item}} >said 2>notes"
     ran = room.begin(command)
     try:

@@ -1,13 +1,13 @@
 """What run-plan sees before it removes a source: copies that lack something, sources that change, over real file
 systems where this is root; and, by a record of the system's calls, what a power cut leaves after each of them."""
-import collections, contextlib, itertools, os, re, shutil, socket, struct, subprocess, time
+import contextlib, itertools, os, re, shutil, socket, struct, subprocess, time
 from unittest import mock
 from migrate_tools.run import compare
 from limits_model import plan_text
-from rooms import Count, Room, refused
+from rooms import Room, plan_of, refused, same, that
 from waiting import until
 
-ONE = plan_text([[["x", "a", "0", "b", "0"]]])
+ONE = plan_of("x a 0 b 0")
 RUN = "contrib/run-plan --erase 'rm -rf mnt/{from}/{item}' plan.txt"
 KINDS = {"ext4": ("8M", "-qF"), "xfs": ("300M", "-qf"),
          "btrfs": ("128M", "-qf")}  # the least sizes, and options of mkfs
@@ -25,15 +25,16 @@ def disk_at(room, name, image, kind="ext4"):
 
 @contextlib.contextmanager
 def disks_of(room, kinds):
-    """The disks a, b, .. of these kinds; folders where nothing can be mounted."""
+    """The disks a, b, .. of these kinds, and their loop devices; folders, and none, where nothing can be mounted."""
     loops, names = [], "abc"[:len(kinds)]
     can = not os.geteuid() and shutil.which("losetup") and all(shutil.which(f"mkfs.{it}") for it in kinds)
     room.good("disks", f"mkdir -p {' '.join(f'mnt/{it}' for it in names)}; rm -f bin/mount bin/umount bin/mountpoint")
-    can or print(f"note: {' and '.join(kinds)} are tried as folders: this is not root, or there is no losetup or mkfs")
+    if not can:
+        print(f"note: {' and '.join(kinds)} are tried as folders: this is not root, or there is no losetup or mkfs")
     try:
         for name, kind in zip(names, kinds if can else ()):
             loops.append(disk_at(room, name, f"state/{name}.img", kind))
-        yield
+        yield loops
     finally:
         room.run("umount -l mnt/*")
         for loop in filter(None, loops):
@@ -65,8 +66,8 @@ LACKS = [("rm -r sub/empty", "mnt/a/x/sub/empty has no copy"),
          ("rm device; mknod device c 1 5", "mnt/b/x/device is of another kind"),
          ("chown -h 7 link", "mnt/b/x/link has another owner"), ("chgrp 7 sub", "mnt/b/x/sub has another owner"),
          ("chmod u-s file", "has another mode than mnt/a/x/"), ("chmod -t sub", "mnt/b/x/sub has another mode"),
-         ("touch -h -d @5 link", "mnt/b/x/link has another time"), ("touch -d '2001-02-03 04:05:06.123456788' file",
-                                                                    "has another time"),
+         ("touch -h -d @5 link", "mnt/b/x/link has another time"),
+         ("touch -d '2001-02-03 04:05:06.123456788' file", "has another time"),
          ("touch sub", "mnt/b/x/sub has another time than mnt/a/x/sub"),
          ("setfattr -x user.note file", "mnt/b/x/file has other attributes or ACLs (user.note)"),
          ("setfattr -n user.note -v texT file", "has other attributes or ACLs (user.note)"),
@@ -79,38 +80,37 @@ LACKS = [("rm -r sub/empty", "mnt/a/x/sub/empty has no copy"),
          ("rm sub/again; cp -a file sub/again; touch -r ../../a/x/sub sub", "does not have the hard links of mnt/a/x/"),
          ("ln 'two  words' third", "mnt/b/x/third is in the copy alone"),
          ("dd if=holes of=more bs=1M status=none; mv more holes; chmod 644 holes; touch -r ../../a/x/holes holes",
-          "mnt/b/x/holes has fewer holes"),
-         ("cd ..; rm -r x", "mnt/b/x cannot be read: No such file or directory")]
+          "mnt/b/x/holes has fewer holes"), ("cd ..; rm -r x", "mnt/b/x cannot be read: No such file or directory")]
 WHOLE = ["cp -a {from} {to}", "rsync -aHAXS --numeric-ids {from} {to}"]
 LOSSY = ["cp -r {from} {to}", "cp -dR --preserve=mode,ownership,timestamps,links {from} {to}", "rsync -a {from} {to}",
-         "rsync -aHAX {from} {to}"]
+         "rsync -aHAX {from} {to}", "rclone copy -q --links --metadata {from} {to}{{item}}"]
 
 
-def what_a_copy_lacks():
-    with Room() as room, disks_of(room, ("ext4", "xfs", "btrfs")):
+def what_a_copy_lacks(room):
+    with disks_of(room, ("ext4", "xfs", "btrfs")):
         make_all_kinds(room)
         start = compare.state_of(compare.tree_of(room.path("mnt/a")))
         room.write("plan.txt", ONE)
         tools = {"setfattr", "setfacl", "rsync"} | ({"mknod", "chown", "chgrp"} if not os.geteuid() else set())
         missing = {it for it in tools if not shutil.which(it)}
-        missing and print(f"note: what a copy lacks is tried in part: there is no {' and no '.join(sorted(missing))}")
+        if missing:
+            print(f"note: what a copy lacks is tried in part: there is no {' and no '.join(sorted(missing))}")
         for spoil, said in LACKS:
             if not set(spoil.replace(";", "").split()) & (missing | ({"chown", "chgrp", "mknod"} - tools)):
                 copy = f"cp -a mnt/a/x mnt/b/; (cd mnt/b/x; {spoil}); [ ! -e mnt/b/x ] || touch -r mnt/a/x mnt/b/x"
                 room.write("copy", copy)
-                ran = room.run(f"rm -rf mnt/b/x; {RUN} sh copy {{item}}; rm plan.txt.place")
-                Count.that(f"a copy that lacks something: {spoil}", ran.returncode == 0 and said in ran.stderr
-                           and "not compared 1 x: " in ran.stderr and "stopped in round 1 of 1" in ran.stderr,
-                           ran.stderr)
-        for copy in LOSSY if not missing else ():
+                room.says(f"a copy that lacks something: {spoil}",
+                          f"rm -rf mnt/b/x; {RUN} sh copy {{item}}; rm plan.txt.place", said, "not compared 1 x: ",
+                          "stopped in round 1 of 1")
+        for copy in (it for it in LOSSY if not missing and shutil.which(it.split()[0])):
             words = copy.format(**{"from": "mnt/{from}/{item}", "to": "mnt/{to}/"})
             ran = room.run(f"rm -rf mnt/b/x; {RUN} {words}; echo $?; rm plan.txt.place")
-            Count.that(f"a command that loses something: {copy}",
-                       ran.stdout.endswith("\n1\n") and "not compared 1 x: " in ran.stderr, ran)
-        Count.same("nothing of the source was touched", compare.state_of(compare.tree_of(room.path("mnt/a"))), start)
+            that(f"a command that loses something: {copy}",
+                 ran.stdout.endswith("\n1\n") and "not compared 1 x: " in ran.stderr, ran)
+        same("nothing of the source was touched", compare.state_of(compare.tree_of(room.path("mnt/a"))), start)
         ran = room.run(f"rm -rf mnt/b/x; {RUN.replace(' --', ' --unverified --')} sh -c 'mkdir -p $1' sh "
                        f"mnt/{{to}}/{{item}}; rm plan.txt.place; ls mnt/a")
-        Count.that("--unverified looks at nothing", ran.returncode == 0 and "x" not in ran.stdout.split(), ran)
+        that("--unverified looks at nothing", ran.returncode == 0 and "x" not in ran.stdout.split(), ran)
         make_all_kinds(room)
         room.good("the item, kept", "mkdir kept && cp -a mnt/a/x kept/")
         # from each kind of file system to each other one, by the commands that the pages name
@@ -120,24 +120,23 @@ def what_a_copy_lacks():
             room.write("plan.txt", plan_text([[["x", one, "0", two, "0"]]]))
             words = copy.format(**{"from": "mnt/{from}/{item}", "to": "mnt/{to}/"})
             room.good("whole copies", f"rm -f plan.txt.place; {RUN} {words}")
-            Count.same(f"{copy}, {one} to {two}: all is there",
-                       (os.listdir(room.path("mnt/b")).count("x"), os.path.lexists(room.path(f"mnt/{one}/x"))),
-                       (int(two == "b"), False))
+            same(f"{copy}, {one} to {two}: all is there",
+                 (os.listdir(room.path("mnt/b")).count("x"), os.path.lexists(room.path(f"mnt/{one}/x"))),
+                 (int(two == "b"), False))
             try:
                 compare.compare(room.path("kept/x"), room.path(f"mnt/{two}/x"))
                 why = ""
             except compare.Wrong as wrong:
                 why = str(wrong)
-            Count.same(f"{copy}, {one} to {two}: nothing is lacking", why, "")
+            same(f"{copy}, {one} to {two}: nothing is lacking", why, "")
 
 
 def a_source_that_changes():
     """What is written to a source once its copy is being compared is never removed: while it is compared, or up to the
     erase."""
     for name, how in (("a new file", "echo 1 >new"), ("other bytes", "echo 2 >one"), ("the same bytes", "echo 1 >one"),
-                      ("a mode", "chmod 600 two"),
-                      ("an old time", "echo 2 >one; touch -d @5 one"), ("a folder's file", "rm sub/three"),
-                      ("another name", "mv two four")):
+                      ("a mode", "chmod 600 two"), ("an old time", "echo 2 >one; touch -d @5 one"),
+                      ("a folder's file", "rm sub/three"), ("another name", "mv two four")):
         with Room() as room:
             room.write("plan.txt", ONE)
             room.good(name, "mkdir -p mnt/b mnt/a/x/sub; cd mnt/a/x; echo 1 >one; echo 2 >two; echo 3 >sub/three")
@@ -146,20 +145,21 @@ def a_source_that_changes():
                                 f"{{ touch done; cd mnt/a/x && {how}; }}")
             ran = room.run(f"{RUN.replace(' --', ' --guard ' + chr(39) + 'sh guard {disk}' + chr(39) + ' --', 1)} cp "
                            f"-a mnt/{{from}}/{{item}} mnt/{{to}}/")
-            Count.that(f"a source that changes before its erase: {name}",
-                       ran.returncode == 1 and "was changed since its copy was compared: stop what writes there"
-                       in ran.stderr and "not erased 1 x: mnt/a/x"
-                       in ran.stderr and os.path.exists(room.path("mnt/a/x")), (ran, room.read("looks")))
+            that(f"a source that changes before its erase: {name}",
+                 ran.returncode == 1 and "was changed since its copy was compared: stop what writes there" in ran.stderr
+                 and "not erased 1 x: mnt/a/x" in ran.stderr and os.path.exists(room.path("mnt/a/x")),
+                 (ran, room.read("looks")))
             lines = room.read("plan.txt.place").splitlines()
-            Count.that(f"the place never said that it is being removed: {name}",
-                       "erasing 1 x" not in lines and lines[-2:] == ["not copied 1 x", "not erasing 1 x"], lines)
+            that(f"the place never said that it is being removed: {name}",
+                 "erasing 1 x" not in lines and lines[-2:] == ["not copied 1 x", "not erasing 1 x"], lines)
             with contextlib.chdir(room.at):
                 room.good(name, "rm -rf mnt/?/*; mkdir -p mnt/a/x/sub; cd mnt/a/x; echo 1 >one; echo 2 >two; echo 3 "
                                 ">sub/three; cd ../../..; cp -a mnt/a/x mnt/b/")
                 real, done = compare.bytes_differ, []
 
                 def write(*words):
-                    done or done.append(room.good(name, f"cd mnt/a/x; {how}"))
+                    if not done:
+                        done.append(room.good(name, f"cd mnt/a/x; {how}"))
                     return real(*words)
 
                 with mock.patch.object(compare, "bytes_differ", write):
@@ -167,15 +167,17 @@ def a_source_that_changes():
                         said = compare.compare("mnt/a/x", "mnt/b/x")
                     except compare.Wrong as wrong:
                         said = str(wrong)
-                Count.that(f"a source that changes while it is compared: {name}",
-                           "mnt/a/x" in said and " " in said and not said[0].isdigit(), said)
+                that(f"a source that changes while it is compared: {name}",
+                     "mnt/a/x" in said and " " in said and not said[0].isdigit(), said)
     with Room() as room, contextlib.chdir(room.at):  # as it begins: all is as before, and only newer
         room.good("as it begins", "mkdir -p mnt/a/x; echo 1 >mnt/a/x/one; cp -a mnt/a mnt/b")
-        until(lambda: time.clock_gettime_ns(compare.COARSE) > os.stat("mnt/a/x").st_ctime_ns, "the clock of files to go on")
+        until(lambda: time.clock_gettime_ns(compare.COARSE) > os.stat("mnt/a/x").st_ctime_ns,
+              "the clock of files to go on")
         real, done = compare.tree_of, []
 
         def look(top):
-            done or done.append(os.chmod("mnt/a/x/one", os.stat("mnt/a/x/one").st_mode))
+            if not done:
+                done.append(os.chmod("mnt/a/x/one", os.stat("mnt/a/x/one").st_mode))
             return real(top)
 
         with mock.patch.object(compare, "tree_of", look):
@@ -183,44 +185,41 @@ def a_source_that_changes():
                 said = compare.compare("mnt/a/x", "mnt/b/x")
             except compare.Wrong as wrong:
                 said = str(wrong)
-        Count.that("a source that changes as the comparison begins", said.startswith("mnt/a/x/one was changed"), said)
+        that("a source that changes as the comparison begins", said.startswith("mnt/a/x/one was changed"), said)
 
 
-def nothing_more():
+def nothing_more(room):
     """Where one copy of a round lacks something, no other source of the round is removed after it."""
-    with Room() as room:
-        room.write("plan.txt", plan_text([[["x", "a", "0", "b", "0"], ["y", "a", "1", "b", "1"]]]))
-        room.good("nothing more", "mkdir -p mnt/a/x mnt/a/y mnt/b; touch -d @5 mnt/a/x mnt/a/y")
-        copy = "sh -c 'cp -a mnt/a/$1 mnt/b/; [ $1 = y ] || touch mnt/b/x' sh {item}"
-        for eager in ("", "--eager disks.csv"):
-            room.write("disks.csv", "disk,limit,slots\na,1,9\nb,1,9\n")
-            ran = room.run(f"rm -rf mnt/b/* plan.txt.place*; contrib/run-plan {eager} --jobs 1 --erase 'rm -rf "
-                           f"mnt/{{from}}/{{item}}' plan.txt {copy}")
-            Count.that(f"nothing more is removed {eager}", ran.returncode == 1 and "not compared 1 x: mnt/b/x has "
-                       "another time" in ran.stderr
-                       and sorted(os.listdir(room.path("mnt/a"))) == ["x", "y"], ran)
+    room.write("plan.txt", plan_of("x a 0 b 0, y a 1 b 1"))
+    room.good("nothing more", "mkdir -p mnt/a/x mnt/a/y mnt/b; touch -d @5 mnt/a/x mnt/a/y")
+    copy = "sh -c 'cp -a mnt/a/$1 mnt/b/; [ $1 = y ] || touch mnt/b/x' sh {item}"
+    for eager in ("", "--eager disks.csv"):
+        room.write("disks.csv", "disk,limit,slots\na,1,9\nb,1,9\n")
+        room.says(f"nothing more is removed {eager}",
+                  f"rm -rf mnt/b/* plan.txt.place*; contrib/run-plan {eager} --jobs 1 --erase 'rm -rf "
+                  f"mnt/{{from}}/{{item}}' plan.txt {copy}", "not compared 1 x: mnt/b/x has another time", status=1)
+        that(f"nothing more is removed {eager}", sorted(os.listdir(room.path("mnt/a"))) == ["x", "y"])
 
 
-def links_and_pipes():
-    with Room() as room:
-        room.good("links", """mkdir -p mnt/a/x mnt/a/y mnt/a/z mnt/b; echo 1 >mnt/a/x/one
-            ln mnt/a/x/one mnt/a/y/two; echo 3 >mnt/a/z/three; ln mnt/a/z/three mnt/a/z/four""")
-        said = "mnt/a/x: mnt/a/x/one has another name outside of it (a hard link), which a copy would not keep"
-        for wish in ("--empty a", "--move mnt/a/x=b"):
-            refused(room, "a hard link between two items", f"contrib/from-folders mnt/* {wish}", said)
-        ran = room.run("mkfifo mnt/a/z/pipe; contrib/from-folders mnt/* --spread --slots 9")
-        Count.that("they stay, and it is said", ran.returncode == 0 and all(it in ran.stderr for it in (
-            "mnt/a/x stays where it is: mnt/a/x/one has", "mnt/a/y stays where it is: mnt/a/y/two has",
-            "mnt/a/z/pipe is a fifo, a socket or a device")), ran)
-        Count.same("those that share no file may go", room.read("next.csv"), "item,disk\nx,a\ny,a\nz,b\n")
-        room.planned("links")
-        room.good("what has a fifo goes", "contrib/run-plan --names names.csv --erase 'rm -rf {from}/{item}' plan.txt "
-                                          "cp -a {from}/{item} {to}/")
-        room.write("plan.txt", ONE)
-        ran = room.run(f"rm plan.txt.place; {RUN} cp -a mnt/{{from}}/{{item}} mnt/{{to}}/")
-        Count.that("run-plan does not break a hard link either",
-                   ran.returncode == 1 and "mnt/a/x/one has another name outside of mnt/a/x, a hard link" in ran.stderr
-                   and os.path.exists(room.path("mnt/a/x/one")), ran)
+def links_and_pipes(room):
+    room.good("links", """mkdir -p mnt/a/x mnt/a/y mnt/a/z mnt/b; echo 1 >mnt/a/x/one
+        ln mnt/a/x/one mnt/a/y/two; echo 3 >mnt/a/z/three; ln mnt/a/z/three mnt/a/z/four""")
+    said = "mnt/a/x: mnt/a/x/one has another name outside of it (a hard link), which a copy would not keep"
+    for wish in ("--empty a", "--move mnt/a/x=b"):
+        refused(room, "a hard link between two items", f"contrib/from-folders mnt/* {wish}", said)
+    ran = room.run("mkfifo mnt/a/z/pipe; contrib/from-folders mnt/* --spread --slots 9")
+    that("they stay, and it is said", ran.returncode == 0 and all(it in ran.stderr for it in (
+        "mnt/a/x stays where it is: mnt/a/x/one has", "mnt/a/y stays where it is: mnt/a/y/two has",
+        "mnt/a/z/pipe is a fifo, a socket or a device")), ran)
+    same("those that share no file may go", room.read("next.csv"), "item,disk\nx,a\ny,a\nz,b\n")
+    room.planned("links")
+    room.good("what has a fifo goes", "contrib/run-plan --names names.csv --erase 'rm -rf {from}/{item}' plan.txt "
+                                      "cp -a {from}/{item} {to}/")
+    room.write("plan.txt", ONE)
+    room.says("run-plan does not break a hard link either",
+              f"rm plan.txt.place; {RUN} cp -a mnt/{{from}}/{{item}} mnt/{{to}}/",
+              "mnt/a/x/one has another name outside of mnt/a/x, a hard link", status=1)
+    that("run-plan does not break a hard link either", os.path.exists(room.path("mnt/a/x/one")))
 
 
 # Calls, and power cuts
@@ -236,9 +235,8 @@ def record_of(room, words):
     log, events = room.path("calls"), []
     env = {**room.env, "PATH": f"/usr/bin:{room.env['PATH']}"}
     ran = subprocess.run(["strace", "-f", "-y", "-s", "99", "-o", log, "-e", f"trace={','.join(CHANGES)}",
-                          "alone/run-plan", *words],
-                         cwd=room.at, env=env, capture_output=True, text=True, check=False)
-    Count.that("a run under strace", ran.returncode == 0, ran)
+                          "alone/run-plan", *words], cwd=room.at, env=env, capture_output=True, text=True, check=False)
+    that("a run under strace", ran.returncode == 0, ran)
     top = os.path.realpath(room.at)
     with open(log, errors="replace") as file:
         calls = [it.groups() for it in map(CALL.match, file) if it]
@@ -274,7 +272,7 @@ def order_of(events, items):
     return kinds
 
 
-TWO = plan_text([[["x", "a", "0", "b", "0"]], [["y", "b", "1", "a", "1"]]])
+TWO = plan_of("x a 0 b 0", "y b 1 a 1")
 
 
 def two_items(room):
@@ -308,10 +306,10 @@ def order_of_a_move():
                                f"place {'copied' if kind == 'copy' else 'erased'} {number} {item}",
                                "fsync plan.txt.place"]
             found = order_of(events, "xy")
-            Count.same(f"the order of a move, {name}", found[3:], wanted)
-            Count.same(f"the place has its name before anything is copied, {name}",
-                       ([it.split()[:2] for it in found[:1]], found[1:3]),
-                       ([["place", "plan"]], ["fsync plan.txt.place", "fsync ."]))
+            same(f"the order of a move, {name}", found[3:], wanted)
+            same(f"the place has its name before anything is copied, {name}",
+                 ([it.split()[:2] for it in found[:1]], found[1:3]),
+                 ([["place", "plan"]], ["fsync plan.txt.place", "fsync ."]))
 
 
 def worlds(events, moves):
@@ -328,8 +326,8 @@ def worlds(events, moves):
         for item, source, target in moves:
             own = [n for n, (call, where, what) in enumerate(events[:cut]) if where == target
                    and what.split("/")[0] == item and call != "unlinkat"]
-            is_synced = own and any(n > own[-1] and it[:2] in (("syncfs", target), ("sync", ".")) for n,
-                                    it in enumerate(events[:cut]))
+            is_synced = own and any(n > own[-1] and it[:2] in (("syncfs", target), ("sync", "."))
+                                    for n, it in enumerate(events[:cut]))
             gone = [what for call, where, what in events[:cut] if call == "unlinkat" and (where,
                 what.split("/")[0]) == (source, item)]
             gone = [it.split("/")[-1] for it in gone]
@@ -349,7 +347,8 @@ def worlds(events, moves):
 def put_world(room, moves, text, states):
     """Makes what a power cut left."""
     room.good("power", "rm -rf mnt plan.txt.place*; mkdir -p mnt/a mnt/b")
-    text is None or room.write("plan.txt.place", text)
+    if text is not None:
+        room.write("plan.txt.place", text)
     for (item, source, target), (_, (there, gone)) in zip(moves, states):
         if item not in gone:
             room.good("power", f"cp -a kept/{item} mnt/{source}/; rm -f "
@@ -372,16 +371,48 @@ def power_cuts():
         events = record_of(room, ["--erase", "rm -rf mnt/{from}/{item}", "plan.txt", "cp", "-a", "mnt/{from}/{item}",
                                   "mnt/{to}/"])
         found, _ = worlds(events, moves)
-        Count.that("a power cut has many ends", len(found) > 20, len(found))
+        that("a power cut has many ends", len(found) > 20, len(found))
         for (text, *states), cut in found.items():
             put_world(room, moves, text, states)
             ran = room.run(f"{RUN} cp -a mnt/{{from}}/{{item}} mnt/{{to}}/")
             stands = {f"{disk}/{item}": room.run(f"diff -r kept/{item} mnt/{disk}/{item}").returncode
                       for item in "xy" for disk in "ab"}
-            if not Count.that(f"a power cut after {events[cut - 1] if cut else 'nothing'}",
+            if not that(f"a power cut after {events[cut - 1] if cut else 'nothing'}",
                               ran.returncode == 0 and stands == {"b/x": 0, "a/x": 2, "a/y": 0, "b/y": 2},
                               (text, states, ran, stands)):
                 return
+
+
+# what copies, and what removes, x or y in two steps; after each the disks are as a power cut would leave them
+SNAP = "to=cuts/$(ls cuts | wc -l); mkdir $to; cp state/?.img $to/"
+STEPS = {"snap": SNAP,
+         "copy": "mkdir -p $2/$3; cp -a $1/one $2/$3/; sync -f $2; sh snap; cp -a $1 $2/; sh snap",
+         "erase": "rm $1/one; sync -f $1; sh snap; rm -r $1; sh snap"}
+
+
+def power_cuts_on_disks(room):
+    """The same over loop devices: what they hold before, within and after each command is what a power cut leaves.
+    There each file system repairs itself, the same words go on, and each item ends whole and nowhere else."""
+    two_items(room)
+    words = "--jobs 1 --place mnt/c/place --erase 'rm -rf mnt/{from}/{item}' plan.txt cp -a mnt/{from}/{item} mnt/{to}/"
+    cut = words.replace("cp -a mnt/{from}/{item} mnt/{to}/", "sh copy mnt/{from}/{item} mnt/{to} {item}").replace(
+        "rm -rf", "sh erase")
+    with disks_of(room, ("ext4", "ext4", "ext4")) as loops:
+        if not loops:
+            return
+        for name, text in STEPS.items():
+            room.write(name, text)
+        room.good("cuts", f"mkdir cuts; cp -a kept/x mnt/a/; cp -a kept/y mnt/b/; sync; contrib/run-plan --guard 'sh "
+                          f"snap {{disk}}' {cut} && umount -l mnt/*")
+        states = {room.good("cuts", f"cat cuts/{it}/*.img | cksum"): it
+                  for it in sorted(os.listdir(room.path("cuts")), key=int)}
+        that("a power cut has many ends", len(states) > 9, len(states))
+        for cut in states.values():
+            ran = room.run(f"for it in a b c; do mount -o loop cuts/{cut}/$it.img mnt/$it || exit 9; done; "
+                           f"contrib/run-plan {words}; status=$?; diff -r kept/x mnt/b/x && diff -r kept/y mnt/a/y "
+                           "&& ls mnt/a mnt/b; umount -l mnt/*; exit $status")
+            that(f"a power cut over disks, {cut}",
+                 ran.returncode == 0 and ran.stdout.endswith("mnt/a:\nlost+found\ny\n\nmnt/b:\nlost+found\nx\n"), ran)
 
 
 def half_erased():
@@ -396,13 +427,13 @@ def half_erased():
             room.write("copy", "echo copy >>log; rm -rf mnt/b/x; cp -a $1 mnt/b/")
             words = "--erase 'sh erase mnt/{from}/{item}' plan.txt sh copy mnt/{from}/{item}"
             ran = room.run(f"alone/run-plan {words}")
-            Count.that(f"half erased, {how}: it stops", ran.returncode == (1 if how == "exit 1" else -9), ran)
-            Count.that(f"half erased, {how}: the place says so",
-                       room.read("plan.txt.place").endswith("\nerasing 1 x\n"), room.read("plan.txt.place"))
+            that(f"half erased, {how}: it stops", ran.returncode == (1 if how == "exit 1" else -9), ran)
+            that(f"half erased, {how}: the place says so", room.read("plan.txt.place").endswith("\nerasing 1 x\n"),
+                 room.read("plan.txt.place"))
             room.good(f"half erased, {how}", f"contrib/run-plan {words}; diff -r kept mnt/b/x")
-            Count.same(f"half erased, {how}: it was copied once, and is gone",
-                       (room.read("log"), os.path.exists(room.path("mnt/a/x"))), ("copy\n", False))
+            same(f"half erased, {how}: it was copied once, and is gone",
+                 (room.read("log"), os.path.exists(room.path("mnt/a/x"))), ("copy\n", False))
 
 
 CASES = (what_a_copy_lacks, nothing_more, a_source_that_changes, links_and_pipes, order_of_a_move, power_cuts,
-         half_erased)
+         power_cuts_on_disks, half_erased)

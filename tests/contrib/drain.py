@@ -1,13 +1,15 @@
-"""`drain` beside the wish to empty a device: over made volume groups its plan has no more rounds than that of what `from-lvm --empty` deals out."""
+"""`drain` beside the wish to empty a device: over made volume groups its plan has no more rounds than that of what
+`from-lvm --empty` deals out."""
 import random, re
 from tight import group_of, segment
-from rooms import Count, Room
+from rooms import Room, same, that
 
 UNIT = 16
 
 
 def made_group(room, draw):
-    """A group of three to six devices, each in use from its beginning on by volumes of some units; gives the words for their limits."""
+    """A group of three to six devices, each in use from its beginning on by volumes of some units; gives the words for
+    their limits."""
     sizes = {it: UNIT * draw.randrange(4, 13) for it in "abcdef"[:draw.randrange(3, 7)]}
     segments = []
     for device, size in sizes.items():
@@ -35,16 +37,16 @@ def emptied_groups():
             limits = made_group(room, draw)
             ran = room.run(f"contrib/from-lvm lvs.json pvs.json --empty a --unit {UNIT} {limits}")
             if ran.returncode != 0:
-                Count.that(f"{name}: there is no room", "no room" in ran.stderr, ran)
+                that(f"{name}: there is no room", "no room" in ran.stderr, ran)
                 continue
             by_wish = rounds_of(room, name, "next.csv")
             printed = room.good(name, "./migrate drain disks.csv now.csv a drained.csv")
             by_drain = rounds_of(room, name, "drained.csv")
-            Count.that(f"{name}: a is emptied", ",a\n" not in room.read("drained.csv"))
-            Count.same(f"{name}: the rounds of its plan", printed.split("\n")[0], f"rounds {by_drain}")
-            Count.that(f"{name}: no more rounds", by_drain <= by_wish, (by_drain, by_wish))
+            that(f"{name}: a is emptied", ",a\n" not in room.read("drained.csv"))
+            same(f"{name}: the rounds of its plan", printed.split("\n")[0], f"rounds {by_drain}")
+            that(f"{name}: no more rounds", by_drain <= by_wish, (by_drain, by_wish))
             compared, fewer = compared + 1, fewer + (by_drain < by_wish)
-    Count.that("groups that can be emptied, and some in fewer rounds", compared >= 8 and fewer >= 1, (compared, fewer))
+    that("groups that can be emptied, and some in fewer rounds", compared >= 8 and fewer >= 1, (compared, fewer))
 
 
 CASES = (emptied_groups,)

@@ -1,9 +1,9 @@
-"""What the tests of contrib/ share: a folder with the program, the commands and stand-ins for the tools; the recorded outputs, read
-here for themselves; what is counted."""
+"""What the tests of contrib/ share: a folder with the program, the commands and stand-ins for the tools; the recorded
+outputs, read here for themselves; what is counted."""
 import collections, csv, json, os, re, shutil, subprocess, sys, tempfile
 import server
 from ceph_model import exceptions_in, groups_in
-from limits_model import Case, misses, shifts_of
+from limits_model import Case, misses, plan_text, shifts_of
 from waiting import LIMIT
 
 HERE = os.path.dirname(os.path.realpath(__file__))
@@ -37,9 +37,12 @@ class Count:
         return cls.that(name, found == wanted, f"{str(found)[:600]}; wanted {str(wanted)[:600]}")
 
 
+that, same = Count.that, Count.same
+
+
 class Room:
-    """A folder with the program, the commands, the examples and stand-ins for the tools. What is below `contrib` runs in a warm
-    interpreter, and what is below `alone` by itself."""
+    """A folder with the program, the commands, the examples and stand-ins for the tools. What is below `contrib` runs
+    in a warm interpreter, and what is below `alone` by itself."""
 
     def __init__(self):
         self.at = tempfile.mkdtemp(prefix="migrate-contrib-")
@@ -48,17 +51,20 @@ class Room:
         shutil.copytree(f"{TOP}/examples", self.path("examples"))
         os.mkdir(self.path("bin"))
         os.mkdir(self.path("state"))
-        self.write("bin/python3", f'#!/bin/sh\nexec {os.path.realpath(sys.executable)} -S "$@"\n')  # the standard library alone, which takes less time
+        # the standard library alone, which takes less time
+        self.write("bin/python3", f'#!/bin/sh\nexec {os.path.realpath(sys.executable)} -S "$@"\n')
         os.chmod(self.path("bin/python3"), 0o755)
         for name in server.STAND_INS:
             os.symlink(f"{SHARED}/tools/{name}", self.path(f"bin/{name}"))
         for name in ("mount", "umount", "mountpoint"):
             os.symlink(f"{HERE}/stand-in-mount", self.path(f"bin/{name}"))
         self.keep("state/lvm.json", {"devices": sizes_of(), "volumes": volumes_of(), "moving": {}})
-        self.keep("state/ceph.json", {"raw": {it: chosen for it, (chosen, _) in groups_in(page("contrib/samples/ceph/before")).items()}, "balancer": False,
-                                      "pairs": exceptions_in(page("contrib/samples/ceph/dump")), "acting": {}, "late": {}, "dropped": ""})
-        self.env = {**os.environ, "PATH": f"{self.path('bin')}:{os.environ['PATH']}", "STAND_IN": self.path("state"), "PAUSE": "0",
-                    "COLUMNS": "200", "LANG": "C.UTF-8", "LVM_SUPPRESS_FD_WARNINGS": "1"}
+        self.keep("state/ceph.json",
+                  {"raw": {it: chosen for it, (chosen, _) in groups_in(page("contrib/samples/ceph/before")).items()},
+                   "balancer": False, "pairs": exceptions_in(page("contrib/samples/ceph/dump")), "acting": {},
+                   "late": {}, "dropped": ""})
+        self.env = {**os.environ, "PATH": f"{self.path('bin')}:{os.environ['PATH']}", "STAND_IN": self.path("state"),
+                    "PAUSE": "0", "COLUMNS": "200", "LANG": "C.UTF-8", "LVM_SUPPRESS_FD_WARNINGS": "1"}
 
     def __enter__(self):
         return self
@@ -83,6 +89,12 @@ class Room:
         except FileNotFoundError:
             return None
 
+    def rows(self, name):
+        return rows_of(self.read(name))
+
+    def shifts(self, name="plan.txt"):
+        return shifts_of(self.read(name))
+
     def state(self, name):
         return json.loads(self.read(f"state/{name}"))
 
@@ -98,8 +110,8 @@ class Room:
 
     def run(self, command):
         """Runs a command of a shell."""
-        return subprocess.run(["bash", "-c", command], cwd=self.at, env=self.env, stdin=subprocess.DEVNULL, capture_output=True, text=True,
-                              errors="replace", timeout=LIMIT, check=False)
+        return subprocess.run(["bash", "-c", command], cwd=self.at, env=self.env, stdin=subprocess.DEVNULL,
+                              capture_output=True, text=True, errors="replace", timeout=LIMIT, check=False)
 
     def begin(self, command, **env):
         """Begins a command of a shell, which goes on."""
@@ -108,26 +120,41 @@ class Room:
     def good(self, name, command):
         """Runs a command that has to succeed, and gives what it printed."""
         ran = self.run(command)
-        Count.that(f"{name}: {command}", ran.returncode == 0, f"status {ran.returncode}, {ran.stdout[-300:]!r}, {ran.stderr[-600:]!r}")
+        that(f"{name}: {command}", ran.returncode == 0,
+             f"status {ran.returncode}, {ran.stdout[-300:]!r}, {ran.stderr[-600:]!r}")
         return ran.stdout
 
+    def says(self, name, command, *texts, status=0):
+        """Runs a command that ends with this status and prints or says each of these texts, and gives the run."""
+        ran = self.run(command)
+        that(f"{name}: {command}", ran.returncode == status and all(it in ran.stdout + ran.stderr for it in texts),
+             (texts, ran))
+        return ran
+
+    def example(self):
+        """Plans the README's example here."""
+        self.good("example", "cp examples/*.csv . && ./migrate plan disks.csv now.csv next.csv plan.txt cert.txt")
+
     def planned(self, name):
-        """Plans, checks and follows the three files; gives the last layout: item, disk and slot. A plan for two limits of each disk
-        is always optimal, and counted again by limits_model.py."""
+        """Plans, checks and follows the three files; gives the last layout: item, disk and slot. A plan for two limits
+        of each disk is always optimal, and counted again by limits_model.py."""
         case = Case(self.read)
         self.good(name, "./migrate plan disks.csv now.csv next.csv plan.txt cert.txt")
         verdict = self.good(name, "./migrate check disks.csv now.csv next.csv plan.txt cert.txt")
-        Count.that(f"{name}: the verdict", verdict == "optimal\n" or verdict == "bounded\n" and not case.is_split, verdict)
-        case.is_split and Count.same(f"{name}: what the plan misses", misses(case, self.read("plan.txt"), self.read("cert.txt")), {})
+        that(f"{name}: the verdict", verdict == "optimal\n" or verdict == "bounded\n" and not case.is_split, verdict)
+        if case.is_split:
+            same(f"{name}: what the plan misses", misses(case, self.read("plan.txt"), self.read("cert.txt")), {})
         last = self.good(name, "./migrate after disks.csv now.csv next.csv plan.txt")
         return {item: (disk, int(slot)) for item, disk, slot in list(csv.reader(last.splitlines()))[1:]}
 
     def planned_tight(self, name):
-        """Plans and follows the three files where space is tight; gives the last layout, in which each item is on its next disk."""
+        """Plans and follows the three files where space is tight; gives the last layout, in which each item is on its
+        next disk."""
         self.good(name, "./migrate plan-tight disks.csv now.csv next.csv plan.txt")
         last = self.good(name, "./migrate after-tight disks.csv now.csv next.csv plan.txt")
         found = {item: (disk, int(slot)) for item, disk, slot in list(csv.reader(last.splitlines()))[1:]}
-        Count.same(f"{name}: each is on its next disk", {item: disk for item, (disk, _) in found.items()}, dict(rows_of(self.read("next.csv"))))
+        same(f"{name}: each is on its next disk", {item: disk for item, (disk, _) in found.items()},
+             dict(self.rows("next.csv")))
         return found
 
 
@@ -139,8 +166,8 @@ def sizes_of(name="pvs.json"):
 
 
 def volumes_of(report="lvs.json"):
-    """Each volume's extents in the order of its data, device and number: of a report, or of a recorded one. Those of volumes over
-    volumes are none."""
+    """Each volume's extents in the order of its data, device and number: of a report, or of a recorded one. Those of
+    volumes over volumes are none."""
     if isinstance(report, str):
         with open(f"{SAMPLES}/lvm/{report}", encoding="ascii") as file:
             report = json.load(file)
@@ -156,11 +183,30 @@ def rows_of(text):
     return list(csv.reader(text.splitlines()))[1:]
 
 
+def cases(text):
+    """The rows of a table of cases, whose fields stand apart by ' | '; a field of digits is a number."""
+    rows = (re.split(r"(?<= )\|(?= )", f" {line.strip()} ") for line in text.strip("\n").split("\n"))
+    return [[int(it) if it.strip().isdecimal() else re.sub(" +", " ", it.strip()) for it in row] for row in rows]
+
+
+def all_refused(room, name, command, path, rows):
+    """The command refuses each of these texts of a file: a row has what it is, the text, and what is said."""
+    for what, text, said in rows:
+        room.write(path, text)
+        refused(room, f"{name}, {what}", command, said)
+
+
+def plan_of(*rounds):
+    """The text of a plan: each round has its shifts, apart by commas."""
+    return plan_text([[it.split() for it in shifts.split(", ")] if shifts else [] for shifts in rounds])
+
+
 def refused(room, name, command, said, status=1):
     """The command fails with a sentence that has this, and no file is there that was not, or is another."""
     before = room.files()
     ran = room.run(command)
-    Count.that(f"{name}: {command}", ran.returncode == status and said in ran.stderr and "Traceback" not in ran.stderr and not ran.stdout,
-               f"status {ran.returncode}, {ran.stdout[-200:]!r}, {ran.stderr[-700:]!r}; wanted {said!r}")
+    that(f"{name}: {command}",
+         ran.returncode == status and said in ran.stderr and "Traceback" not in ran.stderr and not ran.stdout,
+         f"status {ran.returncode}, {ran.stdout[-200:]!r}, {ran.stderr[-700:]!r}; wanted {said!r}")
     after = room.files()
-    Count.that(f"{name}: no file", after == before, set(after) ^ set(before))
+    that(f"{name}: no file", after == before, set(after) ^ set(before))

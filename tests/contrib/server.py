@@ -67,7 +67,8 @@ def said(main, words, environ):
 def fits(handle, size):
     """Whether so many bytes can be written without a wait: a pipe has nothing in it, and room."""
     try:
-        return size <= fcntl.fcntl(handle, fcntl.F_GETPIPE_SZ) and not any(fcntl.ioctl(handle, termios.FIONREAD, bytes(4)))
+        room = fcntl.fcntl(handle, fcntl.F_GETPIPE_SZ)
+        return size <= room and not any(fcntl.ioctl(handle, termios.FIONREAD, bytes(4)))
     except OSError:
         return True  # it is no pipe
 
@@ -114,8 +115,8 @@ def answer(call, calls, words, environ, handles):
 
 
 def serve(listening, ready):
-    """Answers each call, as long as `ready`, a pipe of who began this, is open: within this process where nothing waits,
-    and else in a fork of its own, which is killed where the client is."""
+    """Answers each call, as long as `ready`, a pipe of who began this, is open: within this process where nothing
+    waits, and else in a fork of its own, which is killed where the client is."""
     stand_in = importlib.import_module("stand_in")
     calls = {**MAINS, **dict.fromkeys(STAND_INS, stand_in.main)}
     at_once = {*STAND_INS} - {*WAITING}
@@ -143,7 +144,10 @@ def serve(listening, ready):
             else:
                 forks[call] = os.fork()
                 if not forks[call]:
-                    hand_over(call, handles, *told) if told else answer(call, calls, words, environ, handles)
+                    if told:
+                        hand_over(call, handles, *told)
+                    else:
+                        answer(call, calls, words, environ, handles)
                     os._exit(0)
             for it in handles:
                 os.close(it)

@@ -1,10 +1,10 @@
 #!/usr/bin/env python3
 """Called under the name of a tool, does what the tool did when contrib/samples were recorded, over a state of its own.
 
-lvs, pvs and pvmove work on lvm.json in the folder $STAND_IN; pvmove moves extents there, and keeps LVM's rules: from one physical
-volume, and of one volume, it moves once at a time; a second call for a source goes on with the first one alone, with status 0;
-without --alloc anywhere no part of a raid or a mirror comes to where another part of it is.
-ceph, osdmaptool and crushtool are in ceph_stand_in.py."""
+lvs, pvs and pvmove work on lvm.json in the folder $STAND_IN; pvmove moves extents there, and keeps LVM's rules: from
+one physical volume, and of one volume, it moves once at a time; a second call for a source goes on with the first one
+alone, with status 0; without --alloc anywhere no part of a raid or a mirror comes to where another part of it is. ceph,
+osdmaptool and crushtool are in ceph_stand_in.py."""
 import fcntl, json, os, re, sys, time
 from ceph_stand_in import Ceph, cluster, osdmaptool, sample
 
@@ -48,7 +48,8 @@ def happened(text):
 
 def print_report(key, rows):
     print('  {\n      "report": [\n          {\n              "%s": [' % key)
-    print(",\n".join("                  {" + ", ".join(f'"{name}":"{value}"' for name, value in row.items()) + "}" for row in rows))
+    print(",\n".join("                  {" + ", ".join(f'"{name}":"{value}"' for name, value in row.items()) + "}"
+                     for row in rows))
     print("              ]\n          }\n      ]\n  }")
 
 
@@ -66,24 +67,29 @@ def runs(extents):
 def lvs(state):
     if WORDS != "-a --segments --reportformat json -o vg_name,lv_name,lv_role,segtype,seg_pe_ranges data".split():
         stop(f"lvs was not recorded with {' '.join(WORDS)}", 3)
-    print_report("seg", [{"vg_name": "data", "lv_name": volume, "lv_role": "public", "segtype": "linear", "seg_pe_ranges": f"{device}:{first}-{last}"}
-                         for volume, extents in state["volumes"].items() for device, first, last in runs(extents)])
+    print_report("seg",
+                 [{"vg_name": "data", "lv_name": volume, "lv_role": "public", "segtype": "linear",
+                   "seg_pe_ranges": f"{device}:{first}-{last}"} for volume, extents in state["volumes"].items()
+                  for device, first, last in runs(extents)])
 
 
 def pvs(state):
     columns = "vg_name,pv_name,pv_attr,pv_pe_count,vg_extent_size"
     if WORDS == f"--reportformat json --units b -o {columns} -S vg_name=data".split():
         row = {"vg_name": "data", "pv_attr": "a--", "vg_extent_size": "4194304B"}
-        return print_report("pv", [{**row, "pv_name": device, "pv_pe_count": size} for device,
-                                   size in state["devices"].items()])
+        return print_report("pv",
+                            [{**row, "pv_name": device, "pv_pe_count": size}
+                             for device, size in state["devices"].items()])
     if WORDS[:-1] == "--noheadings -o pv_name".split():
-        return print(f"  {WORDS[-1]}") if WORDS[-1] in state["devices"] else stop(f"  Failed to find physical volume \"{WORDS[-1]}\".")
+        if WORDS[-1] not in state["devices"]:
+            stop(f"  Failed to find physical volume \"{WORDS[-1]}\".")
+        return print(f"  {WORDS[-1]}")
     is_json = WORDS[:-1] == "--segments --reportformat json -o lv_name,pvseg_start,pvseg_size".split()
     is_plain = WORDS[:-1] == "--noheadings --segments -o lv_name,pvseg_start,pvseg_size".split()
     if not (is_json or is_plain) or WORDS[-1] not in state["devices"]:
         stop(f"pvs was not recorded with {' '.join(WORDS)}", 3)
-    rows = [(first, last, f"[{volume}]" if family(volume) else volume)
-            for volume, extents in state["volumes"].items() for device, first, last in runs(sorted(extents)) if device == WORDS[-1]]
+    rows = [(first, last, f"[{volume}]" if family(volume) else volume) for volume, extents in state["volumes"].items()
+            for device, first, last in runs(sorted(extents)) if device == WORDS[-1]]
     at, segments = 0, []
     for first, last, volume in [*sorted(rows), (state["devices"][WORDS[-1]], -1, "")]:
         segments += [("", at, first - at)] * (at < first) + [(volume, first, last - first + 1)] * bool(volume)
@@ -100,8 +106,10 @@ def family(volume):
 
 
 def pvmove():
-    found = re.fullmatch(r"-i 3 (--alloc anywhere )?-n (\S+) (\S+):(\d+)-(\d+) (\S+):(\d+)-(\d+)", " ".join(WORDS)) or stop(f"pvmove was not recorded with {WORDS}", 3)
-    anywhere, name, source, first, last, target, to, end = (int(it) if it and it.isdecimal() else it for it in found.groups())
+    found = re.fullmatch(r"-i 3 (--alloc anywhere )?-n (\S+) (\S+):(\d+)-(\d+) (\S+):(\d+)-(\d+)",
+                         " ".join(WORDS)) or stop(f"pvmove was not recorded with {WORDS}", 3)
+    anywhere, name, source, first, last, target, to, end = (int(it) if it and it.isdecimal() else it
+                                                            for it in found.groups())
     wanted = [[source, at] for at in range(first, last + 1)]
     with State("lvm.json") as state:
         if source in state["moving"]:
@@ -109,16 +117,20 @@ def pvmove():
             return
         if "_rmeta_" in name:
             stop(f"  Can't find sub LV {family(name)}_rimage__.")
-        volume = next((it for it, extents in state["volumes"].items() if name in (it, family(it)) and all(at in extents for at in wanted)), None)
+        volume = next((it
+                       for it, extents in state["volumes"].items()
+                       if name in (it, family(it)) and all(at in extents for at in wanted)), None)
         if volume in state["moving"].values():
             stop(f"  Skipping locked LV {volume}\n  No data to move for data.")
         if volume is None:
             stop("  No data to move for data.")
         used = {tuple(at): it for it, extents in state["volumes"].items() for at in extents}
-        near = {at[0] for at, it in used.items() if re.search(r"_[rm](image|meta)_", volume) and family(it) == family(volume)}
+        near = {at[0]
+                for at, it in used.items() if re.search(r"_[rm](image|meta)_", volume) and family(it) == family(volume)}
         if target in near and not anywhere:
             stop(f"  Insufficient free space: {last - first + 1} extents needed, but only 0 available")
-        if last - first != end - to or any((target, at) in used for at in range(to, end + 1)) or end >= state["devices"][target]:
+        if last - first != end - to or any((target, at) in used for at in range(to, end + 1)) or end >= state[
+            "devices"][target]:
             stop("  Insufficient suitable allocatable extents for logical volume : more required")
         state["moving"][source] = volume
     log(f"begin {' '.join(WORDS)}")
@@ -130,8 +142,8 @@ def pvmove():
         if broken:
             os.unlink(fails)
             stop(f"  {source}: Moved: 0.00%\n  ABORTING: Mirror percentage check failed.")
-        state["volumes"][volume] = [[target, at - first + to] if device == source and first <= at <= last else [device, at]
-                                    for device, at in state["volumes"][volume]]
+        state["volumes"][volume] = [[target, at - first + to] if device == source and first <= at <= last
+                                    else [device, at] for device, at in state["volumes"][volume]]
     log(f"end {' '.join(WORDS)}")
     print(f"  {source}: Moved: 100.00%")
 

@@ -1,8 +1,7 @@
-"""Tries witness: what it writes is judged by the program, and its bound compared with the best one of all sets of disks, counted here one
-by one. CASES=300 in the environment tries as many made cases; else it is 30."""
+"""Tries witness: what it writes is judged by the program, and its bound compared with the best one of all sets of
+disks, counted here one by one. CASES=300 in the environment tries as many made cases; else it is 30."""
 import collections, os, random, re
-from limits_model import plan_text
-from rooms import Count, Room, refused
+from rooms import Room, cases, plan_of, refused, same, that
 
 CHECK = "./migrate check disks.csv now.csv next.csv plan.txt"
 
@@ -10,7 +9,8 @@ CHECK = "./migrate check disks.csv now.csv next.csv plan.txt"
 def write_case(room, limits, moves):
     """The three files of these limits, joint ones, and a move for each pair of disks."""
     used = collections.Counter(it for move in moves for it in move)
-    room.write("disks.csv", "disk,limit,slots\n" + "".join(f"d{it},{limit},{used[it] + 1}\n" for it, limit in enumerate(limits)))
+    room.write("disks.csv",
+               "disk,limit,slots\n" + "".join(f"d{it},{limit},{used[it] + 1}\n" for it, limit in enumerate(limits)))
     slots, now = collections.Counter(), []
     for at, (source, _) in enumerate(moves):
         now.append(f"i{at},d{source},{slots[source]}\n")
@@ -54,52 +54,79 @@ def made_witnesses():
         for seed in range(int(os.environ.get("CASES", 30))):
             limits, moves = made_case(random.Random(seed))
             write_case(room, limits, moves)
-            printed = room.good("witness", f"./migrate plan disks.csv now.csv next.csv plan.txt cert.txt; {CHECK} cert.txt; contrib/witness plan.txt disks.csv cert.txt --seconds 1e9 --out best.txt 2>said; {CHECK} best.txt")
-            verdict, own, shown, best = re.findall("^(optimal|bounded)$", printed, re.M), value_of(printed), value_of(room.read("best.txt")), best_of_all(limits, moves)
+            printed = room.good("witness",
+                                f"./migrate plan disks.csv now.csv next.csv plan.txt cert.txt; {CHECK} cert.txt; "
+                                f"contrib/witness plan.txt disks.csv cert.txt --seconds 1e9 --out best.txt 2>said; "
+                                f"{CHECK} best.txt")
+            verdict, own, shown, best = re.findall("^(optimal|bounded)$", printed, re.M), value_of(printed), value_of(
+                room.read("best.txt")), best_of_all(limits, moves)
             rounds = int(room.read("plan.txt").split()[3])
             bounded += verdict[0] == "bounded"
             less += own < best
             found += own < best == shown
-            Count.same(f"made case {seed}: its bound", shown, best)
-            Count.same(f"made case {seed}: the verdict", verdict, ["optimal" if own == rounds else "bounded", "optimal" if best == rounds else "bounded"])
-    print(f"note: {bounded} plans were bounded; the program's bound was less than that of all sets in {less} cases, and witness found that of all sets in {found} of them")
-    Count.that("some bounds are better", found == less > 0, (less, found))
+            same(f"made case {seed}: its bound", shown, best)
+            same(f"made case {seed}: the verdict", verdict,
+                 ["optimal" if own == rounds else "bounded", "optimal" if best == rounds else "bounded"])
+    print(f"note: {bounded} plans were bounded; the program's bound was less than that of all sets in {less} cases, "
+          f"and witness found that of all sets in {found} of them")
+    that("some bounds are better", found == less > 0, (less, found))
 
 
-PENTAGON = [(a, b) for a in range(5) for b in range(a)] * 6 + [(4, 5), (5, 6), (6, 0)]  # 60 moves among five disks, 25 at the busiest
+# 60 moves among five disks, 25 at the busiest
+PENTAGON = [(a, b) for a in range(5) for b in range(a)] * 6 + [(4, 5), (5, 6), (6, 0)]
 
 
-def the_answers_of_witness():
+def the_answers_of_witness(room):
     """What it says, and that it writes the certificate as it is where it finds nothing."""
-    with Room() as room:
-        def says(name, said, words="plan.txt disks.csv cert.txt"):
-            ran = room.run(f"contrib/witness --seconds 1e9 {words}")
-            Count.that(f"witness, {name}", ran.returncode == 0 and ran.stderr == f"witness: {said}\n", ran)
-            return ran.stdout
+    def says(name, said, words="plan.txt disks.csv cert.txt"):
+        ran = room.run(f"contrib/witness --seconds 1e9 {words}")
+        that(f"witness, {name}", ran.returncode == 0 and ran.stderr == f"witness: {said}\n", ran)
+        return ran.stdout
 
-        write_case(room, [1] * 7, PENTAGON)
-        room.good("witness", "./migrate plan disks.csv now.csv next.csv plan.txt cert.txt")
-        cert = room.read("cert.txt")
-        found = says("a set", "a set of 5 disks needs 30 rounds, where 25 were shown; the plan has 30, so it is optimal")
-        Count.same("the set", found, cert.split("bound")[0] + "bound set 5 60 30\nd0\nd1\nd2\nd3\nd4\nend\n")
-        Count.same("no time", says("no time", "the time is over; the best bound so far is 25 rounds, and the plan has 30", "plan.txt disks.csv cert.txt --seconds 0"), cert)
-        room.write("less.txt", cert.replace("bound disk d0 25 1 25", "bound disk d5 2 1 2"))
-        Count.that("a certificate with a poor bound", says("a poor bound", "a set of 5 disks needs 30 rounds, where 2 were shown; the plan has 30, so it is optimal", "plan.txt disks.csv less.txt") == found)
-        room.write("best.txt", found)
-        Count.same("optimal already", says("optimal", "the plan has 30 rounds, which the bound shows to be needed: it is optimal, and there is no better bound", "plan.txt disks.csv best.txt"), found)
-        # the Petersen graph: three rounds for each disk, and no schedule with three
-        write_case(room, [1] * 10, [(a, (a + 1) % 5) for a in range(5)] + [(a, a + 5) for a in range(5)] + [(a + 5, (a + 2) % 5 + 5) for a in range(5)])
-        room.good("witness", "./migrate plan disks.csv now.csv next.csv plan.txt cert.txt")
-        Count.same("no better bound", says("no better bound", "no set of disks needs more than 3 rounds; the plan has 4, and a shorter one may or may not exist"), room.read("cert.txt"))
-        for words, said in (("plan.txt disks.csv best.txt", "best.txt is the certificate of another plan"), ("plan.txt now.csv cert.txt", "does not begin with the row"), ("plan.txt disks.csv now.csv", "now.csv is no certificate for disks with one limit"),
-                            ("plan.txt disks.csv cert.txt --out cert.txt", "cert.txt was read, and is not written over"), ("twice.txt disks.csv cert.txt", "i0 moves twice, which no plan"), ("still.txt disks.csv cert.txt", "i0 stays on its disk")):
-            room.write("twice.txt", plan_text([[["i0", "d0", "0", "d1", "1"]], [["i0", "d1", "1", "d2", "1"]]]))
-            room.write("still.txt", plan_text([[["i0", "d0", "0", "d0", "1"]]]))
-            refused(room, "witness", f"contrib/witness {words}", said)
-        # an outgoing and an incoming limit
-        room.write("disks.csv", "disk,out,in,slots\n" + "".join(f"d{it},1,2,9\n" for it in range(10)))
-        room.good("witness", "./migrate plan disks.csv now.csv next.csv plan.txt cert.txt")
-        Count.same("split limits", says("split limits", "the disks have an outgoing and an incoming limit each; then one side of a disk always shows the best bound, and there is no better one"), room.read("cert.txt"))
+    write_case(room, [1] * 7, PENTAGON)
+    room.good("witness", "./migrate plan disks.csv now.csv next.csv plan.txt cert.txt")
+    cert = room.read("cert.txt")
+    found = says("a set", "a set of 5 disks needs 30 rounds, where 25 were shown; the plan has 30, so it is optimal")
+    same("the set", found, cert.split("bound")[0] + "bound set 5 60 30\nd0\nd1\nd2\nd3\nd4\nend\n")
+    same("no time",
+         says("no time", "the time is over; the best bound so far is 25 rounds, and the plan has 30",
+              "plan.txt disks.csv cert.txt --seconds 0"), cert)
+    room.write("less.txt", cert.replace("bound disk d0 25 1 25", "bound disk d5 2 1 2"))
+    that("a certificate with a poor bound",
+         says("a poor bound",
+              "a set of 5 disks needs 30 rounds, where 2 were shown; the plan has 30, so it is optimal",
+              "plan.txt disks.csv less.txt") == found)
+    room.write("best.txt", found)
+    same("optimal already",
+         says("optimal",
+              "the plan has 30 rounds, which the bound shows to be needed: it is optimal, and there is no "
+              "better bound", "plan.txt disks.csv best.txt"), found)
+    # the Petersen graph: three rounds for each disk, and no schedule with three
+    write_case(room, [1] * 10,
+               [(a, (a + 1) % 5) for a in range(5)] + [(a, a + 5) for a in range(5)]
+               + [(a + 5, (a + 2) % 5 + 5) for a in range(5)])
+    room.good("witness", "./migrate plan disks.csv now.csv next.csv plan.txt cert.txt")
+    same("no better bound",
+         says("no better bound",
+              "no set of disks needs more than 3 rounds; the plan has 4, and a shorter one may or may not exist"),
+         room.read("cert.txt"))
+    for words, said in cases("""
+            plan.txt disks.csv best.txt | best.txt is the certificate of another plan
+            plan.txt now.csv cert.txt | does not begin with the row
+            plan.txt disks.csv now.csv | now.csv is no certificate for disks with one limit
+            plan.txt disks.csv cert.txt --out cert.txt | cert.txt was read, and is not written over
+            twice.txt disks.csv cert.txt | i0 moves twice, which no plan
+            still.txt disks.csv cert.txt | i0 stays on its disk"""):
+        room.write("twice.txt", plan_of("i0 d0 0 d1 1", "i0 d1 1 d2 1"))
+        room.write("still.txt", plan_of("i0 d0 0 d0 1"))
+        refused(room, "witness", f"contrib/witness {words}", said)
+    # an outgoing and an incoming limit
+    room.write("disks.csv", "disk,out,in,slots\n" + "".join(f"d{it},1,2,9\n" for it in range(10)))
+    room.good("witness", "./migrate plan disks.csv now.csv next.csv plan.txt cert.txt")
+    same("split limits",
+         says("split limits",
+              "the disks have an outgoing and an incoming limit each; then one side of a disk always shows "
+              "the best bound, and there is no better one"), room.read("cert.txt"))
 
 
 CASES = (made_witnesses, the_answers_of_witness)

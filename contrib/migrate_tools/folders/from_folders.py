@@ -15,12 +15,11 @@ With --unit 200G a folder of more bytes, on all disks together, is split into wh
 are items, which may go to several disks, each to the same path there. The folder itself is none, and stands on each
 disk that has a part of it. Standard error says how full the fullest target would be, and whether `migrate plan` has
 room, or it is for `plan-tight`."""
-import argparse, collections, os
-from collections.abc import Callable, Iterable, Mapping, Sequence
-from typing import TypeVar
+import argparse, collections, functools, os
+from collections.abc import Iterable, Mapping, Sequence
 from ..balance import Balance, percent_of
 from ..command import Wrong, command, note, save_all, words
-from ..disks import disk_rows, limits_of
+from ..disks import disk_rows, given_to, limits_of
 from ..items import Spot
 from ..plans import MOST_ITEMS, MOST_SLOTS, number, table
 from ..sizes import amount, size_rows
@@ -28,8 +27,6 @@ from ..tight import form_of, said_of_bytes, warning_of
 from ..wishes import Wishes, carry_out
 from .found import Item, Nodes, bytes_of, check_bytes, in_units, read_disks, read_items
 from .targets import HEADER, check_targets, folders_above, short_names
-
-T = TypeVar("T")
 
 
 def read_words() -> argparse.Namespace:
@@ -75,17 +72,6 @@ def one_of(word: str, paths: Iterable[str], what: str) -> str:
     return found[0]
 
 
-def given_to(disks: Sequence[str], words_: Iterable[str], what: str, read: Callable[[str], T]) -> dict[str, T | None]:
-    """What each disk has by these words: its own, or else what is given without a disk, or else None."""
-    found: dict[str | None, T] = {}
-    for disk, is_, text in (word.rpartition("=") for word in words_):
-        key = one_of(disk, disks, "disk") if is_ else None
-        if key in found:
-            raise Wrong(f"{what} is given twice for {key or 'all disks'}")
-        found[key] = read(text)
-    return {disk: found.get(disk, found.get(None)) for disk in disks}
-
-
 def read_moves(words_: Iterable[str], disks: Sequence[str], items: Mapping[Spot, Item],
                empty: set[str]) -> dict[str, str]:
     """The disk that is wished for each path. A folder that is split stands for all of its parts."""
@@ -118,9 +104,10 @@ def balance_of(given: argparse.Namespace, nodes: Nodes, items: Mapping[Spot, Ite
         return None
     names = {(at[0], it.inside) for at, it in items.items()}
     split = {(at[0], folder) for at, it in items.items() for folder in folders_above(it.inside)}
-    sizes, other = {}, {}
-    rooms, used = bytes_of(nodes.values())
-    for (device, _), (disk, size) in zip(nodes, given_to(list(nodes.values()), given.size, "--size", size_of).items()):
+    sizes, other, disks = {}, {}, list(nodes.values())
+    rooms, used = bytes_of(disks)
+    find = functools.partial(one_of, paths=disks, what="disk")
+    for (device, _), (disk, size) in zip(nodes, given_to(disks, given.size, "--size", find, size_of).items()):
         same = next((it for (its, _), it in nodes.items() if its == device and it != disk), None)
         if same and size is None:
             raise Wrong(f"{disk} and {same} are on one file system: say by --size how many bytes each may have")
@@ -153,8 +140,9 @@ def main() -> None:
                  "what uses it first")
     wholes, stand = {at: [it] for at, it in items.items()}, {it.volume: (at[0], it.inside) for at, it in items.items()}
 
-    limits = given_to(disks, given.limit, "--limit", lambda text: limits_of(text.split(","), "--limit"))
-    most = given_to(disks, given.slots, "--slots", lambda text: number(text, 1, MOST_SLOTS, "--slots"))
+    find = functools.partial(one_of, paths=disks, what="disk")
+    limits = given_to(disks, given.limit, "--limit", find, lambda text: limits_of(text.split(","), "--limit"))
+    most = given_to(disks, given.slots, "--slots", find, lambda text: number(text, 1, MOST_SLOTS, "--slots"))
     slots = {disk: count or max(1, len(items)) for disk, count in most.items()}
     empty = {one_of(word, disks, "disk") for word in given.empty}
     moves = read_moves(given.move, disks, items, empty)

@@ -15,7 +15,7 @@ from collections.abc import Iterable, Mapping, Sequence
 from dataclasses import dataclass
 from ..balance import Balance, percent_of
 from ..command import Wrong, command, note, save_all, words
-from ..disks import Limits, disk_rows, limits_of
+from ..disks import disk_rows, given_to, limits_of
 from ..items import Items, Part, Refused, Spot, bulk_of, who
 from ..plans import MOST_DISKS, MOST_ITEMS, MOST_SLOTS, table
 from ..sizes import amount, size_rows
@@ -63,17 +63,6 @@ def device_of(word: str, sizes: Mapping[str, int]) -> str:
     if len(found) != 1:
         raise Wrong(f"there is no physical volume {word}; there are {', '.join(sizes)}")
     return found[0]
-
-
-def read_limits(given: argparse.Namespace, sizes: Mapping[str, int]) -> dict[str, Limits | None]:
-    """The limits that are given, by devices; each is given once."""
-    limits: dict[str | None, Limits] = {}
-    for device, is_, limit in (word.rpartition("=") for word in given.limit):
-        at = device_of(device, sizes) if is_ else None
-        if at in limits:
-            raise Wrong(f"--limit is given twice{f' for {at}' if is_ else ''}")
-        limits[at] = limits_of(limit.split(","), "--limit")
-    return {it: limits.get(it, limits.get(None)) for it in sizes}
 
 
 def read_wishes(given: argparse.Namespace, sizes: Mapping[str, int], closed: set[str], parts: Sequence[Part]) -> Wishes:
@@ -166,7 +155,9 @@ def main() -> None:
     if not extent and not given.extent:
         note(f"{given.pvs} lacks the column vg_extent_size, so bytes.csv supposes extents of 4 MiB")
     extent = extent or given.extent or 4 << 20
-    limits, wishes = read_limits(given, sizes), read_wishes(given, sizes, closed, parts)
+    limits = given_to(sizes, given.limit, "--limit", lambda word: device_of(word, sizes),
+                      lambda text: limits_of(text.split(","), "--limit"))
+    wishes = read_wishes(given, sizes, closed, parts)
     chosen = choose(parts, sizes, wishes, given.unit)
     items, slots, next_ = chosen.items, chosen.slots, chosen.next
     if len(slots) > MOST_DISKS:

@@ -1,5 +1,5 @@
 """The time that is left of a plan. What is done already says how long a transfer, or a round, takes by its bytes."""
-import collections
+import collections, statistics
 from collections.abc import Callable, Iterable, Sequence
 from ..disks import Disks
 from ..plans import Plan
@@ -11,13 +11,11 @@ Pairs = Sequence[tuple[float, float]]  # of weight and seconds
 
 def fitted(pairs: Pairs) -> Callable[[float], float]:
     """How many seconds a weight takes by these pairs: a part for itself, and one that grows with it."""
-    count, weights, seconds = len(pairs), sum(it for it, _ in pairs), sum(it for _, it in pairs)
-    spread = sum((it - weights / count) ** 2 for it, _ in pairs)
-    both = sum((weight - weights / count) * (took - seconds / count) for weight, took in pairs)
-    slope = both / spread if spread else 0
-    fixed = (seconds - slope * weights) / count
-    if count < 3 or slope <= 0 or fixed < 0:
-        slope, fixed = (seconds / weights, 0) if weights else (0, seconds / count)
+    weights, seconds = zip(*pairs)
+    slope, fixed = statistics.linear_regression(weights, seconds) if len(set(weights)) > 1 else (0.0, 0.0)
+    if len(pairs) < 3 or slope <= 0 or fixed < 0:
+        whole = sum(weights)
+        slope, fixed = (sum(seconds) / whole, 0.0) if whole else (0.0, sum(seconds) / len(pairs))
     return lambda weight: fixed + slope * weight
 
 
