@@ -67,7 +67,7 @@ def read_step(words: Sequence[str]) -> Step:
 def read_rounds(plan: Plan, path: str, groups: Mapping[str, Group]) -> tuple[dict[str, dict[str, int]], bool]:
     """The round in which each item of each placement group goes, and whether each goes from the OSD that gives it
     up."""
-    homes = {it.name: (name, it) for name, group in groups.items() for it in group.items()}
+    homes = {it.name: (name, it) for name, group in groups.items() for it in group.items}
     given = all(it.source == f"osd.{homes[it.item][1].source}" for it in plan.shifts() if it.item in homes)
     rounds: dict[str, dict[str, int]] = {}
     seen: set[str] = set()
