@@ -4,7 +4,7 @@ stands for all other disks by a few that are never full. So in each part it look
 in every round, and whether each item gets to where it is to be; and in that of the busiest disk, whether fewer rounds
 do."""
 import collections, os
-from collections.abc import Hashable, Iterator, Sequence
+from collections.abc import Hashable, Mapping, Sequence
 from ..command import Wrong, read_text, save_all
 from ..disks import Disks, Limits, Side, Split, disk_rows, limits_by_side, sides_of
 from ..plans import MOST_DISKS, MOST_ITEMS, MOST_LIMIT, Shift, plan_text, table
@@ -65,38 +65,40 @@ def rounds_of(shifts: Sequence[Shift], disks: Disks) -> list[list[Shift]]:
     return found
 
 
-def parts_of(shifts: Sequence[Shift]) -> Iterator[set[str]]:
-    """Disks, as many as a part has."""
+def parts_of(shifts: Sequence[Shift]) -> dict[str, int]:
+    """The part of each disk, from 1 on."""
     loads = collections.Counter(disk for it in shifts for disk in (it.source, it.target))
-    part, load = set[str](), 0
+    found, part, load, disks = dict[str, int](), 1, 0, 0
     for disk, more in sorted(loads.items()):
         if more > MOST_ITEMS:
             raise Wrong(f"{disk} has {more} moves, more than {MOST_ITEMS}")
-        if load + more > MOST_ITEMS or len(part) == MOST_DISKS - 100:
-            yield part
-            part, load = set(), 0
-        part.add(disk)
-        load += more
-    yield part
+        if load + more > MOST_ITEMS or disks == MOST_DISKS - 100:
+            part, load, disks = part + 1, 0, 0
+        found[disk], load, disks = part, load + more, disks + 1
+    return found
 
 
-def files_of(rounds: Rounds, disks: Disks, part: set[str]) -> dict[str, str]:
-    """The files of the moves of these disks. In a round other disks are as many as they have to be to be never full."""
-    limits: dict[str, Limits | None] = {it: disks[it].limits for it in sorted(part)}
+def files_of(rounds: Rounds, disks: Disks, parts: Mapping[str, int], part: int) -> dict[str, str]:
+    """The files of a part, of these moves. In a round other disks are as many as they have to be to be never full."""
+    limits: dict[str, Limits | None] = {it: disks[it].limits for it, number in parts.items() if number == part}
     slots: collections.Counter[str] = collections.Counter()
     found: list[list[Shift]] = []
     for round_ in rounds:
-        others = {way: iter(range(len(round_))) for way in ("out", "in")}
-        found.append([])
-        for it in (it for it in round_ if it.source in part or it.target in part):
-            both = [disk if disk in part else f"other-{next(others[way]) // MOST_LIMIT}"
-                    for disk, way in ((it.source, "out"), (it.target, "in"))]
-            limits.update({disk: Split(MOST_LIMIT, MOST_LIMIT) for disk in both if disk not in part})
-            found[-1].append(Shift(it.item, both[0], slots[both[0]], both[1], slots[both[1]]))
-            slots.update(both)
+        out, in_, those = 0, 0, list[Shift]()
+        for it in round_:
+            source, target = it.source, it.target
+            if parts[source] != part:
+                source, out = f"other-{out // MOST_LIMIT}", out + 1
+            if parts[target] != part:
+                target, in_ = f"other-{in_ // MOST_LIMIT}", in_ + 1
+            those.append(Shift(it.item, source, slots[source], target, slots[target]))
+            slots[source] += 1
+            slots[target] += 1
+        found.append(those)
     all_ = [it for round_ in found for it in round_]
+    limits |= dict.fromkeys((it for it in slots if it not in limits), Split(MOST_LIMIT, MOST_LIMIT))
     texts = (table(disk_rows(limits, {it: max(1, slots[it]) for it in limits}, "")),
-             table([NOW.split(","), *([it.item, it.source, it.source_slot] for it in all_)]),
+             table([NOW.split(","), *([it.item, it.source, str(it.source_slot)] for it in all_)]),
              table([["item", "disk"], *([it.item, it.target] for it in all_)]), plan_text(it for it in found if it))
     return dict(zip(FILES, texts))
 
@@ -108,17 +110,21 @@ def plan(planner: Planner, sub: str, shifts: Sequence[Shift], disks: Disks) -> s
         raise Wrong("the rounds that were made do not have all moves")
     used = collections.Counter(side for it in shifts for side in sides_of(it, disks))
     busiest = max(used, key=lambda side: (-(-used[side] // limits[side]), side)).disk
-    verdict = ""
-    for number, part in enumerate(parts_of(shifts), 1):
-        files, folder = files_of(rounds, disks, part), os.path.join(sub, f"part-{number}")
+    verdict, parts = "", parts_of(shifts)
+    split: dict[int, list[list[Shift]]] = {it: [[] for _ in rounds] for it in sorted({*parts.values()})}
+    for at, it in ((at, it) for at, round_ in enumerate(rounds) for it in round_):
+        for part in {parts[it.source], parts[it.target]}:
+            split[part][at].append(it)
+    for part, those in split.items():
+        files, folder = files_of(those, disks, parts, part), os.path.join(sub, f"part-{part}")
         os.makedirs(planner.at(folder), exist_ok=True)
         save_all({planner.at(f"{folder}/{name}"): text for name, text in files.items()})
         last = planner.migrate("after", *FILES, sub=folder).splitlines()
         if [it.rpartition(",")[0] for it in last] != files["next.csv"].splitlines():
             raise Wrong("does not lead to next.csv", planner.at(f"{folder}/plan.txt"))
-        if busiest in part:
+        if parts[busiest] == part:
             planner.migrate("plan", *FILES[:3], "least.txt", "cert.txt", sub=folder)
             verdict = planner.checked(folder)
             save_all({planner.at(os.path.join(sub, "cert.txt")): read_text(planner.at(f"{folder}/cert.txt"))})
     save_all({planner.at(os.path.join(sub, "plan.txt")): plan_text(rounds)})
-    return f"{verdict}, looked at in {number} parts"
+    return f"{verdict}, looked at in {len(split)} parts"

@@ -2,7 +2,7 @@
 lines of a script."""
 import collections
 from collections.abc import Mapping, Sequence
-from dataclasses import dataclass
+from typing import NamedTuple
 from ..command import Wrong, note
 from ..disks import Disks, is_split, limits_by_side
 from ..plans import Plan, Shift
@@ -12,8 +12,7 @@ from .groups import Group
 Counts = Mapping[str, int]
 
 
-@dataclass(frozen=True)
-class Step:
+class Step(NamedTuple):
     """In this round the exceptions of a group are set, with which it is to be on these OSDs, where it has one of the
     lists `start` of exceptions; = keeps their order. `counts` is where it counts, as osd.5/in, and how often; `items`
     are those that go then, each with the round in which the plan has it."""

@@ -13,7 +13,6 @@ Set norebalance before the weights are changed. With --eager DISKS the script ha
 set as soon as each OSD at which Ceph counts its copies has a place free by the limits of this file."""
 import argparse, collections, hashlib
 from collections.abc import Sequence
-from dataclasses import replace
 from ..command import command, note, put, save_all
 from ..disks import Disks, check_disks, limits_by_side, read_disks
 from ..plans import Plan, Shift, plan_text, read_plan
@@ -40,9 +39,9 @@ def within(steps: Sequence[Step], disks: Disks) -> list[Step]:
                  f"limit {limits[side]} there; nothing else goes there meanwhile")
         used[at].update(step.counts)
         last[step.group] = at
-        found.append(replace(step, round=at))
+        found.append(step._replace(round=at))
     new = {at: number for number, at in enumerate(sorted({it.round for it in found} | {0}))}
-    return sorted((replace(it, round=new[it.round], items=dict.fromkeys(it.items, new[it.round])) for it in found),
+    return sorted((it._replace(round=new[it.round], items=dict.fromkeys(it.items, new[it.round])) for it in found),
                   key=lambda it: it.round)
 
 
