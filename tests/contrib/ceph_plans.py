@@ -1,5 +1,5 @@
 """Tries plan-ceph: from a cluster to its scripts, the change itself, the way back, and what is left of a script."""
-import collections, json, os, random, re, shutil, time
+import argparse, collections, json, os, random, re, shutil, time
 from ceph import FOUR
 from ceph_model import exceptions_in, groups_in, up_of
 from ceph_steps import DONE, HOLD, printed
@@ -140,28 +140,6 @@ def fuller_and_fuller():
         Count.same(f"rounds {rounds}", {osd: (round(part, 6), at) for osd, (part, at) in found.items()}, wanted)
 
 
-def real_plans():
-    """With osdmaptool itself: two OSDs out are both out."""
-    if not shutil.which("osdmaptool") or not shutil.which("crushtool"):
-        return print("note: plan-ceph is tried with a stand-in for osdmaptool alone")
-    with Room() as room:
-        room.good("real maps", "cp contrib/samples/ceph/map map")
-        made = maps.Maps(room.at)
-        made.changed("map", "next", maps.Change([5, 7], {3: "0.5"}), made.crush("map"))
-        made.placed("next", "after")
-        there = {osd for _, up in groups_in(room.read("after")).values() for osd in up}
-        Count.same("each OSD has something, those that are out nothing", {*range(32)} - there, {5, 7})
-        planner = plan_ceph.CephPlanner(room.at)
-        planner.crush = made.crush("map")
-        uneven = []
-        for balance in (None, ""):
-            planner.change(maps.Change([], {}), balance, 1, 100)
-            counts = collections.Counter(osd for _, up in groups_in(room.read("after")).values() for osd in up)
-            uneven.append(max(counts.values()) - min(counts.values()))
-        Count.that("--balance makes it more even", uneven[1] < uneven[0], uneven)
-    return None
-
-
 def colours():
     """As many as the greatest number of edges at a node, and no two of one colour at a node."""
     for seed in range(60):
@@ -208,10 +186,13 @@ def large_ceph():
         after = made_large(room, osds, count)
         planner.program, planner.backfills, planner.nearfull = PROGRAM, lambda groups: ["2", "7=1"], 0.85
         planner.rooms = {it: fullness.Room(1 << 40, 1 << 38) for it in range(osds)}
-        began, plan = time.process_time(), planner.plan
-        planner.plan = lambda *words: (plan(*words), print(f"note: {3 * count} moves planned by "
-                                                           f"{time.process_time() - began:.0f} s of a processor"))[0]
-        said = planner.write(maps.Change([], {}))
+        if os.environ.get("LARGE"):  # without the scripts and the way back
+            began, given = time.process_time(), argparse.Namespace(hold=False, **{it: planner.at(it) for it in FOUR.split()})
+            said = planner.plan("", groups.read_change(given, False), ["2", "7=1"])
+            print(f"note: {3 * count} moves planned by {time.process_time() - began:.0f} s of a processor")
+        else:
+            said = planner.write(maps.Change([], {}))
+            Count.that("the way back too", "the way back: optimal, looked at in 2 parts" in said, said)
         rounds, loads = shifts_of(room.read("plan/plan.txt")), collections.Counter()
         for at, shifts in enumerate(rounds):
             loads.update(side for it in shifts for side in ((at, it[1], "out"), (at, it[3], "in")))
@@ -219,21 +200,52 @@ def large_ceph():
         Count.same("limits are kept", [it for it, load in loads.items() if load > limit(it)], [])
         whole = collections.Counter(side[1:] for side, load in loads.items() for _ in range(load))
         least = max(-(-load // limit((0, *side))) for side, load in whole.items())
-        Count.that("no plan has fewer rounds", len(rounds) == least and f" in {least} rounds: optimal, looked at" in said
-                   and "the way back: optimal, looked at" in said, (len(rounds), least, said))
+        Count.that("no plan has fewer rounds", len(rounds) == least and "optimal, looked at in" in said, (rounds[-1], said))
         there = collections.defaultdict(set)
         for it in sum(rounds, []):
             there[it[0].split("-")[0]].add(int(it[3][4:]))
         Count.that("each copy goes where it is to be", there == after)
-        limits, shifts = disks.read_disks(room.path("plan/disks.csv")), plans.read_plan(room.path("plan/plan.txt")).shifts()
-        for name, bad, said in (("too much in a round", [shifts], "its outgoing limit is 2"),
-                                ("a move left out", [shifts[:1]], "do not have all moves")):
-            large.rounds_of, kept = lambda *_: bad, large.rounds_of
-            try:
-                Count.that(f"{name} is refused", False, large.plan(planner, "bad", shifts, limits))
-            except Wrong as why:
-                Count.that(f"{name} is refused", said in str(why), why)
-            large.rounds_of = kept
+        limits, plan = disks.read_disks(room.path("plan/disks.csv")), plans.read_plan(room.path("plan/plan.txt"))
+        shifts = plan.shifts()
+        loads, parts = collections.Counter(it.source for it in shifts), large.parts_of(shifts)
+        firsts = {part: max((it for it in parts if parts[it] == part), key=lambda it: loads[it]) for part in parts.values()}
+        for at, disk in [*firsts.items()][:2]:  # all that goes from a disk goes in one round
+            bad = [[it for it in shifts if it.source == disk]]
+            bad += [[it for it in round_ if it.source != disk] for round_ in plan.rounds]
+            refuses(planner, f"too much in a round, part {at}", bad, shifts, limits, "outgoing limit is 2")
+        refuses(planner, "a move left out", [shifts[:1]], shifts, limits, "do not have all moves")
+
+
+def refuses(planner, name, bad, shifts, limits, said):
+    """These rounds are refused."""
+    large.rounds_of, kept = lambda *_: bad, large.rounds_of
+    try:
+        Count.that(f"{name} is refused", False, large.plan(planner, "bad", shifts, limits))
+    except Wrong as why:
+        Count.that(f"{name} is refused", said in str(why), why)
+    large.rounds_of = kept
+
+
+def real_plans():
+    """With osdmaptool itself: two OSDs out are both out."""
+    if not shutil.which("osdmaptool") or not shutil.which("crushtool"):
+        return print("note: plan-ceph is tried with a stand-in for osdmaptool alone")
+    with Room() as room:
+        room.good("real maps", "cp contrib/samples/ceph/map map")
+        made = maps.Maps(room.at)
+        made.changed("map", "next", maps.Change([5, 7], {3: "0.5"}), made.crush("map"))
+        made.placed("next", "after")
+        there = {osd for _, up in groups_in(room.read("after")).values() for osd in up}
+        Count.same("each OSD has something, those that are out nothing", {*range(32)} - there, {5, 7})
+        planner = plan_ceph.CephPlanner(room.at)
+        planner.crush = made.crush("map")
+        uneven = []
+        for balance in (None, ""):
+            planner.change(maps.Change([], {}), balance, 1, 100)
+            counts = collections.Counter(osd for _, up in groups_in(room.read("after")).values() for osd in up)
+            uneven.append(max(counts.values()) - min(counts.values()))
+        Count.that("--balance makes it more even", uneven[1] < uneven[0], uneven)
+    return None
 
 
 CASES = (planned_ceph, the_way_back, what_is_left_of_ceph, what_plan_ceph_refuses, fuller_and_fuller, colours,

@@ -295,10 +295,13 @@ def what_stops_ceph():
             Count.that(f"{name}: the hook is told", is_told and told[1].startswith("stopped eager.sh: stopped in"), told)
             Count.same(f"{name}: the key is given back", room.state("ceph.json")["keys"], {})
         for name, more in (("degraded at first already", {"ill": {still: (0, 999, "active+undersized+degraded")}}),
-                           ("degraded for a look", {"ill": {still: (3, 4, "active+recovery_wait+degraded")}}),
+                           ("degraded for a look", {"ill": {still: (3, 4, "active+recovery_wait+degraded")}, "slow": {}}),
                            ("only remapped", {"ill": {still: (0, 999, "active+clean+remapped")}})):
             begun(room, state, **more)
-            Count.that(f"{name}: it goes on", room.run("sh eager.sh").returncode == 0)
+            room.good("one at a time", "sed 's/--limits [^ ]*/--limits out=1,in=1/' eager.sh >one.sh")
+            Count.that(f"{name}: it goes on", room.run("sh one.sh").returncode == 0)
+            begun_by_look = [it.count("set ") > 0 for it in room.read("state/events").split("look\n")[3:5]]
+            Count.same(f"{name}: whether steps begin meanwhile", any(begun_by_look), "a look" not in name)
 
 
 def one_at_a_time():
