@@ -235,8 +235,8 @@ def old_exceptions_of_ceph():
         Count.same("old exceptions", found, ([4, 7, 10], pairs))
 
 
-# six hosts of two OSDs, osd.0 and osd.1 on h0 and so on; what CRUSH chooses and where a group is, before and after; more
-# of the dump; and the command that brings it there, or why there is none
+# six hosts of two OSDs, osd.0 and osd.1 on h0 and so on: where CRUSH has a group before and after; more of the dump;
+# and the exceptions that bring it there, or why there are none
 ODD = (("another weight is not out", "0,2,4", "0,2,8", "osd.8 up   in  weight 0.95 up_from 0\n", "1.0 4 8"),
        ("out", "0,2,4", "0,2,8", "osd.8 up   out weight 0 up_from 0\n", "osd.8 is out, or has no weight below default"),
        ("no weight", "0,2,4", "0,2,11", "", "osd.11 is out, or has no weight below default"),
@@ -256,8 +256,8 @@ def odd_clusters():
     with Room() as room:
         room.keep("crush", crush)
         for name, before, after, more, wanted in ODD:
-            for path, text in (("before", lists(("1.0", before, before))), ("after", lists(("1.0", after, after))),
-                               ("dump", SMALL["epoch"].replace("osd.6 up   out weight 0", "osd.6 up   in  weight 1") + more)):
+            for path, text in (("before", lists(("1.0", before))), ("after", lists(("1.0", after))),
+                               ("dump", SMALL["epoch"].replace("out weight 0", "in  weight 1") + more)):
                 room.write(path, text)
             if "osd" in wanted:
                 refused(room, name, f"contrib/from-ceph {FOUR}", wanted)
@@ -272,7 +272,7 @@ def odd_clusters():
         room.write("after", lists(("1.0", "2,4,8", "0,4,8")))
         room.good("a chain of two does one thing", f"contrib/from-ceph {FOUR}")
         room.write("before", lists(("1.0", "2,4,8", "10,4,8")))
-        refused(room, "a chain taken on", f"contrib/from-ceph {FOUR}", "its exceptions put placement group 1.0 elsewhere")
+        refused(room, "a chain taken on", f"contrib/from-ceph {FOUR}", "its exceptions put placement group 1.0 else")
 
 
 def shy_primaries():

@@ -1,5 +1,5 @@
 """Tries plan-ceph: from a cluster to its scripts, the change itself, the way back, and what is left of a script."""
-import argparse, collections, json, os, random, re, shutil, time
+import argparse, collections, os, random, re, shutil, time
 from ceph import FOUR
 from ceph_model import exceptions_in, groups_in, up_of
 from ceph_steps import DONE, HOLD, printed
@@ -162,9 +162,9 @@ def made_large(room, osds, count):
                                                                          for it in range(hosts)]}]
     below += [{"id": -2 - host, "type_name": "host", "name": f"host{host}",
                "items": [{"id": host * 10 + it, "weight": 1 << 16} for it in range(10)]} for host in range(hosts)]
-    room.keep("plan/crush", {**json.loads(page("contrib/samples/ceph/crush")), "buckets": below, "rules": [
-        {"rule_id": 0, "steps": [{"op": "take", "item": -1, "item_name": "default"},
-                                 {"op": "chooseleaf_firstn", "num": 0, "type": "host"}, {"op": "emit"}]}]})
+    steps = [{"op": "take", "item": -1, "item_name": "default"}, {"op": "chooseleaf_firstn", "num": 0, "type": "host"}]
+    types = [{"type_id": at, "name": it} for at, it in enumerate(("osd", "host", "root"))]
+    room.keep("plan/crush", {"types": types, "buckets": below, "rules": [{"rule_id": 0, "steps": steps}]})
     lists = {name: {} for name in ("before", "after")}
     for name in (f"1.{it:x}" for it in range(count)):
         its = [host * 10 + rnd.randrange(10) for host in rnd.sample(range(hosts), 6)]
@@ -187,7 +187,8 @@ def large_ceph():
         planner.program, planner.backfills, planner.nearfull = PROGRAM, lambda groups: ["2", "7=1"], 0.85
         planner.rooms = {it: fullness.Room(1 << 40, 1 << 38) for it in range(osds)}
         if os.environ.get("LARGE"):  # without the scripts and the way back
-            began, given = time.process_time(), argparse.Namespace(hold=False, **{it: planner.at(it) for it in FOUR.split()})
+            began = time.process_time()
+            given = argparse.Namespace(hold=False, **{it: planner.at(it) for it in FOUR.split()})
             said = planner.plan("", groups.read_change(given, False), ["2", "7=1"])
             print(f"note: {3 * count} moves planned by {time.process_time() - began:.0f} s of a processor")
         else:
@@ -200,7 +201,10 @@ def large_ceph():
         Count.same("limits are kept", [it for it, load in loads.items() if load > limit(it)], [])
         whole = collections.Counter(side[1:] for side, load in loads.items() for _ in range(load))
         least = max(-(-load // limit((0, *side))) for side, load in whole.items())
-        Count.that("no plan has fewer rounds", len(rounds) == least and "optimal, looked at in" in said, (rounds[-1], said))
+        is_best = len(rounds) == least and "optimal, looked at in" in said
+        Count.that("no plan has fewer rounds", is_best, (rounds[-1], said))
+        told = room.good("summary", "contrib/summary plan/plan.txt plan/disks.csv").splitlines()[:2]
+        Count.same("what the summary says", told, [f"moves {3 * count}", f"rounds {least}"])
         there = collections.defaultdict(set)
         for it in sum(rounds, []):
             there[it[0].split("-")[0]].add(int(it[3][4:]))
@@ -208,10 +212,12 @@ def large_ceph():
         limits, plan = disks.read_disks(room.path("plan/disks.csv")), plans.read_plan(room.path("plan/plan.txt"))
         shifts = plan.shifts()
         loads, parts = collections.Counter(it.source for it in shifts), large.parts_of(shifts)
-        firsts = {part: max((it for it in parts if parts[it] == part), key=lambda it: loads[it]) for part in parts.values()}
-        for at, disk in [*firsts.items()][:2]:  # all that goes from a disk goes in one round
-            bad = [[it for it in shifts if it.source == disk]]
-            bad += [[it for it in round_ if it.source != disk] for round_ in plan.rounds]
+        for at in (1, 2):  # a third move from a disk in a round
+            disk = max((it for it in parts if parts[it] == at), key=lambda it: loads[it])
+            full = next(it for it in plan.rounds if sum(shift.source == disk for shift in it) == 2)
+            there = collections.Counter(["osd.7", *(it.target for it in full)])
+            third = next(it for it in shifts if it.source == disk and it not in full and there[it.target] < 2)
+            bad = [[it for it in round_ if it != third] + [third] * (round_ is full) for round_ in plan.rounds]
             refuses(planner, f"too much in a round, part {at}", bad, shifts, limits, "outgoing limit is 2")
         refuses(planner, "a move left out", [shifts[:1]], shifts, limits, "do not have all moves")
 

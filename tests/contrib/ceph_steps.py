@@ -292,10 +292,11 @@ def what_stops_ceph():
             ran = stops(room, name, "eager.sh --hook 'sh hook'", said)
             told = room.read("told").splitlines()[-2:]
             is_told = told[0].startswith("failed eager.sh: ") and said in told[0] and told[0][17:] in ran.stderr
-            Count.that(f"{name}: the hook is told", is_told and told[1].startswith("stopped eager.sh: stopped in"), told)
+            is_told = is_told and told[1].startswith("stopped eager.sh: stopped in")
+            Count.that(f"{name}: the hook is told", is_told, told)
             Count.same(f"{name}: the key is given back", room.state("ceph.json")["keys"], {})
         for name, more in (("degraded at first already", {"ill": {still: (0, 999, "active+undersized+degraded")}}),
-                           ("degraded for a look", {"ill": {still: (3, 4, "active+recovery_wait+degraded")}, "slow": {}}),
+                           ("degraded for a look", {"ill": {still: (3, 4, "active+recovery_wait+degraded")}}),
                            ("only remapped", {"ill": {still: (0, 999, "active+clean+remapped")}})):
             begun(room, state, **more)
             room.good("one at a time", "sed 's/--limits [^ ]*/--limits out=1,in=1/' eager.sh >one.sh")

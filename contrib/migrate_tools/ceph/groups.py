@@ -233,8 +233,8 @@ def read_change(given: argparse.Namespace, leave_out: bool) -> dict[str, Group]:
         now, path = (next_, given.after) if given.hold else (osds, given.before)
         chosen = then if given.hold else chosen
         order = landed(chosen, old.get(name) or [])
-        firsts = ((order, now), (landed(then, old.get(name) or []), next_))
-        shy = never.union(*(its[: its.index(up[0])] for its, up in firsts if not pool.shards and up[:1] and up[0] in its))
+        both = () if pool.shards else ((order, now), (landed(then, old.get(name) or []), next_))
+        shy = never.union(*(its[: its.index(up[0])] for its, up in both if up and up[0] in its))
         group = Group(name, pool.rule, pool.shards, pool.size, chosen, osds, next_, old.get(name, []), shy)
         if why := group.refusal(then, given.hold):
             note(f"placement group {name} {why}")
