@@ -165,7 +165,7 @@ def refusals_of_plans():
         for script in ("picture", "summary"):
             for name, text, said in (("empty", "", "does not begin with the row disk,limit,slots"), ("of another plan", "disk,limit,slots\na,1,1\n", "is of another plan"),
                                      ("odd", room.read("d").replace(",1,", ",x,", 1), "row 1: 'x' is no number from 1 to 1024"), ("wide", room.read("d") + "a,1\n", "row 4: 2 fields where the header has 3"),
-                                     ("twice", room.read("d") + "loop0,1,1\n", "row 4: 'loop0' is no name, is listed twice")):
+                                     ("twice", room.read("d") + "loop0,1,1\n", "row 4: 'loop0' is no name or is listed twice")):
                 room.write("odd", text)
                 refused(room, f"{script}, disks {name}", f"contrib/{script} plan.txt odd", said)
         refused(room, "picture, a certificate", "contrib/picture plan.txt d --cert plan.txt --out s.svg", "plan.txt is no certificate")
