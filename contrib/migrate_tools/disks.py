@@ -4,7 +4,7 @@ from collections.abc import Callable, Iterable, Mapping, Sequence
 from dataclasses import dataclass
 from typing import NamedTuple, TypeVar
 from .command import Wrong
-from .plans import MOST_DISKS, MOST_LIMIT, MOST_SLOTS, NAME, Plan, Shift, number, read_rows
+from .plans import MOST_LIMIT, MOST_SLOTS, NAME, Plan, Shift, number, read_rows
 
 
 class Joint(NamedTuple):
@@ -74,8 +74,8 @@ def read_disks(path: str) -> dict[str, Disk]:
     split."""
     disks: dict[str, Disk] = {}
     for at, (name, *limits, slots) in read_rows(path, *HEADERS.values()):
-        if not NAME.fullmatch(name) or name in disks or at > MOST_DISKS:
-            raise Wrong(f"'{name}' is no name, is listed twice, or is one of more than {MOST_DISKS} disks", path, at)
+        if not NAME.fullmatch(name) or name in disks:
+            raise Wrong(f"'{name}' is no name or is listed twice", path, at)
         where = f"{path} row {at}"
         disks[name] = Disk(limits_of(limits, where), number(slots, 1, MOST_SLOTS, where))
     return disks

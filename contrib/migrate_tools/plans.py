@@ -2,7 +2,7 @@
 import csv, hashlib, io, re
 from collections.abc import Iterable
 from dataclasses import dataclass
-from typing import NoReturn
+from typing import NamedTuple, NoReturn
 from .command import Wrong, read_bytes, read_text
 
 NAME = re.compile(r"[A-Za-z0-9_.-]{1,32}", re.ASCII)
@@ -10,8 +10,7 @@ NUMBER = re.compile(r"0|[1-9][0-9]{0,9}", re.ASCII)
 MOST_BYTES, MOST_DISKS, MOST_ITEMS, MOST_SLOTS, MOST_LIMIT = 1 << 24, 1024, 65536, 65536, 1024
 
 
-@dataclass(frozen=True, slots=True)
-class Shift:
+class Shift(NamedTuple):
     """An item goes from a slot of a disk to a slot of a disk. Slots count from 0."""
     item: str
     source: str

@@ -1,7 +1,7 @@
 """Tries from-ceph and to-ceph: over recorded outputs, over made clusters, over maps that osdmaptool changes now. Each
 command is judged by the model of ceph_model.py: Ceph must keep it, each group must be where the plan has it after each
 round, and where AFTER has it at last."""
-import copy, os, random, re, shutil
+import copy, json, os, random, re, shutil
 from ceph_model import NO_OSD, Cluster, Made, exceptions_in, filling, groups_in, numbers, up_of
 from refusals import SMALL, lists
 from limits_model import Case
@@ -206,6 +206,8 @@ def recorded_ceph():
         before = groups_in(room.read("before"))
         moving = [[it, next_[it]] for it, *_ in whole if f"osd.{home_of(it, before)}" != next_[it]]
         Count.same("--moving leaves out what stays", rows_of(room.read("next.csv")), moving)
+        ends = {it[1] for name in ("now.csv", "next.csv") for it in rows_of(room.read(name))}
+        Count.same("--moving has the OSDs of these alone", {it[0] for it in rows_of(room.read("disks.csv"))}, ends)
         Count.same("an item for each copy and shard", len(whole), 64 * 3 + 32 * 6 + 16 * 4)
         room.planned("Ceph, --moving")
         said = room.run(f"contrib/from-ceph {FOUR}").stderr
@@ -231,6 +233,73 @@ def old_exceptions_of_ceph():
         pairs = list(zip(map(int, printed[7::2]), map(int, printed[8::2])))
         found = sorted(up_of([2, 4, 8], pairs)), cluster.kept("1.0", [2, 4, 8], pairs)
         Count.same("old exceptions", found, ([4, 7, 10], pairs))
+
+
+# six hosts of two OSDs, osd.0 and osd.1 on h0 and so on: where CRUSH has a group before and after; more of the dump;
+# and the exceptions that bring it there, or why there are none
+ODD = (("another weight is not out", "0,2,4", "0,2,8", "osd.8 up   in  weight 0.95 up_from 0\n", "1.0 4 8"),
+       ("out", "0,2,4", "0,2,8", "osd.8 up   out weight 0 up_from 0\n", "osd.8 is out, or has no weight below default"),
+       ("no weight", "0,2,4", "0,2,11", "", "osd.11 is out, or has no weight below default"),
+       ("not below the rule's root", "0,2,4", "0,2,12", "", "osd.12 is out, or has no weight below default"),
+       ("a host each, then as they come", "0,2,4", "1,8,10", "", "1.0 0 1 2 8 4 10"),
+       ("a host before a rack", "0,2,4", "8,10,1", "", "1.0 0 1 2 8 4 10"),
+       ("a rack before the root", "0,4,8", "2,10,6", "", "1.0 0 2 4 6 8 10"))
+
+
+def odd_clusters():
+    """Weights, outs, places beside the rule's root, and who takes whose place: within a host, then a rack."""
+    crush = json.loads(SMALL["crush"])
+    crush["types"].insert(2, {"type_id": 3, "name": "rack"})
+    crush["buckets"][0]["items"] = [{"id": -20 - it, "weight": 1} for it in range(3)]
+    crush["buckets"] += [{"id": -20 - it, "type_name": "rack", "name": f"r{it}",
+                          "items": [{"id": 2 * it - 9 + at, "weight": 1} for at in range(2)]} for it in range(3)]
+    with Room() as room:
+        room.keep("crush", crush)
+        for name, before, after, more, wanted in ODD:
+            for path, text in (("before", lists(("1.0", before))), ("after", lists(("1.0", after))),
+                               ("dump", SMALL["epoch"].replace("out weight 0", "in  weight 1") + more)):
+                room.write(path, text)
+            if "osd" in wanted:
+                refused(room, name, f"contrib/from-ceph {FOUR}", wanted)
+                continue
+            room.good(name, f"contrib/from-ceph {FOUR}")
+            room.planned(name)
+            made = f"contrib/to-ceph plan.txt {FOUR} --out s && sh s -n | tail -n 1"
+            Count.same(name, room.good(name, made), f"ceph osd pg-upmap-items {wanted}\n")
+        # 2 went to 0 and then 0 to 10 does nothing, as 0 was not chosen; 8 goes by the next one
+        room.write("dump", SMALL["epoch"] + "pg_upmap_items 1.0 [2,0,0,10]\n")
+        room.write("before", lists(("1.0", "2,4,8", "0,4,8")))
+        room.write("after", lists(("1.0", "2,4,8", "0,4,8")))
+        room.good("a chain of two does one thing", f"contrib/from-ceph {FOUR}")
+        room.write("before", lists(("1.0", "2,4,8", "10,4,8")))
+        refused(room, "a chain taken on", f"contrib/from-ceph {FOUR}", "its exceptions put placement group 1.0 else")
+
+
+def shy_primaries():
+    """Who fills a group where OSDs have a primary affinity: what was not its primary is not, and 0 is never."""
+    for affinity, before, after, wanted in (("", "0,2,4", "0,2,8", "osd.0"), ("0", "0,2,4", "0,2,8", "osd.2"),
+                                            ("0.3", "2,0,4", "0,2,8", "osd.2"), ("0.3", "0,2,4", "0,2,8", "osd.0")):
+        with Room() as room:
+            said = f"osd.0 up   in  weight 1 primary_affinity {affinity} up_from 0\n" if affinity else ""
+            for path, text in (("before", lists(("1.0", "0,2,4", before))), ("after", lists(("1.0", "0,2,8", after))),
+                               ("dump", SMALL["epoch"] + said), ("crush", SMALL["crush"])):
+                room.write(path, text)
+            room.good("affinity", f"contrib/from-ceph {FOUR} --moving")
+            Count.same(f"affinity {affinity}, {before}", rows_of(room.read("now.csv")), [["1.0-4", wanted, "0"]])
+
+
+def byte_sizes_of_ceph():
+    """A copy is whole, a shard has its part: by the dump's stripe widths."""
+    with Room() as room:
+        room.good("sizes", FILES)
+        size = {it: 1000 + at for at, it in enumerate(groups_in(room.read("before")))}
+        room.keep("pgs", {"pg_stats": [{"pgid": it, "stat_sum": {"num_bytes": size[it]}} for it in size]})
+        room.good("sizes", f"contrib/from-ceph {FOUR} --sizes pgs")
+        form = r"^pool (\d+) .* stripe_width (\d+)"
+        parts = {pool: int(width) // 4096 or 1 for pool, width in re.findall(form, room.read("dump"), re.M)}
+        wrong = [item for item, bytes_ in rows_of(room.read("bytes.csv"))
+                 if int(bytes_) != -(-size[group_of(item)] // parts[item.split(".")[0]])]
+        Count.same("bytes of copies and shards", (wrong, {*parts.values()} > {1}), ([], True))
 
 
 def at_random(rnd):
@@ -320,4 +389,4 @@ def real_ceph():
 
 
 CASES = (made_ceph, recorded_ceph, counted_as_ceph, limits_of_ceph, what_is_put_off, the_answers_of_ceph,
-         old_exceptions_of_ceph, real_ceph)
+         old_exceptions_of_ceph, odd_clusters, shy_primaries, byte_sizes_of_ceph, real_ceph)

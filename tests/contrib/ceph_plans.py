@@ -1,11 +1,12 @@
 """Tries plan-ceph: from a cluster to its scripts, the change itself, the way back, and what is left of a script."""
-import collections, os, re, shutil
+import argparse, collections, os, random, re, shutil, time
 from ceph import FOUR
 from ceph_model import exceptions_in, groups_in, up_of
 from ceph_steps import DONE, HOLD, printed
-from migrate_tools import plans
-from migrate_tools.ceph import fullness, groups, maps, plan_ceph
-from rooms import Count, Room, page, refused, rows_of, shifts_of
+from migrate_tools import disks, plans
+from migrate_tools.ceph import fullness, groups, large, maps, plan_ceph
+from migrate_tools.command import Wrong
+from rooms import PROGRAM, Count, Room, page, refused, rows_of, shifts_of
 
 WORDS = "--out 5 --reweight 3:0.5 --into plan"
 AFTER = {it: sorted(up) for it, (_, up) in groups_in(page("contrib/samples/ceph/after")).items()}
@@ -139,6 +140,98 @@ def fuller_and_fuller():
         Count.same(f"rounds {rounds}", {osd: (round(part, 6), at) for osd, (part, at) in found.items()}, wanted)
 
 
+def colours():
+    """As many as the greatest number of edges at a node, and no two of one colour at a node."""
+    for seed in range(60):
+        rnd = random.Random(seed)
+        count, each = rnd.randrange(1, 40), rnd.randrange(1, 9)
+        ends = [(f"a{at}", f"b{it}") for _ in range(each) for at, it in enumerate(rnd.sample(range(count), count))]
+        rnd.shuffle(ends)
+        ends = ends[: rnd.choice([len(ends), rnd.randrange(1, len(ends) + 1)])]
+        most = max(collections.Counter(it for both in ends for it in both).values())
+        found = large.coloured(ends, most)
+        used = collections.Counter((it, colour) for both, colour in zip(ends, found) for it in both)
+        is_good = max(used.values()) == 1 and {*found} <= {*range(most)}
+        Count.that(f"{len(ends)} edges, {most} colours", is_good, (seed, used.most_common(3)))
+
+
+def made_large(room, osds, count):
+    """A change of a made cluster in which each of so many groups of three goes to three other hosts."""
+    rnd, hosts = random.Random(osds), osds // 10
+    below = [{"id": -1, "type_name": "root", "name": "default", "items": [{"id": -2 - it, "weight": 10 << 16}
+                                                                         for it in range(hosts)]}]
+    below += [{"id": -2 - host, "type_name": "host", "name": f"host{host}",
+               "items": [{"id": host * 10 + it, "weight": 1 << 16} for it in range(10)]} for host in range(hosts)]
+    steps = [{"op": "take", "item": -1, "item_name": "default"}, {"op": "chooseleaf_firstn", "num": 0, "type": "host"}]
+    types = [{"type_id": at, "name": it} for at, it in enumerate(("osd", "host", "root"))]
+    room.keep("plan/crush", {"types": types, "buckets": below, "rules": [{"rule_id": 0, "steps": steps}]})
+    lists = {name: {} for name in ("before", "after")}
+    for name in (f"1.{it:x}" for it in range(count)):
+        its = [host * 10 + rnd.randrange(10) for host in rnd.sample(range(hosts), 6)]
+        lists["before"][name], lists["after"][name] = (its[:3],) * 2, (its[3:],) * 2
+    for name, those in lists.items():
+        room.write(f"plan/{name}", plan_ceph.listed(those))
+    room.write("plan/dump", "epoch 9\npool 1 'p' replicated size 3 min_size 2 crush_rule 0 stripe_width 0\n"
+               + "".join(f"osd.{it} up   in  weight 1 up_from 0\n" for it in range(osds)))
+    room.keep("plan/pgs.json", {"pg_stats": [{"pgid": it, "stat_sum": {"num_bytes": 9}} for it in lists["after"]]})
+    return {it: {*up} for it, (_, up) in lists["after"].items()}
+
+
+def large_ceph():
+    """More OSDs than the program takes, and with LARGE=1 more moves too: as few rounds as can be, at which it looks in
+    parts. It refuses rounds that have too much."""
+    osds, count = (4000, 100000) if os.environ.get("LARGE") else (1200, 3000)
+    with Room() as room:
+        planner = plan_ceph.CephPlanner(room.path("plan"))
+        after = made_large(room, osds, count)
+        planner.program, planner.backfills, planner.nearfull = PROGRAM, lambda groups: ["2", "7=1"], 0.85
+        planner.rooms = {it: fullness.Room(1 << 40, 1 << 38) for it in range(osds)}
+        if os.environ.get("LARGE"):  # without the scripts and the way back
+            began = time.process_time()
+            given = argparse.Namespace(hold=False, **{it: planner.at(it) for it in FOUR.split()})
+            said = planner.plan("", groups.read_change(given, False), ["2", "7=1"])
+            print(f"note: {3 * count} moves planned by {time.process_time() - began:.0f} s of a processor")
+        else:
+            said = planner.write(maps.Change([], {}))
+            Count.that("the way back too", "the way back: optimal, looked at in 2 parts" in said, said)
+        rounds, loads = shifts_of(room.read("plan/plan.txt")), collections.Counter()
+        for at, shifts in enumerate(rounds):
+            loads.update(side for it in shifts for side in ((at, it[1], "out"), (at, it[3], "in")))
+        limit = lambda side: 1 if side[1] == "osd.7" else 2
+        Count.same("limits are kept", [it for it, load in loads.items() if load > limit(it)], [])
+        whole = collections.Counter(side[1:] for side, load in loads.items() for _ in range(load))
+        least = max(-(-load // limit((0, *side))) for side, load in whole.items())
+        is_best = len(rounds) == least and "optimal, looked at in" in said
+        Count.that("no plan has fewer rounds", is_best, (rounds[-1], said))
+        told = room.good("summary", "contrib/summary plan/plan.txt plan/disks.csv").splitlines()[:2]
+        Count.same("what the summary says", told, [f"moves {3 * count}", f"rounds {least}"])
+        there = collections.defaultdict(set)
+        for it in sum(rounds, []):
+            there[it[0].split("-")[0]].add(int(it[3][4:]))
+        Count.that("each copy goes where it is to be", there == after)
+        limits, plan = disks.read_disks(room.path("plan/disks.csv")), plans.read_plan(room.path("plan/plan.txt"))
+        shifts = plan.shifts()
+        loads, parts = collections.Counter(it.source for it in shifts), large.parts_of(shifts)
+        for at in (1, 2):  # a third move from a disk in a round
+            disk = max((it for it in parts if parts[it] == at), key=lambda it: loads[it])
+            full = next(it for it in plan.rounds if sum(shift.source == disk for shift in it) == 2)
+            there = collections.Counter(["osd.7", *(it.target for it in full)])
+            third = next(it for it in shifts if it.source == disk and it not in full and there[it.target] < 2)
+            bad = [[it for it in round_ if it != third] + [third] * (round_ is full) for round_ in plan.rounds]
+            refuses(planner, f"too much in a round, part {at}", bad, shifts, limits, "outgoing limit is 2")
+        refuses(planner, "a move left out", [shifts[:1]], shifts, limits, "do not have all moves")
+
+
+def refuses(planner, name, bad, shifts, limits, said):
+    """These rounds are refused."""
+    large.rounds_of, kept = lambda *_: bad, large.rounds_of
+    try:
+        Count.that(f"{name} is refused", False, large.plan(planner, "bad", shifts, limits))
+    except Wrong as why:
+        Count.that(f"{name} is refused", said in str(why), why)
+    large.rounds_of = kept
+
+
 def real_plans():
     """With osdmaptool itself: two OSDs out are both out."""
     if not shutil.which("osdmaptool") or not shutil.which("crushtool"):
@@ -161,4 +254,5 @@ def real_plans():
     return None
 
 
-CASES = (planned_ceph, the_way_back, what_is_left_of_ceph, what_plan_ceph_refuses, fuller_and_fuller, real_plans)
+CASES = (planned_ceph, the_way_back, what_is_left_of_ceph, what_plan_ceph_refuses, fuller_and_fuller, colours,
+         large_ceph, real_plans)

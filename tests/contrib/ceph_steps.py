@@ -42,7 +42,7 @@ def begun(room, state, **more):
 
 def stops(room, name, script, said, status=1):
     ran = room.run(f"sh {script}")
-    again = f"begin again with: sh {script}" in ran.stderr or status != 1
+    again = f"begin again with: sh {script.split()[0]}" in ran.stderr or status != 1
     Count.that(f"{name}: {script} stops", ran.returncode == status and said in ran.stderr and again, ran)
     return ran
 
@@ -236,7 +236,8 @@ def eager_ceph_stops():
         Count.same(f"{name}: nothing begins outside of a window", how, (130, None))
         begun(room, state)
         warm = f"PAUSE=0.05 OVER=over PATH={room.path('contrib')}:$PATH"
-        ran = room.begin(f"touch pause; {warm} exec sh eager.sh --until 06:00 >log 2>notes")
+        room.write("hook", 'echo "$@" >>told')
+        ran = room.begin(f"touch pause; {warm} exec sh eager.sh --until 06:00 --hook 'sh hook' >log 2>notes")
         until(lambda: "paused: nothing more begins until" in (room.read("notes") or ""), "a pause")
         Count.same(f"{name}: nothing begins in a pause", room.read("state/log"), None)
         os.unlink(room.path("pause"))
@@ -247,7 +248,14 @@ def eager_ceph_stops():
         found = json.loads(room.good(name, "contrib/progress plan.txt --log log --eager disks.csv --json"))
         is_half = 0 < found["items_done"] < found["items"] and not found["done"] and found["seconds_left"] is not None
         Count.that(f"{name}: progress", is_half, found)
-        Count.same(f"{name}: the rest after that", room.good(name, "sh eager.sh >>log; tail -n 1 log"), DONE)
+        lines = room.good(name, "contrib/progress plan.txt --log log --eager disks.csv --metrics").splitlines()
+        digest = room.good(name, "sha256sum <plan.txt").split()[0]
+        wanted = [f'migrate_plan_{it}{{plan="{digest}"}} {found[it]}' for it in ("items", "items_done", "rounds_done")]
+        Count.that(f"{name}: what Prometheus reads", {*wanted} <= {*lines}, lines)
+        last = room.good(name, "sh eager.sh --hook 'sh hook' >>log; tail -n 1 log")
+        Count.same(f"{name}: the rest after that", last, DONE)
+        told = [it.split()[0] for it in room.read("told").splitlines()]
+        Count.same(f"{name}: the hook is told of both ends", told, ["ended", "done"])
         ended(room, name)
 
 
@@ -259,6 +267,7 @@ def what_stops_ceph():
     """What a step cannot mend, each with its cause; nothing more begins then, and the key is given back."""
     with Room() as room:
         state = made(room, "9")
+        room.write("hook", 'echo "$@" >>told')
         lines = [it.split() for it in printed(room, "eager.sh")]
         group, other = lines[0][3], lines[5][3]
         state["slow"] = {lines[1][3]: 6}
@@ -280,13 +289,20 @@ def what_stops_ceph():
                 ("an error", {"error": 2}, "the cluster says HEALTH_ERR: OSD_FULL, 1 full osd(s)"),
                 ("other weights", {"raw": {**state["raw"], group: moved}}, f"placement group {group} rests on ")):
             begun(room, state, **{"error": 60, **more})  # what waits for ever is told so
-            stops(room, name, "eager.sh", said)
+            ran = stops(room, name, "eager.sh --hook 'sh hook'", said)
+            told = room.read("told").splitlines()[-2:]
+            is_told = told[0].startswith("failed eager.sh: ") and said in told[0] and told[0][17:] in ran.stderr
+            is_told = is_told and told[1].startswith("stopped eager.sh: stopped in")
+            Count.that(f"{name}: the hook is told", is_told, told)
             Count.same(f"{name}: the key is given back", room.state("ceph.json")["keys"], {})
         for name, more in (("degraded at first already", {"ill": {still: (0, 999, "active+undersized+degraded")}}),
                            ("degraded for a look", {"ill": {still: (3, 4, "active+recovery_wait+degraded")}}),
                            ("only remapped", {"ill": {still: (0, 999, "active+clean+remapped")}})):
             begun(room, state, **more)
-            Count.that(f"{name}: it goes on", room.run("sh eager.sh").returncode == 0)
+            room.good("one at a time", "sed 's/--limits [^ ]*/--limits out=1,in=1/' eager.sh >one.sh")
+            Count.that(f"{name}: it goes on", room.run("sh one.sh").returncode == 0)
+            begun_by_look = [it.count("set ") > 0 for it in room.read("state/events").split("look\n")[3:5]]
+            Count.same(f"{name}: whether steps begin meanwhile", any(begun_by_look), "a look" not in name)
 
 
 def one_at_a_time():
@@ -315,7 +331,8 @@ def held_ceph():
         for script in ("upmaps.sh", "eager.sh", "plain.sh"):
             begun(room, state, flags=["sortbitwise", "norebalance"])
             Count.same(f"{script}: it ends well", room.good(script, f"sh {script} >log; tail -n 1 log"), DONE)
-            Count.that(f"{script}: it says how many are held", "round 0: " in room.read("log"), room.read("log"))
+            said = r"^round 0: \d+ of \d+ groups are " + ("clean" if script == "plain.sh" else "set$")
+            Count.that(f"{script}: it says how many are held", re.search(said, room.read("log"), re.M), room.read("log"))
             lines, block = room.read("state/log").splitlines(), printed(room, script)
             Count.same(f"{script}: the flag is cleared, once", [lines.count(UNSET), block.count(UNSET)], [1, 1])
             zero = [*lines, UNSET].index(UNSET)

@@ -263,7 +263,7 @@ def refusals_of_plans(room):
                      ("of another plan", "disk,limit,slots\na,1,1\n", "is of another plan"),
                      ("odd", room.read("d").replace(",1,", ",x,", 1), "row 1: 'x' is no number from 1 to 1024"),
                      ("wide", room.read("d") + "a,1\n", "row 4: 2 fields where the header has 3"),
-                     ("twice", room.read("d") + "loop0,1,1\n", "row 4: 'loop0' is no name, is listed twice")))
+                     ("twice", room.read("d") + "loop0,1,1\n", "row 4: 'loop0' is no name or is listed twice")))
     refused(room, "picture, a certificate", "contrib/picture plan.txt d --cert plan.txt --out s.svg",
             "plan.txt is no certificate")
     room.write("c", room.read("cert.txt").replace("loop0", "loop9"))

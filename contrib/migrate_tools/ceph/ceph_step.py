@@ -15,7 +15,7 @@ import argparse, collections, os, signal, threading
 from collections.abc import Sequence
 from concurrent.futures import ThreadPoolExecutor
 from types import FrameType
-from ..calls import Ending
+from ..calls import Ending, add_hook, call
 from ..clock import Clock, add_times, round_of, tell
 from ..command import Wrong, command, note, put, read_text, words
 from ..locks import Lock
@@ -255,6 +255,7 @@ def read_words() -> tuple[argparse.Namespace, list[Step], int]:
     reader.add_argument("-n", dest="only_print", action="store_true", help="prints the commands alone")
     reader.add_argument("--force", action="store_true", help="takes the place of a script at work, and stops it")
     add_times(reader, "round, with --limits step,")
+    add_hook(reader)
     reader.add_argument("words", metavar="WORD", nargs="*", help="with --script the first round; else a step")
     given = reader.parse_args()
     if not (given.script or given.words):
@@ -277,7 +278,7 @@ def main() -> None:
     lock, clock = Lock(Key(), os.path.abspath(given.script or "a step")), Clock(given.until, tell, given.window)
     carrier = Carrier(steps, given.limits, given.ahead, clock, lock)
     name = given.script or "a step"
-    ending = Ending(name, f"begin again with{f': sh {name}' if given.script else ' the same words'}")
+    ending = Ending(name, f"begin again with{f': sh {name}' if given.script else ' the same words'}", given.hook)
 
     def stop(number: int, _: FrameType | None) -> None:
         carrier.stopped.set()
@@ -300,6 +301,7 @@ def main() -> None:
     except (Wrong, Silent, Stopped) as why:
         if not isinstance(why, Stopped):
             note(why)
+            call(given.hook, "failed", f"{name}: {why}")
         status = 130 if carrier.stopped.is_set() else 1  # what it called is stopped with it
         ending.end("stopped", f"in round {carrier.round}", "; what is under way goes on", status)
     finally:

@@ -11,18 +11,20 @@ class Rule:
 
     def __init__(self, rule: dict[str, Any], crush: dict[str, Any], out: Iterable[int]) -> None:
         self.useless = set(out)
-        self.above: dict[int, dict[str, str]] = {}  # the buckets that an OSD is in, by their kinds
         self.parts: list[tuple[str, dict[int, dict[str, str]], list[tuple[bool, int, str]]]] = []
-        self.kinds = [it["name"] for it in sorted(crush["types"], key=lambda it: int(it["type_id"])) if it["type_id"]]
         self.buckets = {it["id"]: it for it in crush["buckets"]}
+        above: dict[int, dict[str, str]] = {}  # the buckets that an OSD is in, by their kinds
         for step in rule["steps"]:
             if step["op"] == "take":
                 below: dict[int, dict[str, str]] = {}
                 self.walk(step["item"], {}, below)
-                self.above = {**below, **self.above}
+                above = {**below, **above}
                 self.parts.append((step["item_name"], below, []))
             elif step["op"].startswith("choose"):
                 self.parts[-1][2].append((step["op"].startswith("chooseleaf"), step["num"], step["type"]))
+        kinds = (it["name"] for it in sorted(crush["types"], key=lambda it: int(it["type_id"])) if it["type_id"])
+        self.near = {kind: its for kind in kinds
+                     if (its := {osd: path[kind] for osd, path in above.items() if kind in path})}
 
     def walk(self, id_: int, path: dict[str, str], below: dict[int, dict[str, str]]) -> None:
         """Gives each OSD below a bucket the buckets that it is in, by their kinds."""
@@ -44,10 +46,11 @@ class Rule:
                     return f"osd.{osd} is out, or has no weight below {root}"
             at += math.prod(counts)
             for (leaf, _, kind), most in zip(choices, counts):
-                names = [self.above.get(it, {}).get(kind) for it in osds]
-                used = {it for it in names if it}
-                twice = next((it for it in used if leaf and names.count(it) > 1), None)
-                if twice:
+                its = self.near.get(kind, {})
+                used = {its[it] for it in osds if it in its}
+                if leaf and len(used) < sum(it in its for it in osds):
+                    names = [its.get(it) for it in osds]
+                    twice = next(it for it in used if names.count(it) > 1)
                     both = " and ".join(f"osd.{osd}" for osd, it in zip(osds, names) if it == twice)
                     return f"{both} would be in one {kind}, {twice}"
                 if not leaf and len(used) > most:
@@ -58,17 +61,20 @@ class Rule:
 def paired(leave: Sequence[int], come: Sequence[int], rule: Rule, known: Pairs) -> dict[int, int]:
     """Which of these OSDs takes the place of which: as is known, then within a host, a rack and so on, then as they
     come."""
-    pairs: dict[int, int] = {}
+    pairs, left = dict[int, int](), list(come)
+
+    def pair(one: int, two: int) -> None:
+        pairs[one] = two
+        left.remove(two)
+
     for one, two in known:
-        if one in leave and two in come and one not in pairs and two not in pairs.values():
-            pairs[one] = two
-    for kind in [*rule.kinds, None]:
-        for one in [it for it in leave if it not in pairs]:
-            place = rule.above.get(one, {}).get(kind)
-            fits = [it for it in come if it not in pairs.values()
-                    and (not kind or place and rule.above.get(it, {}).get(kind) == place)]
-            pairs.update({one: fits[0]} if fits else {})
-    return pairs
+        if one in leave and two in left and one not in pairs:
+            pair(one, two)
+    for its in rule.near.values() if left else ():
+        for one in (it for it in leave if it not in pairs and it in its):
+            for two in [it for it in left if its.get(it) == its[one]][:1]:
+                pair(one, two)
+    return pairs | dict(zip([it for it in leave if it not in pairs], left))
 
 
 def landed(chosen: Sequence[int], pairs: Pairs) -> list[int]:

@@ -9,19 +9,19 @@ filled by IN. With --count given an item goes from the OSD that gives it up, and
 a file with what `ceph pg dump --format json` prints, it writes bytes.csv too, with the bytes of each copy and shard,
 for summary and progress. Where anything is wrong nothing is written."""
 import collections, os
-from collections.abc import Sequence
+from collections.abc import Mapping, Sequence
 from ..command import Wrong, command, note, save_all
 from ..disks import Limits, Split, disk_rows, limits_of
-from ..plans import MOST_DISKS, MOST_ITEMS, NAME, table
+from ..plans import MOST_DISKS, MOST_ITEMS, NAME, Shift, table
 from ..sizes import size_rows
-from .groups import read_change, reader
+from .groups import Group, read_change, reader
 from .sizes import sizes_of
 
 
-def read_limits(words: Sequence[str], osds: Sequence[int], as_ceph: bool) -> dict[int, Limits]:
+def read_limits(words: Sequence[str], osds: Sequence[int], as_ceph: bool) -> dict[int, Limits | None]:
     """The limits of each OSD that has some by these words: 'N' or 'OUT,IN' for all others, and 'OSD=N' or
     'OSD=OUT,IN'. As Ceph counts, N is N,N."""
-    limits: dict[int, Limits] = {} if words or not as_ceph else dict.fromkeys(osds, Split())
+    limits = dict[int, Limits | None]() if words or not as_ceph else dict.fromkeys(osds, Split())
     for osd, is_, limit in (word.rpartition("=") for word in words):
         osd = osd.removeprefix("osd.")
         if is_ and osd not in map(str, osds):
@@ -29,7 +29,38 @@ def read_limits(words: Sequence[str], osds: Sequence[int], as_ceph: bool) -> dic
         for it in [int(osd)] if is_ else [it for it in osds if it not in limits]:
             numbers = limit.split(",")
             limits[it] = limits_of(numbers * 2 if as_ceph and len(numbers) == 1 else numbers, "--backfills")
-    return limits
+    return {it: limits.get(it) for it in osds}
+
+
+def case_of(groups: Mapping[str, Group], words: Sequence[str], as_ceph: bool = True, moving: bool = True
+            ) -> tuple[list[Shift], dict[str, Limits | None]]:
+    """The items, in slots of their own: where they count, and where they go; those that stay where they are, unless
+    those that are `moving` alone are wanted. And the limits of the OSDs of these, by words of --backfills."""
+    limits = read_limits(words, sorted({it for group in groups.values() for it in group.before + group.after}), as_ceph)
+    all_ = [(group, it) for group in groups.values() for it in group.items if it.source != it.target or not moving]
+    sources = [group.counted_at(it) if as_ceph else it.source for group, it in all_]
+    slots, at = collections.Counter(sources), dict.fromkeys(limits, 0)
+    found = []
+    for source, (_, it) in zip(sources, all_):
+        if not NAME.fullmatch(it.name):
+            raise Wrong(f"'{it.name}' is longer than a name may be")
+        to = at[source] if source == it.target else slots[it.target]
+        found.append(Shift(it.name, f"osd.{source}", at[source], f"osd.{it.target}", to))
+        at[source] += 1
+        slots[it.target] += source != it.target
+    ends = {*sources, *(it.target for _, it in all_)}
+    return found, {f"osd.{osd}": limit for osd, limit in limits.items() if osd in ends or not moving}
+
+
+def files_of(shifts: Sequence[Shift], limits: Mapping[str, Limits | None]) -> dict[str, Sequence[Sequence[object]]]:
+    """The rows of disks.csv, now.csv and next.csv."""
+    slots = dict.fromkeys(limits, 1)
+    for it in shifts:
+        slots[it.source] = max(slots[it.source], it.source_slot + 1)
+        slots[it.target] = max(slots[it.target], it.target_slot + 1)
+    now = [["item", "disk", "slot"], *([it.item, it.source, str(it.source_slot)] for it in shifts)]
+    next_ = [["item", "disk"], *([it.item, it.target] for it in shifts)]
+    return {"disks.csv": disk_rows(limits, slots, "--backfills"), "now.csv": now, "next.csv": next_}
 
 
 @command
@@ -49,34 +80,16 @@ def main() -> None:
     add("--into", metavar="FOLDER", default=".", help="where the files are written")
     given = words.parse_args()
     groups = read_change(given, given.leave_out)
-    osds = sorted({it for group in groups.values() for it in [*group.before, *group.after]})
-    if len(osds) > MOST_DISKS:
-        raise Wrong(f"there are {len(osds)} OSDs with copies, more than {MOST_DISKS}")
-    limits = read_limits(given.backfills, osds, given.count == "primary")
-
-    now: list[list[object]] = [["item", "disk", "slot"]]
-    next_: list[list[object]] = [["item", "disk"]]
-    used: collections.Counter[int] = collections.Counter()
-    coming: collections.Counter[int] = collections.Counter()
-    for group, it in ((group, it) for group in groups.values() for it in group.items()):
-        if it.source == it.target and given.moving:
-            continue
-        if not NAME.fullmatch(it.name):
-            raise Wrong(f"'{it.name}' is longer than a name may be")
-        source = group.counted_at(it) if given.count == "primary" else it.source
-        now.append([it.name, f"osd.{source}", used[source]])
-        next_.append([it.name, f"osd.{it.target}"])
-        used[source] += 1
-        coming[it.target] += it.source != it.target
-    if len(now) > MOST_ITEMS + 1:
-        more = "" if given.moving else ": --moving leaves out those that stay"
-        raise Wrong(f"there are {len(now) - 1} copies, more than {MOST_ITEMS}{more}")
-    slots = {f"osd.{it}": max(1, used[it] + coming[it]) for it in osds}
-    files = {"disks.csv": disk_rows({f"osd.{it}": limits.get(it) for it in osds}, slots, "--backfills"),
-             "now.csv": now, "next.csv": next_}
+    shifts, limits = case_of(groups, given.backfills, given.count == "primary", given.moving)
+    for count, what, most in ((len(limits), "OSDs with copies", MOST_DISKS), (len(shifts), "copies", MOST_ITEMS)):
+        if count > most:
+            more = "plan-ceph plans them all the same" if given.moving else "--moving leaves out those that stay"
+            raise Wrong(f"there are {count} {what}, more than {most}: {more}")
+    files = files_of(shifts, limits)
     if given.sizes:
-        files["bytes.csv"] = size_rows(sizes_of(given.sizes, given.dump, groups, {str(row[0]) for row in now[1:]}))
+        files["bytes.csv"] = size_rows(sizes_of(given.sizes, given.dump, groups, {it.item for it in shifts}))
     inputs = [given.before, given.after, given.dump, given.crush, *([given.sizes] if given.sizes else [])]
     save_all({os.path.join(given.into, name): table(rows) for name, rows in files.items()}, inputs)
-    note(f"{len(now) - 1} copies of {len(groups)} placement groups on {len(osds)} OSDs, {coming.total()} of them go to "
-         "another OSD")
+    gone = sum(it.source != it.target for it in shifts)
+    note(f"{len(shifts)} copies of {len(groups)} placement groups on {len(limits)} OSDs, {gone} of them go to another "
+         "OSD")

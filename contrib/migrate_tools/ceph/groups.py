@@ -1,8 +1,9 @@
 """What from-ceph and to-ceph read: the placement groups of a change, and their pools' rules. What cannot be carried out
 is named."""
-import argparse, json, re
+import argparse, functools, json, re
 from collections.abc import Iterator, Mapping
 from dataclasses import dataclass
+from typing import NamedTuple
 from ..command import Wrong, note, read_text, words
 from .crush import Pairs, Rule, landed, paired
 
@@ -11,6 +12,7 @@ LINE = re.compile(rf"([0-9]+\.[0-9a-f]+) raw {OSDS} up {OSDS} acting {OSDS}", re
 POOL = re.compile(r"^pool ([0-9]+) '.*' (replicated|erasure) (?:profile \S+ )?size ([0-9]+) min_size [0-9]+ "
                   r"crush_rule ([0-9]+) ",
                   re.ASCII | re.M)
+NEVER = re.compile(r"^osd\.([0-9]+) .* primary_affinity 0 ", re.ASCII | re.M)
 NO_OSD = 2147483647
 FILES = """
 
@@ -27,8 +29,7 @@ def without(osds: list[int], others: list[int]) -> list[int]:
     return [it for it in osds if it not in others]
 
 
-@dataclass(frozen=True)
-class Item:
+class Item(NamedTuple):
     """A copy or a shard of a placement group, with its OSD before and after."""
     name: str
     source: int
@@ -39,7 +40,7 @@ class Item:
 class Group:
     """A placement group: what CRUSH chooses for it while the commands run, and where it is before and after. A place in
     these lists is a shard's where the pool is erasure coded; else it means nothing. `old` are its exceptions now, None
-    for a whole one."""
+    for a whole one; `shy` are OSDs that are not its primary where another can be, by their primary affinity."""
     name: str
     rule: Rule
     shards: bool
@@ -48,10 +49,12 @@ class Group:
     before: list[int]
     after: list[int]
     old: Pairs | None
+    shy: frozenset[int] = frozenset()
 
     def differ(self, one: list[int], two: list[int]) -> bool:
         return one != two if self.shards else set(one) != set(two)
 
+    @functools.cached_property
     def items(self) -> list[Item]:
         """A shard keeps its place, a copy goes where it is near."""
         if self.shards:
@@ -59,32 +62,41 @@ class Group:
         pairs = paired(without(self.before, self.after), without(self.after, self.before), self.rule, [])
         return [Item(f"{self.name}-{it}", it, pairs.get(it, it)) for it in self.before]
 
-    def exceptions(self, osds: list[int]) -> tuple[Pairs, str]:
-        """The pairs that put the group on these OSDs, and why there are none. Ceph takes the pairs in their order,
+    def pairs(self, osds: list[int]) -> Pairs | str:
+        """The pairs that put the group on these OSDs, or why there are none. Ceph takes the pairs in their order,
         passes over one whose second is there already, and keeps none whose first CRUSH did not choose: so what takes an
         OSD away stands before what brings it."""
         if len(set(osds)) < len(osds):
-            return [], f"osd.{max(osds, key=osds.count)} would have two of its shards"
-        if self.shards:
-            pairs = {one: two for one, two in zip(self.chosen, osds) if one != two}
-        else:
-            pairs = paired(without(self.chosen, osds), without(osds, self.chosen), self.rule, self.old or [])
-        ordered = []
+            return f"osd.{max(osds, key=osds.count)} would have two of its shards"
+        if not self.shards:
+            leave, come = without(self.chosen, osds), without(osds, self.chosen)
+            return [*paired(leave, come, self.rule, self.old or []).items()]
+        pairs, ordered = {one: two for one, two in zip(self.chosen, osds) if one != two}, []
         while pairs:
             first = next((one for one, two in pairs.items() if two not in pairs), None)
             if first is None:
                 ring = " and ".join(f"osd.{it}" for it in pairs)
-                return [], f"its shards on {ring} would change places, which exceptions cannot say"
+                return f"its shards on {ring} would change places, which exceptions cannot say"
             ordered.append((first, pairs.pop(first)))
-        return ordered, self.rule.broken(landed(self.chosen, ordered))
+        return ordered
+
+    def exceptions(self, osds: list[int]) -> tuple[Pairs, str]:
+        """The same, and why Ceph would not keep them."""
+        pairs = self.pairs(osds)
+        return ([], pairs) if isinstance(pairs, str) else (pairs, self.rule.broken(landed(self.chosen, pairs)))
 
     def filler(self, before: list[int], after: list[int]) -> int:
         """The OSD that fills what comes to the group between these two states, at which Ceph counts that: its acting
-        primary meanwhile. Of shards it is that of the first one. Of copies it is the first of the new ones that has the
-        data; where the first one is new itself, Ceph takes of those that have the data that of the lowest number."""
+        primary meanwhile. Of shards it is that of the first one. Of copies it is the first of the new ones, if it has
+        the data; where that one is new itself, Ceph takes of those that have the data that of the lowest number."""
         if self.shards:
             return next(it for it in before if it != NO_OSD)
-        first = landed(self.chosen, self.exceptions(after)[0])[0]
+        if not self.shy and self.chosen[0] in after:
+            first = self.chosen[0]
+        else:
+            pairs = self.pairs(after)
+            order = landed(self.chosen, [] if isinstance(pairs, str) else pairs)
+            first = next((it for it in order if it not in self.shy), order[0])
         return first if first in before else min(before)
 
     def counted_at(self, item: Item) -> int:
@@ -102,7 +114,7 @@ class Group:
         late: list[str] = []
         broken = ""
         for at in sorted({0, *rounds.values()}):
-            osds = [it.target if rounds.get(it.name, at + 1) <= at else it.source for it in self.items()]
+            osds = [it.target if rounds.get(it.name, at + 1) <= at else it.source for it in self.items]
             pairs, why = self.exceptions(osds)
             if why:
                 late.append(str(at))
@@ -158,12 +170,12 @@ def read_groups(path: str, cleaned: bool) -> Lists:
     groups: Lists = {}
     lines = read_text(path).split("\n")
     for found in filter(None, map(LINE.fullmatch, lines)):
-        name, (chosen, up, acting) = found[1], map(numbers, found.groups()[1:])
+        name, chosen, up = found[1], numbers(found[2]), numbers(found[3])
         if name in groups:
             raise Wrong(f"lists placement group {name} twice: write each file anew, and do not append", path)
-        if up != acting:
-            raise Wrong(f"{path}: placement group {name} is on {acting} still, and goes to {up}: let its backfill end, "
-                        "and add --clear-temp")
+        if found[3] != found[4]:
+            raise Wrong(f"{path}: placement group {name} is on {numbers(found[4])} still, and goes to {up}: let its "
+                        "backfill end, and add --clear-temp")
         groups[name] = chosen, up
     is_odd = any(set(up) - {*chosen, NO_OSD} for chosen, up in groups.values())
     if cleaned and "checking for upmap cleanups" not in lines and is_odd:
@@ -213,19 +225,22 @@ def read_change(given: argparse.Namespace, leave_out: bool) -> dict[str, Group]:
         path = given.before if name in before else given.after
         raise Wrong(f"placement group {name} is in {path} alone: a change of pg_num is no move")
     pools, old = read_pools(given.dump, given.crush)
-    groups, refused = {}, 0
+    groups, refused, never = {}, 0, frozenset(map(int, NEVER.findall(read_text(given.dump))))
     for name, (chosen, osds) in before.items():
         if not (pool := pools.get(name.partition(".")[0])):
             raise Wrong(f"has no pool for placement group {name}", given.dump)
         then, next_ = after[name]
         now, path = (next_, given.after) if given.hold else (osds, given.before)
         chosen = then if given.hold else chosen
-        group = Group(name, pool.rule, pool.shards, pool.size, chosen, osds, next_, old.get(name, []))
+        order = landed(chosen, old.get(name) or [])
+        both = () if pool.shards else ((order, now), (landed(then, old.get(name) or []), next_))
+        shy = never.union(*(its[: its.index(up[0])] for its, up in both if up and up[0] in its))
+        group = Group(name, pool.rule, pool.shards, pool.size, chosen, osds, next_, old.get(name, []), shy)
         if why := group.refusal(then, given.hold):
             note(f"placement group {name} {why}")
             refused += 1
             continue
-        if group.old is not None and group.differ(landed(group.chosen, group.old), now):
+        if group.old is not None and group.differ(order, now):
             raise Wrong(f"is not of the map of {path}: its exceptions put placement group {name} elsewhere than on "
                         f"{now}", given.dump)
         groups[name] = group

@@ -15,12 +15,15 @@ import argparse, collections, json, os, re, shlex
 from collections.abc import Mapping, Sequence
 from ..command import Wrong, command, here, note, put, read_text, save_all, words
 from ..disks import read_disks
-from ..plans import Plan, read_plan
+from ..plans import MOST_DISKS, MOST_ITEMS, read_plan, table
+from ..sizes import read_sizes, size_rows
 from ..whole import FILES, Planner
+from . import large
 from .ceph_step import read_script
 from .change import make
 from .cluster import Silent, all_of, ceph
 from .crush import landed
+from .from_ceph import case_of, files_of
 from .fullness import check_rooms, fullest, rooms_of
 from .groups import Group, read_change, read_groups, read_pools
 from .maps import DUMP, Change, Maps
@@ -92,21 +95,26 @@ class CephPlanner(Planner):
         note(f"{there} of {len(last)} placement groups are where they were to go; the others are planned anew")
 
     def backfills(self, groups: Mapping[str, Group]) -> list[str]:
-        """The words of from-ceph for osd_max_backfills, as the OSDs that take part have it."""
-        osds = sorted({osd for group in groups.values() for it in group.items() if it.source != it.target
+        """The words of --backfills for osd_max_backfills, as the OSDs that take part have it."""
+        osds = sorted({osd for group in groups.values() for it in group.items if it.source != it.target
                        for osd in (group.counted_at(it), it.target)})
         said_ = all_of(*(["tell", f"osd.{it}", "config", "get", "osd_max_backfills"] for it in osds))
         most = [int(it["osd_max_backfills"]) for it in said_]
         common = collections.Counter(most).most_common(1)[0][0]
         note(f"osd_max_backfills is {common}" + ("" if len(set(most)) == 1 else ", and another at some OSDs"))
-        odd = [f"--backfills=osd.{osd}={count}" for osd, count in zip(osds, most) if count != common]
-        return [f"--backfills={common}", *odd]
+        odd = [f"{osd}={count}" for osd, count in zip(osds, most) if count != common]
+        return [str(common), *odd]
 
-    def plan(self, sub: str, backfills: Sequence[str]) -> str:
-        """Plans by the four files of a folder, and gives the verdict."""
-        four = (*FOUR[:3], os.path.relpath(self.at("crush"), self.at(sub)))
-        sizes = [] if sub else ["--sizes", "pgs.json"]
-        self.command("from-ceph", *four, "--leave-out", "--moving", *backfills, *sizes, sub=sub, passes=False)
+    def plan(self, sub: str, groups: Mapping[str, Group], backfills: Sequence[str]) -> str:
+        """Plans the change of these groups in a folder, and gives the verdict."""
+        shifts, limits = case_of(groups, backfills)
+        files = files_of(shifts, limits)
+        if not sub:
+            sizes = sizes_of(self.at("pgs.json"), self.at("dump"), groups, {it.item for it in shifts})
+            files["bytes.csv"] = size_rows(sizes)
+        save_all({os.path.join(self.at(sub), name): table(rows) for name, rows in files.items()})
+        if len(limits) > MOST_DISKS or len(shifts) > MOST_ITEMS:
+            return large.plan(self, sub, shifts, read_disks(self.at(os.path.join(sub, "disks.csv"))))
         self.migrate("plan", *FILES, "cert.txt", sub=sub)
         return self.checked(sub)
 
@@ -122,11 +130,11 @@ class CephPlanner(Planner):
                  for name, step in last.items() if step.pairs]
         for name, text in (("before", listed(now)), ("after", listed(before)), ("dump", "\n".join(kept) + "\n")):
             Maps(folder).save(name, text)
-        verdict = self.plan("back", backfills)
         given = argparse.Namespace(hold=False, crush=self.at("crush"),
                                    **{name: os.path.join(folder, name) for name in FOUR[:3]})
-        plan, disks = read_plan(f"{folder}/plan.txt"), read_disks(f"{folder}/disks.csv")
         homes = read_change(given, True)
+        verdict = self.plan("back", homes, backfills)
+        plan, disks = read_plan(f"{folder}/plan.txt"), read_disks(f"{folder}/disks.csv")
         shifts, found = {it.item: it for it in plan.shifts()}, []
         for name, rounds in read_rounds(plan, f"{folder}/plan.txt", homes)[0].items():
             group, starts = homes[name], [it.pairs for it in steps if it.group == name]
@@ -144,10 +152,9 @@ class CephPlanner(Planner):
         if not moving:
             raise Wrong("no placement group moves for this, so there is nothing to plan")
         backfills = self.backfills(moving)
-        verdict = self.plan("", backfills)
+        verdict = self.plan("", groups, backfills)
         plan, disks = read_plan(self.at("plan.txt")), read_disks(self.at("disks.csv"))
-        items = {it.name for group in moving.values() for it in group.items()}
-        sizes = sizes_of(self.at("pgs.json"), self.at("dump"), groups, items)
+        sizes = read_sizes(self.at("bytes.csv"), plan) or {}
         found = fullest(plan, groups, sizes, self.rooms)
         check_rooms(found, self.nearfull)
         rounds, is_given = read_rounds(plan, self.at("plan.txt"), groups)

@@ -34,5 +34,5 @@ def sizes_of(path: str, dump: str, groups: Mapping[str, Group], wanted: set[str]
             raise Wrong(f"has no placement group {name}", path)
         if not (count := shards.get(name.partition(".")[0])):
             raise Wrong(f"has no stripe_width for the pool of placement group {name}", dump)
-        found.update({it.name: -(-max(0, bytes_[name]) // count) for it in group.items() if it.name in wanted})
+        found.update({it.name: -(-max(0, bytes_[name]) // count) for it in group.items if it.name in wanted})
     return found

@@ -2,7 +2,7 @@
 lines of a script."""
 import collections
 from collections.abc import Mapping, Sequence
-from dataclasses import dataclass
+from typing import NamedTuple
 from ..command import Wrong, note
 from ..disks import Disks, is_split, limits_by_side
 from ..plans import Plan, Shift
@@ -12,8 +12,7 @@ from .groups import Group
 Counts = Mapping[str, int]
 
 
-@dataclass(frozen=True)
-class Step:
+class Step(NamedTuple):
     """In this round the exceptions of a group are set, with which it is to be on these OSDs, where it has one of the
     lists `start` of exceptions; = keeps their order. `counts` is where it counts, as osd.5/in, and how often; `items`
     are those that go then, each with the round in which the plan has it."""
@@ -67,7 +66,7 @@ def read_step(words: Sequence[str]) -> Step:
 def read_rounds(plan: Plan, path: str, groups: Mapping[str, Group]) -> tuple[dict[str, dict[str, int]], bool]:
     """The round in which each item of each placement group goes, and whether each goes from the OSD that gives it
     up."""
-    homes = {it.name: (name, it) for name, group in groups.items() for it in group.items()}
+    homes = {it.name: (name, it) for name, group in groups.items() for it in group.items}
     given = all(it.source == f"osd.{homes[it.item][1].source}" for it in plan.shifts() if it.item in homes)
     rounds: dict[str, dict[str, int]] = {}
     seen: set[str] = set()

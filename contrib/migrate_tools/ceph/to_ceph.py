@@ -13,7 +13,6 @@ Set norebalance before the weights are changed. With --eager DISKS the script ha
 set as soon as each OSD at which Ceph counts its copies has a place free by the limits of this file."""
 import argparse, collections, hashlib
 from collections.abc import Sequence
-from dataclasses import replace
 from ..command import command, note, put, save_all
 from ..disks import Disks, check_disks, limits_by_side, read_disks
 from ..plans import Plan, Shift, plan_text, read_plan
@@ -40,9 +39,9 @@ def within(steps: Sequence[Step], disks: Disks) -> list[Step]:
                  f"limit {limits[side]} there; nothing else goes there meanwhile")
         used[at].update(step.counts)
         last[step.group] = at
-        found.append(replace(step, round=at))
+        found.append(step._replace(round=at))
     new = {at: number for number, at in enumerate(sorted({it.round for it in found} | {0}))}
-    return sorted((replace(it, round=new[it.round], items=dict.fromkeys(it.items, new[it.round])) for it in found),
+    return sorted((it._replace(round=new[it.round], items=dict.fromkeys(it.items, new[it.round])) for it in found),
                   key=lambda it: it.round)
 
 
@@ -59,7 +58,7 @@ def script(steps: Sequence[Step], digest: str, limits: str) -> str:
     """The text of a script of these steps."""
     title = f"{sum(len(it.items) for it in steps)} copies in {max(it.round for it in steps)} rounds"
     title += " (no round waits for another, and round 1 is all of them)" * bool(limits)
-    lines = [steps_head(WHAT, title, digest + limits, "ceph-step", "--force")]
+    lines = [steps_head(WHAT, title, digest + limits, "ceph-step", "--hook COMMAND] [--force")]
     for at, step in enumerate(steps):
         lines.append(f"{step.line()}\n")
         is_held = step.round == 0 and (at + 1 == len(steps) or steps[at + 1].round)
