@@ -129,14 +129,17 @@ class Outcome(NamedTuple):
 
 
 def unready(case, slots):
-    """Why a plan isn't begun: the text, and the spot whose item was looked for in vain."""
+    """Why a plan isn't begun: each item is looked for in turn, and one that the file's end cuts is a fault; then the targets."""
     for item in case.shifted:
+        vain = ((*case.now[item], item),)
         if slots.item(case.now[item]) != item:
-            return f"not there {item}\n", ((*case.now[item], item),)
+            return Outcome(9, f"not there {item}\n", vain=vain)
+        if not slots.is_whole(item, case.now[item]):
+            return Outcome(5, "store fault\n", vain=vain)
     listed = set(case.now.values())
     for disk, slot in (target for shifts in case.rounds for _, _, target in shifts):
         if (disk, slot) not in listed and slots.read((disk, slot))[:1] == b"\1":
-            return f"occupied {disk} {slot}\n", ()
+            return Outcome(9, f"occupied {disk} {slot}\n")
     return None
 
 
@@ -153,7 +156,7 @@ def wanted(case, image, command, away=frozenset()):
     away = frozenset(away) & {disk for disk, _ in case.spots}
     refusal = None if armed or away else unready(case, slots)
     if refusal:
-        return Outcome(9, refusal[0], vain=refusal[1])
+        return refusal
     vain = tuple((*at[item], item) for item in case.shifted if not slots.is_whole(item, at[item]))
     taken = tuple((*spot, slots.item(spot)) for spot in case.free(found) if slots.item(spot) not in (None, *case.shifted))
     if away or vain or taken:

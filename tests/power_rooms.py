@@ -105,36 +105,44 @@ class World:
     def __init__(self, files=()):
         self.names = {path: Held(path, held) for path, held in dict(files).items()}
         self.settled = dict(self.names)
-        self.lost = self.untold = ()  # the folders whose sync failed, and the paths of files of which the next sync is to tell a loss
-        self.changes = []  # of names, since their folder's last sync: the folder, the names that go, the name that comes, its file
+        self.untold = ()  # the paths of files of which the next sync is to tell a loss
+        # of names, since their folder's last sync: the folder, the names that go, the name that comes, its file, and whether a sync lost it
+        self.changes = []
 
     def copy(self):
-        files = [*self.names.values(), *self.settled.values(), *(held for *_, held in self.changes if held)]
+        files = [*self.names.values(), *self.settled.values(), *(held for *_, held, _ in self.changes if held)]
         copies = {id(held): held.copy() for held in {id(held): held for held in files}.values()}
         it = World()
         it.names = {path: copies[id(held)] for path, held in self.names.items()}
         it.settled = {path: copies[id(held)] for path, held in self.settled.items()}
-        it.changes = [(folder, gone, come, held and copies[id(held)]) for folder, gone, come, held in self.changes]
-        it.lost, it.untold = self.lost, self.untold
+        it.changes = [(folder, gone, come, held and copies[id(held)], lost) for folder, gone, come, held, lost in self.changes]
+        it.untold = self.untold
         return it
 
     def change(self, gone, come=None, held=None):
         """A name goes, another comes with its file."""
-        change = (os.path.dirname(come or gone) or ".", gone, come, held)
+        change = (os.path.dirname(come or gone) or ".", gone, come, held, False)
         self.changes.append(change)
         apply(self.names, change)
 
     def unsettled_names(self, folder):
         """What was made, renamed or removed in a folder since its last sync."""
-        return [come or gone for at, gone, come, _ in self.changes if at == folder]
+        return [come or gone for at, gone, come, *_ in self.changes if at == folder]
 
     def settle_names(self, folder):
-        if folder in self.lost:
-            return
+        """A folder's sync succeeds. What an earlier one lost it brings only where the name was changed once more."""
+        left = []
         for change in self.changes:
-            if change[0] == folder:
+            if change[0] != folder or change[-1]:
+                left.append(change)
+            else:
                 apply(self.settled, change)
-        self.changes = [change for change in self.changes if change[0] != folder]
+                left = [it for it in left if not {*it[1:3]} & {*change[1:3]} - {None}]
+        self.changes = left
+
+    def lose_names(self, folder):
+        """A folder's sync fails."""
+        self.changes = [(*change[:-1], change[-1] or change[0] == folder) for change in self.changes]
 
     def after_cut(self, chance):
         """What a power cut may leave: memory is gone, each change of a name was made or not, each unsettled cell holds anything."""
@@ -157,7 +165,7 @@ class World:
         failed is removed."""
         it, names = World(), dict(self.settled)
         for change in self.changes:
-            if change[0] not in self.lost or chance.random() < 0.5:
+            if not change[-1] or chance.random() < 0.5:
                 apply(names, change)
         for path, held in names.items():
             held.settle()
@@ -182,7 +190,7 @@ class World:
 
 
 def apply(names, change):
-    _, gone, come, held = change
+    _, gone, come, held, _ = change
     if gone:
         names.pop(gone, None)
     if come:
@@ -230,7 +238,7 @@ def make(world, call, chance):
     elif call.kind == REMOVE:
         world.change(call.path)
     elif call.kind == SYNC and held is None and call.fails:
-        world.lost = (*world.lost, call.path)
+        world.lose_names(call.path)
     elif call.kind == SYNC and held is None and not call.drops:
         world.settle_names(call.path)
     elif held is None or call.drops:

@@ -102,7 +102,9 @@ fn expect_written<C: Calls>(rt: &impl Abort, calls: &mut C)
 }
 
 /// Asserts what is read and written of files that aren't there yet.
-fn expect_files<C: Calls>(rt: &impl Abort, calls: &mut C) {
+fn expect_files<C: Calls>(rt: &impl Abort, calls: &mut C)
+    ensures claimed { IsTrue (C.Calls.state calls.new).claimed }
+{
     expect_none(rt, calls);
     claim(rt, calls);
     claim(rt, calls);
@@ -184,10 +186,12 @@ fn is_free<R: Files<File = File>>(rt: &R, path: &str) -> bool {
 }
 
 /// Asserts that a disk is locked where it is looked at, once the journal is claimed.
-fn expect_locked<R: Abort + Files<File = File> + Eprint>(rt: &R, calls: &mut HostCalls<'_, R>) {
+fn expect_locked<R: Abort + Files<File = File>, C: Calls>(rt: &R, calls: &mut C)
+    ensures claimed { IsTrue (C.Calls.state calls.new).claimed }
+{
     assert!(rt; has(calls, &disk_of(b"a"), 0, b"held"));
     assert!(rt; is_free(rt, "a.disk"));
-    assert!(rt; calls.claim().is_ok());
+    claim(rt, calls);
     assert!(rt; has(calls, &disk_of(b"a"), 0, b"held"));
     assert!(rt; !is_free(rt, "a.disk"));
 }
@@ -208,11 +212,10 @@ fn what_is_looked_at_stays(rt: HostRuntime) {
 }
 
 /// Asserts that a place is neither read nor written.
-fn expect_failed<R: Files<File = File> + Eprint>(
-    rt: &impl Abort,
-    calls: &mut HostCalls<'_, R>,
-    place: &Place,
-) {
+fn expect_failed<C: Calls>(rt: &impl Abort, calls: &mut C, place: &Place)
+    requires claimed { IsTrue (C.Calls.state calls.old).claimed }
+    ensures claimed { IsTrue (C.Calls.state calls.new).claimed }
+{
     assert!(rt; !has(calls, place, 0, b""));
     assert!(rt; !writes(calls, place, 0, b"x", true));
 }
@@ -231,9 +234,10 @@ fn files_that_are_no_disks(rt: HostRuntime) {
         assert!(rt; symlink(&rt, to, path).is_ok());
     }
     assert!(rt; writes(&mut calls, &disk_of(b"e"), 0, b"a disk", true));
-    for name in [b"b".as_slice(), b"c", b"d", b"f"] {
-        expect_failed(&rt, &mut calls, &disk_of(name));
-    }
+    expect_failed(&rt, &mut calls, &disk_of(b"b"));
+    expect_failed(&rt, &mut calls, &disk_of(b"c"));
+    expect_failed(&rt, &mut calls, &disk_of(b"d"));
+    expect_failed(&rt, &mut calls, &disk_of(b"f"));
     // it is no disk that is to be made
     assert!(rt; extends(&mut calls, &disk_of(b"b"), Extent::Absent));
     assert!(rt; has(&mut calls, &disk_of(b"e"), 0, b"a disk"));
