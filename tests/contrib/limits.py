@@ -211,6 +211,17 @@ AFTER = ("#!/bin/sh\necho begin $1 $2 >>log\nuntil [ -z \"$3\" ] || grep -qs \"^
 EAGER = "--unverified --verify 'sh job verify {item} 0' --erase 'sh job erase {item} 0'"
 
 
+def at_once(room, name, case, rounds):
+    """The first transfer is under way as long as it takes for another of its round to begin."""
+    (first, *_), (second, *_) = rounds[0][:2]
+    room.write("job", AFTER)
+    room.write("waits", f"for=''\n[ $1 = {first} ] && for='begin copy {second}$'\nsh job copy $1 \"$for\"\n")
+    room.good(name,
+              f"contrib/run-plan --eager disks.csv --jobs 3 {EAGER.replace(' 0', '')} plan.txt sh waits {{item}}")
+    shifts = [it for shifts in rounds for it in shifts]
+    that(f"{name}: --jobs", watch(room, f"{name}, --jobs 3", case, shifts, ("copy", "verify", "erase")) >= 2)
+
+
 def eager_limits():
     """Made cases with both kinds of limits: at each moment the limits are kept, and a transfer waits for nothing
     else."""
@@ -235,13 +246,8 @@ def eager_limits():
                  f"all {len(rounds)} rounds are carried out\n")
             os.unlink(room.path("plan.txt.place"))
             os.unlink(room.path("log"))
-            (first, *_), (second, *_) = rounds[0][:2]
-            room.write("job", AFTER)  # the first one is under way as long as it takes for another to begin
-            room.write("waits", f"for=''\n[ $1 = {first} ] && for='begin copy {second}$'\nsh job copy $1 \"$for\"\n")
-            room.good(name,
-                      f"contrib/run-plan --eager disks.csv --jobs 3 {EAGER.replace(' 0', '')} plan.txt sh waits "
-                      f"{{item}}")
-            that(f"{name}: --jobs", watch(room, f"{name}, --jobs 3", case, shifts, ("copy", "verify", "erase")) >= 2)
+            if len(rounds[0]) > 1:
+                at_once(room, name, case, rounds)
 
 
 def no_barrier(room):
