@@ -1,36 +1,10 @@
 -- Room that always suffices for a plan.
 use Rattle.mig_base.specs.declared.limits.TheConstants.{MAX_FILE_BYTES}
-use Rattle.mig_c.proofs.Common.{Answers, Bodies, Found, HandsBoth, Outcome, Refusal, Roomy, Slice, TOO_SHORT, accepted_valid, arith, code, length, plans_bytes, refl, sym, zero, suc, ℕ, ⊎_elim, ◌∙◌, ◌≡◌, ◌≢◌}
-use Rattle.std.proofs.Common.{◌≤◌}
+use Rattle.mig_c.proofs.Common.{Answers, Bodies, HandsBoth, Roomy, Slice, TOO_SHORT, accepted_valid, arith, length, plans_bytes, refl, sym, zero, suc, ℕ, ⊎_elim, ◌∙◌, ◌≡◌, ◌≢◌, ◌≤◌}
 use Rattle.mig_c.proofs.HandedBack.{ends_done}
 use Rattle.mig_cert.proofs.CertLengths.{short_text as short_cert}
 use Rattle.mig_text.proofs.ShiftCounts.{short_text as short_plan}
-use Rattle.mig_words.specs.Outcomes.{finding_code, spelling_code, store_code}
-use Rattle.mig_words.specs.declared.endings.Finding.{Finding}
-use Rattle.mig_words.specs.declared.endings.Finding.TheVariants.{NotSpelled}
-use Rattle.mig_words.specs.declared.endings.StoreRefusal.{StoreRefusal}
-use Rattle.mig_words.specs.declared.endings.StoreRefusal.TheVariants as refusal
-use Rattle.mig_words.specs.declared.endings.TextFile.{TextFile}
-use Rattle.mig_words.specs.declared.endings.TextFile.TheVariants as text_file
-
--- no outcome has the number that says that room is wanting
-spelling_low : (t : TextFile) → spelling_code t ≢ TOO_SHORT
-spelling_low text_file.Plan = λ e. absurd (omega (arith, e))
-spelling_low text_file.Cert = λ e. absurd (omega (arith, e))
-spelling_low text_file.Script = λ e. absurd (omega (arith, e))
-
-finding_low : (f : Finding) → finding_code f ≢ TOO_SHORT
-finding_low (NotSpelled t line) = spelling_low t
-finding_low _ = λ e. absurd (omega (arith, e))
-
-refusal_low : (r : StoreRefusal) → store_code r ≢ TOO_SHORT
-refusal_low (refusal.NotThere item) = λ e. absurd (omega (arith, e))
-refusal_low _ = λ e. absurd (omega (arith, e))
-
-code_low : (o : Outcome) → code o ≢ TOO_SHORT
-code_low (Found f) = finding_low f
-code_low (Refusal r) = refusal_low r
-code_low _ = λ e. absurd (omega (arith, e))
+use Rattle.mig_words.proofs.Statuses.{code_most}
 
 -- room is wanting only for texts of a command that is done
 wanting : {status result : ℕ} {AllFit : Type 0} → Answers status AllFit result → result ≡ TOO_SHORT → status ≢ TOO_SHORT → (status ≡ 0) × (AllFit → ⊥)
@@ -40,7 +14,7 @@ wanting {status = suc n} a is low = absurd (low (sym (a.other (λ e. cc)) ∙ is
 -- a plan and its certificate are short
 pub plan_fits : {bytes : Bodies} {plan text : Slice} {result : ℕ} → HandsBoth (plans_bytes bytes) plan text result → MAX_FILE_BYTES ≤ length plan.before → MAX_FILE_BYTES ≤ length text.before → result ≢ TOO_SHORT
 plan_fits {bytes = bytes} {plan = plan} {text = text} h plan_room text_room is =
-    let w = wanting h.answers is (λ e. code_low h.ends.outcome (sym h.ends.is ∙ e)) in
+    let w = wanting h.answers is (λ e. let most = code_most h.ends.outcome in omega (arith, h.ends.is, e, most)) in
     let d = ends_done h.ends w.0 in
     let valid = accepted_valid Roomy bytes d.0 d.1 in
     let made = d.2.made.planned in

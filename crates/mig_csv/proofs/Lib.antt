@@ -11,4 +11,5 @@ pub mod Needs
 pub mod RecordLists
 pub mod WayRows
 pub mod Tight
+pub mod TooLong
 pub mod Whole

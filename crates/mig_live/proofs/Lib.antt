@@ -6,6 +6,7 @@ mod StepCounts
 mod StepLaws
 pub mod WorkCells
 pub mod Common
+pub mod LoneCopies
 pub mod Middle
 pub mod ScriptLaws
 pub mod SessionLaws

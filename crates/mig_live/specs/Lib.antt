@@ -1,4 +1,5 @@
 pub mod Actions
+pub mod Events
 pub mod Orders
 pub mod Replies
 pub mod Scripts

@@ -1,9 +1,9 @@
 -- Bytes that are alike are read alike: where a file is too long, that is the first thing that is wrong with it.
-use Rattle.mig_top.proofs.Common.{Accepted, Accepted-short, AcceptedTight, AcceptedTight-short, Alike, AreReadAlike, Bodies, CertLine, CertText, Disks, Fault, FileKind, Found, IsFinding}
-use Rattle.mig_top.proofs.Common.{IsFirstOf, IsListing, IsNoCert, IsNoPlan, IsRefusalBy, IsSame, LayoutBodies, List, ListingFault, ListingRefusedAs, Lists, MAX_FILE_BYTES, Next, NotSpelled, Now}
-use Rattle.mig_top.proofs.Common.{Outcome, PlanLine, PlanText, Precedes, Reader, Refused, RefusedAs, RefusedTightAs, Roomy, Step, Tight, Why, ap, arith, cases_lt, inl, inr, length, length-take}
-use Rattle.mig_top.proofs.Common.{other_cause, rank_of, reads_cert, reads_input, reads_layout, reads_plan, refl, refused_tight, refused_with_room, stage_of, subst, suc, sym, take, take_all, zero}
-use Rattle.mig_top.proofs.Common.{ℕ, ◌+◌, ◌<◌, ◌∙◌, ◌≡◌, ◌≤◌}
+use Rattle.mig_top.proofs.Common.{Accepted, Accepted-short, AcceptedTight, AcceptedTight-short, Alike, AreReadAlike, Bodies, CertLine, CertText, Disks, Fault, FileKind, Found, IsFinding, IsListing}
+use Rattle.mig_top.proofs.Common.{IsNoCert, IsNoPlan, IsRefusalBy, IsSame, LayoutBodies, List, ListingFault, ListingRefusedAs, Lists, MAX_FILE_BYTES, Next, NotSpelled, Now, Outcome, PlanLine}
+use Rattle.mig_top.proofs.Common.{PlanText, Reader, Refused, RefusedAs, RefusedTightAs, Roomy, Step, Tight, Why, arith, cases_lt, inl, inr, length, length-take, other_cause, reads_cert, reads_input}
+use Rattle.mig_top.proofs.Common.{reads_layout, reads_plan, refl, refused_tight, refused_with_room, subst, sym, take, take_all, ℕ, ◌+◌, ◌<◌, ◌≡◌, ◌≤◌}
+use Rattle.mig_csv.proofs.TooLong.{carried_first, disks_alone, disks_apart, next_apart}
 use Rattle.mig_base.specs.declared.faults.Why.TheVariants as why
 use Rattle.mig_words.specs.declared.endings.TextFile.TheVariants as text_file
 
@@ -21,86 +21,6 @@ begins whole = elim (cases_lt MAX_FILE_BYTES (length whole)) [
   | inl long ↦ inr (long, omega (arith, long, length-take (MAX_FILE_BYTES + 1) whole))
   | inr short ↦ inl (sym (take_all (MAX_FILE_BYTES + 1) whole (omega (arith, short))))
 ]
-
--- a fault of the disks file says nothing of the other two
-disks_alone : (d n x m y : List ℕ) (f : FileKind) (r : ℕ) (w : Why) → stage_of f w < 1 → Fault (record { disks = d; now = n; next = x }) f r w → Fault (record { disks = d; now = m; next = y }) f r w
-disks_alone d n x m y f r why.NotInNext s h = absurd (omega arith)
-disks_alone d n x m y f r (why.NoRoom a b c) s h = absurd (omega arith)
-disks_alone d n x m y Disks r _ s h = h
-disks_alone d n x m y Now r _ s h = absurd (omega arith)
-disks_alone d n x m y Next r _ s h = absurd (omega arith)
-
--- a fault of these two says nothing of the next file
-next_apart : (d n x y : List ℕ) (f : FileKind) (r : ℕ) (w : Why) → stage_of f w < 2 → Fault (record { disks = d; now = n; next = x }) f r w → Fault (record { disks = d; now = n; next = y }) f r w
-next_apart d n x y f r why.NotInNext s h = absurd (omega arith)
-next_apart d n x y f r (why.NoRoom a b c) s h = absurd (omega arith)
-next_apart d n x y Disks r _ s h = h
-next_apart d n x y Now r _ s h = h
-next_apart d n x y Next r _ s h = absurd (omega arith)
-
--- only a file that is too long has the first rank
-rank_zero : (w : Why) → rank_of w ≡ 0 → w ≡ why.TooLong
-rank_zero why.TooLong e = refl
-rank_zero (why.NoRoom a b c) e = absurd (omega (arith, e))
-rank_zero _ e = absurd (omega (arith, e))
-
-same_file : (f g : FileKind) → stage_of f why.TooLong ≡ stage_of g why.TooLong → f ≡ g
-same_file Disks Disks e = refl
-same_file Now Now e = refl
-same_file Next Next e = refl
-same_file _ _ e = absurd (omega (arith, e))
-
--- Two sets of faults, each with a file that is too long: what is first in the one is first in the other, where they agree before that file.
-
-module _ (a b : FileKind → ℕ → Why → Type 0) (g : FileKind)
-    (to : (k : FileKind) (m : ℕ) (v : Why) → stage_of k v < stage_of g why.TooLong → a k m v → b k m v)
-    (back : (k : FileKind) (m : ℕ) (v : Why) → stage_of k v < stage_of g why.TooLong → b k m v → a k m v)
-    (long_a : a g 0 why.TooLong) (long_b : b g 0 why.TooLong) where
-  no_later : (k f : FileKind) (m r : ℕ) (v w : Why) → Precedes k m v f r w → stage_of k v ≤ stage_of f w
-  no_later k f m r v w (inl lt) = omega (arith, lt)
-  no_later k f m r v w (inr same) = omega (arith, same.0)
-
-  none_before : (k : FileKind) (m : ℕ) (v : Why) → Precedes k m v g 0 why.TooLong → stage_of k v < stage_of g why.TooLong
-  none_before k m v (inl lt) = lt
-  none_before k m v (inr (same, inl lt)) = absurd (omega (arith, lt))
-  none_before k m v (inr (same, inr (at, lt))) = absurd (omega (arith, lt))
-
-  long_refused : IsFirstOf a g 0 why.TooLong → IsFirstOf b g 0 why.TooLong
-  long_refused h = record {
-    fault = long_b;
-    first = λ k m v p q. h.first k m v p (back k m v (none_before k m v p) q);
-  }
-
-  is_long : (f : FileKind) (r : ℕ) (w : Why) → stage_of g why.TooLong ≤ stage_of f w → IsFirstOf a f r w → (f ≡ g) × (r ≡ 0) × (w ≡ why.TooLong)
-  is_long f r w le h =
-      let not_before : Precedes g 0 why.TooLong f r w → ⊥ = λ p. h.first g 0 why.TooLong p long_a in
-      let stage : stage_of g why.TooLong ≡ stage_of f w = at_most (stage_of g why.TooLong) (stage_of f w) le (λ lt. not_before (inl lt)) in
-      let row : r ≡ 0 = none r (λ lt. not_before (inr (stage, inl lt))) in
-      let rank : rank_of w ≡ 0 = none (rank_of w) (λ lt. not_before (inr (stage, inr (sym row, lt)))) in
-      let cause : w ≡ why.TooLong = rank_zero w rank in
-      (same_file f g (sym (stage ∙ ap (stage_of f) cause)), row, cause)
-    where
-      at_most : (m n : ℕ) → m ≤ n → (m < n → ⊥) → m ≡ n
-      at_most m n le not = elim (cases_lt m n) [
-        | inl lt ↦ absurd (not lt)
-        | inr ge ↦ omega (arith, le, ge)
-      ]
-
-      none : (n : ℕ) → (0 < n → ⊥) → n ≡ 0
-      none zero not = refl
-      none (suc n) not = absurd (not (omega arith))
-
-  carried_first : (f : FileKind) (r : ℕ) (w : Why) → IsFirstOf a f r w → IsFirstOf b f r w
-  carried_first f r w h = elim (cases_lt (stage_of f w) (stage_of g why.TooLong)) [
-    | inl lt ↦ record {
-      fault = to f r w lt h.fault;
-      first = λ k m v p q. h.first k m v p (back k m v (omega (arith, lt, no_later k f m r v w p)) q);
-    }
-    | inr ge ↦
-        let is = is_long f r w ge h in
-        subst (λ k. IsFirstOf b k r w) (sym is.0) (subst (λ m. IsFirstOf b g m w) (sym is.1) (subst (λ v. IsFirstOf b g 0 v) (sym is.2)
-        (long_refused (subst (λ v. IsFirstOf a g 0 v) is.2 (subst (λ m. IsFirstOf a g m w) is.1 (subst (λ k. IsFirstOf a k r w) is.0 h))))))
-  ]
 
 -- Inputs
 
@@ -121,12 +41,16 @@ refused d n x e m y (inl same) (inl also) (inl too) f r w h =
 abbrev AreAlike : Bodies → Bodies → Type 0
 AreAlike a b = Alike a.disks b.disks × Alike a.now b.now × Alike a.next b.next
 
+-- what is so of three files that are short enough is so of those that are alike
+same_three : (P : Bodies → Type 0) (a b : Bodies) → AreAlike a b → length a.disks ≤ MAX_FILE_BYTES → length a.now ≤ MAX_FILE_BYTES → length a.next ≤ MAX_FILE_BYTES → P a → P b
+same_three P a b like disks now next h =
+    let d = short_same a.disks b.disks like.0 disks in
+    let n = short_same a.now b.now like.1 now in
+    let x = short_same a.next b.next like.2 next in
+    subst P (λ i. three (d i) (n i) (x i)) h
+
 input_passes : (a b : Bodies) → AreAlike a b → (input : Lists) → Accepted a input → Accepted b input
-input_passes a b like input h =
-    let d = short_same a.disks b.disks like.0 (Accepted-short a input h Disks) in
-    let n = short_same a.now b.now like.1 (Accepted-short a input h Now) in
-    let x = short_same a.next b.next like.2 (Accepted-short a input h Next) in
-    subst (λ (c : Bodies). Accepted c input) (λ i. three (d i) (n i) (x i)) h
+input_passes a b like input h = same_three (λ c. Accepted c input) a b like (Accepted-short a input h Disks) (Accepted-short a input h Now) (Accepted-short a input h Next) h
 
 -- what holds of all that is alike holds both ways
 same_by : {X A : Type 0} (Like : X → X → Type 0) → ((a b : X) → Like a b → Like b a) → (reads : X → Step A) → ((a b : X) → Like a b → (v : A) → (reads a).Passes v → (reads b).Passes v)
@@ -145,11 +69,7 @@ inputs_by = same_by AreAlike (λ a b like. (alike_sym a.disks b.disks like.0, al
 
 -- the same where nobody asks for room: what is refused so is refused alike, and for no want of room
 tight_passes : (a b : Bodies) → AreAlike a b → (input : Lists) → AcceptedTight a input → AcceptedTight b input
-tight_passes a b like input h =
-    let d = short_same a.disks b.disks like.0 (AcceptedTight-short a input h Disks) in
-    let n = short_same a.now b.now like.1 (AcceptedTight-short a input h Now) in
-    let x = short_same a.next b.next like.2 (AcceptedTight-short a input h Next) in
-    subst (λ (c : Bodies). AcceptedTight c input) (λ i. three (d i) (n i) (x i)) h
+tight_passes a b like input h = same_three (λ c. AcceptedTight c input) a b like (AcceptedTight-short a input h Disks) (AcceptedTight-short a input h Now) (AcceptedTight-short a input h Next) h
 
 tight_refused : (a b : Bodies) → AreAlike a b → (f : FileKind) (r : ℕ) (w : Why) → RefusedTightAs a f r w → RefusedTightAs b f r w
 tight_refused a b like f r w h =
@@ -162,17 +82,6 @@ inputs Tight = inputs_by (reads_input Tight) tight_passes
     (λ a b like. refusal_stops (RefusedTightAs a) (RefusedTightAs b) (tight_refused a b like))
 
 -- Layouts
-
--- a fault in the now file comes after those in the disks file
-now_stage : (w : Why) → 1 ≤ stage_of Now w
-now_stage why.NotInNext = omega arith
-now_stage (why.NoRoom a b c) = omega arith
-now_stage _ = omega arith
-
-disks_apart : (d n m : List ℕ) (f : FileKind) (r : ℕ) (w : Why) → stage_of f w < 1 → ListingFault d n f r w → ListingFault d m f r w
-disks_apart d n m Disks r w s h = h
-disks_apart d n m Now r w s h = absurd (omega (arith, s, now_stage w))
-disks_apart d n m Next r w s h = absurd h
 
 listing_refused : (d n e m : List ℕ) → Alike d e → Alike n m → (f : FileKind) (r : ℕ) (w : Why) → ListingRefusedAs d n f r w → ListingRefusedAs e m f r w
 listing_refused d n e m (inr long) second f r w h =

@@ -1,9 +1,9 @@
 -- The lines of an audit, and how `audit` ends.
-use Rattle.mig_top.proofs.Common.{AreOfLayout, AreSightLines, Audit, AuditStops, Bool, Call, Cell, Done, Err, Extends, ExtendsInPart, Flight, FormEndsAs, HasHeader, HasPutSight, HavePutSights, IfSome}
-use Rattle.mig_top.proofs.Common.{IsAudit, IsMoving, IsSightOf, IsTargetOf, List, Lists, Looks, MatchBool, None, Option, Rose, Shows, Sight, SightStops, SinkFault, SinkState, SinkStops, Some}
-use Rattle.mig_top.proofs.Common.{State, Stop, StoreFault, StoreStops, Untouched, WorldEnds, [], append-nil, append_assoc, arith, begins_more, bytes_eq, bytes_eq-Decides, codes, false}
-use Rattle.mig_top.proofs.Common.{false≢true, flights_same, header_of, if◌then◌else◌, inl, inr, item_cell, item_name, length, puts_nothing, refl, sha256, sight_count, sight_line, subst}
-use Rattle.mig_top.proofs.Common.{suc, sym, take, then_begins, then_extends, true, zero, ℕ, ⊎_elim, ◌++◌, ◌+◌, ◌-◌, ◌<◌, ◌∙◌, ◌≡◌, ◌≤◌}
+use Rattle.mig_top.proofs.Common.{AreOfLayout, AreSightLines, Audit, AuditStops, Bool, Call, Cell, Done, Err, Extends, Flight, FormEndsAs, HasHeader, HasPutSight, HavePutSights, IfSome, IsAudit}
+use Rattle.mig_top.proofs.Common.{IsMoving, IsSightOf, IsTargetOf, List, Lists, Looks, MatchBool, None, Option, Shows, Sight, SightStops, SinkFault, SinkState, SinkStops, Some, State, Stop}
+use Rattle.mig_top.proofs.Common.{StoreFault, StoreStops, Untouched, WorldEnds, [], append-nil, append_assoc, arith, begins_more, bytes_eq, bytes_eq-Decides, false, false≢true, flights_same}
+use Rattle.mig_top.proofs.Common.{header_of, inl, inr, item_cell, item_name, length, puts_nothing, refl, sha256, sight_count, sight_line, subst, suc, sym, take, then_begins, then_extends, true, zero}
+use Rattle.mig_top.proofs.Common.{ℕ, ⊎_elim, if◌then◌else◌, ◌++◌, ◌+◌, ◌-◌, ◌<◌, ◌∙◌, ◌≡◌, ◌≤◌}
 use Rattle.mig_top.proofs.EndsOf.{shown}
 use Rattle.mig_top.specs.Ends.{FormFinishes}
 use Rattle.mig_words.specs.declared.endings.Ending.TheVariants as ending

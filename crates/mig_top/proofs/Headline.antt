@@ -6,9 +6,9 @@ use Rattle.mig_top.proofs.Common.{MAX_FILE_BYTES, Memory, Names, NoFile, None, N
 use Rattle.mig_top.proofs.Common.{Reason, Refusal, Refused, Roomy, SinkFailed, SinkFault, Some, Stands, StandsForNone, Step, StoreFault, Task, TellsStill, TooLarge, Unlisted}
 use Rattle.mig_top.proofs.Common.{Untouched, Why, WorldEnds, WritesApart, [], after, ap, arith, bound_value, checks, code, codes, drill_text, eq-eqb, file, filled_text}
 use Rattle.mig_top.proofs.Common.{finds, first, fits_drill, if◌then◌else◌, inl, inr, layout_in, length, loads_input, loads_layout, loads_plan, quotient, refl, roomy, second}
-use Rattle.mig_top.proofs.Common.{shifts_of, stands, subst, sym, take, take_all, task_in, transfers, verdict_text, ℕ, ⊎_elim, ◌++◌, ◌+◌, ◌<◌, ◌∙◌, ◌≡◌, ◌≢◌, ◌≤◌, ◌⊎◌}
+use Rattle.mig_top.proofs.Common.{not_spelled, refusal_between, shifts_of, stands, subst, sym, take, take_all, task_in, transfers, verdict_text, ℕ, ⊎_elim, ◌++◌, ◌+◌, ◌<◌, ◌∙◌, ◌≡◌, ◌≢◌, ◌≤◌, ◌⊎◌}
 use Rattle.mig_top.proofs.Plainly.{found_input, loads_there, there_loads}
-use Rattle.mig_top.proofs.EndsOf.{cause_at, done_by, ends_of, ends_so, holds_by, not_spelled, put_by, refusal_between, told_at}
+use Rattle.mig_top.proofs.EndsOf.{cause_at, done_by, ends_of, ends_so, holds_by, put_by, told_at}
 use Rattle.mig_top.proofs.Exactness.{checks_exact, comes_exactly, input_loads, is_input, layout_in_exact, task_in_exact}
 use Rattle.mig_top.proofs.StoreCommands.{fill_rest}
 use Rattle.mig_top.proofs.Auditing.{whole_audit}

@@ -1,10 +1,10 @@
 -- How `live` ends.
-use Rattle.mig_top.proofs.Common.{Adds, AreAnswers, AreOfScripted, BeginsRun, Bool, Call, Carries, Cell, Contents, Done, Err, Event, FormEndsAs, Gate, GoesOn, IfSome, Image, IsFault, IsInput}
-use Rattle.mig_top.proofs.Common.{IsJobCell, IsReached, IsResumable, IsResumeFault, IsResumeRefusal, IsSafeAfter, IsServed, IsSettled, IsSome, IsSound, IsTargetOf, Keeps, LeavesOnly, List, Live, MakesAll, MoveFault}
-use Rattle.mig_top.proofs.Common.{Names, None, Option, Order, Rose, Runs, Scripted, ServesAll, SettlesTo, Shows, SinkFault, SinkState, Some, State, StaysArmed, Step, StoreFault, Task, Tells, Untouched, WentOn}
-use Rattle.mig_top.proofs.Common.{WorldEnds, [], after, all_steps, ap, append_assoc, arith, changes_then, changes_wider, count_most, count_of, drop, false≢true, fault_outcome, finds, flights, inl, inr, is_armed}
-use Rattle.mig_top.proofs.Common.{is_one, leaves_then, left_text, length, length-append, marks_by, option_map, refl, replies, resumes, scripted_in, steps_after, steps_left, subst, sym, take, then_begins, then_extends}
-use Rattle.mig_top.proofs.Common.{true, ℕ, ⊎_elim, ◌++◌, ◌+◌, ◌-◌, ◌∙◌, ◌∷◌, ◌≡◌, ◌≤◌, ◌⊎◌}
+use Rattle.mig_top.proofs.Common.{Adds, AreAnswers, AreOfScripted, BeginsRun, Bool, Call, Contents, Done, Err, Event, FormEndsAs, Gate, GoesOn, IfSome, Image, IsFault, IsInput, IsJobCell, IsReached}
+use Rattle.mig_top.proofs.Common.{IsResumable, IsResumeFault, IsResumeRefusal, IsSafeAfter, IsServed, IsSettled, IsSome, IsSound, Keeps, LeavesOnly, List, Live, MakesAll, MoveFault, Names, None}
+use Rattle.mig_top.proofs.Common.{Option, Order, Rose, Runs, Scripted, ServesAll, SettlesTo, Shows, SinkFault, SinkState, Some, State, StaysArmed, Step, StoreFault, Task, Tells, Untouched, WentOn}
+use Rattle.mig_top.proofs.Common.{WorldEnds, [], after, all_steps, ap, append_assoc, arith, count_most, count_of, drop, fault_outcome, finds, flights, inl, inr, is_armed, left_text, length}
+use Rattle.mig_top.proofs.Common.{length-append, marks_by, option_map, refl, replies, resumes, scripted_in, steps_after, steps_left, subst, sym, take, then_begins, then_extends, true, ℕ, ⊎_elim, ◌++◌}
+use Rattle.mig_top.proofs.Common.{◌+◌, ◌-◌, ◌∙◌, ◌∷◌, ◌≡◌, ◌≤◌, ◌⊎◌}
 use Rattle.mig_base.specs.RoundEvents.{IsRun}
 use Rattle.mig_io.specs.Held.{ExtendsByPrefix}
 use Rattle.mig_lanes.proofs.RunLaws.{work_armed, work_keeps, work_stays}
@@ -17,7 +17,8 @@ use Rattle.mig_live.specs.Sessions.{InStep, Session, done_in}
 use Rattle.mig_live.specs.declared.serving.ServeFault.TheVariants as serve_fault
 use Rattle.mig_mover.specs.declared.faults.MoveFault.TheVariants as fault
 use Rattle.mig_top.proofs.EndsOf.{shown}
-use Rattle.mig_top.proofs.SessionEvents.{made_of_all, refused_events, session_events, split_events, stopped_events, whole_events, whole_landed}
+use Rattle.mig_live.proofs.LoneCopies.{made_of_all, split_events, whole_landed}
+use Rattle.mig_top.proofs.SessionEvents.{refused_events, session_events, stopped_events, whole_events}
 use Rattle.mig_top.specs.Ends.{FormFinishes}
 use Rattle.mig_words.specs.declared.endings.Ending.TheVariants as ending
 use Rattle.mig_top.proofs.StoreCommands.{rest_cause, shown_by}

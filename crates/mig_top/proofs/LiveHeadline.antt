@@ -1,10 +1,10 @@
 -- What `live` promises, from the causes of its outcomes and what it leaves.
-use Rattle.mig_top.proofs.Common.{AreOfScripted, Bool, Call, Cell, Contents, Done, EndsAs, Extends, Files, FolderFailed, Found, Gate, GoesOn, Holds, Image, IsInput, IsJobCell, IsListed, IsMoving}
-use Rattle.mig_top.proofs.Common.{IsOrNotPut, IsReadyIdle, IsServed, IsSome, IsSound, IsState, IsTargetOf, IsUntouched, LeavesOnly, List, Live, LiveLeaves, MakesAll, Names, NoCell, Order, Outcome}
-use Rattle.mig_top.proofs.Common.{Refusal, ResumesInFlight, ResumesWell, Runs, Says, Scripted, ServesAll, ServesWell, SettlesTo, SinkFailed, SinkFault, Some, State, StoreFailed, StoreFault, WentOn, WorldEnds, []}
-use Rattle.mig_top.proofs.Common.{ap, arith, changes_wider, code, count_most, count_of, events_none, flights, inl, inr, is_armed, left_text, length, refl, replies, resumes, scripted_in, steps_left, subst}
-use Rattle.mig_top.proofs.Common.{sym, take, told_kept, true, ℕ, ⊎_elim, ◌++◌, ◌∙◌, ◌≡◌, ◌⊎◌}
-use Rattle.mig_top.proofs.EndsOf.{ends_of, finding_apart, refusal_between, told_at}
+use Rattle.mig_top.proofs.Common.{AreOfScripted, Bool, Call, Cell, Contents, Done, EndsAs, Extends, Files, FolderFailed, Gate, GoesOn, Holds, Image, IsInput, IsJobCell, IsListed, IsMoving, IsOrNotPut}
+use Rattle.mig_top.proofs.Common.{IsReadyIdle, IsServed, IsSome, IsSound, IsState, IsTargetOf, IsUntouched, LeavesOnly, List, Live, LiveLeaves, MakesAll, Names, NoCell, Order, Outcome, Refusal}
+use Rattle.mig_top.proofs.Common.{ResumesInFlight, ResumesWell, Runs, Says, Scripted, ServesAll, ServesWell, SettlesTo, SinkFailed, SinkFault, Some, State, StoreFailed, StoreFault, WentOn, WorldEnds}
+use Rattle.mig_top.proofs.Common.{[], ap, arith, changes_wider, code, count_most, count_of, flights, inl, inr, is_armed, left_text, length, not_done, refl, replies, resumes, scripted_in, steps_left}
+use Rattle.mig_top.proofs.Common.{subst, take, told_kept, true, ℕ, ⊎_elim, ◌++◌, ◌∙◌, ◌≡◌, ◌⊎◌}
+use Rattle.mig_top.proofs.EndsOf.{ends_of, told_at}
 use Rattle.mig_top.proofs.Exactness.{is_scripted, scripted_exact}
 use Rattle.mig_top.proofs.LiveCommand.{live_rest}
 use Rattle.mig_top.proofs.SessionEvents.{refused_events, slots_kept, within_kept}
@@ -129,17 +129,11 @@ module _ {k : Call} {words : List (List ℕ)} {status : ℕ} (ends : EndsAs k wo
       → (status ≡ 0 → Extends text k.before.sink k.after.sink) → ServesWell k read status
   done_of text r found it h put = let (all, served) = subst (λ (s : Scripted). ServesAll s old new found × IsServed s old found text) it h in done text found all served put
 
-  neither : {n : ℕ} → status ≡ n → (n ≡ 0 → ⊥) → (n ≡ 6 → ⊥) → (status ≡ 0) ⊎ (status ≡ 6) → ⊥
-  neither at zero six (inl e) = zero (sym at ∙ e)
-  neither at zero six (inr e) = six (sym at ∙ e)
-
   well_at : (o : Outcome) → status ≡ code o → IsOrNotPut (WorldEnds k (Live names script)) k.before.sink k.after.sink o → Says k.before.sink k.after.sink o → ServesWell k read status
   well_at (Done text) at h says = let s = h.store in done_of text s.0 s.2.0 (same s.0 s.1) (s.2.1, s.2.2) (λ zero. says.done refl)
   well_at (SinkFault text) at (rose, inl h) says = let s = h.store in unput s.0 s.1 s.0.orders s.2.0 s.2.1.makes (λ zero. absurd (omega (arith, at, zero)))
   well_at (SinkFault text) at (rose, inr h) says = let s = h.store in unput s.0 s.1 (take s.2.1.whole s.0.orders) s.2.0 s.2.1.makes (λ zero. absurd (omega (arith, at, zero)))
-  well_at (Refusal r) at h says = let many = (refusal_between r).0 in undone (goes (Refusal r) h.store) (neither at (λ e. omega (arith, e, many)) (λ e. omega (arith, e, many)))
-  well_at (Found f) at h says = undone (goes (Found f) h.store) (neither at (finding_apart f).0 (finding_apart f).1)
-  well_at o at h says = undone (goes o h.store) (neither at (λ e. omega (arith, e)) (λ e. omega (arith, e)))
+  well_at o at h says = undone (goes o h.store) (not_done o tt at)
 
   pub serves_well : ServesWell k read status
   serves_well = let e = ends_of ends (Live names script) l in well_at e.outcome e.is e.so e.says

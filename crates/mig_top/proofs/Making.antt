@@ -1,7 +1,7 @@
 -- What a command that makes something promises, from the causes of its outcomes and what it leaves.
 use Rattle.mig_top.proofs.Common.{Call, CauseIn, Done, EndsAs, Extends, Files, Finding, FolderFailed, FolderFault, Form, FormCause, Found, IsBegun, IsCut, IsListed, IsOrNotPut, IsSomeAnd, List}
-use Rattle.mig_top.proofs.Common.{Lists, Memory, Outcome, Refusal, SinkFault, Some, StoreFault, Unlisted, WorldEnds, arith, code, finding_code, inl, inr, ℕ, ⊎_elim, ◌<◌, ◌∙◌, ◌≡◌, ◌≤◌, ◌⊎◌}
-use Rattle.mig_top.proofs.EndsOf.{cause_at, ends_of, ends_so, put_by, refusal_between}
+use Rattle.mig_top.proofs.Common.{Lists, Memory, Outcome, Refusal, SinkFault, Some, StoreFault, Unlisted, WorldEnds, arith, code, finding_code, inl, inr, refusal_between, ℕ, ⊎_elim, ◌<◌, ◌∙◌, ◌≡◌, ◌≤◌, ◌⊎◌}
+use Rattle.mig_top.proofs.EndsOf.{cause_at, ends_of, ends_so, put_by}
 use Rattle.mig_top.specs.Making.{MakesWell}
 
 -- the cause of each outcome where the files stand for an input: it is done, or this is wrong

@@ -1,13 +1,12 @@
 -- How `fill`, `move`, `resume` and `halt` end.
-use Rattle.mig_top.proofs.Common.{AreOfLayout, AreOfTask, Call, Carries, Cell, ChangedOnly, ChangesOnly, Contents, Done, Ending, EndsHalted, Event, Files, Fill, FolderState, Gate, Halt}
-use Rattle.mig_top.proofs.Common.{HaltSaves, HaltsAll, HaltsInPart, HasFound, HasMade, Head, IfSome, Image, IsClosingCell, IsEndOf, IsFault, IsFillFault, IsFillRefusal, IsHaltCell, IsHaltSafe}
-use Rattle.mig_top.proofs.Common.{IsLayoutSaved, IsResumable, IsResumeFault, IsResumeRefusal, IsSafe, IsSafeAt, IsSettled, IsShown, IsSome, IsSomeAnd, IsStandFault, IsStandRefusal, IsStanding}
-use Rattle.mig_top.proofs.Common.{IsStartFault, IsStartRefusal, IsStartable, IsState, IsTargetOf, KeepsHaltSafe, KeepsHalting, Lands, LeavesOnly, List, Lists, MayHalt, Move, MoveFault, MovesAll}
-use Rattle.mig_top.proofs.Common.{MovesInPart, NoCell, None, Option, OthersStay, Outcome, Resume, ResumesAll, ResumesInPart, Rose, SaveEnds, SavesLayout, Settles, Some, State, Step, Task}
-use Rattle.mig_top.proofs.Common.{TaskNames, Tells, Untouched, WasFillable, WorldEnds, WritesListed, [], after, append-nil, arith, changes_then, changes_wider, count_of, done_text, false}
-use Rattle.mig_top.proofs.Common.{false≢true, fault_outcome, filled_text, fills, finds, flights, four_and, gate_kept, halted_text, inl, inr, is_armed, journal_kept, layout_in, leaves_then}
-use Rattle.mig_top.proofs.Common.{length, outcome_of, quiet_leaves, refl, resumes, same_image, settled_reads, settles_land, settles_landed, stands, starts, subst, sym, task_in, tells_more, ℕ}
-use Rattle.mig_top.proofs.Common.{◌∙◌, ◌≡◌, ◌≤◌, ◌⊎◌}
+use Rattle.mig_top.proofs.Common.{AreOfLayout, AreOfTask, Call, Carries, Cell, ChangedOnly, ChangesOnly, Contents, Done, Ending, EndsHalted, Event, Files, Fill, FolderState, Gate, Halt, HaltSaves}
+use Rattle.mig_top.proofs.Common.{HaltsAll, HaltsInPart, HasFound, HasMade, Head, IfSome, Image, IsClosingCell, IsEndOf, IsFault, IsFillFault, IsFillRefusal, IsHaltCell, IsHaltSafe, IsLayoutSaved}
+use Rattle.mig_top.proofs.Common.{IsResumable, IsResumeFault, IsResumeRefusal, IsSafe, IsSafeAt, IsSettled, IsShown, IsSome, IsSomeAnd, IsStandFault, IsStandRefusal, IsStanding, IsStartFault}
+use Rattle.mig_top.proofs.Common.{IsStartRefusal, IsStartable, IsState, IsTargetOf, KeepsHaltSafe, KeepsHalting, Lands, LeavesOnly, List, Lists, MayHalt, Move, MoveFault, MovesAll, MovesInPart}
+use Rattle.mig_top.proofs.Common.{NoCell, None, Option, OthersStay, Outcome, Resume, ResumesAll, ResumesInPart, Rose, SaveEnds, SavesLayout, Settles, Some, State, Step, Task, TaskNames, Tells}
+use Rattle.mig_top.proofs.Common.{Untouched, WasFillable, WorldEnds, WritesListed, [], after, append-nil, arith, changes_then, changes_wider, count_of, done_text, false, false≢true, fault_outcome}
+use Rattle.mig_top.proofs.Common.{filled_text, fills, finds, flights, four_and, gate_kept, halted_text, inl, inr, is_armed, journal_kept, layout_in, leaves_then, length, outcome_of, quiet_leaves}
+use Rattle.mig_top.proofs.Common.{refl, resumes, same_image, settled_reads, settles_land, settles_landed, stands, starts, subst, sym, task_in, tells_more, ℕ, ◌∙◌, ◌≡◌, ◌≤◌, ◌⊎◌}
 use Rattle.mig_top.proofs.Steps.{if_map, lead}
 use Rattle.mig_top.proofs.StoreEnds.{settled_left}
 use Rattle.mig_base.specs.Stores.{Changes}

@@ -1,20 +1,21 @@
 -- What `move`, `resume` and `halt` promise, from the causes of their outcomes and what they leave; also where copies may be in flight.
-use Rattle.mig_top.proofs.Common.{Adds, AllMayHalt, AreFlights, AreOfTask, At, BeginsAfter, BeginsRun, Bool, Call, Carries, Cell, ChangedOnly, Contents, Disk, Done, EndsAs, Extends, Files}
-use Rattle.mig_top.proofs.Common.{FindsTask, Finishes, FolderFailed, FolderFault, Form, FormCause, FormEndsAs, Found, Gate, Halt, HaltLeaves, HaltsAll, HaltsInPart, HaltsWell, HasContents, Head}
-use Rattle.mig_top.proofs.Common.{IfSome, Image, IsArrived, IsClosingCell, IsCut, IsHaltCell, IsHalted, IsInput, IsJobCell, IsLanded, IsLayoutSaved, IsListed, IsOrNotPut, IsPermutation-refl}
-use Rattle.mig_top.proofs.Common.{IsReadyIdle, IsReadyInFlight, IsReadyOnceLanded, IsResumable, IsResumeRefusal, IsSafe, IsShown, IsSomeAnd, IsSound, IsStandRefusal, IsStartRefusal, IsState}
-use Rattle.mig_top.proofs.Common.{IsTargetOf, IsUntouched, IsUnwritten, KeepsHalting, Lands, LeavesOnly, List, Lists, MayBeHalting, MayHalt, Memory, Move, MoveLeaves, MovesWell, OthersStay}
-use Rattle.mig_top.proofs.Common.{Outcome, Refusal, Resume, ResumeLeaves, ResumesHalting, ResumesInFlight, ResumesWell, Runs, SavesLayout, Says, Settles, SettlesTo, SinkFailed, SinkFault, Slot}
-use Rattle.mig_top.proofs.Common.{Some, Spot, StartsInFlight, StartsWell, State, StaysArmed, StoreFailed, StoreFault, StoreLeaves, Task, TaskNames, Tells, TellsStill, Untouched, WorldEnds}
-use Rattle.mig_top.proofs.Common.{WroteNothing, [], ap, append-nil, arith, code, count_most, count_of, disk_at, done_text, ended, events_none, false, false≢true, flights, halted_text, idle_sound}
-use Rattle.mig_top.proofs.Common.{inl, inr, is_armed, is_one, length, map, refl, resumes, same_image, same_none, same_wider, settles_land, slot_of, stands, starts, subst, sym, task_in, true, ℕ}
-use Rattle.mig_top.proofs.Common.{⊎_elim, ◌∙◌, ◌≡◌, ◌⊎◌}
-use Rattle.mig_top.proofs.EndsOf.{done_by, ends_of, ends_so, finding_apart, holds_by, one_changed, refusal_between, told_at}
+use Rattle.mig_top.proofs.Common.{Adds, AllMayHalt, AreFlights, AreOfTask, At, BeginsAfter, BeginsRun, Bool, Call, Carries, Cell, ChangedOnly, Contents, Disk, Done, EndsAs, Extends, Files, FindsTask}
+use Rattle.mig_top.proofs.Common.{Finishes, FolderFailed, FolderFault, Form, FormCause, FormEndsAs, Gate, Halt, HaltLeaves, HaltsAll, HaltsInPart, HaltsWell, HasContents, Head, IfSome, Image}
+use Rattle.mig_top.proofs.Common.{IsArrived, IsClosingCell, IsCut, IsHaltCell, IsHalted, IsInput, IsJobCell, IsLanded, IsLayoutSaved, IsListed, IsOrNotPut, IsPermutation-refl, IsReadyIdle}
+use Rattle.mig_top.proofs.Common.{IsReadyInFlight, IsReadyOnceLanded, IsResumable, IsResumeRefusal, IsSafe, IsShown, IsSomeAnd, IsSound, IsStandRefusal, IsStartRefusal, IsState, IsTargetOf}
+use Rattle.mig_top.proofs.Common.{IsUntouched, IsUnwritten, KeepsHalting, Lands, LeavesOnly, List, Lists, MayBeHalting, MayHalt, Memory, Move, MoveLeaves, MovesWell, OthersStay, Outcome, Refusal}
+use Rattle.mig_top.proofs.Common.{Resume, ResumeLeaves, ResumesHalting, ResumesInFlight, ResumesWell, Runs, SavesLayout, Says, Settles, SettlesTo, SinkFailed, SinkFault, Slot, Some, Spot}
+use Rattle.mig_top.proofs.Common.{StartsInFlight, StartsWell, State, StaysArmed, StoreFailed, StoreFault, StoreLeaves, Task, TaskNames, Tells, TellsStill, Untouched, WorldEnds, WroteNothing, [], ap}
+use Rattle.mig_top.proofs.Common.{append-nil, arith, code, count_most, count_of, disk_at, done_text, ended, events_none, false, false≢true, flights, halted_text, idle_sound, inl, inr, is_armed}
+use Rattle.mig_top.proofs.Common.{is_one, length, map, not_done, refl, resumes, same_image, same_none, same_wider, settles_land, slot_of, stands, starts, subst, sym, task_in, true, ℕ, ⊎_elim, ◌∙◌}
+use Rattle.mig_top.proofs.Common.{◌≡◌, ◌⊎◌}
+use Rattle.mig_top.proofs.EndsOf.{done_by, ends_of, ends_so, holds_by, one_changed, told_at}
 use Rattle.mig_top.proofs.Exactness.{comes_exactly, is_task, task_in_exact}
 use Rattle.mig_top.proofs.StoreCommands.{halt_rest, move_rest, resume_rest, saved_only}
 use Rattle.mig_top.proofs.Steps.{follow, lead, only_done}
 use Rattle.mig_top.proofs.StoreEnds.{form_quiet, quiet, untouched_quiet}
-use Rattle.mig_top.proofs.StoreExact.{journal_landed, named_refused, resume_apart, start_apart, told_landed}
+use Rattle.mig_mover.proofs.LandedImages.{journal_landed, told_landed}
+use Rattle.mig_top.proofs.StoreExact.{named_refused, resume_apart, start_apart}
 use Rattle.mig_words.specs.declared.endings.StoreRefusal.TheVariants as refusal
 
 module _ (task : Task) (store : State) (valid : IsInput task.input) (runs : Runs task.input task.plan) (ready : IsReadyInFlight task store) where
@@ -335,10 +336,6 @@ module _ {k : Call} {words : List (List ℕ)} {status : ℕ} (ends : EndsAs k wo
     unwritten_end : IsUnwritten old new → IsQuiet old new
     unwritten_end = ⊎_elim (by_untouched old new law) (by_settles old new law)
 
-    neither : {n : ℕ} → status ≡ n → (n ≡ 0 → ⊥) → (n ≡ 6 → ⊥) → (status ≡ 0) ⊎ (status ≡ 6) → ⊥
-    neither at zero six (inl e) = zero (sym at ∙ e)
-    neither at zero six (inr e) = six (sym at ∙ e)
-
     unchanged_end : IsQuiet old new → Untouched k.before.folder k.after.folder → ((status ≡ 0) ⊎ (status ≡ 6) → ⊥) → HaltsWell k files task layout status
     unchanged_end q kept = quiet_end q (one_changed k.before.folder k.after.folder layout kept)
 
@@ -354,20 +351,16 @@ module _ {k : Call} {words : List (List ℕ)} {status : ℕ} (ends : EndsAs k wo
     well_at (StoreFault before) at h says = by h.store
       where
         not : (status ≡ 0) ⊎ (status ≡ 6) → ⊥
-        not = neither at (λ e. cc) (λ e. cc)
+        not = not_done (StoreFault before) tt at
 
         by : HaltLeaves k.before.folder k.after.folder old new names layout (StoreFault before) → HaltsWell k files task layout status
         by (inl quiet) = quiet_end (by_lands old new law quiet.0) h.leaves not
         by (inr w) = written_end w.0 w.1 w.2.0 (record { part = w.2.1; saves = w.2.2; whole = λ done. absurd (not done); said = λ zero. absurd (not (inl zero)) })
-    well_at FolderFault at h says = quiet_end (unwritten_end h.store) h.leaves (neither at (λ e. cc) (λ e. cc))
-    well_at Memory at h says = unchanged_end (unwritten_end h.store) h.leaves (neither at (λ e. cc) (λ e. cc))
-    well_at (Refusal refusal.NotStarted) at h says = unchanged_end (by_settles old new law h.store) h.leaves (neither at (λ e. cc) (λ e. cc))
-    well_at (Refusal (refusal.OtherPlan kept ours)) at h says = unchanged_end (by_settles old new law h.store) h.leaves (neither at (λ e. cc) (λ e. cc))
-    well_at (Refusal r) at h says =
-        let many = (refusal_between r).0 in
-        unchanged_end (by_untouched old new law h.store) h.leaves (neither at (λ e. omega (arith, e, many)) (λ e. omega (arith, e, many)))
-    well_at (Found f) at h says = unchanged_end (by_untouched old new law h.store) h.leaves (neither at (finding_apart f).0 (finding_apart f).1)
-    well_at o at h says = unchanged_end (by_untouched old new law h.store) h.leaves (neither at (λ e. omega (arith, e)) (λ e. omega (arith, e)))
+    well_at FolderFault at h says = quiet_end (unwritten_end h.store) h.leaves (not_done FolderFault tt at)
+    well_at Memory at h says = unchanged_end (unwritten_end h.store) h.leaves (not_done Memory tt at)
+    well_at (Refusal refusal.NotStarted) at h says = unchanged_end (by_settles old new law h.store) h.leaves (not_done (Refusal refusal.NotStarted) tt at)
+    well_at (Refusal (refusal.OtherPlan kept ours)) at h says = unchanged_end (by_settles old new law h.store) h.leaves (not_done (Refusal (refusal.OtherPlan kept ours)) tt at)
+    well_at o at h says = unchanged_end (by_untouched old new law h.store) h.leaves (not_done o tt at)
 
     pub halts_well : HaltsWell k files task layout status
     halts_well = let e = ends_of ends (Halt names layout) l in well_at e.outcome e.is e.so e.says

@@ -1,4 +1,3 @@
-pub mod Events
 pub mod Following
 pub mod Leaves
 pub mod Looks

@@ -1,7 +1,6 @@
 -- What `move` and `resume` find in a store, and how that ends them.
 use Rattle.std.specs.Prelude.{IsSome, List, [], codes, length, true, ℕ, ◌∷◌, ◌≡◌, ◌≤◌}
-use Rattle.mig_top.specs.Common.{AreFlights, Gate, Head, IfSome, Image, IsJobCell, IsRefusal, MoveFault, NotStarted, Shift, Started, State, Task, Tells, count_of, decimal, flights, is_armed}
-use Rattle.mig_top.specs.Common.{joined}
+use Rattle.mig_top.specs.Common.{AreFlights, Gate, Head, IfSome, Image, IsJobCell, IsRefusal, MoveFault, NotStarted, Shift, Started, State, Task, Tells, count_of, decimal, flights, is_armed, joined}
 use Rattle.mig_mover.specs.Moves.{IsReadyOnceLanded, WasReady}
 use Rattle.mig_top.specs.Steps.{Step}
 use Rattle.mig_top.specs.Stores.{IsShown}

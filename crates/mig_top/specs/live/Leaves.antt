@@ -3,14 +3,14 @@ use Rattle.std.specs.Prelude.{IsSome, List, Some, [], drop, slice_get, take, tru
 use Rattle.mig_base.specs.declared.ids.ItemId.{ItemId}
 use Rattle.mig_io.specs.Held.{ExtendsByPrefix}
 use Rattle.mig_lanes.specs.Runs.{IsPartOf}
-use Rattle.mig_live.specs.Actions.{actions_after}
+use Rattle.mig_live.specs.Actions.{Action, actions_after}
 use Rattle.mig_live.specs.Orders.{steps_of}
 use Rattle.mig_live.specs.declared.orders.Order.TheVariants.{Read}
 use Rattle.mig_top.specs.Calls.{Call}
 use Rattle.mig_top.specs.Common.{Adds, BeginsRun, Contents, Done, FolderState, Gate, IfSome, Image, IsReached, IsRun, IsSafeAfter, IsSettled, Names, Order, Outcome, Refusal, Settles}
 use Rattle.mig_top.specs.Common.{SinkFault, State, StoreFault, Task, all_steps, flights, is_armed, marks_by}
 use Rattle.mig_top.specs.carry.Leaves.{Carries}
-use Rattle.mig_top.specs.live.Events.{IsRunAndPart, lone_after, lone_copies, steps_by}
+use Rattle.mig_live.specs.Events.{IsRunAndPart, lone_after, lone_copies}
 use Rattle.mig_top.specs.live.Looks.{AreAnswers, Holds, IsServed, steps_left}
 use Rattle.mig_top.specs.live.Reads.{Scripted, scripted_in}
 use Rattle.mig_top.specs.Stores.{HasFound, IsUntouched}
@@ -34,6 +34,10 @@ pub record GoesOn (task : Task) (old new : State) (k : ℕ) : Type 0 where
   pub carries : Carries task old new
   pub found : HasFound task old k
   pub events : Adds (IsPartOf task.input.disks (flights old) (lone_after task k)) old new
+
+-- the steps that orders ask for, where so many rounds were marked before
+abbrev pub steps_by : Scripted → ℕ → List Order → List Action
+steps_by read k orders = take (all_steps orders) (actions_after read.task k)
 
 -- the steps of these orders were made, and nothing else was done
 pub record MakesAll (read : Scripted) (orders : List Order) (old new : State) (k : ℕ) : Type 0 where

@@ -2,12 +2,11 @@
 use Rattle.std.specs.Prelude.{Bool, IsSome, List, [], true, ℕ, ◌++◌, ◌≡◌, ◌⊎◌}
 use Rattle.mig_base.specs.Flights.{AreWithinLimits, IsTargetOf}
 use Rattle.mig_base.specs.Stores.{Changes}
-use Rattle.mig_base.specs.declared.cells.Cell.{Cell}
 use Rattle.mig_lanes.specs.Runs.{IsPartOf}
 use Rattle.mig_top.specs.Common.{Adds, Contents, Event, Extends, Gate, Image, IsHaltCell, IsJobCell, IsReadyIdle, IsSound, SettlesTo, State, Task, Tells, flights, is_armed, replies}
 use Rattle.mig_top.specs.Calls.{Call}
 use Rattle.mig_top.specs.carry.Promise.{IsReadyInFlight}
-use Rattle.mig_top.specs.live.Events.{lone_after}
+use Rattle.mig_live.specs.Events.{lone_after}
 use Rattle.mig_top.specs.live.Leaves.{WentOn}
 use Rattle.mig_top.specs.live.Looks.{Holds, left_text, steps_left}
 use Rattle.mig_top.specs.live.Reads.{Scripted}

@@ -1,6 +1,9 @@
 -- Words are those of one command.
-use Rattle.mig_top.proofs.Common.{After, Audit, Check, Drain, Drill, Fill, Form, Halt, List, Live, Move, Names, None, Option, Plan, PlanTight, Reader, Rehearse, Resume}
-use Rattle.mig_top.proofs.Common.{Roomy, Some, TaskNames, Tight, [], ap, bytes_eq, codes, if◌then◌else◌, refl, sym, word_by, words_of, ℕ, ◌∙◌, ◌∷◌, ◌≡◌}
+use Rattle.mig_words.proofs.Common.{Form, List, None, Option, Some, [], ap, codes, refl, sym, ℕ, ◌∙◌, ◌∷◌, ◌≡◌}
+use Rattle.mig_words.specs.Words.{After, Audit, Check, Drain, Drill, Fill, Halt, Live, Move, Names, Plan, PlanTight, Rehearse, Resume, TaskNames, word_by, words_of}
+use Rattle.mig_words.specs.declared.words.Reader.{Reader}
+use Rattle.mig_words.specs.declared.words.Reader.TheVariants.{Roomy, Tight}
+use Rattle.std.specs.Prelude.{bytes_eq, if◌then◌else◌}
 
 abbrev four : (disks now next plan : List ℕ) → Names
 four disks now next plan = record { disks = disks; now = now; next = next; plan = plan }

@@ -1,10 +1,10 @@
 -- The copies of a session.
-use Rattle.std.specs.Prelude.{List, [], drop, flat_map, map, take, ℕ, ◌++◌, ◌∷◌, ◌≡◌}
-use Rattle.mig_base.specs.RoundEvents.{flight_of}
+use Rattle.std.specs.Prelude.{List, [], drop, flat_map, map, ℕ, ◌++◌, ◌∷◌, ◌≡◌}
+use Rattle.mig_base.specs.RoundEvents.{BeginsRun, IsRun, flight_of}
+use Rattle.mig_base.specs.Tasks.{Task}
+use Rattle.mig_base.specs.declared.cells.Event.{Event}
 use Rattle.mig_base.specs.declared.cells.Flight.{Flight}
-use Rattle.mig_live.specs.Actions.{Action, Copy, actions_after}
-use Rattle.mig_top.specs.Common.{BeginsRun, Event, IsRun, Order, Task, all_steps}
-use Rattle.mig_top.specs.live.Reads.{Scripted}
+use Rattle.mig_live.specs.Actions.{Action, Copy}
 
 -- the copies of the rounds after the first k, each a round of its own
 abbrev pub lone_after : Task → ℕ → List (List Flight)
@@ -15,10 +15,6 @@ abbrev pub lone_copies : List Action → List (List Flight)
 lone_copies [] = []
 lone_copies (Copy c ∷ actions) = (c ∷ []) ∷ lone_copies actions
 lone_copies (_ ∷ actions) = lone_copies actions
-
--- the steps that orders ask for, where so many rounds were marked before
-abbrev pub steps_by : Scripted → ℕ → List Order → List Action
-steps_by read k orders = take (all_steps orders) (actions_after read.task k)
 
 -- the events of these steps, and then the first of those of others
 abbrev pub IsRunAndPart : List Flight → List Action → List Action → List Event → Type 0
