@@ -83,6 +83,10 @@ uint32_t migrate_plan_tight(const uint8_t *disks, size_t disks_len, const uint8_
 uint32_t migrate_after_tight(const uint8_t *disks, size_t disks_len, const uint8_t *now, size_t now_len, const uint8_t *next, size_t next_len,
                              const uint8_t *plan, size_t plan_len, uint8_t *text, size_t text_room, size_t *text_len);
 
+/* As migrate_after_tight, after the first `rounds` of a plan, or after all where it has no more: what `migrate halt` saves as LAYOUT there. */
+uint32_t migrate_after_rounds(const uint8_t *disks, size_t disks_len, const uint8_t *now, size_t now_len, const uint8_t *next, size_t next_len,
+                              const uint8_t *plan, size_t plan_len, uint32_t rounds, uint8_t *text, size_t text_room, size_t *text_len);
+
 /* Where the items of a disk go so that it is emptied in the fewest rounds. `name`: the disk's name, 1 to 32 letters, digits, `_`, `-` or
  * `.`. `next`: a table of next disks, to be handed to migrate_plan together with `disks` and `now`. `text`: the number of rounds and what
  * shows that no fewer are enough with status 0, and why there is no table with another one.

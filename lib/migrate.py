@@ -12,6 +12,7 @@ import ctypes
 import ctypes.util
 import itertools
 import os
+import sys
 from collections.abc import Iterable, Sequence
 from typing import NamedTuple
 
@@ -87,13 +88,13 @@ class Library:
         told: bytes = self._library.migrate_version()
         return told.decode()
 
-    def call(self, name: str, given: list[bytes], texts: int) -> tuple[int, list[bytes]]:
-        """Calls a function with these bytes, and as much room for so many texts as they need: its status, and the texts."""
+    def call(self, name: str, given: Sequence[bytes | int], texts: int) -> tuple[int, list[bytes]]:
+        """Calls a function with these bytes and numbers, and as much room for so many texts as they need: its status, and the texts."""
         function = getattr(self._library, f"migrate_{name}")
         function.restype = ctypes.c_uint32
         rooms = [256] * texts
         while True:
-            words = [word for it in given for word in (it, ctypes.c_size_t(len(it)))]
+            words = [word for it in given for word in ((it, ctypes.c_size_t(len(it))) if isinstance(it, bytes) else (ctypes.c_uint32.from_buffer_copy(it.to_bytes(4, sys.byteorder)),))]
             into = [ctypes.create_string_buffer(room) for room in rooms]
             sizes = [ctypes.c_size_t() for _ in rooms]
             for text, room, size in zip(into, rooms, sizes):
@@ -104,8 +105,8 @@ class Library:
                 return status, [text.raw[:size] for text, size in zip(into, rooms_needed)]
             rooms = [max(it) for it in zip(rooms, rooms_needed)]
 
-    def _done(self, name: str, *given: bytes, texts: int = 1) -> list[bytes]:
-        status, found = self.call(name, list(given), texts)
+    def _done(self, name: str, *given: bytes | int, texts: int = 1) -> list[bytes]:
+        status, found = self.call(name, given, texts)
         if status != 0:
             raise Error(status, NO_NAME if status == 2 else found[-1].decode(errors="replace"))
         return found
@@ -130,6 +131,10 @@ class Library:
     def after_tight(self, disks: bytes, now: bytes, next: bytes, plan: bytes) -> bytes:
         """As `after`, for plans of `plan_tight`."""
         return self._done("after_tight", disks, now, next, plan)[0]
+
+    def after_rounds(self, disks: bytes, now: bytes, next: bytes, plan: bytes, rounds: int) -> bytes:
+        """As `after_tight`, after the first rounds of a plan, or after all where it has no more."""
+        return self._done("after_rounds", disks, now, next, plan, rounds)[0]
 
     def drain(self, disks: bytes, now: bytes, name: str) -> Drain:
         """Next disks that empty the disk of this name in the fewest rounds."""

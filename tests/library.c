@@ -68,7 +68,7 @@ static void is_within(const uint8_t *at, size_t room, size_t len)
 
 /* One call: what is handed in (the three tables, a plan, a certificate, the name of a disk), the room that is given, and what came; next
  * disks stand where a plan would. */
-enum function { PLAN, CHECK, AFTER, PLAN_TIGHT, AFTER_TIGHT, DRAIN, FUNCTIONS };
+enum function { PLAN, CHECK, AFTER, PLAN_TIGHT, AFTER_TIGHT, AFTER_ROUNDS, DRAIN, FUNCTIONS };
 
 struct world {
     struct edge in[IN], plan, text;
@@ -78,7 +78,7 @@ struct call {
     enum function function;
     const uint8_t *in[IN];
     size_t in_len[IN], plan_room, text_room;
-    uint32_t status;
+    uint32_t rounds, status;
     size_t plan_len, text_len;
     const uint8_t *plan, *text;
 };
@@ -112,6 +112,9 @@ static void make(struct world *world, struct call *it)
     case AFTER:
         it->status = migrate_after(in[0], len[0], in[1], len[1], in[2], len[2], in[3], len[3], text, it->text_room, &it->text_len);
         break;
+    case AFTER_ROUNDS:
+        it->status = migrate_after_rounds(in[0], len[0], in[1], len[1], in[2], len[2], in[3], len[3], it->rounds, text, it->text_room, &it->text_len);
+        break;
     case DRAIN:
         it->status = migrate_drain(in[0], len[0], in[1], len[1], in[5], len[5], plan, it->plan_room, &it->plan_len, text, it->text_room, &it->text_len);
         break;
@@ -128,7 +131,7 @@ static void make(struct world *world, struct call *it)
     MUST(it->status != MIGRATE_TOO_SHORT || !all_fits);
     MUST(it->status == MIGRATE_DONE || it->status == MIGRATE_TOO_SHORT || it->plan_len == 0);
     static const uint64_t OTHERS[FUNCTIONS] = {[CHECK] = 1 << 1 | 1 << 10, [AFTER] = 1 << 1 | 1 << 10, [PLAN_TIGHT] = 1 << 13,
-                                               [AFTER_TIGHT] = 1 << 1 | 1 << 10, [DRAIN] = 1 << 2 | 1 << 14};
+                                               [AFTER_TIGHT] = 1 << 1 | 1 << 10, [AFTER_ROUNDS] = 1 << 1 | 1 << 10, [DRAIN] = 1 << 2 | 1 << 14};
     uint64_t may_be = 1 << 3 | 1 << 7 | OTHERS[it->function];
     MUST(it->status == MIGRATE_DONE || it->status == MIGRATE_TOO_SHORT || (it->status < 64 && (may_be >> it->status & 1)));
 }
@@ -261,17 +264,18 @@ static void random_calls(long calls, uint64_t seed)
         {"disk,limit,slots\na,2,4\nb,1,4\n", "item,disk,slot\nx,a,0\ny,a,1\nz,b,0\n", "item,disk\nx,b\ny,b\nz,a\n"},
         {"disk,out,in,slots\na,1,2,3\nb,2,1,3\nc,1,1,2\n", "item,disk,slot\nx,a,0\ny,b,1\nz,c,0\n", "item,disk\nx,b\ny,c\nz,a\n"},
         {"disk,limit,slots\na,1,1\nb,1,1\nc,1,1\n", "item,disk,slot\nx,a,0\ny,b,0\n", "item,disk\nx,b\ny,a\n"},
+        {"disk,limit,slots\na,1,1\nb,1,1\n", "item,disk,slot\nx,a,0\ny,b,0\n", "item,disk\nx,b\ny,a\n"}, /* no slot is free, so it has no plan */
     };
     struct world world = world_of(MOST);
-    struct call base[3] = {0};
-    for (int t = 0; t < 3; t++) {
+    struct call base[4] = {0};
+    for (int t = 0; t < 4; t++) {
         for (int i = 0; i < 3; i++)
             base[t].in[i] = (const uint8_t *)TABLES[t][i], base[t].in_len[i] = strlen(TABLES[t][i]);
         base[t].in[3] = base[t].in[4] = (const uint8_t *)"";
         base[t].in[5] = (const uint8_t *)(t == 1 ? "c" : "a"), base[t].in_len[5] = 1;
-        struct call plan = call_of(t == 2 ? PLAN_TIGHT : PLAN, &base[t], MOST);
+        struct call plan = call_of(t >= 2 ? PLAN_TIGHT : PLAN, &base[t], MOST);
         make(&world, &plan);
-        MUST(plan.status == MIGRATE_DONE);
+        MUST(plan.status == (t == 3 ? MIGRATE_NO_PLAN : MIGRATE_DONE));
         base[t].in[3] = kept_copy(plan.plan, plan.plan_len), base[t].in_len[3] = plan.plan_len;
         base[t].in[4] = kept_copy(plan.text, plan.text_len), base[t].in_len[4] = plan.text_len;
     }
@@ -279,14 +283,14 @@ static void random_calls(long calls, uint64_t seed)
     long counts[128] = {0};
     static uint8_t room[IN][MOST];
     for (long n = 0; n < calls; n++) {
-        struct call it = call_of((enum function)below(FUNCTIONS), &base[below(3)], 0);
+        struct call it = call_of((enum function)below(FUNCTIONS), &base[below(4)], 0);
         for (int i = 0; i < IN; i++) {
             memcpy(room[i], it.in[i], it.in_len[i]);
             if (below(IN) == 0)
                 it.in_len[i] = change(room[i], it.in_len[i], MOST);
             it.in[i] = room[i];
         }
-        it.plan_room = below(2) ? MOST : below(300), it.text_room = below(2) ? MOST : below(200);
+        it.rounds = (uint32_t)below(4), it.plan_room = below(2) ? MOST : below(300), it.text_room = below(2) ? MOST : below(200);
         make(&world, &it);
         counts[it.status]++;
     }
@@ -347,6 +351,7 @@ static void no_bytes(void)
     MUST(migrate_check(NULL, 0, NULL, 0, NULL, 0, NULL, 0, NULL, 0, NULL, 0, &other_text) == MIGRATE_REFUSED && other_text == text);
     MUST(migrate_after(NULL, 0, NULL, 0, NULL, 0, NULL, 0, NULL, 0, &other_text) == MIGRATE_REFUSED && other_text == text);
     MUST(migrate_after_tight(NULL, 0, NULL, 0, NULL, 0, NULL, 0, NULL, 0, &other_text) == MIGRATE_REFUSED && other_text == text);
+    MUST(migrate_after_rounds(NULL, 0, NULL, 0, NULL, 0, NULL, 0, 1, NULL, 0, &other_text) == MIGRATE_REFUSED && other_text == text);
     MUST(migrate_drain(NULL, 0, NULL, 0, NULL, 0, NULL, 0, &plan, NULL, 0, &text) == MIGRATE_NO_NAME && plan == 0);
     const char disks[] = "disk,limit,slots\na,1,9\nb,1,9\n", now[] = "item,disk,slot\n", next[] = "item,disk\n";
     const uint8_t *in[] = {(const uint8_t *)disks, (const uint8_t *)now, (const uint8_t *)next};

@@ -22,6 +22,7 @@ static void *of_plan(void *at) { status = migrate_plan(INPUT, plan, MOST, &plan_
 static void *of_check(void *at) { status = migrate_check(INPUT, plan, plan_len, cert, cert_len, text, MOST, &text_len); return at; }
 static void *of_after(void *at) { status = migrate_after(INPUT, plan, plan_len, text, MOST, &text_len); return at; }
 static void *of_after_tight(void *at) { status = migrate_after_tight(INPUT, plan, plan_len, text, MOST, &text_len); return at; }
+static void *of_after_rounds(void *at) { status = migrate_after_rounds(INPUT, plan, plan_len, 1, text, MOST, &text_len); return at; }
 static void *of_drain(void *at) { status = migrate_drain(in[0], len[0], in[1], len[1], (const uint8_t *)disk, strlen(disk), text, MOST, &text_len, cert, MOST, &cert_len); return at; }
 static void *of_plan_tight(void *at) { status = migrate_plan_tight(INPUT, plan, MOST, &plan_len, text, MOST, &text_len); return at; }
 
@@ -118,6 +119,7 @@ int main(int words_count, char **words)
     measure("check", of_check, NULL, 100 << 10, 128 << 10);
     measure("after", of_after, NULL, 100 << 10, 128 << 10);
     measure("after_tight", of_after_tight, NULL, 100 << 10, 128 << 10);
+    measure("after_rounds", of_after_rounds, NULL, 100 << 10, 128 << 10);
     measure("plan_tight", of_plan_tight, NULL, 100 << 10, 128 << 10);
     measure("drain", of_drain, NULL, 100 << 10, 128 << 10);
     measure("plan_numbers", of_numbers, NULL, 16 << 10, 32 << 10);

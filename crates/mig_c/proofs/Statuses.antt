@@ -1,6 +1,6 @@
 -- Which statuses the calls have.
-use Rattle.mig_c.proofs.Common.{Blamed, Bodies, Found, HandsBoth, HandsText, LayoutBodies, List, NoDisk, NoFreeSlot, NoRoom, NotSpelled, Outcome, PlanBodies, Reader, Refused, Slice, TOO_SHORT}
-use Rattle.mig_c.proofs.Common.{TooMany, Unlisted, code, drains_bytes, inl, inr, lays_out_bytes, plans_bytes, plans_tight_bytes, reads_verdict, refl, ℕ, ◌≡◌, ◌⊎◌}
+use Rattle.mig_c.proofs.Common.{Blamed, Bodies, Found, HandsBoth, HandsText, LayoutBodies, List, NoDisk, NoFreeSlot, NoRoom, NotSpelled, Option, Outcome, PlanBodies, Reader, Refused, Slice, TOO_SHORT}
+use Rattle.mig_c.proofs.Common.{TooMany, Unlisted, code, drains_bytes, inl, inr, lays_out_after, plans_bytes, plans_tight_bytes, reads_verdict, refl, ℕ, ◌≡◌, ◌⊎◌}
 use Rattle.mig_c.proofs.HandedBack.{plan_answers, text_answers}
 use Rattle.mig_words.specs.declared.endings.TextFile.TheVariants as text_file
 
@@ -72,17 +72,17 @@ check_stops bytes cert (Found (Blamed b name)) (inr (input, read, inr (rounds, p
 check_stops bytes cert (Found f) (inr (input, read, inr (rounds, plan, inr (certificate, spelled, h)))) = absurd h
 check_stops bytes cert _ (inr (input, read, inr (rounds, plan, inr (certificate, spelled, h)))) = absurd h
 
-after_stops : (reader : Reader) (bytes : PlanBodies) (o : Outcome) → (lays_out_bytes reader bytes).Stops o → IsJudgeStatus (code o)
-after_stops reader bytes (Found (Refused f n w)) (inl h) = refused
-after_stops reader bytes (Found f) (inl h) = absurd h
-after_stops reader bytes _ (inl h) = absurd h
-after_stops reader bytes (Found (NotSpelled text_file.Plan line)) (inr (input, read, inl h)) = not_spelled
-after_stops reader bytes (Found f) (inr (input, read, inl h)) = absurd h
-after_stops reader bytes _ (inr (input, read, inl h)) = absurd h
-after_stops reader bytes (Found (Blamed b name)) (inr (input, read, inr (rounds, plan, inl h))) = blamed
-after_stops reader bytes (Found f) (inr (input, read, inr (rounds, plan, inl h))) = absurd h
-after_stops reader bytes _ (inr (input, read, inr (rounds, plan, inl h))) = absurd h
-after_stops reader bytes o (inr (input, read, inr (rounds, plan, inr (u, ran, none)))) = absurd none
+after_stops : (k : Option ℕ) (reader : Reader) (bytes : PlanBodies) (o : Outcome) → (lays_out_after k reader bytes).Stops o → IsJudgeStatus (code o)
+after_stops k reader bytes (Found (Refused f n w)) (inl h) = refused
+after_stops k reader bytes (Found f) (inl h) = absurd h
+after_stops k reader bytes _ (inl h) = absurd h
+after_stops k reader bytes (Found (NotSpelled text_file.Plan line)) (inr (input, read, inl h)) = not_spelled
+after_stops k reader bytes (Found f) (inr (input, read, inl h)) = absurd h
+after_stops k reader bytes _ (inr (input, read, inl h)) = absurd h
+after_stops k reader bytes (Found (Blamed b name)) (inr (input, read, inr (rounds, plan, inl h))) = blamed
+after_stops k reader bytes (Found f) (inr (input, read, inr (rounds, plan, inl h))) = absurd h
+after_stops k reader bytes _ (inr (input, read, inr (rounds, plan, inl h))) = absurd h
+after_stops k reader bytes o (inr (input, read, inr (rounds, plan, inr (u, ran, none)))) = absurd none
 
 pub plan_statuses : {bytes : Bodies} {plan text : Slice} {result : ℕ} → HandsBoth (plans_bytes bytes) plan text result → IsPlanStatus result
 plan_statuses {bytes = bytes} h = plan_answers IsPlanStatus h (inl refl) (inr (inr (inr refl))) (inr (inr (inl refl))) (plan_stops bytes)
@@ -96,5 +96,5 @@ drain_statuses {bytes = bytes} {name = name} h = plan_answers IsDrainStatus h (i
 pub check_statuses : {bytes : PlanBodies} {cert : List ℕ} {text : Slice} {result : ℕ} → HandsText (reads_verdict bytes cert) text result → IsJudgeStatus result
 check_statuses {bytes = bytes} {cert = cert} h = text_answers IsJudgeStatus h (inl refl) (inr (inr (inr (inr (inr refl))))) (inr (inr (inr (inl refl)))) (check_stops bytes cert)
 
-pub after_statuses : (reader : Reader) (bytes : PlanBodies) {text : Slice} {result : ℕ} → HandsText (lays_out_bytes reader bytes) text result → IsJudgeStatus result
-after_statuses reader bytes h = text_answers IsJudgeStatus h (inl refl) (inr (inr (inr (inr (inr refl))))) (inr (inr (inr (inl refl)))) (after_stops reader bytes)
+pub after_statuses : (k : Option ℕ) (reader : Reader) (bytes : PlanBodies) {text : Slice} {result : ℕ} → HandsText (lays_out_after k reader bytes) text result → IsJudgeStatus result
+after_statuses k reader bytes h = text_answers IsJudgeStatus h (inl refl) (inr (inr (inr (inr (inr refl))))) (inr (inr (inr (inl refl)))) (after_stops k reader bytes)
