@@ -3,7 +3,7 @@ import itertools, os, resource, stat
 from session_cells import SLOT, cell
 from session_inputs import DISKS, PLAN_TEXT, put
 from session_rooms import Count, Ran, Room, says
-from damage_rooms import LAYOUT, LEFT, WORDS, Store, ended_well, example, ring, stages
+from damage_rooms import LAYOUT, LEFT, WORDS, Store, ended_well, example, ring, spread, stages
 from damages import JOURNAL, wanted
 from waiting import ended
 
@@ -20,6 +20,20 @@ def few_files(program):
                 ended_well(store, what, command, outcome)
 
 
+def made_at_few_files(program):
+    """More disks are made than files may be open at once: none of them is taken for another process's."""
+    with Room(program) as room:
+        store = Store(room, spread(20))
+        image = store.case.image(next(stages(store.case))[0])
+        for most in (10, 16, 24):
+            store.put(image)
+            for n in range(20):
+                store.link(f"d{n}", None)
+            what = f"move to new disks, at most {most} open files"
+            Count.ended(what, store.run("move", limits=[(resource.RLIMIT_NOFILE, most)]), 0, "done 1 rounds, found 0\n")
+            Count.same(f"{what}: each item is there", [store.room.read(f"d{n}.disk") for n in range(20)], [cell(f"i{n}") for n in range(20)])
+
+
 def last_files(program):
     """More disks than files that may be open at once: the store leaves two to others, by which LAYOUT is looked at. One that holds no text stays."""
     with Room(program) as room:
@@ -29,7 +43,9 @@ def last_files(program):
                 store.put(store.case.image(count))
                 store.write(LAYOUT, LEFT)
                 what = f"at most 12 open files, {stage}: halt with a layout that holds no text"
-                Count.ended(what, store.run("halt", limits=[(resource.RLIMIT_NOFILE, 12)]), 4, "folder fault\n")
+                ran = store.run("halt", limits=[(resource.RLIMIT_NOFILE, 12)])
+                Count.ended(what, ran, 4, "folder fault\n")
+                Count.that(f"{what}: why is said", says(ran, "is no text"), ran)
                 Count.same(f"{what}: it stays", room.read(LAYOUT), LEFT)
 
 

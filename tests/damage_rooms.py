@@ -63,6 +63,12 @@ def ring(count):
                 " ".join(f"{item},{target}" for item, _, _, target in spots), ["; ".join(f"{item} {disk} {slot} {target} 2" for item, disk, slot, target in spots)])
 
 
+def spread(count):
+    """A disk with so many items, each of which goes to a disk of its own."""
+    return case(f"a,{count},{count} " + " ".join(f"d{n},1,1" for n in range(count)), " ".join(f"i{n},a,{n}" for n in range(count)),
+                " ".join(f"i{n},d{n}" for n in range(count)), ["; ".join(f"i{n} a {n} d{n} 0" for n in range(count))])
+
+
 def stages(case):
     """After how many of a move's writes the store is looked at, and what that is: before and after the gate, and for each round the copies,
     the mark, a part of the erasures and all of them."""
