@@ -143,6 +143,9 @@ impl Seen {
         ensures failed { OnErr result (seen_at self.new slot.now ≡ None) }
         ensures others { KeepsSeen self.old self.new slot.now }
     {
+        if item_at(&self.slots, slot) == Some(*item) {
+            return Ok(());
+        }
         forget_at(&mut self.slots, &mut self.counts, slot);
         note_at(&mut self.slots, &mut self.counts, slot, item)
     }
