@@ -12,11 +12,12 @@ use std::alloc::Global;
 use std::fs::File;
 use std::rt::Files;
 
-/// The calls over this runtime's files. They tell nothing but how many failed or were not made. What failed, and why, is said on standard error.
+/// The calls over this runtime's files. They tell nothing but how many failed or were not made, and how often the store refused. What failed, and why, is said on standard error.
 pub struct HostCalls<'a, R: Files<File = File> + Eprint> {
     rt: &'a R,
     files: HostFiles,
     faults: u64,
+    refused: u64,
     unmade: u64,
 }
 
@@ -26,6 +27,7 @@ impl<'a, R: Files<File = File> + Eprint> Drop for HostCalls<'a, R> {
             rt: _,
             files,
             faults: _,
+            refused: _,
             unmade: _,
         } = self;
         drop(files);
@@ -44,15 +46,17 @@ impl<'a, R: Files<File = File> + Eprint> HostCalls<'a, R> {
             rt,
             files: HostFiles::new(alloc),
             faults: 0,
+            refused: 0,
             unmade: 0,
         }
     }
 
     /// Counts a call that failed, and says why. One that may be made again is counted apart, and not told.
     fn counted(&mut self, failure: Failure) -> CallError
-        ensures cause { IsCallCause (host_state self.old.faults self.old.unmade) (host_state self.new.faults self.new.unmade) result }
+        ensures cause { IsCallCause (host_state self.old.faults self.old.refused self.old.unmade) (host_state self.new.faults self.new.refused self.new.unmade) result }
         ensures later { self.old.faults ≤ self.new.faults }
         ensures more { self.old.unmade ≤ self.new.unmade }
+        ensures refused { self.new.refused ≡ self.old.refused }
     {
         if failure.is_interruption() {
             self.unmade = self.unmade.saturating_add(1);
@@ -69,7 +73,8 @@ impl<'a, R: Files<File = File> + Eprint> HostCalls<'a, R> {
 
     /// What a call gave; where it failed, that is counted.
     fn answer<T>(&mut self, made: Result<T, Failure>) -> Result<T, CallError>
-        ensures { HasCallCause (host_state self.old.faults self.old.unmade) (host_state self.new.faults self.new.unmade) result }
+        ensures refused { self.new.refused ≡ self.old.refused }
+        ensures cause { HasCallCause (host_state self.old.faults self.old.refused self.old.unmade) (host_state self.new.faults self.new.refused self.new.unmade) result }
     {
         match made {
             Ok(given) => Ok(given),
@@ -79,9 +84,9 @@ impl<'a, R: Files<File = File> + Eprint> HostCalls<'a, R> {
 }
 
 impl<'a, R: Files<File = File> + Eprint> Calls for HostCalls<'a, R> {
-    ghost state = { λ h. host_state h.faults h.unmade };
+    ghost state = { λ h. host_state h.faults h.refused h.unmade };
 
-    ghost is_state = { λ h. host_is_state h.faults h.unmade };
+    ghost is_state = { λ h. host_is_state h.faults h.refused h.unmade };
 
     fn claim(&mut self) -> Result<(), CallError> {
         let made = self.files.claim(self.rt);
@@ -138,6 +143,10 @@ impl<'a, R: Files<File = File> + Eprint> Calls for HostCalls<'a, R> {
 
     fn refuse(&mut self, why: &Refusal) {
         let _ = eprintln!(self.rt; "migrate: {}", Told(why));
+        if why.is_found() {
+            self.refused = self.refused.saturating_add(1);
+            return;
+        }
         self.faults = self.faults.saturating_add(1);
     }
 }

@@ -18,8 +18,8 @@ pub returns-in-Ok-clause-change : goal.returns-in-Ok-clause-change
 returns-in-Ok-clause-change c =
     change_then c.open.ensures.look
     (either c.change.result c.change.ensures.done c.change.ensures.nothing
-    (λ is. synced_look c.open.new.self c.change.new.self c.args.place.now is)
-    (λ is. kept_change NoByte c.open.new.self c.change.new.self is))
+    (λ is. synced_look c.open.new.self c.change.new.self c.args.place.now is c.change.ensures.refused)
+    (λ is. kept_change NoByte c.open.new.self c.change.new.self is c.change.ensures.refused))
 
 pub returns-in-Err-Failed-clause-flags : goal.returns-in-Err-Failed-clause-flags
 returns-in-Err-Failed-clause-flags c = touches_of c.args.place.now (c.lose.ensures.claimed ∙ c.open.ensures.claimed) (c.lose.ensures.flushed ∙ c.open.ensures.flags.flushed)
