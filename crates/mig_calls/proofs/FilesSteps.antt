@@ -18,6 +18,7 @@ module _ {P : Place → ℕ → Type 0} {a b c : FilesState} (first : FilesChang
     bytes = λ place i out. second.bytes place i out ∙ first.bytes place i out;
     crash = λ files left. back_two files (second.crash files left);
     later = omega (arith, first.later, second.later);
+    refused = omega (arith, first.refused, second.refused);
     since = λ t files le left. since_two t files le (second.since t files (omega (arith, first.later)) left);
     keeps = λ t files le left. second.keeps t files (omega (arith, first.later)) (first.keeps t files le left);
     images = λ was. second.images (first.images was);
@@ -30,6 +31,7 @@ change_within {P} {Q} {a} {b} within change = record {
   bytes = λ place i out. change.bytes place i (λ is. out (within place i is));
   crash = λ files left. more files (change.crash files left);
   later = change.later;
+  refused = change.refused;
   since = λ t files le left. elim (change.since t files le left) [
     | inl was ↦ inl was
     | inr now ↦ inr (more files now)

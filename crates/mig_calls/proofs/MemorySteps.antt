@@ -8,12 +8,13 @@ use Rattle.mig_calls.proofs.PlaceTests.{is_place-true, is_place-itself, is_place
 use Rattle.mig_calls.proofs.Disks.{after-push}
 
 -- nothing was done
-pub kept_change : (P : Place → ℕ → Type 0) (x y : Memory) → y.steps ≡ x.steps → FilesChange P P (mem_state x) (mem_state y)
-kept_change P x y same = subst (λ (l : List Step). FilesChange P P (mem_state x) (mem_state (record y { steps = l }))) (sym same) (record {
+pub kept_change : (P : Place → ℕ → Type 0) (x y : Memory) → y.steps ≡ x.steps → x.refused ≤ y.refused → FilesChange P P (mem_state x) (mem_state y)
+kept_change P x y same refused = subst (λ (l : List Step). FilesChange P P (mem_state x) (mem_state (record y { steps = l }))) (sym same) (record {
   told = refl;
   bytes = λ p i out. refl;
   crash = λ files left. (files, left, λ p i out. refl);
   later = omega arith;
+  refused = refused;
   since = λ t files le left. inl left;
   keeps = λ t files le left. left;
   images = λ was p. inl (λ i calm. refl);
@@ -29,9 +30,9 @@ kept_flags x y same claimed usable = record {
   flushed = λ j place. ((after (same j)).files place).flushed;
 }
 
-pub kept_at : (P : Place → ℕ → Type 0) (x : Memory) (steps : List Step) (faults unmade : ℕ) (claimed usable : Bool) → steps ≡ x.steps
-    → FilesChange P P (mem_state x) (mem_state (record { steps = steps; faults = faults; unmade = unmade; claimed = claimed; usable = usable }))
-kept_at P x steps faults unmade claimed usable = kept_change P x (record { steps = steps; faults = faults; unmade = unmade; claimed = claimed; usable = usable })
+pub kept_at : (P : Place → ℕ → Type 0) (x : Memory) (steps : List Step) (faults refused unmade : ℕ) (claimed usable : Bool) → steps ≡ x.steps → x.refused ≤ refused
+    → FilesChange P P (mem_state x) (mem_state (record { steps = steps; faults = faults; refused = refused; unmade = unmade; claimed = claimed; usable = usable }))
+kept_at P x steps faults refused unmade claimed usable = kept_change P x (record { steps = steps; faults = faults; refused = refused; unmade = unmade; claimed = claimed; usable = usable })
 
 -- a step was made
 module _ (P : Place → ℕ → Type 0) (x y : Memory) (step : Step) (told : SameFilesBut P (reads_of (after x.steps)) (reads_of (after_step (after x.steps) step)))
@@ -45,12 +46,13 @@ module _ (P : Place → ℕ → Type 0) (x y : Memory) (step : Step) (told : Sam
       (subst (λ (l : List Step). MayLeave (after l) files) (take_all left.0 (x.steps ++ step ∷ []) (omega (arith, length-append x.steps (step ∷ [])))) left.3))
   since t files left (inr within) = inl (left.0, left.1, within, subst (λ (l : List Step). MayLeave (after l) files) (take-append-le left.0 x.steps (step ∷ []) within) left.3)
 
-  pub stepped : y.steps ≡ x.steps ++ step ∷ [] → FilesChange P P (mem_state x) (mem_state y)
-  stepped pushed = subst (λ (l : List Step). FilesChange P P (mem_state x) (mem_state (record y { steps = l }))) (sym pushed) (record {
+  pub stepped : y.steps ≡ x.steps ++ step ∷ [] → x.refused ≤ y.refused → FilesChange P P (mem_state x) (mem_state y)
+  stepped pushed refused = subst (λ (l : List Step). FilesChange P P (mem_state x) (mem_state (record y { steps = l }))) (sym pushed) (record {
     told = refl;
     bytes = subst (λ (m : Moment). SameFilesBut P (reads_of (after x.steps)) (reads_of m)) (sym (after-push x.steps step)) told;
     crash = crash_pushed;
     later = omega (arith, length-append x.steps (step ∷ []));
+    refused = refused;
     since = λ t files le left. since t files left (cases_lt (length x.steps) left.0);
     keeps = λ t files le left. (
       left.0,
@@ -98,7 +100,7 @@ module _ (P : Place → ℕ → Type 0) (m : Moment) (place : Place) (change : C
     change_crash : (before : Files) × MayLeave m before × SameFilesBut P before files
     change_crash = (back, back_left, back_others)
 
-  pub changed_step : (x y : Memory) → after x.steps ≡ m → y.steps ≡ x.steps ++ Changed place change ∷ [] → FilesChange P P (mem_state x) (mem_state y)
+  pub changed_step : (x y : Memory) → after x.steps ≡ m → y.steps ≡ x.steps ++ Changed place change ∷ [] → x.refused ≤ y.refused → FilesChange P P (mem_state x) (mem_state y)
   changed_step x y is = stepped P x y (Changed place change)
       (subst (λ (n : Moment). SameFilesBut P (reads_of n) (reads_of (after_step n (Changed place change)))) (sym is) change_told)
       (subst (λ (n : Moment). (files : Files) → MayLeave (after_step n (Changed place change)) files → (before : Files) × MayLeave n before × SameFilesBut P before files) (sym is) change_crash)
@@ -109,14 +111,14 @@ module _ (x y : Memory) (place : Place) where
   abbrev m : Moment
   m = after x.steps
 
-  pub made_look : y.steps ≡ x.steps ++ Changed place Made ∷ [] → FilesLook (mem_state x) (mem_state y)
+  pub made_look : y.steps ≡ x.steps ++ Changed place Made ∷ [] → x.refused ≤ y.refused → FilesLook (mem_state x) (mem_state y)
   made_look = changed_step NoByte m place Made (λ i out. refl) (λ bytes fits. (bytes, one fits, λ i out. refl)) x y refl
     where
       one : {bytes : ℕ → ℕ} → MayHold (changed Made (m.files place)) bytes → MayHold (m.files place) bytes
       one (inl fits) = inl fits
       one (inr fits) = fits
 
-  pub synced_look : y.steps ≡ x.steps ++ Changed place Synced ∷ [] → FilesLook (mem_state x) (mem_state y)
+  pub synced_look : y.steps ≡ x.steps ++ Changed place Synced ∷ [] → x.refused ≤ y.refused → FilesLook (mem_state x) (mem_state y)
   synced_look = changed_step NoByte m place Synced (λ i out. refl) (λ bytes fits. (bytes, one bytes fits, λ i out. refl)) x y refl
     where
       one : (bytes : ℕ → ℕ) → MayHold (changed Synced (m.files place)) bytes → MayHold (m.files place) bytes
@@ -172,13 +174,13 @@ module _ (x y : Memory) (place : Place) (at n : ℕ) (values : List ℕ) (few : 
   wrote_back bytes (inr fits) = (bytes, inr fits, λ i out. refl)
   wrote_back bytes (inl fits) = (settled_back bytes, inl (settled_fits bytes fits), λ i out. sym (cond-false _ _ _ (covers_within at values file.now place n i few out)))
 
-  pub wrote_change : y.steps ≡ x.steps ++ Changed place (Wrote at values) ∷ [] → FilesWrite place at n (mem_state x) (mem_state y)
+  pub wrote_change : y.steps ≡ x.steps ++ Changed place (Wrote at values) ∷ [] → x.refused ≤ y.refused → FilesWrite place at n (mem_state x) (mem_state y)
   wrote_change = changed_step (IsWithin place at n) (after x.steps) place (Wrote at values)
       (λ i out. ap (λ (b : Byte). b.shown) (written_out at values file.now i (covers_within at values file.now place n i few out)))
       wrote_back x y refl
 
 -- names that were brought to the device
-pub named_look : (x y : Memory) → y.steps ≡ x.steps ++ Named ∷ [] → FilesLook (mem_state x) (mem_state y)
+pub named_look : (x y : Memory) → y.steps ≡ x.steps ++ Named ∷ [] → x.refused ≤ y.refused → FilesLook (mem_state x) (mem_state y)
 named_look x y = stepped NoByte x y Named (λ p i out. refl)
     (λ files left. (files, (λ p. one ((after x.steps).files p) (files p) (left p)), λ p i out. refl))
   where
@@ -186,9 +188,9 @@ named_look x y = stepped NoByte x y Named (λ p i out. refl)
     one f bytes (inl fits) = inl fits
     one f bytes (inr none) = absurd none
 
-pub named_at : (x : Memory) (steps : List Step) (faults unmade : ℕ) (claimed usable : Bool) → steps ≡ x.steps ++ Named ∷ []
-    → FilesLook (mem_state x) (mem_state (record { steps = steps; faults = faults; unmade = unmade; claimed = claimed; usable = usable }))
-named_at x steps faults unmade claimed usable = named_look x (record { steps = steps; faults = faults; unmade = unmade; claimed = claimed; usable = usable })
+pub named_at : (x : Memory) (steps : List Step) (faults refused unmade : ℕ) (claimed usable : Bool) → steps ≡ x.steps ++ Named ∷ [] → x.refused ≤ refused
+    → FilesLook (mem_state x) (mem_state (record { steps = steps; faults = faults; refused = refused; unmade = unmade; claimed = claimed; usable = usable }))
+named_at x steps faults refused unmade claimed usable = named_look x (record { steps = steps; faults = faults; refused = refused; unmade = unmade; claimed = claimed; usable = usable })
 
 -- What is known of each file after a change of one
 module _ (x y : Memory) (place : Place) (change : Change) (pushed : y.steps ≡ x.steps ++ Changed place change ∷ []) where
@@ -215,5 +217,5 @@ module _ (x y : Memory) (place : Place) (at : ℕ) (values : List ℕ) (pushed :
   pub wrote_has : (given : List ℕ) → values ≡ given → HasBytes (reads_of (after y.steps) place) at (length given) given
   wrote_has given same = subst (λ (l : List ℕ). HasBytes (reads_of (after y.steps) place) at (length l) l) same has_own
 
-  pub wrote_given : (given : List ℕ) → values ≡ given → FilesWrite place at (length given) (mem_state x) (mem_state y)
-  wrote_given given same = wrote_change x y place at (length given) values (omega (arith, ap length same)) pushed
+  pub wrote_given : (given : List ℕ) → values ≡ given → x.refused ≤ y.refused → FilesWrite place at (length given) (mem_state x) (mem_state y)
+  wrote_given given same refused = wrote_change x y place at (length given) values (omega (arith, ap length same)) pushed refused

@@ -36,8 +36,10 @@ pub record FilesState : Type 1 where
   pub moment : ℕ
   -- whether a crash at some moment from this one on, inside calls too, might have left these files
   pub left_since : ℕ → Files → Type 0
-  -- how often a call has failed, or the store refused
+  -- how often a call has failed, or the store gave up
   pub faults : ℕ
+  -- how often the store refused for what it found
+  pub refused : ℕ
   -- how often a call was not made, and might be made again
   pub unmade : ℕ
   -- this process may write, and no other
@@ -76,6 +78,7 @@ pub record FilesChange (P Q : Place → ℕ → Type 0) (old new : FilesState) :
   pub bytes : SameFilesBut P old.reads new.reads
   pub crash : (files : Files) → new.may_leave files → IsLeftFilesBut Q old files
   pub later : old.moment ≤ new.moment
+  pub refused : old.refused ≤ new.refused
   pub since : (t : ℕ) (files : Files) → t ≤ old.moment → new.left_since t files → old.left_since t files ⊎ IsLeftFilesBut Q old files
   pub keeps : (t : ℕ) (files : Files) → t ≤ old.moment → old.left_since t files → new.left_since t files
   -- what a crash may leave goes on being told

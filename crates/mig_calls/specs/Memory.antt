@@ -68,8 +68,10 @@ pub record IsDisk (steps : List Step) (table : List Place) (seen : List Seen) : 
 -- Files in memory, as contracts see them.
 pub record Memory : Type 0 where
   pub steps : List Step
-  -- how often a call has failed, or the store refused
+  -- how often a call has failed, or the store gave up
   pub faults : ℕ
+  -- how often the store refused for what it found
+  pub refused : ℕ
   -- how often a call was not made, and might be made again
   pub unmade : ℕ
   -- this process has claimed the right to write
@@ -86,6 +88,7 @@ mem_state m = record {
   moment = length m.steps;
   left_since = LeftSince m.steps;
   faults = m.faults;
+  refused = m.refused;
   unmade = m.unmade;
   claimed = m.claimed && m.usable;
   named = (after m.steps).named;

@@ -1,5 +1,5 @@
--- When a store over files may refuse what no call failed at.
-use Rattle.std.specs.Prelude.{◌+◌, ◌^◌, ◌<◌, ◌≤◌, ℕ, ⊤, IsTrue, List}
+-- When a store over files may refuse what no call failed at, and how that is counted.
+use Rattle.std.specs.Prelude.{◌≡◌, ◌+◌, ◌^◌, ◌<◌, ◌≤◌, ℕ, ⊤, Bool, true, false, IsTrue, List, if◌then◌else◌}
 use Rattle.mig_base.specs.declared.cells.Cell.{Cell}
 use Rattle.mig_base.specs.Cells.{cell_len}
 use Rattle.mig_base.specs.Naming.{IsName}
@@ -33,3 +33,14 @@ IsRefusalCause s (NoDisk slot item) = WhereTold s slot (EndsAt (s.reads (file_of
 IsRefusalCause s (Cut slot item) = WhereTold s slot (EndsBefore s slot)
 IsRefusalCause s (NoItem slot) = (item : List ℕ) → IsName item → WhereTold s slot (¬ HoldsItem s slot item)
 IsRefusalCause s (Held slot item) = WhereTold s slot (HoldsItem s slot item)
+
+-- whether it refuses for what it found, and not for want of memory or of a call that is made
+abbrev pub is_found : Refusal → Bool
+is_found (Memory place) = false
+is_found (Interrupted place) = false
+is_found (Full place) = false
+is_found why = true
+
+-- the count in which it counts
+abbrev pub counted : Refusal → FilesState → ℕ
+counted why s = if is_found why then s.refused else s.faults

@@ -2,7 +2,7 @@
 ghost use Rattle.std.specs.Prelude.{◌≡◌, ◌≤◌, ◌<◌, ℕ, IsTrue, IsFalse, IfOk, OnOk, length};
 ghost use Rattle.mig_base.specs.FaultCounts.{Rose};
 ghost use Rattle.mig_calls.specs.Files.{FilesState, IsFilesState, FilesLook, FilesWrite, KeepsFlags, KeepsRights, TouchesFile, HasBytes, EndsAt, len_of, HasCallCause, StaysUsable};
-ghost use Rattle.mig_calls.specs.Refusals.{IsRefusalCause};
+ghost use Rattle.mig_calls.specs.Refusals.{IsRefusalCause, counted, is_found};
 
 use crate::places::Place;
 use crate::refusals::Refusal;
@@ -121,12 +121,13 @@ pub trait Calls {
         ensures later { (state self.old).faults ≤ (state self.new).faults }
         ensures more { (state self.old).unmade ≤ (state self.new).unmade };
 
-    /// Counts that the store refuses, and says why to whom it may concern. It needs a cause.
+    /// Counts that the store refuses, and says why to whom it may concern. It needs a cause. What the store found is no fault of a call.
     fn refuse(&mut self, why: &Refusal)
         requires { IsRefusalCause (state self.old) why.now }
         ensures flags { KeepsFlags (state self.old) (state self.new) }
         ensures change { FilesLook (state self.old) (state self.new) }
-        ensures rose { Rose (state self.old).faults (state self.new).faults }
+        ensures rose { Rose (counted why.now (state self.old)) (counted why.now (state self.new)) }
+        ensures found { IsTrue (is_found why.now) → (state self.new).faults ≡ (state self.old).faults }
         ensures later { (state self.old).faults ≤ (state self.new).faults }
         ensures more { (state self.old).unmade ≤ (state self.new).unmade };
 

@@ -31,6 +31,7 @@ pub struct MemCalls {
     /// How many calls were made.
     number: u64,
     faults: u64,
+    refused: u64,
     unmade: u64,
     claimed: bool,
     usable: bool,
@@ -45,6 +46,7 @@ impl Drop for MemCalls {
             trouble: _trouble,
             number: _,
             faults: _,
+            refused: _,
             unmade: _,
             claimed: _,
             usable: _,
@@ -57,13 +59,13 @@ impl Model for MemCalls {
 
     ghost Value = { Memory };
 
-    ghost view = { λ m. record { steps = m.disk; faults = m.faults; unmade = m.unmade; claimed = m.claimed; usable = m.usable } };
+    ghost view = { λ m. record { steps = m.disk; faults = m.faults; refused = m.refused; unmade = m.unmade; claimed = m.claimed; usable = m.usable } };
 }
 
 impl MemCalls {
     /// No files, and no call that fails.
     pub fn new(alloc: Global) -> MemCalls
-        ensures { result ≡ record { steps = []; faults = 0; unmade = 0; claimed = false; usable = true } }
+        ensures { result ≡ record { steps = []; faults = 0; refused = 0; unmade = 0; claimed = false; usable = true } }
     {
         MemCalls {
             alloc,
@@ -72,6 +74,7 @@ impl MemCalls {
             trouble: Trouble::none(alloc),
             number: 0,
             faults: 0,
+            refused: 0,
             unmade: 0,
             claimed: false,
             usable: true,
@@ -163,6 +166,15 @@ impl MemCalls {
         self.unmade = self.unmade.saturating_add(1);
     }
 
+    // Counts a refusal for what was found.
+    fn deny(&mut self)
+        ensures same { self.new ≡ record self.old { refused = self.new.refused } }
+        ensures rose { Rose self.old.refused self.new.refused }
+        ensures more { self.old.refused ≤ self.new.refused }
+    {
+        self.refused = self.refused.saturating_add(1);
+    }
+
     // Begins a call, which may fail or be interrupted.
     fn enter(&mut self) -> Result<(), CallError>
         ensures look { FilesLook (mem_state self.old) (mem_state self.new) }
@@ -213,6 +225,7 @@ impl MemCalls {
         ensures failed { IfErr result (λ error. error ≡ Failed) }
         ensures claimed { self.new.claimed ≡ self.old.claimed }
         ensures usable { self.new.usable ≡ self.old.usable }
+        ensures refused { self.old.refused ≤ self.new.refused }
         ensures cause { HasCallCause (mem_state self.old) (mem_state self.new) result }
     {
         match self.disk.change(place, change) {
@@ -419,7 +432,11 @@ impl Calls for MemCalls {
         self.shut(place);
     }
 
-    fn refuse(&mut self, _why: &Refusal) {
+    fn refuse(&mut self, why: &Refusal) {
+        if why.is_found() {
+            self.deny();
+            return;
+        }
         let _failed = self.fail();
     }
 }

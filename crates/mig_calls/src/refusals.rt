@@ -1,4 +1,7 @@
 //! Why a store over files refuses what no call failed at.
+ghost use Rattle.std.specs.Prelude.{◌≡◌};
+ghost use Rattle.mig_calls.specs.Refusals.{is_found};
+
 use crate::places::Place;
 use mig_base::{Cell, Name};
 
@@ -25,4 +28,22 @@ pub enum Refusal {
     NoItem { slot: Cell },
     /// The slot is to be emptied or written over, and holds this item, which was seen nowhere else.
     Held { slot: Cell, item: Name },
+}
+
+impl Refusal {
+    /// Whether the store refuses for what it found, and not for want of memory or of a call that is made.
+    pub fn is_found(&self) -> bool
+        ensures { result ≡ is_found self.now }
+    {
+        match self {
+            Refusal::Memory { .. } | Refusal::Interrupted { .. } | Refusal::Full { .. } => false,
+            Refusal::AfterSync
+            | Refusal::TooShort { .. }
+            | Refusal::NotHeld { .. }
+            | Refusal::NoDisk { .. }
+            | Refusal::Cut { .. }
+            | Refusal::NoItem { .. }
+            | Refusal::Held { .. } => true,
+        }
+    }
 }

@@ -15,6 +15,7 @@ no_change = record {
   bytes = λ place i not. refl;
   crash = λ files left. (files, left, λ place i not. refl);
   later = omega arith;
+  refused = omega arith;
   since = λ t files le left. inl left;
   keeps = λ t files le left. left;
   images = λ left. left;
@@ -27,6 +28,7 @@ change_then {P} {Q} {a} {b} {c} first then = record {
   bytes = same_then P a.reads b.reads c.reads first.bytes then.bytes;
   crash = λ files left. back files (then.crash files left);
   later = omega (arith, first.later, then.later);
+  refused = omega (arith, first.refused, then.refused);
   since = λ t files le left. elim (then.since t files (omega (arith, first.later)) left) [
     | inl was ↦ first.since t files le was
     | inr some ↦ inr (back files some)
@@ -48,6 +50,7 @@ change_wide P Q R wide wider a b change = record {
   bytes = same_wide P R wide a.reads b.reads change.bytes;
   crash = λ files left. more files (change.crash files left);
   later = change.later;
+  refused = change.refused;
   since = λ t files le left. elim (change.since t files le left) [
     | inl was ↦ inl was
     | inr some ↦ inr (more files some)

@@ -1,6 +1,7 @@
 pub mod Apart
 pub mod DiskLists
 pub mod FilesSteps
+pub mod Grounds
 pub mod Derivation
 pub mod TrackingSteps
 pub mod RestSteps

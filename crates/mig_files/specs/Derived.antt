@@ -1,5 +1,5 @@
 -- What a store of cells tells, read off what its files tell.
-use Rattle.std.specs.Prelude.{◌≡◌, ℕ, zero, suc, Bool, true, false, List, [], ◌∷◌, length, Option, Some, None, if◌then◌else◌, refl}
+use Rattle.std.specs.Prelude.{◌≡◌, ◌+◌, ℕ, zero, suc, Bool, true, false, List, [], ◌∷◌, length, Option, Some, None, if◌then◌else◌, refl}
 use Rattle.std.specs.Option.{option_map}
 use Rattle.std.proofs.Common.{sym, ◌∙◌, ap}
 use Rattle.mig_base.specs.declared.cells.Cell.{Cell}
@@ -19,6 +19,10 @@ window file at (suc n) = file at ∷ window file (suc at) n
 abbrev pub cells_of : (Place → Bool) → Files → Image
 cells_of told files cell = if told (file_of cell) then Some (window (files (file_of cell)) (offset_of cell) (cell_len cell)) else None
 
+-- how often a call has failed or was given up, or the store refused
+abbrev pub troubles : FilesState → ℕ
+troubles s = s.faults + s.refused
+
 -- The store tells the cells of what its files tell, and no events.
 abbrev pub cell_state : FilesState → ℕ → State
 cell_state s faults = record {
@@ -36,10 +40,10 @@ pub record ShowsFiles (files : FilesState) (store : State) : Type 0 where
   pub left : (image : Image) → store.may_leave image → (some : Files) × files.may_leave some × (image ≡ cells_of files.told some)
   pub leaves : (some : Files) → files.may_leave some → store.may_leave (cells_of files.told some)
   pub events : store.events ≡ None
-  pub faults : store.faults ≡ files.faults
+  pub faults : store.faults ≡ troubles files
 
 -- it does where it is made of them
-pub shows_files : (files : FilesState) → ShowsFiles files (cell_state files files.faults)
+pub shows_files : (files : FilesState) → ShowsFiles files (cell_state files (troubles files))
 shows_files files = record {
   reads = refl;
   left = λ image is. is;

@@ -1,5 +1,6 @@
 pub mod Counting
 pub mod Derived
+pub mod Grounds
 pub mod Tracking
 pub mod Serving
 pub mod Seeing

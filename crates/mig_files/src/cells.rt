@@ -6,6 +6,7 @@ ghost use Rattle.mig_calls.specs.Places.{file_of, offset_of};
 ghost use Rattle.mig_calls.specs.Files.{EndsAt, HasBytes, len_of};
 ghost use Rattle.mig_calls.specs.Refusals.{WhereTold};
 ghost use Rattle.mig_files.specs.Derived.{cells_of};
+ghost use Rattle.mig_files.specs.Grounds.{IsCut, IsFaultFor};
 ghost use Rattle.mig_files.specs.Tracking.{IsTracked, IsStep, IsWriteStep, StaysAlive, StaysSame, WritesAlive};
 
 use crate::opening::{enter, extent};
@@ -87,7 +88,7 @@ fn open_with_room<C: Calls>(
     requires tracked { IsTracked tracked.old.notes (C.Calls.state calls.old) }
     ensures step { IsStep tracked.new.notes (C.Calls.state calls.old) (C.Calls.state calls.new) }
     ensures kept { OnOk result (StaysAlive tracked.new.notes (C.Calls.state calls.old) (C.Calls.state calls.new)) }
-    ensures cause { OnErr result (Rose (C.Calls.state calls.old).faults (C.Calls.state calls.new).faults) }
+    ensures cause { OnErr result (IsFaultFor (IsCut (C.Calls.state calls.old) cell.now) (C.Calls.state calls.old) (C.Calls.state calls.new)) }
 {
     let found = open_place(calls, tracked, place)?;
     check_room(calls, tracked, cell, &found)
@@ -107,7 +108,7 @@ pub fn write_cell<C: Calls>(
     ensures written { OnOk result (IfSome (cells_of (C.Calls.state calls.new).told (C.Calls.state calls.new).reads cell.now) (λ told. told ≡ bytes.now)) }
     ensures step { IsWriteStep tracked.new.notes (file_of cell.now) (offset_of cell.now) (cell_len cell.now) (C.Calls.state calls.old) (C.Calls.state calls.new) }
     ensures kept { OnOk result (WritesAlive tracked.new.notes (C.Calls.state calls.old) (C.Calls.state calls.new)) }
-    ensures cause { OnErr result (Rose (C.Calls.state calls.old).faults (C.Calls.state calls.new).faults) }
+    ensures cause { OnErr result (IsFaultFor (IsCut (C.Calls.state calls.old) cell.now) (C.Calls.state calls.old) (C.Calls.state calls.new)) }
 {
     let (place, offset) = place_of(cell);
     open_with_room(calls, tracked, cell, &place)?;
@@ -126,7 +127,7 @@ pub fn read_cell<C: Calls>(
     requires tracked { IsTracked tracked.old.notes (C.Calls.state calls.old) }
     ensures bytes { OnOk result (IfSome (cells_of (C.Calls.state calls.old).told (C.Calls.state calls.old).reads cell.now) (λ told. into.new ≡ told)) }
     ensures step { IsStep tracked.new.notes (C.Calls.state calls.old) (C.Calls.state calls.new) }
-    ensures cause { OnErr result (Rose (C.Calls.state calls.old).faults (C.Calls.state calls.new).faults) }
+    ensures cause { OnErr result (IsFaultFor (IsCut (C.Calls.state calls.old) cell.now) (C.Calls.state calls.old) (C.Calls.state calls.new)) }
 {
     let found = read_part(calls, tracked, cell, into)?;
     check_room(calls, tracked, cell, &found)?;
@@ -144,7 +145,7 @@ fn check_whole<C: Calls>(
     requires tracked { IsTracked tracked.now.notes (C.Calls.state calls.old) }
     requires end { WhereTold (C.Calls.state calls.old) cell.now (EndsAt ((C.Calls.state calls.old).reads (file_of cell.now)) (len_of found.now)) }
     ensures step { IsStep tracked.now.notes (C.Calls.state calls.old) (C.Calls.state calls.new) }
-    ensures cause { OnErr result (Rose (C.Calls.state calls.old).faults (C.Calls.state calls.new).faults) }
+    ensures cause { OnErr result (IsFaultFor (IsCut (C.Calls.state calls.old) cell.now) (C.Calls.state calls.old) (C.Calls.state calls.new)) }
 {
     if found.len() >= end_of(cell) {
         return Ok(());
@@ -169,7 +170,7 @@ fn check_room<C: Calls>(
     requires end { WhereTold (C.Calls.state calls.old) cell.now (EndsAt ((C.Calls.state calls.old).reads (file_of cell.now)) (len_of found.now)) }
     ensures step { IsStep tracked.now.notes (C.Calls.state calls.old) (C.Calls.state calls.new) }
     ensures kept { OnOk result (StaysSame (C.Calls.state calls.old) (C.Calls.state calls.new)) }
-    ensures cause { OnErr result (Rose (C.Calls.state calls.old).faults (C.Calls.state calls.new).faults) }
+    ensures cause { OnErr result (IsFaultFor (IsCut (C.Calls.state calls.old) cell.now) (C.Calls.state calls.old) (C.Calls.state calls.new)) }
 {
     match (cell, found) {
         (Cell::Slot { .. }, Extent::Device { len }) if *len < end_of(cell) => {

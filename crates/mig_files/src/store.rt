@@ -86,7 +86,7 @@ impl<C: Calls> FileStore<C> {
         requires { IsTrue self.old.tracked.notes.lost }
         ensures change { FilesLook (C.Calls.state self.old.calls) (C.Calls.state self.new.calls) }
         ensures later { (C.Calls.state self.old.calls).faults ≤ (C.Calls.state self.new.calls).faults }
-        ensures rose { Rose (C.Calls.state self.old.calls).faults (C.Calls.state self.new.calls).faults }
+        ensures rose { Rose (C.Calls.state self.old.calls).refused (C.Calls.state self.new.calls).refused }
         ensures lost { self.new.tracked.notes.lost ≡ self.old.tracked.notes.lost }
         ensures seen { self.new.seen ≡ self.old.seen }
     {

@@ -3,7 +3,7 @@ ghost use Rattle.std.specs.Prelude.{◌≡◌, ◌+◌, ◌≤◌, ℕ, List, Co
 ghost use Rattle.mig_base.specs.FaultCounts.{Rose};
 ghost use Rattle.mig_calls.specs.declared.places.Place.TheVariants.{Disk as DiskFile, Journal as JournalFile};
 ghost use Rattle.mig_calls.specs.Files.{KeepsFlags};
-ghost use Rattle.mig_calls.specs.Refusals.{IsRefusalCause};
+ghost use Rattle.mig_calls.specs.Refusals.{IsRefusalCause, counted};
 ghost use Rattle.mig_files.specs.Tracking.{IsTracked, IsStep, StaysAlive, SameNotes, IsNoted};
 
 use crate::disk_set::DiskSet;
@@ -57,7 +57,7 @@ pub fn refuse_with<C: Calls>(calls: &mut C, tracked: &Tracked, why: &Refusal) ->
     requires cause { IsRefusalCause (C.Calls.state calls.old) why.now }
     ensures step { IsStep tracked.now.notes (C.Calls.state calls.old) (C.Calls.state calls.new) }
     ensures flags { KeepsFlags (C.Calls.state calls.old) (C.Calls.state calls.new) }
-    ensures rose { Rose (C.Calls.state calls.old).faults (C.Calls.state calls.new).faults }
+    ensures rose { Rose (counted why.now (C.Calls.state calls.old)) (counted why.now (C.Calls.state calls.new)) }
 {
     refuse(calls, why)
 }

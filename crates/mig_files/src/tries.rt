@@ -2,18 +2,18 @@
 ghost use Rattle.std.specs.Prelude.{◌≡◌, ◌≤◌, ◌<◌, ◌+◌, ◌^◌, IsTrue, IfOk, OnOk, OnErr, length};
 ghost use Rattle.mig_base.specs.FaultCounts.{Rose};
 ghost use Rattle.mig_calls.specs.Files.{HasBytes, HasCallCause};
-ghost use Rattle.mig_calls.specs.Refusals.{IsRefusalCause};
+ghost use Rattle.mig_calls.specs.Refusals.{IsRefusalCause, counted};
 ghost use Rattle.mig_files.specs.Tracking.{IsQuiet};
 ghost use Rattle.mig_files.specs.Tasks.{file_of_task, IsDone, Leaves, KeepsClaim, StaysClaimed};
 
 use mig_calls::{CallError, Calls, Place, Refusal};
 use mig_store::StoreFailed;
 
-/// Says why the store refuses, which counts as a fault.
+/// Says why the store refuses, which is counted.
 pub fn refuse<C: Calls>(calls: &mut C, why: &Refusal) -> StoreFailed
     requires { IsRefusalCause (C.Calls.state calls.old) why.now }
     ensures quiet { IsQuiet (C.Calls.state calls.old) (C.Calls.state calls.new) }
-    ensures rose { Rose (C.Calls.state calls.old).faults (C.Calls.state calls.new).faults }
+    ensures rose { Rose (counted why.now (C.Calls.state calls.old)) (counted why.now (C.Calls.state calls.new)) }
 {
     calls.refuse(why);
     StoreFailed

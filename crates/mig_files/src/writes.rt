@@ -1,5 +1,5 @@
 //! Writes of cells and copies of slots, by which no item is lost that was seen nowhere else.
-ghost use Rattle.std.specs.Prelude.{◌≡◌, ◌≢◌, ◌≤◌, ◌<◌, ◌+◌, ℕ, List, Some, None, IsTrue, IsFalse, IfOk, IfSome, MatchBool, OnOk, OnErr, length, slice_index, slice_range};
+ghost use Rattle.std.specs.Prelude.{◌≡◌, ◌≢◌, ◌⊎◌, ◌≤◌, ◌<◌, ◌+◌, ℕ, List, Some, None, IsTrue, IsFalse, IfOk, IfSome, MatchBool, OnOk, OnErr, length, slice_index, slice_range};
 ghost use Rattle.mig_base.specs.FaultCounts.{Rose};
 ghost use Rattle.mig_base.specs.Cells.{cell_len, is_slot};
 ghost use Rattle.mig_base.specs.Images.{IsCopy};
@@ -8,6 +8,7 @@ ghost use Rattle.mig_base.specs.Slots.{header_of};
 ghost use Rattle.mig_calls.specs.Places.{file_of, offset_of};
 ghost use Rattle.mig_calls.specs.Refusals.{HoldsItem, WhereTold};
 ghost use Rattle.mig_files.specs.Derived.{cells_of};
+ghost use Rattle.mig_files.specs.Grounds.{IsCut, IsFaultFor, IsLast, IsTaken, IsUncopiable, IsUncopied, IsUnwritable};
 ghost use Rattle.mig_files.specs.Seeing.{seen_at, AreHeld, AreZeros, IsErasure, IsSeenAtBoth, KeepsSeen, KeepsSeenBut, LosesNone, LosesNoneBut, MayCopy};
 ghost use Rattle.mig_files.specs.Tracking.{IsTracked, IsStep, IsWriteStep};
 
@@ -56,7 +57,7 @@ pub fn write_item<C: Calls>(
     ensures others { KeepsSeen seen.old seen.new cell.now }
     ensures held { AreHeld (C.Calls.state calls.new) seen.new }
     ensures step { IsWriteStep tracked.new.notes (file_of cell.now) (offset_of cell.now) (cell_len cell.now) (C.Calls.state calls.old) (C.Calls.state calls.new) }
-    ensures cause { OnErr result (Rose (C.Calls.state calls.old).faults (C.Calls.state calls.new).faults) }
+    ensures cause { OnErr result (IsFaultFor (IsUnwritable (C.Calls.state calls.old) seen.old cell.now bytes.now) (C.Calls.state calls.old) (C.Calls.state calls.new)) }
 {
     claim(calls, tracked)?;
     if empties(cell, bytes) {
@@ -87,7 +88,7 @@ fn empty<C: Calls>(
     ensures others { KeepsSeen seen.old seen.new slot.now }
     ensures held { AreHeld (C.Calls.state calls.new) seen.new }
     ensures step { IsWriteStep tracked.new.notes (file_of slot.now) (offset_of slot.now) (cell_len slot.now) (C.Calls.state calls.old) (C.Calls.state calls.new) }
-    ensures cause { OnErr result (Rose (C.Calls.state calls.old).faults (C.Calls.state calls.new).faults) }
+    ensures cause { OnErr result (IsFaultFor (IsLast (C.Calls.state calls.old) seen.old slot.now ⊎ IsCut (C.Calls.state calls.old) slot.now) (C.Calls.state calls.old) (C.Calls.state calls.new)) }
 {
     let found = expects_free(calls, tracked, seen, slot)?;
     seen.forget(slot);
@@ -131,7 +132,7 @@ fn read_item<C: Calls>(
     ensures held { AreHeld (C.Calls.state calls.new) seen.new }
     ensures step { IsStep tracked.new.notes (C.Calls.state calls.old) (C.Calls.state calls.new) }
     ensures alive { OnOk result (IsFalse tracked.new.notes.lost) }
-    ensures cause { OnErr result (Rose (C.Calls.state calls.old).faults (C.Calls.state calls.new).faults) }
+    ensures cause { OnErr result (IsFaultFor (IsUncopied (C.Calls.state calls.old) slot.now) (C.Calls.state calls.old) (C.Calls.state calls.new)) }
 {
     let found = read_part(calls, tracked, slot, bytes)?;
     match item_of(&first_of(bytes)) {
@@ -164,7 +165,7 @@ fn put_item<C: Calls>(
     ensures others { KeepsSeen seen.old seen.new slot.now }
     ensures held { AreHeld (C.Calls.state calls.new) seen.new }
     ensures step { IsWriteStep tracked.new.notes (file_of slot.now) (offset_of slot.now) (cell_len slot.now) (C.Calls.state calls.old) (C.Calls.state calls.new) }
-    ensures cause { OnErr result (Rose (C.Calls.state calls.old).faults (C.Calls.state calls.new).faults) }
+    ensures cause { OnErr result (IsFaultFor (IsTaken (C.Calls.state calls.old) seen.new slot.now item.now) (C.Calls.state calls.old) (C.Calls.state calls.new)) }
 {
     expects_free_for(calls, tracked, seen, slot, item)?;
     claim(calls, tracked)?;
@@ -192,7 +193,7 @@ pub fn copy_item<C: Calls>(
     ensures others { KeepsSeenBut seen.old seen.new from.now to.now }
     ensures held { AreHeld (C.Calls.state calls.new) seen.new }
     ensures step { IsWriteStep tracked.new.notes (file_of to.now) (offset_of to.now) (cell_len to.now) (C.Calls.state calls.old) (C.Calls.state calls.new) }
-    ensures cause { OnErr result (Rose (C.Calls.state calls.old).faults (C.Calls.state calls.new).faults) }
+    ensures cause { OnErr result (IsFaultFor (IsUncopiable (C.Calls.state calls.old) seen.new from.now to.now) (C.Calls.state calls.old) (C.Calls.state calls.new)) }
 {
     let mut bytes = [0u8; 4096];
     let item = read_item(calls, tracked, seen, from, &mut bytes)?;

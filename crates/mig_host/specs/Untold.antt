@@ -1,16 +1,17 @@
--- Files that tell nothing but how many calls failed, how many were not made, and whether a sync has failed.
+-- Files that tell nothing but how many calls failed, how many were not made, how often the store refused, and whether a sync has failed.
 use Rattle.std.specs.Prelude.{ℕ, Bool, true, false}
 use Rattle.mig_calls.specs.Files.{FilesState, IsFilesState}
 
 -- What isn't told holds of no files, so each of these may be said.
-abbrev pub host_state : ℕ → ℕ → Bool → FilesState
-host_state faults unmade usable = record {
+abbrev pub host_state : ℕ → ℕ → ℕ → Bool → FilesState
+host_state faults refused unmade usable = record {
   told = λ place. false;
   reads = λ place i. 0;
   may_leave = λ files. ⊥;
   moment = 0;
   left_since = λ t files. ⊥;
   faults = faults;
+  refused = refused;
   unmade = unmade;
   claimed = usable;
   named = true;
@@ -18,8 +19,8 @@ host_state faults unmade usable = record {
   usable = usable;
 }
 
-pub host_is_state : (faults unmade : ℕ) (usable : Bool) → IsFilesState (host_state faults unmade usable)
-host_is_state faults unmade usable = record {
+pub host_is_state : (faults refused unmade : ℕ) (usable : Bool) → IsFilesState (host_state faults refused unmade usable)
+host_is_state faults refused unmade usable = record {
   counts_now = λ t files le none. none;
   only_now = λ files none. none;
   reads_left = λ files none. none;

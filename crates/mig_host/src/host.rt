@@ -12,11 +12,12 @@ use std::alloc::Global;
 use std::fs::File;
 use std::rt::Files;
 
-/// The calls over this runtime's files. They tell nothing but how many failed or were not made, and whether a sync failed in this process. What failed, and why, is said on standard error.
+/// The calls over this runtime's files. They tell nothing but how many failed or were not made, how often the store refused, and whether a sync failed in this process. What failed, and why, is said on standard error.
 pub struct HostCalls<'a, R: Files<File = File> + Eprint> {
     rt: &'a R,
     files: HostFiles,
     faults: u64,
+    refused: u64,
     unmade: u64,
     usable: bool,
 }
@@ -27,6 +28,7 @@ impl<'a, R: Files<File = File> + Eprint> Drop for HostCalls<'a, R> {
             rt: _,
             files,
             faults: _,
+            refused: _,
             unmade: _,
             usable: _,
         } = self;
@@ -45,6 +47,7 @@ impl<'a, R: Files<File = File> + Eprint> HostCalls<'a, R> {
             rt,
             files: HostFiles::new(alloc),
             faults: 0,
+            refused: 0,
             unmade: 0,
             usable: true,
         }
@@ -52,10 +55,11 @@ impl<'a, R: Files<File = File> + Eprint> HostCalls<'a, R> {
 
     /// Counts a call that failed, and says why. One that may be made again is counted apart, and not told.
     fn counted(&mut self, failure: Failure) -> CallError
-        ensures cause { IsCallCause (host_state self.old.faults self.old.unmade self.old.usable) (host_state self.new.faults self.new.unmade self.new.usable) result }
+        ensures cause { IsCallCause (host_state self.old.faults self.old.refused self.old.unmade self.old.usable) (host_state self.new.faults self.new.refused self.new.unmade self.new.usable) result }
         ensures usable { self.new.usable ≡ self.old.usable }
         ensures later { self.old.faults ≤ self.new.faults }
         ensures more { self.old.unmade ≤ self.new.unmade }
+        ensures refused { self.new.refused ≡ self.old.refused }
     {
         if failure.is_interruption() {
             self.unmade = self.unmade.saturating_add(1);
@@ -72,7 +76,8 @@ impl<'a, R: Files<File = File> + Eprint> HostCalls<'a, R> {
 
     /// What a call gave; where it failed, that is counted.
     fn answer<T>(&mut self, made: Result<T, Failure>) -> Result<T, CallError>
-        ensures cause { HasCallCause (host_state self.old.faults self.old.unmade self.old.usable) (host_state self.new.faults self.new.unmade self.new.usable) result }
+        ensures refused { self.new.refused ≡ self.old.refused }
+        ensures cause { HasCallCause (host_state self.old.faults self.old.refused self.old.unmade self.old.usable) (host_state self.new.faults self.new.refused self.new.unmade self.new.usable) result }
         ensures usable { self.new.usable ≡ self.old.usable }
     {
         match made {
@@ -83,8 +88,9 @@ impl<'a, R: Files<File = File> + Eprint> HostCalls<'a, R> {
 
     /// The same of a sync: after one that failed nothing may be written.
     fn synced(&mut self, made: Result<(), Failure>) -> Result<(), CallError>
-        ensures cause { HasCallCause (host_state self.old.faults self.old.unmade self.old.usable) (host_state self.new.faults self.new.unmade self.new.usable) result }
-        ensures usable { StaysUsable (host_state self.old.faults self.old.unmade self.old.usable) (host_state self.new.faults self.new.unmade self.new.usable) result }
+        ensures refused { self.new.refused ≡ self.old.refused }
+        ensures cause { HasCallCause (host_state self.old.faults self.old.refused self.old.unmade self.old.usable) (host_state self.new.faults self.new.refused self.new.unmade self.new.usable) result }
+        ensures usable { StaysUsable (host_state self.old.faults self.old.refused self.old.unmade self.old.usable) (host_state self.new.faults self.new.refused self.new.unmade self.new.usable) result }
     {
         match self.answer(made) {
             Ok(()) => Ok(()),
@@ -98,9 +104,9 @@ impl<'a, R: Files<File = File> + Eprint> HostCalls<'a, R> {
 }
 
 impl<'a, R: Files<File = File> + Eprint> Calls for HostCalls<'a, R> {
-    ghost state = { λ h. host_state h.faults h.unmade h.usable };
+    ghost state = { λ h. host_state h.faults h.refused h.unmade h.usable };
 
-    ghost is_state = { λ h. host_is_state h.faults h.unmade h.usable };
+    ghost is_state = { λ h. host_is_state h.faults h.refused h.unmade h.usable };
 
     fn claim(&mut self) -> Result<(), CallError> {
         if !self.usable {
@@ -145,6 +151,10 @@ impl<'a, R: Files<File = File> + Eprint> Calls for HostCalls<'a, R> {
 
     fn refuse(&mut self, why: &Refusal) {
         let _ = eprintln!(self.rt; "migrate: {}", Told(why));
+        if why.is_found() {
+            self.refused = self.refused.saturating_add(1);
+            return;
+        }
         self.faults = self.faults.saturating_add(1);
     }
 }

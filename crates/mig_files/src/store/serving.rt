@@ -1,12 +1,13 @@
 //! How the store serves: its calls are those of any store.
-ghost use Rattle.std.specs.Prelude.{◌≡◌, ◌≢◌, ◌∷◌, [], Some, None, ℕ, List, IsTrue, IsFalse, IfOk, IfSome, IfNone, OnOk, OnErr, length, take};
+ghost use Rattle.std.specs.Prelude.{◌≡◌, ◌≢◌, ◌⊎◌, ◌∷◌, [], Some, None, ℕ, List, IsTrue, IsFalse, IfOk, IfSome, IfNone, OnOk, OnErr, length, take};
 ghost use Rattle.mig_base.specs.declared.cells.Flight.{Flight};
 ghost use Rattle.mig_base.specs.Cells.{cell_len, is_slot};
 ghost use Rattle.mig_base.specs.Images.{IsCopy};
 ghost use Rattle.mig_base.specs.Flights.{began, IsTargetOf, IsSourceOf};
 ghost use Rattle.mig_base.specs.Stores.{flights, IsMoving, Changes, ChangesOnly, Looks, Ends, named, IsSettled, HasCause};
 ghost use Rattle.mig_calls.specs.Refusals.{HoldsItem, WhereTold};
-ghost use Rattle.mig_files.specs.Derived.{cell_state, cell_is_state};
+ghost use Rattle.mig_files.specs.Derived.{cell_state, cell_is_state, troubles};
+ghost use Rattle.mig_files.specs.Grounds.{IsCut, IsFaultFor, IsLast, IsUncopiable, IsUnwritable, Lacks};
 ghost use Rattle.mig_files.specs.Seeing.{seen_at, IsErasure, IsSeenAtBoth, KeepsSeen, KeepsSeenBut, LosesNone, MayCopy};
 ghost use Rattle.mig_files.specs.Serving.{files_of, seen_of, has_failed};
 
@@ -20,9 +21,9 @@ use mig_calls::Calls;
 use mig_store::{Store, StoreFailed};
 
 impl<C: Calls> Store for FileStore<C> {
-    ghost state = { λ s. cell_state (C.Calls.state s.calls) (C.Calls.state s.calls).faults };
+    ghost state = { λ s. cell_state (C.Calls.state s.calls) (troubles (C.Calls.state s.calls)) };
 
-    ghost is_state = { λ s. cell_is_state (C.Calls.state s.calls) (C.Calls.state s.calls).faults (C.Calls.is_state s.calls) };
+    ghost is_state = { λ s. cell_is_state (C.Calls.state s.calls) (troubles (C.Calls.state s.calls)) (C.Calls.is_state s.calls) };
 
     #[tactic(auto, using(crate::proofs::Errs::err_any, crate::proofs::Holding::held_looked))]
     /// Reads a cell, zeros where it was never written.
@@ -32,6 +33,7 @@ impl<C: Calls> Store for FileStore<C> {
         ensures seen { seen_of self.new ≡ seen_of self.old }
         ensures change { Looks (⟦<FileStore<C> as Store>⟧.state self.old) (⟦<FileStore<C> as Store>⟧.state self.new) }
         ensures cause { HasCause (⟦<FileStore<C> as Store>⟧.state self.old) (⟦<FileStore<C> as Store>⟧.state self.new) result }
+        ensures ground { OnErr result (IsFaultFor (IsTrue (has_failed self.old) ⊎ IsCut (files_of self.old) cell.now) (files_of self.old) (files_of self.new)) }
         ensures alive { OnOk result (IsFalse (has_failed self.old)) }
         ensures failed { IsTrue (has_failed self.old) → IsTrue (has_failed self.new) }
     {
@@ -49,6 +51,7 @@ impl<C: Calls> Store for FileStore<C> {
         ensures seen { KeepsSeen (seen_of self.old) (seen_of self.new) slot.now }
         ensures change { Looks (⟦<FileStore<C> as Store>⟧.state self.old) (⟦<FileStore<C> as Store>⟧.state self.new) }
         ensures cause { HasCause (⟦<FileStore<C> as Store>⟧.state self.old) (⟦<FileStore<C> as Store>⟧.state self.new) result }
+        ensures ground { OnErr result (IsFaultFor (IsTrue (has_failed self.old) ⊎ Lacks (files_of self.old) slot.now name.now) (files_of self.old) (files_of self.new)) }
         ensures alive { OnOk result (IsFalse (has_failed self.old)) }
         ensures failed { IsTrue (has_failed self.old) → IsTrue (has_failed self.new) }
     {
@@ -72,6 +75,7 @@ impl<C: Calls> Store for FileStore<C> {
         ensures seen { seen_of self.new ≡ seen_of self.old }
         ensures change { Looks (⟦<FileStore<C> as Store>⟧.state self.old) (⟦<FileStore<C> as Store>⟧.state self.new) }
         ensures cause { HasCause (⟦<FileStore<C> as Store>⟧.state self.old) (⟦<FileStore<C> as Store>⟧.state self.new) result }
+        ensures ground { OnErr result (IsFaultFor (IsTrue (has_failed self.old) ⊎ IsLast (files_of self.old) (seen_of self.old) slot.now) (files_of self.old) (files_of self.new)) }
         ensures alive { OnOk result (IsFalse (has_failed self.old)) }
         ensures failed { IsTrue (has_failed self.old) → IsTrue (has_failed self.new) }
     {
@@ -95,6 +99,7 @@ impl<C: Calls> Store for FileStore<C> {
         ensures seen { KeepsSeen (seen_of self.old) (seen_of self.new) cell.now }
         ensures change { ChangesOnly (λ c. c ≡ cell.now) (⟦<FileStore<C> as Store>⟧.state self.old) (⟦<FileStore<C> as Store>⟧.state self.new) }
         ensures cause { HasCause (⟦<FileStore<C> as Store>⟧.state self.old) (⟦<FileStore<C> as Store>⟧.state self.new) result }
+        ensures ground { OnErr result (IsFaultFor (IsTrue (has_failed self.old) ⊎ IsUnwritable (files_of self.old) (seen_of self.old) cell.now bytes.now) (files_of self.old) (files_of self.new)) }
         ensures alive { OnOk result (IsFalse (has_failed self.old)) }
         ensures failed { IsTrue (has_failed self.old) → IsTrue (has_failed self.new) }
     {
@@ -124,6 +129,7 @@ impl<C: Calls> Store for FileStore<C> {
         ensures seen { KeepsSeenBut (seen_of self.old) (seen_of self.new) from.now to.now }
         ensures change { (n : ℕ) × Changes (λ c. c ≡ to.now) (λ c. c ≡ to.now) (take n (began (record { from = from.now; to = to.now }) ∷ [])) (⟦<FileStore<C> as Store>⟧.state self.old) (⟦<FileStore<C> as Store>⟧.state self.new) }
         ensures cause { HasCause (⟦<FileStore<C> as Store>⟧.state self.old) (⟦<FileStore<C> as Store>⟧.state self.new) result }
+        ensures ground { OnErr result (IsFaultFor (IsTrue (has_failed self.old) ⊎ IsUncopiable (files_of self.old) (seen_of self.new) from.now to.now) (files_of self.old) (files_of self.new)) }
         ensures alive { OnOk result (IsFalse (has_failed self.old)) }
         ensures failed { IsTrue (has_failed self.old) → IsTrue (has_failed self.new) }
     {
@@ -140,6 +146,7 @@ impl<C: Calls> Store for FileStore<C> {
         ensures some { IfOk result (λ answer. IfSome answer (λ _. flights (⟦<FileStore<C> as Store>⟧.state self.old) ≢ [])) }
         ensures seen { seen_of self.new ≡ seen_of self.old }
         ensures cause { HasCause (⟦<FileStore<C> as Store>⟧.state self.old) (⟦<FileStore<C> as Store>⟧.state self.new) result }
+        ensures ground { OnErr result (IsFaultFor (IsTrue (has_failed self.old)) (files_of self.old) (files_of self.new)) }
         ensures alive { OnOk result (IsFalse (has_failed self.old)) }
         ensures failed { IsTrue (has_failed self.old) → IsTrue (has_failed self.new) }
     {
@@ -157,6 +164,7 @@ impl<C: Calls> Store for FileStore<C> {
         ensures landed { OnOk result (flights (⟦<FileStore<C> as Store>⟧.state self.new) ≡ []) }
         ensures seen { seen_of self.new ≡ seen_of self.old }
         ensures cause { HasCause (⟦<FileStore<C> as Store>⟧.state self.old) (⟦<FileStore<C> as Store>⟧.state self.new) result }
+        ensures ground { OnErr result (IsFaultFor (IsTrue (has_failed self.old)) (files_of self.old) (files_of self.new)) }
         ensures alive { OnOk result (IsFalse (has_failed self.old)) }
         ensures failed { OnErr result (IsTrue (has_failed self.new)) }
     {

@@ -1,5 +1,6 @@
 use Rattle.mig_files.proofs.Derivation.{on_ok}
 use Rattle.mig_files.proofs.Headers.{held_by, free_by, free_none}
+use Rattle.mig_files.proofs.Grounds.{on_err, fault_for}
 use Rattle.mig_files.proofs.items.check_free.Goals as goal
 
 pub check_item-requires-clause-held : goal.check_item-requires-clause-held
@@ -12,3 +13,12 @@ returns-in-Some-clause-free g c =
 
 pub returns-in-None-clause-free : goal.returns-in-None-clause-free
 returns-in-None-clause-free g c = free_none (g.C.Calls.state c.args.calls.now) c.args.seen.now c.args.slot.now c.args.first.now c.item_of.ensures.len c.in-None.ensures.none c.requires.header
+
+pub returns-in-Some-clause-cause : goal.returns-in-Some-clause-cause
+returns-in-Some-clause-cause g c =
+    on_err c.check_item.result c.check_item.ensures.cause (fault_for (λ alone. record {
+      item = c.in-Some.item;
+      name = c.in-Some.ensures.name;
+      held = held_by (g.C.Calls.state c.args.calls.now) c.args.slot.now c.args.first.now c.in-Some.item c.in-Some.ensures.some c.requires.header;
+      alone = alone;
+    }))

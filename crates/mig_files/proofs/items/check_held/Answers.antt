@@ -1,3 +1,4 @@
+use Rattle.mig_files.proofs.Common.{inr}
 use Rattle.mig_files.proofs.Headers.{held_by, held_is}
 use Rattle.mig_files.proofs.items.check_held.Goals as goal
 
@@ -8,3 +9,11 @@ refuse_with-requires-clause-cause g c = λ told holds.
 
 pub returns-then-is_header-clause-held : goal.returns-then-is_header-clause-held
 returns-then-is_header-clause-held g c = held_by (g.C.Calls.state c.args.calls.now) c.args.slot.now c.args.first.now c.args.item.now c.if-is_header.ensures.same c.requires.header
+
+pub returns-clause-cause : goal.returns-clause-cause
+returns-clause-cause g c = inr (
+  c.refuse_with.ensures.rose,
+  λ told holds.
+      c.if-is_header.ensures.same (held_is (g.C.Calls.state c.args.calls.now) c.args.slot.now c.args.first.now c.args.item.now c.is_header.ensures.len c.is_header.ensures.name.short
+      (c.requires.header told) holds),
+)

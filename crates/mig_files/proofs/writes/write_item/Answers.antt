@@ -1,7 +1,9 @@
-use Rattle.mig_files.proofs.Common.{refl}
+use Rattle.mig_files.proofs.Common.{inl, inr, refl}
 use Rattle.mig_files.proofs.TrackingSteps.{step_at_cell, step_is_write}
 use Rattle.mig_files.proofs.Derivation.{on_ok}
 use Rattle.mig_files.proofs.Holding.{held_looked, held_written, lost_before}
+use Rattle.mig_files.proofs.Grounds.{on_err, fault_after, cut_before, last_before}
+use Rattle.mig_files.proofs.Errs.{err_any}
 use Rattle.mig_files.proofs.writes.write_item.Goals as goal
 
 pub returns-in_err-claim-clause-step : goal.returns-in_err-claim-clause-step
@@ -28,3 +30,19 @@ returns-then-empties-clause-free g c = λ erases. on_ok c.empty.result c.empty.e
 
 pub returns-clause-free : goal.returns-clause-free
 returns-clause-free g c = λ erases. absurd (c.if-empties.ensures erases)
+
+pub returns-in_err-claim-clause-cause : goal.returns-in_err-claim-clause-cause
+returns-in_err-claim-clause-cause g c = err_any _ (inl c.in_err-claim.ensures.cause)
+
+pub returns-then-empties-clause-cause : goal.returns-then-empties-clause-cause
+returns-then-empties-clause-cause g c =
+    let look = c.claim.ensures.step.change in
+    on_err c.empty.result c.empty.ensures.cause (fault_after c.claim.ensures.step.later look (λ why. elim why [
+      | inl last ↦ inl (c.if-empties.ensures, last_before look c.args.cell.now last)
+      | inr cut ↦ inr (cut_before look c.args.cell.now cut)
+    ]))
+
+pub returns-clause-cause : goal.returns-clause-cause
+returns-clause-cause g c =
+    let look = c.claim.ensures.step.change in
+    on_err c.write_cell.result c.write_cell.ensures.cause (fault_after c.claim.ensures.step.later look (λ cut. inr (cut_before look c.args.cell.now cut)))

@@ -18,5 +18,5 @@ pub returns-clause-look : goal.returns-clause-look
 returns-clause-look c =
     change_then c.open.ensures.look
     (either c.change.result c.change.ensures.done c.change.ensures.nothing
-    (λ is. synced_look c.open.new.self c.change.new.self c.args.place.now is)
-    (λ is. kept_change NoByte c.open.new.self c.change.new.self is))
+    (λ is. synced_look c.open.new.self c.change.new.self c.args.place.now is c.change.ensures.refused)
+    (λ is. kept_change NoByte c.open.new.self c.change.new.self is c.change.ensures.refused))

@@ -1,4 +1,4 @@
-use Rattle.mig_calls.proofs.Common.{IsWithin, Memory, Wrote, ap, length}
+use Rattle.mig_calls.proofs.Common.{IsWithin, Memory, Wrote, ap, arith, length}
 use Rattle.mig_calls.proofs.FileLists.{on_ok}
 use Rattle.mig_calls.proofs.FilesSteps.{either}
 use Rattle.mig_calls.proofs.MemorySteps.{kept_change, kept_touches, touches, wrote_has, wrote_given}
@@ -10,8 +10,8 @@ returns-in-Ok-clause-written c = on_ok c.change.result
 
 pub returns-in-Ok-clause-change : goal.returns-in-Ok-clause-change
 returns-in-Ok-clause-change c = either c.change.result c.change.ensures.done c.change.ensures.nothing
-    (λ is. wrote_given c.args.self.now c.change.new.self c.args.place.now c.args.at c.in-Ok.values is c.args.values.now c.in-Ok.ensures)
-    (λ is. kept_change (IsWithin c.args.place.now c.args.at (length c.args.values.now)) c.args.self.now c.change.new.self is)
+    (λ is. wrote_given c.args.self.now c.change.new.self c.args.place.now c.args.at c.in-Ok.values is c.args.values.now c.in-Ok.ensures c.change.ensures.refused)
+    (λ is. kept_change (IsWithin c.args.place.now c.args.at (length c.args.values.now)) c.args.self.now c.change.new.self is c.change.ensures.refused)
 
 pub returns-in-Ok-clause-flags : goal.returns-in-Ok-clause-flags
 returns-in-Ok-clause-flags c = either c.change.result c.change.ensures.done c.change.ensures.nothing
@@ -21,3 +21,4 @@ returns-in-Ok-clause-flags c = either c.change.result c.change.ensures.done c.ch
 pub returns-in-Err-clause-change : goal.returns-in-Err-clause-change
 returns-in-Err-clause-change c =
     kept_change (IsWithin c.args.place.now c.args.at (length c.args.values.now)) c.args.self.now c.fail.new.self (ap (λ (m : Memory). m.steps) c.fail.ensures.same)
+    (omega (arith, ap (λ (m : Memory). m.refused) c.fail.ensures.same))
