@@ -18,9 +18,6 @@ from typing import NamedTuple
 
 SHARED = "libmigrate.so.1"
 
-# what is said in the place of a text on words, which a caller has none of
-NO_NAME = "no disk may have this name\n"
-
 
 class Error(Exception):
     """A call that isn't done: its status (migrate.h lists them) and its text."""
@@ -108,7 +105,7 @@ class Library:
     def _done(self, name: str, *given: bytes | int, texts: int = 1) -> list[bytes]:
         status, found = self.call(name, given, texts)
         if status != 0:
-            raise Error(status, NO_NAME if status == 2 else found[-1].decode(errors="replace"))
+            raise Error(status, found[-1].decode(errors="replace"))
         return found
 
     def plan(self, disks: bytes, now: bytes, next: bytes) -> Plan:
