@@ -1,5 +1,6 @@
 //! The calls that save a file, over the system. Each makes the one call that its name says, and what that needs to be safe.
-ghost use Rattle.std.specs.Prelude.{◌≤◌, ◌<◌, IfOk, length};
+ghost use Rattle.std.specs.IoError.{error_kind};
+ghost use Rattle.std.specs.Prelude.{◌≢◌, ◌≤◌, ◌<◌, IfOk, IfErr, length};
 ghost use Rattle.mig_base.specs.FaultCounts.{Rose};
 ghost use Rattle.mig_save.specs.HostSaves.{host_state, host_is_state};
 
@@ -300,6 +301,20 @@ fn write_to(file: &mut Option<File>, bytes: &[u8]) -> io::Result<usize>
     Ok(count)
 }
 
+/// One read. One that a signal interrupted is tried again.
+fn read_some(file: &mut File, piece: &mut [u8; 4096]) -> io::Result<usize>
+    ensures bound { IfOk result (λ n. n ≤ 4096) }
+    ensures tried_again { IfErr result (λ e. error_kind e ≢ ErrorKind.Interrupted) }
+{
+    for _ in 0..u64::MAX {
+        match file.read(piece) {
+            Err(error) if error.kind() == ErrorKind::Interrupted => {}
+            read => return read,
+        }
+    }
+    Err(ErrorKind::TimedOut.into())
+}
+
 /// Refuses a file that holds no text, where this process may read it: it may be a disk or the journal under another name. A disk's slot has a byte 0 or 1 in its first bytes, and so has a journal.
 fn check_text<R: Files<File = File>>(rt: &R, name: &str) -> io::Result<()> {
     let mut file = match fs::open(rt, name) {
@@ -308,7 +323,7 @@ fn check_text<R: Files<File = File>>(rt: &R, name: &str) -> io::Result<()> {
         Err(error) => return Err(error),
     };
     let mut first = [0u8; 4096];
-    let count = file.read(&mut first)?;
+    let count = read_some(&mut file, &mut first)?;
     let first = &first[..count];
     if first.contains(&0) || first.contains(&1) {
         return Err(Error::other("what it holds is no text"));
