@@ -7,9 +7,9 @@ PAGES = {
     "README.md": "# a\n\nVersion 1.2. [man](docs/migrate.1)\n\n[map](docs/MAP.md), [changes](docs/CHANGES.md), [part](docs/MAP.md#the-parts-of-a-b), ![p](docs/p.svg), [here](#two), [web](https://none.example)\n## Two\n`[no](link)`\n## Commands\n| `plan IN OUT` | x |\n| `a-b`, `c` | y |\n",
     "docs/MAP.md": "# For a reader: map\n\n## The parts of `A`, b\n\n| mig_a | this |\n| migrate | that |\n\n[next](next.md#x-1) [f](FORMATS.md)\n```\n[no](link)\n## no heading\n```\n",
     "docs/next.md": "# Next\n\nFor another.\n\n[up](../README.md)\n## x\n## x\n", "docs/p.svg": "", "docs/FORMATS.md": "# Forms\n\nFor all.\n\n    plan IN OUT\n    a-b IN\n    c IN\n",
-    "docs/migrate.1": '.TH MIGRATE 1 "" "migrate 1.2"\n\\fBmigrate plan\\fR \\fIIN OUT\\fR\n\\fBmigrate a-b\\fR \\fIIN\\fR\n\\fBmigrate c\\fR \\fIIN\\fR\n.SH VERSION\n1.2. x\n', "lib/migrate.h": '#define MIGRATE_VERSION "1.2"\n', "docs/CHANGES.md": "# Changes\n\nFor x.\n\n## 1.2\n\n## 1.1\n", "crates.txt": "mig_a:\nmigrate staticlib: mig_a\n",
+    "docs/migrate.1": '.TH MIGRATE 1 "" "migrate 1.2"\n\\fBmigrate plan\\fR \\fIIN OUT\\fR\n\\fBmigrate a-b\\fR \\fIIN\\fR\n\\fBmigrate c\\fR \\fIIN\\fR\n.SH VERSION\n1.2. x\n', "crates/mig_words/src/words.rt": '    "plan" IN => OUT: "plans";\n    "a-b" IN =>: "reads";\n    "c" IN =>: "reads";\n', "lib/migrate.h": '#define MIGRATE_VERSION "1.2"\n', "docs/CHANGES.md": "# Changes\n\nFor x.\n\n## 1.2\n\n## 1.1\n", "crates.txt": "mig_a:\nmigrate staticlib: mig_a\n",
 }
-MAP, README, NEXT = "docs/MAP.md", "README.md", "docs/next.md"
+MAP, README, NEXT, ROWS = "docs/MAP.md", "README.md", "docs/next.md", "crates/mig_words/src/words.rt"
 # what is changed: the page, what stands there, what takes its place, and what is said of it
 CHANGES = [
     ("a link to no file", README, "(docs/MAP.md)", "(docs/NAP.md)", "README.md: the link docs/NAP.md leads to no file"),
@@ -31,9 +31,12 @@ CHANGES = [
     ("a crate without a row", MAP, "| mig_a | this |", "", "docs/MAP.md: 0 rows of its table say what mig_a does"),
     ("a crate of two rows", MAP, "| migrate |", "| mig_a | more |\n| migrate |", "docs/MAP.md: 2 rows of its table say what mig_a does"),
     ("a row of no crate", MAP, "| migrate |", "| mig_b | more |\n| migrate |", "docs/MAP.md: 1 rows of its table say what mig_b does, which stands 0 times"),
+    ("a command that no page has", ROWS, '    "c"', '    "d" IN =>: "reads";\n    "c"', "docs/FORMATS.md: its forms are not those"),
+    ("a row with other words", ROWS, "IN => OUT", "OUT => IN", "docs/FORMATS.md: its forms are not those"),
+    ("no rows", ROWS, '    "', '"', "docs/FORMATS.md: its forms are not those"),
     ("a form that the manual page lacks", "docs/migrate.1", "\\fBmigrate c\\fR \\fIIN\\fR\n", "", "docs/migrate.1: its forms are not those"),
     ("a form with other words", "docs/migrate.1", "\\fIIN OUT", "\\fIOUT IN", "docs/migrate.1: its forms are not those"),
-    ("no forms", "docs/FORMATS.md", "    ", "- ", "docs/migrate.1: its forms are not those"),
+    ("a form that FORMATS lacks", "docs/FORMATS.md", "    c IN\n", "", "docs/FORMATS.md: its forms are not those"),
     ("a command that the README lacks", README, ", `c`", "", "README.md: its table of commands does not have"),
     ("another command", README, "`c`", "`d`", "README.md: its table of commands does not have"),
     ("a command that is none", README, "`a-b`", "`a-b`, `d`", "README.md: its table of commands does not have"),
@@ -46,11 +49,11 @@ CHANGES = [
 
 def the_pages():
     with Tree("tests/pages", "tests/usage.py") as tree:
-        [os.mkdir(f"{tree.top}/{it}") for it in ("docs", "lib")]
+        [os.makedirs(f"{tree.top}/{it}") for it in ("docs", "lib", "crates/mig_words/src")]
         put = lambda: [tree.write(f"a clone/{name}", text) for name, text in PAGES.items()]
         put()
         ran = tree.run("tests/pages")
-        Count.that("pages that are right", ran.status == 0 and ran.out == b"30 passed, 0 failed\n", ran)
+        Count.that("pages that are right", ran.status == 0 and ran.out == b"31 passed, 0 failed\n", ran)
         for name, page, old, new, said in CHANGES:
             Count.that(f"{name}: the page has what is changed", old in PAGES[page])
             tree.write(f"a clone/{page}", PAGES[page].replace(old, new, 1))
@@ -63,6 +66,12 @@ def the_pages():
             tree.write(f"a clone/{page}", PAGES[page].replace(old, new, 1))
             Count.same(name, tree.run("tests/pages").status, 0)
             put()
+        tree.write(f"a clone/{ROWS}", PAGES[ROWS].replace("IN => OUT", "OUT IN => IN"))
+        Count.same("tests/pages --write", tree.run("tests/pages", "--write").status, 0)
+        for page, old, new in (("docs/FORMATS.md", "plan IN OUT", "plan OUT IN IN"), ("docs/migrate.1", "IN OUT", "OUT IN IN")):
+            written = tree.read(f"a clone/{page}").decode()
+            Count.same(f"{page}: the forms that are put there", written, PAGES[page].replace(old, new))
+        Count.same("pages with the forms that are put there", tree.run("tests/pages").status, 0)
 
 
 def the_reading_list():

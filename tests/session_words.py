@@ -1,5 +1,5 @@
 """What tests/session tries with the words of the command line: words that are no listed form (status 2), and the numbers of a rehearsal."""
-import re
+import itertools, re
 from session_cells import digest
 from session_hints import tells
 from session_inputs import AFTER, AUDIT, CERT_TEXT, CHECK, DISKS, FILES, HALT, LIVE, MOVE, PLAN, PLAN_TEXT, put
@@ -87,6 +87,25 @@ def no_forms(program):
             Count.same("wrong words change no file", room.files(), before)
 
 
+def the_rows(program):
+    """Each row that describes a command is read as it stands: with as many words, no fewer and no more. A word that is only saved
+    stands alone among those of files, and of the others two may be the same."""
+    rows = re.findall(r'^    "([a-z-]+)"((?: [A-Z]+)*) =>((?: [A-Z]+)*): ', page("crates/mig_words/src/words.rt"), re.M)
+    Count.same("the rows", len(rows), 17)
+    with Room(program) as room:
+        is_read = lambda *words: room.run(*words).status != 2
+        for command, read, saved in rows:
+            roles = f"{read}{saved}".split()
+            words = ["2", "1", "1"] if command == "rehearse" else [it.lower() for it in roles]
+            Count.that(f"{command} is read", is_read(command, *words))
+            Count.that(f"{command} with a word too few", not is_read(command, *words[:-1]))
+            Count.that(f"{command} with a word too many", not is_read(command, *words, "more"))
+            for one, other in itertools.combinations(() if command == "rehearse" else roles, 2):
+                alone = {one, other} & {*saved.split()} and "NAME" not in (one, other)
+                same = [other.lower() if it == one else word for it, word in zip(roles, words)]
+                Count.same(f"{command} whose {one} is its {other}", is_read(command, *same), not alone)
+
+
 def reasons(program):
     """Status 2 comes with a reason on standard error."""
     with Room(program) as room:
@@ -122,4 +141,4 @@ def rehearsals(program):
             Count.same("a rehearsal changes no file", room.files(), kept)
 
 
-CASES = [no_forms, reasons, first_lines, rehearsals]
+CASES = [no_forms, the_rows, reasons, first_lines, rehearsals]

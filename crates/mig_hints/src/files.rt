@@ -1,6 +1,6 @@
 //! The files of a command: when each had changed before it, and what it holds where it hasn't changed since.
 
-use crate::commands::{is_saved, roles_of};
+use crate::commands::{is_saved, row_of};
 use crate::excerpts::{Said, Shown};
 use crate::rows::{Key, field};
 use mig_base::MAX_FILE_BYTES;
@@ -89,7 +89,7 @@ impl<'a> Given<'a> {
 
     /// What the words after it stand for, in their order.
     pub(crate) fn roles(&self) -> &'static [&'static str] {
-        roles_of(self.command()).unwrap_or(&[])
+        row_of(self.command()).map_or(&[], |row| row.roles)
     }
 
     fn place_of(&self, role: &str) -> Option<usize> {
@@ -149,11 +149,11 @@ fn read_again<R: Files<File = File> + AllocGlobal>(
     seen: &Seen,
     place: usize,
 ) -> Option<Vec<u8>> {
-    let command = words.first()?.as_str();
-    let role = roles_of(command)?.get(place)?;
+    let row = row_of(words.first()?.as_str())?;
+    let role = row.roles.get(place)?;
     let name = words.get(place.checked_add(1)?)?.as_str();
     let before = seen.words.get(place)?.as_ref()?;
-    if is_saved(command, role) || stamp_at(rt, name) != Some(*before) {
+    if is_saved(row, role) || stamp_at(rt, name) != Some(*before) {
         return None;
     }
     let mut file = fs::open(rt, name).ok()?;

@@ -1,6 +1,6 @@
 //! Says on standard error why a command ended as it did.
 
-use crate::commands::FORMS;
+use crate::commands::Forms;
 use crate::excerpts::Said;
 use crate::files::{Given, Seen, load};
 use crate::findings::{say_finding, say_no_file};
@@ -30,7 +30,7 @@ pub fn hint<R: AllocGlobal + Files<File = File> + Eprint>(
         let _ = eprintln!(rt; "{text}");
     }
     if status == 2 {
-        let _ = eprintln!(rt; "{FORMS}");
+        let _ = eprintln!(rt; "{Forms}");
     }
 }
 

@@ -1,6 +1,5 @@
 //! Status 8: what the journal says, and where to look first.
 
-use crate::commands::ending_of;
 use crate::excerpts::Said;
 use crate::files::{Given, is_missing, read_at};
 use crate::plans::{count_at, line_at};
@@ -87,7 +86,11 @@ fn say_marks(f: &mut String, given: &Given<'_>, done: u32, rounds: u32) -> Said 
     let now = given.shown("NOW");
     let next = given.shown("NEXT");
     let plan = given.shown("PLAN");
-    let tight = ending_of(given.command());
+    let tight = if given.command().ends_with("-tight") {
+        "-tight"
+    } else {
+        ""
+    };
     if done < rounds {
         return write!(
             f,

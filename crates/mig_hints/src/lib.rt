@@ -19,6 +19,6 @@ mod stores;
 mod texts;
 mod wrong_words;
 
-pub use commands::FORMS;
+pub use commands::Forms;
 pub use files::Seen;
 pub use hinting::hint;

@@ -1,9 +1,10 @@
 //! Status 2: why the words are no command.
 
-use crate::commands::{COMMANDS, is_saved, roles_of};
+use crate::commands::{is_saved, row_of};
 use crate::excerpts::{Said, Shown};
 use crate::names::say_no_name;
 use mig_base::{MAX_DISKS, MAX_ITEMS, MAX_LIMIT, Name, read_digits};
+use mig_words::{ROWS, Row};
 use std::alloc::{AllocError, Global};
 use strsim::osa_distance;
 
@@ -17,7 +18,8 @@ fn nearest(alloc: Global, word: &str) -> Result<Option<&'static str>, AllocError
     }
     let mut best = None;
     let mut fewest = MOST_EDITS + 1;
-    for command in COMMANDS {
+    for row in &ROWS {
+        let command = row.word;
         let edits = if command.eq_ignore_ascii_case(word) {
             0
         } else {
@@ -38,11 +40,11 @@ pub(crate) fn say_words(alloc: Global, f: &mut String, words: &[String]) -> Said
         return f.push_str("no word is given, and a command is wanted");
     };
     let command = command.as_str();
-    match roles_of(command) {
+    match row_of(command) {
         None => say_unknown(f, command, nearest(alloc, command)?),
-        Some(roles) if given.len() != roles.len() => say_count(f, command, roles, given),
-        Some(_) if command == "rehearse" => say_case(f, given),
-        Some(roles) => say_files(f, command, roles, given),
+        Some(row) if given.len() != row.roles.len() => say_count(f, row, given),
+        Some(row) if command == "rehearse" => say_case(f, row, given),
+        Some(row) => say_files(f, row, given),
     }
 }
 
@@ -64,18 +66,19 @@ fn is_option(word: &str) -> bool {
 }
 
 /// Too few words or too many.
-fn say_count(f: &mut String, command: &str, roles: &[&str], given: &[String]) -> Said {
+fn say_count(f: &mut String, row: &Row, given: &[String]) -> Said {
     if let Some(place) = given.iter().position(|word| is_option(word.as_str())) {
         let option = Shown(given[place].as_bytes());
         return write!(f, "there are no options; `{option}` is one");
     }
-    let wanted = roles.len();
+    let command = row.word;
+    let wanted = row.roles.len();
     let count = given.len();
     write!(
         f,
         "`{command}` is followed by {wanted} words, and here by {count}: "
     )?;
-    match (roles.get(count), given.get(wanted)) {
+    match (row.roles.get(count), given.get(wanted)) {
         (Some(role), _) => write!(f, "{role} is missing"),
         (None, Some(word)) => {
             let word = Shown(word.as_bytes());
@@ -86,8 +89,8 @@ fn say_count(f: &mut String, command: &str, roles: &[&str], given: &[String]) ->
 }
 
 /// A word that can't name the file, or the disk, that it is for, or two that are the same.
-fn say_files(f: &mut String, command: &str, roles: &[&str], given: &[String]) -> Said {
-    for (role, word) in roles.iter().zip(given) {
+fn say_files(f: &mut String, row: &Row, given: &[String]) -> Said {
+    for (role, word) in row.roles.iter().zip(given) {
         let bytes = word.as_bytes();
         let length = bytes.len();
         match *role {
@@ -109,14 +112,14 @@ fn say_files(f: &mut String, command: &str, roles: &[&str], given: &[String]) ->
             _ => {}
         }
     }
-    say_pair(f, command, roles, given)
+    say_pair(f, row, given)
 }
 
 /// Two words that are the same where one of them is saved.
-fn say_pair(f: &mut String, command: &str, roles: &[&str], given: &[String]) -> Said {
-    for (role, word) in roles.iter().zip(given) {
-        let same = same_word(roles, given, role, word.as_str());
-        if let (true, Some(other)) = (is_saved(command, role), same) {
+fn say_pair(f: &mut String, row: &Row, given: &[String]) -> Said {
+    for (role, word) in row.roles.iter().zip(given) {
+        let same = same_word(row.roles, given, role, word.as_str());
+        if let (true, Some(other)) = (is_saved(row, role), same) {
             let word = Shown(word.as_bytes());
             write!(f, "`{word}` is the word for {role} and for {other}")?;
             return write!(f, ", and {role} is saved: the two must differ");
@@ -136,8 +139,8 @@ fn same_word<'a>(roles: &[&'a str], given: &[String], role: &str, word: &str) ->
 }
 
 /// The three numbers of a rehearsal.
-fn say_case(f: &mut String, given: &[String]) -> Said {
-    for (role, word) in ["N", "PERPAIR", "LIMIT"].iter().zip(given) {
+fn say_case(f: &mut String, row: &Row, given: &[String]) -> Said {
+    for (role, word) in row.roles.iter().zip(given) {
         if read_digits(word.as_bytes()).is_none() {
             let word = Shown(word.as_bytes());
             return write!(

@@ -14,4 +14,4 @@ pub use endings::{Ending, Finding, StoreRefusal, TextFile};
 pub use naming::{disk_in, fault_ending, name_in};
 pub use putting::{Part, put_parts};
 pub use telling::{show, show_halted, show_parked, show_parts, show_rounds, tell};
-pub use words::{CaseWords, Command, PlanFiles, Reader, TaskFiles, read_words};
+pub use words::{CaseWords, Command, PlanFiles, ROWS, Reader, Row, TaskFiles, read_words};

@@ -1,4 +1,4 @@
-//! Reads the words of a command line.
+//! The commands: a row for each form, from which the texts on standard error and the pages that list them are made, and how words are read.
 ghost use Rattle.std.specs.List.{AllByRecursion};
 ghost use Rattle.std.specs.Prelude.{◌≡◌, ◌≢◌, ◌↔◌, ◌∷◌, [], IsTrue, MatchOption, codes, length, map};
 ghost use Rattle.mig_words.specs.Commands.{form_of, names_in};
@@ -6,6 +6,54 @@ ghost use Rattle.mig_words.specs.Words.{DiffersFrom, Form, IsFileWord, IsListed,
 
 use crate::case_words::over_three_numbers;
 use mig_base::Name;
+
+/// A command in its listed form.
+pub struct Row {
+    /// The command's own word.
+    pub word: &'static str,
+    /// It, and what the words after it stand for.
+    pub form: &'static str,
+    /// What the words after it stand for, in their order.
+    pub roles: &'static [&'static str],
+    /// Those of them that name a file which the command only saves: such a word stands alone.
+    pub saved: &'static [&'static str],
+    /// What the command does.
+    pub does: &'static str,
+}
+
+/// The words of a row up to `=>` are read, and those after it only saved.
+macro_rules! rows {
+    ($($word:literal $($role:ident)* => $($saved:ident)*: $does:literal;)*) => {
+        [$(Row {
+            word: $word,
+            form: concat!($word $(, " ", stringify!($role))* $(, " ", stringify!($saved))*),
+            roles: &[$(stringify!($role),)* $(stringify!($saved),)*],
+            saved: &[$(stringify!($saved),)*],
+            does: $does,
+        },)*]
+    };
+}
+
+/// The commands in the order in which they are listed.
+pub static ROWS: [Row; 17] = rows! {
+    "plan" DISKS NOW NEXT => PLAN CERT: "plan the moves from NOW to NEXT, and save PLAN and CERT";
+    "check" DISKS NOW NEXT PLAN CERT =>: "judge a plan and its certificate";
+    "after" DISKS NOW NEXT PLAN =>: "print where the items are once the plan is carried out";
+    "fill" DISKS NOW =>: "write a made item to each spot of NOW";
+    "audit" DISKS NOW =>: "say of each item whether it is at its spot of NOW";
+    "move" DISKS NOW NEXT PLAN =>: "carry the plan out";
+    "resume" DISKS NOW NEXT PLAN =>: "carry out what a stopped move left";
+    "halt" DISKS NOW NEXT PLAN => LAYOUT: "close the plan where it stands, and save where the items are there";
+    "drill" DISKS NOW NEXT PLAN =>: "try each stop of the plan on stores in memory";
+    "live" DISKS NOW NEXT PLAN SCRIPT =>: "carry the plan out step by step, and read items in between, as SCRIPT says";
+    "drain" DISKS NOW NAME => NEXT: "find next disks that empty the disk NAME, and save them in NEXT";
+    "rehearse" N PERPAIR LIMIT =>: "plan a case of N disks with this limit and PERPAIR items from each to each other";
+    "plan-tight" DISKS NOW NEXT => PLAN: "plan one item at a time where disks lack room, and save PLAN";
+    "after-tight" DISKS NOW NEXT PLAN =>: "as after, but no disk is asked for room";
+    "move-tight" DISKS NOW NEXT PLAN =>: "as move, but no disk is asked for room";
+    "resume-tight" DISKS NOW NEXT PLAN =>: "as resume, but no disk is asked for room";
+    "halt-tight" DISKS NOW NEXT PLAN => LAYOUT: "as halt, but no disk is asked for room";
+};
 
 /// The words that name the three files, and that of a plan.
 #[derive(Clone, Copy)]
