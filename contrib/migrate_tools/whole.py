@@ -98,10 +98,9 @@ class Planner:
         """The verdict on a plan."""
         return self.migrate("check", *FILES, "cert.txt", sub=sub).strip()
 
-    def lines(self, what: str, verdict: str, sizes: Mapping[str, int], more: Iterable[str],
+    def lines(self, plan: Plan, what: str, verdict: str, sizes: Mapping[str, int], more: Iterable[str],
               scripts: Iterable[str]) -> str:
         """What is said of the plan, and where all is."""
-        plan = read_plan(self.at("plan.txt"))
         first = f"{what} move, {said(sum(sizes[it.item] for it in plan.shifts()))}, in {len(plan.rounds)} rounds: "
         return "\n".join([first + verdict, *more, *(os.path.join(self.said, it) for it in scripts), ""])
 
@@ -169,4 +168,5 @@ class WishPlanner(Planner):
             lines.append(f"disk {disk} is {100 * part:.0f} % full at most, in round {at}")
         lines.append(f"way back: {self.way_back}")
         count, all_ = len({it.item for it in plan.shifts()}), len(read_rows(self.at("now.csv"), NOW))
-        return self.lines(f"{count} of {all_} items", self.verdict, sizes, lines, ("move.sh", "back.sh", "report.html"))
+        what, scripts = f"{count} of {all_} items", ("move.sh", "back.sh", "report.html")
+        return self.lines(plan, what, self.verdict, sizes, lines, scripts)

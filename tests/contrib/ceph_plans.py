@@ -123,6 +123,12 @@ def what_plan_ceph_refuses():
         limits = {name: both for name, *both, _ in rows_of(room.read("plan/disks.csv"))}
         found = limits["osd.6"], limits["osd.7"]
         Count.same("osd_max_backfills is each daemon's own", found, (["3", "3"], ["1", "1"]))
+        Count.same("one command asks all of them", room.state("ceph.json")["told"], ["osd.*"])
+        room.keep("state/ceph.json", {**state, "most": {"osd.6": 3}, "down": ["osd.31"]})
+        ran = room.run(f"rm -r plan; contrib/plan-ceph {WORDS}; grep -c osd plan/disks.csv")
+        asked, (count, again) = room.state("ceph.json")["told"][1:], (
+            ran.stdout.splitlines()[-1], {name: both for name, *both, _ in rows_of(room.read("plan/disks.csv"))})
+        Count.same("those of one that is down are asked one by one", (str(len(asked)), again == limits), (count, True))
         said = "plan has a plan with its way back already: name another folder"
         refused(room, "a folder with a plan", f"contrib/plan-ceph {WORDS}", said)
 

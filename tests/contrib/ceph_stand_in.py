@@ -79,14 +79,20 @@ class Ceph:
                 return json.dump({"out": state.get("out", []), "weights": state.get("weights", {}),
                                   "pairs": self.kept}, file)
         if words[0] == "tell" and words[2:] == ["config", "get", "osd_max_backfills"]:
-            return print(json.dumps({"osd_max_backfills": str(state.get("most", {}).get(words[1], 1))}))
+            asked = [f"osd.{it}" for it in range(32)] if words[1] == "osd.*" else [words[1]]
+            state.setdefault("told", []).append(words[1])
+            for osd in (it for it in asked if it not in state.get("down", [])):
+                said = json.dumps({"osd_max_backfills": str(state.get("most", {}).get(osd, 1))})
+                print(f"\n{osd}: {said}" if words[1] == "osd.*" else said)
+            return self.refused(6, "ENXIO: problem getting command descriptions from an OSD in") \
+                if {*asked} & {*state.get("down", [])} else None
         if words == ["osd", "df"]:
             used = state.get("used", {})
             rows = [(it, int(used.get(str(it), 0.5) * (100 << 20))) for it in range(32)]
             return print(json.dumps({"nodes": [{"id": it, "kb": 100 << 20, "kb_used": kb} for it, kb in rows]}))
         if words == ["pg", "dump"]:
-            stats = [{"pgid": it, "stat_sum": {"num_bytes": 1 << 30}} for it in state["raw"]]
-            return print(json.dumps({"pg_map": {"pg_stats": stats}}))
+            stats = [{**it, "stat_sum": {"num_bytes": 1 << 30}} for it in json.loads(self.look())["pg_stats"]]
+            return print(json.dumps({"pg_ready": True, "pg_map": {"pg_stats": stats}}))
         if words in (["osd", "dump"], ["pg", "dump", "pgs_brief"], ["health"], ["balancer", "status"]):
             return print({"osd": self.dump, "pg": self.look, "health": self.health, "balancer": lambda: json.dumps(
                 {"active": state["balancer"], "mode": "upmap"}, indent=4)}[words[0]](), end="")

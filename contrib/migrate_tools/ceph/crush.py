@@ -61,6 +61,8 @@ class Rule:
 def paired(leave: Sequence[int], come: Sequence[int], rule: Rule, known: Pairs) -> dict[int, int]:
     """Which of these OSDs takes the place of which: as is known, then within a host, a rack and so on, then as they
     come."""
+    if len(leave) == len(come) < 2:
+        return dict(zip(leave, come))
     pairs, left = dict[int, int](), list(come)
 
     def pair(one: int, two: int) -> None:

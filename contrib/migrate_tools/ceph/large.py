@@ -3,11 +3,11 @@ few as can be (König 1916), and the program looks at them in parts: each has so
 stands for all other disks by a few that are never full. So in each part it looks whether these disks keep their limits
 in every round, and whether each item gets to where it is to be; and in that of the busiest disk, whether fewer rounds
 do."""
-import collections, os
+import collections, hashlib, os
 from collections.abc import Hashable, Mapping, Sequence
 from ..command import Wrong, read_text, save_all
 from ..disks import Disks, Limits, Side, Split, disk_rows, limits_by_side, sides_of
-from ..plans import MOST_DISKS, MOST_ITEMS, MOST_LIMIT, Shift, plan_text, table
+from ..plans import MOST_DISKS, MOST_ITEMS, MOST_LIMIT, Plan, Shift, plan_text, table
 from ..whole import FILES, NOW, Planner
 
 Rounds = Sequence[Sequence[Shift]]
@@ -103,10 +103,10 @@ def files_of(rounds: Rounds, disks: Disks, parts: Mapping[str, int], part: int) 
     return dict(zip(FILES, texts))
 
 
-def plan(planner: Planner, sub: str, shifts: Sequence[Shift], disks: Disks) -> str:
-    """Makes plan.txt and cert.txt of a folder. Gives the verdict."""
+def plan(planner: Planner, sub: str, shifts: Sequence[Shift], disks: Disks) -> tuple[Plan, str]:
+    """Makes plan.txt and cert.txt of a folder. Gives the plan, and the verdict."""
     rounds, limits = rounds_of(shifts, disks), limits_by_side(disks)
-    if collections.Counter(it for round_ in rounds for it in round_) != collections.Counter(shifts):
+    if sorted(it for round_ in rounds for it in round_) != sorted(shifts):
         raise Wrong("the rounds that were made do not have all moves")
     used = collections.Counter(side for it in shifts for side in sides_of(it, disks))
     busiest = max(used, key=lambda side: (-(-used[side] // limits[side]), side)).disk
@@ -126,5 +126,6 @@ def plan(planner: Planner, sub: str, shifts: Sequence[Shift], disks: Disks) -> s
             planner.migrate("plan", *FILES[:3], "least.txt", "cert.txt", sub=folder)
             verdict = planner.checked(folder)
             save_all({planner.at(os.path.join(sub, "cert.txt")): read_text(planner.at(f"{folder}/cert.txt"))})
-    save_all({planner.at(os.path.join(sub, "plan.txt")): plan_text(rounds)})
-    return f"{verdict}, looked at in {len(split)} parts"
+    text = plan_text(rounds)
+    save_all({planner.at(os.path.join(sub, "plan.txt")): text})
+    return Plan(rounds, hashlib.sha256(text.encode()).digest()), f"{verdict}, looked at in {len(split)} parts"

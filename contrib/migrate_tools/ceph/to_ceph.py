@@ -85,7 +85,7 @@ def read_words() -> argparse.Namespace:
 @command
 def main() -> None:
     given = read_words()
-    plan, groups = read_plan(given.plan), read_change(given, True)
+    plan, groups = read_plan(given.plan), read_change(given, True)[0]
     path, saved = given.rounds or (given.eager, None)
     disks = read_disks(path) if path else None
     if disks is not None:
