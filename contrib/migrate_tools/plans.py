@@ -6,7 +6,7 @@ from typing import NamedTuple, NoReturn
 from .command import Wrong, read_bytes, read_text
 
 NAME = re.compile(r"[A-Za-z0-9_.-]{1,32}", re.ASCII)
-NUMBER = re.compile(r"0|[1-9][0-9]{0,9}", re.ASCII)
+SHIFT = re.compile("({0}) ({0}) ([0-9]+) ({0}) ([0-9]+)".format(NAME.pattern), re.ASCII)
 MOST_BYTES, MOST_DISKS, MOST_ITEMS, MOST_SLOTS, MOST_LIMIT = 1 << 24, 1024, 65536, 65536, 1024
 
 
@@ -71,22 +71,22 @@ class PlanText:
     def bad(self) -> NoReturn:
         raise Wrong(f"line {self.at} does not fit a plan; `migrate plan` writes one", self.path)
 
-    def line(self, pattern: str) -> tuple[str, ...]:
+    def line(self, pattern: str | re.Pattern[str]) -> tuple[str, ...]:
         """What the groups of the pattern are in the next line."""
         self.at += 1
-        found = self.at <= len(self.lines) and re.fullmatch(pattern, self.lines[self.at - 1], re.ASCII)
+        found = self.at <= len(self.lines) and re.compile(pattern).fullmatch(self.lines[self.at - 1])
         return found.groups() if found else self.bad()
 
     def number(self, text: str, most: int) -> int:
-        return int(text) if NUMBER.fullmatch(text) and int(text) <= most else self.bad()
+        is_number = len(text) <= 10 and (text[0] != "0" or text == "0") and int(text) <= most
+        return int(text) if is_number else self.bad()
 
     def count(self, what: str, most: int) -> int:
         """How many of these follow, by the next line."""
-        return self.number(self.line(rf"{what} (\d+)")[0], most)
+        return self.number(self.line(rf"{what} ([0-9]+)")[0], most)
 
     def shift(self) -> Shift:
-        name = f"({NAME.pattern})"
-        item, source, slot, target, to = self.line(rf"{name} {name} (\d+) {name} (\d+)")
+        item, source, slot, target, to = self.line(SHIFT)
         return Shift(item, source, self.number(slot, MOST_SLOTS - 1), target, self.number(to, MOST_SLOTS - 1))
 
 
@@ -108,7 +108,7 @@ def read_plan(path: str) -> Plan:
     text.line("migration-plan 1")
     rounds = []
     for round_ in range(1, text.count("rounds", 131072) + 1):
-        rounds.append([text.shift() for _ in range(text.count(f"round {round_}", 65536))])
+        rounds.append([text.shift() for _ in range(text.count(f"round {round_}", MOST_BYTES))])
     text.line("end")
     text.line("")
     if text.at < len(text.lines):

@@ -85,16 +85,16 @@ class Group:
         pairs = self.pairs(osds)
         return ([], pairs) if isinstance(pairs, str) else (pairs, self.rule.broken(landed(self.chosen, pairs)))
 
-    def filler(self, before: list[int], after: list[int]) -> int:
-        """The OSD that fills what comes to the group between these two states, at which Ceph counts that: its acting
-        primary meanwhile. Of shards it is that of the first one. Of copies it is the first of the new ones, if it has
+    def filler(self, before: list[int], after: list[int], pairs: Pairs | str = "") -> int:
+        """The OSD that fills what comes to the group between these two states, the second by these exceptions where
+        they are known, at which Ceph counts that: its acting primary meanwhile. Of shards it is that of the first one. Of copies it is the first of the new ones, if it has
         the data; where that one is new itself, Ceph takes of those that have the data that of the lowest number."""
         if self.shards:
             return next(it for it in before if it != NO_OSD)
         if not self.shy and self.chosen[0] in after:
             first = self.chosen[0]
         else:
-            pairs = self.pairs(after)
+            pairs = pairs or self.pairs(after)
             order = landed(self.chosen, [] if isinstance(pairs, str) else pairs)
             first = next((it for it in order if it not in self.shy), order[0])
         return first if first in before else min(before)

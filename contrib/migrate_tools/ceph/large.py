@@ -106,7 +106,8 @@ def files_of(rounds: Rounds, disks: Disks, parts: Mapping[str, int], part: int) 
 def plan(planner: Planner, sub: str, shifts: Sequence[Shift], disks: Disks) -> tuple[Plan, str]:
     """Makes plan.txt and cert.txt of a folder. Gives the plan, and the verdict."""
     rounds, limits = rounds_of(shifts, disks), limits_by_side(disks)
-    if sorted(it for round_ in rounds for it in round_) != sorted(shifts):
+    made = [it for round_ in rounds for it in round_]
+    if len(made) != len(shifts) or {*made} != {*shifts}:
         raise Wrong("the rounds that were made do not have all moves")
     used = collections.Counter(side for it in shifts for side in sides_of(it, disks))
     busiest = max(used, key=lambda side: (-(-used[side] // limits[side]), side)).disk

@@ -11,7 +11,7 @@ it. --balance takes the moves that `osdmaptool --upmap` chooses, after the chang
   plan-ceph --make FOLDER [-n]                what change.sh calls: looks which groups would move for the change now,
                                               makes it where the plan moves none of them, in one epoch where it can
 A plan that would fill an OSD past nearfull in any round is refused, with the OSD and the round."""
-import argparse, collections, json, os, re, shlex
+import argparse, collections, gc, json, os, re, shlex
 from collections.abc import Mapping, Sequence
 from ..command import Wrong, command, here, note, put, read_text, save_all, words
 from ..disks import Disks, read_disks
@@ -212,6 +212,7 @@ def change_of(given: argparse.Namespace) -> Change:
 @command
 def main() -> None:
     given = read_words()
+    gc.disable()  # what is made here holds no rings, and is much
     try:
         if given.make is not None:
             return make(given.make, given.only_print)

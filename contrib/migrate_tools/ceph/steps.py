@@ -128,7 +128,7 @@ def steps_of(groups: Mapping[str, Group], rounds: Mapping[str, Mapping[str, int]
         before, old, was = -1, group.old or [], group.before
         for at, osds, pairs in group.states(those, hold):
             items = {it: its for it, its in those.items() if before < its <= at}
-            filler = None if given or not items else group.filler(was, osds)
+            filler = None if given or not items else group.filler(was, osds, pairs)
             counts = counts_of([shifts[it] for it in items], filler, disks) if disks and items else {}
             steps.append(Step(at, name, "=" * group.shards + ",".join(map(str, osds)), pairs, [old], counts, items))
             before, was, old = at, osds, pairs
