@@ -4,8 +4,8 @@ from its map to scripts. Nothing of the cluster is changed by it.
 It reads the map, asks the OSDs for osd_max_backfills, looks by osdmaptool where each placement group is and where it
 will be, plans, checks, and writes into FOLDER: move.sh, which brings the copies where the change will want them;
 change.sh, which makes the change itself, for which then nothing moves; back.sh, which undoes what move.sh has done so
-far, while the change is not made; and all that these were made from, as `from-ceph`, `migrate plan` and `to-ceph` have
-it. --balance takes the moves that `osdmaptool --upmap` chooses, after the change where there is one.
+far, while the change is not made; report.html; and all that these were made from, as `from-ceph`, `migrate plan` and
+`to-ceph` have it. --balance takes the moves that `osdmaptool --upmap` chooses, after the change where there is one.
   plan-ceph --continue SCRIPT --into FOLDER   plans what is left of a script anew, from the cluster as it is: to where
                                               each group of it was to go, as far as Ceph still lets it
   plan-ceph --make FOLDER [-n]                what change.sh calls: looks which groups would move for the change now,
@@ -173,7 +173,8 @@ class CephPlanner(Planner):
         if found:
             osd, (part, at) = max(found.items(), key=lambda it: it[1])
             lines.insert(0, f"fullest: osd.{osd} with {part:.1%}, in round {at}; nearly full is {self.nearfull:.0%}")
-        names = [it for it in ("move.sh", "change.sh", "back.sh") if it in files]
+        self.command("report", *FILES[3:], *FILES[:2], "cert.txt", "--out", "report.html")
+        names = [it for it in ("move.sh", "change.sh", "back.sh", "report.html") if it in files or it[-1] == "l"]
         return self.lines(plan, f"{len(plan.shifts())} copies", f"{verdict}, {bound}", self.sizes, lines, names)
 
 
