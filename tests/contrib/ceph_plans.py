@@ -4,7 +4,7 @@ from ceph import FOUR
 from ceph_model import exceptions_in, groups_in, up_of
 from ceph_steps import DONE, HOLD, printed
 from migrate_tools import disks, plans
-from migrate_tools.ceph import fullness, groups, large, maps, plan_ceph
+from migrate_tools.ceph import change, fullness, groups, large, maps, plan_ceph
 from migrate_tools.command import Wrong
 from rooms import PROGRAM, Count, Room, page, refused, rows_of, shifts_of
 
@@ -42,6 +42,11 @@ def planned_ceph():
         Count.that("the change is refused before its moves", is_refused and room.read("state/log") is None, ran)
         Count.same("move.sh", room.good("move", "cd plan && sh move.sh | tail -n 1"), DONE)
         Count.same("each group is where it is to be", where(room), AFTER)
+        room.keep("state/ceph.json", {**room.state("ceph.json"), "epoch": 1 << 20})
+        ran, log = room.run("cp state/log log; cd plan && sh change.sh"), room.read("log")
+        is_refused = ran.returncode == 1 and "the map has changed while this looked, and nothing was" in ran.stderr
+        Count.that("another epoch than that of the look is refused", is_refused and room.read("state/log") == log, ran)
+        room.keep("state/ceph.json", {it: one for it, one in room.state("ceph.json").items() if it != "epoch"})
         said = room.good("change", "cd plan && sh change.sh -n")
         wanted = ["ceph osd set norebalance", "ceph osd crush reweight osd.3 0.5", "ceph osd out 5",
                   "ceph osd unset norebalance"]
@@ -52,6 +57,42 @@ def planned_ceph():
         Count.same("nothing moved for it", where(room), AFTER)
         ran = room.run("cd plan && sh back.sh")
         Count.that("the way back ends with the change", ran.returncode == 1 and "begin again" in ran.stderr, ran)
+
+
+def the_change_of_ceph():
+    """One command, and so one epoch, where one can say it; and what may move for it are those that were left out."""
+    for out, weights, *wanted in (
+            ([5, 7], {}, "osd out 5 7"), ([], {3: "0.5"}, "osd crush reweight osd.3 0.5"),
+            ([], {3: "0.5", 4: "2"}, "osd setcrushmap -i new 9"),
+            ([5], {3: "0.5", 4: "2"}, "osd set norebalance", "osd setcrushmap -i new 9", "osd out 5",
+             "osd unset norebalance")):
+        found = change.commands_of(maps.Change(out, weights), "9", "new")
+        Count.same(f"out {out}, weights {weights}", [" ".join(it) for it in found], wanted)
+    with Room() as room:
+        room.good("plan-ceph", f"contrib/plan-ceph {WORDS}")
+        moving = sorted({it.split()[3] for it in printed(room, "plan/move.sh")})
+        for left, status in ((moving, 0), (moving[1:], 1)):
+            room.keep("plan/change.json", {"out": [5], "weights": {"3": "0.5"}, "left_out": left})
+            said = f"{len(moving)} placement groups would move for the change, {len(left)} of them left out of the plan"
+            ran = room.says("left out", "cd plan && sh change.sh -n", said, status=status)
+            named = re.findall(r"plan-ceph: (.*) would move: ", ran.stderr)
+            Count.same("what moves besides is named", named, moving[:1] if status else [])
+
+
+def balanced_ceph():
+    """What osdmaptool --upmap chooses, once; there is no change to be made then."""
+    with Room() as room:
+        room.good("plan-ceph", f"contrib/plan-ceph {WORDS}")
+        *_, group = (line := printed(room, "plan/move.sh")[-1]).split()[:4]
+        pairs = [int(it) for it in line.split()[4:]]
+        room.keep("state/balance", {group: list(zip(pairs[::2], pairs[1::2]))})
+        for words, asked in (("--balance --into b", "--upmap-deviation 1 --upmap-max 1000 --save"),
+                             ("--balance p5 --deviation 2 --most 9 --into c",
+                              "--upmap-deviation 2 --upmap-max 9 --upmap-pool p5 --save")):
+            room.good("plan-ceph", f"contrib/plan-ceph {words}")
+            Count.same(f"{words}: how osdmaptool is asked", room.read("state/balanced"), f"{asked}\n")
+            Count.same(f"{words}: what it chose", printed(room, f"{words.split()[-1]}/move.sh"), [line])
+            Count.same(f"{words}: no change", room.read(f"{words.split()[-1]}/change.sh"), None)
 
 
 def the_way_back():
@@ -283,5 +324,5 @@ def real_plans():
     return None
 
 
-CASES = (planned_ceph, the_way_back, what_is_left_of_ceph, what_plan_ceph_refuses, fuller_and_fuller, colours,
-         large_ceph, real_plans)
+CASES = (planned_ceph, the_change_of_ceph, balanced_ceph, the_way_back, what_is_left_of_ceph, what_plan_ceph_refuses,
+         fuller_and_fuller, colours, large_ceph, real_plans)

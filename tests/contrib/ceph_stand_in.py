@@ -38,6 +38,11 @@ def osdmaptool(words):
         now["out"].append(int([two for one, two in zip(words, words[1:]) if one == "--mark-out"][-1]))
     weights = said.get("--adjust-crush-weight", "")
     now["weights"].update(it.split(":") for it in weights.split(",") if it)
+    if "--upmap" in said:  # what balances is the test's; how it was asked for is kept
+        with open(f"{os.environ['STAND_IN']}/balance", encoding="ascii") as file:
+            now["pairs"].update(json.load(file))
+        with open(f"{os.environ['STAND_IN']}/balanced", "w", encoding="ascii") as file:
+            print(*words[3:], file=file)
     if "--export-crush" in said:
         return print("osdmaptool: exported crush map", file=open(said["--export-crush"], "w", encoding="ascii"))
     if "--upmap-cleanup" in said:
@@ -56,7 +61,7 @@ def osdmaptool(words):
         for name, raw in raws(now["out"], now["weights"]).items():
             lists = [f"([{','.join(map(str, it))}], p{it[0]})" for it in (raw, up_of(raw, now["pairs"].get(name, [])))]
             print(f"{name} raw {lists[0]} up {lists[1]} acting {lists[1]}")
-    if "--save" in said and weights:
+    if "--save" in said and (weights or "--upmap" in said):
         with open(words[0], "w", encoding="ascii") as file:
             json.dump(now, file)
     return None
@@ -148,7 +153,7 @@ class Ceph:
             items = [{"pgid": group, "mappings": [{"from": one, "to": two} for one, two in pairs]}
                      for group, pairs in self.kept.items()]
             epoch = int(re.search(r"^epoch (\d+)", sample("dump"))[1])
-            return json.dumps({"epoch": epoch, "flags": flags, "pg_upmap": [], "pg_upmap_items": items,
+            return json.dumps({"epoch": self.state.get("epoch", epoch), "flags": flags, "pg_upmap": [], "pg_upmap_items": items,
                                "nearfull_ratio": 0.85, "crush_version": 3})
         lines = (f"pg_upmap_items {group} [{','.join(str(it) for pair in pairs for it in pair)}]\n"
                  for group, pairs in self.kept.items())
