@@ -252,7 +252,9 @@ def large_ceph():
     osds, count = (4000, 100000) if is_large else (1200, 3000)
     with Room() as room:
         after, began = made_large(room, osds, count), sum(resource.getrusage(resource.RUSAGE_CHILDREN)[:2])
-        said = room.good("plan-ceph", "alone/plan-ceph --reweight 0:0.5 --into plan")
+        ran = room.begin("exec alone/plan-ceph --reweight 0:0.5 --into plan >said 2>notes").wait(3600)
+        Count.same("plan-ceph", (ran, room.read("notes").count("\n")), (0, 1))
+        said = room.read("said")
         took = sum(resource.getrusage(resource.RUSAGE_CHILDREN)[:2]) - began
         print(f"note: {3 * count} moves planned by {took:.0f} s of a processor" if is_large else "", end="\n" * is_large)
         Count.that("planned in under a minute", took < 60, took)

@@ -18,8 +18,8 @@ from types import FrameType
 from ..calls import Ending, add_hook, call
 from ..clock import Clock, add_times, round_of, tell
 from ..command import Wrong, command, note, put, read_text, words
-from ..locks import Lock
 from .cluster import AT_ONCE, LOCK, Key, Silent, View, ceph, is_balancing, view
+from .locks import Lock
 from .steps import Step, pairs_text, read_step
 
 MOST = {"ill": 3, "peering": 10, "elsewhere": 10}  # so many looks in a row, and it stops

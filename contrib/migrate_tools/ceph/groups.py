@@ -87,8 +87,9 @@ class Group:
 
     def filler(self, before: list[int], after: list[int], pairs: Pairs | str = "") -> int:
         """The OSD that fills what comes to the group between these two states, the second by these exceptions where
-        they are known, at which Ceph counts that: its acting primary meanwhile. Of shards it is that of the first one. Of copies it is the first of the new ones, if it has
-        the data; where that one is new itself, Ceph takes of those that have the data that of the lowest number."""
+        they are known, at which Ceph counts that: its acting primary meanwhile. Of shards it is that of the first one.
+        Of copies it is the first of the new ones, if it has the data; where that one is new itself, Ceph takes of those
+        that have the data that of the lowest number."""
         if self.shards:
             return next(it for it in before if it != NO_OSD)
         if not self.shy and self.chosen[0] in after:
@@ -158,19 +159,13 @@ Lists = dict[str, tuple[list[int], list[int]]]
 
 def reader(doc: str | None, *names: str) -> argparse.ArgumentParser:
     """A reader of the words that both commands have, after these."""
-    found = words((doc or "") + FILES)
-    for name in (*names, "before", "after", "dump", "crush"):
-        found.add_argument(name, metavar=name.upper())
+    found = words((doc or "") + FILES, *names, "before", "after", "dump", "crush")
     found.add_argument("--hold", action="store_true", help="the weights are as AFTER already")
     return found
 
 
 def numbers(text: str) -> list[int]:
     return [int(it) for it in text.split(",") if it]
-
-
-def pairs_of(osds: list[int]) -> Pairs:
-    return list(zip(osds[::2], osds[1::2]))
 
 
 def read_groups(path: str, cleaned: bool) -> Lists:
@@ -221,7 +216,8 @@ def read_pools(dump: str, crush: str) -> tuple[dict[str, Pool], dict[str, Pairs 
             raise Wrong(f"has no rule {rule}, which pool {name} of {dump} has", crush)
         pools[name] = Pool(rules[rule], kind == "erasure", int(size))
     for items, name, osds in re.findall(r"^pg_upmap(_items)? (\S+) \[([0-9,]*)\]", text, re.M):
-        old[name] = pairs_of(numbers(osds)) if items and old.get(name, ()) is not None else None
+        pairs = list(zip(numbers(osds)[::2], numbers(osds)[1::2]))
+        old[name] = pairs if items and old.get(name, ()) is not None else None
     return pools, old
 
 
@@ -262,8 +258,8 @@ def read_change(given: argparse.Namespace, leave_out: bool) -> tuple[dict[str, G
                         f"{now}", given.dump)
         groups[name] = group
     if refused and not leave_out:
-        raise Wrong(f"{len(refused)} of {len(before)} placement groups cannot be carried out; --leave-out leaves them where "
-                    "they are, and plans the others")
+        raise Wrong(f"{len(refused)} of {len(before)} placement groups cannot be carried out; --leave-out leaves them "
+                    "where they are, and plans the others")
     if not groups:
         raise Wrong("no placement group is left")
     return groups, refused

@@ -8,7 +8,7 @@ of from-folders: --empty MNT, --move ITEM=MNT, --spread, --balance N; --unit, --
 import os, shlex
 from ..command import command, here, put, save_all
 from ..fullness import Room
-from ..plans import Plan, read_plan, read_rows, table
+from ..plans import Plan, read_rows, table
 from ..shell import filled
 from ..whole import Planner, WishPlanner, handed_on, reader_of
 from .found import bytes_of

@@ -28,10 +28,8 @@ LEAST_UNIT, MOST_PVMOVES = 16, 300  # of the unit that is chosen, where the wish
 
 
 def read_words() -> argparse.Namespace:
-    reader = words(__doc__)
+    reader = words(__doc__, "lvs", "pvs")
     add = reader.add_argument
-    add("lvs", metavar="LVS")
-    add("pvs", metavar="PVS")
     add("--move", metavar="VOLUME=PV", action="append", default=[], help="this volume is to be on that physical volume")
     add("--empty", metavar="PV", action="append", default=[], help="nothing is to stay on this physical volume")
     add("--spread", action="store_true", help="all are to be in use in about the same part")

@@ -9,7 +9,7 @@ import os
 from ..calls import output
 from ..command import command, put, save_all
 from ..fullness import Room
-from ..plans import Plan, read_plan, read_rows, table
+from ..plans import Plan, read_rows, table
 from ..whole import WishPlanner, handed_on, reader_of
 from .pvmoves import apart, read_names, read_pvmoves
 from .reports import LVS, PVS
