@@ -95,8 +95,7 @@ def plan_text(rounds: Iterable[Iterable[Shift]]) -> str:
     all_ = [list(it) for it in rounds]
     lines = ["migration-plan 1", f"rounds {len(all_)}"]
     for at, shifts in enumerate(all_, 1):
-        lines += [f"round {at} {len(shifts)}",
-                  *(f"{it.item} {it.source} {it.source_slot} {it.target} {it.target_slot}" for it in shifts)]
+        lines += [f"round {at} {len(shifts)}", *("%s %s %s %s %s" % it for it in shifts)]
     return "\n".join([*lines, "end", ""])
 
 

@@ -70,7 +70,10 @@ def turned(plan: Plan, disks: Disks) -> list[list[Shift]]:
             number += 1
         at.append(number)
         used.update((number, side) for side in sides_of(it, disks))
-    return [[it for it, number in zip(shifts, at) if number == round_] for round_ in range(max(at, default=-1) + 1)]
+    found: list[list[Shift]] = [[] for _ in range(max(at, default=-1) + 1)]
+    for it, number in zip(shifts, at):
+        found[number].append(it)
+    return found
 
 
 class Planner:

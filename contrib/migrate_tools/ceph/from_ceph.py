@@ -22,9 +22,10 @@ def read_limits(words: Sequence[str], osds: Sequence[int], as_ceph: bool) -> dic
     """The limits of each OSD that has some by these words: 'N' or 'OUT,IN' for all others, and 'OSD=N' or
     'OSD=OUT,IN'. As Ceph counts, N is N,N."""
     limits = dict[int, Limits | None]() if words or not as_ceph else dict.fromkeys(osds, Split())
+    names = {*map(str, osds)}
     for osd, is_, limit in (word.rpartition("=") for word in words):
         osd = osd.removeprefix("osd.")
-        if is_ and osd not in map(str, osds):
+        if is_ and osd not in names:
             raise Wrong(f"--backfills: osd.{osd} has no copy before or after")
         for it in [int(osd)] if is_ else [it for it in osds if it not in limits]:
             numbers = limit.split(",")
@@ -58,8 +59,7 @@ def files_of(shifts: Sequence[Shift], limits: Mapping[str, Limits | None]) -> di
     for it in shifts:
         slots[it.source] = max(slots[it.source], it.source_slot + 1)
         slots[it.target] = max(slots[it.target], it.target_slot + 1)
-    now = [["item", "disk", "slot"], *([it.item, it.source, str(it.source_slot)] for it in shifts)]
-    next_ = [["item", "disk"], *([it.item, it.target] for it in shifts)]
+    now, next_ = [("item", "disk", "slot"), *(it[:3] for it in shifts)], [("item", "disk"), *(it[::3] for it in shifts)]
     return {"disks.csv": disk_rows(limits, slots, "--backfills"), "now.csv": now, "next.csv": next_}
 
 

@@ -165,7 +165,7 @@ def reader(doc: str | None, *names: str) -> argparse.ArgumentParser:
 
 
 def numbers(text: str) -> list[int]:
-    return [int(it) for it in text.split(",") if it]
+    return list(map(int, filter(None, text.split(","))))
 
 
 def read_groups(path: str, cleaned: bool) -> Lists:
