@@ -61,35 +61,6 @@ def number(text: str, least: int, most: int, where: str) -> int:
     return int(text)
 
 
-class PlanText:
-    """The lines of a plan text, which are read one after the other."""
-
-    def __init__(self, path: str) -> None:
-        self.path, self.data, self.at = path, read_bytes(path), 0
-        self.lines = self.data.decode("utf-8", "replace").split("\n")
-
-    def bad(self) -> NoReturn:
-        raise Wrong(f"line {self.at} does not fit a plan; `migrate plan` writes one", self.path)
-
-    def line(self, pattern: str | re.Pattern[str]) -> tuple[str, ...]:
-        """What the groups of the pattern are in the next line."""
-        self.at += 1
-        found = self.at <= len(self.lines) and re.compile(pattern).fullmatch(self.lines[self.at - 1])
-        return found.groups() if found else self.bad()
-
-    def number(self, text: str, most: int) -> int:
-        is_number = len(text) <= 10 and (text[0] != "0" or text == "0") and int(text) <= most
-        return int(text) if is_number else self.bad()
-
-    def count(self, what: str, most: int) -> int:
-        """How many of these follow, by the next line."""
-        return self.number(self.line(rf"{what} ([0-9]+)")[0], most)
-
-    def shift(self) -> Shift:
-        item, source, slot, target, to = self.line(SHIFT)
-        return Shift(item, source, self.number(slot, MOST_SLOTS - 1), target, self.number(to, MOST_SLOTS - 1))
-
-
 def plan_text(rounds: Iterable[Iterable[Shift]]) -> str:
     """The text of a plan of these rounds."""
     all_ = [list(it) for it in rounds]
@@ -101,16 +72,38 @@ def plan_text(rounds: Iterable[Iterable[Shift]]) -> str:
 
 def read_plan(path: str) -> Plan:
     """The plan of a plan text. What it does is for `check` and `after` to judge; its form is judged here."""
-    text = PlanText(path)
-    if len(text.data) > MOST_BYTES:
-        text.bad()
-    text.line("migration-plan 1")
-    rounds = []
-    for round_ in range(1, text.count("rounds", 131072) + 1):
-        rounds.append([text.shift() for _ in range(text.count(f"round {round_}", MOST_BYTES))])
-    text.line("end")
-    text.line("")
-    if text.at < len(text.lines):
-        text.at += 1
-        text.bad()
-    return Plan(rounds, hashlib.sha256(text.data).digest())
+    data, at = read_bytes(path), 0
+    lines = data.decode("utf-8", "replace").split("\n")
+
+    def bad() -> NoReturn:
+        raise Wrong(f"line {at} does not fit a plan; `migrate plan` writes one", path)
+
+    def line(pattern: str | re.Pattern[str]) -> tuple[str, ...]:
+        """What the groups of the pattern are in the next line."""
+        nonlocal at
+        at += 1
+        found = at <= len(lines) and re.compile(pattern).fullmatch(lines[at - 1])
+        return found.groups() if found else bad()
+
+    def number(text: str, most: int) -> int:
+        is_number = len(text) <= 10 and (text[0] != "0" or text == "0") and int(text) <= most
+        return int(text) if is_number else bad()
+
+    def each(what: str, most: int) -> range:
+        """As many as the next line says of these."""
+        return range(number(line(rf"{what} ([0-9]+)")[0], most))
+
+    def shift() -> Shift:
+        item, source, slot, target, to = line(SHIFT)
+        return Shift(item, source, number(slot, MOST_SLOTS - 1), target, number(to, MOST_SLOTS - 1))
+
+    if len(data) > MOST_BYTES:
+        bad()
+    line("migration-plan 1")
+    rounds = [[shift() for _ in each(f"round {round_ + 1}", MOST_BYTES)] for round_ in each("rounds", 131072)]
+    line("end")
+    line("")
+    if at < len(lines):
+        at += 1
+        bad()
+    return Plan(rounds, hashlib.sha256(data).digest())

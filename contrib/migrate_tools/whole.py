@@ -15,30 +15,17 @@ from .waiting import needed
 FILES, NOW = ("disks.csv", "now.csv", "next.csv", "plan.txt"), "item,disk,slot"
 
 
-def reader_of(doc: str | None, several: Sequence[str], single: Sequence[str], flags: Sequence[str]
-              ) -> argparse.ArgumentParser:
-    """A reader of a command's words, with those that it hands on."""
+def reader_of(doc: str | None, options: Iterable[str]) -> argparse.ArgumentParser:
+    """A reader of a command's words, of which `handed` has those that it hands on, as they are given."""
     reader = words(doc)
     reader.add_argument("--into", metavar="FOLDER", required=True, help="where all is written")
     reader.add_argument("--rate", metavar="N", type=amount,
                         help="the bytes that one transfer moves in a second, as 100M; read for a second where left out")
-    for name in several:
-        reader.add_argument(f"--{name}", action="append", default=[])
-    for name in single:
-        reader.add_argument(f"--{name}")
-    for name in flags:
-        reader.add_argument(f"--{name}", action="store_true")
+    for it in options:
+        reader.add_argument(f"--{it}", metavar=it.upper(), dest="handed", action="append", type=f"--{it}={{}}".format)
+    reader.add_argument("--spread", dest="handed", action="append_const", const="--spread")
+    reader.set_defaults(handed=[])
     return reader
-
-
-def handed_on(given: argparse.Namespace, names: Sequence[str]) -> list[str]:
-    """These words, as they were given."""
-    found: list[str] = []
-    for name in names:
-        it = getattr(given, name)
-        those = [it] if isinstance(it, str) else it or []
-        found += [f"--{name}"] if it is True else [f"--{name}={one}" for one in those]
-    return found
 
 
 def measured(path: str) -> int | None:

@@ -256,7 +256,8 @@ def large_ceph():
         Count.same("plan-ceph", (ran, room.read("notes").count("\n")), (0, 1))
         said = room.read("said")
         took = sum(resource.getrusage(resource.RUSAGE_CHILDREN)[:2]) - began
-        print(f"note: {3 * count} moves planned by {took:.0f} s of a processor" if is_large else "", end="\n" * is_large)
+        if is_large:
+            print(f"note: {3 * count} moves planned by {took:.0f} s of a processor")
         Count.that("planned in under a minute", took < 60, took)
         Count.that("the way back too", "the way back: optimal, looked at in " in said, said)
         for name in ("move.sh", "back.sh"):

@@ -153,8 +153,8 @@ class Ceph:
             items = [{"pgid": group, "mappings": [{"from": one, "to": two} for one, two in pairs]}
                      for group, pairs in self.kept.items()]
             epoch = int(re.search(r"^epoch (\d+)", sample("dump"))[1])
-            return json.dumps({"epoch": self.state.get("epoch", epoch), "flags": flags, "pg_upmap": [], "pg_upmap_items": items,
-                               "nearfull_ratio": 0.85, "crush_version": 3})
+            return json.dumps({"epoch": self.state.get("epoch", epoch), "flags": flags, "pg_upmap": [],
+                               "pg_upmap_items": items, "nearfull_ratio": 0.85, "crush_version": 3})
         lines = (f"pg_upmap_items {group} [{','.join(str(it) for pair in pairs for it in pair)}]\n"
                  for group, pairs in self.kept.items())
         text = re.sub(r"^pg_upmap_items .*\n", "", sample("dump"), flags=re.M)
