@@ -37,10 +37,13 @@ def command(work: Callable[[], None]) -> Callable[[], None]:
     return main
 
 
-def words(doc: str | None) -> argparse.ArgumentParser:
-    """A reader of the words of a command, with its own text as its help."""
-    return argparse.ArgumentParser(prog=tool(), description=doc, allow_abbrev=False,
-                                   formatter_class=argparse.RawDescriptionHelpFormatter)
+def words(doc: str | None, *names: str) -> argparse.ArgumentParser:
+    """A reader of the words of a command, with its own text as its help; these come first."""
+    reader = argparse.ArgumentParser(prog=tool(), description=doc, allow_abbrev=False,
+                                     formatter_class=argparse.RawDescriptionHelpFormatter)
+    for name in names:
+        reader.add_argument(name, metavar=name.upper())
+    return reader
 
 
 def read_bytes(path: str) -> bytes:

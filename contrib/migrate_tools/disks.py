@@ -69,15 +69,18 @@ def given_to(disks: Iterable[str], words: Iterable[str], what: str, find: Callab
     return {disk: found.get(disk, found.get(None)) for disk in disks}
 
 
-def read_disks(path: str) -> dict[str, Disk]:
+def read_disks(path: str, plan: Plan | None = None) -> dict[str, Disk]:
     """The disks of a disks file by their names, in its order. Its header says whether their limits are joint or
-    split."""
+    split. Refuses a plan with disks that it does not have."""
     disks: dict[str, Disk] = {}
     for at, (name, *limits, slots) in read_rows(path, *HEADERS.values()):
         if not NAME.fullmatch(name) or name in disks:
             raise Wrong(f"'{name}' is no name or is listed twice", path, at)
         where = f"{path} row {at}"
         disks[name] = Disk(limits_of(limits, where), number(slots, 1, MOST_SLOTS, where))
+    for at, shifts in enumerate(plan.rounds if plan else (), 1):
+        for name in (end for it in shifts for end in (it.source, it.target) if end not in disks):
+            raise Wrong(f"round {at}: {path} has no disk {name}; it is of another plan")
     return disks
 
 
@@ -104,11 +107,3 @@ def sides_of(shift: Shift, disks: Disks) -> set[Side]:
     reached."""
     out, in_ = ("out", "in") if isinstance(disks[shift.source].limits, Split) else ("", "")
     return {Side(shift.source, out), Side(shift.target, in_)}
-
-
-def check_disks(plan: Plan, disks: Disks, path: str) -> None:
-    """Refuses a plan with disks that a disks file does not have."""
-    for at, shifts in enumerate(plan.rounds, 1):
-        for name in (name for it in shifts for name in (it.source, it.target)):
-            if name not in disks:
-                raise Wrong(f"round {at}: {path} has no disk {name}; it is of another plan")

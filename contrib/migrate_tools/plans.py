@@ -6,7 +6,7 @@ from typing import NamedTuple, NoReturn
 from .command import Wrong, read_bytes, read_text
 
 NAME = re.compile(r"[A-Za-z0-9_.-]{1,32}", re.ASCII)
-NUMBER = re.compile(r"0|[1-9][0-9]{0,9}", re.ASCII)
+SHIFT = re.compile("({0}) ({0}) ([0-9]+) ({0}) ([0-9]+)".format(NAME.pattern), re.ASCII)
 MOST_BYTES, MOST_DISKS, MOST_ITEMS, MOST_SLOTS, MOST_LIMIT = 1 << 24, 1024, 65536, 65536, 1024
 
 
@@ -61,57 +61,49 @@ def number(text: str, least: int, most: int, where: str) -> int:
     return int(text)
 
 
-class PlanText:
-    """The lines of a plan text, which are read one after the other."""
-
-    def __init__(self, path: str) -> None:
-        self.path, self.data, self.at = path, read_bytes(path), 0
-        self.lines = self.data.decode("utf-8", "replace").split("\n")
-
-    def bad(self) -> NoReturn:
-        raise Wrong(f"line {self.at} does not fit a plan; `migrate plan` writes one", self.path)
-
-    def line(self, pattern: str) -> tuple[str, ...]:
-        """What the groups of the pattern are in the next line."""
-        self.at += 1
-        found = self.at <= len(self.lines) and re.fullmatch(pattern, self.lines[self.at - 1], re.ASCII)
-        return found.groups() if found else self.bad()
-
-    def number(self, text: str, most: int) -> int:
-        return int(text) if NUMBER.fullmatch(text) and int(text) <= most else self.bad()
-
-    def count(self, what: str, most: int) -> int:
-        """How many of these follow, by the next line."""
-        return self.number(self.line(rf"{what} (\d+)")[0], most)
-
-    def shift(self) -> Shift:
-        name = f"({NAME.pattern})"
-        item, source, slot, target, to = self.line(rf"{name} {name} (\d+) {name} (\d+)")
-        return Shift(item, source, self.number(slot, MOST_SLOTS - 1), target, self.number(to, MOST_SLOTS - 1))
-
-
 def plan_text(rounds: Iterable[Iterable[Shift]]) -> str:
     """The text of a plan of these rounds."""
     all_ = [list(it) for it in rounds]
     lines = ["migration-plan 1", f"rounds {len(all_)}"]
     for at, shifts in enumerate(all_, 1):
-        lines += [f"round {at} {len(shifts)}",
-                  *(f"{it.item} {it.source} {it.source_slot} {it.target} {it.target_slot}" for it in shifts)]
+        lines += [f"round {at} {len(shifts)}", *("%s %s %s %s %s" % it for it in shifts)]
     return "\n".join([*lines, "end", ""])
 
 
 def read_plan(path: str) -> Plan:
     """The plan of a plan text. What it does is for `check` and `after` to judge; its form is judged here."""
-    text = PlanText(path)
-    if len(text.data) > MOST_BYTES:
-        text.bad()
-    text.line("migration-plan 1")
-    rounds = []
-    for round_ in range(1, text.count("rounds", 131072) + 1):
-        rounds.append([text.shift() for _ in range(text.count(f"round {round_}", 65536))])
-    text.line("end")
-    text.line("")
-    if text.at < len(text.lines):
-        text.at += 1
-        text.bad()
-    return Plan(rounds, hashlib.sha256(text.data).digest())
+    data, at = read_bytes(path), 0
+    lines = data.decode("utf-8", "replace").split("\n")
+
+    def bad() -> NoReturn:
+        raise Wrong(f"line {at} does not fit a plan; `migrate plan` writes one", path)
+
+    def line(pattern: str | re.Pattern[str]) -> tuple[str, ...]:
+        """What the groups of the pattern are in the next line."""
+        nonlocal at
+        at += 1
+        found = at <= len(lines) and re.compile(pattern).fullmatch(lines[at - 1])
+        return found.groups() if found else bad()
+
+    def number(text: str, most: int) -> int:
+        is_number = len(text) <= 10 and (text[0] != "0" or text == "0") and int(text) <= most
+        return int(text) if is_number else bad()
+
+    def each(what: str, most: int) -> range:
+        """As many as the next line says of these."""
+        return range(number(line(rf"{what} ([0-9]+)")[0], most))
+
+    def shift() -> Shift:
+        item, source, slot, target, to = line(SHIFT)
+        return Shift(item, source, number(slot, MOST_SLOTS - 1), target, number(to, MOST_SLOTS - 1))
+
+    if len(data) > MOST_BYTES:
+        bad()
+    line("migration-plan 1")
+    rounds = [[shift() for _ in each(f"round {round_ + 1}", MOST_BYTES)] for round_ in each("rounds", 131072)]
+    line("end")
+    line("")
+    if at < len(lines):
+        at += 1
+        bad()
+    return Plan(rounds, hashlib.sha256(data).digest())

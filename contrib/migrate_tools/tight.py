@@ -96,13 +96,18 @@ def warning_of(form: Form, items: Items, next_: Next, slots: Slots, rooms: Mappi
     return ""
 
 
-def said_of_bytes(going: Iterable[tuple[Part, str]], rooms: Mapping[str, int], used: Mapping[str, int]) -> str:
-    """The disk that is fullest by bytes once what is to come has come, and nothing has left; empty where nothing
-    goes."""
+def coming_of(going: Iterable[tuple[Part, str]]) -> dict[str, int]:
+    """The bytes that come to each disk."""
     coming: dict[str, int] = collections.Counter()
     for it, disk in going:
         coming[disk] += it.bulk
-    if not coming:
+    return coming
+
+
+def said_of_bytes(going: Iterable[tuple[Part, str]], rooms: Mapping[str, int], used: Mapping[str, int]) -> str:
+    """The disk that is fullest by bytes once what is to come has come, and nothing has left; empty where nothing
+    goes."""
+    if not (coming := coming_of(going)):
         return ""
     disk = max(coming, key=lambda it: (used[it] + coming[it]) / max(1, used[it] + rooms[it]))
     return (f"the fullest target by bytes, {disk}, would have {said(used[disk] + coming[disk])} of "

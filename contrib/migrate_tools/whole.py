@@ -15,30 +15,17 @@ from .waiting import needed
 FILES, NOW = ("disks.csv", "now.csv", "next.csv", "plan.txt"), "item,disk,slot"
 
 
-def reader_of(doc: str | None, several: Sequence[str], single: Sequence[str], flags: Sequence[str]
-              ) -> argparse.ArgumentParser:
-    """A reader of a command's words, with those that it hands on."""
+def reader_of(doc: str | None, options: Iterable[str]) -> argparse.ArgumentParser:
+    """A reader of a command's words, of which `handed` has those that it hands on, as they are given."""
     reader = words(doc)
     reader.add_argument("--into", metavar="FOLDER", required=True, help="where all is written")
     reader.add_argument("--rate", metavar="N", type=amount,
                         help="the bytes that one transfer moves in a second, as 100M; read for a second where left out")
-    for name in several:
-        reader.add_argument(f"--{name}", action="append", default=[])
-    for name in single:
-        reader.add_argument(f"--{name}")
-    for name in flags:
-        reader.add_argument(f"--{name}", action="store_true")
+    for it in options:
+        reader.add_argument(f"--{it}", metavar=it.upper(), dest="handed", action="append", type=f"--{it}={{}}".format)
+    reader.add_argument("--spread", dest="handed", action="append_const", const="--spread")
+    reader.set_defaults(handed=[])
     return reader
-
-
-def handed_on(given: argparse.Namespace, names: Sequence[str]) -> list[str]:
-    """These words, as they were given."""
-    found: list[str] = []
-    for name in names:
-        it = getattr(given, name)
-        those = [it] if isinstance(it, str) else it or []
-        found += [f"--{name}"] if it is True else [f"--{name}={one}" for one in those]
-    return found
 
 
 def measured(path: str) -> int | None:
@@ -70,7 +57,10 @@ def turned(plan: Plan, disks: Disks) -> list[list[Shift]]:
             number += 1
         at.append(number)
         used.update((number, side) for side in sides_of(it, disks))
-    return [[it for it, number in zip(shifts, at) if number == round_] for round_ in range(max(at, default=-1) + 1)]
+    found: list[list[Shift]] = [[] for _ in range(max(at, default=-1) + 1)]
+    for it, number in zip(shifts, at):
+        found[number].append(it)
+    return found
 
 
 class Planner:
@@ -98,10 +88,9 @@ class Planner:
         """The verdict on a plan."""
         return self.migrate("check", *FILES, "cert.txt", sub=sub).strip()
 
-    def lines(self, what: str, verdict: str, sizes: Mapping[str, int], more: Iterable[str],
+    def lines(self, plan: Plan, what: str, verdict: str, sizes: Mapping[str, int], more: Iterable[str],
               scripts: Iterable[str]) -> str:
         """What is said of the plan, and where all is."""
-        plan = read_plan(self.at("plan.txt"))
         first = f"{what} move, {said(sum(sizes[it.item] for it in plan.shifts()))}, in {len(plan.rounds)} rounds: "
         return "\n".join([first + verdict, *more, *(os.path.join(self.said, it) for it in scripts), ""])
 
@@ -169,4 +158,5 @@ class WishPlanner(Planner):
             lines.append(f"disk {disk} is {100 * part:.0f} % full at most, in round {at}")
         lines.append(f"way back: {self.way_back}")
         count, all_ = len({it.item for it in plan.shifts()}), len(read_rows(self.at("now.csv"), NOW))
-        return self.lines(f"{count} of {all_} items", self.verdict, sizes, lines, ("move.sh", "back.sh", "report.html"))
+        what, scripts = f"{count} of {all_} items", ("move.sh", "back.sh", "report.html")
+        return self.lines(plan, what, self.verdict, sizes, lines, scripts)

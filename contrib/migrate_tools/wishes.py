@@ -1,9 +1,13 @@
 """What from-lvm and from-folders do with wishes: the next disk of each item."""
-import collections, heapq
-from collections.abc import Mapping, Sequence
+import collections, heapq, os
+from collections.abc import Iterable, Mapping, Sequence
 from dataclasses import dataclass
 from .balance import Balance
+from .command import save_all
+from .disks import Limits, disk_rows
 from .items import Items, Next, Refused, Slots, Spot, keeps_apart, legs_of, meeting, who
+from .plans import table
+from .sizes import size_rows
 from .tight import form_of
 
 
@@ -121,6 +125,19 @@ def carry_out(items: Items, slots: Slots, wishes: Wishes) -> dict[Spot, str]:
                 pass
         is_room = "no room" in str(refused) or "no disk is left" in str(refused) or wishes.balance
         raise Refused(f"{refused}{more if is_room else ''}") from None
+
+
+def save_case(folder: str, names: Mapping[Spot, str], disks: Mapping[str, str], limits: Mapping[str, Limits | None],
+              slots: Slots, next_: Next, sizes: Mapping[Spot, int], stands: Iterable[Iterable[object]],
+              inputs: Iterable[str] = ()) -> None:
+    """Saves the three files, bytes.csv, and names.csv, which has what the names of disks and items stand for."""
+    files: dict[str, Iterable[Iterable[object]]] = {
+        "disks.csv": disk_rows({disks[it]: limits[it] for it in slots}, {disks[it]: slots[it] for it in slots},
+                               "--limit"),
+        "now.csv": [["item", "disk", "slot"], *([name, disks[at[0]], at[1]] for at, name in names.items())],
+        "next.csv": [["item", "disk"], *([name, disks[next_[at]]] for at, name in names.items())],
+        "names.csv": stands, "bytes.csv": size_rows({name: sizes[at] for at, name in names.items()})}
+    save_all({os.path.join(folder, name): table(rows) for name, rows in files.items()}, inputs)
 
 
 def dealt(items: Items, slots: Slots, wishes: Wishes, is_tight: bool) -> dict[Spot, str]:

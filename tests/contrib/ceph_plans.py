@@ -1,10 +1,10 @@
 """Tries plan-ceph: from a cluster to its scripts, the change itself, the way back, and what is left of a script."""
-import argparse, collections, os, random, re, shutil, time
+import collections, os, random, re, resource, shutil
 from ceph import FOUR
 from ceph_model import exceptions_in, groups_in, up_of
 from ceph_steps import DONE, HOLD, printed
 from migrate_tools import disks, plans
-from migrate_tools.ceph import fullness, groups, large, maps, plan_ceph
+from migrate_tools.ceph import change, fullness, groups, large, maps, plan_ceph
 from migrate_tools.command import Wrong
 from rooms import PROGRAM, Count, Room, page, refused, rows_of, shifts_of
 
@@ -42,6 +42,11 @@ def planned_ceph():
         Count.that("the change is refused before its moves", is_refused and room.read("state/log") is None, ran)
         Count.same("move.sh", room.good("move", "cd plan && sh move.sh | tail -n 1"), DONE)
         Count.same("each group is where it is to be", where(room), AFTER)
+        room.keep("state/ceph.json", {**room.state("ceph.json"), "epoch": 1 << 20})
+        ran, log = room.run("cp state/log log; cd plan && sh change.sh"), room.read("log")
+        is_refused = ran.returncode == 1 and "the map has changed while this looked, and nothing was" in ran.stderr
+        Count.that("another epoch than that of the look is refused", is_refused and room.read("state/log") == log, ran)
+        room.keep("state/ceph.json", {it: one for it, one in room.state("ceph.json").items() if it != "epoch"})
         said = room.good("change", "cd plan && sh change.sh -n")
         wanted = ["ceph osd set norebalance", "ceph osd crush reweight osd.3 0.5", "ceph osd out 5",
                   "ceph osd unset norebalance"]
@@ -52,6 +57,42 @@ def planned_ceph():
         Count.same("nothing moved for it", where(room), AFTER)
         ran = room.run("cd plan && sh back.sh")
         Count.that("the way back ends with the change", ran.returncode == 1 and "begin again" in ran.stderr, ran)
+
+
+def the_change_of_ceph():
+    """One command, and so one epoch, where one can say it; and what may move for it are those that were left out."""
+    for out, weights, *wanted in (
+            ([5, 7], {}, "osd out 5 7"), ([], {3: "0.5"}, "osd crush reweight osd.3 0.5"),
+            ([], {3: "0.5", 4: "2"}, "osd setcrushmap -i new 9"),
+            ([5], {3: "0.5", 4: "2"}, "osd set norebalance", "osd setcrushmap -i new 9", "osd out 5",
+             "osd unset norebalance")):
+        found = change.commands_of(maps.Change(out, weights), "9", "new")
+        Count.same(f"out {out}, weights {weights}", [" ".join(it) for it in found], wanted)
+    with Room() as room:
+        room.good("plan-ceph", f"contrib/plan-ceph {WORDS}")
+        moving = sorted({it.split()[3] for it in printed(room, "plan/move.sh")})
+        for left, status in ((moving, 0), (moving[1:], 1)):
+            room.keep("plan/change.json", {"out": [5], "weights": {"3": "0.5"}, "left_out": left})
+            said = f"{len(moving)} placement groups would move for the change, {len(left)} of them left out of the plan"
+            ran = room.says("left out", "cd plan && sh change.sh -n", said, status=status)
+            named = re.findall(r"plan-ceph: (.*) would move: ", ran.stderr)
+            Count.same("what moves besides is named", named, moving[:1] if status else [])
+
+
+def balanced_ceph():
+    """What osdmaptool --upmap chooses, once; there is no change to be made then."""
+    with Room() as room:
+        room.good("plan-ceph", f"contrib/plan-ceph {WORDS}")
+        *_, group = (line := printed(room, "plan/move.sh")[-1]).split()[:4]
+        pairs = [int(it) for it in line.split()[4:]]
+        room.keep("state/balance", {group: list(zip(pairs[::2], pairs[1::2]))})
+        for words, asked in (("--balance --into b", "--upmap-deviation 1 --upmap-max 1000 --save"),
+                             ("--balance p5 --deviation 2 --most 9 --into c",
+                              "--upmap-deviation 2 --upmap-max 9 --upmap-pool p5 --save")):
+            room.good("plan-ceph", f"contrib/plan-ceph {words}")
+            Count.same(f"{words}: how osdmaptool is asked", room.read("state/balanced"), f"{asked}\n")
+            Count.same(f"{words}: what it chose", printed(room, f"{words.split()[-1]}/move.sh"), [line])
+            Count.same(f"{words}: no change", room.read(f"{words.split()[-1]}/change.sh"), None)
 
 
 def the_way_back():
@@ -123,6 +164,12 @@ def what_plan_ceph_refuses():
         limits = {name: both for name, *both, _ in rows_of(room.read("plan/disks.csv"))}
         found = limits["osd.6"], limits["osd.7"]
         Count.same("osd_max_backfills is each daemon's own", found, (["3", "3"], ["1", "1"]))
+        Count.same("one command asks all of them", room.state("ceph.json")["told"], ["osd.*"])
+        room.keep("state/ceph.json", {**state, "most": {"osd.6": 3}, "down": ["osd.31"]})
+        ran = room.run(f"rm -r plan; contrib/plan-ceph {WORDS}; grep -c osd plan/disks.csv")
+        asked, (count, again) = room.state("ceph.json")["told"][1:], (
+            ran.stdout.splitlines()[-1], {name: both for name, *both, _ in rows_of(room.read("plan/disks.csv"))})
+        Count.same("those of one that is down are asked one by one", (str(len(asked)), again == limits), (count, True))
         said = "plan has a plan with its way back already: name another folder"
         refused(room, "a folder with a plan", f"contrib/plan-ceph {WORDS}", said)
 
@@ -155,45 +202,67 @@ def colours():
         Count.that(f"{len(ends)} edges, {most} colours", is_good, (seed, used.most_common(3)))
 
 
+# a cluster that is as the files of json/ say; AFTER is where all is once a weight is set
+LARGE = {
+    "ceph": """case "$*" in
+"osd dump "*) cat $0.osds ;; "pg dump "*) cat $0.pgs ;; "osd df "*) cat $0.df ;; "osd getmap -o "*) echo >"$4" ;;
+"tell osd.* config get osd_max_backfills "*) cat $0.most ;; *) exit 22 ;; esac
+""", "osdmaptool": """case "$*" in
+"map --clear-temp "*) cat $0.before ;; *--test-map-pgs-dump-all*) cat $0.after ;; *--print*) cat $0.dump ;; esac
+""", "crushtool": "cat $0.crush\n"}
+
+
 def made_large(room, osds, count):
-    """A change of a made cluster in which each of so many groups of three goes to three other hosts."""
+    """A cluster in which each of so many groups of three goes to three other hosts once a weight is set."""
     rnd, hosts = random.Random(osds), osds // 10
+    for name, text in LARGE.items():
+        os.unlink(room.path(f"bin/{name}"))
+        room.write(f"bin/{name}", f"#!/bin/sh\n{text}")
+        os.chmod(room.path(f"bin/{name}"), 0o755)
     below = [{"id": -1, "type_name": "root", "name": "default", "items": [{"id": -2 - it, "weight": 10 << 16}
                                                                          for it in range(hosts)]}]
     below += [{"id": -2 - host, "type_name": "host", "name": f"host{host}",
                "items": [{"id": host * 10 + it, "weight": 1 << 16} for it in range(10)]} for host in range(hosts)]
     steps = [{"op": "take", "item": -1, "item_name": "default"}, {"op": "chooseleaf_firstn", "num": 0, "type": "host"}]
     types = [{"type_id": at, "name": it} for at, it in enumerate(("osd", "host", "root"))]
-    room.keep("plan/crush", {"types": types, "buckets": below, "rules": [{"rule_id": 0, "steps": steps}]})
+    room.keep("bin/crushtool.crush", {"types": types, "buckets": below, "rules": [{"rule_id": 0, "steps": steps}]})
     lists = {name: {} for name in ("before", "after")}
     for name in (f"1.{it:x}" for it in range(count)):
         its = [host * 10 + rnd.randrange(10) for host in rnd.sample(range(hosts), 6)]
         lists["before"][name], lists["after"][name] = (its[:3],) * 2, (its[3:],) * 2
     for name, those in lists.items():
-        room.write(f"plan/{name}", plan_ceph.listed(those))
-    room.write("plan/dump", "epoch 9\npool 1 'p' replicated size 3 min_size 2 crush_rule 0 stripe_width 0\n"
+        room.write(f"bin/osdmaptool.{name}", plan_ceph.listed(those))
+    room.write("bin/osdmaptool.dump",
+               "epoch 9\npool 1 'p' replicated size 3 min_size 2 crush_rule 0 stripe_width 0\n"
                + "".join(f"osd.{it} up   in  weight 1 up_from 0\n" for it in range(osds)))
-    room.keep("plan/pgs.json", {"pg_stats": [{"pgid": it, "stat_sum": {"num_bytes": 9}} for it in lists["after"]]})
+    room.keep("bin/ceph.osds", {"epoch": 9, "nearfull_ratio": 0.85})
+    room.keep("bin/ceph.pgs", {"pg_map": {"pg_stats": [
+        {"pgid": it, "state": "active+clean", "stat_sum": {"num_bytes": 9}} for it in lists["after"]]}})
+    room.keep("bin/ceph.df", {"nodes": [{"id": it, "kb": 1 << 30, "kb_used": 1 << 28} for it in range(osds)]})
+    room.write("bin/ceph.most", "".join(f'\nosd.{it}: {{"osd_max_backfills": "{1 + (it != 7)}"}}\n'
+                                        for it in range(osds)))
     return {it: {*up} for it, (_, up) in lists["after"].items()}
 
 
 def large_ceph():
-    """More OSDs than the program takes, and with LARGE=1 more moves too: as few rounds as can be, at which it looks in
-    parts. It refuses rounds that have too much."""
-    osds, count = (4000, 100000) if os.environ.get("LARGE") else (1200, 3000)
+    """More OSDs than the program takes, and with LARGE=1 in the environment more moves too, which takes under a minute:
+    from what the cluster says to scripts and report. As few rounds as can be, at which the program looks in parts. It
+    refuses rounds that have too much."""
+    is_large = bool(os.environ.get("LARGE"))
+    osds, count = (4000, 100000) if is_large else (1200, 3000)
     with Room() as room:
-        planner = plan_ceph.CephPlanner(room.path("plan"))
-        after = made_large(room, osds, count)
-        planner.program, planner.backfills, planner.nearfull = PROGRAM, lambda groups: ["2", "7=1"], 0.85
-        planner.rooms = {it: fullness.Room(1 << 40, 1 << 38) for it in range(osds)}
-        if os.environ.get("LARGE"):  # without the scripts and the way back
-            began = time.process_time()
-            given = argparse.Namespace(hold=False, **{it: planner.at(it) for it in FOUR.split()})
-            said = planner.plan("", groups.read_change(given, False), ["2", "7=1"])
-            print(f"note: {3 * count} moves planned by {time.process_time() - began:.0f} s of a processor")
-        else:
-            said = planner.write(maps.Change([], {}))
-            Count.that("the way back too", "the way back: optimal, looked at in 2 parts" in said, said)
+        after, began = made_large(room, osds, count), sum(resource.getrusage(resource.RUSAGE_CHILDREN)[:2])
+        ran = room.begin("exec alone/plan-ceph --reweight 0:0.5 --into plan >said 2>notes").wait(3600)
+        Count.same("plan-ceph", (ran, room.read("notes").count("\n")), (0, 1))
+        said = room.read("said")
+        took = sum(resource.getrusage(resource.RUSAGE_CHILDREN)[:2]) - began
+        if is_large:
+            print(f"note: {3 * count} moves planned by {took:.0f} s of a processor")
+        Count.that("planned in under a minute", took < 60, took)
+        Count.that("the way back too", "the way back: optimal, looked at in " in said, said)
+        for name in ("move.sh", "back.sh"):
+            steps = room.read(f"plan/{name}").count("\nceph-step ")
+            Count.that(f"{name} has a step for each group", steps >= count, steps)
         rounds, loads = shifts_of(room.read("plan/plan.txt")), collections.Counter()
         for at, shifts in enumerate(rounds):
             loads.update(side for it in shifts for side in ((at, it[1], "out"), (at, it[3], "in")))
@@ -203,12 +272,16 @@ def large_ceph():
         least = max(-(-load // limit((0, *side))) for side, load in whole.items())
         is_best = len(rounds) == least and "optimal, looked at in" in said
         Count.that("no plan has fewer rounds", is_best, (rounds[-1], said))
-        told = room.good("summary", "contrib/summary plan/plan.txt plan/disks.csv").splitlines()[:2]
-        Count.same("what the summary says", told, [f"moves {3 * count}", f"rounds {least}"])
+        told = room.good("summary", "contrib/summary plan/plan.txt plan/disks.csv").splitlines()
+        Count.same("what the summary says", told[:2], [f"moves {3 * count}", f"rounds {least}"])
+        busiest = told[told.index("busiest disks") + 1]
+        Count.that("and the bound of the whole", busiest.endswith(f", needs {least} rounds"), busiest)
         there = collections.defaultdict(set)
-        for it in sum(rounds, []):
+        for it in (it for round_ in rounds for it in round_):
             there[it[0].split("-")[0]].add(int(it[3][4:]))
         Count.that("each copy goes where it is to be", there == after)
+        planner = plan_ceph.CephPlanner(room.path("bad"))
+        planner.program = PROGRAM
         limits, plan = disks.read_disks(room.path("plan/disks.csv")), plans.read_plan(room.path("plan/plan.txt"))
         shifts = plan.shifts()
         loads, parts = collections.Counter(it.source for it in shifts), large.parts_of(shifts)
@@ -254,5 +327,5 @@ def real_plans():
     return None
 
 
-CASES = (planned_ceph, the_way_back, what_is_left_of_ceph, what_plan_ceph_refuses, fuller_and_fuller, colours,
-         large_ceph, real_plans)
+CASES = (planned_ceph, the_change_of_ceph, balanced_ceph, the_way_back, what_is_left_of_ceph, what_plan_ceph_refuses,
+         fuller_and_fuller, colours, large_ceph, real_plans)

@@ -38,6 +38,11 @@ def osdmaptool(words):
         now["out"].append(int([two for one, two in zip(words, words[1:]) if one == "--mark-out"][-1]))
     weights = said.get("--adjust-crush-weight", "")
     now["weights"].update(it.split(":") for it in weights.split(",") if it)
+    if "--upmap" in said:  # what balances is the test's; how it was asked for is kept
+        with open(f"{os.environ['STAND_IN']}/balance", encoding="ascii") as file:
+            now["pairs"].update(json.load(file))
+        with open(f"{os.environ['STAND_IN']}/balanced", "w", encoding="ascii") as file:
+            print(*words[3:], file=file)
     if "--export-crush" in said:
         return print("osdmaptool: exported crush map", file=open(said["--export-crush"], "w", encoding="ascii"))
     if "--upmap-cleanup" in said:
@@ -56,7 +61,7 @@ def osdmaptool(words):
         for name, raw in raws(now["out"], now["weights"]).items():
             lists = [f"([{','.join(map(str, it))}], p{it[0]})" for it in (raw, up_of(raw, now["pairs"].get(name, [])))]
             print(f"{name} raw {lists[0]} up {lists[1]} acting {lists[1]}")
-    if "--save" in said and weights:
+    if "--save" in said and (weights or "--upmap" in said):
         with open(words[0], "w", encoding="ascii") as file:
             json.dump(now, file)
     return None
@@ -79,14 +84,20 @@ class Ceph:
                 return json.dump({"out": state.get("out", []), "weights": state.get("weights", {}),
                                   "pairs": self.kept}, file)
         if words[0] == "tell" and words[2:] == ["config", "get", "osd_max_backfills"]:
-            return print(json.dumps({"osd_max_backfills": str(state.get("most", {}).get(words[1], 1))}))
+            asked = [f"osd.{it}" for it in range(32)] if words[1] == "osd.*" else [words[1]]
+            state.setdefault("told", []).append(words[1])
+            for osd in (it for it in asked if it not in state.get("down", [])):
+                said = json.dumps({"osd_max_backfills": str(state.get("most", {}).get(osd, 1))})
+                print(f"\n{osd}: {said}" if words[1] == "osd.*" else said)
+            return self.refused(6, "ENXIO: problem getting command descriptions from an OSD in") \
+                if {*asked} & {*state.get("down", [])} else None
         if words == ["osd", "df"]:
             used = state.get("used", {})
             rows = [(it, int(used.get(str(it), 0.5) * (100 << 20))) for it in range(32)]
             return print(json.dumps({"nodes": [{"id": it, "kb": 100 << 20, "kb_used": kb} for it, kb in rows]}))
         if words == ["pg", "dump"]:
-            stats = [{"pgid": it, "stat_sum": {"num_bytes": 1 << 30}} for it in state["raw"]]
-            return print(json.dumps({"pg_map": {"pg_stats": stats}}))
+            stats = [{**it, "stat_sum": {"num_bytes": 1 << 30}} for it in json.loads(self.look())["pg_stats"]]
+            return print(json.dumps({"pg_ready": True, "pg_map": {"pg_stats": stats}}))
         if words in (["osd", "dump"], ["pg", "dump", "pgs_brief"], ["health"], ["balancer", "status"]):
             return print({"osd": self.dump, "pg": self.look, "health": self.health, "balancer": lambda: json.dumps(
                 {"active": state["balancer"], "mode": "upmap"}, indent=4)}[words[0]](), end="")
@@ -142,8 +153,8 @@ class Ceph:
             items = [{"pgid": group, "mappings": [{"from": one, "to": two} for one, two in pairs]}
                      for group, pairs in self.kept.items()]
             epoch = int(re.search(r"^epoch (\d+)", sample("dump"))[1])
-            return json.dumps({"epoch": epoch, "flags": flags, "pg_upmap": [], "pg_upmap_items": items,
-                               "nearfull_ratio": 0.85, "crush_version": 3})
+            return json.dumps({"epoch": self.state.get("epoch", epoch), "flags": flags, "pg_upmap": [],
+                               "pg_upmap_items": items, "nearfull_ratio": 0.85, "crush_version": 3})
         lines = (f"pg_upmap_items {group} [{','.join(str(it) for pair in pairs for it in pair)}]\n"
                  for group, pairs in self.kept.items())
         text = re.sub(r"^pg_upmap_items .*\n", "", sample("dump"), flags=re.M)

@@ -1,7 +1,8 @@
 """Tries when nothing may begin, by the days and times of --window, and the lock that lets one script at a time work."""
 import datetime, os, subprocess, time
 from unittest import mock
-from migrate_tools import clock, command, locks
+from migrate_tools import clock, command
+from migrate_tools.ceph import locks
 from rooms import same, that
 
 # 2026-03-10 is a Tuesday: a window, moments at which it is open, moments at which it is closed
@@ -27,9 +28,23 @@ def windows():
         same(f"--window '{text}' is none", found, None)
 
 
-def locked_out(room):
+class Store:
+    """Keeps one text for all, as a key of a cluster does."""
+    text = ""
+
+    def get(self):
+        return self.text
+
+    def set(self, text):
+        self.text = text
+
+    def remove(self):
+        self.text = ""
+
+
+def locked_out():
     """One at a time; who has ended keeps nobody away, who is there is taken over by force alone, and finds it out."""
-    store = locks.File(room.path("lock"))
+    store = Store()
     one, two = locks.Lock(store, "one.sh"), locks.Lock(store, "two.sh")
     one.take(False)
     for name, what, said in (("a second one", lambda: two.take(False), f"one.sh, process {os.getpid()} of "),

@@ -11,15 +11,15 @@ gets no place on an OSD that is too full, is degraded or can't be used at three 
 a group has come to rest elsewhere, since the weights are others than planned; and at HEALTH_ERR. What is under way then
 goes on. One such script works on a cluster at a time, by the key migrate/ceph-step of `ceph config-key`. The time
 between two looks is $PAUSE, 30 seconds."""
-import argparse, collections, os, signal, threading
+import argparse, collections, itertools, os, signal, threading
 from collections.abc import Sequence
 from concurrent.futures import ThreadPoolExecutor
 from types import FrameType
 from ..calls import Ending, add_hook, call
 from ..clock import Clock, add_times, round_of, tell
 from ..command import Wrong, command, note, put, read_text, words
-from ..locks import Lock
 from .cluster import AT_ONCE, LOCK, Key, Silent, View, ceph, is_balancing, view
+from .locks import Lock
 from .steps import Step, pairs_text, read_step
 
 MOST = {"ill": 3, "peering": 10, "elsewhere": 10}  # so many looks in a row, and it stops
@@ -233,8 +233,8 @@ def read_script(path: str) -> list[Step]:
 def commands_of(steps: Sequence[Step]) -> str:
     """What is run, as text."""
     lines: list[str] = []
-    for round_ in sorted({it.round for it in steps}):
-        lines += [f"# round {round_}", *(f"ceph {' '.join(it.command())}" for it in steps if it.round == round_)]
+    for round_, those in itertools.groupby(steps, key=lambda it: it.round):
+        lines += [f"# round {round_}", *(f"ceph {' '.join(it.command())}" for it in those)]
         lines += ["ceph osd unset norebalance"] * (round_ == 0)
     return "".join(f"{it}\n" for it in lines)
 

@@ -1,9 +1,9 @@
 """Makes a planned change of a cluster itself, after its moves, where nothing that the plan moves would move for it."""
-import json, os, tempfile, time
+import json, os, re, tempfile, time
 from ..command import Wrong, note, put, read_text
 from .cluster import asked, ceph, view
 from .groups import read_groups, read_pools
-from .maps import DUMP, Change, Maps, epoch_of
+from .maps import DUMP, Change, Maps
 
 
 def moved(maps: Maps) -> list[str]:
@@ -63,7 +63,7 @@ def make(folder: str, only_print: bool) -> None:
         commands = commands_of(change, str(osds.get("crush_version", "")), f"{scratch}/new.bin")
         if only_print:
             return put("".join(f"ceph {' '.join(it)}\n" for it in commands))
-        if str(osds["epoch"]) != epoch_of(read_text(f"{scratch}/dump")):
+        if not re.search(rf"^epoch {osds['epoch']}$", read_text(f"{scratch}/dump"), re.M):
             raise Wrong("the map has changed while this looked, and nothing was changed: begin again")
         for words in commands:
             if words[1] == "unset":

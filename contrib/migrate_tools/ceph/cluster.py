@@ -1,5 +1,5 @@
 """What a cluster says of itself, by `ceph --format json`, and what it is told."""
-import json
+import json, re
 from collections.abc import Sequence
 from concurrent.futures import ThreadPoolExecutor
 from dataclasses import dataclass
@@ -37,6 +37,22 @@ def all_of(*words: Sequence[str]) -> list[Any]:
     """What these print, called side by side."""
     with ThreadPoolExecutor(AT_ONCE) as pool:
         return list(pool.map(asked, words))
+
+
+def backfills_of(osds: Sequence[int]) -> dict[int, int]:
+    """osd_max_backfills of each of these OSDs, as it says itself: of all by one command, and of those of which that
+    said nothing, as where another OSD is down, one by one."""
+    words = ["config", "get", "osd_max_backfills"]
+    try:
+        said = ceph("tell", "osd.*", *words, "--format", "json")
+    except Silent:
+        said = ""
+    found = {int(osd): int(most) for osd, most
+             in re.findall(r'^osd\.([0-9]+): \{\s*"osd_max_backfills": *"?([0-9]+)"?\s*\}', said, re.ASCII | re.M)}
+    left = [it for it in osds if it not in found]
+    found |= {osd: int(it["osd_max_backfills"])
+              for osd, it in zip(left, all_of(*(["tell", f"osd.{it}", *words] for it in left)))}
+    return {it: found[it] for it in osds}
 
 
 class Key:

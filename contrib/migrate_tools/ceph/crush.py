@@ -61,19 +61,19 @@ class Rule:
 def paired(leave: Sequence[int], come: Sequence[int], rule: Rule, known: Pairs) -> dict[int, int]:
     """Which of these OSDs takes the place of which: as is known, then within a host, a rack and so on, then as they
     come."""
+    if len(leave) == len(come) < 2:
+        return dict(zip(leave, come))
     pairs, left = dict[int, int](), list(come)
-
-    def pair(one: int, two: int) -> None:
-        pairs[one] = two
-        left.remove(two)
-
     for one, two in known:
         if one in leave and two in left and one not in pairs:
-            pair(one, two)
+            pairs[one] = two
+            left.remove(two)
     for its in rule.near.values() if left else ():
-        for one in (it for it in leave if it not in pairs and it in its):
-            for two in [it for it in left if its.get(it) == its[one]][:1]:
-                pair(one, two)
+        places = [its.get(it) for it in left]
+        for one in leave:
+            if one not in pairs and (place := its.get(one)) is not None and place in places:
+                pairs[one] = left.pop(places.index(place))
+                places.remove(place)
     return pairs | dict(zip([it for it in leave if it not in pairs], left))
 
 

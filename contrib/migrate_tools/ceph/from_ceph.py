@@ -15,16 +15,17 @@ from ..disks import Limits, Split, disk_rows, limits_of
 from ..plans import MOST_DISKS, MOST_ITEMS, NAME, Shift, table
 from ..sizes import size_rows
 from .groups import Group, read_change, reader
-from .sizes import sizes_of
+from .sizes import read_bytes, sizes_of
 
 
 def read_limits(words: Sequence[str], osds: Sequence[int], as_ceph: bool) -> dict[int, Limits | None]:
     """The limits of each OSD that has some by these words: 'N' or 'OUT,IN' for all others, and 'OSD=N' or
     'OSD=OUT,IN'. As Ceph counts, N is N,N."""
     limits = dict[int, Limits | None]() if words or not as_ceph else dict.fromkeys(osds, Split())
+    names = {*map(str, osds)}
     for osd, is_, limit in (word.rpartition("=") for word in words):
         osd = osd.removeprefix("osd.")
-        if is_ and osd not in map(str, osds):
+        if is_ and osd not in names:
             raise Wrong(f"--backfills: osd.{osd} has no copy before or after")
         for it in [int(osd)] if is_ else [it for it in osds if it not in limits]:
             numbers = limit.split(",")
@@ -38,7 +39,7 @@ def case_of(groups: Mapping[str, Group], words: Sequence[str], as_ceph: bool = T
     those that are `moving` alone are wanted. And the limits of the OSDs of these, by words of --backfills."""
     limits = read_limits(words, sorted({it for group in groups.values() for it in group.before + group.after}), as_ceph)
     all_ = [(group, it) for group in groups.values() for it in group.items if it.source != it.target or not moving]
-    sources = [group.counted_at(it) if as_ceph else it.source for group, it in all_]
+    sources = [group.counted_at[it.name] if as_ceph else it.source for group, it in all_]
     slots, at = collections.Counter(sources), dict.fromkeys(limits, 0)
     found = []
     for source, (_, it) in zip(sources, all_):
@@ -58,8 +59,7 @@ def files_of(shifts: Sequence[Shift], limits: Mapping[str, Limits | None]) -> di
     for it in shifts:
         slots[it.source] = max(slots[it.source], it.source_slot + 1)
         slots[it.target] = max(slots[it.target], it.target_slot + 1)
-    now = [["item", "disk", "slot"], *([it.item, it.source, str(it.source_slot)] for it in shifts)]
-    next_ = [["item", "disk"], *([it.item, it.target] for it in shifts)]
+    now, next_ = [("item", "disk", "slot"), *(it[:3] for it in shifts)], [("item", "disk"), *(it[::3] for it in shifts)]
     return {"disks.csv": disk_rows(limits, slots, "--backfills"), "now.csv": now, "next.csv": next_}
 
 
@@ -79,7 +79,7 @@ def main() -> None:
         help="leaves the placement groups that exceptions cannot carry where they are")
     add("--into", metavar="FOLDER", default=".", help="where the files are written")
     given = words.parse_args()
-    groups = read_change(given, given.leave_out)
+    groups, _ = read_change(given, given.leave_out)
     shifts, limits = case_of(groups, given.backfills, given.count == "primary", given.moving)
     for count, what, most in ((len(limits), "OSDs with copies", MOST_DISKS), (len(shifts), "copies", MOST_ITEMS)):
         if count > most:
@@ -87,7 +87,7 @@ def main() -> None:
             raise Wrong(f"there are {count} {what}, more than {most}: {more}")
     files = files_of(shifts, limits)
     if given.sizes:
-        files["bytes.csv"] = size_rows(sizes_of(given.sizes, given.dump, groups, {it.item for it in shifts}))
+        files["bytes.csv"] = size_rows(sizes_of(read_bytes(given.sizes), given.sizes, given.dump, groups, shifts))
     inputs = [given.before, given.after, given.dump, given.crush, *([given.sizes] if given.sizes else [])]
     save_all({os.path.join(given.into, name): table(rows) for name, rows in files.items()}, inputs)
     gone = sum(it.source != it.target for it in shifts)

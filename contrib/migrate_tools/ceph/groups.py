@@ -2,7 +2,7 @@
 is named."""
 import argparse, functools, json, re
 from collections.abc import Iterator, Mapping
-from dataclasses import dataclass
+from dataclasses import dataclass, replace
 from typing import NamedTuple
 from ..command import Wrong, note, read_text, words
 from .crush import Pairs, Rule, landed, paired
@@ -85,35 +85,38 @@ class Group:
         pairs = self.pairs(osds)
         return ([], pairs) if isinstance(pairs, str) else (pairs, self.rule.broken(landed(self.chosen, pairs)))
 
-    def filler(self, before: list[int], after: list[int]) -> int:
-        """The OSD that fills what comes to the group between these two states, at which Ceph counts that: its acting
-        primary meanwhile. Of shards it is that of the first one. Of copies it is the first of the new ones, if it has
-        the data; where that one is new itself, Ceph takes of those that have the data that of the lowest number."""
+    def filler(self, before: list[int], after: list[int], pairs: Pairs | str = "") -> int:
+        """The OSD that fills what comes to the group between these two states, the second by these exceptions where
+        they are known, at which Ceph counts that: its acting primary meanwhile. Of shards it is that of the first one.
+        Of copies it is the first of the new ones, if it has the data; where that one is new itself, Ceph takes of those
+        that have the data that of the lowest number."""
         if self.shards:
             return next(it for it in before if it != NO_OSD)
         if not self.shy and self.chosen[0] in after:
             first = self.chosen[0]
         else:
-            pairs = self.pairs(after)
+            pairs = pairs or self.pairs(after)
             order = landed(self.chosen, [] if isinstance(pairs, str) else pairs)
             first = next((it for it in order if it not in self.shy), order[0])
         return first if first in before else min(before)
 
-    def counted_at(self, item: Item) -> int:
-        """The OSD at which Ceph counts an item beside its target, as if it moved alone; its own one where that is its
+    @functools.cached_property
+    def counted_at(self) -> dict[str, int]:
+        """The OSD at which Ceph counts each item beside its target, as if it moved alone; its own one where that is its
         target."""
-        if item.source == item.target:
-            return item.source
-        after = [item.target if it == item.source else it for it in self.before]
-        first = self.filler(self.before, after)
-        return item.source if first == item.target else first
+        found = {}
+        for name, source, target in self.items:
+            after = [target if it == source else it for it in self.before]
+            first = self.filler(self.before, after) if source != target else target
+            found[name] = source if first == target else first
+        return found
 
-    def states(self, rounds: Mapping[str, int]) -> Iterator[tuple[int, list[int], Pairs]]:
-        """The OSDs of the group after each of its rounds, from 0 on, in which the rule holds, and the exceptions then.
-        It holds in the last. `rounds` has the round in which an item goes."""
+    def states(self, rounds: Mapping[str, int], hold: bool) -> Iterator[tuple[int, list[int], Pairs]]:
+        """The OSDs of the group after each of its rounds in which the rule holds, and the exceptions then; with `hold`
+        also before the first, as round 0. It holds in the last. `rounds` has the round in which an item goes."""
         late: list[str] = []
         broken = ""
-        for at in sorted({0, *rounds.values()}):
+        for at in sorted({*rounds.values(), *([0] if hold else [])}):
             osds = [it.target if rounds.get(it.name, at + 1) <= at else it.source for it in self.items]
             pairs, why = self.exceptions(osds)
             if why:
@@ -125,6 +128,12 @@ class Group:
                      f"since without that {broken}")
             late = []
             yield at, osds, pairs
+
+    def turned(self, now: list[int], pairs: Pairs, never: frozenset[int]) -> "Group":
+        """The way back from where these exceptions have put it."""
+        order = landed(self.chosen, pairs)
+        shy = frozenset() if self.shards else shy_of(never, order, now) | shy_of(never, order, self.before)
+        return replace(self, before=now, after=self.before, old=pairs, shy=shy)
 
     def refusal(self, then: list[int], hold: bool) -> str:
         """Why it cannot be carried out; empty where it can. `then` is what CRUSH chooses after the change."""
@@ -150,19 +159,13 @@ Lists = dict[str, tuple[list[int], list[int]]]
 
 def reader(doc: str | None, *names: str) -> argparse.ArgumentParser:
     """A reader of the words that both commands have, after these."""
-    found = words((doc or "") + FILES)
-    for name in (*names, "before", "after", "dump", "crush"):
-        found.add_argument(name, metavar=name.upper())
+    found = words((doc or "") + FILES, *names, "before", "after", "dump", "crush")
     found.add_argument("--hold", action="store_true", help="the weights are as AFTER already")
     return found
 
 
 def numbers(text: str) -> list[int]:
-    return [int(it) for it in text.split(",") if it]
-
-
-def pairs_of(osds: list[int]) -> Pairs:
-    return list(zip(osds[::2], osds[1::2]))
+    return list(map(int, filter(None, text.split(","))))
 
 
 def read_groups(path: str, cleaned: bool) -> Lists:
@@ -213,40 +216,50 @@ def read_pools(dump: str, crush: str) -> tuple[dict[str, Pool], dict[str, Pairs 
             raise Wrong(f"has no rule {rule}, which pool {name} of {dump} has", crush)
         pools[name] = Pool(rules[rule], kind == "erasure", int(size))
     for items, name, osds in re.findall(r"^pg_upmap(_items)? (\S+) \[([0-9,]*)\]", text, re.M):
-        old[name] = pairs_of(numbers(osds)) if items and old.get(name, ()) is not None else None
+        pairs = list(zip(numbers(osds)[::2], numbers(osds)[1::2]))
+        old[name] = pairs if items and old.get(name, ()) is not None else None
     return pools, old
 
 
-def read_change(given: argparse.Namespace, leave_out: bool) -> dict[str, Group]:
-    """The placement groups of the change. Those that cannot be carried out are named, and left out where that is asked
-    for."""
+def shy_of(never: frozenset[int], order: list[int], up: list[int]) -> frozenset[int]:
+    """Those that are not the primary of a group of copies that is on `up` where exceptions put it in this order."""
+    return never.union(order[: order.index(up[0])] if up and up[0] in order else ())
+
+
+def read_never(dump: str) -> frozenset[int]:
+    return frozenset(map(int, NEVER.findall(read_text(dump))))
+
+
+def read_change(given: argparse.Namespace, leave_out: bool) -> tuple[dict[str, Group], list[str]]:
+    """The placement groups of the change, and those that cannot be carried out. These are named, and left out where
+    that is asked for."""
     before, after = read_groups(given.before, False), read_groups(given.after, not given.hold)
     for name in before.keys() ^ after.keys():
         path = given.before if name in before else given.after
         raise Wrong(f"placement group {name} is in {path} alone: a change of pg_num is no move")
     pools, old = read_pools(given.dump, given.crush)
-    groups, refused, never = {}, 0, frozenset(map(int, NEVER.findall(read_text(given.dump))))
+    groups, refused, never = {}, list[str](), read_never(given.dump)
     for name, (chosen, osds) in before.items():
         if not (pool := pools.get(name.partition(".")[0])):
             raise Wrong(f"has no pool for placement group {name}", given.dump)
         then, next_ = after[name]
         now, path = (next_, given.after) if given.hold else (osds, given.before)
         chosen = then if given.hold else chosen
-        order = landed(chosen, old.get(name) or [])
-        both = () if pool.shards else ((order, now), (landed(then, old.get(name) or []), next_))
-        shy = never.union(*(its[: its.index(up[0])] for its, up in both if up and up[0] in its))
+        order, shy = landed(chosen, old.get(name) or []), frozenset[int]()
+        if not pool.shards:
+            shy = shy_of(never, order, now) | shy_of(never, landed(then, old.get(name) or []), next_)
         group = Group(name, pool.rule, pool.shards, pool.size, chosen, osds, next_, old.get(name, []), shy)
         if why := group.refusal(then, given.hold):
             note(f"placement group {name} {why}")
-            refused += 1
+            refused.append(name)
             continue
         if group.old is not None and group.differ(order, now):
             raise Wrong(f"is not of the map of {path}: its exceptions put placement group {name} elsewhere than on "
                         f"{now}", given.dump)
         groups[name] = group
     if refused and not leave_out:
-        raise Wrong(f"{refused} of {len(before)} placement groups cannot be carried out; --leave-out leaves them where "
-                    "they are, and plans the others")
+        raise Wrong(f"{len(refused)} of {len(before)} placement groups cannot be carried out; --leave-out leaves them "
+                    "where they are, and plans the others")
     if not groups:
         raise Wrong("no placement group is left")
-    return groups
+    return groups, refused

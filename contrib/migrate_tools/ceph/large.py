@@ -3,11 +3,11 @@ few as can be (König 1916), and the program looks at them in parts: each has so
 stands for all other disks by a few that are never full. So in each part it looks whether these disks keep their limits
 in every round, and whether each item gets to where it is to be; and in that of the busiest disk, whether fewer rounds
 do."""
-import collections, os
+import collections, hashlib, os
 from collections.abc import Hashable, Mapping, Sequence
 from ..command import Wrong, read_text, save_all
-from ..disks import Disks, Limits, Side, Split, disk_rows, limits_by_side, sides_of
-from ..plans import MOST_DISKS, MOST_ITEMS, MOST_LIMIT, Shift, plan_text, table
+from ..disks import Disks, Limits, Side, Split, disk_rows, limits_by_side
+from ..plans import MOST_DISKS, MOST_ITEMS, MOST_LIMIT, Plan, Shift, plan_text, table
 from ..whole import FILES, NOW, Planner
 
 Rounds = Sequence[Sequence[Shift]]
@@ -51,13 +51,14 @@ def coloured(pairs: Sequence[tuple[Hashable, Hashable]], count: int) -> list[int
 def rounds_of(shifts: Sequence[Shift], disks: Disks) -> list[list[Shift]]:
     """As few rounds as can be: a side of a disk stands for as many nodes as its limit, among which its moves are
     dealt."""
-    limits, used = limits_by_side(disks), collections.Counter[Side]()
+    limits = {(disk, way): limit for (disk, way), limit in limits_by_side(disks).items()}
+    used: collections.Counter[tuple[str, str]] = collections.Counter()
 
-    def node(side: Side) -> Hashable:
+    def node(side: tuple[str, str]) -> Hashable:
         used[side] += 1
         return side, used[side] % limits[side]
 
-    pairs = [(node(Side(it.source, "out")), node(Side(it.target, "in"))) for it in shifts]
+    pairs = [(node((it.source, "out")), node((it.target, "in"))) for it in shifts]
     count = max(-(-used[side] // limit) for side, limit in limits.items())
     found: list[list[Shift]] = [[] for _ in range(count)]
     for it, colour in zip(shifts, coloured(pairs, count)):
@@ -83,33 +84,33 @@ def files_of(rounds: Rounds, disks: Disks, parts: Mapping[str, int], part: int) 
     limits: dict[str, Limits | None] = {it: disks[it].limits for it, number in parts.items() if number == part}
     slots: collections.Counter[str] = collections.Counter()
     found: list[list[Shift]] = []
-    for round_ in rounds:
+    for round_ in filter(None, rounds):
         out, in_, those = 0, 0, list[Shift]()
-        for it in round_:
-            source, target = it.source, it.target
-            if parts[source] != part:
+        for item, source, _, target, _ in round_:
+            if source not in limits:
                 source, out = f"other-{out // MOST_LIMIT}", out + 1
-            if parts[target] != part:
+            if target not in limits:
                 target, in_ = f"other-{in_ // MOST_LIMIT}", in_ + 1
-            those.append(Shift(it.item, source, slots[source], target, slots[target]))
+            those.append(Shift(item, source, slots[source], target, slots[target]))
             slots[source] += 1
             slots[target] += 1
         found.append(those)
     all_ = [it for round_ in found for it in round_]
     limits |= dict.fromkeys((it for it in slots if it not in limits), Split(MOST_LIMIT, MOST_LIMIT))
     texts = (table(disk_rows(limits, {it: max(1, slots[it]) for it in limits}, "")),
-             table([NOW.split(","), *([it.item, it.source, str(it.source_slot)] for it in all_)]),
-             table([["item", "disk"], *([it.item, it.target] for it in all_)]), plan_text(it for it in found if it))
+             table([NOW.split(","), *(it[:3] for it in all_)]),
+             table([["item", "disk"], *(it[::3] for it in all_)]), plan_text(found))
     return dict(zip(FILES, texts))
 
 
-def plan(planner: Planner, sub: str, shifts: Sequence[Shift], disks: Disks) -> str:
-    """Makes plan.txt and cert.txt of a folder. Gives the verdict."""
+def plan(planner: Planner, sub: str, shifts: Sequence[Shift], disks: Disks) -> tuple[Plan, str]:
+    """Makes plan.txt and cert.txt of a folder. Gives the plan, and the verdict."""
     rounds, limits = rounds_of(shifts, disks), limits_by_side(disks)
-    if collections.Counter(it for round_ in rounds for it in round_) != collections.Counter(shifts):
+    made = [it for round_ in rounds for it in round_]
+    if len(made) != len(shifts) or {*made} != {*shifts}:
         raise Wrong("the rounds that were made do not have all moves")
-    used = collections.Counter(side for it in shifts for side in sides_of(it, disks))
-    busiest = max(used, key=lambda side: (-(-used[side] // limits[side]), side)).disk
+    used = collections.Counter([*((it.source, "out") for it in shifts), *((it.target, "in") for it in shifts)])
+    busiest, _ = max(used, key=lambda side: (-(-used[side] // limits[Side(*side)]), side))
     verdict, parts = "", parts_of(shifts)
     split: dict[int, list[list[Shift]]] = {it: [[] for _ in rounds] for it in sorted({*parts.values()})}
     for at, it in ((at, it) for at, round_ in enumerate(rounds) for it in round_):
@@ -126,5 +127,6 @@ def plan(planner: Planner, sub: str, shifts: Sequence[Shift], disks: Disks) -> s
             planner.migrate("plan", *FILES[:3], "least.txt", "cert.txt", sub=folder)
             verdict = planner.checked(folder)
             save_all({planner.at(os.path.join(sub, "cert.txt")): read_text(planner.at(f"{folder}/cert.txt"))})
-    save_all({planner.at(os.path.join(sub, "plan.txt")): plan_text(rounds)})
-    return f"{verdict}, looked at in {len(split)} parts"
+    text = plan_text(rounds)
+    save_all({planner.at(os.path.join(sub, "plan.txt")): text})
+    return Plan(rounds, hashlib.sha256(text.encode()).digest()), f"{verdict}, looked at in {len(split)} parts"

@@ -65,11 +65,3 @@ class Maps:
         for osd in change.out:
             if not re.search(rf"^osd\.{osd} +\S+ +out ", found, re.M):
                 raise Wrong(f"osdmaptool did not keep osd.{osd} as out in its map, so nothing is planned")
-
-
-def epoch_of(text: str) -> str:
-    """The epoch that `osdmaptool --print` says."""
-    found = re.search(r"^epoch ([0-9]+)$", text, re.M)
-    if not found:
-        raise Wrong("osdmaptool --print says no epoch")
-    return found[1]

@@ -4,30 +4,30 @@ from its map to scripts. Nothing of the cluster is changed by it.
 It reads the map, asks the OSDs for osd_max_backfills, looks by osdmaptool where each placement group is and where it
 will be, plans, checks, and writes into FOLDER: move.sh, which brings the copies where the change will want them;
 change.sh, which makes the change itself, for which then nothing moves; back.sh, which undoes what move.sh has done so
-far, while the change is not made; and all that these were made from, as `from-ceph`, `migrate plan` and `to-ceph` have
-it. --balance takes the moves that `osdmaptool --upmap` chooses, after the change where there is one.
+far, while the change is not made; report.html; and all that these were made from, as `from-ceph`, `migrate plan` and
+`to-ceph` have it. --balance takes the moves that `osdmaptool --upmap` chooses, after the change where there is one.
   plan-ceph --continue SCRIPT --into FOLDER   plans what is left of a script anew, from the cluster as it is: to where
                                               each group of it was to go, as far as Ceph still lets it
   plan-ceph --make FOLDER [-n]                what change.sh calls: looks which groups would move for the change now,
                                               makes it where the plan moves none of them, in one epoch where it can
 A plan that would fill an OSD past nearfull in any round is refused, with the OSD and the round."""
-import argparse, collections, json, os, re, shlex
+import argparse, collections, gc, json, os, re, shlex
 from collections.abc import Mapping, Sequence
 from ..command import Wrong, command, here, note, put, read_text, save_all, words
-from ..disks import read_disks
-from ..plans import MOST_DISKS, MOST_ITEMS, read_plan, table
-from ..sizes import read_sizes, size_rows
+from ..disks import Disks, read_disks
+from ..plans import MOST_DISKS, MOST_ITEMS, Plan, read_plan, table
+from ..sizes import size_rows
 from ..whole import FILES, Planner
 from . import large
 from .ceph_step import read_script
 from .change import make
-from .cluster import Silent, all_of, ceph
+from .cluster import Silent, all_of, backfills_of, ceph
 from .crush import landed
 from .from_ceph import case_of, files_of
 from .fullness import check_rooms, fullest, rooms_of
-from .groups import Group, read_change, read_groups, read_pools
+from .groups import Group, read_change, read_groups, read_never, read_pools
 from .maps import DUMP, Change, Maps
-from .sizes import sizes_of
+from .sizes import bytes_of, rows_of, sizes_of
 from .steps import Step, counts_of, limits_text, read_rounds, steps_of
 from .to_ceph import script
 
@@ -59,14 +59,16 @@ class CephPlanner(Planner):
 
     def look(self) -> None:
         """The cluster as it is: its map, where its groups are, how full its OSDs are."""
-        brief, osds, pgs, df = all_of(["pg", "dump", "pgs_brief"], ["osd", "dump"], ["pg", "dump"], ["osd", "df"])
-        rows = brief["pg_stats"] if isinstance(brief, dict) else brief
+        osds, pgs, df = all_of(["osd", "dump"], ["pg", "dump"], ["osd", "df"])
+        rows = rows_of(pgs)
         if busy := [it["pgid"] for it in rows if not {"active", "clean"} <= set(it["state"].split("+"))]:
             raise Wrong(f"{len(busy)} placement groups are not active and clean, as {busy[0]}: let that end first")
         ceph("osd", "getmap", "-o", self.at("map"))
         self.maps.save("before", self.maps.osdmaptool("map", *DUMP.split()))
         self.maps.save("dump", self.maps.osdmaptool("map", "--print"))
-        self.maps.save("pgs.json", json.dumps(pgs))
+        self.bytes = bytes_of(rows)
+        kept = [{"pgid": name, "stat_sum": {"num_bytes": it}} for name, it in self.bytes.items()]
+        self.maps.save("pgs.json", json.dumps({"pg_stats": kept}))
         self.crush, self.nearfull, self.rooms = self.maps.crush("map"), float(osds["nearfull_ratio"]), rooms_of(df)
 
     def change(self, change: Change, balance: str | None, deviation: int, most: int) -> None:
@@ -97,90 +99,83 @@ class CephPlanner(Planner):
     def backfills(self, groups: Mapping[str, Group]) -> list[str]:
         """The words of --backfills for osd_max_backfills, as the OSDs that take part have it."""
         osds = sorted({osd for group in groups.values() for it in group.items if it.source != it.target
-                       for osd in (group.counted_at(it), it.target)})
-        said_ = all_of(*(["tell", f"osd.{it}", "config", "get", "osd_max_backfills"] for it in osds))
-        most = [int(it["osd_max_backfills"]) for it in said_]
-        common = collections.Counter(most).most_common(1)[0][0]
-        note(f"osd_max_backfills is {common}" + ("" if len(set(most)) == 1 else ", and another at some OSDs"))
-        odd = [f"{osd}={count}" for osd, count in zip(osds, most) if count != common]
+                       for osd in (group.counted_at[it.name], it.target)})
+        most = backfills_of(osds)
+        common = collections.Counter(most.values()).most_common(1)[0][0]
+        odd = [f"{osd}={count}" for osd, count in most.items() if count != common]
+        note(f"osd_max_backfills is {common}" + ", and another at some OSDs" * bool(odd))
         return [str(common), *odd]
 
-    def plan(self, sub: str, groups: Mapping[str, Group], backfills: Sequence[str]) -> str:
-        """Plans the change of these groups in a folder, and gives the verdict."""
+    def plan(self, sub: str, groups: Mapping[str, Group], backfills: Sequence[str]) -> tuple[Plan, Disks, str]:
+        """Plans the change of these groups in a folder, and gives the verdict too."""
         shifts, limits = case_of(groups, backfills)
         files = files_of(shifts, limits)
         if not sub:
-            sizes = sizes_of(self.at("pgs.json"), self.at("dump"), groups, {it.item for it in shifts})
-            files["bytes.csv"] = size_rows(sizes)
+            self.sizes = sizes_of(self.bytes, self.at("pgs.json"), self.at("dump"), groups, shifts)
+            files["bytes.csv"] = size_rows(self.sizes)
         save_all({os.path.join(self.at(sub), name): table(rows) for name, rows in files.items()})
+        disks = read_disks(self.at(os.path.join(sub, "disks.csv")))
         if len(limits) > MOST_DISKS or len(shifts) > MOST_ITEMS:
-            return large.plan(self, sub, shifts, read_disks(self.at(os.path.join(sub, "disks.csv"))))
+            plan, verdict = large.plan(self, sub, shifts, disks)
+            return plan, disks, verdict
         self.migrate("plan", *FILES, "cert.txt", sub=sub)
-        return self.checked(sub)
+        return read_plan(self.at(os.path.join(sub, "plan.txt"))), disks, self.checked(sub)
 
     def back(self, groups: Mapping[str, Group], steps: Sequence[Step], backfills: Sequence[str]) -> tuple[str, str]:
         """back.sh and its verdict: one step for each group, from any state in which move.sh leaves it."""
-        last, folder = {it.group: it for it in steps}, self.at("back")
-        ends = {name: [int(it) for it in step.order.removeprefix("=").split(",")] for name, step in last.items()}
-        before = read_groups(self.at("before"), False)
-        now = {name: (chosen, ends.get(name, up)) for name, (chosen, up) in before.items()}
-        kept = [line for line in read_text(self.at("dump")).split("\n")
-                if not (line.startswith("pg_upmap_items ") and line.split()[1] in last)]
-        kept += [f"pg_upmap_items {name} [{','.join(str(it) for pair in step.pairs for it in pair)}]"
-                 for name, step in last.items() if step.pairs]
-        for name, text in (("before", listed(now)), ("after", listed(before)), ("dump", "\n".join(kept) + "\n")):
-            Maps(folder).save(name, text)
-        given = argparse.Namespace(hold=False, crush=self.at("crush"),
-                                   **{name: os.path.join(folder, name) for name in FOUR[:3]})
-        homes = read_change(given, True)
-        verdict = self.plan("back", homes, backfills)
-        plan, disks = read_plan(f"{folder}/plan.txt"), read_disks(f"{folder}/disks.csv")
+        never, homes, starts = read_never(self.at("dump")), dict(groups), collections.defaultdict(list)
+        for step in steps:
+            starts[step.group].append(step.pairs)
+            now = [int(it) for it in step.order.removeprefix("=").split(",")]
+            homes[step.group] = groups[step.group].turned(now, step.pairs, never)
+        for name in starts:
+            if why := homes[name].refusal(homes[name].chosen, False):
+                note(f"placement group {name} {why}")
+                del homes[name]
+        plan, disks, verdict = self.plan("back", homes, backfills)
         shifts, found = {it.item: it for it in plan.shifts()}, []
-        for name, rounds in read_rounds(plan, f"{folder}/plan.txt", homes)[0].items():
-            group, starts = homes[name], [it.pairs for it in steps if it.group == name]
+        for name, rounds in read_rounds(plan, self.at("back/plan.txt"), homes)[0].items():
+            group = homes[name]
             counts = counts_of([shifts[it] for it in rounds], group.filler(group.before, group.after), disks)
             order = "=" * group.shards + ",".join(map(str, group.after))
-            found.append(Step(min(rounds.values()), name, order, groups[name].old or [], starts, counts, rounds))
+            found.append(Step(min(rounds.values()), name, order, groups[name].old or [], starts[name], counts, rounds))
         found.sort(key=lambda it: it.round)
         return script(found, plan.digest.hex(), limits_text(disks, 1)), verdict
 
     def write(self, change: Change) -> str:
         """Plans, checks, and writes the scripts; gives what is said of it."""
         given = argparse.Namespace(hold=False, **{name: self.at(name) for name in FOUR})
-        groups = read_change(given, True)
+        groups, left = read_change(given, True)
         moving = {name: it for name, it in groups.items() if it.differ(it.before, it.after)}
         if not moving:
             raise Wrong("no placement group moves for this, so there is nothing to plan")
         backfills = self.backfills(moving)
-        verdict = self.plan("", groups, backfills)
-        plan, disks = read_plan(self.at("plan.txt")), read_disks(self.at("disks.csv"))
-        sizes = read_sizes(self.at("bytes.csv"), plan) or {}
-        found = fullest(plan, groups, sizes, self.rooms)
+        plan, disks, verdict = self.plan("", groups, backfills)
+        found = fullest(plan, groups, self.sizes, self.rooms)
         check_rooms(found, self.nearfull)
         rounds, is_given = read_rounds(plan, self.at("plan.txt"), groups)
         steps = steps_of(groups, rounds, plan, is_given, disks, False)
         files = {"move.sh": script(steps, plan.digest.hex(), limits_text(disks, 1))}
         files["back.sh"], back = self.back(groups, steps, backfills)
-        left = [it for it in read_groups(self.at("before"), False) if it not in groups]
         kept = {"out": list(change.out), "weights": dict(change.weights), "left_out": left}
         if change.said():
             text = CHANGE.replace("WHAT", change.said()).replace("FOLDER", shlex.quote(here()))
             files |= {"change.sh": text}
         save_all({self.at("change.json"): json.dumps(kept) + "\n"})
         save_all({self.at(name): text for name, text in files.items()}, mode=0o755)
-        return self.told(sizes, found, verdict, back, files)
+        return self.told(plan, found, verdict, back, files)
 
-    def told(self, sizes: Mapping[str, int], found: Mapping[int, tuple[float, int]], verdict: str, back: str,
+    def told(self, plan: Plan, found: Mapping[int, tuple[float, int]], verdict: str, back: str,
              files: Mapping[str, str]) -> str:
         """What an operator decides by."""
-        count = len(read_plan(self.at("plan.txt")).shifts())
         bound = next((it for it in read_text(self.at("cert.txt")).split("\n") if it.startswith("bound ")), "")
         lines = [f"the way back: {back}"]
         if found:
             osd, (part, at) = max(found.items(), key=lambda it: it[1])
             lines.insert(0, f"fullest: osd.{osd} with {part:.1%}, in round {at}; nearly full is {self.nearfull:.0%}")
-        names = [it for it in ("move.sh", "change.sh", "back.sh") if it in files]
-        return self.lines(f"{count} copies", f"{verdict}, {bound}", sizes, lines, names)
+        self.command("report", *FILES[3:], *FILES[:2], "cert.txt", "--out", "report.html")
+        names = [it for it in ("move.sh", "change.sh", "back.sh", "report.html") if it in files or it[-1] == "l"]
+        return self.lines(plan, f"{len(plan.shifts())} copies", f"{verdict}, {bound}", self.sizes, lines, names)
 
 
 def read_words() -> argparse.Namespace:
@@ -218,6 +213,7 @@ def change_of(given: argparse.Namespace) -> Change:
 @command
 def main() -> None:
     given = read_words()
+    gc.disable()  # what is made here holds no rings, and is much
     try:
         if given.make is not None:
             return make(given.make, given.only_print)

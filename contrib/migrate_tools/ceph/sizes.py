@@ -1,7 +1,9 @@
 """The bytes of each placement group's copies and shards, from what `ceph pg dump --format json` prints."""
 import json, re
-from collections.abc import Mapping
+from collections.abc import Iterable, Mapping
+from typing import Any
 from ..command import Wrong, read_text
+from ..plans import Shift
 from .groups import Group
 
 CHUNK = 4096  # a stripe has so many bytes of each data shard, unless the profile says otherwise
@@ -20,19 +22,32 @@ def data_shards(dump: str) -> dict[str, int]:
     return found
 
 
-def sizes_of(path: str, dump: str, groups: Mapping[str, Group], wanted: set[str]) -> dict[str, int]:
-    """The bytes of each of these items. A shard has its part of the group's."""
+def rows_of(whole: Any) -> Any:
+    """The rows of what `ceph pg dump` prints, also of a part of it."""
+    return whole.get("pg_map", whole)["pg_stats"]
+
+
+def bytes_of(rows: Any) -> dict[str, int]:
+    """By placement group."""
+    return {it["pgid"]: max(0, int(it["stat_sum"]["num_bytes"])) for it in rows}
+
+
+def read_bytes(path: str) -> dict[str, int]:
     try:
-        whole = json.loads(read_text(path))
-        rows = whole.get("pg_map", whole)["pg_stats"]
-        bytes_ = {it["pgid"]: int(it["stat_sum"]["num_bytes"]) for it in rows}
+        return bytes_of(rows_of(json.loads(read_text(path))))
     except (ValueError, LookupError, TypeError, AttributeError):
         raise Wrong("does not hold what `ceph pg dump --format json` prints", path) from None
-    shards, found = data_shards(dump), {}
+
+
+def sizes_of(bytes_: Mapping[str, int], path: str, dump: str, groups: Mapping[str, Group],
+             shifts: Iterable[Shift]) -> dict[str, int]:
+    """The bytes of each item of these, by those of the groups, which a file has. A shard has its part of the
+    group's."""
+    shards, found, wanted = data_shards(dump), {}, {it.item for it in shifts}
     for name, group in groups.items():
         if name not in bytes_:
             raise Wrong(f"has no placement group {name}", path)
         if not (count := shards.get(name.partition(".")[0])):
             raise Wrong(f"has no stripe_width for the pool of placement group {name}", dump)
-        found.update({it.name: -(-max(0, bytes_[name]) // count) for it in group.items if it.name in wanted})
+        found.update({it.name: -(-bytes_[name] // count) for it in group.items if it.name in wanted})
     return found

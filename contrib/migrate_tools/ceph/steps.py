@@ -79,7 +79,7 @@ def read_rounds(plan: Plan, path: str, groups: Mapping[str, Group]) -> tuple[dic
             seen.add(it.item)
         for it in shifts:
             name, home = homes.get(it.item, ("", None))
-            source = home and (home.source if given else groups[name].counted_at(home))
+            source = home and (home.source if given else groups[name].counted_at[home.name])
             ends = home and home.source != home.target and (f"osd.{source}", f"osd.{home.target}")
             if ends != (it.source, it.target) or it.item in rounds.get(name, {}):
                 raise Wrong(f"{path} round {at}: {it.item} from {it.source} to {it.target} is no move of a plan for "
@@ -126,13 +126,10 @@ def steps_of(groups: Mapping[str, Group], rounds: Mapping[str, Mapping[str, int]
     for name, those in rounds.items():
         group = groups[name]
         before, old, was = -1, group.old or [], group.before
-        for at, osds, pairs in group.states(those):
+        for at, osds, pairs in group.states(those, hold):
             items = {it: its for it, its in those.items() if before < its <= at}
-            filler = None if given or not items else group.filler(was, osds)
+            filler = None if given or not items else group.filler(was, osds, pairs)
             counts = counts_of([shifts[it] for it in items], filler, disks) if disks and items else {}
-            if at or hold:
-                order = "=" * group.shards + ",".join(map(str, osds))
-                steps.append(Step(at, name, order, pairs, [old], counts, items))
-                old = pairs
-            before, was = at, osds
+            steps.append(Step(at, name, "=" * group.shards + ",".join(map(str, osds)), pairs, [old], counts, items))
+            before, was, old = at, osds, pairs
     return sorted(steps, key=lambda it: it.round)

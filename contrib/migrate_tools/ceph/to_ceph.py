@@ -14,7 +14,7 @@ set as soon as each OSD at which Ceph counts its copies has a place free by the 
 import argparse, collections, hashlib
 from collections.abc import Sequence
 from ..command import command, note, put, save_all
-from ..disks import Disks, check_disks, limits_by_side, read_disks
+from ..disks import Disks, limits_by_side, read_disks
 from ..plans import Plan, Shift, plan_text, read_plan
 from ..shell import steps_head
 from .groups import read_change, reader
@@ -85,11 +85,9 @@ def read_words() -> argparse.Namespace:
 @command
 def main() -> None:
     given = read_words()
-    plan, groups = read_plan(given.plan), read_change(given, True)
+    plan, groups = read_plan(given.plan), read_change(given, True)[0]
     path, saved = given.rounds or (given.eager, None)
-    disks = read_disks(path) if path else None
-    if disks is not None:
-        check_disks(plan, disks, path)
+    disks = read_disks(path, plan) if path else None
     rounds, is_given = read_rounds(plan, given.plan, groups)
     steps = steps_of(groups, rounds, plan, is_given or saved is not None, disks, given.hold)
     inputs = [given.plan, given.before, given.after, given.dump, given.crush, *([path] if path else [])]

@@ -5,6 +5,7 @@ from dataclasses import dataclass, field
 from ..command import Wrong, note
 from ..items import Part
 from ..plans import MOST_DISKS
+from ..tight import coming_of
 
 MOST_PARTS = 4096  # a folder in which more stands is not split
 
@@ -162,10 +163,7 @@ def bytes_of(disks: Iterable[str]) -> tuple[dict[str, int], dict[str, int]]:
 def check_bytes(going: Iterable[tuple[Item, str]], rooms: Mapping[str, int]) -> None:
     """An item that leaves makes no room before it is gone. `plan-tight` counts items, and no bytes, so it makes none
     either."""
-    coming: dict[str, int] = collections.Counter()
-    for it, disk in going:
-        coming[disk] += it.bulk
-    for disk, bytes_ in coming.items():
+    for disk, bytes_ in coming_of(going).items():
         if bytes_ > rooms[disk]:
             raise Wrong(f"there is no room on {disk}: {bytes_} bytes are to come to it, and {rooms[disk]} are free. "
                         "`migrate plan-tight` counts items, and not their bytes, so it would not help: move less at a "

@@ -18,13 +18,13 @@ room, or it is for `plan-tight`."""
 import argparse, collections, functools, os
 from collections.abc import Iterable, Mapping, Sequence
 from ..balance import Balance, percent_of
-from ..command import Wrong, command, note, save_all, words
-from ..disks import disk_rows, given_to, limits_of
+from ..command import Wrong, command, note, words
+from ..disks import given_to, limits_of
 from ..items import Spot
-from ..plans import MOST_ITEMS, MOST_SLOTS, number, table
-from ..sizes import amount, size_rows
+from ..plans import MOST_ITEMS, MOST_SLOTS, number
+from ..sizes import amount
 from ..tight import form_of, said_of_bytes, warning_of
-from ..wishes import Wishes, carry_out
+from ..wishes import Wishes, carry_out, save_case
 from .found import Item, Nodes, bytes_of, check_bytes, in_units, read_disks, read_items
 from .targets import HEADER, check_targets, folders_above, short_names
 
@@ -159,14 +159,8 @@ def main() -> None:
     stands: list[list[object]] = [[*HEADER.split(",")]]
     stands += [["disk", disk_names[disk], disk, ""] for disk in disks]
     stands += [["item", names[it.volume], it.volume, it.bulk] for it in items.values()]
-    files: dict[str, Iterable[Iterable[object]]] = {
-        "disks.csv": disk_rows({disk_names[it]: limits[it] for it in disks},
-                               {disk_names[it]: slots[it] for it in disks}, "--limit"),
-        "now.csv": [["item", "disk", "slot"],
-                    *([names[it.volume], disk_names[disk], at] for (disk, at), it in items.items())],
-        "next.csv": [["item", "disk"], *([names[it.volume], disk_names[next_[at]]] for at, it in items.items())],
-        "names.csv": stands, "bytes.csv": size_rows({names[it.volume]: it.bulk for it in items.values()})}
-    save_all({os.path.join(given.into, name): table(rows) for name, rows in files.items()})
+    save_case(given.into, {at: names[it.volume] for at, it in items.items()}, disk_names, limits, slots, next_,
+              {at: it.bulk for at, it in items.items()}, stands)
     least = f"; {wishes.balance.least} at least have to" if wishes.balance else ""
     note(f"{len(items)} items on {len(disks)} disks, {len(going)} of them go to another disk{least}")
     for text in form.said(), said_of_bytes(going, rooms, used), warning_of(form, wholes, next_, slots, rooms):

@@ -8,13 +8,12 @@ of from-folders: --empty MNT, --move ITEM=MNT, --spread, --balance N; --unit, --
 import os, shlex
 from ..command import command, here, put, save_all
 from ..fullness import Room
-from ..plans import Plan, read_plan, read_rows, table
+from ..plans import Plan, read_rows, table
 from ..shell import filled
-from ..whole import Planner, WishPlanner, handed_on, reader_of
+from ..whole import Planner, WishPlanner, reader_of
 from .found import bytes_of
 from .targets import HEADER, names_of
 
-SEVERAL, SINGLE, FLAGS = ("empty", "move", "limit", "slots", "size"), ("balance", "unit"), ("spread",)
 COPY = ["cp", "-a", "{from}/{item}", "{to}/"]
 DEEP = ["sh", "-c", 'cd "$1" && cp -a --parents "./$2" "$3"/', "sh", "{from}", "{item}", "{to}"]
 SCRIPT = """#!/bin/sh
@@ -42,16 +41,20 @@ def script(planner: Planner, what: str, sub: str, more: str, copy: list[str], gu
                   COPY=shlex.join(copy))
 
 
+def absolute(word: str) -> str:
+    """The same word of from-folders, with a path in it from the root on."""
+    option, is_, text = word.partition("=")
+    path, *more = (text, "") if option == "--empty" else text.rpartition("=")
+    return f"{option}{is_}{os.path.abspath(path) if os.sep in path else path}{''.join(more)}"
+
+
 @command
 def main() -> None:
-    reader = reader_of(__doc__, SEVERAL, SINGLE, FLAGS)
+    reader = reader_of(__doc__, ("empty", "move", "limit", "slots", "size", "balance", "unit"))
     reader.add_argument("mounts", metavar="MNT", nargs="+")
     given = reader.parse_args()
     planner, mounts = WishPlanner(given.into), [os.path.abspath(it) for it in given.mounts]
-    for name in ("empty", "move", "limit", "slots", "size"):
-        words = [word.rpartition("=") if name != "empty" else (word, "", "") for word in getattr(given, name)]
-        setattr(given, name, [f"{os.path.abspath(it) if os.sep in it else it}{is_}{more}" for it, is_, more in words])
-    planner.command("from-folders", *mounts, *handed_on(given, [*SEVERAL, *SINGLE, *FLAGS]))
+    planner.command("from-folders", *mounts, *map(absolute, given.handed))
     plan, back = planner.plan(names_back)
     disks, items = names_of(plan, planner.at("names.csv"))
     guard = "mountpoint -q {disk}" if all(os.path.ismount(it) for it in mounts) else "test -d {disk}"

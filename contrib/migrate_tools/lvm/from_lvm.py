@@ -11,16 +11,16 @@ to-lvm reads it; bytes.csv has the bytes of each item, for summary and progress.
 Where anything is wrong nothing is written. Standard error says whether each disk has room for old and incoming items
 together, for `migrate plan`, or it is for `plan-tight`."""
 import argparse, collections, os
-from collections.abc import Iterable, Mapping, Sequence
+from collections.abc import Mapping, Sequence
 from dataclasses import dataclass
 from ..balance import Balance, percent_of
-from ..command import Wrong, command, note, save_all, words
-from ..disks import disk_rows, given_to, limits_of
+from ..command import Wrong, command, note, words
+from ..disks import given_to, limits_of
 from ..items import Items, Part, Refused, Spot, bulk_of, who
-from ..plans import MOST_DISKS, MOST_ITEMS, MOST_SLOTS, table
-from ..sizes import amount, size_rows
+from ..plans import MOST_DISKS, MOST_ITEMS, MOST_SLOTS
+from ..sizes import amount
 from ..tight import Form, form_of, may_meet, unfit
-from ..wishes import Wishes, carry_out
+from ..wishes import Wishes, carry_out, save_case
 from .pvmoves import LEG
 from .reports import FIXED, cut, extent_of, read_parts, read_reports, read_sizes, short
 
@@ -28,10 +28,8 @@ LEAST_UNIT, MOST_PVMOVES = 16, 300  # of the unit that is chosen, where the wish
 
 
 def read_words() -> argparse.Namespace:
-    reader = words(__doc__)
+    reader = words(__doc__, "lvs", "pvs")
     add = reader.add_argument
-    add("lvs", metavar="LVS")
-    add("pvs", metavar="PVS")
     add("--move", metavar="VOLUME=PV", action="append", default=[], help="this volume is to be on that physical volume")
     add("--empty", metavar="PV", action="append", default=[], help="nothing is to stay on this physical volume")
     add("--spread", action="store_true", help="all are to be in use in about the same part")
@@ -171,13 +169,8 @@ def main() -> None:
                for at, parts in items.items()]
     stands += [["stripe", *it] for it in sorted({(names[at], f"{it.group[0]}/{it.group[1]}", it.leg)
                                                  for at in items for it in items[at] if isinstance(it.group, tuple)})]
-    files: dict[str, Iterable[Iterable[object]]] = {
-        "disks.csv": disk_rows({disks[it]: limits[it] for it in slots}, {disks[it]: slots[it] for it in slots},
-                               "--limit"),
-        "now.csv": [["item", "disk", "slot"], *([names[at], disks[at[0]], at[1]] for at in items)],
-        "next.csv": [["item", "disk"], *([names[at], disks[next_[at]]] for at in items)], "names.csv": stands,
-        "bytes.csv": size_rows({names[at]: extent * bulk_of(items[at]) for at in items})}
-    save_all({os.path.join(given.into, name): table(rows) for name, rows in files.items()}, [given.lvs, given.pvs])
+    bytes_ = {at: extent * bulk_of(parts) for at, parts in items.items()}
+    save_case(given.into, names, disks, limits, slots, next_, bytes_, stands, [given.lvs, given.pvs])
     if fixed := dict.fromkeys(it.volume for it in parts if it.fixed):
         note(f"{', '.join(fixed)}: {FIXED}")
     going = sum(next_[at] != at[0] for at in items)

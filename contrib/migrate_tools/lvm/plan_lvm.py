@@ -9,12 +9,10 @@ import os
 from ..calls import output
 from ..command import command, put, save_all
 from ..fullness import Room
-from ..plans import Plan, read_plan, read_rows, table
-from ..whole import WishPlanner, handed_on, reader_of
+from ..plans import Plan, read_rows, table
+from ..whole import WishPlanner, reader_of
 from .pvmoves import apart, read_names, read_pvmoves
 from .reports import LVS, PVS
-
-SEVERAL, SINGLE, FLAGS = ("empty", "move", "limit"), ("balance", "unit", "extent"), ("spread",)
 
 
 def names_back(path: str, plan: Plan) -> str:
@@ -31,13 +29,13 @@ def names_back(path: str, plan: Plan) -> str:
 
 @command
 def main() -> None:
-    reader = reader_of(__doc__, SEVERAL, SINGLE, FLAGS)
+    reader = reader_of(__doc__, ("empty", "move", "limit", "balance", "unit", "extent"))
     reader.add_argument("group", metavar="VG")
     given = reader.parse_args()
     planner = WishPlanner(given.into)
     for name, words in (("lvs.json", LVS), ("pvs.json", PVS)):
         save_all({planner.at(name): output(*(words.removesuffix("VG") + given.group).split(), passes=True)})
-    planner.command("from-lvm", "lvs.json", "pvs.json", *handed_on(given, [*SEVERAL, *SINGLE, *FLAGS]))
+    planner.command("from-lvm", "lvs.json", "pvs.json", *given.handed)
     plan, _ = planner.plan(names_back)
     for sub, script in (("", "move.sh"), ("back/", "back.sh")):
         planner.command("to-lvm", f"{sub}plan.txt", f"{sub}names.csv", "--out", script)

@@ -29,9 +29,7 @@ def line_of(at: int, move: Pvmove) -> str:
 
 @command
 def main() -> None:
-    reader = words(__doc__)
-    reader.add_argument("plan", metavar="PLAN")
-    reader.add_argument("names", metavar="NAMES")
+    reader = words(__doc__, "plan", "names")
     reader.add_argument("--out", metavar="SCRIPT",
                         help="where the script is saved; it is printed where this is left out")
     reader.add_argument("--plain", action="store_true", help="a script that does without Python")

@@ -34,11 +34,11 @@ from typing import NoReturn
 from ..calls import Ending, add_hook
 from ..clock import Clock, add_times
 from ..command import Wrong, command, put, words
-from ..disks import Disks, check_disks, read_disks
+from ..disks import Disks, read_disks
 from ..folders.targets import names_of
 from ..plans import Plan, Shift, read_plan
 from ..waiting import Waiting
-from .commands import PLACES, Steps, Values, check_inside, check_words, commands, ends_in, fill_in, filled
+from .commands import PLACES, Values, check_inside, check_words, commands, ends_in, fill_in, filled
 from .place import Place, look
 from .runner import Job, Runner
 
@@ -174,9 +174,8 @@ def stopped(runner: Runner, where: str, is_over: bool = True) -> NoReturn:
 @command
 def main() -> None:
     given = read_words()
-    plan, limits = read_plan(given.plan), read_disks(given.eager) if given.eager else None
-    if limits is not None:
-        check_disks(plan, limits, given.eager)
+    plan = read_plan(given.plan)
+    limits = read_disks(given.eager, plan) if given.eager else None
     steps = {"copied": ("copy", given.command), "verified": ("verify", given.verify), "erased": ("erase", given.erase)}
     all_ = {"COMMAND": given.command, "--verify": given.verify, "--erase": given.erase, "--guard": given.guard}
     for what, words_ in ((what, words_) for what, words_ in all_.items() if words_):

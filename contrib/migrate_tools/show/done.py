@@ -1,5 +1,5 @@
 """What of a plan is done: by the journal of `migrate move`, by the place of run-plan, or by the log of a script."""
-import bisect, collections, os, re, subprocess, time
+import bisect, collections, itertools, os, re, subprocess, time
 from collections.abc import Callable, Mapping, Sequence
 from dataclasses import dataclass, field, replace
 from ..clock import Event, at_work, read_times
@@ -37,10 +37,7 @@ Since = Callable[[str], float]  # when a plan was begun, whose place or journal 
 
 def first_of(plan: Plan) -> list[int]:
     """The number of the first transfer of each round, and that of all at the end."""
-    found = [0]
-    for shifts in plan.rounds:
-        found.append(found[-1] + len(shifts))
-    return found
+    return list(itertools.accumulate(map(len, plan.rounds), initial=0))
 
 
 def who_works(path: str) -> str | None:

@@ -10,7 +10,7 @@ from collections.abc import Mapping, Sequence
 from dataclasses import dataclass
 from ..certs import read_cert
 from ..command import Wrong, command, put, words
-from ..disks import Disks, Side, check_disks, limits_by_side, read_disks, sides_of
+from ..disks import Disks, Side, limits_by_side, read_disks, sides_of
 from ..plans import Plan, read_plan
 
 MOST_COLUMNS = 300
@@ -130,16 +130,14 @@ def draw(plan: Plan, disks: Disks, found: Uses, marks: Sequence[Side], sentence:
 
 @command
 def main() -> None:
-    reader = words(__doc__)
-    reader.add_argument("plan", metavar="PLAN")
-    reader.add_argument("disks", metavar="DISKS")
+    reader = words(__doc__, "plan", "disks")
     reader.add_argument("--cert", metavar="CERT", help="the certificate, whose bound is marked")
     reader.add_argument("--out", metavar="FILE", help="where the SVG is saved; it is printed where this is left out")
     given = reader.parse_args()
-    plan, disks = read_plan(given.plan), read_disks(given.disks)
+    plan = read_plan(given.plan)
+    disks = read_disks(given.disks, plan)
     if not disks:
         raise Wrong("has no disks", given.disks)
-    check_disks(plan, disks, given.disks)
     found = uses(plan, disks)
     marks, sentence = marked(disks, given.cert) if given.cert else needing(found, limits_by_side(disks))
     put(draw(plan, disks, found, marks, sentence), given.out,

@@ -14,7 +14,7 @@ import argparse, datetime, json, os, sys, time
 from collections.abc import Sequence
 from typing import Any
 from ..command import command, words
-from ..disks import Disks, check_disks, read_disks
+from ..disks import Disks, read_disks
 from ..lvm.pvmoves import steps_of
 from ..plans import Plan, read_plan
 from ..sizes import read_sizes, said
@@ -109,9 +109,8 @@ def line_of(it: dict[str, Any]) -> str:
 
 @command
 def main() -> None:
-    reader = words(__doc__)
+    reader = words(__doc__, "plan")
     add = reader.add_argument
-    add("plan", metavar="PLAN")
     add("--journal", metavar="FILE", help="the journal of `migrate move`")
     add("--place", metavar="FILE", help="the place of run-plan")
     add("--log", metavar="FILE", help="the log of a script of to-lvm or to-ceph")
@@ -132,9 +131,7 @@ def main() -> None:
     if given.metrics and (given.json or given.every):
         reader.error("--metrics goes neither with --json nor with --every")
     plan = read_plan(given.plan)
-    sizes, disks = read_sizes(given.sizes, plan), read_disks(given.eager) if given.eager else None
-    if disks is not None:
-        check_disks(plan, disks, given.eager)
+    sizes, disks = read_sizes(given.sizes, plan), read_disks(given.eager, plan) if given.eager else None
     steps = steps_of(plan, given.names) if given.names else None
     try:
         while True:

@@ -9,7 +9,7 @@ import collections, html, json, os
 from collections.abc import Mapping
 from ..certs import Bound, Cert, read_cert
 from ..command import Wrong, command, put, read_text, words
-from ..disks import Disks, Side, check_disks, is_split, limits_by_side, read_disks, sides_of
+from ..disks import Disks, Side, is_split, limits_by_side, read_disks, sides_of
 from ..plans import Plan, number, read_plan, read_rows
 
 MOST_BUSY = 10
@@ -88,14 +88,12 @@ def busiest(plan: Plan, disks: Disks, marked: set[str]) -> tuple[dict[str, int],
 
 @command
 def main() -> None:
-    reader = words(__doc__)
-    for name in ("plan", "disks", "now"):
-        reader.add_argument(name, metavar=name.upper())
+    reader = words(__doc__, "plan", "disks", "now")
     reader.add_argument("cert", metavar="CERT", nargs="?")
     reader.add_argument("--out", metavar="FILE", help="where the page is saved; it is printed where this is left out")
     given = reader.parse_args()
-    plan, disks = read_plan(given.plan), read_disks(given.disks)
-    check_disks(plan, disks, given.disks)
+    plan = read_plan(given.plan)
+    disks = read_disks(given.disks, plan)
     used, cert = used_slots(plan, disks, given.now), read_cert(given.cert, disks) if given.cert else None
     if cert and cert.rounds != len(plan.rounds):
         raise Wrong("is the certificate of another plan", given.cert)

@@ -14,7 +14,7 @@ import argparse, collections, itertools, json
 from collections.abc import Mapping, Sequence
 from typing import Any
 from ..command import Wrong, command, put, words
-from ..disks import Disks, Side, check_disks, limits_by_side, read_disks, sides_of
+from ..disks import Disks, Side, limits_by_side, read_disks, sides_of
 from ..lvm.pvmoves import apart, read_pvmoves
 from ..plans import Plan, read_plan, read_rows
 from ..sizes import amount, read_sizes, said
@@ -115,9 +115,8 @@ def times_of(plan: Plan, rate: int, bytes_: float, sizes: Sizes, disks: Disks | 
 
 
 def read_words() -> argparse.Namespace:
-    reader = words(__doc__)
+    reader = words(__doc__, "plan")
     add = reader.add_argument
-    add("plan", metavar="PLAN")
     add("disks", metavar="DISKS", nargs="?")
     add("--bytes", metavar="N", type=amount, help="the bytes of an item")
     add("--sizes", metavar="BYTES", help="bytes.csv, with the bytes of each item")
@@ -140,9 +139,7 @@ def read_words() -> argparse.Namespace:
 def main() -> None:
     given = read_words()
     plan, most = read_plan(given.plan), 1 << 32 if given.all else 10
-    disks, sizes, steps = read_disks(given.disks) if given.disks else None, read_sizes(given.sizes, plan), None
-    if disks is not None:
-        check_disks(plan, disks, given.disks)
+    disks, sizes, steps = read_disks(given.disks, plan) if given.disks else None, read_sizes(given.sizes, plan), None
     busy, count, parked = busiest(plan, disks, sizes), len(plan.shifts()), plan.parked()
     found: dict[str, Any] = {"moves": count, "rounds": len(plan.rounds)}
     found |= {"transfers_by_round": [len(it) for it in plan.rounds], "disks": busy}

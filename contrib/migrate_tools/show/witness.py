@@ -10,7 +10,7 @@ import collections, time
 from dataclasses import replace
 from ..certs import Bound, Cert, read_cert, set_bound
 from ..command import Wrong, command, note, put, words
-from ..disks import Disks, Side, check_disks, is_split, limits_by_side, read_disks
+from ..disks import Disks, Side, is_split, limits_by_side, read_disks
 from ..plans import Plan, read_plan
 from .cuts import Graph, Limits, OutOfTime, inside, needs_more, rounds_for
 
@@ -64,16 +64,14 @@ def said(cert: Cert, shown: Bound, best: Bound, ended: bool) -> str:
 
 @command
 def main() -> None:
-    reader = words(__doc__)
-    for name in ("plan", "disks", "cert"):
-        reader.add_argument(name, metavar=name.upper())
+    reader = words(__doc__, "plan", "disks", "cert")
     reader.add_argument("--out", metavar="FILE",
                         help="where the certificate is saved; it is printed where this is left out")
     reader.add_argument("--seconds", metavar="N", type=float, default=60,
                         help="when the search ends; 60 where this is left out")
     given = reader.parse_args()
-    plan, disks = read_plan(given.plan), read_disks(given.disks)
-    check_disks(plan, disks, given.disks)
+    plan = read_plan(given.plan)
+    disks = read_disks(given.disks, plan)
     cert, near = read_cert(given.cert, disks), graph_of(plan)
     if cert.rounds != len(plan.rounds) or bool(cert.bound) != bool(near):
         raise Wrong("is the certificate of another plan", given.cert)

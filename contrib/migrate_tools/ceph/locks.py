@@ -1,45 +1,8 @@
-"""One script at a time, where nobody else would keep a second one away: who is at work stands in a store that all of
-them see, a file or a key of a cluster."""
+"""One script at a time, where nobody else would keep a second one away: who is at work stands in a key of the cluster,
+which all of them see."""
 import datetime, json, os, socket, time, uuid
-from typing import Protocol
-from .command import Wrong
-
-
-class Store(Protocol):
-    """Keeps one text for all."""
-
-    def get(self) -> str: ...  # empty where there is none
-
-    def set(self, text: str) -> None: ...
-
-    def remove(self) -> None: ...
-
-
-class File:
-    """A file, for scripts of one machine."""
-
-    def __init__(self, path: str) -> None:
-        self.path = path
-
-    def get(self) -> str:
-        try:
-            with open(self.path, encoding="utf-8") as file:
-                return file.read()
-        except FileNotFoundError:
-            return ""
-        except OSError as error:
-            raise Wrong(f"cannot be read: {error.strerror}", self.path) from None
-
-    def set(self, text: str) -> None:
-        try:
-            with open(f"{self.path}.{os.getpid()}", "w", encoding="utf-8") as file:
-                file.write(text)
-            os.replace(file.name, self.path)
-        except OSError as error:
-            raise Wrong(f"cannot be written: {error.strerror}", self.path) from None
-
-    def remove(self) -> None:
-        os.unlink(self.path)
+from ..command import Wrong
+from .cluster import Key
 
 
 def began(process: int) -> str:
@@ -52,10 +15,10 @@ def began(process: int) -> str:
 
 
 class Lock:
-    """Keeps others away from what the store stands for, from `take` to `release`. Whoever takes it over by force says
+    """Keeps others away from the cluster, from `take` to `release`. Whoever takes it over by force says
     so there, and the one before finds it out by `check`. The two that take it in the same moment find it out too."""
 
-    def __init__(self, store: Store, what: str) -> None:
+    def __init__(self, store: Key, what: str) -> None:
         """`what` is at work, in words, as the path of a script."""
         self.store = store
         self.text = json.dumps({"what": what, "host": socket.gethostname(), "process": os.getpid(),
