@@ -3,7 +3,7 @@ import itertools, os, resource, stat
 from session_cells import SLOT, cell
 from session_inputs import DISKS, PLAN_TEXT, put
 from session_rooms import Count, Ran, Room, says
-from damage_rooms import LAYOUT, LEFT, WORDS, Store, ended_well, example, ring, spread, stages
+from damage_rooms import LAYOUT, LEFT, WORDS, Store, ended_well, ring, spread, stages
 from damages import JOURNAL, wanted
 from waiting import ended
 

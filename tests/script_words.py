@@ -1,6 +1,6 @@
 """What each script says of its use and of words that it doesn't know; and that it does nothing else then."""
 import os
-from script_rooms import TOP, Tree
+from script_rooms import Tree
 from session_rooms import Count
 
 # each with the words that it doesn't know

@@ -4,7 +4,7 @@ example of docs/FORMATS.md. So no page can say what the program doesn't do.
 A session is read from its page: in a block of the kind 'console' a line '$ COMMAND', and under it what COMMAND prints."""
 import os, re
 from session_inputs import AFTER, CERT_TEXT, CHECK, DISKS, LAYOUT_TEXT, PLAN, PLAN_TEXT, SMALL, put
-from session_rooms import TOP, Count, Room, page
+from session_rooms import Count, Room, page
 from cases import moves_between
 from first_come import of_moves
 

@@ -1,7 +1,8 @@
-"""How long a test waits for what has to happen: until it happens, and two minutes at most. Then it says what it waited for."""
-import subprocess, time
+"""How long a test waits for what has to happen: until it happens, and two minutes at most, or as many seconds as LIMIT in the environment
+says. Then it says what it waited for."""
+import contextlib, os, signal, subprocess, time
 
-LIMIT = 120
+LIMIT = int(os.environ.get("LIMIT", "120"))
 
 
 def in_vain(what):
@@ -26,3 +27,17 @@ def ended(process, what):
         process.kill()
         process.wait()
         raise in_vain(f"{what} to end") from None
+
+
+@contextlib.contextmanager
+def at_work(what):
+    """What is done meanwhile in this process may take as much of a processor's time, and no more."""
+    def stop(*_):
+        raise in_vain(f"{what} to end, which is at work")
+
+    signal.signal(signal.SIGVTALRM, stop)
+    signal.setitimer(signal.ITIMER_VIRTUAL, LIMIT)
+    try:
+        yield
+    finally:
+        signal.setitimer(signal.ITIMER_VIRTUAL, 0)

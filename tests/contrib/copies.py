@@ -385,8 +385,7 @@ def power_cuts():
 
 # what copies, and what removes, x or y in two steps; after each the disks are as a power cut would leave them
 SNAP = "to=cuts/$(ls cuts | wc -l); mkdir $to; cp state/?.img $to/"
-STEPS = {"snap": SNAP,
-         "copy": "mkdir -p $2/$3; cp -a $1/one $2/$3/; sync -f $2; sh snap; cp -a $1 $2/; sh snap",
+STEPS = {"snap": SNAP, "copy": "mkdir -p $2/$3; cp -a $1/one $2/$3/; sync -f $2; sh snap; cp -a $1 $2/; sh snap",
          "erase": "rm $1/one; sync -f $1; sh snap; rm -r $1; sh snap"}
 
 

@@ -120,14 +120,13 @@ def time_that_is_left():
     plan, disks = plans.Plan(shifts, b""), {f"{side}{m}": Disk(Joint(1), 9) for side in "st" for m in range(2)}
     for name, stand, wanted in (("a round", done.Stand({0, 1}, "rounds", 100.0, took={1: 100.0}, begun={2: 40.0}),
                                  160.0),
-                                ("a later moment",
-                                 done.Stand({0, 1}, "rounds", 130.0, took={1: 100.0}, begun={2: 70.0}), 130.0),
-                                ("longer than was thought",
-                                 done.Stand({0, 1}, "rounds", 190.0, took={1: 100.0}, begun={2: 130.0}), 100.0),
+                                ("a later moment", done.Stand({0, 1}, "rounds", 130.0, took={1: 100.0},
+                                                              begun={2: 70.0}), 130.0),
+                                ("longer than was thought", done.Stand({0, 1}, "rounds", 190.0, took={1: 100.0},
+                                                                       begun={2: 130.0}), 100.0),
                                 ("without times", done.Stand({0, 1}, "items", 100.0, idle=40.0), 160.0),
-                                ("transfers",
-                                 done.Stand({0, 1}, "eager", 100.0, lasted={0: 100.0, 1: 100.0},
-                                            running={2: 40.0, 3: 60.0}, seconds_done=100.0), 160.0)):
+                                ("transfers", done.Stand({0, 1}, "eager", 100.0, lasted={0: 100.0, 1: 100.0},
+                                                         running={2: 40.0, 3: 60.0}, seconds_done=100.0), 160.0)):
         same(f"the time left goes on: {name}", left.seconds_left(plan, [0, 2, 4, 6], [1] * 6, stand, disks, None),
              wanted)
 
@@ -164,8 +163,7 @@ def full_disks():
         device = os.stat(room.path("a")).st_dev
         same("a link to where something is mounted is such a place", wrong(found.read_disks, [room.path("link")], True),
              "")
-        that("another file system inside is refused",
-             "is on another file system than a; a copy of it would be no move"
+        that("another file system inside is refused", "is on another file system than a; a copy of it would be no move"
              in wrong(found.weigh, room.path("a/folder"), "a", device + 1, {}))
     # a disk that is half full by what is no item: all items leave it
     parts = {("a", n): [items.Part(f"v{n}", 10)] for n in range(5)}
@@ -254,12 +252,20 @@ def these_tests():
         ran = subprocess.run([sys.executable, f"{HERE}/run", PROGRAM, *words], capture_output=True, text=True,
                              check=False)
         that(f"run {words}", ran.returncode == status and said in ran.stdout + ran.stderr, ran)
-    with mock.patch.object(waiting, "LIMIT", 0):
-        try:
-            said = waiting.until(lambda: None, "what never comes")
-        except TimeoutError as why:
-            said = str(why)
-    same("what is waited for in vain", said, "waited 0 seconds in vain for what never comes")
+    for limit, wait, said in ((0, lambda: waiting.until(lambda: None, "what never comes"), "what never comes"),
+                              (0.01, endless, "a loop to end, which is at work")):
+        with mock.patch.object(waiting, "LIMIT", limit):
+            try:
+                found = wait()
+            except TimeoutError as why:
+                found = str(why)
+        same("what is waited for in vain", found, f"waited {limit} seconds in vain for {said}")
+
+
+def endless():
+    with waiting.at_work("a loop"):
+        while True:
+            pass
 
 
 # Pages
@@ -271,10 +277,9 @@ def what_pages_show(room):
     page = room.good("pages", "contrib/report 'a<b>&.txt' disks.csv now.csv")
     that("a name of a file is text in the page",
          '<p class="soft">a&lt;b&gt;&amp;.txt</p>' in page and "a<b>" not in page)
-    that("the page marks more than a limit",
-         "pen.fillStyle = sum > most ? over : sum === most ? full : part;" in page
+    that("the page marks more than a limit", "pen.fillStyle = sum > most ? over : sum === most ? full : part;" in page
          and 'get("over").hidden = !data.disks.some((it, disk) => it[3].some((limit, way) => uses[disk][way].some(n => '
-             'n > limit)));' in page)
+         'n > limit)));' in page)
     picture = room.good("pages", "contrib/picture 'a<b>&.txt' disks.csv")
     same("the picture marks more than a limit",
          len(re.findall(r'<rect x="\S+" y="\S+" width="58" height="28" fill="#c0392b"/>', picture)), 2)

@@ -49,9 +49,8 @@ def the_runner(room):
     room.good("run-plan", MOUNT)
     start, rounds, wanted = tree(room), room.shifts(), wanted_of(room)
     words = f"{GUARD} {VERIFY} {ERASE} plan.txt {COPY}"
-    lines = ["# guard",
-             *(f"test -e mnt/{it}/.here"
-               for it in dict.fromkeys(disk for shifts in rounds for it in shifts for disk in it[1:4:2]))]
+    lines = ["# guard", *(f"test -e mnt/{it}/.here" for it in dict.fromkeys(disk for shifts in rounds for it in shifts
+                                                                            for disk in it[1:4:2]))]
     for at, shifts in enumerate(rounds, 1):
         lines += [f"# round {at}, copy", *(f"cp -a mnt/{it[1]}/{it[0]} mnt/{it[3]}/" for it in shifts)]
         lines += [f"# round {at}, verify", *(f"diff -r mnt/{it[1]}/{it[0]} mnt/{it[3]}/{it[0]}" for it in shifts)]
@@ -91,15 +90,13 @@ def side_by_side(room):
         room.write(f"count{at}", str(len(shifts)))
     # a job waits until all of its round have begun; with two at once until one more has than when it began, if
     # there is one, and a while then
-    room.write("job",
-               "#!/bin/sh\necho begin $1 $2 >>log\nall=$(cat count$1)\n"
+    room.write("job", "#!/bin/sh\necho begin $1 $2 >>log\nall=$(cat count$1)\n"
                "[ -z \"$3\" ] || { at=$(grep \"^begin $1 \" log | grep -n \" $2\\$\" | cut -d: -f1); [ $at -ge "
                "$all ] || all=$((at + 1)); }\n"
                "until [ $(grep -c \"^begin $1 \" log) -ge $all ] || [ ! -e job ]; do sleep 0.1; done\n[ -z \"$3\" "
                "] || sleep 0.2\necho end $1 $2 >>log\n")
     for jobs, most in (("", None), ("--jobs 2", 2)):
-        room.good("run-plan",
-                  f"rm -f log plan.txt.place; contrib/run-plan {jobs} plan.txt sh job {{round}} {{item}} "
+        room.good("run-plan", f"rm -f log plan.txt.place; contrib/run-plan {jobs} plan.txt sh job {{round}} {{item}} "
                   f"'{most or ''}'")
         rounds, at, most_at_once, order = room.shifts(), 0, 0, []
         for line in room.read("log").splitlines():
@@ -200,8 +197,7 @@ def a_disk_goes_away():
                 room.write("take", f"{moment}\n")
                 ran = room.run(f"contrib/run-plan {words}")
                 gone = [it for it in os.listdir(room.path("mnt")) if not os.path.exists(room.path(f"mnt/{it}/.here"))]
-                that(f"{moment}: it stops",
-                     ran.returncode == 1 and len(gone) == 1
+                that(f"{moment}: it stops", ran.returncode == 1 and len(gone) == 1
                      and f"disk {gone[0]} is not as --guard asks: test -e" in ran.stderr
                      and f"stopped in round {at} of 3" in ran.stderr, ran)
                 bring_back(room, gone[0])
@@ -237,8 +233,7 @@ def a_copy_is_wrong():
         found = tree(room)
         that("nothing of its round is removed", all(start[it] <= found[it] for it in start), found)
         ran = room.run(f"contrib/run-plan {VERIFY} {ERASE} plan.txt {COPY}")
-        that("it alone is copied again",
-             ran.returncode == 0
+        that("it alone is copied again", ran.returncode == 0
              and ran.stdout.startswith(f"round 1 of 3: 1 to be copied\nround 1 of 3: {len(shifts)} to be "
                                        f"verified\n"), ran)
         same("a wrong copy, copied again", tree(room), wanted_of(room))
@@ -247,9 +242,8 @@ def a_copy_is_wrong():
         room.says("what cannot be removed stops it",
                   f"contrib/run-plan {VERIFY} --erase 'sh -c \"exit 1\" {{item}}' --jobs 1 plan.txt {COPY}",
                   f"not erased 1 {shifts[0][0]}: status 1", status=1)
-        room.write("plan.txt.place",
-                   "".join(line
-                           for line in room.read("plan.txt.place").splitlines(True) if not line.startswith("erasing")))
+        room.write("plan.txt.place", "".join(line for line in room.read("plan.txt.place").splitlines(True)
+                                             if not line.startswith("erasing")))
         room.good("run-plan", f"rm -r mnt/{target}/{item}")
         room.says("a copy that went away meanwhile", f"contrib/run-plan {VERIFY} {ERASE} plan.txt {COPY}",
                   f"not verified 1 {item}: status 2", status=1)
@@ -271,10 +265,9 @@ def killed_at_random(room):
     """With guards and verification, with --eager and without it; alone, or with all its commands, as where the machine
     goes down; and disks go away meanwhile."""
     chance = random.Random(7)
-    room.good("run-plan",
-              MOUNT
+    room.good("run-plan", MOUNT
               + "; for it in mnt/*/*/data; do yes \"$(cat $it)\" | head -n 20000 >more; cp more $it; mv more "
-                "${it%data}more; done")
+              "${it%data}more; done")
     wanted, counts = wanted_of(room), collections.Counter()
     same("all items are there", set(whole(room)), set(wanted))
     words = ["alone/run-plan", "--guard", "test -e mnt/{disk}/.here", "--verify",
@@ -380,8 +373,7 @@ def the_folders(room):
     same("without a wish all stays", room.read("next.csv"),
          "".join(line.rpartition(",")[0] + "\n" for line in room.read("now.csv").splitlines()))
     room.good("folders", "touch mnt/empty/lost+found/#12")
-    that("what was found again stays",
-         "mnt/empty/lost+found is not empty, and stays\n"
+    that("what was found again stays", "mnt/empty/lost+found is not empty, and stays\n"
          in room.run("contrib/from-folders mnt/* --into examples").stderr)
     disks, names = names_in(room)
     same("each folder and file has a row", collections.Counter(map(os.path.basename, names)),
@@ -402,9 +394,8 @@ def the_folders(room):
     disks, names = names_in(room)
     next_ = dict(room.rows("next.csv"))
     counts = collections.Counter(next_.values())
-    that("--spread and --empty",
-         disks["mnt/disk 0"][0] not in counts and max(counts.values()) - min(counts.values()) <= 2 and len(counts) == 3,
-         counts)
+    that("--spread and --empty", disks["mnt/disk 0"][0] not in counts and max(counts.values()) - min(counts.values())
+         <= 2 and len(counts) == 3, counts)
     same("--move", next_[names["mnt/disk 1/-rf"][0]], disks["mnt/disk 2"][0])
     start = contents(room)
     room.planned("folders")
@@ -525,12 +516,9 @@ def units_of_folders():
         words = 'contrib/from-folders "$PWD"/mnt/* --unit 100K'
         ran = room.run(f"{words} --empty a")
         paths, now = told_of(room)
-        that("the folders that are split",
-             ran.returncode == 0
-             and {(now[it], path) for it, path in paths.items()}
-             == {("a", it)
-                 for it in ("media/films/x", "media/films/y", "media/music", "media/note", "media/link", "small")}
-             | {("b", "media/clips"), ("b", "odd")}, (ran, paths))
+        that("the folders that are split", ran.returncode == 0 and {(now[it], path) for it, path in paths.items()}
+             == {("a", it) for it in ("media/films/x", "media/films/y", "media/music", "media/note", "media/link",
+                                      "small")} | {("b", "media/clips"), ("b", "odd")}, (ran, paths))
         last, before = room.planned("units"), files_below(room)
         that("nothing stays on a", {disk for disk, _ in last.values()} == {"b", "c"}, last)
         refused(room, "a copy to the top", "contrib/run-plan --names names.csv plan.txt cp -a {from}/{item} {to}/",
@@ -586,8 +574,7 @@ def units_of_folders():
              {row[2] for row in room.rows("names.csv") if row[0] == "item"},
              {"mnt/a/media", "mnt/a/small", "mnt/b/media", "mnt/b/odd", "mnt/c/media"})
     with Room() as room:
-        room.good("units",
-                  "mkdir -p mnt/a/all mnt/b; for it in 1 2 3 4 5 6 7 8; do mkdir mnt/a/all/$it; head -c 60000 "
+        room.good("units", "mkdir -p mnt/a/all mnt/b; for it in 1 2 3 4 5 6 7 8; do mkdir mnt/a/all/$it; head -c 60000 "
                   "/dev/zero >mnt/a/all/$it/data; done")
         refused(room, "one folder", "contrib/from-folders mnt/* --balance 10 --size 1M",
                 "not each disk can be filled to the same part")

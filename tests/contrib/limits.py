@@ -18,8 +18,7 @@ def header_of(room):
 # What the scripts write
 
 def split_lvm(room):
-    room.good("LVM",
-              "cp contrib/samples/lvm/*.json . && contrib/from-lvm lvs.json pvs.json --empty loop0 --unit 16 "
+    room.good("LVM", "cp contrib/samples/lvm/*.json . && contrib/from-lvm lvs.json pvs.json --empty loop0 --unit 16 "
               "--limit 1,2 --limit loop1=3,4")
     same("from-lvm writes both limits", room.read("disks.csv"), f"{SPLIT}loop0,1,2,15\nloop1,3,4,15\nloop2,1,2,15\n")
     room.good("LVM", "contrib/from-lvm lvs.json pvs.json --empty loop0 --unit 16 --limit loop1=3,4")
@@ -41,9 +40,7 @@ def split_folders(room):
     room.good("folders",
               "contrib/run-plan --names names.csv --eager disks.csv --erase 'rmdir {from}/{item}' plan.txt cp -a "
               "{from}/{item} {to}/")
-    that("all is where it is to be",
-         not os.listdir(room.path("mnt/a"))
-         and {it[0] for it in room.rows("next.csv")}
+    that("all is where it is to be", not os.listdir(room.path("mnt/a")) and {it[0] for it in room.rows("next.csv")}
          == {*os.listdir(room.path("mnt/b")), *os.listdir(room.path("mnt/c"))})
     for words, said in cases("""
             --limit 1,2 --limit c=1 | --limit: c has one limit and a has two; write OUT,IN for each disk
@@ -115,8 +112,7 @@ def split_pictures(room):
          ["a out", "a in", "b out", "b in", "c out", "c in"])
     same("its numbers", [it for it in texts if "/" in it],
          ["2/2", "1/2", "1/1", "1/1", "1/1", "1/1", "1/1", "1/1", "1/2", "2/2"])
-    that("its bound",
-         "the bound, b in: it has 3 incoming transfers and the incoming limit 1, so no schedule has fewer "
+    that("its bound", "the bound, b in: it has 3 incoming transfers and the incoming limit 1, so no schedule has fewer "
          "than 3 rounds" in texts, texts)
     same("one side is marked", svg.count('stroke="#c0392b"'), 1)
     room.write("c", CERT.replace("b in 3 1 3", "b out 1 1 1"))
@@ -147,9 +143,8 @@ def split_pictures(room):
     room.write("d", SPLIT + "".join(f"d{it},1,1,4\n" for it in range(40)))
     room.write("p", plan_text([[[f"i{it}", f"d{it}", "0", f"d{(it + 1) % 40}", "1"] for it in range(40)]]))
     svg = room.good("picture", "contrib/picture p d")
-    that("80 rows, in use to the limit",
-         svg.count('fill="#1f4e8c"') == 80 + 1 and "80 sides of disks: each needs 1 round for" in svg,
-         svg[-300:])
+    that("80 rows, in use to the limit", svg.count('fill="#1f4e8c"') == 80 + 1
+         and "80 sides of disks: each needs 1 round for" in svg, svg[-300:])
 
 
 def refusals_of_limits(room):
@@ -216,8 +211,7 @@ def at_once(room, name, case, rounds):
     (first, *_), (second, *_) = rounds[0][:2]
     room.write("job", AFTER)
     room.write("waits", f"for=''\n[ $1 = {first} ] && for='begin copy {second}$'\nsh job copy $1 \"$for\"\n")
-    room.good(name,
-              f"contrib/run-plan --eager disks.csv --jobs 3 {EAGER.replace(' 0', '')} plan.txt sh waits {{item}}")
+    room.good(name, f"contrib/run-plan --eager disks.csv --jobs 3 {EAGER.replace(' 0', '')} plan.txt sh waits {{item}}")
     shifts = [it for shifts in rounds for it in shifts]
     that(f"{name}: --jobs", watch(room, f"{name}, --jobs 3", case, shifts, ("copy", "verify", "erase")) >= 2)
 
@@ -318,8 +312,7 @@ def eager_stops():
                        "2>notes")
         same("nothing more begins once one fails", [(what, kind, item) for what, kind, item in events_of(room)],
              [("begin", "copy", "long"), ("end", "copy", "long")])
-        that("what is left is told",
-             ran.returncode == 1 and "not copied 1 bad: status 3" in room.read("notes")
+        that("what is left is told", ran.returncode == 1 and "not copied 1 bad: status 3" in room.read("notes")
              and "stopped with 3 of 3 transfers left, and nothing more is removed" in room.read("notes"),
              (ran, room.read("notes")))
         that("what ended well is kept", "copied 1 long\n" in room.read("plan.txt.place"))
@@ -360,9 +353,8 @@ def eager_stops():
 def eager_gains(room):
     """Rounds of unequal transfers: with a barrier each round takes as long as its longest one, and without as long as
     the busiest disk. A clock of the test says when they end."""
-    room.write("plan.txt",
-               plan_text([[[f"i{at}.{disk}", f"s{disk}", str(at), f"t{disk}", str(at)] for disk in range(2)]
-                          for at in range(2)]))
+    room.write("plan.txt", plan_text([[[f"i{at}.{disk}", f"s{disk}", str(at), f"t{disk}", str(at)] for disk in range(2)]
+                                      for at in range(2)]))
     room.write("disks.csv",
                SPLIT + "".join(f"{side}{disk},1,1,9\n" for side, disk in itertools.product("st", range(2))))
     for options, spans in (("", {"i0.0": (0, 10), "i0.1": (0, 1), "i1.0": (10, 11), "i1.1": (10, 20)}),

@@ -48,9 +48,8 @@ def after_pvmoves(volumes, printed, devices):
         used = {tuple(it) for extents in found.values() for it in extents}
         good = int(end) - int(to) == int(last) - int(first) and int(end) < devices[target] and not used & {
             tuple(it) for it in goes.values()}
-        moved = [it
-                 for it, extents in found.items()
-                 if re.fullmatch(rf"{re.escape(name)}(_rmeta_\d+)?", it) and set(goes) <= set(map(tuple, extents))]
+        moved = [it for it, extents in found.items() if re.fullmatch(rf"{re.escape(name)}(_rmeta_\d+)?", it)
+                 and set(goes) <= set(map(tuple, extents))]
         if that(f"LVM can carry it out: {line}", good and len(moved) == 1, moved):
             found[moved[0]] = [goes.get(tuple(it), it) for it in found[moved[0]]]
         same(f"each leg has disks of its own after {line}", legs_together(found) - legs_together(volumes), set())
@@ -191,9 +190,8 @@ def what_reports_know():
         that("a leg's metadata go along, and it is said",
              {disk for item, disk in room.rows("next.csv") if re.match(r"r_r(image|meta)_0\.", item)} == {"loop3"})
         ran = room.run("contrib/from-lvm lvs.json pvs.json --move r_rimage_0=loop3 --move r_rmeta_0=loop4 --unit 1")
-        that("where it is told it goes elsewhere",
-             "goes along" not in ran.stderr and dict(room.rows("next.csv"))["r_rmeta_0.0"] == "loop4",
-             ran)
+        that("where it is told it goes elsewhere", "goes along" not in ran.stderr
+             and dict(room.rows("next.csv"))["r_rmeta_0.0"] == "loop4", ran)
 
 
 def lvm_of_parts():
@@ -278,14 +276,11 @@ def the_script_of_lvm():
                                f"/dev/loop2:200-231; echo $?")
                 that("a line by hand", "db goes from /dev/loop0:64-95" in ran.stdout and " already\n"
                      in ran.stdout and "neither at" in ran.stderr and ran.stdout.endswith("1\n"), ran)
-                same("a line by hand, printed",
-                     room.good("by hand", f"PATH=$PATH:contrib; {line} -n").split()[:4],
+                same("a line by hand, printed", room.good("by hand", f"PATH=$PATH:contrib; {line} -n").split()[:4],
                      ["pvmove", "-i", "3", "-n"])
             ran = room.run(f"sh moves.sh {failing}")
-            that(f"it begins again there {form}",
-                 ran.returncode == 0 and room.state("lvm.json")["volumes"] == wanted
-                 and f"round {failing - 1}:" not in ran.stdout,
-                 ran)
+            that(f"it begins again there {form}", ran.returncode == 0 and room.state("lvm.json")["volumes"] == wanted
+                 and f"round {failing - 1}:" not in ran.stdout, ran)
             state = room.state("lvm.json")
             state["volumes"]["db"] = [["/dev/loop1", at + 150] for at in range(100)]
             room.keep("state/lvm.json", state)
@@ -363,10 +358,9 @@ def the_log_of_lvm(room):
 def the_summary_of_lvm(room):
     """A round of four items: three leave a, of two volumes, and one leaves b. So b's goes beside the first of a, and
     three steps are needed."""
-    room.write("names",
-               "kind,name,device,extents\nunit,8,,\n" + "".join(f"disk,{it},/dev/{it},64\n" for it in "abc")
+    room.write("names", "kind,name,device,extents\nunit,8,,\n" + "".join(f"disk,{it},/dev/{it},64\n" for it in "abc")
                + "item,x.0,/dev/a,x:0-7\nitem,x.1,/dev/a,x:8-9\n"
-                 "item,y.0,/dev/a,y:18-19 z:20-23\nitem,w.0,/dev/b,w:0-7\n")
+               "item,y.0,/dev/a,y:18-19 z:20-23\nitem,w.0,/dev/b,w:0-7\n")
     room.write("p", plan_of("x.0 a 0 c 0, x.1 a 1 c 1, w.0 b 0 c 2", "y.0 a 2 b 1"))
     lines = room.good("summary", "contrib/summary p --names names").splitlines()
     same("summary counts pvmoves and steps", lines[-1], "pvmoves 5, in 4 steps one after the other")
@@ -505,9 +499,8 @@ class Lab:
         self.make_parts()
         self.fill()
         self.carry_out(f"--empty {a} --limit 2", 16)
-        used = dict(line.split()
-                    for line in self.do(f"pvs --noheadings -o pv_name,pv_pe_alloc_count -S "
-                                        f"vg_name={self.group}").splitlines())
+        used = dict(line.split() for line in self.do(f"pvs --noheadings -o pv_name,pv_pe_alloc_count -S "
+                                                     f"vg_name={self.group}").splitlines())
         same("real LVM says that it is empty", used[a], "0")
         self.do(f"vgreduce {self.group} {a}")
         self.report()
@@ -544,8 +537,7 @@ def loop_devices(room, count):
 
 def real_lvm():
     """The same over the real tools, each group on loop devices of its own."""
-    missing = [it
-               for it in ("lvs", "pvs", "pvmove", "vgcreate", "lvcreate", "vgcfgrestore")
+    missing = [it for it in ("lvs", "pvs", "pvmove", "vgcreate", "lvcreate", "vgcfgrestore")
                if not os.path.exists(f"/usr/sbin/{it}")]
     if missing or os.geteuid():
         return print(f"note: LVM is tried with recorded outputs alone: "

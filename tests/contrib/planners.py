@@ -53,8 +53,7 @@ def plans_of_lvm():
                 same(f"{name}: how full each disk gets", found, full)
             same(f"{name}: the way back is checked", re.findall(r"^way back: (.*)$", said, re.M),
                  ["followed to its end, one at a time" if is_tight else "optimal"])
-            that(f"{name}: what decides it",
-                 is_tight
+            that(f"{name}: what decides it", is_tight
                  or re.search(r"^bottleneck .*so no schedule has fewer than \d+ rounds?\nfirst come, first served: \d+ "
                               r"rounds$", said, re.M), said)
             that(f"{name}: nothing was moved", room.state("lvm.json")["volumes"] == volumes)
@@ -71,9 +70,8 @@ def plans_of_lvm():
                 ran = room.run("sh p/move.sh")
                 same(f"{name}: stopped before command {at}", ran.returncode, int(at < len(commands)))
                 ran = room.run("sh p/back.sh")
-                that(f"{name}: back from before command {at}",
-                     ran.returncode == 0 and sorted_of(room.state("lvm.json")["volumes"]) == sorted_of(volumes),
-                     ran)
+                that(f"{name}: back from before command {at}", ran.returncode == 0
+                     and sorted_of(room.state("lvm.json")["volumes"]) == sorted_of(volumes), ran)
     with Room() as room:
         for words, said, status in (("data --into p", "a wish is needed", 1),
                                     ("other --empty loop0 --into p", "lvs -a --segments", 1),

@@ -65,8 +65,7 @@ def time_left():
                        f"plan {digest}\n" + "".join(f"{it}\n" for _, it in sorted(events) if it.startswith("copied")))
             room.write("plan.txt.place.times", "".join(f"{START + at:.3f} {it}\n" for at, it in sorted(events)))
             with locked(room.path("plan.txt.place")):
-                found = json.loads(room.good(name,
-                                             f"CLOCK=clock contrib/progress plan.txt --json --sizes bytes.csv "
+                found = json.loads(room.good(name, f"CLOCK=clock contrib/progress plan.txt --json --sizes bytes.csv "
                                              f"{'--eager disks.csv' if eager else ''}"))
             left = whole * 2 / 3
             that(name, abs(found["seconds_left"] - left) <= left / 5, (found, left))
@@ -208,8 +207,7 @@ def pauses(room):
     rounds = room.shifts()
     first, all_ = {it[0] for it in rounds[0]}, {it[0] for round_ in rounds for it in round_}
     # each other copy ends after the first one, so that not all have begun by then
-    room.write("job",
-               "#!/bin/sh\necho begin $1 $2 >>log\n[ $1 = copy ] && [ -e stop-$2 ] && touch $(cat stop-$2)\n"
+    room.write("job", "#!/bin/sh\necho begin $1 $2 >>log\n[ $1 = copy ] && [ -e stop-$2 ] && touch $(cat stop-$2)\n"
                f"until [ $1-$2 = copy-{rounds[0][0][0]} ] || grep -qx 'end copy {rounds[0][0][0]}' log || [ ! -e "
                f"job ]; do sleep 0.1; done\necho end $1 $2 >>log\n")
     for eager in ("", "--eager disks.csv"):
@@ -262,8 +260,7 @@ def pauses(room):
         ran = room.begin(f"exec alone/run-plan {words} >said 2>notes")
         until(lambda: "paused" in (room.read("notes") or ""), "a pause")
         ran.terminate()
-        that(f"a pause that is stopped, {eager or 'rounds'}",
-             ran.wait(LIMIT) == 130 and room.read("log") is None
+        that(f"a pause that is stopped, {eager or 'rounds'}", ran.wait(LIMIT) == 130 and room.read("log") is None
              and "begin again with the same words" in room.read("notes"), room.read("notes"))
         ended = room.run(f"rm notes; (until grep -qs paused notes || ! kill -0 $$; do sleep 0.1; done; touch over) "
                          f"& OVER=over contrib/run-plan {words} 2>notes")
@@ -287,8 +284,7 @@ def logs(room):
     room.good("logs", "chmod +x bin/date; cp contrib/samples/lvm/*.json . && contrib/from-lvm lvs.json pvs.json "
                       "--empty /dev/loop0 --limit 2 --unit 32 && ./migrate plan disks.csv now.csv next.csv "
                       "plan.txt cert.txt && contrib/to-lvm plan.txt names.csv --plain --out moves.sh")
-    room.good("logs",
-              "mkdir ceph && cd ceph && S=../contrib/samples/ceph && ../contrib/from-ceph $S/before $S/after "
+    room.good("logs", "mkdir ceph && cd ceph && S=../contrib/samples/ceph && ../contrib/from-ceph $S/before $S/after "
               "$S/dump $S/crush --backfills 2 && ../migrate plan disks.csv now.csv next.csv plan.txt cert.txt && "
               "../contrib/to-ceph plan.txt $S/before $S/after $S/dump $S/crush --plain --out upmaps.sh")
     refused(room, "no log yet", "contrib/progress plan.txt --log moves.sh", "is not the log of a script for this plan")
@@ -304,10 +300,8 @@ def logs(room):
         # paused before the first round, up to its time
         ran = room.run(f"{at}touch pause; (until grep -qs paused log || ! kill -0 $$; do sleep 0.1; done; touch over) "
                        f">/dev/null 2>&1 & sh {script} --until 06:00 >log; echo $?; rm pause over")
-        that(f"{script}: a pause up to --until",
-             ran.stdout == "3\n" and "paused before round 1" in ran.stderr
-             and f"begin again with: sh {script} 1" in ran.stderr and "round 1:" not in room.read(f"{folder}/log"),
-             ran)
+        that(f"{script}: a pause up to --until", ran.stdout == "3\n" and "paused before round 1" in ran.stderr
+             and f"begin again with: sh {script} 1" in ran.stderr and "round 1:" not in room.read(f"{folder}/log"), ran)
         found = json.loads(room.good(script, look))
         same(f"{script}: nothing is done",
              (found["rounds_done"], found["items_done"], found["done"], found["seconds_left"]),
@@ -370,8 +364,7 @@ def sizes():
         room.write("disks.csv", "disk,limit,slots\n" + "".join(f"{it},1,4\n" for it in "abcd"))
         room.write("bytes.csv", "item,bytes\nx,9216\ny,1024\nz,1024\nw,9216\nmore,5\n")
         said = room.good("sizes", "contrib/summary plan.txt disks.csv --sizes bytes.csv --rate 1K")
-        that("the time of rounds of unequal sizes",
-             said.startswith("moves 4\nbytes 20.0 KiB\nrounds 2\n")
+        that("the time of rounds of unequal sizes", said.startswith("moves 4\nbytes 20.0 KiB\nrounds 2\n")
              and "  a: 2 transfers, limit 1, 10.0 KiB, needs 2 rounds\n" in said
              and said.endswith("time 18 s: 2 rounds, each as long as its greatest item\ntime without rounds 10 "
                                "s: each transfer as soon as the limits let it\n"), said)
@@ -465,8 +458,7 @@ def balanced():
             for item, (disk, _) in last.items():
                 used[disk] += bulk[item]
             part = sum(used.values()) / len(used) / 255
-            that(f"from-lvm {words}: each disk's part",
-                 set(used) == {"loop0", "loop1", "loop2"} - set(gone)
+            that(f"from-lvm {words}: each disk's part", set(used) == {"loop0", "loop1", "loop2"} - set(gone)
                  and all(abs(it / 255 - part) <= percent / 100 for it in used.values()), used)
         os.makedirs(room.path("mnt/a"))
         os.makedirs(room.path("mnt/b"))

@@ -181,22 +181,18 @@ def odd_names_of_lvm():
     volumes = ["a+b", "a_b.0", "a_b", "v" * 60, "v" * 61]
     with Room() as room:
         room.keep("pvs.json",
-                  {"report":
-                   [{"pv":
-                     [{"vg_name": "data", "pv_name": name, "pv_attr": "a--", "pv_pe_count": str(size)}
-                      for name, size in devices.items()]}]})
+                  {"report": [{"pv": [{"vg_name": "data", "pv_name": name, "pv_attr": "a--", "pv_pe_count": str(size)}
+                                      for name, size in devices.items()]}]})
         room.keep("lvs.json",
-                  {"report":
-                   [{"seg":
-                     [segment(volume, f"/dev/sda1:{4 * at}-{4 * at + 3}") for at, volume in enumerate(volumes)]}]})
+                  {"report": [{"seg": [segment(volume, f"/dev/sda1:{4 * at}-{4 * at + 3}") for at,
+                                       volume in enumerate(volumes)]}]})
         room.good("odd names", "contrib/from-lvm lvs.json pvs.json --spread")
         room.planned("odd names")
         rows = room.rows("names.csv")
         for kind in ("disk", "item"):
             names = [name for it, name, *_ in rows if it == kind]
-            that(f"names of a {kind}",
-                 len(set(names)) == len(names) and all(re.fullmatch(r"[A-Za-z0-9_.-]{1,32}", it, re.A) for it in names),
-                 names)
+            that(f"names of a {kind}", len(set(names)) == len(names) and all(re.fullmatch(r"[A-Za-z0-9_.-]{1,32}", it,
+                                                                                          re.A) for it in names), names)
         same("what the disks stand for", [device for kind, _, device, _ in rows if kind == "disk"], list(devices))
         room.good("odd names", "contrib/to-lvm plan.txt names.csv --out moves.sh && sh moves.sh -n")
         refused(room, "two devices of one short name", "contrib/from-lvm lvs.json pvs.json --empty sda1",
@@ -404,9 +400,8 @@ def refusals_of_ceph():
                 --backfills osd.99=2 | osd.99 has no copy before or after
                 --into nowhere | nowhere/disks.csv cannot be written"""):
             refused(room, "from-ceph", f"contrib/from-ceph before after dump crush {words}", said)
-        room.write("many",
-                   lists(*((f"1.{it:x}", f"{2 * (it % 5)},{2 * (it % 5 + 1) % 10},{2 * (it % 5 + 2) % 10}")
-                           for it in range(22000))))
+        room.write("many", lists(*((f"1.{it:x}", f"{2 * (it % 5)},{2 * (it % 5 + 1) % 10},{2 * (it % 5 + 2) % 10}")
+                                   for it in range(22000))))
         room.write("crush2", SMALL["crush"])
         room.write("dump2", SMALL["epoch"])
         refused(room, "from-ceph, too many items", "contrib/from-ceph many many dump2 crush2",
@@ -431,8 +426,7 @@ def refusals_of_ceph():
         refused(room, "to-ceph, over what it read", "contrib/to-ceph plan.txt before after dump crush --out dump",
                 "dump was read, and is not written over")
         half = shifts_of(plan)
-        twice = next(group
-                     for group in (it[0].split("s")[0] for it in sum(half, []) if "s" in it[0])
+        twice = next(group for group in (it[0].split("s")[0] for it in sum(half, []) if "s" in it[0])
                      if sum(it[0].startswith(f"{group}s") for it in sum(half, [])) > 1)
         gone = next(it for it in sum(half, []) if it[0].startswith(f"{twice}s"))
         rounds = [[it for it in shifts if it != gone] for shifts in half]

@@ -40,9 +40,8 @@ def judge(room, name):
     """Compares the data of a page with the files of its folder, and gives the page."""
     text = room.good(name, f"contrib/report {FILES}")
     found, case = Page(text), Case(room.read)
-    that(f"{name}: no network",
-         not found.links and not re.search(r"https?:|//[a-z]|@import|url\(|fetch\(|XMLHttp|import\(", text),
-         found.links)
+    that(f"{name}: no network", not found.links
+         and not re.search(r"https?:|//[a-z]|@import|url\(|fetch\(|XMLHttp|import\(", text), found.links)
     used = collections.Counter(disk for disk, _ in case.spots.values())
     loads = case.loads(it[1:] for it in case.moves)
     needs = {disk: max(-(-loads[disk, way] // limit) for way, limit in limits.items())
@@ -66,8 +65,7 @@ def the_report(room):
          found.has("11 transfers in 3 rounds on 6 disks",
                    "Why no schedule is shorter hdd1 takes part in 5 transfers, in at most 2 at once. That "
                    "needs 3 rounds: 5 / 2, rounded up. The plan has 3. No schedule is shorter."), found.told)
-    that("its busiest disks",
-         found.has("hdd1523", "tape313", "ssd1441") and not re.search(r"and \d+ more", found.told),
+    that("its busiest disks", found.has("hdd1523", "tape313", "ssd1441") and not re.search(r"and \d+ more", found.told),
          found.told)
     room.good("report", f"contrib/report {FILES} --out page.html")
     same("--out saves the same", room.read("page.html"), room.good("report", f"contrib/report {FILES}"))
@@ -77,10 +75,8 @@ def the_report(room):
             plan.txt disks.csv later.csv cert.txt | is not at slot 0 of hdd2 by later.csv; it is of another plan
             plan.txt disks.csv now.csv other.txt | other.txt is the certificate of another plan
             {FILES} --out plan.txt | plan.txt was read, and is not written over"""):
-        room.write("later.csv",
-                   "item,disk,slot\n"
-                   + "".join(f"{item},{disk},{int(slot) + 1}\n"
-                             for item, disk, slot in room.rows("now.csv") if disk != "tape"))
+        room.write("later.csv", "item,disk,slot\n" + "".join(f"{item},{disk},{int(slot) + 1}\n" for item, disk,
+                                                             slot in room.rows("now.csv") if disk != "tape"))
         room.write("other.txt", room.read("cert.txt").replace("rounds 3", "rounds 4"))
         refused(room, "report", f"contrib/report {words}", said)
     # a set, of which a better bound is found; and nothing to move
@@ -99,9 +95,8 @@ def the_report(room):
                                           "d0 d1 d2 d3 d4"))
     room.good("report", "cut -d, -f1,2 now.csv >next.csv; ./migrate plan disks.csv now.csv next.csv plan.txt cert.txt")
     found = Page(room.good("report", f"contrib/report {FILES}"))
-    that("nothing to move",
-         found.has("0 transfers in 0 rounds on 7 disks", "Nothing is to be moved.") and found.data["rounds"] == [],
-         found.told)
+    that("nothing to move", found.has("0 transfers in 0 rounds on 7 disks", "Nothing is to be moved.")
+         and found.data["rounds"] == [], found.told)
     # both kinds of limits
     for seed in range(4):
         made_case(room, random.Random(seed), is_split=seed % 2 == 1)
@@ -139,10 +134,9 @@ def rows_at(case, rounds, at):
     used.update(it[3] for it in ends)
     used.subtract(it[1] for it in ends)
     busy = case.loads((it[1], it[3]) for it in (rounds[at - 1] if at else []))
-    return {disk:
-            [f"{used[disk]} / {case.slots[disk]}",
-             "  ".join(f"{busy[disk, way]}/{limit}" for way, limit in limits.items())]
-            for disk, limits in case.limits.items()}
+    return {disk: [f"{used[disk]} / {case.slots[disk]}", "  ".join(f"{busy[disk, way]}/{limit}" for way,
+                                                                   limit in limits.items())] for disk,
+            limits in case.limits.items()}
 
 
 def look(room, browser, name, wide, dark):
@@ -183,10 +177,9 @@ def in_a_browser():
             write_case(room, [rnd.choice([1, 2, 3]) for _ in range(disks)],
                        [tuple(rnd.sample(range(disks), 2)) for _ in range(count)])
             if is_split:
-                room.write("disks.csv",
-                           "disk,out,in,slots\n"
-                           + "".join(f"{name},{limit},{rnd.randint(1, 3)},{slots}\n"
-                                     for name, limit, slots in room.rows("disks.csv")))
+                room.write("disks.csv", "disk,out,in,slots\n" + "".join(f"{name},{limit},{rnd.randint(1, 3)},{slots}\n"
+                                                                        for name, limit,
+                                                                        slots in room.rows("disks.csv")))
             room.good("report",
                       f"./migrate plan disks.csv now.csv next.csv plan.txt cert.txt; contrib/report {FILES} --out "
                       f"page.html")

@@ -1,6 +1,6 @@
 """What the tests of contrib/ share: a folder with the program, the commands and stand-ins for the tools; the recorded
 outputs, read here for themselves; what is counted."""
-import collections, csv, json, os, re, shutil, subprocess, sys, tempfile
+import collections, csv, functools, json, os, re, shlex, shutil, subprocess, sys, tempfile
 import server
 from ceph_model import exceptions_in, groups_in
 from limits_model import Case, misses, plan_text, shifts_of
@@ -13,6 +13,10 @@ SCRIPTS = list(server.COMMANDS)
 FILES = ["disks.csv", "now.csv", "next.csv"]
 PROGRAM = os.path.realpath(sys.argv[1] if len(sys.argv) > 1 else f"{TOP}/crates/migrate/out/migrate")
 SHARED = os.path.join(tempfile.gettempdir(), f"migrate-contrib-{os.getpid()}")  # what server.py makes
+
+# a command that is to a shell what its words are: no file is named that is one of this process
+PLAIN = re.compile(r"(?!.*/(?:dev|proc)/)(?=\./|(?:alone|contrib)/|(?:ceph|cp|diff|mkdir|rm|sh) )"
+                   r"(?:[\w@%+=:,./ -]|'[^']*')+", re.S)
 
 
 def page(name):
@@ -40,13 +44,23 @@ class Count:
 that, same = Count.that, Count.same
 
 
+@functools.cache
+def states():
+    """What the stand-ins begin with, as it was recorded."""
+    raw = {it: chosen for it, (chosen, _) in groups_in(page("contrib/samples/ceph/before")).items()}
+    ceph = {"raw": raw, "balancer": False, "pairs": exceptions_in(page("contrib/samples/ceph/dump")), "acting": {},
+            "late": {}, "dropped": ""}
+    lvm = {"devices": sizes_of(), "volumes": volumes_of(), "moving": {}}
+    return ("lvm", json.dumps(lvm)), ("ceph", json.dumps(ceph))
+
+
 class Room:
     """A folder with the program, the commands, the examples and stand-ins for the tools. What is below `contrib` runs
     in a warm interpreter, and what is below `alone` by itself."""
 
     def __init__(self):
         self.at = tempfile.mkdtemp(prefix="migrate-contrib-")
-        for name, to in (("migrate", PROGRAM), ("contrib", f"{SHARED}/contrib"), ("alone", f"{TOP}/contrib")):
+        for name, to in (("migrate", PROGRAM), ("contrib", f"{SHARED}/contrib"), ("alone", f"{SHARED}/alone")):
             os.symlink(to, self.path(name))
         shutil.copytree(f"{TOP}/examples", self.path("examples"))
         os.mkdir(self.path("bin"))
@@ -58,11 +72,8 @@ class Room:
             os.symlink(f"{SHARED}/tools/{name}", self.path(f"bin/{name}"))
         for name in ("mount", "umount", "mountpoint"):
             os.symlink(f"{HERE}/stand-in-mount", self.path(f"bin/{name}"))
-        self.keep("state/lvm.json", {"devices": sizes_of(), "volumes": volumes_of(), "moving": {}})
-        self.keep("state/ceph.json",
-                  {"raw": {it: chosen for it, (chosen, _) in groups_in(page("contrib/samples/ceph/before")).items()},
-                   "balancer": False, "pairs": exceptions_in(page("contrib/samples/ceph/dump")), "acting": {},
-                   "late": {}, "dropped": ""})
+        for name, text in states():
+            self.write(f"state/{name}.json", text)
         self.env = {**os.environ, "PATH": f"{self.path('bin')}:{os.environ['PATH']}", "STAND_IN": self.path("state"),
                     "PAUSE": "0", "COLUMNS": "200", "LANG": "C.UTF-8", "LVM_SUPPRESS_FD_WARNINGS": "1"}
 
@@ -109,9 +120,32 @@ class Room:
         return found
 
     def run(self, command):
-        """Runs a command of a shell."""
-        return subprocess.run(["bash", "-c", command], cwd=self.at, env=self.env, stdin=subprocess.DEVNULL,
-                              capture_output=True, text=True, errors="replace", timeout=LIMIT, check=False)
+        """Runs a command of a shell; without one, where all that it has are words."""
+        parts = command.split(" && ")
+        if not all(map(PLAIN.fullmatch, parts)):
+            return self.ran(["bash", "-c", command])
+        out = err = ""
+        for words in map(shlex.split, parts):
+            name = words[0].removeprefix("contrib/")
+            ran = self.called(name, words) if name in server.READERS else self.ran(words)
+            out, err = out + ran.stdout, err + ran.stderr
+            if ran.returncode:
+                break
+        return subprocess.CompletedProcess(command, ran.returncode, out, err)
+
+    def ran(self, words):
+        return subprocess.run(words, cwd=self.at, env=self.env, stdin=subprocess.DEVNULL, capture_output=True,
+                              text=True, errors="replace", timeout=LIMIT, check=False)
+
+    def called(self, name, words):
+        """Runs a command within this process."""
+        before = os.getcwd()
+        os.chdir(self.at)
+        try:
+            texts, status = server.said(server.MAINS[name], words, self.env)
+        finally:
+            os.chdir(before)
+        return subprocess.CompletedProcess(words, status, *(it.decode(errors="replace") for it in texts))
 
     def begin(self, command, **env):
         """Begins a command of a shell, which goes on."""
@@ -205,8 +239,7 @@ def refused(room, name, command, said, status=1):
     """The command fails with a sentence that has this, and no file is there that was not, or is another."""
     before = room.files()
     ran = room.run(command)
-    that(f"{name}: {command}",
-         ran.returncode == status and said in ran.stderr and "Traceback" not in ran.stderr and not ran.stdout,
-         f"status {ran.returncode}, {ran.stdout[-200:]!r}, {ran.stderr[-700:]!r}; wanted {said!r}")
+    that(f"{name}: {command}", ran.returncode == status and said in ran.stderr and "Traceback" not in ran.stderr
+         and not ran.stdout, f"status {ran.returncode}, {ran.stdout[-200:]!r}, {ran.stderr[-700:]!r}; wanted {said!r}")
     after = room.files()
     that(f"{name}: no file", after == before, set(after) ^ set(before))

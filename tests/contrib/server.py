@@ -2,8 +2,9 @@
 """A warm interpreter. The commands of contrib/ and the stand-ins of tools run as forks of it, which takes a tenth of
 the time that they take by themselves, and stand-ins that wait for nothing within it, which takes a fifth of that;
 client.c hands over what a call has. Where there is no C compiler they run by themselves."""
-import array, contextlib, fcntl, gc, importlib, importlib.util, io, os, select, shutil, signal, socket, subprocess
-import sys, termios, time, traceback
+import array, compileall, contextlib, fcntl, gc, importlib, importlib.util, io, os, select, shutil, signal, socket
+import subprocess, sys, termios, time, traceback
+from unittest import mock
 
 HERE = os.path.dirname(os.path.realpath(__file__))
 CONTRIB = os.path.join(os.path.dirname(os.path.dirname(HERE)), "contrib")
@@ -14,6 +15,9 @@ COMMANDS = {"from-lvm": "lvm.from_lvm", "to-lvm": "lvm.to_lvm", "lvm-step": "lvm
             "report": "show.report", "summary": "show.summary", "witness": "show.witness", "progress": "show.progress"}
 STAND_INS = ["lvs", "pvs", "pvmove", "osdmaptool", "crushtool", "ceph"]
 WAITING = ["pvmove"]  # the one of these that takes its time
+# commands that begin nothing, and wait for nothing
+READERS = ["from-lvm", "to-lvm", "from-ceph", "to-ceph", "from-folders", "picture", "report", "summary", "witness",
+           "progress"]
 
 
 def package():
@@ -50,18 +54,30 @@ def heard(call):
     return folder, words[:int(count)], environ, array.array("i", told[0][2])
 
 
+def status_of(main):
+    """Does a call, says why it stops, and gives its status."""
+    try:
+        main()
+    except SystemExit as end:
+        if isinstance(end.code, str):
+            print(end.code, file=sys.stderr)
+        return end.code if isinstance(end.code, int) else int(end.code is not None)
+    except BaseException:
+        traceback.print_exc()
+        return 1
+    return 0
+
+
 def said(main, words, environ):
-    """Does a call of a stand-in within this process; gives what it prints, and its status."""
-    sys.argv, os.environ["STAND_IN"], status = words, environ["STAND_IN"], 0
-    with contextlib.redirect_stdout(io.StringIO()) as out, contextlib.redirect_stderr(io.StringIO()) as err:
-        try:
-            main()
-        except SystemExit as end:
-            status = end.code
-        except BaseException:
-            traceback.print_exc()
-            status = 1
-    return [out.getvalue().encode(), err.getvalue().encode()], status
+    """Does a call within this process; gives what it prints and says, and its status."""
+    argv, sys.argv = sys.argv, words
+    out, err = (io.TextIOWrapper(io.BytesIO(), "utf-8", "surrogateescape", "\n") for _ in range(2))
+    with mock.patch.dict(os.environ, environ), contextlib.redirect_stdout(out), contextlib.redirect_stderr(err):
+        status = status_of(main)
+    sys.argv = argv
+    for it in (out, err):
+        it.flush()
+    return [it.buffer.getvalue() for it in (out, err)], status
 
 
 def fits(handle, size):
@@ -96,16 +112,7 @@ def answer(call, calls, words, environ, handles):
     sys.stdin, sys.stdout = open(0, closefd=False), open(1, "w", closefd=False, errors="surrogateescape")
     sys.stderr = open(2, "w", closefd=False, buffering=1, errors="backslashreplace")
     clocks(os.environ)
-    status = 0
-    try:
-        calls[os.path.basename(words[0])]()
-    except SystemExit as end:
-        status = end.code if isinstance(end.code, int) else end.code is not None
-        if isinstance(end.code, str):
-            print(end.code, file=sys.stderr)
-    except BaseException:
-        traceback.print_exc()
-        status = 1
+    status = status_of(calls[os.path.basename(words[0])])
     for file in (sys.stdout, sys.stderr):
         try:
             file.flush()
@@ -137,7 +144,7 @@ def serve(listening, ready):
             folder, words, environ, handles = heard(call)
             name = os.path.basename(words[0])
             os.chdir(folder)
-            told = said(stand_in.main, words, environ) if name in at_once else None
+            told = name in at_once and said(stand_in.main, words, {"STAND_IN": environ["STAND_IN"]})
             if told and all(fits(it, sum(map(len, told[0]))) for it in handles[1:]):
                 hand_over(call, handles, *told)
                 call.close()
@@ -154,10 +161,12 @@ def serve(listening, ready):
 
 
 def begin(folder):
-    """Makes what a room has: the commands in `folder`/contrib, and the stand-ins in `folder`/tools. Begins the server,
-    and gives its process and the pipe at whose end it ends."""
+    """Makes what a room has: the commands in `folder`/contrib, and compiled in `folder`/alone, and the stand-ins in
+    `folder`/tools. Begins the server, and gives its process and the pipe at whose end it ends."""
     for name in ("contrib", "tools"):
         os.mkdir(f"{folder}/{name}")
+    shutil.copytree(CONTRIB, f"{folder}/alone", ignore=shutil.ignore_patterns("samples"))
+    compileall.compile_dir(f"{folder}/alone", quiet=2)
     os.symlink(f"{CONTRIB}/samples", f"{folder}/contrib/samples")
     client = None
     if shutil.which("cc"):

@@ -21,8 +21,7 @@ def the_picture(room):
          [f"{count}/{limits[disk]}" for disk in used for _, count in sorted(used[disk].items())])
     same("its disks", [it for it in texts if it in used], list(used))
     that("its bound",
-         "the bound, hdd1: it has 5 transfers and the limit 2, so no schedule has fewer than 3 rounds" in texts,
-         texts)
+         "the bound, hdd1: it has 5 transfers and the limit 2, so no schedule has fewer than 3 rounds" in texts, texts)
     room.says("without a certificate the disks that need most", "contrib/picture plan.txt disks.csv",
               "2 disks: each needs 3 rounds for its own transfers, the most of all")
     # a set, and more in use than the limit
@@ -30,16 +29,14 @@ def the_picture(room):
     room.write("c", "migration-certificate 1\nrounds 3\nquotient 2\nclass general\nbound set 3 3 3\na\nb\nc\nend\n")
     room.write("p", plan_of("x a 0 b 1, y b 0 c 1, z c 0 a 1"))
     svg = room.good("picture", "contrib/picture p d --cert c")
-    that("a set is marked",
-         svg.count('stroke="#c0392b"') == 3
+    that("a set is marked", svg.count('stroke="#c0392b"') == 3
          and "among these 3 disks are 3 transfers, so no schedule has fewer than 3 rounds" in svg, svg[-500:])
     that("more than the limit is shown", svg.count(">2/1<") == 3, svg)
     # 200 disks, and more rounds than columns
     room.write("d", "disk,limit,slots\n" + "".join(f"d{it},1,4\n" for it in range(200)))
     room.write("p", plan_of(*(f"i{it} d{it % 200} 0 d{(it + 1) % 200} 1" for it in range(1, 1001))))
     svg = room.good("picture", "contrib/picture p d")
-    places = [float(it.get("y"))
-              for it in xml.fromstring(svg).iter("{http://www.w3.org/2000/svg}text")
+    places = [float(it.get("y")) for it in xml.fromstring(svg).iter("{http://www.w3.org/2000/svg}text")
               if it.text in {f"d{n}" for n in range(200)}]
     that("200 disks are 200 rows apart", len(places) == 200 and min(b - a for a, b in zip(places, places[1:])) >= 11,
          places[:5])
@@ -79,8 +76,7 @@ def the_summary(room):
              f"rounds of first come, first served {rounds}")
     room.write("p", plan_of("x a 0 b 1, z c 0 d 1", "y b 2 c 1"))
     room.write("n", "item,disk,slot\ny,b,2\nx,a,0\nz,c,0\n")
-    same("a queue that begins in the middle",
-         room.good("summary", "contrib/summary p d --queue n").splitlines()[-1],
+    same("a queue that begins in the middle", room.good("summary", "contrib/summary p d --queue n").splitlines()[-1],
          "rounds of first come, first served 2")
     room.write("p", plan_of(*(", ".join(f"i{it}.{n} a {it} b {n}" for n in range(it % 2 + 1)) for it in range(1, 41))))
     that("many rounds are told in one line",

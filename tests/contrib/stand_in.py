@@ -12,21 +12,27 @@ HOME, WORDS = "", []  # the folder with the state, and the words of this call
 
 
 class State:
-    """A file of JSON, which one process has at a time."""
+    """A file of JSON, which one process has at a time. What is only read is not parsed again while it is the same."""
+    read = "", None  # what was read last, and what it says
 
-    def __init__(self, name):
-        self.path = f"{HOME}/{name}"
+    def __init__(self, name, is_read=False):
+        self.path, self.is_read = f"{HOME}/{name}", is_read
 
     def __enter__(self):
         self.file = open(self.path, "r+", encoding="ascii")
         fcntl.flock(self.file, fcntl.LOCK_EX)
-        self.now = json.load(self.file)
+        self.text = self.file.read()
+        if State.read[0] != self.text or not self.is_read:
+            State.read = self.text if self.is_read else "", json.loads(self.text)
+        self.now = State.read[1]
         return self.now
 
     def __exit__(self, *_):
-        self.file.seek(0)
-        self.file.truncate()
-        self.file.write(json.dumps(self.now))  # at once, which takes a fifth of the time of json.dump
+        text = self.text if self.is_read else json.dumps(self.now)  # at once, in a fifth of the time of json.dump
+        if text != self.text:
+            self.file.seek(0)
+            self.file.write(text)
+            self.file.truncate()  # afterwards, which takes less time than before
         self.file.close()
 
 
@@ -162,8 +168,11 @@ def main():
         return osdmaptool(WORDS)
     if name == "crushtool":
         return print(sample("crush"), end="")
-    with State("lvm.json" if name in ("lvs", "pvs") else "ceph.json") as found:
-        return {"lvs": lvs, "pvs": pvs, "ceph": ceph}[name](found)
+    if name in ("lvs", "pvs"):
+        with State("lvm.json", True) as found:
+            return {"lvs": lvs, "pvs": pvs}[name](found)
+    with State("ceph.json", WORDS[:2] in (["osd", "dump"], ["balancer", "status"], ["health", "--format"])) as found:
+        return ceph(found)
 
 
 if __name__ == "__main__":

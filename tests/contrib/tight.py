@@ -12,10 +12,8 @@ def segment(volume, ranges, role="public", kind="linear"):
 def group_of(room, sizes, segments, attrs=()):
     """Writes both reports of a volume group with these devices and segments, and sets the stand-in to it."""
     room.keep("pvs.json",
-              {"report":
-               [{"pv":
-                 [{"vg_name": "data", "pv_name": f"/dev/{it}", "pv_attr": dict(attrs).get(it, "a--"),
-                   "pv_pe_count": str(size)} for it, size in sizes.items()]}]})
+              {"report": [{"pv": [{"vg_name": "data", "pv_name": f"/dev/{it}", "pv_attr": dict(attrs).get(it, "a--"),
+                                   "pv_pe_count": str(size)} for it, size in sizes.items()]}]})
     room.keep("lvs.json", {"report": [{"seg": segments}]})
     volumes = {}
     for it in segments:
@@ -59,9 +57,8 @@ def tight_lvm(room):
         room.write(f"state/fail-{volume}-{first}", "")
         failed = room.run("sh moves.sh")
         again = room.run("sh moves.sh")
-        that(f"tight, stopped at {words}",
-             failed.returncode == 1 and "stopped in round" in failed.stderr and again.returncode == 0
-             and "all rounds" in again.stdout, (failed, again))
+        that(f"tight, stopped at {words}", failed.returncode == 1 and "stopped in round" in failed.stderr
+             and again.returncode == 0 and "all rounds" in again.stdout, (failed, again))
         same(f"tight, begun again after {words}", room.state("lvm.json")["volumes"], wanted)
     full_group(room)
     room.good("tight", f"sh moves.sh {len(commands)}")
@@ -237,9 +234,8 @@ def made_tight():
                 continue
             ran = room.run("contrib/to-lvm plan.txt names.csv --out moves.sh")
             if ran.returncode:
-                that(f"{name}: why to-lvm refuses",
-                     "of the same volume" in ran.stderr or not is_tight and "does not fit at the end" in ran.stderr,
-                     ran)
+                that(f"{name}: why to-lvm refuses", "of the same volume" in ran.stderr or not is_tight
+                     and "does not fit at the end" in ran.stderr, ran)
                 continue
             kinds[is_tight] += 1
             wanted, steps = wanted_extents(room, last, 4, volumes, devices), steps_of(room.read("moves.sh"))
@@ -304,8 +300,7 @@ def tight_folders():
         refused(room, "folders, one of its name", CARRY,
                 f"have one name, and mnt/c/{parked[0]} can only be one of them")
         room.write("names.csv", rows)
-        room.write("plan.txt",
-                   plan_of(f"{parked[0]} a 0 c 0", f"{parked[0]} b 0 a 0") if parked[1] == "a"
+        room.write("plan.txt", plan_of(f"{parked[0]} a 0 c 0", f"{parked[0]} b 0 a 0") if parked[1] == "a"
                    else plan_of(f"{parked[0]} b 0 c 0", f"{parked[0]} a 0 b 0"))
         refused(room, "folders, from where it is no more", CARRY,
                 "from where the plan moves it: it was made for another plan")

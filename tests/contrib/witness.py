@@ -88,9 +88,8 @@ def the_answers_of_witness(room):
     cert = room.read("cert.txt")
     found = says("a set", "a set of 5 disks needs 30 rounds, where 25 were shown; the plan has 30, so it is optimal")
     same("the set", found, cert.split("bound")[0] + "bound set 5 60 30\nd0\nd1\nd2\nd3\nd4\nend\n")
-    same("no time",
-         says("no time", "the time is over; the best bound so far is 25 rounds, and the plan has 30",
-              "plan.txt disks.csv cert.txt --seconds 0"), cert)
+    same("no time", says("no time", "the time is over; the best bound so far is 25 rounds, and the plan has 30",
+                         "plan.txt disks.csv cert.txt --seconds 0"), cert)
     room.write("less.txt", cert.replace("bound disk d0 25 1 25", "bound disk d5 2 1 2"))
     that("a certificate with a poor bound",
          says("a poor bound",
