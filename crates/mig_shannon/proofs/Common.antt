@@ -19,4 +19,4 @@ pub use Rattle.mig_shannon.specs.Ways.{CanRepaint, CanWalk, Grows, IsOpen}
 pub use Rattle.std.proofs.Common.{rules}
 pub use Rattle.std.proofs.lemmas.Bool.{eqb-false}
 pub use Rattle.std.proofs.lemmas.List.Sums.{sum_by_more}
-pub use Rattle.std.specs.Prelude.{is_none}
+pub use Rattle.std.specs.Prelude.{MatchBool, is_none}

@@ -1,6 +1,6 @@
 -- Walks leave an edge open or paint it.
-use Rattle.mig_shannon.proofs.Common.{CanWalk, Colour, Colouring, CopyId, EdgeId, Exchanges, IsFreeAt, IsMissing, IsOpen, IsProper, Joins, Recolours, Recolours-trans, end_cases, exchanges_joins, exchanges_start}
-use Rattle.mig_shannon.proofs.Common.{inl, inr, joins_back, subst, sym, ◌<◌, ◌≢◌}
+use Rattle.mig_shannon.proofs.Common.{Bool, CanWalk, Colour, Colouring, CopyId, EdgeId, Exchanges, IsFreeAt, IsMissing, IsOpen, IsProper, Joins, MatchBool, PaintsOne, PaintsOne-after}
+use Rattle.mig_shannon.proofs.Common.{Recolours, Recolours-trans, end_cases, exchanges_joins, exchanges_start, false, inl, inr, joins_back, subst, sym, true, ◌<◌, ◌≢◌}
 
 pub first_in : (g : Colouring) (e : EdgeId) (u v : CopyId) → IsOpen g e u v → u.0 < g.nodes
 first_in g e u v o = o.proper.nodes_in_range e u v o.joins
@@ -26,23 +26,7 @@ open_after g new e u v o r proper =
 pub open_turned : (g : Colouring) (e : EdgeId) (u v : CopyId) → IsOpen g e u v → IsOpen g e v u
 open_turned g e u v o = record { proper = o.proper; joins = joins_back g e u v o.joins; plain = o.plain }
 
--- a colour of the board is one still where colours change
-pub in_range_after : (g new : Colouring) (k : Colour) → k.0 < g.colours → Recolours g new → k.0 < new.colours
-in_range_after g new k h r = subst (λ (x : Colouring). k.0 < x.colours) (sym r.graph) h
-
--- edge e is open still after changes of colours, and a and b are colours of the board
-pub record IsHeld (old g : Colouring) (e : EdgeId) (u v : CopyId) (a b : Colour) : Type 0 where
-  pub recoloured : Recolours old g
-  pub at : IsOpen g e u v
-  pub first : a.0 < g.colours
-  pub second : b.0 < g.colours
-
--- so it is after one more change, also with another colour
-pub held_after : (old g new : Colouring) (e : EdgeId) (u v : CopyId) (a b k : Colour) → IsHeld old g e u v a b → Recolours g new → IsProper new → k.0 < g.colours → IsHeld old new e u v k b
-held_after old g new e u v a b k h r proper within =
-    record {
-      recoloured = Recolours-trans old g new h.recoloured r;
-      at = open_after g new e u v h.at r proper;
-      first = in_range_after g new k within r;
-      second = in_range_after g new b h.second r;
-    }
+-- what is tried after colours changed counts from before
+pub tried_after : (old g new : Colouring) (e : EdgeId) (b : Bool) → Recolours old g → MatchBool b (PaintsOne g new e) (Recolours g new) → MatchBool b (PaintsOne old new e) (Recolours old new)
+tried_after old g new e true r h = PaintsOne-after old g new e r h
+tried_after old g new e false r h = Recolours-trans old g new r h

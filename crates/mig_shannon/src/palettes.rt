@@ -14,9 +14,9 @@ const BUDGET: u64 = 1 << 26;
 /// and for each colour a little more, since a single one of them may be what helps.
 const PATIENCE: u64 = 1 << 12;
 
-const MOST_PATIENCE: u64 = 1 << 19;
+const MOST_PATIENCE: u64 = 1 << 18;
 
-const MORE_PATIENCE: u64 = 1 << 6;
+const MORE_PATIENCE: u64 = 24;
 
 /// The number from which others are drawn. Any does: plans by another one are as good, but not the same.
 const SEED: u32 = 8839;

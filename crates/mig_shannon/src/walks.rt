@@ -8,8 +8,13 @@ use crate::palettes::Effort;
 use mig_base::{Colour, CopyId, EdgeId};
 use mig_board::Board;
 
-/// How many colours are tried by single repaints after each walk that failed.
-const LOOKS: u32 = 8;
+/// How many colours are looked at after each walk that failed, and how often a node beside another one is drawn.
+const LOOKS: u32 = 64;
+
+const DRAWS: u32 = 8;
+
+/// A node lacks many colours where it lacks so many of 64.
+const MANY: u32 = 25;
 
 /// The next colour of the palette that is missing at the node, from a number on, or else the first one.
 fn missing_after(board: &Board, node: CopyId, from: u32, size: u32) -> Option<Colour>
@@ -81,29 +86,83 @@ fn draw_colour(board: &Board, size: u32, effort: &mut Effort) -> Colour
     Colour(effort.draw(size.min(board.colours())))
 }
 
-/// Paints an edge, unless the colour is present at one of its ends.
-fn paint_free(
-    board: &mut Board,
-    edge: EdgeId,
-    first: CopyId,
-    second: CopyId,
-    colour: Colour,
-) -> bool
-    requires open { IsOpen board.old edge first second }
-    requires colour { colour.0 < board.old.colours }
-    ensures tried { MatchBool result (PaintsOne board.old board.new edge) (board.new ≡ board.old) }
-    ensures proper { IsProper board.new }
+/// Whether a node lacks many colours, by those near a given one.
+fn lacks_many(board: &Board, node: CopyId, near: Colour) -> bool
+    requires { node.0 < board.now.nodes }
 {
-    if !board.is_missing(first, colour) || !board.is_missing(second, colour) {
-        return false;
+    match board.free_words(node).get(near.0 as usize / 64) {
+        Some(word) => word.count_ones() >= MANY,
+        None => false,
     }
-    board.paint(edge, colour);
-    true
 }
 
-/// Lets a colour be missing at the node, where it is or where its edge there can have the colour that the node lacks, and
-/// tells whether it does.
-fn let_lack(board: &mut Board, node: CopyId, lacks: Colour, colour: Colour) -> bool
+/// Whether a colour can be spared at the node: it is missing there, or its edge there leads to a node that lacks many.
+fn is_spare(board: &Board, node: CopyId, near: Colour, colour: Colour) -> bool
+    requires node { node.0 < board.now.nodes }
+    requires near { near.0 < board.now.colours }
+    requires colour { colour.0 < board.now.colours }
+{
+    board.keeps_rules();
+    let Some(edge) = board.edge_at(node, colour) else {
+        return true;
+    };
+    let far = board.across(edge, node);
+    board.is_missing(far, near) && lacks_many(board, far, near)
+}
+
+/// A node beside one, other than a given node, that doesn't lack many colours; or else the node itself.
+fn beside(
+    board: &Board,
+    node: CopyId,
+    other: CopyId,
+    near: Colour,
+    size: u32,
+    effort: &mut Effort,
+) -> CopyId
+    requires node { node.0 < board.now.nodes }
+    requires near { near.0 < board.now.colours }
+    ensures { result.0 < board.now.nodes }
+{
+    for _draw in 0..DRAWS {
+        if let Some(edge) = board.edge_at(node, draw_colour(board, size, effort)) {
+            let far = board.across(edge, node);
+            if far != other && !lacks_many(board, far, near) {
+                return far;
+            }
+        }
+    }
+    node
+}
+
+/// A colour of the palette that can be spared at a node beside the first one and at a node beside the second one.
+fn find_spare(
+    board: &Board,
+    first: CopyId,
+    second: CopyId,
+    size: u32,
+    effort: &mut Effort,
+) -> Option<Colour>
+    requires first { first.0 < board.now.nodes }
+    requires second { second.0 < board.now.nodes }
+    requires some { 0 < board.now.colours }
+    ensures { IfSome result (λ colour. colour.0 < board.now.colours) }
+{
+    let near = draw_colour(board, size, effort);
+    let here = beside(board, first, first, near, size, effort);
+    let there = beside(board, second, here, near, size, effort);
+    let most = size.min(board.colours());
+    let end = effort.draw(most.saturating_add(LOOKS));
+    for number in end.saturating_sub(LOOKS)..end.min(most) {
+        let colour = Colour(number);
+        if is_spare(board, here, near, colour) && is_spare(board, there, near, colour) {
+            return Some(colour);
+        }
+    }
+    None
+}
+
+/// Exchanges the colour `lacks` with another one at the node, where the one is missing there and the other is not.
+fn let_lack(board: &mut Board, node: CopyId, lacks: Colour, colour: Colour)
     requires node { node.0 < board.old.nodes }
     requires lacks { lacks.0 < board.old.colours }
     requires colour { colour.0 < board.old.colours }
@@ -111,22 +170,16 @@ fn let_lack(board: &mut Board, node: CopyId, lacks: Colour, colour: Colour) -> b
     ensures proper { IsProper board.new }
 {
     board.keeps_rules();
-    let Some(edge) = board.edge_at(node, colour) else {
-        return true;
-    };
-    let far = board.across(edge, node);
-    if !board.is_missing(node, lacks) || !board.is_missing(far, lacks) {
-        return false;
+    if board.is_missing(node, lacks) && !board.is_missing(node, colour) {
+        board.exchange(node, lacks, colour);
     }
-    board.exchange(node, lacks, colour);
-    true
 }
 
-/// Tries to colour an edge by drawn colours, each after a repaint of one edge at each end, by the colour that this end
-/// lacks.
+/// Tries to colour an edge by a walk from its first end with a colour that can be spared beside both ends.
 ///
-/// Where a single colour is left that can help, few walks find it, and each of these looks at some of them at little cost.
-fn try_colours(
+/// Where a palette is tight, few colours have fewer edges among nodes that lack little than they could have. Such a colour
+/// is missing at several of these nodes, or goes from them to nodes that lack many. Drawn walks rarely find it.
+fn try_spare(
     board: &mut Board,
     edge: EdgeId,
     ends: (CopyId, CopyId),
@@ -141,19 +194,14 @@ fn try_colours(
     ensures proper { IsProper board.new }
 {
     let (first, second) = ends;
-    let (mut here, there) = lacks;
-    for _look in 0..LOOKS {
-        let colour = draw_colour(board, size, effort);
-        if let_lack(board, first, here, colour) {
-            here = colour;
-            if let_lack(board, second, there, colour)
-                && paint_free(board, edge, first, second, colour)
-            {
-                return true;
-            }
-        }
+    let Some(colour) = find_spare(board, first, second, size, effort) else {
+        return false;
+    };
+    let_lack(board, first, lacks.0, colour);
+    if !board.is_missing(first, colour) || !board.is_missing(second, lacks.1) {
+        return false;
     }
-    false
+    try_walk(board, edge, first, second, colour, lacks.1)
 }
 
 /// Exchanges a colour of the palette that is missing at the node with another one.
@@ -166,17 +214,15 @@ fn stir(board: &mut Board, node: CopyId, size: u32, effort: &mut Effort)
     let Some(lacks) = missing_after(board, node, effort.draw(size), size) else {
         return;
     };
-    let has = draw_colour(board, size, effort);
-    if !board.is_missing(node, has) {
-        board.exchange(node, lacks, has);
-    }
+    let colour = draw_colour(board, size, effort);
+    let_lack(board, node, lacks, colour);
 }
 
 /// Tries to colour an edge within the palette.
 ///
 /// A walk that does not end at the edge's other end leaves both ends with one colour missing. After a walk that does, the
-/// ends have exchanged the colours that they lack: some others are tried, then another walk changes what is missing at the
-/// first end, and the ends change their parts.
+/// ends have exchanged the colours that they lack: a colour is looked for that can be spared beside them, then another walk
+/// changes what is missing at the first end, and the ends change their parts.
 pub fn try_edge(board: &mut Board, edge: EdgeId, size: u32, effort: &mut Effort) -> bool
     requires in_range { edge.0 < length board.old.ends }
     requires plain { IsPlain board.old edge }
@@ -196,7 +242,7 @@ pub fn try_edge(board: &mut Board, edge: EdgeId, size: u32, effort: &mut Effort)
             return true;
         }
         effort.pay();
-        if try_colours(board, edge, (first, second), (has, lacks), size, effort) {
+        if try_spare(board, edge, (first, second), (has, lacks), size, effort) {
             return true;
         }
         stir(board, first, size, effort);
