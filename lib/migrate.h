@@ -14,7 +14,7 @@
  * failures may give no room for them. No zero is put at the end of a text.
  *
  * A pointer to bytes may be NULL where their number is 0, and one to room where there is none; no other one may. What is handed back may overlap
- * neither what is handed in nor each other: a plan written over the tables would be no plan of them, and nothing can tell.
+ * neither what is handed in nor each other. A call that keeps to neither ends with MIGRATE_BAD_CALL; that there is as much as the numbers say, nothing can tell.
  *
  * All memory is the caller's, but for what a call takes from malloc and gives back before it ends. Where malloc refuses, the status is
  * MIGRATE_NO_MEMORY. A call over texts needs at most 100 KiB of
@@ -49,6 +49,7 @@ enum {
     MIGRATE_NO_PLAN = 13,    /* plan_tight: no plan at all can be carried out; the text says why */
     MIGRATE_CANNOT_DRAIN = 14, /* drain: no disk has this name, or the others have too few free slots; the text says which */
     MIGRATE_TOO_SHORT = 100, /* done, but there is too little room; no status of the program is this */
+    MIGRATE_BAD_CALL = 101,  /* a pointer is NULL that may not be, or room overlaps something else: nothing was done */
 };
 
 /* The version of the library that is linked. */
