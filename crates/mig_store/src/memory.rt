@@ -227,6 +227,17 @@ impl Store for MemStore {
         Ok(())
     }
 
+    /// Never fails, and has no number.
+    fn expects_copy(&mut self, from: &Cell, to: &Cell) -> Result<(), StoreFailed>
+        requires { IsTrue (is_slot from.now) × IsTrue (is_slot to.now) }
+        ensures succeeds { IsOk result }
+        ensures after { self.new ≡ self.old }
+        ensures change { Looks (state_of self.old) (state_of self.new) }
+        ensures cause { HasCause (state_of self.old) (state_of self.new) result }
+    {
+        Ok(())
+    }
+
     /// Fails exactly at the numbers that were given, from the fuse on, and where the record is full.
     fn write(&mut self, cell: &Cell, bytes: &[u8]) -> Result<(), StoreFailed>
         requires length { length bytes.now ≡ cell_len cell.now }

@@ -38,6 +38,12 @@ pub trait Store {
         ensures change { Looks (state self.old) (state self.new) }
         ensures cause { HasCause (state self.old) (state self.new) result };
 
+    /// Asks whether what a slot still holds of an item that was copied to another stands there too, before it is emptied. A store whose slots may be another's fails where it doesn't; any other store may answer Ok unseen.
+    fn expects_copy(&mut self, from: &Cell, to: &Cell) -> Result<(), StoreFailed>
+        requires slots { IsTrue (is_slot from.now) × IsTrue (is_slot to.now) }
+        ensures change { Looks (state self.old) (state self.new) }
+        ensures cause { HasCause (state self.old) (state self.new) result };
+
     /// Writes a cell. Until a sync succeeds a crash may leave any bytes in the cell, also where the write failed.
     fn write(&mut self, cell: &Cell, bytes: &[u8]) -> Result<(), StoreFailed>
         requires length { length bytes.now ≡ cell_len cell.now }

@@ -76,6 +76,10 @@ impl Store for SureStore {
         Ok(())
     }
 
+    fn expects_copy(&mut self, from: &Cell, to: &Cell) -> Result<(), StoreFailed> {
+        Ok(())
+    }
+
     fn write(&mut self, cell: &Cell, bytes: &[u8]) -> Result<(), StoreFailed> {
         put(&self.table, &mut self.held, cell, Block::of(bytes));
         Ok(())
