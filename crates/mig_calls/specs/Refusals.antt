@@ -5,7 +5,7 @@ use Rattle.mig_base.specs.Cells.{cell_len}
 use Rattle.mig_base.specs.Naming.{IsName}
 use Rattle.mig_base.specs.Slots.{header_of}
 use Rattle.mig_calls.specs.declared.refusals.Refusal.{Refusal}
-use Rattle.mig_calls.specs.declared.refusals.Refusal.TheVariants.{Memory, AfterSync, Interrupted, Full, TooShort, NotHeld, NoDisk, Cut, NoItem, Held}
+use Rattle.mig_calls.specs.declared.refusals.Refusal.TheVariants.{Memory, AfterSync, Interrupted, Full, TooShort, NotHeld, NoDisk, Cut, Differs, NoItem, Held}
 use Rattle.mig_calls.specs.Places.{file_of, offset_of}
 use Rattle.mig_calls.specs.Files.{FilesState, HasBytes, EndsAt}
 
@@ -31,6 +31,7 @@ IsRefusalCause s (TooShort slot) = WhereTold s slot (EndsBefore s slot)
 IsRefusalCause s (NotHeld slot item) = WhereTold s slot (¬ HoldsItem s slot item)
 IsRefusalCause s (NoDisk slot item) = WhereTold s slot (EndsAt (s.reads (file_of slot)) 0)
 IsRefusalCause s (Cut slot item) = WhereTold s slot (EndsBefore s slot)
+IsRefusalCause s (Differs slot other item) = WhereTold s slot (HoldsItem s slot item) × WhereTold s other (HoldsItem s other item)
 IsRefusalCause s (NoItem slot) = (item : List ℕ) → IsName item → WhereTold s slot (¬ HoldsItem s slot item)
 IsRefusalCause s (Held slot item) = WhereTold s slot (HoldsItem s slot item)
 

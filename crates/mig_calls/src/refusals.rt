@@ -24,6 +24,8 @@ pub enum Refusal {
     NoDisk { slot: Cell, item: Name },
     /// The slot should hold the item, and the disk's file ends within it.
     Cut { slot: Cell, item: Name },
+    /// Both slots hold the item, and the first one, which was copied to the other and is to be emptied, has other bytes of it.
+    Differs { slot: Cell, other: Cell, item: Name },
     /// The slot is to be copied, and holds no item.
     NoItem { slot: Cell },
     /// The slot is to be emptied or written over, and holds this item, which was seen nowhere else.
@@ -42,6 +44,7 @@ impl Refusal {
             | Refusal::NotHeld { .. }
             | Refusal::NoDisk { .. }
             | Refusal::Cut { .. }
+            | Refusal::Differs { .. }
             | Refusal::NoItem { .. }
             | Refusal::Held { .. } => true,
         }

@@ -81,6 +81,13 @@ impl<'a> Display for Told<'a> {
             Refusal::Cut { slot, item } => {
                 write_unheld(f, slot, item, "the file ends within it", LOOK)
             }
+            Refusal::Differs { slot, other, item } => write!(
+                f,
+                "{} was copied to {}, and both hold item {}, but differ: which of them is right?",
+                SlotOf(slot),
+                SlotOf(other),
+                text_of(item)?
+            ),
             Refusal::NoItem { slot } => write!(
                 f,
                 "{} is to be copied, and holds no item: {LOOK}",
