@@ -156,10 +156,12 @@ write_at_cell cell {file} {at} {n} {a} {b} {c} is_file is_at is_n look write =
     (subst (λ (m : ℕ). FilesWrite (file_of cell) (offset_of cell) m b c) is_n
     (subst (λ (k : ℕ). FilesWrite (file_of cell) k n b c) is_at (subst (λ (p : Place). FilesWrite p at n b c) is_file write)))
 
+-- a cell shows what it showed
+pub cell_after : {a b : FilesState} → FilesLook a b → (cell : Cell) → cells_of b.told b.reads cell ≡ cells_of a.told a.reads cell
+cell_after {a} {b} look cell =
+    ap (λ (t : Place → Bool). cells_of t b.reads cell) look.told ∙ (cells_same NoCell NoByte (spares_none NoCell) a.told a.reads b.reads look.bytes).same cell (λ none. none)
+
 -- what was written is there still
 pub written_after : {a b : FilesState} → FilesLook a b → (cell : Cell) (bytes : List ℕ) → IfSome (cells_of a.told a.reads cell) (λ told. told ≡ bytes)
     → IfSome (cells_of b.told b.reads cell) (λ told. told ≡ bytes)
-written_after {a} {b} look cell bytes is =
-    let same : cells_of b.told b.reads cell ≡ cells_of a.told a.reads cell =
-    ap (λ (t : Place → Bool). cells_of t b.reads cell) look.told ∙ (cells_same NoCell NoByte (spares_none NoCell) a.told a.reads b.reads look.bytes).same cell (λ none. none) in
-    subst (λ (o : Option (List ℕ)). IfSome o (λ told. told ≡ bytes)) (sym same) is
+written_after look cell bytes is = subst (λ (o : Option (List ℕ)). IfSome o (λ told. told ≡ bytes)) (sym (cell_after look cell)) is

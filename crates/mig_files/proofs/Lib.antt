@@ -10,4 +10,5 @@ pub mod Holding
 pub mod Errs
 pub mod SeenItems
 pub mod TaskSteps
+pub mod CopySteps
 pub mod Common

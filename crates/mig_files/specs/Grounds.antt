@@ -1,11 +1,12 @@
 -- Why a store over files answers with a fault.
-use Rattle.std.specs.Prelude.{◌≡◌, ◌⊎◌, ℕ, List, Option}
+use Rattle.std.specs.Prelude.{◌≡◌, ◌⊎◌, ℕ, List, Option, IfSome}
 use Rattle.mig_base.specs.declared.cells.Cell.{Cell}
 use Rattle.mig_base.specs.FaultCounts.{Rose}
 use Rattle.mig_base.specs.Naming.{IsName}
 use Rattle.mig_calls.specs.Files.{FilesState}
 use Rattle.mig_calls.specs.Refusals.{EndsBefore, HoldsItem, WhereTold}
-use Rattle.mig_files.specs.Seeing.{IsElsewhere, IsErasure}
+use Rattle.mig_files.specs.Derived.{cells_of}
+use Rattle.mig_files.specs.Seeing.{BothHold, IsElsewhere, IsErasure, IsRestOf}
 
 -- a call failed or was given up, or the store refused on this ground
 abbrev pub IsFaultFor : Type 0 → FilesState → FilesState → Type 0
@@ -50,3 +51,8 @@ IsTaken s seen to item = IsOtherLast s seen to item ⊎ IsCut s to
 -- why a slot isn't copied to another
 abbrev pub IsUncopiable : FilesState → List (Cell × Option (List ℕ)) → Cell → Cell → Type 0
 IsUncopiable s seen from to = IsUncopied s from ⊎ ((item : List ℕ) × WhereTold s from (HoldsItem s from item) × IsTaken s seen to item)
+
+-- both slots hold one item, and the first has bytes of it that the second hasn't
+abbrev pub Differ : FilesState → Cell → Cell → Type 0
+Differ s from to =
+    IfSome (cells_of s.told s.reads from) (λ left. IfSome (cells_of s.told s.reads to) (λ copied. (item : List ℕ) × BothHold left copied item × ¬ IsRestOf left copied))

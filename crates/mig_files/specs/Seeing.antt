@@ -1,11 +1,13 @@
 -- Where items were seen, and which slots are free.
-use Rattle.std.specs.Prelude.{◌≡◌, ◌<◌, ℕ, List, [], ◌∷◌, Option, Some, None, IsTrue, if◌then◌else◌, length, slice_index}
+use Rattle.std.specs.Prelude.{◌≡◌, ◌⊎◌, ◌+◌, ◌*◌, ◌<◌, ℕ, List, [], ◌∷◌, Option, Some, None, IfSome, IsTrue, if◌then◌else◌, length, slice_index, slice_range}
 use Rattle.mig_base.specs.declared.cells.Cell.{Cell}
 use Rattle.mig_base.specs.Cells.{is_cell, is_slot}
 use Rattle.mig_base.specs.Naming.{IsName}
+use Rattle.mig_base.specs.Slots.{HasHeader}
 use Rattle.mig_calls.specs.Places.{file_of}
 use Rattle.mig_calls.specs.Files.{FilesState}
 use Rattle.mig_calls.specs.Refusals.{HoldsItem, WhereTold}
+use Rattle.mig_files.specs.Derived.{cells_of}
 
 -- the item that was seen at the slot, where the slot wasn't written since
 abbrev pub seen_at : List (Cell × Option (List ℕ)) → Cell → Option (List ℕ)
@@ -67,3 +69,22 @@ pub record MayCopy (s : FilesState) (from to : Cell) (item : List ℕ) : Type 0 
   pub name : IsName item
   pub held : WhereTold s from (HoldsItem s from item)
   pub free : LosesNoneBut s to item
+
+-- one of the eight sectors of a slot
+abbrev pub sector : List ℕ → ℕ → List ℕ
+sector bytes n = slice_range bytes (512 * n) (512 * n + 512)
+
+-- each of them is zeros, or that of the other slot
+abbrev pub IsRestOf : List ℕ → List ℕ → Type 0
+IsRestOf left copied = (n : ℕ) → n < 8 → AreZeros (sector left n) ⊎ (sector left n ≡ sector copied n)
+
+-- both slots begin as one that holds the item
+pub record BothHold (left copied item : List ℕ) : Type 0 where
+  pub name : IsName item
+  pub from : HasHeader item left
+  pub to : HasHeader item copied
+
+-- where both are told, what the first still holds of an item that the second holds stands there too
+abbrev pub HoldsCopy : FilesState → Cell → Cell → Type 0
+HoldsCopy s from to =
+    IfSome (cells_of s.told s.reads from) (λ left. IfSome (cells_of s.told s.reads to) (λ copied. (item : List ℕ) → BothHold left copied item → IsRestOf left copied))

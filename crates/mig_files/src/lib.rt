@@ -2,6 +2,7 @@
 #![tactic(auto, using(crate::proofs::Errs::err_any))]
 
 mod cells;
+mod copies;
 mod disk_set;
 mod items;
 mod opening;

@@ -23,7 +23,7 @@ use mig_calls::{Calls, Refusal};
 use mig_store::StoreFailed;
 
 /// Whether all of the bytes are zeros.
-fn is_empty(bytes: &[u8]) -> bool
+pub fn is_empty(bytes: &[u8]) -> bool
     ensures { MatchBool result (AreZeros bytes.now) (¬ (AreZeros bytes.now)) }
 {
     bytes.iter().fold(0_u8, |all, byte| all | *byte) == 0
@@ -100,7 +100,7 @@ fn empty<C: Calls>(
 }
 
 /// The first bytes of a slot.
-fn first_of(bytes: &[u8]) -> [u8; 34]
+pub fn first_of(bytes: &[u8]) -> [u8; 34]
     requires { 34 ≤ length bytes.now }
     ensures first { result ≡ slice_range bytes.now 0 34 }
     ensures len { length result ≡ 34 }

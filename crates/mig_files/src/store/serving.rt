@@ -7,11 +7,12 @@ ghost use Rattle.mig_base.specs.Flights.{began, IsTargetOf, IsSourceOf};
 ghost use Rattle.mig_base.specs.Stores.{flights, IsMoving, Changes, ChangesOnly, Looks, Ends, named, IsSettled, HasCause};
 ghost use Rattle.mig_calls.specs.Refusals.{HoldsItem, WhereTold};
 ghost use Rattle.mig_files.specs.Derived.{cell_state, cell_is_state, troubles};
-ghost use Rattle.mig_files.specs.Grounds.{IsCut, IsFaultFor, IsLast, IsUncopiable, IsUnwritable, Lacks};
-ghost use Rattle.mig_files.specs.Seeing.{seen_at, IsErasure, IsSeenAtBoth, KeepsSeen, KeepsSeenBut, LosesNone, MayCopy};
+ghost use Rattle.mig_files.specs.Grounds.{Differ, IsCut, IsFaultFor, IsLast, IsUncopiable, IsUnwritable, Lacks};
+ghost use Rattle.mig_files.specs.Seeing.{seen_at, HoldsCopy, IsErasure, IsSeenAtBoth, KeepsSeen, KeepsSeenBut, LosesNone, MayCopy};
 ghost use Rattle.mig_files.specs.Serving.{files_of, seen_of, has_failed};
 
 use crate::cells::read_cell;
+use crate::copies::expects_copy;
 use crate::items::{expects, expects_free};
 use crate::store::FileStore;
 use crate::syncs::sync_cells;
@@ -86,6 +87,24 @@ impl<C: Calls> Store for FileStore<C> {
             Ok(_) => Ok(()),
             Err(failed) => Err(failed),
         }
+    }
+
+    #[tactic(auto, using(crate::proofs::Errs::err_any, crate::proofs::Holding::held_looked))]
+    /// Refuses where the first slot holds bytes of an item which the second, that holds it too, lacks.
+    fn expects_copy(&mut self, from: &Cell, to: &Cell) -> Result<(), StoreFailed>
+        requires slots { IsTrue (is_slot from.now) × IsTrue (is_slot to.now) }
+        ensures same { OnOk result (HoldsCopy (files_of self.old) from.now to.now) }
+        ensures seen { seen_of self.new ≡ seen_of self.old }
+        ensures change { Looks (⟦<FileStore<C> as Store>⟧.state self.old) (⟦<FileStore<C> as Store>⟧.state self.new) }
+        ensures cause { HasCause (⟦<FileStore<C> as Store>⟧.state self.old) (⟦<FileStore<C> as Store>⟧.state self.new) result }
+        ensures ground { OnErr result (IsFaultFor (IsTrue (has_failed self.old) ⊎ Differ (files_of self.old) from.now to.now) (files_of self.old) (files_of self.new)) }
+        ensures alive { OnOk result (IsFalse (has_failed self.old)) }
+        ensures failed { IsTrue (has_failed self.old) → IsTrue (has_failed self.new) }
+    {
+        if self.tracked.notes.lost {
+            return Err(self.after_sync());
+        }
+        expects_copy(&mut self.calls, &mut self.tracked, from, to)
     }
 
     /// Writes a cell. A slot is emptied only where no item is lost by it.
