@@ -17,6 +17,9 @@ module _ (input : Lists) (plan : List (List Shift)) (round place : ℕ) (lt : pl
   pub from_slot : IsTrue (is_slot f.from)
   from_slot = ap is_slot from_is
 
+  pub both_slots : IsTrue (is_slot f.from) × IsTrue (is_slot f.to)
+  both_slots = (from_slot, ap is_slot (ap (λ (h : Flight). h.to) (copy_of input (round_at plan round) place f d lt at)))
+
   pub from_source : (cell : Cell) → cell ≡ f.from → IsSourceSlot input plan round cell
   from_source cell is = let s = get_or (round_at plan round) place d in (s.from, (place, s, lt, get_or_default (round_at plan round) place s d lt, refl), sym (is ∙ from_is))
 

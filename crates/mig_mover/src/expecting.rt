@@ -2,7 +2,7 @@
 ghost use Rattle.std.specs.Prelude.{◌≡◌, ◌<◌, ◌≤◌, [], Some, length};
 ghost use Rattle.std.specs.Option.{option_map};
 ghost use Rattle.mig_base.specs.Images.{NoCell};
-ghost use Rattle.mig_base.specs.Layouts.{At};
+ghost use Rattle.mig_base.specs.Layouts.{At, round_at};
 ghost use Rattle.mig_base.specs.Slots.{slot_of};
 ghost use Rattle.mig_base.specs.Stores.{State, flights, ChangesOnly, HasCause};
 ghost use Rattle.mig_base.specs.Tasks.{Task, IsTask};
@@ -92,8 +92,42 @@ fn expect_free<S: Store>(job: &Job, store: &mut S, found: u32) -> Result<(), Sto
     Ok(())
 }
 
+// Asks for one copy of a round, whether what its source still holds stands at its target.
+fn expect_copied<S: Store>(
+    job: &Job,
+    store: &mut S,
+    round: u32,
+    place: u32,
+) -> Result<(), StoreFailed>
+    requires from { 1 ≤ round }
+    requires to { round ≤ length job.now.plan }
+    requires place { place < length (round_at job.now.plan round) }
+    requires none { flights (S.state store.old) ≡ [] }
+    ensures change { ChangesOnly NoCell (S.state store.old) (S.state store.new) }
+    ensures cause { HasCause (S.state store.old) (S.state store.new) result }
+{
+    let (from, to) = job.copy(round, place);
+    store.expects_copy(&from, &to)
+}
+
+// Asks for each copy of the last round that is marked, where there is one: its sources are erased next.
+fn expect_copies<S: Store>(job: &Job, store: &mut S, found: u32) -> Result<(), StoreFailed>
+    requires most { found ≤ length job.now.plan }
+    requires none { flights (S.state store.old) ≡ [] }
+    ensures change { ChangesOnly NoCell (S.state store.old) (S.state store.new) }
+    ensures cause { HasCause (S.state store.old) (S.state store.new) result }
+{
+    if found == 0 {
+        return Ok(());
+    }
+    for place in 0..job.round_len(found) {
+        expect_copied(job, store, found, place)?;
+    }
+    Ok(())
+}
+
 /// Asks whether the store stands as it should after this number of rounds: each item that the plan shifts is at its spot,
-/// and the named slots that are free then may be emptied.
+/// the named slots that are free then may be emptied, and what the last round left there is what it copied.
 pub(crate) fn expect_all<S: Store>(job: &Job, store: &mut S, found: u32) -> Result<(), StoreFailed>
     requires most { found ≤ length job.now.plan }
     requires none { flights (S.state store.old) ≡ [] }
@@ -101,5 +135,6 @@ pub(crate) fn expect_all<S: Store>(job: &Job, store: &mut S, found: u32) -> Resu
     ensures cause { HasCause (S.state store.old) (S.state store.new) result }
 {
     expect_shifted(job, store, found)?;
-    expect_free(job, store, found)
+    expect_free(job, store, found)?;
+    expect_copies(job, store, found)
 }

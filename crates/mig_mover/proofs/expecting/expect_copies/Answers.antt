@@ -1,0 +1,11 @@
+use Rattle.mig_mover.proofs.Common.{NoCell, arith, then_quiet}
+use Rattle.mig_mover.proofs.expecting.expect_copies.Goals as goal
+
+pub returns-in_err-expect_copied-clause-change : goal.returns-in_err-expect_copied-clause-change
+returns-in_err-expect_copied-clause-change g c = then_quiet NoCell (g.S.Store.state c.args.store.now) (g.S.Store.state c.loop-place.store) (g.S.Store.state c.expect_copied.new.store) c.loop-place.invariant.change c.expect_copied.ensures.change
+
+pub loop-place-preserved : goal.loop-place-preserved
+loop-place-preserved g c = record {
+  change = then_quiet NoCell (g.S.Store.state c.args.store.now) (g.S.Store.state c.loop-place.store) (g.S.Store.state c.expect_copied.new.store) c.loop-place.invariant.change c.expect_copied.ensures.change;
+  later = omega (arith, c.loop-place.invariant.later, c.expect_copied.ensures.cause.later);
+}
