@@ -1,7 +1,8 @@
 """A model of what `migrate resume` and `migrate halt` do with the files of a store, whatever was done to them. It knows
 docs/FORMATS.md and these rules, and nothing of the program. Before anything is written each item that the plan shifts must stand
-where the marked rounds have put it, and no slot that the plan names and that is free then may hold an item which isn't one of
-these: such a slot is written over. A link that leads nowhere is a disk that isn't there, and a missing file one that is to be made.
+where the marked rounds have put it, no slot that the plan names and that is free then may hold an item which isn't one of these, and
+what the last marked round's sources still hold must stand at its targets: such slots are written over. A link that leads nowhere is a disk
+that isn't there, and a missing file one that is to be made.
 tests/damage and bench/stops judge damaged stores by it.
 
 An image of a store has the bytes of each file, None for one that isn't there."""
@@ -95,6 +96,12 @@ class Slots:
     def is_whole(self, item, spot):
         return self.item(spot) == item and len(self.read(spot)) == SLOT
 
+    def differ(self, item, source, target):
+        """Whether both slots hold the item, and a sector of the first is neither zeros nor the second's."""
+        left, copied = (self.read(spot).ljust(SLOT, b"\0") for spot in (source, target))
+        same = all(left[at : at + 512] in (ZEROS[:512], copied[at : at + 512]) for at in range(0, SLOT, 512))
+        return self.item(source) == self.item(target) == item and not same
+
     def write(self, spot, data):
         disk, slot = spot
         self.files[disk].extend(bytes(max(0, SLOT * (slot + 1) - len(self.files[disk]))))
@@ -118,7 +125,8 @@ class Slots:
 
 class Outcome(NamedTuple):
     """What a command ends with: its status and text, the disks that it leaves with status 0, the marked rounds, and why not: the disks
-    that aren't there, the spots whose items were looked for in vain, and those that should be free, as (disk, slot, item)."""
+    that aren't there, the spots whose items were looked for in vain, and those that should be free, as (disk, slot, item), and pairs of
+    such spots that hold one item and differ."""
     status: int
     text: str
     disks: dict | None = None
@@ -126,6 +134,7 @@ class Outcome(NamedTuple):
     away: frozenset = frozenset()
     vain: tuple = ()
     taken: tuple = ()
+    apart: tuple = ()
 
 
 def unready(case, slots):
@@ -159,8 +168,11 @@ def wanted(case, image, command, away=frozenset()):
         return refusal
     vain = tuple((*at[item], item) for item in case.shifted if not slots.is_whole(item, at[item]))
     taken = tuple((*spot, slots.item(spot)) for spot in case.free(found) if slots.item(spot) not in (None, *case.shifted))
-    if away or vain or taken:
-        return Outcome(5, "store fault\n", rounds=found, away=away, vain=vain, taken=taken)
+    last = case.rounds[found - 1] if found else ()
+    apart = tuple(((*source, item), (*target, item)) for item, source, target in last
+                  if slots.differ(item, source, target))
+    if away or vain or taken or apart:
+        return Outcome(5, "store fault\n", rounds=found, away=away, vain=vain, taken=taken, apart=apart)
     slots.resume(found) if command == "resume" else slots.halt(found)
     text = f"done {count} rounds, found {found}\n" if command == "resume" else f"halted after {found} of {count}\n"
     return Outcome(0, text, {disk: bytes(held) for disk, held in slots.files.items()}, found)

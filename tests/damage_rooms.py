@@ -249,6 +249,11 @@ def judge(store, what, command, away=frozenset()):
         Count.that(f"{name}: the file is said", says(ran, f"{outcome.vain[0][0]}.disk"), ran)
     if outcome.status == 5:
         spots = outcome.vain or outcome.taken
+        if outcome.apart and not spots and not outcome.away:
+            both = any(all(named(ran, [spot]) for spot in pair) for pair in outcome.apart)
+            said = both and says(ran, "differ")
+            Count.that(f"{name}: both slots are said", said, lambda: f"{ran}; {outcome.apart}")
+            return outcome
         # before the gate slots are read, and not asked for items: a link that leads nowhere is told as that
         nowhere = "before the gate" in what and any(says(ran, f"{disk}.disk: it is a link that leads nowhere") for disk in outcome.away)
         why = nowhere or (named(ran, spots) if spots else says(ran, *(f"{disk}.disk" for disk in outcome.away)))

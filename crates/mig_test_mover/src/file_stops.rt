@@ -48,9 +48,10 @@ static FAILING_ONCE: Manner = Manner {
     ..STOPPED
 };
 
+// Three sectors a call: who is cut off within one leaves bytes that are neither the old slot's nor its copy's.
 static IN_PIECES: Manner = Manner {
     interrupts: 3,
-    most_bytes: 1500,
+    most_bytes: 1536,
     step: 7,
     ..STOPPED
 };
