@@ -1,5 +1,5 @@
 //! A store in memory, which keeps a record of its calls.
-ghost use Rattle.std.specs.Prelude.{◌≡◌, ◌≢◌, ◌↔◌, ◌≤◌, ◌<◌, ◌+◌, ◌++◌, ◌∷◌, [], ℕ, List, IsTrue, IfSome, IfNone, IsSome, IfOk, OnOk, OnErr, IsOk, is_ok, None, Some, true, false, map, length, take, count_by};
+ghost use Rattle.std.specs.Prelude.{◌≡◌, ◌≢◌, ◌↔◌, ◌≤◌, ◌<◌, ◌+◌, ◌++◌, ◌∷◌, [], ℕ, List, ⊤, IsTrue, IfSome, IfNone, IsSome, IfOk, OnOk, OnErr, IsOk, is_ok, None, Some, true, false, map, length, take, count_by};
 ghost use Rattle.std.specs.Option.{option_map};
 ghost use Rattle.mig_base.specs.declared.cells.Flight.{Flight};
 ghost use Rattle.mig_base.specs.Images.{IsCopy};
@@ -185,6 +185,8 @@ impl MemStore {
 
 impl Store for MemStore {
     ghost state = { state_of };
+
+    ghost compared = { λ from to. ⊤ };
 
     ghost is_state = { mem_is_state };
 

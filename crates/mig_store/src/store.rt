@@ -2,6 +2,7 @@
 ghost use Rattle.std.specs.Prelude.{◌≡◌, ◌≢◌, ◌≤◌, ℕ, List, [], ◌∷◌, IsTrue, IfOk, OnOk, IfSome, IfNone, IsSome, length, take};
 ghost use Rattle.mig_base.specs.Cells.{cell_len, is_slot};
 ghost use Rattle.mig_base.specs.Images.{NoCell, IsCopy};
+ghost use Rattle.mig_base.specs.declared.cells.Cell.{Cell};
 ghost use Rattle.mig_base.specs.declared.cells.Flight.{Flight};
 ghost use Rattle.mig_base.specs.Flights.{began, IsTargetOf, IsSourceOf};
 ghost use Rattle.mig_base.specs.Stores.{State, IsState, flights, IsMoving, Changes, ChangesOnly, Looks, Ends, named, IsSettled, HasCause};
@@ -18,6 +19,9 @@ pub struct StoreFailed;
 pub trait Store {
     /// What the store tells of itself.
     ghost state: { Self → State };
+
+    /// What Ok of `expects_copy` says of two slots. Who serves any store knows it of no slots that it didn't ask for.
+    ghost compared: { Cell → Cell → Type 0 };
 
     /// Reads a cell. The target of a copy in flight may give any bytes.
     fn read(&mut self, cell: &Cell, into: &mut [u8]) -> Result<(), StoreFailed>
@@ -41,6 +45,7 @@ pub trait Store {
     /// Asks whether what a slot still holds of an item that was copied to another stands there too, before it is emptied. A store whose slots may be another's fails where it doesn't; any other store may answer Ok unseen.
     fn expects_copy(&mut self, from: &Cell, to: &Cell) -> Result<(), StoreFailed>
         requires slots { IsTrue (is_slot from.now) × IsTrue (is_slot to.now) }
+        ensures compared { OnOk result (compared from.now to.now) }
         ensures change { Looks (state self.old) (state self.new) }
         ensures cause { HasCause (state self.old) (state self.new) result };
 

@@ -1,5 +1,5 @@
 //! A store in memory that never fails. It tells its cells, no images and no events.
-ghost use Rattle.std.specs.Prelude.{◌≡◌, ◌≢◌, [], IfSome, IfNone, IfOk, IsSome, Ok, Some, None, map};
+ghost use Rattle.std.specs.Prelude.{◌≡◌, ◌≢◌, ⊤, [], IfSome, IfNone, IfOk, IsSome, Ok, Some, None, map};
 ghost use Rattle.mig_base.specs.InputLists.{AreDifferent};
 ghost use Rattle.mig_base.specs.Stores.{State, flights, Ends, named, HasCause};
 ghost use Rattle.mig_store.specs.HeldCells.{held_at, zero_held};
@@ -58,6 +58,8 @@ impl SureStore {
 
 impl Store for SureStore {
     ghost state = { sure_state };
+
+    ghost compared = { λ from to. ⊤ };
 
     ghost is_state = { sure_is_state };
 

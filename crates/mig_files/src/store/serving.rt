@@ -1,5 +1,5 @@
 //! How the store serves: its calls are those of any store.
-ghost use Rattle.std.specs.Prelude.{◌≡◌, ◌≢◌, ◌⊎◌, ◌∷◌, [], Some, None, ℕ, List, IsTrue, IsFalse, IfOk, IfSome, IfNone, OnOk, OnErr, length, take};
+ghost use Rattle.std.specs.Prelude.{◌≡◌, ◌≢◌, ◌⊎◌, ◌∷◌, [], Some, None, ℕ, List, ⊤, IsTrue, IsFalse, IfOk, IfSome, IfNone, OnOk, OnErr, length, take};
 ghost use Rattle.mig_base.specs.declared.cells.Flight.{Flight};
 ghost use Rattle.mig_base.specs.Cells.{cell_len, is_slot};
 ghost use Rattle.mig_base.specs.Images.{IsCopy};
@@ -23,6 +23,8 @@ use mig_store::{Store, StoreFailed};
 
 impl<C: Calls> Store for FileStore<C> {
     ghost state = { λ s. cell_state (C.Calls.state s.calls) (troubles (C.Calls.state s.calls)) };
+
+    ghost compared = { λ from to. ⊤ };
 
     ghost is_state = { λ s. cell_is_state (C.Calls.state s.calls) (troubles (C.Calls.state s.calls)) (C.Calls.is_state s.calls) };
 
