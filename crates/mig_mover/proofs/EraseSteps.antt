@@ -37,3 +37,13 @@ module _ (input : Lists) (plan : List (List Shift)) (round place : ℕ) (lt : pl
           let same : get_or (round_at plan round) k e ≡ get_or (round_at plan round) place d = ap (λ (n : ℕ). get_or (round_at plan round) n e) last ∙ get_or_default (round_at plan round) place e d lt in
           subst (λ (c : Cell). AreZeros (new c)) (from_is ∙ ap (λ (s : Shift). slot_of input s.from) (sym same)) erased
       which (inr other) = kept _ (sofar k e low (omega arith)) (cases_cell _ _)
+
+-- one copy more was compared
+pub compared_more : (P : Cell → Cell → Type 0) (input : Lists) (shifts : List Shift) (place : ℕ) → place < length shifts → AllWithin (λ s. P (slot_of input s.from) (slot_of input s.to)) shifts 0 place
+    → IfSome (slice_get (flights_of input shifts) place) (λ f. P f.from f.to) → AllWithin (λ s. P (slot_of input s.from) (slot_of input s.to)) shifts 0 (place + 1)
+compared_more P input shifts place lt sofar here k e low high = which (cases_eq k place)
+  where
+    which : (k ≡ place) ⊎ (k ≡ place → ⊥) → P (slot_of input (get_or shifts k e).from) (slot_of input (get_or shifts k e).to)
+    which (inl last) = subst (λ (n : ℕ). P (slot_of input (get_or shifts n e).from) (slot_of input (get_or shifts n e).to)) (sym last)
+        (subst (λ (o : Option Flight). IfSome o (λ f. P f.from f.to)) (at_map (flight_of input) shifts place (get_or shifts place e) (slice_get-get_or shifts place e lt)) here)
+    which (inr other) = sofar k e low (omega arith)

@@ -1,11 +1,13 @@
 //! What a store is asked before anything is written that rests on it.
-ghost use Rattle.std.specs.Prelude.{◌≡◌, ◌<◌, ◌≤◌, [], Some, length};
+ghost use Rattle.std.specs.Prelude.{◌≡◌, ◌<◌, ◌≤◌, [], Some, IfSome, OnOk, length, slice_get};
 ghost use Rattle.std.specs.Option.{option_map};
 ghost use Rattle.mig_base.specs.Images.{NoCell};
 ghost use Rattle.mig_base.specs.Layouts.{At, round_at};
 ghost use Rattle.mig_base.specs.Slots.{slot_of};
 ghost use Rattle.mig_base.specs.Stores.{State, flights, ChangesOnly, HasCause};
+ghost use Rattle.mig_base.specs.RoundEvents.{flights_of};
 ghost use Rattle.mig_base.specs.Tasks.{Task, IsTask};
+ghost use Rattle.mig_mover.specs.Erasures.{AreCompared};
 
 use mig_base::{Cell, ItemId};
 use mig_jobs::{Job, Vacancy, spot_cell};
@@ -103,6 +105,7 @@ fn expect_copied<S: Store>(
     requires to { round ≤ length job.now.plan }
     requires place { place < length (round_at job.now.plan round) }
     requires none { flights (S.state store.old) ≡ [] }
+    ensures compared { OnOk result (IfSome (slice_get (flights_of job.now.input (round_at job.now.plan round)) place) (λ f. S.compared f.from f.to)) }
     ensures change { ChangesOnly NoCell (S.state store.old) (S.state store.new) }
     ensures cause { HasCause (S.state store.old) (S.state store.new) result }
 {
@@ -114,6 +117,7 @@ fn expect_copied<S: Store>(
 fn expect_copies<S: Store>(job: &Job, store: &mut S, found: u32) -> Result<(), StoreFailed>
     requires most { found ≤ length job.now.plan }
     requires none { flights (S.state store.old) ≡ [] }
+    ensures compared { OnOk result (AreCompared S.compared job.now found) }
     ensures change { ChangesOnly NoCell (S.state store.old) (S.state store.new) }
     ensures cause { HasCause (S.state store.old) (S.state store.new) result }
 {
@@ -131,6 +135,7 @@ fn expect_copies<S: Store>(job: &Job, store: &mut S, found: u32) -> Result<(), S
 pub(crate) fn expect_all<S: Store>(job: &Job, store: &mut S, found: u32) -> Result<(), StoreFailed>
     requires most { found ≤ length job.now.plan }
     requires none { flights (S.state store.old) ≡ [] }
+    ensures compared { OnOk result (AreCompared S.compared job.now found) }
     ensures change { ChangesOnly NoCell (S.state store.old) (S.state store.new) }
     ensures cause { HasCause (S.state store.old) (S.state store.new) result }
 {

@@ -5,7 +5,7 @@ ghost use Rattle.mig_base.specs.FaultCounts.{Rose};
 ghost use Rattle.mig_base.specs.JobCells.{IsFreeSlot};
 ghost use Rattle.mig_base.specs.Slots.{slot_of};
 ghost use Rattle.mig_base.specs.Stores.{State, flights, ChangesOnly, IsSettled, HasCause};
-ghost use Rattle.mig_mover.specs.Erasures.{AreZeros};
+ghost use Rattle.mig_mover.specs.Erasures.{AreCompared, AreZeros};
 ghost use Rattle.mig_mover.specs.Halts.{AreErased, IsClosingCell, KeepsHaltSafe, EndsHalted};
 ghost use Rattle.mig_mover.specs.Stands.{IsAt};
 ghost use Rattle.mig_base.specs.Tasks.{Task, IsTask};
@@ -60,6 +60,8 @@ pub fn halt<S: Store>(job: &Job, store: &mut S, found: u32) -> Result<(), MoveFa
     requires settled { IsSettled (S.state store.old) }
     requires none { flights (S.state store.old) ≡ [] }
     requires at { IsAt job.now (S.state store.old).reads found }
+    // What the last marked round left is erased: it was compared with its copies.
+    requires compared { AreCompared S.compared job.now found }
     // At each moment the migration may go on after these rounds, or is halted there.
     ensures any_moment { KeepsHaltSafe job.now found (S.state store.old) (S.state store.new) }
     ensures halted { OnOk result (EndsHalted job.now found (S.state store.old) (S.state store.new)) }

@@ -91,10 +91,14 @@ fn agree<C: Calls>(store: &mut FileStore<C>, disk: Name, slot: u32, to: u32) -> 
 
 /// Asserts which slots agree where `x` is in slot 3, and `y` in slot 1.
 fn expect_compared<C: Calls>(rt: &impl Abort, store: &mut FileStore<C>, disk: Name, x: &Name) {
-    assert!(rt; put_with(store, disk, x, 7) && agree(store, disk, 0, 3) && agree(store, disk, 3, 0));
+    assert!(rt;
+        put_with(store, disk, x, 7) && agree(store, disk, 0, 3) && agree(store, disk, 3, 0)
+    );
     // another sector, and one that is zeros
     assert!(rt; put_with(store, disk, x, 8) && !agree(store, disk, 0, 3));
-    assert!(rt; put_with(store, disk, x, 0) && agree(store, disk, 0, 3) && !agree(store, disk, 3, 0));
+    assert!(rt;
+        put_with(store, disk, x, 0) && agree(store, disk, 0, 3) && !agree(store, disk, 3, 0)
+    );
     // another item, none, and past the end
     assert!(rt; agree(store, disk, 0, 1) && agree(store, disk, 2, 0) && agree(store, disk, 0, 9));
 }

@@ -6,8 +6,7 @@ pub refuse_with-requires-clause-cause : goal.refuse_with-requires-clause-cause
 refuse_with-requires-clause-cause g c =
     let s = g.C.Calls.state c.args.calls.now in
     let len : length c.args.left.now ≡ 4096 = search rules in
-    let long : length c.args.copied.now ≡ 4096 = search rules in
-    (
+    let long : length c.args.copied.now ≡ 4096 = search rules in (
       holds_in s c.args.from.now c.args.left.now c.args.item.now len c.requires.both.from c.requires.read,
       holds_in s c.args.to.now c.args.copied.now c.args.item.now long c.requires.both.to c.requires.beside,
     )
@@ -25,5 +24,5 @@ returns-clause-cause g c =
     inr (
       c.refuse_with.ensures.rose,
       differ_by (g.C.Calls.state c.args.calls.now) c.args.from.now c.args.to.now c.requires.slots c.args.left.now len c.requires.read c.args.copied.now long c.requires.beside c.args.item.now
-      c.requires.both c.if-is_rest.ensures,
+          c.requires.both c.if-is_rest.ensures,
     )

@@ -20,6 +20,7 @@ returns-in-Running g c =
     c.stand_running.ensures.fault in
     record {
       stands = stands;
+      compared = c.stand_running.ensures.compared;
       lands = settles_land old new (settles_quiet old mid c.in_ok-settle_and_look.ensures.settles new c.stand_running.ensures.change);
       fault = fault;
       not_started = λ are calm told idle. not_started c.args.job.now (g.S.Store.state c.args.store.now) (g.S.Store.state c.stand_running.new.store) are calm told idle c.stand_running.result
