@@ -3,8 +3,8 @@ use Rattle.mig_mover.proofs.EraseSteps.{both_slots}
 use Rattle.mig_jobs.proofs.JobRounds.{no_shift}
 use Rattle.mig_mover.proofs.expecting.expect_copied.Goals as goal
 
-pub expects_copy-requires-clause-slots : goal.expects_copy-requires-clause-slots
-expects_copy-requires-clause-slots g c =
+pub expects_copy-requires : goal.expects_copy-requires
+expects_copy-requires g c =
     let f : Flight = record { from = c.copy-from.result.0; to = c.copy-from.result.1 } in
     both_slots c.args.job.now.input c.args.job.now.plan c.args.round c.args.place c.requires.place f no_shift c.copy-from.ensures
 
