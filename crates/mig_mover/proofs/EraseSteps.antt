@@ -1,5 +1,5 @@
 -- The steps of a loop over a round that erases what its shifts leave.
-use Rattle.mig_mover.proofs.Common.{AllWithin, AreZeros, Cell, Flight, IfSome, Image, IsSourceSlot, IsTrue, List, Lists, SameBut, Shift, Some, ap, arith, at_map, cases_cell, cases_eq, flight_of}
+use Rattle.mig_mover.proofs.Common.{AllWithin, AreZeros, Cell, Flight, IfSome, Image, IsSourceSlot, IsTrue, List, Lists, Option, SameBut, Shift, Some, ap, arith, at_map, cases_cell, cases_eq, flight_of}
 use Rattle.mig_mover.proofs.Common.{flights_of, get_or, get_or_default, inl, inr, is_slot, length, refl, round_at, slice_get, slice_get-get_or, slot_of, subst, sym, ℕ, ◌+◌, ◌<◌, ◌∙◌, ◌≡◌, ◌⊎◌}
 
 in_some : (f g : Flight) → Some f ≡ Some g → f ≡ g

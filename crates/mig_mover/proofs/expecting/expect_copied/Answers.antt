@@ -6,7 +6,7 @@ use Rattle.mig_mover.proofs.expecting.expect_copied.Goals as goal
 pub expects_copy-requires : goal.expects_copy-requires
 expects_copy-requires g c =
     let f : Flight = record { from = c.copy-from.result.0; to = c.copy-from.result.1 } in
-    both_slots c.args.job.now.input c.args.job.now.plan c.args.round c.args.place c.requires.place f no_shift c.copy-from.ensures
+    record { slots = both_slots c.args.job.now.input c.args.job.now.plan c.args.round c.args.place c.requires.place f no_shift c.copy-from.ensures }
 
 pub returns-clause-compared : goal.returns-clause-compared
 returns-clause-compared g c =
