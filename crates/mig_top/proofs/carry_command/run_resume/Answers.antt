@@ -1,4 +1,4 @@
-use Rattle.mig_top.proofs.Common.{Carries, [], done_text, four_and, task_names}
+use Rattle.mig_top.proofs.Common.{Carries, [], done_text, err_from_is_err_and, four_and, task_names}
 use Rattle.mig_top.proofs.StoreCommands.{resume_done, resume_refused, resume_rest}
 use Rattle.mig_top.proofs.EndsOf.{refused, shown, stopped}
 use Rattle.mig_top.proofs.StoreEnds.{unread, untouched}
@@ -6,8 +6,8 @@ use Rattle.mig_top.proofs.carry_command.run_resume.Goals as goal
 
 pub returns-in_err-job : goal.returns-in_err-job
 returns-in_err-job g c =
-    stopped c.from_residual.ensures.1 (unread (resume_rest (g.S.Store.state c.args.store.now)) (λ o h. h) tt (λ o u. c.load_job.ensures.same)
-    untouched c.in_err-job.ensures.takes)
+    let p = err_from_is_err_and c.from_residual.result c.from_residual.ensures.1 in
+    rw (p.1, p.2) (stopped (g.K.Sink.state c.args.out.now) c.in_err-job.field-0.0 (unread (resume_rest (g.S.Store.state c.args.store.now)) (λ o h. h) tt (λ o u. c.load_job.ensures.same) untouched c.in_err-job.ensures.takes))
 
 pub returns-in-Ok : goal.returns-in-Ok
 returns-in-Ok g c =

@@ -1,4 +1,4 @@
-use Rattle.mig_top.proofs.Common.{Shows, [], all_steps, ap, arith, four_and, left_text, names_in, scripted_read, subst, true, ℕ, ◌-◌, ◌∙◌, ◌∷◌}
+use Rattle.mig_top.proofs.Common.{Shows, [], all_steps, ap, arith, err_from_is_err_and, four_and, left_text, names_in, scripted_read, subst, true, ℕ, ◌-◌, ◌∙◌, ◌∷◌}
 use Rattle.mig_live.specs.Replies.{AreCutOff, IsServeFault}
 use Rattle.mig_live.specs.declared.serving.ServeFault.{ServeFault}
 use Rattle.mig_top.proofs.EndsOf.{refused, stopped}
@@ -8,8 +8,8 @@ use Rattle.mig_top.proofs.live_command.run_live.Goals as goal
 
 pub returns-in_err-read : goal.returns-in_err-read
 returns-in_err-read g c =
-    stopped c.from_residual.ensures.1 (unread (live_rest (g.S.Store.state c.args.store.now)) (λ o h. h) tt (λ o u. c.load_scripted.ensures.same)
-    untouched c.in_err-read.ensures.takes)
+    let p = err_from_is_err_and c.from_residual.result c.from_residual.ensures.1 in
+    rw (p.1, p.2) (stopped (g.K.Sink.state c.args.out.now) c.in_err-read.field-0.0 (unread (live_rest (g.S.Store.state c.args.store.now)) (λ o h. h) tt (λ o u. c.load_scripted.ensures.same) untouched c.in_err-read.ensures.takes))
 
 pub returns-in-Err : goal.returns-in-Err
 returns-in-Err g c =
