@@ -1,6 +1,6 @@
 -- How a rehearsal ends, as a call of the program and as its promise; and lines that are added one by one.
 use Rattle.mig_top.proofs.Common.{Call, Done, Ending, EndsAs, FolderFault, IsListed, IsOrNotPut, IsRehearsalEnd, IsUntouched, List, Memory, Outcome, Rehearse, RehearsesWell, Result, Rose, SinkFault}
-use Rattle.mig_top.proofs.Common.{StoreFault, Untouched, WorldEnds, [], ap, append-nil, case_in, code, flat_map_more, inl, inr, sym, text_of_lines, ℕ, ◌++◌, ◌∙◌, ◌∷◌, ◌≡◌, ◌⊎◌}
+use Rattle.mig_top.proofs.Common.{StoreFault, Untouched, WorldEnds, [], ap, case_in, code, flat_map_more, inl, inr, text_of_lines, ℕ, ◌++◌, ◌∙◌, ◌∷◌, ◌≡◌, ◌⊎◌}
 use Rattle.mig_top.proofs.EndsOf.{ends_of, finishes_map, put_by}
 use Rattle.mig_top.specs.Ends.{Finishes, FormFinishes}
 
