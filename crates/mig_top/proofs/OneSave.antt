@@ -1,7 +1,6 @@
 -- The one save of `plan-tight`, and that of `drain`.
-use Rattle.mig_top.proofs.Common.{Done, DrainLeaves, DrainTexts, Files, FolderFault, FolderState, IfSome, IsDrainSaved, IsSomeAnd, IsTightSaved, List, Names, None, Option, Outcome, Saves, Some}
-use Rattle.mig_top.proofs.Common.{Tight, TightLeaves, TightTexts, Untouched, empties_texts, inl, plans_tight_texts, subst, ℕ, ◌≡◌}
-use Rattle.mig_top.proofs.EndsOf.{IsUnread}
+use Rattle.mig_top.proofs.Common.{DrainTexts, Files, IfSome, IsDrainSaved, IsSomeAnd, IsTightSaved, List, Names, None, Option, Saves, Some}
+use Rattle.mig_top.proofs.Common.{Tight, TightTexts, empties_texts, plans_tight_texts, subst, ℕ, ◌≡◌}
 use Rattle.mig_top.proofs.Plainly.{found_input}
 use Rattle.mig_top.specs.drain.Texts.{IsDrainFound}
 use Rattle.mig_top.specs.plan_tight.Texts.{IsTightFound}
@@ -15,17 +14,6 @@ module _ (Made : Files → Type 0) (Does Leaves : Files → Files → Type 0) (l
   pub save_leaves : (before loaded end : Option Files) → loaded ≡ before → IfSome before Made → IfSome loaded (λ old. IsSomeAnd end (Does old)) → IfSome before (λ old. IsSomeAnd end (Leaves old))
   save_leaves None loaded end same made does = tt
   save_leaves (Some old) loaded end same made does = by_end old end made (subst (λ (o : Option Files). IfSome o (λ f. IsSomeAnd end (Does f))) same does)
-
--- what wasn't made isn't saved
-pub unread_tight : (old new : FolderState) (names : Names) (o : Outcome) → IsUnread o → Untouched old new → TightLeaves old new names o
-unread_tight old new names (Done text) u same = absurd u
-unread_tight old new names FolderFault u same = inl same
-unread_tight old new names o u same = same
-
-pub unread_drain : (old new : FolderState) (disks now name next : List ℕ) (o : Outcome) → IsUnread o → Untouched old new → DrainLeaves old new disks now name next o
-unread_drain old new disks now name next (Done text) u same = absurd u
-unread_drain old new disks now name next FolderFault u same = inl same
-unread_drain old new disks now name next o u same = same
 
 -- what was made, and what it is once it is saved
 pub tight_found : (names : Names) (texts : TightTexts) (old : Files) → (plans_tight_texts names old).Passes texts → IsTightFound names old

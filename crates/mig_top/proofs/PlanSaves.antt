@@ -1,14 +1,7 @@
 -- The two saves of `plan`.
-use Rattle.mig_top.proofs.Common.{AreSaved, Done, Files, FolderFault, FolderState, IfSome, IsPlanSaved, IsSomeAnd, List, Names, None, Option, OthersStay, Outcome, PlanLeaves, PlanTexts, Roomy}
-use Rattle.mig_top.proofs.Common.{Saves, Some, Untouched, after, inl, plans_texts, subst, ℕ, ◌∙◌, ◌≡◌, ◌≢◌}
+use Rattle.mig_top.proofs.Common.{AreSaved, Files, IfSome, IsPlanSaved, IsSomeAnd, List, Names, None, Option, OthersStay, PlanTexts, Roomy}
+use Rattle.mig_top.proofs.Common.{Saves, Some, after, plans_texts, subst, ℕ, ◌∙◌, ◌≡◌, ◌≢◌}
 use Rattle.mig_top.proofs.Plainly.{found_input}
-use Rattle.mig_top.proofs.EndsOf.{IsUnread, one_changed}
-
--- a plan that wasn't made isn't saved
-pub unread_saves : (old new : FolderState) (names : Names) (cert : List ℕ) (o : Outcome) → IsUnread o → Untouched old new → PlanLeaves old new names cert o
-unread_saves old new names cert (Done text) u same = absurd u
-unread_saves old new names cert FolderFault u same = inl (one_changed old new names.plan same)
-unread_saves old new names cert o u same = same
 
 module _ (names : Names) (cert : List ℕ) (apart : names.plan ≢ cert) (texts : PlanTexts) where
   is_saved : (old m new : Files) → (plans_texts names old).Passes texts → Saves names.plan texts.plan old m → OthersStay cert m new → IsPlanSaved names cert texts.cert old new

@@ -1,5 +1,5 @@
 -- How `fill`, `move`, `resume` and `halt` end.
-use Rattle.mig_top.proofs.Common.{AreOfLayout, AreOfTask, Call, Carries, Cell, ChangedOnly, ChangesOnly, Contents, Done, Ending, EndsHalted, Event, Files, Fill, FolderState, Gate, Halt, HaltSaves}
+use Rattle.mig_top.proofs.Common.{AreOfLayout, AreOfTask, Call, Carries, Cell, ChangedOnly, ChangesOnly, Contents, Done, Ending, EndsHalted, Event, Files, Fill, FolderState, Gate, Halt}
 use Rattle.mig_top.proofs.Common.{HaltsAll, HaltsInPart, HasFound, HasMade, Head, IfSome, Image, IsClosingCell, IsEndOf, IsFault, IsFillFault, IsFillRefusal, IsHaltCell, IsHaltSafe, IsLayoutSaved}
 use Rattle.mig_top.proofs.Common.{IsResumable, IsResumeFault, IsResumeRefusal, IsSafe, IsSafeAt, IsSettled, IsShown, IsSome, IsSomeAnd, IsStandFault, IsStandRefusal, IsStanding, IsStartFault}
 use Rattle.mig_top.proofs.Common.{IsStartRefusal, IsStartable, IsState, IsTargetOf, KeepsHaltSafe, KeepsHalting, Lands, LeavesOnly, List, Lists, MayHalt, Move, MoveFault, MovesAll, MovesInPart}
@@ -11,7 +11,7 @@ use Rattle.mig_top.proofs.Steps.{if_map, lead}
 use Rattle.mig_top.proofs.StoreEnds.{settled_left}
 use Rattle.mig_base.specs.Stores.{Changes}
 use Rattle.mig_mover.specs.Stands.{Stands}
-use Rattle.mig_top.proofs.EndsOf.{IsUnread, one_changed}
+use Rattle.mig_top.proofs.EndsOf.{one_changed}
 use Rattle.mig_mover.specs.declared.faults.MoveFault.TheVariants as fault
 use Rattle.mig_words.specs.declared.endings.Ending.TheVariants as ending
 use Rattle.mig_words.specs.Outcomes as out
@@ -214,13 +214,6 @@ saved_only task layout k old new saves = if_map old.files (λ files. at new.file
     at (Some f) files h = h.saves.others
 
 -- The ends
-
--- what `halt` leaves in the folder where its files weren't loaded or read
-pub unread_saves : (old new : FolderState) (layout : List ℕ) (o : Outcome) → IsUnread o → Untouched old new → HaltSaves old new layout o
-unread_saves old new layout (out.Done text) u same = absurd u
-unread_saves old new layout (out.StoreFault before) u same = absurd u
-unread_saves old new layout out.FolderFault u same = one_changed old new layout same
-unread_saves old new layout o u same = same
 
 module _ {k : Call} {names : TaskNames} {layout : List ℕ} where
   -- it isn't known where the plan stands

@@ -31,19 +31,12 @@ pub fn reads_alike()
     ensures { AreReadAlike }
 {}
 
-/// The bytes with which three files begin are what the steps find that load them.
-pub fn finds_files()
-    ensures { (files : Files) (names : Names) (bodies : Bodies) → AreThere files names bodies ↔ (loads_input names files).Passes bodies }
-{}
-
-/// What three files stand for, by each reader, is what the steps that load and read them find.
-pub fn finds_inputs()
-    ensures { (reader : Reader) (files : Files) (names : Names) (input : Lists) → StandsBy reader files names input ↔ (input_by reader names files).Passes input }
-{}
-
-/// What four files stand for is what the steps that load and read them find.
-pub fn finds_tasks()
-    ensures { (files : Files) (names : TaskNames) (task : Task) → IsTaskOf files names task ↔ FindsTask files names task }
+/// What files stand for, told plainly, is what the steps find that load and read them: the bytes with which three files begin, what these stand for
+/// by each reader, and what four files stand for.
+pub fn finds_plainly()
+    ensures files { (files : Files) (names : Names) (bodies : Bodies) → AreThere files names bodies ↔ (loads_input names files).Passes bodies }
+    ensures inputs { (reader : Reader) (files : Files) (names : Names) (input : Lists) → StandsBy reader files names input ↔ (input_by reader names files).Passes input }
+    ensures tasks { (files : Files) (names : TaskNames) (task : Task) → IsTaskOf files names task ↔ FindsTask files names task }
 {}
 
 /// What a session leaves, whatever its status, `resume`, `halt` and another session take up: `run` was called twice, first with the words of

@@ -1,5 +1,5 @@
-use Rattle.mig_top.proofs.Common.{[], codes, count_line, ◌∷◌}
-use Rattle.mig_top.proofs.Rehearsing.{no_line, one_line}
+use Rattle.mig_top.proofs.Common.{[], append-nil, codes, count_line, sym, ◌∷◌}
+use Rattle.mig_top.proofs.Rehearsing.{one_line}
 use Rattle.mig_top.proofs.rehearse_command.push_numbers.Goals as goal
 
 pub returns : goal.returns
@@ -12,7 +12,7 @@ returns c =
     let quotient = count_line (codes "quotient") n.quotient in
     let rounds = count_line (codes "rounds") n.rounds in
     let bound = count_line (codes "bound") n.bound in
-    let to_disks = one_line old [] disks old c.push_count.new.out.items (no_line old) c.in_ok-push_count.ensures in
+    let to_disks = one_line old [] disks old c.push_count.new.out.items (sym (append-nil old)) c.in_ok-push_count.ensures in
     let to_items = one_line old (disks ∷ []) items c.push_count.new.out.items c.push_count-2.new.out.items to_disks c.in_ok-push_count-2.ensures in
     let to_moves = one_line old (disks ∷ items ∷ []) moves c.push_count-2.new.out.items c.push_count-3.new.out.items to_items c.in_ok-push_count-3.ensures in
     let to_quotient = one_line old (disks ∷ items ∷ moves ∷ []) quotient c.push_count-3.new.out.items c.push_count-4.new.out.items to_moves c.in_ok-push_count-4.ensures in

@@ -2,7 +2,7 @@ use Rattle.mig_top.proofs.Common.{Carries, [], done_text, err_from_is_err_and, f
 use Rattle.mig_top.proofs.StoreCommands.{resume_done, resume_refused, resume_rest}
 use Rattle.mig_top.proofs.EndsOf.{refused, shown, stopped}
 use Rattle.mig_top.proofs.StoreEnds.{unread, untouched}
-use Rattle.mig_top.proofs.resume_command.run_resume.Goals as goal
+use Rattle.mig_top.proofs.carry_command.run_resume.Goals as goal
 
 pub returns-in_err-job : goal.returns-in_err-job
 returns-in_err-job g c =
