@@ -3,7 +3,7 @@ use Rattle.mig_base.specs.JobCells.{IsJobCell, SettlesTo, Tells}
 use Rattle.mig_base.specs.Safety.{Contents, IsSound}
 use Rattle.mig_base.specs.Stores.{flights}
 use Rattle.mig_live.specs.Sessions.{InStep}
-use Rattle.mig_example.proofs.carry_and_read.Given as goal
+use Rattle.mig_test_mover.proofs.example.carry_and_read.Given as goal
 
 -- the session is at the step, and the item was read as it was
 abbrev pub invariant-loop : goal.invariant-loop

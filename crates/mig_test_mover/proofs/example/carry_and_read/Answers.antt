@@ -1,6 +1,6 @@
 use Rattle.std.proofs.Common.{arith, false, ◌∙◌}
 use Rattle.mig_base.proofs.Landing.{flights_same}
-use Rattle.mig_example.proofs.carry_and_read.Goals as goal
+use Rattle.mig_test_mover.proofs.example.carry_and_read.Goals as goal
 
 pub loop-init : goal.loop-init
 loop-init g c = record {

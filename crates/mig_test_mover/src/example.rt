@@ -1,5 +1,4 @@
 //! How a volume manager carries a plan out and serves reads meanwhile: the example of the README.
-#![tactic(auto)]
 
 ghost use Rattle.std.specs.Prelude.{◌≡◌, ◌<◌, OnOk, length, false};
 ghost use Rattle.mig_base.specs.JobCells.{IsJobCell, SettlesTo, Tells};
