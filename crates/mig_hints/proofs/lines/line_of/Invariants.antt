@@ -1,5 +1,5 @@
-use Rattle.mig_lines.proofs.Common.{ends_before, ◌≡◌, ◌≤◌}
-use Rattle.mig_lines.proofs.lines.line_of.Given as goal
+use Rattle.mig_hints.proofs.Common.{ends_before, ◌≡◌, ◌≤◌}
+use Rattle.mig_hints.proofs.lines.line_of.Given as goal
 
 abbrev pub invariant-loop-k : goal.invariant-loop-k
 invariant-loop-k l = record {

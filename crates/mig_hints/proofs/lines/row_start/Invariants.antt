@@ -1,5 +1,5 @@
-use Rattle.mig_lines.proofs.Common.{rows_before, ◌≡◌, ◌≤◌}
-use Rattle.mig_lines.proofs.lines.row_start.Given as goal
+use Rattle.mig_hints.proofs.Common.{rows_before, ◌≡◌, ◌≤◌}
+use Rattle.mig_hints.proofs.lines.row_start.Given as goal
 
 abbrev pub invariant-loop-at : goal.invariant-loop-at
 invariant-loop-at l = record {

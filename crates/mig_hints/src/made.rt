@@ -1,15 +1,15 @@
 //! The bytes that `fill` writes.
 ghost use Rattle.std.specs.Prelude.{◌≡◌, ◌≤◌, ◌<◌, ◌+◌, ◌-◌, ◌%◌, ◌↔◌, ℕ, IsTrue, length, slice_index_or};
-ghost use Rattle.mig_lines.specs.MadeBytes.{HoldsNames};
+ghost use Rattle.mig_hints.specs.MadeBytes.{HoldsNames};
 
 /// How many bytes a slot has.
-pub const SLOT: usize = 4096;
+pub(crate) const SLOT: usize = 4096;
 
 /// Where the header of a slot ends.
-pub const HEADER: usize = 34;
+pub(crate) const HEADER: usize = 34;
 
 /// Whether the bytes after a slot's header are those that `fill` writes: the item's name over and over.
-pub fn holds_made(bytes: &[u8; SLOT], name: &[u8]) -> bool
+pub(crate) fn holds_made(bytes: &[u8; SLOT], name: &[u8]) -> bool
     requires { 1 ≤ length name.now }
     ensures { IsTrue result ↔ HoldsNames bytes.now name.now }
 {

@@ -1,6 +1,6 @@
 //! Rows and lines of a text, as an editor counts them.
 ghost use Rattle.std.specs.Prelude.{◌≡◌, ◌+◌, ◌-◌, ◌≤◌, ◌<◌, ◌++◌, true, false, All, IfNone, IfSome, IsTrue, drop, length, not, slice_index_or, take};
-ghost use Rattle.mig_lines.specs.Lines.{is_line_end, begins_row, ends_line, rows_before, ends_before};
+ghost use Rattle.mig_hints.specs.Lines.{is_line_end, begins_row, ends_line, rows_before, ends_before};
 
 /// Whether the byte is at the end of a line: LF or CR.
 fn is_line_end(byte: u8) -> bool
@@ -26,7 +26,7 @@ fn ends_line(bytes: &[u8], at: usize) -> bool
 }
 
 /// The byte at which the row with this number begins, if there is one. Rows count from 0: the lines that are not empty.
-pub fn row_start(bytes: &[u8], row: usize) -> Option<usize>
+pub(crate) fn row_start(bytes: &[u8], row: usize) -> Option<usize>
     ensures begins { IfSome result (λ at. begins_row bytes.now at ≡ true) }
     ensures number { IfSome result (λ at. rows_before bytes.now at ≡ row) }
     ensures inside { IfSome result (λ at. at < length bytes.now) }
@@ -45,7 +45,7 @@ pub fn row_start(bytes: &[u8], row: usize) -> Option<usize>
 }
 
 /// The number of the line that a byte is in. Lines count from 1.
-pub fn line_of(bytes: &[u8], at: usize) -> usize
+pub(crate) fn line_of(bytes: &[u8], at: usize) -> usize
     requires { at < length bytes.now }
     ensures { result ≡ ends_before bytes.now at + 1 }
 {
@@ -59,7 +59,7 @@ pub fn line_of(bytes: &[u8], at: usize) -> usize
 }
 
 /// The text from a byte to before the end of its line.
-pub fn line_from(bytes: &[u8], at: usize) -> &[u8]
+pub(crate) fn line_from(bytes: &[u8], at: usize) -> &[u8]
     requires { at ≤ length bytes.now }
     ensures part { result.now ≡ take (length result.now) (drop at bytes.now) }
     ensures line { All (λ b. is_line_end b ≡ false) result.now }
