@@ -2,7 +2,7 @@
 ghost use Rattle.std.specs.Prelude.{◌≡◌, ◌≢◌, []};
 ghost use Rattle.mig_store.specs.Memories.{aloft};
 
-use crate::expecting::{Line, expect_all, expect_over};
+use crate::expecting::{Line, expect_all_over, expect_over};
 use crate::looks::{ANOTHER, AT_TARGET, FILL, HERE, three_items};
 use crate::stores::store_of;
 use mig_base::{Cell, Name};
@@ -61,7 +61,7 @@ fn stopped(
     events: usize,
 ) -> MemStore {
     let mut store = store_of(rt, alloc, &[call]);
-    expect_all(rt, alloc, folder, &mut store, FILL);
+    expect_all_over(rt, alloc, folder, &mut store, FILL);
     let text = "store fault\n";
     expect_over(rt, alloc, folder, &mut store, "move D N X P", 5, text);
     assert!(rt; store.events().len() == events);
@@ -73,7 +73,7 @@ fn expect_each(rt: &impl Abort, alloc: Global, call: u64, events: usize, lines: 
     for line in lines {
         let mut folder = folder(rt, alloc);
         let mut store = stopped(rt, alloc, &mut folder, call, events);
-        expect_all(rt, alloc, &mut folder, &mut store, &[*line]);
+        expect_all_over(rt, alloc, &mut folder, &mut store, &[*line]);
     }
 }
 
@@ -162,15 +162,15 @@ fn slots_are_looked_at_though_a_copy_is_in_flight(rt: HostRuntime) {
     let alloc = rt.alloc();
     for line in &COPIED_AWAY {
         let mut store = flying(&rt, alloc, &LISTED, 0, 3);
-        expect_all(&rt, alloc, &mut folder(&rt, alloc), &mut store, &[*line]);
+        expect_all_over(&rt, alloc, &mut folder(&rt, alloc), &mut store, &[*line]);
     }
     for line in &COPIED_THERE {
         let mut store = flying(&rt, alloc, &ELSEWHERE, 3, 0);
-        expect_all(&rt, alloc, &mut folder(&rt, alloc), &mut store, &[*line]);
+        expect_all_over(&rt, alloc, &mut folder(&rt, alloc), &mut store, &[*line]);
     }
     for line in &ZEROS_COPIED {
         let mut store = flying(&rt, alloc, &TWO, 3, 0);
-        expect_all(&rt, alloc, &mut folder(&rt, alloc), &mut store, &[*line]);
+        expect_all_over(&rt, alloc, &mut folder(&rt, alloc), &mut store, &[*line]);
     }
 }
 
@@ -189,7 +189,7 @@ fn a_move_reaches_its_target_though_a_copy_was_in_flight(rt: HostRuntime) {
         0,
         text,
     );
-    expect_all(&rt, alloc, &mut folder, &mut store, AT_TARGET);
+    expect_all_over(&rt, alloc, &mut folder, &mut store, AT_TARGET);
 }
 
 #[test]
@@ -197,5 +197,5 @@ fn items_are_filled_though_a_copy_was_in_flight(rt: HostRuntime) {
     let alloc = rt.alloc();
     let mut store = flying(&rt, alloc, &[], 3, 0);
     let lines = [("fill D N", 0, "filled 3\n"), ("audit D N", 0, HERE)];
-    expect_all(&rt, alloc, &mut folder(&rt, alloc), &mut store, &lines);
+    expect_all_over(&rt, alloc, &mut folder(&rt, alloc), &mut store, &lines);
 }

@@ -1,7 +1,7 @@
 //! Sessions of `live`: plans that are carried out step by step, with reads in between; left in the middle, cut off, and gone
 //! on with.
 
-use crate::expecting::{Line, expect_all, expect_any, expect_cut, expect_over};
+use crate::expecting::{Line, expect_all_over, expect_any, expect_cut, expect_over};
 use crate::looks::{ANOTHER, AT_TARGET, FILL, keep, three_items};
 use crate::stores::{store_of, sure_store};
 use mig_io::MemFolder;
@@ -68,11 +68,11 @@ fn reads_are_served_on_the_way(rt: HostRuntime) {
     for lines in [TO_THE_END.as_slice(), IN_THE_MIDDLE.as_slice()] {
         let mut folder = scripted(&rt, alloc);
         let mut store = store_of(&rt, alloc, &[]);
-        expect_all(&rt, alloc, &mut folder, &mut store, lines);
-        expect_all(&rt, alloc, &mut folder, &mut store, AT_TARGET);
+        expect_all_over(&rt, alloc, &mut folder, &mut store, lines);
+        expect_all_over(&rt, alloc, &mut folder, &mut store, AT_TARGET);
         let mut sure = sure_store(&rt, alloc);
-        expect_all(&rt, alloc, &mut folder, &mut sure, lines);
-        expect_all(&rt, alloc, &mut folder, &mut sure, AT_TARGET);
+        expect_all_over(&rt, alloc, &mut folder, &mut sure, lines);
+        expect_all_over(&rt, alloc, &mut folder, &mut sure, AT_TARGET);
     }
 }
 
@@ -94,13 +94,13 @@ fn scripts_are_refused(rt: HostRuntime) {
     let alloc = rt.alloc();
     let mut folder = scripted(&rt, alloc);
     let mut store = store_of(&rt, alloc, &[]);
-    expect_all(&rt, alloc, &mut folder, &mut store, &REFUSED);
+    expect_all_over(&rt, alloc, &mut folder, &mut store, &REFUSED);
 }
 
 /// The store of the three items, where they are filled.
 fn filled(rt: &impl Abort, alloc: Global, folder: &mut MemFolder) -> MemStore {
     let mut store = store_of(rt, alloc, &[]);
-    expect_all(rt, alloc, folder, &mut store, FILL);
+    expect_all_over(rt, alloc, folder, &mut store, FILL);
     store
 }
 
@@ -145,7 +145,7 @@ fn a_session_that_is_cut_off_by_its_store_is_gone_on_with(rt: HostRuntime) {
             let mut left = store.crash(*pick);
             let line = "resume D N X P";
             expect_any(&rt, alloc, &mut folder, &mut left, line, &RESUMED);
-            expect_all(&rt, alloc, &mut folder, &mut left, AT_TARGET);
+            expect_all_over(&rt, alloc, &mut folder, &mut left, AT_TARGET);
         }
     }
 }
@@ -163,5 +163,5 @@ fn a_session_that_is_cut_off_by_its_sink_makes_no_further_step(rt: HostRuntime) 
         ("live D N X P E", 0, "left 11\n"),
         ("live D N X P F", 0, "left 6\n"),
     ];
-    expect_all(&rt, alloc, &mut folder, &mut store, &rest);
+    expect_all_over(&rt, alloc, &mut folder, &mut store, &rest);
 }

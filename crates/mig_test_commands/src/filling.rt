@@ -1,6 +1,6 @@
 //! What `fill` and `audit` do with a store, and what they say of it.
 
-use crate::expecting::{Line, expect_all, expect_cut};
+use crate::expecting::{Line, expect_all_over, expect_cut};
 use crate::looks::{HERE, LOST, three_items};
 use crate::stores::{store_of, sure_store};
 use mig_base::Cell;
@@ -22,7 +22,7 @@ fn items_are_filled_and_seen(rt: HostRuntime) {
     let alloc = rt.alloc();
     let mut folder = three_items(&rt, alloc);
     let mut store = store_of(&rt, alloc, &[]);
-    expect_all(&rt, alloc, &mut folder, &mut store, &SESSION);
+    expect_all_over(&rt, alloc, &mut folder, &mut store, &SESSION);
 }
 
 #[test]
@@ -30,7 +30,7 @@ fn items_are_filled_where_no_call_fails(rt: HostRuntime) {
     let alloc = rt.alloc();
     let mut folder = three_items(&rt, alloc);
     let mut sure = sure_store(&rt, alloc);
-    expect_all(&rt, alloc, &mut folder, &mut sure, &SESSION);
+    expect_all_over(&rt, alloc, &mut folder, &mut sure, &SESSION);
 }
 
 /// Lines over a store in which a plan was started.
@@ -42,7 +42,7 @@ fn nothing_is_filled_where_a_plan_was_started(rt: HostRuntime) {
     let mut folder = three_items(&rt, alloc);
     let mut store = sure_store(&rt, alloc);
     assert!(rt; store.write(&Cell::Gate, &[1]).is_ok());
-    expect_all(&rt, alloc, &mut folder, &mut store, &STARTED);
+    expect_all_over(&rt, alloc, &mut folder, &mut store, &STARTED);
 }
 
 /// Lines over a store whose first call, a sync, fails.
@@ -53,7 +53,7 @@ fn a_fill_whose_first_sync_fails_writes_nothing(rt: HostRuntime) {
     let alloc = rt.alloc();
     let mut folder = three_items(&rt, alloc);
     let mut store = store_of(&rt, alloc, &[0]);
-    expect_all(&rt, alloc, &mut folder, &mut store, &UNSYNCED);
+    expect_all_over(&rt, alloc, &mut folder, &mut store, &UNSYNCED);
 }
 
 /// The call of the store and the put of the sink that fail, counted from 0, and lines, with what the sink then holds.

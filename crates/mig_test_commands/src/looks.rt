@@ -1,7 +1,8 @@
 //! The folder of the three items, and what is said of where they are. The digests are those of another program.
 
+use crate::clusters::{THREE_ITEMS, THREE_MOVED, TWO_ROUNDS};
 use crate::expecting::Line;
-use mig_fixtures::{THREE_ITEMS, THREE_MOVED, TWO_ROUNDS, folder_of};
+use crate::running::folder_of;
 use mig_io::MemFolder;
 use std::alloc::Global;
 use std::panic::Expect;

@@ -1,6 +1,6 @@
 //! Journals that the plan of two rounds did not leave.
 
-use crate::expecting::{Line, expect_all};
+use crate::expecting::{Line, expect_all_over};
 use crate::looks::{AT_TARGET, FILL, three_items};
 use crate::stores::{DIGEST, sure_store};
 use mig_base::Cell;
@@ -68,9 +68,9 @@ fn journals_are_told_apart(rt: HostRuntime) {
     let mut folder = three_items(&rt, alloc);
     for journal in &JOURNALS {
         let mut store = sure_store(&rt, alloc);
-        expect_all(&rt, alloc, &mut folder, &mut store, FILL);
+        expect_all_over(&rt, alloc, &mut folder, &mut store, FILL);
         set(&mut store, journal).expect(&rt, "a store that does not fail");
-        expect_all(&rt, alloc, &mut folder, &mut store, &[journal.line]);
-        expect_all(&rt, alloc, &mut folder, &mut store, journal.then);
+        expect_all_over(&rt, alloc, &mut folder, &mut store, &[journal.line]);
+        expect_all_over(&rt, alloc, &mut folder, &mut store, journal.then);
     }
 }

@@ -1,9 +1,9 @@
 //! Moves at which a call of the store fails, and what `resume` makes of them after a crash.
 
-use crate::expecting::{expect_all, expect_any};
+use crate::expecting::{expect_all_over, expect_any};
 use crate::looks::{FILL, three_items};
+use crate::running::outcome_over;
 use crate::stores::{are_exchanged, is_done, store_of};
-use mig_fixtures::outcome_over;
 use mig_io::MemFolder;
 use mig_store::{EndOrder, MemStore, Pick};
 use std::alloc::Global;
@@ -49,7 +49,7 @@ fn stopped(
 ) -> Option<MemStore> {
     let mut store = store_of(rt, alloc, &[call]);
     store.order(order);
-    expect_all(rt, alloc, folder, &mut store, FILL);
+    expect_all_over(rt, alloc, folder, &mut store, FILL);
     if is_moved(rt, alloc, folder, &mut store) {
         return None;
     }
@@ -81,7 +81,7 @@ fn expect_resumed(
 fn stops(rt: &impl Abort, alloc: Global, crash: (EndOrder, Pick)) -> usize {
     let mut folder = three_items(rt, alloc);
     let mut filled = store_of(rt, alloc, &[]);
-    expect_all(rt, alloc, &mut folder, &mut filled, FILL);
+    expect_all_over(rt, alloc, &mut folder, &mut filled, FILL);
     for (number, call) in (FIRST..MANY).enumerate() {
         let Some(store) = stopped(rt, alloc, &mut folder, crash.0, call) else {
             return number;

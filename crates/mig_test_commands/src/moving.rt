@@ -1,9 +1,9 @@
 //! What `move` and `resume` do with a store, and what they say of it.
 
-use crate::expecting::{Line, expect_all, expect_cut};
+use crate::clusters::THREE_MOVED;
+use crate::expecting::{Line, expect_all_over, expect_cut};
 use crate::looks::{ANOTHER, AT_TARGET, FILL, HERE, three_items};
 use crate::stores::{is_done, store_of, sure_store};
-use mig_fixtures::THREE_MOVED;
 
 /// Lines one after the other over one store.
 static SESSION: [Line<'static>; 11] = [
@@ -25,8 +25,8 @@ fn items_are_moved(rt: HostRuntime) {
     let alloc = rt.alloc();
     let mut folder = three_items(&rt, alloc);
     let mut store = store_of(&rt, alloc, &[]);
-    expect_all(&rt, alloc, &mut folder, &mut store, &SESSION);
-    expect_all(&rt, alloc, &mut folder, &mut store, AT_TARGET);
+    expect_all_over(&rt, alloc, &mut folder, &mut store, &SESSION);
+    expect_all_over(&rt, alloc, &mut folder, &mut store, AT_TARGET);
     assert!(rt; is_done(&store));
 }
 
@@ -35,8 +35,8 @@ fn items_are_moved_where_no_call_fails(rt: HostRuntime) {
     let alloc = rt.alloc();
     let mut folder = three_items(&rt, alloc);
     let mut sure = sure_store(&rt, alloc);
-    expect_all(&rt, alloc, &mut folder, &mut sure, &SESSION);
-    expect_all(&rt, alloc, &mut folder, &mut sure, AT_TARGET);
+    expect_all_over(&rt, alloc, &mut folder, &mut sure, &SESSION);
+    expect_all_over(&rt, alloc, &mut folder, &mut sure, AT_TARGET);
 }
 
 /// Lines over a store in which an item is where another is to go, and over one whose first sync after a filling fails; the
@@ -66,7 +66,7 @@ fn nothing_is_written_by_a_move_that_is_refused(rt: HostRuntime) {
     let mut folder = three_items(&rt, alloc);
     for (call, lines) in &REFUSED {
         let mut store = store_of(&rt, alloc, &[*call]);
-        expect_all(&rt, alloc, &mut folder, &mut store, lines);
+        expect_all_over(&rt, alloc, &mut folder, &mut store, lines);
     }
 }
 
@@ -77,9 +77,9 @@ fn what_is_not_told_is_done(rt: HostRuntime) {
     let mut folder = three_items(&rt, alloc);
     for line in ["move D N X P", "resume D N X P"] {
         let mut store = store_of(&rt, alloc, &[]);
-        expect_all(&rt, alloc, &mut folder, &mut store, FILL);
+        expect_all_over(&rt, alloc, &mut folder, &mut store, FILL);
         expect_cut(&rt, alloc, &mut folder, &mut store, 0, &(line, 6, ""));
-        expect_all(&rt, alloc, &mut folder, &mut store, AT_TARGET);
+        expect_all_over(&rt, alloc, &mut folder, &mut store, AT_TARGET);
         assert!(rt; is_done(&store));
     }
 }

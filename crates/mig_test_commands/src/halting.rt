@@ -1,10 +1,11 @@
 //! Migrations that `halt` closes early, and what comes after.
 
-use crate::expecting::{Line, expect_all, expect_any, expect_cut, expect_file, expect_over};
+use crate::clusters::{THREE_ITEMS, THREE_MOVED, TWO_ROUNDS};
+use crate::expecting::{Line, expect_all_over, expect_any, expect_cut, expect_file, expect_over};
 use crate::looks::{ANOTHER, MOVED, THREE_ROUNDS, keep};
+use crate::running::folder_of;
 use crate::stores::{are_zeros, store_of};
 use mig_base::{Cell, Name};
-use mig_fixtures::{THREE_ITEMS, THREE_MOVED, TWO_ROUNDS, folder_of};
 use mig_io::MemFolder;
 use mig_store::{MemStore, Pick};
 use std::alloc::Global;
@@ -89,7 +90,7 @@ static AFTERWARDS: [Line<'static>; 5] = [
 fn expect_closed(rt: &impl Abort, alloc: Global, folder: &mut MemFolder, store: &mut MemStore) {
     expect_file(rt, folder, "L", Some(HALF_WAY));
     assert!(rt; are_zeros(store, &closed_cells(rt, alloc)));
-    expect_all(rt, alloc, folder, store, &AFTERWARDS);
+    expect_all_over(rt, alloc, folder, store, &AFTERWARDS);
     expect_file(rt, folder, "O", Some(ONE_LEFT));
 }
 
@@ -156,7 +157,7 @@ fn a_stopped_halt_is_resumed(rt: HostRuntime) {
         let mut folder = roomy_folder(&rt, alloc);
         let picks = (Pick::New, Pick::Old);
         let mut left = half_halted(&rt, alloc, &mut folder, writes, picks);
-        expect_all(&rt, alloc, &mut folder, &mut left, &RESUMED);
+        expect_all_over(&rt, alloc, &mut folder, &mut left, &RESUMED);
     }
 }
 
@@ -192,7 +193,7 @@ fn a_halt_that_is_refused_changes_nothing(rt: HostRuntime) {
     let alloc = rt.alloc();
     let mut folder = roomy_folder(&rt, alloc);
     let mut store = half_way(&rt, alloc, &mut folder, Pick::Half);
-    expect_all(&rt, alloc, &mut folder, &mut store, &REFUSED);
+    expect_all_over(&rt, alloc, &mut folder, &mut store, &REFUSED);
     expect_file(&rt, &folder, "L", None);
 }
 

@@ -1,11 +1,12 @@
 //! Plans where items are parked, since disks can't hold old and incoming items together: carried out, stopped at each write,
 //! resumed and closed.
 
-use crate::expecting::{Line, expect_all, expect_any, expect_file, expect_over};
+use crate::clusters::{BY_THIRD_DISK, EXCHANGED, FULL_DISKS};
+use crate::expecting::{Line, expect_all_over, expect_any, expect_file, expect_over};
 use crate::looks::keep;
+use crate::running::{folder_of, outcome_over};
 use crate::stores::{are_exchanged, store_of_three};
 use mig_base::Cell;
-use mig_fixtures::{BY_THIRD_DISK, EXCHANGED, FULL_DISKS, folder_of, outcome_over};
 use mig_io::MemFolder;
 use mig_store::{EndOrder, MemStore, Pick};
 use std::alloc::Global;
@@ -47,7 +48,7 @@ static CLOSED: [Line<'static>; 2] = [
 /// A store on which the two items are filled.
 fn filled(rt: &impl Abort, alloc: Global, folder: &mut MemFolder) -> MemStore {
     let mut store = store_of_three(rt, alloc, &[]);
-    expect_all(rt, alloc, folder, &mut store, FILL);
+    expect_all_over(rt, alloc, folder, &mut store, FILL);
     store
 }
 
@@ -57,9 +58,9 @@ fn full_disks_change_items(rt: HostRuntime) {
     let mut folder = full_disks(&rt, alloc);
     let before = filled(&rt, alloc, &mut folder);
     let mut store = store_of_three(&rt, alloc, &[]);
-    expect_all(&rt, alloc, &mut folder, &mut store, &SESSION);
+    expect_all_over(&rt, alloc, &mut folder, &mut store, &SESSION);
     assert!(rt; are_exchanged(&before, &store));
-    expect_all(&rt, alloc, &mut folder, &mut store, &CLOSED);
+    expect_all_over(&rt, alloc, &mut folder, &mut store, &CLOSED);
     expect_file(&rt, &folder, "L", Some(EXCHANGED));
 }
 
@@ -93,7 +94,7 @@ fn stopped(
 ) -> Option<MemStore> {
     let mut store = store_of_three(rt, alloc, &[call]);
     store.order(order);
-    expect_all(rt, alloc, folder, &mut store, FILL);
+    expect_all_over(rt, alloc, folder, &mut store, FILL);
     if is_moved(rt, alloc, folder, &mut store) {
         return None;
     }
@@ -172,7 +173,7 @@ fn a_stopped_move_is_closed(rt: HostRuntime) {
             let mut folder = full_disks(&rt, alloc);
             let mut store = filled(&rt, alloc, &mut folder);
             store.fuse(*writes);
-            expect_all(&rt, alloc, &mut folder, &mut store, &FUSED);
+            expect_all_over(&rt, alloc, &mut folder, &mut store, &FUSED);
             let mut left = store.crash(pick);
             let line = "halt-tight D N X P L";
             expect_over(&rt, alloc, &mut folder, &mut left, line, 0, text);
