@@ -94,7 +94,7 @@ def the_reading_list():
         words = tree.read("words.md") or b""
         Count.that("tests/audit --definitions FILE", ran.status == 0 and not ran.out and b"- `IsName`: 1 to 32 bytes" in words and b"(a clone/crates/mig_base/specs/" in words, ran)
         Count.that("tests/audit --definitions", b"- `IsName`: 1 to 32 bytes" in tree.run("tests/audit", "--definitions").out)
-        Count.that("tests/audit --crates", b"\nmig_sides\n    stands on: mig_base, mig_graph\n    used by: mig_plan, mig_test_units\n" in tree.run("tests/audit", "--crates").out)
+        Count.that("tests/audit --crates", b"\nmig_sides\n    stands on: mig_base, mig_graph\n    used by: mig_plan, mig_test_calls\n" in tree.run("tests/audit", "--crates").out)
 
 
 CASES = [the_pages, the_reading_list]

@@ -100,8 +100,8 @@ def the_example_of_formats(program):
 
 
 def the_example_of_the_crates(program):
-    """README.md shows the function of crates/mig_example, without its contract."""
-    source = page("crates/mig_example/src/lib.rt").partition("\npub fn ")
+    """README.md shows the example of the crates, without its contract."""
+    source = page("crates/mig_test_mover/src/example.rt").partition("\npub fn ")
     shown = "".join(line for line in (source[1] + source[2])[1:].splitlines(True) if not line.startswith(("    requires", "    ensures")))
     Count.that("README shows the example of the crates", f"```rust\n{shown}```" in page("README.md"), shown)
 

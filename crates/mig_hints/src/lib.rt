@@ -11,6 +11,8 @@ mod findings;
 mod headers;
 mod hinting;
 mod journals;
+mod lines;
+mod made;
 mod names;
 mod plans;
 mod rows;

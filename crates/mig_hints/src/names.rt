@@ -1,7 +1,8 @@
 //! What is wrong with a name.
+ghost use Rattle.std.specs.Prelude.{◌≡◌, not, position};
+ghost use Rattle.mig_base.specs.Naming.{is_name_byte};
 
 use crate::excerpts::{Said, Shown};
-use mig_lines::first_wrong;
 
 /// Why a field is no name.
 pub(crate) fn say_no_name(f: &mut String, what: &str, field: &[u8]) -> Said {
@@ -30,4 +31,18 @@ fn say_wrong_byte(f: &mut String, what: &str, field: &[u8], place: usize) -> Sai
         _ => f.push_str("no letter")?,
     }
     f.push_str(": a name has letters A-Z and a-z, digits, _, - and . alone")
+}
+
+/// Whether the byte may stand in a name.
+fn is_name_byte(byte: u8) -> bool
+    ensures { result ≡ is_name_byte byte }
+{
+    byte.is_ascii_alphanumeric() || byte == b'_' || byte == b'-' || byte == b'.'
+}
+
+/// The place of the first byte that may not stand in a name. Places count from 0.
+fn first_wrong(field: &[u8]) -> Option<usize>
+    ensures { result ≡ position (λ b. not (is_name_byte b)) field.now }
+{
+    field.iter().position(|b| !is_name_byte(*b))
 }

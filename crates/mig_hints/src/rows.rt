@@ -1,8 +1,8 @@
 //! The rows of a CSV file, for what is said of one.
 
 use crate::files::Typed;
+use crate::lines::{line_from, line_of, row_start};
 use mig_base::read_digits;
-use mig_lines::{line_from, line_of, row_start};
 
 /// A row, and the line that it stands in. Lines count from 1.
 #[derive(Clone, Copy)]

@@ -2,8 +2,8 @@
 
 use crate::excerpts::Shown;
 use crate::files::{is_missing, read_at};
+use crate::made::{HEADER, SLOT};
 use mig_base::Name;
-use mig_lines::{HEADER, SLOT};
 use std::alloc::AllocError;
 use std::fmt::{self, Display, Formatter};
 use std::fs::File;

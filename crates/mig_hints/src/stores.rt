@@ -2,10 +2,10 @@
 
 use crate::excerpts::{Said, Shown};
 use crate::files::Given;
+use crate::made::{SLOT, holds_made};
 use crate::rows::{Key, Rows, field, number_at};
 use crate::slots::{Held, look};
 use mig_base::Name;
-use mig_lines::{SLOT, holds_made};
 use std::alloc::AllocError;
 use std::fs::File;
 use std::rt::Files;

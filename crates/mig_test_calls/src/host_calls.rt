@@ -139,6 +139,21 @@ fn after_a_sync_that_failed(rt: HostRuntime) {
 }
 
 #[test]
+fn after_a_sync_that_failed_in_this_process(rt: HostRuntime) {
+    enter(&rt, "exchanged").expect(&rt, "a folder");
+    let mut calls = HostCalls::new(&rt, rt.alloc());
+    claim(&rt, &mut calls);
+    assert!(rt; writes(&mut calls, &disk_of(b"a"), 0, b"x", true));
+    // its name leads to no file then, which no note tells
+    assert!(rt; fs::rename(&rt, "a.disk", "kept").is_ok());
+    assert!(rt; calls.sync(&disk_of(b"a")) == Err(CallError::Failed));
+    assert!(rt; fs::rename(&rt, "kept", "a.disk").is_ok());
+    assert!(rt; fs::exists(&rt, "unsynced.mig").is_ok_and(|is| !is));
+    assert!(rt; calls.claim() == Err(CallError::Failed));
+    leave(&rt, "exchanged").expect(&rt, "a folder");
+}
+
+#[test]
 fn after_a_sync_that_failed_in_memory(rt: HostRuntime) {
     let mut calls = MemCalls::new(rt.alloc());
     let mut trouble = Trouble::none(rt.alloc());

@@ -1,10 +1,9 @@
 //! What `drill` puts, and what it refuses.
 
+use crate::clusters::{Cluster, NO_ROUNDS, ONE_STAYS, THREE_ITEMS, TWO_NEEDED, TWO_ROUNDS};
 use crate::expecting::{Line, expect, expect_all, expect_file, made, made_with};
+use crate::running::{sink_of, status_of};
 use crate::texts::Texts;
-use mig_fixtures::{
-    Cluster, NO_ROUNDS, ONE_STAYS, THREE_ITEMS, TWO_NEEDED, TWO_ROUNDS, sink_of, status_of,
-};
 use std::alloc::Global;
 use std::panic::Expect;
 use std::process::Abort;

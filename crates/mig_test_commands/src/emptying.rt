@@ -1,7 +1,7 @@
 //! Next disks that empty a disk: their rounds, what shows that fewer are too few, and what `drain` saves and leaves.
 
+use crate::clusters::Cluster;
 use crate::expecting::{Line, expect, expect_all, expect_file, expect_untold, grant, made};
-use mig_fixtures::Cluster;
 use mig_io::MemFolder;
 use std::alloc::Global;
 use std::process::Abort;

@@ -1,8 +1,9 @@
 //! Folders, sinks and memory that fail at one call.
 
+use crate::clusters::{THREE_ITEMS, TWO_NEEDED, TWO_ROUNDS};
 use crate::expecting::{Line, expect, expect_end, expect_file, made, made_with};
+use crate::running::{AFTER, CHECK, PLAN, status_of};
 use crate::scarce_folder::ScarceFolder;
-use mig_fixtures::{AFTER, CHECK, PLAN, THREE_ITEMS, TWO_NEEDED, TWO_ROUNDS, status_of};
 use mig_io::{MemFolder, MemSink};
 use std::alloc::Global;
 use std::panic::Expect;

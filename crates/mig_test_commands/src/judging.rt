@@ -1,10 +1,11 @@
 //! What `check` and `after` say of plans and certificates that stand beside the files of a cluster.
 
-use crate::expecting::{expect, keep, made, made_with};
-use mig_fixtures::{
-    AFTER, CHECK, Cluster, NO_ROUNDS, NOTHING_NEEDED, ONE_STAYS, THREE_ITEMS, THREE_MOVED,
-    TRIANGLE, TWO_NEEDED, TWO_ROUNDS,
+use crate::clusters::{
+    Cluster, NO_ROUNDS, NOTHING_NEEDED, ONE_STAYS, THREE_ITEMS, THREE_MOVED, TRIANGLE, TWO_NEEDED,
+    TWO_ROUNDS,
 };
+use crate::expecting::{expect, keep, made, made_with};
+use crate::running::{AFTER, CHECK};
 use std::alloc::Global;
 use std::panic::Expect;
 use std::process::Abort;

@@ -1,8 +1,8 @@
 //! As many items as there may be, between two disks of the least limit.
 
 use crate::expecting::{expect, expect_file, grant, made};
+use crate::running::{CHECK, PLAN};
 use crate::texts::Texts;
-use mig_fixtures::{CHECK, PLAN};
 use std::alloc::Global;
 use std::process::Abort;
 

@@ -1,9 +1,9 @@
 //! The layouts between the rounds of a plan.
 
+use crate::clusters::{Cluster, THREE_ITEMS, TWO_ROUNDS};
 use mig_base::{DiskId, Spot};
 use mig_check::{layout_after, runs};
 use mig_csv::read_input;
-use mig_fixtures::{Cluster, THREE_ITEMS, TWO_ROUNDS};
 use mig_text::read_plan;
 use std::alloc::Global;
 use std::panic::Expect;

@@ -1,9 +1,10 @@
 //! Plans by limits that are lowered to even ones, and plans of disks that have two sides.
 
+use crate::clusters::Cluster;
 use crate::expecting::{expect, expect_file, made};
+use crate::running::{CHECK, PLAN};
 use mig_best::best_plan;
 use mig_csv::read_input;
-use mig_fixtures::{CHECK, Cluster, PLAN};
 use std::alloc::Global;
 use std::panic::Expect;
 use std::process::Abort;

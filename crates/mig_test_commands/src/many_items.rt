@@ -1,8 +1,8 @@
 //! Some thousand items.
 
 use crate::expecting::{expect, expect_file, made};
+use crate::running::{AFTER, CHECK, PLAN};
 use crate::texts::Texts;
-use mig_fixtures::{AFTER, CHECK, PLAN};
 use std::alloc::Global;
 use std::panic::Expect;
 use std::process::Abort;

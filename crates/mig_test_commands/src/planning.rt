@@ -1,10 +1,10 @@
 //! What `plan` saves and puts, and what `check` and `after` then say of it.
 
-use crate::expecting::{expect, expect_end, expect_file, made};
-use mig_fixtures::{
-    AFTER, CHECK, Cluster, NO_ROUNDS, NOTHING_NEEDED, ONE_STAYS, PLAN, THREE_ITEMS, THREE_MOVED,
-    TRIANGLE, TWO_NEEDED, outcome_of,
+use crate::clusters::{
+    Cluster, NO_ROUNDS, NOTHING_NEEDED, ONE_STAYS, THREE_ITEMS, THREE_MOVED, TRIANGLE, TWO_NEEDED,
 };
+use crate::expecting::{expect, expect_end, expect_file, made};
+use crate::running::{AFTER, CHECK, PLAN, outcome_of};
 use mig_io::MemFolder;
 use std::alloc::Global;
 use std::panic::Expect;

@@ -1,9 +1,8 @@
 //! Words that are no command, files that are not there, and files that stand for no input.
 
+use crate::clusters::{Cluster, ONE_STAYS, THREE_ITEMS, TRIANGLE, TWO_NEEDED, TWO_ROUNDS};
 use crate::expecting::{Line, expect, expect_all, expect_file, keep, made, made_with};
-use mig_fixtures::{
-    AFTER, CHECK, Cluster, ONE_STAYS, PLAN, THREE_ITEMS, TRIANGLE, TWO_NEEDED, TWO_ROUNDS,
-};
+use crate::running::{AFTER, CHECK, PLAN};
 use std::alloc::Global;
 use std::panic::Expect;
 use std::process::Abort;

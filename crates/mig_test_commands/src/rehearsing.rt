@@ -1,7 +1,8 @@
 //! What `rehearse` puts, and which words it takes.
 
+use crate::clusters::THREE_ITEMS;
 use crate::expecting::{expect, expect_untold, made};
-use mig_fixtures::{Outcome, THREE_ITEMS, outcome_of};
+use crate::running::{Outcome, outcome_of};
 use std::alloc::Global;
 use std::panic::Expect;
 use std::process::Abort;

@@ -1,10 +1,11 @@
 //! How many rounds plans have where a limit is odd. They are as few as can be, which no promise of the planner says: a
 //! planner that has lost its search makes more.
 
+use crate::clusters::Cluster;
 use crate::expecting::{expect, expect_file, made};
+use crate::running::{CHECK, PLAN};
 use crate::texts::Texts;
 use mig_csv::read_input;
-use mig_fixtures::{CHECK, Cluster, PLAN};
 use mig_plan::make_plan;
 use std::alloc::Global;
 use std::panic::Expect;

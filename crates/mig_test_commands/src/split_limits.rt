@@ -1,7 +1,8 @@
 //! Disks with an outgoing and an incoming limit: which rows are refused, and what is judged.
 
+use crate::clusters::{Cluster, THREE_ITEMS, THREE_MOVED, TWO_NEEDED, TWO_ROUNDS};
 use crate::expecting::{expect, made_with};
-use mig_fixtures::{AFTER, CHECK, Cluster, PLAN, THREE_ITEMS, THREE_MOVED, TWO_NEEDED, TWO_ROUNDS};
+use crate::running::{AFTER, CHECK, PLAN};
 
 /// The three items between disks with two limits.
 const THREE_SPLIT: Cluster<'static> = Cluster {

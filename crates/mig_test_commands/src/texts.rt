@@ -1,6 +1,6 @@
 //! The three files of large inputs, written row by row.
 
-use mig_fixtures::Cluster;
+use crate::clusters::Cluster;
 use std::alloc::Global;
 use std::panic::Expect;
 use std::process::Abort;

@@ -1,10 +1,10 @@
 //! Plans of single shifts, where disks can't hold old and incoming items together, and files that are read without asking for room.
 
-use crate::expecting::{Line, expect, expect_all, expect_file, expect_untold, made, made_with};
-use mig_fixtures::{
-    BY_THIRD_DISK, Cluster, EXCHANGED, FULL_DISKS, NO_ROUNDS, PLAN, THREE_ITEMS, THREE_MOVED,
-    TWO_ROUNDS,
+use crate::clusters::{
+    BY_THIRD_DISK, Cluster, EXCHANGED, FULL_DISKS, NO_ROUNDS, THREE_ITEMS, THREE_MOVED, TWO_ROUNDS,
 };
+use crate::expecting::{Line, expect, expect_all, expect_file, expect_untold, made, made_with};
+use crate::running::PLAN;
 
 /// The line that plans single shifts, over the files of a folder that `folder_of` gives.
 const PLAN_TIGHT: &str = "plan-tight D N X P";

@@ -1,5 +1,5 @@
-//! Tests alone: the calls of the mover over stores in memory, and plans that are carried out on them and on files in memory, stopped
-//! anywhere, resumed, drilled and carried out step by step. They stand apart from the mover and the drill, so that each is proved once.
+//! The README's example; and tests: the calls of the mover over stores in memory, and plans that are carried out on them and on files in
+//! memory, stopped anywhere, resumed, drilled and carried out step by step, apart from mover and drill, so that each is proved once.
 #![tactic(auto)]
 
 #[cfg(test)]
@@ -8,6 +8,7 @@ mod cases;
 mod cells;
 #[cfg(test)]
 mod drilling;
+mod example;
 #[cfg(test)]
 mod file_stops;
 #[cfg(test)]
@@ -30,3 +31,5 @@ mod stepping;
 mod stopping;
 #[cfg(test)]
 mod stores;
+
+pub use example::carry_and_read;

@@ -1,9 +1,9 @@
 //! The README's example: a plan is carried out, and an item is read before, between and after its steps.
 
 use crate::cases::{THREE_ITEMS, job_of};
+use crate::example::carry_and_read;
 use crate::stores::{filled, is_reached, made};
 use mig_base::ItemId;
-use mig_example::carry_and_read;
 
 #[test]
 fn an_item_is_read_on_the_way(rt: HostRuntime) {

@@ -1,9 +1,0 @@
-use Rattle.mig_lines.proofs.Common.{rows_before, ◌≡◌, ◌≤◌}
-use Rattle.mig_lines.proofs.lines.row_start.Given as goal
-
-abbrev pub invariant-loop-at : goal.invariant-loop-at
-invariant-loop-at l = record {
-  counted : l.rows ≡ rows_before l.bytes l.at;
-  few : l.rows ≤ l.at;
-  below : l.rows ≤ l.row;
-}

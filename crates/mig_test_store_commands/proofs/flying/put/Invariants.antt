@@ -1,5 +1,0 @@
-use Rattle.mig_test_store_commands.proofs.Common.{[], aloft, ◌≡◌}
-use Rattle.mig_test_store_commands.proofs.flying.put.Given as goal
-
-abbrev pub invariant-loop-slot : goal.invariant-loop-slot
-invariant-loop-slot g l = aloft l.store ≡ []
