@@ -26,10 +26,13 @@ class Step(NamedTuple):
 
     def line(self) -> str:
         """As a step is written in a script."""
-        counts = (f"{side}:{count}" if count > 1 else side for side, count in sorted(self.counts.items()))
+        counts = [f"{side}:{count}" if count > 1 else side for side, count in sorted(self.counts.items())]
         return (f"ceph-step {self.round} {self.group} {self.order} {pairs_text(self.pairs)} "
                 f"from {'/'.join(map(pairs_text, self.start))} at {','.join(counts) or '-'} "
-                f"items {','.join(f'{its}:{item}' for item, its in self.items.items()) or '-'}")
+                f"items {','.join([f'{its}:{item}' for item, its in self.items.items()]) or '-'}")
+
+    def osds(self) -> list[int]:
+        return [int(it) for it in self.order.removeprefix("=").split(",")]
 
     def command(self) -> list[str]:
         """What sets these exceptions: the words of `ceph`."""
@@ -38,7 +41,7 @@ class Step(NamedTuple):
 
 
 def pairs_text(pairs: Pairs) -> str:
-    return ",".join(f"{one}:{two}" for one, two in pairs) or "-"
+    return ",".join([f"{one}:{two}" for one, two in pairs]) or "-"
 
 
 def read_pairs(text: str) -> Pairs:
@@ -102,7 +105,8 @@ def counts_of(shifts: Sequence[Shift], filler: int | None, disks: Disks) -> Coun
     else, without such an OSD, at both ends of each."""
     out, in_ = ("/out", "/in") if is_split(disks) else ("", "")
     sources = [it.source for it in shifts] if filler is None else [f"osd.{filler}"]
-    return collections.Counter([*(it + out for it in sources), *(it.target + in_ for it in shifts)])
+    sides = [*(it + out for it in sources), *(it.target + in_ for it in shifts)]
+    return {it: sides.count(it) for it in sides}
 
 
 def limits_text(disks: Disks, ahead: int) -> str:
