@@ -78,9 +78,9 @@ class Planner:
     def at(self, name: str) -> str:
         return os.path.join(self.folder, name)
 
-    def command(self, name: str, *words_: str, sub: str = "", passes: bool = True) -> str:
-        """What a command of these prints, in the folder or one below it."""
-        return output(os.path.join(here(), name), *words_, folder=self.at(sub), passes=passes)
+    def command(self, name: str, *words_: str) -> str:
+        """What a command of these prints, in the folder."""
+        return output(os.path.join(here(), name), *words_, folder=self.folder, passes=True)
 
     def migrate(self, *words_: str, sub: str = "") -> str:
         return output(self.program, *words_, folder=self.at(sub), passes=True)

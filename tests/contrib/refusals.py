@@ -180,12 +180,10 @@ def odd_names_of_lvm():
                "/dev/mapper/sda1": 40, "Ab12Cd-34Ef-56Gh-78Ij-90Kl-12Mn-34Op56": 40}
     volumes = ["a+b", "a_b.0", "a_b", "v" * 60, "v" * 61]
     with Room() as room:
-        room.keep("pvs.json",
-                  {"report": [{"pv": [{"vg_name": "data", "pv_name": name, "pv_attr": "a--", "pv_pe_count": str(size)}
-                                      for name, size in devices.items()]}]})
-        room.keep("lvs.json",
-                  {"report": [{"seg": [segment(volume, f"/dev/sda1:{4 * at}-{4 * at + 3}") for at,
-                                       volume in enumerate(volumes)]}]})
+        room.keep("pvs.json", {"report": [{"pv": [{"vg_name": "data", "pv_name": name, "pv_attr": "a--",
+                                                   "pv_pe_count": str(size)} for name, size in devices.items()]}]})
+        room.keep("lvs.json", {"report": [{"seg": [segment(volume, f"/dev/sda1:{4 * at}-{4 * at + 3}") for at,
+                                                   volume in enumerate(volumes)]}]})
         room.good("odd names", "contrib/from-lvm lvs.json pvs.json --spread")
         room.planned("odd names")
         rows = room.rows("names.csv")
@@ -240,9 +238,8 @@ def refusals_of_plans(room):
     for out in ("/dev/null", "/dev/stdout", "."):
         refused(room, "to-lvm, over what is no plain file", f"contrib/to-lvm plan.txt names.csv --out {out}",
                 f"{out} is there and is no plain file")
-    room.good("to-lvm, through a link",
-              "touch real && chmod 600 real && ln -s real link && contrib/to-lvm plan.txt names.csv --out link && "
-              "test -L link && cmp real <(contrib/to-lvm plan.txt names.csv)")
+    room.good("to-lvm, through a link", "touch real && chmod 600 real && ln -s real link && contrib/to-lvm plan.txt "
+              "names.csv --out link && test -L link && cmp real <(contrib/to-lvm plan.txt names.csv)")
     for where, said in ((">/dev/full", "No space left on device"), (">&-", "standard output is closed")):
         for words in ("to-lvm plan.txt names.csv", "picture plan.txt d", "summary plan.txt d",
                       "run-plan --dry-run plan.txt true {item}"):
@@ -354,9 +351,8 @@ def refusals_of_groups():
         room.write("dump", SMALL["epoch"])
         room.write("before", lists(("1.0", "0,2,4"), ("2.0", "0,2,4,8")))
         room.write("after", lists(("1.0", "0,2,8"), ("2.0", "2,0,4,8")))
-        refused(room, "from-ceph, one of two", "contrib/from-ceph before after dump crush",
-                "1 of 2 placement groups cannot be carried out; --leave-out leaves them where they are, and plans the "
-                "others")
+        refused(room, "from-ceph, one of two", "contrib/from-ceph before after dump crush", "1 of 2 placement groups "
+                "cannot be carried out; --leave-out leaves them where they are, and plans the others")
         room.says("--leave-out names the group", "contrib/from-ceph before after dump crush --leave-out",
                   "placement group 2.0 cannot be held")
         that("--leave-out names the group", "2.0" not in room.read("next.csv"))

@@ -3,16 +3,13 @@
 the time that they take by themselves, and stand-ins that wait for nothing within it, which takes a fifth of that;
 client.c hands over what a call has. Where there is no C compiler they run by themselves."""
 import array, compileall, contextlib, fcntl, gc, importlib, importlib.util, io, os, select, shutil, signal, socket
-import subprocess, sys, termios, threading, time, traceback, types
+import subprocess, sys, termios, threading, time, tomllib, traceback, types
 from unittest import mock
 
 HERE = os.path.dirname(os.path.realpath(__file__))
 CONTRIB = os.path.join(os.path.dirname(os.path.dirname(HERE)), "contrib")
-COMMANDS = {"from-lvm": "lvm.from_lvm", "to-lvm": "lvm.to_lvm", "lvm-step": "lvm.lvm_step", "plan-lvm": "lvm.plan_lvm",
-            "from-ceph": "ceph.from_ceph", "to-ceph": "ceph.to_ceph", "ceph-step": "ceph.ceph_step",
-            "plan-ceph": "ceph.plan_ceph", "from-folders": "folders.from_folders",
-            "plan-folders": "folders.plan_folders", "run-plan": "run.run_plan", "picture": "show.picture",
-            "report": "show.report", "summary": "show.summary", "witness": "show.witness", "progress": "show.progress"}
+with open(f"{CONTRIB}/pyproject.toml", "rb") as file:
+    COMMANDS = {name: main.partition(":")[0] for name, main in tomllib.load(file)["project"]["scripts"].items()}
 STAND_INS = ["lvs", "pvs", "pvmove", "osdmaptool", "crushtool", "ceph"]
 AT_ONCE = {*STAND_INS} - {"pvmove"}  # those that wait for nothing
 # commands that begin nothing, and wait for nothing
@@ -26,7 +23,7 @@ def package():
     spec = importlib.util.spec_from_file_location("migrate_tools", f"{folder}/__init__.py",
                                                   submodule_search_locations=[folder])
     sys.modules["migrate_tools"] = importlib.util.module_from_spec(spec)
-    return {name: importlib.import_module(f"migrate_tools.{module}").main for name, module in COMMANDS.items()}
+    return {name: importlib.import_module(module).main for name, module in COMMANDS.items()}
 
 
 MAINS = package()

@@ -69,19 +69,21 @@ def paired(leave: Sequence[int], come: Sequence[int], rule: Rule, known: Pairs) 
         if one in leave and two in left and one not in pairs:
             pairs[one] = two
             left.remove(two)
+    lone = [it for it in leave if it not in pairs]
     for its in rule.near.values() if left else ():
         places = [its.get(it) for it in left]
-        for one in leave:
-            if one not in pairs and (place := its.get(one)) is not None and place in places:
-                pairs[one] = left.pop(places.index(place))
-                places.remove(place)
-    return pairs | dict(zip([it for it in leave if it not in pairs], left))
+        for one in [it for it in lone if it in its and its[it] in places]:
+            if its[one] in places:
+                pairs[one] = left.pop(places.index(its[one]))
+                places.remove(its[one])
+                lone.remove(one)
+    return pairs | dict(zip(lone, left))
 
 
 def landed(chosen: Sequence[int], pairs: Pairs) -> list[int]:
     """Where exceptions put a group for which CRUSH chose these OSDs."""
     osds = list(chosen)
     for one, two in pairs:
-        if one in chosen and one in osds and two not in osds:
+        if one in osds and two not in osds and one in chosen:
             osds[osds.index(one)] = two
     return osds

@@ -10,8 +10,7 @@ from .crush import Pairs, Rule, landed, paired
 OSDS = r"\(\[([0-9,]*)\], p-?[0-9]+\)"
 LINE = re.compile(rf"([0-9]+\.[0-9a-f]+) raw {OSDS} up {OSDS} acting {OSDS}", re.ASCII)
 POOL = re.compile(r"^pool ([0-9]+) '.*' (replicated|erasure) (?:profile \S+ )?size ([0-9]+) min_size [0-9]+ "
-                  r"crush_rule ([0-9]+) ",
-                  re.ASCII | re.M)
+                  r"crush_rule ([0-9]+) ", re.ASCII | re.M)
 NEVER = re.compile(r"^osd\.([0-9]+) .* primary_affinity 0 ", re.ASCII | re.M)
 NO_OSD = 2147483647
 FILES = """

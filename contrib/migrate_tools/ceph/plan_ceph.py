@@ -25,10 +25,9 @@ from .change import make
 from .cluster import Silent, all_of, backfills_of, ceph
 from .crush import landed
 from .from_ceph import case_of, files_of
-from .fullness import check_rooms, fullest, rooms_of
 from .groups import Group, read_change, read_groups, read_never, read_pools
 from .maps import DUMP, Change, Maps
-from .sizes import bytes_of, rows_of, sizes_of
+from .sizes import bytes_of, check_rooms, fullest, rooms_of, rows_of, sizes_of
 from .steps import Step, counts_of, limits_text, read_rounds, steps_of
 from .to_ceph import script
 
