@@ -99,8 +99,9 @@ def what_a_copy_lacks(room):
             if not set(spoil.replace(";", "").split()) & (missing | ({"chown", "chgrp", "mknod"} - tools)):
                 copy = f"cp -a mnt/a/x mnt/b/; (cd mnt/b/x; {spoil}); [ ! -e mnt/b/x ] || touch -r mnt/a/x mnt/b/x"
                 room.write("copy", copy)
-                room.says(f"a copy that lacks something: {spoil}", f"rm -rf mnt/b/x; {RUN} sh copy {{item}}; rm "
-                          "plan.txt.place", said, "not compared 1 x: ", "stopped in round 1 of 1")
+                room.says(f"a copy that lacks something: {spoil}",
+                          f"rm -rf mnt/b/x; {RUN} sh copy {{item}}; rm plan.txt.place", said, "not compared 1 x: ",
+                          "stopped in round 1 of 1")
         for copy in (it for it in LOSSY if not missing and shutil.which(it.split()[0])):
             words = copy.format(**{"from": "mnt/{from}/{item}", "to": "mnt/{to}/"})
             ran = room.run(f"rm -rf mnt/b/x; {RUN} {words}; echo $?; rm plan.txt.place")
@@ -205,8 +206,9 @@ def links_and_pipes(room):
     room.good("what has a fifo goes", "contrib/run-plan --names names.csv --erase 'rm -rf {from}/{item}' plan.txt "
                                       "cp -a {from}/{item} {to}/")
     room.write("plan.txt", ONE)
-    room.says("run-plan does not break a hard link either", f"rm plan.txt.place; {RUN} cp -a mnt/{{from}}/{{item}} "
-              f"mnt/{{to}}/", "mnt/a/x/one has another name outside of mnt/a/x, a hard link", status=1)
+    room.says("run-plan does not break a hard link either",
+              f"rm plan.txt.place; {RUN} cp -a mnt/{{from}}/{{item}} mnt/{{to}}/",
+              "mnt/a/x/one has another name outside of mnt/a/x, a hard link", status=1)
     that("run-plan does not break a hard link either", os.path.exists(room.path("mnt/a/x/one")))
 
 

@@ -90,10 +90,11 @@ def side_by_side(room):
         room.write(f"count{at}", str(len(shifts)))
     # a job waits until all of its round have begun; with two at once until one more has than when it began, if
     # there is one, and a while then
-    room.write("job", "#!/bin/sh\necho begin $1 $2 >>log\nall=$(cat count$1)\n[ -z \"$3\" ] || { at=$(grep \"^begin $1 "
-               "\" log | grep -n \" $2\\$\" | cut -d: -f1); [ $at -ge $all ] || all=$((at + 1)); }\nuntil [ $(grep -c "
-               "\"^begin $1 \" log) -ge $all ] || [ ! -e job ]; do sleep 0.1; done\n[ -z \"$3\" ] || sleep 0.2\necho "
-               "end $1 $2 >>log\n")
+    room.write("job", "#!/bin/sh\necho begin $1 $2 >>log\nall=$(cat count$1)\n"
+               "[ -z \"$3\" ] || { at=$(grep \"^begin $1 \" log | grep -n \" $2\\$\" | cut -d: -f1); [ $at -ge "
+               "$all ] || all=$((at + 1)); }\n"
+               "until [ $(grep -c \"^begin $1 \" log) -ge $all ] || [ ! -e job ]; do sleep 0.1; done\n[ -z \"$3\" "
+               "] || sleep 0.2\necho end $1 $2 >>log\n")
     for jobs, most in (("", None), ("--jobs 2", 2)):
         room.good("run-plan", f"rm -f log plan.txt.place; contrib/run-plan {jobs} plan.txt sh job {{round}} {{item}} "
                   f"'{most or ''}'")
@@ -195,8 +196,9 @@ def a_disk_goes_away():
                 room.write("take", f"{moment}\n")
                 ran = room.run(f"contrib/run-plan {words}")
                 gone = [it for it in os.listdir(room.path("mnt")) if not os.path.exists(room.path(f"mnt/{it}/.here"))]
-                that(f"{moment}: it stops", ran.returncode == 1 and len(gone) == 1 and f"disk {gone[0]} is not as "
-                     "--guard asks: test -e" in ran.stderr and f"stopped in round {at} of 3" in ran.stderr, ran)
+                that(f"{moment}: it stops", ran.returncode == 1 and len(gone) == 1
+                     and f"disk {gone[0]} is not as --guard asks: test -e" in ran.stderr
+                     and f"stopped in round {at} of 3" in ran.stderr, ran)
                 bring_back(room, gone[0])
                 found = tree(room)
                 same(f"{moment}: nothing is lost", set(found), set(wanted))
@@ -209,9 +211,10 @@ def a_disk_goes_away():
         shifts = room.shifts()[0]
         first, *rest = shifts
         item, source, _, target, _ = next(it for it in rest if it[3] not in (first[1], first[3]))
-        room.says("nothing of a disk that is away is removed", f"contrib/run-plan {GUARD} {VERIFY} --erase 'sh -c \"rm "
-                  f"-rf mnt/{{from}}/{{item}}; [ {{item}} != {first[0]} ] || mv mnt/{target} gone\"' --jobs 1 plan.txt "
-                  f"{COPY}", f"disk {target} is not as --guard asks", status=1)
+        room.says("nothing of a disk that is away is removed",
+                  f"contrib/run-plan {GUARD} {VERIFY} --erase 'sh -c \"rm -rf mnt/{{from}}/{{item}}; [ {{item}} != "
+                  f"{first[0]} ] || mv mnt/{target} gone\"' --jobs 1 plan.txt {COPY}",
+                  f"disk {target} is not as --guard asks", status=1)
         that("nothing of a disk that is away is removed", source in tree(room)[item])
 
 
@@ -221,9 +224,10 @@ def a_copy_is_wrong():
         shifts = room.shifts()[0]
         item, source, _, target, _ = shifts[1]
         start = tree(room)
-        ran = room.says("a copy that is wrong stops it", f"contrib/run-plan {VERIFY} {ERASE} plan.txt sh -c '{COPY} && "
-                        f"{{ [ {{item}} != {item} ] || rm mnt/{{to}}/{{item}}/data; }}'", f"not verified 1 {item}: "
-                        f"status 1: diff -r mnt/{source}/{item} mnt/{target}/{item}\n", status=1)
+        ran = room.says("a copy that is wrong stops it",
+                        f"contrib/run-plan {VERIFY} {ERASE} plan.txt sh -c '{COPY} && {{ [ {{item}} != {item} ] || rm "
+                        f"mnt/{{to}}/{{item}}/data; }}'",
+                        f"not verified 1 {item}: status 1: diff -r mnt/{source}/{item} mnt/{target}/{item}\n", status=1)
         that("a copy that is wrong stops it", "erased" not in ran.stdout, ran)
         found = tree(room)
         that("nothing of its round is removed", all(start[it] <= found[it] for it in start), found)
@@ -234,8 +238,9 @@ def a_copy_is_wrong():
         same("a wrong copy, copied again", tree(room), wanted_of(room))
     with Room() as room:  # what was verified in an earlier run is looked at again before it is removed
         room.good("run-plan", MOUNT)
-        room.says("what cannot be removed stops it", f"contrib/run-plan {VERIFY} --erase 'sh -c \"exit 1\" {{item}}' "
-                  f"--jobs 1 plan.txt {COPY}", f"not erased 1 {shifts[0][0]}: status 1", status=1)
+        room.says("what cannot be removed stops it",
+                  f"contrib/run-plan {VERIFY} --erase 'sh -c \"exit 1\" {{item}}' --jobs 1 plan.txt {COPY}",
+                  f"not erased 1 {shifts[0][0]}: status 1", status=1)
         room.write("plan.txt.place", "".join(line for line in room.read("plan.txt.place").splitlines(True)
                                              if not line.startswith("erasing")))
         room.good("run-plan", f"rm -r mnt/{target}/{item}")
@@ -259,12 +264,14 @@ def killed_at_random(room):
     """With guards and verification, with --eager and without it; alone, or with all its commands, as where the machine
     goes down; and disks go away meanwhile."""
     chance = random.Random(7)
-    room.good("run-plan", MOUNT + "; for it in mnt/*/*/data; do yes \"$(cat $it)\" | head -n 20000 >more; cp more $it; "
-              "mv more ${it%data}more; done")
+    room.good("run-plan", MOUNT
+              + "; for it in mnt/*/*/data; do yes \"$(cat $it)\" | head -n 20000 >more; cp more $it; mv more "
+              "${it%data}more; done")
     wanted, counts = wanted_of(room), collections.Counter()
     same("all items are there", set(whole(room)), set(wanted))
-    words = ["alone/run-plan", "--guard", "test -e mnt/{disk}/.here", "--verify", "diff -r mnt/{from}/{item} "
-             "mnt/{to}/{item}", "--erase", "rm -rf mnt/{from}/{item}", "--jobs", "2", "plan.txt", "sh", "-c",
+    words = ["alone/run-plan", "--guard", "test -e mnt/{disk}/.here", "--verify",
+             "diff -r mnt/{from}/{item} mnt/{to}/{item}", "--erase", "rm -rf mnt/{from}/{item}", "--jobs", "2",
+             "plan.txt", "sh", "-c",
              "cp -a mnt/{from}/{item} mnt/{to}/ && sleep 0.3 && until [ ! -e hold ]; do sleep 0.1; done"]
     room.write("hold", "")  # what the first kill meets cannot have ended by itself
     for at in range(15):
@@ -354,8 +361,9 @@ def odd_folders(room):
         room.write(f"mnt/disk {at % 3}/{name}/sub/data", name * (at * 100))
         os.link(room.path(f"mnt/disk {at % 3}/{name}/sub/data"), room.path(f"mnt/disk {at % 3}/{name}/again"))
         os.symlink("nowhere", room.path(f"mnt/disk {at % 3}/{name}/link"))
-    room.good("folders", "mkdir -p mnt/empty/lost+found 'mnt/disk 0/lost+found'; echo file >'mnt/disk 0/a file'; cp -a "
-              "'mnt/disk 1/{item}' 'mnt/disk 2/{item}'")
+    room.good("folders",
+              "mkdir -p mnt/empty/lost+found 'mnt/disk 0/lost+found'; echo file >'mnt/disk 0/a file'; cp -a 'mnt/disk "
+              "1/{item}' 'mnt/disk 2/{item}'")
 
 
 def the_folders(room):
@@ -390,11 +398,13 @@ def the_folders(room):
     same("--move", next_[names["mnt/disk 1/-rf"][0]], disks["mnt/disk 2"][0])
     start = contents(room)
     room.planned("folders")
-    room.good("folders", f"contrib/run-plan --names names.csv {REAL.replace('mountpoint -q', 'test -d')} plan.txt cp "
-              f"-a {{from}}/{{item}} {{to}}/")
+    room.good("folders",
+              f"contrib/run-plan --names names.csv {REAL.replace('mountpoint -q', 'test -d')} plan.txt cp -a "
+              f"{{from}}/{{item}} {{to}}/")
     same("odd names: nothing is lost or changed", contents(room), start)
-    room.says("what is no folder, file or link", "mkfifo mnt/empty/pipe; contrib/from-folders mnt/*; status=$?; rm "
-              "mnt/empty/pipe; exit $status", "mnt/empty/pipe is neither a folder, a file nor a link", status=1)
+    room.says("what is no folder, file or link",
+              "mkfifo mnt/empty/pipe; contrib/from-folders mnt/*; status=$?; rm mnt/empty/pipe; exit $status",
+              "mnt/empty/pipe is neither a folder, a file nor a link", status=1)
     room.good("folders", "mkdir found && contrib/from-folders --into found mnt/*")
     same("odd names: all is where it is to be, under the same names",
          {item: disk for item, disk, _ in room.rows("found/now.csv")}, next_)
@@ -410,8 +420,9 @@ def real_folders():
     loops = {}
     with Room() as room:
         try:
-            room.good("real disks", "rm bin/mount bin/mountpoint bin/umount; mkdir state/thin && mount -t tmpfs -o "
-                      "size=3M none state/thin")
+            room.good("real disks",
+                      "rm bin/mount bin/mountpoint bin/umount; mkdir state/thin && mount -t tmpfs -o size=3M none "
+                      "state/thin")
             for name, image in (("a", "state/a.img"), ("b", "state/b.img"), ("thin", "state/thin/image")):
                 loops[name] = disk_at(room, name, image)
                 if loops[name] is None:
@@ -433,8 +444,9 @@ def try_real_folders(room, loops):
         return {it: room.read(f"mnt/{disk}/{it}")
                 for it in os.listdir(room.path(f"mnt/{disk}")) if it.startswith("item")}
 
-    room.good("real disks", "contrib/from-folders mnt/a mnt/b mnt/thin --mounted --empty a --slots thin=1 --move 'item "
-              "0=b' --move 'item 1=b' --move 'item 2=b'")
+    room.good("real disks",
+              "contrib/from-folders mnt/a mnt/b mnt/thin --mounted --empty a --slots thin=1 --move 'item 0=b' --move "
+              "'item 1=b' --move 'item 2=b'")
     same("lost+found is no item", len(room.rows("now.csv")), 3)
     room.planned("real disks")
     room.good("real disks", "umount mnt/b")
@@ -442,8 +454,9 @@ def try_real_folders(room, loops):
             "disk b is not as --guard asks: mountpoint -q mnt/b: status 32\nrun-plan: nothing was begun")
     refused(room, "real disks, --mounted", "contrib/from-folders mnt/a mnt/b --mounted", "nothing is mounted at mnt/b")
     room.good("real disks", f"mount {loops['b']} mnt/b")
-    room.says("real disks, one is unmounted in the middle", f"{carry_out} plan.txt sh -c 'umount -l \"$1\" && cp -a "
-              f"\"$0\" \"$1\"/' {{from}}/{{item}} {{to}}", "disk b is not as --guard asks", status=1)
+    room.says("real disks, one is unmounted in the middle",
+              f"{carry_out} plan.txt sh -c 'umount -l \"$1\" && cp -a \"$0\" \"$1\"/' {{from}}/{{item}} {{to}}",
+              "disk b is not as --guard asks", status=1)
     that("real disks, one is unmounted in the middle", stand("a") == start and len(stand("b")) == 1)
     room.good("real disks", f"rm mnt/b/item*; mount {loops['b']} mnt/b")
     same("real disks, nothing came to the one that was unmounted", stand("b"), {})
@@ -455,8 +468,9 @@ def try_real_folders(room, loops):
     room.good("real disks", "rm mnt/b/filler")
     room.good("real disks, the full one has room again", f"{carry_out} {copy}")
     same("real disks, all is where it is to be", (stand("a"), stand("b")), ({}, start))
-    room.good("real disks", "rm plan.txt.place; contrib/from-folders mnt/a mnt/b mnt/thin --mounted --move 'item "
-              "0=thin' --move 'item 1=thin' --move 'item 2=thin' --limit 3")
+    room.good("real disks",
+              "rm plan.txt.place; contrib/from-folders mnt/a mnt/b mnt/thin --mounted --move 'item 0=thin' --move "
+              "'item 1=thin' --move 'item 2=thin' --limit 3")
     room.planned("real disks")
     ran = room.run(f"{carry_out} {copy}")
     that("real disks, one loses what is written to it",
@@ -516,9 +530,10 @@ def units_of_folders():
               for inside, data in before})
         room.good("units", f"find mnt/a -mindepth 1 -type d -empty -delete; {words}")
         same("the same items are found there", told_of(room), (paths, {it: disk for it, (disk, _) in last.items()}))
-        same("other words for the disks", room.good("units", "mkdir again && cd again && ../contrib/from-folders "
-                                                    "../mnt/* --unit 100K && cut -d, -f1 now.csv | sort | cmp - <(cut "
-                                                    "-d, -f1 ../now.csv | sort)"), "")
+        same("other words for the disks",
+             room.good("units",
+                       "mkdir again && cd again && ../contrib/from-folders ../mnt/* --unit 100K && cut -d, -f1 "
+                       "now.csv | sort | cmp - <(cut -d, -f1 ../now.csv | sort)"), "")
     with Room() as room:
         room.good("units", TREE)
         for words, said in cases("""
@@ -546,9 +561,10 @@ def units_of_folders():
         room.says("hard links keep a folder whole", "contrib/from-folders mnt/* --unit 100K",
                   "mnt/b/media is not split: a file has names in several of its parts")
         # what can be no item keeps the folder whole that has it
-        room.good("units", "rm mnt/b/media/same; mkfifo mnt/a/media/films/pipe; mkdir mnt/a/media/many; cd "
-                  "mnt/a/media/many; head -c 200000 /dev/zero >0; echo >1; python3 -c 'import os; [os.link(\"1\", "
-                  "str(it)) for it in range(2, 4098)]'")
+        room.good("units",
+                  "rm mnt/b/media/same; mkfifo mnt/a/media/films/pipe; mkdir mnt/a/media/many; cd mnt/a/media/many; "
+                  "head -c 200000 /dev/zero >0; echo >1; python3 -c 'import os; [os.link(\"1\", str(it)) for it in "
+                  "range(2, 4098)]'")
         ran = room.says("a pipe does so", "contrib/from-folders mnt/* --unit 100K",
                         "mnt/a/media/films is not split: mnt/a/media/films/pipe is neither a folder, a file nor a link")
         that("many parts do so", "mnt/a/media/many is not split: it has 4098 parts, more than 4096" in ran.stderr, ran)

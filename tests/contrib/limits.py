@@ -37,8 +37,9 @@ def split_folders(room):
               "mkdir -p mnt/{a,b,c} mnt/a/{x,y,z} && contrib/from-folders mnt/* --empty a --limit 2,1 --limit b=1,3")
     same("from-folders writes both limits", room.read("disks.csv"), f"{SPLIT}a,2,1,3\nb,1,3,3\nc,2,1,3\n")
     room.planned("folders")
-    room.good("folders", "contrib/run-plan --names names.csv --eager disks.csv --erase 'rmdir {from}/{item}' plan.txt "
-              "cp -a {from}/{item} {to}/")
+    room.good("folders",
+              "contrib/run-plan --names names.csv --eager disks.csv --erase 'rmdir {from}/{item}' plan.txt cp -a "
+              "{from}/{item} {to}/")
     that("all is where it is to be", not os.listdir(room.path("mnt/a")) and {it[0] for it in room.rows("next.csv")}
          == {*os.listdir(room.path("mnt/b")), *os.listdir(room.path("mnt/c"))})
     for words, said in cases("""
@@ -115,8 +116,9 @@ def split_pictures(room):
          "than 3 rounds" in texts, texts)
     same("one side is marked", svg.count('stroke="#c0392b"'), 1)
     room.write("c", CERT.replace("b in 3 1 3", "b out 1 1 1"))
-    that("a bound of one", "the bound, b out: it has 1 outgoing transfer and the outgoing limit 1, so no schedule has "
-         "fewer than 1 round<" in room.good("picture", "contrib/picture p d --cert c"))
+    that("a bound of one",
+         "the bound, b out: it has 1 outgoing transfer and the outgoing limit 1, so no schedule has fewer than 1 round<"
+         in room.good("picture", "contrib/picture p d --cert c"))
     room.says("without a certificate the side that needs most", "contrib/picture p d",
               "b in: it needs 3 rounds for its own transfers, the most of all")
     room.write("d2", DISKS.replace("c,1,2", "c,1,1"))
@@ -125,11 +127,12 @@ def split_pictures(room):
     room.write("j", "disk,limit,slots\na,2,4\nb,1,4\nc,1,9\n")
     room.write("c1", "migration-certificate 1\nrounds 3\nquotient 3\nclass general\nbound disk b 4 1 4\nend\n")
     no_side, no_disk = CERT.replace("side b", "side z"), CERT.replace("side b in", "disk b")
-    for name, text, disks, said in (("text 1 for such limits", room.read("c1"), "d", "c is no certificate for disks "
-                                     "with an outgoing and an incoming limit: it does not begin with "
-                                     "migration-certificate 2"), ("text 2 for joint limits", CERT, "j",
-                                                                  "c is no certificate for disks with one limit: it "
-                                                                  "does not begin with migration-certificate 1"),
+    for name, text, disks, said in (("text 1 for such limits", room.read("c1"), "d",
+                                     "c is no certificate for disks with an outgoing and an incoming limit: it does "
+                                     "not begin with migration-certificate 2"),
+                                    ("text 2 for joint limits", CERT, "j",
+                                     "c is no certificate for disks with one limit: it does not begin with "
+                                     "migration-certificate 1"),
                                     ("another disk", no_side, "d", "c names z in, which is no disk of the disks file"),
                                     ("a disk and no side", no_disk, "d", "c names b, which is no disk"),
                                     ("a side of text 1", room.read("c1").replace("disk b", "side b in"), "j",
@@ -147,17 +150,18 @@ def split_pictures(room):
 def refusals_of_limits(room):
     """Disks files that are neither of the two."""
     room.write("p", PLAN)
-    for name, text, said in (("the limits exchanged", DISKS.replace("out,in", "in,out"), "does not begin with the row "
-                              "disk,limit,slots or disk,out,in,slots"), ("three fields", DISKS.replace("a,2,1,4",
-                                                                                                       "a,1,4"),
-                                                                         "row 1: 3 fields where the header has 4"),
+    for name, text, said in (("the limits exchanged", DISKS.replace("out,in", "in,out"),
+                              "does not begin with the row disk,limit,slots or disk,out,in,slots"),
+                             ("three fields", DISKS.replace("a,2,1,4", "a,1,4"),
+                              "row 1: 3 fields where the header has 4"),
                              ("no limit", DISKS.replace("b,1,1", "b,0,1"), "row 2: '0' is no number from 1 to 1024"),
                              ("an empty one", DISKS.replace("b,1,1", "b,1,"), "row 2: '' is no number from 1 to 1024"),
                              ("too many", DISKS.replace("c,1,2", "c,1025,2"), "row 3: '1025' is no number"),
                              ("no slots", DISKS.replace("2,9", "2,0"), "row 3: '0' is no number from 1 to 65536"),
-                             ("four fields of joint limits", "disk,limit,slots\na,2,1,4\n", "row 1: 4 fields where the "
-                              "header has 3"), ("another plan's", DISKS.replace("c,", "d,"), "round 1: odd has no disk "
-                                                "c; it is of another plan")):
+                             ("four fields of joint limits", "disk,limit,slots\na,2,1,4\n",
+                              "row 1: 4 fields where the header has 3"),
+                             ("another plan's", DISKS.replace("c,", "d,"),
+                              "round 1: odd has no disk c; it is of another plan")):
         room.write("odd", text)
         for script in ("picture p odd", "summary p odd", "run-plan --eager odd p true {item}",
                        "run-plan --dry-run --eager odd p true {item}"):
@@ -225,8 +229,9 @@ def eager_limits():
             shifts = [it for shifts in rounds for it in shifts]
             printed = room.good(name,
                                 f"contrib/run-plan --eager disks.csv {EAGER} plan.txt sh job copy {{item}} 0.0{seed}")
-            that(f"{name}: its end", printed.endswith(f"{len(shifts)} of {len(shifts)} transfers are done\nall "
-                                                      f"{len(rounds)} rounds are carried out\n"), printed)
+            that(f"{name}: its end",
+                 printed.endswith(f"{len(shifts)} of {len(shifts)} transfers are done\nall {len(rounds)} rounds "
+                                  f"are carried out\n"), printed)
             told = [int(line.split()[0]) for line in printed.splitlines()[:-1]]
             that(f"{name}: what is done grows", told == sorted(set(told)), told)
             watch(room, name, case, shifts, ("copy", "verify", "erase"))
@@ -262,8 +267,9 @@ def no_barrier(room):
     # a slot that is left first, and an item that moves twice: each waits, though its disks have places free
     room.write("disks.csv", SPLIT + "".join(f"{it},5,5,9\n" for it in "abc"))
     room.write("plan.txt", plan_of("x a 0 b 0, free c 0 b 1", "y b 3 a 0, x b 0 c 0", "z c 2 b 0"))
-    room.write("waits", "for=''\ncase $1-$2 in x-1) for='begin copy free-1' ;; free-1) for='end copy y-2' ;; esac\nsh "
-               "job copy $1-$2 \"$for\"\n")
+    room.write("waits",
+               "for=''\ncase $1-$2 in x-1) for='begin copy free-1' ;; free-1) for='end copy y-2' ;; esac\nsh job "
+               "copy $1-$2 \"$for\"\n")
     words = "--eager disks.csv --unverified --erase 'sh job erase {item}-{round}' plan.txt sh waits {item} {round}"
     room.good("no barrier", f"rm -f log plan.txt.place; contrib/run-plan {words}")
     order = [(what, kind, item) for what, kind, item in events_of(room)]
@@ -333,9 +339,10 @@ def eager_stops():
                   f"disk {target} is not as --guard asks", status=1)
         that("a disk that is gone", not os.listdir(room.path(f"mnt/{target}")))
         room.good("run-plan", f"rmdir mnt/{target} && mv gone mnt/{target}")
-        room.says("what cannot be removed stops it", f"contrib/run-plan --eager disks.csv --jobs 1 {GUARD} {VERIFY} "
-                  f"--erase 'sh -c \"test {{item}} != {item} && rm -rf mnt/{{from}}/{{item}}\"' plan.txt {COPY}",
-                  f"not erased 2 {item}: status 1", status=1)
+        room.says("what cannot be removed stops it",
+                  f"contrib/run-plan --eager disks.csv --jobs 1 {GUARD} {VERIFY} --erase 'sh -c \"test {{item}} != "
+                  f"{item} && rm -rf mnt/{{from}}/{{item}}\"' plan.txt {COPY}", f"not erased 2 {item}: status 1",
+                  status=1)
         that("what cannot be removed stops it", {source, target} == tree(room)[item])
         room.good("run-plan, without --eager", f"contrib/run-plan {words}")
         same("all is where it is to be", tree(room), wanted)

@@ -184,8 +184,9 @@ def what_reports_know():
                 "nothing can come to /dev/loop1, since LVM has it as not allocatable (pvchange -x y)")
     with Room() as room:
         room.good("along", "cp contrib/samples/lvm/parts/*.json .")
-        room.says("a leg's metadata go along, and it is said", "contrib/from-lvm lvs.json pvs.json --move "
-                  "r_rimage_0=loop3 --unit 1", "from-lvm: r_rmeta_0 goes along with r_rimage_0\n")
+        room.says("a leg's metadata go along, and it is said",
+                  "contrib/from-lvm lvs.json pvs.json --move r_rimage_0=loop3 --unit 1",
+                  "from-lvm: r_rmeta_0 goes along with r_rimage_0\n")
         that("a leg's metadata go along, and it is said",
              {disk for item, disk in room.rows("next.csv") if re.match(r"r_r(image|meta)_0\.", item)} == {"loop3"})
         ran = room.run("contrib/from-lvm lvs.json pvs.json --move r_rimage_0=loop3 --move r_rmeta_0=loop4 --unit 1")
@@ -198,8 +199,9 @@ def lvm_of_parts():
     lvs said then."""
     devices, volumes = sizes_of("parts/pvs.json"), dict(volumes_of("parts/lvs.json"))
     with Room() as room:
-        room.good("parts", "cp contrib/samples/lvm/parts/*.json . && contrib/from-lvm lvs.json pvs.json --empty loop0 "
-                  "--limit 2 --unit 4")
+        room.good("parts",
+                  "cp contrib/samples/lvm/parts/*.json . && contrib/from-lvm lvs.json pvs.json --empty loop0 --limit 2 "
+                  "--unit 4")
         room.good("parts",
                   "cp contrib/samples/lvm/parts/plan.txt . && contrib/to-lvm plan.txt names.csv --out moves.sh")
         printed = room.good("parts", "sh moves.sh -n")
@@ -264,8 +266,9 @@ def the_script_of_lvm():
                             "sh moves.sh --hook 'sh hook'" if not form else "sh moves.sh", "ended with status 5",
                             f"stopped in round {failing}; begin again with: sh moves.sh {failing}", status=1)
             if not form:
-                same("the hook is told", room.read("told"), f"failed moves.sh: a pvmove of round {failing} "
-                     f"failed\nstopped moves.sh: stopped in round {failing}\n")
+                same("the hook is told", room.read("told"),
+                     f"failed moves.sh: a pvmove of round {failing} failed\nstopped moves.sh: stopped in round "
+                     f"{failing}\n")
             line = next((it for it in room.read("moves.sh").splitlines()
                          if it.startswith("lvm-step ") and " /dev/loop0:64-95 " in it), "")
             if not form:  # a line by hand, with what the script's PATH has
@@ -315,7 +318,8 @@ def the_log_of_lvm(room):
                      "2 --unit 32")
     room.planned("log")
     room.good("log", "contrib/to-lvm plan.txt names.csv --out moves.sh; mkdir bin/real; mv bin/pvmove bin/real/")
-    room.write("bin/pvmove", '#!/bin/sh\n[ ! -e end ] || echo 1773190000 >clock\nexec "${0%pvmove}real/pvmove" "$@"\n')
+    room.write("bin/pvmove", '#!/bin/sh\n[ ! -e end ] || echo 1773190000 >clock\n'
+               'exec "${0%pvmove}real/pvmove" "$@"\n')
     plan, hook = room.shifts(), "--hook 'sh hook'"
     room.write("hook", 'echo "$@" >>told')
     room.write("clock", "1773180000")  # 2026-03-10, a Tuesday
@@ -327,15 +331,17 @@ def the_log_of_lvm(room):
     for name, first, more in (("a pause", "touch pause;", ""),
                               ("a window that is closed", "rm pause;", "--window 'mon,wed-sun 00:00-24:00'"),
                               ("two windows", "", "--window 20:00-21:59 --window 22:01-22:02")):
-        room.says(f"{name}, up to --until", f"rm -f log over; {first} {waits} {zone} sh moves.sh --until 06:00 {more} "
-                  f"{hook} >log", "lvm-step: paused: ", "ended before round 1, as --until says; begin again with: sh "
-                  "moves.sh 1", status=3)
+        room.says(f"{name}, up to --until",
+                  f"rm -f log over; {first} {waits} {zone} sh moves.sh --until 06:00 {more} {hook} >log",
+                  "lvm-step: paused: ", "ended before round 1, as --until says; begin again with: sh moves.sh 1",
+                  status=3)
         that(f"{name}, up to --until", "round 1:" not in room.read("log"))
         found = look()
         same(f"{name}: nothing is done",
              (found["rounds_done"], found["items_done"], found["done"], found["seconds_left"]), (0, 0, False, None))
-    room.says("an end after the first round", f"rm -f pause over; touch end; {zone} sh moves.sh --until 22:30 {hook} "
-              ">>log", "ended before round 2", status=3)
+    room.says("an end after the first round",
+              f"rm -f pause over; touch end; {zone} sh moves.sh --until 22:30 {hook} >>log", "ended before round 2",
+              status=3)
     that("an end after the first round", "round 2:" not in room.read("log"))
     found = look()
     same("the first round is done", (found["rounds_done"], found["items_done"], found["done"]),
@@ -374,8 +380,9 @@ class Lab:
     def __init__(self, room, loops, live):
         self.room, self.loops, self.live, self.group = room, loops, live, f"migrate{os.getpid()}"
         accept = ", ".join(f'"a|^{it}$|"' for it in loops)
-        options = ["--config", f'devices {{ filter = [{accept}, "r|.*|"] use_devicesfile = 0 }} backup {{ backup = 0 '
-                   f'archive = 0 }}']
+        options = ["--config",
+                   f'devices {{ filter = [{accept}, "r|.*|"] use_devicesfile = 0 }} backup {{ backup = 0 archive = 0 '
+                   f'}}']
         room.env |= {"GROUP": self.group, "LVM": "\n".join(options if live else ["--driverloaded", "n", *options]),
                      "LOCK": room.path("state/lock")}
         for tool in ("lvs", "pvs", "pvmove", "vgcreate", "vgremove", "vgreduce", "vgcfgrestore", "lvcreate",
@@ -385,8 +392,9 @@ class Lab:
             if tool == "pvmove" and not live:
                 os.symlink(f"{HERE}/real-pvmove", room.path("bin/pvmove"))
                 continue
-            room.write(f"bin/{tool}", f"#!/bin/bash\nmapfile -t options <<<\"$LVM\"\nexec /usr/sbin/{tool} \"$@\" "
-                       f"\"${{options[@]}}\" 2>>\"$STAND_IN/said\"\n")
+            room.write(f"bin/{tool}",
+                       f"#!/bin/bash\nmapfile -t options <<<\"$LVM\"\nexec /usr/sbin/{tool} \"$@\" \"${{options[@]}}\" "
+                       f"2>>\"$STAND_IN/said\"\n")
             os.chmod(room.path(f"bin/{tool}"), 0o755)
 
     def do(self, command):
@@ -466,8 +474,9 @@ class Lab:
 
     def under_way(self):
         """A pvmove that was begun, and is at no end."""
-        device, at = re.fullmatch(r"(.+):(\d+)-\d+", self.do("lvs --noheadings --segments -o seg_pe_ranges "
-                                                             f"{self.group}/db").split()[0]).groups()
+        device, at = re.fullmatch(r"(.+):(\d+)-\d+",
+                                  self.do(f"lvs --noheadings --segments -o seg_pe_ranges {self.group}/db").split()[
+                                      0]).groups()
         self.do(f'mapfile -t options <<<"$LVM"; /usr/sbin/pvmove "${{options[@]}}" -b -n db {device}:{at}-{at}')
         self.report()
         refused(self.room, "real LVM, a pvmove at work", "contrib/from-lvm lvs.json pvs.json --spread",
@@ -499,10 +508,12 @@ class Lab:
                 f"{c} has or gets another leg or stripe of it")
 
 
-PARTS = ("vgcreate {group} {all}", "lvcreate -Zn -Wn -l 10 -n db {group} {a}", "lvcreate --type raid1 -m1 --nosync -y "
-         "-l 8 -n r {group} {a} {b}", "lvcreate --type raid5 -i2 --nosync -y -l 8 -n five {group} {a} {b} {c}",
-         "lvcreate --type mirror -m1 --nosync -y -l 6 -n m {group} {a} {b} {c}", "lvcreate -Zn -Wn -y -i2 -l 8 -n "
-         "stripes {group} {a} {b}", "lvcreate --type raid1 -m1 --nosync -y -l 5 -n pool {group} {a} {b}",
+PARTS = ("vgcreate {group} {all}", "lvcreate -Zn -Wn -l 10 -n db {group} {a}",
+         "lvcreate --type raid1 -m1 --nosync -y -l 8 -n r {group} {a} {b}",
+         "lvcreate --type raid5 -i2 --nosync -y -l 8 -n five {group} {a} {b} {c}",
+         "lvcreate --type mirror -m1 --nosync -y -l 6 -n m {group} {a} {b} {c}",
+         "lvcreate -Zn -Wn -y -i2 -l 8 -n stripes {group} {a} {b}",
+         "lvcreate --type raid1 -m1 --nosync -y -l 5 -n pool {group} {a} {b}",
          "lvconvert -y --type thin-pool {group}/pool", "lvcreate -y -V 40M --thinpool pool -n thin {group}")
 
 

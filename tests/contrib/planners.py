@@ -42,8 +42,9 @@ def plans_of_lvm():
             moved = {it[0] for it in sum(plan, [])}
             sizes = dict(room.rows("p/bytes.csv"))
             bytes_ = sum(int(sizes[it[0]]) for it in sum(plan, []))
-            that(f"{name}: what moves", said.startswith(f"{len(moved)} of {len(now)} items move, {bytes_ / 2**20:.1f} "
-                                                        f"MiB, in {len(plan)} rounds: "), said)
+            that(f"{name}: what moves",
+                 said.startswith(f"{len(moved)} of {len(now)} items move, {bytes_ / 2**20:.1f} MiB, in {len(plan)} "
+                                 f"rounds: "), said)
             found = dict(re.findall(r"^disk (\S+) is (.*)$", said, re.M))
             full = fills_of(room, {os.path.basename(it): size << 22 for it, size in devices.items()})
             if is_tight:
@@ -119,8 +120,9 @@ def plans_of_folders():
                 room.good(name, 'for it in mnt/*/"it 2"/one; do echo more >>"$it"; echo more >>"kept/a/it 2/one"; done')
             room.good(name, "sh p/back.sh --jobs 1")
             same(f"{name}: nothing is left elsewhere", room.good(name, "find mnt/b mnt/c -mindepth 1 ! -type d"), "")
-            same(f"{name}: all is where it was", room.good(name, "diff -r --no-dereference kept/a mnt/a 2>&1 | grep -v "
-                                                           "'is a fifo\\|is a socket\\|is a character'; true"), "")
+            same(f"{name}: all is where it was", room.good(name, "diff -r --no-dereference kept/a mnt/a 2>&1 | "
+                                                                 "grep -v 'is a fifo\\|is a socket\\|is a character'; "
+                                                                 "true"), "")
             for it in os.listdir(room.path("kept/a")) if stop == "none" else ():
                 compare.compare(room.path(f"kept/a/{it}"), room.path(f"mnt/a/{it}"))
             same(f"{name}: once more, and there",

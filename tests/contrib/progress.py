@@ -237,8 +237,9 @@ def pauses(room):
         room.good("until", f"rm -f log pause plan.txt.place*; echo over >{stop}")
         ended = room.run(f"OVER=over contrib/run-plan {words}")
         log = [it.split() for it in room.read("log").splitlines()]
-        that(f"--until, {eager or 'rounds'}", ended.returncode == 3 and "as --until says; begin again with the same "
-             "words" in ended.stderr and "all" not in ended.stdout.splitlines()[-1:], ended)
+        that(f"--until, {eager or 'rounds'}",
+             ended.returncode == 3 and "as --until says; begin again with the same words" in ended.stderr
+             and "all" not in ended.stdout.splitlines()[-1:], ended)
         that(f"--until, {eager or 'rounds'}: what began is whole",
              log and all(collections.Counter(item for *_, item in log)[item] == 6 for *_, item in log), log)
         room.good("until", f"rm {stop} over")
@@ -251,8 +252,9 @@ def pauses(room):
              room.run(f"touch over; OVER=over contrib/run-plan {words}").returncode, 0)
         # a copy that fails while its time has come is a failure, and not an end by --until
         room.good("until", "rm -f log over plan.txt.place*")
-        room.says(f"--until and a failure, {eager or 'rounds'}", f"OVER=over contrib/run-plan {eager} plan.txt sh -c "
-                  f"'touch over; sleep 0.3; test $1 != {rounds[0][0][0]}' sh {{item}}", "not copied", status=1)
+        room.says(f"--until and a failure, {eager or 'rounds'}",
+                  f"OVER=over contrib/run-plan {eager} plan.txt sh -c 'touch over; sleep 0.3; test $1 != "
+                  f"{rounds[0][0][0]}' sh {{item}}", "not copied", status=1)
         # stopped while it is paused
         room.good("pauses", "rm -f log notes over plan.txt.place*; touch pause")
         ran = room.begin(f"exec alone/run-plan {words} >said 2>notes")
@@ -320,8 +322,9 @@ def logs(room):
             rest = "".join(f"time {int(time.time())} round {it}\nround {it}: 0 of 2 groups are clean where they "
                            f"are to be\nround {it}: 2 of 2 groups are clean where they are to be\n"
                            for it in range(2, len(plan) + 1))
-            room.write(f"{folder}/log", f"{room.read(f'{folder}/log')}time {int(time.time())} begins "
-                       f"{digest}\n{rest}all rounds are carried out\n")
+            room.write(f"{folder}/log",
+                       f"{room.read(f'{folder}/log')}time {int(time.time())} begins {digest}\n{rest}all rounds are "
+                       f"carried out\n")
         found = json.loads(room.good(script, look))
         same(f"{script}: all is done", (found["rounds_done"], found["items_done"], found["done"]),
              (len(plan), count, True))
@@ -340,8 +343,9 @@ def logs(room):
 
 def sizes():
     with Room() as room:
-        room.good("sizes", "for it in a b; do mkdir -p mnt/$it; done; for it in 1 2 30; do mkdir mnt/a/i$it; head -c "
-                  "${it}0000 /dev/zero >mnt/a/i$it/data; done; contrib/from-folders mnt/* --empty a")
+        room.good("sizes",
+                  "for it in a b; do mkdir -p mnt/$it; done; for it in 1 2 30; do mkdir mnt/a/i$it; head -c ${it}0000 "
+                  "/dev/zero >mnt/a/i$it/data; done; contrib/from-folders mnt/* --empty a")
         names = {row[1]: row[3] for row in room.rows("names.csv") if row[0] == "item"}
         same("bytes.csv of folders is what names.csv has", dict(room.rows("bytes.csv")), names)
         room.good("sizes", "./migrate plan disks.csv now.csv next.csv plan.txt cert.txt")
@@ -426,8 +430,9 @@ def balanced():
                      for it in sorted(os.listdir(room.path(f"mnt/{disk}")))}
             best = fewest(items, disks, size, percent)
             if best is None:
-                that(f"balance, case {seed}: no way does", ran.returncode == 1 and "not each disk can be filled to the "
-                     "same part" in ran.stderr and room.read("now.csv") is None, ran)
+                that(f"balance, case {seed}: no way does",
+                     ran.returncode == 1 and "not each disk can be filled to the same part" in ran.stderr
+                     and room.read("now.csv") is None, ran)
                 continue
             now, next_ = {it[0]: it[1] for it in room.rows("now.csv")}, dict(room.rows("next.csv"))
             used = collections.Counter()

@@ -238,8 +238,9 @@ def refusals_of_plans(room):
     for out in ("/dev/null", "/dev/stdout", "."):
         refused(room, "to-lvm, over what is no plain file", f"contrib/to-lvm plan.txt names.csv --out {out}",
                 f"{out} is there and is no plain file")
-    room.good("to-lvm, through a link", "touch real && chmod 600 real && ln -s real link && contrib/to-lvm plan.txt "
-              "names.csv --out link && test -L link && cmp real <(contrib/to-lvm plan.txt names.csv)")
+    room.good("to-lvm, through a link",
+              "touch real && chmod 600 real && ln -s real link && contrib/to-lvm plan.txt names.csv --out link && "
+              "test -L link && cmp real <(contrib/to-lvm plan.txt names.csv)")
     for where, said in ((">/dev/full", "No space left on device"), (">&-", "standard output is closed")):
         for words in ("to-lvm plan.txt names.csv", "picture plan.txt d", "summary plan.txt d",
                       "run-plan --dry-run plan.txt true {item}"):
@@ -351,8 +352,9 @@ def refusals_of_groups():
         room.write("dump", SMALL["epoch"])
         room.write("before", lists(("1.0", "0,2,4"), ("2.0", "0,2,4,8")))
         room.write("after", lists(("1.0", "0,2,8"), ("2.0", "2,0,4,8")))
-        refused(room, "from-ceph, one of two", "contrib/from-ceph before after dump crush", "1 of 2 placement groups "
-                "cannot be carried out; --leave-out leaves them where they are, and plans the others")
+        refused(room, "from-ceph, one of two", "contrib/from-ceph before after dump crush",
+                "1 of 2 placement groups cannot be carried out; --leave-out leaves them where they are, and plans the "
+                "others")
         room.says("--leave-out names the group", "contrib/from-ceph before after dump crush --leave-out",
                   "placement group 2.0 cannot be held")
         that("--leave-out names the group", "2.0" not in room.read("next.csv"))

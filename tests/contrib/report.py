@@ -60,9 +60,10 @@ def judge(room, name):
 def the_report(room):
     room.example()
     found = judge(room, "report, the README's plan")
-    that("its bound", found.has("11 transfers in 3 rounds on 6 disks", "Why no schedule is shorter hdd1 takes part in "
-                                "5 transfers, in at most 2 at once. That needs 3 rounds: 5 / 2, rounded up. The plan "
-                                "has 3. No schedule is shorter."), found.told)
+    that("its bound",
+         found.has("11 transfers in 3 rounds on 6 disks",
+                   "Why no schedule is shorter hdd1 takes part in 5 transfers, in at most 2 at once. That "
+                   "needs 3 rounds: 5 / 2, rounded up. The plan has 3. No schedule is shorter."), found.told)
     that("its busiest disks", found.has("hdd1523", "tape313", "ssd1441") and not re.search(r"and \d+ more", found.told),
          found.told)
     room.good("report", f"contrib/report {FILES} --out page.html")
@@ -86,9 +87,11 @@ def the_report(room):
                                             "not known; contrib/witness looks"))
     room.good("report",
               "contrib/witness plan.txt disks.csv cert.txt --seconds 1e9 --out best.txt && mv best.txt cert.txt")
-    that("a set", judge(room, "report, a set").has("Among 5 disks are 60 transfers.", "together they have 5 places in "
-                                                   "a round, so at most 2 of these transfers can run at once. That "
-                                                   "needs 30 rounds", "No schedule is shorter.", "d0 d1 d2 d3 d4"))
+    that("a set",
+         judge(room, "report, a set").has("Among 5 disks are 60 transfers.",
+                                          "together they have 5 places in a round, so at most 2 of these transfers can "
+                                          "run at once. That needs 30 rounds", "No schedule is shorter.",
+                                          "d0 d1 d2 d3 d4"))
     room.good("report", "cut -d, -f1,2 now.csv >next.csv; ./migrate plan disks.csv now.csv next.csv plan.txt cert.txt")
     found = Page(room.good("report", f"contrib/report {FILES}"))
     that("nothing to move", found.has("0 transfers in 0 rounds on 7 disks", "Nothing is to be moved.")
@@ -176,8 +179,9 @@ def in_a_browser():
                 room.write("disks.csv", "disk,out,in,slots\n" + "".join(f"{name},{limit},{rnd.randint(1, 3)},{slots}\n"
                                                                         for name, limit,
                                                                         slots in room.rows("disks.csv")))
-            room.good("report", f"./migrate plan disks.csv now.csv next.csv plan.txt cert.txt; contrib/report {FILES} "
-                      "--out page.html")
+            room.good("report",
+                      f"./migrate plan disks.csv now.csv next.csv plan.txt cert.txt; contrib/report {FILES} --out "
+                      f"page.html")
             looks = itertools.product((400, 1600), (False, True)) if not is_split else [(1600, False)]
             for wide, dark in looks:
                 look(room, browser, f"report in a browser, {disks} disks, {wide} pixels, {'dark' if dark else 'light'}",

@@ -64,8 +64,9 @@ def the_summary(room):
     same("summary without disks", room.good("summary", "contrib/summary plan.txt").splitlines()[6:8],
          ["  hdd1: 5 transfers", "  hdd3: 5 transfers"])
     # 3 rounds of 40 GiB at 120 MiB a second: 341.33 s each
-    same("summary with a rate", room.good("summary", "contrib/summary plan.txt --bytes 40G --rate "
-                                          "120M").splitlines()[-1], "time 17 min 4 s: 3 rounds of 5 min 42 s each")
+    same("summary with a rate",
+         room.good("summary", "contrib/summary plan.txt --bytes 40G --rate 120M").splitlines()[-1],
+         "time 17 min 4 s: 3 rounds of 5 min 42 s each")
     # a queue that begins what it can: a-b and c-d wait for nothing, then b-c; the other order needs three
     room.write("d", "disk,limit,slots\na,1,4\nb,1,4\nc,1,4\nd,1,4\n")
     room.write("p", plan_of("x a 0 b 1, z c 0 d 1", "y b 0 c 1, w d 0 a 1"))

@@ -66,8 +66,9 @@ def tight_lvm(room):
     # what the log says of it
     full_group(room)
     room.good("tight", "sh moves.sh >moves.log; sh moves.sh >again.log")
-    that("what has gone on is passed over", f"is past {parked[0][3].replace('c', '/dev/c')}:16-31, at "
-         "/dev/b:" in room.read("again.log"), room.read("again.log"))
+    that("what has gone on is passed over",
+         f"is past {parked[0][3].replace('c', '/dev/c')}:16-31, at /dev/b:" in room.read("again.log"),
+         room.read("again.log"))
     for log in ("moves.log", "again.log"):
         room.says(f"progress by {log}", f"contrib/progress plan.txt --log {log} --names names.csv",
                   f"{len(commands)} of {len(commands)} rounds, {len(commands)} of {len(commands)} transfers, done")
@@ -153,12 +154,14 @@ def forms_of_lvm():
     with Room() as room:  # dealing out, where what leaves makes the room
         group_of(room, {"a": 32, "b": 32, "c": 32},
                  [segment("db", "/dev/a:0-31"), segment("web", "/dev/b:0-31"), segment("log", "/dev/c:0-15")])
-        room.says("too little for what is wished", "contrib/from-lvm lvs.json pvs.json --move web=a --empty b --unit "
-                  "16", "there is no room on /dev/a", status=1)
+        room.says("too little for what is wished",
+                  "contrib/from-lvm lvs.json pvs.json --move web=a --empty b --unit 16", "there is no room on /dev/a",
+                  status=1)
         group_of(room, {"a": 32, "b": 32, "c": 48},
                  [segment("db", "/dev/a:0-31"), segment("web", "/dev/b:0-31"), segment("log", "/dev/c:0-15")])
-        room.says("what leaves makes room for what is dealt out", "contrib/from-lvm lvs.json pvs.json --move db=c "
-                  "--empty b --unit 16", "the form to use is `migrate plan-tight`")
+        room.says("what leaves makes room for what is dealt out",
+                  "contrib/from-lvm lvs.json pvs.json --move db=c --empty b --unit 16",
+                  "the form to use is `migrate plan-tight`")
         room.planned_tight("dealt out")
 
 
@@ -343,8 +346,9 @@ def tight_pages():
             same("progress by the journal", room.good("pages", "contrib/progress plan.txt"),
                  f"[{'#' * 30}] 3 of 3 rounds, 3 of 3 transfers, done\n")
     with Room() as room:
-        room.good("pages", "cp contrib/samples/ceph/{before,after,dump,crush} . && contrib/from-ceph before after dump "
-                  "crush --backfills 2")
+        room.good("pages",
+                  "cp contrib/samples/ceph/{before,after,dump,crush} . && contrib/from-ceph before after dump crush "
+                  "--backfills 2")
         room.planned("pages")
         item, source, slot, target, to = room.shifts()[0][0]
         room.write("p", plan_of(f"{item} {source} {slot} osd.99 0", f"{item} osd.99 0 {target} {to}"))

@@ -54,9 +54,10 @@ def made_witnesses():
         for seed in range(int(os.environ.get("CASES", 30))):
             limits, moves = made_case(random.Random(seed))
             write_case(room, limits, moves)
-            printed = room.good("witness", f"./migrate plan disks.csv now.csv next.csv plan.txt cert.txt; {CHECK} "
-                                "cert.txt; contrib/witness plan.txt disks.csv cert.txt --seconds 1e9 --out best.txt "
-                                f"2>said; {CHECK} best.txt")
+            printed = room.good("witness",
+                                f"./migrate plan disks.csv now.csv next.csv plan.txt cert.txt; {CHECK} cert.txt; "
+                                f"contrib/witness plan.txt disks.csv cert.txt --seconds 1e9 --out best.txt 2>said; "
+                                f"{CHECK} best.txt")
             verdict, own, shown, best = re.findall("^(optimal|bounded)$", printed, re.M), value_of(printed), value_of(
                 room.read("best.txt")), best_of_all(limits, moves)
             rounds = int(room.read("plan.txt").split()[3])
@@ -90,19 +91,24 @@ def the_answers_of_witness(room):
     same("no time", says("no time", "the time is over; the best bound so far is 25 rounds, and the plan has 30",
                          "plan.txt disks.csv cert.txt --seconds 0"), cert)
     room.write("less.txt", cert.replace("bound disk d0 25 1 25", "bound disk d5 2 1 2"))
-    that("a certificate with a poor bound", says("a poor bound", "a set of 5 disks needs 30 rounds, where 2 were "
-                                                 "shown; the plan has 30, so it is optimal",
-                                                 "plan.txt disks.csv less.txt") == found)
+    that("a certificate with a poor bound",
+         says("a poor bound",
+              "a set of 5 disks needs 30 rounds, where 2 were shown; the plan has 30, so it is optimal",
+              "plan.txt disks.csv less.txt") == found)
     room.write("best.txt", found)
-    same("optimal already", says("optimal", "the plan has 30 rounds, which the bound shows to be needed: it is "
-                                 "optimal, and there is no better bound", "plan.txt disks.csv best.txt"), found)
+    same("optimal already",
+         says("optimal",
+              "the plan has 30 rounds, which the bound shows to be needed: it is optimal, and there is no "
+              "better bound", "plan.txt disks.csv best.txt"), found)
     # the Petersen graph: three rounds for each disk, and no schedule with three
     write_case(room, [1] * 10,
                [(a, (a + 1) % 5) for a in range(5)] + [(a, a + 5) for a in range(5)]
                + [(a + 5, (a + 2) % 5 + 5) for a in range(5)])
     room.good("witness", "./migrate plan disks.csv now.csv next.csv plan.txt cert.txt")
-    same("no better bound", says("no better bound", "no set of disks needs more than 3 rounds; the plan has 4, and a "
-                                 "shorter one may or may not exist"), room.read("cert.txt"))
+    same("no better bound",
+         says("no better bound",
+              "no set of disks needs more than 3 rounds; the plan has 4, and a shorter one may or may not exist"),
+         room.read("cert.txt"))
     for words, said in cases("""
             plan.txt disks.csv best.txt | best.txt is the certificate of another plan
             plan.txt now.csv cert.txt | does not begin with the row
@@ -116,8 +122,10 @@ def the_answers_of_witness(room):
     # an outgoing and an incoming limit
     room.write("disks.csv", "disk,out,in,slots\n" + "".join(f"d{it},1,2,9\n" for it in range(10)))
     room.good("witness", "./migrate plan disks.csv now.csv next.csv plan.txt cert.txt")
-    same("split limits", says("split limits", "the disks have an outgoing and an incoming limit each; then one side of "
-                              "a disk always shows the best bound, and there is no better one"), room.read("cert.txt"))
+    same("split limits",
+         says("split limits",
+              "the disks have an outgoing and an incoming limit each; then one side of a disk always shows "
+              "the best bound, and there is no better one"), room.read("cert.txt"))
 
 
 CASES = (made_witnesses, the_answers_of_witness)

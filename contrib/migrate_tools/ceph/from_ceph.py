@@ -67,10 +67,12 @@ def files_of(shifts: Sequence[Shift], limits: Mapping[str, Limits | None]) -> di
 def main() -> None:
     words = reader(__doc__)
     add = words.add_argument
-    add("--backfills", metavar="[OSD=]N|OUT,IN", action="append", default=[], help="the backfills of an OSD at once, "
-        "or of all others; with OUT,IN those that it fills and those that fill it; 1 where it is left out")
-    add("--count", choices=["primary", "given"], default="primary", help="where a backfill counts beside its target: "
-        "at the group's primary, as Ceph counts it, or at the OSD that gives its copy up")
+    add("--backfills", metavar="[OSD=]N|OUT,IN", action="append", default=[],
+        help="the backfills of an OSD at once, or of all others; with OUT,IN those that it fills and those that fill "
+        "it; 1 where it is left out")
+    add("--count", choices=["primary", "given"], default="primary",
+        help="where a backfill counts beside its target: at the group's primary, as Ceph counts it, or at the OSD that "
+        "gives its copy up")
     add("--sizes", metavar="PGS", help="what `ceph pg dump --format json` prints: bytes.csv is written too")
     add("--moving", action="store_true", help="leaves out the copies that stay")
     add("--leave-out", action="store_true",

@@ -40,8 +40,9 @@ def read_words() -> argparse.Namespace:
     add("--spread", action="store_true", help="all disks are to have about the same part of their slots in use")
     add("--balance", metavar="N", type=percent_of,
         help="the same part of each disk's bytes is to be in use, within N %%, with few moved")
-    add("--size", metavar="[MNT=]N", action="append", default=[], help="with --balance: the bytes that the items of a "
-        "disk may have, as 2T; where it is left out what its file system has, less what else is in use there")
+    add("--size", metavar="[MNT=]N", action="append", default=[],
+        help="with --balance: the bytes that the items of a disk may have, as 2T; where it is left out what its file "
+        "system has, less what else is in use there")
     add("--unit", metavar="N", type=amount,
         help="splits folders of more bytes than this, as 200G, into what stands in them")
     add("--limit", metavar="[MNT=]N|OUT,IN", action="append", default=[],

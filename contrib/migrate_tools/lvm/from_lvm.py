@@ -35,8 +35,9 @@ def read_words() -> argparse.Namespace:
     add("--spread", action="store_true", help="all are to be in use in about the same part")
     add("--balance", metavar="N", type=percent_of,
         help="each is to be in use in the same part, within N %%, with few moved")
-    add("--unit", metavar="UNIT", type=int, help="extents of a slot, a power of two; where it is left out the least "
-        "one from 16 on that makes at most 300 pvmoves, or a smaller one where the wish needs it")
+    add("--unit", metavar="UNIT", type=int,
+        help="extents of a slot, a power of two; where it is left out the least one from 16 on that makes at most 300 "
+        "pvmoves, or a smaller one where the wish needs it")
     add("--limit", metavar="[PV=]N|OUT,IN", action="append", default=[],
         help="transfers of a disk at once, or those that leave it and those that reach it; 1 where it is left out")
     add("--extent", metavar="N", type=amount,
