@@ -77,6 +77,11 @@ def the_change_of_ceph():
             ran = room.says("left out", "cd plan && sh change.sh -n", said, status=status)
             named = re.findall(r"plan-ceph: (.*) would move: ", ran.stderr)
             Count.same("what moves besides is named", named, moving[:1] if status else [])
+        made, told = maps.Maps(room.path("plan")), []  # the weights of a device class's own tree are none
+        made.osdmaptool = lambda *words: told.append(words) or "osd.5 up   out weight 0\n"
+        made.changed("map", "next", maps.Change([5], {}), {"buckets": [{"name": name, "items": [
+            {"id": 5, "weight": weight}]} for name, weight in (("h0", 98304), ("h0~ssd", 65536))]})
+        Count.same("device classes", told[0][1:], ("--mark-out", "5", "--adjust-crush-weight", "5:1.50", "--save"))
 
 
 def balanced_ceph():
