@@ -6,6 +6,7 @@ from typing import NamedTuple, NoReturn
 from .command import Wrong, read_bytes, read_text
 
 NAME = re.compile(r"[A-Za-z0-9_.-]{1,32}", re.ASCII)
+NUMBER = re.compile(r"[0-9]{1,10}", re.ASCII)
 SHIFT = re.compile("({0}) ({0}) ([0-9]+) ({0}) ([0-9]+)".format(NAME.pattern), re.ASCII)
 MOST_BYTES, MOST_DISKS, MOST_ITEMS, MOST_SLOTS, MOST_LIMIT = 1 << 24, 1024, 65536, 65536, 1024
 
@@ -55,9 +56,9 @@ def table(rows: Iterable[Iterable[object]]) -> str:
     return text.getvalue()
 
 
-def number(text: str, least: int, most: int, where: str) -> int:
-    if not (re.fullmatch(r"[0-9]{1,10}", text, re.ASCII) and least <= int(text) <= most):
-        raise Wrong(f"{where}: '{text}' is no number from {least} to {most}")
+def number(text: str, least: int, most: int, where: str, row: int = 0) -> int:
+    if not (NUMBER.fullmatch(text) and least <= int(text) <= most):
+        raise Wrong(f"{where}{f' row {row}' * (row > 0)}: '{text}' is no number from {least} to {most}")
     return int(text)
 
 

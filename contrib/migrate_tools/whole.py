@@ -3,11 +3,12 @@ decides by."""
 import argparse, collections, os, re, shutil, subprocess, time
 from collections.abc import Callable, Iterable, Mapping, Sequence
 from .calls import output
-from .certs import read_cert
+from .certs import Cert, read_cert
 from .command import Wrong, here, read_text, save_all, words
 from .disks import Disks, Side, is_split, limits_by_side, read_disks, sides_of
 from .fullness import Room, fullest
 from .plans import Plan, Shift, plan_text, read_plan, read_rows, table
+from .show.report import page_of, used_slots
 from .show.summary import queue, times_of
 from .sizes import amount, read_sizes, said
 from .waiting import needed
@@ -77,9 +78,9 @@ class Planner:
     def at(self, name: str) -> str:
         return os.path.join(self.folder, name)
 
-    def command(self, name: str, *words_: str, sub: str = "", passes: bool = True) -> str:
-        """What a command of these prints, in the folder or one below it."""
-        return output(os.path.join(here(), name), *words_, folder=self.at(sub), passes=passes)
+    def command(self, name: str, *words_: str) -> str:
+        """What a command of these prints, in the folder."""
+        return output(os.path.join(here(), name), *words_, folder=self.folder, passes=True)
 
     def migrate(self, *words_: str, sub: str = "") -> str:
         return output(self.program, *words_, folder=self.at(sub), passes=True)
@@ -87,6 +88,9 @@ class Planner:
     def checked(self, sub: str = "") -> str:
         """The verdict on a plan."""
         return self.migrate("check", *FILES, "cert.txt", sub=sub).strip()
+
+    def report(self, plan: Plan, disks: Disks, used: Mapping[str, int], cert: Cert | None) -> None:
+        save_all({self.at("report.html"): page_of(plan, disks, used, cert, "plan.txt")})
 
     def lines(self, plan: Plan, what: str, verdict: str, sizes: Mapping[str, int], more: Iterable[str],
               scripts: Iterable[str]) -> str:
@@ -142,12 +146,12 @@ class WishPlanner(Planner):
              unit: float) -> str:
         """Makes the report, and says what an operator decides by. Without a rate the `source`, which has this name, is
         read."""
-        self.command("report", *FILES[3:], *FILES[:2], *["cert.txt"] * (not self.is_tight), "--out", "report.html")
         plan, disks = read_plan(self.at("plan.txt")), read_disks(self.at("disks.csv"))
+        cert = None if self.is_tight else read_cert(self.at("cert.txt"), disks)
+        self.report(plan, disks, used_slots(plan, disks, self.at("now.csv")), cert)
         sizes, lines = read_sizes(self.at("bytes.csv"), plan) or {}, []
-        if not self.is_tight:
-            bound = read_cert(self.at("cert.txt"), disks).bound
-            lines += [f"bottleneck {bound.said()}"] if bound else []
+        if cert:
+            lines += [f"bottleneck {cert.bound.said()}"] if cert.bound else []
             lines.append(f"first come, first served: {queue(plan, disks, self.at('now.csv'))} rounds")
         rate, by = (rate, "as is given") if rate else (measured(source), f"as {name} is read")
         lines += [*times_of(plan, rate, unit, sizes, disks, steps)[0], f"  with {said(rate)} a second, {by}"

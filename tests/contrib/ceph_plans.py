@@ -4,7 +4,7 @@ from ceph import FOUR
 from ceph_model import exceptions_in, groups_in, up_of
 from ceph_steps import DONE, HOLD, printed
 from migrate_tools import disks, plans
-from migrate_tools.ceph import change, fullness, groups, large, maps, plan_ceph
+from migrate_tools.ceph import change, groups, large, maps, plan_ceph, sizes
 from migrate_tools.command import Wrong
 from rooms import PROGRAM, Count, Room, page, refused, rows_of, shifts_of
 
@@ -77,6 +77,11 @@ def the_change_of_ceph():
             ran = room.says("left out", "cd plan && sh change.sh -n", said, status=status)
             named = re.findall(r"plan-ceph: (.*) would move: ", ran.stderr)
             Count.same("what moves besides is named", named, moving[:1] if status else [])
+        made, told = maps.Maps(room.path("plan")), []  # the weights of a device class's own tree are none
+        made.osdmaptool = lambda *words: told.append(words) or "osd.5 up   out weight 0\n"
+        made.changed("map", "next", maps.Change([5], {}), {"buckets": [{"name": name, "items": [
+            {"id": 5, "weight": weight}]} for name, weight in (("h0", 98304), ("h0~ssd", 65536))]})
+        Count.same("device classes", told[0][1:], ("--mark-out", "5", "--adjust-crush-weight", "5:1.50", "--save"))
 
 
 def balanced_ceph():
@@ -177,13 +182,13 @@ def what_plan_ceph_refuses():
 def fuller_and_fuller():
     """What comes counts from its round on, what goes up to its own: counted here by hand."""
     gone = groups.Group("1.0", None, True, 2, [0, 1], [0, 1], [2, 0], [])
-    rooms = {osd: fullness.Room(*it) for osd, it in enumerate(((100, 60), (100, 50), (200, 100)))}
-    sizes = {"1.0s0": 30, "1.0s1": 20}
+    rooms = {osd: sizes.Room(*it) for osd, it in enumerate(((100, 60), (100, 50), (200, 100)))}
+    bytes_ = {"1.0s0": 30, "1.0s1": 20}
     for rounds, wanted in (((0, 1), {2: (0.65, 1), 0: (0.5, 2)}), ((1, 0), {2: (0.65, 2), 0: (0.8, 1)}),
                            ((0, 0), {2: (0.65, 1), 0: (0.8, 1)})):
         moves = [plans.Shift("1.0s0", "osd.0", 0, "osd.2", 0), plans.Shift("1.0s1", "osd.0", 1, "osd.0", 2)]
         plan = plans.Plan([[it for it, at in zip(moves, rounds) if at == round_] for round_ in range(2)], b"")
-        found = fullness.fullest(plan, {"1.0": gone}, sizes, rooms)
+        found = sizes.fullest(plan, {"1.0": gone}, bytes_, rooms)
         Count.same(f"rounds {rounds}", {osd: (round(part, 6), at) for osd, (part, at) in found.items()}, wanted)
 
 
@@ -232,8 +237,7 @@ def made_large(room, osds, count):
         lists["before"][name], lists["after"][name] = (its[:3],) * 2, (its[3:],) * 2
     for name, those in lists.items():
         room.write(f"bin/osdmaptool.{name}", plan_ceph.listed(those))
-    room.write("bin/osdmaptool.dump",
-               "epoch 9\npool 1 'p' replicated size 3 min_size 2 crush_rule 0 stripe_width 0\n"
+    room.write("bin/osdmaptool.dump", "epoch 9\npool 1 'p' replicated size 3 min_size 2 crush_rule 0 stripe_width 0\n"
                + "".join(f"osd.{it} up   in  weight 1 up_from 0\n" for it in range(osds)))
     room.keep("bin/ceph.osds", {"epoch": 9, "nearfull_ratio": 0.85})
     room.keep("bin/ceph.pgs", {"pg_map": {"pg_stats": [

@@ -4,7 +4,7 @@ import contextlib, itertools, os, re, shutil, socket, struct, subprocess, time
 from unittest import mock
 from migrate_tools.run import compare
 from limits_model import plan_text
-from rooms import Room, plan_of, refused, same, that
+from rooms import Room, plan_of, refused, same, that, wrong
 from waiting import until
 
 ONE = plan_of("x a 0 b 0")
@@ -123,11 +123,7 @@ def what_a_copy_lacks(room):
             same(f"{copy}, {one} to {two}: all is there",
                  (os.listdir(room.path("mnt/b")).count("x"), os.path.lexists(room.path(f"mnt/{one}/x"))),
                  (int(two == "b"), False))
-            try:
-                compare.compare(room.path("kept/x"), room.path(f"mnt/{two}/x"))
-                why = ""
-            except compare.Wrong as wrong:
-                why = str(wrong)
+            why = wrong(compare.compare, room.path("kept/x"), room.path(f"mnt/{two}/x"))
             same(f"{copy}, {one} to {two}: nothing is lacking", why, "")
 
 
@@ -163,10 +159,7 @@ def a_source_that_changes():
                     return real(*words)
 
                 with mock.patch.object(compare, "bytes_differ", write):
-                    try:
-                        said = compare.compare("mnt/a/x", "mnt/b/x")
-                    except compare.Wrong as wrong:
-                        said = str(wrong)
+                    said = wrong(compare.compare, "mnt/a/x", "mnt/b/x")
                 that(f"a source that changes while it is compared: {name}",
                      "mnt/a/x" in said and " " in said and not said[0].isdigit(), said)
     with Room() as room, contextlib.chdir(room.at):  # as it begins: all is as before, and only newer
@@ -181,10 +174,7 @@ def a_source_that_changes():
             return real(top)
 
         with mock.patch.object(compare, "tree_of", look):
-            try:
-                said = compare.compare("mnt/a/x", "mnt/b/x")
-            except compare.Wrong as wrong:
-                said = str(wrong)
+            said = wrong(compare.compare, "mnt/a/x", "mnt/b/x")
         that("a source that changes as the comparison begins", said.startswith("mnt/a/x/one was changed"), said)
 
 
@@ -377,9 +367,8 @@ def power_cuts():
             ran = room.run(f"{RUN} cp -a mnt/{{from}}/{{item}} mnt/{{to}}/")
             stands = {f"{disk}/{item}": room.run(f"diff -r kept/{item} mnt/{disk}/{item}").returncode
                       for item in "xy" for disk in "ab"}
-            if not that(f"a power cut after {events[cut - 1] if cut else 'nothing'}",
-                              ran.returncode == 0 and stands == {"b/x": 0, "a/x": 2, "a/y": 0, "b/y": 2},
-                              (text, states, ran, stands)):
+            if not that(f"a power cut after {events[cut - 1] if cut else 'nothing'}", ran.returncode == 0 and stands
+                        == {"b/x": 0, "a/x": 2, "a/y": 0, "b/y": 2}, (text, states, ran, stands)):
                 return
 
 

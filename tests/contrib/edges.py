@@ -11,7 +11,7 @@ from migrate_tools.lvm import lvm_step, pvmoves
 from migrate_tools.show import done, left, progress
 import waiting
 from refusals import SMALL, lists
-from rooms import HERE, PROGRAM, Room, cases, plan_of, refused, same, that
+from rooms import HERE, PROGRAM, Room, cases, plan_of, refused, same, that, wrong
 
 PLAN = plan_of("x a 0 b 0", "y b 1 a 1")
 
@@ -25,15 +25,6 @@ def at(text):
 def clock_at(text):
     with mock.patch.object(time, "time", lambda: at(text)):
         yield
-
-
-def wrong(work, *words):
-    """The sentence of what is wrong; empty where nothing is."""
-    try:
-        work(*words)
-    except command.Wrong as why:
-        return str(why)
-    return ""
 
 
 def next_of(those, slots, *wish):

@@ -139,9 +139,8 @@ def killed_or_stopped():
         room.write("go", "")
         begun.wait(LIMIT)
         said = room.read("notes")
-        that("stopped by a signal",
-             begun.returncode == 130 and "waiting for the transfers that run" in said and "begin again" in said,
-             (begun.returncode, said))
+        that("stopped by a signal", begun.returncode == 130 and "waiting for the transfers that run" in said
+             and "begin again" in said, (begun.returncode, said))
         same("what ran is kept", len(room.read("plan.txt.place").splitlines()), 2)
 
 
@@ -570,8 +569,7 @@ def units_of_folders():
                         "mnt/a/media/films is not split: mnt/a/media/films/pipe is neither a folder, a file nor a link")
         that("many parts do so", "mnt/a/media/many is not split: it has 4098 parts, more than 4096" in ran.stderr, ran)
         room.good("units", "contrib/from-folders mnt/*")
-        same("without --unit nothing is split",
-             {row[2] for row in room.rows("names.csv") if row[0] == "item"},
+        same("without --unit nothing is split", {row[2] for row in room.rows("names.csv") if row[0] == "item"},
              {"mnt/a/media", "mnt/a/small", "mnt/b/media", "mnt/b/odd", "mnt/c/media"})
     with Room() as room:
         room.good("units", "mkdir -p mnt/a/all mnt/b; for it in 1 2 3 4 5 6 7 8; do mkdir mnt/a/all/$it; head -c 60000 "

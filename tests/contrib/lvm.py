@@ -490,7 +490,7 @@ class Lab:
             return self.do(" && ".join(it.format(group=self.group, a=a, b=b, c=c, all=devices) for it in PARTS))
         recorded = page("contrib/samples/lvm/parts/vg").replace("\nparts {", f"\n{self.group} {{")
         self.room.write("vg", recorded)
-        for device, id_ in zip(self.loops, re.findall(r'\n\t\tpv\d+ \{\n\t\t\tid = "(\S+)"', recorded)):
+        for device, id_ in zip(self.loops, re.findall(r'\bpv\d+ { id = "(\S+)"', recorded)):
             self.do(f"pvcreate -qq --restorefile vg --uuid {id_} {device}")
         return self.do(f"vgcfgrestore -qq --force -f vg {self.group}")
 

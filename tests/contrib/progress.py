@@ -303,9 +303,8 @@ def logs(room):
         that(f"{script}: a pause up to --until", ran.stdout == "3\n" and "paused before round 1" in ran.stderr
              and f"begin again with: sh {script} 1" in ran.stderr and "round 1:" not in room.read(f"{folder}/log"), ran)
         found = json.loads(room.good(script, look))
-        same(f"{script}: nothing is done",
-             (found["rounds_done"], found["items_done"], found["done"], found["seconds_left"]),
-             (0, 0, False, None))
+        same(f"{script}: nothing is done", (found["rounds_done"], found["items_done"], found["done"],
+                                            found["seconds_left"]), (0, 0, False, None))
         # its time comes in the first round
         ran = room.run(f"{at}sed 's/^if begins 2; then/touch over; if begins 2; then/' {script} >half.sh; sh "
                        f"half.sh --until 06:00 >>log; echo $?; rm -f over")
@@ -384,9 +383,8 @@ def sizes():
         same("bytes.csv of LVM", {item: int(it) for item, it in room.rows("bytes.csv")},
              {item: it * 32 << 20 for item, it in extents.items()})
         groups = sorted(set(re.findall(r"^(\d+\.[0-9a-f]+) raw", page("contrib/samples/ceph/before"), re.M)))
-        room.keep("pgs.json",
-                  {"pg_map":
-                   {"pg_stats": [{"pgid": it, "stat_sum": {"num_bytes": 4000 * at}} for at, it in enumerate(groups)]}})
+        room.keep("pgs.json", {"pg_map": {"pg_stats": [{"pgid": it, "stat_sum": {"num_bytes": 4000 * at}} for at,
+                                                       it in enumerate(groups)]}})
         words = "contrib/from-ceph S/before S/after S/dump S/crush".replace("S/", "contrib/samples/ceph/")
         room.good("sizes", f"{words} --sizes pgs.json --moving")
         found = {item: int(it) for item, it in room.rows("bytes.csv")}

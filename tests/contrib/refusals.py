@@ -180,12 +180,10 @@ def odd_names_of_lvm():
                "/dev/mapper/sda1": 40, "Ab12Cd-34Ef-56Gh-78Ij-90Kl-12Mn-34Op56": 40}
     volumes = ["a+b", "a_b.0", "a_b", "v" * 60, "v" * 61]
     with Room() as room:
-        room.keep("pvs.json",
-                  {"report": [{"pv": [{"vg_name": "data", "pv_name": name, "pv_attr": "a--", "pv_pe_count": str(size)}
-                                      for name, size in devices.items()]}]})
-        room.keep("lvs.json",
-                  {"report": [{"seg": [segment(volume, f"/dev/sda1:{4 * at}-{4 * at + 3}") for at,
-                                       volume in enumerate(volumes)]}]})
+        room.keep("pvs.json", {"report": [{"pv": [{"vg_name": "data", "pv_name": name, "pv_attr": "a--",
+                                                   "pv_pe_count": str(size)} for name, size in devices.items()]}]})
+        room.keep("lvs.json", {"report": [{"seg": [segment(volume, f"/dev/sda1:{4 * at}-{4 * at + 3}") for at,
+                                                   volume in enumerate(volumes)]}]})
         room.good("odd names", "contrib/from-lvm lvs.json pvs.json --spread")
         room.planned("odd names")
         rows = room.rows("names.csv")

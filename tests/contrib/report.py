@@ -48,9 +48,8 @@ def judge(room, name):
              for disk, limits in case.limits.items()}
     bound = room.read("cert.txt").split("\nbound ")[1].split("\nend\n")[0].split()
     marked = set(bound[4:] if bound[0] == "set" else bound[1:2])
-    same(f"{name}: disks", found.data["disks"],
-         [[it, used[it], case.slots[it], list(limits.values()), needs[it], it in marked]
-          for it, limits in case.limits.items()])
+    same(f"{name}: disks", found.data["disks"], [[it, used[it], case.slots[it], list(limits.values()), needs[it],
+                                                  it in marked] for it, limits in case.limits.items()])
     numbers = {it: at for at, it in enumerate(case.limits)}
     same(f"{name}: rounds", found.data["rounds"],
          [[[it[0], numbers[it[1]], numbers[it[3]]] for it in shifts] for shifts in room.shifts()])

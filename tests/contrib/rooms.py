@@ -230,6 +230,15 @@ def all_refused(room, name, command, path, rows):
         refused(room, f"{name}, {what}", command, said)
 
 
+def wrong(work, *words):
+    """The sentence of what is wrong by a function of the package; empty where nothing is."""
+    try:
+        work(*words)
+        return ""
+    except sys.modules["migrate_tools.command"].Wrong as why:
+        return str(why)
+
+
 def plan_of(*rounds):
     """The text of a plan: each round has its shifts, apart by commas."""
     return plan_text([[it.split() for it in shifts.split(", ")] if shifts else [] for shifts in rounds])

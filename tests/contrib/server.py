@@ -3,18 +3,15 @@
 the time that they take by themselves, and stand-ins that wait for nothing within it, which takes a fifth of that;
 client.c hands over what a call has. Where there is no C compiler they run by themselves."""
 import array, compileall, contextlib, fcntl, gc, importlib, importlib.util, io, os, select, shutil, signal, socket
-import subprocess, sys, termios, time, traceback
+import subprocess, sys, termios, threading, time, tomllib, traceback, types
 from unittest import mock
 
 HERE = os.path.dirname(os.path.realpath(__file__))
 CONTRIB = os.path.join(os.path.dirname(os.path.dirname(HERE)), "contrib")
-COMMANDS = {"from-lvm": "lvm.from_lvm", "to-lvm": "lvm.to_lvm", "lvm-step": "lvm.lvm_step", "plan-lvm": "lvm.plan_lvm",
-            "from-ceph": "ceph.from_ceph", "to-ceph": "ceph.to_ceph", "ceph-step": "ceph.ceph_step",
-            "plan-ceph": "ceph.plan_ceph", "from-folders": "folders.from_folders",
-            "plan-folders": "folders.plan_folders", "run-plan": "run.run_plan", "picture": "show.picture",
-            "report": "show.report", "summary": "show.summary", "witness": "show.witness", "progress": "show.progress"}
+with open(f"{CONTRIB}/pyproject.toml", "rb") as file:
+    COMMANDS = {name: main.partition(":")[0] for name, main in tomllib.load(file)["project"]["scripts"].items()}
 STAND_INS = ["lvs", "pvs", "pvmove", "osdmaptool", "crushtool", "ceph"]
-WAITING = ["pvmove"]  # the one of these that takes its time
+AT_ONCE = {*STAND_INS} - {"pvmove"}  # those that wait for nothing
 # commands that begin nothing, and wait for nothing
 READERS = ["from-lvm", "to-lvm", "from-ceph", "to-ceph", "from-folders", "picture", "report", "summary", "witness",
            "progress"]
@@ -26,7 +23,7 @@ def package():
     spec = importlib.util.spec_from_file_location("migrate_tools", f"{folder}/__init__.py",
                                                   submodule_search_locations=[folder])
     sys.modules["migrate_tools"] = importlib.util.module_from_spec(spec)
-    return {name: importlib.import_module(f"migrate_tools.{module}").main for name, module in COMMANDS.items()}
+    return {name: importlib.import_module(module).main for name, module in COMMANDS.items()}
 
 
 MAINS = package()
@@ -72,7 +69,8 @@ def said(main, words, environ):
     """Does a call within this process; gives what it prints and says, and its status."""
     argv, sys.argv = sys.argv, words
     out, err = (io.TextIOWrapper(io.BytesIO(), "utf-8", "surrogateescape", "\n") for _ in range(2))
-    with mock.patch.dict(os.environ, environ), contextlib.redirect_stdout(out), contextlib.redirect_stderr(err):
+    with (mock.patch.dict(os.environ, environ) if environ else contextlib.nullcontext(),
+          contextlib.redirect_stdout(out), contextlib.redirect_stderr(err)):
         status = status_of(main)
     sys.argv = argv
     for it in (out, err):
@@ -100,6 +98,21 @@ def hand_over(call, handles, texts, status):
     call.send(bytes([status]))
 
 
+def within(client, main):
+    """`subprocess.run` for a command that is a fork of this one: what it calls of the stand-ins that wait for nothing
+    it does by itself, a call after the other, where it would find them behind this client."""
+    one_at_a_time = threading.Lock()
+
+    def run(words, cwd=".", **more):
+        if words[0] not in AT_ONCE or os.path.realpath(shutil.which(words[0]) or "") != client:
+            return subprocess.run(words, cwd=cwd, **more)
+        with one_at_a_time, contextlib.chdir(cwd):
+            texts, status = said(main, list(words), {})
+        return subprocess.CompletedProcess(words, status, *map(bytes.decode, texts))
+
+    return types.SimpleNamespace(run=run, DEVNULL=subprocess.DEVNULL)
+
+
 def answer(call, calls, words, environ, handles):
     """Does a call in this process, which is a fork, and tells its status."""
     for at, handle in enumerate(handles):
@@ -121,12 +134,12 @@ def answer(call, calls, words, environ, handles):
     call.send(bytes([status]))
 
 
-def serve(listening, ready):
+def serve(listening, ready, client):
     """Answers each call, as long as `ready`, a pipe of who began this, is open: within this process where nothing
     waits, and else in a fork of its own, which is killed where the client is."""
     stand_in = importlib.import_module("stand_in")
     calls = {**MAINS, **dict.fromkeys(STAND_INS, stand_in.main)}
-    at_once = {*STAND_INS} - {*WAITING}
+    sys.modules["migrate_tools.calls"].subprocess = within(client, stand_in.main)
     stand_in.cluster()
     gc.disable()
     gc.freeze()  # a fork then copies less
@@ -144,7 +157,8 @@ def serve(listening, ready):
             folder, words, environ, handles = heard(call)
             name = os.path.basename(words[0])
             os.chdir(folder)
-            told = name in at_once and said(stand_in.main, words, {"STAND_IN": environ["STAND_IN"]})
+            os.environ["STAND_IN"] = environ["STAND_IN"]
+            told = name in AT_ONCE and said(stand_in.main, words, {})
             if told and all(fits(it, sum(map(len, told[0]))) for it in handles[1:]):
                 hand_over(call, handles, *told)
                 call.close()
@@ -170,7 +184,7 @@ def begin(folder):
     os.symlink(f"{CONTRIB}/samples", f"{folder}/contrib/samples")
     client = None
     if shutil.which("cc"):
-        client = f"{folder}/client"
+        client = f"{os.path.realpath(folder)}/client"
         subprocess.run(["cc", f'-DSERVER="{folder}/calls"', "-o", client, f"{HERE}/client.c"], check=True)
     for name in COMMANDS:
         os.symlink(client or f"{HERE}/server.py", f"{folder}/contrib/{name}")
@@ -183,7 +197,7 @@ def begin(folder):
         ready, open_ = os.pipe()
         if (server := os.fork()) == 0:
             os.close(open_)
-            serve(listening, ready)
+            serve(listening, ready, client)
         os.close(ready)
         listening.close()
         return server, open_

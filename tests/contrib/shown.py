@@ -101,9 +101,8 @@ def the_progress(room):
         os.utime(room.path("plan.txt"), (now - 3000 - ago, now - 3000 - ago))
         held = room.read("journal.mig")
         ran = room.run(f"contrib/progress plan.txt {words}")
-        that(f"progress, {name}",
-             ran.returncode == status and re.fullmatch(wanted, ran.stdout if status == 0 else ran.stderr),
-             (ran, wanted))
+        that(f"progress, {name}", ran.returncode == status and re.fullmatch(wanted, ran.stdout if status == 0
+                                                                            else ran.stderr), (ran, wanted))
         that(f"progress, {name}: it only reads",
              room.read("journal.mig") == held and abs(os.stat(room.path("journal.mig")).st_mtime - now + ago) < 0.01)
 

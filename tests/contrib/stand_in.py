@@ -73,19 +73,17 @@ def runs(extents):
 def lvs(state):
     if WORDS != "-a --segments --reportformat json -o vg_name,lv_name,lv_role,segtype,seg_pe_ranges data".split():
         stop(f"lvs was not recorded with {' '.join(WORDS)}", 3)
-    print_report("seg",
-                 [{"vg_name": "data", "lv_name": volume, "lv_role": "public", "segtype": "linear",
-                   "seg_pe_ranges": f"{device}:{first}-{last}"} for volume, extents in state["volumes"].items()
-                  for device, first, last in runs(extents)])
+    print_report("seg", [{"vg_name": "data", "lv_name": volume, "lv_role": "public", "segtype": "linear",
+                          "seg_pe_ranges": f"{device}:{first}-{last}"} for volume, extents in state["volumes"].items()
+                         for device, first, last in runs(extents)])
 
 
 def pvs(state):
     columns = "vg_name,pv_name,pv_attr,pv_pe_count,vg_extent_size"
     if WORDS == f"--reportformat json --units b -o {columns} -S vg_name=data".split():
         row = {"vg_name": "data", "pv_attr": "a--", "vg_extent_size": "4194304B"}
-        return print_report("pv",
-                            [{**row, "pv_name": device, "pv_pe_count": size}
-                             for device, size in state["devices"].items()])
+        return print_report("pv", [{**row, "pv_name": device, "pv_pe_count": size} for device,
+                                   size in state["devices"].items()])
     if WORDS[:-1] == "--noheadings -o pv_name".split():
         if WORDS[-1] not in state["devices"]:
             stop(f"  Failed to find physical volume \"{WORDS[-1]}\".")

@@ -329,9 +329,8 @@ def tight_pages():
         lines = room.good("pages", "contrib/summary plan.txt disks.csv --sizes bytes.csv --rate 1K").splitlines()
         same("summary", lines[:4],
              ["moves 3, 1 of them from where an item was parked", "bytes 4.0 KiB", "rounds 3", "transfers by round"])
-        same("summary, the time", lines[-2:],
-             ["time 4 s: 3 rounds, each as long as its greatest item",
-              "time without rounds 4 s: each transfer as soon as the limits let it"])
+        same("summary, the time", lines[-2:], ["time 4 s: 3 rounds, each as long as its greatest item",
+                                               "time without rounds 4 s: each transfer as soon as the limits let it"])
         same("summary --json", json.loads(room.good("pages", "contrib/summary plan.txt --json"))["parked"], 1)
         refused(room, "pages", "contrib/summary plan.txt disks.csv --queue now.csv",
                 "transfers of this plan need others to be done first")

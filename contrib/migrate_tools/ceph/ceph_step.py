@@ -147,10 +147,10 @@ class Carrier:
         return found
 
     def is_there(self, step: Step, now: View) -> bool:
-        placed, osds = now.groups.get(step.group), [int(it) for it in step.order.removeprefix("=").split(",")]
+        placed = now.groups.get(step.group)
         if placed is None or not placed.is_clean():
             return False
-        return placed.up == osds if step.order[0] == "=" else set(osds) <= set(placed.up)
+        return placed.up == step.osds() if step.order[0] == "=" else set(step.osds()) <= set(placed.up)
 
     def passed(self, numbers: Sequence[int]) -> None:
         """These are done."""

@@ -41,17 +41,18 @@ class Rule:
         at = 0
         for root, below, choices in self.parts:
             counts = [number if number > 0 else number + len(osds) for _, number, _ in choices]
-            for osd in osds[at : at + math.prod(counts)]:
+            end = at + math.prod(counts)
+            for osd in osds[at:end]:
                 if osd not in below or osd in self.useless:
                     return f"osd.{osd} is out, or has no weight below {root}"
-            at += math.prod(counts)
+            at = end
             for (leaf, _, kind), most in zip(choices, counts):
                 its = self.near.get(kind, {})
-                used = {its[it] for it in osds if it in its}
-                if leaf and len(used) < sum(it in its for it in osds):
-                    names = [its.get(it) for it in osds]
+                names = [its[it] for it in osds if it in its]
+                used = set(names)
+                if leaf and len(used) < len(names):
                     twice = next(it for it in used if names.count(it) > 1)
-                    both = " and ".join(f"osd.{osd}" for osd, it in zip(osds, names) if it == twice)
+                    both = " and ".join(f"osd.{osd}" for osd in osds if its.get(osd) == twice)
                     return f"{both} would be in one {kind}, {twice}"
                 if not leaf and len(used) > most:
                     return f"its OSDs would be in {len(used)} of the kind {kind}, where the rule has {most}"
@@ -68,19 +69,21 @@ def paired(leave: Sequence[int], come: Sequence[int], rule: Rule, known: Pairs) 
         if one in leave and two in left and one not in pairs:
             pairs[one] = two
             left.remove(two)
+    lone = [it for it in leave if it not in pairs]
     for its in rule.near.values() if left else ():
         places = [its.get(it) for it in left]
-        for one in leave:
-            if one not in pairs and (place := its.get(one)) is not None and place in places:
-                pairs[one] = left.pop(places.index(place))
-                places.remove(place)
-    return pairs | dict(zip([it for it in leave if it not in pairs], left))
+        for one in [it for it in lone if it in its and its[it] in places]:
+            if its[one] in places:
+                pairs[one] = left.pop(places.index(its[one]))
+                places.remove(its[one])
+                lone.remove(one)
+    return pairs | dict(zip(lone, left))
 
 
 def landed(chosen: Sequence[int], pairs: Pairs) -> list[int]:
     """Where exceptions put a group for which CRUSH chose these OSDs."""
     osds = list(chosen)
     for one, two in pairs:
-        if one in chosen and one in osds and two not in osds:
+        if one in osds and two not in osds and one in chosen:
             osds[osds.index(one)] = two
     return osds

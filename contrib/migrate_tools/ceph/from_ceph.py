@@ -40,17 +40,17 @@ def case_of(groups: Mapping[str, Group], words: Sequence[str], as_ceph: bool = T
     limits = read_limits(words, sorted({it for group in groups.values() for it in group.before + group.after}), as_ceph)
     all_ = [(group, it) for group in groups.values() for it in group.items if it.source != it.target or not moving]
     sources = [group.counted_at[it.name] if as_ceph else it.source for group, it in all_]
-    slots, at = collections.Counter(sources), dict.fromkeys(limits, 0)
+    slots, at, names = collections.Counter(sources), dict.fromkeys(limits, 0), {it: f"osd.{it}" for it in limits}
     found = []
     for source, (_, it) in zip(sources, all_):
         if not NAME.fullmatch(it.name):
             raise Wrong(f"'{it.name}' is longer than a name may be")
         to = at[source] if source == it.target else slots[it.target]
-        found.append(Shift(it.name, f"osd.{source}", at[source], f"osd.{it.target}", to))
+        found.append(Shift(it.name, names[source], at[source], names[it.target], to))
         at[source] += 1
         slots[it.target] += source != it.target
     ends = {*sources, *(it.target for _, it in all_)}
-    return found, {f"osd.{osd}": limit for osd, limit in limits.items() if osd in ends or not moving}
+    return found, {names[osd]: limit for osd, limit in limits.items() if osd in ends or not moving}
 
 
 def files_of(shifts: Sequence[Shift], limits: Mapping[str, Limits | None]) -> dict[str, Sequence[Sequence[object]]]:

@@ -10,8 +10,7 @@ from .crush import Pairs, Rule, landed, paired
 OSDS = r"\(\[([0-9,]*)\], p-?[0-9]+\)"
 LINE = re.compile(rf"([0-9]+\.[0-9a-f]+) raw {OSDS} up {OSDS} acting {OSDS}", re.ASCII)
 POOL = re.compile(r"^pool ([0-9]+) '.*' (replicated|erasure) (?:profile \S+ )?size ([0-9]+) min_size [0-9]+ "
-                  r"crush_rule ([0-9]+) ",
-                  re.ASCII | re.M)
+                  r"crush_rule ([0-9]+) ", re.ASCII | re.M)
 NEVER = re.compile(r"^osd\.([0-9]+) .* primary_affinity 0 ", re.ASCII | re.M)
 NO_OSD = 2147483647
 FILES = """
@@ -36,7 +35,7 @@ class Item(NamedTuple):
     target: int
 
 
-@dataclass(frozen=True)
+@dataclass
 class Group:
     """A placement group: what CRUSH chooses for it while the commands run, and where it is before and after. A place in
     these lists is a shard's where the pool is erasure coded; else it means nothing. `old` are its exceptions now, None
@@ -171,19 +170,21 @@ def numbers(text: str) -> list[int]:
 def read_groups(path: str, cleaned: bool) -> Lists:
     """For each placement group the OSDs that CRUSH chooses, and those that it is on."""
     groups: Lists = {}
-    lines = read_text(path).split("\n")
+    text = read_text(path)
+    lines = text.split("\n")
     for found in filter(None, map(LINE.fullmatch, lines)):
-        name, chosen, up = found[1], numbers(found[2]), numbers(found[3])
+        name, chosen = found[1], numbers(found[2])
+        up = chosen if found[3] == found[2] else numbers(found[3])
         if name in groups:
             raise Wrong(f"lists placement group {name} twice: write each file anew, and do not append", path)
         if found[3] != found[4]:
             raise Wrong(f"{path}: placement group {name} is on {numbers(found[4])} still, and goes to {up}: let its "
                         "backfill end, and add --clear-temp")
         groups[name] = chosen, up
-    is_odd = any(set(up) - {*chosen, NO_OSD} for chosen, up in groups.values())
+    is_odd = any(up is not chosen and set(up) - {*chosen, NO_OSD} for chosen, up in groups.values())
     if cleaned and "checking for upmap cleanups" not in lines and is_odd:
         raise Wrong("has exceptions that Ceph may drop with the change: add --upmap-cleanup COMMANDS", path)
-    for osd in re.findall(r"^marking OSD@([0-9]+) as out$", "\n".join(lines), re.M):
+    for osd in re.findall(r"^marking OSD@([0-9]+) as out$", text, re.M):
         note(f"{path} has osd.{osd} marked out; of several --mark-out osdmaptool takes the last alone")
     if not groups:
         raise Wrong("lists no placement group; this prints them: osdmaptool MAP --clear-temp --test-map-pgs-dump-all",
@@ -223,7 +224,7 @@ def read_pools(dump: str, crush: str) -> tuple[dict[str, Pool], dict[str, Pairs 
 
 def shy_of(never: frozenset[int], order: list[int], up: list[int]) -> frozenset[int]:
     """Those that are not the primary of a group of copies that is on `up` where exceptions put it in this order."""
-    return never.union(order[: order.index(up[0])] if up and up[0] in order else ())
+    return never.union(order[: order.index(up[0])]) if up and up[0] in order[1:] else never
 
 
 def read_never(dump: str) -> frozenset[int]:

@@ -48,27 +48,31 @@ def coloured(pairs: Sequence[tuple[Hashable, Hashable]], count: int) -> list[int
     return colours
 
 
+def ends_of(shifts: Sequence[Shift]) -> dict[str, list[str]]:
+    """The disks that the moves leave, and those that they reach."""
+    return {"out": [it.source for it in shifts], "in": [it.target for it in shifts]}
+
+
 def rounds_of(shifts: Sequence[Shift], disks: Disks) -> list[list[Shift]]:
     """As few rounds as can be: a side of a disk stands for as many nodes as its limit, among which its moves are
     dealt."""
-    limits = {(disk, way): limit for (disk, way), limit in limits_by_side(disks).items()}
-    used: collections.Counter[tuple[str, str]] = collections.Counter()
-
-    def node(side: tuple[str, str]) -> Hashable:
-        used[side] += 1
-        return side, used[side] % limits[side]
-
-    pairs = [(node((it.source, "out")), node((it.target, "in"))) for it in shifts]
-    count = max(-(-used[side] // limit) for side, limit in limits.items())
+    limits, count, nodes = limits_by_side(disks), 0, list[list[Hashable]]()
+    for way, ends in ends_of(shifts).items():
+        used, most, its = collections.Counter[str](), {it: limits[Side(it, way)] for it in {*ends}}, list[Hashable]()
+        for it in ends:
+            used[it] += 1
+            its.append((it, way, used[it] % most[it]))
+        nodes.append(its)
+        count = max([count, *(-(-load // most[it]) for it, load in used.items())])
     found: list[list[Shift]] = [[] for _ in range(count)]
-    for it, colour in zip(shifts, coloured(pairs, count)):
-        found[colour].append(it)
+    for shift, colour in zip(shifts, coloured(list(zip(nodes[0], nodes[1])), count)):
+        found[colour].append(shift)
     return found
 
 
 def parts_of(shifts: Sequence[Shift]) -> dict[str, int]:
     """The part of each disk, from 1 on."""
-    loads = collections.Counter(disk for it in shifts for disk in (it.source, it.target))
+    loads = collections.Counter(it for ends in ends_of(shifts).values() for it in ends)
     found, part, load, disks = dict[str, int](), 1, 0, 0
     for disk, more in sorted(loads.items()):
         if more > MOST_ITEMS:
@@ -79,49 +83,50 @@ def parts_of(shifts: Sequence[Shift]) -> dict[str, int]:
     return found
 
 
-def files_of(rounds: Rounds, disks: Disks, parts: Mapping[str, int], part: int) -> dict[str, str]:
-    """The files of a part, of these moves. In a round other disks are as many as they have to be to be never full."""
+def texts_of(rounds: Rounds, disks: Disks, parts: Mapping[str, int], part: int) -> list[str]:
+    """The files of a part, of these moves, and its last layout. In a round other disks are as many as they have to be
+    to be never full."""
     limits: dict[str, Limits | None] = {it: disks[it].limits for it, number in parts.items() if number == part}
-    slots: collections.Counter[str] = collections.Counter()
-    found: list[list[Shift]] = []
-    for round_ in filter(None, rounds):
-        out, in_, those = 0, 0, list[Shift]()
+    slots: dict[str, int] = collections.defaultdict(int)
+    now, next_, last, lines = [NOW], ["item,disk"], [NOW], list[str]()
+    for at, round_ in enumerate(filter(None, rounds), 1):
+        lines.append(f"round {at} {len(round_)}")
+        out = in_ = 0
         for item, source, _, target, _ in round_:
             if source not in limits:
                 source, out = f"other-{out // MOST_LIMIT}", out + 1
             if target not in limits:
                 target, in_ = f"other-{in_ // MOST_LIMIT}", in_ + 1
-            those.append(Shift(item, source, slots[source], target, slots[target]))
-            slots[source] += 1
-            slots[target] += 1
-        found.append(those)
-    all_ = [it for round_ in found for it in round_]
+            one, two = slots[source], slots[target]
+            now.append(f"{item},{source},{one}")
+            next_.append(f"{item},{target}")
+            last.append(f"{item},{target},{two}")
+            lines.append(f"{item} {source} {one} {target} {two}")
+            slots[source], slots[target] = one + 1, two + 1
     limits |= dict.fromkeys((it for it in slots if it not in limits), Split(MOST_LIMIT, MOST_LIMIT))
-    texts = (table(disk_rows(limits, {it: max(1, slots[it]) for it in limits}, "")),
-             table([NOW.split(","), *(it[:3] for it in all_)]),
-             table([["item", "disk"], *(it[::3] for it in all_)]), plan_text(found))
-    return dict(zip(FILES, texts))
+    plan_ = ["migration-plan 1", f"rounds {at}", *lines, "end"]
+    return [table(disk_rows(limits, {it: max(1, slots[it]) for it in limits}, "")),
+            *("\n".join([*it, ""]) for it in (now, next_, plan_, last))]
 
 
 def plan(planner: Planner, sub: str, shifts: Sequence[Shift], disks: Disks) -> tuple[Plan, str]:
     """Makes plan.txt and cert.txt of a folder. Gives the plan, and the verdict."""
     rounds, limits = rounds_of(shifts, disks), limits_by_side(disks)
-    made = [it for round_ in rounds for it in round_]
-    if len(made) != len(shifts) or {*made} != {*shifts}:
+    made = [id(it) for round_ in rounds for it in round_]
+    if len(made) != len(shifts) or {*made} != {*map(id, shifts)}:
         raise Wrong("the rounds that were made do not have all moves")
-    used = collections.Counter([*((it.source, "out") for it in shifts), *((it.target, "in") for it in shifts)])
-    busiest, _ = max(used, key=lambda side: (-(-used[side] // limits[Side(*side)]), side))
+    busiest = max((-(-count // limits[Side(disk, way)]), disk, way) for way, ends in ends_of(shifts).items()
+                  for disk, count in collections.Counter(ends).items())[1]
     verdict, parts = "", parts_of(shifts)
     split: dict[int, list[list[Shift]]] = {it: [[] for _ in rounds] for it in sorted({*parts.values()})}
     for at, it in ((at, it) for at, round_ in enumerate(rounds) for it in round_):
         for part in {parts[it.source], parts[it.target]}:
             split[part][at].append(it)
     for part, those in split.items():
-        files, folder = files_of(those, disks, parts, part), os.path.join(sub, f"part-{part}")
+        (*texts, last), folder = texts_of(those, disks, parts, part), os.path.join(sub, f"part-{part}")
         os.makedirs(planner.at(folder), exist_ok=True)
-        save_all({planner.at(f"{folder}/{name}"): text for name, text in files.items()})
-        last = planner.migrate("after", *FILES, sub=folder).splitlines()
-        if [it.rpartition(",")[0] for it in last] != files["next.csv"].splitlines():
+        save_all({planner.at(f"{folder}/{name}"): text for name, text in zip(FILES, texts)})
+        if planner.migrate("after", *FILES, sub=folder) != last:
             raise Wrong("does not lead to next.csv", planner.at(f"{folder}/plan.txt"))
         if parts[busiest] == part:
             planner.migrate("plan", *FILES[:3], "least.txt", "cert.txt", sub=folder)

@@ -13,6 +13,7 @@ far, while the change is not made; report.html; and all that these were made fro
 A plan that would fill an OSD past nearfull in any round is refused, with the OSD and the round."""
 import argparse, collections, gc, json, os, re, shlex
 from collections.abc import Mapping, Sequence
+from ..certs import read_cert
 from ..command import Wrong, command, here, note, put, read_text, save_all, words
 from ..disks import Disks, read_disks
 from ..plans import MOST_DISKS, MOST_ITEMS, Plan, read_plan, table
@@ -24,10 +25,9 @@ from .change import make
 from .cluster import Silent, all_of, backfills_of, ceph
 from .crush import landed
 from .from_ceph import case_of, files_of
-from .fullness import check_rooms, fullest, rooms_of
 from .groups import Group, read_change, read_groups, read_never, read_pools
 from .maps import DUMP, Change, Maps
-from .sizes import bytes_of, rows_of, sizes_of
+from .sizes import bytes_of, check_rooms, fullest, rooms_of, rows_of, sizes_of
 from .steps import Step, counts_of, limits_text, read_rounds, steps_of
 from .to_ceph import script
 
@@ -126,9 +126,8 @@ class CephPlanner(Planner):
         never, homes, starts = read_never(self.at("dump")), dict(groups), collections.defaultdict(list)
         for step in steps:
             starts[step.group].append(step.pairs)
-            now = [int(it) for it in step.order.removeprefix("=").split(",")]
-            homes[step.group] = groups[step.group].turned(now, step.pairs, never)
-        for name in starts:
+        for name, step in {it.group: it for it in steps}.items():
+            homes[name] = groups[name].turned(step.osds(), step.pairs, never)
             if why := homes[name].refusal(homes[name].chosen, False):
                 note(f"placement group {name} {why}")
                 del homes[name]
@@ -163,6 +162,8 @@ class CephPlanner(Planner):
             files |= {"change.sh": text}
         save_all({self.at("change.json"): json.dumps(kept) + "\n"})
         save_all({self.at(name): text for name, text in files.items()}, mode=0o755)
+        used = collections.Counter([it.source for it in plan.shifts()])
+        self.report(plan, disks, used, read_cert(self.at("cert.txt"), disks))
         return self.told(plan, found, verdict, back, files)
 
     def told(self, plan: Plan, found: Mapping[int, tuple[float, int]], verdict: str, back: str,
@@ -173,7 +174,6 @@ class CephPlanner(Planner):
         if found:
             osd, (part, at) = max(found.items(), key=lambda it: it[1])
             lines.insert(0, f"fullest: osd.{osd} with {part:.1%}, in round {at}; nearly full is {self.nearfull:.0%}")
-        self.command("report", *FILES[3:], *FILES[:2], "cert.txt", "--out", "report.html")
         names = [it for it in ("move.sh", "change.sh", "back.sh", "report.html") if it in files or it[-1] == "l"]
         return self.lines(plan, f"{len(plan.shifts())} copies", f"{verdict}, {bound}", self.sizes, lines, names)
 

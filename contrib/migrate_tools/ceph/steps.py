@@ -4,7 +4,7 @@ import collections
 from collections.abc import Mapping, Sequence
 from typing import NamedTuple
 from ..command import Wrong, note
-from ..disks import Disks, is_split, limits_by_side
+from ..disks import Disks, Split, limits_by_side
 from ..plans import Plan, Shift
 from .crush import Pairs
 from .groups import Group
@@ -26,10 +26,13 @@ class Step(NamedTuple):
 
     def line(self) -> str:
         """As a step is written in a script."""
-        counts = (f"{side}:{count}" if count > 1 else side for side, count in sorted(self.counts.items()))
+        counts = [f"{side}:{count}" if count > 1 else side for side, count in sorted(self.counts.items())]
         return (f"ceph-step {self.round} {self.group} {self.order} {pairs_text(self.pairs)} "
                 f"from {'/'.join(map(pairs_text, self.start))} at {','.join(counts) or '-'} "
-                f"items {','.join(f'{its}:{item}' for item, its in self.items.items()) or '-'}")
+                f"items {','.join([f'{its}:{item}' for item, its in self.items.items()]) or '-'}")
+
+    def osds(self) -> list[int]:
+        return [int(it) for it in self.order.removeprefix("=").split(",")]
 
     def command(self) -> list[str]:
         """What sets these exceptions: the words of `ceph`."""
@@ -38,7 +41,7 @@ class Step(NamedTuple):
 
 
 def pairs_text(pairs: Pairs) -> str:
-    return ",".join(f"{one}:{two}" for one, two in pairs) or "-"
+    return ",".join([f"{one}:{two}" for one, two in pairs]) or "-"
 
 
 def read_pairs(text: str) -> Pairs:
@@ -67,7 +70,8 @@ def read_rounds(plan: Plan, path: str, groups: Mapping[str, Group]) -> tuple[dic
     """The round in which each item of each placement group goes, and whether each goes from the OSD that gives it
     up."""
     homes = {it.name: (name, it) for name, group in groups.items() for it in group.items}
-    given = all(it.source == f"osd.{homes[it.item][1].source}" for it in plan.shifts() if it.item in homes)
+    osds = {osd: f"osd.{osd}" for group in groups.values() for osd in group.before + group.after}
+    given = all(it.source == osds[homes[it.item][1].source] for it in plan.shifts() if it.item in homes)
     rounds: dict[str, dict[str, int]] = {}
     seen: set[str] = set()
     for at, shifts in enumerate(plan.rounds, 1):
@@ -79,8 +83,8 @@ def read_rounds(plan: Plan, path: str, groups: Mapping[str, Group]) -> tuple[dic
             seen.add(it.item)
         for it in shifts:
             name, home = homes.get(it.item, ("", None))
-            source = home and (home.source if given else groups[name].counted_at[home.name])
-            ends = home and home.source != home.target and (f"osd.{source}", f"osd.{home.target}")
+            ends = home and home.source != home.target and (
+                osds[home.source if given else groups[name].counted_at[home.name]], osds[home.target])
             if ends != (it.source, it.target) or it.item in rounds.get(name, {}):
                 raise Wrong(f"{path} round {at}: {it.item} from {it.source} to {it.target} is no move of a plan for "
                             "from-ceph's files of these dumps")
@@ -100,9 +104,10 @@ def read_rounds(plan: Plan, path: str, groups: Mapping[str, Group]) -> tuple[dic
 def counts_of(shifts: Sequence[Shift], filler: int | None, disks: Disks) -> Counts:
     """Where what goes together counts: as Ceph has it once at the OSD that fills all of it, and at each that is filled;
     else, without such an OSD, at both ends of each."""
-    out, in_ = ("/out", "/in") if is_split(disks) else ("", "")
+    out, in_ = ("/out", "/in") if isinstance(disks[shifts[0].target].limits, Split) else ("", "")
     sources = [it.source for it in shifts] if filler is None else [f"osd.{filler}"]
-    return collections.Counter([*(it + out for it in sources), *(it.target + in_ for it in shifts)])
+    sides = [*(it + out for it in sources), *(it.target + in_ for it in shifts)]
+    return {it: sides.count(it) for it in sides}
 
 
 def limits_text(disks: Disks, ahead: int) -> str:

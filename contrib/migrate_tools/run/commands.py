@@ -31,8 +31,8 @@ def check_inside(words_: Sequence[str], items: Sequence[str]) -> None:
     copies, to_top = (any(re.fullmatch(form, word) for word in words_)
                       for form in (r"\{from\}/+\{item\}/*", r"\{to\}/*"))
     if deep and copies and to_top:
-        raise Wrong(f"COMMAND would bring {deep} to the top of a disk, and not into its folder: write rsync -aR "
-                    "{from}/./{item} {to}/, or a command of a shell that makes the folder")
+        raise Wrong(f"COMMAND would bring {deep} to the top of a disk, and not into its folder: write rsync -aHAXSR "
+                    "--numeric-ids {from}/./{item} {to}/, or a command of a shell that makes the folder")
 
 
 def filled(words_: Sequence[str], values: Values) -> list[str]:

@@ -118,8 +118,7 @@ def draw(plan: Plan, disks: Disks, found: Uses, marks: Sequence[Side], sentence:
     heading = "round" if sheet.each == 1 else f"first round of each column of {sheet.each} rounds"
     out = [f'<svg xmlns="http://www.w3.org/2000/svg" width="{width:g}" height="{height:g}" '
            f'viewBox="0 0 {width:g} {height:g}" font-family="sans-serif">', rect(0, 0, width, height, "#ffffff"),
-           text(12, 24, 16, title, bold=True),
-           text(sheet.left, sheet.top - 24, 11, heading)]
+           text(12, 24, 16, title, bold=True), text(sheet.left, sheet.top - 24, 11, heading)]
     lines = [sheet.top - 8, sheet.bottom + 12] if len(found) > 60 else [sheet.top - 8]
     for column in range(0, sheet.columns, max(1, -(-28 // int(sheet.wide)))):
         out += [text(sheet.left + (column + 0.5) * sheet.wide, y, 11, column * sheet.each + 1, "middle") for y in lines]

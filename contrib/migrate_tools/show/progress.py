@@ -62,8 +62,7 @@ def told(given: argparse.Namespace, plan: Plan, sizes: dict[str, int] | None, di
     weights = [sizes[it.item] if sizes else 1 for it in shifts]
     rounds = sum(stand.done.issuperset(range(low, high)) for low, high in zip(first, first[1:]))
     found: dict[str, Any] = {"time": round(now, 1), "rounds": len(plan.rounds), "rounds_done": rounds,
-                             "items": len(shifts),
-                             "items_done": len(stand.done)}
+                             "items": len(shifts), "items_done": len(stand.done)}
     done = sum(weights[it] for it in stand.done)
     found |= {"bytes": sum(weights), "bytes_done": done} if sizes else {}
     found |= {"parked": plan.parked()} if plan.parked() else {}

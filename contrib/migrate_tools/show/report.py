@@ -25,7 +25,7 @@ def used_slots(plan: Plan, disks: Disks, path: str) -> dict[str, int]:
     for at, (item, disk, slot) in read_rows(path, "item,disk,slot"):
         if disk not in disks:
             raise Wrong(f"there is no disk {disk}", path, at)
-        spots[item] = disk, number(slot, 0, disks[disk].slots - 1, f"{path} row {at}")
+        spots[item] = disk, number(slot, 0, disks[disk].slots - 1, path, at)
     used = collections.Counter(disk for disk, _ in spots.values())
     for at, shifts in enumerate(plan.rounds, 1):
         for it in shifts:
@@ -86,6 +86,26 @@ def busiest(plan: Plan, disks: Disks, marked: set[str]) -> tuple[dict[str, int],
     return needs, "\n".join(rows)
 
 
+def page_of(plan: Plan, disks: Disks, used: Mapping[str, int], cert: Cert | None, path: str) -> str:
+    """The page of a plan, which has this path. `used` has the slots in use before the first round."""
+    marked = {it.disk for it in cert.bound.sides} if cert and cert.bound else set()
+    needs, rows = busiest(plan, disks, marked)
+    numbers = {name: at for at, name in enumerate(disks)}
+    data = {"disks": [[name, used[name], it.slots, list(it.limits), needs[name], name in marked]
+                      for name, it in disks.items()],
+            "split": is_split(disks),
+            "rounds": [[[it.item, numbers[it.source], numbers[it.target]] for it in shifts] for shifts in plan.rounds]}
+    page = read_text(os.path.join(os.path.dirname(os.path.realpath(__file__)), "report.html"))
+    counts = plural(len(plan.shifts()), "transfer"), plural(len(plan.rounds), "round"), plural(len(disks), "disk")
+    title = "{} in {} on {}".format(*counts)
+    places = {"TITLE": title, "PLAN": html.escape(os.path.basename(path)),
+              "WHY": why_not_shorter(plan, cert, limits_by_side(disks)), "BUSIEST": rows,
+              "DATA": json.dumps(data, separators=(",", ":"))}
+    for place, text in places.items():
+        page = page.replace("{{" + place + "}}", text)
+    return page
+
+
 @command
 def main() -> None:
     reader = words(__doc__, "plan", "disks", "now")
@@ -97,19 +117,5 @@ def main() -> None:
     used, cert = used_slots(plan, disks, given.now), read_cert(given.cert, disks) if given.cert else None
     if cert and cert.rounds != len(plan.rounds):
         raise Wrong("is the certificate of another plan", given.cert)
-    marked = {it.disk for it in cert.bound.sides} if cert and cert.bound else set()
-    needs, rows = busiest(plan, disks, marked)
-    numbers = {name: at for at, name in enumerate(disks)}
-    data = {"disks": [[name, used[name], it.slots, list(it.limits), needs[name], name in marked]
-                      for name, it in disks.items()],
-            "split": is_split(disks),
-            "rounds": [[[it.item, numbers[it.source], numbers[it.target]] for it in shifts] for shifts in plan.rounds]}
-    page = read_text(os.path.join(os.path.dirname(os.path.realpath(__file__)), "report.html"))
-    counts = plural(len(plan.shifts()), "transfer"), plural(len(plan.rounds), "round"), plural(len(disks), "disk")
-    title = "{} in {} on {}".format(*counts)
-    places = {"TITLE": title, "PLAN": html.escape(os.path.basename(given.plan)),
-              "WHY": why_not_shorter(plan, cert, limits_by_side(disks)), "BUSIEST": rows,
-              "DATA": json.dumps(data, separators=(",", ":"))}
-    for place, text in places.items():
-        page = page.replace("{{" + place + "}}", text)
-    put(page, given.out, [it for it in (given.plan, given.disks, given.now, given.cert) if it])
+    put(page_of(plan, disks, used, cert, given.plan), given.out,
+        [it for it in (given.plan, given.disks, given.now, given.cert) if it])
