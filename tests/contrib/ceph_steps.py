@@ -134,6 +134,9 @@ def watch(room, name, limit):
         fills = filling(cluster_.pool(group)[0], to, there[group])
         return to, [f"out {fills}", *(f"in {it}" for it in to if it not in there[group])]
 
+    def in_of(group):
+        return ",".join(it[3:] for it in ends(group)[1][1:]) or "-"
+
     def fits(its):
         return all(not used[it] or used[it] < limit for it in its)
 
@@ -150,6 +153,8 @@ def watch(room, name, limit):
         elif word == "clean" and group in under:
             clean.add(group)
         elif word == "set":
+            while in_of(group) != said.split(" ")[2]:  # several go at once
+                left[group].pop(0)
             to, its = ends(group)
             is_free = group not in under and fits(its)
             Count.that(f"{name}: {group} is set once the step before is done, and has places", is_free, its)
@@ -195,7 +200,9 @@ def eager_ceph():
                 Count.same(f"{name}: {script}", room.good(name, f"sh {script} >log; tail -n 1 log"), DONE)
                 ended(room, f"{name}, {script}")
                 looks[limit, ahead, script] = room.read("state/events").split("\n").count("look")
-            Count.same(f"{name}: each command once", sorted(room.read("state/log").splitlines()), lines)
+            run, last = room.read("state/log").splitlines(), {it.split()[3]: it for it in printed(room, "eager.sh")}
+            Count.that(f"{name}: each command at most once, the last of each group", len(set(run)) == len(run)
+                       and {*last.values()} <= {*run} <= {*lines}, run)
             if not ahead:
                 idle, count = watch(room, name, limit)
                 Count.that(f"{name}: nothing waits that could begin, several go", not idle and count > 2, idle)
