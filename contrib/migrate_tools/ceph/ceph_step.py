@@ -174,8 +174,9 @@ class Carrier:
         return placed is not None and placed.is_clean()
 
     def due(self, left: Sequence[int], under: Sequence[int]) -> list[int]:
-        """The steps that may begin: those first that find each place free, in their order, then those that go ahead
-        and wait for the fewest. While a group is ill that was not so at first none may."""
+        """The steps that may begin: those first that find each place free, groups with the most steps left and then
+        their order, then those that go ahead and wait for the fewest. While a group is ill that was not so at first
+        none may."""
         busy: dict[str, collections.Counter[str]] = collections.defaultdict(collections.Counter)
         for it in under:
             self.together(self.steps[it], busy[self.steps[it].group])
@@ -186,6 +187,7 @@ class Carrier:
             if self.steps[number].group not in busy:
                 ready.append(number)
             busy[self.steps[number].group].update()
+        ready.sort(key=lambda it: self.place[it] - len(self.chains[self.steps[it].group]))
         for most in (0, 1, 2, 1 << 10)[: 4 if self.ahead else 1]:  # at so many OSDs it may have to wait
             taken = set()
             for number in ready:
