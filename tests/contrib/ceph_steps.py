@@ -201,6 +201,7 @@ def eager_ceph():
                 ended(room, f"{name}, {script}")
                 looks[limit, ahead, script] = room.read("state/events").split("\n").count("look")
             run, last = room.read("state/log").splitlines(), {it.split()[3]: it for it in printed(room, "eager.sh")}
+            Count.that(f"{name}: what a group still has to do goes together where it can", len(run) < len(lines), run)
             Count.that(f"{name}: each command at most once, the last of each group", len(set(run)) == len(run)
                        and {*last.values()} <= {*run} <= {*lines}, run)
             if not ahead:
@@ -232,6 +233,11 @@ def eager_ceph_stops():
             Count.same(f"{name}: its key is gone", room.state("ceph.json").get("keys"), {})
         Count.same(f"{name}: the rest", room.good(name, "sh eager.sh >>log; tail -n 1 log"), DONE)
         ended(room, name)
+        room.write("less", f"#!/bin/sh\n[ $1 = pg ] && kill -INT $PPID && exit 13\nexec {room.path('bin/ceph')} \"$@\"\n")
+        room.good(name, "mkdir cut && chmod +x less && mv less cut/ceph")
+        ran = room.run("PATH=$PWD/cut:$PATH sh eager.sh")
+        is_said = ran.returncode == 130 and "stopped in round 1" in ran.stderr and "asked again" not in ran.stdout
+        Count.that(f"{name}: a signal that ends what it called too", is_said, ran)
         # outside of a window, a pause, and an end by --until
         begun(room, state)
         hours = "-".join(time.strftime("%H:%M", time.localtime(time.time() + it * 3600)) for it in (2, 3))

@@ -107,6 +107,7 @@ class Carrier:
                 now = view()
                 check.result()
         except Silent as why:
+            self.rest(0)  # a signal ends what it called too
             self.says(f"{why}; it is asked again")
             return False
         if now.error:
