@@ -233,7 +233,8 @@ def eager_ceph_stops():
             Count.same(f"{name}: its key is gone", room.state("ceph.json").get("keys"), {})
         Count.same(f"{name}: the rest", room.good(name, "sh eager.sh >>log; tail -n 1 log"), DONE)
         ended(room, name)
-        room.write("less", f"#!/bin/sh\n[ $1 = pg ] && kill -INT $PPID && exit 13\nexec {room.path('bin/ceph')} \"$@\"\n")
+        ends = "[ $1 = pg ] && kill -INT $PPID && exit 13"
+        room.write("less", f"#!/bin/sh\n{ends}\nexec {room.path('bin/ceph')} \"$@\"\n")
         room.good(name, "mkdir cut && chmod +x less && mv less cut/ceph")
         ran = room.run("PATH=$PWD/cut:$PATH sh eager.sh")
         is_said = ran.returncode == 130 and "stopped in round 1" in ran.stderr and "asked again" not in ran.stdout
@@ -361,4 +362,17 @@ def held_ceph():
                 Count.same(f"{script} {words} once more: nothing goes back", room.read("state/log"), None)
 
 
-CASES = (eager_ceph, eager_ceph_stops, what_stops_ceph, the_script_of_ceph, held_ceph, one_at_a_time, what_has_arrived)
+def looks_of_ceph():
+    """The time between two looks: short after something happened, long while something may be wrong."""
+    carrier, given = ceph_step.Carrier([], {}, 0, Clock(), None), os.environ.pop("PAUSE", None)
+    for ago, looks, wanted in ((0, {}, 1), (40, {}, 10), (9999, {}, 30), (0, {("4.1", "ill"): 1}, 30),
+                               (40, {("4.1", "peering"): 5}, 10), (40, {("4.1", "elsewhere"): 6}, 30)):
+        carrier.since, carrier.looks = time.monotonic() - ago, looks
+        Count.same(f"the pause {ago} s after a step, {looks}", round(carrier.pause()), wanted)
+    os.environ["PAUSE"] = "7"
+    Count.same("as it is said", carrier.pause(), 7)
+    os.environ.pop("PAUSE") if given is None else os.environ.update(PAUSE=given)
+
+
+CASES = (eager_ceph, eager_ceph_stops, what_stops_ceph, the_script_of_ceph, held_ceph, one_at_a_time, what_has_arrived,
+         looks_of_ceph)

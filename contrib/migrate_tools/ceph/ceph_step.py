@@ -3,15 +3,16 @@
 A step is the words of its line. It sets the exceptions of its placement group by `ceph osd pg-upmap-items`, waits until
 the group is active and clean on its OSDs, and says so. What is there already, or gone on from there, is passed over. So
 a script, or a line of it, can be begun again at any time. A round begins once all steps before it are done. With
---limits none but round 0 is waited for: a step begins as soon as each OSD at which it counts has a place free, the
-first of the list first, and each look at the cluster is for all of them.
+--limits none but round 0 is waited for: a step begins as soon as each OSD at which it counts has a place free, and with
+it those of its group after it that find theirs free too; groups with the most steps left and then the first of the list
+come first. Each look at the cluster is for all of them.
 
 It stops, with a sentence and status 1, where an exception that it set is gone, or another one is there; where a group
 gets no place on an OSD that is too full, is degraded or can't be used at three looks, which it wasn't at first; where
 a group has come to rest elsewhere, since the weights are others than planned; and at HEALTH_ERR. What is under way then
 goes on. One such script works on a cluster at a time, by the key migrate/ceph-step of `ceph config-key`. The time
-between two looks is $PAUSE, 30 seconds."""
-import argparse, collections, itertools, os, signal, threading
+between two looks is $PAUSE seconds; else 1 to 30, a quarter of the time since a step began or was done."""
+import argparse, collections, itertools, os, signal, threading, time
 from collections.abc import Sequence
 from concurrent.futures import ThreadPoolExecutor
 from types import FrameType
@@ -50,7 +51,7 @@ class Carrier:
         self.now: View | None = None
         self.ill_at_first: set[str] = set()
         self.looks: collections.Counter[tuple[str, str]] = collections.Counter()  # in a row, by group and what is seen
-        self.round, self.said, self.stopped = 0, "", threading.Event()
+        self.round, self.said, self.since, self.stopped = 0, "", time.monotonic(), threading.Event()
 
     def carry_out(self, first: int) -> None:
         """Round by round from this one on; with limits none but round 0 is waited for."""
@@ -91,8 +92,14 @@ class Carrier:
 
     def rest(self, seconds: float | None = None) -> None:
         """Waits for the next look. Nothing is broken off by a signal but this."""
-        if self.stopped.wait(float(os.environ.get("PAUSE", "30")) if seconds is None else seconds):
+        if self.stopped.wait(self.pause() if seconds is None else seconds):
             raise Stopped
+
+    def pause(self) -> float:
+        """The seconds until the next look. What is seen that may stop it gets the time to pass by."""
+        is_odd = any(what == "ill" or count > 5 for (_, what), count in self.looks.items())
+        calm = min(30, max(1, (time.monotonic() - self.since) / 4))
+        return float(os.environ.get("PAUSE") or (30 if is_odd else calm))
 
     def says(self, text: str) -> None:
         if text != self.said:
@@ -158,6 +165,7 @@ class Carrier:
         """These are done."""
         for number in (it for it in numbers if it not in self.done):
             self.done.add(number)
+            self.since = time.monotonic()
             self.each("copied", self.steps[number])
 
     def each(self, word: str, step: Step) -> None:
@@ -243,6 +251,7 @@ class Carrier:
                 list(pool.map(lambda it: ceph(*self.steps[it].command()), these))
                 self.set_.update((self.steps[it].group, self.place[it]) for it in these)
                 begun += len(these)
+                self.since = time.monotonic()
                 if self.round == 0:
                     self.says(f"round 0: {begun} of {len(numbers)} groups are set")
         return begun
