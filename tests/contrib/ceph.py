@@ -5,6 +5,7 @@ import copy, json, os, random, re, shutil
 from ceph_model import NO_OSD, Cluster, Made, exceptions_in, filling, groups_in, numbers, up_of
 from refusals import SMALL, lists
 from limits_model import Case
+from migrate_tools.ceph import groups
 from rooms import Count, Room, page, refused, rows_of, shifts_of
 
 FOUR = "before after dump crush"
@@ -275,17 +276,34 @@ def odd_clusters():
         refused(room, "a chain taken on", f"contrib/from-ceph {FOUR}", "its exceptions put placement group 1.0 else")
 
 
+# a running cluster's: of some groups the OSDs that CRUSH chose, and which of them was the primary, where osd.2, 5, 8
+# and 9 have an affinity of 0.5, and osd.6 of 0
+SHY = """2.1 4,10,2 0; 2.6 2,0,4 1; 2.7 8,0,2 0; 2.9 6,2,10 2; 2.a 2,4,0 1; 2.d 6,8,2 2; 2.f 6,2,8 1; 2.1a 4,8,2 0;
+2.1b 6,8,0 2; 2.1d 6,4,0 1; 2.1e 2,0,8 0; 2.1f 2,4,6 0; 3.3 9,5 0; 3.4 9,3 1; 3.8 5,1 0; 5.3 2,10,1 0; 5.4 8,5,2 0;
+5.5 5,9,10 1; 5.8 5,1,6 1; 5.9 10,0,5 0; 5.c 8,6,5 0; 5.f 2,0,5 0"""
+
+
 def shy_primaries():
-    """Who fills a group where OSDs have a primary affinity: what was not its primary is not, and 0 is never."""
-    for affinity, before, after, wanted in (("", "0,2,4", "0,2,8", "osd.0"), ("0", "0,2,4", "0,2,8", "osd.2"),
-                                            ("0.3", "2,0,4", "0,2,8", "osd.2"), ("0.3", "0,2,4", "0,2,8", "osd.0")):
+    """Who fills a group where OSDs have a primary affinity, for each group of its own: what Ceph draws, and 0 never."""
+    pools = "".join(f"pool {it} 'p' replicated size 3 min_size 2 crush_rule 0 object_hash rjenkins pg_num 32 pgp_num "
+                    f"{count} flags hashpspool stripe_width 0\n" for it, count in ((2, 32), (3, 16), (5, 16)))
+    osds = "".join(f"osd.{it} up   in  weight 1 primary_affinity {part} up_from 16\n"
+                   for it, part in ((2, 0.5), (5, 0.5), (6, 0), (8, 0.5), (9, 0.5)))
+    with Room() as room:
+        room.write("dump", pools + osds)
+        shy = groups.read_shy(room.path("dump"))
+    for name, chosen, wanted in (it.split() for it in SHY.split(";")):
+        found = [at for at, osd in enumerate(numbers(chosen)) if osd not in shy(name)]
+        Count.same(f"the primary of {name}", [*found, 0][0], int(wanted))
+    Count.same("groups that are placed as one", shy("3.14"), shy("3.4"))
+    for affinity, wanted in (("", "osd.0"), ("0", "osd.2"), ("0.999999", "osd.0")):
         with Room() as room:
             said = f"osd.0 up   in  weight 1 primary_affinity {affinity} up_from 0\n" if affinity else ""
-            for path, text in (("before", lists(("1.0", "0,2,4", before))), ("after", lists(("1.0", "0,2,8", after))),
-                               ("dump", SMALL["epoch"] + said), ("crush", SMALL["crush"])):
+            for path, text in (("before", lists(("1.0", "0,2,4", "0,2,4"))), ("crush", SMALL["crush"]),
+                               ("after", lists(("1.0", "0,2,8", "0,2,8"))), ("dump", SMALL["epoch"] + said)):
                 room.write(path, text)
             room.good("affinity", f"contrib/from-ceph {FOUR} --moving")
-            Count.same(f"affinity {affinity}, {before}", rows_of(room.read("now.csv")), [["1.0-4", wanted, "0"]])
+            Count.same(f"affinity {affinity}", rows_of(room.read("now.csv")), [["1.0-4", wanted, "0"]])
 
 
 def byte_sizes_of_ceph():

@@ -134,6 +134,9 @@ def watch(room, name, limit):
         fills = filling(cluster_.pool(group)[0], to, there[group])
         return to, [f"out {fills}", *(f"in {it}" for it in to if it not in there[group])]
 
+    def in_of(group):
+        return ",".join(it[3:] for it in ends(group)[1][1:]) or "-"
+
     def fits(its):
         return all(not used[it] or used[it] < limit for it in its)
 
@@ -150,6 +153,8 @@ def watch(room, name, limit):
         elif word == "clean" and group in under:
             clean.add(group)
         elif word == "set":
+            while in_of(group) != said.split(" ")[2]:  # several go at once
+                left[group].pop(0)
             to, its = ends(group)
             is_free = group not in under and fits(its)
             Count.that(f"{name}: {group} is set once the step before is done, and has places", is_free, its)
@@ -195,7 +200,10 @@ def eager_ceph():
                 Count.same(f"{name}: {script}", room.good(name, f"sh {script} >log; tail -n 1 log"), DONE)
                 ended(room, f"{name}, {script}")
                 looks[limit, ahead, script] = room.read("state/events").split("\n").count("look")
-            Count.same(f"{name}: each command once", sorted(room.read("state/log").splitlines()), lines)
+            run, last = room.read("state/log").splitlines(), {it.split()[3]: it for it in printed(room, "eager.sh")}
+            Count.that(f"{name}: what a group still has to do goes together where it can", len(run) < len(lines), run)
+            Count.that(f"{name}: each command at most once, the last of each group", len(set(run)) == len(run)
+                       and {*last.values()} <= {*run} <= {*lines}, run)
             if not ahead:
                 idle, count = watch(room, name, limit)
                 Count.that(f"{name}: nothing waits that could begin, several go", not idle and count > 2, idle)
@@ -225,6 +233,12 @@ def eager_ceph_stops():
             Count.same(f"{name}: its key is gone", room.state("ceph.json").get("keys"), {})
         Count.same(f"{name}: the rest", room.good(name, "sh eager.sh >>log; tail -n 1 log"), DONE)
         ended(room, name)
+        ends = "[ $1 = pg ] && kill -INT $PPID && exit 13"
+        room.write("less", f"#!/bin/sh\n{ends}\nexec {room.path('bin/ceph')} \"$@\"\n")
+        room.good(name, "mkdir cut && chmod +x less && mv less cut/ceph")
+        ran = room.run("PATH=$PWD/cut:$PATH sh eager.sh")
+        is_said = ran.returncode == 130 and "stopped in round 1" in ran.stderr and "asked again" not in ran.stdout
+        Count.that(f"{name}: a signal that ends what it called too", is_said, ran)
         # outside of a window, a pause, and an end by --until
         begun(room, state)
         hours = "-".join(time.strftime("%H:%M", time.localtime(time.time() + it * 3600)) for it in (2, 3))
@@ -348,4 +362,17 @@ def held_ceph():
                 Count.same(f"{script} {words} once more: nothing goes back", room.read("state/log"), None)
 
 
-CASES = (eager_ceph, eager_ceph_stops, what_stops_ceph, the_script_of_ceph, held_ceph, one_at_a_time, what_has_arrived)
+def looks_of_ceph():
+    """The time between two looks: short after something happened, long while something may be wrong."""
+    carrier, given = ceph_step.Carrier([], {}, 0, Clock(), None), os.environ.pop("PAUSE", None)
+    for ago, looks, wanted in ((0, {}, 1), (40, {}, 10), (9999, {}, 30), (0, {("4.1", "ill"): 1}, 30),
+                               (40, {("4.1", "peering"): 5}, 10), (40, {("4.1", "elsewhere"): 6}, 30)):
+        carrier.since, carrier.looks = time.monotonic() - ago, looks
+        Count.same(f"the pause {ago} s after a step, {looks}", round(carrier.pause()), wanted)
+    os.environ["PAUSE"] = "7"
+    Count.same("as it is said", carrier.pause(), 7)
+    os.environ.pop("PAUSE") if given is None else os.environ.update(PAUSE=given)
+
+
+CASES = (eager_ceph, eager_ceph_stops, what_stops_ceph, the_script_of_ceph, held_ceph, one_at_a_time, what_has_arrived,
+         looks_of_ceph)

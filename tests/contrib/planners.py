@@ -128,7 +128,8 @@ def plans_of_folders():
             same(f"{name}: once more, and there",
                  (room.run("sh p/move.sh").returncode, room.good(name, "find mnt/a ! -type d")), (0, ""))
     with Room() as room:
-        room.good("plan-folders", "mkdir -p mnt/a/x mnt/b; head -c 99999 /dev/zero >mnt/a/x/file")
+        room.good("plan-folders", """mkdir -p mnt/a/x mnt/b; head -c 99999 /dev/zero >mnt/a/x/file
+            ln -s none mnt/a/x/broken; ln -s none mnt/a/link; truncate -s 9M mnt/a/x/holes; mkfifo mnt/a/x/fifo""")
         said = room.good("plan-folders", "contrib/plan-folders mnt/* --empty mnt/a --into p")
         that("a rate that is measured", re.search(r"^  with .*iB a second, as \S*/mnt/a/x/file is read$", said, re.M),
              said)

@@ -3,15 +3,16 @@
 A step is the words of its line. It sets the exceptions of its placement group by `ceph osd pg-upmap-items`, waits until
 the group is active and clean on its OSDs, and says so. What is there already, or gone on from there, is passed over. So
 a script, or a line of it, can be begun again at any time. A round begins once all steps before it are done. With
---limits none but round 0 is waited for: a step begins as soon as each OSD at which it counts has a place free, the
-first of the list first, and each look at the cluster is for all of them.
+--limits none but round 0 is waited for: a step begins as soon as each OSD at which it counts has a place free, and with
+it those of its group after it that find theirs free too; groups with the most steps left and then the first of the list
+come first. Each look at the cluster is for all of them.
 
 It stops, with a sentence and status 1, where an exception that it set is gone, or another one is there; where a group
 gets no place on an OSD that is too full, is degraded or can't be used at three looks, which it wasn't at first; where
 a group has come to rest elsewhere, since the weights are others than planned; and at HEALTH_ERR. What is under way then
 goes on. One such script works on a cluster at a time, by the key migrate/ceph-step of `ceph config-key`. The time
-between two looks is $PAUSE, 30 seconds."""
-import argparse, collections, itertools, os, signal, threading
+between two looks is $PAUSE seconds; else 1 to 30, a quarter of the time since a step began or was done."""
+import argparse, collections, itertools, os, signal, threading, time
 from collections.abc import Sequence
 from concurrent.futures import ThreadPoolExecutor
 from types import FrameType
@@ -20,7 +21,7 @@ from ..clock import Clock, add_times, round_of, tell
 from ..command import Wrong, command, note, put, read_text, words
 from .cluster import AT_ONCE, LOCK, Key, Silent, View, ceph, is_balancing, view
 from .locks import Lock
-from .steps import Step, pairs_text, read_step
+from .steps import Counts, Step, pairs_text, read_step
 
 MOST = {"ill": 3, "peering": 10, "elsewhere": 10}  # so many looks in a row, and it stops
 
@@ -50,7 +51,7 @@ class Carrier:
         self.now: View | None = None
         self.ill_at_first: set[str] = set()
         self.looks: collections.Counter[tuple[str, str]] = collections.Counter()  # in a row, by group and what is seen
-        self.round, self.said, self.stopped = 0, "", threading.Event()
+        self.round, self.said, self.since, self.stopped = 0, "", time.monotonic(), threading.Event()
 
     def carry_out(self, first: int) -> None:
         """Round by round from this one on; with limits none but round 0 is waited for."""
@@ -91,8 +92,14 @@ class Carrier:
 
     def rest(self, seconds: float | None = None) -> None:
         """Waits for the next look. Nothing is broken off by a signal but this."""
-        if self.stopped.wait(float(os.environ.get("PAUSE", "30")) if seconds is None else seconds):
+        if self.stopped.wait(self.pause() if seconds is None else seconds):
             raise Stopped
+
+    def pause(self) -> float:
+        """The seconds until the next look. What is seen that may stop it gets the time to pass by."""
+        is_odd = any(what == "ill" or count > 5 for (_, what), count in self.looks.items())
+        calm = min(30, max(1, (time.monotonic() - self.since) / 4))
+        return float(os.environ.get("PAUSE") or (30 if is_odd else calm))
 
     def says(self, text: str) -> None:
         if text != self.said:
@@ -107,6 +114,7 @@ class Carrier:
                 now = view()
                 check.result()
         except Silent as why:
+            self.rest(0)  # a signal ends what it called too
             self.says(f"{why}; it is asked again")
             return False
         if now.error:
@@ -117,7 +125,8 @@ class Carrier:
         self.ill = ill - self.ill_at_first
         for group, chain in self.chains.items():
             at = self.at[group] = self.where(group, now)
-            self.passed([it for it in chain[: at + 1] if it != chain[at] or self.is_there(self.steps[it], now)])
+            if at >= 0 and self.is_there(self.steps[chain[at]], now):
+                self.passed(chain[: at + 1])
             if at >= 0 and chain[at] not in self.done and self.rests(self.steps[chain[at]], now):
                 seen.add((group, "elsewhere"))
         seen |= {(name, "ill") for name in self.ill}
@@ -156,6 +165,7 @@ class Carrier:
         """These are done."""
         for number in (it for it in numbers if it not in self.done):
             self.done.add(number)
+            self.since = time.monotonic()
             self.each("copied", self.steps[number])
 
     def each(self, word: str, step: Step) -> None:
@@ -173,36 +183,59 @@ class Carrier:
         return placed is not None and placed.is_clean()
 
     def due(self, left: Sequence[int], under: Sequence[int]) -> list[int]:
-        """The steps that may begin: those first that find each place free, in their order, then those that go ahead
-        and wait for the fewest. While a group is ill that was not so at first none may."""
-        used: collections.Counter[str] = collections.Counter()
+        """The steps that may begin: those first that find each place free, groups with the most steps left and then
+        their order, then those that go ahead and wait for the fewest. While a group is ill that was not so at first
+        none may."""
+        busy: dict[str, collections.Counter[str]] = collections.defaultdict(collections.Counter)
         for it in under:
-            used.update(self.steps[it].counts)
+            self.together(self.steps[it], busy[self.steps[it].group])
+        used = sum(busy.values(), collections.Counter[str]())
         found: list[int] = []
-        ready, busy = [], {self.steps[it].group for it in under}
+        ready = []
         for number in left if not self.ill else ():
             if self.steps[number].group not in busy:
                 ready.append(number)
-            busy.add(self.steps[number].group)
+            busy[self.steps[number].group].update()
+        ready.sort(key=lambda it: self.place[it] - len(self.chains[self.steps[it].group]))
         for most in (0, 1, 2, 1 << 10)[: 4 if self.ahead else 1]:  # at so many OSDs it may have to wait
             taken = set()
             for number in ready:
-                step = self.steps[number]
-                full = self.full(step, used, 0)
-                if len(full) <= most and not (full and self.full(step, used, self.ahead)):
-                    used.update(step.counts)
+                counts = self.steps[number].counts
+                full = self.full(counts, used, 0)
+                if len(full) <= most and not (full and self.full(counts, used, self.ahead)):
                     taken.add(number)
+                    found.append(self.last(number, used))
                 for side in full if not most else ():  # one that wants several places keeps others from it till then
-                    used[side] += 1 << 20 if step.counts[side] > 1 else 0
-            found += sorted(taken)
+                    used[side] += 1 << 20 if counts[side] > 1 else 0
             ready = [it for it in ready if it not in taken]
         return found
 
-    def full(self, step: Step, used: collections.Counter[str], ahead: int) -> list[str]:
-        """Where a step finds no place, with so many more than the limits."""
+    def full(self, counts: Counts, used: collections.Counter[str], ahead: int) -> list[str]:
+        """Where what counts so finds no place, with so many more than the limits."""
         limits = ((side, self.limits.get(side) or self.limits[side.partition("/")[2] or "osd"])
-                  for side in (step.counts if self.limits else ()))
-        return [side for side, most in limits if used[side] and used[side] + step.counts[side] > most + ahead]
+                  for side in (counts if self.limits else ()))
+        return [side for side, most in limits if used[side] and used[side] + counts[side] > most + ahead]
+
+    @staticmethod
+    def together(step: Step, counts: collections.Counter[str]) -> Counts:
+        """Adds where a step counts to where those of its group do that are carried out together with it, and gives what
+        is new: Ceph counts a group once at the OSD that fills it."""
+        new = {side: count for side, count in step.counts.items() if not (side in counts and side.endswith("/out"))}
+        counts.update(new)
+        return new
+
+    def last(self, number: int, used: collections.Counter[str]) -> int:
+        """Takes the places of a step, and of those after it of its group that find theirs free too, which are carried
+        out together with it by the exceptions of the last. Answers which that is."""
+        chain, counts = self.chains[self.steps[number].group], collections.Counter[str]()
+        used.update(self.together(self.steps[number], counts))
+        for it in chain[self.place[number] + 1 :] if self.limits and self.round else ():
+            new = self.together(self.steps[it], counts)
+            if self.full(new, used, 0):
+                break
+            used.update(new)
+            number = it
+        return number
 
     def begin(self, numbers: Sequence[int], eager: bool) -> int:
         """Sets the exceptions of these, several at once; none with `eager` while the clock holds. Answers how many."""
@@ -212,10 +245,13 @@ class Carrier:
                 self.rest(0)
                 these = numbers[begun : begun + AT_ONCE]
                 for number in these:
-                    self.each("copying", self.steps[number])
+                    group, at = self.steps[number].group, self.place[number]
+                    for it in self.chains[group][self.at[group] + 1 : at + 1]:
+                        self.each("copying", self.steps[it])
                 list(pool.map(lambda it: ceph(*self.steps[it].command()), these))
                 self.set_.update((self.steps[it].group, self.place[it]) for it in these)
                 begun += len(these)
+                self.since = time.monotonic()
                 if self.round == 0:
                     self.says(f"round 0: {begun} of {len(numbers)} groups are set")
         return begun

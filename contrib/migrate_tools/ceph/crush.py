@@ -87,3 +87,17 @@ def landed(chosen: Sequence[int], pairs: Pairs) -> list[int]:
         if one in osds and two not in osds and one in chosen:
             osds[osds.index(one)] = two
     return osds
+
+
+def hashed(one: int, two: int) -> int:
+    """The hash of two numbers by which Ceph places and draws (rjenkins1)."""
+    def mixed(a: int, b: int, c: int) -> tuple[int, int, int]:
+        for left, up, right in ((13, 8, 13), (12, 16, 5), (3, 10, 15)):
+            a = (a - b - c ^ c >> left) & 0xFFFFFFFF
+            b = (b - c - a ^ a << up) & 0xFFFFFFFF
+            c = (c - a - b ^ b >> right) & 0xFFFFFFFF
+        return a, b, c
+
+    one, two, all_ = mixed(one, two, 1315423911 ^ one ^ two)
+    _, one, all_ = mixed(231232, one, all_)
+    return mixed(two, 1232, all_)[2]

@@ -1,17 +1,18 @@
 """What from-ceph and to-ceph read: the placement groups of a change, and their pools' rules. What cannot be carried out
 is named."""
 import argparse, functools, json, re
-from collections.abc import Iterator, Mapping
+from collections.abc import Callable, Iterator, Mapping
 from dataclasses import dataclass, replace
 from typing import NamedTuple
 from ..command import Wrong, note, read_text, words
-from .crush import Pairs, Rule, landed, paired
+from .crush import Pairs, Rule, hashed, landed, paired
 
 OSDS = r"\(\[([0-9,]*)\], p-?[0-9]+\)"
 LINE = re.compile(rf"([0-9]+\.[0-9a-f]+) raw {OSDS} up {OSDS} acting {OSDS}", re.ASCII)
 POOL = re.compile(r"^pool ([0-9]+) '.*' (replicated|erasure) (?:profile \S+ )?size ([0-9]+) min_size [0-9]+ "
                   r"crush_rule ([0-9]+) ", re.ASCII | re.M)
-NEVER = re.compile(r"^osd\.([0-9]+) .* primary_affinity 0 ", re.ASCII | re.M)
+PLACED = re.compile(r"^pool ([0-9]+) '.*' .* pgp_num ([0-9]+) .*\bflags (\S+)", re.ASCII | re.M)
+AFFINITY = re.compile(r"^osd\.([0-9]+) .* primary_affinity ([0-9.e-]+) ", re.ASCII | re.M)
 NO_OSD = 2147483647
 FILES = """
 
@@ -128,11 +129,9 @@ class Group:
             late = []
             yield at, osds, pairs
 
-    def turned(self, now: list[int], pairs: Pairs, never: frozenset[int]) -> "Group":
+    def turned(self, now: list[int], pairs: Pairs) -> "Group":
         """The way back from where these exceptions have put it."""
-        order = landed(self.chosen, pairs)
-        shy = frozenset() if self.shards else shy_of(never, order, now) | shy_of(never, order, self.before)
-        return replace(self, before=now, after=self.before, old=pairs, shy=shy)
+        return replace(self, before=now, after=self.before, old=pairs)
 
     def refusal(self, then: list[int], hold: bool) -> str:
         """Why it cannot be carried out; empty where it can. `then` is what CRUSH chooses after the change."""
@@ -222,13 +221,23 @@ def read_pools(dump: str, crush: str) -> tuple[dict[str, Pool], dict[str, Pairs 
     return pools, old
 
 
-def shy_of(never: frozenset[int], order: list[int], up: list[int]) -> frozenset[int]:
-    """Those that are not the primary of a group of copies that is on `up` where exceptions put it in this order."""
-    return never.union(order[: order.index(up[0])]) if up and up[0] in order[1:] else never
+def read_shy(dump: str) -> Callable[[str], frozenset[int]]:
+    """What tells of a placement group which OSDs are not its primary where another can be. By the affinity of an OSD
+    Ceph draws that for each group of its own, from a number that groups share where pgp_num is less than pg_num."""
+    text = read_text(dump)
+    shy = {int(osd): float(it) for osd, it in AFFINITY.findall(text) if float(it) < 1}
+    placed = {pool: (int(count), flags.split(",")) for pool, count, flags in PLACED.findall(text)}
 
+    def of(name: str) -> frozenset[int]:
+        pool, _, seed = name.partition(".")
+        count, flags = placed.get(pool, (1, []))
+        mask = (1 << (count - 1).bit_length()) - 1
+        at = int(seed, 16) & mask
+        at = at if at < count else at & mask >> 1
+        draw = hashed(at, int(pool)) if "hashpspool" in flags else at + int(pool)
+        return frozenset(it for it, most in shy.items() if hashed(draw, it) >> 16 >= most * 65536)
 
-def read_never(dump: str) -> frozenset[int]:
-    return frozenset(map(int, NEVER.findall(read_text(dump))))
+    return of
 
 
 def read_change(given: argparse.Namespace, leave_out: bool) -> tuple[dict[str, Group], list[str]]:
@@ -239,22 +248,19 @@ def read_change(given: argparse.Namespace, leave_out: bool) -> tuple[dict[str, G
         path = given.before if name in before else given.after
         raise Wrong(f"placement group {name} is in {path} alone: a change of pg_num is no move")
     pools, old = read_pools(given.dump, given.crush)
-    groups, refused, never = {}, list[str](), read_never(given.dump)
+    groups, refused, shy = {}, list[str](), read_shy(given.dump)
     for name, (chosen, osds) in before.items():
         if not (pool := pools.get(name.partition(".")[0])):
             raise Wrong(f"has no pool for placement group {name}", given.dump)
         then, next_ = after[name]
         now, path = (next_, given.after) if given.hold else (osds, given.before)
         chosen = then if given.hold else chosen
-        order, shy = landed(chosen, old.get(name) or []), frozenset[int]()
-        if not pool.shards:
-            shy = shy_of(never, order, now) | shy_of(never, landed(then, old.get(name) or []), next_)
-        group = Group(name, pool.rule, pool.shards, pool.size, chosen, osds, next_, old.get(name, []), shy)
+        group = Group(name, pool.rule, pool.shards, pool.size, chosen, osds, next_, old.get(name, []), shy(name))
         if why := group.refusal(then, given.hold):
             note(f"placement group {name} {why}")
             refused.append(name)
             continue
-        if group.old is not None and group.differ(order, now):
+        if group.old is not None and group.differ(landed(chosen, group.old), now):
             raise Wrong(f"is not of the map of {path}: its exceptions put placement group {name} elsewhere than on "
                         f"{now}", given.dump)
         groups[name] = group

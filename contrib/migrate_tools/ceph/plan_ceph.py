@@ -25,7 +25,7 @@ from .change import make
 from .cluster import Silent, all_of, backfills_of, ceph
 from .crush import landed
 from .from_ceph import case_of, files_of
-from .groups import Group, read_change, read_groups, read_never, read_pools
+from .groups import Group, read_change, read_groups, read_pools
 from .maps import DUMP, Change, Maps
 from .sizes import bytes_of, check_rooms, fullest, rooms_of, rows_of, sizes_of
 from .steps import Step, counts_of, limits_text, read_rounds, steps_of
@@ -123,11 +123,11 @@ class CephPlanner(Planner):
 
     def back(self, groups: Mapping[str, Group], steps: Sequence[Step], backfills: Sequence[str]) -> tuple[str, str]:
         """back.sh and its verdict: one step for each group, from any state in which move.sh leaves it."""
-        never, homes, starts = read_never(self.at("dump")), dict(groups), collections.defaultdict(list)
+        homes, starts = dict(groups), collections.defaultdict(list)
         for step in steps:
             starts[step.group].append(step.pairs)
         for name, step in {it.group: it for it in steps}.items():
-            homes[name] = groups[name].turned(step.osds(), step.pairs, never)
+            homes[name] = groups[name].turned(step.osds(), step.pairs)
             if why := homes[name].refusal(homes[name].chosen, False):
                 note(f"placement group {name} {why}")
                 del homes[name]

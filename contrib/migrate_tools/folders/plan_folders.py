@@ -5,7 +5,7 @@ It writes into FOLDER what `from-folders`, `migrate plan` and `report` make; mov
 `run-plan`; and back.sh, which undoes what move.sh has done so far, by the same plan. Both plans are checked. It prints
 what an operator decides by: moves and bytes, how long, what decides it, how full each disk gets. The wishes are those
 of from-folders: --empty MNT, --move ITEM=MNT, --spread, --balance N; --unit, --size, --limit and --slots too."""
-import os, shlex
+import os, shlex, stat
 from ..command import command, here, put, save_all
 from ..fullness import Room
 from ..plans import Plan, read_rows, table
@@ -48,6 +48,15 @@ def absolute(word: str) -> str:
     return f"{option}{is_}{os.path.abspath(path) if os.sep in path else path}{''.join(more)}"
 
 
+def held(path: str) -> int:
+    """How much a file has on its disk; 0 of what is no file, as a link or a fifo, or is gone."""
+    try:
+        it = os.lstat(path)
+    except OSError:
+        return 0
+    return it.st_blocks * stat.S_ISREG(it.st_mode)
+
+
 @command
 def main() -> None:
     reader = reader_of(__doc__, ("empty", "move", "limit", "slots", "size", "balance", "unit"))
@@ -69,5 +78,5 @@ def main() -> None:
     moving = {it.item for it in plan.shifts()}
     tops = [real for kind, name, real, _ in rows if kind == "item" and name in moving]
     files = (os.path.join(folder, it) for top in tops for folder, _, names in os.walk(top) for it in names)
-    path = max([*(it for it, _ in zip(files, range(1000))), *tops], key=os.path.getsize, default="")
+    path = max(filter(held, [*(it for it, _ in zip(files, range(1000))), *tops]), key=held, default="")
     put(planner.told(given.rate, path, path, rooms, None, 0))
