@@ -133,7 +133,7 @@ def plans_of_folders():
         said = room.good("plan-folders", "contrib/plan-folders mnt/* --empty mnt/a --into p")
         that("a rate that is measured", re.search(r"^  with .*iB a second, as \S*/mnt/a/x/file is read$", said, re.M),
              said)
-        room.good("plan-folders", "sh p/move.sh")
+        room.good("plan-folders", "sh p/move.sh; rm mnt/b/x/fifo")
         refused(room, "a plan that was begun", "contrib/plan-folders mnt/* --empty mnt/b --into p",
                 "p has a plan with its way back already")
         refused(room, "a wish that cannot be", "contrib/plan-folders mnt/* --empty mnt/none --into p/more",

@@ -195,7 +195,7 @@ class Carrier:
         for number in left if not self.ill else ():
             if self.steps[number].group not in busy:
                 ready.append(number)
-            busy[self.steps[number].group].update()
+            busy.setdefault(self.steps[number].group, collections.Counter())
         ready.sort(key=lambda it: self.place[it] - len(self.chains[self.steps[it].group]))
         for most in (0, 1, 2, 1 << 10)[: 4 if self.ahead else 1]:  # at so many OSDs it may have to wait
             taken = set()
