@@ -1,6 +1,6 @@
--- How a rehearsal ends, as a call of the program and as its promise; and lines that are added one by one.
+-- How a rehearsal ends, as a call of the program and as its promise.
 use Rattle.mig_top.proofs.Common.{Call, Done, Ending, EndsAs, FolderFault, IsListed, IsOrNotPut, IsRehearsalEnd, IsUntouched, List, Memory, Outcome, Rehearse, RehearsesWell, Result, Rose, SinkFault}
-use Rattle.mig_top.proofs.Common.{StoreFault, Untouched, WorldEnds, [], ap, case_in, code, flat_map_more, inl, inr, text_of_lines, ℕ, ◌++◌, ◌∙◌, ◌∷◌, ◌≡◌, ◌⊎◌}
+use Rattle.mig_top.proofs.Common.{StoreFault, Untouched, WorldEnds, [], case_in, code, inl, inr, ℕ, ◌≡◌, ◌⊎◌}
 use Rattle.mig_top.proofs.EndsOf.{ends_of, finishes_map, put_by}
 use Rattle.mig_top.specs.Ends.{Finishes, FormFinishes}
 
@@ -29,8 +29,3 @@ module _ {k : Call} {words : List (List ℕ)} {status : ℕ} (disks per_pair lim
       by FolderFault at h = absurd h.cause.1
       by (StoreFault before) at h = absurd h.cause.1
       by _ at h = absurd h.cause
-
--- Its text
-
-pub one_line : (old : List ℕ) (lines : List (List ℕ)) (line mid new : List ℕ) → mid ≡ old ++ text_of_lines lines → new ≡ mid ++ (line ++ 10 ∷ []) → new ≡ old ++ text_of_lines (lines ++ line ∷ [])
-one_line old lines line mid new so_far more = more ∙ ap (λ (xs : List ℕ). xs ++ (line ++ 10 ∷ [])) so_far ∙ flat_map_more (λ (l : List ℕ). l ++ 10 ∷ []) old lines line

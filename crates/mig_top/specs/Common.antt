@@ -3,7 +3,6 @@ pub use Rattle.hex.specs.Hex.{encode_lower}
 pub use Rattle.mig_base.specs.Arrivals.{IsArrived, IsHaltSafe, IsHalted, IsReached}
 pub use Rattle.mig_base.specs.Bounding.{bound_value, quotient}
 pub use Rattle.mig_base.specs.CertLines.{CertLine}
-pub use Rattle.mig_base.specs.Digits.{number_of}
 pub use Rattle.mig_base.specs.FaultCounts.{Rose}
 pub use Rattle.mig_base.specs.Flights.{AreFlights, IsTargetOf}
 pub use Rattle.mig_base.specs.Images.{Image, SameBut}
@@ -39,14 +38,13 @@ pub use Rattle.mig_drill.specs.Drills.{drill_text}
 pub use Rattle.mig_drill.specs.declared.limits.TheConstants.{MAX_DRILL_SHIFTS}
 pub use Rattle.mig_fill.specs.Fillings.{HasMade, IsFillRefusal, IsFillable}
 pub use Rattle.mig_fill.specs.declared.sights.Sight.{Sight}
-pub use Rattle.mig_gen.specs.MadeCases.{case_of}
 pub use Rattle.mig_io.specs.Files.{ChangedOnly, Files, FolderState, OthersStay, Saves, file}
 pub use Rattle.mig_io.specs.Held.{Extends, ExtendsInPart, SinkState}
 pub use Rattle.mig_lanes.specs.LaneSteps.{later_rounds}
 pub use Rattle.mig_lanes.specs.Runs.{Finishes, IsPart}
 pub use Rattle.mig_live.specs.Orders.{all_steps}
 pub use Rattle.mig_live.specs.Replies.{replies}
-pub use Rattle.mig_live.specs.Scripts.{ScriptLine, ScriptText}
+pub use Rattle.mig_live.specs.Scripts.{ScriptText}
 pub use Rattle.mig_live.specs.Sessions.{marks_by, steps_after}
 pub use Rattle.mig_live.specs.declared.orders.Order.{Order}
 pub use Rattle.mig_mover.specs.Halts.{IsClosingCell}

@@ -3,31 +3,19 @@ ghost use Rattle.std.specs.Prelude.{◌≡◌, ◌≤◌, [], IfOk, length};
 ghost use Rattle.mig_base.specs.Readiness.{shifts_of};
 ghost use Rattle.mig_drill.specs.Drills.{drill_text};
 ghost use Rattle.mig_top.specs.Calls.{Untouched};
-ghost use Rattle.mig_top.specs.Causes.{drills, fits_drill};
+ghost use Rattle.mig_top.specs.Causes.{drills};
 ghost use Rattle.mig_top.specs.Ends.{Finishes, FolderEnds};
-ghost use Rattle.mig_top.specs.Steps.{Takes, TakesFrom};
+ghost use Rattle.mig_top.specs.Steps.{TakesFrom};
 ghost use Rattle.mig_words.specs.Commands.{names_in};
 ghost use Rattle.mig_words.specs.Words.{four_and};
 
-use crate::tasks::load_task;
-use mig_base::{MAX_FILE_BYTES, Plan};
+use crate::loads::load_plan;
+use mig_commands::small_job;
 use mig_drill::{DrillFault, MAX_DRILL_SHIFTS, drill};
 use mig_io::{Folder, Sink};
-use mig_jobs::{Job, count_shifts, prepare};
-use mig_words::{Ending, Finding, PlanFiles, Reader, TaskFiles};
+use mig_jobs::Job;
+use mig_words::{Ending, PlanFiles};
 use std::alloc::Global;
-
-/// Refuses a plan that is too large for a drill.
-fn check_size(plan: &Plan) -> Result<(), Ending>
-    requires { length (shifts_of plan.now) ≤ MAX_FILE_BYTES }
-    ensures { Takes (fits_drill plan.now) result }
-{
-    let shifts = count_shifts(plan);
-    if shifts > MAX_DRILL_SHIFTS {
-        return Err(Ending::Found(Finding::TooLarge { shifts }));
-    }
-    Ok(())
-}
 
 /// The job of a plan that isn't too large for a drill.
 fn load_small_job<F: Folder>(
@@ -40,13 +28,8 @@ fn load_small_job<F: Folder>(
     ensures same { (F.state folder.new).files ≡ (F.state folder.old).files }
     ensures later { (F.state folder.old).faults ≤ (F.state folder.new).faults }
 {
-    let task = TaskFiles {
-        reader: Reader::Roomy,
-        files,
-    };
-    let read = load_task(alloc, folder, task)?;
-    check_size(&read.plan)?;
-    Ok(prepare(alloc, &read.input, &read.plan, &read.text)?)
+    let bytes = load_plan(alloc, folder, files)?;
+    small_job(alloc, bytes.input.files(), &bytes.plan)
 }
 
 /// `drill`, with its text, which is put once each stop was tried.

@@ -1,18 +1,12 @@
-use Rattle.mig_top.proofs.Common.{MAX_DRILL_SHIFTS, Task, ap, drill_text, inl, inr, length, shifts_of, subst, sym, task_read, ◌≤◌}
-use Rattle.mig_top.proofs.Steps.{fails_first, fails_in, found_so}
+use Rattle.mig_top.proofs.Common.{[], inl, inr, plan_bodies_of, ⊎_elim}
+use Rattle.mig_top.proofs.Steps.{answers_in, fails_first}
 use Rattle.mig_top.proofs.drill_command.load_small_job.Goals as goal
 
-pub returns-in_err-read-clause-takes : goal.returns-in_err-read-clause-takes
-returns-in_err-read-clause-takes g c = fails_first c.in_err-read.ensures.takes c.from_residual.ensures.1 (λ files o s. inl s)
-
-pub returns-in_err-check_size-clause-takes : goal.returns-in_err-check_size-clause-takes
-returns-in_err-check_size-clause-takes g c =
-    fails_in c.in_ok-read.ensures.takes c.in_err-check_size.ensures c.from_residual-in_err-check_size.ensures.1 (λ files o held s. inr (task_read c.in_ok-read.read, held, inl s))
+pub returns-in_err-bytes-clause-takes : goal.returns-in_err-bytes-clause-takes
+returns-in_err-bytes-clause-takes g c = fails_first (c.in_err-bytes.ensures.takes []) c.from_residual.ensures.1 (λ files o s. inl (inl s))
 
 pub returns-clause-takes : goal.returns-clause-takes
 returns-clause-takes g c =
-    let same = ap (λ (t : Task). drill_text t.plan) c.in_ok-prepare.ensures in
-    found_so c.in_ok-read.ensures.takes (λ files held. (task_read c.in_ok-read.read, held, (tt, c.in_ok-check_size.ensures.passes, same)))
-
-pub returns-clause-fits : goal.returns-clause-fits
-returns-clause-fits g c = subst (λ (t : Task). length (shifts_of t.plan) ≤ MAX_DRILL_SHIFTS) (sym c.in_ok-prepare.ensures) c.in_ok-check_size.ensures.passes
+    let bodies = plan_bodies_of c.in_ok-bytes.bytes in
+    answers_in _ (c.in_ok-bytes.ensures.takes []) (rw (c.files.ensures, c.deref.ensures.value) at c.small_job.ensures.takes)
+    (λ files held job h. (h.0, (bodies, held, h.1), h.2)) (λ files o held s. ⊎_elim (λ r. inl (inr (bodies, held, r))) (λ p. inr (p.0, (bodies, held, p.1), p.2)) s)

@@ -17,4 +17,4 @@ returns-clause-takes g c =
     let bodies = plan_bodies_of c.in_ok-bytes.bytes in
     let last = c.in_ok-last.last.items in
     answers_in _ (both (c.in_ok-bytes.ensures.takes others) c.load_plan.ensures.same (c.in_ok-last.ensures.takes (four_and (names_in c.args.files) others) refl))
-    (rw c.deref.ensures.value at c.read_scripted.ensures.takes) (λ files held read h. (bodies, held.0, (last, held.1, h))) (λ files o held s. inr (bodies, held.0, inr (last, held.1, s)))
+    (rw (c.files.ensures, c.deref.ensures.value, c.deref-2.ensures.value) at c.scripted_job.ensures.takes) (λ files held read h. (bodies, held.0, (last, held.1, h))) (λ files o held s. inr (bodies, held.0, inr (last, held.1, s)))

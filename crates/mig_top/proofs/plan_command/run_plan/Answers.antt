@@ -2,6 +2,7 @@ use Rattle.mig_top.proofs.Common.{Files, IfSome, IsSomeAnd, Option, OthersStay, 
 use Rattle.mig_top.proofs.EndsOf.{files_end, one_changed, shown, stopped, unread_leaves}
 use Rattle.mig_top.proofs.PlanSaves.{are_saved, half_saved}
 use Rattle.mig_top.proofs.Steps.{if_map}
+use Rattle.mig_top.specs.plan.Leaves.{PlanLeaves}
 use Rattle.mig_words.specs.declared.endings.Ending.TheVariants.{FolderFault}
 use Rattle.mig_top.proofs.plan_command.run_plan.Goals as goal
 
@@ -10,7 +11,8 @@ returns-in_err-texts g c =
     let same = c.load_planned.ensures.same in
     let still = one_changed (g.F.Folder.state c.args.folder.now) (g.F.Folder.state c.load_planned.new.folder) c.args.files.plan.now same in
     let p = err_from_is_err_and c.from_residual.result c.from_residual.ensures.1 in
-    rw (p.1, p.2) (stopped (g.K.Sink.state c.args.out.now) c.in_err-texts.field-0.0 (files_end c.in_err-texts.ensures.takes (λ files o s. s) (unread_leaves (inl still) same (λ word. same) (λ f. same))))
+    let Leaves = PlanLeaves (g.F.Folder.state c.args.folder.now) (g.F.Folder.state c.load_planned.new.folder) (names_in c.args.files) c.args.cert.now in
+    rw (p.1, p.2) (stopped (g.K.Sink.state c.args.out.now) c.in_err-texts.field-0.0 (files_end c.in_err-texts.ensures.takes (λ files o s. s) (unread_leaves Leaves (inl still) same (λ word. same) (λ f. same))))
 
 pub returns-in_err-save : goal.returns-in_err-save
 returns-in_err-save g c =

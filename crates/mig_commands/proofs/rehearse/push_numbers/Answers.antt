@@ -1,6 +1,6 @@
-use Rattle.mig_top.proofs.Common.{[], append-nil, codes, count_line, sym, ◌∷◌}
-use Rattle.mig_top.proofs.Rehearsing.{one_line}
-use Rattle.mig_top.proofs.rehearse_command.push_numbers.Goals as goal
+use Rattle.mig_commands.proofs.Common.{[], append-nil, codes, count_line, sym, ◌∷◌}
+use Rattle.mig_commands.proofs.Lines.{one_line}
+use Rattle.mig_commands.proofs.rehearse.push_numbers.Goals as goal
 
 pub returns : goal.returns
 returns c =

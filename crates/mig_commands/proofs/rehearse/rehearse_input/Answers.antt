@@ -1,6 +1,6 @@
-use Rattle.mig_top.proofs.Common.{AllocError, Cert, Err, Global, IfOk, IsCertified, IsPlanDigest, IsRehearsed, List, Lists, Numbers, Ok, Result, Shift, Transfers, Vec, ap, bound_value}
-use Rattle.mig_top.proofs.Common.{eight_lines, length, length-map, moves, quotient, string_bytes, text_of_lines, transfers, trip, verdict_word, ℕ, ◌∙◌, ◌≡◌}
-use Rattle.mig_top.proofs.rehearse_command.rehearse_input.Goals as goal
+use Rattle.mig_commands.proofs.Common.{AllocError, Cert, Err, Global, IfOk, IsCertified, IsPlanDigest, IsRehearsed, List, Lists, Numbers, Ok, Result, Shift, Transfers, Vec, ap, bound_value}
+use Rattle.mig_commands.proofs.Common.{eight_lines, length, length-map, moves, quotient, string_bytes, text_of_lines, transfers, trip, verdict_word, ℕ, ◌∙◌, ◌≡◌}
+use Rattle.mig_commands.proofs.rehearse.rehearse_input.Goals as goal
 
 -- the lines are those of the input and of its certified plan
 told : (input : Lists) (rounds : List (List Shift)) (certificate : Cert) → IsCertified input rounds certificate → (verdict digest : List ℕ) → verdict ≡ verdict_word rounds certificate

@@ -1,6 +1,6 @@
-use Rattle.mig_top.proofs.Common.{List, [], ap, codes, six_lines, text_of_lines, words, ℕ, ◌++◌, ◌∙◌, ◌∷◌}
-use Rattle.mig_top.proofs.Rehearsing.{one_line}
-use Rattle.mig_top.proofs.rehearse_command.lines_of.Goals as goal
+use Rattle.mig_commands.proofs.Common.{List, [], ap, codes, six_lines, text_of_lines, words, ℕ, ◌++◌, ◌∙◌, ◌∷◌}
+use Rattle.mig_commands.proofs.Lines.{one_line}
+use Rattle.mig_commands.proofs.rehearse.lines_of.Goals as goal
 
 pub returns : goal.returns
 returns c =

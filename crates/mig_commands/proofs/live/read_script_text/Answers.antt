@@ -1,6 +1,6 @@
-use Rattle.mig_top.proofs.Common.{subst}
+use Rattle.mig_commands.proofs.Common.{subst}
 use Rattle.mig_live.specs.Scripts.{IsScriptError}
-use Rattle.mig_top.proofs.reads.read_script_text.Goals as goal
+use Rattle.mig_commands.proofs.live.read_script_text.Goals as goal
 
 pub returns-in-Ok-clause-takes : goal.returns-in-Ok-clause-takes
 returns-in-Ok-clause-takes c = record { passes = c.in-Ok.ensures.orders; stops = tt }
