@@ -19,6 +19,7 @@ use Rattle.mig_gen.specs.MadeCases.{made_item}
 use Rattle.mig_numbers.proofs.Counts.{once_rows}
 use Rattle.mig_numbers.proofs.Founds.{found_rounds, found_value}
 use Rattle.mig_numbers.proofs.Inputs.{made_at}
+use Rattle.mig_numbers.proofs.Lists.{map_map}
 use Rattle.mig_numbers.proofs.Rows.{rows_next}
 use Rattle.mig_numbers.specs.Handed.{AreRows, IsPlanned, IsRow, found_of, is_before, is_in_round, row_of, row_spot, row_trip, rows_of, rows_upto, set_in}
 use Rattle.mig_numbers.specs.Numbers.{disk_in, input_of, limits_of, next_of, no_item, no_numbers, spot_of}
@@ -58,10 +59,6 @@ map_same f g [] h = refl
 map_same {X} f g (x ∷ xs) h =
     let P : X → Type 0 = λ x. f x ≡ g x in
     ap (λ y. y ∷ map f xs) (All-head P x xs h) ∙ ap (λ ys. g x ∷ ys) (map_same f g xs (All-tail P x xs h))
-
-map_map : {X Y Z : Type 0} (f : Y → Z) (g : X → Y) (xs : List X) → map f (map g xs) ≡ map (λ x. f (g x)) xs
-map_map f g [] = refl
-map_map f g (x ∷ xs) = ap (λ ys. f (g x) ∷ ys) (map_map f g xs)
 
 -- The rows of rounds
 

@@ -1,5 +1,5 @@
 -- Lists by their elements.
-use Rattle.mig_base.proofs.Common.{All, AllPairs, List, [], ap, arith, get_or, length, map, subst, sym, take, ℕ, ◌+◌, ◌++◌, ◌<◌, ◌∙◌, ◌∷◌, ◌≡◌}
+use Rattle.mig_base.proofs.Common.{All, AllPairs, List, [], ap, arith, get_or, length, map, refl, subst, sym, take, ℕ, ◌++◌, ◌+◌, ◌<◌, ◌∙◌, ◌∷◌, ◌≡◌}
 use Rattle.std.proofs.lemmas.List.{get_or-map, length-map, take_more}
 
 -- what is so of each element of a list is so of the list that is made of it, and the same of two
@@ -18,3 +18,7 @@ module _ {A X : Type 0} (f : A → X) (xs : List A) (z : A) where
 -- so many elements, and one more
 pub next_taken : {X : Type 0} (xs : List X) (k : ℕ) (x : X) → k < length xs → x ≡ get_or xs k x → take (k + 1) xs ≡ take k xs ++ x ∷ []
 next_taken xs k x lt e = take_more xs k x lt ∙ ap (λ z. take k xs ++ z ∷ []) (sym e)
+
+pub map_map : {X Y Z : Type 0} (f : Y → Z) (g : X → Y) (xs : List X) → map f (map g xs) ≡ map (λ x. f (g x)) xs
+map_map f g [] = refl
+map_map f g (x ∷ xs) = ap (λ ys. f (g x) ∷ ys) (map_map f g xs)

@@ -33,7 +33,7 @@ pub struct ShiftNumbers {
 /// kind (0 nothing, 1 a disk, 2 a side of a disk, 3 a set of disks), its disk, its side (0 outgoing, 1 incoming), how many moves
 /// count, and how many rounds they need.
 #[repr(C)]
-#[derive(Clone, Copy)]
+#[derive(Clone, Copy, PartialEq, Eq)]
 pub struct Found {
     pub rounds: u32,
     pub quotient: u32,
@@ -43,6 +43,22 @@ pub struct Found {
     pub side: u32,
     pub load: u32,
     pub value: u32,
+}
+
+/// What a check says: the plan has as many rounds as the bound's value (0), or more (1); or what is wrong: a round is empty (2),
+/// an item isn't where a shift takes it from (3), is shifted twice in a round (4), goes to a slot that isn't free (5), a disk is
+/// over its limit (6), an item ends on another disk (7), is shifted too often (8), the number of rounds isn't the one that is
+/// counted (9), the quotient (10), the class (11), the load (12), the value (13); or the shifts (14) or what was found (15) can't
+/// be of a plan. The round counts from 1, the place is that of the item, of the disk or of the shift; and there is the number
+/// that is kept, and the one that is counted.
+#[repr(C)]
+#[derive(Clone, Copy)]
+pub struct Judged {
+    pub what: u32,
+    pub round: u32,
+    pub place: u32,
+    pub kept: u32,
+    pub counted: u32,
 }
 
 /// Why there is no plan.
