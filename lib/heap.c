@@ -182,3 +182,15 @@ uint32_t migrate_schedule(bool split, const struct migrate_limits *limits, size_
                       IN(limits, disk_count), IN(pairs, pair_count), ROOM(rounds, round_room), ROOM(set, set_room), ONE(set_count), ONE(found),
                       ONE(refused));
 }
+
+extern __typeof__(migrate_check_numbers) proved_check_numbers;
+
+uint32_t migrate_check_numbers(bool split, const struct migrate_disk *disks, size_t disk_count, const struct migrate_item *items,
+                               size_t item_count, const struct migrate_shift *shifts, size_t shift_count, const uint32_t *set, size_t set_count,
+                               const struct migrate_found *found, struct migrate_verdict *verdict, struct migrate_refused *refused)
+{
+    return UNLESS_BAD(
+                      proved_check_numbers(split, disks, disk_count, items, item_count, shifts, shift_count, set, set_count, found, verdict, refused),
+                      IN(disks, disk_count), IN(items, item_count), IN(shifts, shift_count), IN(set, set_count), IN(found, 1), ONE(verdict),
+                      ONE(refused));
+}

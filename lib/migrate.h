@@ -138,6 +138,29 @@ uint32_t migrate_schedule(bool split, const struct migrate_limits *limits, size_
                           uint32_t *rounds, size_t round_room, uint32_t *set, size_t set_room, size_t *set_count,
                           struct migrate_found *found, struct migrate_refused *refused);
 
+/* What a check says of a plan: that it is right, or the first thing that is wrong, with the round, the item, disk or shift at `place`, and a number that was kept
+ * beside the one that is counted. */
+struct migrate_verdict { uint32_t what, round, place, kept, counted; };
+enum {
+    MIGRATE_OPTIMAL = 0, MIGRATE_BOUNDED = 1,  /* as many rounds as the bound's value, or more */
+    MIGRATE_EMPTY_ROUND = 2,
+    MIGRATE_NOT_HERE = 3,          /* the item was shifted before: a shift takes an item from where it is in the beginning */
+    MIGRATE_TWICE_IN_ROUND = 4,    /* the item */
+    MIGRATE_SLOT_NOT_FREE = 5,     /* that the item goes to */
+    MIGRATE_OVER_LIMIT = 6,        /* the disk, with `counted` transfers */
+    MIGRATE_WRONG_END = 7,         /* the item isn't on its next disk in the end */
+    MIGRATE_MOVED_TOO_OFTEN = 8,   /* the item, in `counted` shifts */
+    MIGRATE_ROUNDS_DIFFER = 9, MIGRATE_QUOTIENT_DIFFERS = 10, MIGRATE_LIMITS_DIFFER = 11, MIGRATE_LOAD_DIFFERS = 12, MIGRATE_VALUE_DIFFERS = 13,
+    MIGRATE_BAD_SHIFT = 14,        /* the shift at `place` has an item, disk, slot or round that isn't there, or there are too many */
+    MIGRATE_BAD_FOUND = 15,        /* `found` and `set` are of no bound for such limits */
+};
+
+/* Judges the shifts of a plan, in any order, and what was found with it, as migrate_plan_numbers gives them. `verdict` is written with 0, 1 and 10, `refused` with 3.
+ * Statuses: 0, 1, 3, 7, 10. */
+uint32_t migrate_check_numbers(bool split, const struct migrate_disk *disks, size_t disk_count, const struct migrate_item *items, size_t item_count,
+                               const struct migrate_shift *shifts, size_t shift_count, const uint32_t *set, size_t set_count,
+                               const struct migrate_found *found, struct migrate_verdict *verdict, struct migrate_refused *refused);
+
 #ifdef __cplusplus
 }
 #endif

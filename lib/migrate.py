@@ -51,6 +51,16 @@ class Found(NamedTuple):
     value: int
 
 
+class Verdict(NamedTuple):
+    """As `struct migrate_verdict` of migrate.h."""
+
+    what: int
+    round: int
+    place: int
+    kept: int
+    counted: int
+
+
 class Numbers(NamedTuple):
     rows: memoryview  # of a plan (item, to_disk, to_slot, round) each, of a schedule the round of each pair; numpy.asarray takes it as it is
     found: Found
@@ -141,6 +151,17 @@ class Library:
     def plan_numbers(self, disks: Iterable[Sequence[int]], items: Iterable[Sequence[int]], split: bool = False) -> Numbers:
         """Plans over rows (out_limit, in_limit, slots) and (disk, slot, next_disk), or arrays of them with 32 bits a number."""
         return self._numbers("plan_numbers", split, _table(disks, 3), _table(items, 3), 4)
+
+    def check_numbers(self, disks: Iterable[Sequence[int]], items: Iterable[Sequence[int]], numbers: Numbers, split: bool = False) -> tuple[int, Verdict]:
+        """Judges what `plan_numbers` gives, or shifts and a bound like them: the status, 0, 1 or 10, and the verdict."""
+        tables, size = [_table(disks, 3), _table(items, 3), _table(numbers.rows if len(numbers.rows) else [], 4), _table(zip(numbers.set), 1)], ctypes.c_size_t
+        found, verdict, refused = (ctypes.c_uint32 * 8)(*numbers.found), (ctypes.c_uint32 * 5)(), (ctypes.c_uint32 * 4)()
+        function = self._library.migrate_check_numbers
+        function.restype = ctypes.c_uint32
+        status: int = function(ctypes.c_bool(split), *(word for it in tables for word in (it.numbers, size(it.rows))), found, verdict, refused)
+        if status in (3, 7):
+            raise Refused(status, *(refused if status == 3 else (0, 0, 0, 0)))
+        return status, Verdict(*verdict)
 
     def schedule(self, limits: Iterable[Sequence[int]], pairs: Iterable[Sequence[int]], split: bool = False) -> Numbers:
         """A round for each pair of disks, over rows (out_limit, in_limit) and (from, to)."""

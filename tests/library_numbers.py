@@ -49,7 +49,7 @@ def tables(disks, items, split):
 
 def spelled(disks, items, split, numbers):
     """The plan and the certificate that the numbers are."""
-    found, rows, plan = numbers.found, numbers.rows.tolist(), [f"migration-plan 1", f"rounds {numbers.found.rounds}"]
+    found, rows, plan = numbers.found, getattr(numbers.rows, "tolist", lambda: numbers.rows)(), [f"migration-plan 1", f"rounds {numbers.found.rounds}"]
     for round in range(1, found.rounds + 1):
         these = [it for it in rows if it[3] == round]
         plan += [f"round {round} {len(these)}"] + [f"i{item} d{items[item][0]} {items[item][1]} d{disk} {slot}" for item, disk, slot, _ in these]
@@ -66,6 +66,37 @@ def why(refused):
     return f"refused {named[refused.cause]}\n".format(place)
 
 
+def verdict(found):
+    """The text of a verdict over numbers."""
+    forms = ["optimal", "bounded", "empty round {0}", "not here round {0} item i{1}", "twice in round {0} item i{1}", "slot not free round {0} item i{1}", "over limit round {0} disk d{1} count {3}",
+             "wrong end item i{1}", "moved too often item i{1} count {3}", "rounds differ kept {2} counted {3}", "quotient differs kept {2} counted {3}", "class differs",
+             "load differs kept {2} counted {3}", "value differs kept {2} counted {3}"]
+    return forms[found.what].format(found.round, found.place, found.kept, found.counted)
+
+
+def the_check(library, chance, it, disks, items, split, made):
+    """The plan is judged as its text is, and so is one that was changed, where it has a text."""
+    rows, found, changed = made.rows.tolist(), list(made.found), chance.randrange(8)
+    if rows and changed > 2:
+        row = chance.choice(rows)
+        at, to = chance.choice([(0, len(items)), (1, len(disks)), (2, 70000), (3, found[0] + 1)])
+        row[at] = chance.randrange(to) if changed > 3 else to + chance.randrange(2)
+        chance.shuffle(rows)
+    elif changed:
+        found[chance.choice([1, 2, 6, 7])] += 1
+    if changed == 7 and len(rows) > 1:
+        rows[chance.randrange(len(rows))] = list(rows[0])
+    numbers = migrate.Numbers(rows, migrate.Found(*found), made.set)
+    status, judged = library.check_numbers(disks, items, numbers, split)
+    if status == 10:
+        bad = [k for k, (item, disk, slot, round) in enumerate(rows) if item >= len(items) or disk >= len(disks) or slot >= 65536 or not 1 <= round <= found[0]]
+        Count.same(f"check_numbers of cluster {it}: what is not spelled", judged, (14, 0, bad[0], 0, 0) if bad else (15, 0, 0, 0, 0))
+    else:
+        text = answer(lambda: library.check(*tables(disks, items, split), *spelled(disks, items, split, numbers)))
+        Count.same(f"check_numbers of cluster {it}", (status, f"{verdict(judged)}\n"), text if isinstance(text, tuple) else (0, f"{text}\n"))
+    return judged.what
+
+
 def answer(call):
     try:
         return call()
@@ -76,19 +107,20 @@ def answer(call):
 
 
 def the_numbers(library, clusters):
-    chance, bounds, causes = random.Random(60), set(), set()
+    chance, bounds, causes, verdicts = random.Random(60), set(), set(), set()
     for it in range(clusters):
         disks, items, split = made(chance)
         texts = answer(lambda: tuple(library.plan(*tables(disks, items, split))))
         numbers = answer(lambda: library.plan_numbers(disks, items, split))
         if isinstance(numbers, migrate.Numbers):
             bounds.add(numbers.found.bound)
+            verdicts.add(the_check(library, chance, it, disks, items, split, numbers))
             numbers = spelled(disks, items, split, numbers)
         else:
             causes.add(numbers[1].split(":")[1].split(" on ")[0])
         Count.same(f"plan_numbers of cluster {it}", numbers, texts)
         the_schedule(library, it, disks, items, split)
-    Count.same("each kind of bound, and each cause", (bounds, len(causes)), ({0, 1, 2, 3}, 5))
+    Count.same("each kind of bound, each cause, and each verdict", (bounds, len(causes), verdicts), ({0, 1, 2, 3}, 5, set(range(16)) - {9}))
     for name, call, refused in (
         ("too many disks", lambda: library.plan_numbers([(1, 1, 1)] * 1025, []), (3, 1, 0)),
         ("too many items", lambda: library.plan_numbers([(1, 1, 1)], [(0, 0, 0)] * 65537), (3, 2, 0)),

@@ -2,12 +2,13 @@
 ghost use Rattle.std.specs.Prelude.{◌≡◌, ◌≢◌, ◌↔◌, ◌⊎◌, ◌≤◌, ◌<◌, length};
 ghost use Rattle.mig_c.specs.Slices.{TOO_SHORT};
 ghost use Rattle.mig_numbers.specs.Handed.{HandsPlan};
+ghost use Rattle.mig_numbers.specs.Judged.{IsBlamed, IsRight, IsUnspelled};
 ghost use Rattle.mig_numbers.specs.Refusals.{Refuses};
 ghost use Rattle.mig_numbers.specs.Rounds.{HandsRounds, IsOfPairs, disks_for, items_for};
 
 use mig_numbers::{
-    DiskNumbers, Found, ItemNumbers, LimitNumbers, PairNumbers, Refused, ShiftNumbers,
-    plan_numbers, schedule,
+    DiskNumbers, Found, ItemNumbers, Judged, LimitNumbers, PairNumbers, Refused, ShiftNumbers,
+    check_numbers, plan_numbers, schedule,
 };
 use std::alloc::Global;
 
@@ -62,5 +63,30 @@ pub extern "C" fn migrate_schedule(
 {
     schedule(
         alloc, split, limits, pairs, rounds, set, set_count, found, refused,
+    )
+}
+
+/// Judges the shifts of a plan over numbers, and what was found with it.
+#[unsafe(no_mangle)]
+pub extern "C" fn migrate_check_numbers(
+    alloc: Global,
+    split: bool,
+    disks: &[DiskNumbers],
+    items: &[ItemNumbers],
+    shifts: &[ShiftNumbers],
+    set: &[u32],
+    found: &Found,
+    verdict: &mut Judged,
+    refused: &mut Refused,
+) -> u32
+    // The plan that the shifts spell runs and moves each relocated item once, what was found is so, and the verdict says whether no plan is shorter by the bound.
+    ensures right { result ≡ 0 → IsRight split disks.now items.now shifts.now set.now found.now verdict.new }
+    ensures blamed { result ≡ 1 → IsBlamed split disks.now items.now shifts.now set.now found.now verdict.new }
+    ensures refused { result ≡ 3 → Refuses split disks.now items.now refused.new }
+    ensures unspelled { result ≡ 10 → IsUnspelled split disks.now items.now shifts.now set.now found.now verdict.new }
+    ensures statuses { (result ≡ 0) ⊎ (result ≡ 1) ⊎ (result ≡ 3) ⊎ (result ≡ 7) ⊎ (result ≡ 10) }
+{
+    check_numbers(
+        alloc, split, disks, items, shifts, set, found, verdict, refused,
     )
 }
