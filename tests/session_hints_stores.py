@@ -56,6 +56,11 @@ def of_slots(program):
         tells("fill half way", room.run(*FILL), 9, "occupied left 1\n", ["left.disk, slot 1: the item `q` is there", "slots of now.csv in use: 1. All of them hold just what `fill` writes"])
         room.write("left.disk", cell("p") + cell("q")[:-1] + b"!")
         tells("fill of a store in use", room.run(*FILL), 9, "occupied left 0\n", ["slots of now.csv in use: 2. Not all of them hold what `fill` writes there: the store is in use"])
+    with Room(program) as room:
+        put(room, DISKS)
+        room.write("now.csv", "item,disk,slot\npqr,left,0\n")
+        room.run(*FILL)
+        tells("fill of a name of three bytes again", room.run(*FILL), 9, "occupied left 0\n", ["slots of now.csv in use: 1. All of them hold just what `fill` writes"])
 
 
 def quiet(program):
