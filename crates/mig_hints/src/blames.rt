@@ -48,6 +48,25 @@ fn point_step(f: &mut String, plan: &Typed<'_>, step: Option<Step<'_>>) -> Said 
     }
 }
 
+/// The line where a step stands, 0 where there is none.
+fn line_of(step: Option<Step<'_>>) -> u32 {
+    match step {
+        Some(step) => step.line,
+        None => 0,
+    }
+}
+
+/// The disk and the slot that a shift goes to.
+fn target_of<'a>(step: Option<Step<'a>>) -> (&'a [u8], u64) {
+    match step {
+        Some(step) => (
+            step.word(3),
+            u64::from(count_at(step.text.unwrap_or(&[]), 4)),
+        ),
+        None => (&[], 0),
+    }
+}
+
 /// The shifts of an item in a round.
 fn in_round(item: &[u8], round: u32) -> Want<'_> {
     Want::Shifts(round, round.saturating_add(1), 0, item)
@@ -69,7 +88,7 @@ fn say_plan(
         Blame::NotHere { round, .. } => say_elsewhere(f, given, plan, *round, name),
         Blame::TwiceInRound { round, .. } => {
             let steps = look_for(plan.bytes, &in_round(name, *round));
-            let first = steps.first.map_or(0, |step| step.line);
+            let first = line_of(steps.first);
             point_step(f, plan, steps.second)?;
             write!(
                 f,
@@ -99,9 +118,7 @@ fn say_limit(
     let Some(disks) = given.file("DISKS") else {
         return write!(f, "are too many for `{name}`");
     };
-    let row = disks
-        .find(&Key::First(disk))
-        .map_or([].as_slice(), |row| row.text);
+    let row = disks.text_of(&Key::First(disk));
     let first = number_at(row, 1);
     let second = number_at(row, 2);
     if !disks.has_sides() {
@@ -123,7 +140,7 @@ fn spot_before<'a>(
     if let Some(step) = look_for(plan.bytes, &Want::Shifts(0, round, 0, item)).last {
         return Some((step.word(3), read_digits(step.word(4))?));
     }
-    let row = given.file("NOW")?.find(&Key::First(item))?;
+    let row = given.find("NOW", &Key::First(item))?;
     Some((field(row.text, 1), number_at(row.text, 2)))
 }
 
@@ -162,10 +179,9 @@ fn say_not_free(
 ) -> Said {
     let step = look_for(plan.bytes, &in_round(item, round)).first;
     point_step(f, plan, step)?;
-    let name = step.map_or([].as_slice(), |step| step.word(3));
-    let slot = step.map_or(0, |step| u64::from(count_at(step.text.unwrap_or(&[]), 4)));
+    let (name, slot) = target_of(step);
     let disk = Shown(name);
-    match given.file("DISKS").and_then(|disks| disks.slots_of(name)) {
+    match given.slots_of(name) {
         Some(slots) if slot >= slots => write!(f, "`{disk}` has {slots} slots, which count from 0"),
         _ => write!(
             f,
@@ -176,7 +192,7 @@ fn say_not_free(
 
 /// The disk of an item in the file with this role.
 fn disk_in<'a>(given: &Given<'a>, role: &str, item: &[u8]) -> Option<&'a [u8]> {
-    let row = given.file(role)?.find(&Key::First(item))?;
+    let row = given.find(role, &Key::First(item))?;
     Some(field(row.text, 1))
 }
 

@@ -20,9 +20,20 @@ fn fields_of(file: FileKind, sides: bool) -> (usize, &'static str) {
     }
 }
 
+/// Whether a double quote is opened in a row and not closed.
+fn is_open(row: &[u8]) -> bool {
+    let mut open = false;
+    for byte in row {
+        if *byte == b'"' {
+            open = !open;
+        }
+    }
+    open
+}
+
 /// What is wrong with a row that a spreadsheet or a person wrote in another form, whatever it is refused for.
 fn other_form(row: &[u8]) -> Option<&'static str> {
-    if row.iter().filter(|b| **b == b'"').count() % 2 == 1 {
+    if is_open(row) {
         return Some("a double quote is opened here and not closed");
     }
     if without_empty(row).is_empty() {
@@ -165,8 +176,7 @@ fn say_range(f: &mut String, sides: bool, row: &[u8]) -> Said {
 /// A disk or an item that an earlier row of the file has.
 fn say_twice(f: &mut String, typed: &Typed<'_>, row: &[u8]) -> Said {
     let name = Shown(field(row, 0));
-    let earlier = typed.find(&Key::First(field(row, 0)));
-    let line = earlier.map_or(0, |earlier| earlier.line);
+    let line = typed.line_of(&Key::First(field(row, 0)));
     write!(f, "`{name}` is listed before, in line {line}")
 }
 
@@ -175,7 +185,7 @@ fn say_slot(f: &mut String, given: &Given<'_>, row: &[u8]) -> Said {
     let name = field(row, 1);
     let disk = Shown(name);
     let word = given.shown("DISKS");
-    match given.file("DISKS").and_then(|disks| disks.slots_of(name)) {
+    match given.slots_of(name) {
         Some(slots) => {
             let last = slots.saturating_sub(1);
             write!(
@@ -191,8 +201,7 @@ fn say_slot(f: &mut String, given: &Given<'_>, row: &[u8]) -> Said {
 fn say_taken(f: &mut String, now: &Typed<'_>, row: &[u8]) -> Said {
     let disk = field(row, 1);
     let slot = number_at(row, 2);
-    let earlier = now.find(&Key::Spot { disk, slot });
-    let line = earlier.map_or(0, |earlier| earlier.line);
+    let line = now.line_of(&Key::Spot { disk, slot });
     let disk = Shown(disk);
     write!(
         f,

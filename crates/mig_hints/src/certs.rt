@@ -25,8 +25,7 @@ pub(crate) fn say_cert_line(f: &mut String, given: &Given<'_>, text: &[u8], numb
 /// The first line, which says whether disks have two limits.
 fn say_title(f: &mut String, given: &Given<'_>, line: &[u8]) -> Said {
     let disks = given.shown("DISKS");
-    let sides = given.file("DISKS").map(|disks| disks.has_sides());
-    match (line, sides) {
+    match (line, sides_of(given)) {
         (b"migration-certificate 1", Some(true)) => write!(
             f,
             "this certificate was made for joint limits, one for each disk, and {disks} has two for each: plan again"
@@ -39,6 +38,11 @@ fn say_title(f: &mut String, given: &Given<'_>, line: &[u8]) -> Said {
             "a certificate begins with the line `migration-certificate 1`, or `migration-certificate 2` where disks have two limits: is this the file of CERT?",
         ),
     }
+}
+
+/// Whether disks have two limits, where the file of disks can be read again.
+fn sides_of(given: &Given<'_>) -> Option<bool> {
+    Some(given.file("DISKS")?.has_sides())
 }
 
 /// The line of the bound, which may name a disk and its limit.

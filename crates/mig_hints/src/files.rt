@@ -2,7 +2,7 @@
 
 use crate::commands::{is_saved, row_of};
 use crate::excerpts::{Said, Shown};
-use crate::rows::{Key, field};
+use crate::rows::{Key, Row, field};
 use mig_base::MAX_FILE_BYTES;
 use mig_io::read_first;
 use std::alloc::AllocError;
@@ -84,16 +84,28 @@ pub(crate) struct Given<'a> {
 impl<'a> Given<'a> {
     /// The name of the command.
     pub(crate) fn command(&self) -> &'a str {
-        self.words.first().map_or("", |command| command.as_str())
+        match self.words {
+            [command, ..] => command.as_str(),
+            [] => "",
+        }
     }
 
     /// What the words after it stand for, in their order.
     pub(crate) fn roles(&self) -> &'static [&'static str] {
-        row_of(self.command()).map_or(&[], |row| row.roles)
+        match row_of(self.command()) {
+            Some(row) => row.roles,
+            None => &[],
+        }
     }
 
     fn place_of(&self, role: &str) -> Option<usize> {
-        self.roles().iter().position(|it| *it == role)
+        let roles = self.roles();
+        for place in 0..roles.len() {
+            if roles[place] == role {
+                return Some(place);
+            }
+        }
+        None
     }
 
     /// The word with this role.
@@ -115,13 +127,22 @@ impl<'a> Given<'a> {
         Some(Typed { word, bytes })
     }
 
+    /// The first row with this key in the file with this role.
+    pub(crate) fn find(&self, role: &str, key: &Key<'_>) -> Option<Row<'a>> {
+        self.file(role)?.find(key)
+    }
+
+    /// How many slots the file of disks gives a disk.
+    pub(crate) fn slots_of(&self, disk: &[u8]) -> Option<u64> {
+        self.file("DISKS")?.slots_of(disk)
+    }
+
     /// Says that the file of disks doesn't list a disk.
     pub(crate) fn say_unlisted(&self, f: &mut String, disk: &[u8]) -> Said {
         let word = self.shown("DISKS");
         let name = Shown(disk);
         write!(f, "{word} lists no disk `{name}`")?;
-        let disks = self.file("DISKS");
-        if let Some(alike) = disks.and_then(|disks| disks.find(&Key::AnyCase(disk))) {
+        if let Some(alike) = self.find("DISKS", &Key::AnyCase(disk)) {
             let other = Shown(field(alike.text, 0));
             return write!(f, ", but `{other}`: capitals count");
         }

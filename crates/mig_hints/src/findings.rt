@@ -65,11 +65,16 @@ fn say_refused(f: &mut String, given: &Given<'_>, file: FileKind, number: u32, w
         point_whole(f, typed.word)?;
         return write!(f, "the file has more than {MAX_FILE_BYTES} bytes");
     }
-    match typed.row(number) {
-        Some(row) => point(f, typed.word, row.line, row.text)?,
-        None => point_whole(f, typed.word)?,
-    }
-    let row = typed.row(number).map_or([].as_slice(), |row| row.text);
+    let row = match typed.row(number) {
+        Some(row) => {
+            point(f, typed.word, row.line, row.text)?;
+            row.text
+        }
+        None => {
+            point_whole(f, typed.word)?;
+            &[]
+        }
+    };
     match why {
         Why::BadHeader => say_no_header(f, file, &typed),
         _ => say_cause(f, given, file, &typed, why, row),
@@ -92,8 +97,7 @@ fn say_no_disk(f: &mut String, given: &Given<'_>, name: &Name) -> Said {
     let next = given.word("NEXT").unwrap_or("").as_bytes();
     f.push_str("migrate: ")?;
     given.say_unlisted(f, name.bytes())?;
-    let disks = given.file("DISKS");
-    if disks.is_some_and(|disks| disks.find(&Key::First(next)).is_some()) {
+    if given.find("DISKS", &Key::First(next)).is_some() {
         let next = Shown(next);
         return write!(f, ", and `{next}` stands for NEXT: the order is NAME NEXT");
     }

@@ -39,7 +39,7 @@ pub(crate) fn say_idle<R: Files<File = File>>(rt: &R, f: &mut String) -> Said {
     if !is_read || is_set(rt, GATE) {
         return Ok(());
     }
-    if head.iter().all(|b| *b == 0) {
+    if head == [0; 32] {
         return write!(
             f,
             "migrate: {JOURNAL} names no plan: none was begun in this folder. Is it the folder of the disks?"

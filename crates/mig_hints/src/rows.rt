@@ -49,6 +49,22 @@ impl<'a> Typed<'a> {
         None
     }
 
+    /// The line of the first row with this key, 0 where there is none.
+    pub(crate) fn line_of(&self, key: &Key<'_>) -> usize {
+        match self.find(key) {
+            Some(row) => row.line,
+            None => 0,
+        }
+    }
+
+    /// The text of the first row with this key; no bytes where there is none.
+    pub(crate) fn text_of(&self, key: &Key<'_>) -> &'a [u8] {
+        match self.find(key) {
+            Some(row) => row.text,
+            None => &[],
+        }
+    }
+
     /// How many slots a file of disks gives a disk.
     pub(crate) fn slots_of(&self, disk: &[u8]) -> Option<u64> {
         let row = self.find(&Key::First(disk))?;
@@ -57,7 +73,10 @@ impl<'a> Typed<'a> {
 
     /// Whether the rows have two limits, as in a disks file whose header has four fields.
     pub(crate) fn has_sides(&self) -> bool {
-        self.row(0).map_or(false, |header| width(header.text) == 4)
+        match self.row(0) {
+            Some(header) => width(header.text) == 4,
+            None => false,
+        }
     }
 }
 

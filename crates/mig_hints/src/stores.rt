@@ -16,6 +16,11 @@ fn spot_of(row: &[u8]) -> Option<(Name, u32)> {
     Some((disk, u32::try_from(number_at(row, 2)).ok()?))
 }
 
+/// Where NOW lists an item.
+fn spot_in(given: &Given<'_>, item: &Name) -> Option<(Name, u32)> {
+    spot_of(given.find("NOW", &Key::First(item.bytes()))?.text)
+}
+
 fn say_slot(f: &mut String, disk: &Name, slot: u32) -> Said {
     let disk = Shown(disk.bytes());
     write!(f, "migrate: {disk}.disk, slot {slot}")
@@ -28,10 +33,7 @@ pub(crate) fn say_lost<R: Files<File = File> + AllocGlobal>(
     given: &Given<'_>,
     item: &Name,
 ) -> Said {
-    let row = given
-        .file("NOW")
-        .and_then(|now| now.find(&Key::First(item.bytes())));
-    let Some((disk, slot)) = row.and_then(|row| spot_of(row.text)) else {
+    let Some((disk, slot)) = spot_in(given, item) else {
         return Ok(());
     };
     let mut bytes = [0; SLOT];

@@ -2,7 +2,7 @@
 
 use crate::certs::say_cert_line;
 use crate::excerpts::{Said, Shown, point, point_whole};
-use crate::files::{Given, Typed};
+use crate::files::Given;
 use crate::plans::{Place, Want, line_at, look_for, word_at};
 use crate::rows::Key;
 use mig_base::{MAX_FILE_BYTES, MAX_ROUNDS, MAX_SHIFTS, MAX_SLOTS, read_digits};
@@ -42,6 +42,18 @@ pub(crate) fn say_not_spelled(
     }
 }
 
+/// Whether there is no word beside a blank of the line, or none at all.
+fn lacks_word(line: &[u8]) -> bool {
+    let mut last = b' ';
+    for byte in line {
+        if *byte == b' ' && last == b' ' {
+            return true;
+        }
+        last = *byte;
+    }
+    last == b' '
+}
+
 /// What is wrong with a line that an editor wrote in another form, whatever stands in it.
 fn other_form(line: &[u8]) -> Option<&'static str> {
     if line.ends_with(b"\r") {
@@ -50,8 +62,7 @@ fn other_form(line: &[u8]) -> Option<&'static str> {
     if line.starts_with(b"\xef\xbb\xbf") {
         return Some("the text begins with a byte order mark: save it without one");
     }
-    let has_no_word = line.split(|b| *b == b' ').any(|word| word.is_empty());
-    if has_no_word && !line.is_empty() {
+    if lacks_word(line) && !line.is_empty() {
         return Some("two blanks side by side, or one at an end: just one stands between two words");
     }
     None
@@ -101,10 +112,10 @@ fn say_shift(f: &mut String, given: &Given<'_>, line: &[u8]) -> Said {
         let shown = Shown(word);
         match place {
             _ if word.is_empty() => {}
-            0 if is_unlisted(given.file("NOW"), word) => {
+            0 if is_unlisted(given, "NOW", word) => {
                 return write!(f, "{now} lists no item `{shown}`");
             }
-            1 | 3 if is_unlisted(given.file("DISKS"), word) => {
+            1 | 3 if is_unlisted(given, "DISKS", word) => {
                 return write!(f, "{disks} lists no disk `{shown}`");
             }
             2 | 4 if !is_slot(word) => {
@@ -120,11 +131,14 @@ fn say_shift(f: &mut String, given: &Given<'_>, line: &[u8]) -> Said {
 }
 
 /// Whether a file that can be read again has no row for the name.
-fn is_unlisted(list: Option<Typed<'_>>, name: &[u8]) -> bool {
-    list.is_some_and(|list| list.find(&Key::First(name)).is_none())
+fn is_unlisted(given: &Given<'_>, role: &str, name: &[u8]) -> bool {
+    match given.file(role) {
+        Some(list) => list.find(&Key::First(name)).is_none(),
+        None => false,
+    }
 }
 
 fn is_slot(word: &[u8]) -> bool {
     let is_plain = word == b"0".as_slice() || !word.starts_with(b"0");
-    is_plain && read_digits(word).is_some_and(|slot| slot < u64::from(MAX_SLOTS))
+    is_plain && matches!(read_digits(word), Some(slot) if slot < u64::from(MAX_SLOTS))
 }

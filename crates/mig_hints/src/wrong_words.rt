@@ -65,10 +65,20 @@ fn is_option(word: &str) -> bool {
     word.len() > 1 && word.starts_with("-")
 }
 
+/// The first of the words that looks like one.
+fn option_in(given: &[String]) -> Option<&str> {
+    for word in given {
+        if is_option(word.as_str()) {
+            return Some(word.as_str());
+        }
+    }
+    None
+}
+
 /// Too few words or too many.
 fn say_count(f: &mut String, row: &Row, given: &[String]) -> Said {
-    if let Some(place) = given.iter().position(|word| is_option(word.as_str())) {
-        let option = Shown(given[place].as_bytes());
+    if let Some(option) = option_in(given) {
+        let option = Shown(option.as_bytes());
         return write!(f, "there are no options; `{option}` is one");
     }
     let command = row.word;
@@ -165,8 +175,8 @@ fn say_case(f: &mut String, row: &Row, given: &[String]) -> Said {
 }
 
 fn number_in(given: &[String], place: usize) -> u64 {
-    let number = given
-        .get(place)
-        .and_then(|word| read_digits(word.as_bytes()));
-    number.unwrap_or(0)
+    match given.get(place) {
+        Some(word) => read_digits(word.as_bytes()).unwrap_or(0),
+        None => 0,
+    }
 }
