@@ -323,80 +323,39 @@ fn over_five_files<'a>(command: &str, files: PlanFiles<'a>, last: &'a str) -> Op
     }
 }
 
-/// The command that three words are, if they are one in its listed form.
-fn three_words(words: &[String]) -> Option<Command<'_>>
-    ensures { MatchOption result
-        (length words.now ≡ 3 → (form : Form) → IsListed (texts words.now) form → ⊥)
-        (λ command. IsListed (texts words.now) (form_of command)) }
-{
-    let [command, disks, now] = words else {
-        return None;
-    };
-    over_two_files(command.as_str(), disks.as_str(), now.as_str())
-}
-
-/// The command that four words are, if they are one in its listed form.
-fn four_words(words: &[String]) -> Option<Command<'_>>
-    ensures { MatchOption result
-        (length words.now ≡ 4 → (form : Form) → IsListed (texts words.now) form → ⊥)
-        (λ command. IsListed (texts words.now) (form_of command)) }
-{
-    let [command, disks, per_pair, limit] = words else {
-        return None;
-    };
-    let case = CaseWords {
-        disks: disks.as_str(),
-        per_pair: per_pair.as_str(),
-        limit: limit.as_str(),
-    };
-    over_three_numbers(command.as_str(), case)
-}
-
-/// The command that five words are, if they are one in its listed form.
-fn five_words(words: &[String]) -> Option<Command<'_>>
-    ensures { MatchOption result
-        (length words.now ≡ 5 → (form : Form) → IsListed (texts words.now) form → ⊥)
-        (λ command. IsListed (texts words.now) (form_of command)) }
-{
-    let [command, disks, now, third, fourth] = words else {
-        return None;
-    };
-    over_four_words(
-        command.as_str(),
-        disks.as_str(),
-        now.as_str(),
-        third.as_str(),
-        fourth.as_str(),
-    )
-}
-
-/// The command that six words are, if they are one in its listed form.
-fn six_words(words: &[String]) -> Option<Command<'_>>
-    ensures { MatchOption result
-        (length words.now ≡ 6 → (form : Form) → IsListed (texts words.now) form → ⊥)
-        (λ command. IsListed (texts words.now) (form_of command)) }
-{
-    let [command, disks, now, next, plan, last] = words else {
-        return None;
-    };
-    let files = PlanFiles {
-        disks: disks.as_str(),
-        now: now.as_str(),
-        next: next.as_str(),
-        plan: plan.as_str(),
-    };
-    over_five_files(command.as_str(), files, last.as_str())
-}
-
 /// The command that the words are, if they are one in its listed form.
 pub fn read_words(words: &[String]) -> Option<Command<'_>>
     ensures { MatchOption result ((form : Form) → IsListed (texts words.now) form → ⊥) (λ command. IsListed (texts words.now) (form_of command)) }
 {
-    match words.len() {
-        3 => three_words(words),
-        4 => four_words(words),
-        5 => five_words(words),
-        6 => six_words(words),
+    if words.len() < 3 || words.len() > 6 {
+        return None;
+    }
+    match words {
+        [command, disks, now] => over_two_files(command.as_str(), disks.as_str(), now.as_str()),
+        [command, disks, per_pair, limit] => {
+            let case = CaseWords {
+                disks: disks.as_str(),
+                per_pair: per_pair.as_str(),
+                limit: limit.as_str(),
+            };
+            over_three_numbers(command.as_str(), case)
+        }
+        [command, disks, now, third, fourth] => over_four_words(
+            command.as_str(),
+            disks.as_str(),
+            now.as_str(),
+            third.as_str(),
+            fourth.as_str(),
+        ),
+        [command, disks, now, next, plan, last] => {
+            let files = PlanFiles {
+                disks: disks.as_str(),
+                now: now.as_str(),
+                next: next.as_str(),
+                plan: plan.as_str(),
+            };
+            over_five_files(command.as_str(), files, last.as_str())
+        }
         _ => None,
     }
 }

@@ -1,9 +1,0 @@
-use Rattle.mig_words.proofs.Common.{Form, IsListed, List, MatchOption, arith, form_of, length, subst, sym, ℕ, ◌≡◌}
-use Rattle.mig_words.proofs.Lists.{none_map, six_texts}
-use Rattle.mig_words.proofs.words.six_words.Goals as goal
-
-pub returns : goal.returns
-returns c =
-    subst (λ (ws : List (List ℕ)). MatchOption c.over_five_files.result (length c.args.words.now ≡ 6 → (form : Form) → IsListed ws form → ⊥) (λ command. IsListed ws (form_of command)))
-    (sym (six_texts c.args.words.now c.command-item.result c.disks-item.result c.now-item.result c.next-item.result c.plan-item.result c.last-item.result c.as_str-5.result.now c.as_str.result.now c.as_str-2.result.now c.as_str-3.result.now c.as_str-4.result.now c.as_str-6.result.now (omega (arith, c.in-len6.len_at_least, c.in-len6.len_below)) c.command-item.is c.disks-item.is c.now-item.is c.next-item.is c.plan-item.is c.last-item.is c.as_str-5.ensures.value c.as_str.ensures.value c.as_str-2.ensures.value c.as_str-3.ensures.value c.as_str-4.ensures.value c.as_str-6.ensures.value))
-    (none_map c.over_five_files.result _ _ _ (λ none len. none) c.over_five_files.ensures)
