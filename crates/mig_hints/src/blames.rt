@@ -48,25 +48,6 @@ fn point_step(f: &mut String, plan: &Typed<'_>, step: Option<Step<'_>>) -> Said 
     }
 }
 
-/// The line where a step stands, 0 where there is none.
-fn line_of(step: Option<Step<'_>>) -> u32 {
-    match step {
-        Some(step) => step.line,
-        None => 0,
-    }
-}
-
-/// The disk and the slot that a shift goes to.
-fn target_of<'a>(step: Option<Step<'a>>) -> (&'a [u8], u64) {
-    match step {
-        Some(step) => (
-            step.word(3),
-            u64::from(count_at(step.text.unwrap_or(&[]), 4)),
-        ),
-        None => (&[], 0),
-    }
-}
-
 /// The shifts of an item in a round.
 fn in_round(item: &[u8], round: u32) -> Want<'_> {
     Want::Shifts(round, round.saturating_add(1), 0, item)
@@ -88,7 +69,7 @@ fn say_plan(
         Blame::NotHere { round, .. } => say_elsewhere(f, given, plan, *round, name),
         Blame::TwiceInRound { round, .. } => {
             let steps = look_for(plan.bytes, &in_round(name, *round));
-            let first = line_of(steps.first);
+            let first = steps.first.map_or(0, |step| step.line);
             point_step(f, plan, steps.second)?;
             write!(
                 f,
@@ -179,7 +160,8 @@ fn say_not_free(
 ) -> Said {
     let step = look_for(plan.bytes, &in_round(item, round)).first;
     point_step(f, plan, step)?;
-    let (name, slot) = target_of(step);
+    let name = step.map_or([].as_slice(), |step| step.word(3));
+    let slot = step.map_or(0, |step| u64::from(count_at(step.text.unwrap_or(&[]), 4)));
     let disk = Shown(name);
     match given.slots_of(name) {
         Some(slots) if slot >= slots => write!(f, "`{disk}` has {slots} slots, which count from 0"),

@@ -20,20 +20,9 @@ fn fields_of(file: FileKind, sides: bool) -> (usize, &'static str) {
     }
 }
 
-/// Whether a double quote is opened in a row and not closed.
-fn is_open(row: &[u8]) -> bool {
-    let mut open = false;
-    for byte in row {
-        if *byte == b'"' {
-            open = !open;
-        }
-    }
-    open
-}
-
 /// What is wrong with a row that a spreadsheet or a person wrote in another form, whatever it is refused for.
 fn other_form(row: &[u8]) -> Option<&'static str> {
-    if is_open(row) {
+    if row.iter().filter(|b| **b == b'"').count() % 2 == 1 {
         return Some("a double quote is opened here and not closed");
     }
     if without_empty(row).is_empty() {

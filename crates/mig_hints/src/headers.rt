@@ -24,21 +24,11 @@ fn headers_of(file: FileKind) -> &'static str {
     }
 }
 
-/// How many marks between fields a line has.
-fn marks_in(line: &[u8]) -> usize {
-    let mut marks = 0usize;
-    for byte in line {
-        if matches!(*byte, b',' | b';' | b'\t') {
-            marks = marks.saturating_add(1);
-        }
-    }
-    marks
-}
-
 /// The header that a line is meant to be: in a disks file the one with as many fields.
 fn meant_by(file: FileKind, line: &[u8]) -> &'static str {
+    let is_mark = |b: &&u8| matches!(**b, b',' | b';' | b'\t');
     match file {
-        FileKind::Disks if marks_in(line) == 3 => "disk,out,in,slots",
+        FileKind::Disks if line.iter().filter(is_mark).count() == 3 => "disk,out,in,slots",
         FileKind::Disks => "disk,limit,slots",
         _ => headers_of(file),
     }
@@ -64,13 +54,10 @@ fn is_meant(file: FileKind, line: &[u8]) -> bool {
 
 /// A row without the empty fields at its end.
 pub(crate) fn without_empty(row: &[u8]) -> &[u8] {
-    let mut end = 0;
-    for at in 0..row.len() {
-        if row[at] != b',' {
-            end = at + 1;
-        }
+    match row.iter().rposition(|b| *b != b',') {
+        Some(last) => row.get(..=last).unwrap_or(row),
+        None => &[],
     }
-    row.get(..end).unwrap_or(row)
 }
 
 /// Whether the first bytes are those of a text in UTF-16, with or without its mark.

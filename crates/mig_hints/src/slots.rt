@@ -69,24 +69,15 @@ pub(crate) fn look<R: Files<File = File> + AllocGlobal>(
     }
 }
 
-fn are_zeros(bytes: &[u8]) -> bool {
-    for byte in bytes {
-        if *byte != 0 {
-            return false;
-        }
-    }
-    true
-}
-
 /// What the bytes of a slot are: in its header the name is followed by zeros.
 fn held_in(bytes: &[u8; SLOT]) -> Held {
-    if are_zeros(bytes) {
+    if bytes.iter().all(|b| *b == 0) {
         return Held::Zeros;
     }
     let used = bytes[0] == 1;
     let end = (2 + bytes[1] as usize).min(HEADER);
     match Name::read(&bytes[2..end]) {
-        Some(name) if used && are_zeros(&bytes[end..HEADER]) => Held::Item(name),
+        Some(name) if used && bytes[end..HEADER].iter().all(|b| *b == 0) => Held::Item(name),
         _ => Held::NoItem { used },
     }
 }

@@ -42,18 +42,6 @@ pub(crate) fn say_not_spelled(
     }
 }
 
-/// Whether there is no word beside a blank of the line, or none at all.
-fn lacks_word(line: &[u8]) -> bool {
-    let mut last = b' ';
-    for byte in line {
-        if *byte == b' ' && last == b' ' {
-            return true;
-        }
-        last = *byte;
-    }
-    last == b' '
-}
-
 /// What is wrong with a line that an editor wrote in another form, whatever stands in it.
 fn other_form(line: &[u8]) -> Option<&'static str> {
     if line.ends_with(b"\r") {
@@ -62,7 +50,8 @@ fn other_form(line: &[u8]) -> Option<&'static str> {
     if line.starts_with(b"\xef\xbb\xbf") {
         return Some("the text begins with a byte order mark: save it without one");
     }
-    if lacks_word(line) && !line.is_empty() {
+    let has_no_word = line.split(|b| *b == b' ').any(|word| word.is_empty());
+    if has_no_word && !line.is_empty() {
         return Some("two blanks side by side, or one at an end: just one stands between two words");
     }
     None
