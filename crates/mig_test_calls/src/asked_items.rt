@@ -74,12 +74,18 @@ fn expect_emptied<C: Calls>(
     assert!(rt; empties(store, disk, 2) && empties(store, disk, 9));
 }
 
-/// Writes a slot that holds the item, with these bytes in its second sector.
-fn put_with<C: Calls>(store: &mut FileStore<C>, disk: Name, item: &Name, second: u8) -> bool {
-    let mut bytes = [7; 4096];
+/// Writes a slot that holds the item, with this byte in its second sector, and zeros besides.
+fn put_with<C: Calls>(
+    store: &mut FileStore<C>,
+    disk: Name,
+    slot: u32,
+    item: &Name,
+    byte: u8,
+) -> bool {
+    let mut bytes = [0; 4096];
     bytes[..34].copy_from_slice(&header(item));
-    bytes[512..1024].fill(second);
-    store.write(&Cell::Slot { disk, slot: 0 }, &bytes).is_ok()
+    bytes[600] = byte;
+    store.write(&Cell::Slot { disk, slot }, &bytes).is_ok()
 }
 
 /// Whether the store says that what a slot holds of its item stands in the other one too.
@@ -91,14 +97,12 @@ fn agree<C: Calls>(store: &mut FileStore<C>, disk: Name, slot: u32, to: u32) -> 
 
 /// Asserts which slots agree where `x` is in slot 3, and `y` in slot 1.
 fn expect_compared<C: Calls>(rt: &impl Abort, store: &mut FileStore<C>, disk: Name, x: &Name) {
-    assert!(rt;
-        put_with(store, disk, x, 7) && agree(store, disk, 0, 3) && agree(store, disk, 3, 0)
-    );
+    assert!(rt; put_with(store, disk, 3, x, 7) && put_with(store, disk, 0, x, 7));
+    assert!(rt; agree(store, disk, 0, 3) && agree(store, disk, 3, 0));
     // another sector, and one that is zeros
-    assert!(rt; put_with(store, disk, x, 8) && !agree(store, disk, 0, 3));
-    assert!(rt;
-        put_with(store, disk, x, 0) && agree(store, disk, 0, 3) && !agree(store, disk, 3, 0)
-    );
+    assert!(rt; put_with(store, disk, 0, x, 8) && !agree(store, disk, 0, 3));
+    assert!(rt; put_with(store, disk, 0, x, 0) && agree(store, disk, 0, 3));
+    assert!(rt; !agree(store, disk, 3, 0));
     // another item, none, and past the end
     assert!(rt; agree(store, disk, 0, 1) && agree(store, disk, 2, 0) && agree(store, disk, 0, 9));
 }
