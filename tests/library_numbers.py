@@ -86,14 +86,19 @@ def the_check(library, chance, it, disks, items, split, made):
         found[chance.choice([1, 2, 6, 7])] += 1
     if changed == 7 and len(rows) > 1:
         rows[chance.randrange(len(rows))] = list(rows[0])
-    numbers = migrate.Numbers(rows, migrate.Found(*found), made.set)
+    return judged_as_text(library, f"cluster {it}", disks, items, split, migrate.Numbers(rows, migrate.Found(*found), made.set))
+
+
+def judged_as_text(library, what, disks, items, split, numbers):
+    """The verdict over numbers, which is that of the text that they spell."""
     status, judged = library.check_numbers(disks, items, numbers, split)
     if status == 10:
-        bad = [k for k, (item, disk, slot, round) in enumerate(rows) if item >= len(items) or disk >= len(disks) or slot >= 65536 or not 1 <= round <= found[0]]
-        Count.same(f"check_numbers of cluster {it}: what is not spelled", judged, (14, 0, bad[0], 0, 0) if bad else (15, 0, 0, 0, 0))
+        rows, rounds = numbers.rows, numbers.found.rounds
+        bad = [k for k, (item, disk, slot, round) in enumerate(rows) if item >= len(items) or disk >= len(disks) or slot >= 65536 or not 1 <= round <= rounds]
+        Count.same(f"check_numbers of {what}: what is not spelled", judged, (14, 0, bad[0], 0, 0) if bad else (15, 0, 0, 0, 0))
     else:
         text = answer(lambda: library.check(*tables(disks, items, split), *spelled(disks, items, split, numbers)))
-        Count.same(f"check_numbers of cluster {it}", (status, f"{verdict(judged)}\n"), text if isinstance(text, tuple) else (0, f"{text}\n"))
+        Count.same(f"check_numbers of {what}", (status, f"{verdict(judged)}\n"), text if isinstance(text, tuple) else (0, f"{text}\n"))
     return judged.what
 
 
@@ -120,6 +125,11 @@ def the_numbers(library, clusters):
             causes.add(numbers[1].split(":")[1].split(" on ")[0])
         Count.same(f"plan_numbers of cluster {it}", numbers, texts)
         the_schedule(library, it, disks, items, split)
+    # a plan with a round more than it needs, and an item that stays and is shifted within its disk
+    disks, items = [(2, 2, 4), (2, 2, 4)], [(0, 0, 1), (1, 0, 0), (0, 1, 0)]
+    plan = library.plan_numbers(disks, items, 0)
+    for rows, rounds in (([[0, 1, 1, 1], [1, 0, 2, 2]], 2), ([[0, 1, 1, 1], [1, 0, 2, 1], [2, 0, 3, 2]], 2)):
+        verdicts.add(judged_as_text(library, f"{len(rows)} shifts", disks, items, 0, migrate.Numbers(rows, plan.found._replace(rounds=rounds), plan.set)))
     Count.same("each kind of bound, each cause, and each verdict", (bounds, len(causes), verdicts), ({0, 1, 2, 3}, 5, set(range(16)) - {9}))
     for name, call, refused in (
         ("too many disks", lambda: library.plan_numbers([(1, 1, 1)] * 1025, []), (3, 1, 0)),

@@ -70,10 +70,13 @@ class Carrier:
                 continue
             left = [it for it in numbers if it not in self.done]
             under = [it for it in left if self.place[it] <= self.at[self.steps[it].group]]
-            if is_new and not eager:
-                if left and not self.clock.wait(self.stopped.is_set):
+            if is_new and not eager and left and self.clock.holds():
+                if not self.clock.wait(self.stopped.is_set):
                     self.rest(0)
                     raise Ended(f"before round {self.round}")
+                self.now = None  # whoever took its place meanwhile may have begun what it would
+                continue
+            if is_new and not eager:
                 tell(f"round {self.round}")
             is_new = False
             count = len(numbers) - len(left)
