@@ -131,6 +131,7 @@ def second_of_btrfs(room, device):
     with Loop(32768) as first, Loop(32768) as second:
         called("mkfs.btrfs", "-q", "-f", "-d", "raid1", "-m", "raid1", first.name, second.name)
         called("mount", "-o", f"device={first.name},device={second.name}", first.name, device.point)
+        os.sync()  # else the file system writes of its own accord some time later
         try:
             yield {"disk": second.name}
         finally:
