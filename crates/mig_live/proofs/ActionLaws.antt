@@ -132,7 +132,7 @@ write_left [] ys cell any = absurd any
 write_left (x ∷ xs) ys cell (inl here) = inl here
 write_left (x ∷ xs) ys cell (inr there) = inr (write_left xs ys cell there)
 
-write_right : (xs ys : List Action) (cell : Cell) → AllWrite ys cell → AllWrite (xs ++ ys) cell
+pub write_right : (xs ys : List Action) (cell : Cell) → AllWrite ys cell → AllWrite (xs ++ ys) cell
 write_right [] ys cell any = any
 write_right (x ∷ xs) ys cell any = inr (write_right xs ys cell any)
 

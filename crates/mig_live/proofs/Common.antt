@@ -44,7 +44,7 @@ pub use Rattle.mig_live.specs.Actions.{Action, AllWrite, AreMade, AreMadeInPart,
 pub use Rattle.mig_live.specs.Orders.{IsOrder, all_reads, all_steps, order_line, order_words, steps_of}
 pub use Rattle.mig_live.specs.Replies.{AreCutOff, ArePut, ArePutUpTo, AreReplies, replies, reply_line}
 pub use Rattle.mig_live.specs.Scripts.{IsScriptError, IsStopAt, Over, Piece, ScriptLine, ScriptNext, ScriptPlace, ScriptText, WereRead}
-pub use Rattle.mig_live.specs.Sessions.{InStep, Session, done_in, is_synced, marks_by, steps_after}
+pub use Rattle.mig_live.specs.Sessions.{InStep, IsSession, IsUnsynced, Session, done_in, is_synced, marks_by, steps_after}
 pub use Rattle.mig_live.specs.Underways.{IsAmong, IsAtStep, IsFilledBy, IsLeftBy, IsLoose, IsUnderway, shifts_in, steps_in}
 pub use Rattle.mig_live.specs.declared.limits.TheConstants.{MAX_ORDERS}
 pub use Rattle.mig_live.specs.declared.orders.Order.{Order}

@@ -1,27 +1,31 @@
 -- What the calls of a session keep.
-use Rattle.mig_live.proofs.Common.{All, Bool, Cell, ChangesOnly, Contents, Enters, InStep, IsAtStep, IsFilledBy, IsJobCell, IsLoose, IsReached, IsSettled, IsSound, IsSoundAfter, IsTask}
-use Rattle.mig_live.proofs.Common.{IsUnderway, LeavesOnly, List, Lists, Looks, NoCell, Session, SettledBut, SettlesTo, Shift, Some, State, Task, Tells, [], ap, arith, cases_lt, changes_wider}
-use Rattle.mig_live.proofs.Common.{done_in, drop, eqb-true, flights_same, get_or, inl, inr, is_synced, leaves_then, length, look_quiet, marks_by, reached, round_at, same_image}
-use Rattle.mig_live.proofs.Common.{settled_change, shifts_in, slice_get-get_or, slice_get_within, slot_of, steps_after, steps_in, subst, suc, sym, true, zero, zeros, ℕ, ◌*◌, ◌+◌, ◌-◌, ◌<◌, ◌↔◌}
-use Rattle.mig_live.proofs.Common.{◌∙◌, ◌≡◌, ◌≤◌, ◌⊎◌}
+use Rattle.mig_live.proofs.Common.{Action, All, AllWrite, AreMadeInPart, Bool, Cell, ChangesOnly, Contents, Enters, Image, InStep, IsAtStep, IsFilledBy, IsInput, IsJobCell}
+use Rattle.mig_live.proofs.Common.{IsLoose, IsMade, IsReached, IsSession, IsSettled, IsSound, IsSoundAfter, IsTask, IsUnderway, IsUnsynced, LeavesOnly, List, Lists, Looks}
+use Rattle.mig_live.proofs.Common.{NoCell, Runs, SameBut, ServeFault, Session, SettledBut, SettlesTo, Shift, Some, State, Task, Tells, [], actions_left, actions_since, ap}
+use Rattle.mig_live.proofs.Common.{append_assoc, arith, cases_lt, changes_wider, done_in, drop, drop_all, eqb-true, flights_same, get_or, inl, inr, is_synced, leaves_then}
+use Rattle.mig_live.proofs.Common.{length, look_quiet, marks_by, reached, refl, round_at, same_image, same_wider, settled_change, shifts_in, slice_get-get_or, slice_get_within}
+use Rattle.mig_live.proofs.Common.{slot_of, steps_after, steps_in, subst, suc, sym, take, true, zero, zeros, ℕ, ◌*◌, ◌++◌, ◌+◌, ◌-◌, ◌<◌, ◌↔◌, ◌∙◌, ◌∷◌, ◌≡◌, ◌≤◌, ◌⊎◌}
 use Rattle.mig_live.proofs.ActionLaws.{count_since}
-use Rattle.mig_live.proofs.Common.{Action, AreMadeInPart, IsMade, actions_left, actions_since, drop_all, refl, take, ◌∷◌}
 use Rattle.mig_live.proofs.Middle.{from_done, way_on}
 use Rattle.mig_live.proofs.StepCounts.{marks_after, marks_before, marks_none, shifts_past, steps_fall, steps_from, steps_last, steps_more, steps_next}
+use Rattle.mig_live.specs.Replies.{AreMadeUpTo, IsLeftAfter, LeavesAfter, telling}
+use Rattle.mig_live.specs.declared.serving.ServeFault.TheVariants as serve_fault
 
 module _ (asked : Bool) (input : Lists) (plan : List (List Shift)) (digest : List ℕ) (contents : Contents) (k : ℕ) (old new : State) where
   settled_quiet : (P : Cell → Type 0) → ChangesOnly NoCell old new → SettledBut P old → SettledBut P new
   settled_quiet P quiet = settled_change P [] old new (changes_wider P P NoCell NoCell (λ cell none. absurd none) (λ cell none. absurd none) [] old new quiet)
 
+  -- where nothing is written and no event comes, nothing changes
+  pub step_quiet : (p : ℕ) → ChangesOnly NoCell old new → IsAtStep asked input plan digest contents old k p → IsAtStep asked input plan digest contents new k p
+  step_quiet p quiet at = record {
+    underway = way_on asked input plan digest contents k old new p _ (same_image old.reads new.reads quiet.told) (settled_quiet (IsLoose input plan k p (p - shifts_in plan k)) quiet at.underway.settled)
+        (flights_same old new quiet.events ∙ at.underway.landed) at.underway;
+    synced = λ high. settled_quiet NoCell quiet (at.synced high);
+  }
+
   -- a look changes nothing
   pub step_looked : (p : ℕ) → Looks old new → IsAtStep asked input plan digest contents old k p → IsAtStep asked input plan digest contents new k p
-  step_looked p look at =
-      let quiet = look_quiet old new at.underway.landed look in
-      record {
-        underway = way_on asked input plan digest contents k old new p _ (same_image old.reads new.reads quiet.told) (settled_quiet (IsLoose input plan k p (p - shifts_in plan k)) quiet at.underway.settled)
-            (flights_same old new quiet.events ∙ at.underway.landed) at.underway;
-        synced = λ high. settled_quiet NoCell quiet (at.synced high);
-      }
+  step_looked p look at = step_quiet p (look_quiet old new at.underway.landed look) at
 
 -- Steps
 
@@ -114,11 +118,6 @@ module _ (task : Task) (is : IsTask task) (marked left : ℕ) (count : left ≡ 
       done = shifts_in task.plan marked + steps_after task.plan marked - left
 
 -- what every session keeps
-pub record IsSession (live : Session) : Type 0 where
-  pub most : live.marked ≤ length live.task.plan
-  pub low : live.left ≤ shifts_in live.task.plan live.marked + steps_after live.task.plan live.marked
-  pub high : done_in live ≤ steps_in live.task.plan live.marked
-
 pub keeps_session : (task : Task) (marked left done : ℕ) → marked ≤ length task.plan → done + left ≡ shifts_in task.plan marked + steps_after task.plan marked → done ≤ steps_in task.plan marked
     → (live : Session) → live ≡ record { task = task; marked = marked; left = left } → IsSession live
 keeps_session task marked left done most sum high live it = subst IsSession (sym it) (record { most = most; low = omega (arith, sum); high = omega (arith, sum, high) })
@@ -128,7 +127,7 @@ task_of task marked left live it is = subst (λ (l : Session). IsTask l.task) (s
 
 -- The end
 
-module _ (live : Session) (is : IsTask live.task) (keeps : IsSession live) (none : live.left ≡ 0) (asked : Bool) (contents : Contents) (s : State) (at : InStep asked live contents s) where
+module _ (live : Session) (valid : IsInput live.task.input) (runs : Runs live.task.input live.task.plan) (keeps : IsSession live) (none : live.left ≡ 0) (asked : Bool) (contents : Contents) (s : State) (at : InStep asked live contents s) where
   all_marked : live.marked ≡ length live.task.plan
   all_marked = elim (cases_lt live.marked (length live.task.plan)) [
     | inl lt ↦ absurd (let high = keeps.high in omega (arith, high, none, suc_is, steps_more live.task.plan live.marked lt))
@@ -156,7 +155,7 @@ module _ (live : Session) (is : IsTask live.task) (keeps : IsSession live) (none
   last_settled = at.synced last_full
 
   pub last_reached : asked ≡ true → IsReached live.task.input live.task.plan live.task.digest contents s.reads
-  last_reached is_asked = reached live.task.input is.valid live.task.plan is.runs live.task.digest contents s.reads
+  last_reached is_asked = reached live.task.input valid live.task.plan runs live.task.digest contents s.reads
       (subst (IsSoundAfter true live.task.input live.task.plan live.task.digest contents s.reads) all_marked
       (subst (λ (b : Bool). IsSoundAfter b live.task.input live.task.plan live.task.digest contents s.reads live.marked) is_asked at.underway.sound))
       (subst (λ (n : ℕ). All (λ m. s.reads (slot_of live.task.input m.from) ≡ Some zeros) (round_at live.task.plan n)) all_marked last_erased)
@@ -236,3 +235,50 @@ module _ (live : Session) (keeps : IsSession live) where
         | inl within ↦ inr (omega (arith, within), omega (arith, is, within, steps_next live.task.plan found lt), omega (arith, is, after, within, steps_next live.task.plan found lt))
         | inr past ↦ inl (omega (arith, is, past, steps_next live.task.plan found lt))
       ]
+
+-- What is left where an order fails
+
+module _ (asked : Bool) (live : Session) (contents : Contents) (s : State) (at : InStep asked live contents s) where
+  told_before : InStep asked live contents (telling (IsUnsynced live) s.reads)
+  told_before = record {
+    underway = record {
+      sound = at.underway.sound;
+      copied = at.underway.copied;
+      erased = at.underway.erased;
+      settled = λ image left. same_wider (IsUnsynced live) (IsLoose live.task.input live.task.plan live.marked (done_in live) (done_in live - shifts_in live.task.plan live.marked)) (λ cell of. of.1) s.reads image left;
+      landed = refl;
+      tells = at.underway.tells;
+    };
+    synced = λ high image left. same_wider (IsUnsynced live) NoCell (λ cell of. (let low = of.0 in absurd (omega (arith, low, high)))) s.reads image left;
+  }
+
+  left_before : (image : Image) → s.may_leave image → SameBut (IsUnsynced live) s.reads image
+  left_before image left = elim (cases_lt (done_in live) (steps_in live.task.plan live.marked)) [
+    | inl low ↦ same_wider (IsLoose live.task.input live.task.plan live.marked (done_in live) (done_in live - shifts_in live.task.plan live.marked)) (IsUnsynced live) (λ cell of. (low, of)) s.reads image (at.underway.settled image left)
+    | inr high ↦ same_wider NoCell (IsUnsynced live) (λ cell none. absurd none) s.reads image (at.synced high image left)
+  ]
+
+module _ (live mid : Session) (task : mid.task ≡ live.task) (steps : ℕ) (less : mid.left ≡ live.left - steps) (rest : actions_left mid ≡ drop steps (actions_left live)) (is : IsSession mid) (old between : State)
+    (goes : (asked : Bool) (contents : Contents) → InStep asked live contents old → InStep asked mid contents between) (others : List Action) (new : State) where
+  left_after : (now : State) → ((asked : Bool) (contents : Contents) → InStep asked mid contents between → InStep asked mid contents now) → IsLeftAfter live steps mid old now
+  left_after now on = record { task = task; left = less; rest = rest; is = is; in_step = λ asked contents at. on asked contents (goes asked contents at) }
+
+  -- an order fails after so many steps
+  pub fault_leaves : (fault : ServeFault) → AreMadeUpTo [] others between new fault → LeavesAfter live steps others old new fault
+  fault_leaves serve_fault.Sink none = (
+    mid,
+    left_after new (λ asked contents at. step_quiet asked mid.task.input mid.task.plan mid.task.digest contents mid.marked between new (done_in mid)
+        (changes_wider NoCell NoCell (AllWrite []) (AllWrite []) (λ cell out. absurd out) (λ cell out. absurd out) [] between new none) at),
+  )
+  fault_leaves serve_fault.Store part = record {
+    after = mid;
+    before = between.reads;
+    was = left_after (telling (IsUnsynced mid) between.reads) (λ asked contents at. told_before asked mid contents between at);
+    first = part.made ++ part.begun;
+    rest = part.left;
+    are = part.are ∙ sym (append_assoc part.made part.begun part.left);
+    told = part.change.told;
+    crash = λ asked contents at image left.
+        let from = part.change.crash image left in
+        (from.0, left_before asked mid contents between (goes asked contents at) from.0 from.1, from.2);
+  }

@@ -6,7 +6,7 @@ use Rattle.mig_live.proofs.ActionLaws.{after_last, after_round, part_of_all, wri
 use Rattle.mig_live.specs.Actions.{Writes, actions_since}
 
 -- steps of shifts, and others
-write_cases : (f : Shift → Action) (shifts : List Shift) (rest : List Action) (cell : Cell) → AllWrite (map f shifts ++ rest) cell → ((s : Shift) × Contains shifts s × Writes (f s) cell) ⊎ AllWrite rest cell
+pub write_cases : (f : Shift → Action) (shifts : List Shift) (rest : List Action) (cell : Cell) → AllWrite (map f shifts ++ rest) cell → ((s : Shift) × Contains shifts s × Writes (f s) cell) ⊎ AllWrite rest cell
 write_cases f [] rest cell any = inr any
 write_cases f (s ∷ ss) rest cell (inl at) = inl (s, here s ss, at)
 write_cases f (s ∷ ss) rest cell (inr any) = ⊎_elim (λ of. inl (of.0, (suc of.1.0, (let lt = of.1.1 in omega arith), of.1.2), of.2)) (λ other. inr other) (write_cases f ss rest cell any)

@@ -12,7 +12,7 @@ ghost use Rattle.mig_base.specs.Stores.{State, flights, Looks, LeavesOnly, IsSet
 ghost use Rattle.mig_base.specs.Tasks.{Task, IsTask};
 ghost use Rattle.mig_mover.specs.Moves.{Keeps, Enters, IsFault, IsResumeFault, MayBeHalting, StaysArmed};
 ghost use Rattle.mig_live.specs.Actions.{Action, AreMade, AreMadeInPart, IsMade, actions_left};
-ghost use Rattle.mig_live.specs.Sessions.{Session, InStep, is_synced, marks_by, steps_after};
+ghost use Rattle.mig_live.specs.Sessions.{Session, IsSession, InStep, is_synced, marks_by, steps_after};
 ghost use Rattle.mig_live.specs.Underways.{shifts_in, steps_in};
 
 use crate::steps::{mark_next, shifts_of_round, step_within};
@@ -220,6 +220,7 @@ impl<'a> Live<'a> {
     /// A round is marked exactly where no more steps are left than come from its mark on. So as many rounds are marked as were
     /// at first, and those whose marks are among the steps made since. The call does nothing.
     pub fn marks_follow_steps(&self)
+        ensures session { IsSession self.now }
         ensures round { (r : ℕ) → r ≤ length self.now.task.plan → (r ≤ self.now.marked ↔ self.now.left ≤ shifts_in self.now.task.plan r + steps_after self.now.task.plan r) }
         ensures count { (found steps : ℕ) → found ≤ length self.now.task.plan → self.now.left ≡ steps_after self.now.task.plan found - steps
             → self.now.marked ≡ found + marks_by (drop found self.now.task.plan) steps }

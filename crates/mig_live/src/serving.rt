@@ -157,6 +157,7 @@ pub fn serve<'a, K: Sink, S: Store>(
 {
     let mut after = live;
     for order in orders {
+        after.marks_follow_steps();
         after = carry_out(after, store, out, *order)?;
     }
     Ok(after)

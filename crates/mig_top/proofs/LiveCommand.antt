@@ -1,10 +1,10 @@
 -- How `live` ends.
 use Rattle.mig_top.proofs.Common.{Adds, AreAnswers, AreOfScripted, BeginsRun, Bool, Call, Contents, Done, Err, Event, FormEndsAs, Gate, GoesOn, IfSome, Image, IsFault, IsInput, IsJobCell, IsReached}
-use Rattle.mig_top.proofs.Common.{IsResumable, IsResumeFault, IsResumeRefusal, IsSafeAfter, IsServed, IsSettled, IsSome, IsSound, Keeps, LeavesOnly, List, Live, MakesAll, MoveFault, Names, None}
-use Rattle.mig_top.proofs.Common.{Option, Order, Rose, Runs, Scripted, ServesAll, SettlesTo, Shows, SinkFault, SinkState, Some, State, StaysArmed, Step, StoreFault, Task, Tells, Untouched, WentOn}
+use Rattle.mig_top.proofs.Common.{IsResumable, IsResumeFault, IsResumeRefusal, IsSafeAfter, IsServed, IsSome, IsSound, Keeps, LeavesOnly, List, Live, MoveFault, Names, None}
+use Rattle.mig_top.proofs.Common.{Option, Order, Rose, Runs, Scripted, ServesAll, SettlesTo, Shows, SinkFault, SinkState, Some, State, StaysArmed, Step, Task, Tells, Untouched, WentOn}
 use Rattle.mig_top.proofs.Common.{WorldEnds, [], after, all_steps, ap, append_assoc, arith, count_most, count_of, drop, fault_outcome, finds, flights, inl, inr, is_armed, left_text, length}
 use Rattle.mig_top.proofs.Common.{length-append, marks_by, option_map, refl, replies, resumes, scripted_in, steps_after, steps_left, subst, sym, take, then_begins, then_extends, true, ℕ, ⊎_elim, ◌++◌}
-use Rattle.mig_top.proofs.Common.{◌+◌, ◌-◌, ◌∙◌, ◌∷◌, ◌≡◌, ◌≤◌, ◌⊎◌}
+use Rattle.mig_top.proofs.Common.{◌+◌, ◌-◌, ◌∙◌, ◌∷◌, ◌≡◌, ◌≤◌}
 use Rattle.mig_base.specs.RoundEvents.{IsRun}
 use Rattle.mig_io.specs.Held.{ExtendsByPrefix}
 use Rattle.mig_lanes.proofs.RunLaws.{work_armed, work_keeps, work_stays}
@@ -12,12 +12,14 @@ use Rattle.mig_live.proofs.ActionLaws.{part_of_all, past_erasures}
 use Rattle.mig_live.proofs.WorkCells.{Works, made_works, part_works}
 use Rattle.mig_live.specs.Actions.{Action, AreMade, AreMadeInPart, actions_after, actions_left, all_events}
 use Rattle.mig_live.specs.Orders.{steps_of}
-use Rattle.mig_live.specs.Replies.{AreCutOff, ArePut, AreReplies}
-use Rattle.mig_live.specs.Sessions.{InStep, Session, done_in}
+use Rattle.mig_live.proofs.SessionLaws.{last_reached, last_settled, marks_counted}
+use Rattle.mig_live.specs.Replies.{AreCutOff, ArePut, AreReplies, WasLeftAfter, telling}
+use Rattle.mig_live.specs.Sessions.{InStep, IsSession, IsUnsynced, Session, done_in}
 use Rattle.mig_live.specs.declared.serving.ServeFault.TheVariants as serve_fault
 use Rattle.mig_mover.specs.declared.faults.MoveFault.TheVariants as fault
 use Rattle.mig_top.proofs.EndsOf.{shown}
 use Rattle.mig_live.proofs.LoneCopies.{made_of_all, split_events, whole_landed}
+use Rattle.mig_top.proofs.LiveFaults.{counts_still, reads_still, settled_still}
 use Rattle.mig_top.proofs.SessionEvents.{refused_events, session_events, stopped_events, whole_events}
 use Rattle.mig_top.specs.Ends.{FormFinishes}
 use Rattle.mig_words.specs.declared.endings.Ending.TheVariants as ending
@@ -42,6 +44,38 @@ begun_both answers next (Some held) new (n, le, is) = (
 left_begun : (live : Session) (task : Task) → live.task ≡ task → live.left ≡ steps_after task.plan live.marked → actions_left live ≡ actions_after task live.marked
 left_begun live task it left =
     past_erasures live.task live.marked (done_in live) 0 (omega (arith, left, ap (λ (t : Task). steps_after t.plan live.marked) it)) ∙ ap (λ (t : Task). actions_after t live.marked) it
+
+-- where a session is after its orders
+module _ (read : Scripted) (live session : Session) (it : live.task ≡ read.task) (same : session.task ≡ live.task) (count : live.left ≡ steps_after read.task.plan live.marked)
+    (left : session.left ≡ live.left - all_steps read.orders) (most : live.marked ≤ length read.task.plan) (keeps : IsSession session) where
+  task_still : session.task ≡ read.task
+  task_still = same ∙ it
+
+  pub left_still : session.left ≡ steps_left read live.marked
+  left_still = left ∙ ap (λ (n : ℕ). n - all_steps read.orders) count
+
+  pub counted : session.marked ≡ live.marked + marks_by (drop live.marked read.task.plan) (all_steps read.orders)
+  counted =
+      let long = ap (λ (t : Task). length t.plan) task_still in
+      marks_counted session keeps (length session.task.plan - live.marked) live.marked (all_steps read.orders) (omega (arith, most, long))
+      (inl (left_still ∙ ap (λ (t : Task). steps_after t.plan live.marked - all_steps read.orders) (sym task_still)))
+      ∙ ap (λ (t : Task). live.marked + marks_by (drop live.marked t.plan) (all_steps read.orders)) task_still
+
+  module _ (valid : IsInput read.task.input) (runs : Runs read.task.input read.task.plan) where
+    valid_still : IsInput session.task.input
+    valid_still = subst (λ (t : Task). IsInput t.input) (sym task_still) valid
+
+    runs_still : Runs session.task.input session.task.plan
+    runs_still = subst (λ (t : Task). Runs t.input t.plan) (sym task_still) runs
+
+    pub went_on : (contents : Contents) (new : State) → InStep true session contents new → WentOn read contents new live.marked
+    went_on contents new at = record {
+      marked = subst (λ (n : ℕ). IsSafeAfter read.task.input read.task.plan read.task.digest contents new.reads n) counted
+          (subst (λ (t : Task). IsSafeAfter t.input t.plan t.digest contents new.reads session.marked) task_still at.underway.sound.after);
+      reached = λ none. subst (λ (t : Task). IsReached t.input t.plan t.digest contents new.reads) task_still
+          (last_reached session valid_still runs_still keeps (left_still ∙ none) true contents new at refl);
+      settled = λ none. last_settled session valid_still runs_still keeps (left_still ∙ none) true contents new at;
+    }
 
 module _ (k : Call) (names : Names) (script : List ℕ) (same : Untouched k.before.folder k.after.folder) (read : Scripted) (are : AreOfScripted k.before.folder names script read)
     (valid : IsInput read.task.input) (runs : Runs read.task.input read.task.plan) where
@@ -93,6 +127,9 @@ module _ (k : Call) (names : Names) (script : List ℕ) (same : Untouched k.befo
     abbrev all : List Action
     all = actions_after read.task live.marked
 
+    abbrev of_orders : List Order → Scripted
+    of_orders orders = record { task = read.task; orders = orders }
+
     these : actions_left live ≡ actions_after read.task live.marked
     these = left_begun live read.task it left
 
@@ -103,12 +140,14 @@ module _ (k : Call) (names : Names) (script : List ℕ) (same : Untouched k.befo
       events = session_events read.task valid runs live.marked old mid new ended b more is steps;
     }
 
-    makes : (orders : List Order) → AreMade (take (all_steps orders) (actions_left live)) mid new → MakesAll read orders old new live.marked
-    makes orders made = record {
+    makes : (orders : List Order) → AreMade (take (all_steps orders) (actions_left live)) mid new → ((contents : Contents) → InStep true live contents mid → WentOn (of_orders orders) contents new live.marked)
+        → ServesAll (of_orders orders) old new live.marked
+    makes orders made went = record {
       goes = goes work (all_events (take (all_steps orders) all)) (all_events (drop (all_steps orders) all)) (made_of_all (all_steps orders) all) here.events;
       events = whole_events read.task valid runs live.marked old mid new ended (take (all_steps orders) all) here.events;
       landed = whole_landed mid new (take (all_steps orders) all) landed here.events;
       armed = work_armed read.task old mid new keeps gate moment work on;
+      went = λ contents held. went contents (in_step true contents held.0 held.1);
     }
       where
         here : AreMade (take (all_steps orders) (actions_after read.task live.marked)) mid new
@@ -138,7 +177,9 @@ module _ (k : Call) (names : Names) (script : List ℕ) (same : Untouched k.befo
                     whole = cut.whole;
                     item = item;
                     at = cut.at ∙ ap (λ (o : Order). Some o) is;
-                    makes = makes (take cut.whole read.orders) cut.made;
+                    makes = makes (take cut.whole read.orders) cut.made (λ contents at.
+                        let (session, rest) = cut.leaves in
+                        went_on (of_orders (take cut.whole read.orders)) live session it rest.task left rest.left found.most rest.is valid runs contents new (rest.in_step true contents at));
                     answers = text;
                     next = next;
                     replied = answers (take cut.whole read.orders) text replied;
@@ -159,6 +200,7 @@ module _ (k : Call) (names : Names) (script : List ℕ) (same : Untouched k.befo
     live_failed later cut rose =
         let (text, replied, put) = cut.put in
         let m = all_steps (take cut.whole read.orders) in
+        let w : WasLeftAfter live m (take (steps_of cut.order) (drop m (actions_left live))) mid new = cut.leaves in
         let p = subst (λ (l : List Action). AreMadeInPart (take m l) (take (steps_of cut.order) (drop m l)) mid new) these cut.made in
         record {
           before = text;
@@ -180,6 +222,21 @@ module _ (k : Call) (names : Names) (script : List ℕ) (same : Untouched k.befo
                   order = cut.order;
                   at = cut.at;
                   replied = answers (take cut.whole read.orders) text replied;
+                  marked = λ contents held image from. subst (λ (n : ℕ). n ≤ count_of (length read.task.plan) image)
+                      (counted (of_orders (take cut.whole read.orders)) live w.after it w.was.task left w.was.left found.most w.was.is)
+                      (subst (λ (t : Task). w.after.marked ≤ count_of (length t.plan) image) (w.was.task ∙ it)
+                      (counts_still live m (steps_of cut.order) mid new w true contents (in_step true contents held.0 held.1) image from));
+                  went = λ contents held none.
+                      let at = in_step true contents held.0 held.1 in
+                      let upto = of_orders (take cut.whole read.orders) in
+                      let before = went_on upto live w.after it w.was.task left w.was.left found.most w.was.is valid runs contents (telling (IsUnsynced w.after) w.before) (w.was.in_step true contents at) in
+                      let none_left = left_still upto live w.after it w.was.task left w.was.left found.most w.was.is ∙ none in
+                      let still = reads_still live m (steps_of cut.order) mid new w none_left in
+                      record {
+                        marked = subst (λ (i : Image). IsSafeAfter read.task.input read.task.plan read.task.digest contents i (live.marked + marks_by (drop live.marked read.task.plan) m)) still before.marked;
+                        reached = λ is. subst (λ (i : Image). IsReached read.task.input read.task.plan read.task.digest contents i) still (before.reached is);
+                        settled = λ is. settled_still live m (steps_of cut.order) mid new w none_left true contents at (before.settled is);
+                      };
                   events = stopped_events read.task valid runs live.marked old mid new ended (take m all) (take (steps_of cut.order) (drop m all)) p;
                 }),
               ),
@@ -206,7 +263,7 @@ module _ (k : Call) (names : Names) (script : List ℕ) (same : Untouched k.befo
           is = (text, answers read.orders text replied, refl)
 
           served : ServesAll read old new live.marked
-          served = record { makes = makes read.orders made; went = λ contents held. went contents (in_step true contents held.0 held.1) }
+          served = makes read.orders made went
 
           ends : WorldEnds k (Live names script) (Done (text ++ last))
           ends = record {
@@ -214,27 +271,3 @@ module _ (k : Call) (names : Names) (script : List ℕ) (same : Untouched k.befo
             leaves = same;
             store = (read, are, (live.marked, served, is));
           }
-
--- where a session is after its orders
-pub went_on : (read : Scripted) (live session : Session) (contents : Contents) (new : State) → live.task ≡ read.task → session.task ≡ live.task → live.left ≡ steps_after read.task.plan live.marked
-    → session.left ≡ live.left - all_steps read.orders → live.marked ≤ length read.task.plan
-    → ((found steps : ℕ) → found ≤ length session.task.plan → session.left ≡ steps_after session.task.plan found - steps → session.marked ≡ found + marks_by (drop found session.task.plan) steps)
-    → (session.left ≡ 0 → IsReached session.task.input session.task.plan session.task.digest contents new.reads) → (session.left ≡ 0 → IsSettled new)
-    → InStep true session contents new → WentOn read contents new live.marked
-went_on read live session contents new it same count left most counts reached settled at = record {
-  marked = subst (λ (n : ℕ). IsSafeAfter read.task.input read.task.plan read.task.digest contents new.reads n) counted
-      (subst (λ (t : Task). IsSafeAfter t.input t.plan t.digest contents new.reads session.marked) task at.underway.sound.after);
-  reached = λ none. subst (λ (t : Task). IsReached t.input t.plan t.digest contents new.reads) task (reached (steps ∙ none));
-  settled = λ none. settled (steps ∙ none);
-}
-  where
-    task : session.task ≡ read.task
-    task = same ∙ it
-
-    steps : session.left ≡ steps_left read live.marked
-    steps = left ∙ ap (λ (n : ℕ). n - all_steps read.orders) count
-
-    counted : session.marked ≡ live.marked + marks_by (drop live.marked read.task.plan) (all_steps read.orders)
-    counted = counts live.marked (all_steps read.orders) (subst (λ (t : Task). live.marked ≤ length t.plan) (sym task) most)
-        (steps ∙ ap (λ (t : Task). steps_after t.plan live.marked - all_steps read.orders) (sym task))
-        ∙ ap (λ (t : Task). live.marked + marks_by (drop live.marked t.plan) (all_steps read.orders)) task

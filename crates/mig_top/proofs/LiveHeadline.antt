@@ -1,6 +1,6 @@
 -- What `live` promises, from the causes of its outcomes and what it leaves.
 use Rattle.mig_top.proofs.Common.{AreOfScripted, Bool, Call, Cell, Contents, Done, EndsAs, Extends, Files, FolderFailed, Gate, GoesOn, Holds, Image, IsInput, IsJobCell, IsListed, IsMoving, IsOrNotPut}
-use Rattle.mig_top.proofs.Common.{IsReadyIdle, IsServed, IsSome, IsSound, IsState, IsTargetOf, IsUntouched, LeavesOnly, List, Live, LiveLeaves, MakesAll, Names, NoCell, Order, Outcome, Refusal}
+use Rattle.mig_top.proofs.Common.{IsReadyIdle, IsServed, IsSome, IsSound, IsState, IsTargetOf, IsUntouched, LeavesOnly, List, Live, LiveLeaves, Names, NoCell, Order, Outcome, Refusal}
 use Rattle.mig_top.proofs.Common.{ResumesInFlight, ResumesWell, Runs, Says, Scripted, ServesAll, ServesWell, SettlesTo, SinkFailed, SinkFault, Some, State, StoreFailed, StoreFault, WentOn, WorldEnds}
 use Rattle.mig_top.proofs.Common.{[], ap, arith, changes_wider, code, count_most, count_of, flights, inl, inr, is_armed, left_text, length, not_done, refl, replies, resumes, scripted_in, steps_left}
 use Rattle.mig_top.proofs.Common.{subst, take, told_kept, true, ℕ, ⊎_elim, ◌++◌, ◌∙◌, ◌≡◌, ◌⊎◌}
@@ -112,13 +112,14 @@ module _ {k : Call} {words : List (List ℕ)} {status : ℕ} (ends : EndsAs k wo
   undone (n, g) not = well n g (λ d. absurd (not d)) (λ zero. absurd (not (inl zero))) (λ zero. absurd (not (inl zero)))
 
   -- with 6
-  unput : (r : Scripted) → AreOfScripted k.before.folder names script r → (orders : List Order) (n : ℕ) → MakesAll r orders old new n → (status ≡ 0 → ⊥) → ServesWell k read status
+  unput : (r : Scripted) → AreOfScripted k.before.folder names script r → (orders : List Order) (n : ℕ) → ServesAll (record { task = r.task; orders = orders }) old new n → (status ≡ 0 → ⊥)
+      → ServesWell k read status
   unput r are orders n made not =
-      let m = subst (λ (s : Scripted). MakesAll s orders old new n) (same r are) made in
+      let m = subst (λ (s : Scripted). ServesAll (record { task = s.task; orders = orders }) old new n) (same r are) made in
       well n m.goes (λ d. (m.landed, m.armed)) (λ zero. absurd (not zero)) (λ zero. absurd (not zero))
 
   done : (text : List ℕ) (found : ℕ) → ServesAll read old new found → IsServed read old found text → (status ≡ 0 → Extends text k.before.sink k.after.sink) → ServesWell k read status
-  done text found all (answers, are, said) put = well found all.makes.goes (λ d. (all.makes.landed, all.makes.armed))
+  done text found all (answers, are, said) put = well found all.goes (λ d. (all.landed, all.armed))
       (λ zero asked contents held.
       let left = left_text (steps_left read found) in
       subst (λ (t : List ℕ). Extends t k.before.sink k.after.sink) (said ∙ ap (λ (replied : List ℕ). replied ++ left) (are asked contents held)) (put zero))
@@ -131,7 +132,7 @@ module _ {k : Call} {words : List (List ℕ)} {status : ℕ} (ends : EndsAs k wo
 
   well_at : (o : Outcome) → status ≡ code o → IsOrNotPut (WorldEnds k (Live names script)) k.before.sink k.after.sink o → Says k.before.sink k.after.sink o → ServesWell k read status
   well_at (Done text) at h says = let s = h.store in done_of text s.0 s.2.0 (same s.0 s.1) (s.2.1, s.2.2) (λ zero. says.done refl)
-  well_at (SinkFault text) at (rose, inl h) says = let s = h.store in unput s.0 s.1 s.0.orders s.2.0 s.2.1.makes (λ zero. absurd (omega (arith, at, zero)))
+  well_at (SinkFault text) at (rose, inl h) says = let s = h.store in unput s.0 s.1 s.0.orders s.2.0 s.2.1 (λ zero. absurd (omega (arith, at, zero)))
   well_at (SinkFault text) at (rose, inr h) says = let s = h.store in unput s.0 s.1 (take s.2.1.whole s.0.orders) s.2.0 s.2.1.makes (λ zero. absurd (omega (arith, at, zero)))
   well_at o at h says = undone (goes o h.store) (not_done o tt at)
 

@@ -13,7 +13,7 @@ use Rattle.mig_lanes.specs.LaneSteps.{BeginsRounds}
 use Rattle.mig_lanes.specs.Runs.{IsPartOf}
 use Rattle.mig_live.proofs.ActionLaws.{events_append}
 use Rattle.mig_live.proofs.Common.{Action, AreMadeInPart, Event, Flight, IsInput, List, Runs, State, Task, [], actions_after, all_events, ap, append_assoc, arith, drop, flight_of, flights}
-use Rattle.mig_live.proofs.Common.{get_or, length, option_map, refl, subst, sym, take, take_all, ℕ, ◌++◌, ◌+◌, ◌∙◌, ◌≡◌}
+use Rattle.mig_live.proofs.Common.{get_or, length, option_map, refl, subst, sym, take, take_all, ℕ, ◌++◌, ◌∙◌, ◌≡◌}
 use Rattle.mig_live.specs.Events.{IsRunAndPart, lone_after, lone_copies}
 use Rattle.std.proofs.lemmas.List.Sorted.{IsPermutation-refl}
 use Rattle.mig_live.proofs.LoneCopies.{all_lone, all_proper, kept_by, lone_from, lone_rounds, lone_within, split_events}

@@ -14,7 +14,6 @@ use Rattle.mig_mover.specs.Stands.{Stands}
 use Rattle.mig_top.proofs.EndsOf.{one_changed}
 use Rattle.mig_mover.specs.declared.faults.MoveFault.TheVariants as fault
 use Rattle.mig_words.specs.declared.endings.Ending.TheVariants as ending
-use Rattle.mig_words.specs.Outcomes as out
 use Rattle.mig_top.specs.Calls as calls
 
 -- what is left of `move` once its task is known, and of `resume`

@@ -1,5 +1,5 @@
 -- What `live` leaves in a store.
-use Rattle.std.specs.Prelude.{IsSome, List, Some, [], drop, slice_get, take, true, ℕ, ◌++◌, ◌+◌, ◌∷◌, ◌≡◌, ◌⊎◌}
+use Rattle.std.specs.Prelude.{IsSome, List, Some, [], drop, length, slice_get, take, true, ℕ, ◌++◌, ◌+◌, ◌∷◌, ◌≡◌, ◌≤◌, ◌⊎◌}
 use Rattle.mig_base.specs.declared.ids.ItemId.{ItemId}
 use Rattle.mig_io.specs.Held.{ExtendsByPrefix}
 use Rattle.mig_lanes.specs.Runs.{IsPartOf}
@@ -8,7 +8,7 @@ use Rattle.mig_live.specs.Orders.{steps_of}
 use Rattle.mig_live.specs.declared.orders.Order.TheVariants.{Read}
 use Rattle.mig_top.specs.Calls.{Call}
 use Rattle.mig_top.specs.Common.{Adds, BeginsRun, Contents, Done, FolderState, Gate, IfSome, Image, IsReached, IsRun, IsSafeAfter, IsSettled, Names, Order, Outcome, Refusal, Settles}
-use Rattle.mig_top.specs.Common.{SinkFault, State, StoreFault, Task, all_steps, flights, is_armed, marks_by}
+use Rattle.mig_top.specs.Common.{SinkFault, State, StoreFault, Task, all_steps, count_of, flights, is_armed, marks_by}
 use Rattle.mig_top.specs.carry.Leaves.{Carries}
 use Rattle.mig_live.specs.Events.{IsRunAndPart, lone_after, lone_copies}
 use Rattle.mig_top.specs.live.Looks.{AreAnswers, Holds, IsServed, steps_left}
@@ -35,21 +35,21 @@ pub record GoesOn (task : Task) (old new : State) (k : ℕ) : Type 0 where
   pub found : HasFound task old k
   pub events : Adds (IsPartOf task.input.disks (flights old) (lone_after task k)) old new
 
--- the steps that orders ask for, where so many rounds were marked before
-abbrev pub steps_by : Scripted → ℕ → List Order → List Action
-steps_by read k orders = take (all_steps orders) (actions_after read.task k)
+-- the steps that its orders ask for, where so many rounds were marked before
+abbrev pub steps_by : Scripted → ℕ → List Action
+steps_by read k = take (all_steps read.orders) (actions_after read.task k)
 
--- the steps of these orders were made, and nothing else was done
-pub record MakesAll (read : Scripted) (orders : List Order) (old new : State) (k : ℕ) : Type 0 where
+-- the first of its orders alone
+abbrev pub first_orders : ℕ → Scripted → Scripted
+first_orders whole read = record { task = read.task; orders = take whole read.orders }
+
+-- all orders were carried out: their steps were made, and nothing else was done
+pub record ServesAll (read : Scripted) (old new : State) (k : ℕ) : Type 0 where
   pub goes : GoesOn read.task old new k
-  pub events : Adds (IsRun (flights old) (lone_copies (steps_by read k orders))) old new
+  pub events : Adds (IsRun (flights old) (lone_copies (steps_by read k))) old new
   pub landed : flights new ≡ []
   -- the gate is 1 then
   pub armed : IsSome (old.reads Gate) → (image : Image) → new.may_leave image → is_armed image ≡ true
-
--- all orders were carried out
-pub record ServesAll (read : Scripted) (old new : State) (k : ℕ) : Type 0 where
-  pub makes : MakesAll read read.orders old new k
   pub went : (contents : Contents) → Holds true read.task contents old → WentOn read contents new k
 
 -- The sink failed at the reply to a read: the orders before it were carried out, their replies were put, and then a beginning of this one.
@@ -57,7 +57,7 @@ pub record StopsAtReply (call : Call) (read : Scripted) (k : ℕ) (text : List �
   pub whole : ℕ
   pub item : ItemId
   pub at : slice_get read.orders whole ≡ Some (Read item)
-  pub makes : MakesAll read (take whole read.orders) call.before.store call.after.store k
+  pub makes : ServesAll (first_orders whole read) call.before.store call.after.store k
   pub answers : List ℕ
   pub next : List ℕ
   pub replied : AreAnswers read.task call.before.store (take whole read.orders) answers
@@ -65,13 +65,17 @@ pub record StopsAtReply (call : Call) (read : Scripted) (k : ℕ) (text : List �
   pub is : text ≡ answers ++ next
   pub put : IfSome call.before.sink.held (λ held. ExtendsByPrefix next (held ++ answers) call.after.sink.held)
 
--- The store failed at an order: those before it were carried out, their replies are the text, and of its own steps some were made. Or it failed before all.
+-- The store failed at an order: those before it were carried out, their replies are the text, and of its own steps some were made. So in what reads give, and in each image that a crash may leave,
+-- at least the rounds count that those before it marked; where they left no step, the target is reached. Or it failed before all.
 pub record StopsAtOrder (read : Scripted) (old new : State) (k : ℕ) (text : List ℕ) : Type 0 where
   pub whole : ℕ
   pub order : Order
   pub at : slice_get read.orders whole ≡ Some order
   pub replied : AreAnswers read.task old (take whole read.orders) text
-  pub events : Adds (IsRunAndPart (flights old) (steps_by read k (take whole read.orders)) (take (steps_of order) (drop (all_steps (take whole read.orders)) (actions_after read.task k)))) old new
+  pub marked : (contents : Contents) → Holds true read.task contents old → (image : Image) → (image ≡ new.reads) ⊎ new.may_leave image
+      → k + marks_by (drop k read.task.plan) (all_steps (take whole read.orders)) ≤ count_of (length read.task.plan) image
+  pub went : (contents : Contents) → Holds true read.task contents old → steps_left (first_orders whole read) k ≡ 0 → WentOn (first_orders whole read) contents new k
+  pub events : Adds (IsRunAndPart (flights old) (steps_by (first_orders whole read) k) (take (steps_of order) (drop (all_steps (take whole read.orders)) (actions_after read.task k)))) old new
 
 abbrev pub StopsAtOnce : State → State → List ℕ → Type 0
 StopsAtOnce old new text = (text ≡ []) × Adds (BeginsRun (flights old) []) old new

@@ -2,7 +2,7 @@ use Rattle.mig_live.proofs.ActionLaws.{made_many, made_none, made_up_to}
 use Rattle.mig_live.proofs.Common.{Action, AreCutOff, AreMade, ArePut, IfErr, List, Order, [], actions_left, all_steps, ap, arith, drop, drop-drop, get_or, inl, refl, slice_get-get_or, steps_of, subst, sym, take, take_all, ℕ, ◌∙◌}
 use Rattle.mig_live.specs.Replies.{AreMadeUpTo}
 use Rattle.mig_live.proofs.ReplyLaws.{extends_nothing, handed, no_order, served_more, served_stops, steps_one_more}
-use Rattle.mig_live.proofs.SessionLaws.{more_steps}
+use Rattle.mig_live.proofs.SessionLaws.{fault_leaves, more_steps}
 use Rattle.mig_live.proofs.serving.serve.Goals as goal
 
 pub returns-in_err-after-clause-any_moment : goal.returns-in_err-after-clause-any_moment
@@ -21,6 +21,7 @@ returns-in_err-after-clause-cut_off g c =
     let this = get_or c.args.orders.now i no_order in
     let fault = c.in_err-after.field-0.0 in
     let before = take (all_steps (take i c.args.orders.now)) (actions_left c.args.live) in
+    let made = subst (λ (l : List Action). AreMadeUpTo [] (take (steps_of this) l) mid now fault) c.loop-order.invariant.rest c.in_err-after.ensures.part in
     handed (λ r. IfErr r (AreCutOff c.args.live old now c.args.orders.now first last)) c.from_residual.result fault c.from_residual.ensures.1 (record {
       whole = i;
       order = this;
@@ -28,7 +29,9 @@ returns-in_err-after-clause-cut_off g c =
       put = served_stops c.args.live c.loop-order.after c.loop-order.invariant.task old mid c.loop-order.invariant.in_step c.args.orders.now i no_order
           c.loop-order-test.true first between last c.loop-order.invariant.served fault c.in_err-after.ensures.put;
       made = made_up_to before (take (steps_of this) (drop (all_steps (take i c.args.orders.now)) (actions_left c.args.live))) old mid now fault c.loop-order.invariant.made
-          (subst (λ (l : List Action). AreMadeUpTo [] (take (steps_of this) l) mid now fault) c.loop-order.invariant.rest c.in_err-after.ensures.part);
+          made;
+      leaves = fault_leaves c.args.live c.loop-order.after c.loop-order.invariant.task (all_steps (take i c.args.orders.now)) c.loop-order.invariant.left c.loop-order.invariant.rest
+          c.marks_follow_steps.ensures.session old mid c.loop-order.invariant.in_step (take (steps_of this) (drop (all_steps (take i c.args.orders.now)) (actions_left c.args.live))) now fault made;
     })
 
 pub loop-order-init : goal.loop-order-init

@@ -32,9 +32,8 @@ returns-in-Ok-serve g c =
     (g.S.Store.state c.enter.new.store) live en.task en.left c.enter.ensures.keeps c.enter.ensures.armed en.enters.armed en.ended en.enters.landed (record { most = en.enters.most; found = en.enters.found })
     en.in_step c.serve.ensures.any_moment c.serve.ensures.later (g.K.Sink.state c.serve.new.out) c.serve.ensures.sink_later
     (record { most = en.enters.most; found = en.enters.found; ours = en.ours; ready = en.enters.ready })
-    (λ contents at. went_on read live after contents (g.S.Store.state c.serve.new.store) en.task ok.task en.left left en.enters.most c.marks_follow_steps.ensures.count
-    (λ none. c.target_is_reached.ensures.reached none contents (ok.in_step true contents at)) (λ none. c.target_is_reached.ensures.settled none true contents (ok.in_step true contents at))
-    (ok.in_step true contents at))
+    (λ contents at. went_on read live after en.task ok.task en.left left en.enters.most c.marks_follow_steps.ensures.session c.keeps_rules.ensures.valid c.keeps_rules.ensures.runs
+    contents (g.S.Store.state c.serve.new.store) (ok.in_step true contents at))
     (rw c.orders.ensures at ok.made) (rw c.orders.ensures at ok.served)
     (subst (λ (n : ℕ). Shows (left_text n) (g.K.Sink.state c.serve.new.out) (g.K.Sink.state c.show_parts.new.out) c.show_parts.result)
     (c.left.ensures ∙ left ∙ ap (λ (n : ℕ). n - all_steps read.orders) en.left) c.show_parts.ensures)

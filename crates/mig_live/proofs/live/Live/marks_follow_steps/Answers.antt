@@ -2,6 +2,11 @@ use Rattle.mig_live.proofs.Common.{arith, inl, length, sym, ◌-◌}
 use Rattle.mig_live.proofs.SessionLaws.{keeps_session, marks_by_left, marks_counted}
 use Rattle.mig_live.proofs.live.Live.marks_follow_steps.Goals as goal
 
+pub returns-clause-session : goal.returns-clause-session
+returns-clause-session c =
+    let i = c.self.inside in
+    keeps_session i.job.now i.marked i.left i.done c.self.invariant.0 c.self.invariant.1 c.self.invariant.2 c.args.self.now (sym c.self.view_is)
+
 pub returns-clause-round : goal.returns-clause-round
 returns-clause-round c =
     let i = c.self.inside in

@@ -8,7 +8,7 @@ returns-clause-reached g c =
     let live = c.args.self.now in
     let is = task_of i.job.now i.marked i.left live (sym c.self.view_is) c.keeps_rules.ensures in
     let keeps = keeps_session i.job.now i.marked i.left i.done c.self.invariant.0 c.self.invariant.1 c.self.invariant.2 live (sym c.self.view_is) in
-    λ none contents at. last_reached live is keeps none true contents (g.S.Store.state c.args.store.now) at refl
+    λ none contents at. last_reached live is.valid is.runs keeps none true contents (g.S.Store.state c.args.store.now) at refl
 
 pub returns-clause-settled : goal.returns-clause-settled
 returns-clause-settled g c =
@@ -16,4 +16,4 @@ returns-clause-settled g c =
     let live = c.args.self.now in
     let is = task_of i.job.now i.marked i.left live (sym c.self.view_is) c.keeps_rules.ensures in
     let keeps = keeps_session i.job.now i.marked i.left i.done c.self.invariant.0 c.self.invariant.1 c.self.invariant.2 live (sym c.self.view_is) in
-    λ none asked contents at. last_settled live is keeps none asked contents (g.S.Store.state c.args.store.now) at
+    λ none asked contents at. last_settled live is.valid is.runs keeps none asked contents (g.S.Store.state c.args.store.now) at
