@@ -12,7 +12,7 @@ ON_A = ", ".join(f"i{n + 1} a {n}" for n in range(6))
 SIX = [*cluster("a,4,6 b,1,4 c,2,4", ON_A)[:2], "no next file"]
 BY_THIRD = plan_text("x a 0 c 0 / y b 0 a 0 / x c 0 b 0")
 MOVED, EXCHANGED = layout_text(THREE_MOVE), layout_text("x b 0, y a 0")
-TWO_AND_FOUR, THREE_EACH = (table("item,disk", [f"i{n + 1},{it}" for n, it in enumerate(to)]) for to in ("bbcccc", "bbbccc"))
+TWO_AND_FOUR = table("item,disk", [f"i{n + 1},{it}" for n, it in enumerate("bbcccc")])
 NO_ROOM = "refused disks row 1: no room on a, needs 2, has 1\n"
 
 
@@ -207,46 +207,71 @@ def no_forms(program):
         Count.same("no forms: the files", room.files(), before)
 
 
-# the disks, the items, how emptying a ends, and what is saved
+SCATTERED = "i1 b 0, i2 a 1, i3 c 0, i4 b 1, i5 a 0, i6 b 2"
+# the disk that is emptied, the disks, the items, how it ends, and the items' next disks that are saved, if any are
 DRAINS = [
-    ("a,4,6 b,1,4 c,2,4", ON_A, 0, "rounds 2\nshown own 6 4", TWO_AND_FOUR),
+    ("a", "a,4,6 b,1,4 c,2,4", ON_A, 0, "rounds 2\nshown own 6 4", "bbcccc"),
     # in two rounds the others can take four
-    ("a,4,6 b,1,4 c,1,4", ON_A, 0, "rounds 3\nshown others 4 of 6", THREE_EACH),
-    # the outgoing limit of a counts, and the incoming ones of b and c
-    ("a,4,1,6 b,9,1,4 c,1,2,4", ON_A, 0, "rounds 2\nshown own 6 4", TWO_AND_FOUR),
-    ("a,4,6 b,1,4 c,2,1", ON_A, 14, "no room, 6 items, 5 free", None),
+    ("a", "a,4,6 b,1,4 c,1,4", ON_A, 0, "rounds 3\nshown others 4 of 6", "bbbccc"),
+    # of split limits the outgoing one counts for the disk, and the incoming one for each other disk
+    ("a", "a,4,1,6 b,9,1,4 c,1,2,4", ON_A, 0, "rounds 2\nshown own 6 4", "bbcccc"),
+    ("a", "a,4,1,6 b,9,1,4 c,9,2,4", ON_A, 0, "rounds 2\nshown own 6 4", "bbcccc"),
+    ("a", "a,4,9,6 b,9,1,4 c,9,1,4", ON_A, 0, "rounds 3\nshown others 4 of 6", "bbbccc"),
+    ("a", "a,1,9,6 b,9,9,4 c,9,9,4", ON_A, 0, "rounds 6\nshown own 6 1", "bbbbcc"),
+    # as many free slots as items are enough. A disk takes no more than it has free slots, in however many rounds
+    ("a", "a,6,6 b,6,2 c,1,4", ON_A, 0, "rounds 4\nshown others 5 of 6", "bbcccc"),
     # items of other disks stay, and their slots aren't free
-    ("b,1,2 a,1,2 c,1,2", "x b 1, y a 0, z c 0, w a 1", 0, "rounds 2\nshown own 2 1", "item,disk\nx,b\ny,b\nz,c\nw,c\n"),
-    ("b,1,1 a,1,2", "x b 0, y a 0", 14, "no room, 1 items, 0 free", None),
-    ("a,4,6 b,1,4 c,2,4", "x b 1", 0, "rounds 0\nshown nothing", "item,disk\nx,b\n"),
+    ("a", "b,1,2 a,1,2 c,1,2", "x b 1, y a 0, z c 0, w a 1", 0, "rounds 2\nshown own 2 1", "bbcc"),
+    ("b", "a,2,3 b,3,3 c,1,3", SCATTERED, 0, "rounds 2\nshown others 2 of 3", "aaccac"),
+    ("a", "a,4,6 b,1,4 c,2,4", "x b 1", 0, "rounds 0\nshown nothing", "b"),
+    ("b", "a,4,6 b,1,4 c,2,4", ON_A, 0, "rounds 0\nshown nothing", "aaaaaa"),
     # there is no other disk, and no item
-    ("a,1,1", "", 0, "rounds 0\nshown nothing", "item,disk\n"),
+    ("a", "a,1,1", "", 0, "rounds 0\nshown nothing", ""),
+    ("a", "a,4,6 b,1,4 c,2,1", ON_A, 14, "no room, 6 items, 5 free", None),
+    ("a", "a,4,4,6 b,1,1,4 c,2,2,1", ON_A, 14, "no room, 6 items, 5 free", None),
+    ("b", "a,2,3 b,3,3 c,1,2", SCATTERED, 14, "no room, 3 items, 2 free", None),
+    ("a", "b,1,1 a,1,2", "x b 0, y a 0", 14, "no room, 1 items, 0 free", None),
+    ("a", "a,1,1", "x a 0", 14, "no room, 1 items, 0 free", None),
     # a bad file is told before a missing disk
-    ("b,1,1", "x a 0", 3, "refused now row 1: unknown disk", None),
+    ("a", "b,1,1", "x a 0", 3, "refused now row 1: unknown disk", None),
 ]
-# the same of `plan-tight`, of which each item may have a target
+# the disks, the items with their next disks, how `plan-tight` ends, and the plan that is saved, if one is and there is no other
 TIGHT = [
     ("a,1,1 b,1,1", "x a 0 b, y b 0 a", 13, "no free slot", None),
+    ("a,1,1 b,1,1", "x a 0 b, y b 0", 13, "too many for b, needs 2, has 1", None),
     ("a,1,1 b,1,1 c,1,1", "x a 0 b, y b 0", 13, "too many for b, needs 2, has 1", None),
     # each disk has too few slots, and the first is told
     ("a,1,3 b,1,1", "w a 0 b, x a 1 b, y a 2 b, z b 0", 13, "too many for b, needs 4, has 1", None),
-    ("a,1,1 b,1,1", "x a 0, y b 0", 0, "rounds 0, parked 0", plan_text("")),
+    ("a,1,1 b,1,1", "x a 0, y b 0", 0, "rounds 0, parked 0", ""),
     # where each disk has room nothing is parked
-    ("a,1,1,2 b,1,1,1", "x a 1 b", 0, "rounds 1, parked 0", plan_text("x a 1 b 0")),
+    ("a,1,1,2 b,1,1,1", "x a 1 b", 0, "rounds 1, parked 0", "x a 1 b 0"),
+    ("a,1,2 b,1,2", "x a 0 b, y b 0 a", 0, "rounds 2, parked 0", ...),
+    ("a,1,1,1 b,1,1,1 c,1,1,1", "x a 0 b, y b 0 a", 0, "rounds 3, parked 1", "x a 0 c 0 / y b 0 a 0 / x c 0 b 0"),
+    # nine items of three full disks turn: one is parked on a fourth disk, and the free slot goes round three times
+    ("d0,1,3 d1,1,3 d2,1,3 spare,1,1", ", ".join(f"i{n} d{n % 3} {n // 3} d{(n + 1) % 3}" for n in range(9)), 0, "rounds 10, parked 1", ...),
     ("a,1,1 b,1,1 c,1,1", "x a 0 b, y a 0 a", 3, "refused now row 2: slot taken", None),
 ]
 
 
-def ends_of(program):
-    """What `drain` and `plan-tight` put and save; and what they read stays."""
-    for line, saved, table_ in (("drain D N a Y", "Y", DRAINS), ("plan-tight D N X P", "P", TIGHT)):
-        for disks, items, status, text, wanted in table_:
-            with Room(program) as room:
-                files = cluster(disks, items)
-                names(room, [*files[:2], "no next file"] if saved == "Y" else files)
-                before = room.files()
-                ends(room, items, line, status, text + "\n")
-                Count.same(f"{line} of {items}: the files", room.files(), before if wanted is None else {**before, saved: wanted.encode()})
+def emptied(program):
+    """What `drain` puts and saves."""
+    for disk, disks, items, status, text, next_ in DRAINS:
+        with Room(program) as room:
+            names(room, [*cluster(disks, items)[:2], "no next file"])
+            before = room.files()
+            ends(room, f"{disks}; {items}", f"drain D N {disk} Y", status, text + "\n")
+            wanted = None if next_ is None else table("item,disk", [f"{item.split()[0]},{to}" for item, to in zip(items.split(", "), next_)])
+            Count.same(f"{disks}; {items}: the files", room.files(), before if next_ is None else {**before, "Y": wanted.encode()})
+
+
+def tight(program):
+    """What `plan-tight` puts and saves."""
+    for disks, items, status, text, plan in TIGHT:
+        with Room(program) as room:
+            names(room, cluster(disks, items))
+            ends(room, f"{disks}; {items}", "plan-tight D N X P", status, text + "\n")
+            if plan is not ...:
+                Count.same(f"{disks}; {items}: the plan", room.read("P"), None if plan is None else plan_text(plan).encode())
 
 
 # files that stand for no input: the three items' but for these, and what is put
@@ -299,7 +324,8 @@ def large_drills(program):
     with Room(program) as room:
         for count, line in (256, "drill D N X P | 0 MOST"), (257, "drill D N X P | 11 too large for a drill 257"):
             shifts = [f"i0-{it} d0 {it} d1 {it}" for it in range(count)]
-            names(room, drawn([(256 if count == 256 else 1, count)] * 2, [(0, it, 1) for it in range(count)]), plan_text((", " if count == 256 else " / ").join(shifts)))
+            files = drawn([(256 if count == 256 else 1, count)] * 2, [(0, it, 1) for it in range(count)])
+            names(room, files, plan_text((", " if count == 256 else " / ").join(shifts)))
             follow(room, line)
 
 
@@ -370,6 +396,6 @@ def rehearsed(program):
             Count.that(line, (ran.status, f"{text} ") == (0, REHEARSED.format(rounds)) and plan in plans, ran)
 
 
-CASES = [sessions, no_forms, ends_of, refused, journals, untold, rehearsed]
+CASES = [sessions, no_forms, emptied, tight, refused, journals, untold, rehearsed]
 # a long run, which is the same for each build of the program
 ONCE = [large_drills]
