@@ -44,3 +44,44 @@ def many_saved(count):
     """The certificate of their plan, and their last layout."""
     cert = f"migration-certificate 1\nrounds {count // 2}\nquotient {count // 2}\nclass even\nbound disk a {count} 2 {count // 2}\nend\n"
     return cert, "item,disk,slot\n" + "".join(f"item{i},b,{i}\n" for i in range(count))
+
+
+# Small clusters, plans and certificates by their rows
+
+def cluster(disks, items):
+    """The three files of a cluster. An item is its name and its spot, and where it goes its target, as in `x a 0 b`; what follows is not read."""
+    rows = [it.split() for it in items.split(", ") if it]
+    head = "disk,out,in,slots" if disks.split(" ")[0].count(",") == 3 else "disk,limit,slots"
+    return [table(head, disks.split()), table("item,disk,slot", [",".join(row[:3]) for row in rows]),
+            table("item,disk", [f"{row[0]},{row[3] if len(row) > 3 else row[1]}" for row in rows])]
+
+
+def table(head, rows):
+    return "".join(f"{row}\n" for row in [head, *rows])
+
+
+def names(room, files, plan=None, cert=None):
+    """Writes them as D, N and X, and what is planned as P and C."""
+    for name, text in zip("DNXPC", [*files, plan, cert]):
+        if text is not None:
+            room.write(name, text)
+
+
+def layout_text(items):
+    """Where the items are in the end, which of each are the last two words."""
+    return table("item,disk,slot", [",".join((row[0], *row[-2:])) for row in (it.split() for it in items.split(", ") if it)])
+
+
+def plan_text(rounds):
+    """A plan by its rounds, and each round by its shifts, as in `x a 0 b 0, y a 1 b 1 / z a 2 b 2`."""
+    rounds = [[it for it in shifts.strip().split(", ") if it] for shifts in rounds.split("/")] if rounds else []
+    lines = [line for at, shifts in enumerate(rounds, 1) for line in (f"round {at} {len(shifts)}", *shifts)]
+    return table("migration-plan 1", [f"rounds {len(rounds)}", *lines, "end"])
+
+
+def cert_text(words):
+    """A certificate by the rounds, the quotient, the class and the bound, where the disks of a set come last."""
+    rounds, quotient, class_, *bound = words.split()
+    many = 4 if bound[0] == "set" else len(bound)
+    return table(f"migration-certificate {2 if class_ == 'duplex' else 1}",
+                 [f"rounds {rounds}", f"quotient {quotient}", f"class {class_}", " ".join(["bound", *bound[:many]]), *bound[many:], "end"])
