@@ -108,6 +108,7 @@ SESSIONS = [
         {AT_TARGET}""", {"H": None}),
     (THREE, OF_THREE, """fill D W | 0 filled 4
         move D N X P | 9 occupied b 0
+        resume D N X P | 9 occupied b 0
         audit D N | 0 HERE""", {}),
     (FULL, OF_FULL, """plan D N X P C | 3 NO_ROOM
         after-tight D N X A | 1 slot not free round 1 item x
@@ -360,6 +361,71 @@ def journals(program):
         follow(room, "fill D N | 8 journal started\naudit D N | 0 LOST")
 
 
+# texts that are no scripts of the three items, and the line that is refused
+NO_SCRIPTS = [
+    ("step 0\n", 1), ("step 01\n", 1), ("step 1000001\n", 1), ("step\n", 1), ("step 1 \n", 1), ("read x", 2), ("read q\n", 1), ("read\n", 1),
+    ("read  x\n", 1), ("read x y\n", 1), ("Read x\n", 1), ("\n", 1), ("read x\n\n", 2), ("read x\n\nread y\n", 2), ("read x\r\n", 1),
+    ("step 1\nstep 2\nread q", 3), ("step 1\nstep 2\nread y", 4), ("q\nread q\n", 1), ("step 1\n" * 65537, 65537),
+    ("\n" * 16777217, 0), ("\n" * 16777216, 1),
+]
+LIVE = "live D N X P S"
+# an item goes away, and another goes to where it was and back again: a slot is left twice
+LEFT = cluster("a,1,1 b,1,1 c,1,1", "x a 0 b, y c 0")
+LEFT_TWICE = {"P": plan_text("x a 0 b 0 / y c 0 a 0 / y a 0 c 0"), "L": layout_text("x b 0, y c 0")}
+# the files, the items, and as many steps as the plan has: of each round its copies, a sync, its mark and its erasures; and a last sync
+STEPPED = [(THREE, OF_THREE, "xyz", 11), (LEFT, LEFT_TWICE, "xy", 13)]
+
+
+def replies(items):
+    return "".join(f"{it} {digest(cell(it))}\n" for it in items)
+
+
+def scripts(program):
+    """Status 15 of `live`; and orders that are read, up to as many as there may be."""
+    with Room(program) as room:
+        put(room, THREE, OF_THREE)
+        for text, at in NO_SCRIPTS:
+            room.write("S", text)
+            ends(room, f"{text[:30]!r}", LIVE, 15, f"refused script line {at}\n")
+    for text, reply in ("read z\nstep 1\nstep 1000000\nread x\n", replies("zx")), ("step 1\n" * 65536, ""):
+        with Room(program) as room:
+            put(room, THREE, {**OF_THREE, "S": text})
+            follow(room, "fill D N | 0 filled 3")
+            ends(room, f"{text[:30]!r}", LIVE, 0, f"{reply}left 0\n")
+
+
+def stepped(program):
+    """Each item is read after each step, and once at any moment; and sessions of three steps follow one another."""
+    for files, others, items, steps in STEPPED:
+        reads = "".join(f"read {it}\n" for it in items)
+        cases = [(f"step 1\n{reads}" * steps, replies(items) * steps)]
+        if files is LEFT:
+            cases += [("step 1\n" * at + f"read {it}\n" + "step 1\n" * (steps - at), replies(it)) for at in range(steps + 1) for it in items]
+        for script, text in cases:
+            with Room(program) as room:
+                put(room, files, {**others, "S": script})
+                follow(room, f"fill D N | 0 filled {len(items)}")
+                ends(room, items, LIVE, 0, f"{text}left 0\n")
+                Count.that(f"{items}: at their targets", room.run("audit", "D", "L").out.endswith(f"{len(items)} here, 0 lost\n".encode()))
+    with Room(program) as room:
+        put(room, LEFT, {**LEFT_TWICE, "S": "step 3\nread x\nread y\n"})
+        follow(room, "fill D N | 0 filled 2")
+        for left in (10, 6, 2, 0):
+            ends(room, f"three steps, and then {left}", LIVE, 0, f"{replies('xy')}left {left}\n")
+
+
+def filled(program):
+    """Two items whose first is in the later slot; a gate other than 1 is one of a store where no plan is carried out."""
+    for gate in (b"\0", b"\2"):
+        with Room(program) as room:
+            names(room, cluster("a,1,2", "x1 a 1, y a 0"))
+            room.write("journal.mig", bytes(GATE) + gate)
+            ends(room, "nothing", "audit D N", 0, "".join(f"{it} lost {digest(bytes(SLOT))}\n" for it in ("x1 a 1", "y a 0")) + "0 here, 2 lost\n")
+            follow(room, "fill D N | 0 filled 2\nfill D N | 9 occupied a 1")
+            ends(room, "x1 and y", "audit D N", 0, here([("x1", "a", 1), ("y", "a", 0)]))
+            Count.same("x1 and y: the disk", room.read("a.disk"), cell("y") + cell("x1"))
+
+
 # lines whose text can't be put, and what is done all the same
 UNTOLD = [
     (THREE, "rehearse 2 1 1", "audit D N | 0 LOST", {"P": None}),
@@ -396,6 +462,6 @@ def rehearsed(program):
             Count.that(line, (ran.status, f"{text} ") == (0, REHEARSED.format(rounds)) and plan in plans, ran)
 
 
-CASES = [sessions, no_forms, emptied, tight, refused, journals, untold, rehearsed]
+CASES = [sessions, no_forms, emptied, tight, refused, journals, filled, scripts, stepped, untold, rehearsed]
 # a long run, which is the same for each build of the program
 ONCE = [large_drills]

@@ -26,20 +26,6 @@ pub const TWO_NEEDED: &str =
 /// Where the three items are after their plan.
 pub const THREE_MOVED: &str = "item,disk,slot\nx,b,0\ny,b,1\nz,b,2\n";
 
-/// One disk. Its item stays.
-pub const ONE_STAYS: Cluster<'static> = Cluster {
-    disks: "disk,limit,slots\na,2,4\n",
-    now: "item,disk,slot\nx,a,0\n",
-    next: "item,disk\nx,a\n",
-};
-
-/// The plan where nothing is to move.
-pub const NO_ROUNDS: &str = "migration-plan 1\nrounds 0\nend\n";
-
-/// The certificate where nothing is to move.
-pub const NOTHING_NEEDED: &str =
-    "migration-certificate 1\nrounds 0\nquotient 0\nclass even\nbound nothing\nend\n";
-
 /// Three disks of one slot each. The items of the first two change places, so that neither has room for what comes to it.
 pub const FULL_DISKS: Cluster<'static> = Cluster {
     disks: "disk,limit,slots\na,1,1\nb,1,1\nc,1,1\n",
@@ -50,13 +36,3 @@ pub const FULL_DISKS: Cluster<'static> = Cluster {
 /// A plan of the items that change places: the first is parked on the third disk.
 pub const BY_THIRD_DISK: &str =
     "migration-plan 1\nrounds 3\nround 1 1\nx a 0 c 0\nround 2 1\ny b 0 a 0\nround 3 1\nx c 0 b 0\nend\n";
-
-/// Where they are after their plan.
-pub const EXCHANGED: &str = "item,disk,slot\nx,b,0\ny,a,0\n";
-
-/// Three disks of limit 1. The item of each goes to the next.
-pub const TRIANGLE: Cluster<'static> = Cluster {
-    disks: "disk,limit,slots\na,1,2\nb,1,2\nc,1,2\n",
-    now: "item,disk,slot\nx,a,0\ny,b,0\nz,c,0\n",
-    next: "item,disk\nx,b\ny,c\nz,a\n",
-};

@@ -1,19 +1,12 @@
 //! Folders for commands, and commands that must end in one way, also over a store. Each asserts by itself, so that a test is a few calls.
 
 use crate::clusters::Cluster;
-use crate::running::{
-    folder_of, holds, outcome_of, outcome_over, planned, sink_of, status_of, status_over,
-};
+use crate::running::{holds, outcome_of, outcome_over, planned, sink_of, status_over};
 use mig_io::{Folder, MemFolder};
 use mig_store::{MemStore, Store};
 use std::alloc::Global;
 use std::panic::Expect;
 use std::process::Abort;
-
-/// The folder of a cluster. Its calls with these numbers fail.
-pub fn made(rt: &impl Abort, alloc: Global, cluster: &Cluster<'_>, failing: &[u64]) -> MemFolder {
-    folder_of(alloc, cluster, failing).expect(rt, "ample memory")
-}
 
 /// The folder of a cluster, with a plan and a certificate as P and C.
 pub fn made_with(
@@ -25,16 +18,6 @@ pub fn made_with(
     failing: &[u64],
 ) -> MemFolder {
     planned(alloc, cluster, plan, cert, failing).expect(rt, "ample memory")
-}
-
-/// Gives a file this room.
-pub fn grant(rt: &impl Abort, folder: &mut MemFolder, name: &str, room: usize) {
-    folder.grant(name, room).expect(rt, "ample memory");
-}
-
-/// Puts a file of these bytes into the folder.
-pub fn keep(rt: &impl Abort, folder: &mut MemFolder, name: &str, bytes: &[u8]) {
-    folder.keep(name, bytes).expect(rt, "ample memory");
 }
 
 /// Asserts that the file holds this text, or is not there where there is none.
@@ -63,26 +46,6 @@ pub fn expect<F: Folder>(
 
 /// A line, its status and all that it puts.
 pub type Line<'a> = (&'a str, u8, &'a str);
-
-/// The same for lines one after the other over one folder.
-pub fn expect_all(rt: &impl Abort, alloc: Global, folder: &mut MemFolder, lines: &[Line<'_>]) {
-    for (line, status, text) in lines {
-        expect(rt, alloc, folder, line, *status, text);
-    }
-}
-
-/// Carries out a line whose first put fails, and asserts its status and that nothing is put.
-pub fn expect_untold(
-    rt: &impl Abort,
-    alloc: Global,
-    folder: &mut MemFolder,
-    line: &str,
-    status: u8,
-) {
-    let mut out = sink_of(alloc, &[0]).expect(rt, "ample memory");
-    let ended = status_of(alloc, folder, line, &mut out).expect(rt, "ample memory");
-    expect_end(rt, line, (ended, out.held()), (status, ""));
-}
 
 /// Carries out a line over a store, and asserts its status and all that it puts.
 pub fn expect_over<S: Store>(

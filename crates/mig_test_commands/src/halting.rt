@@ -1,8 +1,8 @@
 //! Migrations that `halt` closes early, and what comes after.
 
 use crate::clusters::{THREE_ITEMS, THREE_MOVED, TWO_ROUNDS};
-use crate::expecting::{Line, expect_all_over, expect_any, expect_cut, expect_file, expect_over};
-use crate::looks::{ANOTHER, MOVED, THREE_ROUNDS, keep};
+use crate::expecting::{Line, expect_all_over, expect_any, expect_file, expect_over};
+use crate::looks::{MOVED, THREE_ROUNDS, keep};
 use crate::running::folder_of;
 use crate::stores::{are_zeros, store_of};
 use mig_base::{Cell, Name};
@@ -20,10 +20,6 @@ const HALTED: &str = "halted after 1 of 2\n";
 /// Where the three items are after the first round.
 const HALF_WAY: &str = "item,disk,slot\nx,b,0\ny,b,1\nz,a,2\n";
 
-/// A plan of the three items that doesn't run.
-const FROM_ELSEWHERE: &str =
-    "migration-plan 1\nrounds 2\nround 1 2\nx a 3 b 0\ny a 1 b 1\nround 2 1\nz a 2 b 2\nend\n";
-
 /// What is left to do after the first round, and its certificate.
 const ONE_LEFT: &str = "migration-plan 1\nrounds 1\nround 1 1\nz a 2 b 2\nend\n";
 
@@ -33,22 +29,13 @@ const ONE_NEEDED: &str =
 /// What a crash may leave of each cell that isn't settled.
 static PICKS: [Pick; 4] = [Pick::Old, Pick::New, Pick::Half, Pick::Ones];
 
-/// The folder of the three items, with their plan as P, another as R, one that doesn't run as W, and the last layout as M.
-fn folder(rt: &impl Abort, alloc: Global) -> MemFolder {
+/// The folder of the three items, with their plans as P and R, their last layout as M, and room for a layout as L.
+fn roomy_folder(rt: &impl Abort, alloc: Global) -> MemFolder {
     let mut folder = folder_of(alloc, &THREE_ITEMS, &[]).expect(rt, "ample memory");
     keep(rt, &mut folder, "P", TWO_ROUNDS);
     keep(rt, &mut folder, "R", THREE_ROUNDS);
-    keep(rt, &mut folder, "W", FROM_ELSEWHERE);
     keep(rt, &mut folder, "M", THREE_MOVED);
-    folder
-}
-
-/// The same, with room for a layout, a plan and a certificate as L, O and K.
-fn roomy_folder(rt: &impl Abort, alloc: Global) -> MemFolder {
-    let mut folder = folder(rt, alloc);
     folder.grant("L", 100).expect(rt, "ample memory");
-    folder.grant("O", 100).expect(rt, "ample memory");
-    folder.grant("K", 100).expect(rt, "ample memory");
     folder
 }
 
@@ -161,64 +148,6 @@ fn a_stopped_halt_is_resumed(rt: HostRuntime) {
     }
 }
 
-/// Lines over the store that is half way; the last is done, after which the journal names the plan.
-static REFUSED: [Line<'static>; 13] = [
-    ("halt D N X P", 2, "words not understood\n"),
-    ("halt D N X P D", 2, "words not understood\n"),
-    ("halt D N X P N", 2, "words not understood\n"),
-    ("halt D N X P X", 2, "words not understood\n"),
-    ("halt D N X P P", 2, "words not understood\n"),
-    ("halt D N X P L.mig", 2, "words not understood\n"),
-    ("halt D N X P a.disk", 2, "words not understood\n"),
-    ("halt D X X P L", 3, "refused now row 0: bad header\n"),
-    ("halt D N X N L", 10, "refused plan line 1\n"),
-    ("halt D N X W L", 1, "not here round 1 item x\n"),
-    ("halt D N X Q L", 16, "no file Q\n"),
-    ("halt D N X R L", 8, ANOTHER),
-    ("resume D N X P", 0, "done 2 rounds, found 1\n"),
-];
-
-#[test]
-fn nothing_is_halted_where_nothing_was_started(rt: HostRuntime) {
-    let alloc = rt.alloc();
-    let mut folder = roomy_folder(&rt, alloc);
-    let mut store = store_of(&rt, alloc, &[]);
-    let text = "journal not started\n";
-    expect_over(&rt, alloc, &mut folder, &mut store, HALT, 8, text);
-    expect_file(&rt, &folder, "L", None);
-}
-
-#[test]
-fn a_halt_that_is_refused_changes_nothing(rt: HostRuntime) {
-    let alloc = rt.alloc();
-    let mut folder = roomy_folder(&rt, alloc);
-    let mut store = half_way(&rt, alloc, &mut folder, Pick::Half);
-    expect_all_over(&rt, alloc, &mut folder, &mut store, &REFUSED);
-    expect_file(&rt, &folder, "L", None);
-}
-
-// The folder has no room for the layout.
-#[test]
-fn a_layout_that_is_not_saved_leaves_the_store(rt: HostRuntime) {
-    let alloc = rt.alloc();
-    let mut folder = folder(&rt, alloc);
-    let mut store = half_way(&rt, alloc, &mut folder, Pick::New);
-    let text = "folder fault\n";
-    expect_over(&rt, alloc, &mut folder, &mut store, HALT, 4, text);
-    expect_file(&rt, &folder, "L", None);
-    assert!(rt; store.cell(&Cell::Gate) == Some([1].as_slice()));
-    let line = "resume D N X P";
-    expect_over(
-        &rt,
-        alloc,
-        &mut folder,
-        &mut store,
-        line,
-        0,
-        "done 2 rounds, found 1\n",
-    );
-}
-
 // The store's first sync fails, before anything is saved.
 #[test]
 fn a_halt_whose_first_sync_fails_saves_nothing(rt: HostRuntime) {
@@ -228,13 +157,4 @@ fn a_halt_whose_first_sync_fails_saves_nothing(rt: HostRuntime) {
     let text = "store fault\n";
     expect_over(&rt, alloc, &mut folder, &mut store, HALT, 5, text);
     expect_file(&rt, &folder, "L", None);
-}
-
-#[test]
-fn a_halt_that_is_not_told_is_done(rt: HostRuntime) {
-    let alloc = rt.alloc();
-    let mut folder = roomy_folder(&rt, alloc);
-    let mut store = half_way(&rt, alloc, &mut folder, Pick::Ones);
-    expect_cut(&rt, alloc, &mut folder, &mut store, 0, &(HALT, 6, ""));
-    expect_closed(&rt, alloc, &mut folder, &mut store);
 }

@@ -12,17 +12,12 @@ use std::process::Abort;
 pub const THREE_ROUNDS: &str =
     "migration-plan 1\nrounds 3\nround 1 1\nx a 0 b 0\nround 2 1\ny a 1 b 1\nround 3 1\nz a 2 b 2\nend\n";
 
-/// The three items, and one that is where the first is to go.
-const IN_THE_WAY: &str = "item,disk,slot\nx,a,0\ny,a,1\nz,a,2\nw,b,0\n";
-
-/// The folder of the three items, with both plans as P and R, their last layout as L, and the layout with an item in the
-/// way as W.
+/// The folder of the three items, with both plans as P and R, and their last layout as L.
 pub fn three_items(rt: &impl Abort, alloc: Global) -> MemFolder {
     let mut folder = folder_of(alloc, &THREE_ITEMS, &[]).expect(rt, "ample memory");
     keep(rt, &mut folder, "P", TWO_ROUNDS);
     keep(rt, &mut folder, "R", THREE_ROUNDS);
     keep(rt, &mut folder, "L", THREE_MOVED);
-    keep(rt, &mut folder, "W", IN_THE_WAY);
     folder
 }
 

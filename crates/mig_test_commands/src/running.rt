@@ -15,16 +15,21 @@ pub const CHECK: &str = "check D N X P C";
 /// The line that prints the last layout of the plan that stands as P.
 pub const AFTER: &str = "after D N X P";
 
+/// The line that drills what stands as P.
+pub const DRILL: &str = "drill D N X P";
+
 /// The room for a plan, for a certificate and for what is printed, in bytes.
 const ROOM: usize = 131_072;
 
-/// Puts the files of a cluster into a folder as D, N and X, and gives room for P and C.
+/// Puts the files of a cluster into a folder as D, N and X, and gives room for P, C, O and K.
 fn fill(folder: &mut MemFolder, cluster: &Cluster<'_>) -> Result<(), AllocError> {
     folder.keep("D", cluster.disks.as_bytes())?;
     folder.keep("N", cluster.now.as_bytes())?;
     folder.keep("X", cluster.next.as_bytes())?;
-    folder.grant("P", ROOM)?;
-    folder.grant("C", ROOM)
+    for name in ["P", "C", "O", "K"] {
+        folder.grant(name, ROOM)?;
+    }
+    Ok(())
 }
 
 /// A folder with the files of a cluster as D, N and X, and room for P and C. Its calls with these numbers fail.

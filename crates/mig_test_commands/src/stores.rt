@@ -89,6 +89,17 @@ pub fn store_of_three(rt: &impl Abort, alloc: Global, failing: &[u64]) -> MemSto
     make_store(rt, alloc, &three_disks(rt, alloc), failing)
 }
 
+/// A store of the cells of three disks, or of two.
+pub fn store_for(rt: &impl Abort, alloc: Global, are_three: bool, failing: &[u64]) -> MemStore
+    ensures { aloft result ≡ [] }
+{
+    if are_three {
+        store_of_three(rt, alloc, failing)
+    } else {
+        store_of(rt, alloc, failing)
+    }
+}
+
 /// A store of the cells of two disks, all zeros, whose calls cannot fail.
 pub fn sure_store(rt: &impl Abort, alloc: Global) -> SureStore {
     let cells = two_disks(rt, alloc);
@@ -99,12 +110,19 @@ pub fn sure_store(rt: &impl Abort, alloc: Global) -> SureStore {
 pub const DIGEST: [u8; 32] =
     *b"\x6e\x02\xb0\x0f\x13\xc0\xb1\xaf\x17\x33\xca\x34\x37\xd1\xb2\x8e\x36\xfc\xd8\x62\xdf\x45\xdc\x43\x18\x4f\xe6\xeb\x3f\x48\xcf\x4e";
 
-/// The journal says that the plan of two rounds is carried out.
-pub fn is_done(store: &MemStore) -> bool {
+/// SHA-256 of the plan of the items that change places by the third disk.
+pub const BY_THIRD_DIGEST: [u8; 32] =
+    *b"\x54\x97\x34\x87\xf0\x67\x67\xca\xf2\x16\x83\x9f\xbd\x63\xb8\xce\xc6\x9d\xd6\xd3\x93\x1f\xf4\xad\xbe\xf0\x3c\x75\x48\x73\xe1\x89";
+
+/// The journal says that the plan with this digest and so many rounds is carried out.
+pub fn is_done(store: &MemStore, digest: &[u8; 32], rounds: u32) -> bool {
+    for n in 1..=rounds {
+        if store.cell(&Cell::Mark { n }) != Some([1].as_slice()) {
+            return false;
+        }
+    }
     store.cell(&Cell::Gate) == Some([1].as_slice())
-        && store.cell(&Cell::Head) == Some(DIGEST.as_slice())
-        && store.cell(&Cell::Mark { n: 1 }) == Some([1].as_slice())
-        && store.cell(&Cell::Mark { n: 2 }) == Some([1].as_slice())
+        && store.cell(&Cell::Head) == Some(digest.as_slice())
 }
 
 /// Each of the first two disks holds what the other one held in the earlier store.
