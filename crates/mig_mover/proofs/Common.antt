@@ -36,7 +36,7 @@ pub use Rattle.mig_base.specs.declared.ids.Spot.{Spot}
 pub use Rattle.mig_jobs.specs.JobTables.{free_targets, same_spot}
 pub use Rattle.mig_jobs.specs.Vacancies.{AreVacancies, IsVacant}
 pub use Rattle.mig_jobs.specs.declared.vacancies.Vacancy.{Vacancy}
-pub use Rattle.mig_journal.proofs.Steps.{look_quiet, quiet_same, still_none, sync_same, then_quiet, then_step, then_sync}
+pub use Rattle.mig_journal.proofs.Steps.{look_quiet, on_ok_is, quiet_same, still_none, sync_same, then_quiet, then_step, then_sync}
 pub use Rattle.mig_journal.specs.FreshJournals.{IsArming, IsFresh}
 pub use Rattle.mig_journal.specs.SeenJournals.{HasHead, is_running}
 pub use Rattle.mig_journal.specs.declared.looking.Seen.{Seen}
