@@ -1,6 +1,6 @@
 -- When the spots that a plan names are free.
 use Rattle.mig_jobs.proofs.Common.{All, All-append, All-map, Any, Any-from_list_any, AreVacancies, At, Bool, Contains, Contains-append_left, Contains-append_right, Contains-get_or, IsInput}
-use Rattle.mig_jobs.proofs.Common.{IsNamed, IsSource, IsTaken, IsTarget, IsVacant, List, Lists, Runs, Shift, Some, Spot, Vacancy, [], any_contains, ap, arith, at_target, begun_by, cases_Bool}
+use Rattle.mig_jobs.proofs.Common.{IsNamed, IsPlanSpot, IsSource, IsTaken, IsTarget, IsVacant, List, Lists, Runs, Shift, Some, Spot, Vacancy, [], any_contains, ap, arith, at_target, begun_by, cases_Bool}
 use Rattle.mig_jobs.proofs.Common.{cases_eq, cases_lt, cond, cond-false, cond-true, contains_any, ended_by, ended_in, eq-eqb, eqb-true, false, false≢true, filter, filter_passes, get_or}
 use Rattle.mig_jobs.proofs.Common.{get_or_default, in_some, inl, inr, leaves, left_in, length, list_any, list_any_at, map, moved_cases, no_round, open_in, open_of, refl, round_at, same_spot}
 use Rattle.mig_jobs.proofs.Common.{slice_get-get_or, source_facts, subst, suc, sym, target_facts, true, vacancies_in, zero, ℕ, ⊎_elim, ◌++◌, ◌<◌, ◌==◌, ◌∙◌, ◌∷◌, ◌≡◌, ◌≤◌, ◌⊎◌}
