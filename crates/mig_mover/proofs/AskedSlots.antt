@@ -1,5 +1,5 @@
 -- Each slot that a plan names was asked for, once each item that it shifts was where it is, and each named slot that is free.
-use Rattle.mig_mover.proofs.Common.{AreAsked, At, At-item, Bool, Cell, Contains, Contains-append_left, Contains-append_right, IfSome, IsFreeSlot, IsItemAsked, IsPlanSpot, IsShifted, IsSource}
+use Rattle.mig_mover.proofs.Common.{AreAsked, At, At-item, Cell, Contains, Contains-append_left, Contains-append_right, IfSome, IsFreeSlot, IsItemAsked, IsPlanSpot, IsShifted, IsSource}
 use Rattle.mig_mover.proofs.Common.{IsTaken, IsTarget, IsTask, List, Option, Shift, Some, Spot, Task, [], any_contains, ap, arith, at_target, cases_Bool, cases_eq, cases_lt, contains_any, eq-eqb}
 use Rattle.mig_mover.proofs.Common.{false, false≢true, get_or, in_some, inl, inr, is_of, key_false, key_true, leaves, length, list_any, list_any_at, moved_cases, no_round, option_map, refl, round_at}
 use Rattle.mig_mover.proofs.Common.{same_spot, shifts_of, slot_of, source_facts, stays_free, stays_taken, subst, suc, sym, target_facts, zero, ℕ, ⊎_elim, ◌<◌, ◌∙◌, ◌∷◌, ◌≡◌, ◌≤◌, ◌⊎◌}

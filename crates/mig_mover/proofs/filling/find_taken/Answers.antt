@@ -15,8 +15,8 @@ returns-in_err-is_used-clause-change g c = then_quiet NoCell (g.S.Store.state c.
 pub spot_cell-requires : goal.spot_cell-requires
 spot_cell-requires g c = spot_known c.args.input.now c.keeps_rules.ensures c.now-spot-items.result.now c.now-spot-items.ensures.value c.loop-spot.spot-index c.loop-spot-test.true
 
-pub expects_free-requires-clause-slot : goal.expects_free-requires-clause-slot
-expects_free-requires-clause-slot g c = ap is_slot c.spot_cell.ensures
+pub expects_free-requires : goal.expects_free-requires
+expects_free-requires g c = record { slot = ap is_slot c.spot_cell.ensures }
 
 pub returns-in_err-expects_free-clause-change : goal.returns-in_err-expects_free-clause-change
 returns-in_err-expects_free-clause-change g c =
