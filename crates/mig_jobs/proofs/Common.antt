@@ -9,7 +9,7 @@ pub use Rattle.mig_base.proofs.LayoutSteps.{At-item}
 pub use Rattle.mig_base.proofs.Listed.{at_map}
 pub use Rattle.mig_base.proofs.Rounds.{any_contains, at_target, contains_any, from_disk, in_some, leaves, moved_cases, to_disk}
 pub use Rattle.mig_base.proofs.SafetyLaws.{layout_at, no_round, source_facts, target_facts}
-pub use Rattle.mig_base.specs.Arrivals.{IsNamed}
+pub use Rattle.mig_base.specs.Arrivals.{IsNamed, IsPlanSpot}
 pub use Rattle.mig_base.specs.Layouts.{IsSource, IsTarget}
 pub use Rattle.mig_base.specs.Tasks.{IsTask, Task}
 pub use Rattle.mig_base.specs.declared.cells.Cell.{Cell}

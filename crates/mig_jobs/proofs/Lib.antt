@@ -1,6 +1,6 @@
 mod StopLaws
-mod VacancyLaws
 mod VacancySteps
 pub mod Common
 pub mod JobRounds
 pub mod TableSteps
+pub mod VacancyLaws

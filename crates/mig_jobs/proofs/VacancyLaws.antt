@@ -1,6 +1,6 @@
 -- When the spots that a plan names are free.
 use Rattle.mig_jobs.proofs.Common.{All, All-append, All-map, Any, Any-from_list_any, AreVacancies, At, Bool, Contains, Contains-append_left, Contains-append_right, Contains-get_or, IsInput}
-use Rattle.mig_jobs.proofs.Common.{IsNamed, IsSource, IsTaken, IsTarget, IsVacant, List, Lists, Runs, Shift, Some, Spot, Vacancy, [], any_contains, ap, arith, at_target, begun_by, cases_Bool}
+use Rattle.mig_jobs.proofs.Common.{IsNamed, IsPlanSpot, IsSource, IsTaken, IsTarget, IsVacant, List, Lists, Runs, Shift, Some, Spot, Vacancy, [], any_contains, ap, arith, at_target, begun_by, cases_Bool}
 use Rattle.mig_jobs.proofs.Common.{cases_eq, cases_lt, cond, cond-false, cond-true, contains_any, ended_by, ended_in, eq-eqb, eqb-true, false, false≢true, filter, filter_passes, get_or}
 use Rattle.mig_jobs.proofs.Common.{get_or_default, in_some, inl, inr, leaves, left_in, length, list_any, list_any_at, map, moved_cases, no_round, open_in, open_of, refl, round_at, same_spot}
 use Rattle.mig_jobs.proofs.Common.{slice_get-get_or, source_facts, subst, suc, sym, target_facts, true, vacancies_in, zero, ℕ, ⊎_elim, ◌++◌, ◌<◌, ◌==◌, ◌∙◌, ◌∷◌, ◌≡◌, ◌≤◌, ◌⊎◌}
@@ -8,10 +8,10 @@ use Rattle.mig_jobs.proofs.TableSteps.{spot_is, spot_same}
 
 -- whether one of the shifts has the spot, as the test says
 module _ (key : Shift → Spot) (shifts : List Shift) (spot : Spot) where
-  key_true : list_any (λ s. same_spot (key s) spot) shifts ≡ true → Any (λ s. key s ≡ spot) shifts
+  pub key_true : list_any (λ s. same_spot (key s) spot) shifts ≡ true → Any (λ s. key s ≡ spot) shifts
   key_true said = let any = Any-from_list_any (λ (s : Shift). same_spot (key s) spot) shifts said in (any.0, any.1, any.2, any.3, spot_is (key any.1) spot any.4)
 
-  key_false : list_any (λ s. same_spot (key s) spot) shifts ≡ false → Any (λ s. key s ≡ spot) shifts → ⊥
+  pub key_false : list_any (λ s. same_spot (key s) spot) shifts ≡ false → Any (λ s. key s ≡ spot) shifts → ⊥
   key_false said any = false≢true (sym said ∙ list_any_at (λ (s : Shift). same_spot (key s) spot) shifts any.0 any.1 any.2
       (ap (λ (s : Shift). same_spot (key s) spot) any.3 ∙ ap (λ (p : Spot). same_spot p spot) any.4 ∙ spot_same spot))
 
@@ -24,14 +24,14 @@ pub record IsLeftSince (input : Lists) (plan : List (List Shift)) (r : ℕ) (spo
 
 module _ (input : Lists) (valid : IsInput input) (plan : List (List Shift)) (runs : Runs input plan) where
   -- a free spot to which no shift goes stays free
-  stays_free : (r : ℕ) (spot : Spot) → r < length plan → (IsTarget plan (suc r) spot → ⊥) → (IsTaken (At input plan r) spot → ⊥) → IsTaken (At input plan (suc r)) spot → ⊥
+  pub stays_free : (r : ℕ) (spot : Spot) → r < length plan → (IsTarget plan (suc r) spot → ⊥) → (IsTaken (At input plan r) spot → ⊥) → IsTaken (At input plan (suc r)) spot → ⊥
   stays_free r spot lt no_target free taken = ⊎_elim
       (λ last. no_target (any_contains (λ (s : Shift). s.to ≡ spot) (round_at plan (suc r)) last.0 last.1 (in_some last.0.to spot (sym last.3 ∙ taken.1))))
       (λ none. free (taken.0, sym none.1 ∙ taken.1))
       (moved_cases (At input plan r) (round_at plan (suc r)) taken.0)
 
   -- a taken spot that no shift leaves stays taken
-  stays_taken : (r : ℕ) (spot : Spot) → r < length plan → (IsSource plan (suc r) spot → ⊥) → IsTaken (At input plan r) spot → IsTaken (At input plan (suc r)) spot
+  pub stays_taken : (r : ℕ) (spot : Spot) → r < length plan → (IsSource plan (suc r) spot → ⊥) → IsTaken (At input plan r) spot → IsTaken (At input plan (suc r)) spot
   stays_taken r spot lt no_source taken = (
     taken.0,
     ⊎_elim
@@ -41,12 +41,12 @@ module _ (input : Lists) (valid : IsInput input) (plan : List (List Shift)) (run
         (moved_cases (At input plan r) (round_at plan (suc r)) taken.0),
   )
 
-  target_taken : (r : ℕ) (spot : Spot) → r < length plan → IsTarget plan (suc r) spot → IsTaken (At input plan (suc r)) spot
+  pub target_taken : (r : ℕ) (spot : Spot) → r < length plan → IsTarget plan (suc r) spot → IsTaken (At input plan (suc r)) spot
   target_taken r spot lt target =
       let has = contains_any (λ (s : Shift). s.to ≡ spot) (round_at plan (suc r)) target in
       (target.1.item.0, at_target input (At input plan r) (round_at plan (suc r)) (runs.rounds r lt) target.1 has ∙ ap Some target.4)
 
-  source_taken : (r : ℕ) (spot : Spot) → r < length plan → IsSource plan (suc r) spot → IsTaken (At input plan r) spot
+  pub source_taken : (r : ℕ) (spot : Spot) → r < length plan → IsSource plan (suc r) spot → IsTaken (At input plan r) spot
   source_taken r spot lt source =
       let has = contains_any (λ (s : Shift). s.from ≡ spot) (round_at plan (suc r)) source in
       (source.1.item.0, leaves input (At input plan r) (round_at plan (suc r)) (runs.rounds r lt) source.1 has ∙ ap Some source.4)
@@ -116,11 +116,11 @@ module _ (input : Lists) (valid : IsInput input) (plan : List (List Shift)) (run
       free_now : IsTaken (At input plan r) s.to → ⊥
       free_now = (target_facts input valid plan runs r s.to (any_contains (λ (t : Shift). t.to ≡ s.to) (round_at plan (suc r)) s has refl)).2
 
-  pub ended_named : (r : ℕ) → r ≤ length plan → All (λ (v : Vacancy). IsNamed input plan v.spot) (ended_in plan r)
+  pub ended_named : (r : ℕ) → r ≤ length plan → All (λ (v : Vacancy). IsPlanSpot plan v.spot) (ended_in plan r)
   ended_named zero le = λ k d lt. absurd (omega arith)
-  ended_named (suc r) le = All-append (λ (v : Vacancy). IsNamed input plan v.spot) (ended_in plan r) (map (ended_by (left_in plan r) (suc r)) (round_at plan (suc r))) (ended_named r (omega arith))
-      (All-map (λ (v : Vacancy). IsNamed input plan v.spot) (ended_by (left_in plan r) (suc r)) (round_at plan (suc r))
-      (λ k d lt. inr (suc r, inr (k, get_or (round_at plan (suc r)) k d, lt, get_or_default (round_at plan (suc r)) k (get_or (round_at plan (suc r)) k d) d lt, refl))))
+  ended_named (suc r) le = All-append (λ (v : Vacancy). IsPlanSpot plan v.spot) (ended_in plan r) (map (ended_by (left_in plan r) (suc r)) (round_at plan (suc r))) (ended_named r (omega arith))
+      (All-map (λ (v : Vacancy). IsPlanSpot plan v.spot) (ended_by (left_in plan r) (suc r)) (round_at plan (suc r))
+      (λ k d lt. (suc r, inr (k, get_or (round_at plan (suc r)) k d, lt, get_or_default (round_at plan (suc r)) k (get_or (round_at plan (suc r)) k d) d lt, refl))))
 
   pub ended_free : (r : ℕ) → r ≤ length plan → All IsFreeAll (ended_in plan r)
   ended_free zero le = λ k d lt. absurd (omega arith)
@@ -235,8 +235,8 @@ module _ (input : Lists) (valid : IsInput input) (plan : List (List Shift)) (run
 
   pub are_vacancies : AreVacancies input plan (vacancies_in plan)
   are_vacancies = record {
-    named = All-append (λ (v : Vacancy). IsNamed input plan v.spot) (ended_in plan (length plan)) (open_in plan (length plan)) (ended_named (length plan) (omega arith))
-        (λ k d lt. inr ((get_or (open_in plan (length plan)) k d).from, inl (last_left k d lt).left));
+    named = All-append (λ (v : Vacancy). IsPlanSpot plan v.spot) (ended_in plan (length plan)) (open_in plan (length plan)) (ended_named (length plan) (omega arith))
+        (λ k d lt. ((get_or (open_in plan (length plan)) k d).from, inl (last_left k d lt).left));
     free = All-append IsFreeAll (ended_in plan (length plan)) (open_in plan (length plan)) (ended_free (length plan) (omega arith)) (λ j d lt k most vacant. (last_left j d lt).free k vacant.0 most);
     all = λ k spot most named free. cover k spot most named free (covered_to (length plan) k spot (omega arith) most free);
   }

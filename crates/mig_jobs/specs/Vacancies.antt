@@ -5,7 +5,7 @@ use Rattle.mig_base.specs.declared.ids.Spot.{Spot}
 use Rattle.mig_base.specs.declared.ids.Shift.{Shift}
 use Rattle.mig_base.specs.InputLists.{Lists}
 use Rattle.mig_base.specs.Layouts.{At, IsTaken, round_at}
-use Rattle.mig_base.specs.Arrivals.{IsNamed}
+use Rattle.mig_base.specs.Arrivals.{IsNamed, IsPlanSpot}
 use Rattle.mig_jobs.specs.JobTables.{same_spot}
 use Rattle.mig_jobs.specs.declared.vacancies.Vacancy.{Vacancy}
 
@@ -55,8 +55,8 @@ vacancies_in plan = ended_in plan (length plan) ++ open_in plan (length plan)
 abbrev pub IsVacant : Vacancy → ℕ → Type 0
 IsVacant v k = (v.from ≤ k) × (k < v.until)
 
--- Each vacancy is of a named spot that is free all the while, and each named spot that is free after some rounds has a vacancy then.
+-- Each vacancy is of a spot of the plan's shifts that is free all the while, and each named spot that is free after some rounds has a vacancy then.
 pub record AreVacancies (input : Lists) (plan : List (List Shift)) (vs : List Vacancy) : Type 0 where
-  pub named : All (λ v. IsNamed input plan v.spot) vs
+  pub named : All (λ v. IsPlanSpot plan v.spot) vs
   pub free : All (λ v. (k : ℕ) → k ≤ length plan → IsVacant v k → ¬ IsTaken (At input plan k) v.spot) vs
   pub all : (k : ℕ) (spot : Spot) → k ≤ length plan → IsNamed input plan spot → ¬ IsTaken (At input plan k) spot → Any (λ v. (v.spot ≡ spot) × IsVacant v k) vs

@@ -1,9 +1,9 @@
 //! The marks of rounds.
-ghost use Rattle.std.specs.Prelude.{◌≡◌, ◌≤◌, [], ◌∷◌, ℕ, IfOk, OnOk, IfSome, length};
+ghost use Rattle.std.specs.Prelude.{◌≡◌, ◌≤◌, [], ◌∷◌, ℕ, IfOk, OnOk, IfSome, IsFalse, length};
 ghost use Rattle.std.specs.List.{prefix_len, range_with_len};
 ghost use Rattle.mig_base.specs.declared.cells.Cell.{Cell};
 ghost use Rattle.mig_base.specs.declared.cells.Cell.TheVariants.{Mark};
-ghost use Rattle.mig_base.specs.Cells.{cell_len};
+ghost use Rattle.mig_base.specs.Cells.{cell_len, is_slot};
 ghost use Rattle.mig_base.specs.Journals.{is_marked};
 ghost use Rattle.mig_base.specs.JobCells.{IsMark, Tells};
 ghost use Rattle.mig_base.specs.Stores.{State, flights, ChangesOnly, Looks, IsSettled, HasCause};
@@ -37,8 +37,9 @@ pub fn marked<S: Store>(store: &mut S, rounds: u32) -> Result<u32, StoreFailed>
     Ok(rounds)
 }
 
-// Writes a cell and syncs.
+// Writes a cell of the journal and syncs.
 pub(crate) fn settle<S: Store>(store: &mut S, cell: &Cell, bytes: &[u8]) -> Result<(), StoreFailed>
+    requires journal { IsFalse (is_slot cell.now) }
     requires length { length bytes.now ≡ cell_len cell.now }
     requires none { flights (S.state store.old) ≡ [] }
     ensures written { OnOk result (IfSome ((S.state store.new).reads cell.now) (λ told. told ≡ bytes.now)) }

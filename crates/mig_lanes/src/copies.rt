@@ -7,6 +7,7 @@ ghost use Rattle.mig_base.specs.Flights.{began, IsTargetOf, AreFlights};
 ghost use Rattle.mig_base.specs.RoundEvents.{IsRound};
 ghost use Rattle.mig_base.specs.Stores.{State, flights, Changes, Ends, IsSettled, HasCause};
 ghost use Rattle.mig_base.specs.Tasks.{Task};
+ghost use Rattle.mig_mover.specs.Erasures.{AreAsked};
 ghost use Rattle.mig_lanes.specs.LaneSteps.{copies_of, BeginsRound, HaveLanded};
 
 use mig_jobs::Job;
@@ -16,6 +17,7 @@ use mig_store::{Store, StoreFailed};
 fn begin_copies<S: Store>(job: &Job, store: &mut S, round: u32) -> Result<(), StoreFailed>
     requires from { 1 ≤ round }
     requires to { round ≤ length job.now.plan }
+    requires asked { AreAsked S.asked job.now }
     requires none { flights (S.state store.old) ≡ [] }
     ensures begun { OnOk result (Changes (IsTargetOf (copies_of job.now round)) (IsTargetOf (copies_of job.now round)) (map began (copies_of job.now round)) (S.state store.old) (S.state store.new)) }
     ensures landed { OnOk result (HaveLanded (copies_of job.now round) (S.state store.old).reads (S.state store.new)) }
@@ -58,6 +60,7 @@ fn settle_copies<S: Store>(store: &mut S) -> Result<(), StoreFailed>
 pub fn run_copies<S: Store>(job: &Job, store: &mut S, round: u32) -> Result<(), StoreFailed>
     requires from { 1 ≤ round }
     requires to { round ≤ length job.now.plan }
+    requires asked { AreAsked S.asked job.now }
     requires none { flights (S.state store.old) ≡ [] }
     ensures copied { OnOk result (All (λ c. IsCopy ((S.state store.old).reads c.from) ((S.state store.new).reads c.to)) (copies_of job.now round)) }
     ensures settled { OnOk result (IsSettled (S.state store.new)) }

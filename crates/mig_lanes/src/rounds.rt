@@ -7,6 +7,7 @@ ghost use Rattle.mig_base.specs.Safety.{Contents, IsSound};
 ghost use Rattle.mig_base.specs.Stores.{State, flights, Changes, ChangesOnly, LeavesOnly, IsSettled, HasCause};
 ghost use Rattle.mig_base.specs.declared.cells.Event.{Event};
 ghost use Rattle.mig_base.specs.Tasks.{Task};
+ghost use Rattle.mig_mover.specs.Erasures.{AreAsked};
 ghost use Rattle.mig_lanes.specs.LaneSteps.{copies_of, later_rounds, BeginsRound, BeginsRounds, HasCopied};
 
 use crate::copies::run_copies;
@@ -18,6 +19,7 @@ use mig_store::{Store, StoreFailed};
 // Sets the mark of the round after the first k, whose copies are settled, and then erases what the round left.
 fn close_round<S: Store>(job: &Job, store: &mut S, k: u32) -> Result<(), StoreFailed>
     requires more { k < length job.now.plan }
+    requires asked { AreAsked S.asked job.now }
     requires none { flights (S.state store.old) ≡ [] }
     ensures any_moment { (asked : Bool) (contents : Contents) → HasCopied asked job.now contents (S.state store.old) k →
         LeavesOnly (IsSound asked job.now.input job.now.plan job.now.digest contents) (S.state store.old) (S.state store.new) }
@@ -34,6 +36,7 @@ fn close_round<S: Store>(job: &Job, store: &mut S, k: u32) -> Result<(), StoreFa
 // Carries out the round after the first k.
 fn carry_out<S: Store>(job: &Job, store: &mut S, k: u32) -> Result<(), StoreFailed>
     requires more { k < length job.now.plan }
+    requires asked { AreAsked S.asked job.now }
     requires none { flights (S.state store.old) ≡ [] }
     ensures any_moment { (asked : Bool) (contents : Contents) → HasDone asked job.now.input job.now.plan job.now.digest contents (S.state store.old) k →
         LeavesOnly (IsSound asked job.now.input job.now.plan job.now.digest contents) (S.state store.old) (S.state store.new) }
@@ -54,6 +57,7 @@ fn carry_out<S: Store>(job: &Job, store: &mut S, k: u32) -> Result<(), StoreFail
 /// Carries out the rounds after the first k, and syncs.
 pub fn carry_on<S: Store>(job: &Job, store: &mut S, k: u32) -> Result<(), StoreFailed>
     requires most { k ≤ length job.now.plan }
+    requires asked { AreAsked S.asked job.now }
     requires none { flights (S.state store.old) ≡ [] }
     ensures any_moment { (asked : Bool) (contents : Contents) → HasDone asked job.now.input job.now.plan job.now.digest contents (S.state store.old) k →
         LeavesOnly (IsSound asked job.now.input job.now.plan job.now.digest contents) (S.state store.old) (S.state store.new) }

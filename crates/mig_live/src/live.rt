@@ -10,6 +10,7 @@ ghost use Rattle.mig_base.specs.RoundEvents.{IsRun, BeginsRun, Adds};
 ghost use Rattle.mig_base.specs.Safety.{Contents, IsSafe, IsSound, IsSoundAfter};
 ghost use Rattle.mig_base.specs.Stores.{State, flights, Looks, LeavesOnly, IsSettled, HasCause};
 ghost use Rattle.mig_base.specs.Tasks.{Task, IsTask};
+ghost use Rattle.mig_mover.specs.Erasures.{AreAsked};
 ghost use Rattle.mig_mover.specs.Moves.{Keeps, Enters, IsFault, IsResumeFault, MayBeHalting, StaysArmed};
 ghost use Rattle.mig_live.specs.Actions.{Action, AreMade, AreMadeInPart, IsMade, actions_left};
 ghost use Rattle.mig_live.specs.Sessions.{Session, IsSession, InStep, is_synced, marks_by, steps_after};
@@ -78,6 +79,8 @@ impl<'a> Live<'a> {
         ensures in_step { IfOk result (λ live. (asked : Bool) (contents : Contents) → Tells (IsJobCell job.now.input job.now.plan) (S.state store.old).reads → SettlesTo (IsSound asked job.now.input job.now.plan job.now.digest contents) (S.state store.old) →
             InStep asked live contents (S.state store.new)) }
         ensures ours { IfOk result (λ live. AreFlights (flights (S.state store.old)) → IsSome ((S.state store.old).reads Gate) → is_armed (S.state store.old).reads ≡ true → IfSome ((S.state store.old).reads Head) (λ kept. kept ≡ job.now.digest)) }
+        // Each slot that the plan names was asked for.
+        ensures asked { IfOk result (λ live. AreAsked S.asked live.task) }
         // Each copy that was in flight ends, and no event comes besides.
         ensures ended { IfOk result (λ live. Adds (IsRun (flights (S.state store.old)) []) (S.state store.old) (S.state store.new)) }
         ensures part { Adds (BeginsRun (flights (S.state store.old)) []) (S.state store.old) (S.state store.new) }
@@ -130,13 +133,14 @@ impl<'a> Live<'a> {
                 + 1
     }
 
-    /// Makes the next step. A step is left, and no copy is in flight.
+    /// Makes the next step. A step is left, no copy is in flight, and the store is such a one as the plan was entered on.
     ///
     /// # Errors
     ///
     /// A fault of the store. The session is gone, and entering the plan again is the way on.
     pub fn step<S: Store>(self, store: &mut S) -> Result<Live<'a>, StoreFailed>
         requires left { 0 < self.left }
+        requires asked { AreAsked S.asked self.task }
         requires none { flights (S.state store.old) ≡ [] }
         ensures task { IfOk result (λ live. live.task ≡ self.entry.task) }
         ensures left { IfOk result (λ live. live.left + 1 ≡ self.entry.left) }
@@ -175,7 +179,8 @@ impl<'a> Live<'a> {
     ///
     /// A fault of the store, as of a step.
     pub fn advance<S: Store>(self, store: &mut S, count: u32) -> Result<Live<'a>, StoreFailed>
-        requires { flights (S.state store.old) ≡ [] }
+        requires asked { AreAsked S.asked self.task }
+        requires none { flights (S.state store.old) ≡ [] }
         ensures task { IfOk result (λ live. live.task ≡ self.entry.task) }
         ensures left { IfOk result (λ live. live.left ≡ self.entry.left - count) }
         ensures rest { IfOk result (λ live. actions_left live ≡ drop count (actions_left self.entry)) }

@@ -5,6 +5,7 @@ ghost use Rattle.mig_base.specs.Safety.{Contents, IsSound};
 ghost use Rattle.mig_base.specs.Stores.{State, flights, Looks, LeavesOnly};
 ghost use Rattle.mig_base.specs.Tasks.{Task, IsTask};
 ghost use Rattle.mig_base.specs.Texts.{text_of_lines, words};
+ghost use Rattle.mig_mover.specs.Erasures.{AreAsked};
 ghost use Rattle.mig_live.specs.Actions.{AreMade, actions_left};
 ghost use Rattle.mig_live.specs.Orders.{all_steps, steps_of, IsOrder};
 ghost use Rattle.mig_live.specs.Replies.{AreCutOff, AreMadeUpTo, ArePut, ArePutUpTo, IsServeFault};
@@ -100,6 +101,7 @@ fn carry_out<'a, K: Sink, S: Store>(
     order: Order,
 ) -> Result<Live<'a>, ServeFault>
     requires order { IsOrder live.task.input order }
+    requires asked { AreAsked S.asked live.task }
     requires none { flights (S.state store.old) ≡ [] }
     ensures task { IfOk result (λ after. after.task ≡ live.entry.task) }
     ensures left { IfOk result (λ after. after.left ≡ live.entry.left - steps_of order) }
@@ -141,6 +143,7 @@ pub fn serve<'a, K: Sink, S: Store>(
     orders: &[Order],
 ) -> Result<Live<'a>, ServeFault>
     requires orders { All (IsOrder live.task.input) orders.now }
+    requires asked { AreAsked S.asked live.task }
     requires none { flights (S.state store.old) ≡ [] }
     ensures task { IfOk result (λ after. after.task ≡ live.entry.task) }
     ensures left { IfOk result (λ after. after.left ≡ live.entry.left - all_steps orders.now) }

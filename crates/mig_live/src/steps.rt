@@ -8,6 +8,7 @@ ghost use Rattle.mig_base.specs.Layouts.{round_at};
 ghost use Rattle.mig_base.specs.Safety.{Contents, IsSound};
 ghost use Rattle.mig_base.specs.Stores.{State, flights, Changes, ChangesOnly, LeavesOnly, IsSettled, HasCause};
 ghost use Rattle.mig_base.specs.Tasks.{Task};
+ghost use Rattle.mig_mover.specs.Erasures.{AreAsked};
 ghost use Rattle.mig_live.specs.Actions.{MakesFirst, actions_after, actions_since};
 ghost use Rattle.mig_live.specs.Underways.{IsUnderway, IsAtStep, shifts_in, steps_in};
 
@@ -21,6 +22,7 @@ use mig_store::{Store, StoreFailed};
 fn copy_slot<S: Store>(store: &mut S, from: &Cell, to: &Cell) -> Result<(), StoreFailed>
     requires slots { IsTrue (is_slot from.now) × IsTrue (is_slot to.now) }
     requires apart { from.now ≢ to.now }
+    requires asked { S.asked to.now }
     requires none { flights (S.state store.old) ≡ [] }
     ensures copied { OnOk result (IsCopy ((S.state store.old).reads from.now) ((S.state store.new).reads to.now)) }
     ensures landed { OnOk result (flights (S.state store.new) ≡ []) }
@@ -37,6 +39,7 @@ fn copy_slot<S: Store>(store: &mut S, from: &Cell, to: &Cell) -> Result<(), Stor
 fn erase_next<S: Store>(job: &Job, store: &mut S, k: u32, place: u32) -> Result<(), StoreFailed>
     requires most { k ≤ length job.now.plan }
     requires place { place < length (round_at job.now.plan k) }
+    requires asked { AreAsked S.asked job.now }
     requires none { flights (S.state store.old) ≡ [] }
     ensures any_moment { (asked : Bool) (contents : Contents) → IsUnderway asked job.now.input job.now.plan job.now.digest contents (S.state store.old) k place 0 →
         LeavesOnly (IsSound asked job.now.input job.now.plan job.now.digest contents) (S.state store.old) (S.state store.new) }
@@ -55,6 +58,7 @@ fn erase_next<S: Store>(job: &Job, store: &mut S, k: u32, place: u32) -> Result<
 fn copy_next<S: Store>(job: &Job, store: &mut S, k: u32, place: u32) -> Result<(), StoreFailed>
     requires more { k < length job.now.plan }
     requires place { place < length (round_at job.now.plan (suc k)) }
+    requires asked { AreAsked S.asked job.now }
     requires none { flights (S.state store.old) ≡ [] }
     ensures any_moment { (asked : Bool) (contents : Contents) (e : ℕ) → IsUnderway asked job.now.input job.now.plan job.now.digest contents (S.state store.old) k e place →
         LeavesOnly (IsSound asked job.now.input job.now.plan job.now.digest contents) (S.state store.old) (S.state store.new) }
@@ -105,6 +109,7 @@ pub(crate) fn step_within<S: Store>(
 ) -> Result<(), StoreFailed>
     requires most { k ≤ length job.now.plan }
     requires place { p < steps_in job.now.plan k }
+    requires asked { AreAsked S.asked job.now }
     requires none { flights (S.state store.old) ≡ [] }
     ensures any_moment { (asked : Bool) (contents : Contents) → IsAtStep asked job.now.input job.now.plan job.now.digest contents (S.state store.old) k p →
         LeavesOnly (IsSound asked job.now.input job.now.plan job.now.digest contents) (S.state store.old) (S.state store.new) }

@@ -9,18 +9,18 @@ pub use Rattle.mig_base.proofs.Common.{common_steps, cond, cond-true, count_of, 
 pub use Rattle.mig_base.proofs.Common.{get_or, get_or_default, get_or_from_slice_get, inl, inr, is_armed, is_marked, is_of, is_one, is_slot, item_name, length}
 pub use Rattle.mig_base.proofs.Common.{length-map-range_with_len, list_any, map, map-append, min, no_spot, not, prefix_len, range_with_len, refl, replicate, round_at, shifts_of}
 pub use Rattle.mig_base.proofs.Common.{slice_get, slice_get-get_or, slice_get_within, slot_of, subst, suc, sym, take, take-append-le, take-append_seam, true, zero, ℕ, ⊎_elim, ◌%◌}
-pub use Rattle.mig_base.proofs.Common.{◌++◌, ◌+◌, ◌-◌, ◌<◌, ◌∙◌, ◌∷◌, ◌≡◌, ◌≤◌, ◌⊎◌}
+pub use Rattle.mig_base.proofs.Common.{◌++◌, ◌+◌, ◌-◌, ◌<◌, ◌∙◌, ◌∷◌, ◌≡◌, ◌≤◌, ◌⊎◌, eq-eqb}
 pub use Rattle.mig_base.proofs.Landing.{ends_are_quiet, flights_same, no_target, target_left, target_permuted}
 pub use Rattle.mig_base.proofs.Listed.{at_map}
 pub use Rattle.mig_base.proofs.MarkCounts.{count_idle, count_is, counted}
-pub use Rattle.mig_base.proofs.Rounds.{spot_disk, there, to_disk}
-pub use Rattle.mig_base.proofs.SafetyLaws.{marking, other_bytes, slot_apart, sound_after, unmarked}
+pub use Rattle.mig_base.proofs.Rounds.{spot_disk, there, to_disk, any_contains, at_target, contains_any, in_some, leaves, moved_cases}
+pub use Rattle.mig_base.proofs.SafetyLaws.{marking, other_bytes, slot_apart, sound_after, unmarked, no_round, source_facts, target_facts}
 pub use Rattle.mig_base.proofs.StoreSteps.{changes_leave, changes_then, changes_wider, events_none, leaves_then, leaves_wider, quiet_leaves, same_image, same_then, same_wider}
 pub use Rattle.mig_base.proofs.StoreSteps.{settled_change, tells_kept, told_is, told_kept}
-pub use Rattle.mig_base.specs.Arrivals.{AreFreeZeros, IsHaltSafe, IsHalted}
+pub use Rattle.mig_base.specs.Arrivals.{AreFreeZeros, IsHaltSafe, IsHalted, IsPlanSpot}
 pub use Rattle.mig_base.specs.FaultCounts.{Rose}
 pub use Rattle.mig_base.specs.Images.{NoCell}
-pub use Rattle.mig_base.specs.JobCells.{IsFreeSlot, IsHaltCell, IsJournal}
+pub use Rattle.mig_base.specs.JobCells.{IsFreeSlot, IsHaltCell, IsJournal, IsPlanSlot}
 pub use Rattle.mig_base.specs.Readiness.{CanTake, IsFirstUsed, IsReady}
 pub use Rattle.mig_base.specs.RoundEvents.{IsRun}
 pub use Rattle.mig_base.specs.Safety.{HasContents, IsCleanAt, IsSafeAfter}
@@ -36,12 +36,12 @@ pub use Rattle.mig_base.specs.declared.ids.Spot.{Spot}
 pub use Rattle.mig_jobs.specs.JobTables.{free_targets, same_spot}
 pub use Rattle.mig_jobs.specs.Vacancies.{AreVacancies, IsVacant}
 pub use Rattle.mig_jobs.specs.declared.vacancies.Vacancy.{Vacancy}
-pub use Rattle.mig_journal.proofs.Steps.{look_quiet, quiet_same, still_none, sync_same, then_quiet, then_step, then_sync}
+pub use Rattle.mig_journal.proofs.Steps.{look_quiet, on_ok_is, quiet_same, still_none, sync_same, then_quiet, then_step, then_sync}
 pub use Rattle.mig_journal.specs.FreshJournals.{IsArming, IsFresh}
 pub use Rattle.mig_journal.specs.SeenJournals.{HasHead, is_running}
 pub use Rattle.mig_journal.specs.declared.looking.Seen.{Seen}
 pub use Rattle.mig_journal.specs.declared.looking.Seen.TheVariants.{Idle}
-pub use Rattle.mig_mover.specs.Erasures.{AreZeros}
+pub use Rattle.mig_mover.specs.Erasures.{AreZeros, AreAsked, IsItemAsked}
 pub use Rattle.mig_mover.specs.Fillings.{HasMade, IsFillFault, IsFillFaultOn, IsFillRefusal, IsFillable, IsFirstTaken, IsSoundForAll, WasFillable, made_contents}
 pub use Rattle.mig_mover.specs.Halts.{AreErased, EndsHalted, IsClosingCell, KeepsHaltSafe}
 pub use Rattle.mig_mover.specs.Moves.{Enters, EntersOn, IsFault, IsFaultOn, IsLanded, IsPlanFault, IsReadyIdle, IsRefusal, IsRunning, Keeps, KeepsOn, Lands, MayBeHalting, Settles}
@@ -52,7 +52,12 @@ pub use Rattle.std.proofs.Common.{IfNone, IsOk, OnOk, rules}
 pub use Rattle.std.proofs.Math.Nat.{add-mod_left, mod-eq_of_lt}
 pub use Rattle.std.proofs.Math.Seq.{drop-append-add}
 pub use Rattle.std.proofs.lemmas.List.{drop-replicate}
-pub use Rattle.std.proofs.lemmas.List.Elements.{Contains-append_cases}
+pub use Rattle.std.proofs.lemmas.List.Elements.{Contains-append_cases, Contains-append_left, Contains-append_right}
 pub use Rattle.std.proofs.lemmas.List.FromFn.{map-range_with_len_more, take-map-range_with_len}
 pub use Rattle.std.proofs.lemmas.List.Sorted.{Contains-permutation, IsPermutation-sym}
 pub use Rattle.std.proofs.lemmas.Result.{on_ok_weaker}
+pub use Rattle.mig_base.proofs.LayoutSteps.{At-item}
+pub use Rattle.mig_base.specs.Layouts.{IsSource, IsTaken, IsTarget}
+pub use Rattle.mig_jobs.proofs.VacancyLaws.{key_false, key_true, stays_free, stays_taken}
+pub use Rattle.std.proofs.lemmas.List.Folds.{list_any_at}
+pub use Rattle.std.specs.Option.{option_map}

@@ -1,5 +1,5 @@
 -- The steps of a loop over a round that erases what its shifts leave.
-use Rattle.mig_mover.proofs.Common.{AllWithin, AreZeros, Cell, Flight, IfSome, Image, IsSourceSlot, IsTrue, List, Lists, Option, SameBut, Shift, Some, ap, arith, at_map, cases_cell, cases_eq, flight_of}
+use Rattle.mig_mover.proofs.Common.{AllWithin, AreZeros, Cell, Flight, IfSome, Image, IsPlanSlot, IsSourceSlot, IsTrue, List, Lists, Option, SameBut, Shift, Some, ap, arith, at_map, cases_cell, cases_eq, flight_of}
 use Rattle.mig_mover.proofs.Common.{flights_of, get_or, get_or_default, inl, inr, is_slot, length, refl, round_at, slice_get, slice_get-get_or, slot_of, subst, sym, ℕ, ◌+◌, ◌<◌, ◌∙◌, ◌≡◌, ◌⊎◌}
 
 in_some : (f g : Flight) → Some f ≡ Some g → f ≡ g
@@ -14,14 +14,24 @@ module _ (input : Lists) (plan : List (List Shift)) (round place : ℕ) (lt : pl
   from_is : f.from ≡ slot_of input (get_or (round_at plan round) place d).from
   from_is = ap (λ (h : Flight). h.from) (copy_of input (round_at plan round) place f d lt at)
 
+  to_is : f.to ≡ slot_of input (get_or (round_at plan round) place d).to
+  to_is = ap (λ (h : Flight). h.to) (copy_of input (round_at plan round) place f d lt at)
+
   pub from_slot : IsTrue (is_slot f.from)
   from_slot = ap is_slot from_is
 
   pub both_slots : IsTrue (is_slot f.from) × IsTrue (is_slot f.to)
-  both_slots = (from_slot, ap is_slot (ap (λ (h : Flight). h.to) (copy_of input (round_at plan round) place f d lt at)))
+  both_slots = (from_slot, ap is_slot to_is)
 
   pub from_source : (cell : Cell) → cell ≡ f.from → IsSourceSlot input plan round cell
   from_source cell is = let s = get_or (round_at plan round) place d in (s.from, (place, s, lt, get_or_default (round_at plan round) place s d lt, refl), sym (is ∙ from_is))
+
+  -- the plan names both slots
+  pub from_named : IsPlanSlot input plan f.from
+  from_named = let s = from_source f.from refl in (s.0, (round, inl s.1), s.2)
+
+  pub to_named : IsPlanSlot input plan f.to
+  to_named = let s = get_or (round_at plan round) place d in (s.to, (round, inr (place, s, lt, get_or_default (round_at plan round) place s d lt, refl)), sym to_is)
 
   -- one slot more is erased
   pub erased_more : (old new : Image) → SameBut (λ c. c ≡ f.from) old new → AllWithin (λ s. AreZeros (old (slot_of input s.from))) (round_at plan round) 0 place → AreZeros (new f.from)

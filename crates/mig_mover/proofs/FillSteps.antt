@@ -65,7 +65,7 @@ module _ (input : Lists) (valid : IsInput input) (image : Image) (made : HasMade
 
 -- the slot made for an item is written where the item is listed
 module _ (input : Lists) (item : ℕ) (spots : List Spot) (spots_is : spots ≡ input.spots) (cell : Cell) (cell_is : cell ≡ slot_of input (get_or spots item no_spot)) where
-  listed : cell ≡ item_cell input item
+  pub listed : cell ≡ item_cell input item
   listed = cell_is ∙ ap (λ (l : List Spot). slot_of input (get_or l item no_spot)) spots_is
 
   pub put_change : (old new : State) → ChangesOnly (λ c. c ≡ cell) old new → ChangesOnly (λ c. c ≡ item_cell input item) old new

@@ -127,11 +127,11 @@ next_item P k before here i lt = at (cases_eq i k)
     at (inl is) = subst P (sym is) here
     at (inr other) = before i (omega arith)
 
-pub next_within : (P : Spot → Type 0) (xs : List Spot) (k : ℕ) → k < length xs → AllWithin P xs 0 k → P (get_or xs k no_spot) → AllWithin P xs 0 (k + 1)
-next_within P xs k lt before here i d low high = at (cases_eq i k)
+pub next_within : {X : Type 0} (P : X → Type 0) (xs : List X) (k : ℕ) (e : X) → k < length xs → AllWithin P xs 0 k → P (get_or xs k e) → AllWithin P xs 0 (k + 1)
+next_within P xs k e lt before here i d low high = at (cases_eq i k)
   where
     at : (i ≡ k) ⊎ (i ≡ k → ⊥) → P (get_or xs i d)
-    at (inl same) = subst P (sym (ap (λ (n : ℕ). get_or xs n d) same ∙ get_or_default xs k d no_spot lt)) here
+    at (inl same) = subst P (sym (ap (λ (n : ℕ). get_or xs n d) same ∙ get_or_default xs k d e lt)) here
     at (inr other) = before i d low (omega arith)
 
 pub none_of : {X P : Type 0} (found : Option X) → ((x : X) → found ≡ Some x → ⊥) → IfNone found P → P

@@ -12,7 +12,7 @@ ghost use Rattle.mig_base.specs.Safety.{Contents, IsSafe};
 ghost use Rattle.mig_base.specs.Slots.{slot_of};
 ghost use Rattle.mig_base.specs.Stores.{State, flights, ChangesOnly, LeavesOnly, IsSettled, HasCause};
 ghost use Rattle.mig_journal.specs.SeenJournals.{is_running, HasHead};
-ghost use Rattle.mig_mover.specs.Erasures.{AreCompared, AreZeros};
+ghost use Rattle.mig_mover.specs.Erasures.{AreAsked, AreCompared, AreZeros};
 ghost use Rattle.mig_mover.specs.Moves.{Lands, Settles, IsRunning, IsPlanFault, IsFault, IsStartFault, IsResumeFault, StaysArmed, MayBeHalting, Keeps, Enters, KeepsOn, EntersOn, IsFaultOn};
 ghost use Rattle.mig_base.specs.Tasks.{Task};
 
@@ -72,6 +72,7 @@ fn enter_idle<S: Store>(job: &Job, store: &mut S) -> Result<(), MoveFault>
     requires idle { is_armed (S.state store.old).reads ≡ false }
     ensures keeps { KeepsOn job.now (S.state store.old) (S.state store.new) }
     ensures enters { OnOk result (EntersOn job.now (S.state store.old) (S.state store.new) 0) }
+    ensures asked { OnOk result (AreAsked S.asked job.now) }
     ensures fault { IfErr result (IsFaultOn job.now (S.state store.old) (S.state store.new)) }
     ensures kind { IfErr result IsResumeFault }
 {
@@ -87,6 +88,7 @@ fn resume_idle<S: Store>(job: &Job, store: &mut S) -> Result<u32, MoveFault>
     requires idle { is_armed (S.state store.old).reads ≡ false }
     ensures keeps { KeepsOn job.now (S.state store.old) (S.state store.new) }
     ensures enters { IfOk result (EntersOn job.now (S.state store.old) (S.state store.new)) }
+    ensures asked { IfOk result (λ k. AreAsked S.asked job.now) }
     ensures compared { IfOk result (AreCompared S.compared job.now) }
     ensures fault { IfErr result (IsFaultOn job.now (S.state store.old) (S.state store.new)) }
     ensures kind { IfErr result IsResumeFault }
@@ -100,6 +102,7 @@ fn resume_idle<S: Store>(job: &Job, store: &mut S) -> Result<u32, MoveFault>
 // Erases again what the last marked round left, if there is one.
 fn erase_last<S: Store>(job: &Job, store: &mut S, k: u32) -> Result<(), StoreFailed>
     requires most { k ≤ length job.now.plan }
+    requires asked { AreAsked S.asked job.now }
     requires none { flights (S.state store.old) ≡ [] }
     requires compared { AreCompared S.compared job.now k }
     ensures erased { OnOk result (All (λ s. AreZeros ((S.state store.new).reads (slot_of job.now.input s.from))) (round_at job.now.plan k)) }
@@ -120,6 +123,7 @@ fn enter_running<S: Store>(job: &Job, store: &mut S) -> Result<u32, StoreFailed>
     ensures keeps { KeepsOn job.now (S.state store.old) (S.state store.new) }
     ensures enters { IfOk result (EntersOn job.now (S.state store.old) (S.state store.new)) }
     ensures armed { is_armed (S.state store.old).reads ≡ true → LeavesOnly (λ image. is_armed image ≡ true) (S.state store.old) (S.state store.new) }
+    ensures asked { IfOk result (λ k. AreAsked S.asked job.now) }
     ensures compared { IfOk result (AreCompared S.compared job.now) }
     ensures cause { HasCause (S.state store.old) (S.state store.new) result }
 {
@@ -139,6 +143,7 @@ fn resume_running<S: Store>(job: &Job, store: &mut S, kept: &[u8; 32]) -> Result
     ensures enters { IfOk result (EntersOn job.now (S.state store.old) (S.state store.new)) }
     ensures armed { is_armed (S.state store.old).reads ≡ true → LeavesOnly (λ image. is_armed image ≡ true) (S.state store.old) (S.state store.new) }
     ensures ours { IfOk result (λ k. kept.now ≡ job.now.digest) }
+    ensures asked { IfOk result (λ k. AreAsked S.asked job.now) }
     ensures compared { IfOk result (AreCompared S.compared job.now) }
     ensures fault { IfErr result (IsFaultOn job.now (S.state store.old) (S.state store.new)) }
     ensures kind { IfErr result IsResumeFault }
@@ -152,6 +157,8 @@ pub fn enter_start<S: Store>(job: &Job, store: &mut S) -> Result<(), MoveFault>
     ensures keeps { Keeps job.now (S.state store.old) (S.state store.new) }
     ensures enters { OnOk result (Enters job.now (S.state store.old) (S.state store.new) 0) }
     ensures idle { OnOk result (AreFlights (flights (S.state store.old)) → IsSome ((S.state store.old).reads Gate) → is_armed (S.state store.old).reads ≡ false) }
+    // Each slot that the plan names was asked for.
+    ensures asked { OnOk result (AreAsked S.asked job.now) }
     // Each copy that was in flight ends, and no event comes besides.
     ensures ended { OnOk result (Adds (IsRun (flights (S.state store.old)) []) (S.state store.old) (S.state store.new)) }
     ensures part { Adds (BeginsRun (flights (S.state store.old)) []) (S.state store.old) (S.state store.new) }
@@ -171,6 +178,8 @@ pub fn enter_resume<S: Store>(job: &Job, store: &mut S) -> Result<u32, MoveFault
     ensures keeps { Keeps job.now (S.state store.old) (S.state store.new) }
     ensures enters { IfOk result (Enters job.now (S.state store.old) (S.state store.new)) }
     ensures ours { IfOk result (λ k. AreFlights (flights (S.state store.old)) → IsSome ((S.state store.old).reads Gate) → is_armed (S.state store.old).reads ≡ true → IfSome ((S.state store.old).reads Head) (λ kept. kept ≡ job.now.digest)) }
+    // Each slot that the plan names was asked for.
+    ensures asked { IfOk result (λ k. AreAsked S.asked job.now) }
     // What the last marked round left was compared with its copies.
     ensures compared { IfOk result (AreCompared S.compared job.now) }
     // Each copy that was in flight ends, and no event comes besides.

@@ -6,7 +6,7 @@ ghost use Rattle.mig_base.specs.Cells.{is_slot};
 ghost use Rattle.mig_base.specs.Stores.{State, flights, ChangesOnly, HasCause};
 ghost use Rattle.mig_base.specs.RoundStates.{IsSourceSlot};
 ghost use Rattle.mig_base.specs.Tasks.{Task};
-ghost use Rattle.mig_mover.specs.Erasures.{AreZeros};
+ghost use Rattle.mig_mover.specs.Erasures.{AreAsked, AreZeros};
 
 use mig_base::Cell;
 use mig_jobs::Job;
@@ -22,9 +22,10 @@ fn zero_slot() -> &'static [u8; 4096]
     &ERASED
 }
 
-/// Erases a slot.
+/// Erases a slot, which was asked for.
 pub fn erase<S: Store>(store: &mut S, slot: &Cell) -> Result<(), StoreFailed>
     requires slot { IsTrue (is_slot slot.now) }
+    requires asked { S.asked slot.now }
     requires none { flights (S.state store.old) ≡ [] }
     ensures erased { OnOk result (AreZeros ((S.state store.new).reads slot.now)) }
     ensures change { ChangesOnly (λ c. c ≡ slot.now) (S.state store.old) (S.state store.new) }
@@ -37,6 +38,7 @@ pub fn erase<S: Store>(store: &mut S, slot: &Cell) -> Result<(), StoreFailed>
 pub fn erase_sources<S: Store>(job: &Job, store: &mut S, round: u32) -> Result<(), StoreFailed>
     requires from { 1 ≤ round }
     requires to { round ≤ length job.now.plan }
+    requires asked { AreAsked S.asked job.now }
     requires none { flights (S.state store.old) ≡ [] }
     ensures erased { OnOk result (All (λ s. AreZeros ((S.state store.new).reads (slot_of job.now.input s.from))) (round_at job.now.plan round)) }
     ensures change { ChangesOnly (IsSourceSlot job.now.input job.now.plan round) (S.state store.old) (S.state store.new) }

@@ -1,13 +1,16 @@
 //! What a store is asked before anything is written that rests on it.
-ghost use Rattle.std.specs.Prelude.{◌≡◌, ◌<◌, ◌≤◌, [], Some, IfSome, OnOk, length, slice_get};
+ghost use Rattle.std.specs.Prelude.{◌≡◌, ◌<◌, ◌≤◌, ℕ, [], Some, IfSome, OnOk, length, slice_get};
 ghost use Rattle.std.specs.Option.{option_map};
 ghost use Rattle.mig_base.specs.Images.{NoCell};
+ghost use Rattle.mig_base.specs.JobCells.{IsFreeSlot};
+ghost use Rattle.mig_base.specs.declared.cells.Cell.{Cell};
 ghost use Rattle.mig_base.specs.Layouts.{At, round_at};
 ghost use Rattle.mig_base.specs.Slots.{slot_of};
 ghost use Rattle.mig_base.specs.Stores.{State, flights, ChangesOnly, HasCause};
 ghost use Rattle.mig_base.specs.RoundEvents.{flights_of};
 ghost use Rattle.mig_base.specs.Tasks.{Task, IsTask};
-ghost use Rattle.mig_mover.specs.Erasures.{AreCompared};
+ghost use Rattle.mig_jobs.specs.Vacancies.{IsVacant};
+ghost use Rattle.mig_mover.specs.Erasures.{AreAsked, AreCompared, IsItemAsked};
 
 use mig_base::{Cell, ItemId};
 use mig_jobs::{Job, Vacancy, spot_cell};
@@ -24,6 +27,7 @@ fn expect_item<S: Store>(
     requires item { item.0 < length job.now.input.items }
     requires there { option_map (slot_of job.now.input) (At job.now.input job.now.plan found item.0) ≡ Some cell.now }
     requires none { flights (S.state store.old) ≡ [] }
+    ensures asked { OnOk result (S.asked cell.now) }
     ensures change { ChangesOnly NoCell (S.state store.old) (S.state store.new) }
     ensures cause { HasCause (S.state store.old) (S.state store.new) result }
 {
@@ -40,6 +44,7 @@ fn expect_moved<S: Store>(
     requires most { found ≤ length job.now.plan }
     requires item { item.0 < length job.now.input.items }
     requires none { flights (S.state store.old) ≡ [] }
+    ensures asked { OnOk result (IsItemAsked S.asked job.now found item.0) }
     ensures change { ChangesOnly NoCell (S.state store.old) (S.state store.new) }
     ensures cause { HasCause (S.state store.old) (S.state store.new) result }
 {
@@ -58,6 +63,7 @@ fn expect_vacant<S: Store>(
 ) -> Result<(), StoreFailed>
     requires disk { v.now.spot.disk.0 < length job.now.input.disks }
     requires none { flights (S.state store.old) ≡ [] }
+    ensures asked { OnOk result (IsVacant v.now found → S.asked (slot_of job.now.input v.now.spot)) }
     ensures change { ChangesOnly NoCell (S.state store.old) (S.state store.new) }
     ensures cause { HasCause (S.state store.old) (S.state store.new) result }
 {
@@ -71,6 +77,7 @@ fn expect_vacant<S: Store>(
 fn expect_shifted<S: Store>(job: &Job, store: &mut S, found: u32) -> Result<(), StoreFailed>
     requires most { found ≤ length job.now.plan }
     requires none { flights (S.state store.old) ≡ [] }
+    ensures asked { OnOk result ((item : ℕ) → item < length job.now.input.items → IsItemAsked S.asked job.now found item) }
     ensures change { ChangesOnly NoCell (S.state store.old) (S.state store.new) }
     ensures cause { HasCause (S.state store.old) (S.state store.new) result }
 {
@@ -85,6 +92,7 @@ fn expect_shifted<S: Store>(job: &Job, store: &mut S, found: u32) -> Result<(), 
 fn expect_free<S: Store>(job: &Job, store: &mut S, found: u32) -> Result<(), StoreFailed>
     requires most { found ≤ length job.now.plan }
     requires none { flights (S.state store.old) ≡ [] }
+    ensures asked { OnOk result ((cell : Cell) → IsFreeSlot job.now.input job.now.plan found cell → S.asked cell) }
     ensures change { ChangesOnly NoCell (S.state store.old) (S.state store.new) }
     ensures cause { HasCause (S.state store.old) (S.state store.new) result }
 {
@@ -135,10 +143,12 @@ fn expect_copies<S: Store>(job: &Job, store: &mut S, found: u32) -> Result<(), S
 pub(crate) fn expect_all<S: Store>(job: &Job, store: &mut S, found: u32) -> Result<(), StoreFailed>
     requires most { found ≤ length job.now.plan }
     requires none { flights (S.state store.old) ≡ [] }
+    ensures asked { OnOk result (AreAsked S.asked job.now) }
     ensures compared { OnOk result (AreCompared S.compared job.now found) }
     ensures change { ChangesOnly NoCell (S.state store.old) (S.state store.new) }
     ensures cause { HasCause (S.state store.old) (S.state store.new) result }
 {
+    job.keeps_rules();
     expect_shifted(job, store, found)?;
     expect_free(job, store, found)?;
     expect_copies(job, store, found)

@@ -5,7 +5,7 @@ ghost use Rattle.mig_base.specs.Flights.{IsTargetOf};
 ghost use Rattle.mig_base.specs.Images.{NoCell};
 ghost use Rattle.mig_base.specs.Journals.{is_armed};
 ghost use Rattle.mig_base.specs.RoundEvents.{BeginsRun};
-ghost use Rattle.mig_base.specs.Slots.{item_cell, made_slot, IsListedCell, IsUnused};
+ghost use Rattle.mig_base.specs.Slots.{item_cell, made_slot, slot_of, IsListedCell, IsUnused};
 ghost use Rattle.mig_base.specs.Stores.{State, flights, Changes, ChangesOnly, HasCause, IsSettled};
 ghost use Rattle.mig_base.specs.Texts.{item_name};
 ghost use Rattle.mig_mover.specs.Fillings.{HasMade, IsFillable, IsFillFault, IsFillFaultOn, IsFirstTaken, IsSoundForAll, WasFillable};
@@ -18,11 +18,12 @@ use mig_jobs::{is_used, spot_cell};
 use mig_journal::Seen;
 use mig_store::{Store, StoreFailed};
 
-// The first spot where an item is listed and the slot is used.
+// The first spot where an item is listed and the slot is used; where there is none, the store was asked whether each may be written over.
 fn find_taken<S: Store>(input: &Input, store: &mut S) -> Result<Option<Spot>, StoreFailed>
     requires none { flights (S.state store.old) ≡ [] }
     ensures taken { IfOk result (λ found. IfSome found (IsFirstTaken input.now (S.state store.old).reads)) }
     ensures unused { IfOk result (λ found. IfNone found (All (IsUnused input.now (S.state store.old).reads) input.now.spots)) }
+    ensures asked { IfOk result (λ found. IfNone found (All (λ spot. S.asked (slot_of input.now spot)) input.now.spots)) }
     ensures change { ChangesOnly NoCell (S.state store.old) (S.state store.new) }
     ensures cause { HasCause (S.state store.old) (S.state store.new) result }
 {
@@ -32,13 +33,15 @@ fn find_taken<S: Store>(input: &Input, store: &mut S) -> Result<Option<Spot>, St
         if is_used(input, store, *spot, &mut slot)? {
             return Ok(Some(*spot));
         }
+        store.expects_free(&spot_cell(input, *spot))?;
     }
     Ok(None)
 }
 
-/// Writes the slot that is made for an item to where the item is listed.
+/// Writes the slot that is made for an item to where the item is listed, which was asked for.
 pub fn put_item<S: Store>(input: &Input, store: &mut S, item: usize) -> Result<(), StoreFailed>
     requires item { item < length input.now.items }
+    requires asked { S.asked (item_cell input.now item) }
     requires none { flights (S.state store.old) ≡ [] }
     ensures made { OnOk result (IfSome ((S.state store.new).reads (item_cell input.now item)) (λ slot. slot ≡ made_slot (item_name input.now item))) }
     ensures change { ChangesOnly (λ cell. cell ≡ item_cell input.now item) (S.state store.old) (S.state store.new) }
@@ -53,6 +56,7 @@ pub fn put_item<S: Store>(input: &Input, store: &mut S, item: usize) -> Result<(
 
 // Writes the slots that are made for the items to where the items are listed.
 fn put_items<S: Store>(input: &Input, store: &mut S) -> Result<(), StoreFailed>
+    requires asked { All (λ spot. S.asked (slot_of input.now spot)) input.now.spots }
     requires none { flights (S.state store.old) ≡ [] }
     ensures made { OnOk result (HasMade input.now (S.state store.new).reads) }
     ensures change { ChangesOnly (IsListedCell input.now) (S.state store.old) (S.state store.new) }

@@ -5,7 +5,7 @@ ghost use Rattle.mig_base.specs.FaultCounts.{Rose};
 ghost use Rattle.mig_base.specs.JobCells.{IsFreeSlot};
 ghost use Rattle.mig_base.specs.Slots.{slot_of};
 ghost use Rattle.mig_base.specs.Stores.{State, flights, ChangesOnly, IsSettled, HasCause};
-ghost use Rattle.mig_mover.specs.Erasures.{AreCompared, AreZeros};
+ghost use Rattle.mig_mover.specs.Erasures.{AreAsked, AreCompared, AreZeros};
 ghost use Rattle.mig_mover.specs.Halts.{AreErased, IsClosingCell, KeepsHaltSafe, EndsHalted};
 ghost use Rattle.mig_mover.specs.Stands.{IsAt};
 ghost use Rattle.mig_base.specs.Tasks.{Task, IsTask};
@@ -25,6 +25,7 @@ fn erase_vacant<S: Store>(
     found: u32,
 ) -> Result<(), StoreFailed>
     requires disk { v.now.spot.disk.0 < length job.now.input.disks }
+    requires asked { IsVacant v.now found → S.asked (slot_of job.now.input v.now.spot) }
     requires none { flights (S.state store.old) ≡ [] }
     ensures erased { OnOk result (IsVacant v.now found → AreZeros ((S.state store.new).reads (slot_of job.now.input v.now.spot))) }
     ensures change { ChangesOnly (λ c. IsVacant v.now found × (c ≡ slot_of job.now.input v.now.spot)) (S.state store.old) (S.state store.new) }
@@ -39,6 +40,7 @@ fn erase_vacant<S: Store>(
 // Erases the named slots that are free after this number of rounds.
 fn erase_free<S: Store>(job: &Job, store: &mut S, found: u32) -> Result<(), StoreFailed>
     requires most { found ≤ length job.now.plan }
+    requires asked { AreAsked S.asked job.now }
     requires none { flights (S.state store.old) ≡ [] }
     ensures erased { OnOk result (AreErased job.now found (S.state store.new).reads) }
     ensures change { ChangesOnly (IsFreeSlot job.now.input job.now.plan found) (S.state store.old) (S.state store.new) }
@@ -58,6 +60,7 @@ fn erase_free<S: Store>(job: &Job, store: &mut S, found: u32) -> Result<(), Stor
 pub fn halt<S: Store>(job: &Job, store: &mut S, found: u32) -> Result<(), MoveFault>
     requires most { found ≤ length job.now.plan }
     requires settled { IsSettled (S.state store.old) }
+    requires asked { AreAsked S.asked job.now }
     requires none { flights (S.state store.old) ≡ [] }
     requires at { IsAt job.now (S.state store.old).reads found }
     // What the last marked round left is erased: it was compared with its copies.

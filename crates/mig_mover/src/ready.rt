@@ -5,6 +5,7 @@ ghost use Rattle.mig_base.specs.Journals.{is_armed};
 ghost use Rattle.mig_base.specs.Readiness.{shifts_of, IsShifted, CanTake, IsReady, IsFirstLost, IsFirstUsed};
 ghost use Rattle.mig_base.specs.Slots.{IsThere, IsLost};
 ghost use Rattle.mig_base.specs.Stores.{State, flights, ChangesOnly, HasCause};
+ghost use Rattle.mig_mover.specs.Erasures.{AreAsked};
 ghost use Rattle.mig_mover.specs.Moves.{IsFaultOn, IsResumeFault};
 ghost use Rattle.mig_base.specs.Tasks.{Task};
 
@@ -73,6 +74,7 @@ pub(crate) fn check_ready<S: Store>(job: &Job, store: &mut S) -> Result<(), Move
     requires idle { is_armed (S.state store.old).reads ≡ false }
     requires none { flights (S.state store.old) ≡ [] }
     ensures ready { OnOk result (IsReady job.now.input job.now.plan (S.state store.old).reads) }
+    ensures asked { OnOk result (AreAsked S.asked job.now) }
     ensures change { ChangesOnly NoCell (S.state store.old) (S.state store.new) }
     ensures fault { IfErr result (IsFaultOn job.now (S.state store.old) (S.state store.new)) }
     ensures kind { IfErr result IsResumeFault }

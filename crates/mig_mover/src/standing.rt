@@ -8,7 +8,7 @@ ghost use Rattle.mig_base.specs.Images.{NoCell};
 ghost use Rattle.mig_base.specs.Journals.{is_armed, is_marked};
 ghost use Rattle.mig_base.specs.JobCells.{IsMark, Tells};
 ghost use Rattle.mig_base.specs.Stores.{State, flights, ChangesOnly};
-ghost use Rattle.mig_mover.specs.Erasures.{AreCompared};
+ghost use Rattle.mig_mover.specs.Erasures.{AreAsked, AreCompared};
 ghost use Rattle.mig_mover.specs.Moves.{Lands};
 ghost use Rattle.mig_mover.specs.Stands.{IsOtherFault, Stands, IsStandFault};
 ghost use Rattle.mig_base.specs.Tasks.{Task};
@@ -25,6 +25,7 @@ fn stand_running<S: Store>(job: &Job, store: &mut S, kept: &[u8; 32]) -> Result<
     requires none { flights (S.state store.old) ≡ [] }
     ensures ours { IfOk result (λ k. kept.now ≡ job.now.digest) }
     ensures most { IfOk result (λ k. k ≤ length job.now.plan) }
+    ensures asked { IfOk result (λ k. AreAsked S.asked job.now) }
     ensures compared { IfOk result (AreCompared S.compared job.now) }
     ensures count { IfOk result (λ k. Tells (IsMark (length job.now.plan)) (S.state store.old).reads → k ≡ prefix_len (is_marked (S.state store.old).reads) (range_with_len 1 (length job.now.plan))) }
     ensures change { ChangesOnly NoCell (S.state store.old) (S.state store.new) }
@@ -44,6 +45,7 @@ fn stand_running<S: Store>(job: &Job, store: &mut S, kept: &[u8; 32]) -> Result<
 /// and the head has another digest.
 pub fn stand<S: Store>(job: &Job, store: &mut S) -> Result<u32, MoveFault>
     ensures stands { IfOk result (Stands job.now (S.state store.old) (S.state store.new)) }
+    ensures asked { IfOk result (λ k. AreAsked S.asked job.now) }
     ensures compared { IfOk result (AreCompared S.compared job.now) }
     ensures lands { Lands (S.state store.old) (S.state store.new) }
     ensures fault { IfErr result (IsStandFault job.now (S.state store.old) (S.state store.new)) }

@@ -186,6 +186,8 @@ impl MemStore {
 impl Store for MemStore {
     ghost state = { state_of };
 
+    ghost asked = { λ slot. ⊤ };
+
     ghost compared = { λ from to. ⊤ };
 
     ghost is_state = { mem_is_state };

@@ -20,6 +20,10 @@ pub trait Store {
     /// What the store tells of itself.
     ghost state: { Self → State };
 
+    /// What Ok of `expects` and `expects_free` says of a slot, which must be known of it before it is written over or emptied.
+    /// Who serves any store knows it of no slot that it didn't ask for.
+    ghost asked: { Cell → Type 0 };
+
     /// What Ok of `expects_copy` says of two slots. Who serves any store knows it of no slots that it didn't ask for.
     ghost compared: { Cell → Cell → Type 0 };
 
@@ -33,12 +37,14 @@ pub trait Store {
     /// Asks whether a slot holds the item of this name, before anything is written, or told of it, that rests on it. A store whose slots may be another's fails where this one doesn't; any other store may answer Ok unseen.
     fn expects(&mut self, slot: &Cell, name: &Name) -> Result<(), StoreFailed>
         requires slot { IsTrue (is_slot slot.now) }
+        ensures asked { OnOk result (asked slot.now) }
         ensures change { Looks (state self.old) (state self.new) }
         ensures cause { HasCause (state self.old) (state self.new) result };
 
     /// Asks whether a slot may be emptied or written over. A store whose slots may be another's fails where this one holds an item that wasn't expected at another slot; any other store may answer Ok unseen.
     fn expects_free(&mut self, slot: &Cell) -> Result<(), StoreFailed>
         requires slot { IsTrue (is_slot slot.now) }
+        ensures asked { OnOk result (asked slot.now) }
         ensures change { Looks (state self.old) (state self.new) }
         ensures cause { HasCause (state self.old) (state self.new) result };
 
@@ -52,6 +58,7 @@ pub trait Store {
     /// Writes a cell. Until a sync succeeds a crash may leave any bytes in the cell, also where the write failed.
     fn write(&mut self, cell: &Cell, bytes: &[u8]) -> Result<(), StoreFailed>
         requires length { length bytes.now ≡ cell_len cell.now }
+        requires asked { IsTrue (is_slot cell.now) → asked cell.now }
         requires not_target { ¬ IsTargetOf (flights (state self.old)) cell.now }
         requires not_source { ¬ IsSourceOf (flights (state self.old)) cell.now }
         ensures written { OnOk result (IfSome ((state self.new).reads cell.now) (λ told. told ≡ bytes.now)) }
@@ -63,6 +70,7 @@ pub trait Store {
     fn begin(&mut self, from: &Cell, to: &Cell) -> Result<(), StoreFailed>
         requires slots { IsTrue (is_slot from.now) × IsTrue (is_slot to.now) }
         requires apart { from.now ≢ to.now }
+        requires asked { asked to.now }
         requires from_still { ¬ IsTargetOf (flights (state self.old)) from.now }
         requires not_target { ¬ IsTargetOf (flights (state self.old)) to.now }
         requires not_source { ¬ IsSourceOf (flights (state self.old)) to.now }

@@ -59,6 +59,8 @@ impl SureStore {
 impl Store for SureStore {
     ghost state = { sure_state };
 
+    ghost asked = { λ slot. ⊤ };
+
     ghost compared = { λ from to. ⊤ };
 
     ghost is_state = { sure_is_state };

@@ -24,6 +24,8 @@ use mig_store::{Store, StoreFailed};
 impl<C: Calls> Store for FileStore<C> {
     ghost state = { λ s. cell_state (C.Calls.state s.calls) (troubles (C.Calls.state s.calls)) };
 
+    ghost asked = { λ slot. ⊤ };
+
     ghost compared = { λ from to. ⊤ };
 
     ghost is_state = { λ s. cell_is_state (C.Calls.state s.calls) (troubles (C.Calls.state s.calls)) (C.Calls.is_state s.calls) };

@@ -1,4 +1,4 @@
-use Rattle.mig_journal.proofs.Common.{AreUnmarked, Cell, IfSome, Image, IsMark, List, Mark, Option, SameBut, [], arith, cases_eq, flights, inl, inr, no_source, no_target, subst, sym, ℕ, ◌+◌, ◌<◌}
+use Rattle.mig_journal.proofs.Common.{AreUnmarked, Cell, IfSome, Image, IsMark, List, Mark, Option, SameBut, [], arith, cases_eq, false≢true, flights, inl, inr, no_source, no_target, subst, sym, ℕ, ◌+◌, ◌<◌}
 use Rattle.mig_journal.proofs.Common.{◌∷◌, ◌≡◌, ◌≤◌, ◌⊎◌}
 use Rattle.mig_journal.proofs.Steps.{still_none, then_step}
 use Rattle.mig_journal.proofs.arming.clear_marks.Goals as goal
@@ -11,6 +11,9 @@ one_more : (old new : Image) (k : ℕ) → AreUnmarked k old → SameBut (λ d. 
 one_more old new k zeros others written n low high (inl last) = subst (λ (m : ℕ). IfSome (new (Mark m)) (λ bytes. bytes ≡ 0 ∷ [])) (sym last) written
 one_more old new k zeros others written n low high (inr before) =
     subst (λ (o : Option (List ℕ)). IfSome o (λ bytes. bytes ≡ 0 ∷ [])) (sym (others.same (Mark n) (λ e. before (let h : n ≡ k + 1 = cc in h)))) (zeros n low (omega arith))
+
+pub write-requires-clause-asked : goal.write-requires-clause-asked
+write-requires-clause-asked g c = λ slot. absurd (false≢true slot)
 
 pub write-requires-clause-not_target : goal.write-requires-clause-not_target
 write-requires-clause-not_target g c = no_target (flights (g.S.Store.state c.loop-n.store)) (Mark (c.loop-n.n + 1)) (still_none (IsMark c.args.rounds) (g.S.Store.state c.args.store.now) (g.S.Store.state c.loop-n.store) c.requires.none c.loop-n.invariant.change)

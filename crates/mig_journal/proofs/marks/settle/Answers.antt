@@ -1,6 +1,9 @@
-use Rattle.mig_journal.proofs.Common.{IfSome, Image, subst, ◌≡◌}
+use Rattle.mig_journal.proofs.Common.{IfSome, Image, false≢true, subst, sym, ◌∙◌, ◌≡◌}
 use Rattle.mig_journal.proofs.Steps.{on_ok_is, then_sync, still_none, sync_same}
 use Rattle.mig_journal.proofs.marks.settle.Goals as goal
+
+pub write-requires-clause-asked : goal.write-requires-clause-asked
+write-requires-clause-asked g c = λ slot. absurd (false≢true (sym c.requires.journal ∙ slot))
 
 pub returns-clause-written : goal.returns-clause-written
 returns-clause-written g c =

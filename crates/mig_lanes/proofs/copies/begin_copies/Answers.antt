@@ -2,6 +2,8 @@ use Rattle.mig_lanes.proofs.Common.{Changes, Flight, IsCopy, IsSourceOf, IsTarge
 use Rattle.mig_lanes.proofs.Common.{◌≡◌, ◌≢◌}
 use Rattle.mig_lanes.proofs.Beginning.{cells_apart, from_still, not_target, not_source, landed_more, change_more, change_failed}
 use Rattle.mig_lanes.proofs.RoundCopies.{are_flights, copy_within, copy_here}
+use Rattle.mig_jobs.proofs.JobRounds.{no_shift}
+use Rattle.mig_mover.proofs.EraseSteps.{to_named}
 use Rattle.mig_lanes.proofs.copies.begin_copies.Goals as goal
 
 pub begin-requires-clause-slots : goal.begin-requires-clause-slots
@@ -15,6 +17,11 @@ begin-requires-clause-apart g c =
     let f : Flight = record { from = c.copy-from.result.0; to = c.copy-from.result.1 } in
     subst (λ (h : Flight). h.from ≢ h.to) (sym (copy_here c.args.job.now c.args.round c.loop-place.place f c.copy-from.ensures))
     (cells_apart (copies_of c.args.job.now c.args.round) (are_flights c.args.job.now c.round_len-place-end.ensures.valid c.args.round c.requires.from c.requires.to) c.loop-place.place f (copy_within c.args.job.now c.args.round c.loop-place.place f c.copy-from.ensures))
+
+pub begin-requires-clause-asked : goal.begin-requires-clause-asked
+begin-requires-clause-asked g c =
+    let f : Flight = record { from = c.copy-from.result.0; to = c.copy-from.result.1 } in
+    c.requires.asked f.to (to_named c.args.job.now.input c.args.job.now.plan c.args.round c.loop-place.place (omega (arith, c.loop-place-test.true, c.round_len-place-end.ensures.count)) f no_shift c.copy-from.ensures)
 
 pub begin-requires-clause-from_still : goal.begin-requires-clause-from_still
 begin-requires-clause-from_still g c =

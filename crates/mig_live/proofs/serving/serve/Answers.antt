@@ -3,6 +3,7 @@ use Rattle.mig_live.proofs.Common.{Action, AreCutOff, AreMade, ArePut, IfErr, Li
 use Rattle.mig_live.specs.Replies.{AreMadeUpTo}
 use Rattle.mig_live.proofs.ReplyLaws.{extends_nothing, handed, no_order, served_more, served_stops, steps_one_more}
 use Rattle.mig_live.proofs.SessionLaws.{fault_leaves, more_steps}
+use Rattle.mig_mover.specs.Erasures.{AreAsked}
 use Rattle.mig_live.proofs.serving.serve.Goals as goal
 
 pub returns-in_err-after-clause-any_moment : goal.returns-in_err-after-clause-any_moment
@@ -80,3 +81,6 @@ pub returns-clause-made : goal.returns-clause-made
 returns-clause-made g c =
     subst (λ (orders : List Order). AreMade (take (all_steps orders) (actions_left c.args.live)) (g.S.Store.state c.args.store.now) (g.S.Store.state c.loop-order.store))
     (take_all c.loop-order.order-index c.args.orders.now (omega (arith, c.loop-order-test.false))) c.loop-order.invariant.made
+
+pub carry_out-requires-clause-asked : goal.carry_out-requires-clause-asked
+carry_out-requires-clause-asked g c = subst (AreAsked g.S.Store.asked) (sym c.loop-order.invariant.task) c.requires.asked

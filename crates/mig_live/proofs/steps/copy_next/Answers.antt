@@ -1,8 +1,10 @@
 use Rattle.mig_live.proofs.ActionLaws.{left_copy, makes}
-use Rattle.mig_live.proofs.Common.{Cell, Changes, Copy, Flight, IsCopy, [], actions_after, ap, arith, began, drop, ended, flight_of, is_slot, slot_of, subst, sym, take, ◌+◌, ◌∙◌, ◌∷◌, ◌≡◌}
+use Rattle.mig_live.proofs.Common.{Cell, Changes, Copy, Flight, IsCopy, [], actions_after, ap, arith, began, drop, ended, flight_of, is_slot, length, round_at, slot_of, subst, suc, sym, take, ℕ, ◌+◌, ◌<◌, ◌∙◌, ◌∷◌, ◌≡◌}
 use Rattle.mig_live.proofs.Middle.{copy_leaves, copy_more, copy_apart}
 use Rattle.mig_live.proofs.Places.{shift_next}
 use Rattle.mig_live.proofs.StepLaws.{on_ok_both}
+use Rattle.mig_jobs.proofs.JobRounds.{no_shift}
+use Rattle.mig_mover.proofs.EraseSteps.{to_named}
 use Rattle.mig_live.proofs.steps.copy_next.Goals as goal
 
 pub copy_slot-requires-clause-slots : goal.copy_slot-requires-clause-slots
@@ -16,6 +18,12 @@ copy_slot-requires-clause-apart g c =
     let f : Flight = record { from = c.copy-from.result.0; to = c.copy-from.result.1 } in
     let s = shift_next c.args.job.now.input c.args.job.now.plan c.args.k c.args.place f c.copy-from.ensures in
     λ same. copy_apart c.args.job.now.input c.keeps_rules.ensures.valid c.args.job.now.plan c.keeps_rules.ensures.runs c.args.k c.requires.more s.0 c.args.place s.1 (sym s.2 ∙ same ∙ s.3)
+
+pub copy_slot-requires-clause-asked : goal.copy_slot-requires-clause-asked
+copy_slot-requires-clause-asked g c =
+    let f : Flight = record { from = c.copy-from.result.0; to = c.copy-from.result.1 } in
+    let within = subst (λ (n : ℕ). c.args.place < length (round_at c.args.job.now.plan n)) (let e : suc c.args.k ≡ c.args.k + 1 = omega arith in e) c.requires.place in
+    c.requires.asked f.to (to_named c.args.job.now.input c.args.job.now.plan (c.args.k + 1) c.args.place within f no_shift c.copy-from.ensures)
 
 pub returns-clause-any_moment : goal.returns-clause-any_moment
 returns-clause-any_moment g c =

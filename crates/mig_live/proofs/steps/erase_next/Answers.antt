@@ -2,6 +2,8 @@ use Rattle.mig_live.proofs.ActionLaws.{left_erase, makes}
 use Rattle.mig_live.proofs.Common.{AreZeros, Cell, ChangesOnly, Erase, Flight, actions_since, ap, drop, flights_same, is_slot, on_ok_is, on_ok_weaker, round_at, subst, sym, ◌+◌, ◌∙◌, ◌∷◌, ◌≡◌}
 use Rattle.mig_live.proofs.Middle.{erase_leaves, erase_more}
 use Rattle.mig_live.proofs.Places.{shift_of}
+use Rattle.mig_jobs.proofs.JobRounds.{no_shift}
+use Rattle.mig_mover.proofs.EraseSteps.{from_named}
 use Rattle.mig_live.proofs.steps.erase_next.Goals as goal
 
 pub erase-requires-clause-slot : goal.erase-requires-clause-slot
@@ -9,6 +11,11 @@ erase-requires-clause-slot g c =
     let f : Flight = record { from = c.copy-from.result.0; to = c.copy-from.result.1 } in
     let s = shift_of c.args.job.now.input (round_at c.args.job.now.plan c.args.k) c.args.place f c.copy-from.ensures in
     ap is_slot s.2
+
+pub erase-requires-clause-asked : goal.erase-requires-clause-asked
+erase-requires-clause-asked g c =
+    let f : Flight = record { from = c.copy-from.result.0; to = c.copy-from.result.1 } in
+    c.requires.asked f.from (from_named c.args.job.now.input c.args.job.now.plan c.args.k c.args.place c.requires.place f no_shift c.copy-from.ensures)
 
 pub returns-clause-any_moment : goal.returns-clause-any_moment
 returns-clause-any_moment g c =

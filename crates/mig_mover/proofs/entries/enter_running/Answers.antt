@@ -28,6 +28,7 @@ returns g c =
           (omega (arith, c.marked.ensures.cause.later, c.expect_all.ensures.cause.later, c.erase_last.ensures.cause.later)) c.in_ok-k.k most count c.erase_last.ensures.change c.requires.none c.in_ok-erase_last.ensures.erased;
       armed = armed_erased c.args.job.now c.rounds.ensures.valid old asked (g.S.Store.state c.erase_last.new.store) (g.met.S.Store.is_state c.args.store.now) c.requires.settled c.requires.running (then_quiet NoCell old (g.S.Store.state c.marked.new.store) asked (look_quiet (g.S.Store.state c.args.store.now) (g.S.Store.state c.marked.new.store) c.requires.none c.marked.ensures.change) c.expect_all.ensures.change)
           (omega (arith, c.marked.ensures.cause.later, c.expect_all.ensures.cause.later, c.erase_last.ensures.cause.later)) c.in_ok-k.k most count c.erase_last.ensures.change;
+      asked = c.in_ok-expect_all.ensures.asked;
       compared = c.in_ok-expect_all.ensures.compared;
       cause = search rules;
     }

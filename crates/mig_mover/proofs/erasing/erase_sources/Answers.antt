@@ -1,5 +1,5 @@
 use Rattle.mig_mover.proofs.Common.{Flight, IsSourceSlot, arith, then_step, ◌≡◌}
-use Rattle.mig_mover.proofs.EraseSteps.{from_slot, from_source, erased_more}
+use Rattle.mig_mover.proofs.EraseSteps.{from_named, from_slot, from_source, erased_more}
 use Rattle.mig_jobs.proofs.JobRounds.{no_shift}
 use Rattle.mig_mover.proofs.erasing.erase_sources.Goals as goal
 
@@ -7,6 +7,11 @@ pub erase-requires-clause-slot : goal.erase-requires-clause-slot
 erase-requires-clause-slot g c =
     let f : Flight = record { from = c.copy-from.result.0; to = c.copy-from.result.1 } in
     from_slot c.args.job.now.input c.args.job.now.plan c.args.round c.loop-place.place (omega (arith, c.loop-place-test.true, c.round_len-place-end.ensures.count)) f no_shift c.copy-from.ensures
+
+pub erase-requires-clause-asked : goal.erase-requires-clause-asked
+erase-requires-clause-asked g c =
+    let f : Flight = record { from = c.copy-from.result.0; to = c.copy-from.result.1 } in
+    c.requires.asked f.from (from_named c.args.job.now.input c.args.job.now.plan c.args.round c.loop-place.place (omega (arith, c.loop-place-test.true, c.round_len-place-end.ensures.count)) f no_shift c.copy-from.ensures)
 
 pub returns-in_err-erase-clause-change : goal.returns-in_err-erase-clause-change
 returns-in_err-erase-clause-change g c =

@@ -1,8 +1,13 @@
+use Rattle.mig_mover.proofs.Common.{All, Spot, slot_of}
+use Rattle.mig_mover.proofs.TargetLaws.{none_of}
 use Rattle.mig_mover.proofs.FillSteps.{found_none, found_listed, put_listed, synced_listed, synced_made, synced_idle, made_sound}
 use Rattle.mig_mover.proofs.filling.fill_idle.Goals as goal
 
 pub put_items-requires : goal.put_items-requires
-put_items-requires g c = record { none = found_none c.args.input.now (g.S.Store.state c.args.store.now) (g.S.Store.state c.find_taken.new.store) c.requires.none c.find_taken.ensures.change }
+put_items-requires g c = record {
+  asked = none_of {P = All (λ (spot : Spot). g.S.Store.asked (slot_of c.args.input.now spot)) c.args.input.now.spots} c.in_ok-spot.field-0 c.in_default.not-Some c.in_ok-spot.ensures.asked;
+  none = found_none c.args.input.now (g.S.Store.state c.args.store.now) (g.S.Store.state c.find_taken.new.store) c.requires.none c.find_taken.ensures.change;
+}
 
 pub returns-in_err-spot-clause-change : goal.returns-in_err-spot-clause-change
 returns-in_err-spot-clause-change g c = found_listed c.args.input.now (g.S.Store.state c.args.store.now) (g.S.Store.state c.find_taken.new.store) c.requires.none c.find_taken.ensures.change

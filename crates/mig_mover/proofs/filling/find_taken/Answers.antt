@@ -1,4 +1,4 @@
-use Rattle.mig_mover.proofs.Common.{Image, IsUnused, IsUsed, NoCell, arith, get_or, no_spot, quiet_same, still_none, subst, sym, then_quiet}
+use Rattle.mig_mover.proofs.Common.{All, Image, IsUnused, IsUsed, List, NoCell, Spot, ap, arith, get_or, is_slot, look_quiet, no_spot, quiet_same, slot_of, still_none, subst, sym, then_quiet}
 use Rattle.mig_mover.proofs.FillSteps.{first_taken, none_taken, spot_known}
 use Rattle.mig_mover.proofs.TargetLaws.{next_within, match_false, match_true}
 use Rattle.mig_mover.proofs.filling.find_taken.Goals as goal
@@ -11,6 +11,20 @@ is_used-requires-clause-disk g c = spot_known c.args.input.now c.keeps_rules.ens
 
 pub returns-in_err-is_used-clause-change : goal.returns-in_err-is_used-clause-change
 returns-in_err-is_used-clause-change g c = then_quiet NoCell (g.S.Store.state c.args.store.now) (g.S.Store.state c.loop-spot.store) (g.S.Store.state c.is_used.new.store) c.loop-spot.invariant.change c.is_used.ensures.change
+
+pub spot_cell-requires : goal.spot_cell-requires
+spot_cell-requires g c = spot_known c.args.input.now c.keeps_rules.ensures c.now-spot-items.result.now c.now-spot-items.ensures.value c.loop-spot.spot-index c.loop-spot-test.true
+
+pub expects_free-requires : goal.expects_free-requires
+expects_free-requires g c = record { slot = ap is_slot c.spot_cell.ensures }
+
+pub returns-in_err-expects_free-clause-change : goal.returns-in_err-expects_free-clause-change
+returns-in_err-expects_free-clause-change g c =
+    let old = g.S.Store.state c.args.store.now in
+    let mid = g.S.Store.state c.loop-spot.store in
+    let used = g.S.Store.state c.is_used.new.store in
+    let seek = then_quiet NoCell old mid used c.loop-spot.invariant.change c.is_used.ensures.change in
+    then_quiet NoCell old used (g.S.Store.state c.expects_free.new.self) seek (look_quiet used (g.S.Store.state c.expects_free.new.self) (still_none NoCell old used c.requires.none seek) c.expects_free.ensures.change)
 
 pub returns-then-branch-clause-taken : goal.returns-then-branch-clause-taken
 returns-then-branch-clause-taken g c =
@@ -28,14 +42,21 @@ pub loop-spot-preserved : goal.loop-spot-preserved
 loop-spot-preserved g c =
     let old = g.S.Store.state c.args.store.now in
     let mid = g.S.Store.state c.loop-spot.store in
+    let used = g.S.Store.state c.is_used.new.store in
     let spot = get_or c.now-spot-items.result.now c.loop-spot.spot-index no_spot in
     record {
-      unused = next_within (IsUnused c.args.input.now old.reads) c.now-spot-items.result.now c.loop-spot.spot-index c.loop-spot-test.true c.loop-spot.invariant.unused
+      unused = next_within (IsUnused c.args.input.now old.reads) c.now-spot-items.result.now c.loop-spot.spot-index no_spot c.loop-spot-test.true c.loop-spot.invariant.unused
           (subst (λ (image : Image). IsUnused c.args.input.now image spot) (sym (quiet_same old mid c.loop-spot.invariant.change))
           (match_false c.in_ok-is_used.field-0 (IsUsed c.args.input.now mid.reads spot) (IsUnused c.args.input.now mid.reads spot) c.if-branch.false c.in_ok-is_used.ensures.answer));
-      change = then_quiet NoCell old mid (g.S.Store.state c.is_used.new.store) c.loop-spot.invariant.change c.is_used.ensures.change;
-      later = omega (arith, c.loop-spot.invariant.later, c.is_used.ensures.cause.later);
+      asked = next_within (λ (p : Spot). g.S.Store.asked (slot_of c.args.input.now p)) c.now-spot-items.result.now c.loop-spot.spot-index no_spot c.loop-spot-test.true c.loop-spot.invariant.asked
+          (subst g.S.Store.asked c.spot_cell.ensures c.in_ok-expects_free.ensures.asked);
+      change = then_quiet NoCell old used (g.S.Store.state c.expects_free.new.self) (then_quiet NoCell old mid used c.loop-spot.invariant.change c.is_used.ensures.change)
+          (look_quiet used (g.S.Store.state c.expects_free.new.self) (still_none NoCell old used c.requires.none (then_quiet NoCell old mid used c.loop-spot.invariant.change c.is_used.ensures.change)) c.expects_free.ensures.change);
+      later = omega (arith, c.loop-spot.invariant.later, c.is_used.ensures.cause.later, c.expects_free.ensures.cause.later);
     }
 
 pub returns-clause-unused : goal.returns-clause-unused
 returns-clause-unused g c = none_taken c.args.input.now (g.S.Store.state c.args.store.now).reads c.now-spot-items.result.now c.now-spot-items.ensures.value c.loop-spot.spot-index c.loop-spot-test.false c.loop-spot.invariant.unused
+
+pub returns-clause-asked : goal.returns-clause-asked
+returns-clause-asked g c = subst (λ (l : List Spot). All (λ spot. g.S.Store.asked (slot_of c.args.input.now spot)) l) c.now-spot-items.ensures.value (λ k d lt. c.loop-spot.invariant.asked k d (omega arith) (omega (arith, lt, c.loop-spot-test.false)))

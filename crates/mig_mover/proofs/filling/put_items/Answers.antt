@@ -1,9 +1,13 @@
-use Rattle.mig_mover.proofs.Common.{IsListedCell, List, arith, item_cell, length, still_none, subst, then_step, ℕ, ◌<◌, ◌≡◌}
+use Rattle.mig_mover.proofs.Common.{IsListedCell, List, arith, item_cell, length, no_spot, still_none, subst, sym, then_step, ℕ, ◌<◌, ◌≡◌}
 use Rattle.mig_mover.proofs.FillSteps.{listed_cell, made_more}
 use Rattle.mig_mover.proofs.filling.put_items.Goals as goal
 
 pub put_item-requires-clause-none : goal.put_item-requires-clause-none
 put_item-requires-clause-none g c = still_none (IsListedCell c.args.input.now) (g.S.Store.state c.args.store.now) (g.S.Store.state c.loop-item.store) c.requires.none c.loop-item.invariant.change
+
+pub put_item-requires-clause-asked : goal.put_item-requires-clause-asked
+put_item-requires-clause-asked g c = c.requires.asked c.loop-item.item no_spot
+    (subst (λ (n : ℕ). c.loop-item.item < n) (sym c.keeps_rules.ensures.spots_len) (subst (λ (l : List (List ℕ)). c.loop-item.item < length l) c.items-item-end.ensures.value c.loop-item-test.true))
 
 pub returns-in_err-put_item-clause-change : goal.returns-in_err-put_item-clause-change
 returns-in_err-put_item-clause-change g c = then_step (IsListedCell c.args.input.now) (g.S.Store.state c.args.store.now) (g.S.Store.state c.loop-item.store) (λ cell. cell ≡ item_cell c.args.input.now c.loop-item.item) (g.S.Store.state c.put_item.new.store)

@@ -1,9 +1,12 @@
 use Rattle.mig_mover.proofs.Common.{IsFreeSlot, IsVacant, arith, slot_of, then_step, ◌≡◌}
-use Rattle.mig_mover.proofs.HaltSteps.{no_vacancy, the_vacancy, vacancy_disk, vacancy_free, erased_more, all_erased}
+use Rattle.mig_mover.proofs.HaltSteps.{no_vacancy, the_vacancy, vacancy_asked, vacancy_disk, vacancy_free, erased_more, all_erased}
 use Rattle.mig_mover.proofs.halting.erase_free.Goals as goal
 
 pub erase_vacant-requires-clause-disk : goal.erase_vacant-requires-clause-disk
 erase_vacant-requires-clause-disk g c = vacancy_disk c.args.job.now c.vacancies-v-items.ensures.valid c.args.found c.requires.most c.vacancies-v-items.result.now c.vacancies-v-items.ensures.vacancies c.loop-v.v-index c.loop-v-test.true no_vacancy
+
+pub erase_vacant-requires-clause-asked : goal.erase_vacant-requires-clause-asked
+erase_vacant-requires-clause-asked g c = λ vacant. vacancy_asked c.args.job.now c.vacancies-v-items.ensures.valid c.args.found c.requires.most c.vacancies-v-items.result.now c.vacancies-v-items.ensures.vacancies c.loop-v.v-index c.loop-v-test.true no_vacancy g.S.Store.asked c.requires.asked
 
 pub returns-in_err-erase_vacant-clause-change : goal.returns-in_err-erase_vacant-clause-change
 returns-in_err-erase_vacant-clause-change g c =

@@ -27,7 +27,7 @@ loop-spot-preserved g c =
     let mid = g.S.Store.state c.loop-spot.store in
     let spot = get_or c.targets-spot-items.result.now c.loop-spot.spot-index no_spot in
     record {
-      unused = next_within (IsUnused c.args.job.now.input old.reads) c.targets-spot-items.result.now c.loop-spot.spot-index c.loop-spot-test.true c.loop-spot.invariant.unused
+      unused = next_within (IsUnused c.args.job.now.input old.reads) c.targets-spot-items.result.now c.loop-spot.spot-index no_spot c.loop-spot-test.true c.loop-spot.invariant.unused
           (subst (λ (i : Lists). IsUnused i old.reads spot) c.input.ensures.value (subst (λ (image : Image). IsUnused c.input.result.now image spot) (sym (quiet_same old mid c.loop-spot.invariant.change))
           (match_false c.in_ok-is_used.field-0 (IsUsed c.input.result.now mid.reads spot) (IsUnused c.input.result.now mid.reads spot) c.if-branch.false c.in_ok-is_used.ensures.answer)));
       change = then_quiet NoCell old mid (g.S.Store.state c.is_used.new.store) c.loop-spot.invariant.change c.is_used.ensures.change;

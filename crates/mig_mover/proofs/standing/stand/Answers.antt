@@ -20,6 +20,7 @@ returns-in-Running g c =
     c.stand_running.ensures.fault in
     record {
       stands = stands;
+      asked = c.stand_running.ensures.asked;
       compared = c.stand_running.ensures.compared;
       lands = settles_land old new (settles_quiet old mid c.in_ok-settle_and_look.ensures.settles new c.stand_running.ensures.change);
       fault = fault;

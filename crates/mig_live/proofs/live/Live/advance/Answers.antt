@@ -2,6 +2,7 @@ use Rattle.mig_live.proofs.ActionLaws.{made_more, made_none, part_after, taken_a
 use Rattle.mig_live.proofs.Common.{Action, AreMade, AreMadeInPart, Err, IsMade, List, Ok, Result, Session, State, [], actions_left, arith, cases_lt, drop, inl, inr, refl, subst, sym, take, ℕ, ◌+◌, ◌∙◌, ◌∷◌, ◌≡◌, ◌≤◌, ◌⊎◌}
 use Rattle.std.specs.Prelude.{OnErr, min}
 use Rattle.mig_live.proofs.SessionLaws.{more_steps, none_left}
+use Rattle.mig_mover.specs.Erasures.{AreAsked}
 use Rattle.mig_live.proofs.live.Live.advance.Goals as goal
 
 -- one step more is made
@@ -21,7 +22,7 @@ loop-init g c = record {
   made = made_none (g.S.Store.state c.args.store.now);
   any_moment = λ asked contents at. record { later = omega arith; since = λ t image le left. inl left };
   in_step = λ asked contents at. at;
-  landed = c.requires;
+  landed = c.requires.none;
   later = omega arith;
 }
 
@@ -72,3 +73,6 @@ returns-clause-made g c =
     (taken_all c.loop.counter c.args.count (actions_left c.args.self) (omega (arith, c.loop.auto.counter-end, c.min-end.ensures))
     (all_made c.loop.counter c.args.count c.args.self c.loop.live (omega (arith, c.loop.auto.counter-end, c.min-end.ensures, c.left.ensures)) (omega (arith, c.loop-test.false, c.min-end.ensures, c.left.ensures))
     c.loop.invariant.left c.loop.invariant.rest)).0 c.loop.invariant.made
+
+pub step-requires-clause-asked : goal.step-requires-clause-asked
+step-requires-clause-asked g c = subst (AreAsked g.S.Store.asked) (sym c.loop.invariant.task) c.requires.asked

@@ -1,6 +1,7 @@
-use Rattle.mig_live.proofs.Common.{actions_since, arith, drop, refl, steps_in, suc, sym, ◌+◌, ◌-◌, ◌∙◌}
+use Rattle.mig_live.proofs.Common.{Session, actions_since, arith, drop, refl, steps_in, subst, suc, sym, ◌+◌, ◌-◌, ◌∙◌}
 use Rattle.mig_live.proofs.StepCounts.{shifts_few}
 use Rattle.mig_live.proofs.SessionLaws.{made_here, part_here, any_step, within_step, mark_step, at_mark, round_left, some_left, kept_mark}
+use Rattle.mig_mover.specs.Erasures.{AreAsked}
 use Rattle.mig_live.proofs.live.Live.step.Goals as goal
 
 pub returns-in_err-mark_next-clause-any_moment : goal.returns-in_err-mark_next-clause-any_moment
@@ -89,3 +90,6 @@ returns-clause-made g c =
     let some = some_left i.job.now i.marked i.left i.done c.self.invariant.1 c.args.self (sym c.self.view_is) c.requires.left in
     made_here i.job.now i.marked i.left i.done c.self.invariant.1 c.args.self (sym c.self.view_is) i.done refl (g.S.Store.state c.args.store.now) (g.S.Store.state c.step_within.new.store)
     (drop (i.done + 1) (actions_since i.job.now i.marked)) i.marked (i.left - 1) (i.done + 1) (omega (arith, some, c.self.invariant.1)) refl c.in_ok-step_within.ensures.first.made
+
+pub step_within-requires-clause-asked : goal.step_within-requires-clause-asked
+step_within-requires-clause-asked g c = subst (λ (live : Session). AreAsked g.S.Store.asked live.task) (sym c.self.view_is) c.requires.asked
