@@ -54,7 +54,7 @@ module _ {k : Call} {words : List (List ℕ)} {status : ℕ} (ends : EndsAs k wo
   of_this r are n h = (n, subst (λ (s : Scripted). GoesOn s.task old new n) (same r are) h)
 
   goes : (o : Outcome) → LiveLeaves k names script o → Goes
-  goes (Done text) h = of_this h.0 h.1 h.2.0 h.2.1.makes.goes
+  goes (Done text) h = of_this h.0 h.1 h.2.0 h.2.1.goes
   goes (SinkFault text) h = of_this h.0 h.1 h.2.0 h.2.1.makes.goes
   goes (StoreFault before) h = of_this h.0 h.1 h.2.0 h.2.1
   goes (Refusal refusal.NotStarted) h = (count_of (length read.task.plan) old.reads, untouched_goes h)
