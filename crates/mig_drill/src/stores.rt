@@ -12,8 +12,8 @@ ghost use Rattle.mig_drill.specs.Stores.{AreJobCells, IsClear, IsEndOf, IsFilled
 use crate::limits::MAX_DRILL_SHIFTS;
 use indexmap::IndexSet;
 use mig_base::{Cell, Input, Shift};
-use mig_fill::put_item;
 use mig_jobs::Job;
+use mig_mover::put_item;
 use mig_store::{MemStore, Pick, Store, StoreFailed};
 use std::alloc::{AllocError, Global};
 

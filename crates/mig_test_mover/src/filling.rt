@@ -4,8 +4,7 @@ ghost use Rattle.mig_store.specs.Memories.{aloft};
 
 use mig_base::{Cell, DiskId, Input, ItemId, Name};
 use mig_csv::read_layout;
-use mig_fill::{Sight, fill, sight};
-use mig_mover::MoveFault;
+use mig_mover::{MoveFault, Sight, fill, sight};
 use mig_store::{MemStore, Store, StoreFailed};
 use std::alloc::Global;
 use std::panic::Expect;

@@ -36,8 +36,6 @@ pub use Rattle.mig_best.specs.Certified.{IsCertified}
 pub use Rattle.mig_csv.specs.Listings.{IsListing, ListingRefusedAs}
 pub use Rattle.mig_drill.specs.Drills.{drill_text}
 pub use Rattle.mig_drill.specs.declared.limits.TheConstants.{MAX_DRILL_SHIFTS}
-pub use Rattle.mig_fill.specs.Fillings.{HasMade, IsFillRefusal, IsFillable}
-pub use Rattle.mig_fill.specs.declared.sights.Sight.{Sight}
 pub use Rattle.mig_io.specs.Files.{ChangedOnly, Files, FolderState, OthersStay, Saves, file}
 pub use Rattle.mig_io.specs.Held.{Extends, ExtendsInPart, SinkState}
 pub use Rattle.mig_lanes.specs.LaneSteps.{later_rounds}
@@ -47,10 +45,12 @@ pub use Rattle.mig_live.specs.Replies.{replies}
 pub use Rattle.mig_live.specs.Scripts.{ScriptText}
 pub use Rattle.mig_live.specs.Sessions.{marks_by, steps_after}
 pub use Rattle.mig_live.specs.declared.orders.Order.{Order}
+pub use Rattle.mig_mover.specs.Fillings.{HasMade, IsFillRefusal, IsFillable}
 pub use Rattle.mig_mover.specs.Halts.{IsClosingCell}
 pub use Rattle.mig_mover.specs.Moves.{IsReadyIdle, IsRefusal, Keeps, Lands, MayBeHalting, Settles, StaysArmed}
 pub use Rattle.mig_mover.specs.declared.faults.MoveFault.{MoveFault}
 pub use Rattle.mig_mover.specs.declared.faults.MoveFault.TheVariants.{NotStarted, OtherPlan, Started}
+pub use Rattle.mig_mover.specs.declared.sights.Sight.{Sight}
 pub use Rattle.mig_words.specs.Outcomes.{Done, Outcome, Refusal, SinkFault, StoreFault, Unlisted, code, fault_outcome, joined, text_of}
 pub use Rattle.mig_words.specs.Words.{After, Audit, Check, Drain, Drill, Fill, Form, Halt, IsListed, Live, Move, Names, Plan, PlanTight, Rehearse, Resume, TaskNames, roomy}
 pub use Rattle.mig_words.specs.declared.endings.Ending.{Ending}

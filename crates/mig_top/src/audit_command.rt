@@ -11,8 +11,8 @@ ghost use Rattle.mig_words.specs.Words.{Audit};
 
 use crate::layout_reads::{item_count, load_layout};
 use mig_base::{Input, ItemId};
-use mig_fill::{Sight, sight};
 use mig_io::{Folder, Sink, SinkFailed};
+use mig_mover::{Sight, sight};
 use mig_store::{Store, StoreFailed};
 use mig_words::Part::{Hex, Number, Text};
 use mig_words::{Ending, put_parts, show_parts};

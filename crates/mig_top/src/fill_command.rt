@@ -4,8 +4,8 @@ ghost use Rattle.mig_top.specs.Ends.{FormFinishes};
 ghost use Rattle.mig_words.specs.Words.{Fill};
 
 use crate::layout_reads::{item_count, load_layout};
-use mig_fill::fill;
 use mig_io::{Folder, Sink};
+use mig_mover::fill;
 use mig_store::Store;
 use mig_words::Part::{Number, Text};
 use mig_words::{Ending, fault_ending, show_parts};

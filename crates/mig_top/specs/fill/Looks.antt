@@ -1,7 +1,7 @@
 -- What `fill` finds in a store, and how that ends it.
 use Rattle.std.specs.Prelude.{List, [], codes, length, ℕ, ◌∷◌, ◌≡◌, ◌⊎◌}
 use Rattle.mig_top.specs.Common.{Cell, Gate, IsFillRefusal, IsListedCell, Lists, State, decimal, joined}
-use Rattle.mig_fill.specs.Fillings.{WasFillable}
+use Rattle.mig_mover.specs.Fillings.{WasFillable}
 use Rattle.mig_top.specs.Steps.{Step}
 use Rattle.mig_top.specs.Stores.{IsShown}
 

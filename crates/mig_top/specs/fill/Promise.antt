@@ -1,7 +1,7 @@
 -- What `fill` promises.
 use Rattle.std.specs.Prelude.{ℕ, ◌≡◌, ◌⊎◌}
 use Rattle.mig_top.specs.Common.{Lists}
-use Rattle.mig_fill.specs.Fillings.{WasFillable}
+use Rattle.mig_mover.specs.Fillings.{WasFillable}
 use Rattle.mig_top.specs.Calls.{Call, FolderFailed, SinkFailed, StoreFailed}
 use Rattle.mig_top.specs.Stores.{TellsStill}
 use Rattle.mig_top.specs.fill.Leaves.{IsFilled}

@@ -1,7 +1,7 @@
 -- A list that is filled with what stands in its front.
-use Rattle.mig_fill.proofs.Common.{List, [], add-mod_left, ap, append-nil, append_assoc, arith, cases_lt, drop, drop-append-add, drop-replicate, fill_by_all, get_or, inl, inr, length}
-use Rattle.mig_fill.proofs.Common.{length-map-range_with_len, map, map-range_with_len_more, min, mod-eq_of_lt, range_with_len, refl, replicate, suc, sym, take, take-append-le, take-append_seam}
-use Rattle.mig_fill.proofs.Common.{take-map-range_with_len, zero, ℕ, ◌%◌, ◌++◌, ◌+◌, ◌-◌, ◌<◌, ◌∙◌, ◌∷◌, ◌≡◌, ◌≤◌, ◌⊎◌}
+use Rattle.mig_mover.proofs.Common.{List, [], add-mod_left, ap, append-nil, append_assoc, arith, cases_lt, drop, drop-append-add, drop-replicate, fill_by_all, get_or, inl, inr, length}
+use Rattle.mig_mover.proofs.Common.{length-map-range_with_len, map, map-range_with_len_more, min, mod-eq_of_lt, range_with_len, refl, replicate, suc, sym, take, take-append-le, take-append_seam}
+use Rattle.mig_mover.proofs.Common.{take-map-range_with_len, zero, ℕ, ◌%◌, ◌++◌, ◌+◌, ◌-◌, ◌<◌, ◌∙◌, ◌∷◌, ◌≡◌, ◌≤◌, ◌⊎◌}
 
 module _ (byte : ℕ → ℕ) where
   -- the first n bytes

@@ -1,5 +1,5 @@
-use Rattle.mig_fill.proofs.Common.{AllWithin, ChangesOnly, IsUnused, NoCell, ◌≤◌}
-use Rattle.mig_fill.proofs.filling.find_taken.Given as goal
+use Rattle.mig_mover.proofs.Common.{AllWithin, ChangesOnly, IsUnused, NoCell, ◌≤◌}
+use Rattle.mig_mover.proofs.filling.find_taken.Given as goal
 
 abbrev pub invariant-loop-spot : goal.invariant-loop-spot
 invariant-loop-spot g l = record {

@@ -1,6 +1,6 @@
-use Rattle.mig_fill.proofs.Common.{IsListedCell, List, arith, item_cell, length, still_none, subst, then_step, ℕ, ◌<◌, ◌≡◌}
-use Rattle.mig_fill.proofs.FillSteps.{listed_cell, made_more}
-use Rattle.mig_fill.proofs.filling.put_items.Goals as goal
+use Rattle.mig_mover.proofs.Common.{IsListedCell, List, arith, item_cell, length, still_none, subst, then_step, ℕ, ◌<◌, ◌≡◌}
+use Rattle.mig_mover.proofs.FillSteps.{listed_cell, made_more}
+use Rattle.mig_mover.proofs.filling.put_items.Goals as goal
 
 pub put_item-requires-clause-none : goal.put_item-requires-clause-none
 put_item-requires-clause-none g c = still_none (IsListedCell c.args.input.now) (g.S.Store.state c.args.store.now) (g.S.Store.state c.loop-item.store) c.requires.none c.loop-item.invariant.change

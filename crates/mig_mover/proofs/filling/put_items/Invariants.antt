@@ -1,5 +1,5 @@
-use Rattle.mig_fill.proofs.Common.{ChangesOnly, IfSome, IsListedCell, item_cell, item_name, made_slot, ℕ, ◌<◌, ◌≡◌, ◌≤◌}
-use Rattle.mig_fill.proofs.filling.put_items.Given as goal
+use Rattle.mig_mover.proofs.Common.{ChangesOnly, IfSome, IsListedCell, item_cell, item_name, made_slot, ℕ, ◌<◌, ◌≡◌, ◌≤◌}
+use Rattle.mig_mover.proofs.filling.put_items.Given as goal
 
 abbrev pub invariant-loop-item : goal.invariant-loop-item
 invariant-loop-item g l = record {

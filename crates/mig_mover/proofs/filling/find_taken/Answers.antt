@@ -1,7 +1,7 @@
-use Rattle.mig_fill.proofs.Common.{Image, IsUnused, IsUsed, NoCell, arith, get_or, no_spot, quiet_same, still_none, subst, sym, then_quiet}
-use Rattle.mig_fill.proofs.FillSteps.{first_taken, none_taken, spot_known}
+use Rattle.mig_mover.proofs.Common.{Image, IsUnused, IsUsed, NoCell, arith, get_or, no_spot, quiet_same, still_none, subst, sym, then_quiet}
+use Rattle.mig_mover.proofs.FillSteps.{first_taken, none_taken, spot_known}
 use Rattle.mig_mover.proofs.TargetLaws.{next_within, match_false, match_true}
-use Rattle.mig_fill.proofs.filling.find_taken.Goals as goal
+use Rattle.mig_mover.proofs.filling.find_taken.Goals as goal
 
 pub is_used-requires-clause-none : goal.is_used-requires-clause-none
 is_used-requires-clause-none g c = still_none NoCell (g.S.Store.state c.args.store.now) (g.S.Store.state c.loop-spot.store) c.requires.none c.loop-spot.invariant.change

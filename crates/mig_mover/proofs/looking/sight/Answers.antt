@@ -1,5 +1,5 @@
-use Rattle.mig_fill.proofs.Common.{arith, common_steps, rules}
-use Rattle.mig_fill.proofs.looking.sight.Goals as goal
+use Rattle.mig_mover.proofs.Common.{arith, common_steps, rules}
+use Rattle.mig_mover.proofs.looking.sight.Goals as goal
 
 pub returns-clause-named : goal.returns-clause-named
 returns-clause-named g c = grind (arith, common_steps)

@@ -1,5 +1,5 @@
-use Rattle.mig_fill.proofs.FillSteps.{found_none, found_listed, put_listed, synced_listed, synced_made, synced_idle, made_sound}
-use Rattle.mig_fill.proofs.filling.fill_idle.Goals as goal
+use Rattle.mig_mover.proofs.FillSteps.{found_none, found_listed, put_listed, synced_listed, synced_made, synced_idle, made_sound}
+use Rattle.mig_mover.proofs.filling.fill_idle.Goals as goal
 
 pub put_items-requires : goal.put_items-requires
 put_items-requires g c = record { none = found_none c.args.input.now (g.S.Store.state c.args.store.now) (g.S.Store.state c.find_taken.new.store) c.requires.none c.find_taken.ensures.change }

@@ -1,6 +1,6 @@
-use Rattle.mig_fill.proofs.Common.{List, ap, arith, length, subst, sym, ℕ, ◌∙◌}
-use Rattle.mig_fill.proofs.MadeSlots.{filled_start, filled_more, filled_all, min_cases, name_byte, whole_once, whole_more, IsWhole}
-use Rattle.mig_fill.proofs.making.repeated.Goals as goal
+use Rattle.mig_mover.proofs.Common.{List, ap, arith, length, subst, sym, ℕ, ◌∙◌}
+use Rattle.mig_mover.proofs.MadeSlots.{filled_start, filled_more, filled_all, min_cases, name_byte, whole_once, whole_more, IsWhole}
+use Rattle.mig_mover.proofs.making.repeated.Goals as goal
 
 pub loop-filled-init : goal.loop-filled-init
 loop-filled-init c =

@@ -1,5 +1,5 @@
-use Rattle.mig_fill.proofs.FillSteps.{put_change, put_made}
-use Rattle.mig_fill.proofs.filling.put_item.Goals as goal
+use Rattle.mig_mover.proofs.FillSteps.{put_change, put_made}
+use Rattle.mig_mover.proofs.filling.put_item.Goals as goal
 
 pub returns-clause-made : goal.returns-clause-made
 returns-clause-made g c = put_made c.args.input.now c.args.item c.now.result.now c.now.ensures.value c.spot_cell.result c.spot_cell.ensures c.requires.item c.items.result.now c.items.ensures.value

@@ -1,7 +1,7 @@
-use Rattle.mig_fill.proofs.Common.{on_ok_weaker}
-use Rattle.mig_fill.proofs.FillSteps.{fault_more, fills_landed, fills_more, fillable_more}
+use Rattle.mig_mover.proofs.Common.{on_ok_weaker}
+use Rattle.mig_mover.proofs.FillSteps.{fault_more, fills_landed, fills_more, fillable_more}
 use Rattle.mig_mover.proofs.Settling.{if_err}
-use Rattle.mig_fill.proofs.filling.fill.Goals as goal
+use Rattle.mig_mover.proofs.filling.fill.Goals as goal
 
 pub returns-in_err-settle_and_look-clause-change : goal.returns-in_err-settle_and_look-clause-change
 returns-in_err-settle_and_look-clause-change g c = fills_landed c.args.input.now (g.S.Store.state c.args.store.now) (g.S.Store.state c.settle_and_look.new.store) (g.S.Store.state c.settle_and_look.new.store) c.settle_and_look.ensures.lands

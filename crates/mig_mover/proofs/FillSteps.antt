@@ -1,10 +1,10 @@
 -- The steps of a filling.
-use Rattle.mig_fill.proofs.Common.{All, AllWithin, At, BeginsRun, Cell, Changes, ChangesOnly, Contains-get_or, Ends, Event, Flight, Gate, HasContents, HasMade, IfSome, Image, IsFillFault}
-use Rattle.mig_fill.proofs.Common.{IsFillFaultOn, IsFillRefusal, IsFillable, IsFirstTaken, IsInput, IsListedCell, IsRunning, IsSoundForAll, IsTargetOf, IsUnused, IsUsed, Lands, List, Lists}
-use Rattle.mig_fill.proofs.Common.{MoveFault, NoCell, NotStarted, NotThere, Occupied, OnOk, Option, OtherPlan, Result, SameBut, Settles, Shift, Some, Spot, Started, State, Store, Tells}
-use Rattle.mig_fill.proofs.Common.{WasFillable, [], ap, append-nil, arith, cases_eq, changes_then, changes_wider, false, flights, get_or, get_or_default, get_or_from_slice_get, idle_sound, inl}
-use Rattle.mig_fill.proofs.Common.{inr, is_armed, is_one, item_cell, item_name, length, made_contents, made_slot, no_spot, quiet_same, refl, slice_get, slice_get-get_or, slice_get_within}
-use Rattle.mig_fill.proofs.Common.{slot_apart, slot_of, spot_disk, still_none, subst, sym, sync_same, then_step, then_sync, told_is, ℕ, ◌+◌, ◌<◌, ◌∙◌, ◌≡◌, ◌≤◌, ◌⊎◌}
+use Rattle.mig_mover.proofs.Common.{All, AllWithin, At, BeginsRun, Cell, Changes, ChangesOnly, Contains-get_or, Ends, Event, Flight, Gate, HasContents, HasMade, IfSome, Image, IsFillFault}
+use Rattle.mig_mover.proofs.Common.{IsFillFaultOn, IsFillRefusal, IsFillable, IsFirstTaken, IsInput, IsListedCell, IsRunning, IsSoundForAll, IsTargetOf, IsUnused, IsUsed, Lands, List, Lists}
+use Rattle.mig_mover.proofs.Common.{MoveFault, NoCell, NotStarted, NotThere, Occupied, OnOk, Option, OtherPlan, Result, SameBut, Settles, Shift, Some, Spot, Started, State, Store, Tells}
+use Rattle.mig_mover.proofs.Common.{WasFillable, [], ap, append-nil, arith, cases_eq, changes_then, changes_wider, false, flights, get_or, get_or_default, get_or_from_slice_get, idle_sound, inl}
+use Rattle.mig_mover.proofs.Common.{inr, is_armed, is_one, item_cell, item_name, length, made_contents, made_slot, no_spot, quiet_same, refl, slice_get, slice_get-get_or, slice_get_within}
+use Rattle.mig_mover.proofs.Common.{slot_apart, slot_of, spot_disk, still_none, subst, sym, sync_same, then_step, then_sync, told_is, ℕ, ◌+◌, ◌<◌, ◌∙◌, ◌≡◌, ◌≤◌, ◌⊎◌}
 use Rattle.mig_mover.proofs.Settling.{settles_land, settles_landed, settles_quiet}
 
 -- Looking at listed spots

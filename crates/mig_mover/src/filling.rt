@@ -8,13 +8,14 @@ ghost use Rattle.mig_base.specs.RoundEvents.{BeginsRun};
 ghost use Rattle.mig_base.specs.Slots.{item_cell, made_slot, IsListedCell, IsUnused};
 ghost use Rattle.mig_base.specs.Stores.{State, flights, Changes, ChangesOnly, HasCause, IsSettled};
 ghost use Rattle.mig_base.specs.Texts.{item_name};
-ghost use Rattle.mig_fill.specs.Fillings.{HasMade, IsFillable, IsFillFault, IsFillFaultOn, IsFirstTaken, IsSoundForAll, WasFillable};
+ghost use Rattle.mig_mover.specs.Fillings.{HasMade, IsFillable, IsFillFault, IsFillFaultOn, IsFirstTaken, IsSoundForAll, WasFillable};
 
+use crate::entries::settle_and_look;
+use crate::faults::MoveFault;
 use crate::making::made;
 use mig_base::{Input, Spot};
 use mig_jobs::{is_used, spot_cell};
 use mig_journal::Seen;
-use mig_mover::{MoveFault, settle_and_look};
 use mig_store::{Store, StoreFailed};
 
 // The first spot where an item is listed and the slot is used.

@@ -1,6 +1,6 @@
-use Rattle.mig_fill.proofs.Common.{◌-◌, ◌≡◌, ◌≤◌}
-use Rattle.mig_fill.proofs.MadeSlots.{filled_to, name_byte, IsWhole}
-use Rattle.mig_fill.proofs.making.repeated.Given as goal
+use Rattle.mig_mover.proofs.Common.{◌-◌, ◌≡◌, ◌≤◌}
+use Rattle.mig_mover.proofs.MadeSlots.{filled_to, name_byte, IsWhole}
+use Rattle.mig_mover.proofs.making.repeated.Given as goal
 
 abbrev pub invariant-loop-filled : goal.invariant-loop-filled
 invariant-loop-filled l = record {

@@ -1,5 +1,5 @@
-use Rattle.mig_fill.proofs.Common.{List, ap, header_of, ℕ, ◌++◌, ◌∙◌}
-use Rattle.mig_fill.proofs.making.made.Goals as goal
+use Rattle.mig_mover.proofs.Common.{List, ap, header_of, ℕ, ◌++◌, ◌∙◌}
+use Rattle.mig_mover.proofs.making.made.Goals as goal
 
 pub returns : goal.returns
 returns c =

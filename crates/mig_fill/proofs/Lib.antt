@@ -1,3 +1,0 @@
-mod FillSteps
-mod MadeSlots
-pub mod Common
