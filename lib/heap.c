@@ -194,3 +194,22 @@ uint32_t migrate_check_numbers(bool split, const struct migrate_disk *disks, siz
                       IN(disks, disk_count), IN(items, item_count), IN(shifts, shift_count), IN(set, set_count), IN(found, 1), ONE(verdict),
                       ONE(refused));
 }
+
+extern __typeof__(migrate_plan_tight_numbers) proved_plan_tight_numbers;
+
+uint32_t migrate_plan_tight_numbers(bool split, const struct migrate_disk *disks, size_t disk_count, const struct migrate_item *items,
+                                    size_t item_count, struct migrate_shift *shifts, size_t shift_room, size_t *shift_count,
+                                    struct migrate_refused *refused)
+{
+    return UNLESS_BAD(proved_plan_tight_numbers(split, disks, disk_count, items, item_count, shifts, shift_room, shift_count, refused),
+                      IN(disks, disk_count), IN(items, item_count), ROOM(shifts, shift_room), ONE(shift_count), ONE(refused));
+}
+
+extern __typeof__(migrate_drain_numbers) proved_drain_numbers;
+
+uint32_t migrate_drain_numbers(bool split, const struct migrate_disk *disks, size_t disk_count, const struct migrate_item *items, size_t item_count,
+                               uint32_t disk, uint32_t *next, size_t next_room, struct migrate_drained *drained, struct migrate_refused *refused)
+{
+    return UNLESS_BAD(proved_drain_numbers(split, disks, disk_count, items, item_count, disk, next, next_room, drained, refused),
+                      IN(disks, disk_count), IN(items, item_count), ROOM(next, next_room), ONE(drained), ONE(refused));
+}

@@ -111,7 +111,7 @@ enum { MIGRATE_EVEN = 0, MIGRATE_GENERAL = 1, MIGRATE_SPLIT = 2 };
 enum { MIGRATE_BOUND_NOTHING = 0, MIGRATE_BOUND_DISK = 1, MIGRATE_BOUND_SIDE = 2, MIGRATE_BOUND_SET = 3 };
 
 /* Why there is no plan: the first thing that is wrong, in the sizes, then the disks, then the items, then the room of the disks; at which disk or item, and of
- * a disk that lacks room how many slots it needs and has. */
+ * a disk that lacks room or slots how many it needs and has. */
 struct migrate_refused { uint32_t cause, place, needs, has; };
 enum {
     MIGRATE_TOO_MANY_DISKS = 1, MIGRATE_TOO_MANY_ITEMS = 2,
@@ -121,6 +121,8 @@ enum {
     MIGRATE_SLOT_TAKEN = 6,    /* by an item before it */
     MIGRATE_UNKNOWN_NEXT = 7,  /* the disk that the item is to go to */
     MIGRATE_NO_ROOM = 8,       /* for the items that are on the disk and those that come to it */
+    MIGRATE_TOO_MANY_COMING = 9, /* more items are to be on the disk than it has slots: with MIGRATE_NO_PLAN, as the next */
+    MIGRATE_NO_FREE_SLOT = 10,   /* each slot of each disk has an item */
 };
 
 /* Plans. `shifts`: one for each item that is to go to another disk, in the order of their rounds, each to the lowest slot that is free then. There are never
@@ -160,6 +162,24 @@ enum {
 uint32_t migrate_check_numbers(bool split, const struct migrate_disk *disks, size_t disk_count, const struct migrate_item *items, size_t item_count,
                                const struct migrate_shift *shifts, size_t shift_count, const uint32_t *set, size_t set_count,
                                const struct migrate_found *found, struct migrate_verdict *verdict, struct migrate_refused *refused);
+
+/* Plans where disks are too full for old and incoming items together. Each round is one shift; an item that must be parked has two, so as many are parked as there are
+ * more shifts than items that are to go to another disk. There are never more shifts than twice the items; with too little room it is as with migrate_plan_numbers.
+ * `refused` is written with 3 and 13. Statuses: 0, 3, 7, 13, 100. */
+uint32_t migrate_plan_tight_numbers(bool split, const struct migrate_disk *disks, size_t disk_count, const struct migrate_item *items, size_t item_count,
+                                    struct migrate_shift *shifts, size_t shift_room, size_t *shift_count, struct migrate_refused *refused);
+
+/* What shows that a disk needs so many rounds to be emptied: it has `count` items, of which at most `limit` may leave it in a round; or in one round less the other
+ * disks can take only `count` of them. */
+struct migrate_drained { uint32_t rounds, shown, count, limit; };
+enum { MIGRATE_SHOWN_NOTHING = 0, MIGRATE_SHOWN_OWN = 1, MIGRATE_SHOWN_OTHERS = 2 };
+
+/* Where the items go so that a disk is emptied in the fewest rounds. `next`: the next disk of each item, to be put into `items` for migrate_plan_numbers; those that
+ * stand there must be disks, 0 or any, and aren't looked at. With less room than there are items nothing is written, and the status is MIGRATE_TOO_SHORT. With
+ * MIGRATE_CANNOT_DRAIN `refused` says that the disk is MIGRATE_UNKNOWN_DISK, or that there is MIGRATE_NO_ROOM: it has `needs` items, the others `has` free slots.
+ * Statuses: 0, 3, 7, 14, 100. */
+uint32_t migrate_drain_numbers(bool split, const struct migrate_disk *disks, size_t disk_count, const struct migrate_item *items, size_t item_count,
+                               uint32_t disk, uint32_t *next, size_t next_room, struct migrate_drained *drained, struct migrate_refused *refused);
 
 #ifdef __cplusplus
 }

@@ -11,10 +11,11 @@ from __future__ import annotations
 import ctypes
 import ctypes.util
 import itertools
+import operator
 import os
 import sys
 from collections.abc import Iterable, Sequence
-from typing import NamedTuple
+from typing import Any, NamedTuple
 
 SHARED = "libmigrate.so.1"
 
@@ -29,12 +30,14 @@ class Error(Exception):
 
 
 class Refused(Error):
-    """Numbers that stand for no input: the cause, which disk or item it is at, and of a disk that lacks room how many slots it needs and has."""
+    """Numbers of which nothing can be made: the cause, the disk or item where it is, and how many slots a disk needs and has."""
 
-    CAUSES = ("no memory", "too many disks", "too many items", "out of range", "unknown disk", "slot too high", "slot taken", "unknown next disk", "no room")
+    CAUSES = ("no memory", "too many disks", "too many items", "out of range", "unknown disk", "slot too high",
+              "slot taken", "unknown next disk", "no room", "too many are to come", "no free slot")
 
     def __init__(self, status: int, cause: int, place: int, needs: int, has: int) -> None:
-        super().__init__(status, f"{self.CAUSES[cause]} at {place}" + (f", needs {needs}, has {has}" if cause == 8 else ""))
+        lacks = f", needs {needs}, has {has}" if cause in (8, 9) else ""
+        super().__init__(status, f"{self.CAUSES[cause]} at {place}{lacks}")
         self.cause, self.place, self.needs, self.has = cause, place, needs, has
 
 
@@ -65,6 +68,21 @@ class Numbers(NamedTuple):
     rows: memoryview  # of a plan (item, to_disk, to_slot, round) each, of a schedule the round of each pair; numpy.asarray takes it as it is
     found: Found
     set: list[int]  # the disks of a bound that is a set
+
+
+class TightNumbers(NamedTuple):
+    rows: memoryview  # (item, to_disk, to_slot, round) each, one for each round
+    parked: int
+
+
+class DrainNumbers(NamedTuple):
+    """As `struct migrate_drained` of migrate.h, with the next disk of each item."""
+
+    next: list[int]
+    rounds: int
+    shown: int
+    count: int
+    limit: int
 
 
 class Plan(NamedTuple):
@@ -154,39 +172,62 @@ class Library:
 
     def check_numbers(self, disks: Iterable[Sequence[int]], items: Iterable[Sequence[int]], numbers: Numbers, split: bool = False) -> tuple[int, Verdict]:
         """Judges what `plan_numbers` gives, or shifts and a bound like them: the status, 0, 1 or 10, and the verdict."""
-        tables, size = [_table(disks, 3), _table(items, 3), _table(numbers.rows if len(numbers.rows) else [], 4), _table(zip(numbers.set), 1)], ctypes.c_size_t
-        found, verdict, refused = (ctypes.c_uint32 * 8)(*numbers.found), (ctypes.c_uint32 * 5)(), (ctypes.c_uint32 * 4)()
-        function = self._library.migrate_check_numbers
-        function.restype = ctypes.c_uint32
-        status: int = function(ctypes.c_bool(split), *(word for it in tables for word in (it.numbers, size(it.rows))), found, verdict, refused)
-        if status in (3, 7):
-            raise Refused(status, *(refused if status == 3 else (0, 0, 0, 0)))
-        return status, Verdict(*verdict)
+        shifts, members = _table(numbers.rows if len(numbers.rows) else [], 4), _table(zip(numbers.set), 1)
+        found, verdict = (ctypes.c_uint32 * 8)(*numbers.found), (ctypes.c_uint32 * 5)()
+        tables = [_table(disks, 3), _table(items, 3), shifts, members]
+        return self._over("check_numbers", split, tables, found, verdict), Verdict(*verdict)
+
+    def plan_tight_numbers(
+        self, disks: Iterable[Sequence[int]], items: Iterable[Sequence[int]], split: bool = False
+    ) -> TightNumbers:
+        """As `plan_numbers`, by single shifts, where disks are too full for old and incoming items together."""
+        tables, count = [_table(disks, 3), _table(items, 3)], ctypes.c_size_t()
+        rows = (ctypes.c_uint32 * (8 * tables[1].rows))()
+        self._over("plan_tight_numbers", split, tables, rows, ctypes.c_size_t(2 * tables[1].rows), ctypes.byref(count))
+        moves = sum(map(operator.ne, tables[1].numbers[::3], tables[1].numbers[2::3]))
+        return TightNumbers(_shaped(rows, count.value, 4), count.value - moves)
+
+    def drain_numbers(
+        self, disks: Iterable[Sequence[int]], items: Iterable[Sequence[int]], disk: int, split: bool = False
+    ) -> DrainNumbers:
+        """Next disks that empty a disk in the fewest rounds. Those that items have must be there, and don't matter."""
+        tables, drained = [_table(disks, 3), _table(items, 3)], (ctypes.c_uint32 * 4)()
+        next = (ctypes.c_uint32 * tables[1].rows)()
+        self._over("drain_numbers", split, tables, ctypes.c_uint32(disk), next, ctypes.c_size_t(len(next)), drained)
+        return DrainNumbers(next[:], *drained)
 
     def schedule(self, limits: Iterable[Sequence[int]], pairs: Iterable[Sequence[int]], split: bool = False) -> Numbers:
         """A round for each pair of disks, over rows (out_limit, in_limit) and (from, to)."""
         return self._numbers("schedule", split, _table(limits, 2), _table(pairs, 2), 1)
 
     def _numbers(self, name: str, split: bool, disks: _Table, items: _Table, width: int) -> Numbers:
-        function = getattr(self._library, f"migrate_{name}")
-        function.restype = ctypes.c_uint32
         rows, members = (ctypes.c_uint32 * (width * items.rows))(), (ctypes.c_uint32 * 1024)()
-        found, refused = (ctypes.c_uint32 * 8)(), (ctypes.c_uint32 * 4)()
-        row_count, member_count = ctypes.c_size_t(items.rows), ctypes.c_size_t()
-        size = ctypes.c_size_t
-        counted = [ctypes.byref(row_count)] if width == 4 else []
-        status: int = function(ctypes.c_bool(split), disks.numbers, size(disks.rows), items.numbers, size(items.rows), rows, size(items.rows), *counted,
-                               members, size(1024), ctypes.byref(member_count), found, refused)
-        if status != 0:
-            raise Refused(status, *(refused if status == 3 else (0, 0, 0, 0)))
-        flat = memoryview(rows).cast("B")[: 4 * width * row_count.value]
-        shaped = flat.cast("I", [row_count.value, width]) if width > 1 and row_count.value > 0 else flat.cast("I")
-        return Numbers(shaped, Found(*found), members[: member_count.value])
+        found, size = (ctypes.c_uint32 * 8)(), ctypes.c_size_t
+        row_count, member_count = size(items.rows), size()
+        handed = [rows, size(items.rows), *([ctypes.byref(row_count)] if width == 4 else [])]
+        self._over(name, split, [disks, items], *handed, members, size(1024), ctypes.byref(member_count), found)
+        return Numbers(_shaped(rows, row_count.value, width), Found(*found), members[: member_count.value])
+
+    def _over(self, name: str, split: bool, tables: Sequence[_Table], *more: Any) -> int:
+        """Calls a function over numbers, with room for a refusal at the end: its status, where nothing is refused."""
+        function, refused = getattr(self._library, f"migrate_{name}"), (ctypes.c_uint32 * 4)()
+        function.restype = ctypes.c_uint32
+        given = (word for it in tables for word in (it.numbers, ctypes.c_size_t(it.rows)))
+        status: int = function(ctypes.c_bool(split), *given, *more, refused)
+        if status not in (0, 1, 10):
+            raise Refused(status, *refused)
+        return status
 
 
 class _Table(NamedTuple):
     numbers: ctypes.Array[ctypes.c_uint32]
     rows: int
+
+
+def _shaped(rows: ctypes.Array[ctypes.c_uint32], count: int, width: int) -> memoryview:
+    """The first of these rows."""
+    flat = memoryview(rows).cast("B")[: 4 * width * count]
+    return flat.cast("I", [count, width]) if width > 1 and count > 0 else flat.cast("I")
 
 
 def _table(rows: Iterable[Sequence[int]], width: int) -> _Table:

@@ -61,8 +61,14 @@ def spelled(disks, items, split, numbers):
 
 def why(refused):
     """The text of a refusal over numbers."""
+    lacks = f"needs {refused.needs}, has {refused.has}"
     place, named = refused.place + 1, {3: "disks row {}: out of range", 4: "now row {}: unknown disk", 5: "now row {}: slot too high", 6: "now row {}: slot taken", 7: "next row {}: unknown disk",
-                                       8: f"disks row {{}}: no room on d{refused.place}, needs {refused.needs}, has {refused.has}"}
+                                       8: f"disks row {{}}: no room on d{refused.place}, {lacks}"}
+    if refused.status == 13:
+        return f"too many for d{refused.place}, {lacks}\n" if refused.cause == 9 else "no free slot\n"
+    if refused.status == 14:
+        full = f"no room, {refused.needs} items, {refused.has} free"
+        return f"no disk d{refused.place}\n" if refused.cause == 4 else f"{full}\n"
     return f"refused {named[refused.cause]}\n".format(place)
 
 
@@ -142,6 +148,65 @@ def the_numbers(library, clusters):
         except migrate.Refused as error:
             found = error.status, error.cause, error.place
         Count.same(f"over numbers: {name}", found, refused)
+    the_tight(library, clusters // 2)
+    the_drain(library, clusters // 2)
+
+
+def full(chance):
+    """Disks with few free slots, and items of which too many are to be on one disk now and then."""
+    slots = [chance.randint(1, 6) for _ in range(chance.randint(1, 6))]
+    spots = [(disk, slot) for disk, count in enumerate(slots) for slot in range(count)]
+    ends = [disk for disk, _ in spots] if chance.randrange(8) else [chance.randrange(len(slots)) for _ in spots]
+    chance.shuffle(spots)
+    chance.shuffle(ends)
+    kept = spots[chance.choice([0, 1, 1, 2, 3]):]
+    disks = [(chance.randint(1, 2), chance.randint(1, 2), count) for count in slots]
+    return disks, [(*spot, end) for spot, end in zip(kept, ends)], chance.random() < 0.5
+
+
+def the_tight(library, clusters):
+    """A plan for tight space is that of the texts, spelled out, and so is why there is none."""
+    chance, ends, parked = random.Random(61), set(), 0
+    for it in range(clusters):
+        disks, items, split = full(chance) if it % 4 else made(chance)
+        numbers = answer(lambda: library.plan_tight_numbers(disks, items, split))
+        if isinstance(numbers, migrate.TightNumbers):
+            at, count = [tuple(row[:2]) for row in items], len(numbers.rows)
+            lines = ["migration-plan 1", f"rounds {count}"]
+            for item, disk, slot, round in numbers.rows.tolist():
+                lines += [f"round {round} 1", f"i{item} d{at[item][0]} {at[item][1]} d{disk} {slot}"]
+                at[item] = disk, slot
+            parked += numbers.parked
+            lines = "".join(f"{line}\n" for line in [*lines, "end"]).encode()
+            numbers = lines, f"rounds {count}, parked {numbers.parked}\n"
+        else:
+            ends.add((numbers[0], numbers[1].split()[0]))
+        texts = answer(lambda: tuple(library.plan_tight(*tables(disks, items, split))))
+        Count.same(f"plan_tight_numbers of cluster {it}", numbers, texts)
+    wanted = {(13, "too"), (13, "no"), (3, "refused")}
+    some = parked > clusters // 20 and wanted <= ends
+    Count.that("items are parked, and plans refused in each way", some, (parked, ends))
+
+
+def the_drain(library, clusters):
+    """Next disks that empty a disk are those of the texts, and so are what shows it and why there are none."""
+    chance, ends = random.Random(62), set()
+    for it in range(clusters):
+        disks, items, split = full(chance) if it % 4 else made(chance)
+        disk = chance.randrange(len(disks)) if chance.randrange(20) else len(disks)
+        items = [(at, slot, 0) for at, slot, _ in items]
+        numbers = answer(lambda: library.drain_numbers(disks, items, disk, split))
+        if isinstance(numbers, migrate.DrainNumbers):
+            load = sum(at == disk for at, _, _ in items)
+            shown = ["nothing", f"own {numbers.count} {numbers.limit}", f"others {numbers.count} of {load}"]
+            next = tables(disks, [(*row[:2], to) for row, to in zip(items, numbers.next)], split)[2]
+            ends.add(numbers.shown)
+            numbers = next, f"rounds {numbers.rounds}\nshown {shown[numbers.shown]}\n"
+        else:
+            ends.add(numbers[1].split(",")[0].split(" d")[0])
+        texts = answer(lambda: tuple(library.drain(*tables(disks, items, split)[:2], f"d{disk}")))
+        Count.same(f"drain_numbers of cluster {it}", numbers, texts)
+    Count.that("each is shown, and a drain refused in each way", {0, 1, 2, "no disk", "no room"} <= ends, ends)
 
 
 def the_schedule(library, it, disks, items, split):

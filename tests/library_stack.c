@@ -37,6 +37,7 @@ static uint32_t rounds[ITEMS], set[DISKS];
 static size_t count, set_count;
 static struct migrate_found found;
 static struct migrate_refused refused;
+static struct migrate_drained drained;
 
 static void fill(void)
 {
@@ -61,6 +62,18 @@ static void *of_numbers(void *at)
 static void *of_schedule(void *at)
 {
     status = migrate_schedule(at != NULL, limits, DISKS, pairs, ITEMS, rounds, ITEMS, set, DISKS, &set_count, &found, &refused);
+    return at;
+}
+
+static void *of_tight_numbers(void *at)
+{
+    status = migrate_plan_tight_numbers(at != NULL, disks, DISKS, items, ITEMS, shifts, ITEMS, &count, &refused);
+    return at;
+}
+
+static void *of_drain_numbers(void *at)
+{
+    status = migrate_drain_numbers(at != NULL, disks, DISKS, items, ITEMS, 0, rounds, ITEMS, &drained, &refused);
     return at;
 }
 
@@ -126,4 +139,6 @@ int main(int words_count, char **words)
     measure("plan_numbers of split limits", of_numbers, set, 16 << 10, 32 << 10);
     measure("schedule", of_schedule, NULL, 16 << 10, 32 << 10);
     measure("schedule of split limits", of_schedule, set, 16 << 10, 32 << 10);
+    measure("plan_tight_numbers", of_tight_numbers, NULL, 16 << 10, 32 << 10);
+    measure("drain_numbers", of_drain_numbers, NULL, 16 << 10, 32 << 10);
 }

@@ -1,5 +1,7 @@
 -- How many rows there are, of each item and of all.
-use Rattle.mig_base.proofs.Common.{Bool, List, [], add-one, ap, arith, cond, count_by, false, get_or, is_of, length, length-append, map, not, range_with_len, refl, subst, suc, sum_by, sum_by-append, sum_by-cons, take, take_all, true, zero, ℕ, ◌+◌, ◌<◌, ◌==◌, ◌∙◌, ◌∷◌, ◌≡◌, ◌≤◌}
+use Rattle.mig_base.proofs.Common.{Bool, List, [], add-one, ap, arith, cond, count_by, false, get_or, is_of, is_relocated, length, length-append, map}
+use Rattle.mig_base.proofs.Common.{not, range_with_len, refl, subst, suc, sum_by, sum_by-append, sum_by-cons, take, take_all, true, zero, ℕ}
+use Rattle.mig_base.proofs.Common.{◌+◌, ◌<◌, ◌==◌, ◌∙◌, ◌∷◌, ◌≡◌, ◌≤◌}
 use Rattle.mig_base.proofs.Counting.{sum_by-map}
 use Rattle.mig_base.proofs.Common.{length-map-range_with_len, no_spot, shift_count}
 use Rattle.mig_base.specs.Layouts.{round_at}
@@ -49,6 +51,17 @@ rows_len plan (suc k) h =
     ) in
     subst (λ n. length (rows_upto plan n) ≡ sum_by (λ (round : List Shift). length round) (take n plan)) (add-one k) step
 
+-- of all rounds
+pub all_count : (plan : List (List Shift)) (i : ℕ) → count_by (is_row_of i) (rows_of plan) ≡ shift_count plan i
+all_count plan i =
+    rows_count plan i (length plan) (omega arith)
+    ∙ ap (λ (p : List (List Shift)). shift_count p i) (take_all (length plan) plan (omega arith))
+
+pub all_len : (plan : List (List Shift)) → length (rows_of plan) ≡ sum_by (λ (round : List Shift). length round) plan
+all_len plan =
+    rows_len plan (length plan) (omega arith)
+    ∙ ap (λ (p : List (List Shift)). sum_by (λ (round : List Shift). length round) p) (take_all (length plan) plan (omega arith))
+
 in_all : (plan : List (List Shift)) → sum_by (λ (round : List Shift). length round) plan ≡ shifts_in plan
 in_all [] = refl
 in_all (round ∷ plan) = omega (arith, sum_by-cons (λ (r : List Shift). length r) round plan, in_all plan)
@@ -63,24 +76,30 @@ turned : (b : Bool) → where_not b ≡ unless b
 turned true = refl
 turned false = refl
 
+-- an item is relocated where its numbers say so
+pub relocated_by : (split : Bool) (disks : List DiskNumbers) (items : List ItemNumbers) (i : ℕ) → i < length items
+    → cond (is_relocated (input_of split disks items) i) 1 0 ≡ rows_for (get_or items i no_item)
+relocated_by split disks items i lt =
+    let item = get_or items i no_item in
+    let from : (get_or (map spot_of items) i no_spot).disk.0 ≡ item.disk =
+    ap (λ (s : Spot). s.disk.0) (get_or-map spot_of items i no_item no_spot lt) in
+    let to : (get_or (map next_of items) i (record { 0 = 0 })).0 ≡ item.next_disk =
+    ap (λ (v : DiskId). v.0) (get_or-map next_of items i no_item (record { 0 = 0 }) lt) in
+    ap (λ a. where_not (a == (get_or (map next_of items) i (record { 0 = 0 })).0)) from
+    ∙ ap (λ b. where_not (item.disk == b)) to
+    ∙ turned (item.disk == item.next_disk)
+
 module _ (split : Bool) (disks : List DiskNumbers) (items : List ItemNumbers) (plan : List (List Shift)) (made : IsPlanOf (input_of split disks items) plan) where
   items_len : length (map made_item (range_with_len 0 (length items))) ≡ length items
   items_len = length-map-range_with_len made_item 0 (length items)
 
   pub once_shift : (i : ℕ) → i < length items → shift_count plan i ≡ rows_for (get_or items i no_item)
-  once_shift i lt =
-      let item = get_or items i no_item in
-      let from : (get_or (map spot_of items) i no_spot).disk.0 ≡ item.disk = ap (λ (s : Spot). s.disk.0) (get_or-map spot_of items i no_item no_spot lt) in
-      let to : (get_or (map next_of items) i (record { 0 = 0 })).0 ≡ item.next_disk = ap (λ (v : DiskId). v.0) (get_or-map next_of items i no_item (record { 0 = 0 }) lt) in
-      made.once i (omega (arith, lt, items_len))
-      ∙ ap (λ a. where_not (a == (get_or (map next_of items) i (record { 0 = 0 })).0)) from
-      ∙ ap (λ b. where_not (item.disk == b)) to
-      ∙ turned (item.disk == item.next_disk)
+  once_shift i lt = made.once i (omega (arith, lt, items_len)) ∙ relocated_by split disks items i lt
 
   pub once_rows : (i : ℕ) → i < length items → count_by (is_row_of i) (rows_of plan) ≡ rows_for (get_or items i no_item)
-  once_rows i lt = rows_count plan i (length plan) (omega arith) ∙ ap (λ (p : List (List Shift)). shift_count p i) (take_all (length plan) plan (omega arith)) ∙ once_shift i lt
+  once_rows i lt = all_count plan i ∙ once_shift i lt
 
   pub few_rows : length (rows_of plan) ≤ length items
   few_rows =
       let few = few_shifts (input_of split disks items) plan made.once made.fits.shifts in
-      omega (arith, few, in_all plan, items_len, rows_len plan (length plan) (omega arith), ap (λ (p : List (List Shift)). sum_by (λ (round : List Shift). length round) p) (take_all (length plan) plan (omega arith)))
+      omega (arith, few, in_all plan, items_len, all_len plan)

@@ -10,3 +10,4 @@ pub mod Rows
 pub mod Scheduled
 pub mod Slotless
 pub mod SortedRows
+pub mod TightRows

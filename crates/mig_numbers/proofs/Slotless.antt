@@ -78,7 +78,7 @@ module _ (split : Bool) (limits : List LimitNumbers) (pairs : List PairNumbers) 
   first_of_items : (why : Refusal) → IsOther why → (IsSizeFault disks items why → ⊥) → (IsDiskFault split disks why → ⊥) → (AreFew disks items → IsFirstItemFault disks items why → ⊥)
       → (AreFew disks items → IsRoomFault (input_of split disks items) why → ⊥) → IsRefusal split disks items why → ⊥
   first_of_items why o size disk item room h =
-      ⊎_elim (λ m. subst IsOther m o) (λ a. ⊎_elim size (λ b. ⊎_elim (λ d. disk d.1) (λ c. ⊎_elim (λ f. item f.0 f.2) (λ r. room r.0 r.3) c) b) a) h
+      ⊎_elim (λ u. ⊎_elim (λ m. subst IsOther m o) (λ a. ⊎_elim size (λ b. ⊎_elim (λ d. disk d.1) (λ f. item f.0 f.2) b) a) u) (λ r. room r.0.0 r.1) h
 
   pub slotless : (why : Refusal) → IsRefusal split disks items why → IsOfPairs (refused_of why).cause
   slotless TooManyDisks h = inl (omega arith)

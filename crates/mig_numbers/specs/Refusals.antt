@@ -70,12 +70,19 @@ pub record AreSound (split : Bool) (disks : List DiskNumbers) (items : List Item
   pub items_sound : AreItemsSound disks items (length items)
   pub roomy : IsRoomy (input_of split disks items)
 
--- it is the first thing that is wrong with the numbers: in their sizes, then in the disks, then in the items, then in the room of the disks; or memory is wanting
-abbrev pub IsRefusal : Bool → List DiskNumbers → List ItemNumbers → Refusal → Type 0
-IsRefusal split disks items why = (why ≡ Memory) ⊎ IsSizeFault disks items why
+-- and the same where nothing is said of room
+abbrev pub AreThere : Bool → List DiskNumbers → List ItemNumbers → Type 0
+AreThere split disks items = AreFew disks items × AreDisksSound split disks (length disks) × AreItemsSound disks items (length items)
+
+-- it is the first thing that is wrong with the numbers: in their sizes, then in the disks, then in the items; or memory is wanting
+abbrev pub IsUnfit : Bool → List DiskNumbers → List ItemNumbers → Refusal → Type 0
+IsUnfit split disks items why = (why ≡ Memory) ⊎ IsSizeFault disks items why
     ⊎ (AreFew disks items × IsDiskFault split disks why)
     ⊎ (AreFew disks items × AreDisksSound split disks (length disks) × IsFirstItemFault disks items why)
-    ⊎ (AreFew disks items × AreDisksSound split disks (length disks) × AreItemsSound disks items (length items) × IsRoomFault (input_of split disks items) why)
+
+-- or, where nothing else is wrong, in the room of the disks
+abbrev pub IsRefusal : Bool → List DiskNumbers → List ItemNumbers → Refusal → Type 0
+IsRefusal split disks items why = IsUnfit split disks items why ⊎ (AreThere split disks items × IsRoomFault (input_of split disks items) why)
 
 -- the numbers of a refusal
 abbrev pub refused_of : Refusal → Refused
@@ -89,6 +96,9 @@ refused_of (UnknownNext item) = record { cause = 7; place = item; needs = 0; has
 refused_of (NoRoom disk needs slots) = record { cause = 8; place = disk; needs = needs; has = slots }
 refused_of Memory = record { cause = 0; place = 0; needs = 0; has = 0 }
 
--- these are the numbers of the first thing that is wrong
+-- these are the numbers of the first thing that is wrong, with room and without
 abbrev pub Refuses : Bool → List DiskNumbers → List ItemNumbers → Refused → Type 0
 Refuses split disks items refused = (why : Refusal) × IsRefusal split disks items why × (why ≢ Memory) × (refused ≡ refused_of why)
+
+abbrev pub RefusesUnfit : Bool → List DiskNumbers → List ItemNumbers → Refused → Type 0
+RefusesUnfit split disks items refused = (why : Refusal) × IsUnfit split disks items why × (why ≢ Memory) × (refused ≡ refused_of why)

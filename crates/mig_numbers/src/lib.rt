@@ -2,16 +2,21 @@
 #![tactic(auto)]
 
 mod checking;
+mod draining;
 mod numbers;
 mod planning;
 mod reading;
 mod scheduling;
 mod spelling;
+mod tight;
 mod writing;
 
 pub use checking::check_numbers;
+pub use draining::drain_numbers;
 pub use numbers::{
-    DiskNumbers, Found, ItemNumbers, Judged, LimitNumbers, PairNumbers, Refused, ShiftNumbers,
+    DiskNumbers, DrainNumbers, Found, ItemNumbers, Judged, LimitNumbers, PairNumbers, Refused,
+    ShiftNumbers,
 };
 pub use planning::plan_numbers;
 pub use scheduling::schedule;
+pub use tight::plan_tight_numbers;

@@ -84,9 +84,19 @@ pub enum Refusal {
     Memory,
 }
 
+/// Why something isn't made of numbers.
+#[derive(Clone, Copy, Drop)]
+pub(crate) enum Unmade {
+    /// They stand for no input, or memory is wanting.
+    Unfit(Refusal),
+    /// They do, but it can't be done.
+    Impossible(Refused),
+}
+
 /// A refusal in numbers: 1 for too many disks, 2 for too many items, 3 for a limit or slots out of range, 4 for an item on a disk that
 /// isn't there, 5 for one in a slot that isn't there, 6 for one in another's slot, 7 for one that is to go to a disk that isn't there,
-/// 8 for a disk that lacks room; the place of the disk or the item; and of a disk that lacks room, how many slots it needs and has.
+/// 8 for a disk that lacks room, 9 for a disk that more items are to come to than it has slots, 10 where no slot is free; the place
+/// of the disk or the item; and of a disk that lacks room or slots, how many slots it needs and has.
 #[repr(C)]
 #[derive(Clone, Copy)]
 pub struct Refused {
@@ -110,4 +120,15 @@ pub struct LimitNumbers {
 pub struct PairNumbers {
     pub from: u32,
     pub to: u32,
+}
+
+/// What a drain takes: how many rounds, and what shows that no fewer are enough: nothing is on the disk (0); it has `count` items,
+/// of which at most `limit` may leave it in a round (1); or in one round less the other disks can take only `count` of them (2).
+#[repr(C)]
+#[derive(Clone, Copy)]
+pub struct DrainNumbers {
+    pub rounds: u32,
+    pub shown: u32,
+    pub count: u32,
+    pub limit: u32,
 }

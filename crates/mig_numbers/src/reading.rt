@@ -3,7 +3,8 @@ ghost use Rattle.std.specs.Prelude.{◌≡◌, ◌≤◌, ◌<◌, ◌⊎◌, �
 ghost use Rattle.std.specs.List.{range_with_len};
 ghost use Rattle.mig_base.specs.Targets.{IsRoomy};
 ghost use Rattle.mig_numbers.specs.Numbers.{disk_in, input_of, limits_of, next_of, spot_of};
-ghost use Rattle.mig_numbers.specs.Refusals.{AreDisksSound, AreFew, AreItemsSound, AreSound, IsDiskFault, IsDiskSound, IsFirstItemFault, IsItemFault, IsItemSound, IsRefusal, IsRoomFault, IsSizeFault};
+ghost use Rattle.mig_numbers.specs.Refusals.{AreDisksSound, AreFew, AreItemsSound, AreSound, AreThere, IsDiskFault, IsDiskSound, IsFirstItemFault, IsItemFault};
+ghost use Rattle.mig_numbers.specs.Refusals.{IsItemSound, IsRefusal, IsRoomFault, IsSizeFault, IsUnfit};
 
 use crate::numbers::{DiskNumbers, ItemNumbers, Refusal};
 use mig_base::{
@@ -192,6 +193,32 @@ fn room_fault(alloc: Global, input: &Input) -> Option<Refusal>
     }
 }
 
+/// The input that the numbers stand for, whether or not there is room, or the first thing that is wrong with them.
+pub(crate) fn read_any(
+    alloc: Global,
+    split: bool,
+    disks: &[DiskNumbers],
+    items: &[ItemNumbers],
+) -> Result<Input, Refusal>
+    ensures input { IfOk result (λ input. input ≡ input_of split disks.now items.now) }
+    ensures there { IfOk result (λ _. AreThere split disks.now items.now) }
+    ensures refused { IfErr result (IsUnfit split disks.now items.now) }
+{
+    if let Some(why) = size_fault(disks, items) {
+        return Err(why);
+    }
+    if let Some(why) = disk_fault(split, disks) {
+        return Err(why);
+    }
+    if let Err(why) = check_items(alloc, disks, items) {
+        return Err(why);
+    }
+    match make_input(alloc, split, disks, items) {
+        Ok(input) => Ok(input),
+        Err(_) => Err(Refusal::Memory),
+    }
+}
+
 /// The input that the numbers stand for, or the first thing that is wrong with them.
 pub(crate) fn read_numbers(
     alloc: Global,
@@ -203,17 +230,9 @@ pub(crate) fn read_numbers(
     ensures sound { IfOk result (λ _. AreSound split disks.now items.now) }
     ensures refused { IfErr result (IsRefusal split disks.now items.now) }
 {
-    if let Some(why) = size_fault(disks, items) {
-        return Err(why);
-    }
-    if let Some(why) = disk_fault(split, disks) {
-        return Err(why);
-    }
-    if let Err(why) = check_items(alloc, disks, items) {
-        return Err(why);
-    }
-    let Ok(input) = make_input(alloc, split, disks, items) else {
-        return Err(Refusal::Memory);
+    let input = match read_any(alloc, split, disks, items) {
+        Ok(input) => input,
+        Err(why) => return Err(why),
     };
     match room_fault(alloc, &input) {
         None => Ok(input),

@@ -141,7 +141,7 @@ pub(crate) fn write_set(set: &mut [u32], bound: &Bound) -> usize
 }
 
 /// Puts disks, as far as they fit, and answers how many there are.
-fn write_ids(set: &mut [u32], ids: &[DiskId]) -> usize
+pub(crate) fn write_ids(set: &mut [u32], ids: &[DiskId]) -> usize
     ensures { IsHanded (numbers ids.now) set.old set.new result }
 {
     for (k, id) in ids.iter().enumerate() {
@@ -151,7 +151,7 @@ fn write_ids(set: &mut [u32], ids: &[DiskId]) -> usize
 }
 
 /// A cause, and the place where it is.
-fn refusal(cause: u32, place: u32) -> Refused
+pub(crate) fn refusal(cause: u32, place: u32) -> Refused
     ensures { result ≡ record { cause = cause; place = place; needs = 0; has = 0 } }
 {
     Refused {

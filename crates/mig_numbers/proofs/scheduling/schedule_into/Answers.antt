@@ -17,7 +17,10 @@ use Rattle.std.proofs.lemmas.List.{length-map}
 pub returns-then-pairs-gt-MAX_ITEMS-clause-refused : goal.returns-then-pairs-gt-MAX_ITEMS-clause-refused
 returns-then-pairs-gt-MAX_ITEMS-clause-refused c =
     let pairs = c.args.pairs.now in
-    inr (inl (omega (arith, c.if-limits-gt-MAX_DISKS.false, length-map c.args.limits.now disk_for), omega (arith, c.if-pairs-gt-MAX_ITEMS.true, length-map-range_with_len (item_for pairs) 0 (length pairs))))
+    inl (inr (inl (
+      omega (arith, c.if-limits-gt-MAX_DISKS.false, length-map c.args.limits.now disk_for),
+      omega (arith, c.if-pairs-gt-MAX_ITEMS.true, length-map-range_with_len (item_for pairs) 0 (length pairs)),
+    )))
 
 pub plan_input-requires : goal.plan_input-requires
 plan_input-requires c =
