@@ -166,6 +166,6 @@ fn layouts_follow_the_rounds(rt: HostRuntime) {
     ] {
         assert!(rt; rounds as usize <= plan.rounds().len());
         let spots = layout_after(alloc, &input, &plan, rounds).expect(&rt, "ample memory");
-        assert!(rt; spots.as_slice() == wanted);
+        assert!(rt; spots.as_slice() == wanted.as_slice());
     }
 }

@@ -4,7 +4,7 @@ use crate::expecting::{Line, expect_all_over, expect_any};
 use crate::looks::{FILL, three_items};
 use crate::running::outcome_over;
 use crate::stores::{BY_THIRD_DIGEST, DIGEST, are_exchanged, is_done, store_for};
-use crate::tight_moves::{self, full_disks};
+use crate::tight_moves::{FILL as FILL_TWO, full_disks};
 use mig_io::MemFolder;
 use mig_store::{EndOrder, MemStore, Pick};
 use std::alloc::Global;
@@ -27,7 +27,7 @@ struct Carried {
 }
 
 /// The three items. A filling syncs, reads the gate and three slots, writes these and syncs. Each of the twelve writes of the plan is a call.
-static THREE: Carried = Carried {
+const THREE: Carried = Carried {
     is_tight: false,
     fill: FILL,
     begins: "move D N X P",
@@ -44,9 +44,9 @@ static THREE: Carried = Carried {
 };
 
 /// Two full disks. Three marks are zeroed, the head and the gate are written; and in each round a copy, its mark and an erasure.
-static TIGHT: Carried = Carried {
+const TIGHT: Carried = Carried {
     is_tight: true,
-    fill: tight_moves::FILL,
+    fill: FILL_TWO,
     begins: "move-tight D N X P",
     resumes: "resume-tight D N X P",
     resumed: &[
@@ -137,6 +137,6 @@ fn stops(rt: &impl Abort, alloc: Global, case: &Carried, order: EndOrder, pick: 
 #[test]
 fn a_move_is_resumed_whichever_call_fails(rt: HostRuntime) {
     for (case, order, pick) in &CRASHES {
-        assert!(rt; stops(&rt, rt.alloc(), case, *order, *pick) >= case.writes);
+        assert!(rt; stops(&rt, rt.alloc(), *case, *order, *pick) >= case.writes);
     }
 }

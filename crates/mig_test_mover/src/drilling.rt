@@ -1,11 +1,63 @@
-//! What a stop of a plan looks at.
+//! Stops of plans.
 
-use crate::cases::{ONE_MOVE, Place, job_of};
-use crate::stores::filled;
+use crate::cases::{Case, ONE_MOVE, Place, THREE_ITEMS, job_of};
+use crate::stopping::{Marked, ONE_MOVE_MARKED};
+use crate::stores::{filled, is_reached};
 use mig_drill::{Stop, stop_at};
 use mig_jobs::Job;
 use mig_lanes::start_lanes;
 use mig_store::{MemStore, Pick};
+use std::alloc::Global;
+use std::process::Abort;
+
+static THREE_ITEMS_MARKED: [Marked; 12] = [
+    [0, 0, 0, 0],
+    [0, 0, 0, 0],
+    [0, 0, 0, 0],
+    [0, 0, 0, 0],
+    [0, 0, 0, 0],
+    [0, 0, 0, 0],
+    [0, 1, 0, 1],
+    [1, 1, 1, 1],
+    [1, 1, 1, 1],
+    [1, 1, 1, 1],
+    [1, 2, 1, 2],
+    [2, 2, 2, 2],
+];
+
+// Whether a stop of a case after so many writes counts so many marks, and is resumed to the target.
+fn is_stop(
+    rt: &impl Abort,
+    alloc: Global,
+    case: &Case<'_>,
+    writes: u32,
+    pick: Pick,
+    marks: u32,
+) -> bool {
+    let job = job_of(rt, alloc, case);
+    let store = filled(rt, alloc, &job, case.before, Vec::new(alloc));
+    let (stop, left) = stop_at(&job, store, writes, pick);
+    let reached = Stop {
+        marks,
+        reached: true,
+    };
+    (stop, is_reached(&left, &job, case)) == (reached, true)
+}
+
+#[test]
+fn stops_are_counted_and_resumed(rt: HostRuntime) {
+    let picks = [Pick::Old, Pick::New, Pick::Half, Pick::Ones];
+    for (case, marked) in [
+        (&ONE_MOVE, ONE_MOVE_MARKED.as_slice()),
+        (&THREE_ITEMS, THREE_ITEMS_MARKED.as_slice()),
+    ] {
+        for (writes, counts) in marked.iter().enumerate() {
+            for (pick, marks) in picks.iter().zip(counts) {
+                assert!(rt; is_stop(&rt, rt.alloc(), case, writes as u32, *pick, *marks));
+            }
+        }
+    }
+}
 
 // How a start that stops before its first write is resumed, where a crash leaves the old bytes.
 fn first_stop(job: &Job, store: MemStore) -> Stop {

@@ -8,11 +8,11 @@ use mig_store::{EndOrder, MemStore, Pick};
 use std::alloc::Global;
 use std::process::Abort;
 
-// For each write of a start: how many rounds are marked where the start stops before it and a crash leaves the old bytes, the
-// new ones, half of each, or ones.
-type Marked = [u32; 4];
+/// For each write of a start: how many rounds are marked where the start stops before it and a crash leaves the old bytes, the
+/// new ones, half of each, or ones.
+pub type Marked = [u32; 4];
 
-static ONE_MOVE_MARKED: [Marked; 6] = [
+pub static ONE_MOVE_MARKED: [Marked; 6] = [
     [0, 0, 0, 0],
     [0, 0, 0, 0],
     [0, 0, 0, 0],
