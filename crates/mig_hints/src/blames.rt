@@ -2,7 +2,7 @@
 
 use crate::excerpts::{Said, Shown, point, point_whole};
 use crate::files::{Given, Typed};
-use crate::plans::{Step, Want, count_at, line_at, look_for};
+use crate::plans::{Step, Want, count_at, line_at, look_for, word_at};
 use crate::rows::{Key, field, number_at};
 use mig_base::{Blame, read_digits};
 
@@ -69,8 +69,8 @@ fn say_plan(
         Blame::NotHere { round, .. } => say_elsewhere(f, given, plan, *round, name),
         Blame::TwiceInRound { round, .. } => {
             let steps = look_for(plan.bytes, &in_round(name, *round));
-            let first = steps.first.map_or(0, |step| step.line);
             point_step(f, plan, steps.second)?;
+            let first = steps.first_line();
             write!(
                 f,
                 "line {first} moves this item in the same round: a round moves an item once"
@@ -136,19 +136,19 @@ fn say_elsewhere(
         return Ok(());
     };
     let steps = look_for(plan.bytes, &in_round(item, round));
-    let step = match steps.first {
-        Some(step) if step.word(1) == disk && read_digits(step.word(2)) == Some(slot) =>
-            steps.second,
-        other => other,
-    };
-    point_step(f, plan, step)?;
+    let leaves = leaves(steps.first_text(), disk, slot);
+    point_step(f, plan, if leaves { steps.second } else { steps.first })?;
     let name = Shown(item);
     let disk = Shown(disk);
     write!(
         f,
-        "before round {round} `{name}` is in slot {slot} of `{disk}`, "
-    )?;
-    f.push_str("and a shift leaves where its item is: was NOW changed since `plan`?")
+        "before round {round} `{name}` is in slot {slot} of `{disk}`, and a shift leaves where its item is: was NOW changed since `plan`?"
+    )
+}
+
+/// Whether a shift leaves this slot of a disk.
+fn leaves(shift: &[u8], disk: &[u8], slot: u64) -> bool {
+    word_at(shift, 1) == disk && read_digits(word_at(shift, 2)) == Some(slot)
 }
 
 fn say_not_free(
@@ -158,10 +158,10 @@ fn say_not_free(
     round: u32,
     item: &[u8],
 ) -> Said {
-    let step = look_for(plan.bytes, &in_round(item, round)).first;
-    point_step(f, plan, step)?;
-    let name = step.map_or([].as_slice(), |step| step.word(3));
-    let slot = step.map_or(0, |step| u64::from(count_at(step.text.unwrap_or(&[]), 4)));
+    let steps = look_for(plan.bytes, &in_round(item, round));
+    point_step(f, plan, steps.first)?;
+    let name = word_at(steps.first_text(), 3);
+    let slot = u64::from(count_at(steps.first_text(), 4));
     let disk = Shown(name);
     match given.slots_of(name) {
         Some(slots) if slot >= slots => write!(f, "`{disk}` has {slots} slots, which count from 0"),
@@ -196,14 +196,10 @@ fn say_too_often(f: &mut String, given: &Given<'_>, plan: &Typed<'_>, item: &[u8
     point_step(f, plan, last)?;
     let name = Shown(item);
     let now = disk_in(given, "NOW", item);
-    if now.is_some() && now == disk_in(given, "NEXT", item) {
-        return write!(
-            f,
-            "`{name}` stays on its disk, and a plan moves no item that stays"
-        );
-    }
-    write!(
-        f,
-        "an earlier line moves `{name}` too: a plan moves an item once"
-    )
+    let (before, after) = if now.is_some() && now == disk_in(given, "NEXT", item) {
+        ("", "stays on its disk, and a plan moves no item that stays")
+    } else {
+        ("an earlier line moves ", "too: a plan moves an item once")
+    };
+    write!(f, "{before}`{name}` {after}")
 }

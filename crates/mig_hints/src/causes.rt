@@ -78,9 +78,8 @@ pub(crate) fn say_cause(
         (Why::NotInNext, _) => {
             write!(
                 f,
-                "{next} does not list this item: list there the disk where it is to be, "
-            )?;
-            f.push_str("the same one where it stays")
+                "{next} does not list this item: list there the disk where it is to be, the same one where it stays"
+            )
         }
         (Why::NoRoom { needs, slots, .. }, _) => say_room(f, given, *needs, *slots),
         _ => Ok(()),
@@ -151,8 +150,10 @@ fn say_range(f: &mut String, sides: bool, row: &[u8]) -> Said {
         let limit = number_at(row, place);
         if limit < 1 || limit > u64::from(MAX_LIMIT) {
             let what = what_at(FileKind::Disks, sides, place);
-            write!(f, "the {what} is {limit}, and must be 1 to {MAX_LIMIT}; ")?;
-            return write!(f, "a greater one is written as {MAX_LIMIT}");
+            return write!(
+                f,
+                "the {what} is {limit}, and must be 1 to {MAX_LIMIT}; a greater one is written as {MAX_LIMIT}"
+            );
         }
     }
     let slots = number_at(row, slots_at);
@@ -198,14 +199,16 @@ fn say_taken(f: &mut String, now: &Typed<'_>, row: &[u8]) -> Said {
     )
 }
 
+const LEFT: &str = "A slot that an item leaves is not counted as room: ";
+
 /// A disk without room for what comes to it.
 fn say_room(f: &mut String, given: &Given<'_>, needs: u32, slots: u32) -> Said {
-    let command = given.command();
-    write!(f, "{needs} slots are wanted of the {slots}: ")?;
-    f.push_str(
-        "one for each item that is on the disk now, and one for each that comes. A slot that an item leaves is not counted as room: ",
+    write!(
+        f,
+        "{needs} slots are wanted of the {slots}: one for each item that is on the disk now, and one for each that comes. {LEFT}"
     )?;
-    if matches!(command, "after" | "move" | "resume" | "halt") {
+    let command = given.command();
+    if ["after", "move", "resume", "halt"].contains(&command) {
         return write!(f, "a plan of `plan-tight` is for `{command}-tight`");
     }
     f.push_str(

@@ -25,19 +25,20 @@ pub(crate) fn say_cert_line(f: &mut String, given: &Given<'_>, text: &[u8], numb
 /// The first line, which says whether disks have two limits.
 fn say_title(f: &mut String, given: &Given<'_>, line: &[u8]) -> Said {
     let disks = given.shown("DISKS");
-    match (line, sides_of(given)) {
-        (b"migration-certificate 1", Some(true)) => write!(
-            f,
-            "this certificate was made for joint limits, one for each disk, and {disks} has two for each: plan again"
+    let (made, has) = match sides_of(given) {
+        Some(true) if line == b"migration-certificate 1".as_slice() => ("joint limits, one", "two"),
+        Some(false) if line == b"migration-certificate 2".as_slice() => (
+            "split limits, two",
+            "one",
         ),
-        (b"migration-certificate 2", Some(false)) => write!(
-            f,
-            "this certificate was made for split limits, two for each disk, and {disks} has one for each: plan again"
-        ),
-        _ => f.push_str(
+        _ => return f.push_str(
             "a certificate begins with the line `migration-certificate 1`, or `migration-certificate 2` where disks have two limits: is this the file of CERT?",
         ),
-    }
+    };
+    write!(
+        f,
+        "this certificate was made for {made} for each disk, and {disks} has {has} for each: plan again"
+    )
 }
 
 /// Whether disks have two limits, where the file of disks can be read again.

@@ -99,13 +99,7 @@ impl<'a> Given<'a> {
     }
 
     fn place_of(&self, role: &str) -> Option<usize> {
-        let roles = self.roles();
-        for place in 0..roles.len() {
-            if roles[place] == role {
-                return Some(place);
-            }
-        }
-        None
+        self.roles().iter().position(|it| *it == role)
     }
 
     /// The word with this role.
@@ -142,11 +136,10 @@ impl<'a> Given<'a> {
         let word = self.shown("DISKS");
         let name = Shown(disk);
         write!(f, "{word} lists no disk `{name}`")?;
-        if let Some(alike) = self.find("DISKS", &Key::AnyCase(disk)) {
-            let other = Shown(field(alike.text, 0));
-            return write!(f, ", but `{other}`: capitals count");
+        match self.find("DISKS", &Key::AnyCase(disk)) {
+            Some(alike) => { write!(f, ", but `{}`: capitals count", Shown(field(alike.text, 0))) }
+            None => Ok(()),
         }
-        Ok(())
     }
 }
 

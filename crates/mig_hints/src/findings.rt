@@ -111,12 +111,27 @@ pub(crate) fn say_no_file(f: &mut String, given: &Given<'_>, place: usize) -> Sa
     };
     let word = given.word(role).unwrap_or("");
     let shown = Shown(word.as_bytes());
-    write!(f, "migrate: {shown}, the word for {role}, leads to no file")?;
-    f.push_str(match (word, *role) {
-        ("-", _) => "; /dev/stdin reads standard input",
-        (option, _) if option.starts_with("-") => "; there are no options",
-        (_, "PLAN" | "CERT") if given.command().ends_with("-tight") => "; `plan-tight` makes it",
-        (_, "PLAN" | "CERT") => "; `plan` makes it",
-        _ => "",
-    })
+    let help = help_for(given.command(), role, word);
+    write!(
+        f,
+        "migrate: {shown}, the word for {role}, leads to no file{help}"
+    )
+}
+
+/// What helps where the word for a role leads to no file.
+fn help_for(command: &str, role: &str, word: &str) -> &'static str {
+    if word == "-" {
+        return "; /dev/stdin reads standard input";
+    }
+    if word.starts_with("-") {
+        return "; there are no options";
+    }
+    if role != "PLAN" && role != "CERT" {
+        return "";
+    }
+    if command.ends_with("-tight") {
+        "; `plan-tight` makes it"
+    } else {
+        "; `plan` makes it"
+    }
 }

@@ -137,17 +137,15 @@ pub(crate) fn say_no_header(f: &mut String, file: FileKind, typed: &Typed<'_>) -
         return write!(f, "the file is empty; its first line must be {wanted}");
     };
     if let Some(other) = other_file(file, row.text) {
-        let here = role_of(file);
-        let there = role_of(other);
-        write!(
-            f,
-            "this is the header of {there}, and this word stands for {here}, "
-        )?;
-        return write!(
-            f,
-            "whose header is {wanted}: the words come in the order DISKS NOW NEXT"
-        );
+        return say_other(f, role_of(file), role_of(other), wanted);
     }
     let (fault, header) = fault_of(file, row.text);
     write!(f, "{fault}{header}")
+}
+
+fn say_other(f: &mut String, here: &str, there: &str, wanted: &str) -> Said {
+    write!(
+        f,
+        "this is the header of {there}, and this word stands for {here}, whose header is {wanted}: the words come in the order DISKS NOW NEXT"
+    )
 }

@@ -40,10 +40,6 @@ pub(crate) struct Step<'a> {
     pub(crate) round: u32,
     pub(crate) place: Place,
     pub(crate) text: Option<&'a [u8]>,
-    rest: Option<&'a [u8]>,
-    rounds: u32,
-    /// How many shifts of the round are still to come.
-    left: u32,
 }
 
 impl<'a> Step<'a> {
@@ -51,42 +47,57 @@ impl<'a> Step<'a> {
     pub(crate) fn word(&self, place: usize) -> &'a [u8] {
         word_at(self.text.unwrap_or(&[]), place)
     }
+}
 
-    /// The next line is taken from the rest; there is no text where there is none.
-    fn take_line(&mut self) {
-        self.text = self.rest;
-        self.rest = None;
-        if let Some(text) = self.text {
-            if let Some(end) = text.iter().position(|b| *b == b'\n') {
-                self.text = text.get(..end);
-                self.rest = text.get(end + 1..);
-            }
-        }
+/// What is left of a plan's text after a line.
+#[derive(Clone, Copy)]
+struct Rest<'a> {
+    text: Option<&'a [u8]>,
+    rounds: u32,
+    /// How many shifts of the round are still to come.
+    shifts: u32,
+}
+
+impl<'a> Rest<'a> {
+    /// Takes the next line; there is no text where there is none.
+    fn take_line(&mut self) -> Option<&'a [u8]> {
+        let text = self.text?;
+        let end = text.iter().position(|b| *b == b'\n');
+        self.text = end.and_then(|end| text.get(end + 1..));
+        text.get(..end.unwrap_or(text.len()))
     }
 
-    fn next_place(&self) -> Place {
-        match self.place {
+    fn next_place(&self, step: &Step<'_>) -> Place {
+        match step.place {
             Place::Start => Place::Title,
             Place::Title => Place::Count,
             Place::End | Place::Nothing => Place::Nothing,
-            _ if self.left > 0 => Place::Shift,
-            _ if self.round < self.rounds => Place::Head,
+            _ if self.shifts > 0 => Place::Shift,
+            _ if step.round < self.rounds => Place::Head,
             _ => Place::End,
         }
     }
 
-    fn advance(&mut self) {
-        self.take_line();
-        self.line = self.line.saturating_add(1);
-        self.place = self.next_place();
-        match self.place {
-            Place::Count => self.rounds = count_at(self.text.unwrap_or(&[]), 1),
+    /// The line after this one.
+    fn take_step(&mut self, before: &Step<'_>) -> Step<'a> {
+        let text = self.take_line();
+        let place = self.next_place(before);
+        let line = text.unwrap_or(&[]);
+        let mut round = before.round;
+        match place {
+            Place::Count => self.rounds = count_at(line, 1),
             Place::Head => {
-                self.round = self.round.saturating_add(1);
-                self.left = count_at(self.text.unwrap_or(&[]), 2);
+                round = round.saturating_add(1);
+                self.shifts = count_at(line, 2);
             }
-            Place::Shift => self.left = self.left.saturating_sub(1),
+            Place::Shift => self.shifts = self.shifts.saturating_sub(1),
             _ => {}
+        }
+        Step {
+            line: before.line.saturating_add(1),
+            round,
+            place,
+            text,
         }
     }
 }
@@ -124,6 +135,24 @@ pub(crate) struct Steps<'a> {
     pub(crate) count: u32,
 }
 
+impl<'a> Steps<'a> {
+    /// The first of them as text; no bytes where there is none.
+    pub(crate) fn first_text(&self) -> &'a [u8] {
+        match self.first {
+            Some(step) => step.text.unwrap_or(&[]),
+            None => &[],
+        }
+    }
+
+    /// The number of its line, 0 where there is none.
+    pub(crate) fn first_line(&self) -> u32 {
+        match self.first {
+            Some(step) => step.line,
+            None => 0,
+        }
+    }
+}
+
 /// Looks through a plan's text, up to the place after its last line.
 pub(crate) fn look_for<'a>(text: &'a [u8], want: &Want<'_>) -> Steps<'a> {
     let mut found = Steps {
@@ -137,12 +166,14 @@ pub(crate) fn look_for<'a>(text: &'a [u8], want: &Want<'_>) -> Steps<'a> {
         round: 0,
         place: Place::Start,
         text: None,
-        rest: Some(text),
+    };
+    let mut rest = Rest {
+        text: Some(text),
         rounds: 0,
-        left: 0,
+        shifts: 0,
     };
     for _ in 0..=text.len() {
-        step.advance();
+        step = rest.take_step(&step);
         if want.fits(&step) {
             if found.count == 1 {
                 found.second = Some(step);

@@ -1,7 +1,7 @@
 //! Status 9: which slot is not as it should be, what it holds, and where to look first.
 
 use crate::excerpts::{Said, Shown};
-use crate::files::Given;
+use crate::files::{Given, Typed};
 use crate::made::{SLOT, holds_made};
 use crate::rows::{Key, Rows, field, number_at};
 use crate::slots::{Held, look};
@@ -84,10 +84,14 @@ fn say_filled<R: Files<File = File> + AllocGlobal>(
     held: &Held,
 ) -> Said {
     write!(f, ": {held}")?;
-    let Some(now) = given.file("NOW") else {
-        return Ok(());
-    };
-    let (used, made) = count_used(rt, now.bytes.len(), Rows::of(&now))?;
+    match given.file("NOW") {
+        Some(now) => say_counts(f, given, count_used(rt, &now)?),
+        None => Ok(()),
+    }
+}
+
+/// How many slots are used, and how many of them hold just what `fill` writes there.
+fn say_counts(f: &mut String, given: &Given<'_>, (used, made): (u32, u32)) -> Said {
     let disks = given.shown("DISKS");
     let now = given.shown("NOW");
     let kind = if used == made {
@@ -104,13 +108,13 @@ fn say_filled<R: Files<File = File> + AllocGlobal>(
 /// How many of the listed slots are used, and how many hold just what `fill` writes there.
 fn count_used<R: Files<File = File> + AllocGlobal>(
     rt: &R,
-    most: usize,
-    mut rows: Rows<'_>,
+    now: &Typed<'_>,
 ) -> Result<(u32, u32), AllocError> {
+    let mut rows = Rows::of(now);
     let mut used = 0u32;
     let mut made = 0u32;
     let mut bytes = [0; SLOT];
-    for _ in 0..most {
+    for _ in 0..now.bytes.len() {
         let Some((_, row)) = rows.take_row() else {
             break;
         };

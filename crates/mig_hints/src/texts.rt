@@ -93,30 +93,38 @@ pub(crate) fn after_end(line: Option<&[u8]>) -> &'static str {
 
 /// What was expected at the line of a shift.
 fn say_shift(f: &mut String, given: &Given<'_>, line: &[u8]) -> Said {
-    let now = given.shown("NOW");
-    let disks = given.shown("DISKS");
-    let last = MAX_SLOTS - 1;
     for place in 0..5 {
         let word = word_at(line, place);
-        let shown = Shown(word);
-        match place {
-            _ if word.is_empty() => {}
-            0 if is_unlisted(given, "NOW", word) => {
-                return write!(f, "{now} lists no item `{shown}`");
-            }
-            1 | 3 if is_unlisted(given, "DISKS", word) => {
-                return write!(f, "{disks} lists no disk `{shown}`");
-            }
-            2 | 4 if !is_slot(word) => {
-                return write!(
-                    f,
-                    "`{shown}` is no slot: 0 to {last}, without a leading zero"
-                );
-            }
-            _ => {}
+        if !word.is_empty() && is_wrong(given, place, word) {
+            return say_wrong(f, given, place, word);
         }
     }
     f.push_str("wanted is a shift: ITEM FROM FROMSLOT TO TOSLOT, with one blank between two words")
+}
+
+/// Whether a word may not stand at this place of a shift's line.
+fn is_wrong(given: &Given<'_>, place: usize, word: &[u8]) -> bool {
+    match place {
+        0 => is_unlisted(given, "NOW", word),
+        1 | 3 => is_unlisted(given, "DISKS", word),
+        _ => !is_slot(word),
+    }
+}
+
+fn say_wrong(f: &mut String, given: &Given<'_>, place: usize, word: &[u8]) -> Said {
+    let word = Shown(word);
+    let (role, kind) = match place {
+        0 => ("NOW", "item"),
+        1 | 3 => ("DISKS", "disk"),
+        _ => {
+            let last = MAX_SLOTS - 1;
+            return write!(
+                f,
+                "`{word}` is no slot: 0 to {last}, without a leading zero"
+            );
+        }
+    };
+    write!(f, "{} lists no {kind} `{word}`", given.shown(role))
 }
 
 /// Whether a file that can be read again has no row for the name.

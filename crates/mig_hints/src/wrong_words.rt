@@ -77,10 +77,16 @@ fn option_in(given: &[String]) -> Option<&str> {
 
 /// Too few words or too many.
 fn say_count(f: &mut String, row: &Row, given: &[String]) -> Said {
-    if let Some(option) = option_in(given) {
-        let option = Shown(option.as_bytes());
-        return write!(f, "there are no options; `{option}` is one");
+    match option_in(given) {
+        Some(option) => {
+            let option = Shown(option.as_bytes());
+            write!(f, "there are no options; `{option}` is one")
+        }
+        None => say_number(f, row, given),
     }
+}
+
+fn say_number(f: &mut String, row: &Row, given: &[String]) -> Said {
     let command = row.word;
     let wanted = row.roles.len();
     let count = given.len();
@@ -88,13 +94,12 @@ fn say_count(f: &mut String, row: &Row, given: &[String]) -> Said {
         f,
         "`{command}` is followed by {wanted} words, and here by {count}: "
     )?;
-    match (row.roles.get(count), given.get(wanted)) {
-        (Some(role), _) => write!(f, "{role} is missing"),
-        (None, Some(word)) => {
-            let word = Shown(word.as_bytes());
-            write!(f, "`{word}` is too many")
-        }
-        (None, None) => Ok(()),
+    if let Some(role) = row.roles.get(count) {
+        return write!(f, "{role} is missing");
+    }
+    match given.get(wanted) {
+        Some(word) => write!(f, "`{}` is too many", Shown(word.as_bytes())),
+        None => Ok(()),
     }
 }
 
@@ -128,14 +133,21 @@ fn say_files(f: &mut String, row: &Row, given: &[String]) -> Said {
 /// Two words that are the same where one of them is saved.
 fn say_pair(f: &mut String, row: &Row, given: &[String]) -> Said {
     for (role, word) in row.roles.iter().zip(given) {
-        let same = same_word(row.roles, given, role, word.as_str());
-        if let (true, Some(other)) = (is_saved(row, role), same) {
-            let word = Shown(word.as_bytes());
-            write!(f, "`{word}` is the word for {role} and for {other}")?;
-            return write!(f, ", and {role} is saved: the two must differ");
+        if is_saved(row, role) {
+            if let Some(other) = same_word(row.roles, given, role, word.as_str()) {
+                return say_same(f, word.as_bytes(), role, other);
+            }
         }
     }
     f.push_str("the words are no command")
+}
+
+fn say_same(f: &mut String, word: &[u8], role: &str, other: &str) -> Said {
+    let word = Shown(word);
+    write!(
+        f,
+        "`{word}` is the word for {role} and for {other}, and {role} is saved: the two must differ"
+    )
 }
 
 /// The role of another word that is the same.

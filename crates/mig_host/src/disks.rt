@@ -15,6 +15,7 @@ use std::io::{self, Error, ErrorKind};
 use std::rt::Files;
 
 /// The disks' files that are open. That a file isn't there is found out once, until this process makes it.
+#[derive(Drop)]
 pub struct Disks {
     alloc: Global,
     open: IndexMap<Name, Opened>,
@@ -31,22 +32,6 @@ pub struct Disks {
     closed: IndexSet<Name>,
     /// The permissions of the first file that was opened: new ones get the same.
     mode: Option<u32>,
-}
-
-impl Drop for Disks {
-    fn drop(self) {
-        let Disks {
-            alloc: _,
-            open: _open,
-            recent: _,
-            absent: _absent,
-            known: _known,
-            owners: _owners,
-            written: _,
-            closed: _closed,
-            mode: _mode,
-        } = self;
-    }
 }
 
 impl Disks {
@@ -344,7 +329,6 @@ impl Disks {
         if journal.overlaps(opened) {
             return Err(Failure::IsJournal(*name));
         }
-        self.note_owner(name, opened.node, true)?;
         for part in opened.parts.iter() {
             self.note_owner(name, part.node, part.whole)?;
         }

@@ -1,5 +1,5 @@
 //! What went wrong, and with which file.
-use crate::texts::{DiskFile, FileOf, JOURNAL};
+use crate::texts::{FileOf, write_error};
 use mig_base::Name;
 use mig_calls::Place;
 use std::fmt::{self, Display, Formatter};
@@ -89,21 +89,23 @@ pub fn too_many_open() -> io::Error {
 impl Display for Failure {
     fn fmt<W: fmt::Write>(&self, f: &mut Formatter<W>) -> fmt::Result {
         match self {
-            Failure::OfDisk(name, error) => write!(f, "{}: {error}", DiskFile(name)),
-            Failure::OfJournal(error) => write!(f, "{JOURNAL}: {error}"),
-            Failure::OfFolder(error) => write!(f, ".: {error}"),
-            Failure::OfSync(place, error) => write!(f, "{}: {error}: {ANEW}", FileOf(place)),
-            Failure::Unsynced(place) => write!(
-                f,
-                "{}: a sync of it has failed: {ANEW}",
-                FileOf(place)
-            ),
-            Failure::OneFile(disk, other) => {
-                write!(f, "{} and {} are one file", DiskFile(disk), DiskFile(other))
+            Failure::OfDisk(name, error) => write_error(f, &Some(Place::Disk(*name)), *error),
+            Failure::OfJournal(error) => write_error(f, &Some(Place::Journal), *error),
+            Failure::OfFolder(error) => write_error(f, &None, *error),
+            Failure::OfSync(place, error) => {
+                write_error(f, place, *error)?;
+                write!(f, ": {ANEW}")
             }
-            Failure::IsJournal(disk) => {
-                write!(f, "{} and {JOURNAL} are one file", DiskFile(disk))
+            Failure::Unsynced(place) => {
+                write!(f, "{}: a sync of it has failed: {ANEW}", FileOf(place))
             }
+            Failure::OneFile(disk, other) => write_one_file(f, disk, Place::Disk(*other)),
+            Failure::IsJournal(disk) => write_one_file(f, disk, Place::Journal),
         }
     }
+}
+
+fn write_one_file<W: fmt::Write>(f: &mut Formatter<W>, disk: &Name, other: Place) -> fmt::Result {
+    let (one, other) = (Some(Place::Disk(*disk)), Some(other));
+    write!(f, "{} and {} are one file", FileOf(&one), FileOf(&other))
 }

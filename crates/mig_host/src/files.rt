@@ -12,23 +12,13 @@ use std::io::ErrorKind;
 use std::rt::Files;
 
 /// The files of the working folder.
+#[derive(Drop)]
 pub struct HostFiles {
     alloc: Global,
     disks: Disks,
     journal: Journal,
     /// The folder, kept open so that it can be synced when no more files can be opened.
     folder: Option<File>,
-}
-
-impl Drop for HostFiles {
-    fn drop(self) {
-        let HostFiles {
-            alloc: _,
-            disks: _disks,
-            journal: _journal,
-            folder: _folder,
-        } = self;
-    }
 }
 
 impl HostFiles {
@@ -55,10 +45,16 @@ impl HostFiles {
     }
 
     fn open_folder<R: Files<File = File>>(&mut self, rt: &R) -> Result<(), Failure> {
-        if self.folder.is_none() {
-            self.folder = Some(fs::open(rt, ".").map_err(Failure::OfFolder)?);
+        if self.folder.is_some() {
+            return Ok(());
         }
-        Ok(())
+        match fs::open(rt, ".") {
+            Ok(folder) => {
+                self.folder = Some(folder);
+                Ok(())
+            }
+            Err(error) => Err(Failure::OfFolder(error)),
+        }
     }
 
     /// Reads some bytes of a file, none where it isn't there.
@@ -127,9 +123,7 @@ impl HostFiles {
     pub fn sync_names<R: Files<File = File>>(&mut self, rt: &R) -> Result<(), Failure> {
         self.open_folder(rt)?;
         let synced = match &self.folder {
-            Some(folder) => folder
-                .sync_all()
-                .map_err(|error| Failure::OfSync(None, error)),
+            Some(folder) => sync_folder(folder),
             None => Ok(()),
         };
         self.noted(rt, synced)
@@ -155,5 +149,12 @@ impl HostFiles {
         if let Place::Disk(name) = place {
             self.disks.close(name);
         }
+    }
+}
+
+fn sync_folder(folder: &File) -> Result<(), Failure> {
+    match folder.sync_all() {
+        Ok(()) => Ok(()),
+        Err(error) => Err(Failure::OfSync(None, error)),
     }
 }

@@ -48,31 +48,51 @@ pub fn again<T, F: Fn() -> io::Result<T>>(call: F) -> io::Result<T>
 
 /// Looks at a path before it is opened: a pipe would hang there. A link that leads nowhere is refused, since it is a disk that isn't there and not a new one.
 pub fn found_at<R: Files<File = File>>(rt: &R, path: &str) -> io::Result<Found> {
-    match again(|| fs::metadata(rt, path)) {
-        Ok(found) if found.is_file() => Ok(Found::File),
-        Ok(found) if found.file_type().is_block_device() => Ok(Found::Device(found.rdev())),
-        Ok(found) if found.is_dir() => Err(ErrorKind::IsADirectory.into()),
-        Ok(_) => Err(Error::other("it is neither a plain file nor a block device")),
+    match look_at(rt, path) {
+        Ok(found) => kind_of(&found),
         Err(error) if error.kind() == ErrorKind::NotFound => nothing_at(rt, path),
         Err(error) => Err(error),
     }
 }
 
+fn look_at<R: Files<File = File>>(rt: &R, path: &str) -> io::Result<Metadata> {
+    again(|| fs::metadata(rt, path))
+}
+
+fn kind_of(found: &Metadata) -> io::Result<Found> {
+    if found.is_file() {
+        return Ok(Found::File);
+    }
+    if found.file_type().is_block_device() {
+        return Ok(Found::Device(found.rdev()));
+    }
+    if found.is_dir() {
+        return Err(ErrorKind::IsADirectory.into());
+    }
+    Err(Error::other("it is neither a plain file nor a block device"))
+}
+
 fn nothing_at<R: Files<File = File>>(rt: &R, path: &str) -> io::Result<Found> {
     match again(|| fs::symlink_metadata(rt, path)) {
-        Ok(found) if found.is_symlink() => Err(Error::new(
-            ErrorKind::NotFound,
-            "it is a link that leads nowhere: is the disk mounted?",
-        )),
-        Ok(_) => Err(Error::other("another process made it at this moment")),
+        Ok(found) => Err(in_the_way(found.is_symlink())),
         Err(error) if error.kind() == ErrorKind::NotFound => Ok(Found::Nothing),
         Err(error) => Err(error),
     }
 }
 
+fn in_the_way(is_link: bool) -> Error {
+    if is_link {
+        return Error::new(
+            ErrorKind::NotFound,
+            "it is a link that leads nowhere: is the disk mounted?",
+        );
+    }
+    Error::other("another process made it at this moment")
+}
+
 /// Refuses a name that leads to another file than this one.
 pub fn check_name<R: Files<File = File>>(rt: &R, path: &str, node: Node) -> io::Result<()> {
-    match again(|| fs::metadata(rt, path)) {
+    match look_at(rt, path) {
         Ok(found) if node_of(&found) == node => Ok(()),
         Err(error) if error.kind() != ErrorKind::NotFound => Err(error),
         _ => Err(exchanged()),

@@ -11,21 +11,12 @@ use std::io::{self, Error};
 use std::rt::Files;
 
 /// The journal's file, which one process writes at a time.
+#[derive(Drop)]
 pub struct Journal {
     alloc: Global,
     opened: Option<Opened>,
     /// This process alone may write.
     locked: bool,
-}
-
-impl Drop for Journal {
-    fn drop(self) {
-        let Journal {
-            alloc: _,
-            opened: _opened,
-            locked: _,
-        } = self;
-    }
 }
 
 impl Journal {

@@ -36,6 +36,16 @@ pub fn check_mounts<R: Files<File = File>>(
     table: u64,
 ) -> io::Result<()> {
     let text = text_at(rt, alloc, MOUNTS)?;
+    check_lines(rt, alloc, text.as_str(), numbers, table)
+}
+
+fn check_lines<R: Files<File = File>>(
+    rt: &R,
+    alloc: Global,
+    text: &str,
+    numbers: &[u64],
+    table: u64,
+) -> io::Result<()> {
     let mut is_own = false;
     for line in text.lines() {
         if let Some(mount) = mount_of(line) {

@@ -18,7 +18,7 @@ pub struct Opened {
     pub writable: bool,
     /// Which file of the system it is.
     pub node: Node,
-    /// What a device's bytes lie in.
+    /// What its bytes lie in: the file itself, and of a device the others.
     pub parts: Vec<Part>,
     /// Its permissions.
     pub mode: u32,
@@ -50,15 +50,38 @@ pub fn open_to_write<R: Files<File = File>>(
     path: &str,
 ) -> io::Result<(Opened, bool)> {
     match found_at(rt, path)? {
-        Found::Nothing => match make_new(rt, alloc, path) {
-            // another process made it at this moment
-            Err(error) if error.kind() == ErrorKind::AlreadyExists => {
-                Ok((open_there(rt, alloc, path, true)?, false))
-            }
-            made => Ok((made?, true)),
-        },
-        Found::Device(number) => Ok((open_device(rt, alloc, number, true)?, false)),
-        Found::File => Ok((open_there(rt, alloc, path, true)?, false)),
+        Found::Nothing => make_or_open(rt, alloc, path),
+        found => Ok((open_found(rt, alloc, path, found, true)?, false)),
+    }
+}
+
+/// Makes a new file, and opens it where another process made it at this moment.
+fn make_or_open<R: Files<File = File>>(
+    rt: &R,
+    alloc: Global,
+    path: &str,
+) -> io::Result<(Opened, bool)> {
+    match make_new(rt, alloc, path) {
+        Ok(opened) => Ok((opened, true)),
+        Err(error) if error.kind() == ErrorKind::AlreadyExists => {
+            Ok((open_there(rt, alloc, path, true)?, false))
+        }
+        Err(error) => Err(error),
+    }
+}
+
+/// Opens what was found at a path.
+fn open_found<R: Files<File = File>>(
+    rt: &R,
+    alloc: Global,
+    path: &str,
+    found: Found,
+    writable: bool,
+) -> io::Result<Opened> {
+    match found {
+        Found::Nothing => Err(exchanged()),
+        Found::Device(number) => open_device(rt, alloc, number, writable),
+        Found::File => open_there(rt, alloc, path, writable),
     }
 }
 
@@ -70,11 +93,8 @@ pub fn open_again<R: Files<File = File>>(
     node: Node,
     writable: bool,
 ) -> io::Result<Opened> {
-    let opened = match found_at(rt, path)? {
-        Found::Nothing => return Err(exchanged()),
-        Found::Device(number) => open_device(rt, alloc, number, writable)?,
-        Found::File => open_there(rt, alloc, path, writable)?,
-    };
+    let found = found_at(rt, path)?;
+    let opened = open_found(rt, alloc, path, found, writable)?;
     if opened.node == node {
         Ok(opened)
     } else {
@@ -125,11 +145,13 @@ fn look_at(alloc: Global, file: File, writable: bool) -> io::Result<Opened> {
         Node::Plain { .. } => found.len(),
         Node::Device { .. } => file.seek(SeekFrom::End(0))?,
     };
+    let mut parts = Vec::new(alloc);
+    parts.push(Part { node, whole: true })?;
     Ok(Opened {
         file,
         writable,
         node,
-        parts: Vec::new(alloc),
+        parts,
         mode: found.mode() & 0o777,
         len,
     })
@@ -183,17 +205,7 @@ impl Opened {
 
     /// Whether both have bytes in common.
     pub fn overlaps(&self, other: &Opened) -> bool {
-        self.node == other.node
-            || self.parts.iter().any(|part| other.lies_in(part))
-            || other.parts.iter().any(|part| self.node == part.node)
-    }
-
-    fn lies_in(&self, part: &Part) -> bool {
-        self.node == part.node
-            || self
-                .parts
-                .iter()
-                .any(|own| own.node == part.node && (own.whole || part.whole))
+        self.parts.iter().any(|part| part.overlaps(&other.parts))
     }
 
     /// Whether this process may open three files: the next one, and two that another part of it may need.

@@ -25,33 +25,61 @@ pub fn text_if_there<R: Files<File = File>>(
     }
 }
 
-/// The names in a folder, and `.` and `..`, each ended by a NUL; none where it isn't there. A link is followed.
-pub fn names_in<R: Files<File = File>>(rt: &R, alloc: Global, path: &str) -> io::Result<String> {
-    let path = format!(in alloc; "{path}/")?;
-    let names = match rt.open_dir(path.as_str()) {
-        Ok(dir) => read_names(alloc, dir)?,
-        Err(error) if error.kind() == ErrorKind::NotFound => Vec::new(alloc),
-        Err(error) => return Err(error),
-    };
-    Ok(String::from_utf8_lossy(alloc, &names)?)
+/// The path of what has this name in a folder.
+pub fn path_in(alloc: Global, folder: &str, name: &str) -> io::Result<String> {
+    Ok(format!(in alloc; "{folder}/{name}")?)
 }
 
-fn read_names<D: Read + Drop>(alloc: Global, mut dir: D) -> io::Result<Vec<u8>> {
+/// The text of a file in a folder.
+pub fn text_in<R: Files<File = File>>(
+    rt: &R,
+    alloc: Global,
+    folder: &str,
+    name: &str,
+) -> io::Result<String> {
+    let path = path_in(alloc, folder, name)?;
+    text_at(rt, alloc, path.as_str())
+}
+
+/// Adds the paths of what stands in a folder of another one, if it is there. A link is followed.
+pub fn list<R: Files<File = File>>(
+    rt: &R,
+    alloc: Global,
+    folder: &str,
+    name: &str,
+    paths: &mut Vec<String>,
+) -> io::Result<()> {
+    let folder = path_in(alloc, folder, name)?;
+    let names = names_in(rt, alloc, folder.as_str())?;
+    for name in names.split('\0') {
+        if !matches!(name, "" | "." | "..") {
+            paths.push(path_in(alloc, folder.as_str(), name)?)?;
+        }
+    }
+    Ok(())
+}
+
+/// The names in a folder, and `.` and `..`, each ended by a NUL; none where it isn't there.
+fn names_in<R: Files<File = File>>(rt: &R, alloc: Global, path: &str) -> io::Result<String> {
+    let path = path_in(alloc, path, "")?;
+    match rt.open_dir(path.as_str()) {
+        Ok(dir) => read_names(alloc, dir),
+        Err(error) if error.kind() == ErrorKind::NotFound => Ok(String::new(alloc)),
+        Err(error) => Err(error),
+    }
+}
+
+fn read_names<D: Read + Drop>(alloc: Global, mut dir: D) -> io::Result<String> {
     let mut names = Vec::new(alloc);
     let mut some = [0; 4096];
     for _ in 0..u64::MAX {
         let count = dir.read(&mut some)?;
         if count == 0 {
-            return Ok(names);
+            return Ok(String::from_utf8_lossy(alloc, &names)?);
         }
         names.extend_from_slice(&some[..count])?;
     }
     Err(ErrorKind::TimedOut.into())
-}
-
-/// Whether a name of a folder is that of something in it.
-pub fn is_entry(name: &str) -> bool {
-    !name.is_empty() && name != "." && name != ".."
 }
 
 fn is_missing(error: &io::Error) -> bool {

@@ -6,8 +6,16 @@ use std::fmt::{self, Display, Formatter};
 use std::io::{Error, ErrorKind};
 
 /// A name as text.
-fn text_of(name: &Name) -> Result<&str, fmt::Error> {
-    std::str::from_utf8(name.bytes()).map_err(|_| fmt::Error)
+#[derive(Clone, Copy)]
+struct Called<'a>(&'a Name);
+
+impl<'a> Display for Called<'a> {
+    fn fmt<W: fmt::Write>(&self, f: &mut Formatter<W>) -> fmt::Result {
+        match std::str::from_utf8(self.0.bytes()) {
+            Ok(name) => f.write_str(name),
+            Err(_) => Err(fmt::Error),
+        }
+    }
 }
 
 /// The file of a disk, as it is called in the working folder.
@@ -16,7 +24,7 @@ pub struct DiskFile<'a>(pub &'a Name);
 
 impl<'a> Display for DiskFile<'a> {
     fn fmt<W: fmt::Write>(&self, f: &mut Formatter<W>) -> fmt::Result {
-        write!(f, "{}.disk", text_of(self.0)?)
+        write!(f, "{}.disk", Called(self.0))
     }
 }
 
@@ -56,6 +64,9 @@ const TOO_SHORT: &str = "the device is too short for its slots";
 /// What to look at where a slot is not as it should be.
 const LOOK: &str = "is this the right disk, and is it mounted?";
 
+/// The same where the disk's file isn't there.
+const MOUNTED: &str = "is the disk mounted?";
+
 /// Why the store refuses.
 #[derive(Clone, Copy)]
 pub struct Told<'a>(pub &'a Refusal);
@@ -63,70 +74,87 @@ pub struct Told<'a>(pub &'a Refusal);
 impl<'a> Display for Told<'a> {
     fn fmt<W: fmt::Write>(&self, f: &mut Formatter<W>) -> fmt::Result {
         match self.0 {
-            Refusal::Memory { place } => write_error(f, place, ErrorKind::OutOfMemory.into()),
+            Refusal::Memory { place } => write_kind(f, place, ErrorKind::OutOfMemory),
             Refusal::AfterSync => f.write_str("nothing is done after a sync that failed"),
-            Refusal::Interrupted { place } => write_error(f, place, ErrorKind::TimedOut.into()),
-            Refusal::Full { place } => write_error(f, place, too_many_open()),
+            Refusal::Interrupted { place } => write_kind(f, place, ErrorKind::TimedOut),
+            Refusal::Full { place } => write_error(f, &Some(*place), too_many_open()),
             Refusal::TooShort { slot } => write_too_short(f, slot),
-            Refusal::NotHeld { slot, item } => write_unheld(f, slot, item, "doesn't", LOOK),
-            Refusal::NoDisk { slot, item } => {
-                write_unheld(
-                    f,
-                    slot,
-                    item,
-                    "the file isn't there",
-                    "is the disk mounted?",
-                )
-            }
-            Refusal::Cut { slot, item } => {
-                write_unheld(f, slot, item, "the file ends within it", LOOK)
-            }
-            Refusal::Differs { slot, other, item } => write!(
-                f,
-                "{} was copied to {}, and both hold item {}, but differ: which of them is right?",
-                SlotOf(slot),
-                SlotOf(other),
-                text_of(item)?
-            ),
-            Refusal::NoItem { slot } => write!(
-                f,
-                "{} is to be copied, and holds no item: {LOOK}",
-                SlotOf(slot)
-            ),
-            Refusal::Held { slot, item } => write!(
-                f,
-                "{} is to be free, and holds item {}, which was seen nowhere else: {LOOK}",
-                SlotOf(slot),
-                text_of(item)?
-            ),
+            Refusal::NotHeld { slot, item } => write_item(f, slot, HOLD, item, "and doesn't", LOOK),
+            Refusal::NoDisk { slot, item } => write_item(f, slot, HOLD, item, ABSENT, MOUNTED),
+            Refusal::Cut { slot, item } => write_item(f, slot, HOLD, item, CUT, LOOK),
+            Refusal::Held { slot, item } => write_item(f, slot, FREE, item, SEEN, LOOK),
+            Refusal::Differs { slot, other, item } => write_differing(f, slot, other, item),
+            Refusal::NoItem { slot } => write_no_item(f, slot),
         }
     }
 }
 
-fn write_error<W: fmt::Write>(f: &mut Formatter<W>, place: &Place, error: Error) -> fmt::Result {
-    write!(f, "{}: {error}", FileOf(&Some(*place)))
+/// What a slot should be, and what it is, each around the name of an item.
+const HOLD: &str = "should hold";
+
+const ABSENT: &str = "and the file isn't there";
+
+const CUT: &str = "and the file ends within it";
+
+const FREE: &str = "is to be free, and holds";
+
+const SEEN: &str = "which was seen nowhere else";
+
+/// What failed, and why.
+pub fn write_error<W: fmt::Write>(
+    f: &mut Formatter<W>,
+    place: &Option<Place>,
+    error: Error,
+) -> fmt::Result {
+    write!(f, "{}: {error}", FileOf(place))
 }
 
-/// The slot should hold the item: what it does, and what to look at.
-fn write_unheld<W: fmt::Write>(
+fn write_kind<W: fmt::Write>(f: &mut Formatter<W>, place: &Place, kind: ErrorKind) -> fmt::Result {
+    write_error(f, &Some(*place), kind.into())
+}
+
+/// What a slot should be, the item, what is so instead, and what to look at.
+fn write_item<W: fmt::Write>(
     f: &mut Formatter<W>,
     slot: &Cell,
+    should: &str,
     item: &Name,
     what: &str,
     look: &str,
 ) -> fmt::Result {
-    let item = text_of(item)?;
     write!(
         f,
-        "{} should hold item {item}, and {what}: {look}",
-        SlotOf(slot)
+        "{} {should} item {}, {what}: {look}",
+        SlotOf(slot),
+        Called(item)
     )
+}
+
+fn write_differing<W: fmt::Write>(
+    f: &mut Formatter<W>,
+    slot: &Cell,
+    other: &Cell,
+    item: &Name,
+) -> fmt::Result {
+    write!(
+        f,
+        "{} was copied to {}, and both hold item {}, but differ: which of them is right?",
+        SlotOf(slot),
+        SlotOf(other),
+        Called(item)
+    )
+}
+
+fn write_no_item<W: fmt::Write>(f: &mut Formatter<W>, slot: &Cell) -> fmt::Result {
+    let slot = SlotOf(slot);
+    write!(f, "{slot} is to be copied, and holds no item: {LOOK}")
 }
 
 /// The slot's file is told, and not the slot.
 fn write_too_short<W: fmt::Write>(f: &mut Formatter<W>, slot: &Cell) -> fmt::Result {
-    match slot {
-        Cell::Slot { disk, .. } => write!(f, "{}: {TOO_SHORT}", DiskFile(disk)),
-        _ => write!(f, "{JOURNAL}: {TOO_SHORT}"),
-    }
+    let place = match slot {
+        Cell::Slot { disk, .. } => Place::Disk(*disk),
+        _ => Place::Journal,
+    };
+    write!(f, "{}: {TOO_SHORT}", FileOf(&Some(place)))
 }

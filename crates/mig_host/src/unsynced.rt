@@ -24,13 +24,14 @@ fn boot<R: Files<File = File>>(rt: &R, alloc: Global) -> io::Result<String> {
 pub fn note<R: Files<File = File>>(rt: &R, alloc: Global, place: &Option<Place>) -> io::Result<()> {
     let boot = boot(rt, alloc)?;
     let line = format!(in alloc; "{} {}\n", boot.trim_end(), FileOf(place))?;
+    write_note(rt, line.as_bytes())
+}
+
+fn write_note<R: Files<File = File>>(rt: &R, line: &[u8]) -> io::Result<()> {
     let mut options = OpenOptions::new();
-    let mut file = options
-        .write(true)
-        .create(true)
-        .truncate(true)
-        .open(rt, NOTE)?;
-    file.write_all(line.as_bytes())?;
+    options.write(true).create(true).truncate(true);
+    let mut file = options.open(rt, NOTE)?;
+    file.write_all(line)?;
     file.sync_all()
 }
 
