@@ -203,7 +203,7 @@ def the_drain(library, clusters):
             ends.add(numbers.shown)
             numbers = next, f"rounds {numbers.rounds}\nshown {shown[numbers.shown]}\n"
         else:
-            ends.add(numbers[1].split(",")[0].split(" d")[0])
+            ends.add(" ".join(numbers[1].split(",")[0].split()[:2]))
         texts = answer(lambda: tuple(library.drain(*tables(disks, items, split)[:2], f"d{disk}")))
         Count.same(f"drain_numbers of cluster {it}", numbers, texts)
     Count.that("each is shown, and a drain refused in each way", {0, 1, 2, "no disk", "no room"} <= ends, ends)
