@@ -1,5 +1,6 @@
 //! What no command tells: how many rounds plans have where their search begins with what a single disk needs, and the layouts between rounds.
 //! The rounds are as few as can be, which no promise of the planner says: a planner that has lost its search makes more.
+ghost use Rattle.mig_base.specs.Targets.{IsRoomy};
 
 use crate::clusters::{Cluster, THREE_ITEMS, TWO_ROUNDS};
 use mig_base::{DiskId, Input, Spot};
@@ -74,7 +75,9 @@ fn add_items(texts: &mut Texts, source: usize, disks: usize, each: u32) -> Resul
 }
 
 /// The input of three files.
-fn input_of(rt: &impl Abort, alloc: Global, disks: &str, now: &str, next: &str) -> Input {
+fn input_of(rt: &impl Abort, alloc: Global, disks: &str, now: &str, next: &str) -> Input
+    ensures { IsRoomy result }
+{
     let (disks, now) = (disks.as_bytes(), now.as_bytes());
     read_input(alloc, disks, now, next.as_bytes()).expect(rt, "an input")
 }
