@@ -1,10 +1,11 @@
-"""What tests/session tries with the three files, row by row: what is refused (status 3), with the file, the row and the cause, and what is
-not. In the tables a stroke is the end of a line."""
+"""What tests/session tries with the three files, row by row: what is refused (status 3), with the file, the row and the
+cause, and what is not. In the tables a stroke is the end of a line."""
 from session_inputs import cluster, names, table
 from session_plans import PLAN
 from session_rooms import Count, Room
 
-ONE_DISK, ONE_ITEM, NO_ITEM, NO_WAY = "disk,limit,slots/a,2,4/", "item,disk,slot/x,a,0/", "item,disk,slot/", "item,disk/"
+ONE_DISK, ONE_ITEM = "disk,limit,slots/a,2,4/", "item,disk,slot/x,a,0/"
+NO_ITEM, NO_WAY = "item,disk,slot/", "item,disk/"
 TWO_DISKS = "disk,limit,slots/a,1,2/b,1,2/"
 
 # disks files, each beside files without an item
@@ -61,6 +62,7 @@ NEXT = """
     item,disk/ | now row 1: item not in next
     item,disk/x,a/ |
 """
+NO_ROOM = "disks row 2: no room on b, needs 3, has 2"
 # the three files, and how `plan` ends; `plan-tight` reads them without asking for room, and `fill` no next file
 FILES = [
     (TWO_DISKS, "item,disk,slot/x,a,0/y,b,0/", "item,disk/x,b/y,b/", ""),
@@ -69,9 +71,9 @@ FILES = [
     # a fault in each file: the disks file's is told, and then the now file's
     ("disk,limit,slots/a,0,4/", "item,disk,slot/x,q,0/", "item,disk/x,q/", "disks row 1: out of range"),
     (ONE_DISK, "item,disk,slot/x,q,0/", "item,disk/x,q/", "now row 1: unknown disk"),
-    (TWO_DISKS, "item,disk,slot/x,a,0/y,b,0/w,a,1/", "item,disk/x,b/y,b/w,b/", "disks row 2: no room on b, needs 3, has 2"),
+    (TWO_DISKS, "item,disk,slot/x,a,0/y,b,0/w,a,1/", "item,disk/x,b/y,b/w,b/", NO_ROOM),
     # an item that leaves a disk keeps its slot there
-    (TWO_DISKS, "item,disk,slot/x,a,0/y,b,0/w,b,1/", "item,disk/x,b/y,a/w,b/", "disks row 2: no room on b, needs 3, has 2"),
+    (TWO_DISKS, "item,disk,slot/x,a,0/y,b,0/w,b,1/", "item,disk/x,b/y,a/w,b/", NO_ROOM),
 ]
 SWAPPED = ("disk,limit,slots/a,1,1/b,1,1/", "item,disk,slot/x,a,0/y,b,0/", "item,disk/x,b/y,a/")
 TIGHT = [
@@ -108,23 +110,32 @@ def says(room, name, line, end):
     """The line ends so, or well where nothing is given."""
     ran = room.run(*line.split())
     status, _, text = (end or "0 ").partition(" ")
-    Count.that(f"{line} of {name[:300]}", ran.status == int(status) and ran.out.decode().startswith(f"{text}\n" if end else "migration-certificate "), ran)
+    begins = ran.out.decode().startswith(f"{text}\n" if end else "migration-certificate ")
+    Count.that(f"{line} of {name[:300]}", ran.status == int(status) and begins, ran)
 
 
 def largest(program):
-    """As many disks and items as there may be, as long files, and one more; a fault of an earlier file comes before the length of a later one."""
-    numbered = lambda head, count, tail, at="": table(head, [f"i{n}{tail}{n if at else ''}" for n in range(count)])
-    no_item, no_way, one_disk = (it.replace("/", "\n") for it in (NO_ITEM, NO_WAY, ONE_DISK))
-    disks = "disk,limit,slots\na,1,65536\nb,1,65536\n"
+    """As many disks and items as there may be, as long files, and one more; a fault of an earlier file comes before the
+    length of a later one."""
+    numbered = lambda head, count, row: table(head, [row.format(n) for n in range(count)])
+    no_item, no_way, one_disk, one_item = (it.replace("/", "\n") for it in (NO_ITEM, NO_WAY, ONE_DISK, ONE_ITEM))
+    disks = lambda count: numbered("disk,limit,slots", count, "i{},1,1")
+    items = lambda count: numbered("item,disk,slot", count, "i{0},a,{0}")
+    listed = lambda count: numbered("item,disk", count, "i{},b")
+    two, wrong = "disk,limit,slots\na,1,65536\nb,1,65536\n", "item,disk,slot\nx,q,0\n"
     most, more = (one_disk.ljust(it, "\n") for it in (16777216, 16777217))
+    cases = [
+        ([disks(1024), no_item, no_way], None),
+        ([disks(1025), no_item, no_way], "disks row 1025: too many rows"),
+        ([two, items(65536), listed(65537)], "next row 65537: too many rows"),
+        ([two, items(65537), listed(65536)], "now row 65537: too many rows"),
+        ([most, one_item, "item,disk\nx,a\n"], None),
+        ([more, no_item, no_way], "disks row 0: file too long"),
+        ([one_disk, more, no_way], "now row 0: file too long"),
+        ([one_disk, wrong, more], "now row 1: unknown disk"),
+    ]
     with Room(program) as room:
-        for files, end in [
-            *(([numbered("disk,limit,slots", count, ",1,1"), no_item, no_way], text) for count, text in ((1024, None), (1025, "disks row 1025: too many rows"))),
-            *(([disks, numbered("item,disk,slot", items, ",a,", "n"), numbered("item,disk", listed, ",b")], text) for items, listed, text in (
-                (65536, 65537, "next row 65537: too many rows"), (65537, 65536, "now row 65537: too many rows"))),
-            ([most, ONE_ITEM.replace("/", "\n"), "item,disk\nx,a\n"], None), ([more, no_item, no_way], "disks row 0: file too long"),
-            ([one_disk, more, no_way], "now row 0: file too long"), ([one_disk, "item,disk,slot\nx,q,0\n", more], "now row 1: unknown disk"),
-        ]:
+        for files, end in cases:
             names(room, files)
             says(room, f"{end}", PLAN, end and f"3 refused {end}")
 

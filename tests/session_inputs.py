@@ -49,7 +49,8 @@ def many_saved(count):
 # Small clusters, plans and certificates by their rows
 
 def cluster(disks, items):
-    """The three files of a cluster. An item is its name and its spot, and where it goes its target, as in `x a 0 b`; what follows is not read."""
+    """The three files of a cluster. An item is its name and its spot, and where it goes its target, as in `x a 0 b`; what
+    follows is not read."""
     rows = [it.split() for it in items.split(", ") if it]
     head = "disk,out,in,slots" if disks.split(" ")[0].count(",") == 3 else "disk,limit,slots"
     return [table(head, disks.split()), table("item,disk,slot", [",".join(row[:3]) for row in rows]),
@@ -69,7 +70,8 @@ def names(room, files, plan=None, cert=None):
 
 def layout_text(items):
     """Where the items are in the end, which of each are the last two words."""
-    return table("item,disk,slot", [",".join((row[0], *row[-2:])) for row in (it.split() for it in items.split(", ") if it)])
+    rows = (it.split() for it in items.split(", ") if it)
+    return table("item,disk,slot", [",".join((row[0], *row[-2:])) for row in rows])
 
 
 def plan_text(rounds):
@@ -83,5 +85,5 @@ def cert_text(words):
     """A certificate by the rounds, the quotient, the class and the bound, where the disks of a set come last."""
     rounds, quotient, class_, *bound = words.split()
     many = 4 if bound[0] == "set" else len(bound)
-    return table(f"migration-certificate {2 if class_ == 'duplex' else 1}",
-                 [f"rounds {rounds}", f"quotient {quotient}", f"class {class_}", " ".join(["bound", *bound[:many]]), *bound[many:], "end"])
+    lines = [f"rounds {rounds}", f"quotient {quotient}", f"class {class_}", " ".join(["bound", *bound[:many]])]
+    return table(f"migration-certificate {2 if class_ == 'duplex' else 1}", [*lines, *bound[many:], "end"])

@@ -1,5 +1,5 @@
-"""What tests/session tries line by line with small clusters: the words of a line, a bar, the status, and the text, which may be
-one of TEXTS. The lines of a session run one after the other over the same files, disks and journal."""
+"""What tests/session tries line by line with small clusters: the words of a line, a bar, the status, and the text, that
+may be one of TEXTS. The lines of a session run one after the other over the same files, disks and journal."""
 import hashlib
 from session_cells import GATE, SLOT, cell, digest, here
 from session_inputs import cert_text, cluster, layout_text, names, plan_text, table
@@ -19,25 +19,33 @@ NO_ROOM = "refused disks row 1: no room on a, needs 2, has 1\n"
 def drilled(writes, *marks):
     """What is put of a drill whose rounds are marked at these stops: just then a mark may be there or not."""
     counts = [(sum(it < at for it in marks), sum(it <= at for it in marks)) for at in range(writes)]
-    return table(f"writes {writes}", [*(f"stop {at} marks {a} {b} {a} {b}" for at, (a, b) in enumerate(counts)), f"reached {4 * writes}"])
+    stops = [f"stop {at} marks {a} {b} {a} {b}" for at, (a, b) in enumerate(counts)]
+    return table(f"writes {writes}", [*stops, f"reached {4 * writes}"])
 
 
+def replies(items):
+    return "".join(f"{it} {digest(cell(it))}\n" for it in items)
+
+
+KEPT = digest(TWO_ROUNDS.encode())
 TEXTS = {
-    "HERE": here([("x", "a", 0), ("y", "a", 1), ("z", "a", 2)]), "MOVED": here([("x", "b", 0), ("y", "b", 1), ("z", "b", 2)]),
+    "HERE": here([("x", "a", 0), ("y", "a", 1), ("z", "a", 2)]),
+    "MOVED": here([("x", "b", 0), ("y", "b", 1), ("z", "b", 2)]),
     "LOST": "".join(f"{it} a {at} lost {digest(bytes(SLOT))}\n" for at, it in enumerate("xyz")) + "0 here, 3 lost\n",
     "SWAPPED": here([("x", "b", 0), ("y", "a", 0)]), "THREE": MOVED, "TWO": EXCHANGED, "NO_ROOM": NO_ROOM,
-    "WAY": "".join(f"{it} {digest(cell(it))}\n" for it in "xxxz") + "left 0\n", "DRAINED": cert_text("2 2 general disk a 6 4 2"),
-    "ANOTHER": "journal started with another plan {}, ours {}\n".format(*(digest(it.encode()) for it in (TWO_ROUNDS, THREE_ROUNDS))),
+    "WAY": replies("xxxz") + "left 0\n", "DRAINED": cert_text("2 2 general disk a 6 4 2"),
+    "ANOTHER": f"journal started with another plan {KEPT}, ours {digest(THREE_ROUNDS.encode())}\n",
     # the mark is zeroed, the head, the gate, the items and the mark are written, the sources are erased
     "ONE": drilled(6, 4), "TWO_DRILLED": drilled(12, 6, 10), "NONE": drilled(2), "MOST": drilled(516, 259),
 }
 
 # plans and layouts of the three items, and scripts
 OF_THREE = {
-    "P": TWO_ROUNDS, "R": THREE_ROUNDS, "L": MOVED, "W": THREE[1] + "w,b,0\n", "V": plan_text("x a 3 b 0, y a 1 b 1 / z a 2 b 2"),
+    "P": TWO_ROUNDS, "R": THREE_ROUNDS, "L": MOVED, "W": THREE[1] + "w,b,0\n",
+    "V": plan_text("x a 3 b 0, y a 1 b 1 / z a 2 b 2"),
     "B": plan_text("x b 0 a 0"), "O": plan_text(""), "EMPTY": "",
-    "S": "read x\nstep 3\nread x\nstep 1\nread x\nstep 7\nread z\n", "F": "step 5\n", "Z": "step 0\n", "U": "read x", "I": "read q\n",
-    "K": "step 1\nread z\nstep 1000001\n",
+    "S": "read x\nstep 3\nread x\nstep 1\nread x\nstep 7\nread z\n", "F": "step 5\n", "Z": "step 0\n", "U": "read x",
+    "I": "read q\n", "K": "step 1\nread z\nstep 1000001\n",
 }
 OF_FULL = {"A": plan_text("x a 0 b 0, y b 0 a 0"), "O": plan_text(""), "B": plan_text("z a 0 c 0"), "P": None}
 AT_TARGET = "audit D L | 0 MOVED\naudit D N | 0 LOST"
@@ -108,6 +116,7 @@ SESSIONS = [
         {AT_TARGET}""", {"H": None}),
     (THREE, OF_THREE, """fill D W | 0 filled 4
         move D N X P | 9 occupied b 0
+        resume D N X P | 9 occupied b 0
         audit D N | 0 HERE""", {}),
     (FULL, OF_FULL, """plan D N X P C | 3 NO_ROOM
         after-tight D N X A | 1 slot not free round 1 item x
@@ -147,8 +156,8 @@ SESSIONS = [
         drain D N a Z | 0 DRAIN
         plan D N Z P C | 0 DRAINED
         check D N Z P C | 0 optimal""", {"Y": None, "Z": TWO_AND_FOUR, "a": TWO_AND_FOUR}),
-    (cluster("a,1,1 b,1,1", "x a 0 b"), {"P": plan_text("x a 0 b 0"), "C": ""}, "drill D N X P | 0 ONE", {"P": plan_text("x a 0 b 0"), "C": ""}),
-    (cluster("a,2,4", "x a 0"), {"P": plan_text(""), "C": ""}, "drill D N X P | 0 NONE", {"P": plan_text(""), "C": ""}),
+    (cluster("a,1,1 b,1,1", "x a 0 b"), {"P": plan_text("x a 0 b 0"), "C": ""}, "drill D N X P | 0 ONE", {"C": ""}),
+    (cluster("a,2,4", "x a 0"), {"P": plan_text(""), "C": ""}, "drill D N X P | 0 NONE", {"C": ""}),
 ]
 TEXTS.update(ONE_WENT=layout_text("x b 0, y a 1, z a 2"), DRAIN="rounds 2\nshown own 6 4\n")
 
@@ -183,15 +192,15 @@ def sessions(program):
 
 # lines that are no listed form
 NO_FORMS = (
-    "plan; plan D N X P; plan D N X P P; plan D N X D C; plan D N X P C C; audit D a.disk; after D N X a.disk; check D N X P b.mig; "
-    "drill; drill D N X; drill D N X P C; drill D N X P.mig; "
-    "halt D N X P; halt D N X P D; halt D N X P N; halt D N X P X; halt D N X P P; halt D N X P L.mig; halt D N X P a.disk; "
-    "plan-tight D N X; plan-tight D N X P C; plan-tight D N X D; plan-tight D N X N; plan-tight D N X X; plan-tight D N X a.disk; "
-    "Plan-tight D N X P; after-tight D N X; move-tight D N X P L; resume-tight D N X b.mig; halt-tight D N X P; "
-    "halt-tight D N X P P; check-tight D N X P C; "
-    "drain D N a; drain D N a Y Z; drain D N a D; drain D N a N; drain D N a Y.disk; drain D N a Y.mig; drain D.mig N a Y; "
-    "drain D N a,b Y; drain D N abcdefghijabcdefghijabcdefghijabc Y; Drain D N a Y; drain-tight D N a Y; drain R Q a,b Y; "
-    "rehearse; rehearse 2 1; rehearse 2 1 1 1; rehearse 1 1 1; rehearse 2 0 1; rehearse 2 1 0; rehearse 2 1 1025; "
+    "plan; plan D N X P; plan D N X P P; plan D N X D C; plan D N X P C C; audit D a.disk; after D N X a.disk; "
+    "check D N X P b.mig; drill; drill D N X; drill D N X P C; drill D N X P.mig; halt D N X P; halt D N X P D; "
+    "halt D N X P N; halt D N X P X; halt D N X P P; halt D N X P L.mig; halt D N X P a.disk; plan-tight D N X; plan- "
+    "tight D N X P C; plan-tight D N X D; plan-tight D N X N; plan-tight D N X X; plan-tight D N X a.disk; Plan- "
+    "tight D N X P; after-tight D N X; move-tight D N X P L; resume-tight D N X b.mig; halt-tight D N X P; halt- "
+    "tight D N X P P; check-tight D N X P C; drain D N a; drain D N a Y Z; drain D N a D; drain D N a N; "
+    "drain D N a Y.disk; drain D N a Y.mig; drain D.mig N a Y; drain D N a,b Y; "
+    "drain D N abcdefghijabcdefghijabcdefghijabc Y; Drain D N a Y; drain-tight D N a Y; drain R Q a,b Y; rehearse; "
+    "rehearse 2 1; rehearse 2 1 1 1; rehearse 1 1 1; rehearse 2 0 1; rehearse 2 1 0; rehearse 2 1 1025; "
     "rehearse 2 32769 1; rehearse 257 1 3; rehearse 1024 0 1; rehearse 1025 1 1; rehearse 2 00000000001 1; "
     "rehearse 2 9999999999 1; rehearse +2 1 1; rehearse 2 1 0x1"
 ).split("; ")
@@ -235,7 +244,7 @@ DRAINS = [
     # a bad file is told before a missing disk
     ("a", "b,1,1", "x a 0", 3, "refused now row 1: unknown disk", None),
 ]
-# the disks, the items with their next disks, how `plan-tight` ends, and the plan that is saved, if one is and there is no other
+# the disks, the items with their next disks, how `plan-tight` ends, and the plan that is saved, if one is
 TIGHT = [
     ("a,1,1 b,1,1", "x a 0 b, y b 0 a", 13, "no free slot", None),
     ("a,1,1 b,1,1", "x a 0 b, y b 0", 13, "too many for b, needs 2, has 1", None),
@@ -248,7 +257,8 @@ TIGHT = [
     ("a,1,2 b,1,2", "x a 0 b, y b 0 a", 0, "rounds 2, parked 0", ...),
     ("a,1,1,1 b,1,1,1 c,1,1,1", "x a 0 b, y b 0 a", 0, "rounds 3, parked 1", "x a 0 c 0 / y b 0 a 0 / x c 0 b 0"),
     # nine items of three full disks turn: one is parked on a fourth disk, and the free slot goes round three times
-    ("d0,1,3 d1,1,3 d2,1,3 spare,1,1", ", ".join(f"i{n} d{n % 3} {n // 3} d{(n + 1) % 3}" for n in range(9)), 0, "rounds 10, parked 1", ...),
+    ("d0,1,3 d1,1,3 d2,1,3 spare,1,1", ", ".join(f"i{n} d{n % 3} {n // 3} d{(n + 1) % 3}" for n in range(9)),
+     0, "rounds 10, parked 1", ...),
     ("a,1,1 b,1,1 c,1,1", "x a 0 b, y a 0 a", 3, "refused now row 2: slot taken", None),
 ]
 
@@ -260,8 +270,10 @@ def emptied(program):
             names(room, [*cluster(disks, items)[:2], "no next file"])
             before = room.files()
             ends(room, f"{disks}; {items}", f"drain D N {disk} Y", status, text + "\n")
-            wanted = None if next_ is None else table("item,disk", [f"{item.split()[0]},{to}" for item, to in zip(items.split(", "), next_)])
-            Count.same(f"{disks}; {items}: the files", room.files(), before if next_ is None else {**before, "Y": wanted.encode()})
+            if next_ is not None:
+                rows = [f"{item.split()[0]},{to}" for item, to in zip(items.split(", "), next_)]
+                before["Y"] = table("item,disk", rows).encode()
+            Count.same(f"{disks}; {items}: the files", room.files(), before)
 
 
 def tight(program):
@@ -271,7 +283,8 @@ def tight(program):
             names(room, cluster(disks, items))
             ends(room, f"{disks}; {items}", "plan-tight D N X P", status, text + "\n")
             if plan is not ...:
-                Count.same(f"{disks}; {items}: the plan", room.read("P"), None if plan is None else plan_text(plan).encode())
+                wanted = None if plan is None else plan_text(plan).encode()
+                Count.same(f"{disks}; {items}: the plan", room.read("P"), wanted)
 
 
 # files that stand for no input: the three items' but for these, and what is put
@@ -297,8 +310,8 @@ REFUSED = [
     ([THREE[0].ljust(16777217, "\n"), *THREE[1:]], "disks row 0: file too long"),
     *(([rows.replace(" ", "\n").replace("_", " ") + "\n", *THREE[1:]], f"disks {text}") for rows, text in D_ROWS),
     *(([THREE[0], f"item,disk,slot\n{rows}", THREE[2]], f"now {text}") for rows, text in (
-        ("x,a,0\nx,a,1\n", "row 2: item listed twice"), ("x,q,0\n", "row 1: unknown disk"), ("x,a,4\n", "row 1: slot too high"),
-        ("x,a,0\ny,a,0\n", "row 2: slot taken"))),
+        ("x,a,0\nx,a,1\n", "row 2: item listed twice"), ("x,q,0\n", "row 1: unknown disk"),
+        ("x,a,4\n", "row 1: slot too high"), ("x,a,0\ny,a,0\n", "row 2: slot taken"))),
     ([*STAYS[:2], "item,disk\ny,a\n"], "next row 1: item not in now"),
     ([*STAYS[:2], "item,disk\n"], "now row 1: item not in next"),
     (cluster("a,1,2 b,1,2", "x a 0 b, y b 0 b, w a 1 b"), "disks row 2: no room on b, needs 3, has 2"),
@@ -337,13 +350,14 @@ JOURNALS = [
     (2, b"\7" * 32, b"\0\0", f"move D N X P | 0 done 2 rounds, found 0\n{AT_TARGET}"),
     (1, b"\7" * 32, b"\0\0", "move D N X P | 8 SEVENS\nresume D N X P | 8 SEVENS"),
     # the marks count up to the first that is not set
-    (1, hashlib.sha256(TWO_ROUNDS.encode()).digest(), b"\0\1", f"resume D N X P | 0 done 2 rounds, found 0\n{AT_TARGET}"),
+    (1, hashlib.sha256(TWO_ROUNDS.encode()).digest(), b"\0\1",
+     f"resume D N X P | 0 done 2 rounds, found 0\n{AT_TARGET}"),
 ]
-TEXTS["SEVENS"] = f"journal started with another plan {'07' * 32}, ours {digest(TWO_ROUNDS.encode())}\n"
+TEXTS["SEVENS"] = f"journal started with another plan {'07' * 32}, ours {KEPT}\n"
 
 
 def journals(program):
-    """Journals that the plan didn't leave, and one that was started before the items were filled; and what a move leaves."""
+    """Journals that the plan didn't leave, and one that began before the items were filled; and what a move leaves."""
     for gate, head, marks, lines in JOURNALS:
         with Room(program) as room:
             put(room, THREE, OF_THREE)
@@ -358,6 +372,72 @@ def journals(program):
         put(room, THREE, OF_THREE)
         room.write("journal.mig", bytes(GATE) + b"\1")
         follow(room, "fill D N | 8 journal started\naudit D N | 0 LOST")
+
+
+# texts that are no scripts of the three items, and the line that is refused
+NO_SCRIPTS = [
+    ("step 0\n", 1), ("step 01\n", 1), ("step 1000001\n", 1), ("step\n", 1), ("step 1 \n", 1), ("read x", 2),
+    ("read q\n", 1), ("read\n", 1), ("read  x\n", 1), ("read x y\n", 1), ("Read x\n", 1), ("\n", 1), ("read x\n\n", 2),
+    ("read x\n\nread y\n", 2), ("read x\r\n", 1), ("step 1\nstep 2\nread q", 3), ("step 1\nstep 2\nread y", 4),
+    ("q\nread q\n", 1), ("step 1\n" * 65537, 65537),
+    ("\n" * 16777217, 0), ("\n" * 16777216, 1),
+]
+LIVE = "live D N X P S"
+# an item goes away, and another goes to where it was and back again: a slot is left twice
+LEFT = cluster("a,1,1 b,1,1 c,1,1", "x a 0 b, y c 0")
+LEFT_TWICE = {"P": plan_text("x a 0 b 0 / y c 0 a 0 / y a 0 c 0"), "L": layout_text("x b 0, y c 0")}
+# the files, the items, and as many steps as the plan has: of each round its copies, a sync, its mark and its erasures;
+# and a last sync
+STEPPED = [(THREE, OF_THREE, "xyz", 11), (LEFT, LEFT_TWICE, "xy", 13)]
+
+
+def scripts(program):
+    """Status 15 of `live`; and orders that are read, up to as many as there may be."""
+    with Room(program) as room:
+        put(room, THREE, OF_THREE)
+        for text, at in NO_SCRIPTS:
+            room.write("S", text)
+            ends(room, f"{text[:30]!r}", LIVE, 15, f"refused script line {at}\n")
+    for text, reply in ("read z\nstep 1\nstep 1000000\nread x\n", replies("zx")), ("step 1\n" * 65536, ""):
+        with Room(program) as room:
+            put(room, THREE, {**OF_THREE, "S": text})
+            follow(room, "fill D N | 0 filled 3")
+            ends(room, f"{text[:30]!r}", LIVE, 0, f"{reply}left 0\n")
+
+
+def stepped(program):
+    """Each item is read after each step, and once at any moment; and sessions of three steps follow one another."""
+    for files, others, items, steps in STEPPED:
+        reads = "".join(f"read {it}\n" for it in items)
+        cases = [(f"step 1\n{reads}" * steps, replies(items) * steps)]
+        if files is LEFT:
+            once = lambda at, it: "step 1\n" * at + f"read {it}\n" + "step 1\n" * (steps - at)
+            cases += [(once(at, it), replies(it)) for at in range(steps + 1) for it in items]
+        for script, text in cases:
+            with Room(program) as room:
+                put(room, files, {**others, "S": script})
+                follow(room, f"fill D N | 0 filled {len(items)}")
+                ends(room, items, LIVE, 0, f"{text}left 0\n")
+                ran = room.run("audit", "D", "L")
+                Count.that(f"{items}: at their targets", ran.out.endswith(f"{len(items)} here, 0 lost\n".encode()), ran)
+    with Room(program) as room:
+        put(room, LEFT, {**LEFT_TWICE, "S": "step 3\nread x\nread y\n"})
+        follow(room, "fill D N | 0 filled 2")
+        for left in (10, 6, 2, 0):
+            ends(room, f"three steps, and then {left}", LIVE, 0, f"{replies('xy')}left {left}\n")
+
+
+def filled(program):
+    """Two items, the first in the later slot; a gate other than 1 is one of a store where no plan is carried out."""
+    for gate in (b"\0", b"\2"):
+        with Room(program) as room:
+            names(room, cluster("a,1,2", "x1 a 1, y a 0"))
+            room.write("journal.mig", bytes(GATE) + gate)
+            lost = [f"{it} lost {digest(bytes(SLOT))}" for it in ("x1 a 1", "y a 0")]
+            ends(room, "nothing", "audit D N", 0, table(lost[0], [lost[1], "0 here, 2 lost"]))
+            follow(room, "fill D N | 0 filled 2\nfill D N | 9 occupied a 1")
+            ends(room, "x1 and y", "audit D N", 0, here([("x1", "a", 1), ("y", "a", 0)]))
+            Count.same("x1 and y: the disk", room.read("a.disk"), cell("y") + cell("x1"))
 
 
 # lines whose text can't be put, and what is done all the same
@@ -382,7 +462,10 @@ def untold(program):
 
 
 # SHA-256 of the two plans of two items that change places one after the other, by the one that goes first
-TWO_PLANS = ("6431c34c4c89e0ed4152f7d9d39e2635418390e7258926981e3c6f92728020cc", "04aba060805098fae1d1c056966b15e8010d4c5b9a8b2bde8accd4067896126b")
+TWO_PLANS = (
+    "6431c34c4c89e0ed4152f7d9d39e2635418390e7258926981e3c6f92728020cc",
+    "04aba060805098fae1d1c056966b15e8010d4c5b9a8b2bde8accd4067896126b",
+)
 REHEARSED = "disks 2\nitems 2\nmoves 2\nquotient {0}\nrounds {0}\nbound {0}\nverdict optimal\nplan "
 
 
@@ -396,6 +479,6 @@ def rehearsed(program):
             Count.that(line, (ran.status, f"{text} ") == (0, REHEARSED.format(rounds)) and plan in plans, ran)
 
 
-CASES = [sessions, no_forms, emptied, tight, refused, journals, untold, rehearsed]
+CASES = [sessions, no_forms, emptied, tight, refused, journals, filled, scripts, stepped, untold, rehearsed]
 # a long run, which is the same for each build of the program
 ONCE = [large_drills]

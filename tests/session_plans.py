@@ -8,8 +8,8 @@ TWO, THREE_MOVE, TWO_NEEDED = "a,2,4 b,2,4", "x a 0 b 0, y a 1 b 1, z a 2 b 2", 
 RING, RING_MOVES, RING_NEEDS = "a,1,2 b,1,2 c,1,2", "x a 0 b 1, y b 0 c 1, z c 0 a 1", "3 2 general set 3 3 3 a b c"
 BOTH_WAYS, IN_TWO = "w a 0 b 2, x b 1, y a 3 b 3, z b 0 a 1", [[2, 1], [1, 2]]
 
-# the disks; the items, each with its spot and where it goes with the spot there; the shifts of each round, as one of these,
-# where that is settled; and the certificate, or one for each number of rounds that there may be
+# the disks; the items, each with its spot and where it goes with the spot there; the shifts of each round, as one of
+# these, where that is settled; and the certificate, or one for each number of rounds that there may be
 PLANNED = [
     (TWO, THREE_MOVE, IN_TWO, TWO_NEEDED),
     ("a,2,4", "x a 0", [[]], "0 0 even nothing"),
@@ -41,12 +41,13 @@ PLANNED = [
      "o0 a0 0 a1 2, s0 a0 1 b0 1, n0 b0 0 b2 1, o1 a1 0 a2 2, s1 a1 1 b1 1, n1 b1 0 b3 1, o2 a2 0 a3 2, s2 a2 1 b2 2, "
      "n2 b2 0 b4 1, o3 a3 0 a4 2, s3 a3 1 b3 2, n3 b3 0 b0 2, o4 a4 0 a0 2, s4 a4 1 b4 2, n4 b4 0 b1 2",
      None, "4 3 general disk a0 3 1 3"),
-    # one disk of limit 4 gives to three of limit 1, and nothing comes back; the odd limit of the last disk changes nothing
+    # one disk of limit 4 gives to three of limit 1; the last disk, of an odd limit, takes no part
     ("h,4,9 p,1,3 q,1,3 r,1,3 s,7,1",
      "t h 0 p 0, u h 1 p 1, v h 2 p 2, w h 3 q 0, x h 4 q 1, y h 5 q 2, z h 6 r 0, k h 7 r 1, l h 8 r 2",
      None, "3 3 general disk h 9 4 3"),
     # each of three disks has two ends; the last one has the least limit
-    ("a,9,4 b,2,4 c,1,4", "x a 0 b 1, y b 0 c 0, z a 1 c 1", None, "2 2 general disk c 2 1 2", "3 2 general disk c 2 1 2"),
+    ("a,9,4 b,2,4 c,1,4", "x a 0 b 1, y b 0 c 0, z a 1 c 1", None,
+     "2 2 general disk c 2 1 2", "3 2 general disk c 2 1 2"),
     # a triangle of limits 2, and one of limits 1, which needs more rounds
     ("a,2,2 b,2,2 c,2,2 d,1,2 e,1,2 f,1,2", "x d 0 e 1, y e 0 f 1, z f 0 d 1, u a 0 b 1, v b 0 c 1, w c 0 a 1",
      None, "3 2 general set 3 3 3 d e f"),
@@ -68,7 +69,7 @@ def is_optimal(cert):
 
 
 def ends_planned(room, name, *certs):
-    """A plan ends with one of these certificates, which is saved, and `check` counts the same. Gives the one that it is."""
+    """A plan ends with one of these certificates, which is saved, and `check` counts the same. Gives that one."""
     ran = room.run(*PLAN.split())
     cert = next((it for it in certs if cert_text(it).encode() == ran.out), certs[0])
     Count.ended(f"plan {name}", ran, 0, cert_text(cert))
@@ -85,8 +86,10 @@ def is_planned(room, files, items, sizes, *certs):
     plan = room.read("P").decode()
     rounds = [it.split("\n")[1:-1] for it in plan.replace("end\n", "round ").split("round ")[1:-1]]
     Count.same(f"{items}: the plan's text", plan, plan_text(" / ".join(map(", ".join, rounds))))
-    Count.same(f"{items}: its shifts", sorted(sum(rounds, [])), sorted(it for it in items.split(", ") if len(it.split()) == 5))
-    Count.that(f"{items}: its rounds", len(rounds) == int(cert.split()[0]) and (not sizes or [*map(len, rounds)] in sizes), plan)
+    shifts = [it for it in items.split(", ") if len(it.split()) == 5]
+    Count.same(f"{items}: its shifts", sorted(sum(rounds, [])), sorted(shifts))
+    Count.same(f"{items}: how many rounds", len(rounds), int(cert.split()[0]))
+    Count.that(f"{items}: its rounds", not sizes or [*map(len, rounds)] in sizes, plan)
     ends(room, items, AFTER, 0, layout_text(items))
 
 
@@ -106,14 +109,14 @@ def drawn(disks, items):
 
 
 def exchange(limits, each, guest):
-    """Disks of which each gives so many items to each other one; with a guest, of limit 1, to which the first one gives one."""
+    """Disks of which each gives so many items to each other one, and the first one also one to a guest of limit 1."""
     others = [[it for it in range(len(limits)) if it != disk for _ in range(each)] for disk in range(len(limits))]
     items = [(disk, slot, target) for disk, targets in enumerate(others) for slot, target in enumerate(targets)]
     return drawn([*((limit, 4096) for limit in limits), *[(1, 1)] * guest], [*items, *[(0, 4095, len(limits))] * guest])
 
 
-# the limits, the items of each pair and whether there is a guest; and the certificate: the rounds are as few as can be, which no
-# promise of the planner says
+# the limits, the items of each pair and whether there is a guest; and the certificate: the rounds are as few as can be,
+# which no promise of the planner says
 EXCHANGES = [
     # of 600 moves a round has at most 7 of the 15 ends that the limits allow: 86 rounds
     ([3] * 5, 30, False, "86 80 general set 5 600 86 d0 d1 d2 d3 d4"),
@@ -128,24 +131,26 @@ EXCHANGES = [
 
 
 def few_rounds(program):
-    """Odd limits; limits that are lowered to even ones; two sides, a and c, and b and d, with items that go both ways."""
+    """Odd limits; limits that are lowered to even ones; two sides, a and c, and b and d, whose items go both ways."""
     with Room(program) as room:
         for limits, each, guest, cert in EXCHANGES:
             names(room, exchange(limits, each, guest))
             ends_planned(room, f"limits {limits}", cert)
-        names(room, cluster("a,5,20 b,5,20 c,5,20", ", ".join(f"{disk}{n} {disk} {n} {to}" for disk, to in ("ab", "bc", "ca") for n in range(10))))
+        items = [f"{disk}{n} {disk} {n} {to}" for disk, to in ("ab", "bc", "ca") for n in range(10)]
+        names(room, cluster("a,5,20 b,5,20 c,5,20", ", ".join(items)))
         ends_planned(room, "lowered limits", "5 4 general set 3 30 5 a b c")
         names(room, cluster("a,1,9 b,3,9 c,1,9 d,3,9", "u a 0 b, v b 0 a, w b 1 c, x c 0 d, y d 0 c, z d 1 a"))
         ends_planned(room, "two sides", "3 3 general disk a 3 1 3")
 
 
 def many_items(program):
-    """4,096 items on 16 disks, each into the slot that lies 256 higher; and the most items that there may be, a round for each."""
+    """4,096 items on 16 disks, each into the slot that lies 256 higher; and the most items, with a round for each."""
     with Room(program) as room:
         moves = [(disk, slot, (disk + 1 + slot % 15) % 16) for slot in range(256) for disk in range(16)]
         names(room, drawn([(4, 512)] * 16, moves))
         ends_planned(room, "4096 items", "128 128 even disk d0 512 4 128")
-        ends(room, "4096 items", AFTER, 0, layout_text(", ".join(f"i{disk}-{slot} d{to} {slot + 256}" for disk, slot, to in moves)))
+        moved = [f"i{disk}-{slot} d{to} {slot + 256}" for disk, slot, to in moves]
+        ends(room, "4096 items", AFTER, 0, layout_text(", ".join(moved)))
         names(room, drawn([(1, 65536)] * 2, [(0, slot, 1) for slot in range(65536)]))
         ends_planned(room, "the most items", "65536 65536 general disk d0 65536 1 65536")
 
@@ -226,8 +231,8 @@ NO_PLANS = [
     (TWO_ROUNDS + "\n", 10),
 ]
 
-# texts that are no certificate, and the line that is refused: of three disks without items, of the three items, and of these
-# under split limits
+# texts that are no certificate, and the line that is refused: of three disks without items, of the three items, and of
+# these under split limits
 EMPTY = ("a,2,4 b,2,4 c,2,4", "", plan_text(""), "")
 NO_CERTS = [
     (EMPTY, "", 1),
@@ -270,7 +275,7 @@ def judged(program):
 
 
 def no_texts(program):
-    """Status 10: of both for a plan, also before its certificate, and where it is cut anywhere; of `check` for a certificate."""
+    """Status 10: of both for a plan, also before its certificate, and cut anywhere; of `check` for a certificate."""
     cuts = [(TWO_ROUNDS[:at], 1 + TWO_ROUNDS[: at + 1].count("\n")) for at in range(len(TWO_ROUNDS))]
     with Room(program) as room:
         names(room, cluster(TWO, THREE_MOVE), "", "")

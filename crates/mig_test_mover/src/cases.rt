@@ -66,24 +66,15 @@ pub static THREE_ITEMS: Case<'static> = Case {
     ],
 };
 
-/// Another plan for the three items, of a round for each.
-pub static ONE_BY_ONE: &str =
-    "migration-plan 1\nrounds 3\nround 1 1\nx a 0 b 0\nround 2 1\ny a 1 b 1\nround 3 1\nz a 2 b 2\nend\n";
-
-/// The job of a plan beside the files of a case.
-pub fn job_with(rt: &impl Abort, alloc: Global, case: &Case<'_>, plan_text: &str) -> Job {
+/// The job of a case.
+pub fn job_of(rt: &impl Abort, alloc: Global, case: &Case<'_>) -> Job {
     let disks = case.disks.as_bytes();
     let now = case.now.as_bytes();
     let input = read_input(alloc, disks, now, case.next.as_bytes()).expect(
         rt,
         "files of a migration",
     );
-    let plan = read_plan(alloc, &input, plan_text.as_bytes()).expect(rt, "a plan");
+    let plan = read_plan(alloc, &input, case.plan.as_bytes()).expect(rt, "a plan");
     runs(alloc, &input, &plan).expect(rt, "a plan that runs");
-    prepare(alloc, &input, &plan, plan_text.as_bytes()).expect(rt, "ample memory")
-}
-
-/// The job of a case.
-pub fn job_of(rt: &impl Abort, alloc: Global, case: &Case<'_>) -> Job {
-    job_with(rt, alloc, case, case.plan)
+    prepare(alloc, &input, &plan, case.plan.as_bytes()).expect(rt, "ample memory")
 }

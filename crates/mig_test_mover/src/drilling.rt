@@ -1,15 +1,13 @@
-//! Stops of plans, and the text of drills.
+//! Stops of plans.
 
 use crate::cases::{Case, ONE_MOVE, Place, THREE_ITEMS, job_of};
 use crate::stopping::{Marked, ONE_MOVE_MARKED};
 use crate::stores::{filled, is_reached};
-use mig_drill::{DrillFault, Stop, drill, stop_at};
-use mig_io::MemSink;
+use mig_drill::{Stop, stop_at};
 use mig_jobs::Job;
 use mig_lanes::start_lanes;
 use mig_store::{MemStore, Pick};
 use std::alloc::Global;
-use std::panic::Expect;
 use std::process::Abort;
 
 static THREE_ITEMS_MARKED: [Marked; 12] = [
@@ -46,40 +44,19 @@ fn is_stop(
     (stop, is_reached(&left, &job, case)) == (reached, true)
 }
 
-// Whether the stop of a case after so many writes is so with each pick.
-fn are_stops(
-    rt: &impl Abort,
-    alloc: Global,
-    case: &Case<'_>,
-    writes: u32,
-    marked: &Marked,
-) -> bool {
-    let picks = [Pick::Old, Pick::New, Pick::Half, Pick::Ones];
-    for (pick, marks) in picks.iter().zip(marked) {
-        if !is_stop(rt, alloc, case, writes, *pick, *marks) {
-            return false;
-        }
-    }
-    true
-}
-
-// Whether each stop of a case is so.
-fn are_all_stops(rt: &impl Abort, alloc: Global, case: &Case<'_>, marked: &[Marked]) -> bool {
-    let mut writes: u32 = 0;
-    for counts in marked {
-        if !are_stops(rt, alloc, case, writes, counts) {
-            return false;
-        }
-        writes = writes.saturating_add(1);
-    }
-    true
-}
-
 #[test]
 fn stops_are_counted_and_resumed(rt: HostRuntime) {
-    let alloc = rt.alloc();
-    assert!(rt; are_all_stops(&rt, alloc, &ONE_MOVE, &ONE_MOVE_MARKED));
-    assert!(rt; are_all_stops(&rt, alloc, &THREE_ITEMS, &THREE_ITEMS_MARKED));
+    let picks = [Pick::Old, Pick::New, Pick::Half, Pick::Ones];
+    for (case, marked) in [
+        (&ONE_MOVE, ONE_MOVE_MARKED.as_slice()),
+        (&THREE_ITEMS, THREE_ITEMS_MARKED.as_slice()),
+    ] {
+        for (writes, counts) in marked.iter().enumerate() {
+            for (pick, marks) in picks.iter().zip(counts) {
+                assert!(rt; is_stop(&rt, rt.alloc(), case, writes as u32, *pick, *marks));
+            }
+        }
+    }
 }
 
 // How a start that stops before its first write is resumed, where a crash leaves the old bytes.
@@ -112,67 +89,4 @@ fn a_stop_looks_at_the_store(rt: HostRuntime) {
                 reached: true
             }
     );
-}
-
-static ONE_MOVE_TEXT: &str = "\
-writes 6
-stop 0 marks 0 0 0 0
-stop 1 marks 0 0 0 0
-stop 2 marks 0 0 0 0
-stop 3 marks 0 0 0 0
-stop 4 marks 0 1 0 1
-stop 5 marks 1 1 1 1
-reached 24
-";
-
-static THREE_ITEMS_TEXT: &str = "\
-writes 12
-stop 0 marks 0 0 0 0
-stop 1 marks 0 0 0 0
-stop 2 marks 0 0 0 0
-stop 3 marks 0 0 0 0
-stop 4 marks 0 0 0 0
-stop 5 marks 0 0 0 0
-stop 6 marks 0 1 0 1
-stop 7 marks 1 1 1 1
-stop 8 marks 1 1 1 1
-stop 9 marks 1 1 1 1
-stop 10 marks 1 2 1 2
-stop 11 marks 2 2 2 2
-reached 48
-";
-
-// What a drill of a case answers, and the sink into which it prints. The sink's puts with these numbers fail.
-fn drilled(
-    rt: &impl Abort,
-    alloc: Global,
-    case: &Case<'_>,
-    failing: &[u64],
-) -> (Result<u32, DrillFault>, MemSink) {
-    let job = job_of(rt, alloc, case);
-    assert!(rt; job.shifts() <= 256);
-    let failing = Vec::from_slice(alloc, failing).expect(rt, "ample memory");
-    let mut out = MemSink::new(alloc, 1000, failing).expect(rt, "ample memory");
-    let answer = drill(alloc, job.input(), &job, &mut out);
-    (answer, out)
-}
-
-#[test]
-fn a_drill_prints_each_stop(rt: HostRuntime) {
-    let alloc = rt.alloc();
-    for (case, stops, text) in [
-        (&ONE_MOVE, 24, ONE_MOVE_TEXT),
-        (&THREE_ITEMS, 48, THREE_ITEMS_TEXT),
-    ] {
-        let (answer, out) = drilled(&rt, alloc, case, &[]);
-        assert!(rt; answer == Ok(stops));
-        assert!(rt; out.held() == text.as_bytes());
-    }
-}
-
-#[test]
-fn a_drill_tells_that_the_sink_failed(rt: HostRuntime) {
-    let (answer, out) = drilled(&rt, rt.alloc(), &THREE_ITEMS, &[0]);
-    assert!(rt; answer == Err(DrillFault::Sink));
-    assert!(rt; out.held().is_empty());
 }

@@ -76,8 +76,8 @@ fn trouble_of(rt: &impl Abort, alloc: Global, manner: &Manner, number: u64) -> T
     trouble
 }
 
-/// A store over these files, whose calls go wrong so.
-pub fn store_over(
+// A store over these files, whose calls go wrong so.
+fn store_over(
     rt: &impl Abort,
     alloc: Global,
     mut calls: MemCalls,
@@ -101,8 +101,8 @@ fn crashed(
     store_over(rt, alloc, calls, trouble)
 }
 
-/// Writes the items of a case, and syncs them.
-pub fn fill(rt: &impl Abort, store: &mut FileStore<MemCalls>, case: &Case<'_>) {
+// Writes the items of a case, and syncs them.
+fn fill(rt: &impl Abort, store: &mut FileStore<MemCalls>, case: &Case<'_>) {
     for (disk, slot, item) in case.before {
         if *item != 0 {
             let cell = slot_of(*disk, *slot);
@@ -119,8 +119,8 @@ fn has(store: &mut FileStore<MemCalls>, cell: &Cell, wanted: &[u8]) -> bool {
     store.read(cell, &mut bytes[..len]).is_ok() && &bytes[..len] == wanted
 }
 
-/// Whether the target of a case is reached.
-pub fn is_reached(store: &mut FileStore<MemCalls>, job: &Job, case: &Case<'_>) -> bool {
+// Whether the target of a case is reached.
+fn is_reached(store: &mut FileStore<MemCalls>, job: &Job, case: &Case<'_>) -> bool {
     for n in 0..job.rounds() {
         if !has(store, &Cell::Mark { n: n + 1 }, &[1]) {
             return false;

@@ -1,5 +1,5 @@
-//! The README's example; and tests: the calls of the mover over stores in memory, and plans that are carried out on them and on files in
-//! memory, stopped anywhere, resumed, drilled and carried out step by step, apart from mover and drill, so that each is proved once.
+//! The README's example; and tests: plans that are carried out on stores and on files in memory, stopped anywhere, resumed, closed and
+//! carried out step by step, apart from mover and drill, so that each is proved once.
 #![tactic(auto)]
 
 #[cfg(test)]
@@ -12,8 +12,6 @@ mod example;
 #[cfg(test)]
 mod file_stops;
 #[cfg(test)]
-mod filling;
-#[cfg(test)]
 mod flying;
 #[cfg(test)]
 mod halting;
@@ -21,10 +19,6 @@ mod halting;
 mod jobs;
 #[cfg(test)]
 mod reading;
-#[cfg(test)]
-mod refusing;
-#[cfg(test)]
-mod scripting;
 #[cfg(test)]
 mod stepping;
 #[cfg(test)]
