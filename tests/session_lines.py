@@ -54,6 +54,10 @@ AT_TARGET = "audit D L | 0 MOVED\naudit D N | 0 LOST"
 SESSIONS = [
     (THREE, {"EMPTY": ""}, """plan D N Q P C | 16 no file Q
         plan R N Q P C | 16 no file R
+        plan none/D N X P C | 16 no file none/D
+        plan N/D N X P C | 4 folder fault
+        plan D N X none/P C | 4 folder fault
+        plan D N X D/P C | 4 folder fault
         check D N X P C | 16 no file P
         check D N X Q R | 16 no file Q
         check D N X X R | 16 no file R

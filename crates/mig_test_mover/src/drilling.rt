@@ -44,19 +44,40 @@ fn is_stop(
     (stop, is_reached(&left, &job, case)) == (reached, true)
 }
 
-#[test]
-fn stops_are_counted_and_resumed(rt: HostRuntime) {
+// Whether the stop of a case after so many writes is so with each pick.
+fn are_stops(
+    rt: &impl Abort,
+    alloc: Global,
+    case: &Case<'_>,
+    writes: u32,
+    marked: &Marked,
+) -> bool {
     let picks = [Pick::Old, Pick::New, Pick::Half, Pick::Ones];
-    for (case, marked) in [
-        (&ONE_MOVE, ONE_MOVE_MARKED.as_slice()),
-        (&THREE_ITEMS, THREE_ITEMS_MARKED.as_slice()),
-    ] {
-        for (writes, counts) in marked.iter().enumerate() {
-            for (pick, marks) in picks.iter().zip(counts) {
-                assert!(rt; is_stop(&rt, rt.alloc(), case, writes as u32, *pick, *marks));
-            }
+    for (pick, marks) in picks.iter().zip(marked) {
+        if !is_stop(rt, alloc, case, writes, *pick, *marks) {
+            return false;
         }
     }
+    true
+}
+
+// Whether each stop of a case is so.
+fn are_all_stops(rt: &impl Abort, alloc: Global, case: &Case<'_>, marked: &[Marked]) -> bool {
+    let mut writes: u32 = 0;
+    for counts in marked {
+        if !are_stops(rt, alloc, case, writes, counts) {
+            return false;
+        }
+        writes = writes.saturating_add(1);
+    }
+    true
+}
+
+#[test]
+fn stops_are_counted_and_resumed(rt: HostRuntime) {
+    let alloc = rt.alloc();
+    assert!(rt; are_all_stops(&rt, alloc, &ONE_MOVE, &ONE_MOVE_MARKED));
+    assert!(rt; are_all_stops(&rt, alloc, &THREE_ITEMS, &THREE_ITEMS_MARKED));
 }
 
 // How a start that stops before its first write is resumed, where a crash leaves the old bytes.
