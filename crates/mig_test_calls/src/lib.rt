@@ -11,21 +11,15 @@ mod digests;
 #[cfg(test)]
 mod disk_files;
 #[cfg(test)]
-mod draining;
-#[cfg(test)]
 mod file_stores;
 #[cfg(test)]
 mod folders;
 #[cfg(test)]
 mod host_calls;
 #[cfg(test)]
-mod inputs;
-#[cfg(test)]
 mod made_cases;
 #[cfg(test)]
 mod name_tables;
-#[cfg(test)]
-mod refusals;
 #[cfg(test)]
 mod saves;
 #[cfg(test)]
@@ -34,8 +28,6 @@ mod shared_nodes;
 mod stores;
 #[cfg(test)]
 mod streams;
-#[cfg(test)]
-mod tight_plans;
 #[cfg(test)]
 mod two_sides;
 #[cfg(test)]
