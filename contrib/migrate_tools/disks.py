@@ -1,5 +1,6 @@
 """Disks files, with one limit for each disk or with two: reading and writing them, and at which limits a transfer
 counts."""
+import collections
 from collections.abc import Callable, Iterable, Mapping, Sequence
 from dataclasses import dataclass
 from typing import NamedTuple, TypeVar
@@ -100,6 +101,15 @@ def limits_by_side(disks: Disks) -> dict[Side, int]:
 
 def is_split(disks: Disks) -> bool:
     return any(isinstance(it.limits, Split) for it in disks.values())
+
+
+def loads_of(shifts: Sequence[Shift], disks: Disks) -> Mapping[Side, int]:
+    """How many of these count at each side."""
+    out, in_ = ("out", "in") if is_split(disks) else ("", "")
+    targets = [it.target for it in shifts if out or it.source != it.target]
+    found = collections.Counter({Side(it, in_): count for it, count in collections.Counter(targets).items()})
+    found.update({Side(it, out): count for it, count in collections.Counter([it.source for it in shifts]).items()})
+    return found
 
 
 def sides_of(shift: Shift, disks: Disks) -> set[Side]:
