@@ -103,13 +103,11 @@ def is_split(disks: Disks) -> bool:
     return any(isinstance(it.limits, Split) for it in disks.values())
 
 
-def loads_of(shifts: Sequence[Shift], disks: Disks) -> Mapping[Side, int]:
+def loads_of(shifts: Sequence[Shift], disks: Disks) -> Mapping[tuple[str, str], int]:
     """How many of these count at each side."""
     out, in_ = ("out", "in") if is_split(disks) else ("", "")
-    targets = [it.target for it in shifts if out or it.source != it.target]
-    found = collections.Counter({Side(it, in_): count for it, count in collections.Counter(targets).items()})
-    found.update({Side(it, out): count for it, count in collections.Counter([it.source for it in shifts]).items()})
-    return found
+    targets = [(it.target, in_) for it in shifts if out or it.source != it.target]
+    return collections.Counter(targets + [(it.source, out) for it in shifts])
 
 
 def sides_of(shift: Shift, disks: Disks) -> set[Side]:

@@ -6,7 +6,7 @@ do."""
 import collections, hashlib, os
 from collections.abc import Hashable, Mapping, Sequence
 from ..command import Wrong, read_text, save_all
-from ..disks import Disks, Limits, Side, Split, disk_rows, limits_by_side
+from ..disks import Disks, Limits, Side, Split, disk_rows, limits_by_side, loads_of
 from ..plans import MOST_DISKS, MOST_ITEMS, MOST_LIMIT, Plan, Shift, plan_text, table
 from ..whole import FILES, NOW, Planner
 
@@ -117,8 +117,7 @@ def plan(planner: Planner, sub: str, shifts: Sequence[Shift], disks: Disks) -> t
     made = [id(it) for round_ in rounds for it in round_]
     if len(made) != len(shifts) or {*made} != {*map(id, shifts)}:
         raise Wrong("the rounds that were made do not have all moves")
-    busiest = max((-(-count // limits[Side(disk, way)]), disk, way) for way, ends in ends_of(shifts).items()
-                  for disk, count in collections.Counter(ends).items())[1]
+    _, busiest, _ = max((-(-count // limits[Side(*side)]), *side) for side, count in loads_of(shifts, disks).items())
     verdict, parts = "", parts_of(shifts)
     split: dict[int, list[list[Shift]]] = {it: [[] for _ in rounds] for it in sorted({*parts.values()})}
     for at, round_ in enumerate(rounds):
