@@ -43,9 +43,8 @@ class Rule:
         for root, useful, choices in self.parts:
             counts = [number if number > 0 else number + len(osds) for _, number, _ in choices]
             end = at + math.prod(counts)
-            if not useful.issuperset(osds[at:end]):
-                osd = next(it for it in osds[at:end] if it not in useful)
-                return f"osd.{osd} is out, or has no weight below {root}"
+            if odd := [it for it in osds[at:end] if it not in useful]:
+                return f"osd.{odd[0]} is out, or has no weight below {root}"
             at = end
             for (leaf, _, kind), most in zip(choices, counts):
                 its = self.near.get(kind, {})
@@ -65,16 +64,18 @@ def paired(leave: Sequence[int], come: Sequence[int], rule: Rule, known: Pairs) 
     come."""
     if len(leave) == len(come) < 2:
         return dict(zip(leave, come))
-    pairs, left = dict[int, int](), list(come)
+    pairs, lone, left = dict[int, int](), list(leave), list(come)
     for one, two in known:
-        if one in leave and two in left and one not in pairs:
+        if one in lone and two in left:
             pairs[one] = two
+            lone.remove(one)
             left.remove(two)
-    lone = [it for it in leave if it not in pairs]
-    for its in rule.near.values() if left else ():
+    for its in rule.near.values():
         own, places = [*map(its.get, lone)], [*map(its.get, left)]
         if own == places and None not in own:
             break
+        if {*own}.isdisjoint(places):
+            continue
         for one, place in zip([*lone], own):
             if place and place in places:
                 at = places.index(place)
