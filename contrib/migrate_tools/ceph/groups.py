@@ -97,9 +97,8 @@ class Group:
         that have the data that of the lowest number."""
         if self.shards:
             return next(it for it in before if it != NO_OSD)
-        if not self.shy and self.chosen[0] in after:
-            first = self.chosen[0]
-        else:
+        first = self.chosen[0]
+        if self.shy or first not in after:
             pairs = pairs or self.pairs(after)
             order = landed(self.chosen, [] if isinstance(pairs, str) else pairs)
             first = next((it for it in order if it not in self.shy), order[0])
