@@ -1,7 +1,7 @@
 """The wish that each disk is filled to the same part, within so many hundredths, with as few items moved as can be
 found."""
 import bisect, collections, math, random
-from collections.abc import Callable, Iterable, Mapping, Sequence
+from collections.abc import Callable, Iterable, Iterator, Mapping, Sequence
 from dataclasses import dataclass, field
 from fractions import Fraction
 from .items import Items, May, Next, Refused, Slots, Spot, bulk_of
@@ -134,31 +134,29 @@ class Try:
             under = [it for it in self.used if self.used[it] < self.low[it]]
             if not over and not under:
                 return self.next
-            if not (self.gives(over) if over else self.takes(under)):
+            for source, target, need in self.ways(over, under):
+                if (picked := self.pick(source, target, need)) is not None:
+                    self.go(picked, target)
+                    break
+            else:
                 disk = (over or under)[0]
                 used, low, high = (100 * it[disk] / self.wish.sizes[disk] for it in (self.used, self.low, self.high))
                 raise Refused(f"not each disk can be filled to the same part within {float(self.wish.percent):g} %: "
                               f"{disk} would be at {used:.1f} %, where {low:.1f} to {high:.1f} % are asked for")
 
-    def gives(self, over: Sequence[str]) -> bool:
+    def ways(self, over: Sequence[str], under: Sequence[str]) -> Iterator[tuple[str, str, int]]:
+        """From where to where something may go, and how much: from what is too full, and else to what is not full
+        enough."""
         top = max(self.high.values())
         for source in self.shuffled(over, lambda it: self.high[it] - self.used[it]):
             others = [it for it in self.used if it != source]
             for target in self.shuffled(others, lambda it: min(0, self.used[it] - self.low[it])
                                         or self.used[it] - self.high[it] + top):
-                if (at := self.pick(source, target, self.used[source] - self.high[source])) is not None:
-                    self.go(at, target)
-                    return True
-        return False
-
-    def takes(self, under: Sequence[str]) -> bool:
-        for target in self.shuffled(under, lambda it: self.used[it] - self.low[it]):
+                yield source, target, self.used[source] - self.high[source]
+        for target in self.shuffled(() if over else under, lambda it: self.used[it] - self.low[it]):
             others = [it for it in self.used if it != target]
             for source in self.shuffled(others, lambda it: self.low[it] - self.used[it]):
-                if (at := self.pick(source, target, self.low[target] - self.used[target])) is not None:
-                    self.go(at, target)
-                    return True
-        return False
+                yield source, target, self.low[target] - self.used[target]
 
 
 def fewest(free: Iterable[Spot], bulk: Mapping[Spot, int], used: Mapping[str, int], low: Mapping[str, int],

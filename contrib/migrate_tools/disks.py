@@ -1,5 +1,6 @@
 """Disks files, with one limit for each disk or with two: reading and writing them, and at which limits a transfer
 counts."""
+import collections
 from collections.abc import Callable, Iterable, Mapping, Sequence
 from dataclasses import dataclass
 from typing import NamedTuple, TypeVar
@@ -100,6 +101,13 @@ def limits_by_side(disks: Disks) -> dict[Side, int]:
 
 def is_split(disks: Disks) -> bool:
     return any(isinstance(it.limits, Split) for it in disks.values())
+
+
+def loads_of(shifts: Sequence[Shift], disks: Disks) -> Mapping[tuple[str, str], int]:
+    """How many of these count at each side."""
+    out, in_ = ("out", "in") if is_split(disks) else ("", "")
+    targets = [(it.target, in_) for it in shifts if out or it.source != it.target]
+    return collections.Counter(targets + [(it.source, out) for it in shifts])
 
 
 def sides_of(shift: Shift, disks: Disks) -> set[Side]:

@@ -21,14 +21,13 @@ def fullest(rounds: Iterable[Sequence[tuple[str, Name, Name]]], sizes: Mapping[s
     """By disk that gets something the greatest part of it that is used, and the first round in which it is. A round has
     items, each with the disks that it leaves and reaches: what comes counts from its round on, what goes up to its
     own."""
-    used, found = {disk: it.used for disk, it in rooms.items()}, dict[Name, tuple[float, int]]()
+    used, most = {disk: it.used for disk, it in rooms.items()}, dict[Name, tuple[int, int]]()
     for at, moves in enumerate(rounds, 1):
         for item, _, target in moves:
             used[target] += sizes[item]
-        for disk in (target for _, _, target in moves if rooms[target].size):
-            part = used[disk] / rooms[disk].size
-            if part > found.get(disk, (0.0, 0))[0]:
-                found[disk] = part, at
+        for _, _, target in moves:
+            if used[target] > most.get(target, (0, 0))[0]:
+                most[target] = used[target], at
         for item, source, _ in moves:
             used[source] -= sizes[item]
-    return found
+    return {disk: (bytes_ / rooms[disk].size, at) for disk, (bytes_, at) in most.items() if rooms[disk].size}

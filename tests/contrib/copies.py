@@ -57,6 +57,11 @@ def make_all_kinds(room):
     room.good("all kinds", "find mnt/a/x -depth -exec touch -h -d '2001-02-03 04:05:06.123456789' {} +")
 
 
+def by_os(call):
+    """A command of a shell that makes this call of the system."""
+    return f'python3 -c "import os; os.{call}"'
+
+
 # what is done to a whole copy, and what run-plan then says of it
 LACKS = [("rm -r sub/empty", "mnt/a/x/sub/empty has no copy"),
          ("touch -d @0 more", "mnt/b/x/more is in the copy alone"),
@@ -69,9 +74,9 @@ LACKS = [("rm -r sub/empty", "mnt/a/x/sub/empty has no copy"),
          ("touch -h -d @5 link", "mnt/b/x/link has another time"),
          ("touch -d '2001-02-03 04:05:06.123456788' file", "has another time"),
          ("touch sub", "mnt/b/x/sub has another time than mnt/a/x/sub"),
-         ("setfattr -x user.note file", "mnt/b/x/file has other attributes or ACLs (user.note)"),
-         ("setfattr -n user.note -v texT file", "has other attributes or ACLs (user.note)"),
-         ("setfacl -b 'two  words'; chmod --reference=../../a/x/two* two*",
+         (by_os("removexattr('file', 'user.note')"), "mnt/b/x/file has other attributes or ACLs (user.note)"),
+         (by_os("setxattr('file', 'user.note', b'texT')"), "has other attributes or ACLs (user.note)"),
+         (by_os("removexattr('two  words', 'system.posix_acl_access')") + "; chmod --reference=../../a/x/two* two*",
           "two  words has other attributes or ACLs (system.posix_acl_access)"),
          ("rm link; ln -s holes link; touch -hr ../../a/x/link link; chown -h 1234:5678 link",
           "mnt/b/x/link leads elsewhere"),
@@ -91,18 +96,16 @@ def what_a_copy_lacks(room):
         make_all_kinds(room)
         start = compare.state_of(compare.tree_of(room.path("mnt/a")))
         room.write("plan.txt", ONE)
-        tools = {"setfattr", "setfacl", "rsync"} | ({"mknod", "chown", "chgrp"} if not os.geteuid() else set())
-        missing = {it for it in tools if not shutil.which(it)}
-        if missing:
-            print(f"note: what a copy lacks is tried in part: there is no {' and no '.join(sorted(missing))}")
+        if not shutil.which("rsync"):
+            print("note: what a copy lacks is tried in part: there is no rsync")
         for spoil, said in LACKS:
-            if not set(spoil.replace(";", "").split()) & (missing | ({"chown", "chgrp", "mknod"} - tools)):
+            if not os.geteuid() or not {*spoil.replace(";", "").split()} & {"chown", "chgrp", "mknod"}:
                 copy = f"cp -a mnt/a/x mnt/b/; (cd mnt/b/x; {spoil}); [ ! -e mnt/b/x ] || touch -r mnt/a/x mnt/b/x"
                 room.write("copy", copy)
                 room.says(f"a copy that lacks something: {spoil}",
                           f"rm -rf mnt/b/x; {RUN} sh copy {{item}}; rm plan.txt.place", said, "not compared 1 x: ",
                           "stopped in round 1 of 1")
-        for copy in (it for it in LOSSY if not missing and shutil.which(it.split()[0])):
+        for copy in (it for it in LOSSY if shutil.which(it.split()[0])):
             words = copy.format(**{"from": "mnt/{from}/{item}", "to": "mnt/{to}/"})
             ran = room.run(f"rm -rf mnt/b/x; {RUN} {words}; echo $?; rm plan.txt.place")
             that(f"a command that loses something: {copy}",
@@ -115,7 +118,7 @@ def what_a_copy_lacks(room):
         room.good("the item, kept", "mkdir kept && cp -a mnt/a/x kept/")
         # from each kind of file system to each other one, by the commands that the pages name
         pairs = [("a", "b"), ("b", "c"), ("c", "a"), ("a", "c"), ("c", "b"), ("b", "a")]
-        for (one, two), copy in zip(pairs, itertools.cycle(it for it in WHOLE if it.split()[0] not in missing)):
+        for (one, two), copy in zip(pairs, itertools.cycle(it for it in WHOLE if shutil.which(it.split()[0]))):
             room.good("whole copies", "rm -rf mnt/b/x" if (one, two) == ("a", "b") else "true")
             room.write("plan.txt", plan_text([[["x", one, "0", two, "0"]]]))
             words = copy.format(**{"from": "mnt/{from}/{item}", "to": "mnt/{to}/"})

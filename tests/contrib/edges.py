@@ -130,8 +130,8 @@ def strangers_lock(room):
         fcntl.flock(other, fcntl.LOCK_EX)
         said = room.good("locks", "contrib/progress plan.txt")
         that("who has another file locked is not at work here", said.endswith(", nothing is at work here\n"), said)
-        fcntl.lockf(own, fcntl.LOCK_EX)
-        said = room.good("locks", "contrib/progress plan.txt")
+        fcntl.lockf(own, fcntl.LOCK_EX)  # which this process would lose if it read the file itself
+        said = room.good("locks", "alone/progress plan.txt")
         that("nor is who has it locked in another way", said.endswith(", nothing is at work here\n"), said)
         fcntl.flock(own, fcntl.LOCK_EX)
         said = room.good("locks", "contrib/progress plan.txt")

@@ -11,10 +11,6 @@ from rooms import Room, cases, plan_of, refused, same, that
 SPLIT = "disk,out,in,slots\n"
 
 
-def header_of(room):
-    return room.read("disks.csv").split("\n")[0]
-
-
 # What the scripts write
 
 def split_lvm(room):

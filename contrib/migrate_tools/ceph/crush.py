@@ -11,7 +11,7 @@ class Rule:
 
     def __init__(self, rule: dict[str, Any], crush: dict[str, Any], out: Iterable[int]) -> None:
         self.useless = set(out)
-        self.parts: list[tuple[str, dict[int, dict[str, str]], list[tuple[bool, int, str]]]] = []
+        parts: list[tuple[str, dict[int, dict[str, str]], list[tuple[bool, int, str]]]] = []
         self.buckets = {it["id"]: it for it in crush["buckets"]}
         above: dict[int, dict[str, str]] = {}  # the buckets that an OSD is in, by their kinds
         for step in rule["steps"]:
@@ -19,9 +19,10 @@ class Rule:
                 below: dict[int, dict[str, str]] = {}
                 self.walk(step["item"], {}, below)
                 above = {**below, **above}
-                self.parts.append((step["item_name"], below, []))
+                parts.append((step["item_name"], below, []))
             elif step["op"].startswith("choose"):
-                self.parts[-1][2].append((step["op"].startswith("chooseleaf"), step["num"], step["type"]))
+                parts[-1][2].append((step["op"].startswith("chooseleaf"), step["num"], step["type"]))
+        self.parts = [(root, below.keys() - self.useless, choices) for root, below, choices in parts]
         kinds = (it["name"] for it in sorted(crush["types"], key=lambda it: int(it["type_id"])) if it["type_id"])
         self.near = {kind: its for kind in kinds
                      if (its := {osd: path[kind] for osd, path in above.items() if kind in path})}
@@ -39,12 +40,11 @@ class Rule:
     def broken(self, osds: Sequence[int]) -> str:
         """Why Ceph would drop exceptions that put a group on these OSDs; empty where it keeps them."""
         at = 0
-        for root, below, choices in self.parts:
+        for root, useful, choices in self.parts:
             counts = [number if number > 0 else number + len(osds) for _, number, _ in choices]
             end = at + math.prod(counts)
-            for osd in osds[at:end]:
-                if osd not in below or osd in self.useless:
-                    return f"osd.{osd} is out, or has no weight below {root}"
+            if odd := [it for it in osds[at:end] if it not in useful]:
+                return f"osd.{odd[0]} is out, or has no weight below {root}"
             at = end
             for (leaf, _, kind), most in zip(choices, counts):
                 its = self.near.get(kind, {})
@@ -64,20 +64,26 @@ def paired(leave: Sequence[int], come: Sequence[int], rule: Rule, known: Pairs) 
     come."""
     if len(leave) == len(come) < 2:
         return dict(zip(leave, come))
-    pairs, left = dict[int, int](), list(come)
+    pairs, lone, left = dict[int, int](), list(leave), list(come)
     for one, two in known:
-        if one in leave and two in left and one not in pairs:
+        if one in lone and two in left:
             pairs[one] = two
+            lone.remove(one)
             left.remove(two)
-    lone = [it for it in leave if it not in pairs]
-    for its in rule.near.values() if left else ():
-        places = [its.get(it) for it in left]
-        for one in [it for it in lone if it in its and its[it] in places]:
-            if its[one] in places:
-                pairs[one] = left.pop(places.index(its[one]))
-                places.remove(its[one])
+    for its in rule.near.values():
+        own, places = [*map(its.get, lone)], [*map(its.get, left)]
+        if own == places and None not in own:
+            break
+        if {*own}.isdisjoint(places):
+            continue
+        for one, place in zip([*lone], own):
+            if place and place in places:
+                at = places.index(place)
+                del places[at]
+                pairs[one] = left.pop(at)
                 lone.remove(one)
-    return pairs | dict(zip(lone, left))
+    pairs.update(zip(lone, left))
+    return pairs
 
 
 def landed(chosen: Sequence[int], pairs: Pairs) -> list[int]:

@@ -38,18 +38,18 @@ def case_of(groups: Mapping[str, Group], words: Sequence[str], as_ceph: bool = T
     """The items, in slots of their own: where they count, and where they go; those that stay where they are, unless
     those that are `moving` alone are wanted. And the limits of the OSDs of these, by words of --backfills."""
     limits = read_limits(words, sorted({it for group in groups.values() for it in group.before + group.after}), as_ceph)
-    all_ = [(group, it) for group in groups.values() for it in group.items if it.source != it.target or not moving]
-    sources = [group.counted_at[it.name] if as_ceph else it.source for group, it in all_]
-    slots, at, names = collections.Counter(sources), dict.fromkeys(limits, 0), {it: f"osd.{it}" for it in limits}
-    found = []
-    for source, (_, it) in zip(sources, all_):
-        if not NAME.fullmatch(it.name):
-            raise Wrong(f"'{it.name}' is longer than a name may be")
-        to = at[source] if source == it.target else slots[it.target]
-        found.append(Shift(it.name, names[source], at[source], names[it.target], to))
+    all_ = [(name, group.counted_at[name] if as_ceph else source, target) for group in groups.values()
+            for name, source, target in group.items if source != target or not moving]
+    slots = collections.Counter([source for _, source, _ in all_])
+    at, names, found = dict.fromkeys(limits, 0), {it: f"osd.{it}" for it in limits}, []
+    for name, source, target in all_:
+        if not NAME.fullmatch(name):
+            raise Wrong(f"'{name}' is longer than a name may be")
+        to = at[source] if source == target else slots[target]
+        found.append(Shift(name, names[source], at[source], names[target], to))
         at[source] += 1
-        slots[it.target] += source != it.target
-    ends = {*sources, *(it.target for _, it in all_)}
+        slots[target] += source != target
+    ends = {it for _, *both in all_ for it in both}
     return found, {names[osd]: limit for osd, limit in limits.items() if osd in ends or not moving}
 
 

@@ -2,13 +2,13 @@
 is named."""
 import argparse, functools, json, re
 from collections.abc import Callable, Iterator, Mapping
-from dataclasses import dataclass, replace
+from dataclasses import dataclass
 from typing import NamedTuple
 from ..command import Wrong, note, read_text, words
 from .crush import Pairs, Rule, hashed, landed, paired
 
 OSDS = r"\(\[([0-9,]*)\], p-?[0-9]+\)"
-LINE = re.compile(rf"([0-9]+\.[0-9a-f]+) raw {OSDS} up {OSDS} acting {OSDS}", re.ASCII)
+LINE = re.compile(rf"^([0-9]+\.[0-9a-f]+) raw {OSDS} up {OSDS} acting {OSDS}$", re.ASCII | re.M)
 POOL = re.compile(r"^pool ([0-9]+) '.*' (replicated|erasure) (?:profile \S+ )?size ([0-9]+) min_size [0-9]+ "
                   r"crush_rule ([0-9]+) ", re.ASCII | re.M)
 PLACED = re.compile(r"^pool ([0-9]+) '.*' .* pgp_num ([0-9]+) .*\bflags (\S+)", re.ASCII | re.M)
@@ -52,7 +52,7 @@ class Group:
     shy: frozenset[int] = frozenset()
 
     def differ(self, one: list[int], two: list[int]) -> bool:
-        return one != two if self.shards else set(one) != set(two)
+        return one != two and (self.shards or set(one) != set(two))
 
     @functools.cached_property
     def items(self) -> list[Item]:
@@ -85,6 +85,11 @@ class Group:
         pairs = self.pairs(osds)
         return ([], pairs) if isinstance(pairs, str) else (pairs, self.rule.broken(landed(self.chosen, pairs)))
 
+    @functools.cached_property
+    def last(self) -> tuple[Pairs, str]:
+        """The same of where it is after."""
+        return self.exceptions(self.after)
+
     def filler(self, before: list[int], after: list[int], pairs: Pairs | str = "") -> int:
         """The OSD that fills what comes to the group between these two states, the second by these exceptions where
         they are known, at which Ceph counts that: its acting primary meanwhile. Of shards it is that of the first one.
@@ -92,9 +97,8 @@ class Group:
         that have the data that of the lowest number."""
         if self.shards:
             return next(it for it in before if it != NO_OSD)
-        if not self.shy and self.chosen[0] in after:
-            first = self.chosen[0]
-        else:
+        first = self.chosen[0]
+        if self.shy or first not in after:
             pairs = pairs or self.pairs(after)
             order = landed(self.chosen, [] if isinstance(pairs, str) else pairs)
             first = next((it for it in order if it not in self.shy), order[0])
@@ -106,8 +110,8 @@ class Group:
         target."""
         found = {}
         for name, source, target in self.items:
-            after = [target if it == source else it for it in self.before]
-            first = self.filler(self.before, after) if source != target else target
+            first = target if source == target else self.filler(
+                self.before, [target if it == source else it for it in self.before])
             found[name] = source if first == target else first
         return found
 
@@ -117,8 +121,8 @@ class Group:
         late: list[str] = []
         broken = ""
         for at in sorted({*rounds.values(), *([0] if hold else [])}):
-            osds = [it.target if rounds.get(it.name, at + 1) <= at else it.source for it in self.items]
-            pairs, why = self.exceptions(osds)
+            osds = [target if rounds.get(name, at + 1) <= at else source for name, source, target in self.items]
+            pairs, why = self.last if osds == self.after else self.exceptions(osds)
             if why:
                 late.append(str(at))
                 broken = why
@@ -131,7 +135,7 @@ class Group:
 
     def turned(self, now: list[int], pairs: Pairs) -> "Group":
         """The way back from where these exceptions have put it."""
-        return replace(self, before=now, after=self.before, old=pairs)
+        return Group(self.name, self.rule, self.shards, self.size, self.chosen, now, self.before, pairs, self.shy)
 
     def refusal(self, then: list[int], hold: bool) -> str:
         """Why it cannot be carried out; empty where it can. `then` is what CRUSH chooses after the change."""
@@ -144,10 +148,9 @@ class Group:
         if self.old is None:
             return f"has a whole exception (pg_upmap); remove it first: ceph osd rm-pg-upmap {self.name}"
         for osds in [self.before, self.after] if hold else [self.after]:
-            pairs, why = self.exceptions(osds)
-            if why:
+            if why := (self.last if osds is self.after else self.exceptions(osds))[1]:
                 return f"cannot be held on {osds} by exceptions: {why}"
-        last = landed(then, pairs)
+        last = landed(then, self.last[0])
         is_there = not self.differ(last, self.after)
         return "" if is_there else f"would be on {last} with its exceptions once the change is made"
 
@@ -163,25 +166,24 @@ def reader(doc: str | None, *names: str) -> argparse.ArgumentParser:
 
 
 def numbers(text: str) -> list[int]:
-    return list(map(int, filter(None, text.split(","))))
+    return [*map(int, filter(None, text.split(",")))]
 
 
 def read_groups(path: str, cleaned: bool) -> Lists:
     """For each placement group the OSDs that CRUSH chooses, and those that it is on."""
     groups: Lists = {}
     text = read_text(path)
-    lines = text.split("\n")
-    for found in filter(None, map(LINE.fullmatch, lines)):
-        name, chosen = found[1], numbers(found[2])
-        up = chosen if found[3] == found[2] else numbers(found[3])
+    for name, raw, wanted, acting in LINE.findall(text):
+        chosen = numbers(raw)
+        up = chosen if wanted == raw else numbers(wanted)
         if name in groups:
             raise Wrong(f"lists placement group {name} twice: write each file anew, and do not append", path)
-        if found[3] != found[4]:
-            raise Wrong(f"{path}: placement group {name} is on {numbers(found[4])} still, and goes to {up}: let its "
+        if wanted != acting:
+            raise Wrong(f"{path}: placement group {name} is on {numbers(acting)} still, and goes to {up}: let its "
                         "backfill end, and add --clear-temp")
         groups[name] = chosen, up
     is_odd = any(up is not chosen and set(up) - {*chosen, NO_OSD} for chosen, up in groups.values())
-    if cleaned and "checking for upmap cleanups" not in lines and is_odd:
+    if cleaned and is_odd and not re.search("^checking for upmap cleanups$", text, re.M):
         raise Wrong("has exceptions that Ceph may drop with the change: add --upmap-cleanup COMMANDS", path)
     for osd in re.findall(r"^marking OSD@([0-9]+) as out$", text, re.M):
         note(f"{path} has osd.{osd} marked out; of several --mark-out osdmaptool takes the last alone")
@@ -237,7 +239,7 @@ def read_shy(dump: str) -> Callable[[str], frozenset[int]]:
         draw = hashed(at, int(pool)) if "hashpspool" in flags else at + int(pool)
         return frozenset(it for it, most in shy.items() if hashed(draw, it) >> 16 >= most * 65536)
 
-    return of
+    return of if shy else lambda _: frozenset()
 
 
 def read_change(given: argparse.Namespace, leave_out: bool) -> tuple[dict[str, Group], list[str]]:

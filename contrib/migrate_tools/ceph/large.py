@@ -6,7 +6,7 @@ do."""
 import collections, hashlib, os
 from collections.abc import Hashable, Mapping, Sequence
 from ..command import Wrong, read_text, save_all
-from ..disks import Disks, Limits, Side, Split, disk_rows, limits_by_side
+from ..disks import Disks, Limits, Side, Split, disk_rows, limits_by_side, loads_of
 from ..plans import MOST_DISKS, MOST_ITEMS, MOST_LIMIT, Plan, Shift, plan_text, table
 from ..whole import FILES, NOW, Planner
 
@@ -56,16 +56,18 @@ def ends_of(shifts: Sequence[Shift]) -> dict[str, list[str]]:
 def rounds_of(shifts: Sequence[Shift], disks: Disks) -> list[list[Shift]]:
     """As few rounds as can be: a side of a disk stands for as many nodes as its limit, among which its moves are
     dealt."""
-    limits, count, nodes = limits_by_side(disks), 0, list[list[Hashable]]()
+    limits, count, nodes = limits_by_side(disks), 0, list[list[int]]()
+    numbers = {it: number * MOST_LIMIT for number, it in enumerate(limits)}
     for way, ends in ends_of(shifts).items():
-        used, most, its = collections.Counter[str](), {it: limits[Side(it, way)] for it in {*ends}}, list[Hashable]()
+        most, first = ({it: its[Side(it, way)] for it in {*ends}} for its in (limits, numbers))
+        used, its = dict.fromkeys(most, 0), list[int]()
         for it in ends:
             used[it] += 1
-            its.append((it, way, used[it] % most[it]))
+            its.append(first[it] + used[it] % most[it])
         nodes.append(its)
         count = max([count, *(-(-load // most[it]) for it, load in used.items())])
     found: list[list[Shift]] = [[] for _ in range(count)]
-    for shift, colour in zip(shifts, coloured(list(zip(nodes[0], nodes[1])), count)):
+    for shift, colour in zip(shifts, coloured([*zip(nodes[0], nodes[1])], count)):
         found[colour].append(shift)
     return found
 
@@ -115,13 +117,13 @@ def plan(planner: Planner, sub: str, shifts: Sequence[Shift], disks: Disks) -> t
     made = [id(it) for round_ in rounds for it in round_]
     if len(made) != len(shifts) or {*made} != {*map(id, shifts)}:
         raise Wrong("the rounds that were made do not have all moves")
-    busiest = max((-(-count // limits[Side(disk, way)]), disk, way) for way, ends in ends_of(shifts).items()
-                  for disk, count in collections.Counter(ends).items())[1]
+    _, busiest, _ = max((-(-count // limits[Side(*side)]), *side) for side, count in loads_of(shifts, disks).items())
     verdict, parts = "", parts_of(shifts)
     split: dict[int, list[list[Shift]]] = {it: [[] for _ in rounds] for it in sorted({*parts.values()})}
-    for at, it in ((at, it) for at, round_ in enumerate(rounds) for it in round_):
-        for part in {parts[it.source], parts[it.target]}:
-            split[part][at].append(it)
+    for at, round_ in enumerate(rounds):
+        for it in round_:
+            for part in {parts[it.source], parts[it.target]}:
+                split[part][at].append(it)
     for part, those in split.items():
         (*texts, last), folder = texts_of(those, disks, parts, part), os.path.join(sub, f"part-{part}")
         os.makedirs(planner.at(folder), exist_ok=True)

@@ -20,9 +20,6 @@ class Change:
         weights = [f"ceph osd crush reweight osd.{osd} {weight}" for osd, weight in self.weights.items()]
         return "; ".join(weights + [f"ceph osd out {' '.join(map(str, self.out))}"] * bool(self.out))
 
-    def adjust(self) -> str:
-        return ",".join(f"{osd}:{weight}" for osd, weight in self.weights.items())
-
 
 class Maps:
     """A folder with maps."""
@@ -60,7 +57,8 @@ class Maps:
         for osd in change.out:
             self.osdmaptool(new, "--mark-out", str(osd), "--adjust-crush-weight", f"{same}:{exact}", "--save")
         if change.weights:
-            self.osdmaptool(new, "--adjust-crush-weight", change.adjust(), "--save")
+            pairs = ",".join(f"{osd}:{weight}" for osd, weight in change.weights.items())
+            self.osdmaptool(new, "--adjust-crush-weight", pairs, "--save")
         found = self.osdmaptool(new, "--print")
         for osd in change.out:
             if not re.search(rf"^osd\.{osd} +\S+ +out ", found, re.M):

@@ -40,14 +40,13 @@ exec plan-ceph --make "$(dirname "$0")" "$@"
 """
 
 
-def line_of(name: str, chosen: Sequence[int], up: Sequence[int]) -> str:
-    """As osdmaptool prints a group."""
-    one, two = (f"([{','.join(map(str, it))}], p{it[0] if it else -1})" for it in (chosen, up))
-    return f"{name} raw {one} up {two} acting {two}\n"
-
-
 def listed(groups: Mapping[str, tuple[Sequence[int], Sequence[int]]]) -> str:
-    return "checking for upmap cleanups\n" + "".join(line_of(name, *both) for name, both in groups.items())
+    """As osdmaptool prints groups."""
+    lines = ["checking for upmap cleanups\n"]
+    for name, both in groups.items():
+        one, two = (f"([{','.join(map(str, it))}], p{it[0] if it else -1})" for it in both)
+        lines.append(f"{name} raw {one} up {two} acting {two}\n")
+    return "".join(lines)
 
 
 class CephPlanner(Planner):
@@ -158,8 +157,7 @@ class CephPlanner(Planner):
         files["back.sh"], back = self.back(groups, steps, backfills)
         kept = {"out": list(change.out), "weights": dict(change.weights), "left_out": left}
         if change.said():
-            text = CHANGE.replace("WHAT", change.said()).replace("FOLDER", shlex.quote(here()))
-            files |= {"change.sh": text}
+            files["change.sh"] = CHANGE.replace("WHAT", change.said()).replace("FOLDER", shlex.quote(here()))
         save_all({self.at("change.json"): json.dumps(kept) + "\n"})
         save_all({self.at(name): text for name, text in files.items()}, mode=0o755)
         used = collections.Counter([it.source for it in plan.shifts()])

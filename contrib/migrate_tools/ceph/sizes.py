@@ -63,7 +63,7 @@ def rooms_of(df: Any) -> dict[int, Room]:
 def fullest(plan: Plan, groups: Mapping[str, Group], sizes: Mapping[str, int],
             rooms: Mapping[int, Room]) -> dict[int, tuple[float, int]]:
     """By OSD, as of disks: a copy goes from the OSD that gives it up, wherever it counts."""
-    ends = {it.name: (it.name, it.source, it.target) for group in groups.values() for it in group.items}
+    ends = {it.name: it for group in groups.values() for it in group.items}
     return fullness.fullest(([ends[it.item] for it in shifts] for shifts in plan.rounds), sizes, rooms)
 
 

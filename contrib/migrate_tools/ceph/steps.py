@@ -26,10 +26,10 @@ class Step(NamedTuple):
 
     def line(self) -> str:
         """As a step is written in a script."""
-        counts = [f"{side}:{count}" if count > 1 else side for side, count in sorted(self.counts.items())]
-        return (f"ceph-step {self.round} {self.group} {self.order} {pairs_text(self.pairs)} "
-                f"from {'/'.join(map(pairs_text, self.start))} at {','.join(counts) or '-'} "
-                f"items {','.join([f'{its}:{item}' for item, its in self.items.items()]) or '-'}")
+        round_, group, order, pairs, start, counts, items = self
+        at = [f"{side}:{count}" if count > 1 else side for side, count in sorted(counts.items())]
+        return (f"ceph-step {round_} {group} {order} {pairs_text(pairs)} from {'/'.join(map(pairs_text, start))} "
+                f"at {','.join(at) or '-'} items {','.join([f'{its}:{item}' for item, its in items.items()]) or '-'}\n")
 
     def osds(self) -> list[int]:
         return [int(it) for it in self.order.removeprefix("=").split(",")]
@@ -70,7 +70,7 @@ def read_rounds(plan: Plan, path: str, groups: Mapping[str, Group]) -> tuple[dic
     """The round in which each item of each placement group goes, and whether each goes from the OSD that gives it
     up."""
     homes = {it.name: (name, it) for name, group in groups.items() for it in group.items}
-    osds = {osd: f"osd.{osd}" for group in groups.values() for osd in group.before + group.after}
+    osds = {osd: f"osd.{osd}" for osd in {it for _, (_, *ends) in homes.values() for it in ends}}
     given = all(it.source == osds[homes[it.item][1].source] for it in plan.shifts() if it.item in homes)
     rounds: dict[str, dict[str, int]] = {}
     seen: set[str] = set()
@@ -81,16 +81,15 @@ def read_rounds(plan: Plan, path: str, groups: Mapping[str, Group]) -> tuple[dic
                             "parked on an OSD on its way. from-ceph gives each OSD room for old and incoming copies, "
                             "so make the plan by `migrate plan`")
             seen.add(it.item)
-        for it in shifts:
-            name, home = homes.get(it.item, ("", None))
+        for item, source, _, target, _ in shifts:
+            name, home = homes.get(item, ("", None))
             ends = home and home.source != home.target and (
-                osds[home.source if given else groups[name].counted_at[home.name]], osds[home.target])
-            if ends != (it.source, it.target) or it.item in rounds.get(name, {}):
-                raise Wrong(f"{path} round {at}: {it.item} from {it.source} to {it.target} is no move of a plan for "
+                osds[home.source if given else groups[name].counted_at[item]], osds[home.target])
+            if ends != (source, target):
+                raise Wrong(f"{path} round {at}: {item} from {source} to {target} is no move of a plan for "
                             "from-ceph's files of these dumps")
-            rounds.setdefault(name, {})[it.item] = at
-    missing = {item: name for item, (name, home) in homes.items()
-               if home.source != home.target and item not in rounds.get(name, {})}
+            rounds.setdefault(name, {})[item] = at
+    missing = {item: name for item, (name, home) in homes.items() if home.source != home.target and item not in seen}
     for item, name in missing.items():
         if name in rounds:
             raise Wrong(f"moves others of placement group {name}, and not {item}", path)
@@ -105,8 +104,8 @@ def counts_of(shifts: Sequence[Shift], filler: int | None, disks: Disks) -> Coun
     """Where what goes together counts: as Ceph has it once at the OSD that fills all of it, and at each that is filled;
     else, without such an OSD, at both ends of each."""
     out, in_ = ("/out", "/in") if isinstance(disks[shifts[0].target].limits, Split) else ("", "")
-    sources = [it.source for it in shifts] if filler is None else [f"osd.{filler}"]
-    sides = [*(it + out for it in sources), *(it.target + in_ for it in shifts)]
+    sides = [it.source + out for it in shifts] if filler is None else [f"osd.{filler}{out}"]
+    sides += [it.target + in_ for it in shifts]
     return {it: sides.count(it) for it in sides}
 
 

@@ -58,12 +58,9 @@ def script(steps: Sequence[Step], digest: str, limits: str) -> str:
     """The text of a script of these steps."""
     title = f"{sum(len(it.items) for it in steps)} copies in {max(it.round for it in steps)} rounds"
     title += " (no round waits for another, and round 1 is all of them)" * bool(limits)
-    lines = [steps_head(WHAT, title, digest + limits, "ceph-step", "--hook COMMAND] [--force")]
-    for at, step in enumerate(steps):
-        lines.append(f"{step.line()}\n")
-        is_held = step.round == 0 and (at + 1 == len(steps) or steps[at + 1].round)
-        lines += ["ceph osd unset norebalance\n"] * bool(is_held)
-    return "".join(lines)
+    lines, held = [it.line() for it in steps], sum(it.round == 0 for it in steps)
+    lines[held:held] = ["ceph osd unset norebalance\n"] * bool(held)
+    return steps_head(WHAT, title, digest + limits, "ceph-step", "--hook COMMAND] [--force") + "".join(lines)
 
 
 def read_words() -> argparse.Namespace:

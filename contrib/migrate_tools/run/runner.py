@@ -1,6 +1,6 @@
 """How run-plan runs commands side by side, and what of them counts."""
 import collections, ctypes, os, shlex, signal, time
-from collections.abc import Callable, Iterable, Mapping, Sequence
+from collections.abc import Callable, Mapping, Sequence
 from dataclasses import dataclass
 from typing import NoReturn
 from ..clock import Clock
@@ -84,12 +84,6 @@ class Runner:
                 return False
         return True
 
-    def may_begin(self, waiting: Iterable[Job]) -> Job | None:
-        """The first of these jobs that may begin now. While the clock holds no copy does, but what was copied is
-        carried on."""
-        holds = self.is_strict and self.clock.holds()
-        return next((it for it in waiting if not holds or it.kind != "copied"), None)
-
     def run(self, jobs: Sequence[Job], then: Callable[[list[Job]], list[Job]] = lambda kept: []) -> bool:
         """Runs these jobs, and those that `then` answers to some that ended well; keeps which end well. Answers whether
         all do."""
@@ -97,7 +91,8 @@ class Runner:
         fresh: list[Job] = []
         while waiting and not self.status or self.running:
             if waiting and not self.status and len(self.running) < self.most:
-                if job := self.may_begin(waiting):
+                holds = self.is_strict and self.clock.holds()  # then no copy begins; what was copied is carried on
+                if job := next((it for it in waiting if not holds or it.kind != "copied"), None):
                     if self.guarded(*job.disks):
                         waiting.remove(job)
                         self.begin(job)

@@ -9,7 +9,7 @@ import collections, html, json, os
 from collections.abc import Mapping
 from ..certs import Bound, Cert, read_cert
 from ..command import Wrong, command, put, read_text, words
-from ..disks import Disks, Side, is_split, limits_by_side, read_disks, sides_of
+from ..disks import Disks, Side, is_split, limits_by_side, loads_of, read_disks
 from ..plans import Plan, number, read_plan, read_rows
 
 MOST_BUSY = 10
@@ -70,8 +70,7 @@ def why_not_shorter(plan: Plan, cert: Cert | None, limits: Mapping[Side, int]) -
 
 def busiest(plan: Plan, disks: Disks, marked: set[str]) -> tuple[dict[str, int], str]:
     """For each disk the rounds that it needs for its own transfers; and the rows of the busiest ones."""
-    at = collections.Counter(side for it in plan.shifts() for side in sides_of(it, disks))
-    limits = limits_by_side(disks)
+    at, limits = loads_of(plan.shifts(), disks), limits_by_side(disks)
     ways = {name: [Side(name, way) for way in disks[name].limits.by_way()] for name in disks}
     needs = {name: max(-(-at[side] // limits[side]) for side in ways[name]) for name in disks}
     order = sorted((it for it in disks if needs[it]),

@@ -14,7 +14,7 @@ import argparse, collections, itertools, json
 from collections.abc import Mapping, Sequence
 from typing import Any
 from ..command import Wrong, command, put, words
-from ..disks import Disks, Side, limits_by_side, read_disks, sides_of
+from ..disks import Disks, Side, limits_by_side, loads_of, read_disks, sides_of
 from ..lvm.pvmoves import apart, read_pvmoves
 from ..plans import Plan, read_plan, read_rows
 from ..sizes import amount, read_sizes, said
@@ -53,8 +53,7 @@ def busiest(plan: Plan, disks: Disks | None, sizes: Sizes) -> list[dict[str, Any
         if sizes:
             found[name]["bytes"] = found[name].get("bytes", 0) + sizes[it.item]
     if disks is not None:
-        at = collections.Counter(side for it in plan.shifts() for side in sides_of(it, disks))
-        limits = limits_by_side(disks)
+        at, limits = loads_of(plan.shifts(), disks), limits_by_side(disks)
         for name, told in found.items():
             sides = [Side(name, way) for way in disks[name].limits.by_way()]
             told["sides"] = [{"way": side.way, "transfers": at[side], "limit": limits[side]} for side in sides]

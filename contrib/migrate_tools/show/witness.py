@@ -29,18 +29,14 @@ def graph_of(plan: Plan) -> Graph:
     return near
 
 
-def best_disk(near: Graph, limits: Limits) -> Bound:
-    """The bound of the disk that needs the most rounds."""
-    loads = {it: sum(others.values()) for it, others in near.items()}
-    first = max(loads, key=lambda it: -(-loads[it] // limits[it]))
-    return Bound([Side(str(first))], loads[first], limits[first], -(-loads[first] // limits[first]))
-
-
 def better(cert: Cert, shown: Bound, near: Graph, disks: Disks, seconds: float) -> tuple[Bound, bool]:
     """The best bound, and whether the search came to its end."""
     by_side = limits_by_side(disks)
     limits: Limits = {side.disk: limit for side, limit in by_side.items()}
-    best, end = max(shown, best_disk(near, limits), key=lambda it: it.value), time.monotonic() + seconds
+    loads = {it: sum(others.values()) for it, others in near.items()}
+    rounds, first = max(((-(-loads[it] // limits[it]), it) for it in loads), key=lambda it: it[0])
+    own, end = Bound([Side(str(first))], loads[first], limits[first], rounds), time.monotonic() + seconds
+    best = max(shown, own, key=lambda it: it.value)
     try:
         while best.value < cert.rounds and (found := needs_more(near, limits, best.value, end)):
             sides = [Side(it) for it in disks if it in found]
