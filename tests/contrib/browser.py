@@ -78,6 +78,8 @@ class Browser:
             self.ask("Page.navigate", url=it)
             while "Page.loadEventFired" not in self.methods():
                 self.seen.append(self.hear())
+        # what the page puts off to its next frame stands once that one is over
+        self.value("new Promise(done => requestAnimationFrame(() => requestAnimationFrame(done)))")
 
     def methods(self):
         return [it.get("method") for it in self.seen]
