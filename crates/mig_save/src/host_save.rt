@@ -109,7 +109,7 @@ impl<'a, R: Files<File = File>> HostSave<'a, R> {
             Err(error) if error.kind() == ErrorKind::NotFound => return self.find_free_target(),
             Err(error) => return Err(error),
         };
-        let found = file.metadata()?;
+        let found = again(|| file.metadata())?;
         if let Some(refusal) = node_of(&found).and_then(|node| self.used.refusal(node)) {
             return Err(Error::other(refusal));
         }
@@ -119,7 +119,7 @@ impl<'a, R: Files<File = File>> HostSave<'a, R> {
         if found.is_file() {
             check_text(self.rt, self.name)?;
         }
-        if found.is_file() && !fs::symlink_metadata(self.rt, self.name)?.is_symlink() {
+        if found.is_file() && !self.stand_at(self.name)?.is_symlink() {
             return Ok((Target::Plain(found.mode()), None));
         }
         if found.is_file() {
@@ -130,7 +130,7 @@ impl<'a, R: Files<File = File>> HostSave<'a, R> {
 
     /// A name that leads to no file yet: it is free, or it is a link to one that is free, through which an empty file is made.
     fn find_free_target(&self) -> io::Result<(Target, Option<File>)> {
-        match fs::symlink_metadata(self.rt, self.name) {
+        match self.stand_at(self.name) {
             Ok(_) => {
                 check_path(self.rt.read_link(self.alloc, self.name)?.as_str())?;
                 let mut options = OpenOptions::new();
@@ -142,6 +142,11 @@ impl<'a, R: Files<File = File>> HostSave<'a, R> {
         }
     }
 
+    /// What stands under a name itself, a link for instance.
+    fn stand_at(&self, path: &str) -> io::Result<Metadata> {
+        again(|| fs::symlink_metadata(self.rt, path))
+    }
+
     fn make_at_path(&self) -> io::Result<File> {
         let mut options = OpenOptions::new();
         options
@@ -151,7 +156,7 @@ impl<'a, R: Files<File = File>> HostSave<'a, R> {
     }
 
     fn check_left_at_path(&self) -> io::Result<()> {
-        let left = node_of(&fs::symlink_metadata(self.rt, self.path?)?);
+        let left = node_of(&self.stand_at(self.path?)?);
         if left.is_none_or(|node| self.used.refusal(node).is_some()) {
             return Err(Error::other("what stands at its name and .new.mig is in the way"));
         }
@@ -159,18 +164,20 @@ impl<'a, R: Files<File = File>> HostSave<'a, R> {
     }
 
     fn check_made_at_path(&self, made: Option<Node>) -> io::Result<()> {
-        if node_of(&fs::symlink_metadata(self.rt, self.path?)?) != made {
+        if node_of(&self.stand_at(self.path?)?) != made {
             return Err(Error::other("another process saves it at this moment"));
         }
         Ok(())
     }
 
     fn remove_at_path(&self) -> io::Result<()> {
-        fs::remove_file(self.rt, self.path?)
+        let path = self.path?;
+        again(|| fs::remove_file(self.rt, path))
     }
 
     fn rename_from_path(&self) -> io::Result<()> {
-        fs::rename(self.rt, self.path?, self.name)
+        let path = self.path?;
+        again(|| fs::rename(self.rt, path, self.name))
     }
 }
 
@@ -281,7 +288,7 @@ fn set_mode_of(file: &Option<File>, mode: u32) -> io::Result<()> {
 
 fn node_of_open(file: &Option<File>) -> io::Result<Option<Node>> {
     match file {
-        Some(file) => Ok(node_of(&file.metadata()?)),
+        Some(file) => Ok(node_of(&again(|| file.metadata())?)),
         None => Err(ErrorKind::NotFound.into()),
     }
 }
@@ -299,6 +306,19 @@ fn write_to(file: &mut Option<File>, bytes: &[u8]) -> io::Result<usize>
         return Err(ErrorKind::WriteZero.into());
     }
     Ok(count)
+}
+
+/// Makes a call again as long as a signal comes first.
+fn again<T, F: Fn() -> io::Result<T>>(call: F) -> io::Result<T>
+    requires { F.IsAlwaysCallable call }
+{
+    for _ in 0..u64::MAX {
+        match call() {
+            Err(error) if error.kind() == ErrorKind::Interrupted => {}
+            made => return made,
+        }
+    }
+    Err(ErrorKind::TimedOut.into())
 }
 
 /// One read. One that a signal interrupted is tried again.
@@ -380,7 +400,7 @@ fn write_in_place(file: Option<File>, bytes: &[u8]) -> io::Result<Option<Node>> 
     let Some(mut file) = file else {
         return Err(ErrorKind::NotFound.into());
     };
-    let node = node_of(&file.metadata()?);
+    let node = node_of(&again(|| file.metadata())?);
     if node.is_some() {
         file.set_len(0)?;
     }
