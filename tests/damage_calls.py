@@ -61,9 +61,11 @@ def moved(room, what, ran, found):
 
 @with_calls
 def exchanged_in_the_midst(run, program):
-    """A disk or the journal is replaced by a copy, or removed, at a write of a round: it isn't marked, and its items stay where they were."""
-    for (at, marked), name, change in [(it, name, change) for it in (("pwrite right.disk 1", 0), ("pwrite right.disk 3", 1))
-                                       for name in ("right.disk", JOURNAL) for change in (ANEW, "rm {0}")]:
+    """A disk or the journal is replaced by a copy, or removed, at a write of a round, or the disk later, up to the sync of its mark: the round's
+    items stay where they were."""
+    moments = [*itertools.product((("pwrite right.disk 1", 0), ("pwrite right.disk 3", 1)), ("right.disk", JOURNAL)),
+               *((it, "right.disk") for it in (("open journal.mig 3", 0), ("pwrite journal.mig 5", 0), ("fdatasync journal.mig 4", 0), ("fdatasync left.disk 2", 1)))]
+    for ((at, marked), name), change in itertools.product(moments, (ANEW, "rm {0}")):
         with begun(program, "move") as room:
             ran, what = run(room, WORDS["move"], at=at, run=change.format(name)), f"{change.format(name)}, at {at}"
             refused(room, what, ran, name, "exchanged")
@@ -162,6 +164,8 @@ def interruptions(run, program):
     for command in ("move", "resume"):
         for room, _, _, at in each_call(run, program, command):
             moved(room, f"{command}, interrupted at {at}", run(room, WORDS[command], at=at, errno=errno.EINTR), int(command == "resume"))
+    for room, _, _, at in each_call(run, program, "halt"):
+        Count.ended(f"halt, interrupted at {at}", run(room, WORDS["halt"], at=at, errno=errno.EINTR), 0, "halted after 1 of 2\n")
 
 
 @with_calls

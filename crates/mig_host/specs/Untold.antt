@@ -1,6 +1,11 @@
 -- Files that tell nothing but how many calls failed, how many were not made, how often the store refused, and whether a sync has failed.
-use Rattle.std.specs.Prelude.{ℕ, Bool, true, false}
+use Rattle.std.specs.Prelude.{ℕ, Bool, true, false, ⊤}
 use Rattle.mig_calls.specs.Files.{FilesState, IsFilesState}
+use Rattle.mig_host.specs.Systems.{SystemState}
+
+-- A system that tells nothing: whatever may have been seen of it, was.
+abbrev pub untold : SystemState
+untold = record { moment = 0; saw = λ fact t. ⊤ }
 
 -- What isn't told holds of no files, so each of these may be said.
 abbrev pub host_state : ℕ → ℕ → ℕ → Bool → FilesState

@@ -1,24 +1,23 @@
 //! The disks' files.
-ghost use Rattle.std.specs.Prelude.{◌≤◌, ◌<◌, IfOk, length};
+ghost use Rattle.std.specs.Prelude.{◌≡◌, ◌⊎◌, ◌≤◌, ◌<◌, IsTrue, IfOk, IfSome, OnOk, length};
+ghost use Rattle.mig_host.specs.Systems.{Finds, Goes, IsOwn, Led, disk_path};
 
 use crate::failures::{Failure, too_many_open};
-use crate::identity::{Node, check_name, exchanged};
+use crate::identity::{check_name, exchanged};
 use crate::journal::Journal;
 use crate::opened::{Opened, open_again, open_to_read, open_to_write, take};
-use crate::texts::DiskFile;
+use crate::system::{Access, Node, System};
+use crate::texts::path_of;
 use indexmap::{IndexMap, IndexSet};
 use mig_base::Name;
 use mig_calls::{Extent, Place, Written};
 use std::alloc::Global;
-use std::fs::File;
 use std::io::{self, Error, ErrorKind};
-use std::rt::Files;
 
 /// The disks' files that are open. That a file isn't there is found out once, until this process makes it.
 #[derive(Drop)]
-pub struct Disks {
-    alloc: Global,
-    open: IndexMap<Name, Opened>,
+pub struct Disks<S: System> {
+    open: IndexMap<Name, Opened<S>>,
     /// The place among them of the last one that was looked up.
     recent: usize,
     absent: IndexSet<Name>,
@@ -26,19 +25,21 @@ pub struct Disks {
     known: IndexMap<Name, Node>,
     /// The disk that has this file, or, where that is told so, a part of it.
     owners: IndexMap<Node, (Name, bool)>,
-    /// A disk was written since it was looked whether all have their names still.
+    /// A disk was written since the journal was.
     written: bool,
-    /// The disks that were closed since.
+    /// The disks that were closed since it was looked whether they have their names still, and those that were written.
     closed: IndexSet<Name>,
+    unlooked: IndexSet<Name>,
+    /// The number of the next look at these, from 1 on.
+    looks: u64,
     /// The permissions of the first file that was opened: new ones get the same.
     mode: Option<u32>,
 }
 
-impl Disks {
+impl<S: System> Disks<S> {
     /// No file is open yet.
-    pub fn new(alloc: Global) -> Disks {
+    pub fn new(alloc: Global) -> Disks<S> {
         Disks {
-            alloc,
             open: IndexMap::new(alloc),
             recent: 0,
             absent: IndexSet::new(alloc),
@@ -46,6 +47,8 @@ impl Disks {
             owners: IndexMap::new(alloc),
             written: false,
             closed: IndexSet::new(alloc),
+            unlooked: IndexSet::new(alloc),
+            looks: 1,
             mode: None,
         }
     }
@@ -56,34 +59,33 @@ impl Disks {
     }
 
     /// Reads some bytes of a disk's file; none where it isn't there.
-    pub fn read_at<R: Files<File = File>>(
+    pub fn read_at(
         &mut self,
-        rt: &R,
-        journal: &Journal,
+        sys: &mut S,
+        journal: &Journal<S>,
         name: &Name,
         offset: u64,
         into: &mut [u8],
     ) -> Result<usize, Failure>
         ensures { IfOk result (λ n. n ≤ length into.old) }
     {
-        let Some(opened) = self.to_read(rt, journal, name)? else {
+        let Some(opened) = self.to_read(sys, journal, name)? else {
             return Ok(0);
         };
-        match opened.read_at(offset, into) {
-            Ok(count) => Ok(count),
-            Err(error) => Err(Failure::OfDisk(*name, error)),
-        }
+        opened
+            .read_at(sys, offset, into)
+            .map_err(|error| Failure::OfDisk(*name, error))
     }
 
     /// How many bytes a disk's file has. A link that leads nowhere is a file that isn't there.
-    pub fn len<R: Files<File = File>>(
+    pub fn len(
         &mut self,
-        rt: &R,
-        journal: &Journal,
+        sys: &mut S,
+        journal: &Journal<S>,
         name: &Name,
     ) -> Result<Extent, Failure> {
         let is_known = self.known.contains_key(name);
-        match self.to_read(rt, journal, name) {
+        match self.to_read(sys, journal, name) {
             Ok(Some(opened)) => Ok(opened.extent()),
             Ok(None) => Ok(Extent::Absent),
             Err(failure) if failure.is_missing() && !is_known => Ok(Extent::Absent),
@@ -91,11 +93,11 @@ impl Disks {
         }
     }
 
-    /// Writes some of the bytes to a disk's file, which is made where it isn't there.
-    pub fn write_at<R: Files<File = File>>(
+    /// Writes some of the bytes to a disk's file, which is made where it isn't there. Where the journal was written since disks were, it looks first whether those have their names still: what the journal marks may now be emptied.
+    pub fn write_at(
         &mut self,
-        rt: &R,
-        journal: &Journal,
+        sys: &mut S,
+        journal: &Journal<S>,
         name: &Name,
         offset: u64,
         bytes: &[u8],
@@ -103,59 +105,47 @@ impl Disks {
         ensures count { IfOk result (λ written. written.count ≤ length bytes.now) }
         ensures some { IfOk result (λ written. 0 < length bytes.now → 0 < written.count) }
     {
-        let made = self.open_for_writing(rt, journal, name)?;
+        if !self.written {
+            look_at_each(sys, &self.known, &mut self.unlooked)?;
+            self.looks = self.looks.saturating_add(1);
+        }
+        let made = self.open_for_writing(sys, journal, name)?;
         self.written = true;
         let Some(opened) = self.open.get_mut(name) else {
             return Err(Failure::memory(*name));
         };
-        match opened.write_at(offset, bytes) {
+        if opened.look != self.looks && self.unlooked.insert(*name).is_err() {
+            return Err(Failure::memory(*name));
+        }
+        opened.look = self.looks;
+        match opened.write_at(sys, offset, bytes) {
             Ok(count) => Ok(Written { count, made }),
             Err(error) => Err(Failure::OfDisk(*name, error)),
         }
     }
 
     /// Brings all that was written to a disk's file to the device, where the file is there. One that lost its name meanwhile is refused.
-    pub fn sync<R: Files<File = File>>(
-        &mut self,
-        rt: &R,
-        journal: &Journal,
-        name: &Name,
-    ) -> Result<(), Failure> {
-        let Some(opened) = self.to_read(rt, journal, name)? else {
-            return Ok(());
-        };
-        if let Err(error) = opened.sync() {
-            return Err(Failure::OfSync(Some(Place::Disk(*name)), error));
+    pub fn sync(&mut self, sys: &mut S, journal: &Journal<S>, name: &Name) -> Result<(), Failure> {
+        match self.to_read(sys, journal, name)? {
+            Some(opened) => sync_named(sys, name, opened),
+            None => Ok(()),
         }
-        self.check_named(rt, name)
     }
 
-    /// Whether a disk was written since it was looked whether all have their names still.
-    pub fn has_written(&self) -> bool {
+    /// Whether a disk was written since the journal was.
+    pub fn has_written(&self) -> bool
+        ensures { result ≡ self.now.written }
+    {
         self.written
     }
 
     /// Looks whether those that were closed meanwhile have them. Each of the others was looked at as it was synced.
-    pub fn check_closed<R: Files<File = File>>(&mut self, rt: &R) -> Result<(), Failure> {
-        for name in self.closed.iter() {
-            self.check_named(rt, name)?;
-        }
-        self.closed.clear();
+    pub fn check_closed(&mut self, sys: &mut S) -> Result<(), Failure>
+        ensures { Goes (S.System.state sys.old) (S.System.state sys.new) }
+    {
+        look_at_each(sys, &self.known, &mut self.closed)?;
         self.written = false;
         Ok(())
-    }
-
-    /// Refuses a disk whose name leads to another file than the one that was opened.
-    fn check_named<R: Files<File = File>>(&self, rt: &R, name: &Name) -> Result<(), Failure> {
-        let Some(node) = self.known.get(name) else {
-            return Ok(());
-        };
-        match path_of(self.alloc, name) {
-            Ok(path) => check_name(rt, path.as_str(), *node).map_err(|error| Failure::OfDisk(
-                *name, error,
-            )),
-            Err(error) => Err(Failure::OfDisk(*name, error)),
-        }
     }
 
     /// Closes a disk's file. Where memory is refused it stays open.
@@ -166,50 +156,62 @@ impl Disks {
     }
 
     /// The disk's file, opened where it isn't, if it is there. Once this process has claimed the journal it locks a file before it looks at it: what is seen there stays until this process writes over it.
-    fn to_read<R: Files<File = File>>(
+    fn to_read(
         &mut self,
-        rt: &R,
-        journal: &Journal,
+        sys: &mut S,
+        journal: &Journal<S>,
         name: &Name,
-    ) -> Result<Option<&Opened>, Failure> {
+    ) -> Result<Option<&Opened<S>>, Failure>
+        ensures { IfOk result (λ found. IfSome found (λ opened. IsTrue journal.now.locked → IsTrue opened.now.taken ⊎ IsTrue opened.now.fixed)) }
+    {
         if self.last_found(name).is_none() && !self.finds(name) && !self.absent.contains(name) {
-            self.open_for_reading(rt, journal, name)?;
+            self.open_for_reading(sys, journal, name)?;
             let _ = self.finds(name);
         }
-        if journal.is_claimed() {
-            self.lock_open(rt, name)?;
+        if !journal.is_claimed() {
+            return Ok(self.last_found(name));
         }
-        Ok(self.last_found(name))
+        self.lock_open(sys, name)?;
+        match self.last_found(name) {
+            Some(opened) if !opened.is_steady() => Err(Failure::OfDisk(*name, exchanged())),
+            found => Ok(found),
+        }
     }
 
     /// Opens the disk's file for writing too, for this process alone, where it is open for reading. One that can't be written is left as it is.
-    fn lock_open<R: Files<File = File>>(&mut self, rt: &R, name: &Name) -> Result<(), Failure> {
-        if self.last_found(name).is_none_or(|opened| opened.writable) {
+    fn lock_open(&mut self, sys: &mut S, name: &Name) -> Result<(), Failure> {
+        if self.last_found(name).is_none_or(|opened| opened.is_taken()) {
             return Ok(());
         }
-        match self.find_to_write(rt, name) {
-            Ok((opened, made)) => self.keep_taken(rt, name, opened, made),
-            Err(error) if is_read_only(&error) => Ok(()),
+        match self.find_to_write(sys, name) {
+            Ok((opened, made)) => self.keep_taken(sys, name, opened, made),
+            Err(error) if is_read_only(&error) => {
+                if let Some(opened) = self.open.get_mut(name) {
+                    opened.fixed = true;
+                }
+                Ok(())
+            }
             Err(error) => Err(Failure::OfDisk(*name, error)),
         }
     }
 
     /// Takes a file for this process alone, and keeps it open, in place of the same one that was open for reading alone.
-    fn keep_taken<R: Files<File = File>>(
+    fn keep_taken(
         &mut self,
-        rt: &R,
+        sys: &mut S,
         name: &Name,
-        opened: Opened,
+        opened: Opened<S>,
         made: bool,
     ) -> Result<(), Failure> {
-        match self.take(rt, name, &opened, made) {
+        let mut opened = opened;
+        match take_disk(sys, name, &mut opened, self.mode.filter(|_| made)) {
             Ok(()) => self.keep(name, opened),
             Err(error) => Err(Failure::OfDisk(*name, error)),
         }
     }
 
     /// The disk's file, where it is open and was the last one that was looked up.
-    fn last_found(&self, name: &Name) -> Option<&Opened> {
+    fn last_found(&self, name: &Name) -> Option<&Opened<S>> {
         match self.open.get_index(self.recent) {
             Some((disk, opened)) if disk == name => Some(opened),
             _ => None,
@@ -228,13 +230,13 @@ impl Disks {
     }
 
     /// Opens the disk's file, if it is there.
-    fn open_for_reading<R: Files<File = File>>(
+    fn open_for_reading(
         &mut self,
-        rt: &R,
-        journal: &Journal,
+        sys: &mut S,
+        journal: &Journal<S>,
         name: &Name,
     ) -> Result<(), Failure> {
-        match self.find_to_read(rt, name) {
+        match self.find_to_read(sys, name) {
             Ok(Some(opened)) => {
                 self.identify(journal, name, &opened)?;
                 self.mode = self.mode.or(Some(opened.mode));
@@ -249,83 +251,63 @@ impl Disks {
     }
 
     /// Opens the disk's file for writing too, for this process alone, and says whether it was made for it. One that was made gets the permissions of the others.
-    fn open_for_writing<R: Files<File = File>>(
+    fn open_for_writing(
         &mut self,
-        rt: &R,
-        journal: &Journal,
+        sys: &mut S,
+        journal: &Journal<S>,
         name: &Name,
     ) -> Result<bool, Failure> {
-        if self.open.get(name).is_some_and(|opened| opened.writable) {
+        if self.open.get(name).is_some_and(|opened| opened.is_taken()) {
             return Ok(false);
         }
-        let (opened, made) = match self.find_to_write(rt, name) {
-            Ok(found) => found,
-            Err(error) => return Err(Failure::OfDisk(*name, error)),
-        };
+        let (opened, made) = self
+            .find_to_write(sys, name)
+            .map_err(|error| Failure::OfDisk(*name, error))?;
         self.identify(journal, name, &opened)?;
         if !made && self.absent.contains(name) {
             return Err(Failure::OfDisk(*name, exchanged()));
         }
-        self.keep_taken(rt, name, opened, made)?;
+        self.keep_taken(sys, name, opened, made)?;
         let _ = self.absent.swap_remove(name);
         Ok(made)
     }
 
-    fn find_to_read<R: Files<File = File>>(
-        &self,
-        rt: &R,
-        name: &Name,
-    ) -> io::Result<Option<Opened>> {
-        self.check_spare(name)?;
-        let path = path_of(self.alloc, name)?;
+    fn find_to_read(&self, sys: &mut S, name: &Name) -> io::Result<Option<Opened<S>>> {
+        self.check_spare(sys, name)?;
+        let path = path_of(sys.alloc(), name)?;
         match self.known.get(name) {
-            Some(node) => Ok(Some(open_again(rt, self.alloc, path.as_str(), *node, false)?)),
-            None => open_to_read(rt, self.alloc, path.as_str()),
+            Some(node) => Ok(Some(open_again(sys, path.as_str(), *node, Access::Read)?)),
+            None => open_to_read(sys, path.as_str()),
         }
     }
 
-    fn find_to_write<R: Files<File = File>>(
-        &self,
-        rt: &R,
-        name: &Name,
-    ) -> io::Result<(Opened, bool)> {
-        self.check_spare(name)?;
-        let path = path_of(self.alloc, name)?;
+    fn find_to_write(&self, sys: &mut S, name: &Name) -> io::Result<(Opened<S>, bool)> {
+        self.check_spare(sys, name)?;
+        let path = path_of(sys.alloc(), name)?;
         match self.known.get(name) {
-            Some(node) => Ok((
-                open_again(rt, self.alloc, path.as_str(), *node, true)?,
-                false,
-            )),
-            None => open_to_write(rt, self.alloc, path.as_str()),
+            Some(node) => Ok((open_again(sys, path.as_str(), *node, Access::Both)?, false)),
+            None => open_to_write(sys, path.as_str()),
         }
     }
 
     /// Two descriptors stay free for another part of the process, where another disk's file is open that could be closed.
-    fn check_spare(&self, name: &Name) -> io::Result<()> {
-        match self.open.iter().find(|(other, _)| *other != name) {
-            Some((_, opened)) if !opened.leaves_some() => Err(too_many_open()),
-            _ => Ok(()),
+    fn check_spare(&self, sys: &S, name: &Name) -> io::Result<()> {
+        let Some((_, opened)) = self.open.iter().find(|(other, _)| *other != name) else {
+            return Ok(());
+        };
+        if opened.leaves_some(sys) {
+            return Ok(());
         }
-    }
-
-    /// Takes a file for this process alone.
-    fn take<R: Files<File = File>>(
-        &self,
-        rt: &R,
-        name: &Name,
-        opened: &Opened,
-        made: bool,
-    ) -> io::Result<()> {
-        let path = path_of(self.alloc, name)?;
-        take(rt, self.alloc, path.as_str(), opened)?;
-        match self.mode {
-            Some(mode) if made => opened.set_mode(mode),
-            _ => Ok(()),
-        }
+        Err(too_many_open())
     }
 
     /// Notes which file the disk is, and refuses one that is another disk's or the journal's.
-    fn identify(&mut self, journal: &Journal, name: &Name, opened: &Opened) -> Result<(), Failure> {
+    fn identify(
+        &mut self,
+        journal: &Journal<S>,
+        name: &Name,
+        opened: &Opened<S>,
+    ) -> Result<(), Failure> {
         if journal.overlaps(opened) {
             return Err(Failure::IsJournal(*name));
         }
@@ -354,7 +336,7 @@ impl Disks {
     }
 
     /// Keeps a file open.
-    fn keep(&mut self, name: &Name, opened: Opened) -> Result<(), Failure> {
+    fn keep(&mut self, name: &Name, opened: Opened<S>) -> Result<(), Failure> {
         match self.open.insert(*name, opened) {
             Ok(_) => Ok(()),
             Err(_) => Err(Failure::memory(*name)),
@@ -362,9 +344,63 @@ impl Disks {
     }
 }
 
-/// The path of a disk's file.
-fn path_of(alloc: Global, name: &Name) -> io::Result<String> {
-    Ok(format!(in alloc; "{}", DiskFile(name))?)
+/// Looks whether these disks have their names still, and forgets them.
+fn look_at_each<S: System>(
+    sys: &mut S,
+    known: &IndexMap<Name, Node>,
+    names: &mut IndexSet<Name>,
+) -> Result<(), Failure>
+    ensures { Goes (S.System.state sys.old) (S.System.state sys.new) }
+{
+    for name in names.iter() {
+        if let Some(node) = known.get(name) {
+            check_named(sys, name, *node)?;
+        }
+    }
+    names.clear();
+    Ok(())
+}
+
+/// Takes a disk's file for this process alone, and gives it these permissions, if any.
+fn take_disk<S: System>(
+    sys: &mut S,
+    name: &Name,
+    opened: &mut Opened<S>,
+    mode: Option<u32>,
+) -> io::Result<()>
+    ensures own { OnOk result (IsOwn (S.System.state sys.new) (disk_path name.now) opened.new.node (S.File.holds opened.new.file) (S.File.since opened.new.file)) }
+    ensures taken { OnOk result (IsTrue opened.new.taken) }
+    ensures goes { Goes (S.System.state sys.old) (S.System.state sys.new) }
+{
+    let path = path_of(sys.alloc(), name)?;
+    take(sys, path.as_str(), opened)?;
+    match mode {
+        Some(mode) => opened.set_mode(sys, mode),
+        None => Ok(()),
+    }
+}
+
+/// Brings all that was written to a disk's file to the device, and refuses one whose name leads to another by then.
+fn sync_named<S: System>(sys: &mut S, name: &Name, opened: &Opened<S>) -> Result<(), Failure>
+    ensures led { OnOk result (Finds (S.System.state sys.old) (S.System.state sys.new) (Led (disk_path name.now) opened.now.node)) }
+    ensures goes { Goes (S.System.state sys.old) (S.System.state sys.new) }
+{
+    match opened.sync(sys) {
+        Ok(()) => check_named(sys, name, opened.node),
+        Err(error) => Err(Failure::OfSync(Some(Place::Disk(*name)), error)),
+    }
+}
+
+/// Refuses a disk whose name leads to another file than this one.
+fn check_named<S: System>(sys: &mut S, name: &Name, node: Node) -> Result<(), Failure>
+    ensures led { OnOk result (Finds (S.System.state sys.old) (S.System.state sys.new) (Led (disk_path name.now) node)) }
+    ensures goes { Goes (S.System.state sys.old) (S.System.state sys.new) }
+{
+    let made = match path_of(sys.alloc(), name) {
+        Ok(path) => check_name(sys, path.as_str(), node),
+        Err(error) => Err(error),
+    };
+    made.map_err(|error| Failure::OfDisk(*name, error))
 }
 
 /// Whether a file can't be written, though it can be read.

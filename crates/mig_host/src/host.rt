@@ -4,48 +4,58 @@ ghost use Rattle.mig_calls.specs.declared.places.Place.{Place as Places};
 ghost use Rattle.mig_calls.specs.Files.{HasCallCause, IsCallCause, StaysUsable};
 ghost use Rattle.mig_host.specs.Untold.{host_state, host_is_state};
 
+use crate::disks::Disks;
 use crate::failures::Failure;
-use crate::files::HostFiles;
+use crate::files::{claim_journal, noted, sync_names, write_journal};
+use crate::journal::Journal;
+use crate::system::System;
 use crate::texts::Told;
 use mig_calls::{CallError, Calls, Extent, Place, Refusal, Written};
-use std::alloc::Global;
-use std::fs::File;
-use std::rt::Files;
 
-/// The calls over this runtime's files. They tell nothing but how many failed or were not made, how often the store refused, and whether a sync failed in this process. What failed, and why, is said on standard error.
-pub struct HostCalls<'a, R: Files<File = File> + Eprint> {
-    rt: &'a R,
-    files: HostFiles,
+/// The calls over a system. They tell nothing but how many failed or were not made, how often the store refused, and whether a sync failed in this process. What failed, and why, is said on standard error.
+pub struct SystemCalls<S: System> {
+    sys: S,
+    disks: Disks<S>,
+    journal: Journal<S>,
+    folder: Option<S::File>,
     faults: u64,
     refused: u64,
     unmade: u64,
     usable: bool,
 }
 
-impl<'a, R: Files<File = File> + Eprint> Drop for HostCalls<'a, R> {
+impl<S: System> Drop for SystemCalls<S> {
     fn drop(self) {
-        let HostCalls {
-            rt: _,
-            files,
+        let SystemCalls {
+            sys,
+            disks,
+            journal,
+            folder,
             faults: _,
             refused: _,
             unmade: _,
             usable: _,
         } = self;
-        drop(files);
+        drop(disks);
+        drop(journal);
+        drop(folder);
+        drop(sys);
     }
 }
 
-impl<'a, R: Files<File = File> + Eprint> HostCalls<'a, R> {
+impl<S: System> SystemCalls<S> {
     /// No file is open yet, and no call failed.
-    pub fn new(rt: &'a R, alloc: Global) -> Self
-        ensures usable { IsTrue (⟦<HostCalls<'a, R> as Calls>⟧.state result).usable }
-        ensures flushed { (place : Places) → IsTrue ((⟦<HostCalls<'a, R> as Calls>⟧.state result).flushed place) }
-        ensures faults { (⟦<HostCalls<'a, R> as Calls>⟧.state result).faults ≡ 0 }
+    pub fn new(sys: S) -> Self
+        ensures usable { IsTrue (⟦<SystemCalls<S> as Calls>⟧.state result).usable }
+        ensures flushed { (place : Places) → IsTrue ((⟦<SystemCalls<S> as Calls>⟧.state result).flushed place) }
+        ensures faults { (⟦<SystemCalls<S> as Calls>⟧.state result).faults ≡ 0 }
     {
-        HostCalls {
-            rt,
-            files: HostFiles::new(alloc),
+        let disks = Disks::new(sys.alloc());
+        SystemCalls {
+            sys,
+            disks,
+            journal: Journal::new(),
+            folder: None,
             faults: 0,
             refused: 0,
             unmade: 0,
@@ -65,11 +75,11 @@ impl<'a, R: Files<File = File> + Eprint> HostCalls<'a, R> {
             self.unmade = self.unmade.saturating_add(1);
             return CallError::Interrupted;
         }
-        if failure.is_full() && self.files.has_open() {
+        if failure.is_full() && self.disks.has_open() {
             self.unmade = self.unmade.saturating_add(1);
             return CallError::Full;
         }
-        let _ = eprintln!(self.rt; "migrate: {failure}");
+        self.sys.say(failure);
         self.faults = self.faults.saturating_add(1);
         CallError::Failed
     }
@@ -103,7 +113,7 @@ impl<'a, R: Files<File = File> + Eprint> HostCalls<'a, R> {
     }
 }
 
-impl<'a, R: Files<File = File> + Eprint> Calls for HostCalls<'a, R> {
+impl<S: System> Calls for SystemCalls<S> {
     ghost state = { λ h. host_state h.faults h.refused h.unmade h.usable };
 
     ghost is_state = { λ h. host_is_state h.faults h.refused h.unmade h.usable };
@@ -112,45 +122,65 @@ impl<'a, R: Files<File = File> + Eprint> Calls for HostCalls<'a, R> {
         if !self.usable {
             return Err(self.counted(Failure::Unsynced(None)));
         }
-        let made = self.files.claim(self.rt);
+        let made = claim_journal(&mut self.sys, &mut self.journal, &mut self.folder);
         self.answer(made)
     }
 
     fn read_at(&mut self, place: &Place, offset: u64, into: &mut [u8]) -> Result<usize, CallError> {
-        match self.files.read_at(self.rt, place, offset, into) {
+        let sys = &mut self.sys;
+        let read = match place {
+            Place::Disk(name) => self.disks.read_at(sys, &self.journal, name, offset, into),
+            Place::Journal => self.journal.read_at(sys, offset, into),
+        };
+        match read {
             Ok(count) => Ok(count),
             Err(failure) => Err(self.counted(failure)),
         }
     }
 
     fn len(&mut self, place: &Place) -> Result<Extent, CallError> {
-        let made = self.files.len(self.rt, place);
+        let made = match place {
+            Place::Disk(name) => self.disks.len(&mut self.sys, &self.journal, name),
+            Place::Journal => self.journal.len(&mut self.sys),
+        };
         self.answer(made)
     }
 
     fn write_at(&mut self, place: &Place, offset: u64, bytes: &[u8]) -> Result<Written, CallError> {
-        match self.files.write_at(self.rt, place, offset, bytes) {
+        let sys = &mut self.sys;
+        let made = match place {
+            Place::Disk(name) => self.disks.write_at(sys, &self.journal, name, offset, bytes),
+            Place::Journal => write_journal(sys, &mut self.disks, &mut self.journal, offset, bytes),
+        };
+        match made {
             Ok(written) => Ok(written),
             Err(failure) => Err(self.counted(failure)),
         }
     }
 
     fn sync(&mut self, place: &Place) -> Result<(), CallError> {
-        let made = self.files.sync(self.rt, place);
+        let made = match place {
+            Place::Disk(name) => self.disks.sync(&mut self.sys, &self.journal, name),
+            Place::Journal => self.journal.sync(&mut self.sys),
+        };
+        let made = noted(&mut self.sys, made);
         self.synced(made)
     }
 
     fn sync_names(&mut self) -> Result<(), CallError> {
-        let made = self.files.sync_names(self.rt);
+        let made = sync_names(&mut self.sys, &mut self.folder);
         self.synced(made)
     }
 
+    /// The journal's file stays open, with its lock.
     fn close(&mut self, place: &Place) {
-        self.files.close(place);
+        if let Place::Disk(name) = place {
+            self.disks.close(name);
+        }
     }
 
     fn refuse(&mut self, why: &Refusal) {
-        let _ = eprintln!(self.rt; "migrate: {}", Told(why));
+        self.sys.say(Told(why));
         if why.is_found() {
             self.refused = self.refused.saturating_add(1);
             return;

@@ -1,28 +1,9 @@
 //! What stands at a path of the store, and which file of the system it is.
-use std::fs::{self, File, Metadata};
+ghost use Rattle.std.specs.Prelude.{IfOk, OnOk};
+ghost use Rattle.mig_host.specs.Systems.{Finds, Goes, IsBareAt, IsFoundAt, IsKindOf, Led};
+
+use crate::system::{Kind, Node, Stat, System};
 use std::io::{self, Error, ErrorKind};
-use std::os::unix::fs::{FileTypeExt, MetadataExt};
-use std::rt::Files;
-
-/// Which file of the system it is, whatever its name. A device has a number, whatever file names it.
-#[derive(Clone, Copy, PartialEq, Eq, Hash)]
-pub enum Node {
-    Plain { device: u64, inode: u64 },
-    Device { number: u64 },
-}
-
-/// The node of an open file.
-pub fn node_of(found: &Metadata) -> Node {
-    if found.file_type().is_block_device() {
-        return Node::Device {
-            number: found.rdev(),
-        };
-    }
-    Node::Plain {
-        device: found.dev(),
-        inode: found.ino(),
-    }
-}
 
 /// What a path of the store leads to.
 #[derive(Clone, Copy)]
@@ -33,48 +14,38 @@ pub enum Found {
     Device(u64),
 }
 
-/// Makes a call again as long as a signal comes first.
-pub fn again<T, F: Fn() -> io::Result<T>>(call: F) -> io::Result<T>
-    requires { F.IsAlwaysCallable call }
-{
-    for _ in 0..u64::MAX {
-        match call() {
-            Err(error) if error.kind() == ErrorKind::Interrupted => {}
-            made => return made,
-        }
-    }
-    Err(ErrorKind::TimedOut.into())
-}
-
 /// Looks at a path before it is opened: a pipe would hang there. A link that leads nowhere is refused, since it is a disk that isn't there and not a new one.
-pub fn found_at<R: Files<File = File>>(rt: &R, path: &str) -> io::Result<Found> {
-    match look_at(rt, path) {
-        Ok(found) => kind_of(&found),
-        Err(error) if error.kind() == ErrorKind::NotFound => nothing_at(rt, path),
+pub fn found_at<S: System>(sys: &mut S, path: &str) -> io::Result<Found>
+    ensures found { IfOk result (IsFoundAt (S.System.state sys.old) (S.System.state sys.new) path.now) }
+    ensures goes { Goes (S.System.state sys.old) (S.System.state sys.new) }
+{
+    match sys.stat(path) {
+        Ok(stat) => kind_of(&stat),
+        Err(error) if error.kind() == ErrorKind::NotFound => nothing_at(sys, path),
         Err(error) => Err(error),
     }
 }
 
-fn look_at<R: Files<File = File>>(rt: &R, path: &str) -> io::Result<Metadata> {
-    again(|| fs::metadata(rt, path))
+fn kind_of(stat: &Stat) -> io::Result<Found>
+    ensures { IfOk result (IsKindOf stat.now) }
+{
+    match stat.kind {
+        Kind::Plain => Ok(Found::File),
+        Kind::Device => Ok(Found::Device(stat.number)),
+        Kind::Folder => Err(ErrorKind::IsADirectory.into()),
+        Kind::Link | Kind::Other => {
+            Err(Error::other("it is neither a plain file nor a block device"))
+        }
+    }
 }
 
-fn kind_of(found: &Metadata) -> io::Result<Found> {
-    if found.is_file() {
-        return Ok(Found::File);
-    }
-    if found.file_type().is_block_device() {
-        return Ok(Found::Device(found.rdev()));
-    }
-    if found.is_dir() {
-        return Err(ErrorKind::IsADirectory.into());
-    }
-    Err(Error::other("it is neither a plain file nor a block device"))
-}
-
-fn nothing_at<R: Files<File = File>>(rt: &R, path: &str) -> io::Result<Found> {
-    match again(|| fs::symlink_metadata(rt, path)) {
-        Ok(found) => Err(in_the_way(found.is_symlink())),
+/// Nothing is found only where no link stands either.
+fn nothing_at<S: System>(sys: &mut S, path: &str) -> io::Result<Found>
+    ensures found { IfOk result (IsBareAt (S.System.state sys.old) (S.System.state sys.new) path.now) }
+    ensures goes { Goes (S.System.state sys.old) (S.System.state sys.new) }
+{
+    match sys.lstat(path) {
+        Ok(stat) => Err(in_the_way(stat.kind == Kind::Link)),
         Err(error) if error.kind() == ErrorKind::NotFound => Ok(Found::Nothing),
         Err(error) => Err(error),
     }
@@ -91,9 +62,12 @@ fn in_the_way(is_link: bool) -> Error {
 }
 
 /// Refuses a name that leads to another file than this one.
-pub fn check_name<R: Files<File = File>>(rt: &R, path: &str, node: Node) -> io::Result<()> {
-    match look_at(rt, path) {
-        Ok(found) if node_of(&found) == node => Ok(()),
+pub fn check_name<S: System>(sys: &mut S, path: &str, node: Node) -> io::Result<()>
+    ensures led { OnOk result (Finds (S.System.state sys.old) (S.System.state sys.new) (Led path.now node)) }
+    ensures goes { Goes (S.System.state sys.old) (S.System.state sys.new) }
+{
+    match sys.stat(path) {
+        Ok(stat) if stat.node() == node => Ok(()),
         Err(error) if error.kind() != ErrorKind::NotFound => Err(error),
         _ => Err(exchanged()),
     }

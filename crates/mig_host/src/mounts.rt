@@ -1,10 +1,8 @@
 //! The system's table of mounts.
-use crate::system::{number_of, text_at};
+use crate::system::{Kind, System};
+use crate::tables::{number_of, text_at};
 use std::alloc::{AllocError, Global};
-use std::fs::{self, File};
 use std::io::{self, Error};
-use std::os::unix::fs::{FileTypeExt, MetadataExt};
-use std::rt::Files;
 
 const MOUNTS: &str = "/proc/self/mountinfo";
 
@@ -29,27 +27,16 @@ fn mount_of(line: &str) -> Option<Mount<'_>> {
 }
 
 /// Refuses devices of which one is mounted, and a node that isn't one of the system's own table of devices, which has the number `table`.
-pub fn check_mounts<R: Files<File = File>>(
-    rt: &R,
-    alloc: Global,
-    numbers: &[u64],
-    table: u64,
-) -> io::Result<()> {
-    let text = text_at(rt, alloc, MOUNTS)?;
-    check_lines(rt, alloc, text.as_str(), numbers, table)
+pub fn check_mounts<S: System>(sys: &S, numbers: &[u64], table: u64) -> io::Result<()> {
+    let text = text_at(sys, MOUNTS)?;
+    check_lines(sys, text.as_str(), numbers, table)
 }
 
-fn check_lines<R: Files<File = File>>(
-    rt: &R,
-    alloc: Global,
-    text: &str,
-    numbers: &[u64],
-    table: u64,
-) -> io::Result<()> {
+fn check_lines<S: System>(sys: &S, text: &str, numbers: &[u64], table: u64) -> io::Result<()> {
     let mut is_own = false;
     for line in text.lines() {
         if let Some(mount) = mount_of(line) {
-            if names_one(rt, alloc, &mount, numbers)? {
+            if names_one(sys, &mount, numbers)? {
                 return Err(Error::other("the device is mounted, or a part of it is"));
             }
             is_own = is_own || mount.kind == "devtmpfs" && number_of(mount.number) == Some(table);
@@ -62,25 +49,22 @@ fn check_lines<R: Files<File = File>>(
 }
 
 /// Whether one of the devices is mounted: a file system has its number, or a number of its own, and then the path that was mounted tells.
-fn names_one<R: Files<File = File>>(
-    rt: &R,
-    alloc: Global,
-    mount: &Mount<'_>,
-    numbers: &[u64],
-) -> io::Result<bool> {
+fn names_one<S: System>(sys: &S, mount: &Mount<'_>, numbers: &[u64]) -> io::Result<bool> {
     if number_of(mount.number).is_some_and(|number| numbers.contains(&number)) {
         return Ok(true);
     }
     if !mount.number.starts_with("0:") || !mount.source.starts_with('/') {
         return Ok(false);
     }
-    let source = unescaped(alloc, mount.source)?;
+    let source = unescaped(sys.alloc(), mount.source)?;
     if source.as_str().contains('\u{fffd}') {
         return Err(Error::other("the table of mounts has a path that is no text"));
     }
-    Ok(fs::metadata(rt, source.as_str()).is_ok_and(|found| {
-        found.file_type().is_block_device() && numbers.contains(&found.rdev())
-    }))
+    Ok(
+        sys.entry(source.as_str()).is_ok_and(|found| {
+            found.kind == Kind::Device && numbers.contains(&found.number)
+        }),
+    )
 }
 
 /// The path that a word of the table stands for: a blank is `\040` there, and a few other bytes are written so.

@@ -1,100 +1,124 @@
 //! A file that is open, with reads and writes at an offset.
-ghost use Rattle.std.specs.Prelude.{◌≤◌, ◌<◌, IfOk, length};
+ghost use Rattle.std.specs.Prelude.{◌≡◌, ◌⊎◌, ◌≤◌, ◌<◌, ℕ, IsTrue, IfOk, IfSome, IfNone, OnOk, length};
+ghost use Rattle.mig_host.specs.Systems.{Absent, Finds, Goes, IsLookedAt, IsOpenedAt, IsOwn, Led, Made};
+ghost use Rattle.mig_host.specs.declared.system.Node.{Node as Nodes};
+ghost use Rattle.mig_host.specs.declared.system.Node.TheVariants.{Device as DeviceOf};
 
 use crate::devices::{Part, find_device};
-use crate::identity::{Found, Node, again, exchanged, found_at, node_of};
+use crate::identity::{Found, exchanged, found_at};
+use crate::system::{Access, Node, System};
 use mig_calls::Extent;
-use std::alloc::Global;
-use std::fs::{File, OpenOptions, Permissions, TryLockError};
-use std::io::{self, Error, ErrorKind, Seek, SeekFrom};
-use std::os::fd::AsRawFd;
-use std::os::unix::fs::{FileExt, MetadataExt, PermissionsExt};
-use std::rt::Files;
+use std::io::{self, Error, ErrorKind};
 
 /// A file that is open.
 #[derive(Drop)]
-pub struct Opened {
-    file: File,
-    pub writable: bool,
+pub struct Opened<S: System> {
+    file: S::File,
+    /// It is this process's alone.
+    pub taken: bool,
+    /// It may be read only.
+    pub fixed: bool,
     /// Which file of the system it is.
     pub node: Node,
     /// What its bytes lie in: the file itself, and of a device the others.
     pub parts: Vec<Part>,
     /// Its permissions.
     pub mode: u32,
+    /// The look at the disk's name that comes after its last write; 0 before one.
+    pub look: u64,
     /// How many bytes it has.
     len: u64,
 }
 
 /// Opens a file for reading, if it is there.
-pub fn open_to_read<R: Files<File = File>>(
-    rt: &R,
-    alloc: Global,
-    path: &str,
-) -> io::Result<Option<Opened>> {
-    match found_at(rt, path)? {
+pub fn open_to_read<S: System>(sys: &mut S, path: &str) -> io::Result<Option<Opened<S>>>
+    ensures there { IfOk result (λ found. IfSome found (λ opened. Finds (S.System.state sys.old) (S.System.state sys.new) (Led path.now opened.node))) }
+    ensures absent { IfOk result (λ found. IfNone found (Finds (S.System.state sys.old) (S.System.state sys.new) (Absent path.now))) }
+    ensures goes { Goes (S.System.state sys.old) (S.System.state sys.new) }
+{
+    match found_at(sys, path)? {
         Found::Nothing => Ok(None),
-        Found::Device(number) => Ok(Some(open_device(rt, alloc, number, false)?)),
-        Found::File => match open_there(rt, alloc, path, false) {
+        Found::Device(number) => Ok(Some(open_device(sys, number, Access::Read)?)),
+        Found::File => open_if_there(sys, path),
+    }
+}
+
+/// Opens a file for reading, unless it was removed since it was found.
+fn open_if_there<S: System>(sys: &mut S, path: &str) -> io::Result<Option<Opened<S>>>
+    ensures there { IfOk result (λ found. IfSome found (λ opened. Finds (S.System.state sys.old) (S.System.state sys.new) (Led path.now opened.node))) }
+    ensures absent { IfOk result (λ found. IfNone found (Finds (S.System.state sys.old) (S.System.state sys.new) (Absent path.now))) }
+    ensures goes { Goes (S.System.state sys.old) (S.System.state sys.new) }
+{
+    match sys.open(path, Access::Read) {
+        Ok(file) => match look_at(sys, file) {
             Ok(opened) => Ok(Some(opened)),
-            Err(error) if error.kind() == ErrorKind::NotFound => Ok(None),
             Err(error) => Err(error),
         },
+        Err(error) if error.kind() == ErrorKind::NotFound => Ok(None),
+        Err(error) => Err(error),
     }
 }
 
 /// Opens a file for reading and writing, and says whether it was made. Nothing of it is cut off.
-pub fn open_to_write<R: Files<File = File>>(
-    rt: &R,
-    alloc: Global,
-    path: &str,
-) -> io::Result<(Opened, bool)> {
-    match found_at(rt, path)? {
-        Found::Nothing => make_or_open(rt, alloc, path),
-        found => Ok((open_found(rt, alloc, path, found, true)?, false)),
+pub fn open_to_write<S: System>(sys: &mut S, path: &str) -> io::Result<(Opened<S>, bool)>
+    ensures led { IfOk result (λ found. Finds (S.System.state sys.old) (S.System.state sys.new) (Led path.now found.0.node)) }
+    ensures made { IfOk result (λ found. IsTrue found.1 → Finds (S.System.state sys.old) (S.System.state sys.new) (Made found.0.node)) }
+    ensures goes { Goes (S.System.state sys.old) (S.System.state sys.new) }
+{
+    match found_at(sys, path)? {
+        Found::Nothing => make_or_open(sys, path),
+        Found::Device(number) => Ok((open_device(sys, number, Access::Both)?, false)),
+        Found::File => Ok((open_there(sys, path, Access::Both)?, false)),
     }
 }
 
 /// Makes a new file, and opens it where another process made it at this moment.
-fn make_or_open<R: Files<File = File>>(
-    rt: &R,
-    alloc: Global,
-    path: &str,
-) -> io::Result<(Opened, bool)> {
-    match make_new(rt, alloc, path) {
+fn make_or_open<S: System>(sys: &mut S, path: &str) -> io::Result<(Opened<S>, bool)>
+    ensures led { IfOk result (λ found. Finds (S.System.state sys.old) (S.System.state sys.new) (Led path.now found.0.node)) }
+    ensures made { IfOk result (λ found. IsTrue found.1 → Finds (S.System.state sys.old) (S.System.state sys.new) (Made found.0.node)) }
+    ensures goes { Goes (S.System.state sys.old) (S.System.state sys.new) }
+{
+    match open_there(sys, path, Access::Make) {
         Ok(opened) => Ok((opened, true)),
         Err(error) if error.kind() == ErrorKind::AlreadyExists => {
-            Ok((open_there(rt, alloc, path, true)?, false))
+            Ok((open_there(sys, path, Access::Both)?, false))
         }
         Err(error) => Err(error),
     }
 }
 
 /// Opens what was found at a path.
-fn open_found<R: Files<File = File>>(
-    rt: &R,
-    alloc: Global,
+fn open_found<S: System>(
+    sys: &mut S,
     path: &str,
     found: Found,
-    writable: bool,
-) -> io::Result<Opened> {
+    access: Access,
+) -> io::Result<Opened<S>>
+    ensures node { IfOk result (λ opened. IsOpenedAt (S.System.state sys.old) (S.System.state sys.new) path.now opened.node found) }
+    ensures of { IfOk result (λ opened. S.File.is_of opened.file opened.node) }
+    ensures goes { Goes (S.System.state sys.old) (S.System.state sys.new) }
+{
     match found {
         Found::Nothing => Err(exchanged()),
-        Found::Device(number) => open_device(rt, alloc, number, writable),
-        Found::File => open_there(rt, alloc, path, writable),
+        Found::Device(number) => open_device(sys, number, access),
+        Found::File => open_there(sys, path, access),
     }
 }
 
 /// Opens a file that was open before, and has its name still.
-pub fn open_again<R: Files<File = File>>(
-    rt: &R,
-    alloc: Global,
+pub fn open_again<S: System>(
+    sys: &mut S,
     path: &str,
     node: Node,
-    writable: bool,
-) -> io::Result<Opened> {
-    let found = found_at(rt, path)?;
-    let opened = open_found(rt, alloc, path, found, writable)?;
+    access: Access,
+) -> io::Result<Opened<S>>
+    ensures same { IfOk result (λ opened. opened.node ≡ node) }
+    ensures led { OnOk result (Finds (S.System.state sys.old) (S.System.state sys.new) (Led path.now node)) }
+    ensures of { IfOk result (λ opened. S.File.is_of opened.file opened.node) }
+    ensures goes { Goes (S.System.state sys.old) (S.System.state sys.new) }
+{
+    let found = found_at(sys, path)?;
+    let opened = open_found(sys, path, found, access)?;
     if opened.node == node {
         Ok(opened)
     } else {
@@ -103,14 +127,13 @@ pub fn open_again<R: Files<File = File>>(
 }
 
 /// Opens a device by the node that the system has of it, whatever node has the path: all processes lock it there.
-fn open_device<R: Files<File = File>>(
-    rt: &R,
-    alloc: Global,
-    number: u64,
-    writable: bool,
-) -> io::Result<Opened> {
-    let device = find_device(rt, alloc, number)?;
-    let mut opened = open_there(rt, alloc, device.path.as_str(), writable)?;
+fn open_device<S: System>(sys: &mut S, number: u64, access: Access) -> io::Result<Opened<S>>
+    ensures node { IfOk result (λ opened. opened.node ≡ DeviceOf number) }
+    ensures of { IfOk result (λ opened. S.File.is_of opened.file opened.node) }
+    ensures goes { Goes (S.System.state sys.old) (S.System.state sys.new) }
+{
+    let device = find_device(sys, number)?;
+    let mut opened = open_there(sys, device.path.as_str(), access)?;
     if opened.node != (Node::Device { number }) {
         return Err(Error::other("/dev has another node under the device's name"));
     }
@@ -118,100 +141,114 @@ fn open_device<R: Files<File = File>>(
     Ok(opened)
 }
 
-fn open_there<R: Files<File = File>>(
-    rt: &R,
-    alloc: Global,
-    path: &str,
-    writable: bool,
-) -> io::Result<Opened> {
-    let mut options = OpenOptions::new();
-    options.read(true).write(writable);
-    look_at(alloc, options.open(rt, path)?, writable)
-}
-
-/// Makes a new file, which must not be there.
-fn make_new<R: Files<File = File>>(rt: &R, alloc: Global, path: &str) -> io::Result<Opened> {
-    let mut options = OpenOptions::new();
-    options.read(true).write(true).create_new(true);
-    look_at(alloc, options.open(rt, path)?, true)
+fn open_there<S: System>(sys: &mut S, path: &str, access: Access) -> io::Result<Opened<S>>
+    ensures led { IfOk result (λ opened. Finds (S.System.state sys.old) (S.System.state sys.new) (Led path.now opened.node)) }
+    ensures made { IfOk result (λ opened. access ≡ Access.Make → Finds (S.System.state sys.old) (S.System.state sys.new) (Made opened.node)) }
+    ensures of { IfOk result (λ opened. S.File.is_of opened.file opened.node) }
+    ensures goes { Goes (S.System.state sys.old) (S.System.state sys.new) }
+{
+    let file = sys.open(path, access)?;
+    look_at(sys, file)
 }
 
 /// Notes what a file is that was opened.
-fn look_at(alloc: Global, file: File, writable: bool) -> io::Result<Opened> {
-    let mut file = above_streams(file)?;
-    let found = again(|| file.metadata())?;
-    let node = node_of(&found);
+fn look_at<S: System>(sys: &S, file: S::File) -> io::Result<Opened<S>>
+    ensures found { IfOk result (λ opened. S.File.is_of file opened.node) }
+    ensures of { IfOk result (λ opened. S.File.is_of opened.file opened.node) }
+{
+    let file = above_streams(sys, file)?;
+    let stat = sys.fstat(&file)?;
+    let node = stat.node();
     let len = match node {
-        Node::Plain { .. } => found.len(),
-        Node::Device { .. } => file.seek(SeekFrom::End(0))?,
+        Node::Plain { .. } => stat.len,
+        Node::Device { .. } => sys.end(&file)?,
     };
-    let mut parts = Vec::new(alloc);
+    let mut parts = Vec::new(sys.alloc());
     parts.push(Part { node, whole: true })?;
     Ok(Opened {
         file,
-        writable,
+        taken: false,
+        fixed: false,
         node,
         parts,
-        mode: found.mode() & 0o777,
+        mode: stat.mode & 0o777,
+        look: 0,
         len,
     })
 }
 
-/// Takes a file for this process alone, until it is closed.
-pub fn take<R: Files<File = File>>(
-    rt: &R,
-    alloc: Global,
-    path: &str,
-    opened: &Opened,
-) -> io::Result<()> {
-    opened.lock()?;
-    check_taken(rt, alloc, path, opened)
-}
-
-/// Sees that a path leads to a file that this process has taken, and that nobody who opens it there gets its lock.
-pub fn check_taken<R: Files<File = File>>(
-    rt: &R,
-    alloc: Global,
-    path: &str,
-    opened: &Opened,
-) -> io::Result<()> {
-    let other = open_again(rt, alloc, path, opened.node, true)?;
-    match other.file.try_lock() {
-        Err(TryLockError::WouldBlock) => Ok(()),
-        Ok(()) => Err(Error::other("locks keep nobody out on its file system")),
-        Err(TryLockError::Error(error)) => Err(error),
-    }
-}
-
 /// What is meant for a standard stream that was closed must not land in the file.
-fn above_streams(file: File) -> io::Result<File> {
-    if file.as_raw_fd() <= 2 {
-        return file.try_clone();
+fn above_streams<S: System>(sys: &S, file: S::File) -> io::Result<S::File>
+    ensures { IfOk result (λ other. (node : Nodes) → S.File.is_of other node → S.File.is_of file node) }
+{
+    if sys.descriptor(&file) <= 2 {
+        return sys.duplicate(&file);
     }
     Ok(file)
 }
 
-impl Opened {
+/// Takes a file for this process alone, until it is closed.
+pub fn take<S: System>(sys: &mut S, path: &str, opened: &mut Opened<S>) -> io::Result<()>
+    ensures own { OnOk result (IsOwn (S.System.state sys.new) path.now opened.new.node (S.File.holds opened.new.file) (S.File.since opened.new.file)) }
+    ensures taken { OnOk result (IsTrue opened.new.taken) }
+    ensures node { opened.new.node ≡ opened.old.node }
+    ensures goes { Goes (S.System.state sys.old) (S.System.state sys.new) }
+{
+    opened.lock(sys)?;
+    check_taken(sys, path, opened.node)?;
+    opened.taken = true;
+    Ok(())
+}
+
+/// Sees that a path leads to a file that this process has taken, and that nobody who opens it there gets its lock.
+pub fn check_taken<S: System>(sys: &mut S, path: &str, node: Node) -> io::Result<()>
+    ensures looked { OnOk result (IsLookedAt (S.System.state sys.old) (S.System.state sys.new) path.now node) }
+    ensures goes { Goes (S.System.state sys.old) (S.System.state sys.new) }
+{
+    let mut other = open_again(sys, path, node, Access::Both)?;
+    if sys.lock(&mut other.file)? {
+        return Err(Error::other("locks keep nobody out on its file system"));
+    }
+    Ok(())
+}
+
+impl<S: System> Opened<S> {
     /// Locks the file, until it is closed. It is refused where another process has done so.
-    pub fn lock(&self) -> io::Result<()> {
-        match self.file.try_lock() {
-            Ok(()) => Ok(()),
-            Err(TryLockError::WouldBlock) => Err(Error::other(
-                "another process is at work with it",
-            )),
-            Err(TryLockError::Error(error)) => Err(error),
+    fn lock(&mut self, sys: &mut S) -> io::Result<()>
+        ensures held { OnOk result (IsTrue (S.File.holds self.new.file)) }
+        ensures since { OnOk result (S.File.since self.new.file ≡ (S.System.state sys.new).moment) }
+        ensures node { self.new.node ≡ self.old.node }
+        ensures goes { Goes (S.System.state sys.old) (S.System.state sys.new) }
+    {
+        if sys.lock(&mut self.file)? {
+            return Ok(());
         }
+        Err(Error::other("another process is at work with it"))
+    }
+
+    /// Whether it is this process's alone.
+    pub fn is_taken(&self) -> bool
+        ensures { result ≡ self.now.taken }
+    {
+        self.taken
+    }
+
+    /// Whether no other process writes to it by this program: it is this one's alone, or may be read only.
+    pub fn is_steady(&self) -> bool
+        ensures { IsTrue result → IsTrue self.now.taken ⊎ IsTrue self.now.fixed }
+    {
+        self.taken || self.fixed
     }
 
     /// Whether both have bytes in common.
-    pub fn overlaps(&self, other: &Opened) -> bool {
+    pub fn overlaps(&self, other: &Opened<S>) -> bool {
         self.parts.iter().any(|part| part.overlaps(&other.parts))
     }
 
     /// Whether this process may open three files: the next one, and two that another part of it may need.
-    pub fn leaves_some(&self) -> bool {
-        let (one, another) = (self.file.try_clone(), self.file.try_clone());
-        let third = self.file.try_clone();
+    pub fn leaves_some(&self, sys: &S) -> bool {
+        let (one, another) = (sys.duplicate(&self.file), sys.duplicate(&self.file));
+        let third = sys.duplicate(&self.file);
         one.is_ok() && another.is_ok() && third.is_ok()
     }
 
@@ -224,18 +261,23 @@ impl Opened {
     }
 
     /// Reads some bytes at an offset.
-    pub fn read_at(&self, offset: u64, into: &mut [u8]) -> io::Result<usize>
+    pub fn read_at(&self, sys: &mut S, offset: u64, into: &mut [u8]) -> io::Result<usize>
         ensures { IfOk result (λ n. n ≤ length into.old) }
     {
-        self.file.read_at(into, offset)
+        sys.read_at(&self.file, offset, into)
     }
 
-    /// Writes some of the bytes at an offset. A write of no byte is a fault.
-    pub fn write_at(&mut self, offset: u64, bytes: &[u8]) -> io::Result<usize>
+    /// Writes some of the bytes at an offset of a file that was taken. A write of no byte is a fault.
+    pub fn write_at(&mut self, sys: &mut S, offset: u64, bytes: &[u8]) -> io::Result<usize>
         ensures count { IfOk result (λ n. n ≤ length bytes.now) }
         ensures some { IfOk result (λ n. 0 < length bytes.now → 0 < n) }
+        ensures taken { OnOk result (IsTrue self.old.taken) }
+        ensures goes { Goes (S.System.state sys.old) (S.System.state sys.new) }
     {
-        let count = self.file.write_at(bytes, offset)?;
+        if !self.taken {
+            return Err(Error::other("it was not taken"));
+        }
+        let count = sys.write_at(&self.file, offset, bytes)?;
         if count == 0 && !bytes.is_empty() {
             return Err(ErrorKind::WriteZero.into());
         }
@@ -244,12 +286,16 @@ impl Opened {
     }
 
     /// Gives the file these permissions.
-    pub fn set_mode(&self, mode: u32) -> io::Result<()> {
-        self.file.set_permissions(Permissions::from_mode(mode))
+    pub fn set_mode(&self, sys: &mut S, mode: u32) -> io::Result<()>
+        ensures { Goes (S.System.state sys.old) (S.System.state sys.new) }
+    {
+        sys.set_mode(&self.file, mode)
     }
 
     /// Waits until the device has all that was written to the file, by whatever process. It need not be writable.
-    pub fn sync(&self) -> io::Result<()> {
-        self.file.sync_data()
+    pub fn sync(&self, sys: &mut S) -> io::Result<()>
+        ensures { Goes (S.System.state sys.old) (S.System.state sys.new) }
+    {
+        sys.sync_data(&self.file)
     }
 }

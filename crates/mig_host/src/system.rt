@@ -1,110 +1,173 @@
-//! What the system tells in files and folders of its own.
+//! What the store asks of the system, call by call, and what the answers tell while other processes act.
+ghost use Rattle.std.specs.Prelude.{◌≡◌, ◌≤◌, ℕ, Bool, IsTrue, IsFalse, IfOk, IfErr, OnOk, length};
+ghost use Rattle.std.specs.IoError.{error_kind};
+ghost use Rattle.mig_host.specs.Systems.{SystemState, Finds, Goes, IsNowhere, stat_node, Led, Absent, Bare, Made, Denied};
+ghost use Rattle.mig_host.specs.declared.system.Node.{Node as Nodes};
+
 use std::alloc::Global;
-use std::fs::{self, File};
-use std::io::{self, ErrorKind, Read};
-use std::rt::Files;
+use std::fmt::Display;
+use std::io::{self, Read, Write};
 
-/// The text of a file, with U+FFFD for what is no text.
-pub fn text_at<R: Files<File = File>>(rt: &R, alloc: Global, path: &str) -> io::Result<String> {
-    let mut file = fs::open(rt, path)?;
-    let mut bytes = Vec::new(alloc);
-    file.read_to_end(&mut bytes)?;
-    Ok(String::from_utf8_lossy(alloc, &bytes)?)
+/// Which file of the system it is, whatever its name. A device has a number, whatever file names it.
+#[derive(Clone, Copy, PartialEq, Eq, Hash)]
+pub enum Node {
+    Plain { device: u64, inode: u64 },
+    Device { number: u64 },
 }
 
-/// The same of a file that may be missing.
-pub fn text_if_there<R: Files<File = File>>(
-    rt: &R,
-    alloc: Global,
-    path: &str,
-) -> io::Result<Option<String>> {
-    match text_at(rt, alloc, path) {
-        Ok(text) => Ok(Some(text)),
-        Err(error) if is_missing(&error) => Ok(None),
-        Err(error) => Err(error),
-    }
+/// What kind of file it is.
+#[derive(Clone, Copy, PartialEq, Eq)]
+pub enum Kind {
+    Plain,
+    /// A block device.
+    Device,
+    Folder,
+    Link,
+    Other,
 }
 
-/// The path of what has this name in a folder.
-pub fn path_in(alloc: Global, folder: &str, name: &str) -> io::Result<String> {
-    Ok(format!(in alloc; "{folder}/{name}")?)
+/// What the system tells of a file.
+#[derive(Clone, Copy)]
+pub struct Stat {
+    pub kind: Kind,
+    /// The number of the file system that it stands in.
+    pub device: u64,
+    pub inode: u64,
+    /// The number of the device that it is.
+    pub number: u64,
+    pub mode: u32,
+    pub len: u64,
 }
 
-/// The text of a file in a folder.
-pub fn text_in<R: Files<File = File>>(
-    rt: &R,
-    alloc: Global,
-    folder: &str,
-    name: &str,
-) -> io::Result<String> {
-    let path = path_in(alloc, folder, name)?;
-    text_at(rt, alloc, path.as_str())
-}
-
-/// Adds the paths of what stands in a folder of another one, if it is there. A link is followed.
-pub fn list<R: Files<File = File>>(
-    rt: &R,
-    alloc: Global,
-    folder: &str,
-    name: &str,
-    paths: &mut Vec<String>,
-) -> io::Result<()> {
-    let folder = path_in(alloc, folder, name)?;
-    let names = names_in(rt, alloc, folder.as_str())?;
-    for name in names.split('\0') {
-        if !matches!(name, "" | "." | "..") {
-            paths.push(path_in(alloc, folder.as_str(), name)?)?;
+impl Stat {
+    /// Which file it is.
+    pub fn node(&self) -> Node
+        ensures { result ≡ stat_node self.now }
+    {
+        match self.kind {
+            Kind::Device => Node::Device {
+                number: self.number,
+            },
+            _ => Node::Plain {
+                device: self.device,
+                inode: self.inode,
+            },
         }
     }
-    Ok(())
 }
 
-/// The names in a folder, and `.` and `..`, each ended by a NUL; none where it isn't there.
-fn names_in<R: Files<File = File>>(rt: &R, alloc: Global, path: &str) -> io::Result<String> {
-    let path = path_in(alloc, path, "")?;
-    match rt.open_dir(path.as_str()) {
-        Ok(dir) => read_names(alloc, dir),
-        Err(error) if error.kind() == ErrorKind::NotFound => Ok(String::new(alloc)),
-        Err(error) => Err(error),
-    }
+/// How a file is opened.
+#[derive(Clone, Copy, PartialEq, Eq)]
+pub enum Access {
+    Read,
+    /// For reading and writing.
+    Both,
+    /// The same, of a file that isn't there and is made.
+    Make,
+    /// For writing, from the beginning of a file that is emptied, or made.
+    Anew,
 }
 
-fn read_names<D: Read + Drop>(alloc: Global, mut dir: D) -> io::Result<String> {
-    let mut names = Vec::new(alloc);
-    let mut some = [0; 4096];
-    for _ in 0..u64::MAX {
-        let count = dir.read(&mut some)?;
-        if count == 0 {
-            return Ok(String::from_utf8_lossy(alloc, &names)?);
-        }
-        names.extend_from_slice(&some[..count])?;
-    }
-    Err(ErrorKind::TimedOut.into())
+/// A file that is open, until it is dropped, which gives up its lock.
+pub trait Handle {
+    /// Whether it is a file of this node.
+    ghost is_of: { Self → Nodes → Type 0 };
+
+    /// Whether it holds the lock of its file, and since which moment.
+    ghost holds: { Self → Bool };
+
+    ghost since: { Self → ℕ };
 }
 
-fn is_missing(error: &io::Error) -> bool {
-    matches!(error.kind(), ErrorKind::NotFound | ErrorKind::NotADirectory)
-}
+/// The calls of the system. Each of those that change what this process knows tells what was so at a moment of this call; the lock alone, of a file that this process has open, lasts. The others are of a file that is open, or of the system's own tables.
+pub trait System: Drop {
+    type File: Handle + Read + Write + Drop;
 
-/// The number of a device that is written as two numbers with a colon between.
-pub fn number_of(text: &str) -> Option<u64> {
-    let (major, minor) = text.trim_end().split_once(':')?;
-    let (major, minor) = (major.parse::<u32>().ok()?, minor.parse::<u32>().ok()?);
-    Some(makedev(u64::from(major), u64::from(minor)))
-}
+    /// A folder, which reads as the names in it, each ended by a NUL.
+    type Folder: Read + Drop;
 
-/// The number as the C library packs it.
-fn makedev(major: u64, minor: u64) -> u64 {
-    ((major & 0xffff_f000) << 32)
-        | ((major & 0xfff) << 8)
-        | ((minor & 0xffff_ff00) << 12)
-        | (minor & 0xff)
-}
+    /// What this process saw of the system.
+    ghost state: { Self → SystemState };
 
-/// The two numbers that are packed in it.
-pub fn major_and_minor(number: u64) -> (u64, u64) {
-    (
-        (number >> 32) & 0xffff_f000 | (number >> 8) & 0xfff,
-        (number >> 12) & 0xffff_ff00 | number & 0xff,
-    )
+    /// The memory for what is told.
+    fn alloc(&self) -> Global;
+
+    /// What a path leads to, over links.
+    fn stat(&mut self, path: &str) -> io::Result<Stat>
+        ensures led { IfOk result (λ found. Finds (state self.old) (state self.new) (Led path.now (stat_node found))) }
+        ensures absent { IfErr result (λ error. IsNowhere (error_kind error) → Finds (state self.old) (state self.new) (Absent path.now)) }
+        ensures goes { Goes (state self.old) (state self.new) };
+
+    /// What stands at a path: a link is not followed.
+    fn lstat(&mut self, path: &str) -> io::Result<Stat>
+        ensures bare { IfErr result (λ error. IsNowhere (error_kind error) → Finds (state self.old) (state self.new) (Bare path.now)) }
+        ensures goes { Goes (state self.old) (state self.new) };
+
+    /// Opens the file that a path leads to. One that is to be made must not be there, nor a link.
+    fn open(&mut self, path: &str, access: Access) -> io::Result<Self::File>
+        ensures led { IfOk result (λ file. (node : Nodes) → Self.File.is_of file node → Finds (state self.old) (state self.new) (Led path.now node)) }
+        ensures made { IfOk result (λ file. (node : Nodes) → Self.File.is_of file node → access ≡ Access.Make → Finds (state self.old) (state self.new) (Made node)) }
+        ensures absent { IfErr result (λ error. IsNowhere (error_kind error) → Finds (state self.old) (state self.new) (Absent path.now)) }
+        ensures goes { Goes (state self.old) (state self.new) };
+
+    /// Takes the file's lock, unless another opening of it has it.
+    fn lock(&mut self, file: &mut Self::File) -> io::Result<bool>
+        ensures same { (node : Nodes) → Self.File.is_of file.old node → Self.File.is_of file.new node }
+        ensures held { IfOk result (λ got. IsTrue got → IsTrue (Self.File.holds file.new)) }
+        ensures since { IfOk result (λ got. IsTrue got → Self.File.since file.new ≡ (state self.new).moment) }
+        ensures denied { IfOk result (λ got. IsFalse got → (node : Nodes) → Self.File.is_of file.old node → Finds (state self.old) (state self.new) (Denied node)) }
+        ensures goes { Goes (state self.old) (state self.new) };
+
+    /// Reads some bytes at an offset.
+    fn read_at(&mut self, file: &Self::File, offset: u64, into: &mut [u8]) -> io::Result<usize>
+        ensures count { IfOk result (λ n. n ≤ length into.old) }
+        ensures goes { Goes (state self.old) (state self.new) };
+
+    /// Writes some of the bytes at an offset.
+    fn write_at(&mut self, file: &Self::File, offset: u64, bytes: &[u8]) -> io::Result<usize>
+        ensures count { IfOk result (λ n. n ≤ length bytes.now) }
+        ensures goes { Goes (state self.old) (state self.new) };
+
+    /// Gives a file these permissions.
+    fn set_mode(&mut self, file: &Self::File, mode: u32) -> io::Result<()>
+        ensures { Goes (state self.old) (state self.new) };
+
+    /// Waits until the device has all bytes of a file, by whatever process they were written.
+    fn sync_data(&mut self, file: &Self::File) -> io::Result<()>
+        ensures { Goes (state self.old) (state self.new) };
+
+    /// The same of all that the system keeps of it; of a folder the names in it.
+    fn sync_all(&mut self, file: &Self::File) -> io::Result<()>
+        ensures { Goes (state self.old) (state self.new) };
+
+    /// Takes the name away.
+    fn remove(&mut self, path: &str) -> io::Result<()>
+        ensures absent { OnOk result (Finds (state self.old) (state self.new) (Absent path.now)) }
+        ensures goes { Goes (state self.old) (state self.new) };
+
+    /// What file is open.
+    fn fstat(&self, file: &Self::File) -> io::Result<Stat>
+        ensures { IfOk result (λ found. Self.File.is_of file.now (stat_node found)) };
+
+    /// Opens the open file once more, under another number.
+    fn duplicate(&self, file: &Self::File) -> io::Result<Self::File>
+        ensures { IfOk result (λ other. (node : Nodes) → Self.File.is_of other node → Self.File.is_of file.now node) };
+
+    /// The number of an open file in this process.
+    fn descriptor(&self, file: &Self::File) -> i32;
+
+    /// The offset of the end of a file or a device.
+    fn end(&self, file: &Self::File) -> io::Result<u64>;
+
+    /// Opens one of the system's tables.
+    fn table(&self, path: &str) -> io::Result<Self::File>;
+
+    /// Opens one of its folders.
+    fn folder(&self, path: &str) -> io::Result<Self::Folder>;
+
+    /// What a path in its tables leads to.
+    fn entry(&self, path: &str) -> io::Result<Stat>;
+
+    /// Says this on standard error, in a line that begins with the program's name.
+    fn say<D: Display + Drop>(&self, what: D);
 }

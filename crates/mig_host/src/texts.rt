@@ -1,9 +1,13 @@
 //! How files are called, and refusals told.
+ghost use Rattle.std.specs.Prelude.{◌≡◌, IfOk, string_bytes};
+ghost use Rattle.mig_host.specs.Systems.{disk_path};
+
 use crate::failures::too_many_open;
 use mig_base::{Cell, Name};
 use mig_calls::{Place, Refusal};
+use std::alloc::Global;
 use std::fmt::{self, Display, Formatter};
-use std::io::{Error, ErrorKind};
+use std::io::{self, Error, ErrorKind};
 
 /// A name as text.
 #[derive(Clone, Copy)]
@@ -26,6 +30,18 @@ impl<'a> Display for DiskFile<'a> {
     fn fmt<W: fmt::Write>(&self, f: &mut Formatter<W>) -> fmt::Result {
         write!(f, "{}.disk", Called(self.0))
     }
+}
+
+/// The path of a disk's file.
+pub fn path_of(alloc: Global, name: &Name) -> io::Result<String>
+    ensures { IfOk result (λ path. string_bytes path ≡ disk_path name.now) }
+{
+    let Ok(name) = std::str::from_utf8(name.bytes()) else {
+        return Err(ErrorKind::InvalidFilename.into());
+    };
+    let mut path = String::from_str(alloc, name)?;
+    path.push_str(".disk")?;
+    Ok(path)
 }
 
 /// The journal's file, as it is called there.

@@ -1,13 +1,14 @@
 //! The note that a sync failed. It is read from the memory in which the files are that it speaks of, so it counts also where its own sync fails: that one keeps a power cut from leaving a part of it.
+ghost use Rattle.std.specs.Prelude.{IfOk, IfNone, OnOk};
+ghost use Rattle.mig_host.specs.Systems.{Absent, Finds, Goes, note_path};
+
 use crate::failures::Failure;
-use crate::system::text_if_there;
+use crate::system::{Access, System};
+use crate::tables::{is_nowhere, text_if_there, text_of};
 use crate::texts::{FileOf, JOURNAL};
 use mig_base::Name;
 use mig_calls::Place;
-use std::alloc::Global;
-use std::fs::{self, File, OpenOptions};
 use std::io::{self, Write};
-use std::rt::Files;
 
 /// The note's file: a line with the machine's boot and the file whose sync failed.
 const NOTE: &str = "unsynced.mig";
@@ -16,41 +17,47 @@ const NOTE: &str = "unsynced.mig";
 const BOOT: &str = "/proc/sys/kernel/random/boot_id";
 
 /// The boot's line; none where the system doesn't tell, so that each note counts as this boot's.
-fn boot<R: Files<File = File>>(rt: &R, alloc: Global) -> io::Result<String> {
-    Ok(text_if_there(rt, alloc, BOOT)?.unwrap_or(String::new(alloc)))
+fn boot<S: System>(sys: &S) -> io::Result<String> {
+    Ok(text_if_there(sys, BOOT)?.unwrap_or(String::new(sys.alloc())))
 }
 
 /// Notes a sync that failed.
-pub fn note<R: Files<File = File>>(rt: &R, alloc: Global, place: &Option<Place>) -> io::Result<()> {
-    let boot = boot(rt, alloc)?;
-    let line = format!(in alloc; "{} {}\n", boot.trim_end(), FileOf(place))?;
-    write_note(rt, line.as_bytes())
+pub fn note<S: System>(sys: &mut S, place: &Option<Place>) -> io::Result<()> {
+    let boot = boot(sys)?;
+    let line = format!(in sys.alloc(); "{} {}\n", boot.trim_end(), FileOf(place))?;
+    write_note(sys, line.as_bytes())
 }
 
-fn write_note<R: Files<File = File>>(rt: &R, line: &[u8]) -> io::Result<()> {
-    let mut options = OpenOptions::new();
-    options.write(true).create(true).truncate(true);
-    let mut file = options.open(rt, NOTE)?;
+fn write_note<S: System>(sys: &mut S, line: &[u8]) -> io::Result<()> {
+    let mut file = sys.open(NOTE, Access::Anew)?;
     file.write_all(line)?;
-    file.sync_all()
+    sys.sync_all(&file)
 }
 
 /// Refuses where a sync failed since the machine was started. What an earlier boot noted is removed; a note that isn't whole counts as this one's.
-pub fn check<R: Files<File = File>>(rt: &R, alloc: Global) -> Result<(), Failure> {
-    match look(rt, alloc) {
+pub fn check<S: System>(sys: &mut S) -> Result<(), Failure>
+    ensures none { OnOk result (Finds (S.System.state sys.old) (S.System.state sys.new) (Absent note_path)) }
+    ensures goes { Goes (S.System.state sys.old) (S.System.state sys.new) }
+{
+    match look(sys) {
         Ok(None) => Ok(()),
         Ok(Some(place)) => Err(Failure::Unsynced(place)),
         Err(error) => Err(Failure::OfFolder(error)),
     }
 }
 
-fn look<R: Files<File = File>>(rt: &R, alloc: Global) -> io::Result<Option<Option<Place>>> {
-    let Some(text) = text_if_there(rt, alloc, NOTE)? else {
-        return Ok(None);
+fn look<S: System>(sys: &mut S) -> io::Result<Option<Option<Place>>>
+    ensures none { IfOk result (λ found. IfNone found (Finds (S.System.state sys.old) (S.System.state sys.new) (Absent note_path))) }
+    ensures goes { Goes (S.System.state sys.old) (S.System.state sys.new) }
+{
+    let text = match sys.open(NOTE, Access::Read) {
+        Ok(mut file) => text_of(sys.alloc(), &mut file)?,
+        Err(error) if is_nowhere(&error) => return Ok(None),
+        Err(error) => return Err(error),
     };
-    let boot = boot(rt, alloc)?;
+    let boot = boot(sys)?;
     if text.ends_with('\n') && !text.starts_with(boot.trim_end()) {
-        fs::remove_file(rt, NOTE)?;
+        sys.remove(NOTE)?;
         return Ok(None);
     }
     Ok(Some(file_of(text.trim_end())))

@@ -5,7 +5,7 @@ ghost use Rattle.mig_calls.specs.Memory.{mem_state};
 
 use mig_calls::{MemCalls, Pick};
 use mig_files::{DiskSet, FileStore};
-use mig_host::HostCalls;
+use mig_host::{HostSystem, SystemCalls};
 use std::alloc::Global;
 use std::fs::File;
 use std::panic::Expect;
@@ -13,14 +13,14 @@ use std::process::Abort;
 use std::rt::Files;
 
 /// The store over the working folder, by this runtime's files.
-pub type RealStore<'a, R> = FileStore<HostCalls<'a, R>>;
+pub type RealStore<'a, R> = FileStore<SystemCalls<HostSystem<'a, R>>>;
 
 /// A store over the working folder that has opened no file.
 pub fn real_store<'a, R: Abort + Files<File = File> + Eprint>(
     rt: &'a R,
     alloc: Global,
 ) -> RealStore<'a, R> {
-    let calls = HostCalls::new(rt, alloc);
+    let calls = SystemCalls::new(HostSystem::new(rt, alloc));
     FileStore::new(alloc, calls, DiskSet::new(alloc)).expect(rt, "ample memory")
 }
 

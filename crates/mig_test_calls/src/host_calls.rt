@@ -4,8 +4,9 @@ ghost use Rattle.std.specs.Prelude.{◌≡◌, IsTrue};
 use crate::work_folder::{enter, leave};
 use mig_base::Name;
 use mig_calls::{CallError, Calls, Extent, MemCalls, Pick, Place, Refusal, Trouble};
-use mig_host::HostCalls;
+use mig_host::{Access, HostSystem, System, SystemCalls};
 use std::fs::{self, File};
+use std::io::ErrorKind;
 use std::os::unix::fs::{MetadataExt, symlink};
 use std::panic::Expect;
 use std::process::Abort;
@@ -129,11 +130,15 @@ fn after_a_sync_that_failed(rt: HostRuntime) {
     let alloc = rt.alloc();
     let boot = fs::read_to_string(&rt, "/proc/sys/kernel/random/boot_id").expect(&rt, "a boot");
     note_failed(&rt, boot.as_str());
-    assert!(rt; HostCalls::new(&rt, alloc).claim() == Err(CallError::Failed));
+    assert!(rt; SystemCalls::new(HostSystem::new(&rt, alloc)).claim() == Err(CallError::Failed));
     assert!(rt; fs::write(&rt, "unsynced.mig", b"").is_ok());
-    assert!(rt; HostCalls::new(&rt, alloc).claim() == Err(CallError::Failed));
+    assert!(rt; SystemCalls::new(HostSystem::new(&rt, alloc)).claim() == Err(CallError::Failed));
     note_failed(&rt, "0c2fd6c9-34a3-4f8a-8f0c-57c9d0a6a7c6");
-    assert!(rt; HostCalls::new(&rt, alloc).claim().is_ok());
+    assert!(rt;
+        SystemCalls::new(HostSystem::new(&rt, alloc))
+            .claim()
+            .is_ok()
+    );
     assert!(rt; fs::exists(&rt, "unsynced.mig").is_ok_and(|is| !is));
     leave(&rt, "unsynced").expect(&rt, "a folder");
 }
@@ -141,7 +146,7 @@ fn after_a_sync_that_failed(rt: HostRuntime) {
 #[test]
 fn after_a_sync_that_failed_in_this_process(rt: HostRuntime) {
     enter(&rt, "exchanged").expect(&rt, "a folder");
-    let mut calls = HostCalls::new(&rt, rt.alloc());
+    let mut calls = SystemCalls::new(HostSystem::new(&rt, rt.alloc()));
     claim(&rt, &mut calls);
     assert!(rt; writes(&mut calls, &disk_of(b"a"), 0, b"x", true));
     // its name leads to no file then, which no note tells
@@ -173,14 +178,21 @@ fn after_a_sync_that_failed_in_memory(rt: HostRuntime) {
 fn each_call_over_real_files(rt: HostRuntime) {
     enter(&rt, "host_calls").expect(&rt, "a folder");
     let alloc = rt.alloc();
-    let mut calls = HostCalls::new(&rt, alloc);
+    let mut calls = SystemCalls::new(HostSystem::new(&rt, alloc));
     // no file is made by a look
     expect_none(&rt, &mut calls);
     assert!(rt; fs::exists(&rt, "a.disk").is_ok_and(|is| !is));
     assert!(rt; fs::exists(&rt, "journal.mig").is_ok_and(|is| !is));
     expect_files(&rt, &mut calls);
     assert!(rt; fs::metadata(&rt, "a.disk").is_ok_and(|found| found.len() == 4103));
-    assert!(rt; HostCalls::new(&rt, alloc).claim() == Err(CallError::Failed));
+    // a file that is there is not made
+    let mut system = HostSystem::new(&rt, alloc);
+    assert!(rt;
+        system
+            .open("a.disk", Access::Make)
+            .is_err_and(|error| error.kind() == ErrorKind::AlreadyExists)
+    );
+    assert!(rt; SystemCalls::new(HostSystem::new(&rt, alloc)).claim() == Err(CallError::Failed));
     assert!(rt; writes(&mut calls, &Place::Journal, 512, b"gate", false));
     assert!(rt; calls.sync(&Place::Journal).is_ok());
     assert!(rt; calls.sync_names().is_ok());
@@ -188,7 +200,11 @@ fn each_call_over_real_files(rt: HostRuntime) {
         place: Place::Journal,
     });
     drop(calls);
-    assert!(rt; HostCalls::new(&rt, alloc).claim().is_ok());
+    assert!(rt;
+        SystemCalls::new(HostSystem::new(&rt, alloc))
+            .claim()
+            .is_ok()
+    );
     leave(&rt, "host_calls").expect(&rt, "a folder");
 }
 
@@ -215,7 +231,7 @@ fn expect_locked<R: Abort + Files<File = File>, C: Calls>(rt: &R, calls: &mut C)
 fn what_is_looked_at_stays(rt: HostRuntime) {
     enter(&rt, "looked_at").expect(&rt, "a folder");
     assert!(rt; fs::write(&rt, "a.disk", b"held").is_ok());
-    let mut calls = HostCalls::new(&rt, rt.alloc());
+    let mut calls = SystemCalls::new(HostSystem::new(&rt, rt.alloc()));
     expect_locked(&rt, &mut calls);
     // a disk that wasn't there is made by another process
     let made = disk_of(b"b");
@@ -238,7 +254,7 @@ fn expect_failed<C: Calls>(rt: &impl Abort, calls: &mut C, place: &Place)
 #[test]
 fn files_that_are_no_disks(rt: HostRuntime) {
     enter(&rt, "no_disks").expect(&rt, "a folder");
-    let mut calls = HostCalls::new(&rt, rt.alloc());
+    let mut calls = SystemCalls::new(HostSystem::new(&rt, rt.alloc()));
     assert!(rt; calls.claim().is_ok());
     for (path, to) in [
         ("b.disk", "nowhere"),

@@ -29,6 +29,8 @@ mod stores;
 #[cfg(test)]
 mod streams;
 #[cfg(test)]
+mod told_systems;
+#[cfg(test)]
 mod two_sides;
 #[cfg(test)]
 mod work_folder;

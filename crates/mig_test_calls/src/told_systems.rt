@@ -1,0 +1,357 @@
+//! The store's calls over a system that is made up: its tables tell of a device, and calls of it go wrong.
+ghost use Rattle.std.specs.Prelude.{true, ⊤};
+ghost use Rattle.mig_host.specs.Untold.{untold};
+
+use mig_base::Name;
+use mig_calls::{CallError, Calls, Extent, Place};
+use mig_host::{Access, Handle, Kind, Stat, System, SystemCalls};
+use std::alloc::Global;
+use std::cell::Cell;
+use std::fmt::Display;
+use std::io::{self, Error, ErrorKind, Read, Write};
+
+/// The files of such a system by their numbers, and its device.
+const FILES: [&str; 5] = ["/dev/b 1", "journal.mig", "c.disk", "d.disk", "."];
+
+/// What the system tells of the device 8:1, where nothing uses it.
+const TABLES: [(&str, &str); 3] = [
+    ("/sys/dev/block/8:1/uevent", "MAJOR=8\nDEVNAME=b 1\n"),
+    ("/sys/dev/block/8:1/dev", "8:1\n"),
+    ("/sys/dev/block/8:1/./dev", "8:1\n"),
+];
+
+/// A file that is open: a text that is read once, or one of those above.
+#[derive(Drop)]
+struct ToldFile {
+    left: &'static [u8],
+    number: usize,
+}
+
+impl Handle for ToldFile {
+    ghost is_of = { λ file node. ⊤ };
+
+    ghost holds = { λ file. true };
+
+    ghost since = { λ file. 0 };
+}
+
+impl Read for ToldFile {
+    fn read(&mut self, buf: &mut [u8]) -> io::Result<usize> {
+        let count = buf.len().min(self.left.len());
+        buf[..count].copy_from_slice(&self.left[..count]);
+        self.left = &self.left[count..];
+        Ok(count)
+    }
+}
+
+impl Write for ToldFile {
+    fn write(&mut self, buf: &[u8]) -> io::Result<usize> {
+        Ok(buf.len())
+    }
+
+    fn flush(&mut self) -> io::Result<()> {
+        Ok(())
+    }
+}
+
+/// A system with two disks, c and d, and with b, which is the device 8:1.
+struct Told<'a> {
+    alloc: Global,
+    mounts: &'static str,
+    more: &'static [(&'static str, &'static str)],
+    /// Whether another file may be open.
+    spare: bool,
+    /// The journal's lock is taken.
+    locked: [bool; 5],
+    /// A sync has failed, and it was noted.
+    noted: &'a Cell<bool>,
+}
+
+impl<'a> Drop for Told<'a> {
+    fn drop(self) {
+        let Told {
+            alloc: _,
+            mounts: _,
+            more: _,
+            spare: _,
+            locked: _,
+            noted: _,
+        } = self;
+    }
+}
+
+fn missing<T>() -> io::Result<T> {
+    Err(ErrorKind::NotFound.into())
+}
+
+/// What stands at the number of a file.
+fn stat_of(number: usize) -> Stat {
+    Stat {
+        kind: if number == 0 {
+            Kind::Device
+        } else {
+            Kind::Plain
+        },
+        device: 6,
+        inode: number as u64,
+        number: 0x801,
+        mode: 0o644,
+        len: 4096,
+    }
+}
+
+impl<'a> Told<'a> {
+    fn text(&self, path: &str) -> Option<&'static str> {
+        if path == "/proc/self/mountinfo" && !self.mounts.is_empty() {
+            return Some(self.mounts);
+        }
+        for (table, text) in TABLES.iter().chain(self.more) {
+            if *table == path {
+                return Some(text);
+            }
+        }
+        None
+    }
+
+    fn number(&self, path: &str) -> Option<usize> {
+        let path = if path == "b.disk" { FILES[0] } else { path };
+        FILES.iter().position(|file| *file == path)
+    }
+}
+
+impl<'a> System for Told<'a> {
+    type File = ToldFile;
+
+    type Folder = ToldFile;
+
+    ghost state = { λ s. untold };
+
+    fn alloc(&self) -> Global {
+        self.alloc
+    }
+
+    fn stat(&mut self, path: &str) -> io::Result<Stat> {
+        self.entry(path)
+    }
+
+    fn lstat(&mut self, path: &str) -> io::Result<Stat> {
+        self.entry(path)
+    }
+
+    fn open(&mut self, path: &str, access: Access) -> io::Result<ToldFile> {
+        if access == Access::Anew {
+            self.noted.set(true);
+            return Ok(ToldFile {
+                left: b"",
+                number: 0,
+            });
+        }
+        match self.number(path) {
+            Some(number) => Ok(ToldFile { left: b"", number }),
+            None => missing(),
+        }
+    }
+
+    fn lock(&mut self, file: &mut ToldFile) -> io::Result<bool> {
+        let got = !self.locked[file.number % 5];
+        self.locked[file.number % 5] = true;
+        Ok(got)
+    }
+
+    fn read_at(&mut self, _: &ToldFile, _: u64, _: &mut [u8]) -> io::Result<usize> {
+        Ok(0)
+    }
+
+    fn write_at(&mut self, _: &ToldFile, _: u64, bytes: &[u8]) -> io::Result<usize> {
+        Ok(bytes.len())
+    }
+
+    fn set_mode(&mut self, _: &ToldFile, _: u32) -> io::Result<()> {
+        Ok(())
+    }
+
+    fn sync_data(&mut self, _: &ToldFile) -> io::Result<()> {
+        Err(Error::other("the device is gone"))
+    }
+
+    fn sync_all(&mut self, _: &ToldFile) -> io::Result<()> {
+        Ok(())
+    }
+
+    fn remove(&mut self, _: &str) -> io::Result<()> {
+        Ok(())
+    }
+
+    fn fstat(&self, file: &ToldFile) -> io::Result<Stat> {
+        Ok(stat_of(file.number))
+    }
+
+    fn duplicate(&self, file: &ToldFile) -> io::Result<ToldFile> {
+        if self.spare {
+            return Ok(ToldFile {
+                left: file.left,
+                number: file.number,
+            });
+        }
+        Err(Error::from_raw_os_error(24))
+    }
+
+    fn descriptor(&self, _: &ToldFile) -> i32 {
+        3
+    }
+
+    fn end(&self, _: &ToldFile) -> io::Result<u64> {
+        Ok(4096)
+    }
+
+    fn table(&self, path: &str) -> io::Result<ToldFile> {
+        match self.text(path) {
+            Some(text) => Ok(ToldFile {
+                left: text.as_bytes(),
+                number: 0,
+            }),
+            None => missing(),
+        }
+    }
+
+    fn folder(&self, path: &str) -> io::Result<ToldFile> {
+        self.table(path)
+    }
+
+    fn entry(&self, path: &str) -> io::Result<Stat> {
+        match self.number(path) {
+            Some(number) => Ok(stat_of(number)),
+            None => missing(),
+        }
+    }
+
+    fn say<D: Display + Drop>(&self, _: D) {}
+}
+
+/// A table of mounts, what the system tells besides, and whether the device may be a disk.
+struct Case {
+    mounts: &'static str,
+    more: &'static [(&'static str, &'static str)],
+    free: bool,
+}
+
+/// The table of mounts where `/dev` is the system's own table of devices.
+const OWN: &str = "21 28 0:6 / /dev rw shared:2 - devtmpfs udev rw\n";
+
+static CASES: [Case; 8] = [
+    Case {
+        mounts: OWN,
+        more: &[],
+        free: true,
+    },
+    // the table can't be read, or tells of another /dev
+    Case {
+        mounts: "",
+        more: &[],
+        free: false,
+    },
+    Case {
+        mounts: "21 28 0:7 / /dev rw - devtmpfs udev rw\n",
+        more: &[],
+        free: false,
+    },
+    // it is mounted: its number is told, or the path of its node
+    Case {
+        mounts: "21 28 0:6 / /dev rw - devtmpfs udev rw\n30 28 8:1 / /m rw - ext4 /dev/root rw\n",
+        more: &[],
+        free: false,
+    },
+    Case {
+        mounts: "21 28 0:6 / /dev rw - devtmpfs udev rw\n30 28 0:40 / /m rw - btrfs /dev/b\\0401 rw\n",
+        more: &[],
+        free: false,
+    },
+    // another one stands on it, or on a partition of it
+    Case {
+        mounts: OWN,
+        more: &[("/sys/dev/block/8:1/holders/", ".\0dm-0\0")],
+        free: false,
+    },
+    Case {
+        mounts: OWN,
+        more: &[
+            ("/sys/dev/block/8:1/./", "b1\0"),
+            ("/sys/dev/block/8:1/./b1/partition", "1\n"),
+            ("/sys/dev/block/8:1/./b1/holders/", "dm-0\0"),
+        ],
+        free: false,
+    },
+    // it is a part of a btrfs
+    Case {
+        mounts: OWN,
+        more: &[
+            ("/sys/fs/btrfs/", "id\0"),
+            ("/sys/fs/btrfs/id/devices/", "b1\0"),
+            ("/sys/fs/btrfs/id/devices/b1/dev", "8:1\n"),
+        ],
+        free: false,
+    },
+];
+
+/// The disk of this name.
+fn disk_of(name: &[u8]) -> Place {
+    match Name::read(name) {
+        Some(name) => Place::Disk(name),
+        None => Place::Journal,
+    }
+}
+
+/// The calls over such a system.
+fn calls_over<'a>(
+    alloc: Global,
+    case: &Case,
+    spare: bool,
+    noted: &'a Cell<bool>,
+) -> SystemCalls<Told<'a>> {
+    SystemCalls::new(Told {
+        alloc,
+        mounts: case.mounts,
+        more: case.more,
+        spare,
+        locked: [false; 5],
+        noted,
+    })
+}
+
+#[test]
+fn devices_in_the_tables(rt: HostRuntime) {
+    let noted = Cell::new(false);
+    for case in &CASES {
+        let mut calls = calls_over(rt.alloc(), case, true, &noted);
+        let found = calls.len(&disk_of(b"b"));
+        let wanted = if case.free {
+            Ok(Extent::Device { len: 4096 })
+        } else {
+            Err(CallError::Failed)
+        };
+        assert!(rt; found == wanted);
+    }
+}
+
+#[test]
+fn two_descriptors_stay_free(rt: HostRuntime) {
+    let noted = Cell::new(false);
+    for spare in [true, false] {
+        let mut calls = calls_over(rt.alloc(), &CASES[0], spare, &noted);
+        assert!(rt; calls.len(&disk_of(b"c")).is_ok());
+        let found = calls.len(&disk_of(b"d"));
+        assert!(rt; found.is_ok() == spare);
+        assert!(rt; spare || found == Err(CallError::Full));
+    }
+}
+
+#[test]
+fn a_sync_that_fails_is_noted(rt: HostRuntime) {
+    let noted = Cell::new(false);
+    let mut calls = calls_over(rt.alloc(), &CASES[0], true, &noted);
+    assert!(rt; calls.claim().is_ok());
+    assert!(rt; !noted.get());
+    assert!(rt; calls.sync(&disk_of(b"c")) == Err(CallError::Failed));
+    assert!(rt; noted.get());
+    assert!(rt; calls.claim() == Err(CallError::Failed));
+}
