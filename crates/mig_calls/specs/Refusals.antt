@@ -35,11 +35,14 @@ IsRefusalCause s (Differs slot other item) = WhereTold s slot (HoldsItem s slot 
 IsRefusalCause s (NoItem slot) = (item : List ℕ) → IsName item → WhereTold s slot (¬ HoldsItem s slot item)
 IsRefusalCause s (Held slot item) = WhereTold s slot (HoldsItem s slot item)
 
--- whether it refuses for what it found, and not for want of memory or of a call that is made
+-- whether it refuses for what the slots hold, and not for want of memory, of a call that is made or of bytes of a file, or since a call failed
 abbrev pub is_found : Refusal → Bool
 is_found (Memory place) = false
+is_found AfterSync = false
 is_found (Interrupted place) = false
 is_found (Full place) = false
+is_found (TooShort slot) = false
+is_found (Cut slot item) = false
 is_found why = true
 
 -- the count in which it counts

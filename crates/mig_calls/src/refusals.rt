@@ -33,17 +33,19 @@ pub enum Refusal {
 }
 
 impl Refusal {
-    /// Whether the store refuses for what it found, and not for want of memory or of a call that is made.
+    /// Whether the store refuses for what the slots hold, and not for want of memory, of a call that is made or of bytes of a file, or since a call failed.
     pub fn is_found(&self) -> bool
         ensures { result ≡ is_found self.now }
     {
         match self {
-            Refusal::Memory { .. } | Refusal::Interrupted { .. } | Refusal::Full { .. } => false,
-            Refusal::AfterSync
+            Refusal::Memory { .. }
+            | Refusal::AfterSync
+            | Refusal::Interrupted { .. }
+            | Refusal::Full { .. }
             | Refusal::TooShort { .. }
-            | Refusal::NotHeld { .. }
+            | Refusal::Cut { .. } => false,
+            Refusal::NotHeld { .. }
             | Refusal::NoDisk { .. }
-            | Refusal::Cut { .. }
             | Refusal::Differs { .. }
             | Refusal::NoItem { .. }
             | Refusal::Held { .. } => true,

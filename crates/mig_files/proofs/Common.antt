@@ -8,7 +8,7 @@ pub use Rattle.mig_base.specs.Flights.{began}
 pub use Rattle.mig_base.specs.Images.{Image, IsCopy, NoCell, SameBut}
 pub use Rattle.mig_base.specs.Naming.{IsName}
 pub use Rattle.mig_base.specs.Slots.{header_of}
-pub use Rattle.mig_base.specs.Stores.{Changes, Ends, HasCause, IsLeftBut, IsSettled}
+pub use Rattle.mig_base.specs.Stores.{Changes, Ends, IsLeftBut, IsSettled}
 pub use Rattle.mig_base.specs.contracts.cells.CellPartialEq.TheImpl.{eq-value}
 pub use Rattle.mig_base.specs.declared.cells.Cell.{Cell}
 pub use Rattle.mig_base.specs.declared.cells.Cell.TheVariants.{Gate, Head, Mark, Slot}
@@ -23,23 +23,24 @@ pub use Rattle.mig_calls.specs.declared.calls.Extent.{Extent}
 pub use Rattle.mig_calls.specs.declared.places.Place.{Place}
 pub use Rattle.mig_calls.specs.declared.places.Place.TheVariants.{Disk, Journal}
 pub use Rattle.mig_files.specs.Counting.{AreCounted, IsNotedAt, count_of, is_item, one_if, times}
-pub use Rattle.mig_files.specs.Derived.{cell_state, cells-shape, cells_of, troubles, window}
-pub use Rattle.mig_files.specs.Grounds.{HoldsNone, IsCut, IsFaultFor, IsLast, IsOtherLast, IsUncopied}
-pub use Rattle.mig_files.specs.Seeing.{AreHeld, IsElsewhere, IsFree, IsFreeFor, IsHeldElsewhere, KeepsSeen, KeepsSeenBut, LosesNone, LosesNoneBut, seen_at}
+pub use Rattle.mig_files.specs.Derived.{cell_bytes, cell_state, cells-shape, cells_of, image_of}
+pub use Rattle.mig_files.specs.Grounds.{IsFaultFor}
+pub use Rattle.mig_files.specs.Seeing.{AreHeld, IsFree, IsFreeFor, IsHeldElsewhere, KeepsSeen, LosesNone, LosesNoneBut, seen_at, seen_in}
 pub use Rattle.mig_files.specs.Tasks.{KeepsClaim, Leaves, Unflushes, WasInterrupted}
 pub use Rattle.mig_files.specs.Tracking.{HasReadSome, HasSyncedSome, HasTried, HasWrittenSome, IsNoted, IsQuiet, IsStep, IsTracked, IsWriteStep}
 pub use Rattle.mig_files.specs.Tracking.{SameNotes, StaysAlive, StaysSame, WritesAlive}
 pub use Rattle.mig_files.specs.declared.tracked.Notes.{Notes}
 pub use Rattle.mig_files.specs.declared.tries.Task.{Task}
-pub use Rattle.mig_files.specs.declared.tries.Task.TheVariants.{Claim, Sync, SyncNames}
+pub use Rattle.mig_files.specs.declared.tries.Task.TheVariants.{Sync}
+pub use Rattle.mig_store.specs.Grounds.{IsElsewhere}
 pub use Rattle.std.proofs.Common.{Bool, Err, IfNone, IfSome, IsFalse, IsSome, IsTrue, List, MatchBool, None, Ok, OnErr, OnOk, Option, Result, Some, [], ap, arith, cond, false, if◌then◌else◌, inl}
-pub use Rattle.std.proofs.Common.{inr, length, nat_eq, not, refl, replicate, rules, slice_index, slice_range, subst, suc, sym, take, true, zero, ℕ, ◌*◌, ◌++◌, ◌+◌, ◌-◌, ◌<◌, ◌↔◌, ◌∙◌, ◌∷◌, ◌≡◌}
+pub use Rattle.std.proofs.Common.{inr, length, nat_eq, refl, replicate, rules, slice_index, slice_range, subst, suc, sym, take, true, zero, ℕ, ◌*◌, ◌++◌, ◌+◌, ◌-◌, ◌<◌, ◌↔◌, ◌∙◌, ◌∷◌, ◌≡◌}
 pub use Rattle.std.proofs.Common.{◌≤◌, ◌⊎◌}
 pub use Rattle.std.specs.Prelude.{⊤}
 pub use Rattle.std.proofs.Math.Seq.{take-append_seam}
 pub use Rattle.std.proofs.lemmas.Bool.{cases_Bool, cases_lt, false_from_ne_true, false≢true, ltb-false, ltb-true}
 pub use Rattle.std.specs.Prelude.{nat_lt}
-pub use Rattle.std.proofs.lemmas.List.{length-append, length-replicate, places}
+pub use Rattle.std.proofs.lemmas.List.{places}
 pub use Rattle.std.proofs.lemmas.List.Elements.{Contains-append_right}
 pub use Rattle.std.proofs.lemmas.Map.Views.{Contains-from_any, list_any-from_Contains}
 pub use Rattle.std.specs.Cmp.Lexicographic.{nat_list_eq_equiv, pointwise, same_text}

@@ -1,11 +1,11 @@
 -- What was read of two slots says what their cells show.
-use Rattle.mig_files.proofs.Common.{Cell, FilesLook, FilesState, HasBytes, HoldsItem, IfSome, IsName, IsTrue, List, None, Option, Some, WhereTold, ap, arith, cells_of, file_of, header_of, is_slot}
+use Rattle.mig_files.proofs.Common.{Cell, FilesState, HasBytes, IfSome, IsName, IsTrue, List, None, Option, Some, WhereTold, ap, image_of, file_of, is_slot}
 use Rattle.mig_files.proofs.Common.{length, offset_of, subst, sym, take, ℕ, ◌∙◌, ◌≡◌}
 use Rattle.mig_base.specs.Slots.{HasHeader}
-use Rattle.mig_files.specs.Grounds.{Differ}
-use Rattle.mig_files.specs.Seeing.{BothHold, HoldsCopy, IsRestOf}
-use Rattle.mig_files.proofs.Derivation.{cell_after}
-use Rattle.mig_files.proofs.Headers.{first_bytes, slot_len, whole_read}
+use Rattle.mig_files.specs.Seeing.{HoldsCopy}
+use Rattle.mig_files.specs.Sights.{slot_len}
+use Rattle.mig_files.proofs.Headers.{whole_read}
+use Rattle.mig_store.specs.Grounds.{BothHold, Differ, IsRestOf}
 
 -- where both cells are told
 abbrev Where : (List ℕ → List ℕ → Type 0) → Option (List ℕ) → Option (List ℕ) → Type 0
@@ -18,29 +18,10 @@ on_cells P None to left copied is_from is_to so = tt
 on_cells P (Some f) None left copied is_from is_to so = tt
 on_cells P (Some f) (Some t) left copied is_from is_to so = subst (λ (l : List ℕ). P l t) is_from (subst (λ (c : List ℕ). P left c) is_to so)
 
--- what is so of two cells was so before they were looked at
-before : (P : List ℕ → List ℕ → Type 0) {a b : FilesState} → FilesLook a b → (from to : Cell) → Where P (cells_of b.told b.reads from) (cells_of b.told b.reads to)
-    → Where P (cells_of a.told a.reads from) (cells_of a.told a.reads to)
-before P {a} {b} look from to is =
-    subst (λ (o : Option (List ℕ)). Where P o (cells_of a.told a.reads to)) (cell_after look from)
-    (subst (λ (o : Option (List ℕ)). Where P (cells_of b.told b.reads from) o) (cell_after look to) is)
-
-pub copy_before : {a b : FilesState} → FilesLook a b → (from to : Cell) → HoldsCopy b from to → HoldsCopy a from to
-copy_before look from to is = before (λ left copied. (item : List ℕ) → BothHold left copied item → IsRestOf left copied) look from to is
-
-pub differ_before : {a b : FilesState} → FilesLook a b → (from to : Cell) → Differ b from to → Differ a from to
-differ_before look from to is = before (λ left copied. (item : List ℕ) × BothHold left copied item × ¬ IsRestOf left copied) look from to is
-
 -- the bytes of a slot are those that it shows
 shown : (s : FilesState) (slot : Cell) (bytes : List ℕ) → IsTrue (is_slot slot) → length bytes ≡ 4096 → WhereTold s slot (HasBytes (s.reads (file_of slot)) (offset_of slot) 4096 bytes)
-    → IfSome (cells_of s.told s.reads slot) (λ told. bytes ≡ told)
+    → IfSome (image_of s slot) (λ told. bytes ≡ told)
 shown s slot bytes is len has = whole_read s slot 4096 bytes (sym (slot_len slot is)) (len ∙ sym (slot_len slot is)) has
-
--- with an item's header it holds the item
-pub holds_in : (s : FilesState) (slot : Cell) (bytes item : List ℕ) → length bytes ≡ 4096 → HasHeader item bytes
-    → WhereTold s slot (HasBytes (s.reads (file_of slot)) (offset_of slot) 4096 bytes) → WhereTold s slot (HoldsItem s slot item)
-holds_in s slot bytes item len header has told =
-    first_bytes (s.reads (file_of slot)) (offset_of slot) 34 4096 bytes (header_of item) (omega arith) (omega (arith, len)) (sym header) (has told)
 
 -- of a slot that holds no item there is no copy
 copy_none : (from to : Option (List ℕ)) (left : List ℕ) → IfSome from (λ told. left ≡ told) → ((item : List ℕ) → IsName item → ¬ HasHeader item left)
@@ -51,20 +32,20 @@ copy_none (Some f) (Some t) left is_from none = λ item both. absurd (none item 
 
 module _ (s : FilesState) (from to : Cell) (slots : IsTrue (is_slot from) × IsTrue (is_slot to)) (left : List ℕ) (len : length left ≡ 4096)
     (read : WhereTold s from (HasBytes (s.reads (file_of from)) (offset_of from) 4096 left)) where
-  pub no_copy : ((item : List ℕ) → IsName item → ¬ HasHeader item left) → HoldsCopy s from to
-  no_copy none = copy_none (cells_of s.told s.reads from) (cells_of s.told s.reads to) left (shown s from left slots.0 len read) none
+  pub no_copy : ((item : List ℕ) → IsName item → ¬ HasHeader item left) → HoldsCopy (image_of s) from to
+  no_copy none = copy_none (image_of s from) (image_of s to) left (shown s from left slots.0 len read) none
 
   module _ (copied : List ℕ) (long : length copied ≡ 4096) (beside : WhereTold s to (HasBytes (s.reads (file_of to)) (offset_of to) 4096 copied)) where
-    on_slots : (P : List ℕ → List ℕ → Type 0) → P left copied → Where P (cells_of s.told s.reads from) (cells_of s.told s.reads to)
+    on_slots : (P : List ℕ → List ℕ → Type 0) → P left copied → Where P (image_of s from) (image_of s to)
     on_slots P so =
-        on_cells P (cells_of s.told s.reads from) (cells_of s.told s.reads to) left copied (shown s from left slots.0 len read) (shown s to copied slots.1 long beside) so
+        on_cells P (image_of s from) (image_of s to) left copied (shown s from left slots.0 len read) (shown s to copied slots.1 long beside) so
 
-    pub copy_by : IsRestOf left copied → HoldsCopy s from to
+    pub copy_by : IsRestOf left copied → HoldsCopy (image_of s) from to
     copy_by rest = on_slots (λ l c. (item : List ℕ) → BothHold l c item → IsRestOf l c) (λ item both. rest)
 
     -- the second holds another item
-    pub other_copy : (item : List ℕ) → HasHeader item left → ¬ HasHeader item copied → HoldsCopy s from to
+    pub other_copy : (item : List ℕ) → HasHeader item left → ¬ HasHeader item copied → HoldsCopy (image_of s) from to
     other_copy item has not = on_slots (λ l c. (own : List ℕ) → BothHold l c own → IsRestOf l c) (λ own both. absurd (not (both.to ∙ sym both.from ∙ has)))
 
-    pub differ_by : (item : List ℕ) → BothHold left copied item → ¬ IsRestOf left copied → Differ s from to
+    pub differ_by : (item : List ℕ) → BothHold left copied item → ¬ IsRestOf left copied → Differ (image_of s) from to
     differ_by item both not = on_slots (λ l c. (i : List ℕ) × BothHold l c i × ¬ IsRestOf l c) (item, both, not)

@@ -1,9 +1,10 @@
 -- A change of files is a change of the cells that are read off them.
 use Rattle.mig_files.proofs.Common.{Bool, Cell, Changes, Ends, EndsAt, Err, Event, Files, FilesChange, FilesLook, FilesState, FilesWrite, HasBytes, IfSome, Image}
-use Rattle.mig_files.proofs.Common.{IsFilesState, IsLeftBut, IsLeftFilesBut, IsSettled, IsSettledAt, IsTrue, IsWithin, List, NoByte, NoCell, None, Ok, OnOk, Option, Place, Result}
-use Rattle.mig_files.proofs.Common.{SameBut, SameFilesBut, Some, [], ap, arith, cell_len, cell_state, cells-shape, cells_of, false, file_of, if◌then◌else◌, inl, inr, length, offset_of}
-use Rattle.mig_files.proofs.Common.{refl, rules, subst, suc, sym, true, zero, ℕ, ◌+◌, ◌<◌, ◌∙◌, ◌∷◌, ◌≡◌}
+use Rattle.mig_files.proofs.Common.{IsFilesState, IsLeftBut, IsLeftFilesBut, IsSettled, IsSettledAt, IsTrue, IsWithin, List, NoByte, NoCell, None, Ok, OnOk, Place, Result}
+use Rattle.mig_files.proofs.Common.{SameBut, SameFilesBut, Some, [], ap, arith, cell_len, cell_state, cells-shape, cells_of, image_of, file_of, if◌then◌else◌, inl, inr, length, offset_of}
+use Rattle.mig_files.proofs.Common.{refl, rules, subst, suc, sym, zero, ℕ, ◌+◌, ◌<◌, ◌∙◌, ◌∷◌, ◌≡◌}
 use Rattle.mig_files.specs.Derived.{window}
+use Rattle.mig_files.specs.Sights.{on_told, window-has}
 use Rattle.mig_files.proofs.Apart.{apart}
 use Rattle.mig_files.proofs.FilesSteps.{change_then, look_is_write, bytes_before, told_before, told_after}
 
@@ -15,19 +16,6 @@ window-same f g at (suc n) same =
     let first : g at ≡ f at = subst (λ (k : ℕ). g k ≡ f k) here (same 0 (omega arith)) in
     let rest : window g (suc at) n ≡ window f (suc at) n = window-same f g (suc at) n
     (λ i lt. let there : at + suc i ≡ suc at + i = omega arith in subst (λ (k : ℕ). g k ≡ f k) there (same (suc i) (omega arith))) in
-    λ k. first k ∷ rest k
-
--- so many bytes that are the file's are the window
-pub window-has : (f : ℕ → ℕ) (at n : ℕ) (bytes : List ℕ) → length bytes ≡ n → HasBytes f at n bytes → bytes ≡ window f at n
-unfolding window
-window-has f at zero [] len has = refl
-window-has f at zero (b ∷ bytes) len has = cc
-window-has f at (suc n) [] len has = cc
-window-has f at (suc n) (b ∷ bytes) len has =
-    let here : at + 0 ≡ at = omega arith in
-    let first : b ≡ f at = has 0 (omega arith) ∙ ap f here in
-    let rest : bytes ≡ window f (suc at) n = window-has f (suc at) n bytes (omega (arith, len))
-    (λ i lt. let there : at + suc i ≡ suc at + i = omega arith in has (suc i) (omega arith) ∙ ap f there) in
     λ k. first k ∷ rest k
 
 -- cells but these have none of the bytes
@@ -75,16 +63,12 @@ module _ (R S : Cell → Type 0) (P Q : Place → ℕ → Type 0) (spares : Spar
 pub cell_read : (s : FilesState) (faults : ℕ) (cell : Cell) (bytes : List ℕ) → length bytes ≡ cell_len cell
     → (IsTrue (s.told (file_of cell)) → HasBytes (s.reads (file_of cell)) (offset_of cell) (cell_len cell) bytes)
     → IfSome ((cell_state s faults).reads cell) (λ told. bytes ≡ told)
-cell_read s faults cell bytes len has = at (s.told (file_of cell)) has
-  where
-    at : (t : Bool) → (IsTrue t → HasBytes (s.reads (file_of cell)) (offset_of cell) (cell_len cell) bytes) → IfSome
-        (if t then Some (window (s.reads (file_of cell)) (offset_of cell) (cell_len cell)) else None) (λ told. bytes ≡ told)
-    at true is = window-has (s.reads (file_of cell)) (offset_of cell) (cell_len cell) bytes len (is refl)
-    at false is = tt
+cell_read s faults cell bytes len has =
+    on_told s cell (λ told. bytes ≡ told) (λ told. window-has (s.reads (file_of cell)) (offset_of cell) (cell_len cell) bytes len (has told))
 
 -- all files are settled, so all cells are
 pub cells_settled : (s : FilesState) (faults : ℕ) → ((cell : Cell) → IsSettledAt s (file_of cell)) → IsSettled (cell_state s faults)
-cells_settled s faults settled image (files, left, is) = subst (λ (all : Image). SameBut NoCell (cells_of s.told s.reads) all) (sym is) (record {
+cells_settled s faults settled image (files, left, is) = subst (λ (all : Image). SameBut NoCell (image_of s) all) (sym is) (record {
   same = λ cell out. ap (λ (bytes : List ℕ). if s.told (file_of cell) then Some bytes else None)
       (window-same (s.reads (file_of cell)) (files (file_of cell)) (offset_of cell) (cell_len cell) (λ i lt. settled cell files left (offset_of cell + i)));
   shape = λ cell. cells-shape s.told files s.reads cell;
@@ -93,13 +77,9 @@ cells_settled s faults settled image (files, left, is) = subst (λ (all : Image)
 -- a cell that was written
 pub cell_written : (s : FilesState) (cell : Cell) (bytes : List ℕ) → length bytes ≡ cell_len cell
     → (IsTrue (s.told (file_of cell)) → HasBytes (s.reads (file_of cell)) (offset_of cell) (cell_len cell) bytes)
-    → IfSome (cells_of s.told s.reads cell) (λ told. told ≡ bytes)
-cell_written s cell bytes len has = at (s.told (file_of cell)) has
-  where
-    at : (t : Bool) → (IsTrue t → HasBytes (s.reads (file_of cell)) (offset_of cell) (cell_len cell) bytes) → IfSome
-        (if t then Some (window (s.reads (file_of cell)) (offset_of cell) (cell_len cell)) else None) (λ told. told ≡ bytes)
-    at true is = sym (window-has (s.reads (file_of cell)) (offset_of cell) (cell_len cell) bytes len (is refl))
-    at false is = tt
+    → IfSome (image_of s cell) (λ told. told ≡ bytes)
+cell_written s cell bytes len has =
+    on_told s cell (λ told. told ≡ bytes) (λ told. sym (window-has (s.reads (file_of cell)) (offset_of cell) (cell_len cell) bytes len (has told)))
 
 -- a write to one cell
 pub cell_changes : (cell : Cell) (added : List Event) {old new : FilesState} {a b : ℕ} → IsFilesState old → FilesWrite (file_of cell) (offset_of cell) (cell_len cell) old new
@@ -143,7 +123,7 @@ pub end_after : {a b : FilesState} → FilesLook a b → (place : Place) (n : �
 end_after look place n ends told i le = look.bytes place i (λ none. none) ∙ ends (told_before look place told) i le
 
 pub cell_written_at : (s : FilesState) (cell : Cell) {file : Place} {at : ℕ} (bytes : List ℕ) → file ≡ file_of cell → at ≡ offset_of cell → length bytes ≡ cell_len cell
-    → (IsTrue (s.told file) → HasBytes (s.reads file) at (length bytes) bytes) → IfSome (cells_of s.told s.reads cell) (λ told. told ≡ bytes)
+    → (IsTrue (s.told file) → HasBytes (s.reads file) at (length bytes) bytes) → IfSome (image_of s cell) (λ told. told ≡ bytes)
 cell_written_at s cell {file} {at} bytes is_file is_at is_n has =
     let Says : Place → ℕ → ℕ → Type 0 = λ p a m. IsTrue (s.told p) → HasBytes (s.reads p) a m bytes in
     cell_written s cell bytes is_n (subst (λ (m : ℕ). Says (file_of cell) (offset_of cell) m) is_n
@@ -156,12 +136,17 @@ write_at_cell cell {file} {at} {n} {a} {b} {c} is_file is_at is_n look write =
     (subst (λ (m : ℕ). FilesWrite (file_of cell) (offset_of cell) m b c) is_n
     (subst (λ (k : ℕ). FilesWrite (file_of cell) k n b c) is_at (subst (λ (p : Place). FilesWrite p at n b c) is_file write)))
 
--- a cell shows what it showed
-pub cell_after : {a b : FilesState} → FilesLook a b → (cell : Cell) → cells_of b.told b.reads cell ≡ cells_of a.told a.reads cell
-cell_after {a} {b} look cell =
-    ap (λ (t : Place → Bool). cells_of t b.reads cell) look.told ∙ (cells_same NoCell NoByte (spares_none NoCell) a.told a.reads b.reads look.bytes).same cell (λ none. none)
+-- files that were only looked at show what they showed
+image_same : {a b : FilesState} → FilesLook a b → image_of b ≡ image_of a
+image_same {a} {b} look =
+    let same : cells_of a.told b.reads ≡ cells_of a.told a.reads = λ k cell.
+    (cells_same NoCell NoByte (spares_none NoCell) a.told a.reads b.reads look.bytes).same cell (λ none. none) k in
+    ap (λ (t : Place → Bool). cells_of t b.reads) look.told ∙ same
+
+pub image_before : (P : Image → Type 0) {a b : FilesState} → FilesLook a b → P (image_of b) → P (image_of a)
+image_before P look = subst P (image_same look)
 
 -- what was written is there still
-pub written_after : {a b : FilesState} → FilesLook a b → (cell : Cell) (bytes : List ℕ) → IfSome (cells_of a.told a.reads cell) (λ told. told ≡ bytes)
-    → IfSome (cells_of b.told b.reads cell) (λ told. told ≡ bytes)
-written_after look cell bytes is = subst (λ (o : Option (List ℕ)). IfSome o (λ told. told ≡ bytes)) (sym (cell_after look cell)) is
+pub written_after : {a b : FilesState} → FilesLook a b → (cell : Cell) (bytes : List ℕ) → IfSome (image_of a cell) (λ told. told ≡ bytes)
+    → IfSome (image_of b cell) (λ told. told ≡ bytes)
+written_after look cell bytes = subst (λ (image : Image). IfSome (image cell) (λ told. told ≡ bytes)) (sym (image_same look))

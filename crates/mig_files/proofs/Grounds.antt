@@ -1,52 +1,59 @@
--- How the ground of a fault goes through the calls that hand it on.
-use Rattle.mig_files.proofs.Common.{Cell, Err, FilesLook, FilesState, HasBytes, HoldsItem, IsTrue, List, Ok, OnErr, Result, Rose, WhereTold, ap, arith, file_of, header_of, inl, inr, length, offset_of}
-use Rattle.mig_files.proofs.Common.{sym, ℕ, ◌∙◌, ◌≡◌, ◌≤◌, ◌⊎◌, HasCause, cell_state, troubles}
-use Rattle.mig_files.proofs.Common.{HoldsNone, IsCut, IsFaultFor, IsLast, IsOtherLast, IsUncopied}
-use Rattle.mig_files.proofs.FilesSteps.{told_after}
-use Rattle.mig_files.proofs.Headers.{held_after, held_before, held_is}
+-- How the ground of a fault goes through the calls that hand it on, and what cells show of it.
+use Rattle.mig_files.proofs.Common.{Cell, EndsAt, Err, FilesState, HoldsItem, IfSome, Image, IsStep, IsTrue, List, None, Notes, Ok, OnErr}
+use Rattle.mig_files.proofs.Common.{Option, Result, Rose, Some, WhereTold, arith, cell_bytes, cell_len, file_of, header_of, image_of}
+use Rattle.mig_files.proofs.Common.{inl, inr, is_slot, length, offset_of, refl, sym, ℕ, ◌+◌, ◌∙◌, ◌≡◌, ◌≤◌, ◌⊎◌}
+use Rattle.mig_base.specs.Slots.{HasHeader}
+use Rattle.mig_files.specs.Derived.{window-len}
+use Rattle.mig_files.specs.Grounds.{IsLastBut}
+use Rattle.mig_files.specs.Sights.{on_told, slot_len}
+use Rattle.mig_files.proofs.Derivation.{image_before}
+use Rattle.mig_files.proofs.Headers.{first_has}
+use Rattle.mig_files.proofs.Holding.{bytes_at}
 use Rattle.mig_files.proofs.SeenItems.{Sights}
+use Rattle.mig_store.specs.Grounds.{Holds, IsOtherLast, Lacks}
+use Rattle.mig_store.specs.Grounds as cells
 
 pub on_err : {T E A B : Type 0} (r : Result T E) → OnErr r A → (A → B) → OnErr r B
 on_err (Ok x) a f = tt
 on_err (Err e) a f = f a
 
-pub fault_for : {X Y G H : Type 0} → (G → H) → X ⊎ (Y × G) → X ⊎ (Y × H)
-fault_for f (inl more) = inl more
-fault_for f (inr (more, ground)) = inr (more, f ground)
+pub or_by : {X A B : Type 0} → X ⊎ A → (A → B) → X ⊎ B
+or_by (inl x) f = inl x
+or_by (inr a) f = inr (f a)
 
 -- a fault after what was only looked at
-pub fault_after : {G H : Type 0} {a b : FilesState} {n m : ℕ} → a.faults ≤ b.faults → FilesLook a b → (G → H) → Rose b.faults n ⊎ (Rose b.refused m × G) → Rose a.faults n ⊎ (Rose a.refused m × H)
-fault_after later look f (inl more) = inl (omega (arith, later, more))
-fault_after later look f (inr (more, ground)) = inr (omega (arith, look.refused, more), f ground)
+pub fault_after : (P : Image → Type 0) {t : Notes} {a b : FilesState} {n m : ℕ} → IsStep t a b → Rose b.faults n ⊎ (Rose b.refused m × P (image_of b))
+    → Rose a.faults n ⊎ (Rose a.refused m × P (image_of a))
+fault_after P step (inl more) = inl (omega (arith, step.later, more))
+fault_after P step (inr (more, ground)) = inr (omega (arith, step.change.refused, more), image_before P step.change ground)
 
--- what a cell shows it showed before it was looked at
-pub cut_before : {a b : FilesState} → FilesLook a b → (cell : Cell) → IsCut b cell → IsCut a cell
-cut_before look cell cut told =
-    let found = cut (told_after look (file_of cell) told) in
-    (found.0, found.1, λ i le. sym (look.bytes (file_of cell) i (λ none. none)) ∙ found.2 i le)
+-- a slot shows no item that its file hasn't there
+pub lacks_cell : (s : FilesState) (slot : Cell) → IsTrue (is_slot slot) → (item : List ℕ) → WhereTold s slot (¬ HoldsItem s slot item)
+    → Lacks (image_of s) slot item
+lacks_cell s slot is item lacks =
+    let f = s.reads (file_of slot) in
+    let fits : 34 ≤ cell_len slot = omega (arith, slot_len slot is) in
+    let len : cell_len slot ≤ length (cell_bytes s.reads slot) = omega (arith, window-len f (offset_of slot) (cell_len slot)) in
+    on_told s slot (λ bytes. ¬ HasHeader item bytes) (λ told header.
+    lacks told (first_has s slot (cell_len slot) (cell_bytes s.reads slot) (header_of item) fits len (sym header)
+    (λ there. bytes_at f (offset_of slot) (cell_len slot) (cell_bytes s.reads slot) refl) told))
 
-abbrev pub last_before : {a b : FilesState} {seen : Sights} → FilesLook a b → (slot : Cell) → IsLast b seen slot → IsLast a seen slot
-last_before look slot last = record { item = last.item; name = last.name; held = held_before look slot last.item last.held; alone = last.alone }
+-- nor any where its file has no bytes
+pub empty_lacks : (s : FilesState) (slot : Cell) → IsTrue (is_slot slot) → (item : List ℕ) {end : ℕ} → end ≡ 0
+    → WhereTold s slot (EndsAt (s.reads (file_of slot)) end) → Lacks (image_of s) slot item
+empty_lacks s slot is item none ends = lacks_cell s slot is item (λ told holds.
+    absurd (omega (arith, none, holds 0 (omega arith), ends told (offset_of slot + 0) (omega (arith, none)))))
 
-pub other_before : {a b : FilesState} {seen : Sights} → FilesLook a b → (slot : Cell) (item : List ℕ) → IsOtherLast b seen slot item → IsOtherLast a seen slot item
-other_before look slot item is = record { last = last_before look slot is.last; other = λ told. is.other (told_after look (file_of slot) told) }
-
-pub none_before : {a b : FilesState} → FilesLook a b → (slot : Cell) → HoldsNone b slot → HoldsNone a slot
-none_before look slot none item name told holds = none item name (told_after look (file_of slot) told) (held_after look slot item holds)
-
--- with other first bytes than an item's a slot holds another
-pub other_by : (s : FilesState) {seen : Sights} (slot : Cell) (item first : List ℕ) → length first ≡ 34 → ¬ (first ≡ header_of item)
-    → WhereTold s slot (HasBytes (s.reads (file_of slot)) (offset_of slot) 34 first) → IsLast s seen slot → IsOtherLast s seen slot item
-other_by s slot item first len not has last = record {
-  last = last;
-  other = λ told same. not (held_is s slot first last.item len last.name.short (has told) (last.held told) ∙ ap header_of same);
-}
-
--- a fault is counted
-pub has_cause : {T E : Type 0} (G : Type 0) (a b : FilesState) → a.faults ≤ b.faults → a.refused ≤ b.refused → (r : Result T E) → OnErr r (IsFaultFor G a b)
-    → HasCause (cell_state a (troubles a)) (cell_state b (troubles b)) r
-has_cause G a b later refused r is = record { later = omega (arith, later, refused); failed = on_err r is rose }
+-- a slot that lacks the item which is copied to it, and is the last of its own
+pub other_last : (image : Image) {seen : cells.Sights} (from to : Cell) (item : List ℕ) → Holds image from item → IsLastBut image seen to item
+    → IsOtherLast image seen from to
+other_last image from to item holds (last, lacks) = record { last = last; other = at (image to) last.held lacks }
   where
-    rose : IsFaultFor G a b → Rose (troubles a) (troubles b)
-    rose (inl more) = omega (arith, more, refused)
-    rose (inr (more, ground)) = omega (arith, more, later)
+    there : (b : List ℕ) → HasHeader last.item b → ¬ HasHeader item b → (o : Option (List ℕ)) → IfSome o (HasHeader item)
+        → IfSome o (λ bytes. ¬ HasHeader last.item bytes)
+    there b held not None has = tt
+    there b held not (Some f) has = λ header. not (held ∙ sym header ∙ has)
+
+    at : (o : Option (List ℕ)) → IfSome o (HasHeader last.item) → IfSome o (λ bytes. ¬ HasHeader item bytes) → IfSome o (λ bytes. Lacks image from last.item)
+    at None held not = tt
+    at (Some b) held not = there b held not (image from) holds

@@ -1,17 +1,12 @@
 -- What the first bytes of a slot say.
-use Rattle.mig_files.proofs.Common.{Cell, EndsAt, Err, FilesLook, FilesState, Gate, HasBytes, Head, HoldsItem, IfSome, IsCopy, IsElsewhere, IsFree, IsFreeFor, IsName, IsSome, IsTrue, List, Mark}
-use Rattle.mig_files.proofs.Common.{None, Ok, OnOk, Option, Result, Slot, Some, WhereTold, ap, arith, cell_len, cells_of, false≢true, file_of, header_of, is_slot, length, length-append}
-use Rattle.mig_files.proofs.Common.{length-replicate, offset_of, places, refl, replicate, rules, slice_index, slice_range, subst, sym, take, take-append_seam, ℕ, ◌++◌, ◌+◌, ◌-◌, ◌<◌, ◌↔◌, ◌∙◌}
+use Rattle.mig_files.proofs.Common.{Cell, EndsAt, Err, FilesLook, FilesState, HasBytes, HoldsItem, IfSome, IsCopy, IsElsewhere, IsFree, IsFreeFor, IsName, IsSome, List}
+use Rattle.mig_files.proofs.Common.{None, Ok, OnOk, Option, Result, Some, WhereTold, ap, arith, cell_len, image_of, false≢true, file_of, header_of, length}
+use Rattle.mig_files.proofs.Common.{offset_of, places, replicate, rules, seen_in, slice_index, slice_range, subst, sym, take, take-append_seam, ℕ, ◌++◌, ◌+◌, ◌-◌, ◌<◌, ◌↔◌, ◌∙◌}
 use Rattle.mig_files.proofs.Common.{◌≡◌, ◌≤◌}
-use Rattle.mig_files.proofs.Derivation.{window-has, cell_read, cell_written}
+use Rattle.mig_files.specs.Sights.{header_len, window-has}
+use Rattle.mig_files.proofs.Derivation.{cell_read, cell_written}
 use Rattle.mig_files.proofs.FilesSteps.{told_before, told_after, bytes_after, bytes_before}
 use Rattle.mig_files.proofs.SeenItems.{Sights}
-
-header_len : (item : List ℕ) → length item ≤ 32 → length (header_of item) ≡ 34
-header_len item short =
-    let both = length-append item (replicate (32 - length item) 0) in
-    let zeros = length-replicate {A = ℕ} (32 - length item) 0 in
-    omega (arith, short, both, zeros)
 
 -- as many bytes of one place are the same
 pub same_bytes : (f : ℕ → ℕ) (at : ℕ) (a b : List ℕ) → length a ≡ 34 → length b ≡ 34 → HasBytes f at 34 a → HasBytes f at 34 b → a ≡ b
@@ -30,17 +25,25 @@ pub held_by : (s : FilesState) (slot : Cell) (first item : List ℕ) → first �
     → WhereTold s slot (HoldsItem s slot item)
 held_by s slot first item is has told = subst (λ (l : List ℕ). HasBytes (s.reads (file_of slot)) (offset_of slot) 34 l) is (has told)
 
+range_at : (bytes : List ℕ) (k i : ℕ) → i < k → k ≤ length bytes → slice_index (slice_range bytes 0 k) i ≡ slice_index bytes i
+range_at bytes k i lt fits = search (rules, places)
+
 -- the first bytes of these
-pub first_bytes : (f : ℕ → ℕ) (at k n : ℕ) (bytes first : List ℕ) → k ≤ n → n ≤ length bytes → first ≡ slice_range bytes 0 k → HasBytes f at n bytes → HasBytes f at k first
-first_bytes f at k n bytes first le fits same has i lt =
-    let inside : i < n = omega (arith, lt, le) in
-    let read : slice_index (slice_range bytes 0 k) i ≡ slice_index bytes i = search (rules, places) in
-    ap (λ (l : List ℕ). slice_index l i) same ∙ read ∙ has i inside
+pub first_has : (s : FilesState) (slot : Cell) (n : ℕ) (bytes first : List ℕ) → 34 ≤ n → n ≤ length bytes → first ≡ slice_range bytes 0 34
+    → WhereTold s slot (HasBytes (s.reads (file_of slot)) (offset_of slot) n bytes)
+    → WhereTold s slot (HasBytes (s.reads (file_of slot)) (offset_of slot) 34 first)
+first_has s slot n bytes first le fits same has told i lt =
+    ap (λ (l : List ℕ). slice_index l i) same ∙ range_at bytes 34 i lt (omega (arith, le, fits)) ∙ has told i (omega (arith, lt, le))
+
+-- with other first bytes it doesn't hold the item
+pub not_held : (s : FilesState) (slot : Cell) (first item : List ℕ) → length first ≡ 34 → IsName item → ¬ (first ≡ header_of item)
+    → WhereTold s slot (HasBytes (s.reads (file_of slot)) (offset_of slot) 34 first) → WhereTold s slot (¬ HoldsItem s slot item)
+not_held s slot first item len name not has told holds = not (held_is s slot first item len name.short (has told) holds)
 
 -- a whole cell that was read
 pub whole_read : (s : FilesState) (cell : Cell) (n : ℕ) (bytes : List ℕ) → n ≡ cell_len cell → length bytes ≡ cell_len cell
     → WhereTold s cell (HasBytes (s.reads (file_of cell)) (offset_of cell) n bytes)
-    → IfSome (cells_of s.told s.reads cell) (λ told. bytes ≡ told)
+    → IfSome (image_of s cell) (λ told. bytes ≡ told)
 whole_read s cell n bytes is_n len has = cell_read s 0 cell bytes len (λ told. subst (λ (m : ℕ). HasBytes (s.reads (file_of cell)) (offset_of cell) m bytes) is_n (has told))
 
 -- the name in a header
@@ -58,7 +61,7 @@ on_any (Err e) a = tt
 -- zeros past the end of a file are there already
 pub emptied : (s : FilesState) (cell : Cell) (zeros : List ℕ) (end : ℕ) → length zeros ≡ cell_len cell → ((i : ℕ) → i < length zeros → slice_index zeros i ≡ 0)
     → end ≤ offset_of cell → WhereTold s cell (EndsAt (s.reads (file_of cell)) end)
-    → IfSome (cells_of s.told s.reads cell) (λ told. told ≡ zeros)
+    → IfSome (image_of s cell) (λ told. told ≡ zeros)
 emptied s cell zeros end len all le ends = cell_written s cell zeros len (λ told i lt. all i (omega (arith, lt, len)) ∙ sym (ends told (offset_of cell + i) (omega (arith, le))))
 
 -- what was read is what was written
@@ -66,12 +69,6 @@ pub copied : (from to : Option (List ℕ)) (bytes : List ℕ) → IfSome from (�
 copied None to bytes read written = tt
 copied (Some f) None bytes read written = tt
 copied (Some f) (Some t) bytes read written = written ∙ read
-
-pub slot_len : (cell : Cell) → IsTrue (is_slot cell) → cell_len cell ≡ 4096
-slot_len (Slot d s) is = refl
-slot_len Head is = absurd (false≢true is)
-slot_len Gate is = absurd (false≢true is)
-slot_len (Mark n) is = absurd (false≢true is)
 
 -- a slot held the item before it was looked at
 pub held_before : {a b : FilesState} → FilesLook a b → (slot : Cell) (item : List ℕ) → WhereTold b slot (HoldsItem b slot item) → WhereTold a slot (HoldsItem a slot item)
@@ -103,10 +100,10 @@ free_for_own s seen slot item first len is has other name apart told holds =
 
 -- with one that was seen elsewhere it is free
 pub free_by : (s : FilesState) (seen : Sights) (slot : Cell) (item first : List ℕ) → length first ≡ 34 → first ≡ header_of item
-    → WhereTold s slot (HasBytes (s.reads (file_of slot)) (offset_of slot) 34 first) → IsElsewhere seen item slot → IsFree s seen slot
+    → WhereTold s slot (HasBytes (s.reads (file_of slot)) (offset_of slot) 34 first) → IsElsewhere (seen_in seen) item slot → IsFree s seen slot
 free_by s seen slot item first len is has elsewhere other name told holds =
     let same : other ≡ item = same_item other item name.short (sym (held_is s slot first other len name.short (has told) holds) ∙ is) in
-    subst (λ (i : List ℕ). IsElsewhere seen i slot) (sym same) elsewhere
+    subst (λ (i : List ℕ). IsElsewhere (seen_in seen) i slot) (sym same) elsewhere
 
 -- with no item's it is
 pub free_none : (s : FilesState) (seen : Sights) (slot : Cell) (first : List ℕ) → length first ≡ 34 → ((item : List ℕ) → IsName item → ¬ (first ≡ header_of item))

@@ -1,12 +1,13 @@
 -- That items are still where they were seen.
 use Rattle.mig_files.proofs.Common.{AreHeld, Bool, Cell, FilesLook, FilesState, FilesWrite, HasBytes, HoldsItem, IfSome, IsFree, IsFreeFor, IsHeldElsewhere, IsTrue}
-use Rattle.mig_files.proofs.Common.{KeepsSeen, List, LosesNone, LosesNoneBut, None, Some, WhereTold, ap, arith, cell_len, cells_of, file_of, header_of, if◌then◌else◌, inl, inr}
+use Rattle.mig_files.proofs.Common.{KeepsSeen, List, LosesNone, LosesNoneBut, None, Some, WhereTold, ap, arith, cell_len, image_of, file_of, header_of, if◌then◌else◌, inl, inr}
 use Rattle.mig_files.proofs.Common.{[], is_slot, length, offset_of, refl, seen_at, slice_index, slice_range, subst, suc, sym, zero, ℕ, ◌+◌, ◌∙◌, ◌≡◌, ◌⊎◌}
 use Rattle.mig_base.proofs.CellTests.{cases_cell}
-use Rattle.mig_files.specs.Derived.{window}
+use Rattle.mig_files.specs.Derived.{cell_bytes, window}
 use Rattle.mig_files.proofs.Apart.{apart}
 use Rattle.mig_files.proofs.FilesSteps.{told_before, told_after}
-use Rattle.mig_files.proofs.Headers.{first_bytes, slot_len}
+use Rattle.mig_files.specs.Sights.{slot_len}
+use Rattle.mig_files.proofs.Headers.{first_has}
 use Rattle.mig_files.proofs.SeenItems.{Sights, none_some}
 
 -- where nothing was written
@@ -88,13 +89,9 @@ pub lost_but_before : {a b : FilesState} → FilesLook a b → (slot : Cell) (it
 lost_but_before look slot item none other name not told holds =
     elsewhere_before look other slot (none other name not (told_after look (file_of slot) told) (λ i lt. holds i lt ∙ sym (look.bytes (file_of slot) (offset_of slot + i) (λ no. no))))
 
--- what was seen is the same
-pub seen_same : {a b : Sights} → b ≡ a → (other : Cell) → seen_at b other ≡ seen_at a other
-seen_same same other = ap (λ (seen : Sights). seen_at seen other) same
-
 -- A slot that was written holds what was written
 
-bytes_at : (f : ℕ → ℕ) (at n : ℕ) (bytes : List ℕ) → window f at n ≡ bytes → HasBytes f at n bytes
+pub bytes_at : (f : ℕ → ℕ) (at n : ℕ) (bytes : List ℕ) → window f at n ≡ bytes → HasBytes f at n bytes
 unfolding window
 bytes_at f at zero bytes is i lt = absurd (omega (arith, lt))
 bytes_at f at (suc n) bytes is zero lt =
@@ -103,8 +100,8 @@ bytes_at f at (suc n) bytes is (suc i) lt =
     ap (λ (l : List ℕ). slice_index l (suc i)) (sym is) ∙ bytes_at f (suc at) n (window f (suc at) n) refl i (omega (arith, lt)) ∙ ap f (omega arith)
 
 pub holds_written : (s : FilesState) (slot : Cell) (bytes item : List ℕ) → IsTrue (is_slot slot) → length bytes ≡ cell_len slot → slice_range bytes 0 34 ≡ header_of item
-    → IfSome (cells_of s.told s.reads slot) (λ told. told ≡ bytes) → WhereTold s slot (HoldsItem s slot item)
+    → IfSome (image_of s slot) (λ told. told ≡ bytes) → WhereTold s slot (HoldsItem s slot item)
 holds_written s slot bytes item is len named written told =
     let has : HasBytes (s.reads (file_of slot)) (offset_of slot) (cell_len slot) bytes = bytes_at (s.reads (file_of slot)) (offset_of slot) (cell_len slot) bytes
-    (subst (λ (t : Bool). IfSome (if t then Some (window (s.reads (file_of slot)) (offset_of slot) (cell_len slot)) else None) (λ told. told ≡ bytes)) told written) in
-    first_bytes (s.reads (file_of slot)) (offset_of slot) 34 (cell_len slot) bytes (header_of item) (omega (arith, slot_len slot is)) (omega (arith, len)) (sym named) has
+    (subst (λ (t : Bool). IfSome (if t then Some (cell_bytes s.reads slot) else None) (λ told. told ≡ bytes)) told written) in
+    first_has s slot (cell_len slot) bytes (header_of item) (omega (arith, slot_len slot is)) (omega (arith, len)) (sym named) (λ there. has) told

@@ -1,7 +1,7 @@
 -- Where items were seen, and at how many slots.
 use Rattle.mig_files.proofs.Common.{AllByRecursion, AreCounted, Bool, Cell, Gate, Head, IsDistinct, IsElsewhere, IsNotedAt, List, Mark, MatchBool, None, Option, Slot, Some, [], ap, arith, cases_Bool, cond, count_of}
 use Rattle.mig_files.proofs.Common.{IsDistinct-head, IsDistinct-tail, eq-value, false, false≢true, inl, inr, insert_entry, is_cell, is_cell-other, is_cell-same, is_cell-true, is_item, keys_of, length, lookup, ltb-false, ltb-true, nat_eq, nat_lt}
-use Rattle.mig_files.proofs.Common.{nat_list_eq_equiv, one_if, pointwise, refl, same_text, seen_at, subst, sym, times, true, ℕ, ◌+◌, ◌-◌, ◌<◌, ◌∙◌, ◌∷◌, ◌≡◌, ◌≤◌, ◌⊎◌}
+use Rattle.mig_files.proofs.Common.{nat_list_eq_equiv, one_if, pointwise, refl, same_text, seen_at, seen_in, subst, sym, times, true, ℕ, ◌+◌, ◌-◌, ◌<◌, ◌∙◌, ◌∷◌, ◌≡◌, ◌≤◌, ◌⊎◌}
 
 abbrev pub Sights : Type 0
 Sights = List (Cell × Option (List ℕ))
@@ -190,7 +190,7 @@ here_in seen item slot = one_if (is_item item (seen_at seen slot))
 
 -- it was seen elsewhere exactly where it was seen at more slots than this one
 abbrev Tells : Sights → List ℕ → Cell → Type 0
-Tells seen item slot = (IsElsewhere seen item slot × (here_in seen item slot < times seen item)) ⊎ (¬ (IsElsewhere seen item slot) × (times seen item ≤ here_in seen item slot))
+Tells seen item slot = (IsElsewhere (seen_in seen) item slot × (here_in seen item slot < times seen item)) ⊎ (¬ (IsElsewhere (seen_in seen) item slot) × (times seen item ≤ here_in seen item slot))
 
 module _ (e : Cell × Option (List ℕ)) (seen : Sights) (item : List ℕ) (slot : Cell) (alone : AllByRecursion (λ y. eq e.0 y ≡ false) (keys_of seen)) where
   first_here : slot ≡ e.0 → Tells seen item slot → Tells (e ∷ seen) item slot
@@ -232,10 +232,10 @@ tells (e ∷ seen) item slot apart =
     one_more e seen item slot (IsDistinct-head eq e.0 (keys_of seen) apart) (tells seen item slot (IsDistinct-tail eq e.0 (keys_of seen) apart))
 
 pub is_elsewhere : {seen : Sights} {counts : List (List ℕ × ℕ)} (item : List ℕ) (slot : Cell) (here count : ℕ) → AreCounted seen counts → here ≡ here_in seen item slot → count ≡ count_of counts item
-    → MatchBool (nat_lt here count) (IsElsewhere seen item slot) (¬ (IsElsewhere seen item slot))
+    → MatchBool (nat_lt here count) (IsElsewhere (seen_in seen) item slot) (¬ (IsElsewhere (seen_in seen) item slot))
 is_elsewhere {seen} {counts} item slot here count law is_here is_count = by (nat_lt here count) refl
   where
-    by : (r : Bool) → nat_lt here count ≡ r → MatchBool r (IsElsewhere seen item slot) (¬ (IsElsewhere seen item slot))
+    by : (r : Bool) → nat_lt here count ≡ r → MatchBool r (IsElsewhere (seen_in seen) item slot) (¬ (IsElsewhere (seen_in seen) item slot))
     by true is = elim (tells seen item slot law.apart) [
       | inl at ↦ at.0
       | inr not ↦ absurd (omega (arith, ltb-true here count is, is_here, is_count, law.counted item, not.1))

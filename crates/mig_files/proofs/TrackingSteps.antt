@@ -1,6 +1,6 @@
 -- How what is noted of files stays true.
-use Rattle.mig_files.proofs.Common.{Bool, CallError, Cell, Contains, Disk, Err, Failed, FilesLook, FilesState, FilesWrite, Full, Gate, HasCallCause, Head, Interrupted}
-use Rattle.mig_files.proofs.Common.{IsCallCause, IsFalse, IsFilesState, IsNoted, IsQuiet, IsSettledAt, IsStep, IsTracked, IsTrue, IsWithin, IsWriteStep, Journal, KeepsClaim, KeepsFlags, KeepsFlushed, Leaves}
+use Rattle.mig_files.proofs.Common.{Bool, CallError, Cell, Contains, Disk, Err, Failed, FilesState, Full, Gate, HasCallCause, Head, Interrupted}
+use Rattle.mig_files.proofs.Common.{IsCallCause, IsFalse, IsFilesState, IsNoted, IsQuiet, IsSettledAt, IsStep, IsTracked, IsTrue, IsWriteStep, Journal, KeepsClaim, KeepsFlags, KeepsFlushed, Leaves}
 use Rattle.mig_files.proofs.Common.{List, Mark, Notes, Place, Rose, SameNotes, Slot, StaysAlive, StaysSame, Sync, Task, TouchesFile, Unflushes, WritesAlive, ap}
 use Rattle.mig_files.proofs.Common.{arith, cases_Bool, cell_len, false, false≢true, file_of, inl, inr, offset_of, refl, subst, sym, true, ℕ, ◌∙◌, ◌≡◌, ◌≤◌}
 use Rattle.mig_files.proofs.Derivation.{write_at_cell}

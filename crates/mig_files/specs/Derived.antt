@@ -1,5 +1,5 @@
 -- What a store of cells tells, read off what its files tell.
-use Rattle.std.specs.Prelude.{◌≡◌, ◌+◌, ℕ, zero, suc, Bool, true, false, List, [], ◌∷◌, length, Option, Some, None, if◌then◌else◌, refl}
+use Rattle.std.specs.Prelude.{◌≡◌, ℕ, zero, suc, Bool, true, false, List, [], ◌∷◌, length, Option, Some, None, if◌then◌else◌, refl}
 use Rattle.std.specs.Option.{option_map}
 use Rattle.std.proofs.Common.{sym, ◌∙◌, ap}
 use Rattle.mig_base.specs.declared.cells.Cell.{Cell}
@@ -15,18 +15,22 @@ unfoldable pub window : (ℕ → ℕ) → ℕ → ℕ → List ℕ
 window file at zero = []
 window file at (suc n) = file at ∷ window file (suc at) n
 
--- the bytes of each cell whose file is told
-abbrev pub cells_of : (Place → Bool) → Files → Image
-cells_of told files cell = if told (file_of cell) then Some (window (files (file_of cell)) (offset_of cell) (cell_len cell)) else None
+-- the bytes of a cell
+abbrev pub cell_bytes : Files → Cell → List ℕ
+cell_bytes files cell = window (files (file_of cell)) (offset_of cell) (cell_len cell)
 
--- how often a call has failed or was given up, or the store refused
-abbrev pub troubles : FilesState → ℕ
-troubles s = s.faults + s.refused
+-- those of each cell whose file is told
+abbrev pub cells_of : (Place → Bool) → Files → Image
+cells_of told files cell = if told (file_of cell) then Some (cell_bytes files cell) else None
+
+-- what these files show
+abbrev pub image_of : FilesState → Image
+image_of s = cells_of s.told s.reads
 
 -- The store tells the cells of what its files tell, and no events.
 abbrev pub cell_state : FilesState → ℕ → State
 cell_state s faults = record {
-  reads = cells_of s.told s.reads;
+  reads = image_of s;
   may_leave = λ image. (files : Files) × s.may_leave files × (image ≡ cells_of s.told files);
   moment = s.moment;
   left_since = λ t image. (files : Files) × s.left_since t files × (image ≡ cells_of s.told files);
@@ -36,14 +40,14 @@ cell_state s faults = record {
 
 -- the store tells what these files tell, and no events
 pub record ShowsFiles (files : FilesState) (store : State) : Type 0 where
-  pub reads : store.reads ≡ cells_of files.told files.reads
+  pub reads : store.reads ≡ image_of files
   pub left : (image : Image) → store.may_leave image → (some : Files) × files.may_leave some × (image ≡ cells_of files.told some)
   pub leaves : (some : Files) → files.may_leave some → store.may_leave (cells_of files.told some)
   pub events : store.events ≡ None
-  pub faults : store.faults ≡ troubles files
+  pub faults : store.faults ≡ files.faults
 
 -- it does where it is made of them
-pub shows_files : (files : FilesState) → ShowsFiles files (cell_state files (troubles files))
+pub shows_files : (files : FilesState) → ShowsFiles files (cell_state files files.faults)
 shows_files files = record {
   reads = refl;
   left = λ image is. is;
@@ -61,8 +65,7 @@ window-len file at (suc n) = ap suc (window-len file (suc at) n)
 pub cells-shape : (told : Place → Bool) (a b : Files) (cell : Cell) → option_map length (cells_of told a cell) ≡ option_map length (cells_of told b cell)
 cells-shape told a b cell = at (told (file_of cell))
   where
-    at : (t : Bool) → option_map length (if t then Some (window (a (file_of cell)) (offset_of cell) (cell_len cell)) else None) ≡ option_map length
-        (if t then Some (window (b (file_of cell)) (offset_of cell) (cell_len cell)) else None)
+    at : (t : Bool) → option_map length (if t then Some (cell_bytes a cell) else None) ≡ option_map length (if t then Some (cell_bytes b cell) else None)
     at true = ap Some (window-len (a (file_of cell)) (offset_of cell) (cell_len cell) ∙ sym (window-len (b (file_of cell)) (offset_of cell) (cell_len cell)))
     at false = refl
 

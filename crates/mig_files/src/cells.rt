@@ -5,8 +5,7 @@ ghost use Rattle.mig_base.specs.Cells.{cell_len};
 ghost use Rattle.mig_calls.specs.Places.{file_of, offset_of};
 ghost use Rattle.mig_calls.specs.Files.{EndsAt, HasBytes, len_of};
 ghost use Rattle.mig_calls.specs.Refusals.{WhereTold};
-ghost use Rattle.mig_files.specs.Derived.{cells_of};
-ghost use Rattle.mig_files.specs.Grounds.{IsCut, IsFaultFor};
+ghost use Rattle.mig_files.specs.Derived.{image_of};
 ghost use Rattle.mig_files.specs.Tracking.{IsTracked, IsStep, IsWriteStep, StaysAlive, StaysSame, WritesAlive};
 
 use crate::opening::{enter, extent};
@@ -88,7 +87,7 @@ fn open_with_room<C: Calls>(
     requires tracked { IsTracked tracked.old.notes (C.Calls.state calls.old) }
     ensures step { IsStep tracked.new.notes (C.Calls.state calls.old) (C.Calls.state calls.new) }
     ensures kept { OnOk result (StaysAlive tracked.new.notes (C.Calls.state calls.old) (C.Calls.state calls.new)) }
-    ensures cause { OnErr result (IsFaultFor (IsCut (C.Calls.state calls.old) cell.now) (C.Calls.state calls.old) (C.Calls.state calls.new)) }
+    ensures cause { OnErr result (Rose (C.Calls.state calls.old).faults (C.Calls.state calls.new).faults) }
 {
     let found = open_place(calls, tracked, place)?;
     check_room(calls, tracked, cell, &found)
@@ -105,10 +104,10 @@ pub fn write_cell<C: Calls>(
     requires alive { IsFalse tracked.old.notes.lost }
     requires tracked { IsTracked tracked.old.notes (C.Calls.state calls.old) }
     requires claimed { IsTrue (C.Calls.state calls.old).claimed }
-    ensures written { OnOk result (IfSome (cells_of (C.Calls.state calls.new).told (C.Calls.state calls.new).reads cell.now) (λ told. told ≡ bytes.now)) }
+    ensures written { OnOk result (IfSome (image_of (C.Calls.state calls.new) cell.now) (λ told. told ≡ bytes.now)) }
     ensures step { IsWriteStep tracked.new.notes (file_of cell.now) (offset_of cell.now) (cell_len cell.now) (C.Calls.state calls.old) (C.Calls.state calls.new) }
     ensures kept { OnOk result (WritesAlive tracked.new.notes (C.Calls.state calls.old) (C.Calls.state calls.new)) }
-    ensures cause { OnErr result (IsFaultFor (IsCut (C.Calls.state calls.old) cell.now) (C.Calls.state calls.old) (C.Calls.state calls.new)) }
+    ensures cause { OnErr result (Rose (C.Calls.state calls.old).faults (C.Calls.state calls.new).faults) }
 {
     let (place, offset) = place_of(cell);
     open_with_room(calls, tracked, cell, &place)?;
@@ -125,9 +124,9 @@ pub fn read_cell<C: Calls>(
     requires length { length into.old ≡ cell_len cell.now }
     requires alive { IsFalse tracked.old.notes.lost }
     requires tracked { IsTracked tracked.old.notes (C.Calls.state calls.old) }
-    ensures bytes { OnOk result (IfSome (cells_of (C.Calls.state calls.old).told (C.Calls.state calls.old).reads cell.now) (λ told. into.new ≡ told)) }
+    ensures bytes { OnOk result (IfSome (image_of (C.Calls.state calls.old) cell.now) (λ told. into.new ≡ told)) }
     ensures step { IsStep tracked.new.notes (C.Calls.state calls.old) (C.Calls.state calls.new) }
-    ensures cause { OnErr result (IsFaultFor (IsCut (C.Calls.state calls.old) cell.now) (C.Calls.state calls.old) (C.Calls.state calls.new)) }
+    ensures cause { OnErr result (Rose (C.Calls.state calls.old).faults (C.Calls.state calls.new).faults) }
 {
     let found = read_part(calls, tracked, cell, into)?;
     check_room(calls, tracked, cell, &found)?;
@@ -145,7 +144,7 @@ fn check_whole<C: Calls>(
     requires tracked { IsTracked tracked.now.notes (C.Calls.state calls.old) }
     requires end { WhereTold (C.Calls.state calls.old) cell.now (EndsAt ((C.Calls.state calls.old).reads (file_of cell.now)) (len_of found.now)) }
     ensures step { IsStep tracked.now.notes (C.Calls.state calls.old) (C.Calls.state calls.new) }
-    ensures cause { OnErr result (IsFaultFor (IsCut (C.Calls.state calls.old) cell.now) (C.Calls.state calls.old) (C.Calls.state calls.new)) }
+    ensures cause { OnErr result (Rose (C.Calls.state calls.old).faults (C.Calls.state calls.new).faults) }
 {
     if found.len() >= end_of(cell) {
         return Ok(());
@@ -170,7 +169,7 @@ fn check_room<C: Calls>(
     requires end { WhereTold (C.Calls.state calls.old) cell.now (EndsAt ((C.Calls.state calls.old).reads (file_of cell.now)) (len_of found.now)) }
     ensures step { IsStep tracked.now.notes (C.Calls.state calls.old) (C.Calls.state calls.new) }
     ensures kept { OnOk result (StaysSame (C.Calls.state calls.old) (C.Calls.state calls.new)) }
-    ensures cause { OnErr result (IsFaultFor (IsCut (C.Calls.state calls.old) cell.now) (C.Calls.state calls.old) (C.Calls.state calls.new)) }
+    ensures cause { OnErr result (Rose (C.Calls.state calls.old).faults (C.Calls.state calls.new).faults) }
 {
     match (cell, found) {
         (Cell::Slot { .. }, Extent::Device { len }) if *len < end_of(cell) => {

@@ -7,9 +7,11 @@ ghost use Rattle.mig_base.specs.Slots.{HasHeader};
 ghost use Rattle.mig_calls.specs.Places.{file_of, offset_of};
 ghost use Rattle.mig_calls.specs.Files.{HasBytes};
 ghost use Rattle.mig_calls.specs.Refusals.{WhereTold};
-ghost use Rattle.mig_files.specs.Grounds.{Differ, IsFaultFor};
-ghost use Rattle.mig_files.specs.Seeing.{AreZeros, BothHold, HoldsCopy, IsRestOf};
+ghost use Rattle.mig_files.specs.Derived.{image_of};
+ghost use Rattle.mig_files.specs.Grounds.{IsFaultFor};
+ghost use Rattle.mig_files.specs.Seeing.{HoldsCopy};
 ghost use Rattle.mig_files.specs.Tracking.{IsTracked, IsStep, StaysAlive};
+ghost use Rattle.mig_store.specs.Grounds.{AreZeros, BothHold, Differ, IsRestOf};
 
 use crate::cells::read_part;
 use crate::slot_header::{is_header, item_of};
@@ -74,9 +76,9 @@ fn check_rest<C: Calls>(
     requires both { BothHold left.now copied.now item.now }
     requires read { WhereTold (C.Calls.state calls.old) from.now (HasBytes ((C.Calls.state calls.old).reads (file_of from.now)) (offset_of from.now) 4096 left.now) }
     requires beside { WhereTold (C.Calls.state calls.old) to.now (HasBytes ((C.Calls.state calls.old).reads (file_of to.now)) (offset_of to.now) 4096 copied.now) }
-    ensures same { OnOk result (HoldsCopy (C.Calls.state calls.old) from.now to.now) }
+    ensures same { OnOk result (HoldsCopy (image_of (C.Calls.state calls.old)) from.now to.now) }
     ensures step { IsStep tracked.now.notes (C.Calls.state calls.old) (C.Calls.state calls.new) }
-    ensures cause { OnErr result (IsFaultFor (Differ (C.Calls.state calls.old) from.now to.now) (C.Calls.state calls.old) (C.Calls.state calls.new)) }
+    ensures cause { OnErr result (IsFaultFor (Differ (image_of (C.Calls.state calls.old)) from.now to.now) (C.Calls.state calls.old) (C.Calls.state calls.new)) }
 {
     if is_rest(left, copied) {
         return Ok(());
@@ -102,9 +104,9 @@ fn compare<C: Calls>(
     requires name { IsName item.now }
     requires header { HasHeader item.now left.now }
     requires read { WhereTold (C.Calls.state calls.old) from.now (HasBytes ((C.Calls.state calls.old).reads (file_of from.now)) (offset_of from.now) 4096 left.now) }
-    ensures same { OnOk result (HoldsCopy (C.Calls.state calls.old) from.now to.now) }
+    ensures same { OnOk result (HoldsCopy (image_of (C.Calls.state calls.old)) from.now to.now) }
     ensures step { IsStep tracked.new.notes (C.Calls.state calls.old) (C.Calls.state calls.new) }
-    ensures cause { OnErr result (IsFaultFor (Differ (C.Calls.state calls.old) from.now to.now) (C.Calls.state calls.old) (C.Calls.state calls.new)) }
+    ensures cause { OnErr result (IsFaultFor (Differ (image_of (C.Calls.state calls.old)) from.now to.now) (C.Calls.state calls.old) (C.Calls.state calls.new)) }
 {
     let mut copied = [0; 4096];
     slot_at(calls, tracked, to, &mut copied)?;
@@ -124,9 +126,9 @@ pub fn expects_copy<C: Calls>(
     requires slots { IsTrue (is_slot from.now) × IsTrue (is_slot to.now) }
     requires alive { IsFalse tracked.old.notes.lost }
     requires tracked { IsTracked tracked.old.notes (C.Calls.state calls.old) }
-    ensures same { OnOk result (HoldsCopy (C.Calls.state calls.old) from.now to.now) }
+    ensures same { OnOk result (HoldsCopy (image_of (C.Calls.state calls.old)) from.now to.now) }
     ensures step { IsStep tracked.new.notes (C.Calls.state calls.old) (C.Calls.state calls.new) }
-    ensures cause { OnErr result (IsFaultFor (Differ (C.Calls.state calls.old) from.now to.now) (C.Calls.state calls.old) (C.Calls.state calls.new)) }
+    ensures cause { OnErr result (IsFaultFor (Differ (image_of (C.Calls.state calls.old)) from.now to.now) (C.Calls.state calls.old) (C.Calls.state calls.new)) }
 {
     let mut left = [0; 4096];
     slot_at(calls, tracked, from, &mut left)?;

@@ -5,9 +5,11 @@ ghost use Rattle.mig_base.specs.Cells.{cell_len, is_slot};
 ghost use Rattle.mig_calls.specs.Places.{file_of, offset_of};
 ghost use Rattle.mig_calls.specs.Files.{EndsAt, HasBytes, len_of};
 ghost use Rattle.mig_calls.specs.Refusals.{HoldsItem, WhereTold};
-ghost use Rattle.mig_files.specs.Grounds.{IsCut, IsFaultFor, IsLast, IsOtherLast, Lacks};
-ghost use Rattle.mig_files.specs.Seeing.{seen_at, AreHeld, KeepsSeen, IsElsewhere, IsFree, IsFreeFor};
+ghost use Rattle.mig_files.specs.Derived.{image_of};
+ghost use Rattle.mig_files.specs.Grounds.{IsFaultFor, IsLastBut};
+ghost use Rattle.mig_files.specs.Seeing.{seen_at, seen_in, AreHeld, KeepsSeen, IsFree, IsFreeFor};
 ghost use Rattle.mig_files.specs.Tracking.{IsTracked, IsStep, StaysAlive, StaysSame};
+ghost use Rattle.mig_store.specs.Grounds.{IsElsewhere, IsLast, Lacks};
 
 use crate::cells::{open_place, read_part};
 use crate::places::{end_of, place_of};
@@ -57,7 +59,7 @@ pub fn note_held<C: Calls>(
     ensures others { KeepsSeen seen.old seen.new slot.now }
     ensures held { AreHeld (C.Calls.state calls.new) seen.new }
     ensures step { IsStep tracked.now.notes (C.Calls.state calls.old) (C.Calls.state calls.new) }
-    ensures cause { OnErr result (IsFaultFor (IsCut (C.Calls.state calls.old) slot.now) (C.Calls.state calls.old) (C.Calls.state calls.new)) }
+    ensures cause { OnErr result (Rose (C.Calls.state calls.old).faults (C.Calls.state calls.new).faults) }
 {
     if found.len() < end_of(slot) {
         let slot = *slot;
@@ -111,7 +113,7 @@ pub fn expects<C: Calls>(
     ensures others { KeepsSeen seen.old seen.new slot.now }
     ensures held { AreHeld (C.Calls.state calls.new) seen.new }
     ensures step { IsStep tracked.new.notes (C.Calls.state calls.old) (C.Calls.state calls.new) }
-    ensures cause { OnErr result (IsFaultFor (Lacks (C.Calls.state calls.old) slot.now item.now) (C.Calls.state calls.old) (C.Calls.state calls.new)) }
+    ensures cause { OnErr result (IsFaultFor (Lacks (image_of (C.Calls.state calls.old)) slot.now item.now) (C.Calls.state calls.old) (C.Calls.state calls.new)) }
 {
     let mut first = [0; HEADER];
     let found = header_there(calls, tracked, slot, item, &mut first)?;
@@ -131,7 +133,7 @@ fn check_there<C: Calls>(
     requires tracked { IsTracked tracked.now.notes (C.Calls.state calls.old) }
     requires end { WhereTold (C.Calls.state calls.old) slot.now (EndsAt ((C.Calls.state calls.old).reads (file_of slot.now)) (len_of found.now)) }
     ensures step { IsStep tracked.now.notes (C.Calls.state calls.old) (C.Calls.state calls.new) }
-    ensures cause { OnErr result (IsFaultFor (IsCut (C.Calls.state calls.old) slot.now) (C.Calls.state calls.old) (C.Calls.state calls.new)) }
+    ensures cause { OnErr result (IsFaultFor (Lacks (image_of (C.Calls.state calls.old)) slot.now item.now) (C.Calls.state calls.old) (C.Calls.state calls.new)) }
 {
     match found {
         Extent::Absent => {
@@ -157,7 +159,7 @@ fn header_there<C: Calls>(
     ensures header { OnOk result (WhereTold (C.Calls.state calls.old) slot.now (HasBytes ((C.Calls.state calls.old).reads (file_of slot.now)) (offset_of slot.now) 34 into.new)) }
     ensures end { IfOk result (λ found. WhereTold (C.Calls.state calls.old) slot.now (EndsAt ((C.Calls.state calls.old).reads (file_of slot.now)) (len_of found))) }
     ensures step { IsStep tracked.new.notes (C.Calls.state calls.old) (C.Calls.state calls.new) }
-    ensures cause { OnErr result (IsFaultFor (IsCut (C.Calls.state calls.old) slot.now) (C.Calls.state calls.old) (C.Calls.state calls.new)) }
+    ensures cause { OnErr result (IsFaultFor (Lacks (image_of (C.Calls.state calls.old)) slot.now item.now) (C.Calls.state calls.old) (C.Calls.state calls.new)) }
 {
     let (place, offset) = place_of(slot);
     let found = open_place(calls, tracked, &place)?;
@@ -174,11 +176,12 @@ fn check_held<C: Calls>(
     item: &Name,
     first: &[u8; 34],
 ) -> Result<(), StoreFailed>
+    requires slot { IsTrue (is_slot slot.now) }
     requires tracked { IsTracked tracked.now.notes (C.Calls.state calls.old) }
     requires header { WhereTold (C.Calls.state calls.old) slot.now (HasBytes ((C.Calls.state calls.old).reads (file_of slot.now)) (offset_of slot.now) 34 first.now) }
     ensures held { OnOk result (WhereTold (C.Calls.state calls.old) slot.now (HoldsItem (C.Calls.state calls.old) slot.now item.now)) }
     ensures step { IsStep tracked.now.notes (C.Calls.state calls.old) (C.Calls.state calls.new) }
-    ensures cause { OnErr result (IsFaultFor (WhereTold (C.Calls.state calls.old) slot.now (¬ HoldsItem (C.Calls.state calls.old) slot.now item.now)) (C.Calls.state calls.old) (C.Calls.state calls.new)) }
+    ensures cause { OnErr result (IsFaultFor (Lacks (image_of (C.Calls.state calls.old)) slot.now item.now) (C.Calls.state calls.old) (C.Calls.state calls.new)) }
 {
     if is_header(first, item) {
         return Ok(());
@@ -198,10 +201,10 @@ fn check_item<C: Calls>(
 ) -> Result<(), StoreFailed>
     requires tracked { IsTracked tracked.now.notes (C.Calls.state calls.old) }
     requires held { WhereTold (C.Calls.state calls.old) slot.now (HoldsItem (C.Calls.state calls.old) slot.now item.now) }
-    ensures elsewhere { OnOk result (IsElsewhere seen.now item.now slot.now) }
+    ensures elsewhere { OnOk result (IsElsewhere (seen_in seen.now) item.now slot.now) }
     ensures step { IsStep tracked.now.notes (C.Calls.state calls.old) (C.Calls.state calls.new) }
     ensures kept { OnOk result (StaysSame (C.Calls.state calls.old) (C.Calls.state calls.new)) }
-    ensures cause { OnErr result (IsFaultFor (¬ IsElsewhere seen.now item.now slot.now) (C.Calls.state calls.old) (C.Calls.state calls.new)) }
+    ensures cause { OnErr result (IsFaultFor (¬ IsElsewhere (seen_in seen.now) item.now slot.now) (C.Calls.state calls.old) (C.Calls.state calls.new)) }
 {
     if seen.is_elsewhere(item, slot) {
         return Ok(());
@@ -219,12 +222,13 @@ fn check_free<C: Calls>(
     slot: &Cell,
     first: &[u8; 34],
 ) -> Result<(), StoreFailed>
+    requires slot { IsTrue (is_slot slot.now) }
     requires tracked { IsTracked tracked.now.notes (C.Calls.state calls.old) }
     requires header { WhereTold (C.Calls.state calls.old) slot.now (HasBytes ((C.Calls.state calls.old).reads (file_of slot.now)) (offset_of slot.now) 34 first.now) }
     ensures free { OnOk result (IsFree (C.Calls.state calls.old) seen.now slot.now) }
     ensures step { IsStep tracked.now.notes (C.Calls.state calls.old) (C.Calls.state calls.new) }
     ensures kept { OnOk result (StaysSame (C.Calls.state calls.old) (C.Calls.state calls.new)) }
-    ensures cause { OnErr result (IsFaultFor (IsLast (C.Calls.state calls.old) seen.now slot.now) (C.Calls.state calls.old) (C.Calls.state calls.new)) }
+    ensures cause { OnErr result (IsFaultFor (IsLast (image_of (C.Calls.state calls.old)) (seen_in seen.now) slot.now) (C.Calls.state calls.old) (C.Calls.state calls.new)) }
 {
     match item_of(first) {
         Some(item) => check_item(calls, tracked, seen, slot, &item),
@@ -246,7 +250,7 @@ pub fn expects_free<C: Calls>(
     ensures free { OnOk result (IsFree (C.Calls.state calls.old) seen.now slot.now) }
     ensures step { IsStep tracked.new.notes (C.Calls.state calls.old) (C.Calls.state calls.new) }
     ensures kept { OnOk result (StaysAlive tracked.new.notes (C.Calls.state calls.old) (C.Calls.state calls.new)) }
-    ensures cause { OnErr result (IsFaultFor (IsLast (C.Calls.state calls.old) seen.now slot.now) (C.Calls.state calls.old) (C.Calls.state calls.new)) }
+    ensures cause { OnErr result (IsFaultFor (IsLast (image_of (C.Calls.state calls.old)) (seen_in seen.now) slot.now) (C.Calls.state calls.old) (C.Calls.state calls.new)) }
 {
     let mut first = [0; HEADER];
     let found = header_at(calls, tracked, slot, &mut first)?;
@@ -268,7 +272,7 @@ pub fn expects_free_for<C: Calls>(
     ensures free { OnOk result (IsFreeFor (C.Calls.state calls.old) seen.now slot.now item.now) }
     ensures step { IsStep tracked.new.notes (C.Calls.state calls.old) (C.Calls.state calls.new) }
     ensures kept { OnOk result (StaysAlive tracked.new.notes (C.Calls.state calls.old) (C.Calls.state calls.new)) }
-    ensures cause { OnErr result (IsFaultFor (IsOtherLast (C.Calls.state calls.old) seen.now slot.now item.now) (C.Calls.state calls.old) (C.Calls.state calls.new)) }
+    ensures cause { OnErr result (IsFaultFor (IsLastBut (image_of (C.Calls.state calls.old)) (seen_in seen.now) slot.now item.now) (C.Calls.state calls.old) (C.Calls.state calls.new)) }
 {
     let mut first = [0; HEADER];
     header_at(calls, tracked, slot, &mut first)?;

@@ -2,7 +2,8 @@
 ghost use Rattle.std.specs.Prelude.{◌≡◌, Some, None, List, ℕ, if◌then◌else◌, [], MatchBool, OnOk, OnErr, nat_eq};
 ghost use Rattle.std.specs.Cmp.Lexicographic.{pointwise};
 ghost use Rattle.mig_files.specs.Counting.{count_of, AreCounted, IsNotedAt};
-ghost use Rattle.mig_files.specs.Seeing.{seen_at, IsElsewhere, KeepsSeen};
+ghost use Rattle.mig_files.specs.Seeing.{seen_at, seen_in, KeepsSeen};
+ghost use Rattle.mig_store.specs.Grounds.{IsElsewhere};
 
 use indexmap::IndexMap;
 use mig_base::{Cell, Name};
@@ -160,7 +161,7 @@ impl Seen {
 
     /// Whether an item was seen at another slot than this one.
     pub fn is_elsewhere(&self, item: &Name, slot: &Cell) -> bool
-        ensures { MatchBool result (IsElsewhere self.now item.now slot.now) (¬ (IsElsewhere self.now item.now slot.now)) }
+        ensures { MatchBool result (IsElsewhere (seen_in self.now) item.now slot.now) (¬ (IsElsewhere (seen_in self.now) item.now slot.now)) }
     {
         let count = count_in(&self.counts, item);
         match item_at(&self.slots, slot) {

@@ -1,7 +1,5 @@
 //! The store over files: disk NAME is the file NAME.disk, slot s at byte 4096 s; the journal is the file journal.mig.
-ghost use Rattle.std.specs.Prelude.{◌≡◌, ◌≤◌, ℕ, List, Contains, IsTrue, IfOk};
-ghost use Rattle.mig_base.specs.FaultCounts.{Rose};
-ghost use Rattle.mig_calls.specs.Files.{FilesLook};
+ghost use Rattle.std.specs.Prelude.{ℕ, List, Contains, IsTrue, IfOk};
 ghost use Rattle.mig_calls.specs.declared.places.Place.TheVariants.{Disk as DiskFile};
 ghost use Rattle.mig_files.specs.Derived.{ShowsFiles};
 ghost use Rattle.mig_files.specs.Seeing.{AreHeld};
@@ -11,11 +9,11 @@ mod serving;
 
 use crate::disk_set::DiskSet;
 use crate::seen::Seen;
-use crate::tracked::{Notes, Tracked, refuse_with};
+use crate::tracked::{Notes, Tracked};
 use lru::LruCache;
 use mig_base::Name;
-use mig_calls::{Calls, Refusal};
-use mig_store::{Store, StoreFailed};
+use mig_calls::Calls;
+use mig_store::Store;
 use std::alloc::{AllocError, Global};
 use std::num::NonZeroUsize;
 
@@ -78,18 +76,5 @@ impl<C: Calls> FileStore<C> {
             seen: _seen,
         } = self;
         calls
-    }
-
-    #[tactic(auto, using(crate::proofs::Errs::err_any, crate::proofs::Holding::held_looked))]
-    /// Refuses since a sync failed before.
-    fn after_sync(&mut self) -> StoreFailed
-        requires { IsTrue self.old.tracked.notes.lost }
-        ensures change { FilesLook (C.Calls.state self.old.calls) (C.Calls.state self.new.calls) }
-        ensures later { (C.Calls.state self.old.calls).faults ≤ (C.Calls.state self.new.calls).faults }
-        ensures rose { Rose (C.Calls.state self.old.calls).refused (C.Calls.state self.new.calls).refused }
-        ensures lost { self.new.tracked.notes.lost ≡ self.old.tracked.notes.lost }
-        ensures seen { self.new.seen ≡ self.old.seen }
-    {
-        refuse_with(&mut self.calls, &self.tracked, &Refusal::AfterSync)
     }
 }

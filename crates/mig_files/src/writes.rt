@@ -7,10 +7,11 @@ ghost use Rattle.mig_base.specs.Naming.{IsName};
 ghost use Rattle.mig_base.specs.Slots.{header_of};
 ghost use Rattle.mig_calls.specs.Places.{file_of, offset_of};
 ghost use Rattle.mig_calls.specs.Refusals.{HoldsItem, WhereTold};
-ghost use Rattle.mig_files.specs.Derived.{cells_of};
-ghost use Rattle.mig_files.specs.Grounds.{IsCut, IsFaultFor, IsLast, IsTaken, IsUncopiable, IsUncopied, IsUnwritable};
-ghost use Rattle.mig_files.specs.Seeing.{seen_at, AreHeld, AreZeros, IsErasure, IsSeenAtBoth, KeepsSeen, KeepsSeenBut, LosesNone, LosesNoneBut, MayCopy};
+ghost use Rattle.mig_files.specs.Derived.{image_of};
+ghost use Rattle.mig_files.specs.Grounds.{IsFaultFor, IsLastBut};
+ghost use Rattle.mig_files.specs.Seeing.{seen_at, seen_in, AreHeld, KeepsSeen, KeepsSeenBut, LosesNone, LosesNoneBut, MayCopy};
 ghost use Rattle.mig_files.specs.Tracking.{IsTracked, IsStep, IsWriteStep};
+ghost use Rattle.mig_store.specs.Grounds.{AreZeros, HoldsNone, IsErasure, IsLast, IsSeenAtBoth, IsUncopiable};
 
 use crate::cells::{read_part, write_cell};
 use crate::items::{expects_free, expects_free_for, note_held, note_seen};
@@ -51,13 +52,13 @@ pub fn write_item<C: Calls>(
     requires alive { IsFalse tracked.old.notes.lost }
     requires tracked { IsTracked tracked.old.notes (C.Calls.state calls.old) }
     requires held { AreHeld (C.Calls.state calls.old) seen.old }
-    ensures written { OnOk result (IfSome (cells_of (C.Calls.state calls.new).told (C.Calls.state calls.new).reads cell.now) (λ told. told ≡ bytes.now)) }
+    ensures written { OnOk result (IfSome (image_of (C.Calls.state calls.new) cell.now) (λ told. told ≡ bytes.now)) }
     ensures free { IsErasure cell.now bytes.now → OnOk result (LosesNone (C.Calls.state calls.old) cell.now) }
     ensures forgotten { OnOk result (seen_at seen.new cell.now ≡ None) }
     ensures others { KeepsSeen seen.old seen.new cell.now }
     ensures held { AreHeld (C.Calls.state calls.new) seen.new }
     ensures step { IsWriteStep tracked.new.notes (file_of cell.now) (offset_of cell.now) (cell_len cell.now) (C.Calls.state calls.old) (C.Calls.state calls.new) }
-    ensures cause { OnErr result (IsFaultFor (IsUnwritable (C.Calls.state calls.old) seen.old cell.now bytes.now) (C.Calls.state calls.old) (C.Calls.state calls.new)) }
+    ensures cause { OnErr result (IsFaultFor (IsErasure cell.now bytes.now × IsLast (image_of (C.Calls.state calls.old)) (seen_in seen.old) cell.now) (C.Calls.state calls.old) (C.Calls.state calls.new)) }
 {
     claim(calls, tracked)?;
     if empties(cell, bytes) {
@@ -82,13 +83,13 @@ fn empty<C: Calls>(
     requires alive { IsFalse tracked.old.notes.lost }
     requires tracked { IsTracked tracked.old.notes (C.Calls.state calls.old) }
     requires held { AreHeld (C.Calls.state calls.old) seen.old }
-    ensures written { OnOk result (IfSome (cells_of (C.Calls.state calls.new).told (C.Calls.state calls.new).reads slot.now) (λ told. told ≡ zeros.now)) }
+    ensures written { OnOk result (IfSome (image_of (C.Calls.state calls.new) slot.now) (λ told. told ≡ zeros.now)) }
     ensures free { OnOk result (LosesNone (C.Calls.state calls.old) slot.now) }
     ensures forgotten { OnOk result (seen_at seen.new slot.now ≡ None) }
     ensures others { KeepsSeen seen.old seen.new slot.now }
     ensures held { AreHeld (C.Calls.state calls.new) seen.new }
     ensures step { IsWriteStep tracked.new.notes (file_of slot.now) (offset_of slot.now) (cell_len slot.now) (C.Calls.state calls.old) (C.Calls.state calls.new) }
-    ensures cause { OnErr result (IsFaultFor (IsLast (C.Calls.state calls.old) seen.old slot.now ⊎ IsCut (C.Calls.state calls.old) slot.now) (C.Calls.state calls.old) (C.Calls.state calls.new)) }
+    ensures cause { OnErr result (IsFaultFor (IsLast (image_of (C.Calls.state calls.old)) (seen_in seen.old) slot.now) (C.Calls.state calls.old) (C.Calls.state calls.new)) }
 {
     let found = expects_free(calls, tracked, seen, slot)?;
     seen.forget(slot);
@@ -124,7 +125,7 @@ fn read_item<C: Calls>(
     requires alive { IsFalse tracked.old.notes.lost }
     requires tracked { IsTracked tracked.old.notes (C.Calls.state calls.old) }
     requires held { AreHeld (C.Calls.state calls.old) seen.old }
-    ensures bytes { OnOk result (IfSome (cells_of (C.Calls.state calls.old).told (C.Calls.state calls.old).reads slot.now) (λ told. bytes.new ≡ told)) }
+    ensures bytes { OnOk result (IfSome (image_of (C.Calls.state calls.old) slot.now) (λ told. bytes.new ≡ told)) }
     ensures named { IfOk result (λ item. IsName item × (slice_range bytes.new 0 34 ≡ header_of item)) }
     ensures holds { IfOk result (λ item. WhereTold (C.Calls.state calls.old) slot.now (HoldsItem (C.Calls.state calls.old) slot.now item)) }
     ensures noted { IfOk result (λ item. seen_at seen.new slot.now ≡ Some item) }
@@ -132,7 +133,7 @@ fn read_item<C: Calls>(
     ensures held { AreHeld (C.Calls.state calls.new) seen.new }
     ensures step { IsStep tracked.new.notes (C.Calls.state calls.old) (C.Calls.state calls.new) }
     ensures alive { OnOk result (IsFalse tracked.new.notes.lost) }
-    ensures cause { OnErr result (IsFaultFor (IsUncopied (C.Calls.state calls.old) slot.now) (C.Calls.state calls.old) (C.Calls.state calls.new)) }
+    ensures cause { OnErr result (IsFaultFor (HoldsNone (image_of (C.Calls.state calls.old)) slot.now) (C.Calls.state calls.old) (C.Calls.state calls.new)) }
 {
     let found = read_part(calls, tracked, slot, bytes)?;
     match item_of(&first_of(bytes)) {
@@ -159,13 +160,13 @@ fn put_item<C: Calls>(
     requires alive { IsFalse tracked.old.notes.lost }
     requires tracked { IsTracked tracked.old.notes (C.Calls.state calls.old) }
     requires held { AreHeld (C.Calls.state calls.old) seen.old }
-    ensures written { OnOk result (IfSome (cells_of (C.Calls.state calls.new).told (C.Calls.state calls.new).reads slot.now) (λ told. told ≡ bytes.now)) }
+    ensures written { OnOk result (IfSome (image_of (C.Calls.state calls.new) slot.now) (λ told. told ≡ bytes.now)) }
     ensures free { OnOk result (LosesNoneBut (C.Calls.state calls.old) slot.now item.now) }
     ensures noted { OnOk result (seen_at seen.new slot.now ≡ Some item.now) }
     ensures others { KeepsSeen seen.old seen.new slot.now }
     ensures held { AreHeld (C.Calls.state calls.new) seen.new }
     ensures step { IsWriteStep tracked.new.notes (file_of slot.now) (offset_of slot.now) (cell_len slot.now) (C.Calls.state calls.old) (C.Calls.state calls.new) }
-    ensures cause { OnErr result (IsFaultFor (IsTaken (C.Calls.state calls.old) seen.new slot.now item.now) (C.Calls.state calls.old) (C.Calls.state calls.new)) }
+    ensures cause { OnErr result (IsFaultFor (IsLastBut (image_of (C.Calls.state calls.old)) (seen_in seen.new) slot.now item.now) (C.Calls.state calls.old) (C.Calls.state calls.new)) }
 {
     expects_free_for(calls, tracked, seen, slot, item)?;
     claim(calls, tracked)?;
@@ -187,13 +188,13 @@ pub fn copy_item<C: Calls>(
     requires alive { IsFalse tracked.old.notes.lost }
     requires tracked { IsTracked tracked.old.notes (C.Calls.state calls.old) }
     requires held { AreHeld (C.Calls.state calls.old) seen.old }
-    ensures copied { OnOk result (IsCopy (cells_of (C.Calls.state calls.old).told (C.Calls.state calls.old).reads from.now) (cells_of (C.Calls.state calls.new).told (C.Calls.state calls.new).reads to.now)) }
+    ensures copied { OnOk result (IsCopy (image_of (C.Calls.state calls.old) from.now) (image_of (C.Calls.state calls.new) to.now)) }
     ensures free { OnOk result ((item : List ℕ) × MayCopy (C.Calls.state calls.old) from.now to.now item) }
-    ensures noted { OnOk result (IsSeenAtBoth seen.new from.now to.now) }
+    ensures noted { OnOk result (IsSeenAtBoth (seen_in seen.new) from.now to.now) }
     ensures others { KeepsSeenBut seen.old seen.new from.now to.now }
     ensures held { AreHeld (C.Calls.state calls.new) seen.new }
     ensures step { IsWriteStep tracked.new.notes (file_of to.now) (offset_of to.now) (cell_len to.now) (C.Calls.state calls.old) (C.Calls.state calls.new) }
-    ensures cause { OnErr result (IsFaultFor (IsUncopiable (C.Calls.state calls.old) seen.new from.now to.now) (C.Calls.state calls.old) (C.Calls.state calls.new)) }
+    ensures cause { OnErr result (IsFaultFor (IsUncopiable (image_of (C.Calls.state calls.old)) (seen_in seen.new) from.now to.now) (C.Calls.state calls.old) (C.Calls.state calls.new)) }
 {
     let mut bytes = [0u8; 4096];
     let item = read_item(calls, tracked, seen, from, &mut bytes)?;

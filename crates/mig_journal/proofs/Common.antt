@@ -11,4 +11,4 @@ pub use Rattle.mig_base.specs.declared.cells.Cell.{Cell}
 pub use Rattle.mig_base.specs.declared.cells.Cell.TheVariants.{Gate, Head, Mark}
 pub use Rattle.mig_base.specs.declared.cells.Flight.{Flight}
 pub use Rattle.mig_journal.specs.FreshJournals.{AreUnmarked, IsArming, IsFresh}
-pub use Rattle.std.proofs.Common.{OnOk, rules}
+pub use Rattle.std.proofs.Common.{OnErr, OnOk, rules}

@@ -6,6 +6,7 @@ ghost use Rattle.mig_base.specs.Journals.{is_armed};
 ghost use Rattle.mig_base.specs.JobCells.{IsMark, IsJournal};
 ghost use Rattle.mig_base.specs.Stores.{State, flights, ChangesOnly, LeavesOnly, IsSettled, HasCause};
 ghost use Rattle.mig_journal.specs.FreshJournals.{AreUnmarked, IsFresh, IsArming};
+ghost use Rattle.mig_store.specs.Grounds.{IsNoSlot, Remembers};
 
 use crate::marks::settle;
 use mig_base::Cell;
@@ -16,6 +17,7 @@ fn clear_marks<S: Store>(store: &mut S, rounds: u32) -> Result<(), StoreFailed>
     requires none { flights (S.state store.old) ≡ [] }
     ensures cleared { OnOk result (AreUnmarked rounds (S.state store.new).reads) }
     ensures change { ChangesOnly (IsMark rounds) (S.state store.old) (S.state store.new) }
+    ensures seen { Remembers IsNoSlot (S.seen store.old) (S.seen store.new) }
     ensures cause { HasCause (S.state store.old) (S.state store.new) result }
 {
     for n in 0..rounds {
@@ -35,6 +37,7 @@ pub fn arm<S: Store>(store: &mut S, digest: &[u8; 32], rounds: u32) -> Result<()
     ensures change { ChangesOnly (IsJournal rounds) (S.state store.old) (S.state store.new) }
     // At each moment the gate isn't 1, or the head is the digest and the marks are 0.
     ensures any_moment { LeavesOnly (IsArming rounds digest.now (S.state store.old)) (S.state store.old) (S.state store.new) }
+    ensures seen { Remembers IsNoSlot (S.seen store.old) (S.seen store.new) }
     ensures cause { HasCause (S.state store.old) (S.state store.new) result }
 {
     clear_marks(store, rounds)?;
@@ -48,6 +51,7 @@ pub fn disarm<S: Store>(store: &mut S) -> Result<(), StoreFailed>
     ensures closed { OnOk result (IfSome ((S.state store.new).reads Gate) (λ bytes. bytes ≡ 0 ∷ [])) }
     ensures settled { OnOk result (IsSettled (S.state store.new)) }
     ensures change { ChangesOnly (λ c. c ≡ Gate) (S.state store.old) (S.state store.new) }
+    ensures seen { Remembers IsNoSlot (S.seen store.old) (S.seen store.new) }
     ensures cause { HasCause (S.state store.old) (S.state store.new) result }
 {
     settle(store, &Cell::Gate, &[0])

@@ -4,9 +4,11 @@ ghost use Rattle.std.specs.List.{prefix_len, range_with_len};
 ghost use Rattle.mig_base.specs.declared.cells.Cell.{Cell};
 ghost use Rattle.mig_base.specs.declared.cells.Cell.TheVariants.{Mark};
 ghost use Rattle.mig_base.specs.Cells.{cell_len, is_slot};
+ghost use Rattle.mig_base.specs.Images.{NoCell};
 ghost use Rattle.mig_base.specs.Journals.{is_marked};
 ghost use Rattle.mig_base.specs.JobCells.{IsMark, Tells};
 ghost use Rattle.mig_base.specs.Stores.{State, flights, ChangesOnly, Looks, IsSettled, HasCause};
+ghost use Rattle.mig_store.specs.Grounds.{IsNoSlot, Remembers};
 
 use mig_base::Cell;
 use mig_store::{Store, StoreFailed};
@@ -15,6 +17,7 @@ use mig_store::{Store, StoreFailed};
 fn is_set<S: Store>(store: &mut S, round: u32) -> Result<bool, StoreFailed>
     ensures set { IfOk result (λ yes. IfSome ((S.state store.old).reads (Mark round)) (λ bytes. yes ≡ is_marked (S.state store.old).reads round)) }
     ensures change { Looks (S.state store.old) (S.state store.new) }
+    ensures seen { Remembers NoCell (S.seen store.old) (S.seen store.new) }
     ensures cause { HasCause (S.state store.old) (S.state store.new) result }
 {
     let mut byte = [0u8; 1];
@@ -27,6 +30,7 @@ pub fn marked<S: Store>(store: &mut S, rounds: u32) -> Result<u32, StoreFailed>
     ensures most { IfOk result (λ count. count ≤ rounds) }
     ensures count { IfOk result (λ count. Tells (IsMark rounds) (S.state store.old).reads → count ≡ prefix_len (is_marked (S.state store.old).reads) (range_with_len 1 rounds)) }
     ensures change { Looks (S.state store.old) (S.state store.new) }
+    ensures seen { Remembers NoCell (S.seen store.old) (S.seen store.new) }
     ensures cause { HasCause (S.state store.old) (S.state store.new) result }
 {
     for n in 0..rounds {
@@ -45,6 +49,7 @@ pub(crate) fn settle<S: Store>(store: &mut S, cell: &Cell, bytes: &[u8]) -> Resu
     ensures written { OnOk result (IfSome ((S.state store.new).reads cell.now) (λ told. told ≡ bytes.now)) }
     ensures settled { OnOk result (IsSettled (S.state store.new)) }
     ensures change { ChangesOnly (λ c. c ≡ cell.now) (S.state store.old) (S.state store.new) }
+    ensures seen { Remembers IsNoSlot (S.seen store.old) (S.seen store.new) }
     ensures cause { HasCause (S.state store.old) (S.state store.new) result }
 {
     store.write(cell, bytes)?;
@@ -57,6 +62,7 @@ pub fn mark<S: Store>(store: &mut S, round: u32) -> Result<(), StoreFailed>
     ensures marked { OnOk result (IfSome ((S.state store.new).reads (Mark round)) (λ bytes. bytes ≡ 1 ∷ [])) }
     ensures settled { OnOk result (IsSettled (S.state store.new)) }
     ensures change { ChangesOnly (λ c. c ≡ Mark round) (S.state store.old) (S.state store.new) }
+    ensures seen { Remembers IsNoSlot (S.seen store.old) (S.seen store.new) }
     ensures cause { HasCause (S.state store.old) (S.state store.new) result }
 {
     settle(store, &Cell::Mark { n: round }, &[1])

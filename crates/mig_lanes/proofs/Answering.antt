@@ -1,13 +1,19 @@
 -- What is answered where the journal names a plan, and the store doesn't fail.
 use Rattle.mig_lanes.proofs.Common.{All-contains, AreFlights, CanTake, Contains, Gate, HasHeader, Head, IfSome, Image, IsFault, IsFirstLost, IsFirstUsed, IsJobCell, IsJournalFault, IsPlanSpot}
 use Rattle.mig_lanes.proofs.Common.{IsReady, IsReadyIdle, IsResumeFault, IsRunning, IsSome, IsStartFault, IsTask, IsUnused, List, MoveFault, None, NotStarted, NotThere, Occupied, Option}
-use Rattle.mig_lanes.proofs.Common.{OtherPlan, Rose, Settles, SettlesTo, Some, Spot, Started, State, Store, Task, Tells, arith, false, false≢true, first_byte, flights, gate_kept, get_or}
+use Rattle.mig_lanes.proofs.Common.{OtherPlan, Settles, SettlesTo, Some, Spot, Started, State, Store, Task, Tells, arith, false, false≢true, first_byte, flights, gate_kept, get_or}
 use Rattle.mig_lanes.proofs.Common.{get_or_from_slice_get, inl, inr, is_armed, item_cell, item_name, journal_kept, no_spot, refl, settled_reads, shifts_of, slice_get-get_or}
-use Rattle.mig_lanes.proofs.Common.{slice_get_within, slot_of, subst, sym, tells_more, true, ℕ, ◌∙◌, ◌≡◌}
-use Rattle.mig_lanes.proofs.ShiftedSlots.{shifted_named, target_named}
+use Rattle.mig_lanes.proofs.Common.{slice_get_within, slot_of, subst, sym, tells_more, true, ℕ, ◌∙◌, ◌≡◌, ◌⊎◌}
+use Rattle.mig_store.specs.Grounds.{FailedOr}
+use Rattle.mig_mover.proofs.ShiftedSlots.{shifted_named, target_named}
 
 pub if_some_is : (cell : Option (List ℕ)) (bytes : List ℕ) (P : List ℕ → Type 0) → cell ≡ Some bytes → IfSome cell P → P bytes
 if_some_is cell bytes P is holds = subst (λ (o : Option (List ℕ)). IfSome o P) is holds
+
+-- where the cells are told, a ground of their not being so is none
+pub calm_told : {A R T : Type 0} → T → (A → ⊥) → A ⊎ (R × (T → ⊥)) → ⊥
+calm_told told calm (inl failed) = calm failed
+calm_told told calm (inr why) = why.1 told
 
 pub start_of_resume : (fault : MoveFault) → IsResumeFault fault → IsStartFault fault
 start_of_resume Store kind = kind
@@ -17,7 +23,7 @@ start_of_resume NotStarted kind = kind
 start_of_resume (NotThere item) kind = kind
 start_of_resume (Occupied disk slot) kind = kind
 
-module _ (task : Task) (old new : State) (are : AreFlights (flights old)) (armed : is_armed old.reads ≡ true) (calm : Rose old.faults new.faults → ⊥) where
+module _ (task : Task) (old new : State) (are : AreFlights (flights old)) (armed : is_armed old.reads ≡ true) (Q : Type 0) (calm : FailedOr Q old new → ⊥) where
   not_idle : Settles old new → is_armed new.reads ≡ false → ⊥
   not_idle settles idle = false≢true (sym idle ∙ gate_kept old new settles are ∙ armed)
 
@@ -27,7 +33,7 @@ module _ (task : Task) (old new : State) (are : AreFlights (flights old)) (armed
 
     -- the journal names the job's plan
     module _ (ours : kept ≡ task.digest) where
-      pub started_of : (fault : MoveFault) → IsStartFault fault → IsFault task old new fault → fault ≡ Started
+      pub started_of : (fault : MoveFault) → IsStartFault fault → IsFault Q task old new fault → fault ≡ Started
       started_of Store kind is = absurd (calm is)
       started_of Started kind is = refl
       started_of (OtherPlan theirs mine) kind is = absurd (is.1.2 (if_some_is (new.reads Head) kept (λ bytes. theirs ≡ bytes) (head_now is.0) is.1.1 ∙ ours))
@@ -35,7 +41,7 @@ module _ (task : Task) (old new : State) (are : AreFlights (flights old)) (armed
       started_of (NotThere item) kind is = absurd (not_idle is.0 is.1.0)
       started_of (Occupied disk slot) kind is = absurd (not_idle is.0 is.1.0)
 
-      pub no_resume_fault : (fault : MoveFault) → IsResumeFault fault → IsFault task old new fault → ⊥
+      pub no_resume_fault : (fault : MoveFault) → IsResumeFault fault → IsFault Q task old new fault → ⊥
       no_resume_fault Store kind is = calm is
       no_resume_fault Started kind is = kind
       no_resume_fault (OtherPlan theirs mine) kind is = is.1.2 (if_some_is (new.reads Head) kept (λ bytes. theirs ≡ bytes) (head_now is.0) is.1.1 ∙ ours)
@@ -45,7 +51,7 @@ module _ (task : Task) (old new : State) (are : AreFlights (flights old)) (armed
 
     -- the journal names another
     module _ (theirs : kept ≡ task.digest → ⊥) where
-      pub other_of : (fault : MoveFault) → IsFault task old new fault → IsStartFault fault → fault ≡ OtherPlan kept task.digest
+      pub other_of : (fault : MoveFault) → IsFault Q task old new fault → IsStartFault fault → fault ≡ OtherPlan kept task.digest
       other_of Store is kind = absurd (calm is)
       other_of Started is kind = absurd (theirs (if_some_is (new.reads Head) kept (λ bytes. bytes ≡ task.digest) (head_now is.0) is.1.1))
       other_of (OtherPlan they mine) is kind =
@@ -89,15 +95,15 @@ module _ (task : Task) (is : IsTask task) (image : Image) (tells : Tells (IsJobC
 module _ (task : Task) (is : IsTask task) (old new : State) (tells : Tells (IsJobCell task.input task.plan) old.reads) where
   module _ (before : SettlesTo (IsReadyIdle task) old) where
     -- where each image whose gate isn't 1 is ready
-    pub unrefused_of : (fault : MoveFault) → IsFault task old new fault → IsJournalFault fault
-    unrefused_of Store fault = tt
-    unrefused_of Started fault = tt
-    unrefused_of (OtherPlan kept ours) fault = tt
-    unrefused_of NotStarted fault = tt
-    unrefused_of (NotThere item) fault = not_lost task is new.reads (tells_more old new fault.0 (IsJobCell task.input task.plan) tells) (settled_reads old new fault.0 (IsReadyIdle task) before fault.1.0) item.0 fault.1.1
-    unrefused_of (Occupied disk slot) fault = not_used task is new.reads (tells_more old new fault.0 (IsJobCell task.input task.plan) tells) (settled_reads old new fault.0 (IsReadyIdle task) before fault.1.0) (record { disk = disk; slot = slot }) fault.1.2
+    pub unrefused_of : (Q : Type 0) (fault : MoveFault) → IsFault Q task old new fault → IsJournalFault fault
+    unrefused_of Q Store fault = tt
+    unrefused_of Q Started fault = tt
+    unrefused_of Q (OtherPlan kept ours) fault = tt
+    unrefused_of Q NotStarted fault = tt
+    unrefused_of Q (NotThere item) fault = not_lost task is new.reads (tells_more old new fault.0 (IsJobCell task.input task.plan) tells) (settled_reads old new fault.0 (IsReadyIdle task) before fault.1.0) item.0 fault.1.1
+    unrefused_of Q (Occupied disk slot) fault = not_used task is new.reads (tells_more old new fault.0 (IsJobCell task.input task.plan) tells) (settled_reads old new fault.0 (IsReadyIdle task) before fault.1.0) (record { disk = disk; slot = slot }) fault.1.2
 
-  module _ (before : SettlesTo (IsReady task.input task.plan) old) (calm : Rose old.faults new.faults → ⊥) where
+  module _ (before : SettlesTo (IsReady task.input task.plan) old) (Q : Type 0) (calm : FailedOr Q old new → ⊥) where
     ready_now : Settles old new → IsReady task.input task.plan new.reads
     ready_now settles = settled_reads old new settles (IsReady task.input task.plan) before
 
@@ -105,7 +111,7 @@ module _ (task : Task) (is : IsTask task) (old new : State) (tells : Tells (IsJo
     not_running settles running = false≢true (sym (ready_now settles).idle ∙ running (gate_there task is new.reads (tells_more old new settles (IsJobCell task.input task.plan) tells) (ready_now settles)))
 
     -- a store that is ready isn't refused
-    pub no_fault : (fault : MoveFault) → IsStartFault fault → IsFault task old new fault → ⊥
+    pub no_fault : (fault : MoveFault) → IsStartFault fault → IsFault Q task old new fault → ⊥
     no_fault Store kind fault = calm fault
     no_fault Started kind fault = not_running fault.0 fault.1.0
     no_fault (OtherPlan kept ours) kind fault = not_running fault.0 fault.1.0

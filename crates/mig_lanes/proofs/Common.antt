@@ -4,7 +4,7 @@ pub use Rattle.mig_base.proofs.CellTests.{cases_cell, is_cell-same}
 pub use Rattle.mig_base.proofs.Common.{Adds, All, All-contains, All-map, AllPairs, AllWithin, Any, AreFlights, AreRounds, At, BeginsRun, Bool, Changes, ChangesOnly, Contains}
 pub use Rattle.mig_base.proofs.Common.{Contains-append_left, Contains-get_or, Contents, Ends, Err, HasDone, IfSome, Image, IsCopy, IsInUse, IsLegal, IsPermutation, IsRound, IsSafe, IsSettled}
 pub use Rattle.mig_base.proofs.Common.{IsSome, IsSound, IsSoundAfter, IsSourceOf, IsSourceSlot, IsTaken, IsTargetOf, IsTrue, IsUnused, IsWorkCell, KeepsLimits, LeavesOnly, List, Lists, NoCell}
-pub use Rattle.mig_base.proofs.Common.{None, Ok, Option, Runs, SameBut, SettlesTo, Some, State, Tells, Trip, [], after_event, after_events, and_parts, ap, append-nil, append_assoc, arith, began}
+pub use Rattle.mig_base.proofs.Common.{None, Ok, Option, SameBut, SettlesTo, Some, State, Tells, Trip, [], after_event, after_events, and_parts, ap, append-nil, append_assoc, arith, began}
 pub use Rattle.mig_base.proofs.Common.{cases_Bool, cases_eq, cases_lt, cond, count_by, count_of, drop, ended, err_from_is_err_and, false, false_from_ne_true, false≢true, filter, filter_passes}
 pub use Rattle.mig_base.proofs.Common.{flight_of, flights, flights_of, fold-append, get_or, get_or-map-range_with_len, get_or-take, get_or_default, get_or_from_slice_get, inl, inr, is_armed}
 pub use Rattle.mig_base.proofs.Common.{is_flight, is_marked, is_one, is_slot, item_cell, item_name, length, length-map, length-map-range_with_len, map, map-append, no_disk, no_spot, not}
@@ -20,13 +20,11 @@ pub use Rattle.mig_base.proofs.SafetyLaws.{marking, other_bytes, slot_apart, sou
 pub use Rattle.mig_base.proofs.StoreSteps.{changes_leave, changes_none, changes_then, changes_wider, events_none, events_then, from_same, leaves_none, leaves_then, leaves_wider, quiet_leaves}
 pub use Rattle.mig_base.proofs.StoreSteps.{same_image, same_then, same_wider, settled_change, tells_kept, told_is}
 pub use Rattle.mig_base.specs.Arrivals.{IsPlanSpot, IsReached}
-pub use Rattle.mig_base.specs.FaultCounts.{Rose}
 pub use Rattle.mig_base.specs.Flights.{AreWithinLimits, disk_of_cell, in_flight, trip_of_flight}
 pub use Rattle.mig_base.specs.InputLists.{disk_at}
 pub use Rattle.mig_base.specs.JobCells.{IsJobCell}
-pub use Rattle.mig_base.specs.Layouts.{last_target}
-pub use Rattle.mig_base.specs.Readiness.{CanTake, IsFirstLost, IsFirstUsed, IsReady, IsShifted}
-pub use Rattle.mig_base.specs.RoundEvents.{IsRun, StayWithinLimits}
+pub use Rattle.mig_base.specs.Readiness.{CanTake, IsFirstLost, IsFirstUsed, IsReady}
+pub use Rattle.mig_base.specs.RoundEvents.{IsRun}
 pub use Rattle.mig_base.specs.RoundStates.{IsCopied, IsTargetSlot}
 pub use Rattle.mig_base.specs.Slots.{HasHeader, first_byte}
 pub use Rattle.mig_base.specs.Stores.{named}
@@ -43,16 +41,13 @@ pub use Rattle.mig_journal.proofs.Steps.{on_ok_is}
 pub use Rattle.mig_lanes.specs.LaneSteps.{BeginsRound, BeginsRounds, HasCopied, HaveLanded, copies_of, later_rounds}
 pub use Rattle.mig_lanes.specs.Runs.{Finishes, IsJournalFault, IsPart, IsPartOf}
 pub use Rattle.mig_mover.proofs.Settling.{armed_told, gate_kept, journal_kept, settled_reads, tells_more}
-pub use Rattle.mig_mover.proofs.TargetLaws.{in_round}
 pub use Rattle.mig_mover.specs.Erasures.{AreZeros}
 pub use Rattle.mig_mover.specs.Moves.{Enters, IsFault, IsReadyIdle, IsResumeFault, IsRunning, IsStartFault, Keeps, Settles, StaysArmed}
 pub use Rattle.mig_mover.specs.declared.faults.MoveFault.{MoveFault}
 pub use Rattle.mig_mover.specs.declared.faults.MoveFault.TheVariants.{NotStarted, NotThere, Occupied, OtherPlan, Started, Store}
-pub use Rattle.std.proofs.Common.{eqb, if◌then◌else◌, slice_get}
+pub use Rattle.std.proofs.Common.{slice_get}
 pub use Rattle.std.proofs.Math.Seq.{take-append-add}
-pub use Rattle.std.proofs.lemmas.Bool.{eqb-true}
 pub use Rattle.std.proofs.lemmas.List.{length-take, take-append-drop}
 pub use Rattle.std.proofs.lemmas.List.Sorted.{Contains-permutation, IsPermutation-refl, IsPermutation-sym}
 pub use Rattle.std.specs.List.{take-map}
-pub use Rattle.std.specs.Option.{option_or}
 pub use Rattle.std.specs.Str.{bytes_eq}

@@ -7,10 +7,10 @@ mod Keeping
 mod Limiting
 mod RoundCopies
 mod Rounding
+mod SeenRounds
 mod Staying
 pub mod Common
 pub mod EventSteps
 pub mod RoundLists
 pub mod RunKeeps
 pub mod RunLaws
-pub mod ShiftedSlots

@@ -12,11 +12,18 @@ use Rattle.mig_base.specs.RoundEvents.{flights_of, AreRounds}
 use Rattle.mig_base.specs.RoundStates.{IsCopied}
 use Rattle.mig_base.specs.Safety.{Contents, IsSoundAfter}
 use Rattle.mig_base.specs.Stores.{State, flights, IsSettled}
+use Rattle.mig_base.specs.Slots.{slot_of}
 use Rattle.mig_base.specs.Tasks.{Task}
+use Rattle.mig_base.specs.Texts.{item_name}
+use Rattle.mig_store.specs.Grounds.{Sights}
 
 -- the copies of a job's round
 abbrev pub copies_of : Task → ℕ → List Flight
 copies_of task round = flights_of task.input (round_at task.plan round)
+
+-- each item that a round shifts was seen at its target
+abbrev pub AreMoved : Task → ℕ → Sights → Type 0
+AreMoved task round seen = All (λ s. seen (slot_of task.input s.to) (item_name task.input s.item.0)) (round_at task.plan round)
 
 -- the copies of the rounds after the first k, round by round
 abbrev pub later_rounds : Task → ℕ → List (List Flight)

@@ -10,6 +10,8 @@ ghost use Rattle.mig_base.specs.Readiness.{IsReady};
 ghost use Rattle.mig_base.specs.RoundEvents.{IsRun, Adds};
 ghost use Rattle.mig_base.specs.Safety.{Contents, IsSafe};
 ghost use Rattle.mig_base.specs.Stores.{State, flights, LeavesOnly};
+ghost use Rattle.mig_mover.specs.Holdings.{IsUnrefused};
+ghost use Rattle.mig_store.specs.Grounds.{FailedOr};
 ghost use Rattle.mig_mover.specs.Moves.{IsFault, IsReadyIdle, IsStartFault, IsResumeFault, Keeps, MayBeHalting, StaysArmed};
 ghost use Rattle.mig_base.specs.Tasks.{Task};
 ghost use Rattle.mig_lanes.specs.LaneSteps.{later_rounds};
@@ -28,17 +30,17 @@ pub fn start_lanes<S: Store>(job: &Job, store: &mut S) -> Result<(), MoveFault>
     // Each copy that was in flight ends, and then the rounds begin and end theirs, round after round.
     ensures events { OnOk result (Adds (IsRun (flights (S.state store.old)) (later_rounds job.now 0)) (S.state store.old) (S.state store.new)) }
     ensures part { Adds (IsPart job.now (S.state store.old) 0) (S.state store.old) (S.state store.new) }
-    ensures fault { IfErr result (IsFault job.now (S.state store.old) (S.state store.new)) }
+    ensures fault { IfErr result (IsFault (S.refuses × ¬ Tells (IsJobCell job.now.input job.now.plan) (S.state store.old).reads) job.now (S.state store.old) (S.state store.new)) }
     ensures kind { IfErr result IsStartFault }
     // Where each image whose gate isn't 1 is ready, what slots show is never a reason; and a store that is ready isn't refused.
     ensures unrefused { Tells (IsJobCell job.now.input job.now.plan) (S.state store.old).reads → SettlesTo (IsReadyIdle job.now) (S.state store.old) → IfErr result IsJournalFault }
     ensures ready { Tells (IsJobCell job.now.input job.now.plan) (S.state store.old).reads → SettlesTo (IsReady job.now.input job.now.plan) (S.state store.old) → ¬ Rose (S.state store.old).faults (S.state store.new).faults → IsOk result }
     ensures armed { StaysArmed (S.state store.old) (S.state store.new) }
     // Where the gate is 1 and the store doesn't fail, the plan is refused as started, or for another one. So it is once its target is reached.
-    ensures started { AreFlights (flights (S.state store.old)) → is_armed (S.state store.old).reads ≡ true → (S.state store.old).reads Head ≡ Some job.now.digest → ¬ Rose (S.state store.old).faults (S.state store.new).faults → result ≡ Err MoveFault.Started }
-    ensures other { AreFlights (flights (S.state store.old)) → is_armed (S.state store.old).reads ≡ true → (kept : List ℕ) → (S.state store.old).reads Head ≡ Some kept → kept ≢ job.now.digest → ¬ Rose (S.state store.old).faults (S.state store.new).faults →
+    ensures started { AreFlights (flights (S.state store.old)) → is_armed (S.state store.old).reads ≡ true → (S.state store.old).reads Head ≡ Some job.now.digest → ¬ FailedOr (S.refuses × ¬ Tells (IsJobCell job.now.input job.now.plan) (S.state store.old).reads) (S.state store.old) (S.state store.new) → result ≡ Err MoveFault.Started }
+    ensures other { AreFlights (flights (S.state store.old)) → is_armed (S.state store.old).reads ≡ true → (kept : List ℕ) → (S.state store.old).reads Head ≡ Some kept → kept ≢ job.now.digest → ¬ FailedOr (S.refuses × ¬ Tells (IsJobCell job.now.input job.now.plan) (S.state store.old).reads) (S.state store.old) (S.state store.new) →
         result ≡ Err (MoveFault.OtherPlan kept job.now.digest) }
-    ensures reached { (contents : Contents) → AreFlights (flights (S.state store.old)) → IsReached job.now.input job.now.plan job.now.digest contents (S.state store.old).reads → ¬ Rose (S.state store.old).faults (S.state store.new).faults →
+    ensures reached { (contents : Contents) → AreFlights (flights (S.state store.old)) → IsReached job.now.input job.now.plan job.now.digest contents (S.state store.old).reads → ¬ FailedOr (S.refuses × ¬ Tells (IsJobCell job.now.input job.now.plan) (S.state store.old).reads) (S.state store.old) (S.state store.new) →
         result ≡ Err MoveFault.Started }
 {
     job.keeps_rules();
@@ -58,11 +60,11 @@ pub fn resume_lanes<S: Store>(job: &Job, store: &mut S) -> Result<u32, MoveFault
     ensures part { (k : ℕ) × (k ≤ length job.now.plan) × (Tells (IsJobCell job.now.input job.now.plan) (S.state store.old).reads → AreFlights (flights (S.state store.old)) → k ≡ count_of (length job.now.plan) (S.state store.old).reads)
         × Adds (IsPart job.now (S.state store.old) k) (S.state store.old) (S.state store.new) }
     ensures within { IfOk result (λ k. Adds (IsPart job.now (S.state store.old) k) (S.state store.old) (S.state store.new)) }
-    ensures fault { IfErr result (IsFault job.now (S.state store.old) (S.state store.new)) }
+    ensures fault { IfErr result (IsFault (S.refuses × ¬ IsUnrefused job.now (S.state store.old)) job.now (S.state store.old) (S.state store.new)) }
     ensures kind { IfErr result IsResumeFault }
     // Where each image whose gate isn't 1 is ready, what slots show is never a reason; and a store that is ready isn't refused.
     ensures unrefused { Tells (IsJobCell job.now.input job.now.plan) (S.state store.old).reads → SettlesTo (IsReadyIdle job.now) (S.state store.old) → IfErr result IsJournalFault }
-    ensures ready { Tells (IsJobCell job.now.input job.now.plan) (S.state store.old).reads → SettlesTo (IsReady job.now.input job.now.plan) (S.state store.old) → ¬ Rose (S.state store.old).faults (S.state store.new).faults → IsOk result }
+    ensures ready { Tells (IsJobCell job.now.input job.now.plan) (S.state store.old).reads → SettlesTo (IsReady job.now.input job.now.plan) (S.state store.old) → ¬ FailedOr (S.refuses × ¬ IsUnrefused job.now (S.state store.old)) (S.state store.old) (S.state store.new) → IsOk result }
     ensures armed { StaysArmed (S.state store.old) (S.state store.new) }
     // The same where closing the plan early was stopped.
     ensures halting { (contents : Contents) (n : ℕ) → Tells (IsJobCell job.now.input job.now.plan) (S.state store.old).reads → MayBeHalting job.now contents (S.state store.old) n →
@@ -70,12 +72,12 @@ pub fn resume_lanes<S: Store>(job: &Job, store: &mut S) -> Result<u32, MoveFault
     ensures halted { OnOk result ((contents : Contents) (n : ℕ) → Tells (IsJobCell job.now.input job.now.plan) (S.state store.old).reads → MayBeHalting job.now contents (S.state store.old) n →
         IsArrived job.now.input job.now.plan job.now.digest contents (S.state store.new).reads) }
     // Where the gate is 1 and the store doesn't fail, the plan is carried out, or refused for another one.
-    ensures resumed { AreFlights (flights (S.state store.old)) → is_armed (S.state store.old).reads ≡ true → (S.state store.old).reads Head ≡ Some job.now.digest → ¬ Rose (S.state store.old).faults (S.state store.new).faults → IsOk result }
-    ensures other { AreFlights (flights (S.state store.old)) → is_armed (S.state store.old).reads ≡ true → (kept : List ℕ) → (S.state store.old).reads Head ≡ Some kept → kept ≢ job.now.digest → ¬ Rose (S.state store.old).faults (S.state store.new).faults →
+    ensures resumed { AreFlights (flights (S.state store.old)) → is_armed (S.state store.old).reads ≡ true → (S.state store.old).reads Head ≡ Some job.now.digest → ¬ FailedOr (S.refuses × ¬ IsUnrefused job.now (S.state store.old)) (S.state store.old) (S.state store.new) → IsOk result }
+    ensures other { AreFlights (flights (S.state store.old)) → is_armed (S.state store.old).reads ≡ true → (kept : List ℕ) → (S.state store.old).reads Head ≡ Some kept → kept ≢ job.now.digest → ¬ FailedOr (S.refuses × ¬ IsUnrefused job.now (S.state store.old)) (S.state store.old) (S.state store.new) →
         result ≡ Err (MoveFault.OtherPlan kept job.now.digest) }
     // Once the target is reached, all rounds are answered, and it stays reached.
     ensures reached { (contents : Contents) → Tells (IsJobCell job.now.input job.now.plan) (S.state store.old).reads → AreFlights (flights (S.state store.old)) → IsReached job.now.input job.now.plan job.now.digest contents (S.state store.old).reads
-        → ¬ Rose (S.state store.old).faults (S.state store.new).faults → result ≡ Ok (length job.now.plan) }
+        → ¬ FailedOr (S.refuses × ¬ IsUnrefused job.now (S.state store.old)) (S.state store.old) (S.state store.new) → result ≡ Ok (length job.now.plan) }
     ensures kept { OnOk result ((contents : Contents) → Tells (IsJobCell job.now.input job.now.plan) (S.state store.old).reads → SettlesTo (IsReached job.now.input job.now.plan job.now.digest contents) (S.state store.old)
         → IsReached job.now.input job.now.plan job.now.digest contents (S.state store.new).reads) }
 {

@@ -4,10 +4,12 @@ ghost use Rattle.mig_base.specs.JobCells.{IsWorkCell};
 ghost use Rattle.mig_base.specs.RoundEvents.{IsRound, AreRounds, Adds};
 ghost use Rattle.mig_base.specs.RoundStates.{HasDone};
 ghost use Rattle.mig_base.specs.Safety.{Contents, IsSound};
-ghost use Rattle.mig_base.specs.Stores.{State, flights, Changes, ChangesOnly, LeavesOnly, IsSettled, HasCause};
+ghost use Rattle.mig_base.specs.Stores.{State, flights, Changes, ChangesOnly, LeavesOnly, IsSettled};
 ghost use Rattle.mig_base.specs.declared.cells.Event.{Event};
 ghost use Rattle.mig_base.specs.Tasks.{Task};
 ghost use Rattle.mig_mover.specs.Erasures.{AreAsked};
+ghost use Rattle.mig_mover.specs.Holdings.{IsSeen};
+ghost use Rattle.mig_store.specs.Grounds.{HasGround};
 ghost use Rattle.mig_lanes.specs.LaneSteps.{copies_of, later_rounds, BeginsRound, BeginsRounds, HasCopied};
 
 use crate::copies::run_copies;
@@ -26,7 +28,8 @@ fn close_round<S: Store>(job: &Job, store: &mut S, k: u32) -> Result<(), StoreFa
     ensures done { OnOk result ((asked : Bool) (contents : Contents) → HasCopied asked job.now contents (S.state store.old) k →
         HasDone asked job.now.input job.now.plan job.now.digest contents (S.state store.new) (k + 1)) }
     ensures change { ChangesOnly (IsWorkCell job.now.input job.now.plan) (S.state store.old) (S.state store.new) }
-    ensures cause { HasCause (S.state store.old) (S.state store.new) result }
+    ensures seen { OnOk result (IsSeen job.now (S.seen store.old) (S.state store.old).reads (k + 1) → IsSeen job.now (S.seen store.new) (S.state store.new).reads (k + 1)) }
+    ensures cause { HasGround S.refuses (¬ IsSeen job.now (S.seen store.old) (S.state store.old).reads (k + 1)) (S.state store.old) (S.state store.new) result }
 {
     job.keeps_rules();
     mark(store, k + 1)?;
@@ -47,7 +50,8 @@ fn carry_out<S: Store>(job: &Job, store: &mut S, k: u32) -> Result<(), StoreFail
     ensures round { OnOk result (Adds (IsRound (copies_of job.now (k + 1))) (S.state store.old) (S.state store.new)) }
     ensures part { Adds (BeginsRound (copies_of job.now (k + 1))) (S.state store.old) (S.state store.new) }
     ensures change { (added : List Event) × Changes (IsWorkCell job.now.input job.now.plan) (IsWorkCell job.now.input job.now.plan) added (S.state store.old) (S.state store.new) }
-    ensures cause { HasCause (S.state store.old) (S.state store.new) result }
+    ensures seen { OnOk result (S.refuses → IsSeen job.now (S.seen store.old) (S.state store.old).reads k → IsSeen job.now (S.seen store.new) (S.state store.new).reads (k + 1)) }
+    ensures cause { HasGround S.refuses (¬ IsSeen job.now (S.seen store.old) (S.state store.old).reads k) (S.state store.old) (S.state store.new) result }
 {
     job.keeps_rules();
     run_copies(job, store, k + 1)?;
@@ -68,7 +72,7 @@ pub fn carry_on<S: Store>(job: &Job, store: &mut S, k: u32) -> Result<(), StoreF
     ensures rounds { OnOk result (Adds (AreRounds (later_rounds job.now k)) (S.state store.old) (S.state store.new)) }
     ensures part { Adds (BeginsRounds (later_rounds job.now k)) (S.state store.old) (S.state store.new) }
     ensures change { (added : List Event) × Changes (IsWorkCell job.now.input job.now.plan) (IsWorkCell job.now.input job.now.plan) added (S.state store.old) (S.state store.new) }
-    ensures cause { HasCause (S.state store.old) (S.state store.new) result }
+    ensures cause { HasGround S.refuses (¬ IsSeen job.now (S.seen store.old) (S.state store.old).reads k) (S.state store.old) (S.state store.new) result }
 {
     for done in k..job.rounds() {
         carry_out(job, store, done)?;

@@ -2,6 +2,8 @@ pub mod ActionLaws
 mod OneCopy
 mod Places
 mod ReplyLaws
+pub mod SeenSessions
+pub mod SeenSteps
 mod StepCounts
 mod StepLaws
 pub mod WorkCells

@@ -1,8 +1,9 @@
 -- Replies that are put, order by order.
 use Rattle.mig_live.proofs.Common.{ArePut, ArePutUpTo, AreReplies, Bool, Contents, Err, Extends, ExtendsByPrefix, ExtendsInPart, IfSome, InStep, None, Option, Some, IsErrAnd, ItemId, List, Lists, Ok, Order, Read, Result, ServeFault, Session, SinkState}
-use Rattle.mig_live.proofs.Common.{State, Step, Task, [], all_reads, all_steps, ap, append-nil, append_assoc, arith, codes, encode_lower, flat_map-append, get_or, item_name, length, map}
-use Rattle.mig_live.proofs.Common.{map-append, named, puts_nothing, refl, replies, reply_line, sha256, steps_of, subst, sym, take, take_more, text_of_lines}
-use Rattle.mig_live.proofs.Common.{then_extends, words, ℕ, ◌++◌, ◌+◌, ◌<◌, ◌∙◌, ◌∷◌, ◌≡◌}
+use Rattle.mig_live.proofs.Common.{State, Step, Task, [], all_reads, all_steps, ap, append-nil, append_assoc, arith, codes, encode_lower, flat_map-append}
+use Rattle.mig_live.proofs.Common.{get_or, inl, inr, item_name, length, map, map-append, named, puts_nothing, refl, replies, reply_line, sha256, steps_of, subst, sym, take, take_more, text_of_lines}
+use Rattle.mig_live.proofs.Common.{then_extends, words, ℕ, ◌++◌, ◌+◌, ◌<◌, ◌∙◌, ◌∷◌, ◌≡◌, ◌≤◌}
+use Rattle.mig_live.specs.Replies.{IsServeFault}
 use Rattle.mig_live.specs.declared.serving.ServeFault.TheVariants as serve_fault
 
 -- the parts of a reply's line
@@ -116,3 +117,10 @@ module _ (live mid : Session) (same : mid.task ≡ live.task) (old now : State) 
 pub handed : {C E : Type 0} (P : Result C E → Type 0) (r : Result C E) (e : E) → IsErrAnd r (λ x. x ≡ e) → P (Err e) → P r
 handed P (Ok c) e is h = absurd is
 handed P (Err x) e is h = subst (λ y. P (Err y)) (sym is) h
+
+-- a fault comes for the same reasons since an earlier moment
+pub fault_since : {Q R : Type 0} (old mid new : State) (x y z : SinkState) → old.faults ≤ mid.faults → x.faults ≤ y.faults → (Q → R)
+    → (fault : ServeFault) → IsServeFault Q mid new y z fault → IsServeFault R old new x z fault
+fault_since old mid new x y z later sink_later gives serve_fault.Store (inl rose) = inl (omega (arith, later, rose))
+fault_since old mid new x y z later sink_later gives serve_fault.Store (inr why) = inr (gives why)
+fault_since old mid new x y z later sink_later gives serve_fault.Sink rose = omega (arith, sink_later, rose)

@@ -1,8 +1,9 @@
 -- The steps write no cells but those that rounds may change.
-use Rattle.mig_live.proofs.Common.{Action, AllWrite, AreMade, AreMadeInPart, Cell, Changes, Contains, Copy, Erase, Event, IsWorkCell, List, SetMark, Shift, State, Sync, Task, [], actions_after, all_events}
-use Rattle.mig_live.proofs.Common.{any_contains, arith, changes_wider, drop, flight_of, here, inl, inr, length, map, refl, round_at, slot_of, subst, suc, sym, take, take-append-drop}
-use Rattle.mig_live.proofs.Common.{zero, ℕ, ⊎_elim, ◌++◌, ◌+◌, ◌-◌, ◌∷◌, ◌≡◌, ◌≤◌, ◌⊎◌}
-use Rattle.mig_live.proofs.ActionLaws.{after_last, after_round, part_of_all, write_left}
+use Rattle.mig_live.proofs.Common.{Action, AllWrite, AreMade, AreMadeInPart, Cell, Changes, Contains, Copy, Erase, Event, IsWorkCell, List, SetMark}
+use Rattle.mig_live.proofs.Common.{Session, Shift, State, Sync, Task, [], actions_after, actions_left, all_events}
+use Rattle.mig_live.proofs.Common.{any_contains, arith, changes_wider, done_in, drop, flight_of, here, inl, inr, length, map, refl, round_at, slot_of, subst, suc}
+use Rattle.mig_live.proofs.Common.{sym, take, take-append-drop, zero, ℕ, ⊎_elim, ◌++◌, ◌+◌, ◌-◌, ◌∷◌, ◌≡◌, ◌≤◌, ◌⊎◌}
+use Rattle.mig_live.proofs.ActionLaws.{after_last, after_round, part_of_all, write_left, write_right}
 use Rattle.mig_live.specs.Actions.{Writes, actions_since}
 
 -- steps of shifts, and others
@@ -32,6 +33,11 @@ module _ (task : Task) where
   ]) (write_cases (λ s. Copy (flight_of task.input s)) (round_at task.plan (suc k)) (Sync ∷ SetMark (suc k) ∷ actions_since task (suc k)) cell
       (subst (λ (l : List Action). AllWrite l cell) (after_round task.input k k task.plan (omega (arith, all))) any))
 
+  -- and those since it
+  since_works : (k : ℕ) → k ≤ length task.plan → (cell : Cell) → AllWrite (actions_since task k) cell → Work cell
+  since_works k most cell any = ⊎_elim (from_works k cell) (after_works (length task.plan - k) k (omega (arith, most)) cell)
+      (write_cases (λ s. Erase (slot_of task.input s.from)) (round_at task.plan k) (actions_after task k) cell any)
+
   module _ (k : ℕ) (most : k ≤ length task.plan) (old new : State) where
     abbrev pub Works : Type 0
     Works = (added : List Event) × Changes (IsWorkCell task.input task.plan) (IsWorkCell task.input task.plan) added old new
@@ -48,3 +54,13 @@ module _ (task : Task) where
 
     pub part_works : (m s : ℕ) → AreMadeInPart (take m (actions_after task k)) (take s (drop m (actions_after task k))) old new → Works
     part_works m s p = some_work (take m (actions_after task k) ++ (p.made ++ p.begun)) (p.left ++ drop s (drop m (actions_after task k))) _ (part_of_all m s (actions_after task k) old new p) p.change
+
+-- nor do those that are left to a session
+pub left_works : (live : Session) → live.marked ≤ length live.task.plan → (n : ℕ) (cell : Cell) → AllWrite (take n (actions_left live)) cell
+    → IsWorkCell live.task.input live.task.plan cell
+left_works live most n cell any =
+    let all = actions_since live.task live.marked in
+    let left = actions_left live in
+    let one = subst (λ (l : List Action). AllWrite l cell) (take-append-drop n left) (write_left (take n left) (drop n left) cell any) in
+    since_works live.task live.marked most cell
+    (subst (λ (l : List Action). AllWrite l cell) (take-append-drop (done_in live) all) (write_right (take (done_in live) all) left cell one))

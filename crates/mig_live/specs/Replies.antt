@@ -9,6 +9,7 @@ use Rattle.mig_base.specs.Safety.{Contents}
 use Rattle.mig_base.specs.Stores.{State, IsLeftBut}
 use Rattle.mig_base.specs.Texts.{item_name, text_of_lines, words}
 use Rattle.mig_io.specs.Held.{SinkState, Extends, ExtendsByPrefix}
+use Rattle.mig_store.specs.Grounds.{FailedOr}
 use Rattle.mig_live.specs.Actions.{Action, AllWrite, AreMade, AreMadeInPart, actions_left}
 use Rattle.mig_live.specs.Orders.{all_reads, all_steps, steps_of}
 use Rattle.mig_live.specs.Sessions.{Session, IsSession, IsUnsynced, InStep}
@@ -88,7 +89,7 @@ pub record AreCutOff (live : Session) (store now : State) (orders : List Order) 
   pub made : AreMadeUpTo (take (all_steps (take whole orders)) (actions_left live)) (take (steps_of order) (drop (all_steps (take whole orders)) (actions_left live))) store now fault
   pub leaves : LeavesAfter live (all_steps (take whole orders)) (take (steps_of order) (drop (all_steps (take whole orders)) (actions_left live))) store now fault
 
--- a fault comes only where the count of what failed rose
-abbrev pub IsServeFault : State → State → SinkState → SinkState → ServeFault → Type 0
-IsServeFault store store_new old new serve_fault.Store = Rose store.faults store_new.faults
-IsServeFault store store_new old new serve_fault.Sink = Rose old.faults new.faults
+-- a fault of the store comes only where its count rose or it refused, and one of the sink where its count rose
+abbrev pub IsServeFault : Type 0 → State → State → SinkState → SinkState → ServeFault → Type 0
+IsServeFault Refused store store_new old new serve_fault.Store = FailedOr Refused store store_new
+IsServeFault Refused store store_new old new serve_fault.Sink = Rose old.faults new.faults

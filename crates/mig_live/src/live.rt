@@ -8,12 +8,16 @@ ghost use Rattle.mig_base.specs.Images.{Image};
 ghost use Rattle.mig_base.specs.JobCells.{IsJobCell, Tells, SettlesTo};
 ghost use Rattle.mig_base.specs.RoundEvents.{IsRun, BeginsRun, Adds};
 ghost use Rattle.mig_base.specs.Safety.{Contents, IsSafe, IsSound, IsSoundAfter};
-ghost use Rattle.mig_base.specs.Stores.{State, flights, Looks, LeavesOnly, IsSettled, HasCause};
+ghost use Rattle.mig_base.specs.Stores.{State, flights, Looks, LeavesOnly, IsSettled};
 ghost use Rattle.mig_base.specs.Tasks.{Task, IsTask};
 ghost use Rattle.mig_mover.specs.Erasures.{AreAsked};
+ghost use Rattle.std.specs.Option.{IsSomeAnd};
+ghost use Rattle.mig_base.specs.Texts.{item_name};
+ghost use Rattle.mig_mover.specs.Holdings.{IsUnrefused, cell_at};
+ghost use Rattle.mig_store.specs.Grounds.{HasGround, Lacks};
 ghost use Rattle.mig_mover.specs.Moves.{Keeps, Enters, IsFault, IsResumeFault, MayBeHalting, StaysArmed};
 ghost use Rattle.mig_live.specs.Actions.{Action, AreMade, AreMadeInPart, IsMade, actions_left};
-ghost use Rattle.mig_live.specs.Sessions.{Session, IsSession, InStep, is_synced, marks_by, steps_after};
+ghost use Rattle.mig_live.specs.Sessions.{Session, IsSession, InSight, InStep, is_synced, marks_by, steps_after};
 ghost use Rattle.mig_live.specs.Underways.{shifts_in, steps_in};
 
 use crate::steps::{mark_next, shifts_of_round, step_within};
@@ -88,7 +92,8 @@ impl<'a> Live<'a> {
         // The same where closing the plan early was stopped.
         ensures halting { (contents : Contents) (n : ℕ) → Tells (IsJobCell job.now.input job.now.plan) (S.state store.old).reads → MayBeHalting job.now contents (S.state store.old) n →
             LeavesOnly (IsSafe job.now.input job.now.plan job.now.digest contents) (S.state store.old) (S.state store.new) }
-        ensures fault { IfErr result (IsFault job.now (S.state store.old) (S.state store.new)) }
+        ensures seen { IfOk result (λ live. S.refuses → IsUnrefused job.now (S.state store.old) → InSight live (S.seen store.new) (S.state store.new).reads) }
+        ensures fault { IfErr result (IsFault (S.refuses × ¬ IsUnrefused job.now (S.state store.old)) job.now (S.state store.old) (S.state store.new)) }
         ensures kind { IfErr result IsResumeFault }
     {
         job.keeps_rules();
@@ -152,7 +157,8 @@ impl<'a> Live<'a> {
             LeavesOnly (IsSound asked self.entry.task.input self.entry.task.plan self.entry.task.digest contents) (S.state store.old) (S.state store.new) }
         ensures in_step { IfOk result (λ live. (asked : Bool) (contents : Contents) → InStep asked self.entry contents (S.state store.old) → InStep asked live contents (S.state store.new)) }
         ensures landed { OnOk result (flights (S.state store.new) ≡ []) }
-        ensures cause { HasCause (S.state store.old) (S.state store.new) result }
+        ensures seen { IfOk result (λ live. S.refuses → InSight self.entry (S.seen store.old) (S.state store.old).reads → InSight live (S.seen store.new) (S.state store.new).reads) }
+        ensures cause { HasGround S.refuses (¬ InSight self.entry (S.seen store.old) (S.state store.old).reads) (S.state store.old) (S.state store.new) result }
     {
         self.job.keeps_rules();
         if self.is_at_mark() {
@@ -190,7 +196,8 @@ impl<'a> Live<'a> {
             LeavesOnly (IsSound asked self.entry.task.input self.entry.task.plan self.entry.task.digest contents) (S.state store.old) (S.state store.new) }
         ensures in_step { IfOk result (λ live. (asked : Bool) (contents : Contents) → InStep asked self.entry contents (S.state store.old) → InStep asked live contents (S.state store.new)) }
         ensures landed { OnOk result (flights (S.state store.new) ≡ []) }
-        ensures cause { HasCause (S.state store.old) (S.state store.new) result }
+        ensures seen { IfOk result (λ live. S.refuses → InSight self.entry (S.seen store.old) (S.state store.old).reads → InSight live (S.seen store.new) (S.state store.new).reads) }
+        ensures cause { HasGround S.refuses (¬ InSight self.entry (S.seen store.old) (S.state store.old).reads) (S.state store.old) (S.state store.new) result }
     {
         let mut live = self;
         for _ in 0..count.min(live.left()) {
@@ -214,7 +221,9 @@ impl<'a> Live<'a> {
         ensures bytes { OnOk result ((asked : Bool) (contents : Contents) → InStep asked self.now contents (S.state store.old) → into.new ≡ contents item.0) }
         ensures in_step { (asked : Bool) (contents : Contents) → InStep asked self.now contents (S.state store.old) → InStep asked self.now contents (S.state store.new) }
         ensures change { Looks (S.state store.old) (S.state store.new) }
-        ensures cause { HasCause (S.state store.old) (S.state store.new) result }
+        ensures seen { OnOk result (flights (S.state store.old) ≡ [] → InSight self.now (S.seen store.old) (S.state store.old).reads →
+            InSight self.now (S.seen store.new) (S.state store.new).reads) }
+        ensures cause { HasGround S.refuses (IsSomeAnd (cell_at self.now.task self.now.marked item.0) (λ cell. Lacks (S.state store.old).reads cell (item_name self.now.task.input item.0))) (S.state store.old) (S.state store.new) result }
     {
         self.job.keeps_rules();
         let cell = self.job.cell_of(item, self.marked);
@@ -225,6 +234,7 @@ impl<'a> Live<'a> {
     /// A round is marked exactly where no more steps are left than come from its mark on. So as many rounds are marked as were
     /// at first, and those whose marks are among the steps made since. The call does nothing.
     pub fn marks_follow_steps(&self)
+        ensures rules { IsTask self.now.task }
         ensures session { IsSession self.now }
         ensures round { (r : ℕ) → r ≤ length self.now.task.plan → (r ≤ self.now.marked ↔ self.now.left ≤ shifts_in self.now.task.plan r + steps_after self.now.task.plan r) }
         ensures count { (found steps : ℕ) → found ≤ length self.now.task.plan → self.now.left ≡ steps_after self.now.task.plan found - steps

@@ -9,7 +9,7 @@ ghost use Rattle.mig_mover.specs.Erasures.{AreAsked};
 ghost use Rattle.mig_live.specs.Actions.{AreMade, actions_left};
 ghost use Rattle.mig_live.specs.Orders.{all_steps, steps_of, IsOrder};
 ghost use Rattle.mig_live.specs.Replies.{AreCutOff, AreMadeUpTo, ArePut, ArePutUpTo, IsServeFault};
-ghost use Rattle.mig_live.specs.Sessions.{Session, InStep};
+ghost use Rattle.mig_live.specs.Sessions.{Session, InSight, InSightFor, InStep};
 ghost use Rattle.mig_live.specs.declared.orders.Order.TheVariants.{Read};
 ghost use Rattle.mig_words.specs.Puts.{Puts};
 
@@ -78,14 +78,18 @@ fn reply<K: Sink, S: Store>(
     item: ItemId,
 ) -> Result<(), ServeFault>
     requires item { item.0 < length live.now.task.input.items }
+    requires none { flights (S.state store.old) ≡ [] }
     ensures served { OnOk result (ArePut live.now (S.state store.old) (Read item ∷ []) (K.state out.old) (K.state out.new)) }
     ensures put { IfErr result (ArePutUpTo live.now (S.state store.old) [] (Read item) (K.state out.old) (K.state out.new)) }
     ensures in_step { (asked : Bool) (contents : Contents) → InStep asked live.now contents (S.state store.old) → InStep asked live.now contents (S.state store.new) }
     ensures change { Looks (S.state store.old) (S.state store.new) }
     ensures later { (S.state store.old).faults ≤ (S.state store.new).faults }
     ensures sink_later { (K.state out.old).faults ≤ (K.state out.new).faults }
-    ensures fault { IfErr result (IsServeFault (S.state store.old) (S.state store.new) (K.state out.old) (K.state out.new)) }
+    ensures seen { OnOk result (InSight live.now (S.seen store.old) (S.state store.old).reads → InSight live.now (S.seen store.new) (S.state store.new).reads) }
+    ensures fault { IfErr result (IsServeFault (S.refuses × ¬ InSightFor live.now (Read item ∷ []) (S.seen store.old) (S.state store.old).reads)
+        (S.state store.old) (S.state store.new) (K.state out.old) (K.state out.new)) }
 {
+    live.marks_follow_steps();
     let mut bytes = [0; 4096];
     live.read(store, item, &mut bytes)?;
     let digest = digest_of(&bytes);
@@ -116,7 +120,8 @@ fn carry_out<'a, K: Sink, S: Store>(
     ensures landed { OnOk result (flights (S.state store.new) ≡ []) }
     ensures later { (S.state store.old).faults ≤ (S.state store.new).faults }
     ensures sink_later { (K.state out.old).faults ≤ (K.state out.new).faults }
-    ensures fault { IfErr result (IsServeFault (S.state store.old) (S.state store.new) (K.state out.old) (K.state out.new)) }
+    ensures seen { IfOk result (λ after. S.refuses → InSight live.entry (S.seen store.old) (S.state store.old).reads → InSight after (S.seen store.new) (S.state store.new).reads) }
+    ensures fault { IfErr result (IsServeFault (S.refuses × ¬ InSightFor live.entry (order ∷ []) (S.seen store.old) (S.state store.old).reads) (S.state store.old) (S.state store.new) (K.state out.old) (K.state out.new)) }
 {
     match order {
         Order::Read { item } => match reply(&live, store, out, item) {
@@ -156,7 +161,7 @@ pub fn serve<'a, K: Sink, S: Store>(
     ensures landed { OnOk result (flights (S.state store.new) ≡ []) }
     ensures later { (S.state store.old).faults ≤ (S.state store.new).faults }
     ensures sink_later { (K.state out.old).faults ≤ (K.state out.new).faults }
-    ensures fault { IfErr result (IsServeFault (S.state store.old) (S.state store.new) (K.state out.old) (K.state out.new)) }
+    ensures fault { IfErr result (IsServeFault (S.refuses × ¬ InSightFor live.entry orders.now (S.seen store.old) (S.state store.old).reads) (S.state store.old) (S.state store.new) (K.state out.old) (K.state out.new)) }
 {
     let mut after = live;
     for order in orders {

@@ -1,5 +1,5 @@
 //! The steps of a round, one at a time.
-ghost use Rattle.std.specs.Prelude.{◌≡◌, ◌≢◌, ◌+◌, ◌<◌, ◌≤◌, ◌∷◌, Bool, ℕ, suc, [], IsTrue, OnOk, drop, length, take};
+ghost use Rattle.std.specs.Prelude.{◌≡◌, ◌≢◌, ◌⊎◌, ◌+◌, ◌<◌, ◌≤◌, ◌∷◌, Bool, ℕ, suc, [], IsTrue, OnOk, drop, length, take};
 ghost use Rattle.mig_base.specs.declared.limits.TheConstants.{MAX_FILE_BYTES};
 ghost use Rattle.mig_base.specs.Cells.{is_slot};
 ghost use Rattle.mig_base.specs.Flights.{began, ended};
@@ -10,6 +10,9 @@ ghost use Rattle.mig_base.specs.Stores.{State, flights, Changes, ChangesOnly, Le
 ghost use Rattle.mig_base.specs.Tasks.{Task};
 ghost use Rattle.mig_mover.specs.Erasures.{AreAsked};
 ghost use Rattle.mig_live.specs.Actions.{MakesFirst, actions_after, actions_since};
+ghost use Rattle.mig_mover.specs.Holdings.{IsSeen};
+ghost use Rattle.mig_store.specs.Grounds.{HasGround, IsSeenAtBoth, IsUncopiable, Remembers};
+ghost use Rattle.mig_live.specs.Sessions.{IsSeenAtStep};
 ghost use Rattle.mig_live.specs.Underways.{IsUnderway, IsAtStep, shifts_in, steps_in};
 
 use mig_base::Cell;
@@ -28,7 +31,9 @@ fn copy_slot<S: Store>(store: &mut S, from: &Cell, to: &Cell) -> Result<(), Stor
     ensures landed { OnOk result (flights (S.state store.new) ≡ []) }
     ensures made { OnOk result (Changes (λ c. c ≡ to.now) (λ c. c ≡ to.now) (began (record { from = from.now; to = to.now }) ∷ ended (record { from = from.now; to = to.now }) ∷ []) (S.state store.old) (S.state store.new)) }
     ensures part { (n : ℕ) × Changes (λ c. c ≡ to.now) (λ c. c ≡ to.now) (take n (began (record { from = from.now; to = to.now }) ∷ ended (record { from = from.now; to = to.now }) ∷ [])) (S.state store.old) (S.state store.new) }
-    ensures cause { HasCause (S.state store.old) (S.state store.new) result }
+    ensures noted { OnOk result (S.refuses → IsSeenAtBoth (S.seen store.new) from.now to.now) }
+    ensures seen { Remembers (λ c. (c ≡ from.now) ⊎ (c ≡ to.now)) (S.seen store.old) (S.seen store.new) }
+    ensures cause { HasGround S.refuses (IsUncopiable (S.state store.old).reads (S.seen store.new) from.now to.now) (S.state store.old) (S.state store.new) result }
 {
     store.begin(from, to)?;
     store.ended()?;
@@ -47,7 +52,8 @@ fn erase_next<S: Store>(job: &Job, store: &mut S, k: u32, place: u32) -> Result<
         IsUnderway asked job.now.input job.now.plan job.now.digest contents (S.state store.new) k (place + 1) 0) }
     ensures first { MakesFirst (drop place (actions_since job.now k)) (drop (place + 1) (actions_since job.now k)) (S.state store.old) (S.state store.new) result }
     ensures landed { OnOk result (flights (S.state store.new) ≡ []) }
-    ensures cause { HasCause (S.state store.old) (S.state store.new) result }
+    ensures seen { OnOk result (IsSeen job.now (S.seen store.old) (S.state store.old).reads k → IsSeen job.now (S.seen store.new) (S.state store.new).reads k) }
+    ensures cause { HasGround S.refuses (¬ IsSeen job.now (S.seen store.old) (S.state store.old).reads k) (S.state store.old) (S.state store.new) result }
 {
     job.keeps_rules();
     let (from, _) = job.copy(k, place);
@@ -66,7 +72,8 @@ fn copy_next<S: Store>(job: &Job, store: &mut S, k: u32, place: u32) -> Result<(
         IsUnderway asked job.now.input job.now.plan job.now.digest contents (S.state store.new) k e (place + 1)) }
     ensures first { MakesFirst (drop place (actions_after job.now k)) (drop (place + 1) (actions_after job.now k)) (S.state store.old) (S.state store.new) result }
     ensures landed { OnOk result (flights (S.state store.new) ≡ []) }
-    ensures cause { HasCause (S.state store.old) (S.state store.new) result }
+    ensures seen { OnOk result (S.refuses → IsSeenAtStep job.now (S.seen store.old) (S.state store.old).reads k (shifts_in job.now.plan k + place) → IsSeenAtStep job.now (S.seen store.new) (S.state store.new).reads k (shifts_in job.now.plan k + place + 1)) }
+    ensures cause { HasGround S.refuses (¬ IsSeen job.now (S.seen store.old) (S.state store.old).reads k) (S.state store.old) (S.state store.new) result }
 {
     job.keeps_rules();
     let (from, to) = job.copy(k + 1, place);
@@ -78,6 +85,7 @@ fn settle<S: Store>(store: &mut S) -> Result<(), StoreFailed>
     requires { flights (S.state store.old) ≡ [] }
     ensures change { ChangesOnly NoCell (S.state store.old) (S.state store.new) }
     ensures settled { OnOk result (IsSettled (S.state store.new)) }
+    ensures seen { Remembers NoCell (S.seen store.old) (S.seen store.new) }
     ensures cause { HasCause (S.state store.old) (S.state store.new) result }
 {
     store.sync()
@@ -117,7 +125,8 @@ pub(crate) fn step_within<S: Store>(
         IsAtStep asked job.now.input job.now.plan job.now.digest contents (S.state store.new) k (p + 1)) }
     ensures first { MakesFirst (drop p (actions_since job.now k)) (drop (p + 1) (actions_since job.now k)) (S.state store.old) (S.state store.new) result }
     ensures landed { OnOk result (flights (S.state store.new) ≡ []) }
-    ensures cause { HasCause (S.state store.old) (S.state store.new) result }
+    ensures seen { OnOk result (S.refuses → IsSeenAtStep job.now (S.seen store.old) (S.state store.old).reads k p → IsSeenAtStep job.now (S.seen store.new) (S.state store.new).reads k (p + 1)) }
+    ensures cause { HasGround S.refuses (¬ IsSeenAtStep job.now (S.seen store.old) (S.state store.old).reads k p) (S.state store.old) (S.state store.new) result }
 {
     job.keeps_rules();
     let erasures = shifts_of_round(job, k);
@@ -145,6 +154,7 @@ pub(crate) fn mark_next<S: Store>(job: &Job, store: &mut S, k: u32) -> Result<()
         IsAtStep asked job.now.input job.now.plan job.now.digest contents (S.state store.new) (k + 1) 0) }
     ensures first { MakesFirst (drop (steps_in job.now.plan k) (actions_since job.now k)) (actions_since job.now (k + 1)) (S.state store.old) (S.state store.new) result }
     ensures landed { OnOk result (flights (S.state store.new) ≡ []) }
+    ensures seen { OnOk result (S.refuses → IsSeenAtStep job.now (S.seen store.old) (S.state store.old).reads k (steps_in job.now.plan k) → IsSeenAtStep job.now (S.seen store.new) (S.state store.new).reads (k + 1) 0) }
     ensures cause { HasCause (S.state store.old) (S.state store.new) result }
 {
     job.keeps_rules();

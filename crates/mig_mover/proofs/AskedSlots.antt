@@ -8,20 +8,20 @@ use Rattle.mig_mover.proofs.Common.{same_spot, shifts_of, slot_of, source_facts,
 pub not_shifted : (plan : List (List Shift)) (item : ℕ) → list_any (is_of item) (shifts_of plan) ≡ false → IsShifted plan item → ⊥
 not_shifted plan item said any = false≢true (sym said ∙ list_any_at (is_of item) (shifts_of plan) any.0 any.1 any.2 (ap (is_of item) any.3 ∙ eq-eqb any.1.item.0 item any.4))
 
-in_plan : (plan : List (List Shift)) (i : ℕ) (s : Shift) → i < length plan → Contains (get_or plan i []) s → Contains (shifts_of plan) s
+pub in_plan : (plan : List (List Shift)) (i : ℕ) (s : Shift) → i < length plan → Contains (get_or plan i []) s → Contains (shifts_of plan) s
 in_plan [] i s lt has = absurd (omega arith)
 in_plan (r ∷ rs) zero s lt has = Contains-append_left r (shifts_of rs) s has
 in_plan (r ∷ rs) (suc i) s lt has = Contains-append_right r (shifts_of rs) s (in_plan rs i s (omega arith) has)
 
 module _ (task : Task) (is : IsTask task) where
   -- an item that the plan shifts has the spot after k rounds
-  abbrev IsHeld : ℕ → Spot → Type 0
+  abbrev pub IsHeld : ℕ → Spot → Type 0
   IsHeld k spot = (item : ℕ) × IsShifted task.plan item × (At task.input task.plan k item ≡ Some spot)
 
-  abbrev IsFreeOrHeld : Spot → ℕ → Type 0
+  abbrev pub IsFreeOrHeld : Spot → ℕ → Type 0
   IsFreeOrHeld spot k = (IsTaken (At task.input task.plan k) spot → ⊥) ⊎ IsHeld k spot
 
-  shifted : (r : ℕ) (s : Shift) → r < length task.plan → Contains (round_at task.plan (suc r)) s → IsShifted task.plan s.item.0
+  pub shifted : (r : ℕ) (s : Shift) → r < length task.plan → Contains (round_at task.plan (suc r)) s → IsShifted task.plan s.item.0
   shifted r s lt has = any_contains (λ (t : Shift). t.item.0 ≡ s.item.0) (shifts_of task.plan) s (in_plan task.plan r s lt has) refl
 
   held_target : (r : ℕ) (spot : Spot) → r < length task.plan → IsTarget task.plan (suc r) spot → IsHeld (suc r) spot
@@ -45,7 +45,7 @@ module _ (task : Task) (is : IsTask task) where
       (λ none. inr (held.0, held.1, none.1 ∙ held.2))
       (moved_cases (At task.input task.plan r) (round_at task.plan (suc r)) held.0)
 
-  step_back : (r : ℕ) (spot : Spot) → r < length task.plan → IsFreeOrHeld spot (suc r) → IsFreeOrHeld spot r
+  pub step_back : (r : ℕ) (spot : Spot) → r < length task.plan → IsFreeOrHeld spot (suc r) → IsFreeOrHeld spot r
   step_back r spot lt (inl free) = elim (cases_Bool (list_any (λ (s : Shift). same_spot s.from spot) (round_at task.plan (suc r)))) [
     | inl source ↦ inr (held_source r spot lt (key_true (λ (s : Shift). s.from) (round_at task.plan (suc r)) spot source))
     | inr none ↦ inl (λ taken. free (stays_taken task.input is.valid task.plan is.runs r spot lt (key_false (λ (s : Shift). s.from) (round_at task.plan (suc r)) spot none) taken))

@@ -1,10 +1,11 @@
 -- The steps of a filling.
-use Rattle.mig_mover.proofs.Common.{All, AllWithin, At, BeginsRun, Cell, Changes, ChangesOnly, Contains-get_or, Ends, Event, Flight, Gate, HasContents, HasMade, IfSome, Image, IsFillFault}
+use Rattle.mig_mover.proofs.Common.{All, AllWithin, At, BeginsRun, Cell, Changes, ChangesOnly, Contains, Contains-get_or, Ends, Event, Flight, Gate, HasContents, HasMade, IfSome, Image, IsFillFault}
 use Rattle.mig_mover.proofs.Common.{IsFillFaultOn, IsFillRefusal, IsFillable, IsFirstTaken, IsInput, IsListedCell, IsRunning, IsSoundForAll, IsTargetOf, IsUnused, IsUsed, Lands, List, Lists}
 use Rattle.mig_mover.proofs.Common.{MoveFault, NoCell, NotStarted, NotThere, Occupied, OnOk, Option, OtherPlan, Result, SameBut, Settles, Shift, Some, Spot, Started, State, Store, Tells}
 use Rattle.mig_mover.proofs.Common.{WasFillable, [], ap, append-nil, arith, cases_eq, changes_then, changes_wider, false, flights, get_or, get_or_default, get_or_from_slice_get, idle_sound, inl}
 use Rattle.mig_mover.proofs.Common.{inr, is_armed, is_one, item_cell, item_name, length, made_contents, made_slot, no_spot, quiet_same, refl, slice_get, slice_get-get_or, slice_get_within}
 use Rattle.mig_mover.proofs.Common.{slot_apart, slot_of, spot_disk, still_none, subst, sym, sync_same, then_step, then_sync, told_is, ℕ, ◌+◌, ◌<◌, ◌∙◌, ◌≡◌, ◌≤◌, ◌⊎◌}
+use Rattle.mig_journal.proofs.Steps.{rose_from}
 use Rattle.mig_mover.proofs.Settling.{settles_land, settles_landed, settles_quiet}
 
 -- Looking at listed spots
@@ -24,6 +25,9 @@ module _ (input : Lists) (image : Image) (spots : List Spot) (is : spots ≡ inp
 -- a listed spot is on a disk
 pub spot_known : (input : Lists) → IsInput input → (spots : List Spot) → spots ≡ input.spots → (k : ℕ) → k < length spots → (get_or spots k no_spot).disk.0 < length input.disks
 spot_known input valid spots is k lt = subst (λ (l : List Spot). (get_or l k no_spot).disk.0 < length input.disks) (sym is) (spot_disk input.disks _ (valid.on_disks k no_spot (subst (λ (l : List Spot). k < length l) is lt)))
+
+pub spot_listed : (input : Lists) (spots : List Spot) → spots ≡ input.spots → (k : ℕ) → k < length spots → Contains input.spots (get_or spots k no_spot)
+spot_listed input spots is k lt = subst (λ (l : List Spot). Contains l (get_or spots k no_spot)) is (Contains-get_or spots k no_spot lt)
 
 -- Writing made slots
 
@@ -82,13 +86,14 @@ module _ (input : Lists) (item : ℕ) (spots : List Spot) (spots_is : spots ≡ 
 -- Beginning with a sync
 
 module _ (input : Lists) (old mid new : State) where
-  pub fault_more : Settles old mid → old.faults ≤ mid.faults → (fault : MoveFault) → IsFillFaultOn input mid new fault → IsFillFault input old new fault
-  fault_more settles later Store rose = omega (arith, rose, later)
-  fault_more settles later Started is = (settles_quiet old mid settles new is.0, subst IsRunning (quiet_same mid new is.0) is.1)
-  fault_more settles later (Occupied disk slot) is = (settles_quiet old mid settles new is.0, subst (λ (image : Image). IsFillRefusal input image (Occupied disk slot)) (quiet_same mid new is.0) is.1)
-  fault_more settles later (OtherPlan kept ours) is = absurd is.1
-  fault_more settles later NotStarted is = absurd is.1
-  fault_more settles later (NotThere item) is = absurd is.1
+  pub fault_more : Settles old mid → old.faults ≤ mid.faults → {R Q : Type 0} → (R → Q) → (fault : MoveFault) → IsFillFaultOn R input mid new fault → IsFillFault Q input old new fault
+  fault_more settles later f Store (inl rose) = inl (rose_from later rose)
+  fault_more settles later f Store (inr why) = inr (f why)
+  fault_more settles later f Started is = (settles_quiet old mid settles new is.0, subst IsRunning (quiet_same mid new is.0) is.1)
+  fault_more settles later f (Occupied disk slot) is = (settles_quiet old mid settles new is.0, subst (λ (image : Image). IsFillRefusal input image (Occupied disk slot)) (quiet_same mid new is.0) is.1)
+  fault_more settles later f (OtherPlan kept ours) is = absurd is.1
+  fault_more settles later f NotStarted is = absurd is.1
+  fault_more settles later f (NotThere item) is = absurd is.1
 
   abbrev pub Fills : State → Type 0
   Fills last = (added : List Event) × BeginsRun (flights old) [] added × Changes (λ cell. IsTargetOf (flights old) cell ⊎ IsListedCell input cell) (IsListedCell input) added old last

@@ -10,7 +10,7 @@ abbrev pub the_vacancy : List Vacancy → ℕ → Vacancy
 the_vacancy vs i = get_or vs i no_vacancy
 
 -- a vacancy lasts after k rounds or doesn't
-cases_vacant : (v : Vacancy) (k : ℕ) → IsVacant v k ⊎ (IsVacant v k → ⊥)
+pub cases_vacant : (v : Vacancy) (k : ℕ) → IsVacant v k ⊎ (IsVacant v k → ⊥)
 cases_vacant v k = at (cases_lt k v.from) (cases_lt k v.until)
   where
     at : (k < v.from) ⊎ (v.from ≤ k) → (k < v.until) ⊎ (v.until ≤ k) → IsVacant v k ⊎ (IsVacant v k → ⊥)

@@ -165,13 +165,14 @@ module _ (task : Task) (old : State) (law : IsState old) where
     refused : (fault : MoveFault) → ChangesOnly NoCell mid new × IsRefusal task mid.reads fault → Settles old new × IsRefusal task new.reads fault
     refused fault was = (settles_quiet old mid settles new was.0, subst (λ (image : Image). IsRefusal task image fault) (same_image mid.reads new.reads was.0.told) was.1)
 
-    pub fault_from : (fault : MoveFault) → IsFaultOn task mid new fault → IsFault task old new fault
-    fault_from Store was = omega (arith, later, was)
-    fault_from Started was = refused Started was
-    fault_from (OtherPlan kept ours) was = refused (OtherPlan kept ours) was
-    fault_from NotStarted was = refused NotStarted was
-    fault_from (NotThere item) was = refused (NotThere item) was
-    fault_from (Occupied disk slot) was = refused (Occupied disk slot) was
+    pub fault_from : (R Q : Type 0) → (R → Q) → (fault : MoveFault) → IsFaultOn R task mid new fault → IsFault Q task old new fault
+    fault_from R Q f Store (inl rose) = inl (omega (arith, later, rose))
+    fault_from R Q f Store (inr why) = inr (f why)
+    fault_from R Q f Started was = refused Started was
+    fault_from R Q f (OtherPlan kept ours) was = refused (OtherPlan kept ours) was
+    fault_from R Q f NotStarted was = refused NotStarted was
+    fault_from R Q f (NotThere item) was = refused (NotThere item) was
+    fault_from R Q f (Occupied disk slot) was = refused (Occupied disk slot) was
 
 pub if_ok_is : {T E : Type 0} {P : Type 0} (r : Result T E) → P → IfOk r (λ x. P)
 if_ok_is (Ok x) p = p
@@ -180,6 +181,10 @@ if_ok_is (Err e) p = tt
 pub if_ok : {T E : Type 0} {P Q : T → Type 0} (r : Result T E) → ((x : T) → P x → Q x) → IfOk r P → IfOk r Q
 if_ok (Ok x) gives p = gives x p
 if_ok (Err e) gives p = tt
+
+pub if_ok_both : {T E : Type 0} {P Q R : T → Type 0} (r : Result T E) → ((x : T) → P x → Q x → R x) → IfOk r P → IfOk r Q → IfOk r R
+if_ok_both (Ok x) gives p q = gives x p q
+if_ok_both (Err e) gives p q = tt
 
 pub if_err : {T E : Type 0} {P Q : E → Type 0} (r : Result T E) → ((e : E) → P e → Q e) → IfErr r P → IfErr r Q
 if_err (Ok x) gives p = tt
@@ -237,21 +242,21 @@ module _ (task : Task) (image : Image) (running : IsRunning image) (kept : List 
   plan_refusal (Occupied disk slot) is = absurd is
 
   -- on a settled store, and once it is settled
-  pub plan_fault_on : (old new : State) → old.reads ≡ image → ChangesOnly NoCell old new → (fault : MoveFault) → IsPlanFault task kept fault → IsFaultOn task old new fault
-  plan_fault_on old new same quiet Store is = absurd is
-  plan_fault_on old new same quiet Started is = (quiet, subst (λ (im : Image). IsRefusal task im Started) (sym same) (plan_refusal Started is))
-  plan_fault_on old new same quiet (OtherPlan theirs ours) is = (quiet, subst (λ (im : Image). IsRefusal task im (OtherPlan theirs ours)) (sym same) (plan_refusal (OtherPlan theirs ours) is))
-  plan_fault_on old new same quiet NotStarted is = absurd is
-  plan_fault_on old new same quiet (NotThere item) is = absurd is
-  plan_fault_on old new same quiet (Occupied disk slot) is = absurd is
+  pub plan_fault_on : (R : Type 0) (old new : State) → old.reads ≡ image → ChangesOnly NoCell old new → (fault : MoveFault) → IsPlanFault task kept fault → IsFaultOn R task old new fault
+  plan_fault_on R old new same quiet Store is = absurd is
+  plan_fault_on R old new same quiet Started is = (quiet, subst (λ (im : Image). IsRefusal task im Started) (sym same) (plan_refusal Started is))
+  plan_fault_on R old new same quiet (OtherPlan theirs ours) is = (quiet, subst (λ (im : Image). IsRefusal task im (OtherPlan theirs ours)) (sym same) (plan_refusal (OtherPlan theirs ours) is))
+  plan_fault_on R old new same quiet NotStarted is = absurd is
+  plan_fault_on R old new same quiet (NotThere item) is = absurd is
+  plan_fault_on R old new same quiet (Occupied disk slot) is = absurd is
 
-  pub plan_fault : (old new : State) → new.reads ≡ image → Settles old new → (fault : MoveFault) → IsPlanFault task kept fault → IsFault task old new fault
-  plan_fault old new same settles Store is = absurd is
-  plan_fault old new same settles Started is = (settles, subst (λ (im : Image). IsRefusal task im Started) (sym same) (plan_refusal Started is))
-  plan_fault old new same settles (OtherPlan theirs ours) is = (settles, subst (λ (im : Image). IsRefusal task im (OtherPlan theirs ours)) (sym same) (plan_refusal (OtherPlan theirs ours) is))
-  plan_fault old new same settles NotStarted is = absurd is
-  plan_fault old new same settles (NotThere item) is = absurd is
-  plan_fault old new same settles (Occupied disk slot) is = absurd is
+  pub plan_fault : (R : Type 0) (old new : State) → new.reads ≡ image → Settles old new → (fault : MoveFault) → IsPlanFault task kept fault → IsFault R task old new fault
+  plan_fault R old new same settles Store is = absurd is
+  plan_fault R old new same settles Started is = (settles, subst (λ (im : Image). IsRefusal task im Started) (sym same) (plan_refusal Started is))
+  plan_fault R old new same settles (OtherPlan theirs ours) is = (settles, subst (λ (im : Image). IsRefusal task im (OtherPlan theirs ours)) (sym same) (plan_refusal (OtherPlan theirs ours) is))
+  plan_fault R old new same settles NotStarted is = absurd is
+  plan_fault R old new same settles (NotThere item) is = absurd is
+  plan_fault R old new same settles (Occupied disk slot) is = absurd is
 
 -- what a look says of the gate
 pub seen_idle : (image : Image) → (IsSome (image Gate) → false ≡ is_armed image) → is_armed image ≡ false
@@ -260,3 +265,10 @@ seen_idle image said = at (image Gate) refl
     at : (cell : Option (List ℕ)) → cell ≡ image Gate → is_armed image ≡ false
     at None none = ap is_one (sym none)
     at (Some bytes) some = sym (said (subst IsSome some refl))
+
+-- where no copy is in flight, a sync changes nothing that reads give
+pub settled_same : (old mid : State) → flights old ≡ [] → Settles old mid → old.reads ≡ mid.reads
+settled_same old mid none settles = same_image old.reads mid.reads (record {
+  same = λ cell out. settles.change.told.same cell (λ target. no_target (flights old) cell none target);
+  shape = settles.change.told.shape;
+})

@@ -1,8 +1,9 @@
 -- Where a migration stands: the first sync, and then what looks at a settled store find.
 use Rattle.mig_mover.proofs.Common.{AreFlights, ChangesOnly, Err, Gate, Head, IfErr, IfOk, IfSome, Image, IsAt, IsJobCell, IsJournal, IsMark, IsOk, IsOtherFault, IsRefusal, IsRunning, IsSome}
-use Rattle.mig_mover.proofs.Common.{IsStandFault, List, MoveFault, NoCell, NotStarted, NotThere, Occupied, Ok, Option, OtherPlan, Result, Rose, Settles, Some, Stands, Started, State, Store, Task}
+use Rattle.mig_mover.proofs.Common.{IsStandFault, List, MoveFault, NoCell, NotStarted, NotThere, Occupied, Ok, Option, OtherPlan, Result, Settles, Some, Stands, Started, State, Store, Task}
 use Rattle.mig_mover.proofs.Common.{Tells, arith, cond-true, count_of, false, false≢true, flights, inl, inr, is_armed, is_marked, length, prefix_len, range_with_len, refl, same_image, subst, sym}
 use Rattle.mig_mover.proofs.Common.{true, ℕ, ◌∙◌, ◌≡◌, ◌≤◌}
+use Rattle.mig_store.specs.Grounds.{FailedOr}
 use Rattle.mig_mover.proofs.Settling.{tells_more, journal_kept, gate_kept, count_kept, settles_quiet, head_is}
 
 module _ (task : Task) (old mid : State) (settles : Settles old mid) (later : old.faults ≤ mid.faults) (running : IsRunning mid.reads)
@@ -31,18 +32,19 @@ module _ (task : Task) (old mid : State) (settles : Settles old mid) (later : ol
   refused : (fault : MoveFault) → IsRefusal task mid.reads fault → Settles old new × IsRefusal task new.reads fault
   refused fault is = (settles_quiet old mid settles new quiet, subst (λ (image : Image). IsRefusal task image fault) reads is)
 
-  pub stand_fault : (fault : MoveFault) → IsOtherFault task kept mid new fault → IsStandFault task old new fault
-  stand_fault Store is = omega (arith, later, is)
-  stand_fault Started is = absurd is
-  stand_fault (OtherPlan theirs ours) is = refused (OtherPlan theirs ours) (
+  pub stand_fault : (R Q : Type 0) → (R → Q) → (fault : MoveFault) → IsOtherFault R task kept mid new fault → IsStandFault Q task old new fault
+  stand_fault R Q f Store (inl rose) = inl (omega (arith, later, rose))
+  stand_fault R Q f Store (inr why) = inr (f why)
+  stand_fault R Q f Started is = absurd is
+  stand_fault R Q f (OtherPlan theirs ours) is = refused (OtherPlan theirs ours) (
     running,
     head_is task mid.reads running kept head (λ bytes. theirs ≡ bytes) is.0,
     subst (λ (bytes : List ℕ). bytes ≡ task.digest → ⊥) (sym is.0) is.1,
     is.2,
   )
-  stand_fault NotStarted is = absurd is
-  stand_fault (NotThere item) is = absurd is
-  stand_fault (Occupied disk slot) is = absurd is
+  stand_fault R Q f NotStarted is = absurd is
+  stand_fault R Q f (NotThere item) is = absurd is
+  stand_fault R Q f (Occupied disk slot) is = absurd is
 
 pub if_ok_all : {T E : Type 0} {A B C P : T → Type 0} (r : Result T E) → ((x : T) → A x → B x → C x → P x) → IfOk r A → IfOk r B → IfOk r C → IfOk r P
 if_ok_all (Ok x) gives a b c = gives x a b c
@@ -50,7 +52,7 @@ if_ok_all (Err e) gives a b c = tt
 
 -- What is answered where the store doesn't fail
 
-module _ (task : Task) (old new : State) (are : AreFlights (flights old)) (calm : Rose old.faults new.faults → ⊥) where
+module _ (task : Task) (Q : Type 0) (old new : State) (are : AreFlights (flights old)) (calm : FailedOr Q old new → ⊥) where
   module _ (settles : Settles old new) where
     gate_now : is_armed new.reads ≡ is_armed old.reads
     gate_now = gate_kept old new settles are
@@ -66,7 +68,7 @@ module _ (task : Task) (old new : State) (are : AreFlights (flights old)) (calm 
     not_idle armed idle = false≢true (sym idle ∙ gate_now ∙ armed)
 
   -- the gate isn't 1
-  pub not_started : IsSome (old.reads Gate) → is_armed old.reads ≡ false → (r : Result ℕ MoveFault) → IfOk r (Stands task old new) → IfErr r (IsStandFault task old new) → r ≡ Err NotStarted
+  pub not_started : IsSome (old.reads Gate) → is_armed old.reads ≡ false → (r : Result ℕ MoveFault) → IfOk r (Stands task old new) → IfErr r (IsStandFault Q task old new) → r ≡ Err NotStarted
   not_started told idle (Ok k) ok err = absurd (not_running ok.settles told idle ok.at.running)
   not_started told idle (Err Store) ok err = absurd (calm err)
   not_started told idle (Err Started) ok err = absurd err
@@ -77,7 +79,7 @@ module _ (task : Task) (old new : State) (are : AreFlights (flights old)) (calm 
 
   module _ (armed : is_armed old.reads ≡ true) (kept : List ℕ) (head : old.reads Head ≡ Some kept) where
     -- it is 1, and the head has another digest
-    pub other_plan : (kept ≡ task.digest → ⊥) → (r : Result ℕ MoveFault) → IfOk r (Stands task old new) → IfErr r (IsStandFault task old new) → r ≡ Err (OtherPlan kept task.digest)
+    pub other_plan : (kept ≡ task.digest → ⊥) → (r : Result ℕ MoveFault) → IfOk r (Stands task old new) → IfErr r (IsStandFault Q task old new) → r ≡ Err (OtherPlan kept task.digest)
     other_plan other (Ok k) ok err = absurd (other (head_now ok.settles (λ bytes. bytes ≡ task.digest) kept head ok.at.ours))
     other_plan other (Err Store) ok err = absurd (calm err)
     other_plan other (Err Started) ok err = absurd err
@@ -90,7 +92,7 @@ module _ (task : Task) (old new : State) (are : AreFlights (flights old)) (calm 
     other_plan other (Err (Occupied disk slot)) ok err = absurd err
 
     -- it is 1, and the head has the job's
-    pub stands_ok : kept ≡ task.digest → (r : Result ℕ MoveFault) → IfErr r (IsStandFault task old new) → IsOk r
+    pub stands_ok : kept ≡ task.digest → (r : Result ℕ MoveFault) → IfErr r (IsStandFault Q task old new) → IsOk r
     stands_ok ours (Ok k) err = refl
     stands_ok ours (Err Store) err = absurd (calm err)
     stands_ok ours (Err Started) err = absurd err

@@ -3,7 +3,6 @@ use Rattle.std.specs.Prelude.{◌≡◌, ◌<◌, Bool, false, ℕ, List, Some, 
 use Rattle.std.specs.List.{AllWithin}
 use Rattle.mig_base.specs.declared.ids.Shift.{Shift}
 use Rattle.mig_base.specs.declared.ids.Spot.{Spot}
-use Rattle.mig_base.specs.FaultCounts.{Rose}
 use Rattle.mig_base.specs.Images.{Image, NoCell}
 use Rattle.mig_base.specs.InputLists.{Lists}
 use Rattle.mig_base.specs.JobCells.{Tells}
@@ -12,6 +11,7 @@ use Rattle.mig_base.specs.Safety.{Contents, IsSound}
 use Rattle.mig_base.specs.Slots.{item_cell, made_slot, IsListedCell, IsUsed, IsUnused}
 use Rattle.mig_base.specs.Stores.{State, ChangesOnly}
 use Rattle.mig_base.specs.Texts.{item_name}
+use Rattle.mig_store.specs.Grounds.{FailedOr}
 use Rattle.mig_mover.specs.Moves.{IsLanded, IsRunning, Settles}
 use Rattle.mig_mover.specs.declared.faults.MoveFault.{MoveFault}
 use Rattle.mig_mover.specs.declared.faults.MoveFault.TheVariants.{Store, Started, OtherPlan, NotStarted, NotThere, Occupied}
@@ -38,15 +38,15 @@ IsFillRefusal input image Started = IsRunning image
 IsFillRefusal input image (Occupied disk slot) = (is_armed image ≡ false) × IsFirstTaken input image (record { disk = disk; slot = slot })
 IsFillRefusal input image fault = ⊥
 
--- A store's fault comes only where its count rose. A refusal comes by its cause, once each copy in flight has ended, and nothing was written.
-abbrev pub IsFillFault : Lists → State → State → MoveFault → Type 0
-IsFillFault input old new Store = Rose old.faults new.faults
-IsFillFault input old new fault = Settles old new × IsFillRefusal input new.reads fault
+-- A store's fault comes only where its count rose, or it refused. A refusal comes by its cause, once each copy in flight has ended, and nothing was written.
+abbrev pub IsFillFault : Type 0 → Lists → State → State → MoveFault → Type 0
+IsFillFault Refused input old new Store = FailedOr Refused old new
+IsFillFault Refused input old new fault = Settles old new × IsFillRefusal input new.reads fault
 
 -- the same from a store with nothing unsettled and no copy in flight
-abbrev pub IsFillFaultOn : Lists → State → State → MoveFault → Type 0
-IsFillFaultOn input old new Store = Rose old.faults new.faults
-IsFillFaultOn input old new fault = ChangesOnly NoCell old new × IsFillRefusal input old.reads fault
+abbrev pub IsFillFaultOn : Type 0 → Lists → State → State → MoveFault → Type 0
+IsFillFaultOn Refused input old new Store = FailedOr Refused old new
+IsFillFaultOn Refused input old new fault = ChangesOnly NoCell old new × IsFillRefusal input old.reads fault
 
 -- the slots that are made for the items stand where the items are listed
 abbrev pub HasMade : Lists → Image → Type 0

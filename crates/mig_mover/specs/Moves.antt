@@ -3,7 +3,6 @@ use Rattle.std.specs.Prelude.{◌≡◌, ◌≢◌, ◌⊎◌, ◌<◌, ◌≤�
 use Rattle.mig_base.specs.declared.cells.Cell.TheVariants.{Head, Gate}
 use Rattle.mig_base.specs.declared.cells.Event.{Event}
 use Rattle.mig_base.specs.Arrivals.{IsHaltSafe}
-use Rattle.mig_base.specs.FaultCounts.{Rose}
 use Rattle.mig_base.specs.Flights.{IsTargetOf, AreFlights}
 use Rattle.mig_base.specs.Images.{Image, SameBut, NoCell, IsCopy}
 use Rattle.mig_base.specs.Journals.{is_armed, count_of}
@@ -15,6 +14,7 @@ use Rattle.mig_base.specs.Safety.{Contents, IsSound}
 use Rattle.mig_base.specs.Slots.{IsThere}
 use Rattle.mig_base.specs.Stores.{State, flights, Changes, ChangesOnly, LeavesOnly, IsSettled}
 use Rattle.mig_base.specs.Tasks.{Task}
+use Rattle.mig_store.specs.Grounds.{FailedOr}
 use Rattle.mig_mover.specs.declared.faults.MoveFault.{MoveFault}
 use Rattle.mig_mover.specs.declared.faults.MoveFault.TheVariants.{Store, Started, OtherPlan, NotStarted, NotThere, Occupied}
 
@@ -61,10 +61,10 @@ IsPlanFault task kept Started = kept ≡ task.digest
 IsPlanFault task kept (OtherPlan theirs ours) = (theirs ≡ kept) × (kept ≢ task.digest) × (ours ≡ task.digest)
 IsPlanFault task kept fault = ⊥
 
--- A store's fault comes only where its count rose. A refusal comes by its cause, once each copy in flight has ended, and nothing was written.
-abbrev pub IsFault : Task → State → State → MoveFault → Type 0
-IsFault task old new Store = Rose old.faults new.faults
-IsFault task old new fault = Settles old new × IsRefusal task new.reads fault
+-- A store's fault comes only where its count rose, or it refused. A refusal comes by its cause, once each copy in flight has ended, and nothing was written.
+abbrev pub IsFault : Type 0 → Task → State → State → MoveFault → Type 0
+IsFault Refused task old new Store = FailedOr Refused old new
+IsFault Refused task old new fault = Settles old new × IsRefusal task new.reads fault
 
 -- the faults that starting a plan may have
 abbrev pub IsStartFault : MoveFault → Type 0
@@ -141,6 +141,6 @@ pub record EntersOn (task : Task) (old new : State) (k : ℕ) : Type 0 where
   pub armed : IsSome (old.reads Gate) → (image : Image) → new.may_leave image → is_armed image ≡ true
   pub ready : is_armed old.reads ≡ false → IsSome (old.reads Gate) → IsReady task.input task.plan old.reads
 
-abbrev pub IsFaultOn : Task → State → State → MoveFault → Type 0
-IsFaultOn task old new Store = Rose old.faults new.faults
-IsFaultOn task old new fault = ChangesOnly NoCell old new × IsRefusal task old.reads fault
+abbrev pub IsFaultOn : Type 0 → Task → State → State → MoveFault → Type 0
+IsFaultOn Refused task old new Store = FailedOr Refused old new
+IsFaultOn Refused task old new fault = ChangesOnly NoCell old new × IsRefusal task old.reads fault

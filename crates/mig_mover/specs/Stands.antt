@@ -1,7 +1,6 @@
 -- Where a migration stands.
 use Rattle.std.specs.Prelude.{◌≡◌, ◌≢◌, ◌≤◌, ℕ, List, IfSome, length}
 use Rattle.mig_base.specs.declared.cells.Cell.TheVariants.{Head}
-use Rattle.mig_base.specs.FaultCounts.{Rose}
 use Rattle.mig_base.specs.Flights.{AreFlights}
 use Rattle.mig_base.specs.Images.{Image}
 use Rattle.mig_base.specs.Journals.{count_of}
@@ -9,6 +8,7 @@ use Rattle.mig_base.specs.JobCells.{IsJournal, IsJobCell, Tells}
 use Rattle.mig_base.specs.Stores.{State, flights}
 use Rattle.mig_mover.specs.Moves.{IsRunning, IsRefusal, Settles}
 use Rattle.mig_base.specs.Tasks.{Task}
+use Rattle.mig_store.specs.Grounds.{FailedOr}
 use Rattle.mig_mover.specs.declared.faults.MoveFault.{MoveFault}
 use Rattle.mig_mover.specs.declared.faults.MoveFault.TheVariants.{Store, OtherPlan, NotStarted}
 
@@ -27,14 +27,14 @@ pub record Stands (task : Task) (old new : State) (k : ℕ) : Type 0 where
   pub found : Tells (IsJobCell task.input task.plan) old.reads → AreFlights (flights old) → k ≡ count_of (length task.plan) old.reads
 
 -- a store's fault, or that of a journal that names another plan, by its digest
-abbrev pub IsOtherFault : Task → List ℕ → State → State → MoveFault → Type 0
-IsOtherFault task kept old new Store = Rose old.faults new.faults
-IsOtherFault task kept old new (OtherPlan theirs ours) = (theirs ≡ kept) × (kept ≢ task.digest) × (ours ≡ task.digest)
-IsOtherFault task kept old new fault = ⊥
+abbrev pub IsOtherFault : Type 0 → Task → List ℕ → State → State → MoveFault → Type 0
+IsOtherFault Refused task kept old new Store = FailedOr Refused old new
+IsOtherFault Refused task kept old new (OtherPlan theirs ours) = (theirs ≡ kept) × (kept ≢ task.digest) × (ours ≡ task.digest)
+IsOtherFault Refused task kept old new fault = ⊥
 
 -- Why it isn't said where a migration stands: a store's fault, a gate that isn't 1, or another plan's digest in the head.
-abbrev pub IsStandFault : Task → State → State → MoveFault → Type 0
-IsStandFault task old new Store = Rose old.faults new.faults
-IsStandFault task old new NotStarted = Settles old new × IsRefusal task new.reads NotStarted
-IsStandFault task old new (OtherPlan kept ours) = Settles old new × IsRefusal task new.reads (OtherPlan kept ours)
-IsStandFault task old new fault = ⊥
+abbrev pub IsStandFault : Type 0 → Task → State → State → MoveFault → Type 0
+IsStandFault Refused task old new Store = FailedOr Refused old new
+IsStandFault Refused task old new NotStarted = Settles old new × IsRefusal task new.reads NotStarted
+IsStandFault Refused task old new (OtherPlan kept ours) = Settles old new × IsRefusal task new.reads (OtherPlan kept ours)
+IsStandFault Refused task old new fault = ⊥

@@ -13,6 +13,9 @@ ghost use Rattle.mig_base.specs.Slots.{slot_of};
 ghost use Rattle.mig_base.specs.Stores.{State, flights, ChangesOnly, LeavesOnly, IsSettled, HasCause};
 ghost use Rattle.mig_journal.specs.SeenJournals.{is_running, HasHead};
 ghost use Rattle.mig_mover.specs.Erasures.{AreAsked, AreCompared, AreZeros};
+ghost use Rattle.mig_base.specs.Images.{NoCell};
+ghost use Rattle.mig_mover.specs.Holdings.{IsKeptMarked, IsSeen, IsUnrefused};
+ghost use Rattle.mig_store.specs.Grounds.{HasGround, Remembers};
 ghost use Rattle.mig_mover.specs.Moves.{Lands, Settles, IsRunning, IsPlanFault, IsFault, IsStartFault, IsResumeFault, StaysArmed, MayBeHalting, Keeps, Enters, KeepsOn, EntersOn, IsFaultOn};
 ghost use Rattle.mig_base.specs.Tasks.{Task};
 
@@ -34,6 +37,7 @@ pub fn settle_and_look<S: Store>(store: &mut S) -> Result<Seen, StoreFailed>
     ensures gate { IfOk result (λ seen. IsSome ((S.state store.new).reads Gate) → is_running seen ≡ is_armed (S.state store.new).reads) }
     ensures head { IfOk result (λ seen. HasHead seen ((S.state store.new).reads Head)) }
     ensures lands { Lands (S.state store.old) (S.state store.new) }
+    ensures seen { Remembers NoCell (S.seen store.old) (S.seen store.new) }
     ensures cause { HasCause (S.state store.old) (S.state store.new) result }
 {
     store.sync()?;
@@ -73,7 +77,8 @@ fn enter_idle<S: Store>(job: &Job, store: &mut S) -> Result<(), MoveFault>
     ensures keeps { KeepsOn job.now (S.state store.old) (S.state store.new) }
     ensures enters { OnOk result (EntersOn job.now (S.state store.old) (S.state store.new) 0) }
     ensures asked { OnOk result (AreAsked S.asked job.now) }
-    ensures fault { IfErr result (IsFaultOn job.now (S.state store.old) (S.state store.new)) }
+    ensures seen { OnOk result (S.refuses → Tells (IsJobCell job.now.input job.now.plan) (S.state store.old).reads → IsSeen job.now (S.seen store.new) (S.state store.new).reads 0) }
+    ensures fault { IfErr result (IsFaultOn (S.refuses × ¬ Tells (IsJobCell job.now.input job.now.plan) (S.state store.old).reads) job.now (S.state store.old) (S.state store.new)) }
     ensures kind { IfErr result IsResumeFault }
 {
     check_ready(job, store)?;
@@ -90,7 +95,8 @@ fn resume_idle<S: Store>(job: &Job, store: &mut S) -> Result<u32, MoveFault>
     ensures enters { IfOk result (EntersOn job.now (S.state store.old) (S.state store.new)) }
     ensures asked { IfOk result (λ k. AreAsked S.asked job.now) }
     ensures compared { IfOk result (AreCompared S.compared job.now) }
-    ensures fault { IfErr result (IsFaultOn job.now (S.state store.old) (S.state store.new)) }
+    ensures seen { IfOk result (λ k. S.refuses → Tells (IsJobCell job.now.input job.now.plan) (S.state store.old).reads → IsSeen job.now (S.seen store.new) (S.state store.new).reads k) }
+    ensures fault { IfErr result (IsFaultOn (S.refuses × ¬ Tells (IsJobCell job.now.input job.now.plan) (S.state store.old).reads) job.now (S.state store.old) (S.state store.new)) }
     ensures kind { IfErr result IsResumeFault }
 {
     match enter_idle(job, store) {
@@ -107,7 +113,8 @@ fn erase_last<S: Store>(job: &Job, store: &mut S, k: u32) -> Result<(), StoreFai
     requires compared { AreCompared S.compared job.now k }
     ensures erased { OnOk result (All (λ s. AreZeros ((S.state store.new).reads (slot_of job.now.input s.from))) (round_at job.now.plan k)) }
     ensures change { ChangesOnly (IsSourceSlot job.now.input job.now.plan k) (S.state store.old) (S.state store.new) }
-    ensures cause { HasCause (S.state store.old) (S.state store.new) result }
+    ensures seen { OnOk result (IsSeen job.now (S.seen store.old) (S.state store.old).reads k → IsSeen job.now (S.seen store.new) (S.state store.new).reads k) }
+    ensures cause { HasGround S.refuses (¬ IsSeen job.now (S.seen store.old) (S.state store.old).reads k) (S.state store.old) (S.state store.new) result }
 {
     if k == 0 {
         return Ok(());
@@ -125,7 +132,8 @@ fn enter_running<S: Store>(job: &Job, store: &mut S) -> Result<u32, StoreFailed>
     ensures armed { is_armed (S.state store.old).reads ≡ true → LeavesOnly (λ image. is_armed image ≡ true) (S.state store.old) (S.state store.new) }
     ensures asked { IfOk result (λ k. AreAsked S.asked job.now) }
     ensures compared { IfOk result (AreCompared S.compared job.now) }
-    ensures cause { HasCause (S.state store.old) (S.state store.new) result }
+    ensures seen { IfOk result (λ k. S.refuses → IsKeptMarked job.now (S.state store.old).reads → IsSeen job.now (S.seen store.new) (S.state store.new).reads k) }
+    ensures cause { HasGround S.refuses (¬ IsKeptMarked job.now (S.state store.old).reads) (S.state store.old) (S.state store.new) result }
 {
     let k = marked(store, job.rounds())?;
     expect_all(job, store, k)?;
@@ -145,7 +153,8 @@ fn resume_running<S: Store>(job: &Job, store: &mut S, kept: &[u8; 32]) -> Result
     ensures ours { IfOk result (λ k. kept.now ≡ job.now.digest) }
     ensures asked { IfOk result (λ k. AreAsked S.asked job.now) }
     ensures compared { IfOk result (AreCompared S.compared job.now) }
-    ensures fault { IfErr result (IsFaultOn job.now (S.state store.old) (S.state store.new)) }
+    ensures seen { IfOk result (λ k. S.refuses → IsKeptMarked job.now (S.state store.old).reads → IsSeen job.now (S.seen store.new) (S.state store.new).reads k) }
+    ensures fault { IfErr result (IsFaultOn (S.refuses × (kept.now ≡ job.now.digest) × ¬ IsKeptMarked job.now (S.state store.old).reads) job.now (S.state store.old) (S.state store.new)) }
     ensures kind { IfErr result IsResumeFault }
 {
     check_plan(job, kept)?;
@@ -163,7 +172,9 @@ pub fn enter_start<S: Store>(job: &Job, store: &mut S) -> Result<(), MoveFault>
     ensures ended { OnOk result (Adds (IsRun (flights (S.state store.old)) []) (S.state store.old) (S.state store.new)) }
     ensures part { Adds (BeginsRun (flights (S.state store.old)) []) (S.state store.old) (S.state store.new) }
     ensures armed { StaysArmed (S.state store.old) (S.state store.new) }
-    ensures fault { IfErr result (IsFault job.now (S.state store.old) (S.state store.new)) }
+    // Where the cells show no ground to refuse, none is refused of what the first round does.
+    ensures seen { OnOk result (S.refuses → Tells (IsJobCell job.now.input job.now.plan) (S.state store.old).reads → IsSeen job.now (S.seen store.new) (S.state store.new).reads 0) }
+    ensures fault { IfErr result (IsFault (S.refuses × ¬ Tells (IsJobCell job.now.input job.now.plan) (S.state store.old).reads) job.now (S.state store.old) (S.state store.new)) }
     ensures kind { IfErr result IsStartFault }
 {
     match settle_and_look(store)? {
@@ -191,7 +202,9 @@ pub fn enter_resume<S: Store>(job: &Job, store: &mut S) -> Result<u32, MoveFault
         LeavesOnly (IsSafe job.now.input job.now.plan job.now.digest contents) (S.state store.old) (S.state store.new) }
     ensures halted { IfOk result (λ k. (contents : Contents) (n : ℕ) → Tells (IsJobCell job.now.input job.now.plan) (S.state store.old).reads → MayBeHalting job.now contents (S.state store.old) n →
         HasDone false job.now.input job.now.plan job.now.digest contents (S.state store.new) k) }
-    ensures fault { IfErr result (IsFault job.now (S.state store.old) (S.state store.new)) }
+    // Where the cells show no ground to refuse, none is refused of what the next round does.
+    ensures seen { IfOk result (λ k. S.refuses → IsUnrefused job.now (S.state store.old) → IsSeen job.now (S.seen store.new) (S.state store.new).reads k) }
+    ensures fault { IfErr result (IsFault (S.refuses × ¬ IsUnrefused job.now (S.state store.old)) job.now (S.state store.old) (S.state store.new)) }
     ensures kind { IfErr result IsResumeFault }
 {
     match settle_and_look(store)? {

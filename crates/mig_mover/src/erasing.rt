@@ -3,10 +3,12 @@ ghost use Rattle.std.specs.Prelude.{◌≡◌, ◌≤◌, [], All, IfSome, OnOk,
 ghost use Rattle.mig_base.specs.Layouts.{round_at};
 ghost use Rattle.mig_base.specs.Slots.{slot_of, zeros};
 ghost use Rattle.mig_base.specs.Cells.{is_slot};
-ghost use Rattle.mig_base.specs.Stores.{State, flights, ChangesOnly, HasCause};
+ghost use Rattle.mig_base.specs.Stores.{State, flights, ChangesOnly};
 ghost use Rattle.mig_base.specs.RoundStates.{IsSourceSlot};
 ghost use Rattle.mig_base.specs.Tasks.{Task};
 ghost use Rattle.mig_mover.specs.Erasures.{AreAsked, AreZeros};
+ghost use Rattle.mig_mover.specs.Holdings.{IsSeen};
+ghost use Rattle.mig_store.specs.Grounds.{HasGround, IsLast, Remembers};
 
 use mig_base::Cell;
 use mig_jobs::Job;
@@ -29,7 +31,8 @@ pub fn erase<S: Store>(store: &mut S, slot: &Cell) -> Result<(), StoreFailed>
     requires none { flights (S.state store.old) ≡ [] }
     ensures erased { OnOk result (AreZeros ((S.state store.new).reads slot.now)) }
     ensures change { ChangesOnly (λ c. c ≡ slot.now) (S.state store.old) (S.state store.new) }
-    ensures cause { HasCause (S.state store.old) (S.state store.new) result }
+    ensures seen { Remembers (λ c. c ≡ slot.now) (S.seen store.old) (S.seen store.new) }
+    ensures cause { HasGround S.refuses (IsLast (S.state store.old).reads (S.seen store.old) slot.now) (S.state store.old) (S.state store.new) result }
 {
     store.write(slot, zero_slot())
 }
@@ -42,7 +45,8 @@ pub fn erase_sources<S: Store>(job: &Job, store: &mut S, round: u32) -> Result<(
     requires none { flights (S.state store.old) ≡ [] }
     ensures erased { OnOk result (All (λ s. AreZeros ((S.state store.new).reads (slot_of job.now.input s.from))) (round_at job.now.plan round)) }
     ensures change { ChangesOnly (IsSourceSlot job.now.input job.now.plan round) (S.state store.old) (S.state store.new) }
-    ensures cause { HasCause (S.state store.old) (S.state store.new) result }
+    ensures seen { OnOk result (IsSeen job.now (S.seen store.old) (S.state store.old).reads round → IsSeen job.now (S.seen store.new) (S.state store.new).reads round) }
+    ensures cause { HasGround S.refuses (¬ IsSeen job.now (S.seen store.old) (S.state store.old).reads round) (S.state store.old) (S.state store.new) result }
 {
     for place in 0..job.round_len(round) {
         let (from, _) = job.copy(round, place);

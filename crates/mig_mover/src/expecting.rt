@@ -6,11 +6,14 @@ ghost use Rattle.mig_base.specs.JobCells.{IsFreeSlot};
 ghost use Rattle.mig_base.specs.declared.cells.Cell.{Cell};
 ghost use Rattle.mig_base.specs.Layouts.{At, round_at};
 ghost use Rattle.mig_base.specs.Slots.{slot_of};
-ghost use Rattle.mig_base.specs.Stores.{State, flights, ChangesOnly, HasCause};
+ghost use Rattle.mig_base.specs.Stores.{State, flights, ChangesOnly};
 ghost use Rattle.mig_base.specs.RoundEvents.{flights_of};
 ghost use Rattle.mig_base.specs.Tasks.{Task, IsTask};
 ghost use Rattle.mig_jobs.specs.Vacancies.{IsVacant};
+ghost use Rattle.mig_base.specs.Texts.{item_name};
 ghost use Rattle.mig_mover.specs.Erasures.{AreAsked, AreCompared, IsItemAsked};
+ghost use Rattle.mig_mover.specs.Holdings.{AreAlike, AreItemsKept, IsItemKept, IsItemSeen, IsKept, IsSeen, cell_at};
+ghost use Rattle.mig_store.specs.Grounds.{Differ, HasGround, IsLast, Lacks, Remembers};
 
 use mig_base::{Cell, ItemId};
 use mig_jobs::{Job, Vacancy, spot_cell};
@@ -29,7 +32,9 @@ fn expect_item<S: Store>(
     requires none { flights (S.state store.old) ≡ [] }
     ensures asked { OnOk result (S.asked cell.now) }
     ensures change { ChangesOnly NoCell (S.state store.old) (S.state store.new) }
-    ensures cause { HasCause (S.state store.old) (S.state store.new) result }
+    ensures noted { OnOk result (S.seen store.new cell.now (item_name job.now.input item.0)) }
+    ensures seen { Remembers (λ c. c ≡ cell.now) (S.seen store.old) (S.seen store.new) }
+    ensures cause { HasGround S.refuses (Lacks (S.state store.old).reads cell.now (item_name job.now.input item.0)) (S.state store.old) (S.state store.new) result }
 {
     store.expects(cell, &job.input().items()[item.0 as usize])
 }
@@ -46,7 +51,9 @@ fn expect_moved<S: Store>(
     requires none { flights (S.state store.old) ≡ [] }
     ensures asked { OnOk result (IsItemAsked S.asked job.now found item.0) }
     ensures change { ChangesOnly NoCell (S.state store.old) (S.state store.new) }
-    ensures cause { HasCause (S.state store.old) (S.state store.new) result }
+    ensures noted { OnOk result (IsItemSeen job.now (S.seen store.new) found item.0) }
+    ensures seen { Remembers (λ c. cell_at job.now found item.0 ≡ Some c) (S.seen store.old) (S.seen store.new) }
+    ensures cause { HasGround S.refuses (¬ IsItemKept job.now (S.state store.old).reads found item.0) (S.state store.old) (S.state store.new) result }
 {
     if job.is_shifted(item.0 as usize) {
         return expect_item(job, store, item, &job.cell_of(item, found), found);
@@ -65,7 +72,8 @@ fn expect_vacant<S: Store>(
     requires none { flights (S.state store.old) ≡ [] }
     ensures asked { OnOk result (IsVacant v.now found → S.asked (slot_of job.now.input v.now.spot)) }
     ensures change { ChangesOnly NoCell (S.state store.old) (S.state store.new) }
-    ensures cause { HasCause (S.state store.old) (S.state store.new) result }
+    ensures seen { Remembers NoCell (S.seen store.old) (S.seen store.new) }
+    ensures cause { HasGround S.refuses (IsVacant v.now found × IsLast (S.state store.old).reads (S.seen store.old) (slot_of job.now.input v.now.spot)) (S.state store.old) (S.state store.new) result }
 {
     if v.from <= found && found < v.until {
         return store.expects_free(&spot_cell(job.input(), v.spot));
@@ -79,7 +87,8 @@ fn expect_shifted<S: Store>(job: &Job, store: &mut S, found: u32) -> Result<(), 
     requires none { flights (S.state store.old) ≡ [] }
     ensures asked { OnOk result ((item : ℕ) → item < length job.now.input.items → IsItemAsked S.asked job.now found item) }
     ensures change { ChangesOnly NoCell (S.state store.old) (S.state store.new) }
-    ensures cause { HasCause (S.state store.old) (S.state store.new) result }
+    ensures noted { OnOk result ((item : ℕ) → item < length job.now.input.items → IsItemSeen job.now (S.seen store.new) found item) }
+    ensures cause { HasGround S.refuses (¬ AreItemsKept job.now (S.state store.old).reads found) (S.state store.old) (S.state store.new) result }
 {
     job.keeps_rules();
     for item in 0..job.input().items().len() {
@@ -94,7 +103,8 @@ fn expect_free<S: Store>(job: &Job, store: &mut S, found: u32) -> Result<(), Sto
     requires none { flights (S.state store.old) ≡ [] }
     ensures asked { OnOk result ((cell : Cell) → IsFreeSlot job.now.input job.now.plan found cell → S.asked cell) }
     ensures change { ChangesOnly NoCell (S.state store.old) (S.state store.new) }
-    ensures cause { HasCause (S.state store.old) (S.state store.new) result }
+    ensures seen { Remembers NoCell (S.seen store.old) (S.seen store.new) }
+    ensures cause { HasGround S.refuses (¬ IsSeen job.now (S.seen store.old) (S.state store.old).reads found) (S.state store.old) (S.state store.new) result }
 {
     for v in job.vacancies() {
         expect_vacant(job, store, v, found)?;
@@ -115,7 +125,8 @@ fn expect_copied<S: Store>(
     requires none { flights (S.state store.old) ≡ [] }
     ensures compared { OnOk result (IfSome (slice_get (flights_of job.now.input (round_at job.now.plan round)) place) (λ f. S.compared f.from f.to)) }
     ensures change { ChangesOnly NoCell (S.state store.old) (S.state store.new) }
-    ensures cause { HasCause (S.state store.old) (S.state store.new) result }
+    ensures seen { Remembers NoCell (S.seen store.old) (S.seen store.new) }
+    ensures cause { HasGround S.refuses (IfSome (slice_get (flights_of job.now.input (round_at job.now.plan round)) place) (λ f. Differ (S.state store.old).reads f.from f.to)) (S.state store.old) (S.state store.new) result }
 {
     let (from, to) = job.copy(round, place);
     store.expects_copy(&from, &to)
@@ -127,7 +138,8 @@ fn expect_copies<S: Store>(job: &Job, store: &mut S, found: u32) -> Result<(), S
     requires none { flights (S.state store.old) ≡ [] }
     ensures compared { OnOk result (AreCompared S.compared job.now found) }
     ensures change { ChangesOnly NoCell (S.state store.old) (S.state store.new) }
-    ensures cause { HasCause (S.state store.old) (S.state store.new) result }
+    ensures seen { Remembers NoCell (S.seen store.old) (S.seen store.new) }
+    ensures cause { HasGround S.refuses (¬ AreAlike job.now (S.state store.old).reads found) (S.state store.old) (S.state store.new) result }
 {
     if found == 0 {
         return Ok(());
@@ -146,7 +158,9 @@ pub(crate) fn expect_all<S: Store>(job: &Job, store: &mut S, found: u32) -> Resu
     ensures asked { OnOk result (AreAsked S.asked job.now) }
     ensures compared { OnOk result (AreCompared S.compared job.now found) }
     ensures change { ChangesOnly NoCell (S.state store.old) (S.state store.new) }
-    ensures cause { HasCause (S.state store.old) (S.state store.new) result }
+    // Where the cells show no ground to refuse, none is refused of what the next round does.
+    ensures seen { OnOk result (S.refuses → IsKept job.now (S.state store.old).reads found → IsSeen job.now (S.seen store.new) (S.state store.new).reads found) }
+    ensures cause { HasGround S.refuses (¬ IsKept job.now (S.state store.old).reads found) (S.state store.old) (S.state store.new) result }
 {
     job.keeps_rules();
     expect_shifted(job, store, found)?;

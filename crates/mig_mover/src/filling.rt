@@ -3,11 +3,13 @@ ghost use Rattle.std.specs.Prelude.{◌≡◌, ◌⊎◌, ◌<◌, ◌≤◌, []
 ghost use Rattle.mig_base.specs.declared.cells.Event.{Event};
 ghost use Rattle.mig_base.specs.Flights.{IsTargetOf};
 ghost use Rattle.mig_base.specs.Images.{NoCell};
+ghost use Rattle.mig_base.specs.JobCells.{Tells};
 ghost use Rattle.mig_base.specs.Journals.{is_armed};
 ghost use Rattle.mig_base.specs.RoundEvents.{BeginsRun};
 ghost use Rattle.mig_base.specs.Slots.{item_cell, made_slot, slot_of, IsListedCell, IsUnused};
 ghost use Rattle.mig_base.specs.Stores.{State, flights, Changes, ChangesOnly, HasCause, IsSettled};
 ghost use Rattle.mig_base.specs.Texts.{item_name};
+ghost use Rattle.mig_store.specs.Grounds.{HasGround};
 ghost use Rattle.mig_mover.specs.Fillings.{HasMade, IsFillable, IsFillFault, IsFillFaultOn, IsFirstTaken, IsSoundForAll, WasFillable};
 
 use crate::entries::settle_and_look;
@@ -25,7 +27,7 @@ fn find_taken<S: Store>(input: &Input, store: &mut S) -> Result<Option<Spot>, St
     ensures unused { IfOk result (λ found. IfNone found (All (IsUnused input.now (S.state store.old).reads) input.now.spots)) }
     ensures asked { IfOk result (λ found. IfNone found (All (λ spot. S.asked (slot_of input.now spot)) input.now.spots)) }
     ensures change { ChangesOnly NoCell (S.state store.old) (S.state store.new) }
-    ensures cause { HasCause (S.state store.old) (S.state store.new) result }
+    ensures cause { HasGround S.refuses (¬ Tells (IsListedCell input.now) (S.state store.old).reads) (S.state store.old) (S.state store.new) result }
 {
     input.keeps_rules();
     let mut slot = [0; 4096];
@@ -79,7 +81,7 @@ fn fill_idle<S: Store>(input: &Input, store: &mut S) -> Result<(), MoveFault>
     ensures landed { OnOk result (flights (S.state store.new) ≡ []) }
     ensures idle { OnOk result (is_armed (S.state store.new).reads ≡ false) }
     ensures sound { OnOk result (IsSoundForAll input.now (S.state store.new).reads) }
-    ensures fault { IfErr result (IsFillFaultOn input.now (S.state store.old) (S.state store.new)) }
+    ensures fault { IfErr result (IsFillFaultOn (S.refuses × ¬ Tells (IsListedCell input.now) (S.state store.old).reads) input.now (S.state store.old) (S.state store.new)) }
     ensures change { ChangesOnly (IsListedCell input.now) (S.state store.old) (S.state store.new) }
     ensures later { (S.state store.old).faults ≤ (S.state store.new).faults }
 {
@@ -108,7 +110,7 @@ pub fn fill<S: Store>(input: &Input, store: &mut S) -> Result<(), MoveFault>
     ensures idle { OnOk result (is_armed (S.state store.new).reads ≡ false) }
     ensures sound { OnOk result (IsSoundForAll input.now (S.state store.new).reads) }
     ensures fillable { OnOk result (WasFillable input.now (S.state store.old)) }
-    ensures fault { IfErr result (IsFillFault input.now (S.state store.old) (S.state store.new)) }
+    ensures fault { IfErr result (IsFillFault (S.refuses × ¬ Tells (IsListedCell input.now) (S.state store.old).reads) input.now (S.state store.old) (S.state store.new)) }
     ensures change { (added : List Event) × BeginsRun (flights (S.state store.old)) [] added
         × Changes (λ cell. IsTargetOf (flights (S.state store.old)) cell ⊎ IsListedCell input.now cell) (IsListedCell input.now) added (S.state store.old) (S.state store.new) }
     ensures later { (S.state store.old).faults ≤ (S.state store.new).faults }

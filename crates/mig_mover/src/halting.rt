@@ -1,13 +1,14 @@
 //! How a migration is closed early.
 ghost use Rattle.std.specs.Prelude.{◌≡◌, ◌<◌, ◌≤◌, [], ◌∷◌, OnOk, IfErr, IfSome, length};
 ghost use Rattle.mig_base.specs.declared.cells.Cell.TheVariants.{Gate};
-ghost use Rattle.mig_base.specs.FaultCounts.{Rose};
 ghost use Rattle.mig_base.specs.JobCells.{IsFreeSlot};
 ghost use Rattle.mig_base.specs.Slots.{slot_of};
-ghost use Rattle.mig_base.specs.Stores.{State, flights, ChangesOnly, IsSettled, HasCause};
+ghost use Rattle.mig_base.specs.Stores.{State, flights, ChangesOnly, IsSettled};
 ghost use Rattle.mig_mover.specs.Erasures.{AreAsked, AreCompared, AreZeros};
 ghost use Rattle.mig_mover.specs.Halts.{AreErased, IsClosingCell, KeepsHaltSafe, EndsHalted};
+ghost use Rattle.mig_mover.specs.Holdings.{IsSeen};
 ghost use Rattle.mig_mover.specs.Stands.{IsAt};
+ghost use Rattle.mig_store.specs.Grounds.{FailedOr, HasGround, IsLast, Remembers};
 ghost use Rattle.mig_base.specs.Tasks.{Task, IsTask};
 ghost use Rattle.mig_jobs.specs.Vacancies.{IsVacant};
 
@@ -29,7 +30,8 @@ fn erase_vacant<S: Store>(
     requires none { flights (S.state store.old) ≡ [] }
     ensures erased { OnOk result (IsVacant v.now found → AreZeros ((S.state store.new).reads (slot_of job.now.input v.now.spot))) }
     ensures change { ChangesOnly (λ c. IsVacant v.now found × (c ≡ slot_of job.now.input v.now.spot)) (S.state store.old) (S.state store.new) }
-    ensures cause { HasCause (S.state store.old) (S.state store.new) result }
+    ensures seen { Remembers (λ c. IsVacant v.now found × (c ≡ slot_of job.now.input v.now.spot)) (S.seen store.old) (S.seen store.new) }
+    ensures cause { HasGround S.refuses (IsVacant v.now found × IsLast (S.state store.old).reads (S.seen store.old) (slot_of job.now.input v.now.spot)) (S.state store.old) (S.state store.new) result }
 {
     if v.from <= found && found < v.until {
         return erase(store, &spot_cell(job.input(), v.spot));
@@ -44,7 +46,7 @@ fn erase_free<S: Store>(job: &Job, store: &mut S, found: u32) -> Result<(), Stor
     requires none { flights (S.state store.old) ≡ [] }
     ensures erased { OnOk result (AreErased job.now found (S.state store.new).reads) }
     ensures change { ChangesOnly (IsFreeSlot job.now.input job.now.plan found) (S.state store.old) (S.state store.new) }
-    ensures cause { HasCause (S.state store.old) (S.state store.new) result }
+    ensures cause { HasGround S.refuses (¬ IsSeen job.now (S.seen store.old) (S.state store.old).reads found) (S.state store.old) (S.state store.new) result }
     ensures valid { IsTask job.now }
 {
     for v in job.vacancies() {
@@ -72,7 +74,7 @@ pub fn halt<S: Store>(job: &Job, store: &mut S, found: u32) -> Result<(), MoveFa
     ensures closed { OnOk result (IfSome ((S.state store.new).reads Gate) (λ bytes. bytes ≡ 0 ∷ [])) }
     ensures settled { OnOk result (IsSettled (S.state store.new)) }
     ensures change { ChangesOnly (IsClosingCell job.now found) (S.state store.old) (S.state store.new) }
-    ensures fault { IfErr result (λ fault. (fault ≡ MoveFault.Store) × Rose (S.state store.old).faults (S.state store.new).faults) }
+    ensures fault { IfErr result (λ fault. (fault ≡ MoveFault.Store) × FailedOr (S.refuses × ¬ IsSeen job.now (S.seen store.old) (S.state store.old).reads found) (S.state store.old) (S.state store.new)) }
     ensures later { (S.state store.old).faults ≤ (S.state store.new).faults }
 {
     erase_free(job, store, found)?;

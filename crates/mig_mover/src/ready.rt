@@ -1,11 +1,13 @@
 //! Whether a store is ready for a plan.
 ghost use Rattle.std.specs.Prelude.{◌≡◌, ◌<◌, ◌≤◌, [], ℕ, All, false, IfErr, IfNone, IfOk, IfSome, MatchBool, OnOk, length};
 ghost use Rattle.mig_base.specs.Images.{NoCell};
+ghost use Rattle.mig_base.specs.JobCells.{IsJobCell, Tells};
 ghost use Rattle.mig_base.specs.Journals.{is_armed};
 ghost use Rattle.mig_base.specs.Readiness.{shifts_of, IsShifted, CanTake, IsReady, IsFirstLost, IsFirstUsed};
 ghost use Rattle.mig_base.specs.Slots.{IsThere, IsLost};
 ghost use Rattle.mig_base.specs.Stores.{State, flights, ChangesOnly, HasCause};
 ghost use Rattle.mig_mover.specs.Erasures.{AreAsked};
+ghost use Rattle.mig_mover.specs.Holdings.{IsSeen};
 ghost use Rattle.mig_mover.specs.Moves.{IsFaultOn, IsResumeFault};
 ghost use Rattle.mig_base.specs.Tasks.{Task};
 
@@ -76,10 +78,12 @@ pub(crate) fn check_ready<S: Store>(job: &Job, store: &mut S) -> Result<(), Move
     ensures ready { OnOk result (IsReady job.now.input job.now.plan (S.state store.old).reads) }
     ensures asked { OnOk result (AreAsked S.asked job.now) }
     ensures change { ChangesOnly NoCell (S.state store.old) (S.state store.new) }
-    ensures fault { IfErr result (IsFaultOn job.now (S.state store.old) (S.state store.new)) }
+    ensures seen { OnOk result (S.refuses → Tells (IsJobCell job.now.input job.now.plan) (S.state store.old).reads → IsSeen job.now (S.seen store.new) (S.state store.new).reads 0) }
+    ensures fault { IfErr result (IsFaultOn (S.refuses × ¬ Tells (IsJobCell job.now.input job.now.plan) (S.state store.old).reads) job.now (S.state store.old) (S.state store.new)) }
     ensures kind { IfErr result IsResumeFault }
     ensures later { (S.state store.old).faults ≤ (S.state store.new).faults }
 {
+    job.keeps_rules();
     if let Some(item) = find_lost(job, store)? {
         return Err(MoveFault::NotThere { item });
     }

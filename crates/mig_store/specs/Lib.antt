@@ -2,6 +2,7 @@ pub mod Asking
 pub mod Bytes
 pub mod Calls
 pub mod Entries
+pub mod Grounds
 pub mod HeldCells
 pub mod Ledgers
 pub mod Memories

@@ -11,6 +11,7 @@ ghost use Rattle.mig_store.specs.Calls.{Wrote, Copies, Lands};
 ghost use Rattle.mig_store.specs.declared.ends.EndOrder.{EndOrder};
 ghost use Rattle.mig_store.specs.declared.trouble.Trouble.{Trouble};
 ghost use Rattle.mig_store.specs.Asking.{picked};
+ghost use Rattle.mig_store.specs.Grounds.{Differ, HasGround, IsErasure, IsLast, IsUncopiable, Lacks};
 ghost use Rattle.mig_store.specs.HeldCells.{zero_held};
 ghost use Rattle.mig_store.specs.Ledgers.{Log, is_sync, IsMoment, moment_of, flying, state_at};
 ghost use Rattle.mig_store.specs.Orders.{after_end};
@@ -190,7 +191,13 @@ impl Store for MemStore {
 
     ghost compared = { λ from to. ⊤ };
 
+    ghost refuses = { ⊥ };
+
+    ghost seen = { λ store slot item. ⊤ };
+
     ghost is_state = { mem_is_state };
+
+    ghost holds_seen = { λ store slot item none. absurd none };
 
     /// Fails exactly at the numbers that were given, and after the fuse.
     fn read(&mut self, cell: &Cell, into: &mut [u8]) -> Result<(), StoreFailed>
@@ -215,7 +222,7 @@ impl Store for MemStore {
         ensures succeeds { IsOk result }
         ensures after { self.new ≡ self.old }
         ensures change { Looks (state_of self.old) (state_of self.new) }
-        ensures cause { HasCause (state_of self.old) (state_of self.new) result }
+        ensures cause { HasGround ⊥ (Lacks (state_of self.old).reads slot.now name.now) (state_of self.old) (state_of self.new) result }
     {
         Ok(())
     }
@@ -226,7 +233,7 @@ impl Store for MemStore {
         ensures succeeds { IsOk result }
         ensures after { self.new ≡ self.old }
         ensures change { Looks (state_of self.old) (state_of self.new) }
-        ensures cause { HasCause (state_of self.old) (state_of self.new) result }
+        ensures cause { HasGround ⊥ (IsLast (state_of self.old).reads (λ slot item. ⊤) slot.now) (state_of self.old) (state_of self.new) result }
     {
         Ok(())
     }
@@ -237,7 +244,7 @@ impl Store for MemStore {
         ensures succeeds { IsOk result }
         ensures after { self.new ≡ self.old }
         ensures change { Looks (state_of self.old) (state_of self.new) }
-        ensures cause { HasCause (state_of self.old) (state_of self.new) result }
+        ensures cause { HasGround ⊥ (Differ (state_of self.old).reads from.now to.now) (state_of self.old) (state_of self.new) result }
     {
         Ok(())
     }
@@ -252,7 +259,7 @@ impl Store for MemStore {
         ensures full { ¬ HasRoom 1 self.old → self.new ≡ record self.old { trouble = faulted result (next_write self.old.trouble) } }
         ensures written { OnOk result (IfSome ((state_of self.new).reads cell.now) (λ told. told ≡ bytes.now)) }
         ensures change { ChangesOnly (λ c. c ≡ cell.now) (state_of self.old) (state_of self.new) }
-        ensures cause { HasCause (state_of self.old) (state_of self.new) result }
+        ensures cause { HasGround ⊥ (IsErasure cell.now bytes.now × IsLast (state_of self.old).reads (λ slot item. ⊤) cell.now) (state_of self.old) (state_of self.new) result }
     {
         let fails = self.trouble.next_write();
         if !self.ledger.has_room(1) {
@@ -281,7 +288,7 @@ impl Store for MemStore {
         ensures begun { OnOk result (Changes (λ c. c ≡ to.now) (λ c. c ≡ to.now) (began (record { from = from.now; to = to.now }) ∷ []) (state_of self.old) (state_of self.new)) }
         ensures copied { OnOk result (¬ IsMoving (state_of self.new) to.now → IsCopy ((state_of self.old).reads from.now) ((state_of self.new).reads to.now)) }
         ensures change { (n : ℕ) × Changes (λ c. c ≡ to.now) (λ c. c ≡ to.now) (take n (began (record { from = from.now; to = to.now }) ∷ [])) (state_of self.old) (state_of self.new) }
-        ensures cause { HasCause (state_of self.old) (state_of self.new) result }
+        ensures cause { HasGround ⊥ (IsUncopiable (state_of self.old).reads (λ slot item. ⊤) from.now to.now) (state_of self.old) (state_of self.new) result }
     {
         let fails = self.trouble.next_write();
         if !self.ledger.has_room(1) {

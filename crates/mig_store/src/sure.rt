@@ -63,7 +63,13 @@ impl Store for SureStore {
 
     ghost compared = { λ from to. ⊤ };
 
+    ghost refuses = { ⊥ };
+
+    ghost seen = { λ store slot item. ⊤ };
+
     ghost is_state = { sure_is_state };
+
+    ghost holds_seen = { λ store slot item none. absurd none };
 
     fn read(&mut self, cell: &Cell, into: &mut [u8]) -> Result<(), StoreFailed> {
         if let Some(block) = get(&self.table, &self.held, cell) {

@@ -142,7 +142,7 @@ module _ {k : Call} {disks now : List ℕ} (same : Untouched k.before.folder k.a
     put = stops.put;
     later = later;
     bare = tt;
-    so = record { cause = (stops.rose, (input, layout, (stops.item, stops.here, stops.within, stops.are))); leaves = same; store = looks };
+    so = record { cause = (inl stops.rose, (input, layout, (stops.item, stops.here, stops.within, stops.are))); leaves = same; store = looks };
   }
 
   module _ (mid : SinkState) (later : k.before.sink.faults ≤ mid.faults) {status : ℕ} where

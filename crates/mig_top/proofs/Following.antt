@@ -1,7 +1,9 @@
 -- What follows a session.
 use Rattle.mig_top.proofs.Common.{Contents, Files, Gate, HaltsWell, Head, IsSafe, List, MovesWell, ResumesInFlight, Scripted, ServesWell, SettlesTo, Some, State, Task, inl, inr, is_armed, refl, subst, sym, true, ℕ, ⊎_elim, ◌≡◌, ◌⊎◌}
-use Rattle.mig_top.specs.Calls.{World, call}
+use Rattle.mig_mover.specs.Holdings.{IsUnrefused}
+use Rattle.mig_top.specs.Calls.{Call, World, call}
 use Rattle.mig_top.specs.live.Following.{HaltsAfter, ResumesAfter, ServesAfter}
+use Rattle.mig_top.specs.live.Looks.{IsServable}
 use Rattle.mig_top.specs.live.Promise.{MayGoOn}
 
 -- what a session leaves names its plan
@@ -11,11 +13,14 @@ names_plan task contents s may armed = (may.sound s.reads may.ready.images).safe
 settles : (task : Task) (contents : Contents) (s : State) → MayGoOn task contents s → SettlesTo (IsSafe task.input task.plan task.digest contents) s
 settles task contents s may = inr ((λ image left. (may.sound image left).safe), may.ready.images)
 
-module _ (first between last : World) (read : Scripted) (contents : Contents) (status : ℕ) (may : MayGoOn read.task contents first.store) (serves : ServesWell (call first between) read status) where
+module _ (refuses : Type 0) (first between last : World) (read : Scripted) (contents : Contents) (status : ℕ) (may : MayGoOn read.task contents first.store) (serves : ServesWell (call refuses first between) read status) where
+  abbrev next_call : Call
+  next_call = call refuses between last
+
   now : MayGoOn read.task contents between.store
   now = serves.again contents may
 
-  pub resumed : (next : ℕ) → MovesWell (call between last) read.task next → ResumesInFlight (call between last) read.task next → ResumesAfter (call between last) read.task contents next
+  pub resumed : (next : ℕ) → MovesWell next_call read.task next → ResumesInFlight next_call read.task (¬ IsUnrefused read.task between.store) next → ResumesAfter next_call read.task contents next
   resumed next moves in_flight = record {
     safe = moves.safe true contents now.ready.cells now.ready.images now.sound;
     reached = λ done. moves.reached done contents now.ready.cells (inr (now.sound, now.ready.images));
@@ -23,7 +28,7 @@ module _ (first between last : World) (read : Scripted) (contents : Contents) (s
     done = in_flight now.ready (names_plan read.task contents between.store now);
   }
 
-  pub halted : (files : Files) (layout : List ℕ) (next : ℕ) → (halts : HaltsWell (call between last) files read.task layout next) → HaltsAfter (call between last) read.task contents status next halts.rounds
+  pub halted : (files : Files) (layout : List ℕ) (next : ℕ) → (halts : HaltsWell next_call files read.task layout next) → HaltsAfter next_call read.task contents status next halts.rounds
   halted files layout next halts = record {
     safe = λ image left. ⊎_elim (λ before. inl (now.sound image before)) (λ safe. inr safe) (halts.safe contents now.cells (inl (settles read.task contents between.store now)) image left);
     halted = λ done. halts.halted done contents now.cells (inl (settles read.task contents between.store now));
@@ -33,8 +38,8 @@ module _ (first between last : World) (read : Scripted) (contents : Contents) (s
         halts.halts now.ready.slots armed (names_plan read.task contents between.store now armed);
   }
 
-  pub served : (other : Scripted) → other.task ≡ read.task → (next : ℕ) → (well : ServesWell (call between last) other next) → ResumesInFlight (call between last) other.task next
-      → ServesAfter (call between last) other contents next well.rounds
+  pub served : (other : Scripted) → other.task ≡ read.task → (next : ℕ) → (well : ServesWell next_call other next) → ResumesInFlight next_call other.task (¬ IsServable other between.store) next
+      → ServesAfter next_call other contents next well.rounds
   served other same next well in_flight = record {
     safe = λ image left. ⊎_elim (here.sound image) (λ p. p) (well.safe true contents here.ready.cells (inr (here.sound, here.ready.images)) image left);
     told = λ zero. well.told zero true contents (here.ready.cells, inr (here.sound, here.ready.images));

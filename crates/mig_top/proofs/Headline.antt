@@ -8,11 +8,12 @@ use Rattle.mig_top.proofs.Common.{Untouched, Why, WorldEnds, WritesApart, [], af
 use Rattle.mig_top.proofs.Common.{finds, first, fits_drill, if◌then◌else◌, inl, inr, layout_in, length, loads_input, loads_layout, loads_plan, quotient, refl, roomy, second}
 use Rattle.mig_top.proofs.Common.{not_spelled, refusal_between, shifts_of, stands, subst, sym, take, take_all, task_in, transfers, verdict_text, ℕ, ⊎_elim, ◌++◌, ◌+◌, ◌<◌, ◌∙◌, ◌≡◌, ◌≢◌, ◌≤◌, ◌⊎◌}
 use Rattle.mig_top.proofs.Plainly.{found_input, loads_there, there_loads}
-use Rattle.mig_top.proofs.EndsOf.{cause_at, done_by, ends_of, ends_so, holds_by, put_by, told_at}
+use Rattle.mig_top.proofs.EndsOf.{cause_at, done_by, ends_of, ends_so, holds_by, put_by, told_at, unrefused}
 use Rattle.mig_top.proofs.Exactness.{checks_exact, comes_exactly, input_loads, is_input, layout_in_exact, task_in_exact}
 use Rattle.mig_top.proofs.StoreCommands.{fill_rest}
 use Rattle.mig_top.proofs.Auditing.{whole_audit}
 use Rattle.mig_top.proofs.Steps.{follow, lead}
+use Rattle.mig_top.specs.Ends.{IsRefusable}
 use Rattle.mig_text.proofs.ShiftCounts as plan_lengths
 use Rattle.mig_cert.proofs.CertLengths as cert_lengths
 
@@ -101,8 +102,11 @@ module _ (k : Call) (names : Names) (cert : List ℕ) (files : Files) (is : k.be
     plans_well ends l =
         let e = ends_of ends form l in
         record {
-          ends = λ bodies there fine quiet. ⊎_elim (λ so. ends_by so.0 (means so.0 so.1) so.2 bodies there) (λ seven. inr (inr seven))
-              (ends_so ends files is form l fine quiet (λ before h. h.1));
+          ends = λ bodies there fine quiet. elim (ends_so ends files is form l fine quiet) [
+            | inl so ↦ ends_by so.0 (means so.0 so.1) so.2 bodies there
+            | inr (inl seven) ↦ inr (inr seven)
+            | inr (inr five) ↦ absurd five.2.1
+          ];
           refused = refused_by e.outcome e.is e.so;
           refuses = refuses_by e.outcome e.is e.so;
           planned = λ zero.
@@ -167,8 +171,8 @@ module _ (names : Names) (cert text : List ℕ) (old files : Files) (apart : Wri
 
   pub checks_saved : {k : Call} {words : List (List ℕ)} {status : ℕ} → EndsAs k words status → k.before.folder.files ≡ Some files → IsListed words (Check names cert)
       → ChecksSaved k saved.input status
-  checks_saved {k = k} ends is l = record {
-    right = λ fine quiet. comes_exactly ends files (Check names cert) is l (Done (verdict_text saved.texts.rounds saved.texts.certificate)) is_verdict fine quiet tt;
+  checks_saved {k = k} {status = status} ends is l = record {
+    right = λ fine quiet. unrefused k status (λ none. none) (comes_exactly ends files (Check names cert) is l (Done (verdict_text saved.texts.rounds saved.texts.certificate)) is_verdict fine quiet tt);
     optimal = λ zero why holds.
         let (t, h, put) = put_by (ends_of ends (Check names cert) l) zero in
         subst (λ (said : List ℕ). Extends said k.before.sink k.after.sink) (told_optimal why holds t (cause_at k files is (Check names cert) (Done t) h.cause)) put;
@@ -188,12 +192,18 @@ module _ {k : Call} {words : List (List ℕ)} {status : ℕ} (ends : EndsAs k wo
         let from = h.store in
         subst (λ (i : Lists). IsFilled i k.before.store k.after.store) (one_layout from.0 input (told_at (λ f. HoldsLayout f disks now from.0) k.before.folder.files files is from.1) holds) from.2
 
+    -- what is told is no ground to refuse
+    fill_told : TellsStill (IsFillCell input) k.before.store → IsRefusable k (Fill disks now) → ⊥
+    fill_told tells (other, are, untold) =
+        let same = one_layout input other holds (told_at (λ f. HoldsLayout f disks now other) k.before.folder.files files is are) in
+        untold (λ cell of. (subst (λ (i : Lists). TellsStill (IsFillCell i) k.before.store) same tells).cells cell (inr of))
+
     pub fills_well : FillsWell k input status
     fills_well = record {
       filled = λ done. let d = done_by (ends_of ends (Fill disks now) l) (λ text h. h.cause) done in filled_by d.0 d.1;
-      fills = λ tells fillable fine quiet sound. comes_exactly ends files (Fill disks now) is l (Done (filled_text input))
+      fills = λ tells fillable fine quiet sound. unrefused k status (fill_told tells) (comes_exactly ends files (Fill disks now) is l (Done (filled_text input))
           (lead (layout_in disks now files) (fill_rest k.before.store) input holds (Done (filled_text input)) (tt, fillable, refl)) fine quiet
-          (sound, λ other same. subst (λ (i : Lists). TellsStill (IsFillCell i) k.before.store) (one_layout input other holds same) tells);
+          (sound, λ other same. subst (λ (i : Lists). TellsStill (IsFillCell i) k.before.store) (one_layout input other holds same) tells));
     }
 
   -- `audit`
@@ -210,7 +220,7 @@ module _ {k : Call} {words : List (List ℕ)} {status : ℕ} (ends : EndsAs k wo
           );
       audits = λ fine quiet sound.
           let whole = whole_audit input k.before.store 0 [] 0 (omega arith) (refl, refl) in
-          comes_exactly ends files (Audit disks now) is l (Done ([] ++ whole.0)) (input, holds, whole.1) fine quiet sound;
+          unrefused k status (λ none. none) (comes_exactly ends files (Audit disks now) is l (Done ([] ++ whole.0)) (input, holds, whole.1) fine quiet sound);
     }
 
 -- `drill`
@@ -226,7 +236,7 @@ module _ {k : Call} {words : List (List ℕ)} {status : ℕ} (ends : EndsAs k wo
   drill_end o h = follow (task_in (roomy names) files) (task_in_exact (roomy names) files) drill_rest task holds o (cause_at k files is (Drill names) o h)
 
   drill_comes : (o : Outcome) → IsEndOf (drill_rest task) o → (FolderFailed k → ⊥) → (SinkFailed k → ⊥) → (status ≡ code o) ⊎ (status ≡ 7)
-  drill_comes o h fine quiet = comes_exactly ends files (Drill names) is l o (lead (task_in (roomy names) files) drill_rest task holds o h) fine quiet tt
+  drill_comes o h fine quiet = unrefused k status (λ none. none) (comes_exactly ends files (Drill names) is l o (lead (task_in (roomy names) files) drill_rest task holds o h) fine quiet tt)
 
   is_large : (o : Outcome) → status ≡ code o → IsOrNotPut (WorldEnds k (Drill names)) k.before.sink k.after.sink o → status ≡ 11 → MAX_DRILL_SHIFTS < length (shifts_of task.plan)
   is_large (Found (TooLarge shifts)) at h eleven = ⊎_elim (λ large. large.0) (λ rest. absurd rest.2) (drill_end (Found (TooLarge shifts)) h.cause)

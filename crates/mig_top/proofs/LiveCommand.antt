@@ -1,27 +1,34 @@
 -- How `live` ends.
-use Rattle.mig_top.proofs.Common.{Adds, AreAnswers, AreOfScripted, BeginsRun, Bool, Call, Contents, Done, Err, Event, FormEndsAs, Gate, GoesOn, IfSome, Image, IsFault, IsInput, IsJobCell, IsReached}
-use Rattle.mig_top.proofs.Common.{IsResumable, IsResumeFault, IsResumeRefusal, IsSafeAfter, IsServed, IsSome, IsSound, Keeps, LeavesOnly, List, Live, MoveFault, Names, None}
+use Rattle.mig_top.proofs.Common.{Adds, All, All-contains, AreAnswers, AreOfScripted, BeginsRun, Bool, Call, Cell, Contents, Done, Err, Event, FormEndsAs, Gate, GoesOn, HasHeader, IfSome, Image, IsFault, IsInput, IsJobCell, IsReached}
+use Rattle.mig_top.proofs.Common.{IsResumable, IsResumeFault, IsResumeRefusal, IsSafeAfter, IsServed, IsSome, IsSomeAnd, IsSound, IsTargetOf, Keeps, LeavesOnly, List, Live, MoveFault, Names, None}
 use Rattle.mig_top.proofs.Common.{Option, Order, Rose, Runs, Scripted, ServesAll, SettlesTo, Shows, SinkFault, SinkState, Some, State, StaysArmed, Step, Task, Tells, Untouched, WentOn}
-use Rattle.mig_top.proofs.Common.{WorldEnds, [], after, all_steps, ap, append_assoc, arith, count_most, count_of, drop, fault_outcome, finds, flights, inl, inr, is_armed, left_text, length}
+use Rattle.mig_top.proofs.Common.{WorldEnds, [], after, all_steps, ap, append_assoc, arith, count_most, count_of, drop, false≢true, fault_outcome, finds, flights, inl, inr, is_armed, item_cell, item_name, left_text, length}
 use Rattle.mig_top.proofs.Common.{length-append, marks_by, option_map, refl, replies, resumes, scripted_in, steps_after, steps_left, subst, sym, take, then_begins, then_extends, true, ℕ, ⊎_elim, ◌++◌}
-use Rattle.mig_top.proofs.Common.{◌+◌, ◌-◌, ◌∙◌, ◌∷◌, ◌≡◌, ◌≤◌}
+use Rattle.mig_top.proofs.Common.{◌+◌, ◌-◌, ◌∙◌, ◌∷◌, ◌≡◌, ◌≤◌, ◌⊎◌}
 use Rattle.mig_base.specs.RoundEvents.{IsRun}
 use Rattle.mig_io.specs.Held.{ExtendsByPrefix}
 use Rattle.mig_lanes.proofs.RunLaws.{work_armed, work_keeps, work_stays}
 use Rattle.mig_live.proofs.ActionLaws.{part_of_all, past_erasures}
+use Rattle.mig_live.proofs.SeenSteps.{not_work}
 use Rattle.mig_live.proofs.WorkCells.{Works, made_works, part_works}
 use Rattle.mig_live.specs.Actions.{Action, AreMade, AreMadeInPart, actions_after, actions_left, all_events}
-use Rattle.mig_live.specs.Orders.{steps_of}
+use Rattle.mig_live.specs.Orders.{IsOrder, steps_of}
+use Rattle.mig_live.specs.declared.orders.Order.TheVariants.{Read}
 use Rattle.mig_live.proofs.SessionLaws.{last_reached, last_settled, marks_counted}
 use Rattle.mig_live.specs.Replies.{AreCutOff, ArePut, AreReplies, WasLeftAfter, telling}
-use Rattle.mig_live.specs.Sessions.{InStep, IsSession, IsUnsynced, Session, done_in}
+use Rattle.mig_live.specs.Sessions.{AreOthersKept, InSight, InSightFor, InStep, IsSession, IsUnsynced, Session, done_in}
 use Rattle.mig_live.specs.declared.serving.ServeFault.TheVariants as serve_fault
+use Rattle.mig_base.specs.Tasks.{IsTask}
+use Rattle.mig_mover.proofs.SeenSlots.{journal_beside}
+use Rattle.mig_mover.specs.Holdings.{IsUnrefused}
 use Rattle.mig_mover.specs.declared.faults.MoveFault.TheVariants as fault
-use Rattle.mig_top.proofs.EndsOf.{shown}
+use Rattle.mig_store.specs.Grounds.{FailedOr, Sights}
+use Rattle.mig_top.proofs.EndsOf.{failed_to, failed_with, shown}
 use Rattle.mig_live.proofs.LoneCopies.{made_of_all, split_events, whole_landed}
 use Rattle.mig_top.proofs.LiveFaults.{counts_still, reads_still, settled_still}
 use Rattle.mig_top.proofs.SessionEvents.{refused_events, session_events, stopped_events, whole_events}
-use Rattle.mig_top.specs.Ends.{FormFinishes}
+use Rattle.mig_top.specs.Ends.{FormFinishes, IsRefusable}
+use Rattle.mig_top.specs.live.Looks.{IsServable}
 use Rattle.mig_words.specs.declared.endings.Ending.TheVariants as ending
 use Rattle.mig_top.proofs.StoreCommands.{rest_cause, shown_by}
 use Rattle.mig_top.specs.Stores.{HasFound}
@@ -94,8 +101,12 @@ module _ (k : Call) (names : Names) (script : List ℕ) (same : Untouched k.befo
       events = refused_events read.task valid runs (count_of (length read.task.plan) old.reads) old new part;
     }
 
-    pub live_refused : (f : MoveFault) → IsFault read.task old new f → IsResumeFault f → WorldEnds k (Live names script) (fault_outcome read.task.input f)
-    live_refused fault.Store h kind = record { cause = (h, tt); leaves = same; store = (read, are, (count_of (length read.task.plan) old.reads, goes_refused, inl (refl, part))) }
+    pub live_refused : (f : MoveFault) → IsFault (k.refuses × ¬ IsUnrefused read.task old) read.task old new f → IsResumeFault f → WorldEnds k (Live names script) (fault_outcome read.task.input f)
+    live_refused fault.Store h kind =
+        record { cause = (failed_to old new ground h, tt); leaves = same; store = (read, are, (count_of (length read.task.plan) old.reads, goes_refused, inl (refl, part))) }
+      where
+        ground : ¬ IsUnrefused read.task old → IsRefusable k (Live names script)
+        ground not = (read, are, λ (good : IsServable read old). not good.task)
     live_refused fault.NotStarted h kind = absurd kind
     live_refused fault.Started h kind = absurd kind
     live_refused f h kind = record {
@@ -194,10 +205,35 @@ module _ (k : Call) (names : Names) (script : List ℕ) (same : Untouched k.befo
           says = record { begun = begun_both text next k.before.sink.held k.after.sink.held put; whole = λ fine. absurd (fine rose); done = λ zero. absurd (omega (arith, zero)) };
         }
 
+    -- where the cells showed no ground, an item that stays is still where it is listed
+    others_kept : IsTask read.task → All (IsOrder read.task.input) read.orders → IsServable read old → AreOthersKept read.task mid.reads read.orders
+    others_kept task fits good item has stays =
+        subst (λ (o : Option (List ℕ)). IsSomeAnd o (HasHeader (item_name read.task.input item.0))) (sym (keeps.change.1.told.same cell apart)) (good.others item has stays)
+      where
+        cell : Cell
+        cell = item_cell read.task.input item.0
+
+        apart : IsTargetOf (flights old) cell ⊎ IsJobCell read.task.input read.task.plan cell → ⊥
+        apart (inl target) = good.still item has stays (refl, target)
+        apart (inr (inl journal)) = false≢true (sym (journal_beside cell journal))
+        apart (inr (inr slot)) = not_work read.task task item.0 (All-contains (IsOrder read.task.input) read.orders (Read item) fits has) stays cell (inr slot) refl
+
+    -- so none is what a session is refused on once it is entered
+    module _ (task : IsTask read.task) (fits : All (IsOrder read.task.input) read.orders) (seen : Sights) (enters : k.refuses → IsUnrefused read.task old → InSight live seen mid.reads) where
+      session_ground : k.refuses → ¬ InSightFor live read.orders seen mid.reads → IsRefusable k (Live names script)
+      session_ground refuses not = (read, are, servable)
+        where
+          servable : ¬ IsServable read old
+          servable good = not (record { steps = enters refuses good.task; others = subst (λ (t : Task). AreOthersKept t mid.reads read.orders) (sym it) (others_kept task fits good) })
+
+      session_failed : FailedOr (k.refuses × ¬ InSightFor live read.orders seen mid.reads) mid new → FailedOr (k.refuses × IsRefusable k (Live names script)) old new
+      session_failed = failed_with old mid new keeps.later session_ground
+
     -- the store failed at an order
-    pub live_failed : k.before.sink.faults ≤ k.after.sink.faults → AreCutOff live mid new read.orders k.before.sink k.after.sink serve_fault.Store → Rose old.faults new.faults
-        → FormFinishes k (Live names script) (Err ending.StoreFault)
-    live_failed later cut rose =
+    pub live_failed : k.before.sink.faults ≤ k.after.sink.faults → AreCutOff live mid new read.orders k.before.sink k.after.sink serve_fault.Store
+        → IsTask read.task → All (IsOrder read.task.input) read.orders → (seen : Sights) → (k.refuses → IsUnrefused read.task old → InSight live seen mid.reads)
+        → FailedOr (k.refuses × ¬ InSightFor live read.orders seen mid.reads) mid new → FormFinishes k (Live names script) (Err ending.StoreFault)
+    live_failed later cut task fits seen enters failed =
         let (text, replied, put) = cut.put in
         let m = all_steps (take cut.whole read.orders) in
         let w : WasLeftAfter live m (take (steps_of cut.order) (drop m (actions_left live))) mid new = cut.leaves in
@@ -208,7 +244,7 @@ module _ (k : Call) (names : Names) (script : List ℕ) (same : Untouched k.befo
           later = later;
           bare = tt;
           so = record {
-            cause = (rose, tt);
+            cause = (session_failed task fits seen enters failed, tt);
             leaves = same;
             store = (
               read,

@@ -1,10 +1,10 @@
 -- What `live` promises, from the causes of its outcomes and what it leaves.
-use Rattle.mig_top.proofs.Common.{AreOfScripted, Bool, Call, Cell, Contents, Done, EndsAs, Extends, Files, FolderFailed, Gate, GoesOn, Holds, Image, IsInput, IsJobCell, IsListed, IsMoving, IsOrNotPut}
+use Rattle.mig_top.proofs.Common.{AreOfScripted, Bool, Call, Cell, Contents, Done, EndsAs, Extends, Files, Gate, GoesOn, Holds, Image, IsInput, IsJobCell, IsListed, IsMoving, IsOrNotPut}
 use Rattle.mig_top.proofs.Common.{IsReadyIdle, IsServed, IsSome, IsSound, IsState, IsTargetOf, IsUntouched, LeavesOnly, List, Live, LiveLeaves, Names, NoCell, Order, Outcome, Refusal}
-use Rattle.mig_top.proofs.Common.{ResumesInFlight, ResumesWell, Runs, Says, Scripted, ServesAll, ServesWell, SettlesTo, SinkFailed, SinkFault, Some, State, StoreFailed, StoreFault, WentOn, WorldEnds}
+use Rattle.mig_top.proofs.Common.{ResumesInFlight, ResumesWell, Runs, Says, Scripted, ServesAll, ServesWell, SettlesTo, SinkFault, Some, State, StoreFault, WentOn, WorldEnds}
 use Rattle.mig_top.proofs.Common.{[], ap, arith, changes_wider, code, count_most, count_of, flights, inl, inr, is_armed, left_text, length, not_done, refl, replies, resumes, scripted_in, steps_left}
 use Rattle.mig_top.proofs.Common.{subst, take, told_kept, true, ℕ, ⊎_elim, ◌++◌, ◌∙◌, ◌≡◌, ◌⊎◌}
-use Rattle.mig_top.proofs.EndsOf.{ends_of, told_at}
+use Rattle.mig_top.proofs.EndsOf.{ends_of, refused_to, told_at}
 use Rattle.mig_top.proofs.Exactness.{is_scripted, scripted_exact}
 use Rattle.mig_top.proofs.LiveCommand.{live_rest}
 use Rattle.mig_top.proofs.SessionEvents.{refused_events, slots_kept, within_kept}
@@ -12,6 +12,9 @@ use Rattle.mig_top.proofs.StoreEnds.{untouched_looks}
 use Rattle.mig_top.proofs.StoreExact.{resumes_exact}
 use Rattle.mig_top.proofs.Steps.{follow, only_done}
 use Rattle.mig_top.proofs.TaskHeadline.{by_untouched, is_resumable, leaves_same, no_resume_refusal, status_so}
+use Rattle.mig_top.specs.Calls.{IsDone}
+use Rattle.mig_top.specs.live.Leaves.{ForScripted}
+use Rattle.mig_top.specs.live.Looks.{IsServable}
 use Rattle.mig_top.specs.live.Promise.{LeavesStill, MayGoOn}
 use Rattle.mig_words.specs.declared.endings.StoreRefusal.TheVariants as refusal
 
@@ -141,13 +144,18 @@ module _ {k : Call} {words : List (List ℕ)} {status : ℕ} (ends : EndsAs k wo
 
   -- Completeness
 
-  unrefused : ((o : Outcome) → (resumes read.task old).Stops o → ⊥) → (FolderFailed k → ⊥) → (SinkFailed k → ⊥) → (StoreFailed k → ⊥) → (status ≡ 0) ⊎ (status ≡ 7)
-  unrefused none = status_so ends files is (Live names script) l
-      (λ o h. only_done (resumes read.task old) (IsServed read old) none o (follow (scripted_in names script files) (scripted_exact names script files) (live_rest old) read holds o h))
+  -- a ground of the command is one of what the files stand for
+  session_ground : ForScripted k.before.folder names script (λ r. ¬ IsServable r old) → ¬ IsServable read old
+  session_ground (r, are, not) = subst (λ (s : Scripted). ¬ IsServable s old) (same r are) not
 
-  pub live_resumes : ResumesWell k read.task status
+  serves : ((o : Outcome) → (resumes read.task old).Stops o → ⊥) → IsDone k (¬ IsServable read old) status
+  serves none fine quiet sound = refused_to k status session_ground
+      (status_so ends files is (Live names script) l
+      (λ o h. only_done (resumes read.task old) (IsServed read old) none o (follow (scripted_in names script files) (scripted_exact names script files) (live_rest old) read holds o h)) fine quiet sound)
+
+  pub live_resumes : ResumesWell k read.task (¬ IsServable read old) status
   live_resumes tells before =
-      unrefused (λ o stops. (resumes_exact read.task old valid.0 valid.1 tells).not_both (count_of (length read.task.plan) old.reads) o (is_resumable read.task old before) stops)
+      serves (λ o stops. (resumes_exact read.task old valid.0 valid.1 tells).not_both (count_of (length read.task.plan) old.reads) o (is_resumable read.task old before) stops)
 
-  pub live_in_flight : ResumesInFlight k read.task status
-  live_in_flight ready named = unrefused (no_resume_refusal read.task old valid.0 valid.1 ready named)
+  pub live_in_flight : ResumesInFlight k read.task (¬ IsServable read old) status
+  live_in_flight ready named = serves (no_resume_refusal read.task old valid.0 valid.1 ready named)

@@ -1,6 +1,6 @@
 -- What a command that makes something promises, from the causes of its outcomes and what it leaves.
 use Rattle.mig_top.proofs.Common.{Call, CauseIn, Done, EndsAs, Extends, Files, Finding, FolderFailed, FolderFault, Form, FormCause, Found, IsBegun, IsCut, IsListed, IsOrNotPut, IsSomeAnd, List}
-use Rattle.mig_top.proofs.Common.{Lists, Memory, Outcome, Refusal, SinkFault, Some, StoreFault, Unlisted, WorldEnds, arith, code, finding_code, inl, inr, refusal_between, ℕ, ⊎_elim, ◌<◌, ◌∙◌, ◌≡◌, ◌≤◌, ◌⊎◌}
+use Rattle.mig_top.proofs.Common.{Lists, Memory, Outcome, Refusal, SinkFault, Some, StoreFault, Unlisted, WorldEnds, arith, code, finding_code, inl, inr, refusal_between, ℕ, ◌<◌, ◌∙◌, ◌≡◌, ◌≤◌, ◌⊎◌}
 use Rattle.mig_top.proofs.EndsOf.{cause_at, ends_of, ends_so, put_by}
 use Rattle.mig_top.specs.Making.{MakesWell}
 
@@ -56,8 +56,11 @@ module _ {k : Call} {form : Form} {files : Files} {Stands CannotMake : Lists →
     makes_well Made made ends l =
         let e = ends_of ends form l in
         record {
-          ends = λ input held fine quiet. ⊎_elim (λ so. ends_by input so.0 (it.means input held so.0 so.1) so.2) (λ seven. inr (inl seven))
-              (ends_so ends files is form l fine quiet (λ before h. it.unbegun before h.1));
+          ends = λ input held fine quiet. elim (ends_so ends files is form l fine quiet) [
+            | inl so ↦ ends_by input so.0 (it.means input held so.0 so.1) so.2
+            | inr (inl seven) ↦ inr (inl seven)
+            | inr (inr five) ↦ absurd (it.unbegun five.1 five.2.1)
+          ];
           refused = refused_by e.outcome e.is e.so;
           refuses = λ input held none fine. refuses_by input held none fine e.outcome e.is e.so;
           made = λ zero. let (text, h, put) = put_by e zero in made text h put;

@@ -1,17 +1,21 @@
 -- How `fill`, `move`, `resume` and `halt` end.
 use Rattle.mig_top.proofs.Common.{AreOfLayout, AreOfTask, Call, Carries, Cell, ChangedOnly, ChangesOnly, Contents, Done, Ending, EndsHalted, Event, Files, Fill, FolderState, Gate, Halt}
-use Rattle.mig_top.proofs.Common.{HaltsAll, HaltsInPart, HasFound, HasMade, Head, IfSome, Image, IsClosingCell, IsEndOf, IsFault, IsFillFault, IsFillRefusal, IsHaltCell, IsHaltSafe, IsLayoutSaved}
+use Rattle.mig_top.proofs.Common.{HaltsAll, HaltsInPart, HasFound, HasMade, Head, IfSome, Image, IsClosingCell, IsEndOf, IsFault, IsFillFault, IsFillRefusal, IsHaltCell, IsHaltSafe, IsJobCell, IsLayoutSaved}
 use Rattle.mig_top.proofs.Common.{IsResumable, IsResumeFault, IsResumeRefusal, IsSafe, IsSafeAt, IsSettled, IsShown, IsSome, IsSomeAnd, IsStandFault, IsStandRefusal, IsStanding, IsStartFault}
 use Rattle.mig_top.proofs.Common.{IsStartRefusal, IsStartable, IsState, IsTargetOf, KeepsHaltSafe, KeepsHalting, Lands, LeavesOnly, List, Lists, MayHalt, Move, MoveFault, MovesAll, MovesInPart}
-use Rattle.mig_top.proofs.Common.{NoCell, None, Option, OthersStay, Outcome, Resume, ResumesAll, ResumesInPart, Rose, SaveEnds, SavesLayout, Settles, Some, State, Step, Task, TaskNames, Tells}
+use Rattle.mig_top.proofs.Common.{NoCell, None, Option, OthersStay, Outcome, Resume, ResumesAll, ResumesInPart, SaveEnds, SavesLayout, Settles, Some, State, Step, Task, TaskNames, Tells}
 use Rattle.mig_top.proofs.Common.{Untouched, WasFillable, WorldEnds, WritesListed, [], after, append-nil, arith, changes_then, changes_wider, count_of, done_text, false, false≢true, fault_outcome}
 use Rattle.mig_top.proofs.Common.{filled_text, fills, finds, flights, four_and, gate_kept, halted_text, inl, inr, is_armed, journal_kept, layout_in, leaves_then, length, outcome_of, quiet_leaves}
 use Rattle.mig_top.proofs.Common.{refl, resumes, same_image, settled_reads, settles_land, settles_landed, stands, starts, subst, sym, task_in, tells_more, ℕ, ◌∙◌, ◌≡◌, ◌≤◌, ◌⊎◌}
 use Rattle.mig_top.proofs.Steps.{if_map, lead}
 use Rattle.mig_top.proofs.StoreEnds.{settled_left}
+use Rattle.mig_base.specs.Slots.{IsListedCell}
 use Rattle.mig_base.specs.Stores.{Changes}
 use Rattle.mig_mover.specs.Stands.{Stands}
-use Rattle.mig_top.proofs.EndsOf.{one_changed}
+use Rattle.mig_top.proofs.EndsOf.{failed_to, one_changed}
+use Rattle.mig_mover.specs.Holdings.{IsUnrefused}
+use Rattle.mig_store.specs.Grounds.{FailedOr}
+use Rattle.mig_top.specs.Ends.{IsRefusable}
 use Rattle.mig_mover.specs.declared.faults.MoveFault.TheVariants as fault
 use Rattle.mig_words.specs.declared.endings.Ending.TheVariants as ending
 use Rattle.mig_top.specs.Calls as calls
@@ -55,9 +59,12 @@ module _ {k : Call} {names : TaskNames} (same : Untouched k.before.folder k.afte
   }
 
   -- where it is refused, by a store that is settled
-  pub move_refused : MovesInPart task k.before.store k.after.store 0 → (f : MoveFault) → IsFault task k.before.store k.after.store f → IsStartFault f
-      → WorldEnds k (Move names) (fault_outcome task.input f)
-  move_refused part fault.Store h kind = record { cause = (h, refl); leaves = same; store = (task, are, part) }
+  pub move_refused : MovesInPart task k.before.store k.after.store 0 → (f : MoveFault) → IsFault (k.refuses × ¬ Tells (IsJobCell task.input task.plan) k.before.store.reads) task k.before.store k.after.store f
+      → IsStartFault f → WorldEnds k (Move names) (fault_outcome task.input f)
+  move_refused part fault.Store h kind = record { cause = (failed_to k.before.store k.after.store untold h, refl); leaves = same; store = (task, are, part) }
+    where
+      untold : ¬ Tells (IsJobCell task.input task.plan) k.before.store.reads → IsRefusable k (Move names)
+      untold not = (task, are, not)
   move_refused part fault.NotStarted h kind = absurd kind
   move_refused part f h kind = record {
     cause = rest_cause k (task_in names) (move_rest k.before.store) task are (fault_outcome task.input f) (inl (shown_by k task.input f h.0 (IsStartRefusal task) h.1));
@@ -75,9 +82,12 @@ module _ {k : Call} {names : TaskNames} (same : Untouched k.before.folder k.afte
     store = (task, are, (found, all, part, refl));
   }
 
-  pub resume_refused : ResumesInPart task k.before.store k.after.store → KeepsHalting task k.before.store k.after.store → (f : MoveFault) → IsFault task k.before.store k.after.store f
+  pub resume_refused : ResumesInPart task k.before.store k.after.store → KeepsHalting task k.before.store k.after.store → (f : MoveFault) → IsFault (k.refuses × ¬ IsUnrefused task k.before.store) task k.before.store k.after.store f
       → IsResumeFault f → WorldEnds k (Resume names) (fault_outcome task.input f)
-  resume_refused part halting fault.Store h kind = record { cause = (h, refl); leaves = same; store = (task, are, (part, halting)) }
+  resume_refused part halting fault.Store h kind = record { cause = (failed_to k.before.store k.after.store ground h, refl); leaves = same; store = (task, are, (part, halting)) }
+    where
+      ground : ¬ IsUnrefused task k.before.store → IsRefusable k (Resume names)
+      ground not = (task, are, not)
   resume_refused part halting fault.NotStarted h kind = absurd kind
   resume_refused part halting fault.Started h kind = absurd kind
   resume_refused part halting f h kind = record {
@@ -95,8 +105,11 @@ fill_rest store input = after (fills input store) (λ _. finds (λ text. text �
 module _ {k : Call} {disks now : List ℕ} (same : Untouched k.before.folder k.after.folder) (input : Lists) (layout : AreOfLayout k.before.folder disks now input)
     (writes : WritesListed input k.before.store k.after.store) where
   -- the layout was read, and the store refused
-  pub fill_refused : (f : MoveFault) → IsFillFault input k.before.store k.after.store f → WorldEnds k (Fill disks now) (fault_outcome input f)
-  fill_refused fault.Store h = record { cause = (h, refl); leaves = same; store = (input, layout, writes) }
+  pub fill_refused : (f : MoveFault) → IsFillFault (k.refuses × ¬ Tells (IsListedCell input) k.before.store.reads) input k.before.store k.after.store f → WorldEnds k (Fill disks now) (fault_outcome input f)
+  fill_refused fault.Store h = record { cause = (failed_to k.before.store k.after.store untold h, refl); leaves = same; store = (input, layout, writes) }
+    where
+      untold : ¬ Tells (IsListedCell input) k.before.store.reads → IsRefusable k (Fill disks now)
+      untold not = (input, layout, not)
   fill_refused fault.Started h =
       let shows = shown_by k input fault.Started h.0 (IsFillRefusal input) h.1 in
       record { cause = rest_cause k (layout_in disks now) (fill_rest k.before.store) input layout (fault_outcome input fault.Started) (inl shows); leaves = same; store = h.0 }
@@ -214,11 +227,15 @@ saved_only task layout k old new saves = if_map old.files (λ files. at new.file
 
 -- The ends
 
+halt_ground : (k : Call) (names : TaskNames) (layout : List ℕ) (task : Task) → AreOfTask k.before.folder names task → ¬ IsUnrefused task k.before.store → IsRefusable k (Halt names layout)
+halt_ground k names layout task are not = (task, are, not)
+
 module _ {k : Call} {names : TaskNames} {layout : List ℕ} where
   -- it isn't known where the plan stands
   pub halt_refused : (task : Task) → AreOfTask k.before.folder names task → Untouched k.before.folder k.after.folder → Lands k.before.store k.after.store → (f : MoveFault)
-      → IsStandFault task k.before.store k.after.store f → WorldEnds k (Halt names layout) (fault_outcome task.input f)
-  halt_refused task are same lands fault.Store h = record { cause = (h, refl); leaves = one_changed k.before.folder k.after.folder layout same; store = inl (lands, same) }
+      → IsStandFault (k.refuses × ¬ IsUnrefused task k.before.store) task k.before.store k.after.store f → WorldEnds k (Halt names layout) (fault_outcome task.input f)
+  halt_refused task are same lands fault.Store h =
+      record { cause = (failed_to k.before.store k.after.store (halt_ground k names layout task are) h, refl); leaves = one_changed k.before.folder k.after.folder layout same; store = inl (lands, same) }
   halt_refused task are same lands fault.NotStarted h =
       let shows = shown_by k task.input fault.NotStarted h.0 (IsStandRefusal task) h.1 in
       record { cause = rest_cause k (task_in names) (halt_rest k.before.store) task are (fault_outcome task.input fault.NotStarted) (inl shows); leaves = same; store = h.0 }
@@ -242,12 +259,12 @@ module _ {k : Call} {names : TaskNames} {layout : List ℕ} where
   module _ (task : Task) (are : AreOfTask k.before.folder names task) (loaded : FolderState) (same : loaded.files ≡ k.before.folder.files) (found : ℕ)
       (saves : SavesLayout task layout found loaded k.after.folder) where
     -- the store fails while the plan is closed
-    pub halt_failed : HaltsInPart task k.before.store k.after.store found → Rose k.before.store.faults k.after.store.faults → (f : MoveFault) → f ≡ fault.Store
+    pub halt_failed : HaltsInPart task k.before.store k.after.store found → FailedOr (k.refuses × ¬ IsUnrefused task k.before.store) k.before.store k.after.store → (f : MoveFault) → f ≡ fault.Store
         → WorldEnds k (Halt names layout) (fault_outcome task.input f)
-    halt_failed part rose f is =
+    halt_failed part failed f is =
         let saved = changes_before (IsLayoutSaved task layout found) k.before.folder loaded k.after.folder same saves in
         subst (λ (f : MoveFault). WorldEnds k (Halt names layout) (fault_outcome task.input f)) (sym is) (record {
-          cause = (rose, refl);
+          cause = (failed_to k.before.store k.after.store (halt_ground k names layout task are) failed, refl);
           leaves = saved_only task layout found k.before.folder k.after.folder saved;
           store = inr (task, are, (found, part, saved));
         })

@@ -1,20 +1,24 @@
 -- What `move`, `resume` and `halt` promise, from the causes of their outcomes and what they leave; also where copies may be in flight.
 use Rattle.mig_top.proofs.Common.{Adds, AllMayHalt, AreFlights, AreOfTask, At, BeginsAfter, BeginsRun, Bool, Call, Carries, Cell, ChangedOnly, Contents, Disk, Done, EndsAs, Extends, Files, FindsTask}
-use Rattle.mig_top.proofs.Common.{Finishes, FolderFailed, FolderFault, Form, FormCause, FormEndsAs, Gate, Halt, HaltLeaves, HaltsAll, HaltsInPart, HaltsWell, HasContents, Head, IfSome, Image}
+use Rattle.mig_top.proofs.Common.{Finishes, FolderFault, Form, FormCause, FormEndsAs, Gate, Halt, HaltLeaves, HaltsAll, HaltsInPart, HaltsWell, HasContents, Head, IfSome, Image}
 use Rattle.mig_top.proofs.Common.{IsArrived, IsClosingCell, IsCut, IsHaltCell, IsHalted, IsInput, IsJobCell, IsLanded, IsLayoutSaved, IsListed, IsOrNotPut, IsPermutation-refl, IsReadyIdle}
 use Rattle.mig_top.proofs.Common.{IsReadyInFlight, IsReadyOnceLanded, IsResumable, IsResumeRefusal, IsSafe, IsShown, IsSomeAnd, IsSound, IsStandRefusal, IsStartRefusal, IsState, IsTargetOf}
 use Rattle.mig_top.proofs.Common.{IsUntouched, IsUnwritten, KeepsHalting, Lands, LeavesOnly, List, Lists, MayBeHalting, MayHalt, Memory, Move, MoveLeaves, MovesWell, OthersStay, Outcome, Refusal}
-use Rattle.mig_top.proofs.Common.{Resume, ResumeLeaves, ResumesHalting, ResumesInFlight, ResumesWell, Runs, SavesLayout, Says, Settles, SettlesTo, SinkFailed, SinkFault, Slot, Some, Spot}
-use Rattle.mig_top.proofs.Common.{StartsInFlight, StartsWell, State, StaysArmed, StoreFailed, StoreFault, StoreLeaves, Task, TaskNames, Tells, TellsStill, Untouched, WorldEnds, WroteNothing, [], ap}
+use Rattle.mig_top.proofs.Common.{Resume, ResumeLeaves, ResumesHalting, ResumesInFlight, ResumesWell, Runs, SavesLayout, Says, Settles, SettlesTo, SinkFault, Slot, Some, Spot}
+use Rattle.mig_top.proofs.Common.{StartsInFlight, StartsWell, State, StaysArmed, StoreFault, StoreLeaves, Task, TaskNames, Tells, TellsStill, Untouched, WorldEnds, WroteNothing, [], ap}
 use Rattle.mig_top.proofs.Common.{append-nil, arith, code, count_most, count_of, disk_at, done_text, ended, events_none, false, false≢true, flights, halted_text, idle_sound, inl, inr, is_armed}
 use Rattle.mig_top.proofs.Common.{is_one, length, map, not_done, refl, resumes, same_image, same_none, same_wider, settles_land, slot_of, stands, starts, subst, sym, task_in, true, ℕ, ⊎_elim, ◌∙◌}
 use Rattle.mig_top.proofs.Common.{◌≡◌, ◌⊎◌}
-use Rattle.mig_top.proofs.EndsOf.{done_by, ends_of, ends_so, holds_by, one_changed, told_at}
+use Rattle.mig_top.proofs.EndsOf.{done_by, ends_of, ends_so, holds_by, one_changed, refused_so, refused_to, told_at, unrefused}
 use Rattle.mig_top.proofs.Exactness.{comes_exactly, is_task, task_in_exact}
 use Rattle.mig_top.proofs.StoreCommands.{halt_rest, move_rest, resume_rest, saved_only}
 use Rattle.mig_top.proofs.Steps.{follow, lead, only_done}
 use Rattle.mig_top.proofs.StoreEnds.{form_quiet, quiet, untouched_quiet}
 use Rattle.mig_mover.proofs.LandedImages.{journal_landed, told_landed}
+use Rattle.mig_mover.specs.Holdings.{IsUnrefused}
+use Rattle.mig_top.specs.Calls.{IsDone}
+use Rattle.mig_top.specs.Ends.{IsRefusable}
+use Rattle.mig_top.specs.carry.Leaves.{ForTask}
 use Rattle.mig_top.proofs.StoreExact.{named_refused, resume_apart, start_apart}
 use Rattle.mig_words.specs.declared.endings.StoreRefusal.TheVariants as refusal
 
@@ -37,25 +41,46 @@ module _ (task : Task) (store : State) (valid : IsInput task.input) (runs : Runs
           let same : h.image Head ≡ Some task.digest = journal_landed store h.image h.landed ready.slots Head refl ∙ named (sym (armed_at h.image h.landed) ∙ armed) in
           rw same refl
 
--- a command comes to its end, and is done or ends otherwise only where something fails
+-- a command comes to its end, and is done or ends otherwise only where something fails, or the store refuses
 pub status_so : {k : Call} {words : List (List ℕ)} {status : ℕ} → EndsAs k words status → (files : Files) → k.before.folder.files ≡ Some files → (form : Form) → IsListed words form
-    → ((o : Outcome) → FormCause files k.before.store form o → code o ≡ 0) → (FolderFailed k → ⊥) → (SinkFailed k → ⊥) → (StoreFailed k → ⊥) → (status ≡ 0) ⊎ (status ≡ 7)
-status_so ends files is form l done fine quiet sound =
-    ⊎_elim (λ e. inl (e.2 ∙ done e.0 e.1)) (λ seven. inr seven) (ends_so ends files is form l fine quiet (λ before h. sound h.0))
+    → ((o : Outcome) → FormCause files k.before.store form o → code o ≡ 0) → IsDone k (IsRefusable k form) status
+status_so {k = k} {status = status} ends files is form l done fine quiet sound = elim (ends_so ends files is form l fine quiet) [
+  | inl e ↦ inl (e.2 ∙ done e.0 e.1)
+  | inr (inl seven) ↦ inr (inl seven)
+  | inr (inr five) ↦ inr (inr (refused_so k form status sound five))
+]
+
+-- files stand for one task
+pub one_task : (files : Files) (names : TaskNames) (a b : Task) → FindsTask files names a → FindsTask files names b → a ≡ b
+one_task files names = (task_in_exact names files).one_found
+
+-- also as far as the files of a folder are told
+pub same_task : (k : Call) (files : Files) (names : TaskNames) (task : Task) → k.before.folder.files ≡ Some files → FindsTask files names task
+    → (t : Task) → AreOfTask k.before.folder names t → t ≡ task
+same_task k files names task is holds t are = one_task files names t task (told_at (λ f. FindsTask f names t) k.before.folder.files files is are) holds
 
 module _ {k : Call} {words : List (List ℕ)} {status : ℕ} (ends : EndsAs k words status) (files : Files) (names : TaskNames) (task : Task) (is : k.before.folder.files ≡ Some files)
     (holds : FindsTask files names task) where
-  pub starts_in_flight : IsListed words (Move names) → StartsInFlight k task status
-  starts_in_flight l ready idle =
-      let valid = is_task files names task holds in
-      status_so ends files is (Move names) l (λ o h. only_done (starts task k.before.store) (λ _ text. text ≡ done_text task.plan 0)
-      (no_start_refusal task k.before.store valid.0 valid.1 ready idle) o (follow (task_in names files) (task_in_exact names files) (move_rest k.before.store) task holds o h))
+  -- a ground of this command is one of its task
+  start_ground : Tells (IsJobCell task.input task.plan) k.before.store.reads → ForTask k.before.folder names (λ t. ¬ Tells (IsJobCell t.input t.plan) k.before.store.reads) → ⊥
+  start_ground tells (t, are, untold) = untold (subst (λ (u : Task). Tells (IsJobCell u.input u.plan) k.before.store.reads) (sym (same_task k files names task is holds t are)) tells)
 
-  pub resumes_in_flight : IsListed words (Resume names) → ResumesInFlight k task status
-  resumes_in_flight l ready named =
+  resume_ground : ForTask k.before.folder names (λ t. ¬ IsUnrefused t k.before.store) → ¬ IsUnrefused task k.before.store
+  resume_ground (t, are, refused) = subst (λ (u : Task). ¬ IsUnrefused u k.before.store) (same_task k files names task is holds t are) refused
+
+  pub starts_in_flight : IsListed words (Move names) → StartsInFlight k task status
+  starts_in_flight l ready idle fine quiet sound =
       let valid = is_task files names task holds in
-      status_so ends files is (Resume names) l (λ o h. only_done (resumes task k.before.store) (λ found text. text ≡ done_text task.plan found)
-      (no_resume_refusal task k.before.store valid.0 valid.1 ready named) o (follow (task_in names files) (task_in_exact names files) (resume_rest k.before.store) task holds o h))
+      unrefused k status (start_ground ready.cells)
+      (status_so ends files is (Move names) l (λ o h. only_done (starts task k.before.store) (λ _ text. text ≡ done_text task.plan 0)
+      (no_start_refusal task k.before.store valid.0 valid.1 ready idle) o (follow (task_in names files) (task_in_exact names files) (move_rest k.before.store) task holds o h)) fine quiet sound)
+
+  pub resumes_in_flight : IsListed words (Resume names) → ResumesInFlight k task (¬ IsUnrefused task k.before.store) status
+  resumes_in_flight l ready named fine quiet sound =
+      let valid = is_task files names task holds in
+      refused_to k status resume_ground
+      (status_so ends files is (Resume names) l (λ o h. only_done (resumes task k.before.store) (λ found text. text ≡ done_text task.plan found)
+      (no_resume_refusal task k.before.store valid.0 valid.1 ready named) o (follow (task_in names files) (task_in_exact names files) (resume_rest k.before.store) task holds o h)) fine quiet sound)
 
 -- a store that is ready, or whose journal names the plan, lets it be resumed
 pub is_resumable : (task : Task) (store : State) → IsReadyOnceLanded task store ⊎ ((is_armed store.reads ≡ true) × (store.reads Head ≡ Some task.digest))
@@ -71,15 +96,6 @@ is_resumable task store before =
     ready : is_armed store.reads ≡ false → IsReadyOnceLanded task store ⊎ ((is_armed store.reads ≡ true) × (store.reads Head ≡ Some task.digest)) → IsReadyOnceLanded task store
     ready idle (inl r) = r
     ready idle (inr (armed, named)) = absurd (false≢true (sym idle ∙ armed))
-
--- files stand for one task
-pub one_task : (files : Files) (names : TaskNames) (a b : Task) → FindsTask files names a → FindsTask files names b → a ≡ b
-one_task files names = (task_in_exact names files).one_found
-
--- also as far as the files of a folder are told
-pub same_task : (k : Call) (files : Files) (names : TaskNames) (task : Task) → k.before.folder.files ≡ Some files → FindsTask files names task
-    → (t : Task) → AreOfTask k.before.folder names t → t ≡ task
-same_task k files names task is holds t are = one_task files names t task (told_at (λ f. FindsTask f names t) k.before.folder.files files is are) holds
 
 -- what holds whatever the outcome
 pub record AreKept (task : Task) (old new : State) : Type 0 where
@@ -249,32 +265,33 @@ module _ {k : Call} {words : List (List ℕ)} {status : ℕ} (ends : EndsAs k wo
 
   pub starts_well : IsListed words (Move names) → StartsWell k task status
   starts_well l tells ready fine quiet sound =
-      comes_exactly ends files (Move names) is l
+      unrefused k status (start_ground ends files names task is holds tells.cells) (comes_exactly ends files (Move names) is l
       (Done (done_text task.plan 0)) (lead (task_in names files) (move_rest old) task holds (Done (done_text task.plan 0)) (tt, λ are gate. ready, refl))
-      fine quiet (sound, still tells)
+      fine quiet (sound, still tells))
 
-  pub resumes_well : IsListed words (Resume names) → ResumesWell k task status
+  pub resumes_well : IsListed words (Resume names) → ResumesWell k task (¬ IsUnrefused task k.before.store) status
   resumes_well l tells before fine quiet sound =
       let found = count_of (length task.plan) old.reads in
-      comes_exactly ends files (Resume names) is l
+      refused_to k status (resume_ground ends files names task is holds) (comes_exactly ends files (Resume names) is l
       (Done (done_text task.plan found)) (lead (task_in names files) (resume_rest old) task holds (Done (done_text task.plan found)) (found, is_resumable task old before, refl))
-      fine quiet (sound, still tells)
+      fine quiet (sound, still tells))
 
   -- `halt`
 
   module _ (layout : List ℕ) (l : IsListed words (Halt names layout)) where
     -- Completeness
 
-    unrefused : AreFlights (flights old) → is_armed old.reads ≡ true → old.reads Head ≡ Some task.digest → (o : Outcome) → IsShown task.input old (IsStandRefusal task) o → ⊥
-    unrefused are armed named o h =
+    not_shown : AreFlights (flights old) → is_armed old.reads ≡ true → old.reads Head ≡ Some task.digest → (o : Outcome) → IsShown task.input old (IsStandRefusal task) o → ⊥
+    not_shown are armed named o h =
         let same : h.image Head ≡ Some task.digest = journal_landed old h.image h.landed are Head refl ∙ named in
         named_refused task h.image (ap is_one (journal_landed old h.image h.landed are Gate refl) ∙ armed)
         (rw same refl) (rw same refl) h.fault h.shows
 
-    completes : AreFlights (flights old) → is_armed old.reads ≡ true → old.reads Head ≡ Some task.digest → (FolderFailed k → ⊥) → (SinkFailed k → ⊥) → (StoreFailed k → ⊥) → (status ≡ 0) ⊎ (status ≡ 7)
-    completes are armed named =
-        status_so ends files is (Halt names layout) l (λ o h. only_done (stands task old) (λ found text. text ≡ halted_text task.plan found)
-        (unrefused are armed named) o (follow (task_in names files) (task_in_exact names files) (halt_rest old) task holds o h))
+    completes : AreFlights (flights old) → is_armed old.reads ≡ true → old.reads Head ≡ Some task.digest → IsDone k (¬ IsUnrefused task old) status
+    completes are armed named fine quiet sound =
+        refused_to k status (resume_ground ends files names task is holds)
+        (status_so ends files is (Halt names layout) l (λ o h. only_done (stands task old) (λ found text. text ≡ halted_text task.plan found)
+        (not_shown are armed named) o (follow (task_in names files) (task_in_exact names files) (halt_rest old) task holds o h)) fine quiet sound)
 
     -- The promise, by what is left
 

@@ -136,7 +136,7 @@ pub fn run_audit<F: Folder, K: Sink, S: Store>(
     disks: &str,
     now: &str,
 ) -> Result<u8, Ending>
-    ensures { FormFinishes (call (world (F.state folder.old) (K.state out.old) (S.state store.old)) (world (F.state folder.new) (K.state out.new) (S.state store.new))) (Audit disks.now now.now) result }
+    ensures { FormFinishes (call S.refuses (world (F.state folder.old) (K.state out.old) (S.state store.old)) (world (F.state folder.new) (K.state out.new) (S.state store.new))) (Audit disks.now now.now) result }
 {
     let input = load_layout(alloc, folder, disks, now)?;
     match put_sights(out, store, &input) {

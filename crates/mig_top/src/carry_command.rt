@@ -19,7 +19,7 @@ pub fn run_move<F: Folder, K: Sink, S: Store>(
     store: &mut S,
     task: TaskFiles<'_>,
 ) -> Result<u8, Ending>
-    ensures { FormFinishes (call (world (F.state folder.old) (K.state out.old) (S.state store.old)) (world (F.state folder.new) (K.state out.new) (S.state store.new))) (Move (task_names task.entry)) result }
+    ensures { FormFinishes (call S.refuses (world (F.state folder.old) (K.state out.old) (S.state store.old)) (world (F.state folder.new) (K.state out.new) (S.state store.new))) (Move (task_names task.entry)) result }
 {
     let job = load_job(alloc, folder, task)?;
     match start_lanes(&job, store) {
@@ -36,7 +36,7 @@ pub fn run_resume<F: Folder, K: Sink, S: Store>(
     store: &mut S,
     task: TaskFiles<'_>,
 ) -> Result<u8, Ending>
-    ensures { FormFinishes (call (world (F.state folder.old) (K.state out.old) (S.state store.old)) (world (F.state folder.new) (K.state out.new) (S.state store.new))) (Resume (task_names task.entry)) result }
+    ensures { FormFinishes (call S.refuses (world (F.state folder.old) (K.state out.old) (S.state store.old)) (world (F.state folder.new) (K.state out.new) (S.state store.new))) (Resume (task_names task.entry)) result }
 {
     let job = load_job(alloc, folder, task)?;
     match resume_lanes(&job, store) {

@@ -10,6 +10,8 @@ ghost use Rattle.mig_top.specs.Calls.{call, world};
 ghost use Rattle.mig_top.specs.carry.Promise.{MovesWell, ResumesInFlight};
 ghost use Rattle.mig_top.specs.halt.Promise.{HaltsWell};
 ghost use Rattle.mig_top.specs.live.Following.{HaltsAfter, ResumesAfter, ServesAfter};
+ghost use Rattle.mig_mover.specs.Holdings.{IsUnrefused};
+ghost use Rattle.mig_top.specs.live.Looks.{IsServable};
 ghost use Rattle.mig_top.specs.live.Promise.{MayGoOn, ServesWell};
 ghost use Rattle.mig_top.specs.live.Reads.{Scripted};
 ghost use Rattle.mig_top.specs.Loads.{AreThere, FindsTask, IsTaskOf, StandsBy, input_by, loads_input};
@@ -47,15 +49,15 @@ pub fn sessions_go_on<F: Folder, K: Sink, S: Store>(
     last: &Moment<F, K, S>,
 )
     ensures resumed { (read : Scripted) (contents : Contents) (session status : ℕ) → MayGoOn read.task contents (S.state first.now.store)
-        → ServesWell (call (world (F.state first.now.folder) (K.state first.now.out) (S.state first.now.store)) (world (F.state between.now.folder) (K.state between.now.out) (S.state between.now.store))) read session
-        → MovesWell (call (world (F.state between.now.folder) (K.state between.now.out) (S.state between.now.store)) (world (F.state last.now.folder) (K.state last.now.out) (S.state last.now.store))) read.task status → ResumesInFlight (call (world (F.state between.now.folder) (K.state between.now.out) (S.state between.now.store)) (world (F.state last.now.folder) (K.state last.now.out) (S.state last.now.store))) read.task status
-        → ResumesAfter (call (world (F.state between.now.folder) (K.state between.now.out) (S.state between.now.store)) (world (F.state last.now.folder) (K.state last.now.out) (S.state last.now.store))) read.task contents status }
+        → ServesWell (call S.refuses (world (F.state first.now.folder) (K.state first.now.out) (S.state first.now.store)) (world (F.state between.now.folder) (K.state between.now.out) (S.state between.now.store))) read session
+        → MovesWell (call S.refuses (world (F.state between.now.folder) (K.state between.now.out) (S.state between.now.store)) (world (F.state last.now.folder) (K.state last.now.out) (S.state last.now.store))) read.task status → ResumesInFlight (call S.refuses (world (F.state between.now.folder) (K.state between.now.out) (S.state between.now.store)) (world (F.state last.now.folder) (K.state last.now.out) (S.state last.now.store))) read.task (¬ IsUnrefused read.task (S.state between.now.store)) status
+        → ResumesAfter (call S.refuses (world (F.state between.now.folder) (K.state between.now.out) (S.state between.now.store)) (world (F.state last.now.folder) (K.state last.now.out) (S.state last.now.store))) read.task contents status }
     ensures halted { (read : Scripted) (contents : Contents) (session status : ℕ) (files : Files) (layout : List ℕ) → MayGoOn read.task contents (S.state first.now.store)
-        → ServesWell (call (world (F.state first.now.folder) (K.state first.now.out) (S.state first.now.store)) (world (F.state between.now.folder) (K.state between.now.out) (S.state between.now.store))) read session
-        → (halts : HaltsWell (call (world (F.state between.now.folder) (K.state between.now.out) (S.state between.now.store)) (world (F.state last.now.folder) (K.state last.now.out) (S.state last.now.store))) files read.task layout status)
-        → HaltsAfter (call (world (F.state between.now.folder) (K.state between.now.out) (S.state between.now.store)) (world (F.state last.now.folder) (K.state last.now.out) (S.state last.now.store))) read.task contents session status halts.rounds }
+        → ServesWell (call S.refuses (world (F.state first.now.folder) (K.state first.now.out) (S.state first.now.store)) (world (F.state between.now.folder) (K.state between.now.out) (S.state between.now.store))) read session
+        → (halts : HaltsWell (call S.refuses (world (F.state between.now.folder) (K.state between.now.out) (S.state between.now.store)) (world (F.state last.now.folder) (K.state last.now.out) (S.state last.now.store))) files read.task layout status)
+        → HaltsAfter (call S.refuses (world (F.state between.now.folder) (K.state between.now.out) (S.state between.now.store)) (world (F.state last.now.folder) (K.state last.now.out) (S.state last.now.store))) read.task contents session status halts.rounds }
     ensures served { (read other : Scripted) (contents : Contents) (session status : ℕ) → MayGoOn read.task contents (S.state first.now.store)
-        → ServesWell (call (world (F.state first.now.folder) (K.state first.now.out) (S.state first.now.store)) (world (F.state between.now.folder) (K.state between.now.out) (S.state between.now.store))) read session → other.task ≡ read.task
-        → (serves : ServesWell (call (world (F.state between.now.folder) (K.state between.now.out) (S.state between.now.store)) (world (F.state last.now.folder) (K.state last.now.out) (S.state last.now.store))) other status) → ResumesInFlight (call (world (F.state between.now.folder) (K.state between.now.out) (S.state between.now.store)) (world (F.state last.now.folder) (K.state last.now.out) (S.state last.now.store))) other.task status
-        → ServesAfter (call (world (F.state between.now.folder) (K.state between.now.out) (S.state between.now.store)) (world (F.state last.now.folder) (K.state last.now.out) (S.state last.now.store))) other contents status serves.rounds }
+        → ServesWell (call S.refuses (world (F.state first.now.folder) (K.state first.now.out) (S.state first.now.store)) (world (F.state between.now.folder) (K.state between.now.out) (S.state between.now.store))) read session → other.task ≡ read.task
+        → (serves : ServesWell (call S.refuses (world (F.state between.now.folder) (K.state between.now.out) (S.state between.now.store)) (world (F.state last.now.folder) (K.state last.now.out) (S.state last.now.store))) other status) → ResumesInFlight (call S.refuses (world (F.state between.now.folder) (K.state between.now.out) (S.state between.now.store)) (world (F.state last.now.folder) (K.state last.now.out) (S.state last.now.store))) other.task (¬ IsServable other (S.state between.now.store)) status
+        → ServesAfter (call S.refuses (world (F.state between.now.folder) (K.state between.now.out) (S.state between.now.store)) (world (F.state last.now.folder) (K.state last.now.out) (S.state last.now.store))) other contents status serves.rounds }
 {}

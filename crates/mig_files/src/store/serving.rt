@@ -1,49 +1,59 @@
 //! How the store serves: its calls are those of any store.
-ghost use Rattle.std.specs.Prelude.{◌≡◌, ◌≢◌, ◌⊎◌, ◌∷◌, [], Some, None, ℕ, List, ⊤, IsTrue, IsFalse, IfOk, IfSome, IfNone, OnOk, OnErr, length, take};
+#![tactic(auto, using(crate::proofs::Errs::err_any, crate::proofs::Holding::held_looked))]
+
+ghost use Rattle.std.specs.Prelude.{◌≡◌, ◌≢◌, ◌⊎◌, ◌∷◌, [], None, ℕ, List, ⊤, IsTrue, IsFalse, IfOk, IfSome, IfNone, OnOk, OnErr, length, take};
 ghost use Rattle.mig_base.specs.declared.cells.Flight.{Flight};
 ghost use Rattle.mig_base.specs.Cells.{cell_len, is_slot};
-ghost use Rattle.mig_base.specs.Images.{IsCopy};
+ghost use Rattle.mig_base.specs.Images.{IsCopy, NoCell};
 ghost use Rattle.mig_base.specs.Flights.{began, IsTargetOf, IsSourceOf};
 ghost use Rattle.mig_base.specs.Stores.{flights, IsMoving, Changes, ChangesOnly, Looks, Ends, named, IsSettled, HasCause};
 ghost use Rattle.mig_calls.specs.Refusals.{HoldsItem, WhereTold};
-ghost use Rattle.mig_files.specs.Derived.{cell_state, cell_is_state, troubles};
-ghost use Rattle.mig_files.specs.Grounds.{Differ, IsCut, IsFaultFor, IsLast, IsUncopiable, IsUnwritable, Lacks};
-ghost use Rattle.mig_files.specs.Seeing.{seen_at, HoldsCopy, IsErasure, IsSeenAtBoth, KeepsSeen, KeepsSeenBut, LosesNone, MayCopy};
+ghost use Rattle.mig_files.specs.Derived.{cell_state, cell_is_state};
+ghost use Rattle.mig_files.specs.Grounds.{IsSaid};
+ghost use Rattle.mig_files.specs.Seeing.{seen_at, seen_in, HoldsCopy, KeepsSeen, KeepsSeenBut, LosesNone, MayCopy};
 ghost use Rattle.mig_files.specs.Serving.{files_of, seen_of, has_failed};
+ghost use Rattle.mig_files.specs.Sights.{holds_seen};
+ghost use Rattle.mig_store.specs.Grounds.{Differ, HasGround, IsErasure, IsLast, IsSeenAtBoth, IsUncopiable, Lacks, Remembers};
 
 use crate::cells::read_cell;
 use crate::copies::expects_copy;
 use crate::items::{expects, expects_free};
 use crate::store::FileStore;
 use crate::syncs::sync_cells;
+use crate::tracked::refuse_with;
 use crate::writes::{copy_item, write_item};
 use mig_base::{Cell, Name};
-use mig_calls::Calls;
+use mig_calls::{Calls, Refusal};
 use mig_store::{Store, StoreFailed};
 
 impl<C: Calls> Store for FileStore<C> {
-    ghost state = { λ s. cell_state (C.Calls.state s.calls) (troubles (C.Calls.state s.calls)) };
+    ghost state = { λ s. cell_state (C.Calls.state s.calls) (C.Calls.state s.calls).faults };
 
     ghost asked = { λ slot. ⊤ };
 
     ghost compared = { λ from to. ⊤ };
 
-    ghost is_state = { λ s. cell_is_state (C.Calls.state s.calls) (troubles (C.Calls.state s.calls)) (C.Calls.is_state s.calls) };
+    ghost refuses = { ⊤ };
 
-    #[tactic(auto, using(crate::proofs::Errs::err_any, crate::proofs::Holding::held_looked))]
+    ghost seen = { λ s. seen_in s.seen };
+
+    ghost is_state = { λ s. cell_is_state (C.Calls.state s.calls) (C.Calls.state s.calls).faults (C.Calls.is_state s.calls) };
+
+    ghost holds_seen = { λ s slot item told name seen. holds_seen (C.Calls.state s.calls) s.seen s.held slot item name seen };
+
     /// Reads a cell, zeros where it was never written.
     fn read(&mut self, cell: &Cell, into: &mut [u8]) -> Result<(), StoreFailed>
         requires { length into.old ≡ cell_len cell.now }
         ensures bytes { OnOk result (¬ IsMoving (⟦<FileStore<C> as Store>⟧.state self.old) cell.now → IfSome ((⟦<FileStore<C> as Store>⟧.state self.old).reads cell.now) (λ bytes. into.new ≡ bytes)) }
-        ensures seen { seen_of self.new ≡ seen_of self.old }
+        ensures kept { seen_of self.new ≡ seen_of self.old }
+        ensures seen { Remembers NoCell (seen_in (seen_of self.old)) (seen_in (seen_of self.new)) }
         ensures change { Looks (⟦<FileStore<C> as Store>⟧.state self.old) (⟦<FileStore<C> as Store>⟧.state self.new) }
         ensures cause { HasCause (⟦<FileStore<C> as Store>⟧.state self.old) (⟦<FileStore<C> as Store>⟧.state self.new) result }
-        ensures ground { OnErr result (IsFaultFor (IsTrue (has_failed self.old) ⊎ IsCut (files_of self.old) cell.now) (files_of self.old) (files_of self.new)) }
         ensures alive { OnOk result (IsFalse (has_failed self.old)) }
         ensures failed { IsTrue (has_failed self.old) → IsTrue (has_failed self.new) }
     {
         if self.tracked.notes.lost {
-            return Err(self.after_sync());
+            return Err(refuse_with(&mut self.calls, &self.tracked, &Refusal::AfterSync));
         }
         read_cell(&mut self.calls, &mut self.tracked, cell, into)
     }
@@ -52,16 +62,17 @@ impl<C: Calls> Store for FileStore<C> {
     fn expects(&mut self, slot: &Cell, name: &Name) -> Result<(), StoreFailed>
         requires slot { IsTrue (is_slot slot.now) }
         ensures held { OnOk result (WhereTold (files_of self.old) slot.now (HoldsItem (files_of self.old) slot.now name.now)) }
-        ensures noted { OnOk result (seen_at (seen_of self.new) slot.now ≡ Some name.now) }
-        ensures seen { KeepsSeen (seen_of self.old) (seen_of self.new) slot.now }
+        ensures noted { OnOk result (seen_in (seen_of self.new) slot.now name.now) }
+        ensures kept { KeepsSeen (seen_of self.old) (seen_of self.new) slot.now }
+        ensures seen { Remembers (λ c. c ≡ slot.now) (seen_in (seen_of self.old)) (seen_in (seen_of self.new)) }
         ensures change { Looks (⟦<FileStore<C> as Store>⟧.state self.old) (⟦<FileStore<C> as Store>⟧.state self.new) }
-        ensures cause { HasCause (⟦<FileStore<C> as Store>⟧.state self.old) (⟦<FileStore<C> as Store>⟧.state self.new) result }
-        ensures ground { OnErr result (IsFaultFor (IsTrue (has_failed self.old) ⊎ Lacks (files_of self.old) slot.now name.now) (files_of self.old) (files_of self.new)) }
+        ensures cause { HasGround ⊤ (Lacks (⟦<FileStore<C> as Store>⟧.state self.old).reads slot.now name.now) (⟦<FileStore<C> as Store>⟧.state self.old) (⟦<FileStore<C> as Store>⟧.state self.new) result }
+        ensures said { OnErr result (IsSaid (files_of self.old) (files_of self.new)) }
         ensures alive { OnOk result (IsFalse (has_failed self.old)) }
         ensures failed { IsTrue (has_failed self.old) → IsTrue (has_failed self.new) }
     {
         if self.tracked.notes.lost {
-            return Err(self.after_sync());
+            return Err(refuse_with(&mut self.calls, &self.tracked, &Refusal::AfterSync));
         }
         expects(
             &mut self.calls,
@@ -72,20 +83,20 @@ impl<C: Calls> Store for FileStore<C> {
         )
     }
 
-    #[tactic(auto, using(crate::proofs::Errs::err_any, crate::proofs::Holding::held_looked))]
     /// Refuses a slot that holds an item which this process has seen nowhere else. Where it doesn't refuse, another slot holds the item.
     fn expects_free(&mut self, slot: &Cell) -> Result<(), StoreFailed>
         requires slot { IsTrue (is_slot slot.now) }
         ensures free { OnOk result (LosesNone (files_of self.old) slot.now) }
-        ensures seen { seen_of self.new ≡ seen_of self.old }
+        ensures kept { seen_of self.new ≡ seen_of self.old }
+        ensures seen { Remembers NoCell (seen_in (seen_of self.old)) (seen_in (seen_of self.new)) }
         ensures change { Looks (⟦<FileStore<C> as Store>⟧.state self.old) (⟦<FileStore<C> as Store>⟧.state self.new) }
-        ensures cause { HasCause (⟦<FileStore<C> as Store>⟧.state self.old) (⟦<FileStore<C> as Store>⟧.state self.new) result }
-        ensures ground { OnErr result (IsFaultFor (IsTrue (has_failed self.old) ⊎ IsLast (files_of self.old) (seen_of self.old) slot.now) (files_of self.old) (files_of self.new)) }
+        ensures cause { HasGround ⊤ (IsLast (⟦<FileStore<C> as Store>⟧.state self.old).reads (seen_in (seen_of self.old)) slot.now) (⟦<FileStore<C> as Store>⟧.state self.old) (⟦<FileStore<C> as Store>⟧.state self.new) result }
+        ensures said { OnErr result (IsSaid (files_of self.old) (files_of self.new)) }
         ensures alive { OnOk result (IsFalse (has_failed self.old)) }
         ensures failed { IsTrue (has_failed self.old) → IsTrue (has_failed self.new) }
     {
         if self.tracked.notes.lost {
-            return Err(self.after_sync());
+            return Err(refuse_with(&mut self.calls, &self.tracked, &Refusal::AfterSync));
         }
         match expects_free(&mut self.calls, &mut self.tracked, &self.seen, slot) {
             Ok(_) => Ok(()),
@@ -93,20 +104,20 @@ impl<C: Calls> Store for FileStore<C> {
         }
     }
 
-    #[tactic(auto, using(crate::proofs::Errs::err_any, crate::proofs::Holding::held_looked))]
     /// Refuses where the first slot holds bytes of an item which the second, that holds it too, lacks.
     fn expects_copy(&mut self, from: &Cell, to: &Cell) -> Result<(), StoreFailed>
         requires slots { IsTrue (is_slot from.now) × IsTrue (is_slot to.now) }
-        ensures same { OnOk result (HoldsCopy (files_of self.old) from.now to.now) }
-        ensures seen { seen_of self.new ≡ seen_of self.old }
+        ensures same { OnOk result (HoldsCopy (⟦<FileStore<C> as Store>⟧.state self.old).reads from.now to.now) }
+        ensures kept { seen_of self.new ≡ seen_of self.old }
+        ensures seen { Remembers NoCell (seen_in (seen_of self.old)) (seen_in (seen_of self.new)) }
         ensures change { Looks (⟦<FileStore<C> as Store>⟧.state self.old) (⟦<FileStore<C> as Store>⟧.state self.new) }
-        ensures cause { HasCause (⟦<FileStore<C> as Store>⟧.state self.old) (⟦<FileStore<C> as Store>⟧.state self.new) result }
-        ensures ground { OnErr result (IsFaultFor (IsTrue (has_failed self.old) ⊎ Differ (files_of self.old) from.now to.now) (files_of self.old) (files_of self.new)) }
+        ensures cause { HasGround ⊤ (Differ (⟦<FileStore<C> as Store>⟧.state self.old).reads from.now to.now) (⟦<FileStore<C> as Store>⟧.state self.old) (⟦<FileStore<C> as Store>⟧.state self.new) result }
+        ensures said { OnErr result (IsSaid (files_of self.old) (files_of self.new)) }
         ensures alive { OnOk result (IsFalse (has_failed self.old)) }
         ensures failed { IsTrue (has_failed self.old) → IsTrue (has_failed self.new) }
     {
         if self.tracked.notes.lost {
-            return Err(self.after_sync());
+            return Err(refuse_with(&mut self.calls, &self.tracked, &Refusal::AfterSync));
         }
         expects_copy(&mut self.calls, &mut self.tracked, from, to)
     }
@@ -119,15 +130,16 @@ impl<C: Calls> Store for FileStore<C> {
         ensures written { OnOk result (IfSome ((⟦<FileStore<C> as Store>⟧.state self.new).reads cell.now) (λ told. told ≡ bytes.now)) }
         ensures free { IsErasure cell.now bytes.now → OnOk result (LosesNone (files_of self.old) cell.now) }
         ensures forgotten { OnOk result (seen_at (seen_of self.new) cell.now ≡ None) }
-        ensures seen { KeepsSeen (seen_of self.old) (seen_of self.new) cell.now }
+        ensures kept { KeepsSeen (seen_of self.old) (seen_of self.new) cell.now }
+        ensures seen { Remembers (λ c. c ≡ cell.now) (seen_in (seen_of self.old)) (seen_in (seen_of self.new)) }
         ensures change { ChangesOnly (λ c. c ≡ cell.now) (⟦<FileStore<C> as Store>⟧.state self.old) (⟦<FileStore<C> as Store>⟧.state self.new) }
-        ensures cause { HasCause (⟦<FileStore<C> as Store>⟧.state self.old) (⟦<FileStore<C> as Store>⟧.state self.new) result }
-        ensures ground { OnErr result (IsFaultFor (IsTrue (has_failed self.old) ⊎ IsUnwritable (files_of self.old) (seen_of self.old) cell.now bytes.now) (files_of self.old) (files_of self.new)) }
+        ensures cause { HasGround ⊤ (IsErasure cell.now bytes.now × IsLast (⟦<FileStore<C> as Store>⟧.state self.old).reads (seen_in (seen_of self.old)) cell.now) (⟦<FileStore<C> as Store>⟧.state self.old) (⟦<FileStore<C> as Store>⟧.state self.new) result }
+        ensures said { OnErr result (IsSaid (files_of self.old) (files_of self.new)) }
         ensures alive { OnOk result (IsFalse (has_failed self.old)) }
         ensures failed { IsTrue (has_failed self.old) → IsTrue (has_failed self.new) }
     {
         if self.tracked.notes.lost {
-            return Err(self.after_sync());
+            return Err(refuse_with(&mut self.calls, &self.tracked, &Refusal::AfterSync));
         }
         write_item(
             &mut self.calls,
@@ -148,16 +160,17 @@ impl<C: Calls> Store for FileStore<C> {
         ensures begun { OnOk result (Changes (λ c. c ≡ to.now) (λ c. c ≡ to.now) (began (record { from = from.now; to = to.now }) ∷ []) (⟦<FileStore<C> as Store>⟧.state self.old) (⟦<FileStore<C> as Store>⟧.state self.new)) }
         ensures copied { OnOk result (¬ IsMoving (⟦<FileStore<C> as Store>⟧.state self.new) to.now → IsCopy ((⟦<FileStore<C> as Store>⟧.state self.old).reads from.now) ((⟦<FileStore<C> as Store>⟧.state self.new).reads to.now)) }
         ensures free { OnOk result ((item : List ℕ) × MayCopy (files_of self.old) from.now to.now item) }
-        ensures noted { OnOk result (IsSeenAtBoth (seen_of self.new) from.now to.now) }
-        ensures seen { KeepsSeenBut (seen_of self.old) (seen_of self.new) from.now to.now }
+        ensures noted { OnOk result (⊤ → IsSeenAtBoth (seen_in (seen_of self.new)) from.now to.now) }
+        ensures kept { KeepsSeenBut (seen_of self.old) (seen_of self.new) from.now to.now }
+        ensures seen { Remembers (λ c. (c ≡ from.now) ⊎ (c ≡ to.now)) (seen_in (seen_of self.old)) (seen_in (seen_of self.new)) }
         ensures change { (n : ℕ) × Changes (λ c. c ≡ to.now) (λ c. c ≡ to.now) (take n (began (record { from = from.now; to = to.now }) ∷ [])) (⟦<FileStore<C> as Store>⟧.state self.old) (⟦<FileStore<C> as Store>⟧.state self.new) }
-        ensures cause { HasCause (⟦<FileStore<C> as Store>⟧.state self.old) (⟦<FileStore<C> as Store>⟧.state self.new) result }
-        ensures ground { OnErr result (IsFaultFor (IsTrue (has_failed self.old) ⊎ IsUncopiable (files_of self.old) (seen_of self.new) from.now to.now) (files_of self.old) (files_of self.new)) }
+        ensures cause { HasGround ⊤ (IsUncopiable (⟦<FileStore<C> as Store>⟧.state self.old).reads (seen_in (seen_of self.new)) from.now to.now) (⟦<FileStore<C> as Store>⟧.state self.old) (⟦<FileStore<C> as Store>⟧.state self.new) result }
+        ensures said { OnErr result (IsSaid (files_of self.old) (files_of self.new)) }
         ensures alive { OnOk result (IsFalse (has_failed self.old)) }
         ensures failed { IsTrue (has_failed self.old) → IsTrue (has_failed self.new) }
     {
         if self.tracked.notes.lost {
-            return Err(self.after_sync());
+            return Err(refuse_with(&mut self.calls, &self.tracked, &Refusal::AfterSync));
         }
         copy_item(&mut self.calls, &mut self.tracked, &mut self.seen, from, to)
     }
@@ -167,32 +180,32 @@ impl<C: Calls> Store for FileStore<C> {
         ensures ends { Ends (named (⟦<FileStore<C> as Store>⟧.state self.old) result) (⟦<FileStore<C> as Store>⟧.state self.old) (⟦<FileStore<C> as Store>⟧.state self.new) }
         ensures none { IfOk result (λ answer. IfNone answer (flights (⟦<FileStore<C> as Store>⟧.state self.old) ≡ [])) }
         ensures some { IfOk result (λ answer. IfSome answer (λ _. flights (⟦<FileStore<C> as Store>⟧.state self.old) ≢ [])) }
-        ensures seen { seen_of self.new ≡ seen_of self.old }
+        ensures kept { seen_of self.new ≡ seen_of self.old }
+        ensures seen { Remembers NoCell (seen_in (seen_of self.old)) (seen_in (seen_of self.new)) }
         ensures cause { HasCause (⟦<FileStore<C> as Store>⟧.state self.old) (⟦<FileStore<C> as Store>⟧.state self.new) result }
-        ensures ground { OnErr result (IsFaultFor (IsTrue (has_failed self.old)) (files_of self.old) (files_of self.new)) }
+        ensures lost { OnErr result (IsTrue (has_failed self.old)) }
         ensures alive { OnOk result (IsFalse (has_failed self.old)) }
         ensures failed { IsTrue (has_failed self.old) → IsTrue (has_failed self.new) }
     {
         if self.tracked.notes.lost {
-            return Err(self.after_sync());
+            return Err(refuse_with(&mut self.calls, &self.tracked, &Refusal::AfterSync));
         }
         Ok(None)
     }
 
-    #[tactic(auto, using(crate::proofs::Errs::err_any, crate::proofs::Holding::held_looked))]
     /// Brings all that was written to the device. Where it fails each call fails from then on.
     fn sync(&mut self) -> Result<(), StoreFailed>
         ensures ends { (these : List Flight) × Ends these (⟦<FileStore<C> as Store>⟧.state self.old) (⟦<FileStore<C> as Store>⟧.state self.new) }
         ensures settled { OnOk result (IsSettled (⟦<FileStore<C> as Store>⟧.state self.new)) }
         ensures landed { OnOk result (flights (⟦<FileStore<C> as Store>⟧.state self.new) ≡ []) }
-        ensures seen { seen_of self.new ≡ seen_of self.old }
+        ensures kept { seen_of self.new ≡ seen_of self.old }
+        ensures seen { Remembers NoCell (seen_in (seen_of self.old)) (seen_in (seen_of self.new)) }
         ensures cause { HasCause (⟦<FileStore<C> as Store>⟧.state self.old) (⟦<FileStore<C> as Store>⟧.state self.new) result }
-        ensures ground { OnErr result (IsFaultFor (IsTrue (has_failed self.old)) (files_of self.old) (files_of self.new)) }
         ensures alive { OnOk result (IsFalse (has_failed self.old)) }
         ensures failed { OnErr result (IsTrue (has_failed self.new)) }
     {
         if self.tracked.notes.lost {
-            return Err(self.after_sync());
+            return Err(refuse_with(&mut self.calls, &self.tracked, &Refusal::AfterSync));
         }
         match sync_cells(&mut self.calls, &mut self.tracked) {
             Ok(()) => Ok(()),

@@ -3,7 +3,7 @@ use Rattle.std.specs.Prelude.{Bool, Some, false, true, ℕ, ◌≡◌, ◌⊎◌
 use Rattle.mig_top.specs.Common.{AreFlights, Contents, Head, Image, IsArrived, IsJobCell, IsReached, IsReadyIdle, IsSafe, IsSettled, IsSound, MayBeHalting, SettlesTo, State, Task, Tells, flights}
 use Rattle.mig_top.specs.Common.{is_armed}
 use Rattle.mig_mover.specs.Moves.{IsReadyOnceLanded}
-use Rattle.mig_top.specs.Calls.{Call, FolderFailed, SinkFailed, StoreFailed}
+use Rattle.mig_top.specs.Calls.{Call, FolderFailed, IsDone, SinkFailed, StoreFailed}
 use Rattle.mig_top.specs.Stores.{TellsStill}
 
 -- What `move` and `resume` promise for a task, whatever the status. Cells of the task and images are told.
@@ -33,12 +33,12 @@ abbrev pub StartsWell : Call → Task → ℕ → Type 0
 StartsWell k task status = TellsStill (IsJobCell task.input task.plan) k.before.store → IsReadyOnceLanded task k.before.store
     → (FolderFailed k → ⊥) → (SinkFailed k → ⊥) → (StoreFailed k → ⊥) → (status ≡ 0) ⊎ (status ≡ 7)
 
--- the same of `resume`, also where the journal names the plan
-abbrev pub ResumesWell : Call → Task → ℕ → Type 0
-ResumesWell k task status =
+-- the same of `resume`, and of `live`, also where the journal names the plan; a store that may refuse does so only on this ground
+abbrev pub ResumesWell : Call → Task → Type 0 → ℕ → Type 0
+ResumesWell k task Ground status =
     TellsStill (IsJobCell task.input task.plan) k.before.store → IsReadyOnceLanded task k.before.store ⊎
     ((is_armed k.before.store.reads ≡ true) × (k.before.store.reads Head ≡ Some task.digest))
-    → (FolderFailed k → ⊥) → (SinkFailed k → ⊥) → (StoreFailed k → ⊥) → (status ≡ 0) ⊎ (status ≡ 7)
+    → IsDone k Ground status
 
 -- `resume` where closing the plan after n rounds was stopped and the gate is still 1: no item is lost, whatever the status, and with status 0, and
 -- with 6, each has arrived.
@@ -60,6 +60,5 @@ abbrev pub StartsInFlight : Call → Task → ℕ → Type 0
 StartsInFlight k task status = IsReadyInFlight task k.before.store → is_armed k.before.store.reads ≡ false
     → (FolderFailed k → ⊥) → (SinkFailed k → ⊥) → (StoreFailed k → ⊥) → (status ≡ 0) ⊎ (status ≡ 7)
 
-abbrev pub ResumesInFlight : Call → Task → ℕ → Type 0
-ResumesInFlight k task status = IsReadyInFlight task k.before.store → (is_armed k.before.store.reads ≡ true → k.before.store.reads Head ≡ Some task.digest)
-    → (FolderFailed k → ⊥) → (SinkFailed k → ⊥) → (StoreFailed k → ⊥) → (status ≡ 0) ⊎ (status ≡ 7)
+abbrev pub ResumesInFlight : Call → Task → Type 0 → ℕ → Type 0
+ResumesInFlight k task Ground status = IsReadyInFlight task k.before.store → (is_armed k.before.store.reads ≡ true → k.before.store.reads Head ≡ Some task.digest) → IsDone k Ground status

@@ -1,11 +1,23 @@
 -- What a session of `live` puts.
-use Rattle.std.specs.Prelude.{Bool, List, [], codes, ℕ, ◌++◌, ◌-◌, ◌∷◌, ◌≡◌}
-use Rattle.mig_top.specs.Common.{Contents, IsJobCell, IsSound, Order, SettlesTo, State, Task, Tells, all_steps, decimal, joined, replies, steps_after}
+use Rattle.std.specs.Prelude.{Bool, Contains, List, [], codes, ℕ, ◌++◌, ◌-◌, ◌∷◌, ◌≡◌}
+use Rattle.mig_base.specs.Readiness.{IsShifted}
+use Rattle.mig_base.specs.declared.ids.ItemId.{ItemId}
+use Rattle.mig_live.specs.Sessions.{AreOthersKept}
+use Rattle.mig_live.specs.declared.orders.Order.TheVariants.{Read}
+use Rattle.mig_mover.specs.Holdings.{IsUnrefused}
+use Rattle.mig_top.specs.Common.{Contents, IsJobCell, IsMoving, IsSound, Order, SettlesTo, State, Task, Tells, all_steps, decimal, item_cell, joined, replies, steps_after}
 use Rattle.mig_top.specs.live.Reads.{Scripted}
 
 -- the store holds these contents: once it is settled what reads give is sound with them; and the cells of the task are told
 abbrev pub Holds : Bool → Task → Contents → State → Type 0
 Holds asked task contents store = Tells (IsJobCell task.input task.plan) store.reads × SettlesTo (IsSound asked task.input task.plan task.digest contents) store
+
+-- The cells show no ground on which a store may refuse what a script asks: none in its plan, and each item that is read and that the plan doesn't
+-- shift is where it is listed, and no copy goes there.
+pub record IsServable (read : Scripted) (s : State) : Type 0 where
+  pub task : IsUnrefused read.task s
+  pub others : AreOthersKept read.task s.reads read.orders
+  pub still : (item : ItemId) → Contains read.orders (Read item) → ¬ IsShifted read.task.plan item.0 → ¬ IsMoving s (item_cell read.task.input item.0)
 
 -- the text is the replies to orders, whatever contents the store held in the beginning
 abbrev pub AreAnswers : Task → State → List Order → List ℕ → Type 0

@@ -1,8 +1,6 @@
-use Rattle.mig_files.proofs.Common.{file_of, inl}
+use Rattle.mig_files.proofs.Common.{file_of}
 use Rattle.mig_files.proofs.TrackingSteps.{step_then, alive_then, alive_same}
 use Rattle.mig_files.proofs.Derivation.{end_at_cell, end_after, on_ok}
-use Rattle.mig_files.proofs.Grounds.{on_err, fault_after, cut_before}
-use Rattle.mig_files.proofs.Errs.{err_any}
 use Rattle.mig_files.proofs.cells.open_with_room.Goals as goal
 
 pub check_room-requires-clause-end : goal.check_room-requires-clause-end
@@ -18,11 +16,3 @@ returns-clause-step g c =
 pub returns-clause-kept : goal.returns-clause-kept
 returns-clause-kept g c =
     on_ok c.check_room.result c.check_room.ensures.kept (λ same. alive_then c.in_ok-found.ensures.kept (alive_same same c.in_ok-found.ensures.kept.alive))
-
-pub returns-in_err-found-clause-cause : goal.returns-in_err-found-clause-cause
-returns-in_err-found-clause-cause g c = err_any _ (inl c.in_err-found.ensures.cause)
-
-pub returns-clause-cause : goal.returns-clause-cause
-returns-clause-cause g c =
-    let look = c.open_place.ensures.step.change in
-    on_err c.check_room.result c.check_room.ensures.cause (fault_after c.open_place.ensures.step.later look (cut_before look c.args.cell.now))

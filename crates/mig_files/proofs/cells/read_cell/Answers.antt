@@ -1,10 +1,8 @@
-use Rattle.mig_files.proofs.Common.{arith, file_of, inl, length, ◌∙◌}
+use Rattle.mig_files.proofs.Common.{file_of, length, ◌∙◌}
 use Rattle.mig_files.proofs.FilesSteps.{look_then}
 use Rattle.mig_files.proofs.TrackingSteps.{step_then}
 use Rattle.mig_files.proofs.Derivation.{end_after}
 use Rattle.mig_files.proofs.Headers.{whole_read, on_any}
-use Rattle.mig_files.proofs.Grounds.{on_err, fault_after, cut_before}
-use Rattle.mig_files.proofs.Errs.{err_any}
 use Rattle.mig_files.proofs.cells.read_cell.Goals as goal
 
 pub check_whole-requires-clause-end : goal.check_whole-requires-clause-end
@@ -21,14 +19,3 @@ returns-clause-bytes g c =
 
 pub returns-clause-step : goal.returns-clause-step
 returns-clause-step g c = step_then (step_then c.read_part.ensures.step c.check_room.ensures.step) c.check_whole.ensures.step
-
-pub returns-in_err-found-clause-cause : goal.returns-in_err-found-clause-cause
-returns-in_err-found-clause-cause g c = err_any _ (inl c.in_err-found.ensures.cause)
-
-pub returns-in_err-check_room-clause-cause : goal.returns-in_err-check_room-clause-cause
-returns-in_err-check_room-clause-cause g c = err_any _ (fault_after c.read_part.ensures.step.later c.read_part.ensures.step.change (cut_before c.read_part.ensures.step.change c.args.cell.now) c.in_err-check_room.ensures.cause)
-
-pub returns-clause-cause : goal.returns-clause-cause
-returns-clause-cause g c =
-    let look = look_then c.read_part.ensures.step.change c.check_room.ensures.step.change in
-    on_err c.check_whole.result c.check_whole.ensures.cause (fault_after (omega (arith, c.read_part.ensures.step.later, c.check_room.ensures.step.later)) look (cut_before look c.args.cell.now))

@@ -1,7 +1,5 @@
-use Rattle.mig_files.proofs.Common.{arith, inl}
 use Rattle.mig_files.proofs.TrackingSteps.{step_at_cell, step_is_write}
 use Rattle.mig_files.proofs.Derivation.{cell_written_at, on_ok}
-use Rattle.mig_files.proofs.Grounds.{on_err}
 use Rattle.mig_files.proofs.cells.write_cell.Goals as goal
 
 pub returns-clause-written : goal.returns-clause-written
@@ -14,6 +12,3 @@ returns-clause-step g c = step_at_cell c.args.cell.now c.place_of-place.ensures.
 
 pub returns-in_err-open_with_room-clause-step : goal.returns-in_err-open_with_room-clause-step
 returns-in_err-open_with_room-clause-step g c = step_is_write c.open_with_room.ensures.step
-
-pub returns-clause-cause : goal.returns-clause-cause
-returns-clause-cause g c = on_err c.write_all.result c.write_all.ensures.cause (λ rose. inl (omega (arith, c.open_with_room.ensures.step.later, rose)))

@@ -1,10 +1,11 @@
-use Rattle.mig_files.proofs.Common.{inl, sym, ◌∙◌}
+use Rattle.mig_files.proofs.Common.{sym, ◌∙◌}
 use Rattle.mig_files.proofs.TrackingSteps.{step_then}
-use Rattle.mig_files.proofs.Derivation.{on_ok}
+use Rattle.mig_files.proofs.Derivation.{image_before, on_ok}
 use Rattle.mig_files.proofs.Headers.{header_after}
 use Rattle.mig_files.proofs.Grounds.{on_err, fault_after}
-use Rattle.mig_files.proofs.Errs.{err_any}
-use Rattle.mig_files.proofs.CopySteps.{copy_before, differ_before, no_copy}
+use Rattle.mig_files.proofs.CopySteps.{no_copy}
+use Rattle.mig_files.specs.Seeing.{HoldsCopy}
+use Rattle.mig_store.specs.Grounds.{Differ}
 use Rattle.mig_files.proofs.copies.expects_copy.Goals as goal
 
 pub compare-requires-clause-header : goal.compare-requires-clause-header
@@ -14,20 +15,16 @@ pub compare-requires-clause-read : goal.compare-requires-clause-read
 compare-requires-clause-read g c = header_after c.slot_at.ensures.step.change c.args.from.now 4096 _ c.in_ok-slot_at.ensures.bytes
 
 pub returns-in-Some-clause-same : goal.returns-in-Some-clause-same
-returns-in-Some-clause-same g c = on_ok c.compare.result c.compare.ensures.same (copy_before c.slot_at.ensures.step.change c.args.from.now c.args.to.now)
+returns-in-Some-clause-same g c = on_ok c.compare.result c.compare.ensures.same (image_before (λ image. HoldsCopy image c.args.from.now c.args.to.now) c.slot_at.ensures.step.change)
 
 pub returns-in-Some-clause-step : goal.returns-in-Some-clause-step
 returns-in-Some-clause-step g c = step_then c.slot_at.ensures.step c.compare.ensures.step
 
 pub returns-in-Some-clause-cause : goal.returns-in-Some-clause-cause
 returns-in-Some-clause-cause g c =
-    let look = c.slot_at.ensures.step.change in
-    on_err c.compare.result c.compare.ensures.cause (fault_after c.slot_at.ensures.step.later look (differ_before look c.args.from.now c.args.to.now))
+    on_err c.compare.result c.compare.ensures.cause (fault_after (λ image. Differ image c.args.from.now c.args.to.now) c.slot_at.ensures.step)
 
 pub returns-in-None-clause-same : goal.returns-in-None-clause-same
 returns-in-None-clause-same g c =
     no_copy (g.C.Calls.state c.args.calls.now) c.args.from.now c.args.to.now c.requires.slots c.slot_at.new.into c.slot_at.ensures.len c.in_ok-slot_at.ensures.bytes
     (λ item name has. c.in-None.ensures.none item name (c.first_of.ensures.first ∙ has))
-
-pub returns-in_err-slot_at-clause-cause : goal.returns-in_err-slot_at-clause-cause
-returns-in_err-slot_at-clause-cause g c = err_any _ (inl c.in_err-slot_at.ensures.cause)

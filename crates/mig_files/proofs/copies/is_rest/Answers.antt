@@ -1,5 +1,5 @@
 use Rattle.mig_files.proofs.Common.{arith, cases_lt, inl, inr, subst, sym, ℕ, ◌<◌, ◌≡◌, ◌≤◌, ◌⊎◌}
-use Rattle.mig_files.specs.Seeing.{AreZeros, sector}
+use Rattle.mig_store.specs.Grounds.{AreZeros, sector}
 use Rattle.mig_files.proofs.copies.is_rest.Goals as goal
 
 pub loop-n-preserved : goal.loop-n-preserved

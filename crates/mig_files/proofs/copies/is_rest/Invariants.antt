@@ -1,4 +1,4 @@
-use Rattle.mig_files.specs.Seeing.{AreZeros, sector}
+use Rattle.mig_store.specs.Grounds.{AreZeros, sector}
 use Rattle.mig_files.proofs.Common.{ℕ, ◌<◌, ◌≡◌, ◌⊎◌}
 use Rattle.mig_files.proofs.copies.is_rest.Given as goal
 

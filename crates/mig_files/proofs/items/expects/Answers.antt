@@ -1,11 +1,12 @@
-use Rattle.mig_files.proofs.Common.{arith, file_of, inl, inr}
-use Rattle.mig_files.proofs.FilesSteps.{look_then, told_before, told_after}
+use Rattle.mig_files.proofs.Common.{file_of}
+use Rattle.mig_files.proofs.FilesSteps.{look_then, told_before}
 use Rattle.mig_files.proofs.TrackingSteps.{step_then}
 use Rattle.mig_files.proofs.Derivation.{end_after}
 use Rattle.mig_files.proofs.Headers.{header_after, held_after, held_before, on_any}
 use Rattle.mig_files.proofs.Holding.{held_looked}
-use Rattle.mig_files.proofs.Grounds.{on_err, fault_for, fault_after, cut_before}
+use Rattle.mig_files.proofs.Grounds.{fault_after}
 use Rattle.mig_files.proofs.Errs.{err_any}
+use Rattle.mig_store.specs.Grounds.{Lacks}
 use Rattle.mig_files.proofs.items.expects.Goals as goal
 
 pub check_held-requires-clause-header : goal.check_held-requires-clause-header
@@ -40,17 +41,6 @@ pub returns-clause-step : goal.returns-clause-step
 returns-clause-step g c =
     step_then (step_then c.header_there.ensures.step c.check_held.ensures.step) c.note_held.ensures.step
 
-pub returns-in_err-found-clause-cause : goal.returns-in_err-found-clause-cause
-returns-in_err-found-clause-cause g c = err_any _ (fault_for (λ cut told. inr (cut told)) c.in_err-found.ensures.cause)
-
 pub returns-in_err-check_held-clause-cause : goal.returns-in_err-check_held-clause-cause
 returns-in_err-check_held-clause-cause g c =
-    let look = c.header_there.ensures.step.change in
-    err_any _ (fault_after c.header_there.ensures.step.later look (λ not told. inl (λ holds. not (told_after look (file_of c.args.slot.now) told) (held_after look c.args.slot.now c.args.item.now holds)))
-    c.in_err-check_held.ensures.cause)
-
-pub returns-clause-cause : goal.returns-clause-cause
-returns-clause-cause g c =
-    let look = look_then c.header_there.ensures.step.change c.check_held.ensures.step.change in
-    on_err c.note_held.result c.note_held.ensures.cause (fault_after (omega (arith, c.header_there.ensures.step.later, c.check_held.ensures.step.later)) look
-    (λ cut told. inr (cut_before look c.args.slot.now cut told)))
+    err_any _ (fault_after (λ image. Lacks image c.args.slot.now c.args.item.now) c.header_there.ensures.step c.in_err-check_held.ensures.cause)

@@ -1,8 +1,9 @@
-use Rattle.mig_files.proofs.Common.{inl}
+use Rattle.mig_files.proofs.Common.{seen_in}
 use Rattle.mig_files.proofs.TrackingSteps.{step_then, alive_then, alive_same}
 use Rattle.mig_files.proofs.Headers.{header_after, free_before}
-use Rattle.mig_files.proofs.Grounds.{fault_after, last_before}
+use Rattle.mig_files.proofs.Grounds.{fault_after}
 use Rattle.mig_files.proofs.Errs.{err_any}
+use Rattle.mig_store.specs.Grounds.{IsLast}
 use Rattle.mig_files.proofs.items.expects_free.Goals as goal
 
 pub returns-clause-step : goal.returns-clause-step
@@ -20,8 +21,6 @@ check_free-requires-clause-header g c = header_after c.header_at.ensures.step.ch
 pub returns-clause-free : goal.returns-clause-free
 returns-clause-free g c = free_before c.header_at.ensures.step.change c.args.seen.now c.args.slot.now c.in_ok-check_free.ensures.free
 
-pub returns-in_err-found-clause-cause : goal.returns-in_err-found-clause-cause
-returns-in_err-found-clause-cause g c = err_any _ (inl c.in_err-found.ensures.cause)
-
 pub returns-in_err-check_free-clause-cause : goal.returns-in_err-check_free-clause-cause
-returns-in_err-check_free-clause-cause g c = err_any _ (fault_after c.header_at.ensures.step.later c.header_at.ensures.step.change (last_before c.header_at.ensures.step.change c.args.slot.now) c.in_err-check_free.ensures.cause)
+returns-in_err-check_free-clause-cause g c =
+    err_any _ (fault_after (λ image. IsLast image (seen_in c.args.seen.now) c.args.slot.now) c.header_at.ensures.step c.in_err-check_free.ensures.cause)

@@ -1,9 +1,9 @@
-use Rattle.mig_files.proofs.Common.{inl}
+use Rattle.mig_files.proofs.Common.{seen_in}
 use Rattle.mig_files.proofs.TrackingSteps.{step_then, alive_then, alive_same}
 use Rattle.mig_files.proofs.Derivation.{on_ok}
-use Rattle.mig_files.proofs.Headers.{header_after, free_before, free_for_own, free_for_any}
-use Rattle.mig_files.proofs.Grounds.{on_err, fault_after, last_before, other_by}
-use Rattle.mig_files.proofs.Errs.{err_any}
+use Rattle.mig_files.proofs.Headers.{header_after, free_before, free_for_own, free_for_any, not_held}
+use Rattle.mig_files.proofs.Grounds.{on_err, or_by, fault_after, lacks_cell}
+use Rattle.mig_store.specs.Grounds.{IsLast}
 use Rattle.mig_files.proofs.items.expects_free_for.Goals as goal
 
 pub returns-clause-step : goal.returns-clause-step
@@ -26,12 +26,11 @@ returns-clause-free g c =
     on_ok c.check_free.result c.check_free.ensures.free (λ free. free_for_any a c.args.seen.now c.args.slot.now c.args.item.now
     (free_before c.header_at.ensures.step.change c.args.seen.now c.args.slot.now free))
 
-pub returns-in_err-header_at-clause-cause : goal.returns-in_err-header_at-clause-cause
-returns-in_err-header_at-clause-cause g c = err_any _ (inl c.in_err-header_at.ensures.cause)
-
 pub returns-clause-cause : goal.returns-clause-cause
 returns-clause-cause g c =
     let a = g.C.Calls.state c.args.calls.now in
-    let look = c.header_at.ensures.step.change in
-    on_err c.check_free.result c.check_free.ensures.cause (fault_after c.header_at.ensures.step.later look (λ last. other_by a c.args.slot.now c.args.item.now c.header_at.new.into
-    c.is_header.ensures.len c.if-is_header.ensures.same c.in_ok-header_at.ensures.header (last_before look c.args.slot.now last)))
+    let not = not_held a c.args.slot.now c.header_at.new.into c.args.item.now c.is_header.ensures.len c.is_header.ensures.name c.if-is_header.ensures.same
+    c.in_ok-header_at.ensures.header in
+    on_err c.check_free.result c.check_free.ensures.cause (λ why.
+    or_by (fault_after (λ image. IsLast image (seen_in c.args.seen.now) c.args.slot.now) c.header_at.ensures.step why)
+    (λ last. (last.0, (last.1, lacks_cell a c.args.slot.now c.requires.slot c.args.item.now not))))

@@ -1,9 +1,10 @@
-use Rattle.mig_files.proofs.Common.{arith, file_of, inl, length, rules, ◌≡◌}
+use Rattle.mig_files.proofs.Common.{file_of, length, rules, ◌≡◌}
 use Rattle.mig_files.proofs.FilesSteps.{look_then}
 use Rattle.mig_files.proofs.TrackingSteps.{step_then, quiet_step}
 use Rattle.mig_files.proofs.Derivation.{part_read, end_at_cell, end_after}
-use Rattle.mig_files.proofs.Grounds.{fault_after, cut_before}
+use Rattle.mig_files.proofs.Grounds.{fault_after}
 use Rattle.mig_files.proofs.Errs.{err_any}
+use Rattle.mig_store.specs.Grounds.{Lacks}
 use Rattle.mig_files.proofs.items.header_there.Goals as goal
 
 pub check_there-requires-clause-end : goal.check_there-requires-clause-end
@@ -33,11 +34,6 @@ pub returns-in_err-check_there-clause-step : goal.returns-in_err-check_there-cla
 returns-in_err-check_there-clause-step g c =
     step_then c.open_place.ensures.step c.check_there.ensures.step
 
-pub returns-in_err-found-clause-cause : goal.returns-in_err-found-clause-cause
-returns-in_err-found-clause-cause g c = err_any _ (inl c.in_err-found.ensures.cause)
-
 pub returns-in_err-check_there-clause-cause : goal.returns-in_err-check_there-clause-cause
-returns-in_err-check_there-clause-cause g c = err_any _ (fault_after c.open_place.ensures.step.later c.open_place.ensures.step.change (cut_before c.open_place.ensures.step.change c.args.slot.now) c.in_err-check_there.ensures.cause)
-
-pub returns-in_err-read_all-clause-cause : goal.returns-in_err-read_all-clause-cause
-returns-in_err-read_all-clause-cause g c = err_any _ (inl (omega (arith, c.open_place.ensures.step.later, c.check_there.ensures.step.later, c.in_err-read_all.ensures.cause)))
+returns-in_err-check_there-clause-cause g c =
+    err_any _ (fault_after (λ image. Lacks image c.args.slot.now c.args.item.now) c.open_place.ensures.step c.in_err-check_there.ensures.cause)

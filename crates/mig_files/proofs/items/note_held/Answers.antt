@@ -1,6 +1,5 @@
-use Rattle.mig_files.proofs.Common.{arith, inl, inr, len_of}
+use Rattle.mig_files.proofs.Common.{arith, len_of}
 use Rattle.mig_files.proofs.Holding.{held_looked}
-use Rattle.mig_files.proofs.Grounds.{on_err}
 use Rattle.mig_files.proofs.items.note_held.Goals as goal
 
 pub refuse_with-requires-clause-cause : goal.refuse_with-requires-clause-cause
@@ -8,9 +7,3 @@ refuse_with-requires-clause-cause g c = λ told. (len_of c.args.found.now, omega
 
 pub returns-then-len-end_of-clause-held : goal.returns-then-len-end_of-clause-held
 returns-then-len-end_of-clause-held g c = held_looked c.refuse_with.ensures.step.change c.requires.held
-
-pub returns-then-len-end_of-clause-cause : goal.returns-then-len-end_of-clause-cause
-returns-then-len-end_of-clause-cause g c = inr (c.refuse_with.ensures.rose, λ told. (len_of c.args.found.now, omega arith, c.requires.end told))
-
-pub returns-clause-cause : goal.returns-clause-cause
-returns-clause-cause g c = on_err c.note_seen.result c.note_seen.ensures.cause (λ rose. inl rose)

@@ -1,14 +1,9 @@
-use Rattle.mig_files.proofs.Common.{arith, file_of, inl, inr, len_of, refl}
+use Rattle.mig_files.proofs.Common.{arith, file_of, len_of, refl}
 use Rattle.mig_files.proofs.TrackingSteps.{step_at_cell, step_is_write}
 use Rattle.mig_files.proofs.Headers.{emptied, on_any}
 use Rattle.mig_files.proofs.Holding.{held_less, held_looked, held_written, none_lost}
 use Rattle.mig_files.proofs.Derivation.{end_after}
-use Rattle.mig_files.proofs.Grounds.{on_err, fault_for, fault_after, cut_before}
-use Rattle.mig_files.proofs.Errs.{err_any}
 use Rattle.mig_files.proofs.writes.empty.Goals as goal
-
-pub write_cell-requires-clause-claimed : goal.write_cell-requires-clause-claimed
-write_cell-requires-clause-claimed g c = c.in_ok-found.ensures.kept.claimed c.requires.claimed
 
 pub returns-in_err-found-clause-step : goal.returns-in_err-found-clause-step
 returns-in_err-found-clause-step g c = step_is_write c.expects_free.ensures.step
@@ -41,14 +36,3 @@ returns-then-len-offset-clause-free g c = none_lost c.args.slot.now c.requires.h
 
 pub returns-clause-free : goal.returns-clause-free
 returns-clause-free g c = on_any c.write_cell.result (none_lost c.args.slot.now c.requires.held c.in_ok-found.ensures.free)
-
-pub returns-clause-forgotten : goal.returns-clause-forgotten
-returns-clause-forgotten g c = on_any c.write_cell.result c.forget.ensures.forgotten
-
-pub returns-in_err-found-clause-cause : goal.returns-in_err-found-clause-cause
-returns-in_err-found-clause-cause g c = err_any _ (fault_for (λ last. inl last) c.in_err-found.ensures.cause)
-
-pub returns-clause-cause : goal.returns-clause-cause
-returns-clause-cause g c =
-    let look = c.expects_free.ensures.step.change in
-    on_err c.write_cell.result c.write_cell.ensures.cause (fault_after c.expects_free.ensures.step.later look (λ cut. inr (cut_before look c.args.slot.now cut)))

@@ -1,4 +1,4 @@
-use Rattle.mig_files.specs.Seeing.{AreZeros}
+use Rattle.mig_store.specs.Grounds.{AreZeros}
 use Rattle.std.proofs.lemmas.Bool.Decides.{nat_tests}
 use Rattle.std.specs.Prelude.{bit_or}
 use Rattle.mig_files.proofs.Common.{List, MatchBool, [], ap, arith, length, nat_eq, refl, rules, slice_index, subst, suc, zero, ℕ, ◌++◌, ◌<◌, ◌∙◌, ◌∷◌, ◌≡◌}

@@ -1,11 +1,9 @@
-use Rattle.mig_files.proofs.Common.{arith, inl, inr, refl, ◌∙◌}
+use Rattle.mig_files.proofs.Common.{refl}
 use Rattle.mig_files.proofs.TrackingSteps.{step_then, step_at_cell, step_is_write, write_step_then}
 use Rattle.mig_files.proofs.FilesSteps.{look_then}
 use Rattle.mig_files.proofs.Headers.{on_any}
 use Rattle.mig_files.proofs.Holding.{held_looked, held_written, holds_written, none_lost_but}
 use Rattle.mig_files.proofs.Derivation.{written_after}
-use Rattle.mig_files.proofs.Grounds.{on_err, fault_for, fault_after, cut_before}
-use Rattle.mig_files.proofs.Errs.{err_any}
 use Rattle.mig_files.proofs.writes.put_item.Goals as goal
 
 pub returns-in_err-expects_free_for-clause-step : goal.returns-in_err-expects_free_for-clause-step
@@ -27,9 +25,6 @@ returns-clause-written g c = on_any _ (written_after c.note_seen.ensures.step.ch
 pub returns-clause-free : goal.returns-clause-free
 returns-clause-free g c = on_any c.note_seen.result (none_lost_but c.args.slot.now c.args.item.now c.requires.held c.in_ok-expects_free_for.ensures.free)
 
-pub returns-clause-others : goal.returns-clause-others
-returns-clause-others g c = λ other not. c.note_seen.ensures.others other not ∙ c.forget.ensures.others other not
-
 pub note_seen-requires-clause-holds : goal.note_seen-requires-clause-holds
 note_seen-requires-clause-holds g c =
     holds_written (g.C.Calls.state c.write_cell.new.calls) c.args.slot.now c.args.bytes.now c.args.item.now c.requires.slot c.requires.length c.requires.named c.in_ok-write_cell.ensures.written
@@ -49,24 +44,3 @@ pub returns-in_err-write_cell-clause-held : goal.returns-in_err-write_cell-claus
 returns-in_err-write_cell-clause-held g c =
     held_written c.args.slot.now (step_at_cell c.args.slot.now refl refl refl (step_then c.expects_free_for.ensures.step c.claim.ensures.step) c.write_cell.ensures.step).change
     c.forget.ensures.others c.forget.ensures.forgotten c.requires.held
-
-pub returns-in_err-expects_free_for-clause-cause : goal.returns-in_err-expects_free_for-clause-cause
-returns-in_err-expects_free_for-clause-cause g c = err_any _ (fault_for (λ last. inl last) c.in_err-expects_free_for.ensures.cause)
-
-pub returns-in_err-claim-clause-cause : goal.returns-in_err-claim-clause-cause
-returns-in_err-claim-clause-cause g c = err_any _ (inl (omega (arith, c.expects_free_for.ensures.step.later, c.in_err-claim.ensures.cause)))
-
-pub returns-in_err-write_cell-clause-cause : goal.returns-in_err-write_cell-clause-cause
-returns-in_err-write_cell-clause-cause g c =
-    let look = look_then c.expects_free_for.ensures.step.change c.claim.ensures.step.change in
-    err_any _ (fault_after (omega (arith, c.expects_free_for.ensures.step.later, c.claim.ensures.step.later)) look (λ cut. inr (cut_before look c.args.slot.now cut)) c.in_err-write_cell.ensures.cause)
-
-pub returns-clause-cause : goal.returns-clause-cause
-returns-clause-cause g c =
-    on_err c.note_seen.result c.note_seen.ensures.cause (λ rose. inl (omega (
-      arith,
-      c.expects_free_for.ensures.step.later,
-      c.claim.ensures.step.later,
-      c.write_cell.ensures.step.later,
-      rose,
-    )))

@@ -1,20 +1,19 @@
-use Rattle.mig_files.proofs.Common.{arith, file_of, inl, inr, length, offset_of, sym, ◌∙◌}
+use Rattle.mig_files.proofs.Common.{arith, file_of, inr, length, ◌∙◌}
 use Rattle.mig_files.proofs.FilesSteps.{look_then}
 use Rattle.mig_files.proofs.TrackingSteps.{step_then}
-use Rattle.mig_files.proofs.Headers.{held_by, held_is, header_after, first_bytes, whole_read}
+use Rattle.mig_files.proofs.Headers.{held_by, header_after, first_has, not_held, whole_read}
 use Rattle.mig_files.proofs.Holding.{held_looked}
 use Rattle.mig_files.proofs.Derivation.{end_after}
-use Rattle.mig_files.proofs.Grounds.{fault_after, cut_before, none_before}
-use Rattle.mig_files.proofs.Errs.{err_any}
+use Rattle.mig_files.proofs.Grounds.{lacks_cell}
 use Rattle.mig_files.proofs.writes.read_item.Goals as goal
 
 pub note_held-requires-clause-holds : goal.note_held-requires-clause-holds
 note_held-requires-clause-holds g c =
     let b = g.C.Calls.state c.read_part.new.calls in
+    let n = length c.args.bytes.now in
     held_by b c.args.slot.now c.first_of.result c.in-Some.item c.in-Some.ensures.some
-    (λ told. first_bytes (b.reads (file_of c.args.slot.now)) (offset_of c.args.slot.now) 34 (length c.args.bytes.now) c.read_part.new.into c.first_of.result c.requires.whole
-    (omega (arith, c.read_part.auto.into)) c.first_of.ensures.first
-    (header_after c.read_part.ensures.step.change c.args.slot.now (length c.args.bytes.now) c.read_part.new.into c.in_ok-found.ensures.bytes told))
+    (first_has b c.args.slot.now n c.read_part.new.into c.first_of.result c.requires.whole (omega (arith, c.read_part.auto.into)) c.first_of.ensures.first
+    (header_after c.read_part.ensures.step.change c.args.slot.now n c.read_part.new.into c.in_ok-found.ensures.bytes))
 
 pub note_held-requires-clause-held : goal.note_held-requires-clause-held
 note_held-requires-clause-held g c = held_looked c.read_part.ensures.step.change c.requires.held
@@ -29,12 +28,12 @@ pub note_held-requires-clause-end : goal.note_held-requires-clause-end
 note_held-requires-clause-end g c = end_after c.read_part.ensures.step.change (file_of c.args.slot.now) _ c.in_ok-found.ensures.end
 
 pub refuse_with-requires-clause-cause : goal.refuse_with-requires-clause-cause
-refuse_with-requires-clause-cause g c = λ item name told holds.
+refuse_with-requires-clause-cause g c = λ item name.
     let b = g.C.Calls.state c.read_part.new.calls in
-    let has = header_after c.read_part.ensures.step.change c.args.slot.now (length c.args.bytes.now) c.read_part.new.into c.in_ok-found.ensures.bytes told in
-    c.in-None.ensures.none item name (held_is b c.args.slot.now c.first_of.result item c.first_of.ensures.len name.short
-    (first_bytes (b.reads (file_of c.args.slot.now)) (offset_of c.args.slot.now) 34 (length c.args.bytes.now) c.read_part.new.into c.first_of.result c.requires.whole
-    (omega (arith, c.read_part.auto.into)) c.first_of.ensures.first has) holds)
+    let n = length c.args.bytes.now in
+    not_held b c.args.slot.now c.first_of.result item c.first_of.ensures.len name (c.in-None.ensures.none item name)
+    (first_has b c.args.slot.now n c.read_part.new.into c.first_of.result c.requires.whole (omega (arith, c.read_part.auto.into)) c.first_of.ensures.first
+    (header_after c.read_part.ensures.step.change c.args.slot.now n c.read_part.new.into c.in_ok-found.ensures.bytes))
 
 pub returns-in_ok-note_held-in-Some-clause-bytes : goal.returns-in_ok-note_held-in-Some-clause-bytes
 returns-in_ok-note_held-in-Some-clause-bytes g c =
@@ -50,31 +49,20 @@ returns-in_err-note_held-in-Some-clause-step g c = step_then c.read_part.ensures
 pub returns-in-None-clause-step : goal.returns-in-None-clause-step
 returns-in-None-clause-step g c = step_then c.read_part.ensures.step c.refuse_with.ensures.step
 
-pub returns-in_ok-note_held-in-Some-clause-named : goal.returns-in_ok-note_held-in-Some-clause-named
-returns-in_ok-note_held-in-Some-clause-named g c = (c.in-Some.ensures.name, sym c.first_of.ensures.first ∙ c.in-Some.ensures.some)
-
 pub returns-in_ok-note_held-in-Some-clause-holds : goal.returns-in_ok-note_held-in-Some-clause-holds
 returns-in_ok-note_held-in-Some-clause-holds g c =
     let a = g.C.Calls.state c.args.calls.now in
     held_by a c.args.slot.now c.first_of.result c.in-Some.item c.in-Some.ensures.some
-    (λ told. first_bytes (a.reads (file_of c.args.slot.now)) (offset_of c.args.slot.now) 34 (length c.args.bytes.now) c.read_part.new.into c.first_of.result c.requires.whole
-    (omega (arith, c.read_part.auto.into)) c.first_of.ensures.first (c.in_ok-found.ensures.bytes told))
-
-pub returns-in_err-found-clause-cause : goal.returns-in_err-found-clause-cause
-returns-in_err-found-clause-cause g c = err_any _ (inl c.in_err-found.ensures.cause)
-
-pub returns-in_err-note_held-in-Some-clause-cause : goal.returns-in_err-note_held-in-Some-clause-cause
-returns-in_err-note_held-in-Some-clause-cause g c = err_any _ (fault_after c.read_part.ensures.step.later c.read_part.ensures.step.change (λ cut. inr (cut_before c.read_part.ensures.step.change c.args.slot.now cut)) c.in_err-note_held-in-Some.ensures.cause)
+    (first_has a c.args.slot.now (length c.args.bytes.now) c.read_part.new.into c.first_of.result c.requires.whole (omega (arith, c.read_part.auto.into))
+    c.first_of.ensures.first c.in_ok-found.ensures.bytes)
 
 pub returns-in-None-clause-cause : goal.returns-in-None-clause-cause
 returns-in-None-clause-cause g c =
-    let look = c.read_part.ensures.step.change in
-    fault_after c.read_part.ensures.step.later look (λ none. inl (none_before look c.args.slot.now none)) (inr (
-      c.refuse_with.ensures.rose,
-      λ item name told holds.
-          let b = g.C.Calls.state c.read_part.new.calls in
-          let has = header_after look c.args.slot.now (length c.args.bytes.now) c.read_part.new.into c.in_ok-found.ensures.bytes told in
-          c.in-None.ensures.none item name (held_is b c.args.slot.now c.first_of.result item c.first_of.ensures.len name.short
-          (first_bytes (b.reads (file_of c.args.slot.now)) (offset_of c.args.slot.now) 34 (length c.args.bytes.now) c.read_part.new.into c.first_of.result c.requires.whole
-          (omega (arith, c.read_part.auto.into)) c.first_of.ensures.first has) holds),
-    ))
+    let a = g.C.Calls.state c.args.calls.now in
+    let first = first_has a c.args.slot.now (length c.args.bytes.now) c.read_part.new.into c.first_of.result c.requires.whole (omega (arith, c.read_part.auto.into))
+    c.first_of.ensures.first c.in_ok-found.ensures.bytes in
+    inr (
+      omega (arith, c.read_part.ensures.step.change.refused, c.refuse_with.ensures.rose),
+      λ item name. lacks_cell a c.args.slot.now c.requires.slot item
+          (not_held a c.args.slot.now c.first_of.result item c.first_of.ensures.len name (c.in-None.ensures.none item name) first),
+    )

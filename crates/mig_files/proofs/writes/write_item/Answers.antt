@@ -1,9 +1,9 @@
-use Rattle.mig_files.proofs.Common.{inl, inr, refl}
+use Rattle.mig_files.proofs.Common.{refl, seen_in}
 use Rattle.mig_files.proofs.TrackingSteps.{step_at_cell, step_is_write}
 use Rattle.mig_files.proofs.Derivation.{on_ok}
 use Rattle.mig_files.proofs.Holding.{held_looked, held_written, lost_before}
-use Rattle.mig_files.proofs.Grounds.{on_err, fault_after, cut_before, last_before}
-use Rattle.mig_files.proofs.Errs.{err_any}
+use Rattle.mig_files.proofs.Grounds.{on_err, or_by, fault_after}
+use Rattle.mig_store.specs.Grounds.{IsLast}
 use Rattle.mig_files.proofs.writes.write_item.Goals as goal
 
 pub returns-in_err-claim-clause-step : goal.returns-in_err-claim-clause-step
@@ -28,21 +28,8 @@ returns-then-empties-clause-step g c = step_at_cell c.args.cell.now refl refl re
 pub returns-then-empties-clause-free : goal.returns-then-empties-clause-free
 returns-then-empties-clause-free g c = λ erases. on_ok c.empty.result c.empty.ensures.free (lost_before c.claim.ensures.step.change c.args.cell.now)
 
-pub returns-clause-free : goal.returns-clause-free
-returns-clause-free g c = λ erases. absurd (c.if-empties.ensures erases)
-
-pub returns-in_err-claim-clause-cause : goal.returns-in_err-claim-clause-cause
-returns-in_err-claim-clause-cause g c = err_any _ (inl c.in_err-claim.ensures.cause)
-
 pub returns-then-empties-clause-cause : goal.returns-then-empties-clause-cause
 returns-then-empties-clause-cause g c =
-    let look = c.claim.ensures.step.change in
-    on_err c.empty.result c.empty.ensures.cause (fault_after c.claim.ensures.step.later look (λ why. elim why [
-      | inl last ↦ inl (c.if-empties.ensures, last_before look c.args.cell.now last)
-      | inr cut ↦ inr (cut_before look c.args.cell.now cut)
-    ]))
-
-pub returns-clause-cause : goal.returns-clause-cause
-returns-clause-cause g c =
-    let look = c.claim.ensures.step.change in
-    on_err c.write_cell.result c.write_cell.ensures.cause (fault_after c.claim.ensures.step.later look (λ cut. inr (cut_before look c.args.cell.now cut)))
+    on_err c.empty.result c.empty.ensures.cause (λ why.
+    or_by (fault_after (λ image. IsLast image (seen_in c.args.seen.now) c.args.cell.now) c.claim.ensures.step why)
+    (λ last. (last.0, (c.if-empties.ensures, last.1))))

@@ -1,3 +1,4 @@
+use Rattle.mig_journal.proofs.Steps.{remembers_then}
 use Rattle.mig_journal.proofs.ArmingLaws.{unmarked_kept, clear_change, clear_leaves, name_change, name_leaves, gate_change, gate_leaves}
 use Rattle.mig_journal.proofs.arming.arm.Goals as goal
 
@@ -24,3 +25,9 @@ returns-clause-any_moment g c =
     gate_leaves c.args.rounds c.args.digest.now (g.S.Store.state c.args.store.now) c.requires.idle cleared c.clear_marks.ensures.change named c.settle.ensures.change
     (g.S.Store.state c.settle-2.new.store) c.settle-2.ensures.change c.in_ok-settle.ensures.settled
     (record { head = c.in_ok-settle.ensures.written; marks = unmarked_kept c.args.rounds cleared.reads named.reads c.settle.ensures.change.told c.in_ok-clear_marks.ensures.cleared })
+
+pub returns-in_err-settle-clause-seen : goal.returns-in_err-settle-clause-seen
+returns-in_err-settle-clause-seen g c = remembers_then c.clear_marks.ensures.seen c.settle.ensures.seen
+
+pub returns-clause-seen : goal.returns-clause-seen
+returns-clause-seen g c = remembers_then (remembers_then c.clear_marks.ensures.seen c.settle.ensures.seen) c.settle-2.ensures.seen

@@ -1,6 +1,6 @@
-use Rattle.mig_journal.proofs.Common.{AreUnmarked, Cell, IfSome, Image, IsMark, List, Mark, Option, SameBut, [], arith, cases_eq, false≢true, flights, inl, inr, no_source, no_target, subst, sym, ℕ, ◌+◌, ◌<◌}
+use Rattle.mig_journal.proofs.Common.{AreUnmarked, Cell, IfSome, Image, IsMark, List, Mark, Option, SameBut, [], arith, cases_eq, false≢true, flights, inl, inr, no_source, no_target, subst, sym, ℕ, ◌+◌, ◌<◌, refl}
 use Rattle.mig_journal.proofs.Common.{◌∷◌, ◌≡◌, ◌≤◌, ◌⊎◌}
-use Rattle.mig_journal.proofs.Steps.{still_none, then_step}
+use Rattle.mig_journal.proofs.Steps.{still_none, then_step, remembers_at, remembers_then, only_rose, no_erasure, err_any, rose_from}
 use Rattle.mig_journal.proofs.arming.clear_marks.Goals as goal
 
 is_mark : (rounds n : ℕ) → n < rounds → (cell : Cell) → cell ≡ Mark (n + 1) → IsMark rounds cell
@@ -31,4 +31,14 @@ loop-n-preserved g c = record {
   change = then_step (IsMark c.args.rounds) (g.S.Store.state c.args.store.now) (g.S.Store.state c.loop-n.store) (λ d. d ≡ Mark (c.loop-n.n + 1)) (g.S.Store.state c.write.new.self)
       (is_mark c.args.rounds c.loop-n.n c.loop-n-test.true) c.loop-n.invariant.change c.write.ensures.change;
   later = omega (arith, c.loop-n.invariant.later, c.write.ensures.cause.later);
+  seen = remembers_then c.loop-n.invariant.seen (remembers_at (Mark (c.loop-n.n + 1)) refl c.write.ensures.seen);
+}
+
+pub returns-in_err-write-clause-seen : goal.returns-in_err-write-clause-seen
+returns-in_err-write-clause-seen g c = remembers_then c.loop-n.invariant.seen (remembers_at (Mark (c.loop-n.n + 1)) refl c.write.ensures.seen)
+
+pub returns-in_err-write-clause-cause : goal.returns-in_err-write-clause-cause
+returns-in_err-write-clause-cause g c = record {
+  later = omega (arith, c.loop-n.invariant.later, c.write.ensures.cause.later);
+  failed = err_any _ (rose_from c.loop-n.invariant.later (only_rose (no_erasure (Mark (c.loop-n.n + 1)) refl) c.in_err-write.ensures.cause.failed));
 }

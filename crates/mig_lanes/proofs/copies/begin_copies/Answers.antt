@@ -1,3 +1,5 @@
+use Rattle.mig_journal.proofs.Steps.{err_any}
+use Rattle.mig_lanes.proofs.SeenRounds.{begun_copy, refused_copy}
 use Rattle.mig_lanes.proofs.Common.{Changes, Flight, IsCopy, IsSourceOf, IsTargetOf, IsTrue, [], arith, began, copies_of, flight_of, flights, is_slot, length-map, round_at, subst, sym, take, ◌∷◌}
 use Rattle.mig_lanes.proofs.Common.{◌≡◌, ◌≢◌}
 use Rattle.mig_lanes.proofs.Beginning.{cells_apart, from_still, not_target, not_source, landed_more, change_more, change_failed}
@@ -69,8 +71,26 @@ loop-place-preserved g c =
       change = change_more cs are first mid c.loop-place.place c.requires.none c.loop-place.invariant.change.events f within new begun copied c.loop-place.invariant.change.told c.loop-place.invariant.landed c.loop-place.invariant.change;
       landed = landed_more cs are first mid c.loop-place.place c.requires.none c.loop-place.invariant.change.events f within new begun copied c.loop-place.invariant.change.told c.loop-place.invariant.landed;
       later = omega (arith, c.loop-place.invariant.later, c.begin.ensures.cause.later);
+      seen = λ k is refuses seeing. begun_copy c.args.job.now c.round_len-place-end.ensures.valid k (omega (arith, is, c.requires.to)) c.args.round is c.loop-place.place (omega (arith, c.loop-place-test.true, c.round_len-place-end.ensures.count)) f c.copy-from.ensures
+          (g.S.Store.seen c.loop-place.store) mid.reads (λ slot item name was. g.met.S.Store.holds_seen c.loop-place.store slot item refuses name was) (c.loop-place.invariant.seen k is refuses seeing)
+          (g.S.Store.seen c.begin.new.self) new.reads c.in_ok-begin.ensures.begun.told c.begin.ensures.seen (c.in_ok-begin.ensures.noted refuses) (λ slot item name was. g.met.S.Store.holds_seen c.begin.new.self slot item refuses name was);
     }
 
 pub returns-clause-landed : goal.returns-clause-landed
 returns-clause-landed g c = λ k d lt. c.loop-place.invariant.landed k d (omega arith)
     (omega (arith, lt, c.loop-place-test.false, c.round_len-place-end.ensures.count, length-map (round_at c.args.job.now.plan c.args.round) (flight_of c.args.job.now.input)))
+
+pub returns-in_err-begin-clause-cause : goal.returns-in_err-begin-clause-cause
+returns-in_err-begin-clause-cause g c =
+    let f : Flight = record { from = c.copy-from.result.0; to = c.copy-from.result.1 } in
+    record {
+      later = omega (arith, c.loop-place.invariant.later, c.begin.ensures.cause.later);
+      failed = err_any _ (refused_copy c.args.job.now c.round_len-place-end.ensures.valid c.args.round c.requires.from c.requires.to c.loop-place.place (omega (arith, c.loop-place-test.true, c.round_len-place-end.ensures.count)) f c.copy-from.ensures c.loop-place.invariant.later
+          (g.S.Store.seen c.loop-place.store) (g.S.Store.state c.loop-place.store).reads (λ refuses slot item name was. g.met.S.Store.holds_seen c.loop-place.store slot item refuses name was)
+          (λ k is refuses seeing. (c.loop-place.invariant.seen k is refuses seeing).0) (g.S.Store.seen c.begin.new.self) c.begin.ensures.seen c.in_err-begin.ensures.cause.failed);
+    }
+
+pub returns-clause-seen : goal.returns-clause-seen
+returns-clause-seen g c = λ k is refuses seeing.
+    let now = c.loop-place.invariant.seen k is refuses seeing in
+    (now.0, λ j d lt. now.1 j d (omega arith) (omega (arith, lt, c.loop-place-test.false, c.round_len-place-end.ensures.count)))

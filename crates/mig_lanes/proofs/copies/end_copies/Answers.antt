@@ -1,3 +1,4 @@
+use Rattle.mig_journal.proofs.Steps.{remembers_then}
 use Rattle.mig_lanes.proofs.Common.{arith, ends_then, named, ◌++◌}
 use Rattle.mig_lanes.proofs.copies.end_copies.Goals as goal
 
@@ -20,4 +21,11 @@ loop-preserved g c = record {
     ends_then c.loop.invariant.ends.0 (named (g.S.Store.state c.loop.store) c.ended.result) (g.S.Store.state c.args.store.now) (g.S.Store.state c.loop.store) (g.S.Store.state c.ended.new.self) c.requires c.loop.invariant.ends.1 c.ended.ensures.ends,
   );
   later = omega (arith, c.loop.invariant.later, c.ended.ensures.cause.later);
+  seen = remembers_then c.loop.invariant.seen c.ended.ensures.seen;
 }
+
+pub returns-in_err-ended-clause-seen : goal.returns-in_err-ended-clause-seen
+returns-in_err-ended-clause-seen g c = remembers_then c.loop.invariant.seen c.ended.ensures.seen
+
+pub returns-in-None-clause-seen : goal.returns-in-None-clause-seen
+returns-in-None-clause-seen g c = remembers_then c.loop.invariant.seen c.ended.ensures.seen

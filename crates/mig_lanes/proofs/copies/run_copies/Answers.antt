@@ -1,4 +1,7 @@
-use Rattle.mig_lanes.proofs.Common.{began, copies_of, ended, ends_then, map, on_ok_weaker, rules, take, ◌++◌}
+use Rattle.mig_journal.proofs.Steps.{remembers_then, failed_ground_after}
+use Rattle.mig_mover.proofs.SeenSlots.{cause_ground, ground_after}
+use Rattle.mig_lanes.proofs.SeenRounds.{seen_ended}
+use Rattle.mig_lanes.proofs.Common.{began, copies_of, ended, ends_then, map, on_ok_weaker, take, ◌++◌, arith, on_ok_is}
 use Rattle.mig_lanes.proofs.RoundCopies.{are_flights}
 use Rattle.mig_lanes.proofs.Rounding.{part_begun, mid_are, ended_change, part_ended, whole_round, all_copied}
 use Rattle.mig_lanes.proofs.copies.run_copies.Goals as goal
@@ -50,5 +53,11 @@ returns g c =
       round = on_ok_weaker c.settle_copies.result (λ landed told. (added, whole_round cs are first mid c.requires.none begun these new ends landed told, change)) c.settle_copies.ensures.landed;
       part = λ told. (added, part_ended cs are first mid c.requires.none begun these new ends told, change);
       change = (added, change);
-      cause = search rules;
+      seen = on_ok_is c.settle_copies.result (λ k is refuses seeing. seen_ended c.args.job.now c.round_len.ensures.valid k (omega (arith, is, c.requires.to)) c.args.round is (g.S.Store.seen c.begin_copies.new.store) (g.S.Store.seen c.settle_copies.new.store)
+          first.reads mid.reads new.reads (c.in_ok-begin_copies.ensures.seen k is refuses seeing) (remembers_then c.end_copies.ensures.seen c.settle_copies.ensures.seen) begun.told change.told
+          (λ slot item name was. g.met.S.Store.holds_seen c.settle_copies.new.store slot item refuses name was));
+      cause = ground_after c.settle_copies.result (omega (arith, c.begin_copies.ensures.cause.later, c.end_copies.ensures.cause.later)) (λ why. why) (cause_ground c.settle_copies.result c.settle_copies.ensures.cause);
     }
+
+pub returns-in_err-end_copies-clause-cause : goal.returns-in_err-end_copies-clause-cause
+returns-in_err-end_copies-clause-cause g c = failed_ground_after _ (g.S.Store.state c.begin_copies.new.store) c.begin_copies.ensures.cause.later c.end_copies.ensures.cause.later c.in_err-end_copies.ensures.cause.failed

@@ -1,5 +1,7 @@
+use Rattle.mig_mover.proofs.Looked.{store_fault}
+use Rattle.mig_mover.proofs.SeenSlots.{rose_with}
 use Rattle.mig_lanes.proofs.Common.{Err, ap, arith, armed_told, err_from_is_err_and, false≢true, refl, rules, sym, ◌∙◌}
-use Rattle.mig_lanes.proofs.Answering.{started_of, other_of, unrefused_of, no_fault}
+use Rattle.mig_lanes.proofs.Answering.{calm_told, started_of, other_of, unrefused_of, no_fault}
 use Rattle.mig_lanes.proofs.RunLaws.{run_keeps, run_armed, run_finishes, enter_part, run_part, run_events}
 use Rattle.mig_lanes.proofs.lanes.start_lanes.Goals as goal
 
@@ -18,16 +20,21 @@ returns-in_err-carry_on-clause-armed g c = run_armed c.args.job.now c.keeps_rule
     c.carry_on.ensures.any_moment c.carry_on.ensures.change c.carry_on.ensures.cause.later c.enter_start.ensures.armed
 
 pub returns-in_err-carry_on-clause-started : goal.returns-in_err-carry_on-clause-started
-returns-in_err-carry_on-clause-started g c = λ are armed head calm. absurd (calm (omega (arith, c.enter_start.ensures.keeps.later, c.in_err-carry_on.ensures.cause.failed)))
+returns-in_err-carry_on-clause-started g c = λ are armed head calm. absurd (calm (rose_with c.enter_start.ensures.keeps.later (λ refuses not is. not (c.in_ok-enter_start.ensures.seen refuses is)) c.in_err-carry_on.ensures.cause.failed))
 
 pub returns-in_err-carry_on-clause-other : goal.returns-in_err-carry_on-clause-other
-returns-in_err-carry_on-clause-other g c = λ are armed kept head theirs calm. absurd (calm (omega (arith, c.enter_start.ensures.keeps.later, c.in_err-carry_on.ensures.cause.failed)))
+returns-in_err-carry_on-clause-other g c = λ are armed kept head theirs calm. absurd (calm (rose_with c.enter_start.ensures.keeps.later (λ refuses not is. not (c.in_ok-enter_start.ensures.seen refuses is)) c.in_err-carry_on.ensures.cause.failed))
 
 pub returns-in_err-carry_on-clause-reached : goal.returns-in_err-carry_on-clause-reached
-returns-in_err-carry_on-clause-reached g c = λ contents are reached calm. absurd (calm (omega (arith, c.enter_start.ensures.keeps.later, c.in_err-carry_on.ensures.cause.failed)))
+returns-in_err-carry_on-clause-reached g c = λ contents are reached calm. absurd (calm (rose_with c.enter_start.ensures.keeps.later (λ refuses not is. not (c.in_ok-enter_start.ensures.seen refuses is)) c.in_err-carry_on.ensures.cause.failed))
 
 pub returns-in_err-carry_on-clause-ready : goal.returns-in_err-carry_on-clause-ready
-returns-in_err-carry_on-clause-ready g c = λ tells before calm. absurd (calm (omega (arith, c.enter_start.ensures.keeps.later, c.in_err-carry_on.ensures.cause.failed)))
+returns-in_err-carry_on-clause-ready g c = λ tells before calm. absurd (calm_told tells calm (rose_with c.enter_start.ensures.keeps.later (λ refuses not is. not (c.in_ok-enter_start.ensures.seen refuses is)) c.in_err-carry_on.ensures.cause.failed))
+
+pub returns-in_err-carry_on-clause-fault : goal.returns-in_err-carry_on-clause-fault
+returns-in_err-carry_on-clause-fault g c =
+    store_fault _ c.from_residual-in_err-carry_on.result c.from_residual-in_err-carry_on.ensures.1
+    (rose_with c.enter_start.ensures.keeps.later (λ refuses not is. not (c.in_ok-enter_start.ensures.seen refuses is)) c.in_err-carry_on.ensures.cause.failed)
 
 pub returns : goal.returns
 returns g c =
@@ -59,22 +66,22 @@ returns g c =
 pub returns-in_err-enter_start-clause-started : goal.returns-in_err-enter_start-clause-started
 returns-in_err-enter_start-clause-started g c = λ are armed head calm.
     let p = err_from_is_err_and c.from_residual.result c.from_residual.ensures.1 in
-    p.1 ∙ ap Err (p.2 ∙ started_of c.args.job.now (g.S.Store.state c.args.store.now) (g.S.Store.state c.enter_start.new.store) are armed calm c.args.job.now.digest head refl c.in_err-enter_start.field-0.0 c.in_err-enter_start.ensures.kind c.in_err-enter_start.ensures.fault)
+    p.1 ∙ ap Err (p.2 ∙ started_of c.args.job.now (g.S.Store.state c.args.store.now) (g.S.Store.state c.enter_start.new.store) are armed _ calm c.args.job.now.digest head refl c.in_err-enter_start.field-0.0 c.in_err-enter_start.ensures.kind c.in_err-enter_start.ensures.fault)
 
 pub returns-in_err-enter_start-clause-other : goal.returns-in_err-enter_start-clause-other
 returns-in_err-enter_start-clause-other g c = λ are armed kept head theirs calm.
     let p = err_from_is_err_and c.from_residual.result c.from_residual.ensures.1 in
-    p.1 ∙ ap Err (p.2 ∙ other_of c.args.job.now (g.S.Store.state c.args.store.now) (g.S.Store.state c.enter_start.new.store) are armed calm kept head theirs c.in_err-enter_start.field-0.0 c.in_err-enter_start.ensures.fault c.in_err-enter_start.ensures.kind)
+    p.1 ∙ ap Err (p.2 ∙ other_of c.args.job.now (g.S.Store.state c.args.store.now) (g.S.Store.state c.enter_start.new.store) are armed _ calm kept head theirs c.in_err-enter_start.field-0.0 c.in_err-enter_start.ensures.fault c.in_err-enter_start.ensures.kind)
 
 pub returns-in_err-enter_start-clause-reached : goal.returns-in_err-enter_start-clause-reached
 returns-in_err-enter_start-clause-reached g c = λ contents are reached calm.
     let p = err_from_is_err_and c.from_residual.result c.from_residual.ensures.1 in
-    p.1 ∙ ap Err (p.2 ∙ started_of c.args.job.now (g.S.Store.state c.args.store.now) (g.S.Store.state c.enter_start.new.store) are reached.arrived.armed calm c.args.job.now.digest (reached.arrived.safe.head reached.arrived.armed) refl c.in_err-enter_start.field-0.0 c.in_err-enter_start.ensures.kind c.in_err-enter_start.ensures.fault)
+    p.1 ∙ ap Err (p.2 ∙ started_of c.args.job.now (g.S.Store.state c.args.store.now) (g.S.Store.state c.enter_start.new.store) are reached.arrived.armed _ calm c.args.job.now.digest (reached.arrived.safe.head reached.arrived.armed) refl c.in_err-enter_start.field-0.0 c.in_err-enter_start.ensures.kind c.in_err-enter_start.ensures.fault)
 
 pub returns-in_err-enter_start-clause-unrefused : goal.returns-in_err-enter_start-clause-unrefused
 returns-in_err-enter_start-clause-unrefused g c = λ tells before.
     let p = err_from_is_err_and c.from_residual.result c.from_residual.ensures.1 in
-    rw (p.1, p.2) (unrefused_of c.args.job.now c.keeps_rules.ensures (g.S.Store.state c.args.store.now) (g.S.Store.state c.enter_start.new.store) tells before c.in_err-enter_start.field-0.0 c.in_err-enter_start.ensures.fault)
+    rw (p.1, p.2) (unrefused_of c.args.job.now c.keeps_rules.ensures (g.S.Store.state c.args.store.now) (g.S.Store.state c.enter_start.new.store) tells before _ c.in_err-enter_start.field-0.0 c.in_err-enter_start.ensures.fault)
 
 pub returns-in_err-enter_start-clause-ready : goal.returns-in_err-enter_start-clause-ready
-returns-in_err-enter_start-clause-ready g c = λ tells before calm. absurd (no_fault c.args.job.now c.keeps_rules.ensures (g.S.Store.state c.args.store.now) (g.S.Store.state c.enter_start.new.store) tells before calm c.in_err-enter_start.field-0.0 c.in_err-enter_start.ensures.kind c.in_err-enter_start.ensures.fault)
+returns-in_err-enter_start-clause-ready g c = λ tells before calm. absurd (no_fault c.args.job.now c.keeps_rules.ensures (g.S.Store.state c.args.store.now) (g.S.Store.state c.enter_start.new.store) tells before _ (calm_told tells calm) c.in_err-enter_start.field-0.0 c.in_err-enter_start.ensures.kind c.in_err-enter_start.ensures.fault)

@@ -1,3 +1,5 @@
+use Rattle.mig_journal.proofs.Steps.{err_any}
+use Rattle.mig_mover.proofs.SeenSlots.{cause_ground, ground_after, rose_with}
 use Rattle.mig_lanes.proofs.Common.{Adds, AreRounds, BeginsRound, BeginsRounds, HasDone, IsRound, IsSound, IsWorkCell, NoCell, [], arith, copies_of, ends_are_quiet, later_rounds, leaves_none}
 use Rattle.mig_lanes.proofs.Common.{leaves_then, length, map, on_ok_is, on_ok_weaker, quiet_leaves, range_with_len, rules, same_image, subst, ℕ, ◌+◌, ◌-◌, ◌≡◌}
 use Rattle.mig_lanes.proofs.CarryingOn.{change_none, change_then, change_quiet, none_yet, done_synced}
@@ -16,6 +18,7 @@ loop-done-init g c =
       rounds = none_yet c.args.job.now c.args.k old;
       change = change_none (IsWorkCell c.args.job.now.input c.args.job.now.plan) old;
       later = omega arith;
+      seen = λ refuses seeing. seeing;
     }
 
 pub returns-in_err-carry_out-clause-any_moment : goal.returns-in_err-carry_out-clause-any_moment
@@ -50,6 +53,7 @@ loop-done-preserved g c =
           (rounds_next c.args.job.now c.args.k c.loop-done.done c.loop-done.invariant.low) c.loop-done.invariant.rounds c.in_ok-carry_out.ensures.round;
       change = change_then (IsWorkCell c.args.job.now.input c.args.job.now.plan) old mid new c.loop-done.invariant.change c.carry_out.ensures.change;
       later = omega (arith, c.loop-done.invariant.later, c.carry_out.ensures.cause.later);
+      seen = λ refuses seeing. c.in_ok-carry_out.ensures.seen refuses (c.loop-done.invariant.seen refuses seeing);
     }
 
 pub returns : goal.returns
@@ -75,5 +79,11 @@ returns g c =
       rounds = on_ok_is c.sync.result rounds;
       part = adds_wider all (BeginsRounds (later_rounds c.args.job.now c.args.k)) old new (all_begin c.args.job.now c.args.k) rounds;
       change = change_quiet (IsWorkCell c.args.job.now.input c.args.job.now.plan) old mid new l.change quiet;
-      cause = search rules;
+      cause = ground_after c.sync.result l.later (λ why. why) (cause_ground c.sync.result c.sync.ensures.cause);
     }
+
+pub returns-in_err-carry_out-clause-cause : goal.returns-in_err-carry_out-clause-cause
+returns-in_err-carry_out-clause-cause g c = record {
+  later = omega (arith, c.loop-done.invariant.later, c.carry_out.ensures.cause.later);
+  failed = err_any _ (rose_with c.loop-done.invariant.later (λ refuses not seeing. not (c.loop-done.invariant.seen refuses seeing)) c.in_err-carry_out.ensures.cause.failed);
+}

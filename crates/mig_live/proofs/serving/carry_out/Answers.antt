@@ -1,5 +1,9 @@
 use Rattle.mig_live.proofs.ActionLaws.{made_quiet, none_up_to}
-use Rattle.mig_live.proofs.Common.{AreMade, ArePut, ArePutUpTo, IsSound, NoCell, Order, [], actions_left, drop, look_quiet, quiet_leaves, refl, steps_of, subst, sym, take, ◌∷◌, ◌≡◌}
+use Rattle.mig_live.proofs.Common.{AreMade, ArePut, ArePutUpTo, IsSound, NoCell, Order, [], actions_left, arith, drop, look_quiet}
+use Rattle.mig_live.proofs.Common.{quiet_leaves, refl, steps_of, subst, sym, take, ◌∷◌, ◌≡◌}
+use Rattle.mig_live.specs.Replies.{IsServeFault}
+use Rattle.mig_live.specs.Sessions.{InSightFor}
+use Rattle.mig_mover.proofs.SeenSlots.{rose_after}
 use Rattle.mig_live.proofs.serving.carry_out.Goals as goal
 
 pub returns-in-Ok-clause-served : goal.returns-in-Ok-clause-served
@@ -32,3 +36,17 @@ returns-in-Err-clause-part g c =
 pub returns-in-Err-clause-any_moment : goal.returns-in-Err-clause-any_moment
 returns-in-Err-clause-any_moment g c = λ asked contents at. quiet_leaves (IsSound asked c.args.live.task.input c.args.live.task.plan c.args.live.task.digest contents) NoCell [] (g.S.Store.state c.args.store.now) (g.S.Store.state c.reply.new.store)
     (g.met.S.Store.is_state c.args.store.now) (look_quiet (g.S.Store.state c.args.store.now) (g.S.Store.state c.reply.new.store) c.requires.none c.reply.ensures.change)
+
+pub returns-in-Ok-clause-seen : goal.returns-in-Ok-clause-seen
+returns-in-Ok-clause-seen g c = λ refuses. c.in-Ok.ensures.seen
+
+pub returns-in-Err-clause-fault : goal.returns-in-Err-clause-fault
+returns-in-Err-clause-fault g c =
+    let old = g.S.Store.state c.args.store.now in
+    let new = g.S.Store.state c.reply.new.store in
+    let seen = g.S.Store.seen c.args.store.now in
+    subst (λ (o : Order). IsServeFault (g.S.Store.refuses × ¬ InSightFor c.args.live (o ∷ []) seen old.reads) old new (g.K.Sink.state c.args.out.now)
+    (g.K.Sink.state c.reply.new.out) c.in-Err.fault) (sym c.in-Read.is) c.in-Err.ensures.fault
+
+pub returns-in-Err-advance-clause-fault : goal.returns-in-Err-advance-clause-fault
+returns-in-Err-advance-clause-fault g c = rose_after (omega arith) (λ not sight. not sight.steps) c.in-Err-advance.ensures.cause.failed

@@ -1,7 +1,10 @@
 use Rattle.mig_live.proofs.ActionLaws.{made_many, made_none, made_up_to}
-use Rattle.mig_live.proofs.Common.{Action, AreCutOff, AreMade, ArePut, IfErr, List, Order, [], actions_left, all_steps, ap, arith, drop, drop-drop, get_or, inl, refl, slice_get-get_or, steps_of, subst, sym, take, take_all, ℕ, ◌∙◌}
-use Rattle.mig_live.specs.Replies.{AreMadeUpTo}
-use Rattle.mig_live.proofs.ReplyLaws.{extends_nothing, handed, no_order, served_more, served_stops, steps_one_more}
+use Rattle.mig_live.proofs.Common.{Action, All, AreCutOff, AreMade, ArePut, IfErr, IsOrder, List, Order, Task, [], actions_left, all_steps, ap, arith}
+use Rattle.mig_live.proofs.Common.{drop, drop-drop, get_or, inl, refl, slice_get-get_or, steps_of, subst, sym, take, take_all, ℕ, ◌∙◌}
+use Rattle.mig_live.proofs.SeenSessions.{others_kept, seen_one}
+use Rattle.mig_live.specs.Replies.{AreMadeUpTo, IsServeFault}
+use Rattle.mig_live.specs.Sessions.{AreOthersKept, InSightFor}
+use Rattle.mig_live.proofs.ReplyLaws.{extends_nothing, fault_since, handed, no_order, served_more, served_stops, steps_one_more}
 use Rattle.mig_live.proofs.SessionLaws.{fault_leaves, more_steps}
 use Rattle.mig_mover.specs.Erasures.{AreAsked}
 use Rattle.mig_live.proofs.serving.serve.Goals as goal
@@ -47,6 +50,7 @@ loop-order-init g c = record {
   landed = c.requires.none;
   later = omega arith;
   sink_later = omega arith;
+  seen = λ refuses sight. sight;
 }
 
 pub loop-order-preserved : goal.loop-order-preserved
@@ -70,6 +74,20 @@ loop-order-preserved g c = record {
   landed = c.in_ok-after.ensures.landed;
   later = omega (arith, c.loop-order.invariant.later, c.carry_out.ensures.later);
   sink_later = omega (arith, c.loop-order.invariant.sink_later, c.carry_out.ensures.sink_later);
+  seen = λ refuses sight.
+      (let now = c.loop-order.invariant.seen refuses sight in
+      let orders = c.args.orders.now in
+      let count = steps_of (get_or orders c.loop-order.order-index no_order) in
+      let mid = g.S.Store.state c.loop-order.store in
+      let new = g.S.Store.state c.carry_out.new.store in
+      let laws = c.marks_follow_steps.ensures in
+      record {
+        steps = c.in_ok-after.ensures.seen refuses now.steps;
+        others = subst (λ (t : Task). AreOthersKept t new.reads orders) (sym c.in_ok-after.ensures.task)
+            (others_kept c.loop-order.after laws.rules laws.session.most orders
+            (subst (λ (t : Task). All (IsOrder t.input) orders) (sym c.loop-order.invariant.task) c.requires.orders) count mid new
+            c.in_ok-after.ensures.made now.others);
+      });
 }
 
 pub returns-clause-served : goal.returns-clause-served
@@ -84,3 +102,24 @@ returns-clause-made g c =
 
 pub carry_out-requires-clause-asked : goal.carry_out-requires-clause-asked
 carry_out-requires-clause-asked g c = subst (AreAsked g.S.Store.asked) (sym c.loop-order.invariant.task) c.requires.asked
+
+pub returns-in_err-after-clause-fault : goal.returns-in_err-after-clause-fault
+returns-in_err-after-clause-fault g c =
+    let old = g.S.Store.state c.args.store.now in
+    let mid = g.S.Store.state c.loop-order.store in
+    let now = g.S.Store.state c.carry_out.new.store in
+    let first = g.K.Sink.state c.args.out.now in
+    let last = g.K.Sink.state c.carry_out.new.out in
+    let orders = c.args.orders.now in
+    let i = c.loop-order.order-index in
+    let so_far = c.loop-order.invariant in
+    let fault = c.in_err-after.field-0.0 in
+    let seen = g.S.Store.seen c.args.store.now in
+    handed (λ r. IfErr r (IsServeFault (g.S.Store.refuses × ¬ InSightFor c.args.live orders seen old.reads) old now first last))
+    c.from_residual.result fault c.from_residual.ensures.1
+    (fault_since old mid now first (g.K.Sink.state c.loop-order.out) last so_far.later so_far.sink_later (λ why. (
+      why.0,
+      λ sight. why.1
+          (seen_one c.loop-order.after orders i no_order c.loop-order-test.true (g.S.Store.seen c.loop-order.store) mid.reads (so_far.seen why.0 sight)),
+    ))
+    fault c.in_err-after.ensures.fault)

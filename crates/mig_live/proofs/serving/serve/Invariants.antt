@@ -1,4 +1,5 @@
 use Rattle.mig_live.proofs.Common.{AreMade, ArePut, Bool, Contents, InStep, IsSound, LeavesOnly, [], actions_left, all_steps, drop, flights, take, ◌-◌, ◌≡◌, ◌≤◌}
+use Rattle.mig_live.specs.Sessions.{InSightFor}
 use Rattle.mig_live.proofs.serving.serve.Given as goal
 
 -- the orders so far are carried out
@@ -15,4 +16,6 @@ invariant-loop-order g l = record {
   landed : flights (g.S.Store.state l.store) ≡ [];
   later : (g.S.Store.state l.initial.store).faults ≤ (g.S.Store.state l.store).faults;
   sink_later : (g.K.Sink.state l.initial.out).faults ≤ (g.K.Sink.state l.out).faults;
+  seen : g.S.Store.refuses → InSightFor l.initial.after l.orders (g.S.Store.seen l.initial.store) (g.S.Store.state l.initial.store).reads
+      → InSightFor l.after l.orders (g.S.Store.seen l.store) (g.S.Store.state l.store).reads;
 }

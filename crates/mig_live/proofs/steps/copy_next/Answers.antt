@@ -1,9 +1,13 @@
 use Rattle.mig_live.proofs.ActionLaws.{left_copy, makes}
-use Rattle.mig_live.proofs.Common.{Cell, Changes, Copy, Flight, IsCopy, [], actions_after, ap, arith, began, drop, ended, flight_of, is_slot, length, round_at, slot_of, subst, suc, sym, take, ℕ, ◌+◌, ◌<◌, ◌∙◌, ◌∷◌, ◌≡◌}
+use Rattle.mig_live.proofs.Common.{Cell, Changes, Copy, Flight, IsCopy, [], actions_after, ap, arith, began, drop, ended, flight_of, is_slot, length}
+use Rattle.mig_live.proofs.Common.{on_ok_weaker, refl, round_at, shifts_in, slot_of, subst, suc, sym, take, ℕ, ◌+◌, ◌<◌, ◌∙◌, ◌∷◌, ◌≡◌}
 use Rattle.mig_live.proofs.Middle.{copy_leaves, copy_more, copy_apart}
-use Rattle.mig_live.proofs.Places.{shift_next}
+use Rattle.mig_live.proofs.Places.{at_next, shift_next}
+use Rattle.mig_live.proofs.SeenSteps.{seen_more}
 use Rattle.mig_live.proofs.StepLaws.{on_ok_both}
 use Rattle.mig_jobs.proofs.JobRounds.{no_shift}
+use Rattle.mig_mover.proofs.SeenCopies.{not_uncopiable}
+use Rattle.mig_mover.proofs.SeenSlots.{ground_with}
 use Rattle.mig_mover.proofs.EraseSteps.{to_named}
 use Rattle.mig_live.proofs.steps.copy_next.Goals as goal
 
@@ -55,3 +59,29 @@ returns-clause-first g c =
     makes c.copy_slot.result all left (Copy f) (g.S.Store.state c.args.store.now) (g.S.Store.state c.copy_slot.new.store)
     (subst (λ (h : Flight). all ≡ Copy h ∷ left) it (left_copy c.args.job.now c.args.k c.requires.more c.args.place s.0 s.1)) c.copy_slot.ensures.part.0 c.copy_slot.ensures.part.1
     (on_ok_both c.copy_slot.result (λ made copied. record { change = made; leaves = copied }) c.copy_slot.ensures.made c.copy_slot.ensures.copied)
+
+pub returns-clause-seen : goal.returns-clause-seen
+returns-clause-seen g c =
+    let f : Flight = record { from = c.copy-from.result.0; to = c.copy-from.result.1 } in
+    let job = c.args.job.now in
+    let at = at_next job.input job.plan c.args.k c.args.place f c.copy-from.ensures in
+    let old = (g.S.Store.state c.args.store.now).reads in
+    let new = (g.S.Store.state c.copy_slot.new.store).reads in
+    let seen = g.S.Store.seen c.args.store.now in
+    let after = g.S.Store.seen c.copy_slot.new.store in
+    on_ok_weaker c.copy_slot.result (λ noted refuses sight.
+    seen_more job c.keeps_rules.ensures c.args.k (omega (arith, c.requires.more)) c.requires.more c.args.place c.requires.place f at seen old
+    (λ slot item name was. g.met.S.Store.holds_seen c.args.store.now slot item refuses name was) after c.copy_slot.ensures.seen
+    (shifts_in job.plan c.args.k + c.args.place) refl sight new c.copy_slot.ensures.part.1.told (noted refuses)
+    (λ slot item name was. g.met.S.Store.holds_seen c.copy_slot.new.store slot item refuses name was)) c.copy_slot.ensures.noted
+
+pub returns-clause-cause : goal.returns-clause-cause
+returns-clause-cause g c =
+    let f : Flight = record { from = c.copy-from.result.0; to = c.copy-from.result.1 } in
+    let job = c.args.job.now in
+    let at = at_next job.input job.plan c.args.k c.args.place f c.copy-from.ensures in
+    let old = (g.S.Store.state c.args.store.now).reads in
+    ground_with c.copy_slot.result (omega arith) (λ refuses why seeing.
+    not_uncopiable job c.keeps_rules.ensures c.args.k c.requires.more c.args.place c.requires.place f at (g.S.Store.seen c.args.store.now) old seeing
+    (λ slot item name was. g.met.S.Store.holds_seen c.args.store.now slot item refuses name was) (g.S.Store.seen c.copy_slot.new.store)
+    c.copy_slot.ensures.seen why) c.copy_slot.ensures.cause

@@ -1,9 +1,10 @@
+use Rattle.mig_mover.proofs.SeenSlots.{ground_to, not_last, seen_erased, source_free_slot}
 use Rattle.mig_live.proofs.ActionLaws.{left_erase, makes}
-use Rattle.mig_live.proofs.Common.{AreZeros, Cell, ChangesOnly, Erase, Flight, actions_since, ap, drop, flights_same, is_slot, on_ok_is, on_ok_weaker, round_at, subst, sym, ◌+◌, ◌∙◌, ◌∷◌, ◌≡◌}
+use Rattle.mig_live.proofs.Common.{AreZeros, Cell, ChangesOnly, Erase, Flight, actions_since, ap, drop, flights_same, is_slot, on_ok_is, on_ok_weaker, round_at, subst, sym, ◌+◌, ◌∙◌, ◌∷◌, ◌≡◌, refl}
 use Rattle.mig_live.proofs.Middle.{erase_leaves, erase_more}
 use Rattle.mig_live.proofs.Places.{shift_of}
 use Rattle.mig_jobs.proofs.JobRounds.{no_shift}
-use Rattle.mig_mover.proofs.EraseSteps.{from_named}
+use Rattle.mig_mover.proofs.EraseSteps.{from_named, from_source}
 use Rattle.mig_live.proofs.steps.erase_next.Goals as goal
 
 pub erase-requires-clause-slot : goal.erase-requires-clause-slot
@@ -47,3 +48,18 @@ returns-clause-first g c =
     makes c.erase.result all left (Erase c.copy-from.result.0) (g.S.Store.state c.args.store.now) (g.S.Store.state c.erase.new.store)
     (subst (λ (cell : Cell). all ≡ Erase cell ∷ left) (sym s.2) (left_erase c.args.job.now c.args.k c.args.place s.0 s.1)) 0 c.erase.ensures.change
     (on_ok_weaker c.erase.result (λ erased. record { change = c.erase.ensures.change; leaves = erased }) c.erase.ensures.erased)
+
+pub returns-clause-cause : goal.returns-clause-cause
+returns-clause-cause g c =
+    let f : Flight = record { from = c.copy-from.result.0; to = c.copy-from.result.1 } in
+    let job = c.args.job.now in
+    ground_to c.erase.result (λ last seeing. not_last job c.keeps_rules.ensures c.args.k c.requires.most (g.S.Store.seen c.args.store.now) (g.S.Store.state c.args.store.now).reads seeing f.from
+    (source_free_slot job c.keeps_rules.ensures c.args.k c.requires.most f.from (from_source job.input job.plan c.args.k c.args.place c.requires.place f no_shift c.copy-from.ensures f.from refl)) last) c.erase.ensures.cause
+
+pub returns-clause-seen : goal.returns-clause-seen
+returns-clause-seen g c =
+    let f : Flight = record { from = c.copy-from.result.0; to = c.copy-from.result.1 } in
+    let job = c.args.job.now in
+    on_ok_weaker c.erase.result (λ erased seeing. seen_erased job c.keeps_rules.ensures c.args.k c.requires.most (g.S.Store.seen c.args.store.now) (g.S.Store.state c.args.store.now).reads seeing f.from
+    (source_free_slot job c.keeps_rules.ensures c.args.k c.requires.most f.from (from_source job.input job.plan c.args.k c.args.place c.requires.place f no_shift c.copy-from.ensures f.from refl))
+    (g.S.Store.seen c.erase.new.store) (g.S.Store.state c.erase.new.store).reads c.erase.ensures.change.told c.erase.ensures.seen erased) c.erase.ensures.erased

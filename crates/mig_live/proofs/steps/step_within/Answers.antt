@@ -1,6 +1,10 @@
 use Rattle.mig_live.proofs.ActionLaws.{makes, makes_same, past_erasures, syncs_next}
-use Rattle.mig_live.proofs.Common.{Action, List, Shift, Sync, actions_after, actions_since, ap, arith, drop, flights_same, on_ok_is, on_ok_weaker, shifts_in, suc, sym, ℕ, ◌+◌, ◌-◌, ◌<◌, ◌∙◌, ◌∷◌, ◌≡◌, ◌≤◌}
+use Rattle.mig_live.proofs.Common.{Action, List, Shift, Sync, actions_after, actions_since, ap, arith, drop, flights_same, on_ok_is, on_ok_weaker}
+use Rattle.mig_live.proofs.Common.{shifts_in, subst, suc, sym, ℕ, ◌+◌, ◌-◌, ◌<◌, ◌∙◌, ◌∷◌, ◌≡◌, ◌≤◌}
+use Rattle.mig_live.proofs.SeenSteps.{seen_early, seen_synced}
 use Rattle.mig_live.proofs.StepLaws.{before_erase, after_erase, before_copy, after_copy, sync_leaves, after_sync}
+use Rattle.mig_live.specs.Sessions.{IsSeenAtStep}
+use Rattle.mig_mover.proofs.SeenSlots.{cause_ground, ground_to}
 use Rattle.mig_live.proofs.steps.step_within.Goals as goal
 
 past : (p k : ℕ) (plan : List (List Shift)) (erasures copies : ℕ) → erasures ≡ shifts_in plan k → copies ≡ shifts_in plan (k + 1) → copies ≤ p - erasures → shifts_in plan (suc k) ≤ p - shifts_in plan k
@@ -71,3 +75,43 @@ returns-clause-first g c =
     (past_erasures job k c.args.p place (omega (arith, low)) ∙ syncs_next job k place (omega (arith, low, high, c.requires.place))
     ∙ ap (λ (l : List Action). Sync ∷ l) (sym (past_erasures job k (c.args.p + 1) (place + 1) (omega (arith, low))))) 0 c.settle.ensures.change
     (on_ok_weaker c.settle.result (λ settled. record { change = c.settle.ensures.change; leaves = settled }) c.settle.ensures.settled)
+
+pub returns-then-p-erasures-clause-seen : goal.returns-then-p-erasures-clause-seen
+returns-then-p-erasures-clause-seen g c =
+    let job = c.args.job.now in
+    let new = (g.S.Store.state c.erase_next.new.store).reads in
+    let few : c.args.p + 1 ≤ shifts_in job.plan c.args.k = omega (arith, c.if-p-erasures.true, c.shifts_of_round-erasures.ensures.count) in
+    on_ok_weaker c.erase_next.result (λ go refuses sight.
+    seen_early job c.args.k (c.args.p + 1) few (g.S.Store.seen c.erase_next.new.store) new (go sight.items)) c.erase_next.ensures.seen
+
+pub returns-then-p-erasures-clause-cause : goal.returns-then-p-erasures-clause-cause
+returns-then-p-erasures-clause-cause g c = ground_to c.erase_next.result (λ not sight. not sight.items) c.erase_next.ensures.cause
+
+pub returns-then-p-erasures-2-clause-seen : goal.returns-then-p-erasures-2-clause-seen
+returns-then-p-erasures-2-clause-seen g c =
+    let job = c.args.job.now in
+    let old = (g.S.Store.state c.args.store.now).reads in
+    let new = (g.S.Store.state c.copy_next.new.store).reads in
+    let first = shifts_in job.plan c.args.k in
+    let place = c.args.p - c.shifts_of_round-erasures.result in
+    let here : c.args.p ≡ first + place = omega (arith, c.if-p-erasures.false, c.shifts_of_round-erasures.ensures.count) in
+    on_ok_weaker c.copy_next.result (λ go refuses sight.
+    subst (IsSeenAtStep job (g.S.Store.seen c.copy_next.new.store) new c.args.k) (let e : first + place + 1 ≡ c.args.p + 1 = omega (arith, here) in e)
+    (go refuses (subst (IsSeenAtStep job (g.S.Store.seen c.args.store.now) old c.args.k) here sight))) c.copy_next.ensures.seen
+
+pub returns-then-p-erasures-2-clause-cause : goal.returns-then-p-erasures-2-clause-cause
+returns-then-p-erasures-2-clause-cause g c = ground_to c.copy_next.result (λ not sight. not sight.items) c.copy_next.ensures.cause
+
+pub returns-clause-seen : goal.returns-clause-seen
+returns-clause-seen g c =
+    let job = c.args.job.now in
+    let copies = c.shifts_of_round-copies.ensures.count in
+    let all = past c.args.p c.args.k job.plan _ _ c.shifts_of_round-erasures.ensures.count copies c.if-p-erasures-2.false in
+    let old = (g.S.Store.state c.args.store.now).reads in
+    let new = (g.S.Store.state c.settle.new.store).reads in
+    on_ok_is c.settle.result (λ refuses sight.
+    seen_synced job c.keeps_rules.ensures c.args.k c.requires.most c.args.p all (g.S.Store.seen c.args.store.now) (g.S.Store.seen c.settle.new.store)
+    c.settle.ensures.seen old new c.settle.ensures.change.told sight)
+
+pub returns-clause-cause : goal.returns-clause-cause
+returns-clause-cause g c = cause_ground c.settle.result c.settle.ensures.cause

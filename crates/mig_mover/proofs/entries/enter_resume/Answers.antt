@@ -1,87 +1,98 @@
-use Rattle.mig_mover.proofs.Common.{AreFlights, HasHead, Head, IfSome, IsJobCell, IsSafe, IsSound, List, None, Option, Seen, Settles, Some, State, false, flights, is_armed, leaves_wider}
-use Rattle.mig_mover.proofs.Common.{refl, subst, sym, true, ℕ, ◌∙◌, ◌≡◌}
-use Rattle.mig_mover.proofs.Settling.{if_ok, if_ok_is, if_err, keeps_lands, keeps_from, enters_from, fault_from, settled_reads, tells_more, never_idle, lands_leave, settles_leave, halting_armed, halting_sound}
-use Rattle.mig_mover.proofs.Settling.{ended_added, gate_kept, journal_kept, landed_added, run_part}
+use Rattle.mig_mover.specs.Holdings.{IsUnrefused}
+use Rattle.mig_mover.proofs.Common.{Head, IfSome, IsJobCell, IsSafe, IsSound, List, Option, false, inl, is_armed, leaves_wider, refl, subst, true, ℕ, ◌∙◌, ◌≡◌}
+use Rattle.mig_mover.proofs.Looked.{ground_back, ground_ours, saw_head, saw_kept, saw_running, store_fault}
+use Rattle.mig_mover.proofs.Settling.{ended_added, enters_from, fault_from, gate_kept, halting_armed, halting_sound, head_is, if_err, if_ok, if_ok_both, if_ok_is, journal_kept, keeps_from, keeps_lands}
+use Rattle.mig_mover.proofs.Settling.{landed_added, lands_leave, never_idle, run_part, settled_reads, settles_leave, tells_more}
 use Rattle.mig_mover.proofs.entries.enter_resume.Goals as goal
 
--- the digest that was seen was the head before
-was_head : (old mid : State) → Settles old mid → (kept ours : List ℕ) → IfSome (mid.reads Head) (λ bytes. kept ≡ bytes) → kept ≡ ours → AreFlights (flights old) → IfSome (old.reads Head) (λ bytes. bytes ≡ ours)
-was_head old mid settles kept ours head same are = subst (λ (o : Option (List ℕ)). IfSome o (λ bytes. bytes ≡ ours)) (journal_kept old mid settles are Head refl) (at (mid.reads Head) head)
-  where
-    at : (o : Option (List ℕ)) → IfSome o (λ bytes. kept ≡ bytes) → IfSome o (λ bytes. bytes ≡ ours)
-    at None none = none
-    at (Some bytes) is = sym is ∙ same
+-- the store failed
 
 pub returns-in_err-settle_and_look-clause-keeps : goal.returns-in_err-settle_and_look-clause-keeps
-returns-in_err-settle_and_look-clause-keeps g c = keeps_lands c.args.job.now (g.S.Store.state c.args.store.now) (g.met.S.Store.is_state c.args.store.now) (g.S.Store.state c.settle_and_look.new.store) c.settle_and_look.ensures.lands c.settle_and_look.ensures.cause.later
-
-pub returns-in-Idle-clause-keeps : goal.returns-in-Idle-clause-keeps
-returns-in-Idle-clause-keeps g c = keeps_from c.args.job.now (g.S.Store.state c.args.store.now) (g.met.S.Store.is_state c.args.store.now) (g.S.Store.state c.settle_and_look.new.store) c.in_ok-settle_and_look.ensures.settles c.settle_and_look.ensures.cause.later
-    (g.S.Store.state c.resume_idle.new.store) c.resume_idle.ensures.keeps
-
-pub returns-in-Idle-clause-enters : goal.returns-in-Idle-clause-enters
-returns-in-Idle-clause-enters g c = if_ok c.resume_idle.result (enters_from c.args.job.now (g.S.Store.state c.args.store.now) (g.met.S.Store.is_state c.args.store.now) (g.S.Store.state c.settle_and_look.new.store) c.in_ok-settle_and_look.ensures.settles c.settle_and_look.ensures.cause.later
-    (g.S.Store.state c.resume_idle.new.store)) c.resume_idle.ensures.enters
-
-pub returns-in-Idle-clause-fault : goal.returns-in-Idle-clause-fault
-returns-in-Idle-clause-fault g c = if_err c.resume_idle.result (fault_from c.args.job.now (g.S.Store.state c.args.store.now) (g.met.S.Store.is_state c.args.store.now) (g.S.Store.state c.settle_and_look.new.store) c.in_ok-settle_and_look.ensures.settles c.settle_and_look.ensures.cause.later
-    (g.S.Store.state c.resume_idle.new.store)) c.resume_idle.ensures.fault
-
-pub returns-in-Idle-clause-armed : goal.returns-in-Idle-clause-armed
-returns-in-Idle-clause-armed g c = λ before. absurd (never_idle (g.S.Store.state c.settle_and_look.new.store).reads c.in_ok-settle_and_look.field-0 c.in_ok-settle_and_look.ensures.gate c.in-Idle.is (settled_reads (g.S.Store.state c.args.store.now) (g.S.Store.state c.settle_and_look.new.store) c.in_ok-settle_and_look.ensures.settles (λ image. is_armed image ≡ true) before))
-
-pub returns-in-Idle-clause-halting : goal.returns-in-Idle-clause-halting
-returns-in-Idle-clause-halting g c = λ contents n tells may. absurd (never_idle (g.S.Store.state c.settle_and_look.new.store).reads c.in_ok-settle_and_look.field-0 c.in_ok-settle_and_look.ensures.gate c.in-Idle.is (halting_armed c.args.job.now contents (g.S.Store.state c.args.store.now) (g.S.Store.state c.settle_and_look.new.store) c.in_ok-settle_and_look.ensures.settles n may))
-
-pub returns-in-Idle-clause-halted : goal.returns-in-Idle-clause-halted
-returns-in-Idle-clause-halted g c = if_ok c.resume_idle.result (λ k enters contents n tells may. absurd (never_idle (g.S.Store.state c.settle_and_look.new.store).reads c.in_ok-settle_and_look.field-0 c.in_ok-settle_and_look.ensures.gate c.in-Idle.is (halting_armed c.args.job.now contents (g.S.Store.state c.args.store.now) (g.S.Store.state c.settle_and_look.new.store) c.in_ok-settle_and_look.ensures.settles n may))) c.resume_idle.ensures.enters
-
-pub returns-in-Running-clause-keeps : goal.returns-in-Running-clause-keeps
-returns-in-Running-clause-keeps g c = keeps_from c.args.job.now (g.S.Store.state c.args.store.now) (g.met.S.Store.is_state c.args.store.now) (g.S.Store.state c.settle_and_look.new.store) c.in_ok-settle_and_look.ensures.settles c.settle_and_look.ensures.cause.later
-    (g.S.Store.state c.resume_running.new.store) c.resume_running.ensures.keeps
-
-pub returns-in-Running-clause-enters : goal.returns-in-Running-clause-enters
-returns-in-Running-clause-enters g c = if_ok c.resume_running.result (enters_from c.args.job.now (g.S.Store.state c.args.store.now) (g.met.S.Store.is_state c.args.store.now) (g.S.Store.state c.settle_and_look.new.store) c.in_ok-settle_and_look.ensures.settles c.settle_and_look.ensures.cause.later
-    (g.S.Store.state c.resume_running.new.store)) c.resume_running.ensures.enters
-
-pub returns-in-Running-clause-fault : goal.returns-in-Running-clause-fault
-returns-in-Running-clause-fault g c = if_err c.resume_running.result (fault_from c.args.job.now (g.S.Store.state c.args.store.now) (g.met.S.Store.is_state c.args.store.now) (g.S.Store.state c.settle_and_look.new.store) c.in_ok-settle_and_look.ensures.settles c.settle_and_look.ensures.cause.later
-    (g.S.Store.state c.resume_running.new.store)) c.resume_running.ensures.fault
-
-pub returns-in-Running-clause-armed : goal.returns-in-Running-clause-armed
-returns-in-Running-clause-armed g c = λ before. settles_leave (g.S.Store.state c.args.store.now) (g.met.S.Store.is_state c.args.store.now) (λ image. is_armed image ≡ true) (g.S.Store.state c.settle_and_look.new.store) c.in_ok-settle_and_look.ensures.settles (g.S.Store.state c.resume_running.new.store) (c.resume_running.ensures.armed (settled_reads (g.S.Store.state c.args.store.now) (g.S.Store.state c.settle_and_look.new.store) c.in_ok-settle_and_look.ensures.settles (λ image. is_armed image ≡ true) before))
-
-pub returns-in-Running-clause-halting : goal.returns-in-Running-clause-halting
-returns-in-Running-clause-halting g c = λ contents n tells may. settles_leave (g.S.Store.state c.args.store.now) (g.met.S.Store.is_state c.args.store.now) (IsSafe c.args.job.now.input c.args.job.now.plan c.args.job.now.digest contents) (g.S.Store.state c.settle_and_look.new.store) c.in_ok-settle_and_look.ensures.settles (g.S.Store.state c.resume_running.new.store)
-    (leaves_wider (IsSafe c.args.job.now.input c.args.job.now.plan c.args.job.now.digest contents) (IsSound false c.args.job.now.input c.args.job.now.plan c.args.job.now.digest contents) (g.S.Store.state c.settle_and_look.new.store) (g.S.Store.state c.resume_running.new.store) (λ image sound. sound.safe)
-    (c.resume_running.ensures.keeps.sound false contents (tells_more (g.S.Store.state c.args.store.now) (g.S.Store.state c.settle_and_look.new.store) c.in_ok-settle_and_look.ensures.settles (IsJobCell c.args.job.now.input c.args.job.now.plan) tells) (halting_sound c.args.job.now contents (g.S.Store.state c.args.store.now) (g.S.Store.state c.settle_and_look.new.store) c.in_ok-settle_and_look.ensures.settles n may)))
-
-pub returns-in-Running-clause-halted : goal.returns-in-Running-clause-halted
-returns-in-Running-clause-halted g c = if_ok c.resume_running.result (λ k enters contents n tells may. enters.done false contents (tells_more (g.S.Store.state c.args.store.now) (g.S.Store.state c.settle_and_look.new.store) c.in_ok-settle_and_look.ensures.settles (IsJobCell c.args.job.now.input c.args.job.now.plan) tells) (halting_sound c.args.job.now contents (g.S.Store.state c.args.store.now) (g.S.Store.state c.settle_and_look.new.store) c.in_ok-settle_and_look.ensures.settles n may)) c.resume_running.ensures.enters
+returns-in_err-settle_and_look-clause-keeps g c =
+    keeps_lands c.args.job.now (g.S.Store.state c.args.store.now) (g.met.S.Store.is_state c.args.store.now) (g.S.Store.state c.settle_and_look.new.store) c.settle_and_look.ensures.lands
+    c.settle_and_look.ensures.cause.later
 
 pub returns-in_err-settle_and_look-clause-armed : goal.returns-in_err-settle_and_look-clause-armed
-returns-in_err-settle_and_look-clause-armed g c = λ before. lands_leave (g.S.Store.state c.args.store.now) (g.met.S.Store.is_state c.args.store.now) (λ image. is_armed image ≡ true) (g.S.Store.state c.settle_and_look.new.store) c.settle_and_look.ensures.lands
+returns-in_err-settle_and_look-clause-armed g c = λ before.
+    lands_leave (g.S.Store.state c.args.store.now) (g.met.S.Store.is_state c.args.store.now) (λ image. is_armed image ≡ true) (g.S.Store.state c.settle_and_look.new.store) c.settle_and_look.ensures.lands
 
 pub returns-in_err-settle_and_look-clause-halting : goal.returns-in_err-settle_and_look-clause-halting
-returns-in_err-settle_and_look-clause-halting g c = λ contents n tells may. lands_leave (g.S.Store.state c.args.store.now) (g.met.S.Store.is_state c.args.store.now) (IsSafe c.args.job.now.input c.args.job.now.plan c.args.job.now.digest contents) (g.S.Store.state c.settle_and_look.new.store) c.settle_and_look.ensures.lands
-
-pub returns-in-Idle-clause-ended : goal.returns-in-Idle-clause-ended
-returns-in-Idle-clause-ended g c = if_ok_is c.resume_idle.result (ended_added (g.S.Store.state c.args.store.now) (g.S.Store.state c.settle_and_look.new.store) c.in_ok-settle_and_look.ensures.settles (IsJobCell c.args.job.now.input c.args.job.now.plan) (g.S.Store.state c.resume_idle.new.store) c.resume_idle.ensures.keeps.change)
-
-pub returns-in-Idle-clause-part : goal.returns-in-Idle-clause-part
-returns-in-Idle-clause-part g c = run_part (g.S.Store.state c.args.store.now) (g.S.Store.state c.resume_idle.new.store) (ended_added (g.S.Store.state c.args.store.now) (g.S.Store.state c.settle_and_look.new.store) c.in_ok-settle_and_look.ensures.settles (IsJobCell c.args.job.now.input c.args.job.now.plan) (g.S.Store.state c.resume_idle.new.store) c.resume_idle.ensures.keeps.change)
-
-pub returns-in-Running-clause-ended : goal.returns-in-Running-clause-ended
-returns-in-Running-clause-ended g c = if_ok_is c.resume_running.result (ended_added (g.S.Store.state c.args.store.now) (g.S.Store.state c.settle_and_look.new.store) c.in_ok-settle_and_look.ensures.settles (IsJobCell c.args.job.now.input c.args.job.now.plan) (g.S.Store.state c.resume_running.new.store) c.resume_running.ensures.keeps.change)
-
-pub returns-in-Running-clause-part : goal.returns-in-Running-clause-part
-returns-in-Running-clause-part g c = run_part (g.S.Store.state c.args.store.now) (g.S.Store.state c.resume_running.new.store) (ended_added (g.S.Store.state c.args.store.now) (g.S.Store.state c.settle_and_look.new.store) c.in_ok-settle_and_look.ensures.settles (IsJobCell c.args.job.now.input c.args.job.now.plan) (g.S.Store.state c.resume_running.new.store) c.resume_running.ensures.keeps.change)
+returns-in_err-settle_and_look-clause-halting g c = λ contents n tells may.
+    lands_leave (g.S.Store.state c.args.store.now) (g.met.S.Store.is_state c.args.store.now) (IsSafe c.args.job.now.input c.args.job.now.plan c.args.job.now.digest contents)
+    (g.S.Store.state c.settle_and_look.new.store) c.settle_and_look.ensures.lands
 
 pub returns-in_err-settle_and_look-clause-part : goal.returns-in_err-settle_and_look-clause-part
 returns-in_err-settle_and_look-clause-part g c = landed_added (g.S.Store.state c.args.store.now) (g.S.Store.state c.settle_and_look.new.store) c.settle_and_look.ensures.lands
 
-pub returns-in-Idle-clause-ours : goal.returns-in-Idle-clause-ours
-returns-in-Idle-clause-ours g c = if_ok_is c.resume_idle.result (λ are told armed. absurd (never_idle (g.S.Store.state c.settle_and_look.new.store).reads c.in_ok-settle_and_look.field-0 c.in_ok-settle_and_look.ensures.gate c.in-Idle.is (gate_kept (g.S.Store.state c.args.store.now) (g.S.Store.state c.settle_and_look.new.store) c.in_ok-settle_and_look.ensures.settles are ∙ armed)))
+pub returns-in_err-settle_and_look-clause-fault : goal.returns-in_err-settle_and_look-clause-fault
+returns-in_err-settle_and_look-clause-fault g c = store_fault _ c.from_residual.result c.from_residual.ensures.1 (inl c.in_err-settle_and_look.ensures.cause.failed)
 
-pub returns-in-Running-clause-ours : goal.returns-in-Running-clause-ours
-returns-in-Running-clause-ours g c = if_ok c.resume_running.result (λ k same are told armed. was_head (g.S.Store.state c.args.store.now) (g.S.Store.state c.settle_and_look.new.store) c.in_ok-settle_and_look.ensures.settles c.in-Running.digest c.args.job.now.digest (subst (λ (s : Seen). HasHead s ((g.S.Store.state c.settle_and_look.new.store).reads Head)) c.in-Running.is c.in_ok-settle_and_look.ensures.head) same are) c.resume_running.ensures.ours
+-- the gate isn't 1
+pub returns-in-Idle : goal.returns-in-Idle
+returns-in-Idle g c =
+    let job = c.args.job.now in
+    let old = g.S.Store.state c.args.store.now in
+    let law = g.met.S.Store.is_state c.args.store.now in
+    let mid = g.S.Store.state c.settle_and_look.new.store in
+    let new = g.S.Store.state c.resume_idle.new.store in
+    let later = c.settle_and_look.ensures.cause.later in
+    let look = c.in_ok-settle_and_look in
+    let settles = look.ensures.settles in
+    let r = c.resume_idle.result in
+    let e = c.resume_idle.ensures in
+    let told = tells_more old mid settles (IsJobCell job.input job.plan) in
+    let ended = ended_added old mid settles (IsJobCell job.input job.plan) new e.keeps.change in
+    let not_armed = never_idle mid.reads look.field-0 look.ensures.gate c.in-Idle.is in
+    record {
+      keeps = keeps_from job old law mid settles later new e.keeps;
+      enters = if_ok r (enters_from job old law mid settles later new) e.enters;
+      ours = if_ok_is r (λ are gate armed. absurd (not_armed (gate_kept old mid settles are ∙ armed)));
+      asked = e.asked;
+      compared = e.compared;
+      ended = if_ok_is r ended;
+      part = run_part old new ended;
+      armed = λ before. absurd (not_armed (settled_reads old mid settles (λ image. is_armed image ≡ true) before));
+      halting = λ contents n tells may. absurd (not_armed (halting_armed job contents old mid settles n may));
+      halted = if_ok r (λ k entered contents n tells may. absurd (not_armed (halting_armed job contents old mid settles n may))) e.enters;
+      seen = if_ok r (λ k go refuses is. go refuses (told is.told)) e.seen;
+      fault = if_err r (fault_from job old law mid settles later new _ _ (ground_back (λ (is : IsUnrefused job old). told is.told))) e.fault;
+      kind = e.kind;
+    }
+
+-- it is 1
+pub returns-in-Running : goal.returns-in-Running
+returns-in-Running g c =
+    let job = c.args.job.now in
+    let old = g.S.Store.state c.args.store.now in
+    let law = g.met.S.Store.is_state c.args.store.now in
+    let mid = g.S.Store.state c.settle_and_look.new.store in
+    let new = g.S.Store.state c.resume_running.new.store in
+    let later = c.settle_and_look.ensures.cause.later in
+    let look = c.in_ok-settle_and_look in
+    let settles = look.ensures.settles in
+    let digest = c.in-Running.digest in
+    let r = c.resume_running.result in
+    let e = c.resume_running.ensures in
+    let told = tells_more old mid settles (IsJobCell job.input job.plan) in
+    let ended = ended_added old mid settles (IsJobCell job.input job.plan) new e.keeps.change in
+    let running = saw_running look.field-0 digest c.in-Running.is mid.reads look.ensures.gate in
+    let head = saw_head look.field-0 digest c.in-Running.is mid.reads look.ensures.head in
+    let kept = saw_kept look.field-0 digest c.in-Running.is job old mid settles look.ensures.gate look.ensures.head in
+    record {
+      keeps = keeps_from job old law mid settles later new e.keeps;
+      enters = if_ok r (enters_from job old law mid settles later new) e.enters;
+      ours = if_ok r (λ k same are gate armed. subst (λ (o : Option (List ℕ)). IfSome o (λ bytes. bytes ≡ job.digest)) (journal_kept old mid settles are Head refl)
+          (head_is job mid.reads running digest head (λ bytes. bytes ≡ job.digest) same)) e.ours;
+      asked = e.asked;
+      compared = e.compared;
+      ended = if_ok_is r ended;
+      part = run_part old new ended;
+      armed = λ before. settles_leave old law (λ image. is_armed image ≡ true) mid settles new (e.armed (settled_reads old mid settles (λ image. is_armed image ≡ true) before));
+      halting = λ contents n tells may. settles_leave old law (IsSafe job.input job.plan job.digest contents) mid settles new
+          (leaves_wider (IsSafe job.input job.plan job.digest contents) (IsSound false job.input job.plan job.digest contents) mid new (λ image sound. sound.safe)
+          (e.keeps.sound false contents (told tells) (halting_sound job contents old mid settles n may)));
+      halted = if_ok r (λ k entered contents n tells may. entered.done false contents (told tells) (halting_sound job contents old mid settles n may)) e.enters;
+      seen = if_ok_both r (λ k ours go refuses is. go refuses (kept ours is)) e.ours e.seen;
+      fault = if_err r (fault_from job old law mid settles later new _ _ (ground_ours kept)) e.fault;
+      kind = e.kind;
+    }

@@ -1,3 +1,4 @@
+use Rattle.mig_journal.proofs.Steps.{remembers_then}
 use Rattle.mig_mover.proofs.Common.{Gate, HasHead, Head, IfOk, Image, IsSome, is_armed, is_running, look_quiet, quiet_same, rules, subst, ◌≡◌}
 use Rattle.mig_mover.proofs.Settling.{if_ok_is, ends_land, ends_settle, settles_quiet, settles_land}
 use Rattle.mig_mover.proofs.entries.settle_and_look.Goals as goal
@@ -16,5 +17,6 @@ returns g c =
       gate = subst (λ (image : Image). IfOk c.look.result (λ seen. IsSome (image Gate) → is_running seen ≡ is_armed image)) (quiet_same mid new (look_quiet mid new c.in_ok-sync.ensures.landed c.look.ensures.change)) c.look.ensures.gate;
       head = subst (λ (image : Image). IfOk c.look.result (λ seen. HasHead seen (image Head))) (quiet_same mid new (look_quiet mid new c.in_ok-sync.ensures.landed c.look.ensures.change)) c.look.ensures.head;
       lands = settles_land old new (settles_quiet old mid settles new (look_quiet mid new c.in_ok-sync.ensures.landed c.look.ensures.change));
+      seen = remembers_then c.sync.ensures.seen c.look.ensures.seen;
       cause = search rules;
     }

@@ -1,4 +1,6 @@
-use Rattle.mig_mover.proofs.Common.{All, Spot, slot_of}
+use Rattle.mig_mover.proofs.Common.{All, Spot, arith, slot_of}
+use Rattle.mig_mover.proofs.Looked.{store_fault}
+use Rattle.mig_mover.proofs.SeenSlots.{rose_later}
 use Rattle.mig_mover.proofs.TargetLaws.{none_of}
 use Rattle.mig_mover.proofs.FillSteps.{found_none, found_listed, put_listed, synced_listed, synced_made, synced_idle, made_sound}
 use Rattle.mig_mover.proofs.filling.fill_idle.Goals as goal
@@ -39,3 +41,14 @@ returns-clause-sound g c =
     let made = synced_made c.args.input.now (g.S.Store.state c.args.store.now) (g.S.Store.state c.find_taken.new.store) c.requires.none c.find_taken.ensures.change (g.S.Store.state c.put_items.new.store) c.put_items.ensures.change (g.S.Store.state c.sync.new.self) c.sync.ensures.ends.0 c.sync.ensures.ends.1 c.in_ok-put_items.ensures.made in
     let idle = synced_idle c.args.input.now (g.S.Store.state c.args.store.now) (g.S.Store.state c.find_taken.new.store) c.requires.none c.find_taken.ensures.change (g.S.Store.state c.put_items.new.store) c.put_items.ensures.change (g.S.Store.state c.sync.new.self) c.sync.ensures.ends.0 c.sync.ensures.ends.1 c.requires.idle in
     made_sound c.args.input.now c.keeps_rules.ensures (g.S.Store.state c.sync.new.self).reads made idle
+
+pub returns-in_err-spot-clause-fault : goal.returns-in_err-spot-clause-fault
+returns-in_err-spot-clause-fault g c = store_fault _ c.from_residual.result c.from_residual.ensures.1 c.in_err-spot.ensures.cause.failed
+
+pub returns-in_err-put_items-clause-fault : goal.returns-in_err-put_items-clause-fault
+returns-in_err-put_items-clause-fault g c = store_fault _ c.from_residual-in_err-put_items.result c.from_residual-in_err-put_items.ensures.1
+    (rose_later c.find_taken.ensures.cause.later c.in_err-put_items.ensures.cause.failed)
+
+pub returns-in_err-sync-clause-fault : goal.returns-in_err-sync-clause-fault
+returns-in_err-sync-clause-fault g c = store_fault _ c.from_residual-in_err-sync.result c.from_residual-in_err-sync.ensures.1
+    (rose_later (omega (arith, c.find_taken.ensures.cause.later, c.put_items.ensures.cause.later)) c.in_err-sync.ensures.cause.failed)

@@ -1,3 +1,4 @@
+use Rattle.mig_mover.proofs.ReadyKept.{made_not_zeros, none_cause}
 use Rattle.mig_mover.proofs.Common.{subst, sym}
 use Rattle.mig_mover.proofs.FillSteps.{listed, put_change, put_made}
 use Rattle.mig_mover.proofs.filling.put_item.Goals as goal
@@ -11,3 +12,6 @@ returns-clause-made g c = put_made c.args.input.now c.args.item c.now.result.now
 
 pub returns-clause-change : goal.returns-clause-change
 returns-clause-change g c = put_change c.args.input.now c.args.item c.now.result.now c.now.ensures.value c.spot_cell.result c.spot_cell.ensures (g.S.Store.state c.args.store.now) (g.S.Store.state c.write.new.self) c.write.ensures.change
+
+pub returns-clause-cause : goal.returns-clause-cause
+returns-clause-cause g c = none_cause c.write.result (λ why. made_not_zeros c.made.result _ c.made.ensures why.0.zeros) c.write.ensures.cause

@@ -1,5 +1,7 @@
-use Rattle.mig_mover.proofs.Common.{IsFreeSlot, IsVacant, arith, slot_of, then_step, ◌≡◌}
-use Rattle.mig_mover.proofs.HaltSteps.{no_vacancy, the_vacancy, vacancy_asked, vacancy_disk, vacancy_free, erased_more, all_erased}
+use Rattle.mig_journal.proofs.Steps.{err_any}
+use Rattle.mig_mover.proofs.SeenSlots.{not_last, rose_after, seen_vacant}
+use Rattle.mig_mover.proofs.Common.{IsFreeSlot, IsVacant, arith, slot_of, then_step, ◌≡◌, get_or, refl}
+use Rattle.mig_mover.proofs.HaltSteps.{no_vacancy, the_vacancy, vacancy_asked, vacancy_disk, vacancy_free, erased_more, all_erased, cases_vacant}
 use Rattle.mig_mover.proofs.halting.erase_free.Goals as goal
 
 pub erase_vacant-requires-clause-disk : goal.erase_vacant-requires-clause-disk
@@ -28,9 +30,25 @@ loop-v-preserved g c =
           (vacancy_free c.args.job.now c.vacancies-v-items.ensures.valid c.args.found c.requires.most c.vacancies-v-items.result.now c.vacancies-v-items.ensures.vacancies c.loop-v.v-index c.loop-v-test.true no_vacancy)
           c.loop-v.invariant.change c.erase_vacant.ensures.change;
       later = omega (arith, c.loop-v.invariant.later, c.erase_vacant.ensures.cause.later);
+      seen = λ seeing. seen_vacant c.args.job.now c.vacancies-v-items.ensures.valid c.args.found c.requires.most (g.S.Store.seen c.loop-v.store) mid.reads (c.loop-v.invariant.seen seeing) (slot_of c.args.job.now.input v.spot) (cases_vacant v c.args.found)
+          (λ vacant. vacancy_free c.args.job.now c.vacancies-v-items.ensures.valid c.args.found c.requires.most c.vacancies-v-items.result.now c.vacancies-v-items.ensures.vacancies c.loop-v.v-index c.loop-v-test.true no_vacancy
+          (slot_of c.args.job.now.input v.spot) (vacant, refl))
+          (g.S.Store.seen c.erase_vacant.new.store) new.reads c.erase_vacant.ensures.change.told c.erase_vacant.ensures.seen c.in_ok-erase_vacant.ensures.erased;
     }
 
 pub returns-clause-erased : goal.returns-clause-erased
 returns-clause-erased g c =
     all_erased c.args.job.now c.vacancies-v-items.ensures.valid c.args.found c.requires.most c.vacancies-v-items.result.now c.vacancies-v-items.ensures.vacancies (g.S.Store.state c.loop-v.store).reads
     (λ k d low lt. c.loop-v.invariant.erased k d low (omega (arith, lt, c.loop-v-test.false)))
+
+pub returns-in_err-erase_vacant-clause-cause : goal.returns-in_err-erase_vacant-clause-cause
+returns-in_err-erase_vacant-clause-cause g c =
+    let job = c.args.job.now in
+    let v = get_or c.vacancies-v-items.result.now c.loop-v.v-index no_vacancy in
+    record {
+      later = omega (arith, c.loop-v.invariant.later, c.erase_vacant.ensures.cause.later);
+      failed = err_any _ (rose_after c.loop-v.invariant.later (λ why seeing.
+          not_last job c.vacancies-v-items.ensures.valid c.args.found c.requires.most (g.S.Store.seen c.loop-v.store) (g.S.Store.state c.loop-v.store).reads (c.loop-v.invariant.seen seeing) (slot_of job.input v.spot)
+          (vacancy_free job c.vacancies-v-items.ensures.valid c.args.found c.requires.most c.vacancies-v-items.result.now c.vacancies-v-items.ensures.vacancies c.loop-v.v-index c.loop-v-test.true no_vacancy (slot_of job.input v.spot) (why.0, refl))
+          why.1) c.in_err-erase_vacant.ensures.cause.failed);
+    }

@@ -1,4 +1,6 @@
-use Rattle.mig_mover.proofs.Common.{ChangesOnly, IsFreeSlot, KeepsHaltSafe, NoCell, ends_are_quiet, still_none}
+use Rattle.mig_mover.proofs.Common.{ChangesOnly, IsFreeSlot, KeepsHaltSafe, NoCell, arith, ends_are_quiet, refl, still_none, ◌≤◌}
+use Rattle.mig_mover.proofs.Looked.{store_fault}
+use Rattle.mig_mover.proofs.SeenSlots.{rose_later}
 use Rattle.mig_mover.proofs.HaltLaws.{change_erased, change_synced, change_closed, erased_closed, keeps_erased, keeps_synced, keeps_closed, ends_closed}
 use Rattle.mig_mover.proofs.halting.halt.Given as given
 use Rattle.mig_mover.proofs.halting.halt.Goals as goal
@@ -72,3 +74,15 @@ returns-clause-erased g c =
     let e = c.erase_free.ensures in
     erased_closed c.args.job.now e.valid c.args.found c.requires.most (g.S.Store.state c.args.store.now) (g.S.Store.state c.erase_free.new.store) e.change c.in_ok-erase_free.ensures.erased
     (g.S.Store.state c.sync.new.self) (quiet g (goal.at.returns-clause-erased g c).After-sync) (g.S.Store.state c.disarm.new.store) c.disarm.ensures.change
+
+pub returns-in_err-erase_free-clause-fault : goal.returns-in_err-erase_free-clause-fault
+returns-in_err-erase_free-clause-fault g c = store_fault _ c.from_residual.result c.from_residual.ensures.1 (refl, c.in_err-erase_free.ensures.cause.failed)
+
+pub returns-in_err-sync-clause-fault : goal.returns-in_err-sync-clause-fault
+returns-in_err-sync-clause-fault g c =
+    store_fault _ c.from_residual-in_err-sync.result c.from_residual-in_err-sync.ensures.1 (refl, rose_later c.erase_free.ensures.cause.later c.in_err-sync.ensures.cause.failed)
+
+pub returns-in_err-disarm-clause-fault : goal.returns-in_err-disarm-clause-fault
+returns-in_err-disarm-clause-fault g c =
+    let later : (g.S.Store.state c.args.store.now).faults ≤ (g.S.Store.state c.sync.new.self).faults = omega (arith, c.erase_free.ensures.cause.later, c.sync.ensures.cause.later) in
+    store_fault _ c.from_residual-in_err-disarm.result c.from_residual-in_err-disarm.ensures.1 (refl, rose_later later c.in_err-disarm.ensures.cause.failed)

@@ -1,35 +1,36 @@
-use Rattle.mig_mover.proofs.Common.{Err, HasHead, Head, IsRunning, NotStarted, Seen, ap, is_running, refl, rules, subst, sym, ◌∙◌}
-use Rattle.mig_mover.proofs.Settling.{if_err, settles_land, settles_quiet, seen_idle}
+use Rattle.mig_mover.proofs.Common.{Err, IfErr, IsStandFault, NotStarted, ap, inl, is_running, refl, rules, sym, ◌∙◌}
+use Rattle.mig_mover.proofs.Looked.{ground_ours, saw_head, saw_kept, saw_running, store_fault}
+use Rattle.mig_mover.proofs.Settling.{if_err, if_ok_both, settles_land, settles_quiet, seen_idle}
+use Rattle.mig_mover.specs.Holdings.{IsUnrefused}
 use Rattle.mig_mover.proofs.StandLaws.{if_ok_all, stands_at, stand_fault, not_started, other_plan, stands_ok}
 use Rattle.mig_mover.proofs.standing.stand.Goals as goal
 
 pub returns-in-Running : goal.returns-in-Running
 returns-in-Running g c =
+    let job = c.args.job.now in
     let old = g.S.Store.state c.args.store.now in
     let mid = g.S.Store.state c.settle_and_look.new.store in
     let new = g.S.Store.state c.stand_running.new.store in
-    let running : IsRunning mid.reads = λ told. sym (c.in_ok-settle_and_look.ensures.gate told) ∙ ap is_running c.in-Running.is in
-    let head = subst (λ (seen : Seen). HasHead seen (mid.reads Head)) c.in-Running.is c.in_ok-settle_and_look.ensures.head in
-    let stands =
-    if_ok_all c.stand_running.result
-    (stands_at c.args.job.now old mid c.in_ok-settle_and_look.ensures.settles c.settle_and_look.ensures.cause.later running c.in-Running.digest head new c.stand_running.ensures.change)
+    let look = c.in_ok-settle_and_look in
+    let digest = c.in-Running.digest in
+    let r = c.stand_running.result in
+    let running = saw_running look.field-0 digest c.in-Running.is mid.reads look.ensures.gate in
+    let head = saw_head look.field-0 digest c.in-Running.is mid.reads look.ensures.head in
+    let kept = saw_kept look.field-0 digest c.in-Running.is job old mid look.ensures.settles look.ensures.gate look.ensures.head in
+    let stands = if_ok_all r (stands_at job old mid look.ensures.settles c.settle_and_look.ensures.cause.later running digest head new c.stand_running.ensures.change)
     c.stand_running.ensures.most c.stand_running.ensures.ours c.stand_running.ensures.count in
-    let fault =
-    if_err c.stand_running.result
-    (stand_fault c.args.job.now old mid c.in_ok-settle_and_look.ensures.settles c.settle_and_look.ensures.cause.later running c.in-Running.digest head new c.stand_running.ensures.change)
-    c.stand_running.ensures.fault in
+    let fault : IfErr r (IsStandFault (g.S.Store.refuses × (IsUnrefused job old → ⊥)) job old new) = if_err r
+    (stand_fault job old mid look.ensures.settles c.settle_and_look.ensures.cause.later running digest head new c.stand_running.ensures.change _ _ (ground_ours kept)) c.stand_running.ensures.fault in
     record {
       stands = stands;
       asked = c.stand_running.ensures.asked;
       compared = c.stand_running.ensures.compared;
-      lands = settles_land old new (settles_quiet old mid c.in_ok-settle_and_look.ensures.settles new c.stand_running.ensures.change);
+      seen = if_ok_both r (λ k ours go refuses is. go refuses (kept ours is)) c.stand_running.ensures.ours c.stand_running.ensures.seen;
+      lands = settles_land old new (settles_quiet old mid look.ensures.settles new c.stand_running.ensures.change);
       fault = fault;
-      not_started = λ are calm told idle. not_started c.args.job.now (g.S.Store.state c.args.store.now) (g.S.Store.state c.stand_running.new.store) are calm told idle c.stand_running.result
-          stands fault;
-      other = λ are calm armed kept head differs. other_plan c.args.job.now (g.S.Store.state c.args.store.now) (g.S.Store.state c.stand_running.new.store) are calm armed kept head differs c.stand_running.result
-          stands fault;
-      running = λ are calm armed head. stands_ok c.args.job.now (g.S.Store.state c.args.store.now) (g.S.Store.state c.stand_running.new.store) are calm armed c.args.job.now.digest head refl c.stand_running.result
-          fault;
+      not_started = λ are calm told idle. not_started job _ old new are calm told idle r stands fault;
+      other = λ are calm armed kept head differs. other_plan job _ old new are calm armed kept head differs r stands fault;
+      running = λ are calm armed head. stands_ok job _ old new are calm armed job.digest head refl r fault;
       later = search rules;
     }
 
@@ -42,10 +43,24 @@ pub returns-in-Idle-clause-other : goal.returns-in-Idle-clause-other
 returns-in-Idle-clause-other g c =
     let new = g.S.Store.state c.settle_and_look.new.store in
     let idle = seen_idle new.reads (λ told. ap is_running (sym c.in-Idle.is) ∙ c.in_ok-settle_and_look.ensures.gate told) in
-    λ are calm armed kept head differs. other_plan c.args.job.now (g.S.Store.state c.args.store.now) new are calm armed kept head differs (Err NotStarted) tt (c.in_ok-settle_and_look.ensures.settles, idle)
+    λ are calm armed kept head differs. other_plan c.args.job.now _ (g.S.Store.state c.args.store.now) new are calm armed kept head differs (Err NotStarted) tt (c.in_ok-settle_and_look.ensures.settles, idle)
 
 pub returns-in-Idle-clause-running : goal.returns-in-Idle-clause-running
 returns-in-Idle-clause-running g c =
     let new = g.S.Store.state c.settle_and_look.new.store in
     let idle = seen_idle new.reads (λ told. ap is_running (sym c.in-Idle.is) ∙ c.in_ok-settle_and_look.ensures.gate told) in
-    λ are calm armed head. stands_ok c.args.job.now (g.S.Store.state c.args.store.now) new are calm armed c.args.job.now.digest head refl (Err NotStarted) (c.in_ok-settle_and_look.ensures.settles, idle)
+    λ are calm armed head. stands_ok c.args.job.now _ (g.S.Store.state c.args.store.now) new are calm armed c.args.job.now.digest head refl (Err NotStarted) (c.in_ok-settle_and_look.ensures.settles, idle)
+
+-- the store failed
+
+pub returns-in_err-settle_and_look-clause-fault : goal.returns-in_err-settle_and_look-clause-fault
+returns-in_err-settle_and_look-clause-fault g c = store_fault _ c.from_residual.result c.from_residual.ensures.1 (inl c.in_err-settle_and_look.ensures.cause.failed)
+
+pub returns-in_err-settle_and_look-clause-not_started : goal.returns-in_err-settle_and_look-clause-not_started
+returns-in_err-settle_and_look-clause-not_started g c = λ are calm. absurd (calm (inl c.in_err-settle_and_look.ensures.cause.failed))
+
+pub returns-in_err-settle_and_look-clause-other : goal.returns-in_err-settle_and_look-clause-other
+returns-in_err-settle_and_look-clause-other g c = λ are calm. absurd (calm (inl c.in_err-settle_and_look.ensures.cause.failed))
+
+pub returns-in_err-settle_and_look-clause-running : goal.returns-in_err-settle_and_look-clause-running
+returns-in_err-settle_and_look-clause-running g c = λ are calm. absurd (calm (inl c.in_err-settle_and_look.ensures.cause.failed))

@@ -1,6 +1,8 @@
-use Rattle.mig_top.proofs.Common.{[], arith, err_from_is_err_and, four_and, halted_text}
+use Rattle.mig_top.proofs.Common.{[], err_from_is_err_and, four_and, halted_text}
 use Rattle.mig_top.proofs.StoreCommands.{halt_done, halt_failed, halt_refused, halt_unsaved, in_part, in_whole, is_standing}
-use Rattle.mig_top.proofs.EndsOf.{refused, shown, stopped}
+use Rattle.mig_top.proofs.EndsOf.{failed_with, refused, shown, stopped}
+use Rattle.mig_mover.specs.Holdings.{IsUnrefused}
+use Rattle.mig_store.specs.Grounds.{FailedOr}
 use Rattle.mig_top.proofs.halt_command.close.Goals as goal
 
 pub returns-in-Err : goal.returns-in-Err
@@ -33,9 +35,13 @@ returns-in-Err-halt g c before names are same later =
     let found = c.in-Ok.found in
     let h = c.halt.ensures in
     let bad = c.in-Err-halt.ensures.fault in
-    let rose = bad.1 in
-    let part = in_part task (g.S.Store.state c.args.store.now) (g.S.Store.state c.stand.new.store) found c.in-Ok.ensures.stands (g.met.S.Store.is_state c.args.store.now)
-    (g.met.S.Store.is_state c.stand.new.store) (g.S.Store.state c.halt.new.store) (g.met.S.Store.is_state c.halt.new.store) h.any_moment h.change in
+    let old = g.S.Store.state c.args.store.now in
+    let mid = g.S.Store.state c.stand.new.store in
+    let new = g.S.Store.state c.halt.new.store in
+    let failed : FailedOr (g.S.Store.refuses × ¬ IsUnrefused task old) old new =
+    failed_with old mid new c.stand.ensures.later (λ refuses unseen unrefused. unseen (c.in-Ok.ensures.seen refuses unrefused)) bad.1 in
+    let part = in_part task old mid found c.in-Ok.ensures.stands (g.met.S.Store.is_state c.args.store.now)
+    (g.met.S.Store.is_state c.stand.new.store) new (g.met.S.Store.is_state c.halt.new.store) h.any_moment h.change in
     refused (g.K.Sink.state c.args.out.now) c.fault_ending-in-Err-halt.result c.input-in-Err-halt.result.now task.input c.in-Err-halt.fault (c.fault_ending-in-Err-halt.ensures (four_and names.files []))
     c.input-in-Err-halt.ensures.value
-    (halt_failed task are (g.F.Folder.state c.args.folder.now) same found c.in_ok-save_layout.ensures.saved part (omega (arith, c.stand.ensures.later, rose)) c.in-Err-halt.fault bad.0)
+    (halt_failed task are (g.F.Folder.state c.args.folder.now) same found c.in_ok-save_layout.ensures.saved part failed c.in-Err-halt.fault bad.0)

@@ -1,5 +1,6 @@
-use Rattle.mig_top.proofs.Common.{Shows, [], all_steps, ap, arith, err_from_is_err_and, four_and, left_text, names_in, scripted_read, subst, true, ℕ, ◌-◌, ◌∙◌, ◌∷◌}
+use Rattle.mig_top.proofs.Common.{Shows, [], all_steps, ap, err_from_is_err_and, four_and, left_text, names_in, scripted_read, subst, true, ℕ, ◌-◌, ◌∙◌, ◌∷◌}
 use Rattle.mig_live.specs.Replies.{AreCutOff, IsServeFault}
+use Rattle.mig_live.specs.Sessions.{InSightFor}
 use Rattle.mig_live.specs.declared.serving.ServeFault.{ServeFault}
 use Rattle.mig_top.proofs.EndsOf.{refused, stopped}
 use Rattle.mig_top.proofs.LiveCommand.{live_done, live_failed, live_refused, live_rest, live_unput, went_on}
@@ -47,11 +48,12 @@ returns-in-Err-Sink g c =
     let first = g.K.Sink.state c.args.out.now in
     let last = g.K.Sink.state c.serve.new.out in
     let bad = c.in-Err-Sink.ensures in
+    let Refused = g.S.Store.refuses × ¬ InSightFor c.in-Ok.live read.orders (g.S.Store.seen c.enter.new.store) old.reads in
     live_unput _ (names_in c.args.files) c.args.script.now c.load_scripted.ensures.same read c.in_ok-read.ensures.takes.passes c.keeps_rules.ensures.valid c.keeps_rules.ensures.runs
     old c.in-Ok.live en.task en.left c.enter.ensures.keeps c.enter.ensures.armed en.enters.armed en.ended en.enters.landed (record { most = en.enters.most; found = en.enters.found })
     en.in_step c.serve.ensures.any_moment c.serve.ensures.later
     (subst (λ (f : ServeFault). AreCutOff c.in-Ok.live old new read.orders first last f) c.in-Err-Sink.field-0-is (rw c.orders.ensures at bad.cut_off))
-    (subst (λ (f : ServeFault). IsServeFault old new first last f) c.in-Err-Sink.field-0-is bad.fault)
+    (subst (λ (f : ServeFault). IsServeFault Refused old new first last f) c.in-Err-Sink.field-0-is (rw c.orders.ensures at bad.fault))
 
 pub returns : goal.returns
 returns g c =
@@ -62,9 +64,11 @@ returns g c =
     let first = g.K.Sink.state c.args.out.now in
     let last = g.K.Sink.state c.serve.new.out in
     let bad = c.in-Err-Store.ensures in
-    let rose = subst (λ (f : ServeFault). IsServeFault old new first last f) c.in-Err-Store.field-0-is bad.fault in
+    let seen = g.S.Store.seen c.enter.new.store in
+    let Refused = g.S.Store.refuses × ¬ InSightFor c.in-Ok.live read.orders seen old.reads in
+    let failed = subst (λ (f : ServeFault). IsServeFault Refused old new first last f) c.in-Err-Store.field-0-is (rw c.orders.ensures at bad.fault) in
     live_failed _ (names_in c.args.files) c.args.script.now c.load_scripted.ensures.same read c.in_ok-read.ensures.takes.passes c.keeps_rules.ensures.valid c.keeps_rules.ensures.runs
     old c.in-Ok.live en.task en.left c.enter.ensures.keeps c.enter.ensures.armed en.enters.armed en.ended en.enters.landed (record { most = en.enters.most; found = en.enters.found })
     en.in_step c.serve.ensures.any_moment c.serve.ensures.later c.serve.ensures.sink_later
     (subst (λ (f : ServeFault). AreCutOff c.in-Ok.live old new read.orders first last f) c.in-Err-Store.field-0-is (rw c.orders.ensures at bad.cut_off))
-    (omega (arith, c.enter.ensures.keeps.later, rose))
+    c.keeps_rules.ensures c.in_ok-read.ensures.fits seen en.seen failed

@@ -1,6 +1,9 @@
 use Rattle.mig_live.proofs.ActionLaws.{made_more, made_none, part_after, taken_all}
-use Rattle.mig_live.proofs.Common.{Action, AreMade, AreMadeInPart, Err, IsMade, List, Ok, Result, Session, State, [], actions_left, arith, cases_lt, drop, inl, inr, refl, subst, sym, take, ℕ, ◌+◌, ◌∙◌, ◌∷◌, ◌≡◌, ◌≤◌, ◌⊎◌}
-use Rattle.std.specs.Prelude.{OnErr, min}
+use Rattle.mig_live.proofs.Common.{Action, AreMade, AreMadeInPart, IsMade, List, Session, State, [], actions_left, arith, cases_lt, drop, inl, inr}
+use Rattle.mig_live.proofs.Common.{refl, subst, sym, take, ℕ, ◌+◌, ◌∙◌, ◌∷◌, ◌≡◌, ◌≤◌, ◌⊎◌}
+use Rattle.std.specs.Prelude.{min}
+use Rattle.mig_journal.proofs.Steps.{err_any}
+use Rattle.mig_mover.proofs.SeenSlots.{rose_with}
 use Rattle.mig_live.proofs.SessionLaws.{more_steps, none_left}
 use Rattle.mig_mover.specs.Erasures.{AreAsked}
 use Rattle.mig_live.proofs.live.Live.advance.Goals as goal
@@ -24,6 +27,7 @@ loop-init g c = record {
   in_step = λ asked contents at. at;
   landed = c.requires.none;
   later = omega arith;
+  seen = λ refuses sight. sight;
 }
 
 pub loop-preserved : goal.loop-preserved
@@ -39,18 +43,15 @@ loop-preserved g c = record {
   in_step = λ asked contents at. c.in_ok-live.ensures.in_step asked contents (c.loop.invariant.in_step asked contents at);
   landed = c.in_ok-live.ensures.landed;
   later = omega (arith, c.loop.invariant.later, c.step.ensures.cause.later);
+  seen = λ refuses sight. c.in_ok-live.ensures.seen refuses (c.loop.invariant.seen refuses sight);
 }
-
-on_err_is : {T E P : Type 0} (r : Result T E) → P → OnErr r P
-on_err_is (Ok x) p = tt
-on_err_is (Err e) p = p
 
 pub returns-in_err-live-clause-part : goal.returns-in_err-live-clause-part
 returns-in_err-live-clause-part g c =
     let old = g.S.Store.state c.args.store.now in
     let mid = g.S.Store.state c.loop.store in
     let new = g.S.Store.state c.step.new.store in
-    on_err_is c.from_residual.result (part_after c.loop.counter c.args.count (actions_left c.args.self) old mid new (omega (arith, c.loop-test.true, c.min-end.ensures)) c.loop.invariant.made
+    err_any c.from_residual.result (part_after c.loop.counter c.args.count (actions_left c.args.self) old mid new (omega (arith, c.loop-test.true, c.min-end.ensures)) c.loop.invariant.made
     (subst (λ (l : List Action). AreMadeInPart [] (take 1 l) mid new) c.loop.invariant.rest c.step.ensures.part))
 
 -- as many as are left are made, or as many as were asked for
@@ -76,3 +77,11 @@ returns-clause-made g c =
 
 pub step-requires-clause-asked : goal.step-requires-clause-asked
 step-requires-clause-asked g c = subst (AreAsked g.S.Store.asked) (sym c.loop.invariant.task) c.requires.asked
+
+pub returns-in_err-live-clause-cause : goal.returns-in_err-live-clause-cause
+returns-in_err-live-clause-cause g c =
+    let so_far = c.loop.invariant in
+    record {
+      later = omega (arith, so_far.later, c.step.ensures.cause.later);
+      failed = err_any _ (rose_with so_far.later (λ refuses not sight. not (so_far.seen refuses sight)) c.in_err-live.ensures.cause.failed);
+    }

@@ -1,5 +1,8 @@
 use Rattle.mig_live.proofs.Common.{Session, actions_since, arith, drop, refl, steps_in, subst, suc, sym, ◌+◌, ◌-◌, ◌∙◌}
+use Rattle.mig_journal.proofs.Steps.{err_any, failed_ground}
+use Rattle.mig_live.proofs.SeenSessions.{seen_before, seen_mark, seen_within}
 use Rattle.mig_live.proofs.StepCounts.{shifts_few}
+use Rattle.mig_mover.proofs.SeenSlots.{rose_after}
 use Rattle.mig_live.proofs.SessionLaws.{made_here, part_here, any_step, within_step, mark_step, at_mark, round_left, some_left, kept_mark}
 use Rattle.mig_mover.specs.Erasures.{AreAsked}
 use Rattle.mig_live.proofs.live.Live.step.Goals as goal
@@ -93,3 +96,41 @@ returns-clause-made g c =
 
 pub step_within-requires-clause-asked : goal.step_within-requires-clause-asked
 step_within-requires-clause-asked g c = subst (λ (live : Session). AreAsked g.S.Store.asked live.task) (sym c.self.view_is) c.requires.asked
+
+pub returns-in_err-mark_next-clause-cause : goal.returns-in_err-mark_next-clause-cause
+returns-in_err-mark_next-clause-cause g c = failed_ground _ c.mark_next.ensures.cause.later c.in_err-mark_next.ensures.cause.failed
+
+pub returns-then-is_at_mark-clause-seen : goal.returns-then-is_at_mark-clause-seen
+returns-then-is_at_mark-clause-seen g c =
+    let i = c.self.inside in
+    let it = sym c.self.view_is in
+    let full = at_mark i.job.now i.marked i.left i.done c.self.invariant.1 c.args.self it (sym c.is_at_mark.ensures ∙ c.if-is_at_mark.true) in
+    let some = some_left i.job.now i.marked i.left i.done c.self.invariant.1 c.args.self it c.requires.left in
+    let lt = round_left i.job.now i.marked i.left i.done c.self.invariant.1 c.self.invariant.0 full some in
+    let old = (g.S.Store.state c.args.store.now).reads in
+    let new = (g.S.Store.state c.mark_next.new.store).reads in
+    λ refuses sight. seen_mark i.job.now i.marked i.left i.done c.self.invariant.1 lt full (g.S.Store.seen c.mark_next.new.store) new
+    (c.in_ok-mark_next.ensures.seen refuses (seen_before i.job.now i.marked i.left i.done c.self.invariant.1 c.args.self it
+    (steps_in i.job.now.plan i.marked) full (g.S.Store.seen c.args.store.now) old sight))
+
+pub returns-in_err-step_within-clause-cause : goal.returns-in_err-step_within-clause-cause
+returns-in_err-step_within-clause-cause g c =
+    let i = c.self.inside in
+    let it = sym c.self.view_is in
+    let old = (g.S.Store.state c.args.store.now).reads in
+    record {
+      later = c.step_within.ensures.cause.later;
+      failed = err_any _ (rose_after (omega arith) (λ not sight. not (seen_before i.job.now i.marked i.left i.done c.self.invariant.1 c.args.self it i.done refl
+          (g.S.Store.seen c.args.store.now) old sight)) c.in_err-step_within.ensures.cause.failed);
+    }
+
+pub returns-clause-seen : goal.returns-clause-seen
+returns-clause-seen g c =
+    let i = c.self.inside in
+    let it = sym c.self.view_is in
+    let some = some_left i.job.now i.marked i.left i.done c.self.invariant.1 c.args.self it c.requires.left in
+    let old = (g.S.Store.state c.args.store.now).reads in
+    let new = (g.S.Store.state c.step_within.new.store).reads in
+    λ refuses sight. seen_within i.job.now i.marked i.left i.done c.self.invariant.1 some (g.S.Store.seen c.step_within.new.store) new
+    (c.in_ok-step_within.ensures.seen refuses (seen_before i.job.now i.marked i.left i.done c.self.invariant.1 c.args.self it i.done refl
+    (g.S.Store.seen c.args.store.now) old sight))

@@ -1,7 +1,11 @@
 -- An item that a plan shifts is where its first shift leaves it: at a slot that the plan names.
-use Rattle.mig_lanes.proofs.Common.{All-contains, At, Bool, Contains, IsPlanSpot, IsShifted, List, Lists, None, Option, Runs, Shift, Some, Spot, [], ap, arith, eqb, eqb-true, false}
-use Rattle.mig_lanes.proofs.Common.{if◌then◌else◌, in_round, inl, inr, last_target, length, option_or, refl, round_at, shifts_of, slice_get, suc, sym, true, zero, ℕ, ⊎_elim, ◌<◌, ◌∙◌, ◌∷◌, ◌≡◌}
-use Rattle.mig_lanes.proofs.Common.{◌≤◌, ◌⊎◌}
+use Rattle.mig_mover.proofs.Common.{All-contains, At, Bool, Contains, IsPlanSpot, IsShifted, List, Lists, None, Option, Shift, Some, Spot, [], ap, arith, eqb-true, false}
+use Rattle.mig_mover.proofs.Common.{inl, inr, length, refl, round_at, shifts_of, slice_get, suc, sym, true, zero, ℕ, ⊎_elim, ◌<◌, ◌∙◌, ◌∷◌, ◌≡◌, ◌≤◌, ◌⊎◌}
+use Rattle.mig_base.specs.Layouts.{last_target}
+use Rattle.mig_base.specs.Running.{Runs}
+use Rattle.mig_mover.proofs.TargetLaws.{in_round}
+use Rattle.std.proofs.Common.{eqb, if◌then◌else◌}
+use Rattle.std.specs.Option.{option_or}
 
 -- an item with a last target among shifts has one of these
 last_shift : (shifts : List Shift) (item : ℕ) (t : Spot) → last_target shifts item ≡ Some t → (s : Shift) × Contains shifts s × (s.item.0 ≡ item)

@@ -1,0 +1,7 @@
+use Rattle.mig_mover.proofs.Common.{arith}
+use Rattle.mig_mover.proofs.Looked.{rose_ours, store_fault}
+use Rattle.mig_mover.proofs.entries.resume_running.Goals as goal
+
+pub returns-in_err-enter_running-clause-fault : goal.returns-in_err-enter_running-clause-fault
+returns-in_err-enter_running-clause-fault g c = store_fault _ c.from_residual-in_err-enter_running.result c.from_residual-in_err-enter_running.ensures.1
+    (rose_ours (omega arith) c.in_ok-check_plan.ensures.ours (λ not. not) c.in_err-enter_running.ensures.cause.failed)
