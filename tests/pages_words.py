@@ -15,15 +15,6 @@ SAME = {"SinkFailed", "StoreFailed", "count_line", "layout_of", "same_spot", "sp
 GONE = {"trip": "transfer", "ending": "outcome", "finding": "refusal"}
 # names that still mean two things, or have such a word
 STILL = set("""
-AreCounted AreFew ArePairs AreRows AreStops AreThere AreWidths AreZeros Call Calls Changes Contents Counted Differ
-DiskSet Ended Ending Ends Entry Fault Files Finding Finishes Fits Found HasRoom Held Holds IsArrived IsClear IsDone
-IsEndOf IsFault IsFilled IsFilledBy IsFinding IsFirstOf IsFree IsFresh IsKept IsMade IsMissing IsMoment IsNamed
-IsNoPlan IsPart IsReady IsRefusal IsRight IsRound IsRowFault IsSettled IsShown IsSound IsTwoSided IsWithin Joins
-Keeps Layout Leads Leaves LeftSince MayLeave Memory Moment Names Node Numbers Part Pick Place Reaches Refusal
-Refuses Row Seen Shown Stands Step Stop Task Trip Trouble after after_call after_step blank change_at count_of
-disk_at edge_trip ending_of fails file_of files_of finding_code finding_text first_of header_of host_state
-mem_state moment_of named names_of next_of others pair_trip picked place_of round_of row_of row_trip rows_of
-seen_all seen_of shifts_in shifts_of spot_at spot_of trip trip_at trip_of trip_of_flight trips trips_in
 """.split())
 
 

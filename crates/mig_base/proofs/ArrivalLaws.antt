@@ -1,6 +1,6 @@
 -- Where a migration begins and ends: images before the first round, after the last, and once it is halted.
 use Rattle.mig_base.proofs.Common.{All, All-contains, AreFreeZeros, At, Bool, Contents, Gate, HasContents, Head, Image, IsFreeSlot, IsHaltSafe, IsInput, IsNamed, IsReached, IsSafe, IsSafeAfter}
-use Rattle.mig_base.proofs.Common.{IsSafeAt, IsSound, IsSoundAfter, IsSource, IsTaken, List, Lists, Mark, Runs, SameBut, Shift, Some, Spot, ap, arith, cases_Bool, cases_eq, cases_lt, false}
+use Rattle.mig_base.proofs.Common.{InputLists, IsSafeAt, IsSound, IsSoundAfter, IsSource, IsTaken, List, Mark, Runs, SameBut, Shift, Some, Spot, ap, arith, cases_Bool, cases_eq, cases_lt, false}
 use Rattle.mig_base.proofs.Common.{false≢true, inl, inr, is_armed, is_marked, is_one, length, refl, round_at, slice_get-get_or, slot_of, subst, suc, sym, true, zero, zeros, ℕ, ⊎_elim, ◌+◌, ◌-◌}
 use Rattle.mig_base.proofs.Common.{◌<◌, ◌∙◌, ◌≡◌, ◌≤◌, ◌⊎◌}
 use Rattle.mig_base.proofs.Rounds.{contains_any, any_contains, in_some, moved_cases, at_target, leaves, cases_source}
@@ -8,7 +8,7 @@ use Rattle.mig_base.proofs.MarkCounts.{AreMarked, counted, count_is, count_idle}
 use Rattle.mig_base.proofs.SafetyLaws.{slot_apart, now_on_disks, layout_at, source_facts, no_round, target_facts}
 
 -- whatever the marks hold that count, an image with the gate not 1 is sound where the items are where they were
-pub idle_sound : (asked : Bool) (input : Lists) (plan : List (List Shift)) (digest : List ℕ) (contents : Contents) (image : Image) → HasContents input (At input plan 0) contents image → is_armed image ≡ false → IsSound asked input plan digest contents image
+pub idle_sound : (asked : Bool) (input : InputLists) (plan : List (List Shift)) (digest : List ℕ) (contents : Contents) (image : Image) → HasContents input (At input plan 0) contents image → is_armed image ≡ false → IsSound asked input plan digest contents image
 idle_sound asked input plan digest contents image stand idle = record {
   safe = subst (IsSafeAt input plan digest contents image) (sym (count_idle (length plan) image idle)) (record {
     stand = stand;
@@ -19,11 +19,11 @@ idle_sound asked input plan digest contents image stand idle = record {
 }
 
 -- and what stands while the gate isn't 1 is where the items are now
-pub idle_stand : (input : Lists) (plan : List (List Shift)) (digest : List ℕ) (contents : Contents) (image : Image) → IsSafe input plan digest contents image → is_armed image ≡ false → HasContents input (At input plan 0) contents image
+pub idle_stand : (input : InputLists) (plan : List (List Shift)) (digest : List ℕ) (contents : Contents) (image : Image) → IsSafe input plan digest contents image → is_armed image ≡ false → HasContents input (At input plan 0) contents image
 idle_stand input plan digest contents image safe idle = (subst (IsSafeAt input plan digest contents image) (count_idle (length plan) image idle) safe).stand
 
 -- before the first round: the items are where they were, the gate is 1, and no mark is
-pub fresh_sound : (asked : Bool) (input : Lists) (plan : List (List Shift)) (digest : List ℕ) (contents : Contents) (image : Image) → HasContents input (At input plan 0) contents image
+pub fresh_sound : (asked : Bool) (input : InputLists) (plan : List (List Shift)) (digest : List ℕ) (contents : Contents) (image : Image) → HasContents input (At input plan 0) contents image
     → is_armed image ≡ true → image Head ≡ Some digest → ((n : ℕ) → 1 ≤ n → n ≤ length plan → is_marked image n ≡ false) → IsSoundAfter asked input plan digest contents image 0
 fresh_sound asked input plan digest contents image stand armed head marks = record {
   after = record {
@@ -34,7 +34,7 @@ fresh_sound asked input plan digest contents image stand armed head marks = reco
   clean = λ is. λ spot vacated. absurd (let h = vacated.earlier in omega arith);
 }
 
-module _ (input : Lists) (valid : IsInput input) (plan : List (List Shift)) (runs : Runs input plan) where
+module _ (input : InputLists) (valid : IsInput input) (plan : List (List Shift)) (runs : Runs input plan) where
   -- a named spot is on a disk
   pub named_on_disk : (spot : Spot) → IsNamed input plan spot → spot.disk.0 < length input.disks
   named_on_disk spot (inl now) = now_on_disks input valid now.0 spot (slice_get-get_or input.spots now.0 spot now.1 ∙ ap Some now.2)

@@ -1,8 +1,8 @@
 -- Bytes are the spelling of at most one certificate.
-use Rattle.mig_base.proofs.Common.{All, AllByRecursion, AllPairs, Bool, Bound, BoundFits, Cert, CertText, Class, Disk, DiskId, Duplex, Even, General, Incoming, IsCert, IsInput, List, Lists}
+use Rattle.mig_base.proofs.Common.{All, AllByRecursion, AllPairs, Bool, Bound, BoundFits, Cert, CertText, Class, Disk, DiskId, Duplex, Even, General, Incoming, InputLists, IsCert, IsInput, List}
 use Rattle.mig_base.proofs.Common.{Nothing, OfDisk, OfSet, OfSide, Outgoing, Side, [], ap, arith, bound_lines, bound_set, bound_value, cert_lines, class_word, codes, cond, decimal}
 use Rattle.mig_base.proofs.Common.{decimal_injective, disk_at, disk_name, false, inl, inr, is_duplex, is_name_byte, length, length-map, map, most_ends, no_disk, recursion_from_All, refl}
-use Rattle.mig_base.proofs.Common.{side_limit, side_word, stated_load, suc, sym, transfers, true, words, ℕ, ◌++◌, ◌+◌, ◌<◌, ◌^◌, ◌∙◌, ◌∷◌, ◌≡◌, ◌≢◌, ◌≤◌, ◌⊎◌}
+use Rattle.mig_base.proofs.Common.{side_limit, side_word, stated_load, suc, sym, transfer_graph, true, words, ℕ, ◌++◌, ◌+◌, ◌<◌, ◌^◌, ◌∙◌, ◌∷◌, ◌≡◌, ◌≢◌, ◌≤◌, ◌⊎◌}
 use Rattle.mig_base.proofs.KeptLimits.{ends_small, limits_at, side_small}
 use Rattle.mig_base.proofs.Separators.{Lacks, same_lines, same_words, Lacks-words, Lacks-decimal, same_front}
 use Rattle.mig_base.proofs.Spelling.{lacks_test, same_place, rounds_word_lacks, rounds_word_lacks_end, end_lacks, disk_lacks, lines_append}
@@ -58,7 +58,7 @@ same_class x y e =
 abbrev pub nothing_words : List (List ℕ)
 nothing_words = codes "bound" ∷ codes "nothing" ∷ []
 
-module _ (input : Lists) (valid : IsInput input) where
+module _ (input : InputLists) (valid : IsInput input) where
   abbrev pub disk_words : DiskId → ℕ → ℕ → List (List ℕ)
   disk_words disk l x = codes "bound" ∷ codes "disk" ∷ disk_name input disk.0 ∷ decimal l ∷ decimal (most_ends (disk_at input.disks disk.0).limits) ∷ decimal x ∷ []
 
@@ -132,7 +132,7 @@ module _ (input : Lists) (valid : IsInput input) where
 
   -- what a bound that is spelled keeps
   pub record IsSpelt (bound : Bound) : Type 0 where
-    pub fits : BoundFits (transfers input) bound
+    pub fits : BoundFits (transfer_graph input) bound
     pub load : stated_load bound < 2 ^ 32
     pub value : bound_value bound < 2 ^ 32
     pub few : length (bound_set bound) < 2 ^ 32
@@ -264,7 +264,7 @@ module _ (input : Lists) (valid : IsInput input) where
   pub spelt : (a : Cert) (bytes : List ℕ) → CertText input a bytes → IsSpelt a.bound
   spelt a bytes h = record { fits = h.fits.disks; load = h.kept.load; value = h.kept.value; few = few a.bound h.fits.disks h.kept.set }
     where
-      few : (b : Bound) → BoundFits (transfers input) b → AllPairs (λ x y. x.0 < y.0) (bound_set b) → length (bound_set b) < 2 ^ 32
+      few : (b : Bound) → BoundFits (transfer_graph input) b → AllPairs (λ x y. x.0 < y.0) (bound_set b) → length (bound_set b) < 2 ^ 32
       few Nothing fits inc = omega arith
       few (OfDisk disk l x) fits inc = omega arith
       few (OfSide disk side l x) fits inc = omega arith

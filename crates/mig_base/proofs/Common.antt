@@ -8,34 +8,34 @@ pub use Rattle.mig_base.specs.Certificates.{CertHolds, is_duplex_class}
 pub use Rattle.mig_base.specs.Checks.{Check, Filled, Free, IsClear, Leaves, Passes, RoundBlame, Single, Within, number}
 pub use Rattle.mig_base.specs.Colourings.{IsLimited, colour_at}
 pub use Rattle.mig_base.specs.Digits.{number_of}
-pub use Rattle.mig_base.specs.Directions.{Balances, is_forward, trip_at}
+pub use Rattle.mig_base.specs.Directions.{Balances, is_forward, transfer_at}
 pub use Rattle.mig_base.specs.DiskNumbers.{IsDiskSet, numbers}
 pub use Rattle.mig_base.specs.Flights.{AreFlights, IsSourceOf, IsTargetOf, after_event, after_events, began, ended, in_flight, is_flight}
 pub use Rattle.mig_base.specs.Images.{Image, IsCopy, NoCell, SameBut}
-pub use Rattle.mig_base.specs.InputLists.{AreDifferent, IsDiskInRange, IsInRange, IsInput, IsLimit, IsSpotOf, Lists, disk_at, is_duplex, is_split, most_ends, no_disk, no_spot}
+pub use Rattle.mig_base.specs.InputLists.{AreDifferent, InputLists, IsDiskInRange, IsInRange, IsInput, IsLimit, IsSpotOf, disk_at, is_duplex, is_split, most_ends, no_disk, no_spot}
 pub use Rattle.mig_base.specs.JobCells.{IsFreeSlot, IsJobCell, IsMark, IsWorkCell, SettlesTo, Tells}
 pub use Rattle.mig_base.specs.Journals.{count_of, is_armed, is_marked, is_one}
 pub use Rattle.mig_base.specs.Judging.{FirstBlame, IsFirstShift, IsSo, no_shift, order, shift_at}
 pub use Rattle.mig_base.specs.Layouts.{At, IsLayout, IsListOf, IsSource, IsTaken, IsTarget, Layout, after_shifts, last_target, round_at}
-pub use Rattle.mig_base.specs.Misfits.{IsLine, IsMisfit, Leads, Stops, pieces}
+pub use Rattle.mig_base.specs.Misfits.{FitsAlong, IsLine, IsMisfit, Stops, pieces}
 pub use Rattle.mig_base.specs.NameFields.{IsNameCell, padded}
 pub use Rattle.mig_base.specs.Naming.{IsName, is_name_byte}
 pub use Rattle.mig_base.specs.Planned.{IsMoveShift, IsPartition, IsPlan, PartitionIsPlan, move_at, move_shift, target_at}
 pub use Rattle.mig_base.specs.Readiness.{IsShifted, shifts_of}
 pub use Rattle.mig_base.specs.Refusals.{Accepted, AcceptedTight, AreListed, Fault, FaultButRoom, FileFault, IsFirstFault, IsNextNamed, IsNotListed, IsSpotNamed, LacksRoom, Precedes, RefusedAs, RefusedTightAs, RowFault, stage_of}
-pub use Rattle.mig_base.specs.RoundEvents.{Adds, AreRounds, BeginsRun, IsRound, flight_of, flights_of}
+pub use Rattle.mig_base.specs.RoundEvents.{Adds, AreRoundEvents, AreRounds, BeginsRun, flight_of, flights_of}
 pub use Rattle.mig_base.specs.RoundStates.{HasDone, IsCopied, IsInUse, IsSourceSlot}
-pub use Rattle.mig_base.specs.Rows.{Bodies, Row, disk_of, disks_of, file_of, first, fourth, has_sides, header_of, place_of, rows_of, second, third}
-pub use Rattle.mig_base.specs.Running.{IsArrivedAt, IsFree, IsLegal, Once, PlanFits, Runs, ShiftFits, is_of, round_of, shift_count, trip_of}
+pub use Rattle.mig_base.specs.Rows.{Row, ThreeFiles, disk_of, disks_of, file_bytes, first, fourth, has_sides, header_row, rows_of, second, spot_in_row, third}
+pub use Rattle.mig_base.specs.Running.{IsArrivedAt, IsFree, IsLegal, Once, PlanFits, Runs, ShiftFits, is_of, round_of, shift_count, transfer_of}
 pub use Rattle.mig_base.specs.Safety.{Contents, HasContents, IsCleanAt, IsSafe, IsSafeAfter, IsSafeAt, IsSound, IsSoundAfter, IsVacated}
-pub use Rattle.mig_base.specs.Schedules.{IsSchedule, Needs, Obeys, trips_in}
+pub use Rattle.mig_base.specs.Schedules.{IsSchedule, Needs, Obeys, transfers_in}
 pub use Rattle.mig_base.specs.Slots.{IsThere, IsUnused, IsUsed, item_cell, slot_of, zeros}
 pub use Rattle.mig_base.specs.Stores.{Changes, ChangesOnly, Ends, IsLeftBut, IsSettled, IsState, LeavesOnly, SettledBut, State, flights}
 pub use Rattle.mig_base.specs.Targets.{AreTargets, IsLowestFree, IsRoomy, incoming, present}
 pub use Rattle.mig_base.specs.Texts.{CertText, IsCert, PlanText, bound_lines, bound_set, cert_lines, cert_title, class_word, disk_name, item_name, layout_lines, plan_lines, round_lines}
 pub use Rattle.mig_base.specs.Texts.{shift_line, side_word, text_of_lines, words}
-pub use Rattle.mig_base.specs.Transfers.{IsOverLimit, KeepsLimit, KeepsLimits, Transfers, Trip, div_ceil, inside, is_inside, is_relocated, load, moves, passes, rounds_for, side_limit, side_load}
-pub use Rattle.mig_base.specs.Transfers.{source, takes_part, target, touches, transfers, trip, trips}
+pub use Rattle.mig_base.specs.Transfers.{IsOverLimit, KeepsLimit, KeepsLimits, Transfers, Transfer, div_ceil, inside, is_inside, is_relocated, load, moves, passes, rounds_for, side_limit, side_load}
+pub use Rattle.mig_base.specs.Transfers.{source, takes_part, target, touches, transfer_graph, transfer, transfers}
 pub use Rattle.mig_base.specs.declared.blames.Blame.{Blame}
 pub use Rattle.mig_base.specs.declared.blames.Blame.TheVariants.{ClassDiffers, EmptyRound, LoadDiffers, Memory, MovedTooOften, NotHere, OverLimit, QuotientDiffers, RoundsDiffer, SlotNotFree}
 pub use Rattle.mig_base.specs.declared.blames.Blame.TheVariants.{TwiceInRound, ValueDiffers, WrongEnd}

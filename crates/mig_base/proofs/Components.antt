@@ -11,7 +11,7 @@ class labels r = filter (λ v. eqb (get_or labels v 0) r) (range_with_len 0 (len
 -- labels that both ends of each move share, and that closed sets cannot tell from the disk
 pub record AreLabels (graph : Transfers) (labels : List ℕ) : Type 0 where
   pub len : length labels ≡ length graph.disks
-  pub shared : All (λ t. (t.leaves < length labels) × (t.reaches < length labels) × (get_or labels t.leaves 0 ≡ get_or labels t.reaches 0)) graph.trips
+  pub shared : All (λ t. (t.leaves < length labels) × (t.reaches < length labels) × (get_or labels t.leaves 0 ≡ get_or labels t.reaches 0)) graph.transfers
   pub joined : (v : ℕ) (part : List ℕ) → v < length labels → IsClosed graph part → has part v ≡ has part (get_or labels v 0)
   pub alone : (v : ℕ) → v < length labels → IsTrue (takes_part graph v) ⊎ (get_or labels v 0 ≡ v)
 
@@ -89,7 +89,7 @@ IsComponent-class graph labels r a there root part =
           let is_r = eqb-true (get_or labels v 0) r (filter_passes p range k d h) in
           (omega (arith, low, a.len), elim (a.alone v low) [ inl yes' ↦ yes' | inr alone ↦ (let P : ℕ → Type 0 = λ w. IsTrue (takes_part graph w) in subst P (sym is_r ∙ alone) part) ]);
       closed = λ k d h.
-          let t = get_or graph.trips k d in
+          let t = get_or graph.transfers k d in
           let s = a.shared k d h in
           bool_same (has (class labels r) t.leaves) (has (class labels r) t.reaches)
           (λ e. has_filter p 0 n t.reaches (omega arith) (omega (arith, s.1)) (ap (λ v. eqb v r) (sym s.2) ∙ (has_true p 0 n t.leaves e).2))

@@ -1,6 +1,6 @@
 -- A partition of the moves' shifts into rounds that keep the limits can be carried out, and shifts each relocated item once.
 use Rattle.mig_base.proofs.Common.{All, All-contains, All-head, All-tail, AreTargets, At, Bool, Contains, Contains-append_left, Contains-append_right, Disk, DiskId, IsArrivedAt, IsDiskInRange}
-use Rattle.mig_base.proofs.Common.{IsFree, IsInput, IsLegal, IsMoveShift, IsPartition, IsPlan, IsRoomy, IsSomeAnd, IsSpotOf, ItemId, List, Lists, MAX_SLOTS, None, Once, Option, PartitionIsPlan}
+use Rattle.mig_base.proofs.Common.{InputLists, IsFree, IsInput, IsLegal, IsMoveShift, IsPartition, IsPlan, IsRoomy, IsSomeAnd, IsSpotOf, ItemId, List, MAX_SLOTS, None, Once, Option, PartitionIsPlan}
 use Rattle.mig_base.proofs.Common.{PlanFits, Runs, Shift, ShiftFits, Some, Spot, [], ap, arith, cases_eq, cases_lt, cond, count_by, drop, eq-eqb, eqb, false, false≢true, filter, filter_passes}
 use Rattle.mig_base.proofs.Common.{get_or, get_or-drop, get_or-le-sum_by, get_or-range_with_len, get_or-take, get_or_default, inl, inr, is_of, is_relocated, length, length-drop}
 use Rattle.mig_base.proofs.Common.{length-range_with_len, length-take-le, list_any, move_at, move_shift, moves, nat_tests, ne_eqb, no_shift, no_spot, not, option_map, option_or, position_or_len}
@@ -27,17 +27,17 @@ found : {X : Type 0} (p : X → Bool) (xs : List X) (d : X) (i : ℕ) → i < le
 found p [] d i h t = absurd (omega arith)
 found p (x ∷ xs) d i h t = found_cons p x xs d (p x) refl (λ j l u. found p xs d j l u) i h t
 
-pub move_of : (input : Lists) (i : ℕ) → i < length input.items → is_relocated input i ≡ true → (e : ℕ) × (e < length (moves input)) × (move_at input e ≡ i)
+pub move_of : (input : InputLists) (i : ℕ) → i < length input.items → is_relocated input i ≡ true → (e : ℕ) × (e < length (moves input)) × (move_at input e ≡ i)
 move_of input i h t =
     let n = length input.items in
     let at : get_or (range_with_len 0 n) i 0 ≡ i = omega (arith, get_or-range_with_len 0 n i 0 h) in
     let r = found (is_relocated input) (range_with_len 0 n) 0 i (omega (arith, h, length-range_with_len 0 n)) (ap (is_relocated input) at ∙ t) in
     (r.0, r.1, r.2 ∙ at)
 
-pub move_relocated : (input : Lists) (e : ℕ) → e < length (moves input) → is_relocated input (move_at input e) ≡ true
+pub move_relocated : (input : InputLists) (e : ℕ) → e < length (moves input) → is_relocated input (move_at input e) ≡ true
 move_relocated input e h = filter_passes (is_relocated input) (range_with_len 0 (length input.items)) e 0 h
 
-pub move_there : (input : Lists) (e : ℕ) → e < length (moves input) → move_at input e < length input.items
+pub move_there : (input : InputLists) (e : ℕ) → e < length (moves input) → move_at input e < length input.items
 move_there input e h = moves_there input e 0 h
 
 -- Where an item may be
@@ -55,7 +55,7 @@ later : (plan : List (List Shift)) (k item : ℕ) (spot : Spot) → TakesTo plan
 later plan k item spot t = record { round = t.round; before = let h = t.before in omega arith; shift = t.shift; has = t.has; item_is = t.item_is; to_is = t.to_is }
 
 -- after some rounds an item has its old spot, or the target of a shift of it
-spot_from : (input : Lists) (plan : List (List Shift)) (k item : ℕ) (spot : Spot) → At input plan k item ≡ Some spot → (slice_get input.spots item ≡ Some spot) ⊎ TakesTo plan k item spot
+spot_from : (input : InputLists) (plan : List (List Shift)) (k item : ℕ) (spot : Spot) → At input plan k item ≡ Some spot → (slice_get input.spots item ≡ Some spot) ⊎ TakesTo plan k item spot
 spot_from input plan zero item spot at = inl at
 spot_from input plan (suc k) item spot at = ⊎_elim
     (λ last. inr (record { round = k; before = omega arith; shift = last.0; has = last.1; item_is = last.2; to_is = in_some last.0.to spot (sym last.3 ∙ at) }))
@@ -101,7 +101,7 @@ counted_all n round there =
         let is_m : get_or (range_with_len 0 n) m 0 ≡ m = omega (arith, get_or-range_with_len 0 n m 0 h) in
         omega (arith, get_or-le-sum_by f (range_with_len 0 n) m 0 (omega (arith, h, length-range_with_len 0 n)), ap f is_m, ap one (eq-eqb m m refl))
 
-module _ (input : Lists) (targets : List Spot) (plan : List (List Shift)) (p : IsPartition input targets plan) where
+module _ (input : InputLists) (targets : List Spot) (plan : List (List Shift)) (p : IsPartition input targets plan) where
   -- the move of a shift of the plan
   pub move_in : (r k : ℕ) (d : Shift) → r < length plan → k < length (round_at plan (suc r)) → IsMoveShift input targets (get_or (round_at plan (suc r)) k d)
   move_in r k d h l = p.shifts r [] h k d l

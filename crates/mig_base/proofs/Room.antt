@@ -1,5 +1,5 @@
 -- Where each disk has room, a slot is free for each item that comes: as many slots as a disk has can't all be taken.
-use Rattle.mig_base.proofs.Common.{AreTargets, Bool, Contains, Disk, IsInput, IsLowestFree, IsRoomy, IsSomeAnd, IsSpotOf, List, Lists, Spot, ap, arith, cases_lt, count_by, disk_at, eq-eqb, eqb}
+use Rattle.mig_base.proofs.Common.{AreTargets, Bool, Contains, Disk, InputLists, IsInput, IsLowestFree, IsRoomy, IsSomeAnd, IsSpotOf, List, Spot, ap, arith, cases_lt, count_by, disk_at, eq-eqb, eqb}
 use Rattle.mig_base.proofs.Common.{false, get_or, get_or-le-sum_by, get_or-take, incoming, inl, inr, length, length-take-le, ltb, move_at, moves, nat_tests, no_disk, no_spot, present, refl}
 use Rattle.mig_base.proofs.Common.{slice_get, slice_get-get_or, subst, suc, sum_by-append, sum_by-take-le, sum_by_push, sym, take, take_more, target, target_at, true, zero, ℕ, ◌&&◌, ◌++◌, ◌+◌}
 use Rattle.mig_base.proofs.Common.{◌<◌, ◌∙◌, ◌≡◌, ◌≤◌}
@@ -41,7 +41,7 @@ pigeons d n xs h = omega (arith, fills d n xs h, sum_by-le_each (λ (s : Spot). 
     less false b = omega arith
 
 -- The spots that the moves before this one are given, and those that items have, leave one of so many slots of its disk
-pub some_free : (input : Lists) (move : ℕ) (earlier : List Spot) (v slots : ℕ) → present input v + incoming input v ≤ slots → move < length (moves input) → length earlier ≡ move → ((k : ℕ) → k < move → (target_at earlier k).disk.0 ≡ target input (move_at input k)) → target input (move_at input move) ≡ v → ((s : ℕ) → s < slots → Contains (input.spots ++ earlier) (spot v s)) → ⊥
+pub some_free : (input : InputLists) (move : ℕ) (earlier : List Spot) (v slots : ℕ) → present input v + incoming input v ≤ slots → move < length (moves input) → length earlier ≡ move → ((k : ℕ) → k < move → (target_at earlier k).disk.0 ≡ target input (move_at input k)) → target input (move_at input move) ≡ v → ((s : ℕ) → s < slots → Contains (input.spots ++ earlier) (spot v s)) → ⊥
 some_free input move earlier v slots room h len disks here full =
     let on : Spot → ℕ = λ s. one (eqb s.disk.0 v) in
     let goes : ℕ → Bool = λ m. eqb (target input m) v in
@@ -52,7 +52,7 @@ some_free input move earlier v slots room h len disks here full =
     let more : count_by goes (take (move + 1) (moves input)) ≡ count_by goes first + 1 = ap (count_by goes) (take_more (moves input) move 0 h) ∙ sum_by_push (λ m. one (goes m)) first (move_at input move) ∙ ap (λ b. count_by goes first + one b) (eq-eqb (target input (move_at input move)) v here) in
     absurd (omega (arith, room, many, sum_by-append on input.spots earlier, same, more, sum_by-take-le (λ m. one (goes m)) (moves input) (move + 1)))
 
-module _ (input : Lists) (targets : List Spot) (a : AreTargets input targets) where
+module _ (input : InputLists) (targets : List Spot) (a : AreTargets input targets) where
   -- the spot that a move is given
   pub lowest_at : (move : ℕ) → move < length (moves input) → IsLowestFree (input.spots ++ take move targets) (target input (move_at input move)) (target_at targets move)
   lowest_at move h = a.each move (move_at input move) (target_at targets move) (slice_get-get_or (moves input) move 0 h) (slice_get-get_or targets move no_spot (omega (arith, h, a.len)))

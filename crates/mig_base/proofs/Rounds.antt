@@ -1,5 +1,5 @@
 -- Where items are after shifts that can be carried out.
-use Rattle.mig_base.proofs.Common.{All-contains, AllPairs, Any, Contains, Disk, IsFree, IsLayout, IsLegal, IsSomeAnd, IsSpotOf, Layout, List, Lists, None, Option, Shift, Some, Spot, []}
+use Rattle.mig_base.proofs.Common.{All-contains, AllPairs, Any, Contains, Disk, InputLists, IsFree, IsLayout, IsLegal, IsSomeAnd, IsSpotOf, Layout, List, None, Option, Shift, Some, Spot, []}
 use Rattle.mig_base.proofs.Common.{after_shifts, ap, arith, cases_eq, cases_order, cond, cond-false, cond-true, eq-eqb, get_or, get_or_default, inl, inr, last_target, length, ne_eqb, option_or}
 use Rattle.mig_base.proofs.Common.{refl, slice_get, subst, suc, sym, zero, ℕ, ⊎_elim, ◌<◌, ◌==◌, ◌∙◌, ◌∷◌, ◌≡◌, ◌≢◌, ◌⊎◌}
 
@@ -73,7 +73,7 @@ moved_cases layout shifts item = ⊎_elim
     (λ none. inr (none.0, ap (λ (o : Option Spot). option_or o (layout item)) none.1))
     (last_cases shifts item)
 
-module _ (input : Lists) (layout : Layout) (shifts : List Shift) (legal : IsLegal input layout shifts) where
+module _ (input : InputLists) (layout : Layout) (shifts : List Shift) (legal : IsLegal input layout shifts) where
   pub one_shift : (s t : Shift) → Contains shifts s → Contains shifts t → s.item.0 ≡ t.item.0 → s ≡ t
   one_shift s t has_s has_t same = one_by (λ (u : Shift). u.item) shifts legal.once s t has_s has_t (λ i. record { 0 = same i })
 

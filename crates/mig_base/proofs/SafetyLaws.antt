@@ -1,13 +1,13 @@
 -- What the images that a migration may leave keep, round by round, by the definitions alone.
 use Rattle.mig_base.proofs.Common.{All-contains, At, Bool, Contains, Contents, Gate, Head, Image, IsCleanAt, IsCopied, IsInUse, IsInput, IsLayout, IsLegal, IsSafeAt, IsSound, IsSoundAfter}
-use Rattle.mig_base.proofs.Common.{IsSource, IsSpotOf, IsTaken, IsTarget, IsVacated, List, Lists, Mark, Runs, SameBut, Shift, Some, Spot, [], after_shifts, ap, arith, cases_eq, cases_lt, disk_at}
+use Rattle.mig_base.proofs.Common.{InputLists, IsSource, IsSpotOf, IsTaken, IsTarget, IsVacated, List, Mark, Runs, SameBut, Shift, Some, Spot, [], after_shifts, ap, arith, cases_eq, cases_lt, disk_at}
 use Rattle.mig_base.proofs.Common.{false, get_or_from_slice_get, get_or_past, inl, inr, is_armed, is_marked, is_one, length, no_disk, round_at, slice_get, slice_get_within, slot_of, subst, suc}
 use Rattle.mig_base.proofs.Common.{sym, true, zero, zeros, ℕ, ⊎_elim, ◌<◌, ◌∙◌, ◌≡◌, ◌≤◌, ◌⊎◌}
 use Rattle.mig_base.proofs.Listed.{one_place}
 use Rattle.mig_base.proofs.Rounds.{contains_any, any_contains, in_some, spot_disk, moved_cases, at_target, leaves, to_disk, from_disk, source_free, target_free, layout_kept, cases_source}
 use Rattle.mig_base.proofs.MarkCounts.{AreMarked, counted, count_is}
 
-module _ (input : Lists) (valid : IsInput input) where
+module _ (input : InputLists) (valid : IsInput input) where
   -- different spots are different cells
   pub slot_apart : (p q : Spot) → p.disk.0 < length input.disks → q.disk.0 < length input.disks → slot_of input p ≡ slot_of input q → p ≡ q
   slot_apart p q lt_p lt_q same =

@@ -1,9 +1,9 @@
 -- A plan that runs and moves each relocated item once is a schedule that obeys.
-use Rattle.mig_base.proofs.Common.{All, All-filter, At, Bool, DiskId, IsInput, IsSchedule, List, Lists, None, Obeys, Once, Option, Runs, Shift, Some, Spot, Trip, [], ap, arith, cases_lt, cond}
+use Rattle.mig_base.proofs.Common.{All, All-filter, At, Bool, DiskId, InputLists, IsInput, IsSchedule, List, None, Obeys, Once, Option, Runs, Shift, Some, Spot, Transfer, [], ap, arith, cases_lt, cond}
 use Rattle.mig_base.proofs.Common.{count_by, eq-eqb, eqb, eqb-true, false, false≢true, filter, filter_passes, get_or, get_or-le-sum_by, get_or-range_with_len, inl, inr, is_of, is_relocated}
 use Rattle.mig_base.proofs.Common.{last_target, length, length-range_with_len, list_any, map, moves, nat_tests, no_spot, not, option_map, option_or, passes_at_first, position_or_len}
-use Rattle.mig_base.proofs.Common.{range_with_len, refl, round_at, round_of, shift_count, slice_get, slice_get-get_or, source, subst, suc, sum_by, sum_by-cons, sym, target, trip}
-use Rattle.mig_base.proofs.Common.{trip_of, trips_in, true, zero, ℕ, ◌&&◌, ◌+◌, ◌-◌, ◌<◌, ◌||◌, ◌∙◌, ◌∷◌, ◌≡◌, ◌≢◌, ◌≤◌}
+use Rattle.mig_base.proofs.Common.{range_with_len, refl, round_at, round_of, shift_count, slice_get, slice_get-get_or, source, subst, suc, sum_by, sum_by-cons, sym, target, transfer}
+use Rattle.mig_base.proofs.Common.{transfer_of, transfers_in, true, zero, ℕ, ◌&&◌, ◌+◌, ◌-◌, ◌<◌, ◌||◌, ◌∙◌, ◌∷◌, ◌≡◌, ◌≢◌, ◌≤◌}
 use Rattle.mig_base.proofs.KeptLimits.{keeps_fewer}
 use Rattle.mig_base.proofs.Counting.{sum_by-map, sum_by-le_each, sum_by-none, sum_by-swap, one, count_by-filter-le, at_most_one}
 
@@ -104,12 +104,12 @@ shifted_at plan m k within once some =
     }
 
 -- its spot is unchanged before that round, and the shift's target from then on
-pub spot_before : (input : Lists) (plan : List (List Shift)) (m k : ℕ) → ((r : ℕ) → r < k → count_by (is_of m) (round_at plan (suc r)) ≡ 0) → At input plan k m ≡ slice_get input.spots m
+pub spot_before : (input : InputLists) (plan : List (List Shift)) (m k : ℕ) → ((r : ℕ) → r < k → count_by (is_of m) (round_at plan (suc r)) ≡ 0) → At input plan k m ≡ slice_get input.spots m
 spot_before input plan m zero none = refl
 spot_before input plan m (suc k) none =
     passed (last_target (round_at plan (suc k)) m) (At input plan k m) (none_counted (round_at plan (suc k)) m (none k (omega arith))) ∙ spot_before input plan m k (λ r h. none r (omega (arith, h)))
 
-pub spot_later : (input : Lists) (plan : List (List Shift)) (m n k j : ℕ) → j ≡ n + k → ((r : ℕ) → k ≤ r → r < j → count_by (is_of m) (round_at plan (suc r)) ≡ 0) → At input plan j m ≡ At input plan k m
+pub spot_later : (input : InputLists) (plan : List (List Shift)) (m n k j : ℕ) → j ≡ n + k → ((r : ℕ) → k ≤ r → r < j → count_by (is_of m) (round_at plan (suc r)) ≡ 0) → At input plan j m ≡ At input plan k m
 spot_later input plan m zero k j e none = ap (λ (i : ℕ). At input plan i m) (omega (arith, e))
 spot_later input plan m (suc n) k zero e none = absurd (omega (arith, e))
 spot_later input plan m (suc n) k (suc j) e none =
@@ -120,14 +120,14 @@ spot_later input plan m (suc n) k (suc j) e none =
 pub is_at : {X : Type 0} (xs : List X) (k : ℕ) (d x : X) → k < length xs → slice_get xs k ≡ Some x → get_or xs k d ≡ x
 is_at xs k d x h e = let f = sym (slice_get-get_or xs k d h) ∙ e in cc
 
-trip_by : (t u : Trip) → t.leaves ≡ u.leaves → t.reaches ≡ u.reaches → t ≡ u
-trip_by t u e f = ap (λ (n : ℕ). let x : Trip = record { leaves = n; reaches = t.reaches } in x) e ∙ ap (λ (n : ℕ). let x : Trip = record { leaves = u.leaves; reaches = n } in x) f
+transfer_by : (t u : Transfer) → t.leaves ≡ u.leaves → t.reaches ≡ u.reaches → t ≡ u
+transfer_by t u e f = ap (λ (n : ℕ). let x : Transfer = record { leaves = n; reaches = t.reaches } in x) e ∙ ap (λ (n : ℕ). let x : Transfer = record { leaves = u.leaves; reaches = n } in x) f
 
-same_trip : (p : Trip → Bool) (s : Shift) (m : ℕ) (t : Trip) → s.item.0 ≡ m → trip_of s ≡ t → one (p t) ≤ one (eqb m s.item.0 && p (trip_of s))
-same_trip p s m t item same = rw (item, ap p same, eq-eqb m m refl) (omega arith)
+same_transfer : (p : Transfer → Bool) (s : Shift) (m : ℕ) (t : Transfer) → s.item.0 ≡ m → transfer_of s ≡ t → one (p t) ≤ one (eqb m s.item.0 && p (transfer_of s))
+same_transfer p s m t item same = rw (item, ap p same, eq-eqb m m refl) (omega arith)
 
 -- such an item's shift has the two ends of its move
-shift_ends : (input : Lists) (plan : List (List Shift)) (m k : ℕ) → IsInput input → Runs input plan → m < length input.items → k < length plan → IsShiftedAt plan m k → (by : ShiftedBy (round_at plan (suc k)) m) → (by.shift.from.disk.0 ≡ source input m) × (by.shift.to.disk.0 ≡ target input m)
+shift_ends : (input : InputLists) (plan : List (List Shift)) (m k : ℕ) → IsInput input → Runs input plan → m < length input.items → k < length plan → IsShiftedAt plan m k → (by : ShiftedBy (round_at plan (suc k)) m) → (by.shift.from.disk.0 ≡ source input m) × (by.shift.to.disk.0 ≡ target input m)
 shift_ends input plan m k valid runs there within at by =
     let P : Shift → Type 0 = λ s. At input plan k s.item.0 ≡ Some s.from in
     let leaves : At input plan k by.shift.item.0 ≡ Some by.shift.from = subst P (by.is by.shift) ((runs.rounds k within).leaves by.index by.shift by.in_round) in
@@ -140,12 +140,12 @@ shift_ends input plan m k valid runs there within at by =
       sym (ap (λ (d : DiskId). d.0) (is_at input.next m (record { 0 = 0 }) by.shift.to.disk (omega (arith, there, valid.next_len)) disk)),
     )
 
-counted_shift : (input : Lists) (plan : List (List Shift)) (m k : ℕ) → IsInput input → Runs input plan → m < length input.items → k < length plan → IsShiftedAt plan m k → (by : ShiftedBy (round_at plan (suc k)) m) → (p : Trip → Bool) → one (p (trip input m)) ≤ count_by (λ s. eqb m s.item.0 && p (trip_of s)) (round_at plan (suc k))
+counted_shift : (input : InputLists) (plan : List (List Shift)) (m k : ℕ) → IsInput input → Runs input plan → m < length input.items → k < length plan → IsShiftedAt plan m k → (by : ShiftedBy (round_at plan (suc k)) m) → (p : Transfer → Bool) → one (p (transfer input m)) ≤ count_by (λ s. eqb m s.item.0 && p (transfer_of s)) (round_at plan (suc k))
 counted_shift input plan m k valid runs there within at by p =
     let ends = shift_ends input plan m k valid runs there within at by in
-    let f : Shift → ℕ = λ s. one (eqb m s.item.0 && p (trip_of s)) in
+    let f : Shift → ℕ = λ s. one (eqb m s.item.0 && p (transfer_of s)) in
     let here = get_or-le-sum_by f (round_at plan (suc k)) by.index by.shift by.in_round in
-    omega (arith, same_trip p by.shift m (trip input m) by.item (trip_by (trip_of by.shift) (trip input m) ends.0 ends.1), ap f (by.is by.shift), here)
+    omega (arith, same_transfer p by.shift m (transfer input m) by.item (transfer_by (transfer_of by.shift) (transfer input m) ends.0 ends.1), ap f (by.is by.shift), here)
 
 any_cons : (b : Bool) (n : ℕ) (c : Bool) → 1 ≤ one b + n → (1 ≤ n → c ≡ true) → (b || c) ≡ true
 any_cons true n c h rest = refl
@@ -181,8 +181,8 @@ shifted_first plan m once =
     let within = found_round plan m (omega (arith, once)) in
     (within, shifted_at plan m (first plan m) within once (any_some (round_at plan (suc (first plan m))) m (passes_at_first (λ r. list_any (is_of m) r) plan [] within)))
 
-pub trip_counted : (input : Lists) (plan : List (List Shift)) (m k : ℕ) → IsInput input → Runs input plan → m < length input.items → k < length plan → IsShiftedAt plan m k → (p : Trip → Bool) → one (p (trip input m)) ≤ count_by (λ s. eqb m s.item.0 && p (trip_of s)) (round_at plan (suc k))
-trip_counted input plan m k valid runs there within at p = counted_shift input plan m k valid runs there within at (shifted_round (round_at plan (suc k)) m at.here) p
+pub transfer_counted : (input : InputLists) (plan : List (List Shift)) (m k : ℕ) → IsInput input → Runs input plan → m < length input.items → k < length plan → IsShiftedAt plan m k → (p : Transfer → Bool) → one (p (transfer input m)) ≤ count_by (λ s. eqb m s.item.0 && p (transfer_of s)) (round_at plan (suc k))
+transfer_counted input plan m k valid runs there within at p = counted_shift input plan m k valid runs there within at (shifted_round (round_at plan (suc k)) m at.here) p
 
 not_in_range : (a n k : ℕ) → k < a → count_by (λ m. eqb m k) (range_with_len a n) ≡ 0
 not_in_range a zero k h = refl
@@ -205,36 +205,36 @@ pub range_below : (n : ℕ) → All (λ m. m < n) (range_with_len 0 n)
 range_below n = λ k d h. omega (arith, get_or-range_with_len 0 n k d (omega (arith, h, length-range_with_len 0 n)), length-range_with_len 0 n, h)
 
 -- each move is an item, and is relocated
-pub moves_there : (input : Lists) → All (λ m. m < length input.items) (moves input)
+pub moves_there : (input : InputLists) → All (λ m. m < length input.items) (moves input)
 moves_there input = All-filter (is_relocated input) (λ m. m < length input.items) (range_with_len 0 (length input.items)) (range_below (length input.items))
 
-move_once : (input : Lists) (plan : List (List Shift)) → Once input plan → All (λ m. shift_count plan m ≡ 1) (moves input)
+move_once : (input : InputLists) (plan : List (List Shift)) → Once input plan → All (λ m. shift_count plan m ≡ 1) (moves input)
 move_once input plan once = λ k d h. once (get_or (moves input) k d) (moves_there input k d h) ∙ ap (λ (b : Bool). one b) (filter_passes (is_relocated input) (range_with_len 0 (length input.items)) k d h)
 
-pub scheduled : (input : Lists) (plan : List (List Shift)) → Once input plan → IsSchedule input (length plan) (round_of plan)
+pub scheduled : (input : InputLists) (plan : List (List Shift)) → Once input plan → IsSchedule input (length plan) (round_of plan)
 scheduled input plan once = λ k d h. let at = shifted_first plan (get_or (moves input) k d) (move_once input plan once k d h) in (omega arith, omega (arith, at.0))
 
-counted_in_round : (input : Lists) (plan : List (List Shift)) (m r : ℕ) (p : Trip → Bool) → IsInput input → Runs input plan → m < length input.items → shift_count plan m ≡ 1 → eqb (round_of plan m) (suc r) ≡ true → one (p (trip input m)) ≤ count_by (λ s. eqb m s.item.0 && p (trip_of s)) (round_at plan (suc r))
+counted_in_round : (input : InputLists) (plan : List (List Shift)) (m r : ℕ) (p : Transfer → Bool) → IsInput input → Runs input plan → m < length input.items → shift_count plan m ≡ 1 → eqb (round_of plan m) (suc r) ≡ true → one (p (transfer input m)) ≤ count_by (λ s. eqb m s.item.0 && p (transfer_of s)) (round_at plan (suc r))
 counted_in_round input plan m r p valid runs there once same =
     let at = shifted_first plan m once in
     let e : first plan m ≡ r = omega (arith, eqb-true (round_of plan m) (suc r) same) in
-    let P : ℕ → Type 0 = λ k. one (p (trip input m)) ≤ count_by (λ s. eqb m s.item.0 && p (trip_of s)) (round_at plan (suc k)) in
-    subst P e (trip_counted input plan m (first plan m) valid runs there at.0 at.1 p)
+    let P : ℕ → Type 0 = λ k. one (p (transfer input m)) ≤ count_by (λ s. eqb m s.item.0 && p (transfer_of s)) (round_at plan (suc k)) in
+    subst P e (transfer_counted input plan m (first plan m) valid runs there at.0 at.1 p)
 
--- the trips of the moves of a round are among those of its shifts, whatever is counted of them
-pub trips_counted : (input : Lists) (plan : List (List Shift)) (p : Trip → Bool) (r : ℕ) → IsInput input → Runs input plan → Once input plan → count_by p (trips_in input (round_of plan) (suc r)) ≤ count_by p (map trip_of (round_at plan (suc r)))
-trips_counted input plan p r valid runs once =
-    let q : Shift → Bool = λ s. p (trip_of s) in
+-- the transfers of the moves of a round are among those of its shifts, whatever is counted of them
+pub transfers_counted : (input : InputLists) (plan : List (List Shift)) (p : Transfer → Bool) (r : ℕ) → IsInput input → Runs input plan → Once input plan → count_by p (transfers_in input (round_of plan) (suc r)) ≤ count_by p (map transfer_of (round_at plan (suc r)))
+transfers_counted input plan p r valid runs once =
+    let q : Shift → Bool = λ s. p (transfer_of s) in
     let ms = filter (λ m. eqb (round_of plan m) (suc r)) (moves input) in
     let round = round_at plan (suc r) in
     let apart : (k : ℕ) → count_by (λ m. eqb m k) ms ≤ 1 = λ k. omega (arith, count_by-filter-le (λ m. eqb m k) (λ m. eqb (round_of plan m) (suc r)) (moves input), count_by-filter-le (λ m. eqb m k) (is_relocated input) (range_with_len 0 (length input.items)), once_in_range 0 (length input.items) k) in
-    let each : All (λ m. one (p (trip input m)) ≤ count_by (λ s. eqb m s.item.0 && q s) round) ms = λ k e h.
+    let each : All (λ m. one (p (transfer input m)) ≤ count_by (λ s. eqb m s.item.0 && q s) round) ms = λ k e h.
     let known = All-filter (λ m. eqb (round_of plan m) (suc r)) (λ m. (m < length input.items) × (shift_count plan m ≡ 1)) (moves input) (λ j f l. (moves_there input j f l, move_once input plan once j f l)) k e h in
     counted_in_round input plan (get_or ms k e) r p valid runs known.0 known.1 (filter_passes (λ m. eqb (round_of plan m) (suc r)) (moves input) k e h) in
-    omega (arith, sum_by-map (λ t. one (p t)) (trip input) ms, sum_by-map (λ t. one (p t)) trip_of round, count_by-keyed (λ m. p (trip input m)) q (λ s. s.item.0) ms round apart each)
+    omega (arith, sum_by-map (λ t. one (p t)) (transfer input) ms, sum_by-map (λ t. one (p t)) transfer_of round, count_by-keyed (λ m. p (transfer input m)) q (λ s. s.item.0) ms round apart each)
 
 -- where a plan runs and moves each relocated item once, the rounds of the shifts are a schedule that obeys
-pub obeys : (input : Lists) (plan : List (List Shift)) → IsInput input → Runs input plan → Once input plan → Obeys input (length plan) (round_of plan)
+pub obeys : (input : InputLists) (plan : List (List Shift)) → IsInput input → Runs input plan → Once input plan → Obeys input (length plan) (round_of plan)
 obeys input plan valid runs once zero least most v there = absurd (omega (arith, least))
 obeys input plan valid runs once (suc r) least most v there =
-    keeps_fewer _ v (trips_in input (round_of plan) (suc r)) (map trip_of (round_at plan (suc r))) (λ p. trips_counted input plan p r valid runs once) ((runs.rounds r (omega (arith, most))).limits v there)
+    keeps_fewer _ v (transfers_in input (round_of plan) (suc r)) (map transfer_of (round_at plan (suc r))) (λ p. transfers_counted input plan p r valid runs once) ((runs.rounds r (omega (arith, most))).limits v there)

@@ -1,5 +1,5 @@
 -- As many items as a disk has slots are on it, at most.
-use Rattle.mig_base.proofs.Common.{All, AreDifferent, Bool, Disk, IsInput, IsSomeAnd, IsSpotOf, List, Lists, Spot, [], arith, cases_eq, count_by, disk_at, eqb, get_or, inl, inr, length, ltb}
+use Rattle.mig_base.proofs.Common.{All, AreDifferent, Bool, Disk, InputLists, IsInput, IsSomeAnd, IsSpotOf, List, Spot, [], arith, cases_eq, count_by, disk_at, eqb, get_or, inl, inr, length, ltb}
 use Rattle.mig_base.proofs.Common.{nat_tests, present, slice_get, subst, suc, sym, true, zero, ℕ, ◌&&◌, ◌+◌, ◌<◌, ◌∙◌, ◌∷◌, ◌≡◌, ◌≤◌}
 use Rattle.mig_base.proofs.Copies.{count_by-le-one}
 use Rattle.mig_base.proofs.Counting.{one, sum_by-add, sum_by-le_each, sum_by-none}
@@ -65,7 +65,7 @@ pigeons_above d n xs apart low =
       | inr ne ↦ grind (arith, nat_tests)
     ]
 
-pub present_fits : (input : Lists) (v : ℕ) → IsInput input → present input v ≤ (disk_at input.disks v).slots
+pub present_fits : (input : InputLists) (v : ℕ) → IsInput input → present input v ≤ (disk_at input.disks v).slots
 present_fits input v is =
     pigeons_above v (disk_at input.disks v).slots input.spots is.spots_apart (λ k e l at.
     subst (λ w. (get_or input.spots k e).slot < (disk_at input.disks w).slots) at (spot_slot input.disks (get_or input.spots k e) (is.on_disks k e l)))

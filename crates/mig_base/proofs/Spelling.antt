@@ -1,5 +1,5 @@
 -- Bytes are the spelling of at most one plan.
-use Rattle.mig_base.proofs.Common.{AllByRecursion, AllPairs, Disk, IsInput, IsName, List, Lists, MAX_ROUNDS, MAX_SHIFTS, PlanFits, PlanText, Shift, ShiftFits, [], ap, append_assoc, arith}
+use Rattle.mig_base.proofs.Common.{AllByRecursion, AllPairs, Disk, InputLists, IsInput, IsName, List, MAX_ROUNDS, MAX_SHIFTS, PlanFits, PlanText, Shift, ShiftFits, [], ap, append_assoc, arith}
 use Rattle.mig_base.proofs.Common.{cases_order, codes, decimal, decimal_injective, disk_name, false, get_or, inl, inr, is_name_byte, item_name, length, length-map, list_all, map, nat_eq}
 use Rattle.mig_base.proofs.Common.{nat_tests, no_disk, not, plan_lines, recursion_from_All, refl, round_lines, shift_line, sym, true, words, ℕ, ◌++◌, ◌+◌, ◌<◌, ◌^◌, ◌∙◌, ◌∷◌, ◌≡◌, ◌≢◌, ◌≤◌}
 use Rattle.mig_base.proofs.Separators.{Lacks, same_lines, same_words, Lacks-words, Lacks-decimal, same_front}
@@ -44,7 +44,7 @@ head_lacks = lacks_test 10 (codes "migration-plan 1") refl
 pub end_lacks : Lacks 10 (codes "end")
 end_lacks = lacks_test 10 (codes "end") refl
 
-module _ (input : Lists) (valid : IsInput input) where
+module _ (input : InputLists) (valid : IsInput input) where
   pub item_lacks : (c i : ℕ) → is_name_byte c ≡ false → i < length input.items → Lacks c (item_name input i)
   item_lacks c i other h = Lacks-name c other _ (valid.named_items i [] h)
 

@@ -1,17 +1,17 @@
 -- Worked cases, by computing: loads, quotients, classes and values; a plan's layouts and texts.
-use Rattle.mig_base.proofs.Common.{At, Disk, Duplex, Even, General, Incoming, Joint, List, Lists, None, OfDisk, OfSet, OfSide, Outgoing, Shift, Some, Split, Spot, Transfers, Trip, []}
+use Rattle.mig_base.proofs.Common.{At, Disk, Duplex, Even, General, Incoming, InputLists, Joint, List, None, OfDisk, OfSet, OfSide, Outgoing, Shift, Some, Split, Spot, Transfers, Transfer, []}
 use Rattle.mig_base.proofs.Common.{bound_lines, cert_lines, class_of, codes, incoming, layout_lines, length, load, moves, plan_lines, present, quotient, refl, round_of, set_value}
 use Rattle.std.specs.Fmt.{digits}
-use Rattle.mig_base.proofs.Common.{shift_count, text_of_lines, transfers, ℕ, ◌+◌, ◌∷◌, ◌≡◌}
+use Rattle.mig_base.proofs.Common.{shift_count, text_of_lines, transfer_graph, ℕ, ◌+◌, ◌∷◌, ◌≡◌}
 
 abbrev disk : ℕ → Disk
 disk n = record { name = 97 ∷ []; limits = Joint n; slots = 9 }
 
-abbrev trip : ℕ → ℕ → Trip
-trip a b = record { leaves = a; reaches = b }
+abbrev transfer : ℕ → ℕ → Transfer
+transfer a b = record { leaves = a; reaches = b }
 
 abbrev triangle : ℕ → Transfers
-triangle n = record { disks = disk n ∷ disk n ∷ disk n ∷ []; items = 0 ∷ 1 ∷ 2 ∷ []; trips = trip 0 1 ∷ trip 1 2 ∷ trip 2 0 ∷ [] }
+triangle n = record { disks = disk n ∷ disk n ∷ disk n ∷ []; items = 0 ∷ 1 ∷ 2 ∷ []; transfers = transfer 0 1 ∷ transfer 1 2 ∷ transfer 2 0 ∷ [] }
 
 value_of_triangle : set_value (triangle 1) (0 ∷ 1 ∷ 2 ∷ []) ≡ 3
 value_of_triangle = refl
@@ -23,7 +23,7 @@ quotient_of_even_triangle : quotient (triangle 2) ≡ 1
 quotient_of_even_triangle = refl
 
 abbrev cycle : Transfers
-cycle = record { disks = disk 1 ∷ disk 1 ∷ disk 1 ∷ disk 1 ∷ disk 1 ∷ []; items = []; trips = trip 0 1 ∷ trip 1 2 ∷ trip 2 3 ∷ trip 3 4 ∷ trip 4 0 ∷ [] }
+cycle = record { disks = disk 1 ∷ disk 1 ∷ disk 1 ∷ disk 1 ∷ disk 1 ∷ []; items = []; transfers = transfer 0 1 ∷ transfer 1 2 ∷ transfer 2 3 ∷ transfer 3 4 ∷ transfer 4 0 ∷ [] }
 
 value_of_cycle : set_value cycle (0 ∷ 1 ∷ 2 ∷ 3 ∷ 4 ∷ []) ≡ 3
 value_of_cycle = refl
@@ -32,12 +32,12 @@ value_of_triple : set_value cycle (0 ∷ 1 ∷ 2 ∷ []) ≡ 2
 value_of_triple = refl
 
 abbrev star : Transfers
-star = record { disks = disk 4 ∷ disk 1 ∷ disk 1 ∷ disk 1 ∷ disk 7 ∷ []; items = []; trips = trip 0 1 ∷ trip 0 1 ∷ trip 0 1 ∷ trip 0 2 ∷ trip 0 2 ∷ trip 0 2 ∷ trip 0 3 ∷ trip 0 3 ∷ trip 0 3 ∷ [] }
+star = record { disks = disk 4 ∷ disk 1 ∷ disk 1 ∷ disk 1 ∷ disk 7 ∷ []; items = []; transfers = transfer 0 1 ∷ transfer 0 1 ∷ transfer 0 1 ∷ transfer 0 2 ∷ transfer 0 2 ∷ transfer 0 2 ∷ transfer 0 3 ∷ transfer 0 3 ∷ transfer 0 3 ∷ [] }
 
 quotient_of_star : quotient star ≡ 3
 quotient_of_star = refl
 
-load_of_centre : load 0 star.trips ≡ 9
+load_of_centre : load 0 star.transfers ≡ 9
 load_of_centre = refl
 
 class_of_triangle : class_of (triangle 1) ≡ General
@@ -57,7 +57,7 @@ name c = c ∷ []
 abbrev spot : ℕ → ℕ → Spot
 spot d s = record { disk = record { 0 = d }; slot = s }
 
-abbrev two : Lists
+abbrev two : InputLists
 two = record {
   disks = record { name = name 97; limits = Joint 2; slots = 4 } ∷ record { name = name 98; limits = Joint 2; slots = 4 } ∷ [];
   items = name 120 ∷ name 121 ∷ name 122 ∷ [];
@@ -77,10 +77,10 @@ relocated_items = refl
 room_of_b : present two 1 + incoming two 1 ≡ 3
 room_of_b = refl
 
-quotient_of_two : quotient (transfers two) ≡ 2
+quotient_of_two : quotient (transfer_graph two) ≡ 2
 quotient_of_two = refl
 
-class_of_two : class_of (transfers two) ≡ Even
+class_of_two : class_of (transfer_graph two) ≡ Even
 class_of_two = refl
 
 after_one_round : At two two_rounds 1 1 ≡ Some (spot 1 1)
@@ -123,7 +123,7 @@ text_of_layout = refl
 
 -- the same three items between disks with two limits
 
-abbrev duplex : Lists
+abbrev duplex : InputLists
 duplex = record {
   disks = record { name = name 97; limits = Split 2 1; slots = 4 } ∷ record { name = name 98; limits = Split 1 1; slots = 4 } ∷ [];
   items = two.items;
@@ -131,10 +131,10 @@ duplex = record {
   next = two.next;
 }
 
-quotient_of_duplex : quotient (transfers duplex) ≡ 3
+quotient_of_duplex : quotient (transfer_graph duplex) ≡ 3
 quotient_of_duplex = refl
 
-class_of_duplex : class_of (transfers duplex) ≡ Duplex
+class_of_duplex : class_of (transfer_graph duplex) ≡ Duplex
 class_of_duplex = refl
 
 text_of_duplex : text_of_lines (cert_lines duplex (record { rounds = 3; quotient = 3; class = Duplex; bound = OfSide (record { 0 = 1 }) Incoming 3 3 }))

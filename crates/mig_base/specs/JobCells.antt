@@ -4,7 +4,7 @@ use Rattle.mig_base.specs.declared.cells.Cell.{Cell}
 use Rattle.mig_base.specs.declared.cells.Cell.TheVariants.{Head, Gate, Mark}
 use Rattle.mig_base.specs.declared.ids.Spot.{Spot}
 use Rattle.mig_base.specs.declared.ids.Shift.{Shift}
-use Rattle.mig_base.specs.InputLists.{Lists}
+use Rattle.mig_base.specs.InputLists.{InputLists}
 use Rattle.mig_base.specs.Layouts.{At, IsTaken}
 use Rattle.mig_base.specs.Images.{Image}
 use Rattle.mig_base.specs.Stores.{State, flights}
@@ -20,27 +20,27 @@ abbrev pub IsJournal : ℕ → Cell → Type 0
 IsJournal rounds cell = (cell ≡ Head) ⊎ (cell ≡ Gate) ⊎ IsMark rounds cell
 
 -- a slot that the plan names
-abbrev pub IsPlanSlot : Lists → List (List Shift) → Cell → Type 0
+abbrev pub IsPlanSlot : InputLists → List (List Shift) → Cell → Type 0
 IsPlanSlot input plan cell = (spot : Spot) × IsPlanSpot plan spot × (slot_of input spot ≡ cell)
 
 -- a slot that an item has now, or that the plan names
-abbrev pub IsNamedSlot : Lists → List (List Shift) → Cell → Type 0
+abbrev pub IsNamedSlot : InputLists → List (List Shift) → Cell → Type 0
 IsNamedSlot input plan cell = (spot : Spot) × IsNamed input plan spot × (slot_of input spot ≡ cell)
 
 -- a slot that an item has now, or that the plan names, and that is free after k rounds
-abbrev pub IsFreeSlot : Lists → List (List Shift) → ℕ → Cell → Type 0
+abbrev pub IsFreeSlot : InputLists → List (List Shift) → ℕ → Cell → Type 0
 IsFreeSlot input plan k cell = (spot : Spot) × IsNamed input plan spot × (¬ IsTaken (At input plan k) spot) × (slot_of input spot ≡ cell)
 
 -- the cells that carrying out rounds may change, once the journal is armed
-abbrev pub IsWorkCell : Lists → List (List Shift) → Cell → Type 0
+abbrev pub IsWorkCell : InputLists → List (List Shift) → Cell → Type 0
 IsWorkCell input plan cell = IsMark (length plan) cell ⊎ IsPlanSlot input plan cell
 
 -- the cells that carrying out a plan may change
-abbrev pub IsJobCell : Lists → List (List Shift) → Cell → Type 0
+abbrev pub IsJobCell : InputLists → List (List Shift) → Cell → Type 0
 IsJobCell input plan cell = IsJournal (length plan) cell ⊎ IsPlanSlot input plan cell
 
 -- the cells that closing a migration early may change
-abbrev pub IsHaltCell : Lists → List (List Shift) → Cell → Type 0
+abbrev pub IsHaltCell : InputLists → List (List Shift) → Cell → Type 0
 IsHaltCell input plan cell = IsJournal (length plan) cell ⊎ IsNamedSlot input plan cell
 
 -- each of these cells is told

@@ -15,4 +15,4 @@ IsLowerable graph = (is_duplex graph.disks ≡ false) × ((v : ℕ) → v < leng
 
 -- the greatest quotient by the lowered limits, and 0 where nothing moves
 abbrev pub lowered_quotient : Transfers → ℕ
-lowered_quotient graph = greatest (map (λ v. div_ceil (load v graph.trips) (lowered_limit graph v)) (range_with_len 0 (length graph.disks)))
+lowered_quotient graph = greatest (map (λ v. div_ceil (load v graph.transfers) (lowered_limit graph v)) (range_with_len 0 (length graph.disks)))

@@ -6,21 +6,21 @@ use Rattle.mig_base.specs.declared.cells.Event.{Event}
 use Rattle.mig_base.specs.declared.cells.Flight.{Flight}
 use Rattle.mig_base.specs.declared.ids.Shift.{Shift}
 use Rattle.mig_base.specs.declared.inputs.Disk.{Disk}
-use Rattle.mig_base.specs.InputLists.{Lists}
+use Rattle.mig_base.specs.InputLists.{InputLists}
 use Rattle.mig_base.specs.Slots.{slot_of}
 use Rattle.mig_base.specs.Stores.{State}
 use Rattle.mig_base.specs.Flights.{began, ended, after_events, AreWithinLimits}
 
 -- the copy of a shift
-abbrev pub flight_of : Lists → Shift → Flight
+abbrev pub flight_of : InputLists → Shift → Flight
 flight_of input s = record { from = slot_of input s.from; to = slot_of input s.to }
 
 -- the copies of a round, in the plan's order
-abbrev pub flights_of : Lists → List Shift → List Flight
+abbrev pub flights_of : InputLists → List Shift → List Flight
 flights_of input shifts = map (flight_of input) shifts
 
 -- each copy of the round begins, in order, and then each ends once, in any order
-pub record IsRound (round : List Flight) (added : List Event) : Type 0 where
+pub record AreRoundEvents (round : List Flight) (added : List Event) : Type 0 where
   pub order : List Flight
   pub each_once : IsPermutation round order
   pub is : added ≡ map began round ++ map ended order
@@ -28,7 +28,8 @@ pub record IsRound (round : List Flight) (added : List Event) : Type 0 where
 -- the events of these rounds, one after the other
 abbrev pub AreRounds : List (List Flight) → List Event → Type 0
 AreRounds [] added = added ≡ []
-AreRounds (round ∷ rounds) added = (first : List Event) × (rest : List Event) × (added ≡ first ++ rest) × IsRound round first × AreRounds rounds rest
+AreRounds (round ∷ rounds) added = (first : List Event) × (rest : List Event) × (added ≡ first ++ rest) × AreRoundEvents round first
+    × AreRounds rounds rest
 
 -- first each copy that was in flight ends once, in any order, and then come the events of the rounds
 pub record IsRun (before : List Flight) (rounds : List (List Flight)) (added : List Event) : Type 0 where

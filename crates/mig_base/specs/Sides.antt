@@ -5,7 +5,7 @@ use Rattle.mig_base.specs.Bounding.{IsOneWay}
 
 -- each transfer has exactly one end among the disks of the one side
 abbrev pub Separates : (ℕ → Bool) → Transfers → Type 0
-Separates side graph = All (λ t. side t.leaves ≢ side t.reaches) graph.trips
+Separates side graph = All (λ t. side t.leaves ≢ side t.reaches) graph.transfers
 
 -- some set of disks has exactly one end of each transfer in it
 abbrev pub IsTwoSided : Transfers → Type 0

@@ -2,13 +2,13 @@
 use Rattle.std.specs.Prelude.{◌≤◌, ℕ, List, length}
 use Rattle.mig_base.specs.declared.ids.Shift.{Shift}
 use Rattle.mig_base.specs.declared.limits.TheConstants.{MAX_FILE_BYTES, MAX_ROUNDS}
-use Rattle.mig_base.specs.InputLists.{Lists, IsInput}
+use Rattle.mig_base.specs.InputLists.{InputLists, IsInput}
 use Rattle.mig_base.specs.Running.{Runs}
 use Rattle.mig_base.specs.Readiness.{shifts_of}
 
 -- an input, a plan for it, and the digest of the plan's text
 pub record Task : Type 0 where
-  pub input : Lists
+  pub input : InputLists
   pub plan : List (List Shift)
   pub digest : List ℕ
 

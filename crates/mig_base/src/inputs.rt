@@ -63,9 +63,9 @@ impl Drop for Input {
 }
 
 impl Model for Input {
-    ghost use Rattle.mig_base.specs.InputLists.{Lists};
+    ghost use Rattle.mig_base.specs.InputLists.{InputLists};
 
-    ghost Value = { Lists };
+    ghost Value = { InputLists };
 
     ghost use Rattle.mig_base.specs.InputFields.{lists_of, KeepsInput};
 

@@ -1,7 +1,7 @@
 //! What the definitions promise of one another.
 ghost use Rattle.std.specs.Prelude.{length};
 ghost use Rattle.mig_base.specs.Refusals.{AcceptedIsInput, AcceptedIsOne};
-ghost use Rattle.mig_base.specs.Transfers.{transfers};
+ghost use Rattle.mig_base.specs.Transfers.{transfer_graph};
 ghost use Rattle.mig_base.specs.Targets.{TargetsAreOne};
 ghost use Rattle.mig_base.specs.Schedules.{Needs, IsSchedule, Obeys};
 ghost use Rattle.mig_base.specs.Bounding.{ClassTells, BoundFits, BoundHolds, bound_value};
@@ -57,8 +57,8 @@ pub fn one_cert_for_a_text()
 
 /// Every schedule that keeps each limit has at least as many rounds as a bound's value, where the bound holds.
 pub fn bound_is_needed(input: &Input, bound: &Bound)
-    requires fits { BoundFits (transfers input.now) bound.now }
-    requires holds { BoundHolds (transfers input.now) bound.now }
+    requires fits { BoundFits (transfer_graph input.now) bound.now }
+    requires holds { BoundHolds (transfer_graph input.now) bound.now }
     ensures { Needs input.now (bound_value bound.now) }
 {
     input.keeps_rules();

@@ -1,6 +1,6 @@
 -- The disks of the best bound are there.
 use Rattle.mig_best.proofs.Common.{All, All-cons, All-nil, Best, Bool, Bound, BoundFits, BoundHolds, ByComponent, ByDisk, BySide, ByTriple, Candidate, Class, DiskId, Duplex, Even, General}
-use Rattle.mig_best.proofs.Common.{IsBest, IsCandidateOf, IsEven, IsOfKind, List, Names, Nothing, OfDisk, OfSet, OfSide, Side, Transfers, [], ap, arith, class_is_duplex, class_is_even, class_of}
+use Rattle.mig_best.proofs.Common.{IsBest, IsCandidateOf, IsEven, IsOfKind, List, NamesCandidate, Nothing, OfDisk, OfSet, OfSide, Side, Transfers, [], ap, arith, class_is_duplex, class_is_even, class_of}
 use Rattle.mig_best.proofs.Common.{false, false≢true, get_or, get_or-map, is_duplex, length, length-map, numbers, refl, subst, sym, true, ℕ, ◌<◌, ◌∙◌, ◌∷◌, ◌≡◌}
 
 -- disks whose numbers are those of disks that are there
@@ -41,7 +41,7 @@ Best-fits graph (OfSet set i x) (ByTriple a b c, names, is, holds) = all_there s
 Best-fits graph (OfSet set i x) (ByComponent members, names, is, holds) = all_there set (length graph.disks) members names (members_there (is_duplex graph.disks) graph members is.candidate)
 
 -- the best bound is of the kind of the limits
-kind_of : (kind : Bool) (graph : Transfers) (bound : Bound) (c : Candidate) → Names bound c → IsCandidateOf kind graph c → IsOfKind kind bound
+kind_of : (kind : Bool) (graph : Transfers) (bound : Bound) (c : Candidate) → NamesCandidate bound c → IsCandidateOf kind graph c → IsOfKind kind bound
 kind_of kind graph Nothing c names is = tt
 kind_of false graph (OfDisk disk l x) c names is = refl
 kind_of true graph (OfDisk disk l x) c names is = absurd (subst (IsCandidateOf true graph) names is)

@@ -1,7 +1,7 @@
 -- A plan and its certificate.
 use Rattle.std.specs.Prelude.{◌≡◌, ℕ, List}
-use Rattle.mig_base.specs.InputLists.{Lists}
-use Rattle.mig_base.specs.Transfers.{transfers}
+use Rattle.mig_base.specs.InputLists.{InputLists}
+use Rattle.mig_base.specs.Transfers.{transfer_graph}
 use Rattle.mig_base.specs.Bounding.{Best, bound_value, quotient}
 use Rattle.mig_base.specs.Schedules.{Needs}
 use Rattle.mig_base.specs.Certificates.{CertHolds}
@@ -20,10 +20,10 @@ IsDiskBound (OfSet set i x) q = ⊥
 
 -- a plan for the input, as is promised of the best one, and its certificate, whose bound is the first best one: every schedule needs its value,
 -- and where there is a reason why the plan has no more rounds than the quotient it is a disk or a side that shows the plan to be optimal
-pub record IsCertified (input : Lists) (rounds : List (List Shift)) (certificate : Cert) : Type 0 where
+pub record IsCertified (input : InputLists) (rounds : List (List Shift)) (certificate : Cert) : Type 0 where
   pub planned : IsPlanOf input rounds
   pub lowered : IsWithinLowered input rounds
   pub holds : CertHolds input rounds certificate
-  pub best : Best (transfers input) certificate.bound
+  pub best : Best (transfer_graph input) certificate.bound
   pub needs : Needs input (bound_value certificate.bound)
-  pub shown : (why : Reason) → Because why (transfers input) → IsDiskBound certificate.bound (quotient (transfers input))
+  pub shown : (why : Reason) → Because why (transfer_graph input) → IsDiskBound certificate.bound (quotient (transfer_graph input))

@@ -3,7 +3,7 @@ ghost use Rattle.std.specs.Prelude.{◌≡◌, ◌≤◌, length, IfOk};
 ghost use Rattle.mig_base.specs.Bounding.{bound_value, class_of, quotient};
 ghost use Rattle.mig_base.specs.Certificates.{CertFits};
 ghost use Rattle.mig_base.specs.Targets.{IsRoomy};
-ghost use Rattle.mig_base.specs.Transfers.{transfers};
+ghost use Rattle.mig_base.specs.Transfers.{transfer_graph};
 ghost use Rattle.mig_best.specs.Certified.{IsCertified};
 
 use crate::choosing::best_plan_from;
@@ -63,7 +63,7 @@ fn certify(graph: &Graph, plan: &Plan, bound: Bound) -> Cert
 ///
 /// The search for a plan starts at the bound's value: no plan has fewer rounds, so none is lost.
 pub fn certified_plan(alloc: Global, input: &Input, graph: &Graph) -> Result<Certified, AllocError>
-    requires graph { graph.now ≡ transfers input.now }
+    requires graph { graph.now ≡ transfer_graph input.now }
     requires roomy { IsRoomy input.now }
     ensures made { IfOk result (λ made. IsCertified input.now made.plan made.cert) }
     ensures fits { IfOk result (λ made. CertFits input.now made.cert) }

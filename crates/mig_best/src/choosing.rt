@@ -2,7 +2,7 @@
 ghost use Rattle.std.specs.Prelude.{◌≡◌, ◌≤◌, length, IfOk};
 ghost use Rattle.mig_base.specs.MadePlans.{IsPlanOf, IsWithinLowered};
 ghost use Rattle.mig_base.specs.Targets.{IsRoomy};
-ghost use Rattle.mig_base.specs.Transfers.{transfers};
+ghost use Rattle.mig_base.specs.Transfers.{transfer_graph};
 
 use crate::certifying::value_of;
 use mig_base::{Input, Plan};
@@ -18,7 +18,7 @@ fn with_fewer_rounds(
     graph: &Graph,
     plan: Plan,
 ) -> Result<Plan, AllocError>
-    requires graph { graph.now ≡ transfers input.now }
+    requires graph { graph.now ≡ transfer_graph input.now }
     requires roomy { IsRoomy input.now }
     requires planned { IsPlanOf input.now plan }
     ensures planned { IfOk result (IsPlanOf input.now) }
@@ -46,7 +46,7 @@ pub fn best_plan_from(
     graph: &Graph,
     start: u32,
 ) -> Result<Plan, AllocError>
-    requires graph { graph.now ≡ transfers input.now }
+    requires graph { graph.now ≡ transfer_graph input.now }
     requires roomy { IsRoomy input.now }
     ensures planned { IfOk result (IsPlanOf input.now) }
     ensures lowered { IfOk result (IsWithinLowered input.now) }

@@ -16,9 +16,9 @@ pub use Rattle.mig_board.specs.BoardFields.{IsBoard, colouring_of}
 pub use Rattle.mig_board.specs.Colouring.{AreFreeWords, Colouring, HasColour, HasNoCommon, IsFreeAt, IsFull, IsFullFrom, IsLeastCommon, IsLeastMissingFrom, IsMissing, IsPainted, IsPresent}
 pub use Rattle.mig_board.specs.Colouring.{IsProper, IsTableOf, Joins, Leads, blank, cleared, degree_of, painted_with}
 pub use Rattle.mig_board.specs.Entries.{AreFreeSets, Entries, IsFreeEntry, IsFreeSet, with_entry}
-pub use Rattle.mig_board.specs.Growth.{IsBlank, IsPlain, IsTwoSided, PaintsOne, Recolours, SameGraph}
+pub use Rattle.mig_board.specs.Growth.{IsBlank, IsPlain, IsSplitAt, PaintsOne, Recolours, SameGraph}
 pub use Rattle.mig_board.specs.TableFields.{IsTable, entries_of}
-pub use Rattle.mig_board.specs.Walk.{Exchanges, IsEdgeOf, IsNodeOf, IsWalk, Step, WalkLaw, WalksTo, backwards, end_of, next_of, nodes_of, swapped}
+pub use Rattle.mig_board.specs.Walk.{Exchanges, IsEdgeOf, IsNodeOf, IsWalk, WalkLaw, WalkStep, WalksTo, backwards, end_of, next_colour, nodes_of, swapped}
 pub use Rattle.mig_board.specs.Words.{AreFullSets, HasBit, HasNoBitFrom, HasNoCommonBit, IsFirstBit, IsFirstCommonBit, TurnsBit, words_for}
 pub use Rattle.std.proofs.Common.{bit_and, min, rules, ◌-◌}
 pub use Rattle.std.proofs.lemmas.Bool.{cases_eq, cases_lt, or_left}

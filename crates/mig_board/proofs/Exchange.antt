@@ -1,6 +1,6 @@
 -- The exchange of two colours along a walk, step by step.
 use Rattle.mig_board.proofs.Common.{Bool, Colour, Colouring, CopyId, EdgeId, Exchanges, HasColour, IsEdgeOf, IsMissing, IsNodeOf, IsPresent, IsProper, IsTableOf, IsWalk, Joins, Leads, List}
-use Rattle.mig_board.proofs.Common.{Option, Some, Step, [], ap, arith, cases_eq, cond, end_of, eqb, eqb_tells, false, get_or, inl, inr, length, length-set, length-swap, next_of, refl, same_Some}
+use Rattle.mig_board.proofs.Common.{Option, Some, WalkStep, [], ap, arith, cases_eq, cond, end_of, eqb, eqb_tells, false, get_or, inl, inr, length, length-set, length-swap, next_colour, refl, same_Some}
 use Rattle.mig_board.proofs.Common.{same_copy, same_edge, same_hue, set, slice_get, slice_get-get_or, slice_get-set_other, slice_get-set_same, slice_get_within, subst, swap, swapped, sym, true}
 use Rattle.mig_board.proofs.Common.{ℕ, ◌*◌, ◌++◌, ◌+◌, ◌<◌, ◌↔◌, ◌∙◌, ◌∷◌, ◌≡◌, ◌≢◌, ◌⊎◌}
 use Rattle.mig_board.proofs.Walks
@@ -90,7 +90,7 @@ swapped_in_range a b k n ha hb hk =
 pub copy_cases : (v w : CopyId) → (v ≡ w) ⊎ (v ≢ w)
 copy_cases v w = elim (cases_eq v.0 w.0) [ inl h ↦ inl (same_copy v w h) | inr n ↦ inr (λ e. n (ap (λ (q : CopyId). q.0) e)) ]
 
-pub path_node_cases : (u v : CopyId) (steps : List Step) → IsNodeOf u v steps ⊎ (IsNodeOf u v steps → ⊥)
+pub path_node_cases : (u v : CopyId) (steps : List WalkStep) → IsNodeOf u v steps ⊎ (IsNodeOf u v steps → ⊥)
 path_node_cases u v [] = copy_cases v u
 path_node_cases u v (s ∷ rest) =
     elim (copy_cases v u) [
@@ -98,7 +98,7 @@ path_node_cases u v (s ∷ rest) =
       | inr n ↦ elim (path_node_cases u s.to rest) [ inl h ↦ inl (inr h) | inr m ↦ inr (λ (h : (v ≡ u) ⊎ IsNodeOf u s.to rest). elim h [ inl x ↦ n x | inr x ↦ m x ]) ]
     ]
 
-pub path_edge_cases : (e : EdgeId) (steps : List Step) → IsEdgeOf e steps ⊎ (IsEdgeOf e steps → ⊥)
+pub path_edge_cases : (e : EdgeId) (steps : List WalkStep) → IsEdgeOf e steps ⊎ (IsEdgeOf e steps → ⊥)
 path_edge_cases e [] = inr (λ h. h)
 path_edge_cases e (s ∷ rest) =
     elim (edge_cases s.edge e) [
@@ -109,7 +109,7 @@ path_edge_cases e (s ∷ rest) =
 -- ---- edges of a path
 
 -- an edge of a path has its ends on it and one of the two colours
-pub record IsPathEdge (g : Colouring) (v : CopyId) (a b : Colour) (steps : List Step) (e : EdgeId) : Type 0 where
+pub record IsPathEdge (g : Colouring) (v : CopyId) (a b : Colour) (steps : List WalkStep) (e : EdgeId) : Type 0 where
   pub from : CopyId
   pub to : CopyId
   pub colour : Colour
@@ -118,7 +118,7 @@ pub record IsPathEdge (g : Colouring) (v : CopyId) (a b : Colour) (steps : List 
   pub to_at : IsNodeOf to v steps
   pub of_two : (colour ≡ a) ⊎ (colour ≡ b)
 
-pub path_edge : (g : Colouring) (v : CopyId) (a b : Colour) (steps : List Step) → IsPath g v a b steps → (e : EdgeId) → IsEdgeOf e steps → IsPathEdge g v a b steps e
+pub path_edge : (g : Colouring) (v : CopyId) (a b : Colour) (steps : List WalkStep) → IsPath g v a b steps → (e : EdgeId) → IsEdgeOf e steps → IsPathEdge g v a b steps e
 path_edge g v a b [] path e on = absurd on
 path_edge g v a b (s ∷ rest) path e on =
     elim on [
@@ -129,7 +129,7 @@ path_edge g v a b (s ∷ rest) path e on =
     ]
 
 -- a node of an edge of a path is on the path
-pub end_on_path : (g : Colouring) (v : CopyId) (a b : Colour) (steps : List Step) → IsPath g v a b steps → (e : EdgeId) → IsEdgeOf e steps → (u x : CopyId) → Joins g e u x → IsNodeOf u v steps
+pub end_on_path : (g : Colouring) (v : CopyId) (a b : Colour) (steps : List WalkStep) → IsPath g v a b steps → (e : EdgeId) → IsEdgeOf e steps → (u x : CopyId) → Joins g e u x → IsNodeOf u v steps
 end_on_path g v a b steps path e on u x j =
     let r = path_edge g v a b steps path e on in
     elim (end_cases g e r.from r.to u x r.leads.joins j) [
@@ -138,18 +138,18 @@ end_on_path g v a b steps path e on u x j =
     ]
 
 -- the edge that comes next is a new one
-pub fresh_edge : (g : Colouring) (p : IsProper g) (v : CopyId) (a b : Colour) (steps : List Step) → a ≢ b → IsPath g v a b steps → NoRepeat v steps → (e : EdgeId) (w : CopyId) → Leads g (end_of v steps) (next_of a b steps) e w → IsEdgeOf e steps → ⊥
-fresh_edge g p v a b steps d path n e w l on = next_differs a b steps d (last_edge g p v a b steps path n (next_of a b steps) e w on l)
+pub fresh_edge : (g : Colouring) (p : IsProper g) (v : CopyId) (a b : Colour) (steps : List WalkStep) → a ≢ b → IsPath g v a b steps → NoRepeat v steps → (e : EdgeId) (w : CopyId) → Leads g (end_of v steps) (next_colour a b steps) e w → IsEdgeOf e steps → ⊥
+fresh_edge g p v a b steps d path n e w l on = next_differs a b steps d (last_edge g p v a b steps path n (next_colour a b steps) e w on l)
 
 -- at a node of a walk each edge of the two colours is an edge of the walk
-pub walk_closed : (g : Colouring) (p : IsProper g) (v : CopyId) (a b : Colour) → IsMissing g v a → (steps : List Step) → IsWalk g v a b steps → (u : CopyId) → IsNodeOf u v steps → (k : Colour) (e : EdgeId) (x : CopyId) → Leads g u k e x → (k ≡ a) ⊎ (k ≡ b) → IsEdgeOf e steps
+pub walk_closed : (g : Colouring) (p : IsProper g) (v : CopyId) (a b : Colour) → IsMissing g v a → (steps : List WalkStep) → IsWalk g v a b steps → (u : CopyId) → IsNodeOf u v steps → (k : Colour) (e : EdgeId) (x : CopyId) → Leads g u k e x → (k ≡ a) ⊎ (k ≡ b) → IsEdgeOf e steps
 walk_closed g p v a b m steps w u at k e x l ab =
     let r = path_of_walk g v a b steps w in
     elim (edge_on g p v a b steps r.0 u at k e x l ab) [
       | inl on ↦ on
       | inr other ↦ elim other [
         | inl h ↦ absurd (m.absent e x (moved v a h.0 h.1))
-        | inr h ↦ absurd (r.1.absent e x (moved (end_of v steps) (next_of a b steps) h.0 h.1))
+        | inr h ↦ absurd (r.1.absent e x (moved (end_of v steps) (next_colour a b steps) h.0 h.1))
       ]
     ]
   where
@@ -272,8 +272,8 @@ exchanging_more g t v a b can painted table table' at next other n x turned e w 
     alone : NoRepeat v x.underway.steps
     alone = path_no_repeat g can.tabled.proper v a b can.lacks (differs_of g t v a b can) x.underway.steps x.underway.path
 
-    leads : Leads g (end_of v x.underway.steps) (next_of a b x.underway.steps) e w
-    leads = subst (λ (q : CopyId). Leads g q (next_of a b x.underway.steps) e w) (sym x.underway.at_is) (subst (λ (q : Colour). Leads g at q e w) (sym x.underway.next_is) l)
+    leads : Leads g (end_of v x.underway.steps) (next_colour a b x.underway.steps) e w
+    leads = subst (λ (q : CopyId). Leads g q (next_colour a b x.underway.steps) e w) (sym x.underway.at_is) (subst (λ (q : Colour). Leads g at q e w) (sym x.underway.next_is) l)
 
     new_edge : IsEdgeOf e x.underway.steps → ⊥
     new_edge on = fresh_edge g can.tabled.proper v a b x.underway.steps (differs_of g t v a b can) x.underway.path alone e w leads on
@@ -325,7 +325,7 @@ exchanging_more g t v a b can painted table table' at next other n x turned e w 
 -- ---- the exchange done
 
 -- what the fields say once the walk's last node has been turned too
-pub record IsExchanged (g : Colouring) (t : List (Option EdgeId)) (painted : List (Option Colour)) (table : List (Option EdgeId)) (v : CopyId) (a b : Colour) (steps : List Step) : Type 0 where
+pub record IsExchanged (g : Colouring) (t : List (Option EdgeId)) (painted : List (Option Colour)) (table : List (Option EdgeId)) (v : CopyId) (a b : Colour) (steps : List WalkStep) : Type 0 where
   pub walk : IsWalk g v a b steps
   pub painted_len : length painted ≡ length g.painted
   pub table_len : length table ≡ g.nodes * g.colours
@@ -338,7 +338,7 @@ pub exchanging_end : (g : Colouring) (t : List (Option EdgeId)) (v : CopyId) (a 
     (x : IsExchanging g t painted table v a b at next other n) → IsTurned g a b at table table' → IsMissing g at next → IsExchanged g t painted table' v a b x.underway.steps
 exchanging_end g t v a b can painted table table' at next other n x turned last =
     record {
-      walk = Walks.walk_of_path g v a b x.underway.steps x.underway.path (subst (λ (q : CopyId). IsMissing g q (next_of a b x.underway.steps)) (sym x.underway.at_is) (subst (λ (q : Colour). IsMissing g at q) (sym x.underway.next_is) last));
+      walk = Walks.walk_of_path g v a b x.underway.steps x.underway.path (subst (λ (q : CopyId). IsMissing g q (next_colour a b x.underway.steps)) (sym x.underway.at_is) (subst (λ (q : Colour). IsMissing g at q) (sym x.underway.next_is) last));
       painted_len = x.painted_len;
       table_len = turned.len ∙ x.table_len;
       on = x.on;
@@ -355,14 +355,14 @@ abbrev pub recoloured : Colouring → List (Option Colour) → Colouring
 recoloured g painted = record g { painted = painted }
 
 -- the colour of an edge, before and after
-pub on_after : (g : Colouring) (t : List (Option EdgeId)) (painted : List (Option Colour)) (table : List (Option EdgeId)) (v : CopyId) (a b : Colour) (steps : List Step) → IsExchanged g t painted table v a b steps → (e : EdgeId) (k : Colour) → IsEdgeOf e steps → HasColour (recoloured g painted) e k → HasColour g e (swapped a b k)
+pub on_after : (g : Colouring) (t : List (Option EdgeId)) (painted : List (Option Colour)) (table : List (Option EdgeId)) (v : CopyId) (a b : Colour) (steps : List WalkStep) → IsExchanged g t painted table v a b steps → (e : EdgeId) (k : Colour) → IsEdgeOf e steps → HasColour (recoloured g painted) e k → HasColour g e (swapped a b k)
 on_after g t painted table v a b steps x e k on h =
     let r = path_edge g v a b steps (path_of_walk g v a b steps x.walk).0 e on in
     let now : k ≡ swapped a b r.colour = same_Some k (swapped a b r.colour) (same_Some (Some k) (Some (swapped a b r.colour)) (sym h ∙ x.on e r.colour on r.leads.colour)) in
     subst (λ (q : Colour). HasColour g e q) (sym (ap (swapped a b) now ∙ swapped_twice a b r.colour)) r.leads.colour
 
 -- an edge at a node of the walk, before and after
-pub leads_before : (g : Colouring) (t : List (Option EdgeId)) (painted : List (Option Colour)) (table : List (Option EdgeId)) (v : CopyId) (a b : Colour) → CanExchange g t v a b → (steps : List Step) → IsExchanged g t painted table v a b steps →
+pub leads_before : (g : Colouring) (t : List (Option EdgeId)) (painted : List (Option Colour)) (table : List (Option EdgeId)) (v : CopyId) (a b : Colour) → CanExchange g t v a b → (steps : List WalkStep) → IsExchanged g t painted table v a b steps →
     (u : CopyId) → IsNodeOf u v steps → (k : Colour) (e : EdgeId) (w : CopyId) → Leads (recoloured g painted) u k e w → Leads g u (swapped a b k) e w
 leads_before g t painted table v a b can steps x u at k e w l =
     elim (path_edge_cases e steps) [
@@ -376,7 +376,7 @@ leads_before g t painted table v a b can steps x u at k e w l =
           ])
     ]
 
-pub leads_after : (g : Colouring) (t : List (Option EdgeId)) (painted : List (Option Colour)) (table : List (Option EdgeId)) (v : CopyId) (a b : Colour) → CanExchange g t v a b → (steps : List Step) → IsExchanged g t painted table v a b steps →
+pub leads_after : (g : Colouring) (t : List (Option EdgeId)) (painted : List (Option Colour)) (table : List (Option EdgeId)) (v : CopyId) (a b : Colour) → CanExchange g t v a b → (steps : List WalkStep) → IsExchanged g t painted table v a b steps →
     (u : CopyId) → IsNodeOf u v steps → (k : Colour) (e : EdgeId) (w : CopyId) → Leads g u k e w → Leads (recoloured g painted) u (swapped a b k) e w
 leads_after g t painted table v a b can steps x u at k e w l =
     elim (path_edge_cases e steps) [
@@ -390,13 +390,13 @@ leads_after g t painted table v a b can steps x u at k e w l =
     ]
 
 -- an edge elsewhere keeps its colour
-pub colour_elsewhere : (g : Colouring) (t : List (Option EdgeId)) (painted : List (Option Colour)) (table : List (Option EdgeId)) (v : CopyId) (a b : Colour) (steps : List Step) → IsExchanged g t painted table v a b steps →
+pub colour_elsewhere : (g : Colouring) (t : List (Option EdgeId)) (painted : List (Option Colour)) (table : List (Option EdgeId)) (v : CopyId) (a b : Colour) (steps : List WalkStep) → IsExchanged g t painted table v a b steps →
     (u : CopyId) → (IsNodeOf u v steps → ⊥) → (e : EdgeId) (w : CopyId) → Joins g e u w → slice_get painted e.0 ≡ slice_get g.painted e.0
 colour_elsewhere g t painted table v a b steps x u off e w j =
     x.off e (λ (on : IsEdgeOf e steps). off (end_on_path g v a b steps (path_of_walk g v a b steps x.walk).0 e on u w j))
 
 -- the table stays right
-pub IsTabled-exchanged : (g : Colouring) (t : List (Option EdgeId)) (painted : List (Option Colour)) (table : List (Option EdgeId)) (v : CopyId) (a b : Colour) → CanExchange g t v a b → (steps : List Step) → IsExchanged g t painted table v a b steps → IsTabled (recoloured g painted) table
+pub IsTabled-exchanged : (g : Colouring) (t : List (Option EdgeId)) (painted : List (Option Colour)) (table : List (Option EdgeId)) (v : CopyId) (a b : Colour) → CanExchange g t v a b → (steps : List WalkStep) → IsExchanged g t painted table v a b steps → IsTabled (recoloured g painted) table
 IsTabled-exchanged g t painted table v a b can steps x =
     record {
       proper = record {
@@ -443,7 +443,7 @@ IsTabled-exchanged g t painted table v a b can steps x =
 
 -- ---- the contract
 
-missing_at : (g : Colouring) (t : List (Option EdgeId)) (painted : List (Option Colour)) (table : List (Option EdgeId)) (v : CopyId) (a b : Colour) → CanExchange g t v a b → (steps : List Step) → IsExchanged g t painted table v a b steps →
+missing_at : (g : Colouring) (t : List (Option EdgeId)) (painted : List (Option Colour)) (table : List (Option EdgeId)) (v : CopyId) (a b : Colour) → CanExchange g t v a b → (steps : List WalkStep) → IsExchanged g t painted table v a b steps →
     (u : CopyId) → IsNodeOf u v steps → (k : Colour) → IsMissing (recoloured g painted) u k ↔ IsMissing g u (swapped a b k)
 missing_at g t painted table v a b can steps x u at k = (
   (λ (m : IsMissing (recoloured g painted) u k). record {
@@ -459,7 +459,7 @@ missing_at g t painted table v a b can steps x u at k = (
     turn_in : (k : Colour) → k.0 < g.colours → (swapped a b k).0 < g.colours
     turn_in k h = swapped_in_range a b k g.colours can.lacks.in_range (has_in_range g t v a b can) h
 
-missing_off : (g : Colouring) (t : List (Option EdgeId)) (painted : List (Option Colour)) (table : List (Option EdgeId)) (v : CopyId) (a b : Colour) (steps : List Step) → IsExchanged g t painted table v a b steps →
+missing_off : (g : Colouring) (t : List (Option EdgeId)) (painted : List (Option Colour)) (table : List (Option EdgeId)) (v : CopyId) (a b : Colour) (steps : List WalkStep) → IsExchanged g t painted table v a b steps →
     (u : CopyId) → (IsNodeOf u v steps → ⊥) → (k : Colour) → IsMissing (recoloured g painted) u k ↔ IsMissing g u k
 missing_off g t painted table v a b steps x u off k = (
   (λ (m : IsMissing (recoloured g painted) u k). record {
@@ -473,7 +473,7 @@ missing_off g t painted table v a b steps x u off k = (
 )
 
 -- an inner node of a walk has both colours
-inner_has : (g : Colouring) (v : CopyId) (a b : Colour) (steps : List Step) → IsPath g v a b steps → (u : CopyId) → IsNodeOf u v steps → u ≢ v → u ≢ end_of v steps → IsPresent g u a × IsPresent g u b
+inner_has : (g : Colouring) (v : CopyId) (a b : Colour) (steps : List WalkStep) → IsPath g v a b steps → (u : CopyId) → IsNodeOf u v steps → u ≢ v → u ≢ end_of v steps → IsPresent g u a × IsPresent g u b
 inner_has g v a b [] path u at nv ne = absurd (nv (sym at))
 inner_has g v a b (s ∷ rest) path u at nv ne =
     elim at [
@@ -484,14 +484,14 @@ inner_has g v a b (s ∷ rest) path u at nv ne =
       ]
     ]
   where
-    after : (rest : List Step) → u ≡ s.to → IsPath g s.to b a rest → u ≢ end_of s.to rest → IsPresent g u a × IsPresent g u b
+    after : (rest : List WalkStep) → u ≡ s.to → IsPath g s.to b a rest → u ≢ end_of s.to rest → IsPresent g u a × IsPresent g u b
     after [] here path' ne' = absurd (ne' here)
     after (r ∷ more) here path' ne' = (
       (r.edge, r.to, subst (λ (q : CopyId). Leads g q a r.edge r.to) (sym here) path'.0),
       (s.edge, v, subst (λ (q : CopyId). Leads g q b s.edge v) (sym here) (leads_back path.0)),
     )
 
-pub Exchanges-from : (g : Colouring) (t : List (Option EdgeId)) (painted : List (Option Colour)) (table : List (Option EdgeId)) (v : CopyId) (a b : Colour) → CanExchange g t v a b → (steps : List Step) → IsExchanged g t painted table v a b steps → Exchanges g (recoloured g painted) v a b (end_of v steps)
+pub Exchanges-from : (g : Colouring) (t : List (Option EdgeId)) (painted : List (Option Colour)) (table : List (Option EdgeId)) (v : CopyId) (a b : Colour) → CanExchange g t v a b → (steps : List WalkStep) → IsExchanged g t painted table v a b steps → Exchanges g (recoloured g painted) v a b (end_of v steps)
 Exchanges-from g t painted table v a b can steps x =
     record {
       walk = record { steps = steps; law = Walks.walk_law g can.tabled.proper v a b can.lacks can.has steps x.walk; end = refl };

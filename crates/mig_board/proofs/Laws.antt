@@ -1,7 +1,7 @@
 -- Laws of walks and exchanges for callers.
 use Rattle.mig_board.proofs.Common.{Colour, Colouring, CopyId, EdgeId, Exchanges, HasColour, HasNoCommon, IsBlank, IsFreeAt, IsFull, IsMissing, IsPainted, IsPlain, IsPresent, IsProper}
-use Rattle.mig_board.proofs.Common.{IsTwoSided, IsWalk, Joins, Leads, List, None, Option, PaintsOne, Recolours, SameGraph, Some, Step, WalksTo, [], ap, arith, backwards, blank, cases_eq}
-use Rattle.mig_board.proofs.Common.{cases_lt, degree_of, end_of, get_or-replicate, inl, inr, length, length-replicate, next_of, none-some, painted_with, refl, replicate, same_Some, same_edge}
+use Rattle.mig_board.proofs.Common.{IsSplitAt, IsWalk, Joins, Leads, List, None, Option, PaintsOne, Recolours, SameGraph, Some, WalkStep, WalksTo, [], ap, arith, backwards, blank, cases_eq}
+use Rattle.mig_board.proofs.Common.{cases_lt, degree_of, end_of, get_or-replicate, inl, inr, length, length-replicate, next_colour, none-some, painted_with, refl, replicate, same_Some, same_edge}
 use Rattle.mig_board.proofs.Common.{slice_get, slice_get-get_or, slice_get-set_other, slice_get-set_same, slice_get_within, subst, swapped, sym, ℕ, ◌+◌, ◌<◌, ◌∙◌, ◌∷◌, ◌≡◌, ◌≢◌, ◌≤◌, ◌⊎◌}
 use Rattle.mig_board.proofs.Walks.{IsPath, path_of_walk, path_back, next_pair, missing_differs, end_cases}
 use Rattle.mig_board.proofs.Counting.{degree_of_full}
@@ -69,9 +69,9 @@ PaintsOne-painted old e k h =
     }
 
 -- in a two-sided graph a walk that would go on by its first colour has come back to its side
-pub path_sides : (g : Colouring) (left : ℕ) → IsTwoSided g left → (v : CopyId) (a b : Colour) (steps : List Step) → IsPath g v a b steps →
-    ((next_of a b steps ≡ b) × (((v.0 < left) × ((end_of v steps).0 < left)) ⊎ ((left ≤ v.0) × (left ≤ (end_of v steps).0)))) ⊎
-    ((next_of a b steps ≡ a) × (((v.0 < left) × (left ≤ (end_of v steps).0)) ⊎ ((left ≤ v.0) × ((end_of v steps).0 < left))))
+pub path_sides : (g : Colouring) (left : ℕ) → IsSplitAt g left → (v : CopyId) (a b : Colour) (steps : List WalkStep) → IsPath g v a b steps →
+    ((next_colour a b steps ≡ b) × (((v.0 < left) × ((end_of v steps).0 < left)) ⊎ ((left ≤ v.0) × (left ≤ (end_of v steps).0)))) ⊎
+    ((next_colour a b steps ≡ a) × (((v.0 < left) × (left ≤ (end_of v steps).0)) ⊎ ((left ≤ v.0) × ((end_of v steps).0 < left))))
 path_sides g left two v a b [] path = inl (refl, elim (cases_lt v.0 left) [ inl h ↦ inl (h, h) | inr h ↦ inr (h, h) ])
 path_sides g left two v a b (s ∷ rest) path =
     let cross = two s.edge v s.to path.0.joins in
@@ -93,9 +93,9 @@ path_sides g left two v a b (s ∷ rest) path =
     ]
 
 -- So a walk from one end of an edge that lacks a does not end at the other end where b is missing.
-pub ends_elsewhere : (g : Colouring) (left : ℕ) → IsTwoSided g left → (v : CopyId) (a b : Colour) (w u : CopyId) (e : EdgeId) → IsMissing g v a → IsPresent g v b → WalksTo g v a b w → Joins g e v u → IsMissing g u b → u ≢ w
+pub ends_elsewhere : (g : Colouring) (left : ℕ) → IsSplitAt g left → (v : CopyId) (a b : Colour) (w u : CopyId) (e : EdgeId) → IsMissing g v a → IsPresent g v b → WalksTo g v a b w → Joins g e v u → IsMissing g u b → u ≢ w
 ends_elsewhere g left two v a b w u e m h x j mu = λ same.
-    let steps : List Step = x.steps in
+    let steps : List WalkStep = x.steps in
     let r = path_of_walk g v a b x.steps x.law.walk in
     let here : end_of v x.steps ≡ u = x.end ∙ sym same in
     let cross = two e v u j in
@@ -225,28 +225,28 @@ exchanges_third old new v a b w h u k e x na nb l =
 
 -- ---- walks have one end
 
-pub same_far : (g : Colouring) (v : CopyId) (a b : Colour) (w : CopyId) → WalksTo g v a b w → (steps : List Step) → IsWalk g v a b steps → end_of v steps ≡ w
+pub same_far : (g : Colouring) (v : CopyId) (a b : Colour) (w : CopyId) → WalksTo g v a b w → (steps : List WalkStep) → IsWalk g v a b steps → end_of v steps ≡ w
 same_far g v a b w x steps h = ap (end_of v) (x.law.only steps h) ∙ x.end
 
 -- the walk back from the end of a walk, by the end's own colours
-pub walk_from_end : (g : Colouring) (v : CopyId) (a b : Colour) (w : CopyId) → WalksTo g v a b w → (l h : Colour) → ((l ≡ a) × (h ≡ b)) ⊎ ((l ≡ b) × (h ≡ a)) → IsMissing g w l → IsPresent g w h → (steps : List Step) × IsWalk g w l h steps × (end_of w steps ≡ v)
+pub walk_from_end : (g : Colouring) (v : CopyId) (a b : Colour) (w : CopyId) → WalksTo g v a b w → (l h : Colour) → ((l ≡ a) × (h ≡ b)) ⊎ ((l ≡ b) × (h ≡ a)) → IsMissing g w l → IsPresent g w h → (steps : List WalkStep) × IsWalk g w l h steps × (end_of w steps ≡ v)
 walk_from_end g v a b w x l h which m p =
-    let s : List Step = x.steps in
+    let s : List WalkStep = x.steps in
     let path = (path_of_walk g v a b x.steps x.law.walk).0 in
     (backwards v x.steps, back (next_pair a b x.steps), subst (λ (q : CopyId). end_of q (backwards v x.steps) ≡ v) x.end (path_back g v a b x.steps path).end)
   where
-    present : (k : Colour) → next_of b a x.steps ≡ k → IsPresent g w k
+    present : (k : Colour) → next_colour b a x.steps ≡ k → IsPresent g w k
     present k e = (x.law.has.0, x.law.has.1, subst (λ (q : CopyId). Leads g q k x.law.has.0 x.law.has.1) x.end (subst (λ (q : Colour). Leads g (end_of v x.steps) q x.law.has.0 x.law.has.1) e x.law.has.2))
 
-    wrong : next_of b a x.steps ≡ l → ⊥
+    wrong : next_colour b a x.steps ≡ l → ⊥
     wrong e = (let q = present l e in m.absent q.0 q.1 q.2)
 
-    right : next_of a b x.steps ≡ l → next_of b a x.steps ≡ h → IsWalk g w l h (backwards v x.steps)
+    right : next_colour a b x.steps ≡ l → next_colour b a x.steps ≡ h → IsWalk g w l h (backwards v x.steps)
     right e f = subst (λ (q : CopyId). IsWalk g q l h (backwards v x.steps)) x.end
         (subst (λ (q : Colour). IsWalk g (end_of v x.steps) q h (backwards v x.steps)) e
-        (subst (λ (q : Colour). IsWalk g (end_of v x.steps) (next_of a b x.steps) q (backwards v x.steps)) f x.law.back))
+        (subst (λ (q : Colour). IsWalk g (end_of v x.steps) (next_colour a b x.steps) q (backwards v x.steps)) f x.law.back))
 
-    back : ((next_of a b x.steps ≡ a) × (next_of b a x.steps ≡ b)) ⊎ ((next_of a b x.steps ≡ b) × (next_of b a x.steps ≡ a)) → IsWalk g w l h (backwards v x.steps)
+    back : ((next_colour a b x.steps ≡ a) × (next_colour b a x.steps ≡ b)) ⊎ ((next_colour a b x.steps ≡ b) × (next_colour b a x.steps ≡ a)) → IsWalk g w l h (backwards v x.steps)
     back c =
         elim c [
           | inl y ↦ elim which [ inl z ↦ right (y.0 ∙ sym z.0) (y.1 ∙ sym z.1) | inr z ↦ absurd (wrong (y.1 ∙ sym z.0)) ]

@@ -1,16 +1,16 @@
 -- Paths of two colours in a proper colouring: they repeat no node, are unique, and go back the same way.
 use Rattle.mig_board.proofs.Common.{All, All-cons, All-contains, All-nil, AllPairs, Colour, Colouring, Contains-from_any, CopyId, EdgeId, HasColour, IsDistinct-cons, IsEdgeOf}
 use Rattle.std.specs.List.{IsDistinct}
-use Rattle.mig_board.proofs.Common.{IsMissing, IsNodeOf, IsPresent, IsProper, IsWalk, Joins, Leads, List, Option, Some, Step, WalkLaw, WalksTo, [], ap, append-nil, append_assoc, arith, backwards}
-use Rattle.mig_board.proofs.Common.{end_of, eqb, eqb-true, false, get_or, inl, inr, length, length-append, length-le_from_distinct_below, ne_eqb, next_of, nodes_of, recursion_from_All, refl}
+use Rattle.mig_board.proofs.Common.{IsMissing, IsNodeOf, IsPresent, IsProper, IsWalk, Joins, Leads, List, Option, Some, WalkLaw, WalkStep, WalksTo, [], ap, append-nil, append_assoc, arith, backwards}
+use Rattle.mig_board.proofs.Common.{end_of, eqb, eqb-true, false, get_or, inl, inr, length, length-append, length-le_from_distinct_below, ne_eqb, next_colour, nodes_of, recursion_from_All, refl}
 use Rattle.mig_board.proofs.Common.{same_copy, some_pair_parts, subst, suc, sym, zero, ℕ, ◌++◌, ◌+◌, ◌<◌, ◌∙◌, ◌∷◌, ◌≡◌, ◌≢◌, ◌⊎◌}
 
 -- a walk that may still go on
-abbrev pub IsPath : Colouring → CopyId → Colour → Colour → List Step → Type 0
+abbrev pub IsPath : Colouring → CopyId → Colour → Colour → List WalkStep → Type 0
 IsPath g v a b [] = Unit {0}
 IsPath g v a b (s ∷ rest) = Leads g v b s.edge s.to × IsPath g s.to b a rest
 
-abbrev pub NoRepeat : CopyId → List Step → Type 0
+abbrev pub NoRepeat : CopyId → List WalkStep → Type 0
 NoRepeat v [] = Unit {0}
 NoRepeat v (s ∷ rest) = (IsNodeOf v s.to rest → ⊥) × NoRepeat s.to rest
 
@@ -49,22 +49,22 @@ same_step g p v k e f w x l m =
     (same, same_end g p f v w x (subst (λ (q : EdgeId). Joins g q v w) same l.joins) m.joins)
 
 -- a walk is a path to a node where the next colour is missing
-pub path_of_walk : (g : Colouring) (v : CopyId) (a b : Colour) (steps : List Step) → IsWalk g v a b steps → IsPath g v a b steps × IsMissing g (end_of v steps) (next_of a b steps)
+pub path_of_walk : (g : Colouring) (v : CopyId) (a b : Colour) (steps : List WalkStep) → IsWalk g v a b steps → IsPath g v a b steps × IsMissing g (end_of v steps) (next_colour a b steps)
 path_of_walk g v a b [] w = (tt, w)
 path_of_walk g v a b (s ∷ rest) w = let r = path_of_walk g s.to b a rest w.1 in ((w.0, r.0), r.1)
 
-pub walk_of_path : (g : Colouring) (v : CopyId) (a b : Colour) (steps : List Step) → IsPath g v a b steps → IsMissing g (end_of v steps) (next_of a b steps) → IsWalk g v a b steps
+pub walk_of_path : (g : Colouring) (v : CopyId) (a b : Colour) (steps : List WalkStep) → IsPath g v a b steps → IsMissing g (end_of v steps) (next_colour a b steps) → IsWalk g v a b steps
 walk_of_path g v a b [] p m = m
 walk_of_path g v a b (s ∷ rest) p m = (p.0, walk_of_path g s.to b a rest p.1 m)
 
-abbrev pub step_of : EdgeId → CopyId → Step
+abbrev pub step_of : EdgeId → CopyId → WalkStep
 step_of e w = record { edge = e; to = w }
 
-step_same : (s t : Step) → s.edge ≡ t.edge → s.to ≡ t.to → s ≡ t
+step_same : (s t : WalkStep) → s.edge ≡ t.edge → s.to ≡ t.to → s ≡ t
 step_same s t e w = ap (λ (q : EdgeId). step_of q s.to) e ∙ ap (λ (q : CopyId). step_of t.edge q) w
 
 -- there is one walk
-pub walk_unique : (g : Colouring) (p : IsProper g) (v : CopyId) (a b : Colour) (xs ys : List Step) → IsWalk g v a b xs → IsWalk g v a b ys → xs ≡ ys
+pub walk_unique : (g : Colouring) (p : IsProper g) (v : CopyId) (a b : Colour) (xs ys : List WalkStep) → IsWalk g v a b xs → IsWalk g v a b ys → xs ≡ ys
 walk_unique g p v a b [] [] w x = refl
 walk_unique g p v a b [] (t ∷ ys) w x = absurd (w.absent t.edge t.to x.0)
 walk_unique g p v a b (s ∷ xs) [] w x = absurd (x.absent s.edge s.to w.0)
@@ -76,24 +76,24 @@ walk_unique g p v a b (s ∷ xs) (t ∷ ys) w x =
     cc
 
 -- the last node is a node
-pub IsNodeOf-end_of : (v : CopyId) (steps : List Step) → IsNodeOf (end_of v steps) v steps
+pub IsNodeOf-end_of : (v : CopyId) (steps : List WalkStep) → IsNodeOf (end_of v steps) v steps
 IsNodeOf-end_of v [] = refl
 IsNodeOf-end_of v (s ∷ rest) = inr (IsNodeOf-end_of s.to rest)
 
-pub IsNodeOf-start : (v : CopyId) (steps : List Step) → IsNodeOf v v steps
+pub IsNodeOf-start : (v : CopyId) (steps : List WalkStep) → IsNodeOf v v steps
 IsNodeOf-start v [] = refl
 IsNodeOf-start v (s ∷ rest) = inl refl
 
-pub next_cases : (a b : Colour) (steps : List Step) → (next_of a b steps ≡ a) ⊎ (next_of a b steps ≡ b)
+pub next_cases : (a b : Colour) (steps : List WalkStep) → (next_colour a b steps ≡ a) ⊎ (next_colour a b steps ≡ b)
 next_cases a b [] = inr refl
 next_cases a b (s ∷ rest) = elim (next_cases b a rest) [ inl h ↦ inr h | inr h ↦ inl h ]
 
-pub next_differs : (a b : Colour) (steps : List Step) → a ≢ b → next_of a b steps ≢ next_of b a steps
+pub next_differs : (a b : Colour) (steps : List WalkStep) → a ≢ b → next_colour a b steps ≢ next_colour b a steps
 next_differs a b [] d = λ h. d (sym h)
 next_differs a b (s ∷ rest) d = λ h. next_differs a b rest d (sym h)
 
 -- at a node of a path the edges of the two colours are edges of the path, but for the colour before its start and the colour after its end
-pub edge_on : (g : Colouring) (p : IsProper g) (v : CopyId) (a b : Colour) (steps : List Step) → IsPath g v a b steps → (u : CopyId) → IsNodeOf u v steps → (k : Colour) (e : EdgeId) (x : CopyId) → Leads g u k e x → (k ≡ a) ⊎ (k ≡ b) → IsEdgeOf e steps ⊎ (((u ≡ v) × (k ≡ a)) ⊎ ((u ≡ end_of v steps) × (k ≡ next_of a b steps)))
+pub edge_on : (g : Colouring) (p : IsProper g) (v : CopyId) (a b : Colour) (steps : List WalkStep) → IsPath g v a b steps → (u : CopyId) → IsNodeOf u v steps → (k : Colour) (e : EdgeId) (x : CopyId) → Leads g u k e x → (k ≡ a) ⊎ (k ≡ b) → IsEdgeOf e steps ⊎ (((u ≡ v) × (k ≡ a)) ⊎ ((u ≡ end_of v steps) × (k ≡ next_colour a b steps)))
 edge_on g p v a b [] path u at k e x l ab = elim ab [ inl h ↦ inr (inl (sym at, h)) | inr h ↦ inr (inr (sym at, h)) ]
 edge_on g p v a b (s ∷ rest) path u at k e x l ab =
     elim at [
@@ -117,7 +117,7 @@ edge_on g p v a b (s ∷ rest) path u at k e x l ab =
     swapped h = elim h [ inl m ↦ inr m | inr m ↦ inl m ]
 
 -- the only edge of the path at its last node is the last one
-pub last_edge : (g : Colouring) (p : IsProper g) (v : CopyId) (a b : Colour) (steps : List Step) → IsPath g v a b steps → NoRepeat v steps → (k : Colour) (f : EdgeId) (x : CopyId) → IsEdgeOf f steps → Leads g (end_of v steps) k f x → k ≡ next_of b a steps
+pub last_edge : (g : Colouring) (p : IsProper g) (v : CopyId) (a b : Colour) (steps : List WalkStep) → IsPath g v a b steps → NoRepeat v steps → (k : Colour) (f : EdgeId) (x : CopyId) → IsEdgeOf f steps → Leads g (end_of v steps) k f x → k ≡ next_colour b a steps
 last_edge g p v a b [] path n k f x on l = absurd on
 last_edge g p v a b (s ∷ rest) path n k f x on l =
     elim on [
@@ -128,15 +128,15 @@ last_edge g p v a b (s ∷ rest) path n k f x on l =
       | inr h ↦ last_edge g p s.to b a rest path.1 n.1 k f x h l
     ]
   where
-    last_here : (rest : List Step) → NoRepeat s.to rest → end_of s.to rest ≡ s.to → k ≡ b → k ≡ next_of a b rest
+    last_here : (rest : List WalkStep) → NoRepeat s.to rest → end_of s.to rest ≡ s.to → k ≡ b → k ≡ next_colour a b rest
     last_here [] n here c = c
     last_here (t ∷ more) n here c = absurd (n.0 (subst (λ (q : CopyId). IsNodeOf q t.to more) here (IsNodeOf-end_of t.to more)))
 
 -- the next node of a path is a new one
-pub fresh : (g : Colouring) (p : IsProper g) (v : CopyId) (a b : Colour) (steps : List Step) → IsMissing g v a → a ≢ b → IsPath g v a b steps → NoRepeat v steps → (e : EdgeId) (w : CopyId) → Leads g (end_of v steps) (next_of a b steps) e w → IsNodeOf w v steps → ⊥
+pub fresh : (g : Colouring) (p : IsProper g) (v : CopyId) (a b : Colour) (steps : List WalkStep) → IsMissing g v a → a ≢ b → IsPath g v a b steps → NoRepeat v steps → (e : EdgeId) (w : CopyId) → Leads g (end_of v steps) (next_colour a b steps) e w → IsNodeOf w v steps → ⊥
 fresh g p v a b steps m d path n e w l at =
-    elim (edge_on g p v a b steps path w at (next_of a b steps) e (end_of v steps) (leads_back l) (next_cases a b steps)) [
-      | inl on ↦ next_differs a b steps d (last_edge g p v a b steps path n (next_of a b steps) e w on l)
+    elim (edge_on g p v a b steps path w at (next_colour a b steps) e (end_of v steps) (leads_back l) (next_cases a b steps)) [
+      | inl on ↦ next_differs a b steps d (last_edge g p v a b steps path n (next_colour a b steps) e w on l)
       | inr other ↦ elim other [
         | inl first ↦ m.absent e (end_of v steps) (subst (λ (q : CopyId). Leads g q a e (end_of v steps)) first.0 (subst (λ (q : Colour). Leads g w q e (end_of v steps)) first.1 (leads_back l)))
         | inr last ↦ p.no_loop e (end_of v steps) w l.joins (sym last.0)
@@ -144,19 +144,19 @@ fresh g p v a b steps m d path n e w l at =
     ]
 
 -- one more step
-pub IsPath-push : (g : Colouring) (v : CopyId) (a b : Colour) (steps : List Step) (e : EdgeId) (w : CopyId) → IsPath g v a b steps → Leads g (end_of v steps) (next_of a b steps) e w → IsPath g v a b (steps ++ step_of e w ∷ [])
+pub IsPath-push : (g : Colouring) (v : CopyId) (a b : Colour) (steps : List WalkStep) (e : EdgeId) (w : CopyId) → IsPath g v a b steps → Leads g (end_of v steps) (next_colour a b steps) e w → IsPath g v a b (steps ++ step_of e w ∷ [])
 IsPath-push g v a b [] e w path l = (l, tt)
 IsPath-push g v a b (s ∷ rest) e w path l = (path.0, IsPath-push g s.to b a rest e w path.1 l)
 
-pub end_of-push : (v : CopyId) (steps : List Step) (s : Step) → end_of v (steps ++ s ∷ []) ≡ s.to
+pub end_of-push : (v : CopyId) (steps : List WalkStep) (s : WalkStep) → end_of v (steps ++ s ∷ []) ≡ s.to
 end_of-push v [] s = refl
 end_of-push v (t ∷ rest) s = end_of-push t.to rest s
 
-pub next_of-push : (a b : Colour) (steps : List Step) (s : Step) → next_of a b (steps ++ s ∷ []) ≡ next_of b a steps
+pub next_of-push : (a b : Colour) (steps : List WalkStep) (s : WalkStep) → next_colour a b (steps ++ s ∷ []) ≡ next_colour b a steps
 next_of-push a b [] s = refl
 next_of-push a b (t ∷ rest) s = next_of-push b a rest s
 
-pub IsNodeOf-push_cases : (u v : CopyId) (steps : List Step) (s : Step) → IsNodeOf u v (steps ++ s ∷ []) → IsNodeOf u v steps ⊎ (s.to ≡ u)
+pub IsNodeOf-push_cases : (u v : CopyId) (steps : List WalkStep) (s : WalkStep) → IsNodeOf u v (steps ++ s ∷ []) → IsNodeOf u v steps ⊎ (s.to ≡ u)
 IsNodeOf-push_cases u v [] s at = at
 IsNodeOf-push_cases u v (t ∷ rest) s at =
     elim at [
@@ -164,7 +164,7 @@ IsNodeOf-push_cases u v (t ∷ rest) s at =
       | inr h ↦ elim (IsNodeOf-push_cases u t.to rest s h) [ inl m ↦ inl (inr m) | inr m ↦ inr m ]
     ]
 
-pub IsNodeOf-push : (u v : CopyId) (steps : List Step) (s : Step) → IsNodeOf u v steps ⊎ (s.to ≡ u) → IsNodeOf u v (steps ++ s ∷ [])
+pub IsNodeOf-push : (u v : CopyId) (steps : List WalkStep) (s : WalkStep) → IsNodeOf u v steps ⊎ (s.to ≡ u) → IsNodeOf u v (steps ++ s ∷ [])
 IsNodeOf-push u v [] s at = at
 IsNodeOf-push u v (t ∷ rest) s at =
     elim at [
@@ -172,7 +172,7 @@ IsNodeOf-push u v (t ∷ rest) s at =
       | inr h ↦ inr (IsNodeOf-push u t.to rest s (inr h))
     ]
 
-pub IsEdgeOf-push_cases : (e : EdgeId) (steps : List Step) (s : Step) → IsEdgeOf e (steps ++ s ∷ []) → IsEdgeOf e steps ⊎ (s.edge ≡ e)
+pub IsEdgeOf-push_cases : (e : EdgeId) (steps : List WalkStep) (s : WalkStep) → IsEdgeOf e (steps ++ s ∷ []) → IsEdgeOf e steps ⊎ (s.edge ≡ e)
 IsEdgeOf-push_cases e [] s on = elim on [ inl h ↦ inr h | inr h ↦ absurd h ]
 IsEdgeOf-push_cases e (t ∷ rest) s on =
     elim on [
@@ -180,7 +180,7 @@ IsEdgeOf-push_cases e (t ∷ rest) s on =
       | inr h ↦ elim (IsEdgeOf-push_cases e rest s h) [ inl m ↦ inl (inr m) | inr m ↦ inr m ]
     ]
 
-pub IsEdgeOf-push : (e : EdgeId) (steps : List Step) (s : Step) → IsEdgeOf e steps ⊎ (s.edge ≡ e) → IsEdgeOf e (steps ++ s ∷ [])
+pub IsEdgeOf-push : (e : EdgeId) (steps : List WalkStep) (s : WalkStep) → IsEdgeOf e steps ⊎ (s.edge ≡ e) → IsEdgeOf e (steps ++ s ∷ [])
 IsEdgeOf-push e [] s on = elim on [ inl h ↦ absurd h | inr h ↦ inl h ]
 IsEdgeOf-push e (t ∷ rest) s on =
     elim on [
@@ -188,7 +188,7 @@ IsEdgeOf-push e (t ∷ rest) s on =
       | inr h ↦ inr (IsEdgeOf-push e rest s (inr h))
     ]
 
-pub NoRepeat-push : (v : CopyId) (steps : List Step) (s : Step) → NoRepeat v steps → (IsNodeOf s.to v steps → ⊥) → NoRepeat v (steps ++ s ∷ [])
+pub NoRepeat-push : (v : CopyId) (steps : List WalkStep) (s : WalkStep) → NoRepeat v steps → (IsNodeOf s.to v steps → ⊥) → NoRepeat v (steps ++ s ∷ [])
 NoRepeat-push v [] s n new = ((λ (h : s.to ≡ v). new (sym h)), tt)
 NoRepeat-push v (t ∷ rest) s n new = (
   (λ (h : IsNodeOf v t.to (rest ++ s ∷ [])). elim (IsNodeOf-push_cases v t.to rest s h) [ inl m ↦ n.0 m | inr m ↦ new (inl (sym m)) ]),
@@ -196,87 +196,87 @@ NoRepeat-push v (t ∷ rest) s n new = (
 )
 
 -- a path in the other direction
-pub record IsBack (g : Colouring) (v : CopyId) (a b : Colour) (steps : List Step) : Type 0 where
-  pub path : IsPath g (end_of v steps) (next_of a b steps) (next_of b a steps) (backwards v steps)
+pub record IsBack (g : Colouring) (v : CopyId) (a b : Colour) (steps : List WalkStep) : Type 0 where
+  pub path : IsPath g (end_of v steps) (next_colour a b steps) (next_colour b a steps) (backwards v steps)
   pub end : end_of (end_of v steps) (backwards v steps) ≡ v
-  pub next : next_of (next_of a b steps) (next_of b a steps) (backwards v steps) ≡ a
-  pub other : next_of (next_of b a steps) (next_of a b steps) (backwards v steps) ≡ b
+  pub next : next_colour (next_colour a b steps) (next_colour b a steps) (backwards v steps) ≡ a
+  pub other : next_colour (next_colour b a steps) (next_colour a b steps) (backwards v steps) ≡ b
 
-pub path_back : (g : Colouring) (v : CopyId) (a b : Colour) (steps : List Step) → IsPath g v a b steps → IsBack g v a b steps
+pub path_back : (g : Colouring) (v : CopyId) (a b : Colour) (steps : List WalkStep) → IsPath g v a b steps → IsBack g v a b steps
 path_back g v a b [] path = record { path = tt; end = refl; next = refl; other = refl }
 path_back g v a b (s ∷ rest) path =
     let r = path_back g s.to b a rest path.1 in
     let w = end_of s.to rest in
-    let l : Leads g (end_of w (backwards s.to rest)) (next_of (next_of b a rest) (next_of a b rest) (backwards s.to rest)) s.edge v =
-    subst (λ (q : CopyId). Leads g q (next_of (next_of b a rest) (next_of a b rest) (backwards s.to rest)) s.edge v) (sym r.end)
+    let l : Leads g (end_of w (backwards s.to rest)) (next_colour (next_colour b a rest) (next_colour a b rest) (backwards s.to rest)) s.edge v =
+    subst (λ (q : CopyId). Leads g q (next_colour (next_colour b a rest) (next_colour a b rest) (backwards s.to rest)) s.edge v) (sym r.end)
     (subst (λ (q : Colour). Leads g s.to q s.edge v) (sym r.next) (leads_back path.0)) in
     record {
-      path = IsPath-push g w (next_of b a rest) (next_of a b rest) (backwards s.to rest) s.edge v r.path l;
+      path = IsPath-push g w (next_colour b a rest) (next_colour a b rest) (backwards s.to rest) s.edge v r.path l;
       end = end_of-push w (backwards s.to rest) (step_of s.edge v);
-      next = next_of-push (next_of b a rest) (next_of a b rest) (backwards s.to rest) (step_of s.edge v) ∙ r.other;
-      other = next_of-push (next_of a b rest) (next_of b a rest) (backwards s.to rest) (step_of s.edge v) ∙ r.next;
+      next = next_of-push (next_colour b a rest) (next_colour a b rest) (backwards s.to rest) (step_of s.edge v) ∙ r.other;
+      other = next_of-push (next_colour a b rest) (next_colour b a rest) (backwards s.to rest) (step_of s.edge v) ∙ r.next;
     }
 
 -- the walk from the end is the same walk backwards
-pub walk_back : (g : Colouring) (v : CopyId) (a b : Colour) (steps : List Step) → IsMissing g v a → IsWalk g v a b steps → IsWalk g (end_of v steps) (next_of a b steps) (next_of b a steps) (backwards v steps)
+pub walk_back : (g : Colouring) (v : CopyId) (a b : Colour) (steps : List WalkStep) → IsMissing g v a → IsWalk g v a b steps → IsWalk g (end_of v steps) (next_colour a b steps) (next_colour b a steps) (backwards v steps)
 walk_back g v a b steps m w =
     let r = path_back g v a b steps (path_of_walk g v a b steps w).0 in
-    walk_of_path g (end_of v steps) (next_of a b steps) (next_of b a steps) (backwards v steps) r.path
-    (subst (λ (q : CopyId). IsMissing g q (next_of (next_of a b steps) (next_of b a steps) (backwards v steps))) (sym r.end) (subst (λ (q : Colour). IsMissing g v q) (sym r.next) m))
+    walk_of_path g (end_of v steps) (next_colour a b steps) (next_colour b a steps) (backwards v steps) r.path
+    (subst (λ (q : CopyId). IsMissing g q (next_colour (next_colour a b steps) (next_colour b a steps) (backwards v steps))) (sym r.end) (subst (λ (q : Colour). IsMissing g v q) (sym r.next) m))
 
 -- a path that goes on from a path without repeats
-pub NoRepeat-append : (g : Colouring) (p : IsProper g) (v : CopyId) (a b : Colour) → IsMissing g v a → a ≢ b → (steps more : List Step) → IsPath g v a b steps → NoRepeat v steps → IsPath g (end_of v steps) (next_of b a steps) (next_of a b steps) more → NoRepeat v (steps ++ more)
-NoRepeat-append g p v a b m d steps [] path n on = subst (λ (q : List Step). NoRepeat v q) (sym (append-nil steps)) n
+pub NoRepeat-append : (g : Colouring) (p : IsProper g) (v : CopyId) (a b : Colour) → IsMissing g v a → a ≢ b → (steps more : List WalkStep) → IsPath g v a b steps → NoRepeat v steps → IsPath g (end_of v steps) (next_colour b a steps) (next_colour a b steps) more → NoRepeat v (steps ++ more)
+NoRepeat-append g p v a b m d steps [] path n on = subst (λ (q : List WalkStep). NoRepeat v q) (sym (append-nil steps)) n
 NoRepeat-append g p v a b m d steps (s ∷ more) path n on =
-    let next : List Step = steps ++ s ∷ [] in
+    let next : List WalkStep = steps ++ s ∷ [] in
     let last : end_of v next ≡ s.to = end_of-push v steps s in
-    let here : next_of b a next ≡ next_of a b steps = next_of-push b a steps s in
-    let there : next_of a b next ≡ next_of b a steps = next_of-push a b steps s in
-    subst (λ (q : List Step). NoRepeat v q) (append_assoc steps (s ∷ []) more)
+    let here : next_colour b a next ≡ next_colour a b steps = next_of-push b a steps s in
+    let there : next_colour a b next ≡ next_colour b a steps = next_of-push a b steps s in
+    subst (λ (q : List WalkStep). NoRepeat v q) (append_assoc steps (s ∷ []) more)
     (NoRepeat-append g p v a b m d next more
     (IsPath-push g v a b steps s.edge s.to path on.0)
     (NoRepeat-push v steps s n (λ (h : IsNodeOf s.to v steps). fresh g p v a b steps m d path n s.edge s.to on.0 h))
-    (subst (λ (q : CopyId). IsPath g q (next_of b a next) (next_of a b next) more) (sym last)
-    (subst (λ (q : Colour). IsPath g s.to q (next_of a b next) more) (sym here)
-    (subst (λ (q : Colour). IsPath g s.to (next_of a b steps) q more) (sym there) on.1))))
+    (subst (λ (q : CopyId). IsPath g q (next_colour b a next) (next_colour a b next) more) (sym last)
+    (subst (λ (q : Colour). IsPath g s.to q (next_colour a b next) more) (sym here)
+    (subst (λ (q : Colour). IsPath g s.to (next_colour a b steps) q more) (sym there) on.1))))
 
 -- a path from a node where its second colour is missing repeats no node
-pub path_no_repeat : (g : Colouring) (p : IsProper g) (v : CopyId) (a b : Colour) → IsMissing g v a → a ≢ b → (steps : List Step) → IsPath g v a b steps → NoRepeat v steps
+pub path_no_repeat : (g : Colouring) (p : IsProper g) (v : CopyId) (a b : Colour) → IsMissing g v a → a ≢ b → (steps : List WalkStep) → IsPath g v a b steps → NoRepeat v steps
 path_no_repeat g p v a b m d steps path = NoRepeat-append g p v a b m d [] steps tt tt path
 
 -- at its end a walk lacks the colour that would come next and has the other one
-pub last_leads : (g : Colouring) (v : CopyId) (a b : Colour) (s : Step) (rest : List Step) → IsPath g v a b (s ∷ rest) → (e : EdgeId) × (w : CopyId) × Leads g (end_of v (s ∷ rest)) (next_of b a (s ∷ rest)) e w
+pub last_leads : (g : Colouring) (v : CopyId) (a b : Colour) (s : WalkStep) (rest : List WalkStep) → IsPath g v a b (s ∷ rest) → (e : EdgeId) × (w : CopyId) × Leads g (end_of v (s ∷ rest)) (next_colour b a (s ∷ rest)) e w
 last_leads g v a b s [] path = (s.edge, v, leads_back path.0)
 last_leads g v a b s (t ∷ rest) path = last_leads g s.to b a t rest path.1
 
 -- ---- a path is shorter than the number of nodes
 
-abbrev pub places : CopyId → List Step → List ℕ
+abbrev pub places : CopyId → List WalkStep → List ℕ
 places v [] = v.0 ∷ []
 places v (s ∷ rest) = v.0 ∷ places s.to rest
 
-pub length-places : (v : CopyId) (steps : List Step) → length (places v steps) ≡ length steps + 1
+pub length-places : (v : CopyId) (steps : List WalkStep) → length (places v steps) ≡ length steps + 1
 length-places v [] = refl
 length-places v (s ∷ rest) = omega (arith, length-places s.to rest)
 
-absent_places : (u v : CopyId) (steps : List Step) → (IsNodeOf u v steps → ⊥) → All (λ n. eqb u.0 n ≡ false) (places v steps)
+absent_places : (u v : CopyId) (steps : List WalkStep) → (IsNodeOf u v steps → ⊥) → All (λ n. eqb u.0 n ≡ false) (places v steps)
 absent_places u v [] h = All-cons (λ n. eqb u.0 n ≡ false) v.0 [] (ne_eqb u.0 v.0 (λ e. h (sym (same_copy u v e)))) (All-nil (λ n. eqb u.0 n ≡ false))
 absent_places u v (s ∷ rest) h =
     All-cons (λ n. eqb u.0 n ≡ false) v.0 (places s.to rest) (ne_eqb u.0 v.0 (λ e. h (inl (sym (same_copy u v e))))) (absent_places u s.to rest (λ (m : IsNodeOf u s.to rest). h (inr m)))
 
-IsDistinct-places : (v : CopyId) (steps : List Step) → NoRepeat v steps → IsDistinct eqb (places v steps)
+IsDistinct-places : (v : CopyId) (steps : List WalkStep) → NoRepeat v steps → IsDistinct eqb (places v steps)
 unfolding IsDistinct
 IsDistinct-places v [] n = IsDistinct-cons eqb v.0 [] tt tt
 IsDistinct-places v (s ∷ rest) n =
     IsDistinct-cons eqb v.0 (places s.to rest) (recursion_from_All (λ m. eqb v.0 m ≡ false) (places s.to rest) (absent_places v s.to rest n.0)) (IsDistinct-places s.to rest n.1)
 
-places_below : (g : Colouring) (p : IsProper g) (v : CopyId) (a b : Colour) (steps : List Step) → v.0 < g.nodes → IsPath g v a b steps → All (λ n. n < g.nodes) (places v steps)
+places_below : (g : Colouring) (p : IsProper g) (v : CopyId) (a b : Colour) (steps : List WalkStep) → v.0 < g.nodes → IsPath g v a b steps → All (λ n. n < g.nodes) (places v steps)
 places_below g p v a b [] h path = All-cons (λ n. n < g.nodes) v.0 [] h (All-nil (λ n. n < g.nodes))
 places_below g p v a b (s ∷ rest) h path =
     All-cons (λ n. n < g.nodes) v.0 (places s.to rest) h (places_below g p s.to b a rest (p.nodes_in_range s.edge s.to v (joins_back g s.edge v s.to path.0.joins)) path.1)
 
 -- a path without repeats has fewer steps than there are nodes
-pub path_is_short : (g : Colouring) (p : IsProper g) (v : CopyId) (a b : Colour) (steps : List Step) → v.0 < g.nodes → IsPath g v a b steps → NoRepeat v steps → length steps < g.nodes
+pub path_is_short : (g : Colouring) (p : IsProper g) (v : CopyId) (a b : Colour) (steps : List WalkStep) → v.0 < g.nodes → IsPath g v a b steps → NoRepeat v steps → length steps < g.nodes
 path_is_short g p v a b steps h path n =
     omega (
       arith,
@@ -287,13 +287,13 @@ path_is_short g p v a b steps h path n =
 
 -- ---- what holds of a walk
 
-IsNodeOf-get_or : (v : CopyId) (steps : List Step) (j : ℕ) (d : CopyId) → j < length (nodes_of v steps) → IsNodeOf (get_or (nodes_of v steps) j d) v steps
+IsNodeOf-get_or : (v : CopyId) (steps : List WalkStep) (j : ℕ) (d : CopyId) → j < length (nodes_of v steps) → IsNodeOf (get_or (nodes_of v steps) j d) v steps
 IsNodeOf-get_or v [] zero d h = refl
 IsNodeOf-get_or v [] (suc j) d h = absurd (omega arith)
 IsNodeOf-get_or v (s ∷ rest) zero d h = inl refl
 IsNodeOf-get_or v (s ∷ rest) (suc j) d h = inr (IsNodeOf-get_or s.to rest j d (omega arith))
 
-pub AllPairs-nodes_of : (v : CopyId) (steps : List Step) → NoRepeat v steps → AllPairs (λ u w. u ≢ w) (nodes_of v steps)
+pub AllPairs-nodes_of : (v : CopyId) (steps : List WalkStep) → NoRepeat v steps → AllPairs (λ u w. u ≢ w) (nodes_of v steps)
 AllPairs-nodes_of v [] n i zero d lt within = absurd (omega arith)
 AllPairs-nodes_of v [] n i (suc j) d lt within = absurd (omega arith)
 AllPairs-nodes_of v (s ∷ rest) n i zero d lt within = absurd (omega arith)
@@ -303,7 +303,7 @@ AllPairs-nodes_of v (s ∷ rest) n (suc i) (suc j) d lt within = AllPairs-nodes_
 pub missing_differs : (g : Colouring) (v : CopyId) (a b : Colour) → IsMissing g v a → IsPresent g v b → a ≢ b
 missing_differs g v a b m h = λ e. m.absent h.0 h.1 (subst (λ (k : Colour). Leads g v k h.0 h.1) (sym e) h.2)
 
-pub walk_law : (g : Colouring) (p : IsProper g) (v : CopyId) (a b : Colour) → IsMissing g v a → IsPresent g v b → (steps : List Step) → IsWalk g v a b steps → WalkLaw g v a b steps
+pub walk_law : (g : Colouring) (p : IsProper g) (v : CopyId) (a b : Colour) → IsMissing g v a → IsPresent g v b → (steps : List WalkStep) → IsWalk g v a b steps → WalkLaw g v a b steps
 walk_law g p v a b m h [] w = absurd (w.absent h.0 h.1 h.2)
 walk_law g p v a b m h (s ∷ rest) w =
     let r = path_of_walk g v a b (s ∷ rest) w in
@@ -319,11 +319,11 @@ walk_law g p v a b m h (s ∷ rest) w =
 
 -- a walk so far, n steps long
 pub record IsUnderway (g : Colouring) (v : CopyId) (a b : Colour) (at : CopyId) (next other : Colour) (n : ℕ) : Type 0 where
-  pub steps : List Step
+  pub steps : List WalkStep
   pub path : IsPath g v a b steps
   pub at_is : end_of v steps ≡ at
-  pub next_is : next_of a b steps ≡ next
-  pub other_is : next_of b a steps ≡ other
+  pub next_is : next_colour a b steps ≡ next
+  pub other_is : next_colour b a steps ≡ other
   pub count : length steps ≡ n
 
 abbrev pub underway_start : (g : Colouring) (v : CopyId) (a b : Colour) → IsUnderway g v a b v b a 0
@@ -333,7 +333,7 @@ abbrev pub underway_more : (g : Colouring) (v : CopyId) (a b : Colour) (at : Cop
 underway_more g v a b at next other n u e w l =
     record {
       steps = u.steps ++ step_of e w ∷ [];
-      path = IsPath-push g v a b u.steps e w u.path (subst (λ (q : CopyId). Leads g q (next_of a b u.steps) e w) (sym u.at_is) (subst (λ (q : Colour). Leads g at q e w) (sym u.next_is) l));
+      path = IsPath-push g v a b u.steps e w u.path (subst (λ (q : CopyId). Leads g q (next_colour a b u.steps) e w) (sym u.at_is) (subst (λ (q : Colour). Leads g at q e w) (sym u.next_is) l));
       at_is = end_of-push v u.steps (step_of e w);
       next_is = next_of-push a b u.steps (step_of e w) ∙ u.other_is;
       other_is = next_of-push b a u.steps (step_of e w) ∙ u.next_is;
@@ -344,7 +344,7 @@ pub underway_end : (g : Colouring) (p : IsProper g) (v : CopyId) (a b : Colour) 
 underway_end g p v a b m h at next other n u last =
     record {
       steps = u.steps;
-      law = walk_law g p v a b m h u.steps (walk_of_path g v a b u.steps u.path (subst (λ (q : CopyId). IsMissing g q (next_of a b u.steps)) (sym u.at_is) (subst (λ (q : Colour). IsMissing g at q) (sym u.next_is) last)));
+      law = walk_law g p v a b m h u.steps (walk_of_path g v a b u.steps u.path (subst (λ (q : CopyId). IsMissing g q (next_colour a b u.steps)) (sym u.at_is) (subst (λ (q : Colour). IsMissing g at q) (sym u.next_is) last)));
       end = u.at_is;
     }
 
@@ -353,7 +353,7 @@ pub underway_short : (g : Colouring) (p : IsProper g) (v : CopyId) (a b : Colour
 underway_short g p v a b m h at next other n u =
     omega (arith, u.count, path_is_short g p v a b u.steps (p.nodes_in_range h.0 v h.1 h.2.joins) u.path (path_no_repeat g p v a b m (missing_differs g v a b m h) u.steps u.path))
 
-pub end_in_range : (g : Colouring) (p : IsProper g) (v : CopyId) (a b : Colour) (steps : List Step) → v.0 < g.nodes → IsPath g v a b steps → (end_of v steps).0 < g.nodes
+pub end_in_range : (g : Colouring) (p : IsProper g) (v : CopyId) (a b : Colour) (steps : List WalkStep) → v.0 < g.nodes → IsPath g v a b steps → (end_of v steps).0 < g.nodes
 end_in_range g p v a b [] h path = h
 end_in_range g p v a b (s ∷ rest) h path = end_in_range g p s.to b a rest (p.nodes_in_range s.edge s.to v (joins_back g s.edge v s.to path.0.joins)) path.1
 
@@ -363,8 +363,8 @@ underway_at g p v a b h at next other n u =
 
 pub underway_next : (g : Colouring) (p : IsProper g) (v : CopyId) (a b : Colour) → IsMissing g v a → IsPresent g v b → (at : CopyId) (next other : Colour) (n : ℕ) → IsUnderway g v a b at next other n → (next.0 < g.colours) × (other.0 < g.colours)
 underway_next g p v a b m h at next other n u = (
-  subst (λ (q : Colour). q.0 < g.colours) u.next_is (one (next_of a b u.steps) (next_cases a b u.steps)),
-  subst (λ (q : Colour). q.0 < g.colours) u.other_is (one (next_of b a u.steps) (turned (next_cases b a u.steps))),
+  subst (λ (q : Colour). q.0 < g.colours) u.next_is (one (next_colour a b u.steps) (next_cases a b u.steps)),
+  subst (λ (q : Colour). q.0 < g.colours) u.other_is (one (next_colour b a u.steps) (turned (next_cases b a u.steps))),
 )
   where
     one : (k : Colour) → (k ≡ a) ⊎ (k ≡ b) → k.0 < g.colours
@@ -373,7 +373,7 @@ underway_next g p v a b m h at next other n u = (
     turned : {k : Colour} → (k ≡ b) ⊎ (k ≡ a) → (k ≡ a) ⊎ (k ≡ b)
     turned c = elim c [ inl e ↦ inr e | inr e ↦ inl e ]
 
-pub next_pair : (a b : Colour) (steps : List Step) → ((next_of a b steps ≡ a) × (next_of b a steps ≡ b)) ⊎ ((next_of a b steps ≡ b) × (next_of b a steps ≡ a))
+pub next_pair : (a b : Colour) (steps : List WalkStep) → ((next_colour a b steps ≡ a) × (next_colour b a steps ≡ b)) ⊎ ((next_colour a b steps ≡ b) × (next_colour b a steps ≡ a))
 next_pair a b [] = inr (refl, refl)
 next_pair a b (s ∷ rest) = elim (next_pair b a rest) [ inl h ↦ inr h | inr h ↦ inl h ]
 

@@ -1,7 +1,7 @@
 -- What the number of an entry means: the last number of 32 bits says that there is no edge.
 use Rattle.std.specs.Prelude.{◌≡◌, ℕ, Bool, Option, Some, None, ◌==◌, if◌then◌else◌}
 use Rattle.mig_base.specs.declared.ids.EdgeId.{EdgeId}
-use Rattle.mig_board.specs.declared.entries.Entry.TheInside.{Inside}
+use Rattle.mig_board.specs.declared.entries.MaybeEdge.TheInside.{Inside}
 use Rattle.std.proofs.Common.{ap, sym, ◌∙◌, inl, inr, cond}
 use Rattle.std.proofs.lemmas.Bool.Decides.{eqb_tells}
 

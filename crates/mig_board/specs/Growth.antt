@@ -34,5 +34,5 @@ pub record PaintsOne (old new : Colouring) (e : EdgeId) : Type 0 where
   pub plain : (f : EdgeId) → f.0 ≢ e.0 → IsPlain old f → IsPlain new f
 
 -- each edge joins a node below left with one not below it
-abbrev pub IsTwoSided : Colouring → ℕ → Type 0
-IsTwoSided g left = (e : EdgeId) (v w : CopyId) → Joins g e v w → ((v.0 < left) × (left ≤ w.0)) ⊎ ((left ≤ v.0) × (w.0 < left))
+abbrev pub IsSplitAt : Colouring → ℕ → Type 0
+IsSplitAt g left = (e : EdgeId) (v w : CopyId) → Joins g e v w → ((v.0 < left) × (left ≤ w.0)) ⊎ ((left ≤ v.0) × (w.0 < left))

@@ -4,7 +4,7 @@ ghost use Rattle.mig_base.specs.declared.ids.CopyId.{CopyId};
 ghost use Rattle.mig_board.specs.Colouring.{Joins, Leads, IsPresent, IsMissing, IsProper, IsFull, IsFullFrom, IsLeastMissing, IsLeastMissingFrom, HasNoCommon, IsLeastCommon, IsFreeAt, IsPainted, AreFreeWords, painted_with, cleared, blank};
 ghost use Rattle.mig_board.specs.Walk.{WalksTo, Exchanges};
 
-use crate::entries::Entry;
+use crate::entries::MaybeEdge;
 use crate::places::other_of;
 use crate::table::Table;
 use crate::words::{first_bit, first_common_bit};
@@ -199,8 +199,8 @@ impl Board {
     {
         let (first, second) = self.ends[edge.0 as usize];
         self.painted[edge.0 as usize] = Some(colour);
-        self.table.put(first, colour, Entry::of(edge));
-        self.table.put(second, colour, Entry::of(edge));
+        self.table.put(first, colour, MaybeEdge::of(edge));
+        self.table.put(second, colour, MaybeEdge::of(edge));
     }
 
     /// Takes an edge's colour away.
@@ -211,8 +211,8 @@ impl Board {
         let (first, second) = self.ends[edge.0 as usize];
         if let Some(colour) = self.painted[edge.0 as usize] {
             self.painted[edge.0 as usize] = None;
-            self.table.put(first, colour, Entry::none());
-            self.table.put(second, colour, Entry::none());
+            self.table.put(first, colour, MaybeEdge::none());
+            self.table.put(second, colour, MaybeEdge::none());
         }
     }
 

@@ -7,11 +7,11 @@ use std::marker::Model;
 
 /// An edge or none, in four bytes.
 #[derive(Clone, Copy)]
-pub struct Entry {
+pub struct MaybeEdge {
     number: u32,
 }
 
-impl Model for Entry {
+impl Model for MaybeEdge {
     ghost use Rattle.std.specs.Prelude.{Option};
     ghost use Rattle.mig_base.specs.declared.ids.EdgeId.{EdgeId};
 
@@ -26,20 +26,20 @@ impl Model for Entry {
     ghost inverse_ok = { λ a h. fields_of a };
 }
 
-impl Entry {
+impl MaybeEdge {
     /// No edge.
-    pub fn none() -> Entry
+    pub fn none() -> MaybeEdge
         ensures { result ≡ None }
     {
-        Entry { number: u32::MAX }
+        MaybeEdge { number: u32::MAX }
     }
 
     /// The entry with this edge.
-    pub fn of(edge: EdgeId) -> Entry
+    pub fn of(edge: EdgeId) -> MaybeEdge
         requires { edge.0 < 4294967295 }
         ensures { result ≡ Some edge }
     {
-        Entry { number: edge.0 }
+        MaybeEdge { number: edge.0 }
     }
 
     /// The entry's edge, if it has one.

@@ -3,7 +3,7 @@ ghost use Rattle.std.specs.Prelude.{◌≡◌, ◌<◌, ◌+◌, ◌*◌, IfOk, 
 ghost use Rattle.std.specs.List.{swap};
 ghost use Rattle.mig_board.specs.Entries.{with_entry, IsFreeSet};
 
-use crate::entries::Entry;
+use crate::entries::MaybeEdge;
 use crate::places::place;
 use crate::words::{full_sets, turn_bit, words_for};
 use mig_base::{Colour, CopyId, EdgeId};
@@ -19,7 +19,7 @@ use std::marker::Model;
 pub struct Table {
     nodes: u32,
     colours: u32,
-    entries: Vec<Entry>,
+    entries: Vec<MaybeEdge>,
     free: Vec<u64>,
 }
 
@@ -40,7 +40,7 @@ impl Table {
     pub fn new(alloc: Global, nodes: u32, colours: u32) -> Result<Table, AllocError>
         ensures made { IfOk result (λ t. t ≡ record { nodes = nodes; colours = colours; entries = replicate (nodes * colours) None }) }
     {
-        let entries = vec![in alloc; Entry::none(); nodes as usize * colours as usize]?;
+        let entries = vec![in alloc; MaybeEdge::none(); nodes as usize * colours as usize]?;
         let free = full_sets(alloc, nodes, colours)?;
         Ok(Table {
             nodes,
@@ -84,7 +84,7 @@ impl Table {
     }
 
     /// Writes the entry of a node and a colour.
-    pub fn put(&mut self, node: CopyId, colour: Colour, entry: Entry)
+    pub fn put(&mut self, node: CopyId, colour: Colour, entry: MaybeEdge)
         requires node { node.0 < self.old.nodes }
         requires colour { colour.0 < self.old.colours }
         ensures { self.new ≡ with_entry self.old node colour entry }

@@ -1,5 +1,5 @@
 -- What is counted for each label: the limits of its disks, and the moves between them.
-use Rattle.mig_bounds.proofs.Common.{AreInsides, AreLimitSums, Bool, List, MAX_LIMIT, Some, Transfers, Trip, ap, arith, cases_eq, cond, count_by, count_by-le-length, eq-eqb, eqb, false, filter}
+use Rattle.mig_bounds.proofs.Common.{AreInsides, AreLimitSums, Bool, List, MAX_LIMIT, Some, Transfers, Transfer, ap, arith, cases_eq, cond, count_by, count_by-le-length, eq-eqb, eqb, false, filter}
 use Rattle.mig_bounds.proofs.Common.{get_or, get_or-set_other, get_or-set_same, get_or_from_slice_get, inl, inr, length, length-set, limit, limit_sum, ne_eqb, one, range_more, range_with_len}
 use Rattle.mig_bounds.proofs.Common.{set, slice_get, slice_get_within, sum_by, sum_by-filter, sum_by_push, sym, take, take_more, true, ℕ, ◌+◌, ◌<◌, ◌∙◌, ◌≡◌, ◌≤◌}
 
@@ -31,18 +31,18 @@ AreLimitSums-more graph labels sums i n there most is before = record {
     added r = after_add sums (get_or labels i 0) r n (limit graph i) (omega (arith, there, before.len)) is
 
 -- one more move
-pub AreInsides-more : (labels insides : List ℕ) (trips : List Trip) (i n : ℕ) (t : Trip) → slice_get trips i ≡ Some t → get_or labels t.leaves 0 < length labels → n ≡ get_or insides (get_or labels t.leaves 0) 0 + 1 → AreInsides labels (take i trips) insides → AreInsides labels (take (i + 1) trips) (set insides (get_or labels t.leaves 0) n)
-AreInsides-more labels insides trips i n t at there is before = record {
+pub AreInsides-more : (labels insides : List ℕ) (transfers : List Transfer) (i n : ℕ) (t : Transfer) → slice_get transfers i ≡ Some t → get_or labels t.leaves 0 < length labels → n ≡ get_or insides (get_or labels t.leaves 0) 0 + 1 → AreInsides labels (take i transfers) insides → AreInsides labels (take (i + 1) transfers) (set insides (get_or labels t.leaves 0) n)
+AreInsides-more labels insides transfers i n t at there is before = record {
   len = length-set insides (get_or labels t.leaves 0) n ∙ before.len;
   count = λ r h. omega (arith, after_add insides (get_or labels t.leaves 0) r n 1 (omega (arith, there, before.len)) is, before.count r h, more r);
 }
   where
-    more : (r : ℕ) → count_by (λ s. eqb (get_or labels s.leaves 0) r) (take (i + 1) trips) ≡ count_by (λ s. eqb (get_or labels s.leaves 0) r) (take i trips) + one (eqb (get_or labels t.leaves 0) r)
+    more : (r : ℕ) → count_by (λ s. eqb (get_or labels s.leaves 0) r) (take (i + 1) transfers) ≡ count_by (λ s. eqb (get_or labels s.leaves 0) r) (take i transfers) + one (eqb (get_or labels t.leaves 0) r)
     more r =
-        ap (λ (xs : List Trip). count_by (λ s. eqb (get_or labels s.leaves 0) r) xs) (take_more trips i t (slice_get_within trips i t at))
-        ∙ sum_by_push (λ (s : Trip). one (eqb (get_or labels s.leaves 0) r)) (take i trips) (get_or trips i t)
-        ∙ ap (λ (s : Trip). count_by (λ s. eqb (get_or labels s.leaves 0) r) (take i trips) + one (eqb (get_or labels s.leaves 0) r)) (get_or_from_slice_get trips i t t at)
+        ap (λ (xs : List Transfer). count_by (λ s. eqb (get_or labels s.leaves 0) r) xs) (take_more transfers i t (slice_get_within transfers i t at))
+        ∙ sum_by_push (λ (s : Transfer). one (eqb (get_or labels s.leaves 0) r)) (take i transfers) (get_or transfers i t)
+        ∙ ap (λ (s : Transfer). count_by (λ s. eqb (get_or labels s.leaves 0) r) (take i transfers) + one (eqb (get_or labels s.leaves 0) r)) (get_or_from_slice_get transfers i t t at)
 
--- a count is at most the number of trips
-pub inside_small : (labels insides : List ℕ) (trips : List Trip) (r : ℕ) → r < length labels → AreInsides labels trips insides → get_or insides r 0 ≤ length trips
-inside_small labels insides trips r h before = omega (arith, before.count r h, count_by-le-length (λ (s : Trip). eqb (get_or labels s.leaves 0) r) trips)
+-- a count is at most the number of transfers
+pub inside_small : (labels insides : List ℕ) (transfers : List Transfer) (r : ℕ) → r < length labels → AreInsides labels transfers insides → get_or insides r 0 ≤ length transfers
+inside_small labels insides transfers r h before = omega (arith, before.count r h, count_by-le-length (λ (s : Transfer). eqb (get_or labels s.leaves 0) r) transfers)

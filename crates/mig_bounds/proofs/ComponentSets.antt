@@ -1,6 +1,6 @@
 -- The components are the sets of disks with one label.
 use Rattle.mig_bounds.proofs.Common.{AreLabels, Bool, ByComponent, ByDisk, BySide, ByTriple, Candidate, IsBelow, IsBestBelow, IsClosed, IsComponent, IsComponent-class, IsGraph, IsJointCandidate}
-use Rattle.mig_bounds.proofs.Common.{IsLabelling, IsPart, IsTrue, List, Transfers, Trip, [], ap, arith, bool_same, cases_lt, count_by, eqb, eqb-true, false, false≢true, get_or, get_or-le-sum_by}
+use Rattle.mig_bounds.proofs.Common.{IsLabelling, IsSubset, IsTrue, List, Transfers, Transfer, [], ap, arith, bool_same, cases_lt, count_by, eqb, eqb-true, false, false≢true, get_or, get_or-le-sum_by}
 use Rattle.mig_bounds.proofs.Common.{has, has_at, has_filter, has_true, inl, inr, inside, is_inside, labelled, length, limit_sum, load, nat_tests, not, one, place, refl, set, slice_get-get_or}
 use Rattle.mig_bounds.proofs.Common.{subst, sum_by-same_each, sym, takes_part, touches, true, value, ℕ, ◌%◌, ◌&&◌, ◌+◌, ◌<◌, ◌||◌, ◌∙◌, ◌∷◌, ◌≡◌, ◌≤◌, ◌⊎◌}
 use Rattle.mig_bounds.proofs.Steps.{IsBestBelow-moved, IsBestBelow-takes}
@@ -12,13 +12,13 @@ has_labelled labels r v h =
     let p : ℕ → Bool = λ w. eqb (get_or labels w 0) r in
     bool_same (has (labelled labels r) v) (p v) (λ e. (has_true p 0 (length labels) v e).2) (λ e. has_filter p 0 (length labels) v (omega arith) (omega (arith, h)) e)
 
-shared_at : (graph : Transfers) (labels : List ℕ) (k : ℕ) (d : Trip) → IsLabelling graph labels (length graph.trips) → k < length graph.trips → get_or labels (get_or graph.trips k d).leaves 0 ≡ get_or labels (get_or graph.trips k d).reaches 0
-shared_at graph labels k d is h = is.shared k (get_or graph.trips k d) h (slice_get-get_or graph.trips k d h)
+shared_at : (graph : Transfers) (labels : List ℕ) (k : ℕ) (d : Transfer) → IsLabelling graph labels (length graph.transfers) → k < length graph.transfers → get_or labels (get_or graph.transfers k d).leaves 0 ≡ get_or labels (get_or graph.transfers k d).reaches 0
+shared_at graph labels k d is h = is.shared k (get_or graph.transfers k d) h (slice_get-get_or graph.transfers k d h)
 
 -- the moves between them are those that leave one of them
-pub inside_labelled : (graph : Transfers) (labels : List ℕ) (r : ℕ) → IsGraph graph → IsLabelling graph labels (length graph.trips) → inside (labelled labels r) graph.trips ≡ count_by (λ t. eqb (get_or labels t.leaves 0) r) graph.trips
-inside_labelled graph labels r valid is = sum_by-same_each (λ t. one (is_inside (labelled labels r) t)) (λ t. one (eqb (get_or labels t.leaves 0) r)) graph.trips (λ k d h.
-    let t = get_or graph.trips k d in
+pub inside_labelled : (graph : Transfers) (labels : List ℕ) (r : ℕ) → IsGraph graph → IsLabelling graph labels (length graph.transfers) → inside (labelled labels r) graph.transfers ≡ count_by (λ t. eqb (get_or labels t.leaves 0) r) graph.transfers
+inside_labelled graph labels r valid is = sum_by-same_each (λ t. one (is_inside (labelled labels r) t)) (λ t. one (eqb (get_or labels t.leaves 0) r)) graph.transfers (λ k d h.
+    let t = get_or graph.transfers k d in
     let leaves = has_labelled labels r t.leaves (omega (arith, valid.leaves_there k d h, is.len)) in
     let reaches = has_labelled labels r t.reaches (omega (arith, valid.reaches_there k d h, is.len)) ∙ ap (λ l. eqb l r) (sym (shared_at graph labels k d is h)) in
     ap one (both (has (labelled labels r) t.leaves) (has (labelled labels r) t.reaches) (eqb (get_or labels t.leaves 0) r) leaves reaches))
@@ -30,8 +30,8 @@ inside_labelled graph labels r valid is = sum_by-same_each (λ t. one (is_inside
 -- a disk that takes no part is a closed set
 lonely_closed : (graph : Transfers) (v : ℕ) → takes_part graph v ≡ false → IsClosed graph (v ∷ [])
 lonely_closed graph v lonely k d h =
-    let t = get_or graph.trips k d in
-    let none : one (touches v t) ≤ 0 = omega (arith, get_or-le-sum_by (λ (s : Trip). one (touches v s)) graph.trips k d h, unloaded (load v graph.trips) lonely) in
+    let t = get_or graph.transfers k d in
+    let none : one (touches v t) ≤ 0 = omega (arith, get_or-le-sum_by (λ (s : Transfer). one (touches v s)) graph.transfers k d h, unloaded (load v graph.transfers) lonely) in
     let ends = untouched (eqb v t.leaves) (eqb v t.reaches) none in
     ap (λ b. b || false) (ends.0 ∙ sym ends.1)
   where
@@ -50,7 +50,7 @@ has_one v w h = in_test (eqb v w) refl h
     in_test true e t = eqb-true v w e
     in_test false e t = absurd (false≢true t)
 
-pub are_labels : (graph : Transfers) (labels : List ℕ) → IsGraph graph → IsLabelling graph labels (length graph.trips) → AreLabels graph labels
+pub are_labels : (graph : Transfers) (labels : List ℕ) → IsGraph graph → IsLabelling graph labels (length graph.transfers) → AreLabels graph labels
 are_labels graph labels valid is = record {
   len = is.len;
   shared = λ k d h. (omega (arith, valid.leaves_there k d h, is.len), omega (arith, valid.reaches_there k d h, is.len), shared_at graph labels k d is h);
@@ -69,7 +69,7 @@ pub record IsLabelled (graph : Transfers) (labels : List ℕ) (set : List ℕ) (
   pub part : IsTrue (takes_part graph r)
   pub same : set ≡ labelled labels r
 
-pub component_labelled : (graph : Transfers) (labels set : List ℕ) → IsGraph graph → IsLabelling graph labels (length graph.trips) → IsComponent graph set → IsLabelled graph labels set (get_or set 0 0)
+pub component_labelled : (graph : Transfers) (labels set : List ℕ) → IsGraph graph → IsLabelling graph labels (length graph.transfers) → IsComponent graph set → IsLabelled graph labels set (get_or set 0 0)
 component_labelled graph labels [] valid is component = absurd (omega (arith, component.filled))
 component_labelled graph labels (w ∷ rest) valid is component =
     let set : List ℕ = w ∷ rest in
@@ -80,7 +80,7 @@ component_labelled graph labels (w ∷ rest) valid is component =
     let r_part : IsTrue (takes_part graph r) = (has_all (λ v. (v < length graph.disks) × IsTrue (takes_part graph v)) set r component.there has_r).1 in
     let class = IsComponent-class graph labels r (are_labels graph labels valid is) r_there (is.root w w_there) r_part in
     let p : ℕ → Bool = λ v. eqb (get_or labels v 0) r in
-    let is_part : IsPart (labelled labels r) set = λ k d h.
+    let is_part : IsSubset (labelled labels r) set = λ k d h.
     let v = get_or (labelled labels r) k d in
     let found = has_true p 0 (length labels) v (has_at (labelled labels r) k d h) in
     is.alike v set (omega (arith, found.1)) component.closed ∙ ap (has set) (eqb-true (get_or labels v 0) r found.2) ∙ has_r in
@@ -95,7 +95,7 @@ component_labelled graph labels (w ∷ rest) valid is component =
     })
 
 -- the components below the next place are those below this one, and that of this label
-pub below_next_component : (graph : Transfers) (labels : List ℕ) (c : Candidate) (r : ℕ) → IsGraph graph → IsLabelling graph labels (length graph.trips) → IsJointCandidate graph c → IsBelow (place c) (2 ∷ (r + 1) ∷ [])
+pub below_next_component : (graph : Transfers) (labels : List ℕ) (c : Candidate) (r : ℕ) → IsGraph graph → IsLabelling graph labels (length graph.transfers) → IsJointCandidate graph c → IsBelow (place c) (2 ∷ (r + 1) ∷ [])
     → IsBelow (place c) (2 ∷ r ∷ []) ⊎ ((get_or labels r 0 ≡ r) × IsTrue (takes_part graph r) × (c ≡ ByComponent (labelled labels r)))
 below_next_component graph labels (ByDisk v) r valid is cand h = inl (inl (omega arith))
 below_next_component graph labels (BySide v side) r valid is cand h = inl (inl (omega arith))
@@ -114,7 +114,7 @@ below_next_component graph labels (ByComponent set) r valid is cand h = elim h [
 ]
 
 -- the least of the disks of a label is the label
-pub first_labelled : (graph : Transfers) (labels : List ℕ) (r : ℕ) → IsGraph graph → IsLabelling graph labels (length graph.trips) → r < length labels → get_or labels r 0 ≡ r → IsTrue (takes_part graph r) → get_or (labelled labels r) 0 0 ≡ r
+pub first_labelled : (graph : Transfers) (labels : List ℕ) (r : ℕ) → IsGraph graph → IsLabelling graph labels (length graph.transfers) → r < length labels → get_or labels r 0 ≡ r → IsTrue (takes_part graph r) → get_or (labelled labels r) 0 0 ≡ r
 first_labelled graph labels r valid is there root part =
     let class = IsComponent-class graph labels r (are_labels graph labels valid is) there root part in
     let found = component_labelled graph labels (labelled labels r) valid is class in
@@ -124,7 +124,7 @@ first_labelled graph labels r valid is there root part =
     sym found.root ∙ eqb-true (get_or labels w 0) r in_class.2
 
 -- no better component has this label
-pub IsBestBelow-keeps_label : (graph : Transfers) (labels : List ℕ) (best : Candidate) (rounds r : ℕ) → IsGraph graph → IsLabelling graph labels (length graph.trips)
+pub IsBestBelow-keeps_label : (graph : Transfers) (labels : List ℕ) (best : Candidate) (rounds r : ℕ) → IsGraph graph → IsLabelling graph labels (length graph.transfers)
     → (get_or labels r 0 ≡ r → IsTrue (takes_part graph r) → IsJointCandidate graph (ByComponent (labelled labels r)) → value graph (ByComponent (labelled labels r)) ≤ rounds)
     → IsBestBelow graph best rounds (2 ∷ r ∷ []) → IsBestBelow graph best rounds (2 ∷ (r + 1) ∷ [])
 IsBestBelow-keeps_label graph labels best rounds r valid is no_better before = IsBestBelow-moved graph best rounds (2 ∷ r ∷ []) (2 ∷ (r + 1) ∷ []) (λ c cand below. elim (below_next_component graph labels c r valid is cand below) [
@@ -133,7 +133,7 @@ IsBestBelow-keeps_label graph labels best rounds r valid is no_better before = I
 ]) before
 
 -- a better one has
-pub IsBestBelow-takes_label : (graph : Transfers) (labels : List ℕ) (best : Candidate) (rounds more r : ℕ) → IsGraph graph → IsLabelling graph labels (length graph.trips) → r < length labels → get_or labels r 0 ≡ r → IsTrue (takes_part graph r)
+pub IsBestBelow-takes_label : (graph : Transfers) (labels : List ℕ) (best : Candidate) (rounds more r : ℕ) → IsGraph graph → IsLabelling graph labels (length graph.transfers) → r < length labels → get_or labels r 0 ≡ r → IsTrue (takes_part graph r)
     → limit_sum graph (labelled labels r) % 2 ≡ 1 → more ≡ value graph (ByComponent (labelled labels r)) → rounds < more
     → IsBestBelow graph best rounds (2 ∷ r ∷ []) → IsBestBelow graph (ByComponent (labelled labels r)) more (2 ∷ (r + 1) ∷ [])
 IsBestBelow-takes_label graph labels best rounds more r valid is there root part odd value_is better before =

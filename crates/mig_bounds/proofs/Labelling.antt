@@ -1,5 +1,5 @@
 -- Labels after one more move.
-use Rattle.mig_bounds.proofs.Common.{IsClosed, IsGraph, IsLabelling, List, Relabels, Some, Transfers, Trip, ap, arith, cases_eq, cases_lt, cond, eq-eqb, eqb, get_or, get_or_from_slice_get, has}
+use Rattle.mig_bounds.proofs.Common.{IsClosed, IsGraph, IsLabelling, List, Relabels, Some, Transfers, Transfer, ap, arith, cases_eq, cases_lt, cond, eq-eqb, eqb, get_or, get_or_from_slice_get, has}
 use Rattle.mig_bounds.proofs.Common.{inl, inr, length, ne_eqb, slice_get, slice_get_within, subst, sym, ℕ, ◌+◌, ◌<◌, ◌∙◌, ◌≡◌, ◌≢◌}
 use Rattle.mig_bounds.proofs.PairTables.{leaves_below, reaches_below}
 
@@ -16,21 +16,21 @@ pub same_labels : (from to v w : ℕ) (old new : List ℕ) → Relabels from to 
 same_labels from to v w old new r hv hw e = r v hv ∙ ap (λ l. cond (eqb l from) to l) e ∙ sym (r w hw)
 
 -- a closed set has both ends of a move, or neither
-pub has_both : (graph : Transfers) (part : List ℕ) (k : ℕ) (t : Trip) → IsClosed graph part → slice_get graph.trips k ≡ Some t → has part t.leaves ≡ has part t.reaches
-has_both graph part k t closed at = subst (λ (x : Trip). has part x.leaves ≡ has part x.reaches) (get_or_from_slice_get graph.trips k t t at) (closed k t (slice_get_within graph.trips k t at))
+pub has_both : (graph : Transfers) (part : List ℕ) (k : ℕ) (t : Transfer) → IsClosed graph part → slice_get graph.transfers k ≡ Some t → has part t.leaves ≡ has part t.reaches
+has_both graph part k t closed at = subst (λ (x : Transfer). has part x.leaves ≡ has part x.reaches) (get_or_from_slice_get graph.transfers k t t at) (closed k t (slice_get_within graph.transfers k t at))
 
 -- one more move whose ends share a label
-shared_more : (graph : Transfers) (labels : List ℕ) (k : ℕ) (t : Trip) → slice_get graph.trips k ≡ Some t → get_or labels t.leaves 0 ≡ get_or labels t.reaches 0
-    → ((j : ℕ) (s : Trip) → j < k → slice_get graph.trips j ≡ Some s → get_or labels s.leaves 0 ≡ get_or labels s.reaches 0)
-    → (j : ℕ) (s : Trip) → j < k + 1 → slice_get graph.trips j ≡ Some s → get_or labels s.leaves 0 ≡ get_or labels s.reaches 0
+shared_more : (graph : Transfers) (labels : List ℕ) (k : ℕ) (t : Transfer) → slice_get graph.transfers k ≡ Some t → get_or labels t.leaves 0 ≡ get_or labels t.reaches 0
+    → ((j : ℕ) (s : Transfer) → j < k → slice_get graph.transfers j ≡ Some s → get_or labels s.leaves 0 ≡ get_or labels s.reaches 0)
+    → (j : ℕ) (s : Transfer) → j < k + 1 → slice_get graph.transfers j ≡ Some s → get_or labels s.leaves 0 ≡ get_or labels s.reaches 0
 shared_more graph labels k t at same before j s h at_j = elim (cases_lt j k) [
   | inl lt ↦ before j s lt at_j
   | inr ge ↦ (let is : j ≡ k = omega (arith, ge, h) in
-      let e : s ≡ t = sym (get_or_from_slice_get graph.trips j s s at_j) ∙ get_or_from_slice_get graph.trips j t s (ap (slice_get graph.trips) is ∙ at) in
-      subst (λ (x : Trip). get_or labels x.leaves 0 ≡ get_or labels x.reaches 0) (sym e) same)
+      let e : s ≡ t = sym (get_or_from_slice_get graph.transfers j s s at_j) ∙ get_or_from_slice_get graph.transfers j t s (ap (slice_get graph.transfers) is ∙ at) in
+      subst (λ (x : Transfer). get_or labels x.leaves 0 ≡ get_or labels x.reaches 0) (sym e) same)
 ]
 
-pub IsLabelling-same : (graph : Transfers) (labels : List ℕ) (k : ℕ) (t : Trip) → slice_get graph.trips k ≡ Some t → get_or labels t.leaves 0 ≡ get_or labels t.reaches 0 → IsLabelling graph labels k → IsLabelling graph labels (k + 1)
+pub IsLabelling-same : (graph : Transfers) (labels : List ℕ) (k : ℕ) (t : Transfer) → slice_get graph.transfers k ≡ Some t → get_or labels t.leaves 0 ≡ get_or labels t.reaches 0 → IsLabelling graph labels k → IsLabelling graph labels (k + 1)
 IsLabelling-same graph labels k t at same is = record {
   len = is.len;
   least = is.least;
@@ -51,8 +51,8 @@ IsLabelling-joined graph old new k from to a b same_len valid ha hb less is_from
   root = λ v h. root v (omega (arith, h, same_len));
   alike = λ v part h closed. alike v part (omega (arith, h, same_len)) closed;
   shared = λ j s h at. same_labels from to s.leaves s.reaches old new r
-      (omega (arith, leaves_below (length graph.disks) graph.trips j s valid.leaves_there at, is.len))
-      (omega (arith, reaches_below (length graph.disks) graph.trips j s valid.reaches_there at, is.len))
+      (omega (arith, leaves_below (length graph.disks) graph.transfers j s valid.leaves_there at, is.len))
+      (omega (arith, reaches_below (length graph.disks) graph.transfers j s valid.reaches_there at, is.len))
       (is.shared j s h at);
 }
   where

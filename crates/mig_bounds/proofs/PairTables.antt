@@ -1,5 +1,5 @@
--- A table that counts how many trips join each two disks.
-use Rattle.mig_bounds.proofs.Common.{All, CountsPairs, List, Some, Trip, ap, arith, at_most_one, between, cases_eq, count_by-le-length, div-mul-add, eq-eqb, eqb, false, get_or, get_or-set_other}
+-- A table that counts how many transfers join each two disks.
+use Rattle.mig_bounds.proofs.Common.{All, CountsPairs, List, Some, Transfer, ap, arith, at_most_one, between, cases_eq, count_by-le-length, div-mul-add, eq-eqb, eqb, false, get_or, get_or-set_other}
 use Rattle.mig_bounds.proofs.Common.{get_or-set_same, get_or_from_slice_get, inl, inr, joins, length, length-set, length-take-le, mul-le-mul_right, nat_tests, ne_eqb, one, set, slice_get}
 use Rattle.mig_bounds.proofs.Common.{slice_get_within, subst, sum_by_push, sym, take, take_more, true, ℕ, ◌&&◌, ◌*◌, ◌+◌, ◌/◌, ◌<◌, ◌||◌, ◌∙◌, ◌≡◌, ◌≢◌, ◌≤◌}
 
@@ -46,20 +46,20 @@ after_one xs j k h =
 one_pair : (a b l r : ℕ) → l ≢ r → one ((eqb l a && eqb r b) || (eqb l b && eqb r a)) ≡ one (eqb l a && eqb r b) + one (eqb r a && eqb l b)
 one_pair a b l r ne = grind (arith, nat_tests)
 
-between_more : (trips : List Trip) (i a b : ℕ) (t : Trip) → slice_get trips i ≡ Some t → between a b (take (i + 1) trips) ≡ between a b (take i trips) + one (joins a b t)
-between_more trips i a b t at =
-    ap (λ (xs : List Trip). between a b xs) (take_more trips i t (slice_get_within trips i t at))
-    ∙ sum_by_push (λ x. one (joins a b x)) (take i trips) (get_or trips i t)
-    ∙ ap (λ (x : Trip). between a b (take i trips) + one (joins a b x)) (get_or_from_slice_get trips i t t at)
+between_more : (transfers : List Transfer) (i a b : ℕ) (t : Transfer) → slice_get transfers i ≡ Some t → between a b (take (i + 1) transfers) ≡ between a b (take i transfers) + one (joins a b t)
+between_more transfers i a b t at =
+    ap (λ (xs : List Transfer). between a b xs) (take_more transfers i t (slice_get_within transfers i t at))
+    ∙ sum_by_push (λ x. one (joins a b x)) (take i transfers) (get_or transfers i t)
+    ∙ ap (λ (x : Transfer). between a b (take i transfers) + one (joins a b x)) (get_or_from_slice_get transfers i t t at)
 
 -- one more in a cell
 abbrev pub counted : List ℕ → ℕ → List ℕ
 counted pairs cell = set pairs cell (get_or pairs cell 0 + 1)
 
--- one more trip
-pub CountsPairs-more : (n : ℕ) (trips : List Trip) (pairs : List ℕ) (i : ℕ) (t : Trip) → slice_get trips i ≡ Some t → t.leaves < n → t.reaches < n → t.leaves ≢ t.reaches
-    → CountsPairs n (take i trips) pairs → CountsPairs n (take (i + 1) trips) (counted (counted pairs (t.leaves * n + t.reaches)) (t.reaches * n + t.leaves))
-CountsPairs-more n trips pairs i t at hl hr ne counts =
+-- one more transfer
+pub CountsPairs-more : (n : ℕ) (transfers : List Transfer) (pairs : List ℕ) (i : ℕ) (t : Transfer) → slice_get transfers i ≡ Some t → t.leaves < n → t.reaches < n → t.leaves ≢ t.reaches
+    → CountsPairs n (take i transfers) pairs → CountsPairs n (take (i + 1) transfers) (counted (counted pairs (t.leaves * n + t.reaches)) (t.reaches * n + t.leaves))
+CountsPairs-more n transfers pairs i t at hl hr ne counts =
     let there = t.leaves * n + t.reaches in
     let back = t.reaches * n + t.leaves in
     let m = get_or pairs there 0 + 1 in
@@ -74,23 +74,23 @@ CountsPairs-more n trips pairs i t at hl hr ne counts =
             arith,
             after_one pairs there (a * n + b) (omega (arith, in_there, counts.len)),
             counts.pair a b ha hb,
-            between_more trips i a b t at,
+            between_more transfers i a b t at,
             one_pair a b t.leaves t.reaches ne,
             ap one (cell_test n a b t.leaves t.reaches hb hr),
             ap one (cell_test n a b t.reaches t.leaves hb hl),
           );
     }
 
--- a count is at most the number of trips
-pub cell_small : (n : ℕ) (trips : List Trip) (pairs : List ℕ) (i a b : ℕ) → i ≤ length trips → a < n → b < n → CountsPairs n (take i trips) pairs → get_or pairs (a * n + b) 0 ≤ i
-cell_small n trips pairs i a b h ha hb counts = omega (arith, counts.pair a b ha hb, count_by-le-length (joins a b) (take i trips), length-take-le i trips h)
+-- a count is at most the number of transfers
+pub cell_small : (n : ℕ) (transfers : List Transfer) (pairs : List ℕ) (i a b : ℕ) → i ≤ length transfers → a < n → b < n → CountsPairs n (take i transfers) pairs → get_or pairs (a * n + b) 0 ≤ i
+cell_small n transfers pairs i a b h ha hb counts = omega (arith, counts.pair a b ha hb, count_by-le-length (joins a b) (take i transfers), length-take-le i transfers h)
 
 pub next_small : (xs : List ℕ) (j k : ℕ) → j < length xs → get_or (counted xs j) k 0 ≤ get_or xs k 0 + 1
 next_small xs j k h = omega (arith, after_one xs j k h, at_most_one (eqb k j))
 
--- the ends of a trip are there
-pub leaves_below : (n : ℕ) (trips : List Trip) (i : ℕ) (t : Trip) → All (λ t. t.leaves < n) trips → slice_get trips i ≡ Some t → t.leaves < n
-leaves_below n trips i t all at = subst (λ (x : Trip). x.leaves < n) (get_or_from_slice_get trips i t t at) (all i t (slice_get_within trips i t at))
+-- the ends of a transfer are there
+pub leaves_below : (n : ℕ) (transfers : List Transfer) (i : ℕ) (t : Transfer) → All (λ t. t.leaves < n) transfers → slice_get transfers i ≡ Some t → t.leaves < n
+leaves_below n transfers i t all at = subst (λ (x : Transfer). x.leaves < n) (get_or_from_slice_get transfers i t t at) (all i t (slice_get_within transfers i t at))
 
-pub reaches_below : (n : ℕ) (trips : List Trip) (i : ℕ) (t : Trip) → All (λ t. t.reaches < n) trips → slice_get trips i ≡ Some t → t.reaches < n
-reaches_below n trips i t all at = subst (λ (x : Trip). x.reaches < n) (get_or_from_slice_get trips i t t at) (all i t (slice_get_within trips i t at))
+pub reaches_below : (n : ℕ) (transfers : List Transfer) (i : ℕ) (t : Transfer) → All (λ t. t.reaches < n) transfers → slice_get transfers i ≡ Some t → t.reaches < n
+reaches_below n transfers i t all at = subst (λ (x : Transfer). x.reaches < n) (get_or_from_slice_get transfers i t t at) (all i t (slice_get_within transfers i t at))

@@ -1,18 +1,18 @@
 -- Steps of the search of sides.
 use Rattle.mig_bounds.proofs.Common.{BestSide, ByComponent, ByDisk, BySide, ByTriple, Candidate, Incoming, IsBelow, IsBest, IsBestSide, IsCandidateOf, IsGraph, IsSideCandidate, List, Outgoing}
-use Rattle.mig_bounds.proofs.Common.{Side, Transfers, Trip, [], ap, arith, cases_lt, disk_at, div_ceil, eq-eqb, get_or, get_or-le-sum_by, inl, inr, is_duplex, length, one, passes, place}
+use Rattle.mig_bounds.proofs.Common.{Side, Transfers, Transfer, [], ap, arith, cases_lt, disk_at, div_ceil, eq-eqb, get_or, get_or-le-sum_by, inl, inr, is_duplex, length, one, passes, place}
 use Rattle.mig_bounds.proofs.Common.{refl, set, side_limit, side_load, side_number, side_value, subst, suc, sym, true, value, zero, ℕ, ◌*◌, ◌+◌, ◌<◌, ◌∙◌, ◌∷◌, ◌≡◌, ◌≤◌, ◌⊎◌}
 
 -- a side without a load needs no rounds, and one that needs rounds has a load
-idle_side : (graph : Transfers) (v : ℕ) (side : Side) → side_load side v graph.trips ≡ 0 → side_value graph side v ≡ 0
+idle_side : (graph : Transfers) (v : ℕ) (side : Side) → side_load side v graph.transfers ≡ 0 → side_value graph side v ≡ 0
 idle_side graph v side none = ap (λ n. div_ceil n (side_limit side (disk_at graph.disks v).limits)) none ∙ nothing (side_limit side (disk_at graph.disks v).limits)
   where
     nothing : (m : ℕ) → div_ceil 0 m ≡ 0
     nothing zero = refl
     nothing (suc m) = omega arith
 
-pub loaded_side : (graph : Transfers) (v : ℕ) (side : Side) → 0 < side_value graph side v → 0 < side_load side v graph.trips
-loaded_side graph v side some = elim (cases_lt 0 (side_load side v graph.trips)) [
+pub loaded_side : (graph : Transfers) (v : ℕ) (side : Side) → 0 < side_value graph side v → 0 < side_load side v graph.transfers
+loaded_side graph v side some = elim (cases_lt 0 (side_load side v graph.transfers)) [
   | inl l ↦ l
   | inr ge ↦ absurd (omega (arith, some, idle_side graph v side (omega (arith, ge))))
 ]
@@ -43,7 +43,7 @@ side_keeps graph best w next no_better b = record {
 }
 
 -- this side is better than all before it
-pub side_takes : (graph : Transfers) (new : BestSide) → new.disk.0 < length graph.disks → new.load ≡ side_load new.side new.disk.0 graph.trips → new.value ≡ side_value graph new.side new.disk.0 → 0 < new.load
+pub side_takes : (graph : Transfers) (new : BestSide) → new.disk.0 < length graph.disks → new.load ≡ side_load new.side new.disk.0 graph.transfers → new.value ≡ side_value graph new.side new.disk.0 → 0 < new.load
     → ((v : ℕ) (side : Side) → side_number v side < side_number new.disk.0 new.side → side_value graph side v < new.value) → IsBestSide graph new (side_number new.disk.0 new.side + 1)
 side_takes graph new there load_is value_is loaded before = record {
   there = there;
@@ -55,11 +55,11 @@ side_takes graph new there load_is value_is loaded before = record {
 }
 
 -- no side before it has a load
-pub side_starts : (graph : Transfers) (w value : ℕ) (next : Side) → 0 < value → ((v : ℕ) (side : Side) → side_number v side < side_number w next → side_load side v graph.trips ≡ 0) → (v : ℕ) (side : Side) → side_number v side < side_number w next → side_value graph side v < value
+pub side_starts : (graph : Transfers) (w value : ℕ) (next : Side) → 0 < value → ((v : ℕ) (side : Side) → side_number v side < side_number w next → side_load side v graph.transfers ≡ 0) → (v : ℕ) (side : Side) → side_number v side < side_number w next → side_value graph side v < value
 side_starts graph w value next some none v side below = omega (arith, some, idle_side graph v side (none v side below))
 
-pub none_more : (graph : Transfers) (w : ℕ) (next : Side) → side_load next w graph.trips ≡ 0 → ((v : ℕ) (side : Side) → side_number v side < side_number w next → side_load side v graph.trips ≡ 0) → (v : ℕ) (side : Side) → side_number v side < side_number w next + 1 → side_load side v graph.trips ≡ 0
-none_more graph w next idle none = with_next (λ v side. side_load side v graph.trips ≡ 0) w next none idle
+pub none_more : (graph : Transfers) (w : ℕ) (next : Side) → side_load next w graph.transfers ≡ 0 → ((v : ℕ) (side : Side) → side_number v side < side_number w next → side_load side v graph.transfers ≡ 0) → (v : ℕ) (side : Side) → side_number v side < side_number w next + 1 → side_load side v graph.transfers ≡ 0
+none_more graph w next idle none = with_next (λ v side. side_load side v graph.transfers ≡ 0) w next none idle
 
 -- ---- the end of the search
 
@@ -105,14 +105,14 @@ is_best_side graph best split b = record {
     less (ByComponent set) is below = absurd is
 
 -- where no side has a load, there is no move
-pub no_side_trips : (graph : Transfers) → IsGraph graph → ((v : ℕ) (side : Side) → side_number v side < 2 * length graph.disks → side_load side v graph.trips ≡ 0) → graph.trips ≡ []
-no_side_trips graph valid none = by_list graph.trips refl
+pub no_side_transfers : (graph : Transfers) → IsGraph graph → ((v : ℕ) (side : Side) → side_number v side < 2 * length graph.disks → side_load side v graph.transfers ≡ 0) → graph.transfers ≡ []
+no_side_transfers graph valid none = by_list graph.transfers refl
   where
-    by_list : (ts : List Trip) → graph.trips ≡ ts → graph.trips ≡ []
+    by_list : (ts : List Transfer) → graph.transfers ≡ ts → graph.transfers ≡ []
     by_list [] e = e
     by_list (t ∷ ts) e =
-        let some : 0 < length graph.trips = omega (arith, ap (λ (x : List Trip). length x) e) in
-        let first = get_or graph.trips 0 t in
+        let some : 0 < length graph.transfers = omega (arith, ap (λ (x : List Transfer). length x) e) in
+        let first = get_or graph.transfers 0 t in
         let v = first.leaves in
         let met : passes Outgoing v first ≡ true = eq-eqb v v refl in
-        absurd (omega (arith, none v Outgoing (number_there v (length graph.disks) Outgoing (valid.leaves_there 0 t some)), get_or-le-sum_by (λ (s : Trip). one (passes Outgoing v s)) graph.trips 0 t some, ap one met))
+        absurd (omega (arith, none v Outgoing (number_there v (length graph.disks) Outgoing (valid.leaves_there 0 t some)), get_or-le-sum_by (λ (s : Transfer). one (passes Outgoing v s)) graph.transfers 0 t some, ap one met))

@@ -1,5 +1,5 @@
 -- Steps of the search.
-use Rattle.mig_bounds.proofs.Common.{All, ByComponent, ByDisk, BySide, ByTriple, Candidate, IsBelow, IsBestBelow, IsJointCandidate, IsTrue, List, Transfers, Trip, [], ap, arith, between}
+use Rattle.mig_bounds.proofs.Common.{All, ByComponent, ByDisk, BySide, ByTriple, Candidate, IsBelow, IsBestBelow, IsJointCandidate, IsTrue, List, Transfers, Transfer, [], ap, arith, between}
 use Rattle.mig_bounds.proofs.Common.{cases_lt, div_ceil_times, eqb, false, get_or, inl, inr, inside, is_inside, joins, limit_sum, min, mul-le-mul_left, nat_tests, one, place, refl, set}
 use Rattle.mig_bounds.proofs.Common.{set_value, subst, sum_by-add, sum_by-same_each, sym, takes_part, value, ℕ, ◌%◌, ◌&&◌, ◌*◌, ◌+◌, ◌/◌, ◌<◌, ◌||◌, ◌∷◌, ◌≡◌, ◌≢◌, ◌≤◌, ◌⊎◌}
 
@@ -60,13 +60,13 @@ div_ceil-gt a b n p h = above (a / b + min 1 (a % b)) (div_ceil_times a b p).0
 three_at : (a b c l r : ℕ) → a < b → b < c → l ≢ r → one ((eqb a l || (eqb b l || (eqb c l || false))) && (eqb a r || (eqb b r || (eqb c r || false)))) ≡ (one ((eqb l a && eqb r b) || (eqb l b && eqb r a)) + one ((eqb l a && eqb r c) || (eqb l c && eqb r a))) + one ((eqb l b && eqb r c) || (eqb l c && eqb r b))
 three_at a b c l r ab bc lr = grind (arith, nat_tests)
 
-pub inside_three_is : (a b c : ℕ) (ts : List Trip) → a < b → b < c → All (λ t. t.leaves ≢ t.reaches) ts → inside (a ∷ b ∷ c ∷ []) ts ≡ (between a b ts + between a c ts) + between b c ts
+pub inside_three_is : (a b c : ℕ) (ts : List Transfer) → a < b → b < c → All (λ t. t.leaves ≢ t.reaches) ts → inside (a ∷ b ∷ c ∷ []) ts ≡ (between a b ts + between a c ts) + between b c ts
 inside_three_is a b c ts ab bc apart =
     let e = sum_by-same_each (λ t. one (is_inside (a ∷ b ∷ c ∷ []) t)) (λ t. (one (joins a b t) + one (joins a c t)) + one (joins b c t)) ts (λ k d h. three_at a b c (get_or ts k d).leaves (get_or ts k d).reaches ab bc (apart k d h)) in
     omega (arith, e, sum_by-add (λ t. one (joins a b t) + one (joins a c t)) (λ t. one (joins b c t)) ts, sum_by-add (λ t. one (joins a b t)) (λ t. one (joins a c t)) ts)
 
 -- a set's value, where half its limits is not 0
-pub set_value-half : (graph : Transfers) (set : List ℕ) (sum i : ℕ) → sum ≡ limit_sum graph set → i ≡ inside set graph.trips → 0 < sum / 2 → set_value graph set ≡ i / (sum / 2) + min 1 (i % (sum / 2))
+pub set_value-half : (graph : Transfers) (set : List ℕ) (sum i : ℕ) → sum ≡ limit_sum graph set → i ≡ inside set graph.transfers → 0 < sum / 2 → set_value graph set ≡ i / (sum / 2) + min 1 (i % (sum / 2))
 set_value-half graph set sum i is_sum is_inside some = rw (← is_sum, ← is_inside) (rw (positive (sum / 2) some) refl)
   where
     positive : (h : ℕ) → 0 < h → eqb h 0 ≡ false

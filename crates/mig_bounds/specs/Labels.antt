@@ -1,7 +1,7 @@
 -- Disks labelled by the components that they are in.
 use Rattle.std.specs.Prelude.{◌≡◌, ℕ, ◌<◌, ◌≤◌, ◌==◌, if◌then◌else◌, Some, List, length, filter, slice_get, slice_index}
 use Rattle.std.specs.List.{range_with_len}
-use Rattle.mig_base.specs.Transfers.{Transfers, Trip}
+use Rattle.mig_base.specs.Transfers.{Transfers, Transfer}
 use Rattle.mig_base.specs.Bounding.{has, IsClosed}
 
 -- the disks with this label
@@ -19,4 +19,4 @@ pub record IsLabelling (graph : Transfers) (labels : List ℕ) (joined : ℕ) : 
   pub least : (v : ℕ) → v < length labels → slice_index labels v ≤ v
   pub root : (v : ℕ) → v < length labels → slice_index labels (slice_index labels v) ≡ slice_index labels v
   pub alike : (v : ℕ) (part : List ℕ) → v < length labels → IsClosed graph part → has part v ≡ has part (slice_index labels v)
-  pub shared : (k : ℕ) (t : Trip) → k < joined → slice_get graph.trips k ≡ Some t → slice_index labels t.leaves ≡ slice_index labels t.reaches
+  pub shared : (k : ℕ) (t : Transfer) → k < joined → slice_get graph.transfers k ≡ Some t → slice_index labels t.leaves ≡ slice_index labels t.reaches

@@ -12,7 +12,7 @@ side_number v side = 2 * v + side_place side
 -- the first of the greatest value among the sides below a number
 pub record IsBestSide (graph : Transfers) (best : BestSide) (upto : ℕ) : Type 0 where
   pub there : best.disk.0 < length graph.disks
-  pub load_is : best.load ≡ side_load best.side best.disk.0 graph.trips
+  pub load_is : best.load ≡ side_load best.side best.disk.0 graph.transfers
   pub loaded : 0 < best.load
   pub value_is : best.value ≡ side_value graph best.side best.disk.0
   pub greatest : (v : ℕ) (side : Side) → side_number v side < upto → side_value graph side v ≤ best.value
@@ -20,4 +20,4 @@ pub record IsBestSide (graph : Transfers) (best : BestSide) (upto : ℕ) : Type 
 
 -- that, or nothing where none of these sides has a load
 abbrev pub IsFirstSide : Transfers → Option BestSide → ℕ → Type 0
-IsFirstSide graph best upto = MatchOption best ((v : ℕ) (side : Side) → side_number v side < upto → side_load side v graph.trips ≡ 0) (λ (b : BestSide). IsBestSide graph b upto)
+IsFirstSide graph best upto = MatchOption best ((v : ℕ) (side : Side) → side_number v side < upto → side_load side v graph.transfers ≡ 0) (λ (b : BestSide). IsBestSide graph b upto)

@@ -45,7 +45,7 @@ ghost use Rattle.mig_bounds.specs.Components.{AreLimitSums, AreInsides, AreCompo
 /// For each label, the sum of the limits of the disks that have it.
 fn limit_sums(alloc: Global, graph: &Graph, labels: &[u32]) -> Result<Vec<u32>, AllocError>
     requires joint { is_duplex graph.now.disks ≡ false }
-    requires labelling { IsLabelling graph.now labels.now (length graph.now.trips) }
+    requires labelling { IsLabelling graph.now labels.now (length graph.now.transfers) }
     ensures { IfOk result (λ sums. AreLimitSums graph.now labels.now (length graph.now.disks) sums.items) }
 {
     let mut sums = vec![in alloc; 0; labels.len()]?;
@@ -58,8 +58,8 @@ fn limit_sums(alloc: Global, graph: &Graph, labels: &[u32]) -> Result<Vec<u32>, 
 /// For each label, how many edges leave the disks that have it.
 fn insides_of(alloc: Global, graph: &Graph, labels: &[u32]) -> Result<Vec<u32>, AllocError>
     requires valid { IsGraph graph.now }
-    requires labelling { IsLabelling graph.now labels.now (length graph.now.trips) }
-    ensures { IfOk result (λ insides. AreInsides labels.now graph.now.trips insides.items) }
+    requires labelling { IsLabelling graph.now labels.now (length graph.now.transfers) }
+    ensures { IfOk result (λ insides. AreInsides labels.now graph.now.transfers insides.items) }
 {
     let mut insides = vec![in alloc; 0; labels.len()]?;
     for edge in 0..graph.edges() {

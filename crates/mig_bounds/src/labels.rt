@@ -9,7 +9,7 @@ use std::alloc::{AllocError, Global};
 
 /// For each disk, the least disk of its component.
 pub fn labels_of(alloc: Global, graph: &Graph) -> Result<Vec<u32>, AllocError>
-    ensures { IfOk result (λ labels. IsLabelling graph.now labels.items (length graph.now.trips)) }
+    ensures { IfOk result (λ labels. IsLabelling graph.now labels.items (length graph.now.transfers)) }
 {
     let mut labels = own_labels(alloc, graph)?;
     for edge in 0..graph.edges() {
@@ -29,7 +29,7 @@ fn own_labels(alloc: Global, graph: &Graph) -> Result<Vec<u32>, AllocError>
 /// are told apart in this way, so that all edges take no more than n * n steps.
 fn join_ends(graph: &Graph, labels: &mut [u32], edge: u32)
     requires valid { IsGraph graph.now }
-    requires there { edge < length graph.now.trips }
+    requires there { edge < length graph.now.transfers }
     requires before { IsLabelling graph.now labels.old edge }
     ensures { IsLabelling graph.now labels.new (edge + 1) }
 {

@@ -36,7 +36,7 @@ pub fn pair(graph: &Graph, pairs: &[u32], a: u32, b: u32) -> u32
     requires table { IsPairTable graph.now pairs.now }
     requires a_there { a < length graph.now.disks }
     requires b_there { b < length graph.now.disks }
-    ensures count { result ≡ between a b graph.now.trips }
+    ensures count { result ≡ between a b graph.now.transfers }
     ensures most { result ≤ MAX_ITEMS }
     ensures valid { IsGraph graph.now }
 {
@@ -60,7 +60,7 @@ pub fn tops_of(alloc: Global, graph: &Graph, pairs: &[u32]) -> Result<Vec<u32>, 
 fn top_of(graph: &Graph, pairs: &[u32], a: u32) -> u32
     requires table { IsPairTable graph.now pairs.now }
     requires there { a < length graph.now.disks }
-    ensures above { (b : ℕ) → b < length graph.now.disks → between a b graph.now.trips ≤ result }
+    ensures above { (b : ℕ) → b < length graph.now.disks → between a b graph.now.transfers ≤ result }
     ensures most { result ≤ MAX_ITEMS }
 {
     let mut top = 0;

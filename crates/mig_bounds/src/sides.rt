@@ -27,7 +27,7 @@ pub fn best_side(graph: &Graph) -> Option<BestSide>
 fn side_of(graph: &Graph, disk: DiskId, side: Side) -> (u32, u32)
     requires split { is_duplex graph.now.disks ≡ true }
     requires there { disk.0 < length graph.now.disks }
-    ensures load { result.0 ≡ side_load side disk.0 graph.now.trips }
+    ensures load { result.0 ≡ side_load side disk.0 graph.now.transfers }
     ensures limit { result.1 ≡ side_limit side (disk_at graph.now.disks disk.0).limits }
     ensures least { 1 ≤ result.1 }
 {

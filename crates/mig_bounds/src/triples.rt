@@ -113,7 +113,7 @@ pub fn inside_three(graph: &Graph, pairs: &[u32], a: u32, b: u32, c: u32) -> u32
     requires order_ab { a < b }
     requires order_bc { b < c }
     requires there { c < length graph.now.disks }
-    ensures inside { result ≡ inside (a ∷ b ∷ c ∷ []) graph.now.trips }
+    ensures inside { result ≡ inside (a ∷ b ∷ c ∷ []) graph.now.transfers }
     ensures most { result ≤ MAX_ITEMS }
 {
     pair(graph, pairs, a, b) + pair(graph, pairs, a, c) + pair(graph, pairs, b, c)

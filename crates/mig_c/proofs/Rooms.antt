@@ -1,6 +1,6 @@
 -- Room that always suffices for a plan.
 use Rattle.mig_base.specs.declared.limits.TheConstants.{MAX_FILE_BYTES}
-use Rattle.mig_c.proofs.Common.{Answers, Bodies, HandsBoth, Roomy, Slice, TOO_SHORT, accepted_valid, arith, length, plans_bytes, refl, sym, zero, suc, ℕ, ⊎_elim, ◌∙◌, ◌≡◌, ◌≢◌, ◌≤◌}
+use Rattle.mig_c.proofs.Common.{Answers, ThreeFiles, HandsBoth, Roomy, Slice, TOO_SHORT, accepted_valid, arith, length, plans_bytes, refl, sym, zero, suc, ℕ, ⊎_elim, ◌∙◌, ◌≡◌, ◌≢◌, ◌≤◌}
 use Rattle.mig_c.proofs.HandedBack.{ends_done}
 use Rattle.mig_cert.proofs.CertLengths.{short_text as short_cert}
 use Rattle.mig_text.proofs.ShiftCounts.{short_text as short_plan}
@@ -12,7 +12,7 @@ wanting {status = zero} a is low = ⊎_elim (λ d. absurd (let e = d.1 in omega 
 wanting {status = suc n} a is low = absurd (low (sym (a.other (λ e. cc)) ∙ is))
 
 -- a plan and its certificate are short
-pub plan_fits : {bytes : Bodies} {plan text : Slice} {result : ℕ} → HandsBoth (plans_bytes bytes) plan text result → MAX_FILE_BYTES ≤ length plan.before → MAX_FILE_BYTES ≤ length text.before → result ≢ TOO_SHORT
+pub plan_fits : {bytes : ThreeFiles} {plan text : Slice} {result : ℕ} → HandsBoth (plans_bytes bytes) plan text result → MAX_FILE_BYTES ≤ length plan.before → MAX_FILE_BYTES ≤ length text.before → result ≢ TOO_SHORT
 plan_fits {bytes = bytes} {plan = plan} {text = text} h plan_room text_room is =
     let w = wanting h.answers is (λ e. let most = code_most h.ends.outcome in omega (arith, h.ends.is, e, most)) in
     let d = ends_done h.ends w.0 in

@@ -1,5 +1,5 @@
 -- Which statuses the calls have.
-use Rattle.mig_c.proofs.Common.{Blamed, Bodies, Found, HandsBoth, HandsText, LayoutBodies, List, NoDisk, NoFreeSlot, NoRoom, NotSpelled, Option, Outcome, PlanBodies, Reader, Refused, Slice, TOO_SHORT}
+use Rattle.mig_c.proofs.Common.{Blamed, Found, HandsBoth, HandsText, LayoutBodies, List, NoDisk, NoFreeSlot, NoRoom, NotSpelled, Option, Outcome, PlanBodies, Reader, Refused, Slice, TOO_SHORT, ThreeFiles}
 use Rattle.mig_c.proofs.Common.{TooMany, Unlisted, code, drains_bytes, inl, inr, lays_out_after, plans_bytes, plans_tight_bytes, reads_verdict, refl, ℕ, ◌≡◌, ◌⊎◌}
 use Rattle.mig_c.proofs.HandedBack.{handed_status}
 use Rattle.mig_words.specs.declared.endings.TextFile.TheVariants as text_file
@@ -16,12 +16,12 @@ IsJudgeStatus n = (n ≡ 0) ⊎ (n ≡ 1) ⊎ (n ≡ 3) ⊎ (n ≡ 7) ⊎ (n ≡
 abbrev pub IsDrainStatus : ℕ → Type 0
 IsDrainStatus n = (n ≡ 0) ⊎ (n ≡ 2) ⊎ (n ≡ 3) ⊎ (n ≡ 7) ⊎ (n ≡ 14) ⊎ (n ≡ TOO_SHORT)
 
-plan_stops : (bytes : Bodies) (made : List ℕ) (o : Outcome) → (plans_bytes bytes made).Stops o → IsPlanStatus (code o)
+plan_stops : (bytes : ThreeFiles) (made : List ℕ) (o : Outcome) → (plans_bytes bytes made).Stops o → IsPlanStatus (code o)
 plan_stops bytes made (Found (Refused f n w)) (inl h) = inr (inl refl)
 plan_stops bytes made _ (inl h) = absurd h
 plan_stops bytes made o (inr (input, read, none)) = absurd none
 
-tight_stops : (bytes : Bodies) (made : List ℕ) (o : Outcome) → (plans_tight_bytes bytes made).Stops o → IsTightStatus (code o)
+tight_stops : (bytes : ThreeFiles) (made : List ℕ) (o : Outcome) → (plans_tight_bytes bytes made).Stops o → IsTightStatus (code o)
 tight_stops bytes made (Found (Refused f n w)) (inl h) = inr (inl refl)
 tight_stops bytes made _ (inl h) = absurd h
 tight_stops bytes made (Found (TooMany name needs slots)) (inr (input, read, inl h)) = inr (inr (inr (inl refl)))
@@ -59,10 +59,10 @@ after_stops k reader bytes (Found (Blamed b name)) (inr (input, read, inr (round
 after_stops k reader bytes _ (inr (input, read, inr (rounds, plan, inl h))) = absurd h
 after_stops k reader bytes o (inr (input, read, inr (rounds, plan, inr (u, ran, none)))) = absurd none
 
-pub plan_statuses : {bytes : Bodies} {plan text : Slice} {result : ℕ} → HandsBoth (plans_bytes bytes) plan text result → IsPlanStatus result
+pub plan_statuses : {bytes : ThreeFiles} {plan text : Slice} {result : ℕ} → HandsBoth (plans_bytes bytes) plan text result → IsPlanStatus result
 plan_statuses {bytes = bytes} h = handed_status IsPlanStatus h (inl refl) (inr (inr (inr refl))) (inr (inr (inl refl))) (plan_stops bytes)
 
-pub tight_statuses : {bytes : Bodies} {plan text : Slice} {result : ℕ} → HandsBoth (plans_tight_bytes bytes) plan text result → IsTightStatus result
+pub tight_statuses : {bytes : ThreeFiles} {plan text : Slice} {result : ℕ} → HandsBoth (plans_tight_bytes bytes) plan text result → IsTightStatus result
 tight_statuses {bytes = bytes} h = handed_status IsTightStatus h (inl refl) (inr (inr (inr (inr refl)))) (inr (inr (inl refl))) (tight_stops bytes)
 
 pub drain_statuses : {bytes : LayoutBodies} {name : List ℕ} {next text : Slice} {result : ℕ} → HandsBoth (drains_bytes bytes name) next text result → IsDrainStatus result

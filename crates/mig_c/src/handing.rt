@@ -1,13 +1,13 @@
 //! What a call hands back in the caller's slices.
 ghost use Rattle.std.specs.Prelude.{◌≡◌, ◌≤◌, ◌↔◌, IsTrue, length};
-ghost use Rattle.mig_c.specs.Slices.{Answers, Fits, Holds, slice};
+ghost use Rattle.mig_c.specs.Slices.{Answers, HoldsBytes, TextFits, slice};
 
 /// The status for a slice that is too short for a text of status 0.
 const TOO_SHORT: u32 = 100;
 
 /// Puts as much of a text into a slice as fits, and gives its length. Answers whether all of it fits.
 fn hand(text: &[u8], into: &mut [u8], len: &mut usize) -> bool
-    ensures holds { Holds text.now (slice into.old into.new len.new) }
+    ensures holds { HoldsBytes text.now (slice into.old into.new len.new) }
     ensures fits { IsTrue result ↔ length text.now ≤ length into.old }
 {
     let part = text.len().min(into.len());
@@ -36,9 +36,9 @@ pub fn hand_both(
     text: &mut [u8],
     text_len: &mut usize,
 ) -> u32
-    ensures in_plan { Holds made.now (slice plan.old plan.new plan_len.new) }
-    ensures in_text { Holds told.now (slice text.old text.new text_len.new) }
-    ensures answers { Answers status (Fits made.now (slice plan.old plan.new plan_len.new) × Fits told.now (slice text.old text.new text_len.new)) result }
+    ensures in_plan { HoldsBytes made.now (slice plan.old plan.new plan_len.new) }
+    ensures in_text { HoldsBytes told.now (slice text.old text.new text_len.new) }
+    ensures answers { Answers status (TextFits made.now (slice plan.old plan.new plan_len.new) × TextFits told.now (slice text.old text.new text_len.new)) result }
 {
     let plan_fits = hand(made, plan, plan_len);
     let text_fits = hand(told, text, text_len);
@@ -47,8 +47,8 @@ pub fn hand_both(
 
 /// Hands back what was told.
 pub fn hand_text(status: u8, told: &[u8], text: &mut [u8], text_len: &mut usize) -> u32
-    ensures in_text { Holds told.now (slice text.old text.new text_len.new) }
-    ensures answers { Answers status (Fits told.now (slice text.old text.new text_len.new)) result }
+    ensures in_text { HoldsBytes told.now (slice text.old text.new text_len.new) }
+    ensures answers { Answers status (TextFits told.now (slice text.old text.new text_len.new)) result }
 {
     let fits = hand(told, text, text_len);
     answer(status, fits)

@@ -3,7 +3,7 @@ ghost use Rattle.std.specs.Prelude.{◌≡◌, ◌≢◌, ◌↔◌, ◌⊎◌, 
 ghost use Rattle.mig_c.specs.Slices.{TOO_SHORT};
 ghost use Rattle.mig_numbers.specs.Drains.{CantDrain, HandsDrain};
 ghost use Rattle.mig_numbers.specs.Handed.{HandsPlan};
-ghost use Rattle.mig_numbers.specs.Judged.{IsBlamed, IsRight, IsUnspelled};
+ghost use Rattle.mig_numbers.specs.Judged.{AreRightNumbers, IsBlamed, IsUnspelled};
 ghost use Rattle.mig_numbers.specs.Numbers.{input_of};
 ghost use Rattle.mig_numbers.specs.Refusals.{AreThere, Refuses, RefusesUnfit};
 ghost use Rattle.mig_numbers.specs.Rounds.{HandsRounds, IsOfPairs, disks_for, items_for};
@@ -83,7 +83,7 @@ pub extern "C" fn migrate_check_numbers(
     refused: &mut Refused,
 ) -> u32
     // The plan that the shifts spell runs and moves each relocated item once, what was found is so, and the verdict says whether no plan is shorter by the bound.
-    ensures right { result ≡ 0 → IsRight split disks.now items.now shifts.now set.now found.now verdict.new }
+    ensures right { result ≡ 0 → AreRightNumbers split disks.now items.now shifts.now set.now found.now verdict.new }
     ensures blamed { result ≡ 1 → IsBlamed split disks.now items.now shifts.now set.now found.now verdict.new }
     ensures refused { result ≡ 3 → Refuses split disks.now items.now refused.new }
     ensures unspelled { result ≡ 10 → IsUnspelled split disks.now items.now shifts.now set.now found.now verdict.new }

@@ -1,22 +1,22 @@
 -- The names that the proofs of this crate cite, passed on from one place. Declares nothing.
 pub use Rattle.indexmap.specs.IndexSet.{IndexSet, IsUnique, insert_key}
 pub use Rattle.mig_base.specs.InputLists.{AreDifferent}
-pub use Rattle.mig_calls.specs.FileBytes.{byte_at, no_byte, picked, settled, settled_as, with_written, written_over}
-pub use Rattle.mig_calls.specs.Files.{Files, FilesChange, FilesLook, FilesState, FilesWrite, HasBytes, IsLeftFilesBut, IsSettledAt, IsWithin, KeepsFlags, KeepsRights, NoByte, SameFilesBut}
+pub use Rattle.mig_calls.specs.FileBytes.{byte_at, no_byte, picked_byte, settled, settled_as, with_written, written_over}
+pub use Rattle.mig_calls.specs.Files.{FilesChange, FilesLook, FilesState, FilesWrite, HasBytes, IsLeftFilesBut, IsSettledAt, IsWithin, KeepsFlags, KeepsRights, NoByte, PlaceBytes, SameFilesBut}
 pub use Rattle.mig_calls.specs.Files.{TouchesFile}
-pub use Rattle.mig_calls.specs.MemFiles.{FileMoment, Seen, after_write, change_at, changed, crashed, first_or, left_file, look, moment_of, no_file, on_file, place_of, seen_all, seen_of}
+pub use Rattle.mig_calls.specs.MemFiles.{FileMoment, SeenFile, after_write, change_file, changed, crashed, file_moment, first_or, left_file, look, no_file, on_file, place_of, seen_file, seen_files}
 pub use Rattle.mig_calls.specs.MemFiles.{takes_old, with_name}
-pub use Rattle.mig_calls.specs.Memory.{Fits, FitsOne, IsDisk, LeftSince, MayHold, MayLeave, Memory, Moment, after, after_step, blank, mem_is_state, mem_state, reads_of}
+pub use Rattle.mig_calls.specs.Memory.{FileMemory, FilesLeftSince, FilesMoment, FitsFile, FitsOne, IsDisk, MayHold, MayLeaveFiles, after_step, blank_files, files_after, files_state, mem_is_state, reads_of}
 pub use Rattle.mig_calls.specs.Places.{is_place}
 pub use Rattle.mig_calls.specs.contracts.places.PlacePartialEq.TheImpl.{eq-value}
 pub use Rattle.mig_calls.specs.declared.file_bytes.Byte.{Byte}
-pub use Rattle.mig_calls.specs.declared.mem_disk.Step.{Step}
-pub use Rattle.mig_calls.specs.declared.mem_disk.Step.TheVariants.{Changed, Crashed, Named}
+pub use Rattle.mig_calls.specs.declared.mem_disk.FilesStep.{FilesStep}
+pub use Rattle.mig_calls.specs.declared.mem_disk.FilesStep.TheVariants.{Changed, Crashed, Named}
 pub use Rattle.mig_calls.specs.declared.mem_file.Change.{Change}
 pub use Rattle.mig_calls.specs.declared.mem_file.Change.TheVariants.{Made, Synced, Wrote}
 pub use Rattle.mig_calls.specs.declared.mem_file.MemFile.{MemFile}
-pub use Rattle.mig_calls.specs.declared.pick.Pick.{Pick}
-pub use Rattle.mig_calls.specs.declared.pick.Pick.TheVariants.{Back, Front, New, Old, Ones}
+pub use Rattle.mig_calls.specs.declared.pick.FilePick.{FilePick}
+pub use Rattle.mig_calls.specs.declared.pick.FilePick.TheVariants.{Back, Front, New, Old, Ones}
 pub use Rattle.mig_calls.specs.declared.places.Place.{Place}
 pub use Rattle.mig_calls.specs.declared.places.Place.TheVariants.{Disk, Journal}
 pub use Rattle.std.proofs.Common.{Bool, Err, List, MatchOption, None, Ok, OnErr, OnOk, Option, Result, Some, [], ap, arith, cond, drop, false, get_or, inl, inr, is_some, length, length-append}

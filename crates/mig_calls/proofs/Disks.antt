@@ -1,47 +1,47 @@
 -- What steps make of the lists that are kept.
-use Rattle.mig_calls.proofs.Common.{Back, Change, Changed, Crashed, FileMoment, Front, IsDisk, List, Moment, Named, New, Old, Ones, Pick, Place, Seen, Step, [], after, after_step, ap, blank}
-use Rattle.mig_calls.proofs.Common.{change_at, changed, crashed, fold-append, look, map, map-append, no_file, on_file, place_of, refl, sym, with_name, ◌++◌, ◌∙◌, ◌∷◌, ◌≡◌}
+use Rattle.mig_calls.proofs.Common.{Back, Change, Changed, Crashed, FileMoment, FilePick, FilesMoment, FilesStep, Front, IsDisk, List, Named, New, Old, Ones, Place, SeenFile, [], after_step, ap, blank_files, files_after}
+use Rattle.mig_calls.proofs.Common.{change_file, changed, crashed, fold-append, look, map, map-append, no_file, on_file, place_of, refl, sym, with_name, ◌++◌, ◌∙◌, ◌∷◌, ◌≡◌}
 use Rattle.mig_calls.proofs.FileLists.{look-map, places-map, look-push}
 
-pub after-push : (steps : List Step) (step : Step) → after (steps ++ step ∷ []) ≡ after_step (after steps) step
-after-push steps step = fold-append after_step blank steps (step ∷ [])
+pub after-push : (steps : List FilesStep) (step : FilesStep) → files_after (steps ++ step ∷ []) ≡ after_step (files_after steps) step
+after-push steps step = fold-append after_step blank_files steps (step ∷ [])
 
-module _ (steps new : List Step) (table : List Place) (seen after_all : List Seen) (is : IsDisk steps table seen) where
+module _ (steps new : List FilesStep) (table : List Place) (seen after_all : List SeenFile) (is : IsDisk steps table seen) where
   -- all files changed
-  all_changed : (step : Step) (change : FileMoment → FileMoment) → change no_file ≡ no_file → (after_step (after steps) step).files ≡ (λ place. change ((after steps).files place))
+  all_changed : (step : FilesStep) (change : FileMoment → FileMoment) → change no_file ≡ no_file → (after_step (files_after steps) step).files ≡ (λ place. change ((files_after steps).files place))
       → after_all ≡ map (on_file change) seen → new ≡ steps ++ step ∷ [] → IsDisk new table after_all
   all_changed step change none files mapped pushed = record {
     places = is.places ∙ sym (places-map change seen) ∙ ap (map place_of) (sym mapped);
     shown = λ place.
-        ap (λ (l : List Seen). look l place) mapped ∙ look-map change none seen place ∙ ap change (is.shown place)
-        ∙ sym (ap (λ (f : Place → FileMoment). f place) files) ∙ ap (λ (m : Moment). m.files place) (sym (ap after pushed ∙ after-push steps step));
+        ap (λ (l : List SeenFile). look l place) mapped ∙ look-map change none seen place ∙ ap change (is.shown place)
+        ∙ sym (ap (λ (f : Place → FileMoment). f place) files) ∙ ap (λ (m : FilesMoment). m.files place) (sym (ap files_after pushed ∙ after-push steps step));
   }
 
   pub all_named : after_all ≡ map (on_file with_name) seen → new ≡ steps ++ Named ∷ [] → IsDisk new table after_all
   all_named = all_changed Named with_name refl refl
 
-  pub all_crashed : (pick : Pick) → after_all ≡ map (on_file (crashed pick)) seen → new ≡ steps ++ Crashed pick ∷ [] → IsDisk new table after_all
+  pub all_crashed : (pick : FilePick) → after_all ≡ map (on_file (crashed pick)) seen → new ≡ steps ++ Crashed pick ∷ [] → IsDisk new table after_all
   all_crashed pick = all_changed (Crashed pick) (crashed pick) (none pick) refl
     where
-      none : (p : Pick) → crashed p no_file ≡ no_file
+      none : (p : FilePick) → crashed p no_file ≡ no_file
       none Old = refl
       none New = refl
       none Front = refl
       none Back = refl
       none Ones = refl
 
-  pub one_changed : (place : Place) (change : Change) → map place_of after_all ≡ map place_of seen → ((other : Place) → look after_all other ≡ change_at place (changed change) (look seen) other)
+  pub one_changed : (place : Place) (change : Change) → map place_of after_all ≡ map place_of seen → ((other : Place) → look after_all other ≡ change_file place (changed change) (look seen) other)
       → new ≡ steps ++ Changed place change ∷ [] → IsDisk new table after_all
   one_changed place change places looks pushed = record {
     places = is.places ∙ sym places;
-    shown = λ other. looks other ∙ ap (λ (files : Place → FileMoment). change_at place (changed change) files other) (λ i p. is.shown p i)
-        ∙ ap (λ (m : Moment). m.files other) (sym (ap after pushed ∙ after-push steps (Changed place change)));
+    shown = λ other. looks other ∙ ap (λ (files : Place → FileMoment). change_file place (changed change) files other) (λ i p. is.shown p i)
+        ∙ ap (λ (m : FilesMoment). m.files other) (sym (ap files_after pushed ∙ after-push steps (Changed place change)));
   }
 
 -- a file that isn't there is kept
-pub one_added : (steps : List Step) (table more : List Place) (seen after_all : List Seen) (place : Place) → IsDisk steps table seen → more ≡ table ++ place ∷ []
+pub one_added : (steps : List FilesStep) (table more : List Place) (seen after_all : List SeenFile) (place : Place) → IsDisk steps table seen → more ≡ table ++ place ∷ []
     → after_all ≡ seen ++ record { place = place; file = no_file } ∷ [] → IsDisk steps more after_all
 one_added steps table more seen after_all place is added pushed = record {
   places = added ∙ ap (λ (l : List Place). l ++ place ∷ []) is.places ∙ sym (ap (map place_of) pushed ∙ map-append place_of seen (record { place = place; file = no_file } ∷ []));
-  shown = λ other. ap (λ (l : List Seen). look l other) pushed ∙ look-push seen place other ∙ is.shown other;
+  shown = λ other. ap (λ (l : List SeenFile). look l other) pushed ∙ look-push seen place other ∙ is.shown other;
 }

@@ -1,14 +1,14 @@
 -- One change of files after another.
-use Rattle.mig_calls.proofs.Common.{Bool, Err, Files, FilesChange, FilesLook, FilesState, IsLeftFilesBut, IsWithin, KeepsFlags, KeepsRights, Ok, OnErr, OnOk, Place, Result, TouchesFile, arith, inl, inr, ℕ}
+use Rattle.mig_calls.proofs.Common.{Bool, Err, FilesChange, FilesLook, FilesState, IsLeftFilesBut, IsWithin, KeepsFlags, KeepsRights, Ok, OnErr, OnOk, Place, PlaceBytes, Result, TouchesFile, arith, inl, inr, ℕ}
 use Rattle.mig_calls.proofs.Common.{◌∙◌, ◌≡◌, ◌≤◌, ◌⊎◌}
 
 module _ {P : Place → ℕ → Type 0} {a b c : FilesState} (first : FilesChange P P a b) (second : FilesChange P P b c) where
-  back_two : (files : Files) → IsLeftFilesBut P b files → IsLeftFilesBut P a files
+  back_two : (files : PlaceBytes) → IsLeftFilesBut P b files → IsLeftFilesBut P a files
   back_two files left =
       let before = first.crash left.0 left.1 in
       (before.0, before.1, λ place i out. left.2 place i out ∙ before.2 place i out)
 
-  since_two : (t : ℕ) (files : Files) → t ≤ a.moment → b.left_since t files ⊎ IsLeftFilesBut P b files → a.left_since t files ⊎ IsLeftFilesBut P a files
+  since_two : (t : ℕ) (files : PlaceBytes) → t ≤ a.moment → b.left_since t files ⊎ IsLeftFilesBut P b files → a.left_since t files ⊎ IsLeftFilesBut P a files
   since_two t files le (inl left) = first.since t files le left
   since_two t files le (inr left) = inr (back_two files left)
 
@@ -40,7 +40,7 @@ change_within {P} {Q} {a} {b} within change = record {
   images = change.images;
 }
   where
-    more : (files : Files) → IsLeftFilesBut P a files → IsLeftFilesBut Q a files
+    more : (files : PlaceBytes) → IsLeftFilesBut P a files → IsLeftFilesBut Q a files
     more files left = (left.0, left.1, λ place i out. left.2 place i (λ is. out (within place i is)))
 
 pub look_change : {P : Place → ℕ → Type 0} {a b : FilesState} → FilesLook a b → FilesChange P P a b

@@ -1,8 +1,8 @@
 -- The bytes of a file in memory, and what the device has of them.
 use Rattle.std.specs.Prelude.{ℕ, ◌-◌, ◌%◌, true, false, List, Option, Some, None, if◌then◌else◌, nat_lt, slice_get, slice_index_or}
 use Rattle.mig_calls.specs.declared.file_bytes.Byte.{Byte}
-use Rattle.mig_calls.specs.declared.pick.Pick.{Pick}
-use Rattle.mig_calls.specs.declared.pick.Pick.TheVariants.{Old, New, Front, Back, Ones}
+use Rattle.mig_calls.specs.declared.pick.FilePick.{FilePick}
+use Rattle.mig_calls.specs.declared.pick.FilePick.TheVariants.{Old, New, Front, Back, Ones}
 
 -- a byte past the end of its file
 abbrev pub no_byte : Byte
@@ -30,7 +30,7 @@ abbrev pub settled : Byte → Byte
 settled b = settled_as b.shown
 
 -- what a crash leaves of the byte at an offset that isn't settled
-abbrev pub pick_of : Pick → ℕ → Byte → ℕ
+abbrev pub pick_of : FilePick → ℕ → Byte → ℕ
 pick_of Old i b = b.kept
 pick_of New i b = b.shown
 pick_of Front i b = if nat_lt (i % 4096) 2048 then b.shown else b.kept
@@ -38,5 +38,5 @@ pick_of Back i b = if nat_lt (i % 4096) 2048 then b.kept else b.shown
 pick_of Ones i b = 1
 
 -- what it leaves of any byte
-abbrev pub picked : Pick → ℕ → Byte → ℕ
-picked pick i b = if b.loose then pick_of pick i b else b.shown
+abbrev pub picked_byte : FilePick → ℕ → Byte → ℕ
+picked_byte pick i b = if b.loose then pick_of pick i b else b.shown

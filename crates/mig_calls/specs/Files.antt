@@ -8,11 +8,11 @@ use Rattle.mig_calls.specs.declared.calls.Extent.{Extent}
 use Rattle.mig_calls.specs.declared.calls.Extent.TheVariants as extent
 
 -- the bytes of each file by their offsets: zeros past its end, and where it isn't there
-abbrev pub Files : Type 0
-Files = Place → ℕ → ℕ
+abbrev pub PlaceBytes : Type 0
+PlaceBytes = Place → ℕ → ℕ
 
 -- both have the same bytes but at these offsets
-abbrev pub SameFilesBut : (Place → ℕ → Type 0) → Files → Files → Type 0
+abbrev pub SameFilesBut : (Place → ℕ → Type 0) → PlaceBytes → PlaceBytes → Type 0
 SameFilesBut P old new = (place : Place) (i : ℕ) → ¬ P place i → new place i ≡ old place i
 
 abbrev pub NoByte : Place → ℕ → Type 0
@@ -29,13 +29,13 @@ pub record FilesState : Type 1 where
   -- whether a file's bytes are told
   pub told : Place → Bool
   -- what a read of each byte gives
-  pub reads : Files
+  pub reads : PlaceBytes
   -- whether a crash now may leave these files; nothing where that isn't told
-  pub may_leave : Files → Type 0
+  pub may_leave : PlaceBytes → Type 0
   -- a clock
   pub moment : ℕ
   -- whether a crash at some moment from this one on, inside calls too, might have left these files
-  pub left_since : ℕ → Files → Type 0
+  pub left_since : ℕ → PlaceBytes → Type 0
   -- how often a call has failed, or the store gave up
   pub faults : ℕ
   -- how often the store refused for what it found
@@ -53,34 +53,34 @@ pub record FilesState : Type 1 where
 
 -- no byte of the file is unsettled: a crash leaves what reads give
 abbrev pub IsSettledAt : FilesState → Place → Type 0
-IsSettledAt s place = (files : Files) → s.may_leave files → (i : ℕ) → files place i ≡ s.reads place i
+IsSettledAt s place = (files : PlaceBytes) → s.may_leave files → (i : ℕ) → files place i ≡ s.reads place i
 
 -- what files always keep
 pub record IsFilesState (s : FilesState) : Type 0 where
   -- this moment is one of those since an earlier one
-  pub counts_now : (t : ℕ) (files : Files) → t ≤ s.moment → s.may_leave files → s.left_since t files
+  pub counts_now : (t : ℕ) (files : PlaceBytes) → t ≤ s.moment → s.may_leave files → s.left_since t files
   -- since this moment there is no other
-  pub only_now : (files : Files) → s.left_since s.moment files → s.may_leave files
+  pub only_now : (files : PlaceBytes) → s.left_since s.moment files → s.may_leave files
   -- what reads give is what a crash may leave, where that is told
-  pub reads_left : (files : Files) → s.may_leave files → s.may_leave s.reads
+  pub reads_left : (files : PlaceBytes) → s.may_leave files → s.may_leave s.reads
   -- nobody may write once a sync has failed
   pub sure : IsTrue s.claimed → IsTrue s.usable
   -- where none has failed a file is settled once the device has its bytes and its name
   pub settled : IsTrue s.usable → IsTrue s.named → (place : Place) → IsTrue (s.flushed place) → IsSettledAt s place
 
 -- the files come by other bytes at these offsets from some that a crash may leave
-abbrev pub IsLeftFilesBut : (Place → ℕ → Type 0) → FilesState → Files → Type 0
-IsLeftFilesBut P s files = (before : Files) × s.may_leave before × SameFilesBut P before files
+abbrev pub IsLeftFilesBut : (Place → ℕ → Type 0) → FilesState → PlaceBytes → Type 0
+IsLeftFilesBut P s files = (before : PlaceBytes) × s.may_leave before × SameFilesBut P before files
 
 -- From old to new other bytes come in reads at the offsets of P alone, and in what a crash may leave, inside calls too, at those of Q alone.
 pub record FilesChange (P Q : Place → ℕ → Type 0) (old new : FilesState) : Type 0 where
   pub told : new.told ≡ old.told
   pub bytes : SameFilesBut P old.reads new.reads
-  pub crash : (files : Files) → new.may_leave files → IsLeftFilesBut Q old files
+  pub crash : (files : PlaceBytes) → new.may_leave files → IsLeftFilesBut Q old files
   pub later : old.moment ≤ new.moment
   pub refused : old.refused ≤ new.refused
-  pub since : (t : ℕ) (files : Files) → t ≤ old.moment → new.left_since t files → old.left_since t files ⊎ IsLeftFilesBut Q old files
-  pub keeps : (t : ℕ) (files : Files) → t ≤ old.moment → old.left_since t files → new.left_since t files
+  pub since : (t : ℕ) (files : PlaceBytes) → t ≤ old.moment → new.left_since t files → old.left_since t files ⊎ IsLeftFilesBut Q old files
+  pub keeps : (t : ℕ) (files : PlaceBytes) → t ≤ old.moment → old.left_since t files → new.left_since t files
   -- what a crash may leave goes on being told
   pub images : old.may_leave old.reads → new.may_leave new.reads
 

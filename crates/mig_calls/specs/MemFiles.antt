@@ -4,11 +4,11 @@ use Rattle.mig_calls.specs.declared.file_bytes.Byte.{Byte}
 use Rattle.mig_calls.specs.declared.mem_file.MemFile.{MemFile}
 use Rattle.mig_calls.specs.declared.mem_file.Change.{Change}
 use Rattle.mig_calls.specs.declared.mem_file.Change.TheVariants.{Made, Wrote, Synced}
-use Rattle.mig_calls.specs.declared.pick.Pick.{Pick}
-use Rattle.mig_calls.specs.declared.pick.Pick.TheVariants.{Old, Back}
+use Rattle.mig_calls.specs.declared.pick.FilePick.{FilePick}
+use Rattle.mig_calls.specs.declared.pick.FilePick.TheVariants.{Old, Back}
 use Rattle.mig_calls.specs.declared.places.Place.{Place}
 use Rattle.mig_calls.specs.Places.{is_place}
-use Rattle.mig_calls.specs.FileBytes.{no_byte, byte_at, with_written, settled, settled_as, picked}
+use Rattle.mig_calls.specs.FileBytes.{no_byte, byte_at, with_written, settled, settled_as, picked_byte}
 
 -- what is under a name at one moment
 pub record FileMoment : Type 0 where
@@ -24,8 +24,8 @@ abbrev pub no_file : FileMoment
 no_file = record { now = λ i. no_byte; olds = []; flushed = true }
 
 -- what the program keeps of it
-abbrev pub moment_of : MemFile → FileMoment
-moment_of f = record { now = byte_at f.now; olds = map byte_at f.olds.items; flushed = f.flushed }
+abbrev pub file_moment : MemFile → FileMoment
+file_moment f = record { now = byte_at f.now; olds = map byte_at f.olds.items; flushed = f.flushed }
 
 -- a file after values were written to it from an offset on
 abbrev pub after_write : ℕ → List ℕ → FileMoment → FileMoment
@@ -42,7 +42,7 @@ abbrev pub with_name : FileMoment → FileMoment
 with_name f = record { now = f.now; olds = []; flushed = f.flushed }
 
 -- whether a crash leaves the file that the device had under the name
-abbrev pub takes_old : Pick → Bool
+abbrev pub takes_old : FilePick → Bool
 takes_old Old = true
 takes_old Back = true
 takes_old pick = false
@@ -53,36 +53,36 @@ first_or now [] = now
 first_or now (old ∷ olds) = old
 
 -- the file that a crash leaves
-abbrev pub left_file : Pick → FileMoment → ℕ → Byte
+abbrev pub left_file : FilePick → FileMoment → ℕ → Byte
 left_file pick f = if takes_old pick then first_or f.now f.olds else f.now
 
 -- a file after a crash
-abbrev pub crashed : Pick → FileMoment → FileMoment
-crashed pick f = record { now = λ i. settled_as (picked pick i (left_file pick f i)); olds = []; flushed = true }
+abbrev pub crashed : FilePick → FileMoment → FileMoment
+crashed pick f = record { now = λ i. settled_as (picked_byte pick i (left_file pick f i)); olds = []; flushed = true }
 
 -- what a list of files shows of one of them
-pub record Seen : Type 0 where
+pub record SeenFile : Type 0 where
   pub place : Place
   pub file : FileMoment
 
-abbrev pub seen_of : MemFile → Seen
-seen_of f = record { place = f.place; file = moment_of f }
+abbrev pub seen_file : MemFile → SeenFile
+seen_file f = record { place = f.place; file = file_moment f }
 
-abbrev pub seen_all : List MemFile → List Seen
-seen_all files = map seen_of files
+abbrev pub seen_files : List MemFile → List SeenFile
+seen_files files = map seen_file files
 
-abbrev pub place_of : Seen → Place
+abbrev pub place_of : SeenFile → Place
 place_of s = s.place
 
 -- the file of a place, where it is one of these
-abbrev pub look : List Seen → Place → FileMoment
+abbrev pub look : List SeenFile → Place → FileMoment
 look [] place = no_file
 look (s ∷ seen) place = if is_place s.place place then s.file else look seen place
 
 -- the files, with a change of one of them
-abbrev pub change_at : Place → (FileMoment → FileMoment) → (Place → FileMoment) → Place → FileMoment
-change_at place change files other = if is_place place other then change (files other) else files other
+abbrev pub change_file : Place → (FileMoment → FileMoment) → (Place → FileMoment) → Place → FileMoment
+change_file place change files other = if is_place place other then change (files other) else files other
 
 -- a change of any file
-abbrev pub on_file : (FileMoment → FileMoment) → Seen → Seen
+abbrev pub on_file : (FileMoment → FileMoment) → SeenFile → SeenFile
 on_file change s = record { place = s.place; file = change s.file }

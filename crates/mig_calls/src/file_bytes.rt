@@ -1,8 +1,8 @@
 //! The bytes of a file in memory, and what the device has of them.
 ghost use Rattle.std.specs.Prelude.{◌≡◌, ◌≤◌, ◌<◌, ◌+◌, [], ℕ, OnOk, OnErr, IfOk, length, slice_index};
-ghost use Rattle.mig_calls.specs.FileBytes.{byte_at, no_byte, with_written, settled, settled_as, picked};
+ghost use Rattle.mig_calls.specs.FileBytes.{byte_at, no_byte, with_written, settled, settled_as, picked_byte};
 
-use crate::pick::Pick;
+use crate::pick::FilePick;
 use std::alloc::{AllocError, Global};
 use std::marker::Model;
 
@@ -40,21 +40,21 @@ const NO_BYTE: Byte = Byte {
 
 impl Byte {
     // What a crash leaves of the byte at this offset.
-    fn picked(&self, pick: Pick, at: usize) -> u8
-        ensures { result ≡ picked pick at self.now }
+    fn picked(&self, pick: FilePick, at: usize) -> u8
+        ensures { result ≡ picked_byte pick at self.now }
     {
         if !self.loose {
             return self.shown;
         }
         let front = at % 4096 < 2048;
         match pick {
-            Pick::Old => self.kept,
-            Pick::New => self.shown,
-            Pick::Front if front => self.shown,
-            Pick::Front => self.kept,
-            Pick::Back if front => self.kept,
-            Pick::Back => self.shown,
-            Pick::Ones => 1,
+            FilePick::Old => self.kept,
+            FilePick::New => self.shown,
+            FilePick::Front if front => self.shown,
+            FilePick::Front => self.kept,
+            FilePick::Back if front => self.kept,
+            FilePick::Back => self.shown,
+            FilePick::Ones => 1,
         }
     }
 }
@@ -137,8 +137,8 @@ impl FileBytes {
     }
 
     /// Keeps what a crash leaves of each byte.
-    pub fn crash(&mut self, pick: Pick)
-        ensures { (i : ℕ) → byte_at self.new i ≡ settled_as (picked pick i (byte_at self.old i)) }
+    pub fn crash(&mut self, pick: FilePick)
+        ensures { (i : ℕ) → byte_at self.new i ≡ settled_as (picked_byte pick i (byte_at self.old i)) }
     {
         for i in 0..self.bytes.len() {
             let value = self.bytes[i].picked(pick, i);

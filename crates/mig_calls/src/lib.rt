@@ -17,7 +17,7 @@ mod values;
 
 pub use calls::{CallError, Calls, Extent, Written};
 pub use memory::MemCalls;
-pub use pick::Pick;
+pub use pick::FilePick;
 pub use places::Place;
 pub use refusals::Refusal;
-pub use trouble::Trouble;
+pub use trouble::CallTrouble;

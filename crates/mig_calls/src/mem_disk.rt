@@ -1,13 +1,13 @@
 //! A device with files in memory, and what was done to them.
 ghost use Rattle.std.specs.Prelude.{◌≡◌, ◌≤◌, ◌<◌, ◌+◌, ◌++◌, ◌∷◌, [], ℕ, OnOk, OnErr, IfSome, IfNone, length, slice_index};
-ghost use Rattle.mig_calls.specs.MemFiles.{no_file, moment_of};
-ghost use Rattle.mig_calls.specs.Memory.{after, reads_of};
-ghost use Rattle.mig_calls.specs.declared.mem_disk.Step.TheVariants.{Changed, Named, Crashed};
+ghost use Rattle.mig_calls.specs.MemFiles.{no_file, file_moment};
+ghost use Rattle.mig_calls.specs.Memory.{files_after, reads_of};
+ghost use Rattle.mig_calls.specs.declared.mem_disk.FilesStep.TheVariants.{Changed, Named, Crashed};
 
 use crate::growing::push;
 use crate::mem_file::{Change, MemFile};
 use crate::mem_files;
-use crate::pick::Pick;
+use crate::pick::FilePick;
 use crate::place_table::PlaceTable;
 use crate::places::Place;
 use std::alloc::{AllocError, Global};
@@ -15,13 +15,13 @@ use std::marker::Model;
 
 /// What was done to the files.
 #[derive(Drop)]
-pub enum Step {
+pub enum FilesStep {
     /// One of them changed.
     Changed { place: Place, change: Change },
     /// The names of all files were brought to the device.
     Named,
     /// A crash came.
-    Crashed { pick: Pick },
+    Crashed { pick: FilePick },
 }
 
 /// Files in memory, and the steps that made them. Reads and changes don't depend on how many steps there were.
@@ -29,7 +29,7 @@ pub struct MemDisk {
     alloc: Global,
     table: PlaceTable,
     files: Vec<MemFile>,
-    steps: Vec<Step>,
+    steps: Vec<FilesStep>,
 }
 
 impl Drop for MemDisk {
@@ -45,16 +45,16 @@ impl Drop for MemDisk {
 
 impl Model for MemDisk {
     ghost use Rattle.std.specs.Prelude.{List};
-    ghost use Rattle.mig_calls.specs.declared.mem_disk.Step.{Step};
+    ghost use Rattle.mig_calls.specs.declared.mem_disk.FilesStep.{FilesStep};
     ghost use Rattle.mig_calls.specs.FileBytes.{byte_at};
-    ghost use Rattle.mig_calls.specs.MemFiles.{seen_all};
+    ghost use Rattle.mig_calls.specs.MemFiles.{seen_files};
     ghost use Rattle.mig_calls.specs.Memory.{IsDisk};
 
-    ghost Value = { List Step };
+    ghost Value = { List FilesStep };
 
     ghost view = { λ d. d.steps.items };
 
-    ghost invariant = { λ d. IsDisk d.steps.items d.table (seen_all d.files.items) };
+    ghost invariant = { λ d. IsDisk d.steps.items d.table (seen_files d.files.items) };
 }
 
 impl MemDisk {
@@ -92,7 +92,7 @@ impl MemDisk {
         self.add(&place)?;
         self.steps.reserve(1)?;
         mem_files::change(&self.table, &mut self.files, self.alloc, &place, &change)?;
-        push(&mut self.steps, Step::Changed { place, change });
+        push(&mut self.steps, FilesStep::Changed { place, change });
         Ok(())
     }
 
@@ -104,26 +104,26 @@ impl MemDisk {
         let _journal = Place::Journal;
         self.steps.reserve(1)?;
         mem_files::name_all(&mut self.files);
-        push(&mut self.steps, Step::Named);
+        push(&mut self.steps, FilesStep::Named);
         Ok(())
     }
 
     /// Keeps what a crash leaves of each file. An error is want of memory, and changes nothing.
-    pub fn crash(&mut self, pick: Pick) -> Result<(), AllocError>
+    pub fn crash(&mut self, pick: FilePick) -> Result<(), AllocError>
         ensures done { OnOk result (self.new ≡ self.old ++ Crashed pick ∷ []) }
         ensures nothing { OnErr result (self.new ≡ self.old) }
     {
         let _journal = Place::Journal;
         self.steps.reserve(1)?;
         mem_files::crash_all(&mut self.files, pick);
-        push(&mut self.steps, Step::Crashed { pick });
+        push(&mut self.steps, FilesStep::Crashed { pick });
         Ok(())
     }
 
     /// The file of a place, where one is kept.
     pub fn file(&self, place: &Place) -> Option<&MemFile>
-        ensures some { IfSome result (λ file. moment_of file.now ≡ (after self.now).files place.now) }
-        ensures none { IfNone result ((after self.now).files place.now ≡ no_file) }
+        ensures some { IfSome result (λ file. file_moment file.now ≡ (files_after self.now).files place.now) }
+        ensures none { IfNone result ((files_after self.now).files place.now ≡ no_file) }
     {
         mem_files::get(&self.table, &self.files, place)
     }
@@ -131,8 +131,8 @@ impl MemDisk {
     /// Reads bytes of a file from an offset on, so many at most, and tells how many there are.
     pub fn read(&self, place: &Place, at: u64, most: usize, into: &mut [u8]) -> usize
         ensures count { result ≤ length into.old }
-        ensures values { (i : ℕ) → i < result → slice_index into.new i ≡ reads_of (after self.now) place.now (at + i) }
-        ensures end { result ≡ 0 → 0 < length into.old → 0 < most → (i : ℕ) → at ≤ i → reads_of (after self.now) place.now i ≡ 0 }
+        ensures values { (i : ℕ) → i < result → slice_index into.new i ≡ reads_of (files_after self.now) place.now (at + i) }
+        ensures end { result ≡ 0 → 0 < length into.old → 0 < most → (i : ℕ) → at ≤ i → reads_of (files_after self.now) place.now i ≡ 0 }
     {
         match self.file(place) {
             Some(file) => file.now.read(at, most, into),
@@ -142,7 +142,7 @@ impl MemDisk {
 
     /// How many bytes a file has, and whether it was made.
     pub fn len(&self, place: &Place) -> (usize, bool)
-        ensures { (i : ℕ) → result.0 ≤ i → reads_of (after self.now) place.now i ≡ 0 }
+        ensures { (i : ℕ) → result.0 ≤ i → reads_of (files_after self.now) place.now i ≡ 0 }
     {
         match self.file(place) {
             Some(file) => (file.now.len(), file.there),

@@ -1,11 +1,11 @@
 //! A file in memory: what is under its name, and what the device may have under it.
 ghost use Rattle.std.specs.Prelude.{◌≡◌, OnOk, OnErr, map};
 ghost use Rattle.mig_calls.specs.declared.mem_file.Change.TheVariants.{Made, Synced};
-ghost use Rattle.mig_calls.specs.MemFiles.{no_file, moment_of, changed, after_write, with_name, first_or, crashed};
+ghost use Rattle.mig_calls.specs.MemFiles.{no_file, file_moment, changed, after_write, with_name, first_or, crashed};
 ghost use Rattle.mig_calls.specs.FileBytes.{byte_at};
 
 use crate::file_bytes::FileBytes;
-use crate::pick::Pick;
+use crate::pick::FilePick;
 use crate::places::Place;
 use crate::values::Values;
 use std::alloc::{AllocError, Global};
@@ -39,7 +39,7 @@ impl MemFile {
     /// No file.
     pub fn new(alloc: Global, place: &Place) -> MemFile
         ensures place { result.place ≡ place.now }
-        ensures none { moment_of result ≡ no_file }
+        ensures none { file_moment result ≡ no_file }
     {
         MemFile {
             place: *place,
@@ -52,8 +52,8 @@ impl MemFile {
 
     fn make(&mut self, alloc: Global) -> Result<(), AllocError>
         ensures place { self.new.place ≡ self.old.place }
-        ensures done { OnOk result (moment_of self.new ≡ changed Made (moment_of self.old)) }
-        ensures nothing { OnErr result (moment_of self.new ≡ moment_of self.old) }
+        ensures done { OnOk result (file_moment self.new ≡ changed Made (file_moment self.old)) }
+        ensures nothing { OnErr result (file_moment self.new ≡ file_moment self.old) }
     {
         let before = self.now.copied(alloc)?;
         match self.olds.insert(0, before) {
@@ -66,8 +66,8 @@ impl MemFile {
 
     fn write(&mut self, at: u64, values: &Values) -> Result<(), AllocError>
         ensures place { self.new.place ≡ self.old.place }
-        ensures done { OnOk result (moment_of self.new ≡ after_write at values.now (moment_of self.old)) }
-        ensures nothing { OnErr result (moment_of self.new ≡ moment_of self.old) }
+        ensures done { OnOk result (file_moment self.new ≡ after_write at values.now (file_moment self.old)) }
+        ensures nothing { OnErr result (file_moment self.new ≡ file_moment self.old) }
     {
         self.now.write(at, values.as_slice())?;
         self.flushed = false;
@@ -76,7 +76,7 @@ impl MemFile {
 
     fn sync(&mut self)
         ensures place { self.new.place ≡ self.old.place }
-        ensures done { moment_of self.new ≡ changed Synced (moment_of self.old) }
+        ensures done { file_moment self.new ≡ changed Synced (file_moment self.old) }
     {
         self.now.settle();
         self.flushed = true;
@@ -85,8 +85,8 @@ impl MemFile {
     /// Changes the file. An error is want of memory, and changes nothing.
     pub fn change(&mut self, alloc: Global, change: &Change) -> Result<(), AllocError>
         ensures place { self.new.place ≡ self.old.place }
-        ensures done { OnOk result (moment_of self.new ≡ changed change.now (moment_of self.old)) }
-        ensures nothing { OnErr result (moment_of self.new ≡ moment_of self.old) }
+        ensures done { OnOk result (file_moment self.new ≡ changed change.now (file_moment self.old)) }
+        ensures nothing { OnErr result (file_moment self.new ≡ file_moment self.old) }
     {
         match change {
             Change::Made => self.make(alloc)?,
@@ -99,7 +99,7 @@ impl MemFile {
     /// Brings its name to the device.
     pub fn name(&mut self)
         ensures place { self.new.place ≡ self.old.place }
-        ensures done { moment_of self.new ≡ with_name (moment_of self.old) }
+        ensures done { file_moment self.new ≡ with_name (file_moment self.old) }
     {
         self.olds.clear();
     }
@@ -115,11 +115,11 @@ impl MemFile {
     }
 
     /// Keeps what a crash leaves.
-    pub fn crash(&mut self, pick: Pick)
+    pub fn crash(&mut self, pick: FilePick)
         ensures place { self.new.place ≡ self.old.place }
-        ensures done { moment_of self.new ≡ crashed pick (moment_of self.old) }
+        ensures done { file_moment self.new ≡ crashed pick (file_moment self.old) }
     {
-        if let Pick::Old | Pick::Back = pick {
+        if let FilePick::Old | FilePick::Back = pick {
             self.go_back();
         }
         self.now.crash(pick);

@@ -1,19 +1,19 @@
 //! Files in memory by their places.
 ghost use Rattle.std.specs.Prelude.{◌≡◌, ◌≤◌, OnOk, OnErr, IfOk, IfSome, IfNone, length, map};
 ghost use Rattle.mig_calls.specs.declared.places.Place.{Place as Places};
-ghost use Rattle.mig_calls.specs.MemFiles.{no_file, moment_of, changed, with_name, crashed, seen_all, place_of, look, change_at, on_file};
+ghost use Rattle.mig_calls.specs.MemFiles.{no_file, file_moment, changed, with_name, crashed, seen_files, place_of, look, change_file, on_file};
 
 use crate::mem_file::{Change, MemFile};
-use crate::pick::Pick;
+use crate::pick::FilePick;
 use crate::place_table::PlaceTable;
 use crate::places::Place;
 use std::alloc::{AllocError, Global};
 
 /// The file of a place.
 pub fn get<'a>(table: &PlaceTable, files: &'a [MemFile], place: &Place) -> Option<&'a MemFile>
-    requires { table.now ≡ map place_of (seen_all files.now) }
-    ensures some { IfSome result (λ file. look (seen_all files.now) place.now ≡ moment_of file.now) }
-    ensures none { IfNone result (look (seen_all files.now) place.now ≡ no_file) }
+    requires { table.now ≡ map place_of (seen_files files.now) }
+    ensures some { IfSome result (λ file. look (seen_files files.now) place.now ≡ file_moment file.now) }
+    ensures none { IfNone result (look (seen_files files.now) place.now ≡ no_file) }
 {
     match table.find(place) {
         Some(i) => Some(&files[i]),
@@ -29,10 +29,10 @@ pub fn change(
     place: &Place,
     change: &Change,
 ) -> Result<(), AllocError>
-    requires { table.now ≡ map place_of (seen_all files.old.items) }
-    ensures places { map place_of (seen_all files.new.items) ≡ map place_of (seen_all files.old.items) }
-    ensures done { OnOk result ((q : Places) → look (seen_all files.new.items) q ≡ change_at place.now (changed change.now) (look (seen_all files.old.items)) q) }
-    ensures nothing { OnErr result ((q : Places) → look (seen_all files.new.items) q ≡ look (seen_all files.old.items) q) }
+    requires { table.now ≡ map place_of (seen_files files.old.items) }
+    ensures places { map place_of (seen_files files.new.items) ≡ map place_of (seen_files files.old.items) }
+    ensures done { OnOk result ((q : Places) → look (seen_files files.new.items) q ≡ change_file place.now (changed change.now) (look (seen_files files.old.items)) q) }
+    ensures nothing { OnErr result ((q : Places) → look (seen_files files.new.items) q ≡ look (seen_files files.old.items) q) }
 {
     match table.find(place) {
         Some(i) => files[i].change(alloc, change),
@@ -42,7 +42,7 @@ pub fn change(
 
 /// Brings the names of all files to the device.
 pub fn name_all(files: &mut Vec<MemFile>)
-    ensures { seen_all files.new.items ≡ map (on_file with_name) (seen_all files.old.items) }
+    ensures { seen_files files.new.items ≡ map (on_file with_name) (seen_files files.old.items) }
 {
     for file in files.iter_mut() {
         file.name();
@@ -50,8 +50,8 @@ pub fn name_all(files: &mut Vec<MemFile>)
 }
 
 /// Keeps what a crash leaves of each file.
-pub fn crash_all(files: &mut Vec<MemFile>, pick: Pick)
-    ensures { seen_all files.new.items ≡ map (on_file (crashed pick)) (seen_all files.old.items) }
+pub fn crash_all(files: &mut Vec<MemFile>, pick: FilePick)
+    ensures { seen_files files.new.items ≡ map (on_file (crashed pick)) (seen_files files.old.items) }
 {
     for file in files.iter_mut() {
         file.crash(pick);

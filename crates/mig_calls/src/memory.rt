@@ -3,20 +3,20 @@ ghost use Rattle.std.specs.Prelude.{◌≡◌, ◌≤◌, ◌<◌, ◌+◌, true
 ghost use Rattle.mig_base.specs.FaultCounts.{Rose};
 ghost use Rattle.mig_calls.specs.declared.calls.CallError.TheVariants.{Failed};
 ghost use Rattle.mig_calls.specs.declared.mem_file.Change.TheVariants.{Made};
-ghost use Rattle.mig_calls.specs.declared.mem_disk.Step.TheVariants.{Changed, Crashed};
+ghost use Rattle.mig_calls.specs.declared.mem_disk.FilesStep.TheVariants.{Changed, Crashed};
 ghost use Rattle.mig_calls.specs.declared.places.Place.{Place as Places};
-ghost use Rattle.mig_calls.specs.FileBytes.{picked};
+ghost use Rattle.mig_calls.specs.FileBytes.{picked_byte};
 ghost use Rattle.mig_calls.specs.MemFiles.{left_file};
 ghost use Rattle.mig_calls.specs.Files.{FilesState, FilesLook, FilesWrite, KeepsFlags, TouchesFile, IsSettledAt, HasBytes, EndsAt, HasCallCause};
-ghost use Rattle.mig_calls.specs.Memory.{Memory, mem_state, mem_is_state, after, reads_of};
+ghost use Rattle.mig_calls.specs.Memory.{FileMemory, files_state, mem_is_state, files_after, reads_of};
 
 use crate::calls::{CallError, Calls, Extent, Written};
 use crate::mem_disk::MemDisk;
 use crate::mem_file::Change;
-use crate::pick::Pick;
+use crate::pick::FilePick;
 use crate::places::Place;
 use crate::refusals::Refusal;
-use crate::trouble::Trouble;
+use crate::trouble::CallTrouble;
 use crate::values::Values;
 use indexmap::IndexSet;
 use std::alloc::{AllocError, Global};
@@ -27,7 +27,7 @@ pub struct MemCalls {
     alloc: Global,
     disk: MemDisk,
     opened: IndexSet<Place>,
-    trouble: Trouble,
+    trouble: CallTrouble,
     /// How many calls were made.
     number: u64,
     faults: u64,
@@ -55,9 +55,9 @@ impl Drop for MemCalls {
 }
 
 impl Model for MemCalls {
-    ghost use Rattle.mig_calls.specs.Memory.{Memory};
+    ghost use Rattle.mig_calls.specs.Memory.{FileMemory};
 
-    ghost Value = { Memory };
+    ghost Value = { FileMemory };
 
     ghost view = { λ m. record { steps = m.disk; faults = m.faults; refused = m.refused; unmade = m.unmade; claimed = m.claimed; usable = m.usable } };
 }
@@ -71,7 +71,7 @@ impl MemCalls {
             alloc,
             disk: MemDisk::new(alloc),
             opened: IndexSet::new(alloc),
-            trouble: Trouble::none(alloc),
+            trouble: CallTrouble::none(alloc),
             number: 0,
             faults: 0,
             refused: 0,
@@ -82,7 +82,7 @@ impl MemCalls {
     }
 
     /// Lets calls go wrong from now on, which are numbered from the next one on.
-    pub fn trouble(&mut self, trouble: Trouble)
+    pub fn trouble(&mut self, trouble: CallTrouble)
         ensures { self.new ≡ self.old }
     {
         self.trouble = trouble;
@@ -99,7 +99,7 @@ impl MemCalls {
         ensures { self.new ≡ record self.old { claimed = false } }
     {
         self.opened.clear();
-        self.trouble = Trouble::none(self.alloc);
+        self.trouble = CallTrouble::none(self.alloc);
         self.number = 0;
         self.claimed = false;
     }
@@ -113,14 +113,14 @@ impl MemCalls {
     }
 
     /// The files after a crash, as the next process finds them: what is picked of each byte that isn't settled, and under each name. An error is want of memory.
-    pub fn crash(self, pick: Pick) -> Result<MemCalls, AllocError>
+    pub fn crash(self, pick: FilePick) -> Result<MemCalls, AllocError>
         ensures files { IfOk result (λ left. left ≡ record self { steps = self.steps ++ Crashed pick ∷ []; claimed = false; usable = true }) }
-        ensures picked { IfOk result (λ left. (place : Places) (i : ℕ) → (mem_state left).reads place i ≡ picked pick i (left_file pick ((after self.steps).files place) i)) }
-        ensures left { IfOk result (λ left. (mem_state self).may_leave (mem_state left).reads) }
-        ensures settled { IfOk result (λ left. (place : Places) → IsSettledAt (mem_state left) place) }
-        ensures named { IfOk result (λ left. IsTrue (mem_state left).named) }
-        ensures flushed { IfOk result (λ left. (place : Places) → IsTrue ((mem_state left).flushed place)) }
-        ensures usable { IfOk result (λ left. IsTrue (mem_state left).usable) }
+        ensures picked { IfOk result (λ left. (place : Places) (i : ℕ) → (files_state left).reads place i ≡ picked_byte pick i (left_file pick ((files_after self.steps).files place) i)) }
+        ensures left { IfOk result (λ left. (files_state self).may_leave (files_state left).reads) }
+        ensures settled { IfOk result (λ left. (place : Places) → IsSettledAt (files_state left) place) }
+        ensures named { IfOk result (λ left. IsTrue (files_state left).named) }
+        ensures flushed { IfOk result (λ left. (place : Places) → IsTrue ((files_state left).flushed place)) }
+        ensures usable { IfOk result (λ left. IsTrue (files_state left).usable) }
     {
         let mut left = self;
         left.crash_disk(pick)?;
@@ -128,7 +128,7 @@ impl MemCalls {
         Ok(left)
     }
 
-    fn crash_disk(&mut self, pick: Pick) -> Result<(), AllocError>
+    fn crash_disk(&mut self, pick: FilePick) -> Result<(), AllocError>
         ensures done { OnOk result (self.new ≡ record self.old { steps = self.old.steps ++ Crashed pick ∷ [] }) }
         ensures nothing { OnErr result (self.new ≡ self.old) }
     {
@@ -138,8 +138,8 @@ impl MemCalls {
     /// What reads give of a file from an offset on; tells how many bytes there are. It counts as no call.
     pub fn peek(&self, place: &Place, at: u64, into: &mut [u8]) -> usize
         ensures count { result ≤ length into.old }
-        ensures bytes { HasBytes ((mem_state self.now).reads place.now) at result into.new }
-        ensures end { result ≡ 0 → 0 < length into.old → EndsAt ((mem_state self.now).reads place.now) at }
+        ensures bytes { HasBytes ((files_state self.now).reads place.now) at result into.new }
+        ensures end { result ≡ 0 → 0 < length into.old → EndsAt ((files_state self.now).reads place.now) at }
     {
         self.disk.read(place, at, usize::MAX, into)
     }
@@ -148,8 +148,8 @@ impl MemCalls {
     fn fail(&mut self) -> CallError
         ensures error { result ≡ Failed }
         ensures same { self.new ≡ record self.old { faults = self.new.faults } }
-        ensures look { FilesLook (mem_state self.old) (mem_state self.new) }
-        ensures flags { KeepsFlags (mem_state self.old) (mem_state self.new) }
+        ensures look { FilesLook (files_state self.old) (files_state self.new) }
+        ensures flags { KeepsFlags (files_state self.old) (files_state self.new) }
         ensures rose { Rose self.old.faults self.new.faults }
         ensures later { self.old.faults ≤ self.new.faults }
     {
@@ -177,12 +177,12 @@ impl MemCalls {
 
     // Begins a call, which may fail or be interrupted.
     fn enter(&mut self) -> Result<(), CallError>
-        ensures look { FilesLook (mem_state self.old) (mem_state self.new) }
-        ensures flags { KeepsFlags (mem_state self.old) (mem_state self.new) }
+        ensures look { FilesLook (files_state self.old) (files_state self.new) }
+        ensures flags { KeepsFlags (files_state self.old) (files_state self.new) }
         ensures steps { self.new.steps ≡ self.old.steps }
         ensures claimed { self.new.claimed ≡ self.old.claimed }
         ensures usable { self.new.usable ≡ self.old.usable }
-        ensures cause { HasCallCause (mem_state self.old) (mem_state self.new) result }
+        ensures cause { HasCallCause (files_state self.old) (files_state self.new) result }
     {
         self.number = self.number.saturating_add(1);
         if self.trouble.interrupts(self.number) {
@@ -197,12 +197,12 @@ impl MemCalls {
 
     // Begins a call on a file, which opens it.
     fn open(&mut self, place: &Place) -> Result<(), CallError>
-        ensures look { FilesLook (mem_state self.old) (mem_state self.new) }
-        ensures flags { KeepsFlags (mem_state self.old) (mem_state self.new) }
+        ensures look { FilesLook (files_state self.old) (files_state self.new) }
+        ensures flags { KeepsFlags (files_state self.old) (files_state self.new) }
         ensures steps { self.new.steps ≡ self.old.steps }
         ensures claimed { self.new.claimed ≡ self.old.claimed }
         ensures usable { self.new.usable ≡ self.old.usable }
-        ensures cause { HasCallCause (mem_state self.old) (mem_state self.new) result }
+        ensures cause { HasCallCause (files_state self.old) (files_state self.new) result }
     {
         self.enter()?;
         if self.opened.contains(place) {
@@ -226,7 +226,7 @@ impl MemCalls {
         ensures claimed { self.new.claimed ≡ self.old.claimed }
         ensures usable { self.new.usable ≡ self.old.usable }
         ensures refused { self.old.refused ≤ self.new.refused }
-        ensures cause { HasCallCause (mem_state self.old) (mem_state self.new) result }
+        ensures cause { HasCallCause (files_state self.old) (files_state self.new) result }
     {
         match self.disk.change(place, change) {
             Ok(()) => Ok(()),
@@ -236,25 +236,25 @@ impl MemCalls {
 
     // The file is made: the device may go on having none under its name.
     fn mark(&mut self, place: &Place) -> Result<(), CallError>
-        ensures look { FilesLook (mem_state self.old) (mem_state self.new) }
-        ensures shown { reads_of (after self.new.steps) ≡ reads_of (after self.old.steps) }
-        ensures flushed { (mem_state self.new).flushed ≡ (mem_state self.old).flushed }
+        ensures look { FilesLook (files_state self.old) (files_state self.new) }
+        ensures shown { reads_of (files_after self.new.steps) ≡ reads_of (files_after self.old.steps) }
+        ensures flushed { (files_state self.new).flushed ≡ (files_state self.old).flushed }
         ensures failed { IfErr result (λ error. error ≡ Failed) }
         ensures claimed { self.new.claimed ≡ self.old.claimed }
         ensures usable { self.new.usable ≡ self.old.usable }
-        ensures cause { HasCallCause (mem_state self.old) (mem_state self.new) result }
+        ensures cause { HasCallCause (files_state self.old) (files_state self.new) result }
     {
         self.change(place, Change::Made)
     }
 
     // Makes the file where it isn't there, and tells whether it did.
     fn make(&mut self, place: &Place) -> Result<bool, CallError>
-        ensures look { FilesLook (mem_state self.old) (mem_state self.new) }
-        ensures flushed { (mem_state self.new).flushed ≡ (mem_state self.old).flushed }
-        ensures named { IfOk result (λ made. IsFalse made → (mem_state self.new).named ≡ (mem_state self.old).named) }
+        ensures look { FilesLook (files_state self.old) (files_state self.new) }
+        ensures flushed { (files_state self.new).flushed ≡ (files_state self.old).flushed }
+        ensures named { IfOk result (λ made. IsFalse made → (files_state self.new).named ≡ (files_state self.old).named) }
         ensures claimed { self.new.claimed ≡ self.old.claimed }
         ensures usable { self.new.usable ≡ self.old.usable }
-        ensures cause { HasCallCause (mem_state self.old) (mem_state self.new) result }
+        ensures cause { HasCallCause (files_state self.old) (files_state self.new) result }
     {
         let there = match self.disk.file(place) {
             Some(file) => file.there,
@@ -269,13 +269,13 @@ impl MemCalls {
 
     // Writes values from an offset on.
     fn put(&mut self, place: &Place, at: u64, values: &[u8]) -> Result<(), CallError>
-        ensures written { OnOk result (HasBytes ((mem_state self.new).reads place.now) at (length values.now) values.now) }
-        ensures change { FilesWrite place.now at (length values.now) (mem_state self.old) (mem_state self.new) }
-        ensures flags { TouchesFile place.now (mem_state self.old) (mem_state self.new) }
-        ensures named { (mem_state self.new).named ≡ (mem_state self.old).named }
+        ensures written { OnOk result (HasBytes ((files_state self.new).reads place.now) at (length values.now) values.now) }
+        ensures change { FilesWrite place.now at (length values.now) (files_state self.old) (files_state self.new) }
+        ensures flags { TouchesFile place.now (files_state self.old) (files_state self.new) }
+        ensures named { (files_state self.new).named ≡ (files_state self.old).named }
         ensures claimed { self.new.claimed ≡ self.old.claimed }
         ensures usable { self.new.usable ≡ self.old.usable }
-        ensures cause { HasCallCause (mem_state self.old) (mem_state self.new) result }
+        ensures cause { HasCallCause (files_state self.old) (files_state self.new) result }
     {
         match Values::of(self.alloc, values) {
             Ok(values) => self.change(place, Change::Wrote { at, values }),
@@ -286,9 +286,9 @@ impl MemCalls {
     // This process alone may write from now on.
     fn own(&mut self)
         ensures same { self.new ≡ record self.old { claimed = true } }
-        ensures claimed { IsTrue self.old.usable → IsTrue (mem_state self.new).claimed }
-        ensures look { FilesLook (mem_state self.old) (mem_state self.new) }
-        ensures flushed { (mem_state self.new).flushed ≡ (mem_state self.old).flushed }
+        ensures claimed { IsTrue self.old.usable → IsTrue (files_state self.new).claimed }
+        ensures look { FilesLook (files_state self.old) (files_state self.new) }
+        ensures flushed { (files_state self.new).flushed ≡ (files_state self.old).flushed }
     {
         self.claimed = true;
     }
@@ -296,22 +296,22 @@ impl MemCalls {
     // A sync failed: nobody may write from now on.
     fn give_up(&mut self)
         ensures same { self.new ≡ record self.old { usable = false } }
-        ensures look { FilesLook (mem_state self.old) (mem_state self.new) }
-        ensures named { (mem_state self.new).named ≡ (mem_state self.old).named }
-        ensures flushed { (mem_state self.new).flushed ≡ (mem_state self.old).flushed }
+        ensures look { FilesLook (files_state self.old) (files_state self.new) }
+        ensures named { (files_state self.new).named ≡ (files_state self.old).named }
+        ensures flushed { (files_state self.new).flushed ≡ (files_state self.old).flushed }
     {
         self.usable = false;
     }
 
     // Brings a file to the device, unless a sync has failed.
     fn bring(&mut self, place: &Place) -> Result<(), CallError>
-        ensures look { FilesLook (mem_state self.old) (mem_state self.new) }
-        ensures brought { OnOk result (IsTrue ((mem_state self.new).flushed place.now)) }
-        ensures flags { TouchesFile place.now (mem_state self.old) (mem_state self.new) }
-        ensures named { (mem_state self.new).named ≡ (mem_state self.old).named }
+        ensures look { FilesLook (files_state self.old) (files_state self.new) }
+        ensures brought { OnOk result (IsTrue ((files_state self.new).flushed place.now)) }
+        ensures flags { TouchesFile place.now (files_state self.old) (files_state self.new) }
+        ensures named { (files_state self.new).named ≡ (files_state self.old).named }
         ensures claimed { self.new.claimed ≡ self.old.claimed }
         ensures usable { self.new.usable ≡ self.old.usable }
-        ensures cause { HasCallCause (mem_state self.old) (mem_state self.new) result }
+        ensures cause { HasCallCause (files_state self.old) (files_state self.new) result }
     {
         if !self.usable {
             return Err(self.fail());
@@ -322,12 +322,12 @@ impl MemCalls {
 
     // Brings the names of all files to the device.
     fn name(&mut self) -> Result<(), CallError>
-        ensures look { FilesLook (mem_state self.old) (mem_state self.new) }
-        ensures done { OnOk result (IsTrue (mem_state self.new).named) }
-        ensures flushed { (mem_state self.new).flushed ≡ (mem_state self.old).flushed }
+        ensures look { FilesLook (files_state self.old) (files_state self.new) }
+        ensures done { OnOk result (IsTrue (files_state self.new).named) }
+        ensures flushed { (files_state self.new).flushed ≡ (files_state self.old).flushed }
         ensures claimed { self.new.claimed ≡ self.old.claimed }
         ensures usable { self.new.usable ≡ self.old.usable }
-        ensures cause { HasCallCause (mem_state self.old) (mem_state self.new) result }
+        ensures cause { HasCallCause (files_state self.old) (files_state self.new) result }
     {
         match self.disk.name_all() {
             Ok(()) => Ok(()),
@@ -337,12 +337,12 @@ impl MemCalls {
 
     // Does so unless a sync has failed.
     fn bring_names(&mut self) -> Result<(), CallError>
-        ensures look { FilesLook (mem_state self.old) (mem_state self.new) }
-        ensures done { OnOk result (IsTrue (mem_state self.new).named) }
-        ensures flushed { (mem_state self.new).flushed ≡ (mem_state self.old).flushed }
+        ensures look { FilesLook (files_state self.old) (files_state self.new) }
+        ensures done { OnOk result (IsTrue (files_state self.new).named) }
+        ensures flushed { (files_state self.new).flushed ≡ (files_state self.old).flushed }
         ensures claimed { self.new.claimed ≡ self.old.claimed }
         ensures usable { self.new.usable ≡ self.old.usable }
-        ensures cause { HasCallCause (mem_state self.old) (mem_state self.new) result }
+        ensures cause { HasCallCause (files_state self.old) (files_state self.new) result }
     {
         if !self.usable {
             return Err(self.fail());
@@ -369,7 +369,7 @@ impl MemCalls {
 }
 
 impl Calls for MemCalls {
-    ghost state = { mem_state };
+    ghost state = { files_state };
 
     ghost is_state = { mem_is_state };
 

@@ -2,7 +2,7 @@
 
 /// What a crash leaves of each byte that isn't settled, and under each name that isn't.
 #[derive(Clone, Copy, Debug, PartialEq, Eq)]
-pub enum Pick {
+pub enum FilePick {
     /// The bytes that the device had at the last sync, of the file that it had under the name.
     Old,
     /// The bytes last written, of the file that has the name now.

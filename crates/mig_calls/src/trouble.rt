@@ -5,7 +5,7 @@ use std::alloc::Global;
 
 /// What goes wrong with calls. They are numbered from 1.
 #[derive(Drop)]
-pub struct Trouble {
+pub struct CallTrouble {
     /// The numbers of the calls that fail.
     pub failing: Vec<u64>,
     /// How many calls are made before all others fail.
@@ -18,13 +18,13 @@ pub struct Trouble {
     pub most_open: usize,
 }
 
-impl Trouble {
+impl CallTrouble {
     /// Nothing goes wrong.
-    pub fn none(alloc: Global) -> Trouble
+    pub fn none(alloc: Global) -> CallTrouble
         ensures failing { result.failing.items ≡ [] }
         ensures others { result ≡ record { failing = result.failing; fuse = None; interrupts = 0; most_bytes = 2 ^ 64 - 1; most_open = 2 ^ 64 - 1 } }
     {
-        Trouble {
+        CallTrouble {
             failing: Vec::new(alloc),
             fuse: None,
             interrupts: 0,

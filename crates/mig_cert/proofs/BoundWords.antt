@@ -1,10 +1,10 @@
 -- The line of a bound is read through its words.
-use Rattle.mig_cert.proofs.Common.{AllByRecursion, BoundLine, Disk, Empty, FitsLine, Head, IsInput, Lacks, Lacks-decimal, List, Lists, Many, MatchOption, None, One, OneSide, Option, Some, [], ap}
+use Rattle.mig_cert.proofs.Common.{AllByRecursion, BoundLine, Disk, Empty, FitsLine, Head, InputLists, IsInput, Lacks, Lacks-decimal, List, Many, MatchOption, None, One, OneSide, Option, Some, [], ap}
 use Rattle.mig_cert.proofs.Common.{arith, bound_line, bound_words, codes, decimal, decimal_injective, disk_name, disk_words_lack, lacks_test, length, limit_of, line_is, line_of_head, no_disk}
 use Rattle.mig_cert.proofs.Common.{nothing_lacks, refl, same_place, same_side_word, same_words, side_limit_of, side_word, side_words_lack, subst, sym, words, words_are, words_of, ℕ, ◌<◌, ◌∙◌}
 use Rattle.mig_cert.proofs.Common.{◌∷◌, ◌≡◌, ◌≢◌}
 
-module _ (input : Lists) where
+module _ (input : InputLists) where
   pub line_of_words : (b : BoundLine) → words (bound_words input b) ≡ bound_line input b
   line_of_words Empty = refl
   line_of_words (One d l v) = refl
@@ -18,7 +18,7 @@ module _ (input : Lists) where
   bound_first (OneSide d side l v) = (codes "side" ∷ disk_name input d ∷ side_word side ∷ decimal l ∷ decimal (side_limit_of input side d) ∷ decimal v ∷ [], refl)
   bound_first (Many n i v) = (codes "set" ∷ decimal n ∷ decimal i ∷ decimal v ∷ [], refl)
 
-module _ (input : Lists) (valid : IsInput input) where
+module _ (input : InputLists) (valid : IsInput input) where
   bound_words_lack : (b : BoundLine) → FitsLine input b → AllByRecursion (Lacks 32) (bound_words input b)
   bound_words_lack Empty fits = nothing_lacks input valid 32 (omega arith)
   bound_words_lack (One d l v) fits = disk_words_lack input valid 32 (omega arith) refl (record { 0 = d }) l v fits.0 fits.1 fits.2

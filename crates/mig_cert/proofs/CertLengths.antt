@@ -1,5 +1,5 @@
 -- How long the text of a certificate is.
-use Rattle.mig_cert.proofs.Common.{Bool, BoundLine, Cert, CertText, Class, DiskId, Empty, FitsLine, Incoming, IsInput, List, Lists, MAX_FILE_BYTES, Many, One, OneSide, Outgoing, Side, [], ap}
+use Rattle.mig_cert.proofs.Common.{Bool, BoundLine, Cert, CertText, Class, DiskId, Empty, FitsLine, Incoming, InputLists, IsInput, List, MAX_FILE_BYTES, Many, One, OneSide, Outgoing, Side, [], ap}
 use Rattle.mig_cert.proofs.Common.{arith, bound_line, bound_set, cert_title, class_word, codes, cond, decimal, disk_name, ends_small, false, is_duplex, length, length-decimal-le, limit_of}
 use Rattle.mig_cert.proofs.Common.{limits_at, line_of, member_lines, no_disk, refl, side_limit_of, side_small, side_word, text_append, text_cons, text_of_lines, true, word_cons, words, ℕ, ◌*◌}
 use Rattle.mig_cert.proofs.Common.{◌++◌, ◌+◌, ◌<◌, ◌^◌, ◌∷◌, ◌≡◌, ◌≤◌}
@@ -22,7 +22,7 @@ side_length : (side : Side) → length (side_word side) ≤ 3
 side_length Outgoing = omega arith
 side_length Incoming = omega arith
 
-module _ (input : Lists) (valid : IsInput input) where
+module _ (input : InputLists) (valid : IsInput input) where
   bound_length : (b : BoundLine) → FitsLine input b → length (bound_line input b) ≤ 80
   bound_length Empty fits = omega arith
   bound_length (One d l v) fits =
@@ -101,5 +101,5 @@ module _ (input : Lists) (valid : IsInput input) where
         valid.few_disks,
       )
 
-pub short_text : (input : Lists) (cert : Cert) (bytes : List ℕ) → IsInput input → CertText input cert bytes → length bytes ≤ MAX_FILE_BYTES
+pub short_text : (input : InputLists) (cert : Cert) (bytes : List ℕ) → IsInput input → CertText input cert bytes → length bytes ≤ MAX_FILE_BYTES
 short_text input cert bytes valid text = omega (arith, cert_length input valid cert bytes text)

@@ -1,8 +1,8 @@
 -- The lines of a certificate fit their places.
-use Rattle.mig_cert.proofs.Common.{All, Bound, BoundFits, Cert, CertFits, CertNext, CertPlace, CertText, DiskId, End, FitsLine, IsCert, IsDiskSet, IsInput, IsLine, IsOfKind, Kind, Last, Leads}
-use Rattle.mig_cert.proofs.Common.{Leads-append, List, Lists, MAX_DISKS, MAX_FILE_BYTES, Member, Nothing, OfDisk, OfSet, OfSide, Over, Quotient, Rounds, Shown, Title, [], ap, append_assoc, arith}
+use Rattle.mig_cert.proofs.Common.{All, Bound, BoundFits, Cert, CertFits, CertNext, CertPlace, CertText, DiskId, End, FitsAlong, FitsLine, IsCert, IsDiskSet, IsInput, IsLine, IsOfKind, Kind, Last}
+use Rattle.mig_cert.proofs.Common.{InputLists, Leads-append, List, MAX_DISKS, MAX_FILE_BYTES, Member, Nothing, OfDisk, OfSet, OfSide, Over, Quotient, Rounds, Shown, Title, [], ap, append_assoc, arith}
 use Rattle.mig_cert.proofs.Common.{before_members, bound_set, bound_value, cases_lt, cert_lines, cert_lines_lack, codes, get_or, inl, inr, is_duplex, length, line_of, member_lines, members_after}
-use Rattle.mig_cert.proofs.Common.{no_misfit, pieces, pieces_of_lines, refl, spelt, stated_load, subst, suc, sym, transfers, ℕ, ◌++◌, ◌+◌, ◌<◌, ◌^◌, ◌∙◌, ◌∷◌, ◌≡◌, ◌≤◌}
+use Rattle.mig_cert.proofs.Common.{no_misfit, pieces, pieces_of_lines, refl, spelt, stated_load, subst, suc, sym, transfer_graph, ℕ, ◌++◌, ◌+◌, ◌<◌, ◌^◌, ◌∙◌, ◌∷◌, ◌≡◌, ◌≤◌}
 use Rattle.mig_cert.proofs.BoundWords.{same_bound_line, same_disk}
 
 -- the ids rise from a number on, and are below another
@@ -31,7 +31,7 @@ as_many (OfDisk disk load value) = refl
 as_many (OfSide disk side load value) = refl
 as_many (OfSet disks inside value) = refl
 
-module _ (input : Lists) (valid : IsInput input) where
+module _ (input : InputLists) (valid : IsInput input) where
   pub one_next : (a : CertPlace) (piece : List ℕ) (b c : CertPlace) → CertNext input a piece b → CertNext input a piece c → b ≡ c
   one_next Title piece b c h k = h.1 ∙ sym k.1
   one_next Rounds piece b c h k = h.1 ∙ sym k.1
@@ -47,26 +47,26 @@ module _ (input : Lists) (valid : IsInput input) where
   one_next Last piece b c h k = h.1 ∙ sym k.1
   one_next Over piece b c h k = absurd h
 
-  pub members_lead : (from : ℕ) (ds : List DiskId) → Ascends (length input.disks) from ds → Leads (CertNext input) (before_members (length ds) from) (member_lines input ds) End
+  pub members_lead : (from : ℕ) (ds : List DiskId) → Ascends (length input.disks) from ds → FitsAlong (CertNext input) (before_members (length ds) from) (member_lines input ds) End
   members_lead from [] h = refl
   members_lead from (d ∷ ds) h = (before_members (length ds) (d.0 + 1), ((d.0, (h.0, h.1, refl, refl)), members_lead (d.0 + 1) ds h.2))
 
-  pub end_leads : Leads (CertNext input) End (codes "end" ∷ [] ∷ []) Over
+  pub end_leads : FitsAlong (CertNext input) End (codes "end" ∷ [] ∷ []) Over
   end_leads = (Last, ((refl, refl), (Over, ((refl, refl), refl))))
 
-  pub set_fits : (b : Bound) → BoundFits (transfers input) b → All (λ (d : DiskId). d.0 < length input.disks) (bound_set b)
+  pub set_fits : (b : Bound) → BoundFits (transfer_graph input) b → All (λ (d : DiskId). d.0 < length input.disks) (bound_set b)
   set_fits Nothing fits = λ k d h. absurd (omega arith)
   set_fits (OfDisk disk load value) fits = λ k d h. absurd (omega arith)
   set_fits (OfSide disk side load value) fits = λ k d h. absurd (omega arith)
   set_fits (OfSet disks inside value) fits = fits
 
-  pub set_ascends : (b : Bound) → BoundFits (transfers input) b → IsDiskSet (bound_set b) → Ascends (length input.disks) 0 (bound_set b)
+  pub set_ascends : (b : Bound) → BoundFits (transfer_graph input) b → IsDiskSet (bound_set b) → Ascends (length input.disks) 0 (bound_set b)
   set_ascends b fits set = ascends_from (length input.disks) (bound_set b) set (set_fits b fits)
 
   pub few_in_set : (ds : List DiskId) → IsDiskSet ds → All (λ (d : DiskId). d.0 < length input.disks) ds → length ds ≤ MAX_DISKS
   few_in_set ds rising below = omega (arith, ascends_len (length input.disks) 0 ds (ascends_from (length input.disks) ds rising below) (omega arith), valid.few_disks)
 
-  pub bound_line_fits : (b : Bound) → BoundFits (transfers input) b → IsOfKind (is_duplex input.disks) b → stated_load b < 2 ^ 32 → bound_value b < 2 ^ 32 → IsDiskSet (bound_set b) → FitsLine input (line_of b)
+  pub bound_line_fits : (b : Bound) → BoundFits (transfer_graph input) b → IsOfKind (is_duplex input.disks) b → stated_load b < 2 ^ 32 → bound_value b < 2 ^ 32 → IsDiskSet (bound_set b) → FitsLine input (line_of b)
   bound_line_fits Nothing fits kind small low set = tt
   bound_line_fits (OfDisk disk load value) fits kind small low set = (fits, small, low, kind)
   bound_line_fits (OfSide disk side load value) fits kind small low set = (fits, small, low, kind)
@@ -75,15 +75,15 @@ module _ (input : Lists) (valid : IsInput input) where
   pub line_fits : (cert : Cert) → CertFits input cert → IsCert cert → FitsLine input (line_of cert.bound)
   line_fits cert fits kept = bound_line_fits cert.bound fits.disks fits.kind kept.load kept.value kept.set
 
-  bound_leads : (b : Bound) → BoundFits (transfers input) b → IsDiskSet (bound_set b) → Leads (CertNext input) (before_members (members_after (line_of b)) 0) ((member_lines input (bound_set b) ++ codes "end" ∷ []) ++ [] ∷ []) Over
+  bound_leads : (b : Bound) → BoundFits (transfer_graph input) b → IsDiskSet (bound_set b) → FitsAlong (CertNext input) (before_members (members_after (line_of b)) 0) ((member_lines input (bound_set b) ++ codes "end" ∷ []) ++ [] ∷ []) Over
   bound_leads b fits set =
       let names : List (List ℕ) = member_lines input (bound_set b) in
-      let tail : Leads (CertNext input) (before_members (length (bound_set b)) 0) (names ++ codes "end" ∷ [] ∷ []) Over =
+      let tail : FitsAlong (CertNext input) (before_members (length (bound_set b)) 0) (names ++ codes "end" ∷ [] ∷ []) Over =
       Leads-append (CertNext input) (before_members (length (bound_set b)) 0) End Over names (codes "end" ∷ [] ∷ []) (members_lead 0 (bound_set b) (set_ascends b fits set)) end_leads in
-      subst (λ t. Leads (CertNext input) (before_members (members_after (line_of b)) 0) t Over) (sym (append_assoc names (codes "end" ∷ []) ([] ∷ [])))
-      (subst (λ n. Leads (CertNext input) (before_members n 0) (names ++ codes "end" ∷ [] ∷ []) Over) (as_many b) tail)
+      subst (λ t. FitsAlong (CertNext input) (before_members (members_after (line_of b)) 0) t Over) (sym (append_assoc names (codes "end" ∷ []) ([] ∷ [])))
+      (subst (λ n. FitsAlong (CertNext input) (before_members n 0) (names ++ codes "end" ∷ [] ∷ []) Over) (as_many b) tail)
 
-  cert_leads : (cert : Cert) → IsCert cert → CertFits input cert → Leads (CertNext input) Title (cert_lines input cert ++ [] ∷ []) Over
+  cert_leads : (cert : Cert) → IsCert cert → CertFits input cert → FitsAlong (CertNext input) Title (cert_lines input cert ++ [] ∷ []) Over
   cert_leads cert kept fits =
       let b : Bound = cert.bound in (
         Rounds,
@@ -111,9 +111,9 @@ module _ (input : Lists) (valid : IsInput input) where
         ),
       )
 
-  text_leads : (cert : Cert) (bytes : List ℕ) → CertText input cert bytes → Leads (CertNext input) Title (pieces bytes) Over
+  text_leads : (cert : Cert) (bytes : List ℕ) → CertText input cert bytes → FitsAlong (CertNext input) Title (pieces bytes) Over
   text_leads cert bytes text =
-      subst (λ t. Leads (CertNext input) Title t Over) (sym (ap pieces text.lines ∙ pieces_of_lines (cert_lines input cert) (cert_lines_lack input valid cert text.kept (spelt input valid cert bytes text))))
+      subst (λ t. FitsAlong (CertNext input) Title t Over) (sym (ap pieces text.lines ∙ pieces_of_lines (cert_lines input cert) (cert_lines_lack input valid cert text.kept (spelt input valid cert bytes text))))
       (cert_leads cert text.kept text.fits)
 
   pub line_no_cert : (bytes : List ℕ) (n : ℕ) → IsLine (CertNext input) Title Over bytes n → (cert : Cert) → CertText input cert bytes → MAX_FILE_BYTES < length bytes

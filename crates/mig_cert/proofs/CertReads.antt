@@ -1,6 +1,6 @@
 -- The reading of a certificate, part by part.
 use Rattle.mig_cert.proofs.Common.{Bound, BoundLine, Cert, CertFits, CertLine, CertNext, CertText, Class, End, EndsWrong, Err, FitsLine, IfLine, IfOk, IsBoundLine, IsBoundRead, IsCert}
-use Rattle.mig_cert.proofs.Common.{IsCertOpened, IsClassLine, IsCountUpTo, IsInput, IsLine, IsMisfit, IsMiss, IsStop, Kind, Last, Leads, Left, List, Lists, MAX_FILE_BYTES, Ok, Over, Quotient}
+use Rattle.mig_cert.proofs.Common.{FitsAlong, InputLists, IsCertOpened, IsClassLine, IsCountUpTo, IsInput, IsLine, IsMisfit, IsMiss, IsStop, Kind, Last, Left, List, MAX_FILE_BYTES, Ok, Over, Quotient}
 use Rattle.mig_cert.proofs.Common.{Result, Rounds, Shown, Stops, TextError, Title, Took, [], ap, arith, before_members, bound_line, bound_lines, bound_set, cert_lines, cert_title, class_word}
 use Rattle.mig_cert.proofs.Common.{codes, decimal, inl, inr, is_duplex, is_duplex_class, later_stops, length, line_of, member_lines, members_after, miss_stops, opening_lines, pieces, refl, subst}
 use Rattle.mig_cert.proofs.Common.{sym, text_from_pieces, took_next, took_one, words, ℕ, ◌++◌, ◌<◌, ◌^◌, ◌∙◌, ◌∷◌, ◌≡◌, ◌≢◌, ◌≤◌}
@@ -10,7 +10,7 @@ use Rattle.mig_cert.proofs.CertPlaces.{ascends_from, members_lead, as_many, line
 abbrev count_line : List ℕ → ℕ → List ℕ
 count_line word n = words (word ∷ decimal n ∷ [])
 
-module _ (input : Lists) where
+module _ (input : InputLists) where
   pub title_stops : (old : Left) (e : TextError) → IsMiss (λ piece. piece ≡ cert_title input) old e → IsStop (CertNext input) Title Over old e
   title_stops old e m = miss_stops (CertNext input) Title Over (λ piece. piece ≡ cert_title input) old e (λ q. absurd cc) (λ piece next n. n.0) m
 
@@ -34,7 +34,7 @@ module _ (input : Lists) where
       (took_next old b c (cert_title input ∷ count_line (codes "rounds") r ∷ []) _ (took_next old a b (cert_title input ∷ []) _ (took_one old a _ t) u) v)
       (miss_stops (CertNext input) Kind Over (IsClassLine input) c e (λ q. absurd cc) (λ piece next n. (n.0, (n.1.0, n.1.1))) m)
 
-  opening_leads : (r q : ℕ) (k : Class) → is_duplex_class k ≡ is_duplex input.disks → r < 2 ^ 32 → q < 2 ^ 32 → Leads (CertNext input) Title (opening_lines (cert_title input) r q (class_word k)) Shown
+  opening_leads : (r q : ℕ) (k : Class) → is_duplex_class k ≡ is_duplex input.disks → r < 2 ^ 32 → q < 2 ^ 32 → FitsAlong (CertNext input) Title (opening_lines (cert_title input) r q (class_word k)) Shown
   opening_leads r q k kind hr hq = (Rounds, ((refl, refl), (Quotient, (((r, (hr, refl)), refl), (Kind, (((q, (hq, refl)), refl), (Shown, ((k, (kind, refl, refl)), refl))))))))
 
   pub bound_stops : (old : Left) (e : TextError) → IsMiss (IsBoundLine input) old e → IsStop (CertNext input) Shown Over old e
@@ -64,15 +64,15 @@ module _ (input : Lists) where
   pub closing_stops : (valid : IsInput input) (r q : ℕ) (k : Class) (bound : Bound) (old a b : Left) (e : TextError) → IsCertOpened input r q k old a → IsBoundRead input bound a b → EndsWrong b e → IsStop (CertNext input) Title Over old e
   closing_stops valid r q k bound old a b e opened read wrong =
       let names : List (List ℕ) = member_lines input (bound_set bound) in
-      let lead : Leads (CertNext input) (before_members (members_after (line_of bound)) 0) names End =
-      subst (λ n. Leads (CertNext input) (before_members n 0) names End) (as_many bound)
+      let lead : FitsAlong (CertNext input) (before_members (members_after (line_of bound)) 0) names End =
+      subst (λ n. FitsAlong (CertNext input) (before_members n 0) names End) (as_many bound)
       (members_lead input valid 0 (bound_set bound) (ascends_from (length input.disks) (bound_set bound) read.increasing read.members)) in
       shown_stops r q k old a e opened
       (later_stops (CertNext input) Shown End Over a b (bound_lines input bound) e
       (before_members (members_after (line_of bound)) 0, ((line_of bound, (read.line, refl, refl)), lead)) read.took (end_wrong_stops b e wrong))
 
 -- what a stop says of the whole text
-pub cert_line : (input : Lists) (bytes : List ℕ) (e : TextError) → IsInput input → length bytes ≤ MAX_FILE_BYTES → IsStop (CertNext input) Title Over (record { taken = 0; pieces = pieces bytes }) e → IfLine (CertLine input bytes) e
+pub cert_line : (input : InputLists) (bytes : List ℕ) (e : TextError) → IsInput input → length bytes ≤ MAX_FILE_BYTES → IsStop (CertNext input) Title Over (record { taken = 0; pieces = pieces bytes }) e → IfLine (CertLine input bytes) e
 cert_line input bytes text_error.Memory valid short s = tt
 cert_line input bytes (text_error.Line n) valid short s =
     let same : s.0 ≡ n = omega (arith, s.1.0) in
@@ -80,7 +80,7 @@ cert_line input bytes (text_error.Line n) valid short s =
     record { no_cert = line_no_cert input valid bytes n line; line = line }
 
 -- the value of a text whose lines were read
-pub cert_text : (input found : Lists) (bytes : List ℕ) (old : Left) (r : Result Cert TextError) → found ≡ input → old ≡ record { taken = 0; pieces = pieces bytes }
+pub cert_text : (input found : InputLists) (bytes : List ℕ) (old : Left) (r : Result Cert TextError) → found ≡ input → old ≡ record { taken = 0; pieces = pieces bytes }
     → IfOk r IsCert → IfOk r (CertFits found) → IfOk r (λ cert. old.pieces ≡ cert_lines found cert ++ [] ∷ []) → IfOk r (λ cert. CertText input cert bytes)
 cert_text input found bytes old (Ok cert) e l kept fits lines = record {
   kept = kept;

@@ -1,9 +1,9 @@
 -- The names that the proofs of this crate cite, passed on from one place. Declares nothing.
 pub use Rattle.mig_base.proofs.CertSpelling.{cert_lines_lack, disk_words_lack, nothing_lacks, same_side_word, side_words_lack, spelt}
-pub use Rattle.mig_base.proofs.Common.{All, All-push, AllByRecursion, Bool, BoundFits, CertText, Err, FitsLine, IfOk, IsDiskSet, IsInput, IsLine, IsMisfit, Leads, List, Lists, MatchOption}
+pub use Rattle.mig_base.proofs.Common.{All, All-push, AllByRecursion, Bool, BoundFits, CertText, Err, FitsAlong, FitsLine, IfOk, InputLists, IsDiskSet, IsInput, IsLine, IsMisfit, List, MatchOption}
 pub use Rattle.mig_base.proofs.Common.{MatchResult-weaker, None, Ok, Option, Result, Some, Stops, [], ap, append-nil, append_assoc, arith, bound_lines, bound_set, cases_lt, cert_lines}
 pub use Rattle.mig_base.proofs.Common.{cert_title, class_word, codes, common_steps, cond, decimal, decimal_injective, disk_name, drop, false, get_or, get_or-append_seam, inl, inr, is_duplex}
-pub use Rattle.mig_base.proofs.Common.{is_ok, length, length-append, length-decimal-le, map, no_disk, not, pieces, refl, subst, suc, sym, text_of_lines, transfers, true, words, ℕ, ◌*◌, ◌++◌, ◌+◌}
+pub use Rattle.mig_base.proofs.Common.{is_ok, length, length-append, length-decimal-le, map, no_disk, not, pieces, refl, subst, suc, sym, text_of_lines, transfer_graph, true, words, ℕ, ◌*◌, ◌++◌, ◌+◌}
 pub use Rattle.mig_base.proofs.Common.{◌-◌, ◌<◌, ◌^◌, ◌∙◌, ◌∷◌, ◌≡◌, ◌≢◌, ◌≤◌}
 pub use Rattle.mig_base.proofs.KeptLimits.{ends_small, limits_at, side_small}
 pub use Rattle.mig_base.proofs.Separators.{Lacks, Lacks-decimal, same_words}

@@ -1,5 +1,5 @@
 -- The reading of a set's disks, one by one.
-use Rattle.mig_cert.proofs.Common.{All, All-push, AreMembersPart, CertNext, DiskId, IsDiskSet, IsMemberLine, IsMiss, IsStop, Leads, Leads-append, Left, List, Lists, Member, Over, TextError, Took}
+use Rattle.mig_cert.proofs.Common.{All, All-push, AreMembersPart, CertNext, DiskId, FitsAlong, InputLists, IsDiskSet, IsMemberLine, IsMiss, IsStop, Leads-append, Left, List, Member, Over, TextError, Took}
 use Rattle.mig_cert.proofs.Common.{TookAll, [], ap, arith, before_members, cases_lt, disk_name, get_or, get_or-append, get_or-append_seam, inl, inr, later_stops, length, length-append, map}
 use Rattle.mig_cert.proofs.Common.{member_lines, miss_stops, refl, subst, suc, sym, took_next, took_none, ℕ, ◌++◌, ◌+◌, ◌-◌, ◌<◌, ◌∙◌, ◌∷◌, ◌≡◌, ◌≤◌}
 use Rattle.std.proofs.lemmas.List as lists
@@ -20,7 +20,7 @@ set_push ids d rising below i j x less within =
           rw (front, last) (below i x (omega arith))
     ]
 
-module _ (input : Lists) where
+module _ (input : InputLists) where
   pub members_none : (old : Left) → AreMembersPart input 0 0 [] old old
   members_none old = record {
     read = record { all = refl; below = λ k d h. absurd (omega arith); increasing = λ i j d l h. absurd (omega arith); took = took_none old };
@@ -40,9 +40,9 @@ module _ (input : Lists) where
     before = All-push (λ (x : DiskId). x.0 < d.0 + 1) ids d (λ k x h. omega (arith, part.before k x h)) (omega arith);
     leads = λ more.
         let e : count + suc more ≡ (count + 1) + more = omega arith in
-        subst (λ ls. Leads (CertNext input) (before_members ((count + 1) + more) 0) ls (before_members more (d.0 + 1))) (sym (map_push (λ (x : DiskId). disk_name input x.0) ids d))
+        subst (λ ls. FitsAlong (CertNext input) (before_members ((count + 1) + more) 0) ls (before_members more (d.0 + 1))) (sym (map_push (λ (x : DiskId). disk_name input x.0) ids d))
         (Leads-append (CertNext input) (before_members ((count + 1) + more) 0) (Member more from) (before_members more (d.0 + 1)) (member_lines input ids) (disk_name input d.0 ∷ [])
-        (subst (λ n. Leads (CertNext input) (before_members n 0) (member_lines input ids) (Member more from)) e (part.leads (suc more)))
+        (subst (λ n. FitsAlong (CertNext input) (before_members n 0) (member_lines input ids) (Member more from)) e (part.leads (suc more)))
         (before_members more (d.0 + 1), ((d.0, (low, high, refl, refl)), refl)));
   }
 
@@ -52,6 +52,6 @@ module _ (input : Lists) where
       let more : ℕ = count - done - 1 in
       let sum : done + suc more ≡ count = omega arith in
       later_stops (CertNext input) (before_members count 0) (Member more from) Over old now (member_lines input ids) e
-      (subst (λ n. Leads (CertNext input) (before_members n 0) (member_lines input ids) (Member more from)) sum (part.leads (suc more)))
+      (subst (λ n. FitsAlong (CertNext input) (before_members n 0) (member_lines input ids) (Member more from)) sum (part.leads (suc more)))
       part.read.took
       (miss_stops (CertNext input) (Member more from) Over (IsMemberLine input from) now e (λ q. absurd cc) (λ piece next k. (k.0, (k.1.0, k.1.1, k.1.2))) m)

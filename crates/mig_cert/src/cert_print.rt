@@ -5,7 +5,7 @@ ghost use Rattle.mig_base.specs.Bounding.{BoundFits, bound_value, stated_load};
 ghost use Rattle.mig_base.specs.Certificates.{CertFits};
 ghost use Rattle.mig_base.specs.DiskNumbers.{IsDiskSet};
 ghost use Rattle.mig_base.specs.Texts.{bound_set, cert_title, CertText, class_word, disk_name, side_word, text_of_lines, words};
-ghost use Rattle.mig_base.specs.Transfers.{transfers};
+ghost use Rattle.mig_base.specs.Transfers.{transfer_graph};
 ghost use Rattle.mig_cert.specs.BoundParts.{limit_of, side_limit_of};
 ghost use Rattle.mig_cert.specs.Prints.{blank_number, bound_text, member_lines, opening_text};
 
@@ -66,7 +66,7 @@ fn push_class(out: &mut Vec<u8>, class: Class) -> Result<(), AllocError>
 
 /// Adds the lines of a bound.
 fn push_bound(out: &mut Vec<u8>, input: &Input, bound: &Bound) -> Result<(), AllocError>
-    requires { BoundFits (transfers input.now) bound.now }
+    requires { BoundFits (transfer_graph input.now) bound.now }
     ensures text { OnOk result (out.new.items ≡ out.old.items ++ bound_text input.now bound.now) }
     ensures load { stated_load bound.now < 2 ^ 32 }
     ensures value { bound_value bound.now < 2 ^ 32 }

@@ -1,21 +1,21 @@
 -- Which blame is the first, behind what was found right.
 use Rattle.mig_check.proofs.Common.{At, Blame, Bool, Cert, ClassDiffers, EmptyRound, Err, Even, FirstBlame, IfErr, IsArrivedAt, IsCertBlame, IsClear, IsFirstOfPlan, IsLeast, IsLegal, IsListOf}
-use Rattle.mig_check.proofs.Common.{IsMovedTooOften, IsOnceBlame, IsRunBlame, IsSo, IsTrue, ItemId, Layout, List, Lists, LoadDiffers, Memory, MovedTooOften, NotHere, Nothing, Ok, Once, OverLimit}
+use Rattle.mig_check.proofs.Common.{InputLists, IsMovedTooOften, IsOnceBlame, IsRunBlame, IsSo, IsTrue, ItemId, Layout, List, LoadDiffers, Memory, MovedTooOften, NotHere, Nothing, Ok, Once, OverLimit}
 use Rattle.mig_check.proofs.Common.{QuotientDiffers, Result, RoundBlame, RoundsDiffer, Runs, Shift, SlotNotFree, Spot, TwiceInRound, ValueDiffers, WrongEnd, arith, cases_lt, class_of}
 use Rattle.mig_check.proofs.Common.{clear_from_rounds, cond, counted_load, false, inl, inr, is_relocated, later, layout_of, length, order, quotient, refl, round_at, shift_count, stated_load}
-use Rattle.mig_check.proofs.Common.{subst, suc, transfers, true, ℕ, ⊎_elim, ◌*◌, ◌+◌, ◌<◌, ◌≡◌, ◌≤◌, ◌⊎◌}
+use Rattle.mig_check.proofs.Common.{subst, suc, transfer_graph, true, ℕ, ⊎_elim, ◌*◌, ◌+◌, ◌<◌, ◌≡◌, ◌≤◌, ◌⊎◌}
 
 -- each round can be carried out, and what has a number below n is right
-pub record IsRightBelow (input : Lists) (plan : List (List Shift)) (cert : Cert) (n : ℕ) : Type 0 where
+pub record IsRightBelow (input : InputLists) (plan : List (List Shift)) (cert : Cert) (n : ℕ) : Type 0 where
   pub rounds : (r : ℕ) → r < length plan → IsLegal input (At input plan r) (round_at plan (suc r))
   pub arrives : 6 < n → (item : ℕ) → item < length input.items → IsArrivedAt input (At input plan (length plan)) item
   pub once : 7 < n → (item : ℕ) → ¬ IsMovedTooOften input plan item
   pub count : 8 < n → cert.rounds ≡ length plan
-  pub greatest : 9 < n → cert.quotient ≡ quotient (transfers input)
-  pub class : 10 < n → cert.class ≡ class_of (transfers input)
-  pub loads : 11 < n → stated_load cert.bound ≡ counted_load (transfers input) cert.bound
+  pub greatest : 9 < n → cert.quotient ≡ quotient (transfer_graph input)
+  pub class : 10 < n → cert.class ≡ class_of (transfer_graph input)
+  pub loads : 11 < n → stated_load cert.bound ≡ counted_load (transfer_graph input) cert.bound
 
-module _ (input : Lists) (plan : List (List Shift)) (cert : Cert) where
+module _ (input : InputLists) (plan : List (List Shift)) (cert : Cert) where
   past : ((r : ℕ) → r < length plan → IsLegal input (At input plan r) (round_at plan (suc r))) → (b : Blame) → IsSo input plan cert b → 5 * length plan + 5 < order plan b
   past rounds b so =
       let e : 5 * (length plan + 1) ≡ 5 * length plan + 5 = omega arith in
@@ -41,7 +41,7 @@ module _ (input : Lists) (plan : List (List Shift)) (cert : Cert) where
   FirstBlame-behind n most right b place so = record { so = so; first = λ c h. omega (arith, not_before n most right c h, place) }
 
 -- where each round can be carried out, nothing else is asked below 6
-pub IsRightBelow-six : (input : Lists) (plan : List (List Shift)) (cert : Cert) → ((r : ℕ) → r < length plan → IsLegal input (At input plan r) (round_at plan (suc r))) → IsRightBelow input plan cert 6
+pub IsRightBelow-six : (input : InputLists) (plan : List (List Shift)) (cert : Cert) → ((r : ℕ) → r < length plan → IsLegal input (At input plan r) (round_at plan (suc r))) → IsRightBelow input plan cert 6
 IsRightBelow-six input plan cert rounds = record {
   rounds = rounds;
   arrives = λ h. absurd (omega (arith, h));
@@ -52,7 +52,7 @@ IsRightBelow-six input plan cert rounds = record {
   loads = λ h. absurd (omega (arith, h));
 }
 
-module _ (input : Lists) (plan : List (List Shift)) where
+module _ (input : InputLists) (plan : List (List Shift)) where
   whatever : (b : Blame) → (b ≡ Memory → ⊥) → ((cert : Cert) → (b ≡ Memory) ⊎ FirstBlame input plan cert b) → IsFirstOfPlan input plan b
   whatever b other each = λ cert. ⊎_elim (λ e. absurd (other e)) (λ first. first) (each cert)
 
@@ -85,7 +85,7 @@ module _ (input : Lists) (plan : List (List Shift)) where
     runs_blameless _ first = absurd first
 
 -- the ends, over the list that is kept for the last layout
-module _ (input : Lists) (plan : List (List Shift)) (spots : List Spot) (rounds : (r : ℕ) → r < length plan → IsLegal input (At input plan r) (round_at plan (suc r))) (list : IsListOf (At input plan (length plan)) spots) where
+module _ (input : InputLists) (plan : List (List Shift)) (spots : List Spot) (rounds : (r : ℕ) → r < length plan → IsLegal input (At input plan r) (round_at plan (suc r))) (list : IsListOf (At input plan (length plan)) spots) where
   same : layout_of spots ≡ At input plan (length plan)
   same = λ j item. list item j
 
@@ -98,12 +98,12 @@ module _ (input : Lists) (plan : List (List Shift)) (spots : List Spot) (rounds 
   all_arrived arrived = record { rounds = rounds; arrives = λ item there. subst (λ (l : Layout). IsArrivedAt input l item) same (arrived item there) }
 
 -- a result that is Err for a blame of a plan that runs is so for want of memory alone
-pub only_memory : {X : Type 0} (input : Lists) (plan : List (List Shift)) (result : Result X Blame) → IfErr result (IsRunBlame input plan) → Runs input plan → IfErr result (λ blame. blame ≡ Memory)
+pub only_memory : {X : Type 0} (input : InputLists) (plan : List (List Shift)) (result : Result X Blame) → IfErr result (IsRunBlame input plan) → Runs input plan → IfErr result (λ blame. blame ≡ Memory)
 only_memory input plan (Ok x) h runs = h
 only_memory input plan (Err b) h runs = runs_blameless input plan runs b h
 
 -- each part's blame is the first, behind the parts that were found right
-pub first_of_run : (input : Lists) (plan : List (List Shift)) (cert : Cert) (b : Blame) → IsRunBlame input plan b → (b ≡ Memory) ⊎ FirstBlame input plan cert b
+pub first_of_run : (input : InputLists) (plan : List (List Shift)) (cert : Cert) (b : Blame) → IsRunBlame input plan b → (b ≡ Memory) ⊎ FirstBlame input plan cert b
 first_of_run input plan cert (EmptyRound r) h = inr (h cert)
 first_of_run input plan cert (NotHere r item) h = inr (h cert)
 first_of_run input plan cert (TwiceInRound r item) h = inr (h cert)
@@ -116,7 +116,7 @@ first_of_run input plan cert _ h = absurd h
 never_over : {X : Type 0} (a : ℕ) → a < a → X
 never_over a h = absurd (omega (arith, h))
 
-module _ (input : Lists) (plan : List (List Shift)) (cert : Cert) (runs : Runs input plan) where
+module _ (input : InputLists) (plan : List (List Shift)) (cert : Cert) (runs : Runs input plan) where
   seven : IsRightBelow input plan cert 7
   seven = record {
     rounds = runs.rounds;
@@ -144,7 +144,7 @@ module _ (input : Lists) (plan : List (List Shift)) (cert : Cert) (runs : Runs i
     not_too_often item h = once_at (is_relocated input item) (shift_count plan item) (once item h.0) h.1
 
     -- what is right below a number that the certificate's blames have
-    behind : (n : ℕ) → (8 < n → cert.rounds ≡ length plan) → (9 < n → cert.quotient ≡ quotient (transfers input)) → (10 < n → cert.class ≡ class_of (transfers input)) → (11 < n → stated_load cert.bound ≡ counted_load (transfers input) cert.bound) → IsRightBelow input plan cert n
+    behind : (n : ℕ) → (8 < n → cert.rounds ≡ length plan) → (9 < n → cert.quotient ≡ quotient (transfer_graph input)) → (10 < n → cert.class ≡ class_of (transfer_graph input)) → (11 < n → stated_load cert.bound ≡ counted_load (transfer_graph input) cert.bound) → IsRightBelow input plan cert n
     behind n rounds quotients classes loads = record {
       rounds = runs.rounds;
       arrives = λ h. runs.arrives;

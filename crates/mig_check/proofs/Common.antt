@@ -1,14 +1,14 @@
 -- The names that many proofs of this crate cite, from one place. Declares nothing.
 pub use Rattle.mig_base.proofs.BlameOrder.{FirstBlame-after, clear_from_rounds, later}
 pub use Rattle.mig_base.proofs.Common.{All, All-head, All-tail, AllPairs, Any-from_list_any, At, Bool, Contains, Err, IfErr, IfOk, IfSome, IsDiskSet, IsEven, IsFirstShift, IsInput, IsLayout}
-pub use Rattle.mig_base.proofs.Common.{IsLegal, IsListOf, IsOverLimit, IsSpotOf, IsTaken, IsTrue, KeepsLimit, KeepsLimits, Layout, List, Lists, MatchOption, None, Ok, Once, Option, PlanFits}
-pub use Rattle.mig_base.proofs.Common.{Result, Runs, ShiftFits, Some, Transfers, Trip, [], add-one, after_shifts, ap, arith, cases_Bool, cases_eq, cases_lt, class_of, common_steps, cond}
+pub use Rattle.mig_base.proofs.Common.{InputLists, IsLegal, IsListOf, IsOverLimit, IsSpotOf, IsTaken, IsTrue, KeepsLimit, KeepsLimits, Layout, List, MatchOption, None, Ok, Once, Option, PlanFits}
+pub use Rattle.mig_base.proofs.Common.{Result, Runs, ShiftFits, Some, Transfers, Transfer, [], add-one, after_shifts, ap, arith, cases_Bool, cases_eq, cases_lt, class_of, common_steps, cond}
 pub use Rattle.mig_base.proofs.Common.{count_by, count_by-le-length, disk_at, disk_value, drop, eq-eqb, eqb, false, false≢true, fold-append, get_or, get_or-le-sum_by, get_or-range_with_len}
 pub use Rattle.mig_base.proofs.Common.{get_or-set_other, get_or-set_same, get_or-take, get_or_default, get_or_from_slice_get, has, inl, inr, is_inside, is_of, is_relocated, is_split, length}
 pub use Rattle.mig_base.proofs.Common.{length-map, length-range_with_len, length-replicate, length-set, limit, limit_sum, list_any, load, map, most_ends, moves, nat_tests, ne_eqb, no_disk}
 pub use Rattle.mig_base.proofs.Common.{no_spot, not, numbers, option_map, or_right, quotient, range_with_len, refl, replicate, round_at, rounds_for, set, shift_at, shift_count, slice_get}
 pub use Rattle.mig_base.proofs.Common.{slice_get-get_or, slice_get_within, source, subst, suc, sum_by, sum_by-append, sum_by-cons, sym, take, take_all, take_more, takes_part, target, touches}
-pub use Rattle.mig_base.proofs.Common.{trip, trip_of, trips, true, zero, ℕ, ⊎_elim, ◌%◌, ◌&&◌, ◌*◌, ◌+◌, ◌<◌, ◌^◌, ◌||◌, ◌∙◌, ◌∷◌, ◌≡◌, ◌≢◌, ◌≤◌, ◌⊎◌}
+pub use Rattle.mig_base.proofs.Common.{transfer, transfer_of, transfers, true, zero, ℕ, ⊎_elim, ◌%◌, ◌&&◌, ◌*◌, ◌+◌, ◌<◌, ◌^◌, ◌||◌, ◌∙◌, ◌∷◌, ◌≡◌, ◌≢◌, ◌≤◌, ◌⊎◌}
 pub use Rattle.mig_base.proofs.Counting.{count_by-filter, one, sum_by-map}
 pub use Rattle.mig_base.proofs.Elements.{map_same}
 pub use Rattle.mig_base.proofs.Evenness.{class_is_duplex, class_is_even}
@@ -23,7 +23,7 @@ pub use Rattle.mig_base.specs.Checks.{Free, IsClear, Passes, RoundBlame}
 pub use Rattle.mig_base.specs.InputLists.{is_duplex}
 pub use Rattle.mig_base.specs.Judging.{FirstBlame, IsFirstOfPlan, IsLeast, IsMovedTooOften, IsOver, IsRunBlame, IsSo, LacksSlot, RepeatsItem, no_shift, order}
 pub use Rattle.mig_base.specs.Running.{IsArrivedAt, IsFree}
-pub use Rattle.mig_base.specs.Transfers.{transfers}
+pub use Rattle.mig_base.specs.Transfers.{transfer_graph}
 pub use Rattle.mig_base.specs.declared.blames.Blame.{Blame}
 pub use Rattle.mig_base.specs.declared.blames.Blame.TheVariants.{ClassDiffers, EmptyRound, LoadDiffers, Memory, MovedTooOften, NotHere, OverLimit, QuotientDiffers, RoundsDiffer, SlotNotFree}
 pub use Rattle.mig_base.specs.declared.blames.Blame.TheVariants.{TwiceInRound, ValueDiffers, WrongEnd}

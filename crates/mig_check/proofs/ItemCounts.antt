@@ -1,5 +1,5 @@
 -- In how many shifts an item stands.
-use Rattle.mig_check.proofs.Common.{All, All-head, All-tail, AllPairs, At, Bool, DiskId, IsInput, IsMovedTooOften, IsTooOften, IsTrue, List, Lists, Once, Runs, Shift, Some, Spot, [], ap, arith}
+use Rattle.mig_check.proofs.Common.{All, All-head, All-tail, AllPairs, At, Bool, DiskId, InputLists, IsInput, IsMovedTooOften, IsTooOften, IsTrue, List, Once, Runs, Shift, Some, Spot, [], ap, arith}
 use Rattle.mig_check.proofs.Common.{cases_Bool, cases_eq, cases_lt, count_by, eq-eqb, false, get_or, get_or-le-sum_by, inl, inr, is_of, is_relocated, length, ne_eqb, no_spot, one, option_map}
 use Rattle.mig_check.proofs.Common.{refl, round_at, shift_count, slice_get, slice_get-get_or, source, spot_before, suc, sum_by, sum_by-append, sum_by-cons, sym, take, take_more, target, true, ℕ}
 use Rattle.mig_check.proofs.Common.{◌+◌, ◌<◌, ◌∙◌, ◌∷◌, ◌≡◌, ◌≢◌, ◌≤◌}
@@ -34,11 +34,11 @@ shift_count_more plan k item there =
     ap (λ (p : List (List Shift)). sum_by f p) (take_more plan k [] there) ∙ omega (arith, sum_by-append f (take k plan) (round ∷ []), sum_by-cons f round [])
 
 -- an item that no shift moves stays
-never : (input : Lists) (plan : List (List Shift)) (item : ℕ) → shift_count plan item ≡ 0 → At input plan (length plan) item ≡ slice_get input.spots item
+never : (input : InputLists) (plan : List (List Shift)) (item : ℕ) → shift_count plan item ≡ 0 → At input plan (length plan) item ≡ slice_get input.spots item
 never input plan item none = spot_before input plan item (length plan) (λ r h. let e = get_or-le-sum_by (λ (round : List Shift). count_by (is_of item) round) plan r [] h in omega (arith, e, none))
 
 -- so a relocated item is moved
-moved : (input : Lists) (plan : List (List Shift)) → IsInput input → Runs input plan → (item : ℕ) → item < length input.items → shift_count plan item ≡ 0 → is_relocated input item ≡ false
+moved : (input : InputLists) (plan : List (List Shift)) → IsInput input → Runs input plan → (item : ℕ) → item < length input.items → shift_count plan item ≡ 0 → is_relocated input item ≡ false
 moved input plan valid runs item there none =
     let spot = get_or input.spots item no_spot in
     let next = get_or input.next item (record { 0 = 0 }) in
@@ -52,7 +52,7 @@ moved input plan valid runs item there none =
     in_some x y e = cc
 
 -- each relocated item once and no other, where none is moved too often
-pub once_from : (input : Lists) (plan : List (List Shift)) (counts : List ℕ) → IsInput input → Runs input plan → length counts ≡ length input.items → ((item : ℕ) → item < length counts → get_or counts item 0 ≡ shift_count plan item) → ((item : ℕ) → ¬ IsTooOften input counts item) → Once input plan
+pub once_from : (input : InputLists) (plan : List (List Shift)) (counts : List ℕ) → IsInput input → Runs input plan → length counts ≡ length input.items → ((item : ℕ) → item < length counts → get_or counts item 0 ≡ shift_count plan item) → ((item : ℕ) → ¬ IsTooOften input counts item) → Once input plan
 once_from input plan counts valid runs len counted right item there = elim (cases_Bool (is_relocated input item)) [
   | inl relocated ↦ rw relocated (elim (cases_lt 1 (shift_count plan item)) [
     | inl more ↦ absurd (right item (there, inl (omega (arith, more, is))))
@@ -77,7 +77,7 @@ once_from input plan counts valid runs len counted right item there = elim (case
     not_both' f t = not_both t f
 
 -- the least item that is counted too often is moved too often
-pub too_often : (input : Lists) (plan : List (List Shift)) (counts : List ℕ) → length counts ≡ length input.items → ((item : ℕ) → item < length counts → get_or counts item 0 ≡ shift_count plan item) → (item : ℕ) → IsTooOften input counts item → IsMovedTooOften input plan item
+pub too_often : (input : InputLists) (plan : List (List Shift)) (counts : List ℕ) → length counts ≡ length input.items → ((item : ℕ) → item < length counts → get_or counts item 0 ≡ shift_count plan item) → (item : ℕ) → IsTooOften input counts item → IsMovedTooOften input plan item
 too_often input plan counts len counted item h = (
   h.0,
   elim h.1 [
@@ -86,7 +86,7 @@ too_often input plan counts len counted item h = (
   ],
 )
 
-pub too_often_down : (input : Lists) (plan : List (List Shift)) (counts : List ℕ) → length counts ≡ length input.items → ((item : ℕ) → item < length counts → get_or counts item 0 ≡ shift_count plan item) → (item : ℕ) → IsMovedTooOften input plan item → IsTooOften input counts item
+pub too_often_down : (input : InputLists) (plan : List (List Shift)) (counts : List ℕ) → length counts ≡ length input.items → ((item : ℕ) → item < length counts → get_or counts item 0 ≡ shift_count plan item) → (item : ℕ) → IsMovedTooOften input plan item → IsTooOften input counts item
 too_often_down input plan counts len counted item h = (
   h.0,
   elim h.1 [

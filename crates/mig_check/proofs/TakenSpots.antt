@@ -1,6 +1,6 @@
 -- The taken spots of a list, before a round and after it.
 use Rattle.mig_check.proofs.Common.{Any-from_list_any, Bool, Contains, Err, Free, HaveRoom, IfNone, IfOk, IfSome, IsFirstShift, IsFree, IsLayout, IsLegal, IsTaken, IsTakenSet, LacksSlot}
-use Rattle.mig_check.proofs.Common.{LacksSlotIn, Layout, List, Lists, None, Ok, Option, Passes, Result, Shift, Some, Spot, SpotSet, after_shifts, ap, arith, at_target, cases_Bool, false}
+use Rattle.mig_check.proofs.Common.{InputLists, LacksSlotIn, Layout, List, None, Ok, Option, Passes, Result, Shift, Some, Spot, SpotSet, after_shifts, ap, arith, at_target, cases_Bool, false}
 use Rattle.mig_check.proofs.Common.{false≢true, get_or_default, get_or_from_slice_get, in_some, inl, inr, is_source, layout_of, leaves, length, list_any, list_any-from_Any, moved_cases, no_shift}
 use Rattle.mig_check.proofs.Common.{not, refl, same_spot, shift_at, slice_get-get_or, slice_get_within, subst, sym, take, take-length, target_free, true, ℕ, ⊎_elim, ◌&&◌, ◌<◌, ◌∙◌, ◌≡◌}
 use Rattle.mig_check.proofs.Rooms.{not_both, spot_is, spot_itself}
@@ -19,7 +19,7 @@ list_taken taken spots i whole has t = (known, held)
     held : IsTaken (layout_of spots) t → taken t ≡ true
     held w = is ∙ list_any-from_Any (λ s. same_spot s t) spots (w.0, t, slice_get_within spots w.0 t w.1, get_or_from_slice_get spots w.0 t t w.1, spot_itself t)
 
-module _ (input : Lists) (layout : Layout) (taken : SpotSet) (round : List Shift) (are : IsTakenSet taken layout) where
+module _ (input : InputLists) (layout : Layout) (taken : SpotSet) (round : List Shift) (are : IsTakenSet taken layout) where
   up : (k : ℕ) → LacksSlotIn input.disks taken round k → LacksSlot input layout round k
   up k h = elim h [ inl none ↦ inl none | inr rest ↦ elim rest [ inl t ↦ inr (inl ((are (shift_at round k).to).0 t)) | inr w ↦ inr (inr w) ] ]
 
@@ -48,7 +48,7 @@ both_true : (b c : Bool) → (not b && c) ≡ true → (b ≡ false) × (c ≡ t
 both_true true c h = absurd (false≢true h)
 both_true false c h = (refl, h)
 
-module _ (input : Lists) (layout : Layout) (round : List Shift) (legal : IsLegal input layout round) (is : IsLayout input layout) (taken filled freed : SpotSet) (are : IsTakenSet taken layout) (room : HaveRoom input.disks taken round (length round) filled) (after : (t : Spot) → freed t ≡ (not (is_source round t) && filled t)) where
+module _ (input : InputLists) (layout : Layout) (round : List Shift) (legal : IsLegal input layout round) (is : IsLayout input layout) (taken filled freed : SpotSet) (are : IsTakenSet taken layout) (room : HaveRoom input.disks taken round (length round) filled) (after : (t : Spot) → freed t ≡ (not (is_source round t) && filled t)) where
   place_of : (k : ℕ) → k < length round → Contains round (shift_at round k)
   place_of k h = (k, h, get_or_default round k (shift_at round k) no_shift h)
 

@@ -8,20 +8,20 @@ use Rattle.mig_base.specs.declared.inputs.Disk.{Disk}
 use Rattle.mig_base.specs.declared.inputs.Limits.{Limits}
 use Rattle.mig_base.specs.Bounding.{greatest}
 use Rattle.mig_base.specs.InputLists.{disk_at, most_ends}
-use Rattle.mig_base.specs.Running.{trip_of}
-use Rattle.mig_base.specs.Transfers.{Transfers, Trip, div_ceil, passes, side_limit, touches}
+use Rattle.mig_base.specs.Running.{transfer_of}
+use Rattle.mig_base.specs.Transfers.{Transfers, Transfer, div_ceil, passes, side_limit, touches}
 use Rattle.mig_check.specs.declared.parts.Part.{Part}
 use Rattle.mig_check.specs.declared.parts.Part.TheVariants.{Both, Leaving, Reaching}
 
--- the trip counts at the disk
-abbrev pub counts_at : Part → ℕ → Trip → Bool
+-- the transfer counts at the disk
+abbrev pub counts_at : Part → ℕ → Transfer → Bool
 counts_at Both = touches
 counts_at Leaving = passes Outgoing
 counts_at Reaching = passes Incoming
 
--- how many trips count at it
-abbrev pub part_load : Part → ℕ → List Trip → ℕ
-part_load part v trips = count_by (counts_at part v) trips
+-- how many transfers count at it
+abbrev pub part_load : Part → ℕ → List Transfer → ℕ
+part_load part v transfers = count_by (counts_at part v) transfers
 
 -- how many may in one round
 abbrev pub part_limit : Part → Limits → ℕ
@@ -31,18 +31,18 @@ part_limit Reaching limits = side_limit Incoming limits
 
 -- how many rounds the disk needs for them, and the greatest of these numbers
 abbrev pub part_value : Part → Transfers → ℕ → ℕ
-part_value part graph v = div_ceil (part_load part v graph.trips) (part_limit part (disk_at graph.disks v).limits)
+part_value part graph v = div_ceil (part_load part v graph.transfers) (part_limit part (disk_at graph.disks v).limits)
 
 abbrev pub part_quotient : Part → Transfers → ℕ
 part_quotient part graph = greatest (map (part_value part graph) (range_with_len 0 (length graph.disks)))
 
--- the trips keep this part's limit of each disk
-abbrev pub KeepsPart : Part → List Disk → List Trip → Type 0
-KeepsPart part disks trips = (v : ℕ) → v < length disks → part_load part v trips ≤ part_limit part (disk_at disks v).limits
+-- the transfers keep this part's limit of each disk
+abbrev pub KeepsPart : Part → List Disk → List Transfer → Type 0
+KeepsPart part disks transfers = (v : ℕ) → v < length disks → part_load part v transfers ≤ part_limit part (disk_at disks v).limits
 
 -- so many shifts of the round count at the disk, more than its limit
 abbrev pub IsPartOver : Part → List Disk → List Shift → ℕ → ℕ → Type 0
-IsPartOver part disks round v count = (part_limit part (disk_at disks v).limits < count) × (count ≡ part_load part v (map trip_of round))
+IsPartOver part disks round v count = (part_limit part (disk_at disks v).limits < count) × (count ≡ part_load part v (map transfer_of round))
 
 -- the disk is there, is over by so many, and is the least that is over
 abbrev pub IsLeastOver : Part → List Disk → List Shift → ℕ → ℕ → Type 0

@@ -56,12 +56,12 @@ pub record HaveRoom (disks : List Disk) (taken : SpotSet) (round : List Shift) (
 -- Counts of ends
 
 -- so many ends as are counted at the disk keep its limit
-abbrev pub Keeps : Part → List Disk → List ℕ → ℕ → Type 0
-Keeps part disks counts v = slice_index counts v ≤ part_limit part (disk_at disks v).limits
+abbrev pub KeepsPartLimit : Part → List Disk → List ℕ → ℕ → Type 0
+KeepsPartLimit part disks counts v = slice_index counts v ≤ part_limit part (disk_at disks v).limits
 
 -- the disk keeps its limit, or the disk that was found isn't behind it
 abbrev pub IsCovered : Part → List Disk → List ℕ → Option DiskId → ℕ → Type 0
-IsCovered part disks counts found v = Keeps part disks counts v ⊎ IsSomeAnd found (λ d. d.0 ≤ v)
+IsCovered part disks counts found v = KeepsPartLimit part disks counts v ⊎ IsSomeAnd found (λ d. d.0 ≤ v)
 
 -- a disk that was found is there and has more ends than its limit
 abbrev pub IsFoundOver : Part → List Disk → List ℕ → Option DiskId → Type 0

@@ -4,9 +4,9 @@ ghost use Rattle.std.specs.Prelude.{◌≡◌, ℕ, ◌+◌, ◌-◌, ◌^◌, �
 ghost use Rattle.mig_base.specs.InputLists.{IsDiskInRange, is_duplex};
 ghost use Rattle.mig_base.specs.Transfers.{KeepsLimits, load, touches};
 ghost use Rattle.mig_base.specs.Judging.{IsOver};
-ghost use Rattle.mig_base.specs.Running.{ShiftFits, trip_of};
+ghost use Rattle.mig_base.specs.Running.{ShiftFits, transfer_of};
 ghost use Rattle.mig_check.specs.Parts.{IsLeastOver, IsLesserOf, KeepsPart, counts_at, part_load};
-ghost use Rattle.mig_check.specs.Tables.{IsCovered, IsFoundOver, Keeps};
+ghost use Rattle.mig_check.specs.Tables.{IsCovered, IsFoundOver, KeepsPartLimit};
 
 use crate::parts::{Part, part_limit};
 use mig_base::{Disk, DiskId, Input, MAX_SHIFTS, Shift};
@@ -17,7 +17,7 @@ fn count_both(counts: &mut [u32], s: &Shift)
     requires to { s.now.to.disk.0 < length counts.old }
     requires room { All (λ n. n < 2 ^ 32 - 1) counts.old }
     ensures { (v : ℕ) → v < length counts.new
-        → slice_index counts.new v ≡ slice_index counts.old v + (if touches v (trip_of s.now) then 1 else 0) }
+        → slice_index counts.new v ≡ slice_index counts.old v + (if touches v (transfer_of s.now) then 1 else 0) }
 {
     let from = s.from.disk.0 as usize;
     let to = s.to.disk.0 as usize;
@@ -33,7 +33,7 @@ fn count_shift(part: Part, counts: &mut [u32], s: &Shift)
     requires to { s.now.to.disk.0 < length counts.old }
     requires room { All (λ n. n < 2 ^ 32 - 1) counts.old }
     ensures { (v : ℕ) → v < length counts.new
-        → slice_index counts.new v ≡ slice_index counts.old v + (if counts_at part v (trip_of s.now) then 1 else 0) }
+        → slice_index counts.new v ≡ slice_index counts.old v + (if counts_at part v (transfer_of s.now) then 1 else 0) }
 {
     match part {
         Part::Both => count_both(counts, s),
@@ -47,7 +47,7 @@ fn count_ends(part: Part, counts: &mut [u32], round: &[Shift])
     requires zero { All (λ n. n ≡ 0) counts.old }
     requires few { length round.now ≤ MAX_SHIFTS }
     requires disks { All (λ s. (s.from.disk.0 < length counts.old) × (s.to.disk.0 < length counts.old)) round.now }
-    ensures { (v : ℕ) → v < length counts.new → slice_index counts.new v ≡ part_load part v (map trip_of round.now) }
+    ensures { (v : ℕ) → v < length counts.new → slice_index counts.new v ≡ part_load part v (map transfer_of round.now) }
 {
     for s in round {
         count_shift(part, counts, s);
@@ -56,7 +56,7 @@ fn count_ends(part: Part, counts: &mut [u32], round: &[Shift])
 
 /// Sets the counts of a round back to 0. No more is counted than its ends.
 fn clear_ends(counts: &mut [u32], round: &[Shift])
-    requires counted { (v : ℕ) → v < length counts.old → slice_index counts.old v ≤ load v (map trip_of round.now) }
+    requires counted { (v : ℕ) → v < length counts.old → slice_index counts.old v ≤ load v (map transfer_of round.now) }
     requires disks { All (λ s. (s.from.disk.0 < length counts.old) × (s.to.disk.0 < length counts.old)) round.now }
     ensures { All (λ n. n ≡ 0) counts.new }
 {
@@ -113,8 +113,8 @@ fn over_in(part: Part, disks: &[Disk], counts: &[u32], round: &[Shift]) -> Optio
     requires len { length counts.now ≡ length disks.now }
     requires valid { All IsDiskInRange disks.now }
     requires ends { All (λ s. (s.from.disk.0 < length disks.now) × (s.to.disk.0 < length disks.now)) round.now }
-    requires counted { (v : ℕ) → v < length counts.now → slice_index counts.now v ≡ part_load part v (map trip_of round.now) }
-    ensures { MatchOption result (KeepsPart part disks.now (map trip_of round.now)) (λ r. IsLeastOver part disks.now round.now r.0.0 r.1) }
+    requires counted { (v : ℕ) → v < length counts.now → slice_index counts.now v ≡ part_load part v (map transfer_of round.now) }
+    ensures { MatchOption result (KeepsPart part disks.now (map transfer_of round.now)) (λ r. IsLeastOver part disks.now round.now r.0.0 r.1) }
 {
     match find_over(part, disks, counts, round) {
         Some(disk) => Some((disk, counts[disk.0 as usize])),
@@ -133,7 +133,7 @@ fn check_part(
     requires few { length round.now ≤ MAX_SHIFTS }
     requires len { length counts.old ≡ length input.now.disks }
     requires zero { All (λ n. n ≡ 0) counts.old }
-    ensures over { MatchOption result (KeepsPart part input.now.disks (map trip_of round.now)) (λ r. IsLeastOver part input.now.disks round.now r.0.0 r.1) }
+    ensures over { MatchOption result (KeepsPart part input.now.disks (map transfer_of round.now)) (λ r. IsLeastOver part input.now.disks round.now r.0.0 r.1) }
     ensures zero_after { All (λ n. n ≡ 0) counts.new }
 {
     count_ends(part, counts, round);
@@ -159,7 +159,7 @@ pub fn check_limits(input: &Input, counts: &mut [u32], round: &[Shift]) -> Optio
     requires few { length round.now ≤ MAX_SHIFTS }
     requires len { length counts.old ≡ length input.now.disks }
     requires zero { All (λ n. n ≡ 0) counts.old }
-    ensures none { IfNone result (KeepsLimits input.now.disks (map trip_of round.now)) }
+    ensures none { IfNone result (KeepsLimits input.now.disks (map transfer_of round.now)) }
     ensures some { IfSome result (λ r. (r.0.0 < length input.now.disks)
         × IsOver input.now round.now r.0.0 r.1
         × ((v c : ℕ) → v < r.0.0 → ¬ IsOver input.now round.now v c)) }

@@ -9,7 +9,7 @@ ghost use Rattle.mig_base.specs.Running.{Once, PlanFits, Runs};
 ghost use Rattle.mig_base.specs.Schedules.{Needs};
 ghost use Rattle.mig_check.specs.Faults.{IsCertBlame, IsShownBlame};
 
-use crate::counted::{Shown, count_cert, stated};
+use crate::counted::{BoundNumbers, count_cert, stated};
 use crate::moved::check_once;
 use crate::running::runs;
 use mig_base::{Blame, Bound, Cert, Input, Plan, Verdict};
@@ -78,7 +78,7 @@ fn check_cert(alloc: Global, input: &Input, plan: &Plan, cert: &Cert) -> Result<
 }
 
 /// Whether what a bound states is what is counted.
-fn check_shown(stated: Shown, counted: Shown) -> Result<(), Blame>
+fn check_shown(stated: BoundNumbers, counted: BoundNumbers) -> Result<(), Blame>
     ensures ok { OnOk result ((stated.load ≡ counted.load) × (stated.value ≡ counted.value)) }
     ensures blame { IfErr result (IsShownBlame stated counted) }
 {

@@ -2,7 +2,7 @@
 ghost use Rattle.std.specs.Prelude.{◌≡◌, ◌≢◌, ◌↔◌, ◌&&◌, ℕ, ◌+◌, ◌-◌, ◌^◌, ◌<◌, ◌≤◌, All, IfOk, IsTrue, if◌then◌else◌, false, length, not, slice_index, ◌==◌};
 ghost use Rattle.mig_base.specs.Bounding.{IsEven, class_of};
 ghost use Rattle.mig_base.specs.InputLists.{is_duplex};
-ghost use Rattle.mig_base.specs.Transfers.{touches, transfers};
+ghost use Rattle.mig_base.specs.Transfers.{touches, transfer_graph};
 ghost use Rattle.mig_check.specs.Counts.{AreLoadsOf};
 ghost use Rattle.mig_check.specs.Parts.{counts_at, part_quotient};
 ghost use Rattle.mig_check.specs.declared.parts.Part.TheVariants.{Both};
@@ -67,7 +67,7 @@ fn count_two(loads: &mut [u32], from: DiskId, to: DiskId)
 /// The greatest number of rounds that a disk needs for the moves that count at it, and 0 without moves.
 pub fn find_quotient(part: Part, input: &Input, loads: &[u32]) -> u32
     requires { AreLoadsOf part input.now loads.now }
-    ensures { result ≡ part_quotient part (transfers input.now) }
+    ensures { result ≡ part_quotient part (transfer_graph input.now) }
 {
     input.keeps_rules();
     let mut greatest = 0;
@@ -81,7 +81,7 @@ pub fn find_quotient(part: Part, input: &Input, loads: &[u32]) -> u32
 fn all_even(input: &Input, loads: &[u32]) -> bool
     requires joint { is_duplex input.now.disks ≡ false }
     requires loads { AreLoadsOf Both input.now loads.now }
-    ensures { IsTrue result ↔ IsEven (transfers input.now) }
+    ensures { IsTrue result ↔ IsEven (transfer_graph input.now) }
 {
     input.keeps_rules();
     for (v, disk) in input.disks().iter().enumerate() {
@@ -97,7 +97,7 @@ fn all_even(input: &Input, loads: &[u32]) -> bool
 pub fn find_class(input: &Input, loads: &[u32]) -> Class
     requires joint { is_duplex input.now.disks ≡ false }
     requires loads { AreLoadsOf Both input.now loads.now }
-    ensures { result ≡ class_of (transfers input.now) }
+    ensures { result ≡ class_of (transfer_graph input.now) }
 {
     if all_even(input, loads) {
         Class::Even

@@ -1,7 +1,7 @@
 //! The rounds of a plan, one after another.
 ghost use Rattle.std.specs.Prelude.{◌≡◌, ◌≢◌, ℕ, ◌+◌, ◌<◌, ◌≤◌, suc, All, AllPairs, IfErr, IfOk, OnOk, Some, length};
 ghost use Rattle.mig_base.specs.Checks.{RoundBlame};
-ghost use Rattle.mig_base.specs.InputLists.{Lists};
+ghost use Rattle.mig_base.specs.InputLists.{InputLists};
 ghost use Rattle.mig_base.specs.Judging.{IsRunBlame};
 ghost use Rattle.mig_base.specs.Layouts.{At, IsLayout, IsListOf, round_at};
 ghost use Rattle.mig_base.specs.Running.{IsLegal, PlanFits, ShiftFits};
@@ -46,7 +46,7 @@ fn check_items(spots: &[Spot], seen: &mut [u32], number: u32, round: &[Shift]) -
     ensures some { OnOk result (0 < length round.now) }
     ensures leaves { OnOk result (All (λ s. layout_of spots.now s.item.0 ≡ Some s.from) round.now) }
     ensures once { OnOk result (AllPairs (λ s t. s.item ≢ t.item) round.now) }
-    ensures blame { (input : Lists) → IfErr result (RoundBlame input (layout_of spots.now) round.now number) }
+    ensures blame { (input : InputLists) → IfErr result (RoundBlame input (layout_of spots.now) round.now number) }
     ensures later { All (λ n. n ≤ number) seen.new }
 {
     if round.is_empty() {

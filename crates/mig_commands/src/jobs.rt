@@ -13,7 +13,7 @@ use crate::reads::{read_files, read_plan_text};
 use mig_base::{MAX_FILE_BYTES, Plan};
 use mig_drill::MAX_DRILL_SHIFTS;
 use mig_jobs::{Job, count_shifts, prepare};
-use mig_words::{Ending, Finding, Reader};
+use mig_words::{CommandError, InputRefusal, Reader};
 use std::alloc::Global;
 
 /// The job of the plan that these bytes spell.
@@ -22,7 +22,7 @@ pub fn job_of(
     reader: Reader,
     files: InputFiles<'_>,
     plan: &[u8],
-) -> Result<Job, Ending>
+) -> Result<Job, CommandError>
     ensures takes { Takes (reads_task reader (with_plan (bodies_in files.entry) plan.now)) result }
     ensures few { IfOk result (λ job. length (shifts_of job.plan) ≤ MAX_FILE_BYTES) }
 {
@@ -33,19 +33,19 @@ pub fn job_of(
 }
 
 /// Refuses a plan that is too large for a drill.
-fn check_size(plan: &Plan) -> Result<(), Ending>
+fn check_size(plan: &Plan) -> Result<(), CommandError>
     requires { length (shifts_of plan.now) ≤ MAX_FILE_BYTES }
     ensures { Takes (fits_drill plan.now) result }
 {
     let shifts = count_shifts(plan);
     if shifts > MAX_DRILL_SHIFTS {
-        return Err(Ending::Found(Finding::TooLarge { shifts }));
+        return Err(CommandError::Found(InputRefusal::TooLarge { shifts }));
     }
     Ok(())
 }
 
 /// The job of the plan that these bytes spell, where it isn't too large for a drill.
-pub fn small_job(alloc: Global, files: InputFiles<'_>, plan: &[u8]) -> Result<Job, Ending>
+pub fn small_job(alloc: Global, files: InputFiles<'_>, plan: &[u8]) -> Result<Job, CommandError>
     ensures takes { TakesAs (λ job. drill_text job.plan) (drills_bytes (with_plan (bodies_in files.entry) plan.now)) result }
     ensures fits { IfOk result (λ job. length (shifts_of job.plan) ≤ MAX_DRILL_SHIFTS) }
 {

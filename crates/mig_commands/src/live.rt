@@ -11,7 +11,7 @@ use crate::reads::{read_plan_text, read_roomy};
 use mig_base::Input;
 use mig_jobs::{Job, prepare};
 use mig_live::{Script, ScriptError, read_script};
-use mig_words::{Ending, Finding, TextFile};
+use mig_words::{CommandError, InputRefusal, TextFile};
 use std::alloc::Global;
 
 /// The job of a plan, and a script for it.
@@ -22,17 +22,17 @@ pub struct ScriptedJob {
 }
 
 /// The script whose spelling the bytes are.
-fn read_script_text(alloc: Global, input: &Input, bytes: &[u8]) -> Result<Script, Ending>
+fn read_script_text(alloc: Global, input: &Input, bytes: &[u8]) -> Result<Script, CommandError>
     ensures takes { Takes (reads_script bytes.now input.now) result }
     ensures fits { IfOk result (All (IsOrder input.now)) }
 {
     match read_script(alloc, input, bytes) {
         Ok(script) => Ok(script),
-        Err(ScriptError::Line { number }) => Err(Ending::Found(Finding::NotSpelled {
+        Err(ScriptError::Line { number }) => Err(CommandError::Found(InputRefusal::NotSpelled {
             text: TextFile::Script,
             line: number,
         })),
-        Err(ScriptError::Memory) => Err(Ending::Memory),
+        Err(ScriptError::Memory) => Err(CommandError::Memory),
     }
 }
 
@@ -43,7 +43,7 @@ pub fn scripted_job(
     files: InputFiles<'_>,
     plan: &[u8],
     script: &[u8],
-) -> Result<ScriptedJob, Ending>
+) -> Result<ScriptedJob, CommandError>
     ensures takes { TakesAs scripted_read (reads_scripted (with_plan (bodies_in files.entry) plan.now) script.now) result }
     ensures fits { IfOk result (λ read. All (IsOrder read.job.input) read.script) }
 {

@@ -45,7 +45,7 @@ fn plan_digest(alloc: Global, input: &Input, plan: &Plan) -> Result<String, Allo
 
 /// The numbers of a rehearsal.
 #[derive(Clone, Copy)]
-struct Numbers {
+struct RehearsalNumbers {
     disks: u32,
     items: u32,
     moves: u32,
@@ -55,15 +55,15 @@ struct Numbers {
 }
 
 /// The numbers of an input, by its transfer graph, and of a certificate.
-fn numbers_of(input: &Input, graph: &Graph, cert: &Cert) -> Numbers
+fn numbers_of(input: &Input, graph: &Graph, cert: &Cert) -> RehearsalNumbers
     ensures disks { result.disks ≡ length input.now.disks }
     ensures items { result.items ≡ length input.now.items }
-    ensures moves { result.moves ≡ length graph.now.trips }
+    ensures moves { result.moves ≡ length graph.now.transfers }
     ensures quotient { result.quotient ≡ cert.now.quotient }
     ensures rounds { result.rounds ≡ cert.now.rounds }
     ensures bound { result.bound ≡ bound_value cert.now.bound }
 {
-    Numbers {
+    RehearsalNumbers {
         disks: input.disks().len() as u32,
         items: input.items().len() as u32,
         moves: graph.edges(),
@@ -74,7 +74,7 @@ fn numbers_of(input: &Input, graph: &Graph, cert: &Cert) -> Numbers
 }
 
 /// Adds the six lines of numbers.
-fn push_numbers(out: &mut Vec<u8>, numbers: &Numbers) -> Result<(), AllocError>
+fn push_numbers(out: &mut Vec<u8>, numbers: &RehearsalNumbers) -> Result<(), AllocError>
     ensures { OnOk result (out.new.items ≡ out.old.items ++ text_of_lines (six_lines numbers.now.disks numbers.now.items numbers.now.moves numbers.now.quotient numbers.now.rounds numbers.now.bound)) }
 {
     push_count(out, b"disks", numbers.disks)?;
@@ -100,7 +100,7 @@ fn push_words(out: &mut Vec<u8>, word: &[u8], text: &[u8]) -> Result<(), AllocEr
 /// The eight lines of a rehearsal.
 fn lines_of(
     alloc: Global,
-    numbers: &Numbers,
+    numbers: &RehearsalNumbers,
     verdict: &[u8],
     digest: &[u8],
 ) -> Result<Vec<u8>, AllocError>

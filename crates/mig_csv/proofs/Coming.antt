@@ -1,12 +1,12 @@
 -- The items that are still to be counted among those that come to a disk.
-use Rattle.mig_csv.proofs.Common.{Bool, List, Lists, ap, arith, cond, count_by, false, filter, incoming, is_relocated, length, range_with_len, suc, sum_by-cons, target, true, ℕ, ◌&&◌, ◌+◌, ◌-◌}
+use Rattle.mig_csv.proofs.Common.{Bool, InputLists, List, ap, arith, cond, count_by, false, filter, incoming, is_relocated, length, range_with_len, suc, sum_by-cons, target, true, ℕ, ◌&&◌, ◌+◌, ◌-◌}
 use Rattle.mig_csv.proofs.Common.{◌<◌, ◌==◌, ◌∙◌, ◌∷◌, ◌≡◌, ◌≤◌}
 
 -- of the items from this number on
-abbrev pub left_from : Lists → ℕ → ℕ → ℕ
+abbrev pub left_from : InputLists → ℕ → ℕ → ℕ
 left_from i v item = count_by (λ m. target i m == v) (filter (is_relocated i) (range_with_len item (length i.items - item)))
 
-pub left_from-start : (i : Lists) (v : ℕ) → left_from i v 0 ≡ incoming i v
+pub left_from-start : (i : InputLists) (v : ℕ) → left_from i v 0 ≡ incoming i v
 left_from-start i v = let e : length i.items - 0 ≡ length i.items = omega arith in ap (λ (n : ℕ). count_by (λ m. target i m == v) (filter (is_relocated i) (range_with_len 0 n))) e
 
 next_range : (item n : ℕ) → item < n → range_with_len item (n - item) ≡ item ∷ range_with_len (item + 1) (n - (item + 1))
@@ -16,10 +16,10 @@ kept : (q : ℕ → Bool) (b : Bool) (item : ℕ) (rest : List ℕ) → count_by
 kept q true item rest = sum_by-cons (λ m. cond (q m) 1 0) item rest
 kept q false item rest = omega arith
 
-pub left_from-next : (i : Lists) (v item : ℕ) → item < length i.items → left_from i v item ≡ cond (is_relocated i item && (target i item == v)) 1 0 + left_from i v (item + 1)
+pub left_from-next : (i : InputLists) (v item : ℕ) → item < length i.items → left_from i v item ≡ cond (is_relocated i item && (target i item == v)) 1 0 + left_from i v (item + 1)
 left_from-next i v item h =
     ap (λ (xs : List ℕ). count_by (λ m. target i m == v) (filter (is_relocated i) xs)) (next_range item (length i.items) h)
     ∙ kept (λ m. target i m == v) (is_relocated i item) item (filter (is_relocated i) (range_with_len (item + 1) (length i.items - (item + 1))))
 
-pub left_from-end : (i : Lists) (v item : ℕ) → length i.items ≤ item → left_from i v item ≡ 0
+pub left_from-end : (i : InputLists) (v item : ℕ) → length i.items ≤ item → left_from i v item ≡ 0
 left_from-end i v item h = let e : length i.items - item ≡ 0 = omega arith in ap (λ (n : ℕ). count_by (λ m. target i m == v) (filter (is_relocated i) (range_with_len item n))) e

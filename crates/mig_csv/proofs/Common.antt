@@ -8,9 +8,9 @@ pub use Rattle.csv.specs.declared.error.ErrorKind.{ErrorKind}
 pub use Rattle.csv.specs.declared.parser.Action.{Action}
 pub use Rattle.csv.specs.declared.parser.State.{State}
 pub use Rattle.csv.specs.declared.reader.Reader.{Reader}
-pub use Rattle.mig_base.proofs.Common.{All, All-append, AllZip, Any, AreDifferent, Bodies, Bool, Contains, IsDiskInRange, IsFirstFault, IsInput, IsLimit, IsName, IsRoomy, IsSomeAnd, IsSpotNamed}
-pub use Rattle.mig_base.proofs.Common.{IsSpotOf, List, Lists, MatchOption, None, Option, Some, [], ap, append-nil, append_assoc, arith, cases_eq, common_steps, cond, count_by, count_by-le-length}
-pub use Rattle.mig_base.proofs.Common.{disks_of, drop, filter, first, fourth, get_or, get_or-set_other, get_or-set_same, get_or-take, get_or_from_slice_get, header_of, inl, inr, is_relocated}
+pub use Rattle.mig_base.proofs.Common.{All, All-append, AllZip, Any, AreDifferent, Bool, Contains, IsDiskInRange, IsFirstFault, IsInput, IsLimit, IsName, IsRoomy, IsSomeAnd, IsSpotNamed, ThreeFiles}
+pub use Rattle.mig_base.proofs.Common.{InputLists, IsSpotOf, List, MatchOption, None, Option, Some, [], ap, append-nil, append_assoc, arith, cases_eq, common_steps, cond, count_by, count_by-le-length}
+pub use Rattle.mig_base.proofs.Common.{disks_of, drop, filter, first, fourth, get_or, get_or-set_other, get_or-set_same, get_or-take, get_or_from_slice_get, header_row, inl, inr, is_relocated}
 pub use Rattle.mig_base.proofs.Common.{is_some, length, length-append, length-range_with_len, length-set, map, map-append, nat_tests, no_disk, no_spot, number_of, option_map, range_with_len}
 pub use Rattle.mig_base.proofs.Common.{refl, replicate, rows_of, second, set, slice_get, slice_get_within, source, subst, suc, sum_by-cons, sym, take, take-append-le, take-append_seam, target}
 pub use Rattle.mig_base.proofs.Common.{third, true, zero, ℕ, ◌&&◌, ◌++◌, ◌+◌, ◌-◌, ◌<◌, ◌==◌, ◌↔◌, ◌∙◌, ◌∷◌, ◌≡◌, ◌≢◌, ◌≤◌, ◌⊎◌}
@@ -21,7 +21,7 @@ pub use Rattle.mig_base.proofs.Listed.{Accepted-IsInput, AcceptedTight-IsInput, 
 pub use Rattle.mig_base.specs.Digits.{IsNumber}
 pub use Rattle.mig_base.specs.Refusals.{Accepted, AcceptedTight, AreListed, DisksRowFault, Fault, FaultButRoom, FileFault, HasNumbers, IsFirstCause, IsNextNamed, IsNotListed, IsRowFault, LacksRoom, NextRowFault, NowRowFault}
 pub use Rattle.mig_base.specs.Refusals.{Precedes, PrecedesInFile, RefusedAs, RefusedTightAs, disk_width, rank_of, stage_of}
-pub use Rattle.mig_base.specs.Rows.{Row, disk_of, has_sides, place_of, records_of}
+pub use Rattle.mig_base.specs.Rows.{Row, disk_of, has_sides, records_of, spot_in_row}
 pub use Rattle.mig_base.specs.Targets.{HasRoom, incoming, present}
 pub use Rattle.mig_base.specs.declared.faults.FileKind.{FileKind}
 pub use Rattle.mig_base.specs.declared.faults.Why.{Why}
@@ -36,7 +36,7 @@ pub use Rattle.mig_csv.specs.Lists.{AreNextOf, AreSeen, IsNextOf, RefusesMissing
 pub use Rattle.mig_csv.specs.Numbers.{AreInRange, AreNumbersOf, limits_by}
 pub use Rattle.mig_csv.specs.Opened.{IsOpened}
 pub use Rattle.mig_csv.specs.Places.{place_in}
-pub use Rattle.mig_csv.specs.Refusals.{DisksFault, IsRefusal, IsRefusalOf, IsTightRefusal, NextFault, NowFault, RefusesHeader}
+pub use Rattle.mig_csv.specs.Refusals.{DisksFault, IsInputError, IsRefusalOf, IsTightRefusal, NextFault, NowFault, RefusesHeader}
 pub use Rattle.mig_csv.specs.Unread.{ReadsRecords, ReadsWithDefaults, all_from, unread_bytes, unread_records}
 pub use Rattle.mig_csv.specs.declared.disks.Numbers.{Numbers}
 pub use Rattle.mig_csv.specs.declared.errors.InputError.{InputError}
@@ -52,5 +52,5 @@ pub use Rattle.std.specs.Cmp.Lexicographic.{nat_list_eq_equiv, pointwise, same_t
 pub use Rattle.std.specs.Prelude.{unwrap_or}
 pub use Rattle.std.specs.Result.{is_err}
 pub use Rattle.mig_base.proofs.FaultOrder.{OwnFault}
-pub use Rattle.mig_base.proofs.Common.{All-map, Contains-from_any, file_of, list_any, list_any-from_Contains}
+pub use Rattle.mig_base.proofs.Common.{All-map, Contains-from_any, file_bytes, list_any, list_any-from_Contains}
 pub use Rattle.std.specs.Prelude.{⊤}

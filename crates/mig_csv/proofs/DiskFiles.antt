@@ -1,6 +1,6 @@
 -- A file that is read row by row.
 use Rattle.mig_csv.proofs.Common.{Bool, Disk, DisksFault, DisksRowFault, FileFault, IsFirstCause, IsFirstFault, IsRowFault, List, MAX_DISKS, MAX_FILE_BYTES, PrecedesInFile, Row, Some, Why, []}
-use Rattle.mig_csv.proofs.Common.{ap, append-nil, append_assoc, arith, cases_lt, disk_of, disks_of, first, has_sides, header_of, inl, inr, length, length-append, length-map, map, map-append}
+use Rattle.mig_csv.proofs.Common.{ap, append-nil, append_assoc, arith, cases_lt, disk_of, disks_of, first, has_sides, header_row, inl, inr, length, length-append, length-map, map, map-append}
 use Rattle.mig_csv.proofs.Common.{map-name, name_in_row, records_of, refl, rows_of, slice_get, slice_get_within, subst, suc, sym, take, take-append-le, take-append_seam, zero, ℕ, ◌++◌, ◌+◌, ◌<◌}
 use Rattle.mig_csv.proofs.Common.{◌∙◌, ◌∷◌, ◌≡◌, ◌≤◌}
 use Rattle.mig_base.specs.declared.faults.FileKind.TheVariants as file
@@ -110,7 +110,7 @@ has_fault sides before r w = DisksRowFault sides (map first before) r w
 pub record ReadSoFar (bytes : List ℕ) (left : List Row) (names : List (List ℕ)) (disks : List Disk) : Type 0 where
   pub short : length bytes ≤ MAX_FILE_BYTES
   pub done : List Row
-  pub records : records_of bytes ≡ header_of file.Disks (has_sides bytes) ∷ (done ++ left)
+  pub records : records_of bytes ≡ header_row file.Disks (has_sides bytes) ∷ (done ++ left)
   pub sound : Sound (has_fault (has_sides bytes)) done
   pub few : length done ≤ MAX_DISKS
   pub named : names ≡ map first done
@@ -121,7 +121,7 @@ of_rows sides = record { long = λ before r h. h; head = λ before r h. h }
 
 -- a file that was read to its end has no fault
 pub ReadSoFar-end : {bytes : List ℕ} {left : List Row} {names : List (List ℕ)} {disks : List Disk} → ReadSoFar bytes left names disks → left ≡ [] → (n : ℕ) (w : Why) → ¬ (DisksFault bytes n w)
-ReadSoFar-end {bytes} s e = no_fault (has_fault (has_sides bytes)) (header_of file.Disks (has_sides bytes)) bytes s.done s.short (rw (e, append-nil) at s.records) s.sound
+ReadSoFar-end {bytes} s e = no_fault (has_fault (has_sides bytes)) (header_row file.Disks (has_sides bytes)) bytes s.done s.short (rw (e, append-nil) at s.records) s.sound
 
 -- one more row of which no cause holds
 pub ReadSoFar-push : {bytes : List ℕ} {left : List Row} {names : List (List ℕ)} {disks : List Disk} → ReadSoFar bytes left names disks → (r : Row) (rest : List Row) (d : Disk)
@@ -143,10 +143,10 @@ ReadSoFar-push {bytes} {left} {names} s r rest d e listed new =
 pub ReadSoFar-fault : {bytes : List ℕ} {left : List Row} {names : List (List ℕ)} {disks : List Disk} → ReadSoFar bytes left names disks → (r : Row) (rest : List Row) (w : Why)
     → left ≡ r ∷ rest → IsFirstCause (DisksRowFault (has_sides bytes) names r) w → IsFirstFault (DisksFault bytes) (length names + 1) w
 ReadSoFar-fault {bytes} {left} {names} s r rest w e f =
-    rw (s.named, length-map) (first_fault (has_fault (has_sides bytes)) (header_of file.Disks (has_sides bytes)) bytes s.done rest r w (of_rows (has_sides bytes)) s.short (rw e at s.records) s.sound (rw s.named at f))
+    rw (s.named, length-map) (first_fault (has_fault (has_sides bytes)) (header_row file.Disks (has_sides bytes)) bytes s.done rest r w (of_rows (has_sides bytes)) s.short (rw e at s.records) s.sound (rw s.named at f))
 
 -- a file whose header was read
-pub ReadSoFar-start : {bytes : List ℕ} (left : List Row) → length bytes ≤ MAX_FILE_BYTES → records_of bytes ≡ header_of file.Disks (has_sides bytes) ∷ left → ReadSoFar bytes left [] []
+pub ReadSoFar-start : {bytes : List ℕ} (left : List Row) → length bytes ≤ MAX_FILE_BYTES → records_of bytes ≡ header_row file.Disks (has_sides bytes) ∷ left → ReadSoFar bytes left [] []
 ReadSoFar-start {bytes} left short e = record {
   short = short;
   done = [];
@@ -163,7 +163,7 @@ ReadSoFar-names {bytes} s = s.named ∙ map-name (has_sides bytes) s.done ∙ ap
 
 -- the disks are those of the rows of a file that was read to its end
 pub ReadSoFar-value : {bytes : List ℕ} {left : List Row} {names : List (List ℕ)} {disks : List Disk} → ReadSoFar bytes left names disks → left ≡ [] → disks ≡ disks_of bytes
-ReadSoFar-value {bytes} s e = s.listed ∙ ap (map (disk_of (has_sides bytes))) (sym (rows (header_of file.Disks (has_sides bytes)) bytes s.done (rw (e, append-nil) at s.records)))
+ReadSoFar-value {bytes} s e = s.listed ∙ ap (map (disk_of (has_sides bytes))) (sym (rows (header_row file.Disks (has_sides bytes)) bytes s.done (rw (e, append-nil) at s.records)))
 
 pub ReadSoFar-few : {bytes : List ℕ} {left : List Row} {names : List (List ℕ)} {disks : List Disk} → ReadSoFar bytes left names disks → length disks ≤ MAX_DISKS
 ReadSoFar-few s = rw (s.listed, length-map) s.few

@@ -1,37 +1,37 @@
 -- A now file that is read row by row.
 use Rattle.mig_csv.proofs.Common.{All, All-append, AllZip, Contains, Disk, IsFirstCause, IsFirstFault, IsSpotNamed, IsSpotOf, List, MAX_FILE_BYTES, MAX_ITEMS, NowFault, NowRowFault, Row, Some}
-use Rattle.mig_csv.proofs.Common.{Spot, Why, [], all_zipped_more, ap, append-nil, append_assoc, arith, at_map, first, has_sides, header_of, length, length-append, length-map, map, map-append}
-use Rattle.mig_csv.proofs.Common.{one_all, place_in, place_of, records_of, refl, rows_of, second, slice_get, some_and, subst, sym, ℕ, ◌++◌, ◌+◌, ◌∙◌, ◌∷◌, ◌≡◌, ◌≤◌}
+use Rattle.mig_csv.proofs.Common.{Spot, Why, [], all_zipped_more, ap, append-nil, append_assoc, arith, at_map, first, has_sides, header_row, length, length-append, length-map, map, map-append}
+use Rattle.mig_csv.proofs.Common.{one_all, place_in, records_of, refl, rows_of, second, slice_get, some_and, spot_in_row, subst, sym, ℕ, ◌++◌, ◌+◌, ◌∙◌, ◌∷◌, ◌≡◌, ◌≤◌}
 use Rattle.mig_base.specs.declared.faults.FileKind.TheVariants as file
 use Rattle.mig_base.specs.declared.faults.Why.TheVariants as why
 use Rattle.mig_csv.proofs.DiskFiles.{OfRows, Sound, Sound-nil, Sound-push, first_fault, no_fault}
 use Rattle.mig_csv.proofs.ItemRows.{Contains-at, at-Contains, place_at}
 
 abbrev pub now_has : List Disk → List Row → Row → Why → Type 0
-now_has disks before r w = NowRowFault disks (map first before) (map place_of before) r w
+now_has disks before r w = NowRowFault disks (map first before) (map spot_in_row before) r w
 
 now_rows : (disks : List Disk) → OfRows (now_has disks)
 now_rows disks = record { long = λ before r h. h; head = λ before r h. h }
 
-named_place : (disks : List Disk) (r : Row) (s : Spot) → IsSpotNamed disks r s → place_in disks s ≡ place_of r
+named_place : (disks : List Disk) (r : Row) (s : Spot) → IsSpotNamed disks r s → place_in disks s ≡ spot_in_row r
 named_place disks r s h =
     let (d, at, name) = some_and (λ (d : Disk). d.name ≡ second r) (slice_get disks s.disk.0) h.0 in
     let f : List ℕ → ℕ → List ℕ × ℕ = λ n k. (n, k) in
     place_at disks s d at ∙ ap (λ n. f n s.slot) name ∙ ap (f (second r)) h.1
 
-named_places : (disks : List Disk) (rs : List Row) (ss : List Spot) → AllZip (IsSpotNamed disks) rs ss → map (place_in disks) ss ≡ map place_of rs
+named_places : (disks : List Disk) (rs : List Row) (ss : List Spot) → AllZip (IsSpotNamed disks) rs ss → map (place_in disks) ss ≡ map spot_in_row rs
 named_places disks [] [] z = refl
 named_places disks [] (s ∷ ss) z = absurd z
 named_places disks (r ∷ rs) [] z = absurd z
 named_places disks (r ∷ rs) (s ∷ ss) z =
     let f : List ℕ × ℕ → List (List ℕ × ℕ) → List (List ℕ × ℕ) = λ p ps. p ∷ ps in
-    ap (λ p. f p (map (place_in disks) ss)) (named_place disks r s z.0) ∙ ap (f (place_of r)) (named_places disks rs ss z.1)
+    ap (λ p. f p (map (place_in disks) ss)) (named_place disks r s z.0) ∙ ap (f (spot_in_row r)) (named_places disks rs ss z.1)
 
 -- the records of the file are its header, rows that are done and those that are left; the items and the spots are those of the rows that are done
 pub record ItemsSoFar (bytes : List ℕ) (disks : List Disk) (left : List Row) (names : List (List ℕ)) (taken : List Spot) (items : List (List ℕ)) (spots : List Spot) : Type 0 where
   pub short : length bytes ≤ MAX_FILE_BYTES
   pub done : List Row
-  pub records : records_of bytes ≡ header_of file.Now (has_sides bytes) ∷ (done ++ left)
+  pub records : records_of bytes ≡ header_row file.Now (has_sides bytes) ∷ (done ++ left)
   pub sound : Sound (now_has disks) done
   pub few : length done ≤ MAX_ITEMS
   pub named : names ≡ map first done
@@ -40,7 +40,7 @@ pub record ItemsSoFar (bytes : List ℕ) (disks : List Disk) (left : List Row) (
   pub spotted : AllZip (IsSpotNamed disks) done taken
   pub valid : All (IsSpotOf disks) taken
 
-pub ItemsSoFar-start : {bytes : List ℕ} {disks : List Disk} (left : List Row) → length bytes ≤ MAX_FILE_BYTES → records_of bytes ≡ header_of file.Now (has_sides bytes) ∷ left → ItemsSoFar bytes disks left [] [] [] []
+pub ItemsSoFar-start : {bytes : List ℕ} {disks : List Disk} (left : List Row) → length bytes ≤ MAX_FILE_BYTES → records_of bytes ≡ header_row file.Now (has_sides bytes) ∷ left → ItemsSoFar bytes disks left [] [] [] []
 ItemsSoFar-start {bytes} {disks} left short e = record {
   short = short;
   done = [];
@@ -56,7 +56,7 @@ ItemsSoFar-start {bytes} {disks} left short e = record {
 
 pub ItemsSoFar-end : {bytes : List ℕ} {disks : List Disk} {left : List Row} {names : List (List ℕ)} {taken : List Spot} {items : List (List ℕ)} {spots : List Spot}
     → ItemsSoFar bytes disks left names taken items spots → left ≡ [] → (n : ℕ) (w : Why) → ¬ (NowFault disks bytes n w)
-ItemsSoFar-end {bytes} {disks} s e = no_fault (now_has disks) (header_of file.Now (has_sides bytes)) bytes s.done s.short (rw (e, append-nil) at s.records) s.sound
+ItemsSoFar-end {bytes} {disks} s e = no_fault (now_has disks) (header_row file.Now (has_sides bytes)) bytes s.done s.short (rw (e, append-nil) at s.records) s.sound
 
 rows_are : {bytes : List ℕ} {disks : List Disk} {left : List Row} {names : List (List ℕ)} {taken : List Spot} {items : List (List ℕ)} {spots : List Spot}
     → (s : ItemsSoFar bytes disks left names taken items spots) → left ≡ [] → rows_of bytes ≡ s.done
@@ -93,14 +93,14 @@ pub ItemsSoFar-fault : {bytes : List ℕ} {disks : List Disk} {left : List Row} 
     → ItemsSoFar bytes disks left names taken items spots → (r : Row) (rest : List Row) (w : Why) → left ≡ r ∷ rest → IsFirstCause (NowRowFault disks names (map (place_in disks) taken) r) w
     → IsFirstFault (NowFault disks bytes) (length names + 1) w
 ItemsSoFar-fault {bytes} {disks} {left} {names} {taken} s r rest w e f =
-    rw (s.named, length-map) (first_fault (now_has disks) (header_of file.Now (has_sides bytes)) bytes s.done rest r w (now_rows disks) s.short (rw e at s.records) s.sound
+    rw (s.named, length-map) (first_fault (now_has disks) (header_row file.Now (has_sides bytes)) bytes s.done rest r w (now_rows disks) s.short (rw e at s.records) s.sound
     (rw (s.named, named_places disks s.done taken s.spotted) at f))
 
 -- the spot of a row whose place no row before named is not taken
-pub not_taken : (disks : List Disk) (taken : List Spot) (r : Row) (s : Spot) → IsSpotNamed disks r s → ¬ (Contains (map (place_in disks) taken) (place_of r)) → ¬ (Contains taken s)
+pub not_taken : (disks : List Disk) (taken : List Spot) (r : Row) (s : Spot) → IsSpotNamed disks r s → ¬ (Contains (map (place_in disks) taken) (spot_in_row r)) → ¬ (Contains taken s)
 not_taken disks taken r s named new c =
     let (k, at) = at-Contains taken s c in
-    new (Contains-at (map (place_in disks) taken) k (place_of r) (at_map (place_in disks) taken k s at ∙ ap Some (named_place disks r s named)))
+    new (Contains-at (map (place_in disks) taken) k (spot_in_row r) (at_map (place_in disks) taken k s at ∙ ap Some (named_place disks r s named)))
 
 pub ItemsSoFar-few : {bytes : List ℕ} {disks : List Disk} {left : List Row} {names : List (List ℕ)} {taken : List Spot} {items : List (List ℕ)} {spots : List Spot}
     → ItemsSoFar bytes disks left names taken items spots → length items ≤ MAX_ITEMS

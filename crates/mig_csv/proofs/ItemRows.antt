@@ -1,5 +1,5 @@
 use Rattle.mig_csv.proofs.Common.{All, Any, AreDifferent, Contains, Disk, IsName, IsNumber, IsSpotOf, List, MAX_ITEMS, NowRowFault, Row, Some, Spot, Why, ap, arith, at_map, first}
-use Rattle.mig_csv.proofs.Common.{get_or_from_slice_get, length, map, name_at, number_of, one_place, place_in, place_of, rank_of, refl, second, slice_get, slice_get-get_or, slice_get_within}
+use Rattle.mig_csv.proofs.Common.{get_or_from_slice_get, length, map, name_at, number_of, one_place, place_in, rank_of, refl, second, slice_get, slice_get-get_or, slice_get_within, spot_in_row}
 use Rattle.mig_csv.proofs.Common.{some_and, some_map, subst, sym, third, ℕ, ◌<◌, ◌∙◌, ◌≡◌, ◌≤◌}
 use Rattle.mig_base.specs.declared.faults.Why.TheVariants as why
 
@@ -38,7 +38,7 @@ spot_taken disks spots s d ne valid e c =
 pub none_before : (disks : List Disk) (items : List (List ℕ)) (places : List (List ℕ × ℕ)) (r : Row) (n : ℕ)
     → (2 < n → length items < MAX_ITEMS) → (3 < n → length r ≡ 3) → (4 < n → IsName (first r) × IsName (second r)) → (5 < n → IsNumber (third r))
     → (8 < n → ¬ (Contains items (first r))) → (9 < n → Any (λ d. d.name ≡ second r) disks)
-    → (10 < n → ¬ (Any (λ d. (d.name ≡ second r) × (d.slots ≤ number_of (third r))) disks)) → (11 < n → ¬ (Contains places (place_of r)))
+    → (10 < n → ¬ (Any (λ d. (d.name ≡ second r) × (d.slots ≤ number_of (third r))) disks)) → (11 < n → ¬ (Contains places (spot_in_row r)))
     → (w : Why) → rank_of w < n → ¬ (NowRowFault disks items places r w)
 none_before disks items places r n few width names number new there low free why.TooManyRows lt h = let f = few lt in omega arith
 none_before disks items places r n few width names number new there low free why.BadWidth lt h = h (width lt)

@@ -1,6 +1,6 @@
 -- What the steps of the reading say of two files.
-use Rattle.mig_csv.proofs.Common.{All, AllZip, Bodies, Disk, DiskId, DisksFault, FileKind, InputError, IsInput, IsListingRefusal, IsRefusalOf, IsSpotNamed, IsSpotOf, List, ListingFault}
-use Rattle.mig_csv.proofs.Common.{ListingRefusedAs, Lists, NowFault, Precedes, RefusedAs, Spot, Why, [], ap, disks_of, first, get_or, get_or-map, length, length-map, listed-IsInput, map}
+use Rattle.mig_csv.proofs.Common.{All, AllZip, Disk, DiskId, DisksFault, FileKind, InputError, IsInput, IsListingRefusal, IsRefusalOf, IsSpotNamed, IsSpotOf, List, ListingFault, ThreeFiles}
+use Rattle.mig_csv.proofs.Common.{InputLists, ListingRefusedAs, NowFault, Precedes, RefusedAs, Spot, Why, [], ap, disks_of, first, get_or, get_or-map, length, length-map, listed-IsInput, map}
 use Rattle.mig_csv.proofs.Common.{own_stage, rows_of, slice_get, slice_get_within, some_and, subst, sym, zip_length, ℕ, ◌<◌, ◌∙◌, ◌≡◌}
 use Rattle.mig_base.specs.declared.faults.FileKind.TheVariants as file
 use Rattle.mig_csv.specs.declared.errors.InputError.TheVariants as error
@@ -8,7 +8,7 @@ use Rattle.mig_csv.proofs.Whole.{clean_now, refusal_of_disks, refusal_of_now}
 
 module _ (disks now : List ℕ) where
   -- the two files beside an empty one
-  abbrev pub both : Bodies
+  abbrev pub both : ThreeFiles
   both = record { disks = disks; now = now; next = [] }
 
   refused : (f : FileKind) (n : ℕ) (w : Why) → RefusedAs both f n w → ListingFault disks now f n w → ListingRefusedAs disks now f n w
@@ -35,7 +35,7 @@ module _ (disks now : List ℕ) where
     sound clean_items file.Next n w h = absurd h
 
     -- the lists that were read are an input
-    pub listing_is_input : (i : Lists) → i.disks ≡ items → ((n : ℕ) (w : Why) → ¬ (NowFault items now n w)) → i.items ≡ map first (rows_of now) → AllZip (IsSpotNamed i.disks) (rows_of now) i.spots
+    pub listing_is_input : (i : InputLists) → i.disks ≡ items → ((n : ℕ) (w : Why) → ¬ (NowFault items now n w)) → i.items ≡ map first (rows_of now) → AllZip (IsSpotNamed i.disks) (rows_of now) i.spots
         → All (IsSpotOf i.disks) i.spots → i.next ≡ map (λ (spot : Spot). spot.disk) i.spots → IsInput i
     listing_is_input i is clean_items names spots on_disks next = listed-IsInput both i clean (clean_now both items at clean_items) (is ∙ at) names spots
         (ap (λ (ds : List DiskId). length ds) next ∙ length-map i.spots (λ (spot : Spot). spot.disk) ∙ zip_length (IsSpotNamed i.disks) (rows_of now) i.spots spots ∙ sym (ap (λ (ns : List (List ℕ)). length ns) names ∙ length-map (rows_of now) first))

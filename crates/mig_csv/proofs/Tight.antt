@@ -1,5 +1,5 @@
 -- Reading the three files without asking for room.
-use Rattle.mig_csv.proofs.Common.{AcceptedTight, Bodies, Disk, DiskId, DisksFault, Fault, FaultButRoom, FileKind, InputError, IsRefusal, IsRefusalOf, IsTightRefusal, List, Lists, NextFault}
+use Rattle.mig_csv.proofs.Common.{AcceptedTight, Disk, DiskId, DisksFault, Fault, FaultButRoom, FileKind, InputError, InputLists, IsInputError, IsRefusalOf, IsTightRefusal, List, NextFault, ThreeFiles}
 use Rattle.mig_csv.proofs.Common.{NowFault, Option, Precedes, RefusedAs, RefusedTightAs, RefusesMissing, Why, arith, clean_of, inl, inr, is_fault, refl, stage_of, ℕ, ⊤, ◌<◌}
 use Rattle.mig_base.specs.declared.faults.FileKind.TheVariants as file
 use Rattle.mig_base.specs.declared.faults.Why.TheVariants as why
@@ -7,7 +7,7 @@ use Rattle.mig_csv.specs.declared.errors.InputError.TheVariants as error
 use Rattle.mig_csv.proofs.Whole.{AreRead}
 
 -- files that are read so are read up to room, and the other way round
-pub read_of : (fs : Bodies) (i : Lists) → AcceptedTight fs i → AreRead fs i
+pub read_of : (fs : ThreeFiles) (i : InputLists) → AcceptedTight fs i → AreRead fs i
 read_of fs i a = record {
   disks = clean_of fs i a file.Disks;
   now = clean_of fs i a file.Now;
@@ -16,7 +16,7 @@ read_of fs i a = record {
   listed = a.listed;
 }
 
-pub accepted_tight : (fs : Bodies) (i : Lists) → AreRead fs i → AcceptedTight fs i
+pub accepted_tight : (fs : ThreeFiles) (i : InputLists) → AreRead fs i → AcceptedTight fs i
 accepted_tight fs i r = record { sound = sound; listed = r.listed }
   where
     sound : (f : FileKind) (n : ℕ) (w : Why) → ¬ (FaultButRoom fs f n w)
@@ -32,26 +32,26 @@ abbrev pub IsOtherCause : Why → Type 0
 IsOtherCause (why.NoRoom name needs slots) = ⊥
 IsOtherCause w = ⊤
 
-but_room : (fs : Bodies) (f : FileKind) (n : ℕ) (w : Why) → IsOtherCause w → Fault fs f n w → FaultButRoom fs f n w
+but_room : (fs : ThreeFiles) (f : FileKind) (n : ℕ) (w : Why) → IsOtherCause w → Fault fs f n w → FaultButRoom fs f n w
 but_room fs f n (why.NoRoom a b c) other h = absurd other
 but_room fs f n w other h = h
 
-pub other_cause : (fs : Bodies) (f : FileKind) (n : ℕ) (w : Why) → FaultButRoom fs f n w → IsOtherCause w
+pub other_cause : (fs : ThreeFiles) (f : FileKind) (n : ℕ) (w : Why) → FaultButRoom fs f n w → IsOtherCause w
 other_cause fs f n (why.NoRoom a b c) h = absurd h
 other_cause fs f n w h = tt
 
-pub refused_tight : (fs : Bodies) (f : FileKind) (n : ℕ) (w : Why) → IsOtherCause w → RefusedAs fs f n w → RefusedTightAs fs f n w
+pub refused_tight : (fs : ThreeFiles) (f : FileKind) (n : ℕ) (w : Why) → IsOtherCause w → RefusedAs fs f n w → RefusedTightAs fs f n w
 refused_tight fs f n w other h = record { fault = but_room fs f n w other h.fault; first = λ g m v before x. h.first g m v before (is_fault fs g m v x) }
 
 -- a disk that lacks room comes last
-before_room : (fs : Bodies) (f : FileKind) (n : ℕ) (w : Why) → FaultButRoom fs f n w → stage_of f w < 4
+before_room : (fs : ThreeFiles) (f : FileKind) (n : ℕ) (w : Why) → FaultButRoom fs f n w → stage_of f w < 4
 before_room fs f n (why.NoRoom a b c) h = absurd h
 before_room fs f n why.NotInNext h = omega arith
 before_room fs file.Disks n w h = omega arith
 before_room fs file.Now n w h = omega arith
 before_room fs file.Next n w h = omega arith
 
-pub refused_with_room : (fs : Bodies) (f : FileKind) (n : ℕ) (w : Why) → RefusedTightAs fs f n w → RefusedAs fs f n w
+pub refused_with_room : (fs : ThreeFiles) (f : FileKind) (n : ℕ) (w : Why) → RefusedTightAs fs f n w → RefusedAs fs f n w
 refused_with_room fs f n w h = record { fault = is_fault fs f n w h.fault; first = first }
   where
     first : (g : FileKind) (m : ℕ) (v : Why) → Precedes g m v f n w → ¬ (Fault fs g m v)
@@ -69,11 +69,11 @@ abbrev pub IsOther : InputError → Type 0
 IsOther (error.Refused f n w) = IsOtherCause w
 IsOther error.Memory = ⊤
 
-pub tight_refusal : (fs : Bodies) (e : InputError) → IsOther e → IsRefusal fs e → IsTightRefusal fs e
+pub tight_refusal : (fs : ThreeFiles) (e : InputError) → IsOther e → IsInputError fs e → IsTightRefusal fs e
 tight_refusal fs error.Memory other h = tt
 tight_refusal fs (error.Refused f n w) other h = refused_tight fs f n w other h
 
-pub refusal_of_tight : (fs : Bodies) (e : InputError) → IsTightRefusal fs e → IsRefusal fs e
+pub refusal_of_tight : (fs : ThreeFiles) (e : InputError) → IsTightRefusal fs e → IsInputError fs e
 refusal_of_tight fs error.Memory h = tt
 refusal_of_tight fs (error.Refused f n w) h = refused_with_room fs f n w h
 

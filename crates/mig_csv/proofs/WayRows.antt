@@ -1,7 +1,7 @@
 -- The rows of a next file.
 use Rattle.mig_csv.proofs.Common.{All, All-append, Any, AreDifferent, AreNextOf, AreSeen, Contains, Disk, DiskId, IsFirstCause, IsFirstFault, IsName, IsNextOf, IsSomeAnd, List, MAX_FILE_BYTES}
 use Rattle.mig_csv.proofs.Common.{MAX_ITEMS, MatchOption, NextFault, NextRowFault, None, Option, Row, Some, Why, [], ap, append-nil, append_assoc, arith, cases_eq, first, get_or}
-use Rattle.mig_csv.proofs.Common.{get_or_from_slice_get, has_sides, header_of, inl, inr, length, length-append, length-map, length-set, map, map-append, one_all, one_place, rank_of, records_of}
+use Rattle.mig_csv.proofs.Common.{get_or_from_slice_get, has_sides, header_row, inl, inr, length, length-append, length-map, length-set, map, map-append, one_all, one_place, rank_of, records_of}
 use Rattle.mig_csv.proofs.Common.{refl, replicate, rows_of, second, set, slice_get, slice_get-set_other, slice_get-set_same, slice_get_within, some_and, subst, suc, sym, zero, ℕ, ◌++◌, ◌+◌, ◌<◌}
 use Rattle.mig_csv.proofs.Common.{◌∙◌, ◌∷◌, ◌≡◌, ◌≢◌, ◌≤◌, ◌⊎◌}
 use Rattle.mig_base.specs.declared.faults.FileKind.TheVariants as file
@@ -141,13 +141,13 @@ items_of disks items next (r ∷ rs) a n (suc k, lt, is) = items_of disks items 
 pub record WaysSoFar (bytes : List ℕ) (disks : List Disk) (present : List (List ℕ)) (left : List Row) (seen : ℕ) (next : List (Option DiskId)) : Type 0 where
   pub short : length bytes ≤ MAX_FILE_BYTES
   pub done : List Row
-  pub records : records_of bytes ≡ header_of file.Next (has_sides bytes) ∷ (done ++ left)
+  pub records : records_of bytes ≡ header_row file.Next (has_sides bytes) ∷ (done ++ left)
   pub sound : Sound (next_has disks present) done
   pub few : seen ≤ MAX_ITEMS
   pub count : seen ≡ length done
   pub ways : AreNextOf disks present done next
 
-pub WaysSoFar-start : {bytes : List ℕ} {disks : List Disk} {present : List (List ℕ)} (left : List Row) → length bytes ≤ MAX_FILE_BYTES → records_of bytes ≡ header_of file.Next (has_sides bytes) ∷ left
+pub WaysSoFar-start : {bytes : List ℕ} {disks : List Disk} {present : List (List ℕ)} (left : List Row) → length bytes ≤ MAX_FILE_BYTES → records_of bytes ≡ header_row file.Next (has_sides bytes) ∷ left
     → WaysSoFar bytes disks present left 0 (replicate (length present) unknown)
 WaysSoFar-start {bytes} {disks} {present} left short e = record {
   short = short;
@@ -161,7 +161,7 @@ WaysSoFar-start {bytes} {disks} {present} left short e = record {
 
 pub WaysSoFar-end : {bytes : List ℕ} {disks : List Disk} {present : List (List ℕ)} {left : List Row} {seen : ℕ} {next : List (Option DiskId)}
     → WaysSoFar bytes disks present left seen next → left ≡ [] → (n : ℕ) (w : Why) → ¬ (NextFault disks present bytes n w)
-WaysSoFar-end {bytes} {disks} {present} s e = no_fault (next_has disks present) (header_of file.Next (has_sides bytes)) bytes s.done s.short (rw (e, append-nil) at s.records) s.sound
+WaysSoFar-end {bytes} {disks} {present} s e = no_fault (next_has disks present) (header_row file.Next (has_sides bytes)) bytes s.done s.short (rw (e, append-nil) at s.records) s.sound
 
 pub WaysSoFar-ways : {bytes : List ℕ} {disks : List Disk} {present : List (List ℕ)} {left : List Row} {seen : ℕ} {next : List (Option DiskId)}
     → WaysSoFar bytes disks present left seen next → left ≡ [] → AreNextOf disks present (rows_of bytes) next
@@ -200,7 +200,7 @@ pub WaysSoFar-fault : {bytes : List ℕ} {disks : List Disk} {present : List (Li
     → IsFirstFault (NextFault disks present bytes) (seen + 1) w
 WaysSoFar-fault {bytes} {disks} {present} {left} {seen} s r rest w e f =
     subst (λ n. IsFirstFault (NextFault disks present bytes) (n + 1) w) (sym s.count)
-    (first_fault (next_has disks present) (header_of file.Next (has_sides bytes)) bytes s.done rest r w (next_rows disks present) s.short (rw e at s.records) s.sound (f (map first s.done) (WaysSoFar-seen s)))
+    (first_fault (next_has disks present) (header_row file.Next (has_sides bytes)) bytes s.done rest r w (next_rows disks present) s.short (rw e at s.records) s.sound (f (map first s.done) (WaysSoFar-seen s)))
 
 -- an item that has no next disk is named by no row that is done, and one that is not in the now file by none either
 pub not_seen : (items : List (List ℕ)) (next : List (Option DiskId)) (rows : ℕ) (names : List (List ℕ)) (n : List ℕ) (o : Option ℕ) → AreSeen items next rows names

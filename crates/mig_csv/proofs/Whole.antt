@@ -1,6 +1,6 @@
 -- What the steps of the reading say of the three files.
-use Rattle.mig_csv.proofs.Common.{Accepted, Accepted-clean, All, AllZip, AreListed, AreListed-unique, AreNextOf, Bodies, Disk, DiskId, DisksFault, Fault, FileKind, InputError, IsClean}
-use Rattle.mig_csv.proofs.Common.{IsNextNamed, IsNotListed, IsRefusal, IsRefusalOf, IsRoomy, IsSpotNamed, LacksRoom, List, Lists, NextFault, None, NowFault, Option, Precedes, PrecedesInFile}
+use Rattle.mig_csv.proofs.Common.{Accepted, Accepted-clean, All, AllZip, AreListed, AreListed-unique, AreNextOf, Disk, DiskId, DisksFault, Fault, FileKind, InputError, IsClean, ThreeFiles}
+use Rattle.mig_csv.proofs.Common.{InputLists, IsInputError, IsNextNamed, IsNotListed, IsRefusalOf, IsRoomy, IsSpotNamed, LacksRoom, List, NextFault, None, NowFault, Option, Precedes, PrecedesInFile}
 use Rattle.mig_csv.proofs.Common.{RefusesMissing, RefusesRoom, Row, Some, Why, [], arith, disks_of, first, get_or, get_or_from_slice_get, incoming, inl, inr, length, length-map, map, no_disk}
 use Rattle.mig_csv.proofs.Common.{option_map, present, refl, refused_in_file, rows_of, slice_get, slice_get-get_or, slice_get-map, slice_get_within, stage_free, stage_of, subst, sym, ℕ, ◌+◌, ◌<◌}
 use Rattle.mig_csv.proofs.Common.{◌∙◌, ◌≡◌, ◌≤◌}
@@ -9,30 +9,30 @@ use Rattle.mig_base.specs.declared.faults.Why.TheVariants as why
 use Rattle.mig_csv.specs.declared.errors.InputError.TheVariants as error
 
 -- a refusal of each file refuses the three
-pub refusal_of_disks : (fs : Bodies) (e : InputError) → IsRefusalOf file.Disks (DisksFault fs.disks) e → IsRefusal fs e
+pub refusal_of_disks : (fs : ThreeFiles) (e : InputError) → IsRefusalOf file.Disks (DisksFault fs.disks) e → IsInputError fs e
 refusal_of_disks fs (error.Refused f n w) h = rw h.0 (refused_in_file fs file.Disks n w (λ g m v lt. absurd (omega (arith, lt))) h.1)
 refusal_of_disks fs error.Memory h = tt
 
-pub refusal_of_now : (fs : Bodies) (disks : List Disk) (e : InputError) → disks ≡ disks_of fs.disks → IsClean fs file.Disks
-    → IsRefusalOf file.Now (NowFault disks fs.now) e → IsRefusal fs e
+pub refusal_of_now : (fs : ThreeFiles) (disks : List Disk) (e : InputError) → disks ≡ disks_of fs.disks → IsClean fs file.Disks
+    → IsRefusalOf file.Now (NowFault disks fs.now) e → IsInputError fs e
 refusal_of_now fs disks (error.Refused f n w) at d h =
     rw h.0 (refused_in_file fs file.Now n w
     (stage_free fs 1 (λ _. d) (λ lt. absurd (omega (arith, lt))) (λ lt. absurd (omega (arith, lt))) (λ lt. absurd (omega (arith, lt))) (λ lt. absurd (omega (arith, lt))))
     (rw at at h.1))
 refusal_of_now fs disks error.Memory at d h = tt
 
-pub refusal_of_next : (fs : Bodies) (disks : List Disk) (items : List (List ℕ)) (e : InputError) → disks ≡ disks_of fs.disks → items ≡ map first (rows_of fs.now)
-    → IsClean fs file.Disks → IsClean fs file.Now → IsRefusalOf file.Next (NextFault disks items fs.next) e → IsRefusal fs e
+pub refusal_of_next : (fs : ThreeFiles) (disks : List Disk) (items : List (List ℕ)) (e : InputError) → disks ≡ disks_of fs.disks → items ≡ map first (rows_of fs.now)
+    → IsClean fs file.Disks → IsClean fs file.Now → IsRefusalOf file.Next (NextFault disks items fs.next) e → IsInputError fs e
 refusal_of_next fs disks items (error.Refused f n w) at those d now h =
     rw h.0 (refused_in_file fs file.Next n w
     (stage_free fs 2 (λ _. d) (λ _. now) (λ lt. absurd (omega (arith, lt))) (λ lt. absurd (omega (arith, lt))) (λ lt. absurd (omega (arith, lt))))
     (rw (at, those) at h.1))
 refusal_of_next fs disks items error.Memory at those d now h = tt
 
-pub clean_now : (fs : Bodies) (disks : List Disk) → disks ≡ disks_of fs.disks → ((n : ℕ) (w : Why) → ¬ (NowFault disks fs.now n w)) → IsClean fs file.Now
+pub clean_now : (fs : ThreeFiles) (disks : List Disk) → disks ≡ disks_of fs.disks → ((n : ℕ) (w : Why) → ¬ (NowFault disks fs.now n w)) → IsClean fs file.Now
 clean_now fs disks at s = rw at at s
 
-pub clean_next : (fs : Bodies) (disks : List Disk) (items : List (List ℕ)) → disks ≡ disks_of fs.disks → items ≡ map first (rows_of fs.now)
+pub clean_next : (fs : ThreeFiles) (disks : List Disk) (items : List (List ℕ)) → disks ≡ disks_of fs.disks → items ≡ map first (rows_of fs.now)
     → ((n : ℕ) (w : Why) → ¬ (NextFault disks items fs.next n w)) → IsClean fs file.Next
 clean_next fs disks items at those s = rw (at, those) at s
 
@@ -47,7 +47,7 @@ a_disk : DiskId
 a_disk = record { 0 = 0 }
 
 -- each item has a next disk, so some row names it
-pub none_missing : (fs : Bodies) (disks : List Disk) (items : List (List ℕ)) (next : List (Option DiskId)) (ds : List DiskId) → items ≡ map first (rows_of fs.now)
+pub none_missing : (fs : ThreeFiles) (disks : List Disk) (items : List (List ℕ)) (next : List (Option DiskId)) (ds : List DiskId) → items ≡ map first (rows_of fs.now)
     → AreNextOf disks items (rows_of fs.next) next → next ≡ map (λ (d : DiskId). Some d) ds → (n : ℕ) → ¬ (IsNotListed fs n)
 none_missing fs disks items next ds those a e n h =
     let at : slice_get items h.place ≡ Some h.item = rw those h.at in
@@ -63,7 +63,7 @@ next_within {disks} next ds a e k d lt =
     a.on_disks k (get_or ds k d) here
 
 -- the lists that were made are those that the rows list
-pub listed_of : (fs : Bodies) (i : Lists) (next : List (Option DiskId)) → i.disks ≡ disks_of fs.disks → i.items ≡ map first (rows_of fs.now)
+pub listed_of : (fs : ThreeFiles) (i : InputLists) (next : List (Option DiskId)) → i.disks ≡ disks_of fs.disks → i.items ≡ map first (rows_of fs.now)
     → AllZip (IsSpotNamed i.disks) (rows_of fs.now) i.spots → AreNextOf i.disks i.items (rows_of fs.next) next → next ≡ map (λ (d : DiskId). Some d) i.next → AreListed fs i
 listed_of fs i next at those spots a e = record {
   disks = at;
@@ -80,8 +80,8 @@ listed_of fs i next at those spots a e = record {
         (n.0, n.2, rw v n.4)
 
 -- the first item with no next disk is the first fault, where the three files are clean
-pub refusal_of_missing : (fs : Bodies) (disks : List Disk) (items : List (List ℕ)) (next : List (Option DiskId)) (e : InputError) → items ≡ map first (rows_of fs.now)
-    → IsClean fs file.Disks → IsClean fs file.Now → IsClean fs file.Next → AreNextOf disks items (rows_of fs.next) next → RefusesMissing next e → IsRefusal fs e
+pub refusal_of_missing : (fs : ThreeFiles) (disks : List Disk) (items : List (List ℕ)) (next : List (Option DiskId)) (e : InputError) → items ≡ map first (rows_of fs.now)
+    → IsClean fs file.Disks → IsClean fs file.Now → IsClean fs file.Next → AreNextOf disks items (rows_of fs.next) next → RefusesMissing next e → IsInputError fs e
 refusal_of_missing fs disks items next error.Memory those d n x a h = tt
 refusal_of_missing fs disks items next (error.Refused f row why.NotInNext) those d n x a h =
     rw h.0 (record { fault = (refl, here); first = first })
@@ -122,7 +122,7 @@ refusal_of_missing fs disks items next (error.Refused f row why.NotInNext) those
 refusal_of_missing fs disks items next (error.Refused f row w) those d n x a h = absurd h
 
 -- the files list these, and nothing is wrong with them but that disks may lack room
-pub record AreRead (fs : Bodies) (i : Lists) : Type 0 where
+pub record AreRead (fs : ThreeFiles) (i : InputLists) : Type 0 where
   pub disks : IsClean fs file.Disks
   pub now : IsClean fs file.Now
   pub next : IsClean fs file.Next
@@ -130,7 +130,7 @@ pub record AreRead (fs : Bodies) (i : Lists) : Type 0 where
   pub listed : AreListed fs i
 
 -- the first disk that lacks room is the first fault then
-pub refusal_of_room : (fs : Bodies) (i : Lists) (e : InputError) → AreRead fs i → RefusesRoom i e → IsRefusal fs e
+pub refusal_of_room : (fs : ThreeFiles) (i : InputLists) (e : InputError) → AreRead fs i → RefusesRoom i e → IsInputError fs e
 refusal_of_room fs i error.Memory r h = tt
 refusal_of_room fs i (error.Refused f row (why.NoRoom name needs slots)) r h =
     rw h.0 (record {
@@ -148,8 +148,8 @@ refusal_of_room fs i (error.Refused f row (why.NoRoom name needs slots)) r h =
           | inl lt ↦
               let before : z.place < h.1 = omega arith in
               let same = AreListed-unique fs z.lists i r.disks r.now r.next r.missing z.listed r.listed in
-              let at : slice_get i.disks z.place ≡ Some z.disk = subst (λ (j : Lists). slice_get j.disks z.place ≡ Some z.disk) same z.at in
-              let sum : q ≡ present i z.place + incoming i z.place = subst (λ (j : Lists). q ≡ present j z.place + incoming j z.place) same z.sum in
+              let at : slice_get i.disks z.place ≡ Some z.disk = subst (λ (j : InputLists). slice_get j.disks z.place ≡ Some z.disk) same z.at in
+              let sum : q ≡ present i z.place + incoming i z.place = subst (λ (j : InputLists). q ≡ present j z.place + incoming j z.place) same z.sum in
               let room = subst (λ (d : Disk). present i z.place + incoming i z.place ≤ d.slots) (get_or_from_slice_get i.disks z.place z.disk no_disk at) (h.9 z.place before) in
               let short = z.short in
               let kept = z.kept in
@@ -168,15 +168,15 @@ refusal_of_room fs i (error.Refused f row (why.NoRoom name needs slots)) r h =
 refusal_of_room fs i (error.Refused f row w) r h = absurd h
 
 -- a roomy input lacks room nowhere
-none_lacks : (fs : Bodies) (i : Lists) → AreRead fs i → IsRoomy i → (n : ℕ) (name : List ℕ) (needs slots : ℕ) → ¬ (LacksRoom fs n name needs slots)
+none_lacks : (fs : ThreeFiles) (i : InputLists) → AreRead fs i → IsRoomy i → (n : ℕ) (name : List ℕ) (needs slots : ℕ) → ¬ (LacksRoom fs n name needs slots)
 none_lacks fs i r roomy m name needs slots z =
     let same = AreListed-unique fs z.lists i r.disks r.now r.next r.missing z.listed r.listed in
-    let at : slice_get i.disks z.place ≡ Some z.disk = subst (λ (j : Lists). slice_get j.disks z.place ≡ Some z.disk) same z.at in
-    let sum : needs ≡ present i z.place + incoming i z.place = subst (λ (j : Lists). needs ≡ present j z.place + incoming j z.place) same z.sum in
+    let at : slice_get i.disks z.place ≡ Some z.disk = subst (λ (j : InputLists). slice_get j.disks z.place ≡ Some z.disk) same z.at in
+    let sum : needs ≡ present i z.place + incoming i z.place = subst (λ (j : InputLists). needs ≡ present j z.place + incoming j z.place) same z.sum in
     let room = subst (λ (d : Disk). present i z.place + incoming i z.place ≤ d.slots) (get_or_from_slice_get i.disks z.place z.disk no_disk at) (roomy z.place (slice_get_within i.disks z.place z.disk at)) in
     let short = z.short in
     let kept = z.kept in
     absurd (omega (arith, room))
 
-pub Accepted-roomy : (fs : Bodies) (i : Lists) → AreRead fs i → IsRoomy i → Accepted fs i
+pub Accepted-roomy : (fs : ThreeFiles) (i : InputLists) → AreRead fs i → IsRoomy i → Accepted fs i
 Accepted-roomy fs i r roomy = Accepted-clean fs i r.disks r.now r.next r.missing (none_lacks fs i r roomy) r.listed

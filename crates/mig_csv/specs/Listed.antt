@@ -9,7 +9,7 @@ use Rattle.mig_base.specs.InputLists.{IsSpotOf}
 use Rattle.mig_base.specs.Refusals.{IsSpotNamed}
 use Rattle.mig_base.specs.Rows.{disks_of, first, rows_of}
 use Rattle.mig_csv.specs.declared.disks.DiskList.{DiskList}
-use Rattle.mig_csv.specs.declared.items.Layout.{Layout}
+use Rattle.mig_csv.specs.declared.items.PlacedItems.{PlacedItems}
 use Rattle.mig_csv.specs.Lists.{AreNextOf}
 use Rattle.mig_csv.specs.Refusals.{DisksFault, NextFault, NowFault}
 
@@ -21,7 +21,7 @@ pub record ListsDisks (bytes : List ℕ) (r : DiskList) : Type 0 where
   pub sound : (n : ℕ) (w : Why) → ¬ (DisksFault bytes n w)
 
 -- the layout has the items of the file, each at the spot that its row names, and nothing is wrong with the file
-pub record ListsItems (bytes : List ℕ) (disks : List Disk) (r : Layout) : Type 0 where
+pub record ListsItems (bytes : List ℕ) (disks : List Disk) (r : PlacedItems) : Type 0 where
   pub items : r.items.items ≡ map first (rows_of bytes)
   pub few : length r.items.items ≤ MAX_ITEMS
   pub names : r.items.items ≡ r.names

@@ -1,7 +1,7 @@
 -- What two files list: disks, and where items are.
 use Rattle.std.specs.Prelude.{◌≡◌, ⊤, ℕ, List, map}
 use Rattle.std.specs.List.{AllZip}
-use Rattle.mig_base.specs.InputLists.{Lists}
+use Rattle.mig_base.specs.InputLists.{InputLists}
 use Rattle.mig_base.specs.Refusals.{IsFirstOf, IsSpotNamed}
 use Rattle.mig_base.specs.Rows.{disks_of, first, rows_of}
 use Rattle.mig_base.specs.declared.faults.FileKind.{FileKind}
@@ -18,7 +18,7 @@ ListingFault disks now file.Now n w = NowFault (disks_of disks) now n w
 ListingFault disks now file.Next n w = ⊥
 
 -- no cause holds, the lists are what the rows list, and each item is to stay on its disk
-pub record IsListing (disks_file now_file : List ℕ) (i : Lists) : Type 0 where
+pub record IsListing (disks_file now_file : List ℕ) (i : InputLists) : Type 0 where
   pub sound : (f : FileKind) (n : ℕ) (w : Why) → ¬ (ListingFault disks_file now_file f n w)
   pub disks : i.disks ≡ disks_of disks_file
   pub items : i.items ≡ map first (rows_of now_file)

@@ -1,6 +1,6 @@
 -- What the steps after the three files say.
 use Rattle.std.specs.Prelude.{◌≡◌, ◌+◌, ◌==◌, ◌&&◌, ◌<◌, ⊤, ℕ, if◌then◌else◌, not, List, Option, Some, None, All, Contains, IsSomeAnd, length, map, slice_get, slice_index_or}
-use Rattle.mig_base.specs.InputLists.{Lists}
+use Rattle.mig_base.specs.InputLists.{InputLists}
 use Rattle.mig_base.specs.Targets.{HasRoom, incoming, present}
 use Rattle.mig_base.specs.Rows.{Row, first, second}
 use Rattle.mig_base.specs.declared.faults.FileKind.TheVariants as file
@@ -40,12 +40,12 @@ abbrev pub slots_for : DiskId → DiskId → ℕ → ℕ
 slots_for on to v = (if on.0 == v then 1 else 0) + (if not (on.0 == to.0) && (to.0 == v) then 1 else 0)
 
 -- the slots that each disk needs for the items on it and the relocated items that come to it
-pub record AreNeeds (i : Lists) (needs : List ℕ) : Type 0 where
+pub record AreNeeds (i : InputLists) (needs : List ℕ) : Type 0 where
   pub len : length needs ≡ length i.disks
   pub each : (v : ℕ) → slice_index_or needs v 0 ≡ present i v + incoming i v
 
 -- the first disk that lacks room is refused
-abbrev pub RefusesRoom : Lists → InputError → Type 0
+abbrev pub RefusesRoom : InputLists → InputError → Type 0
 RefusesRoom i (Refused f n (why.NoRoom name needs slots)) = (f ≡ file.Disks) × (k : ℕ) × (d : Disk) × (n ≡ k + 1) × (slice_get i.disks k ≡ Some d) × (name ≡ d.name) × (needs ≡ present i k + incoming i k) × (slots ≡ d.slots) × (slots < needs)
     × ((j : ℕ) → j < k → HasRoom i j)
 RefusesRoom i (Refused f n w) = ⊥

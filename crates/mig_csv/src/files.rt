@@ -1,7 +1,7 @@
 //! The header of a file, and what comes after it.
 ghost use Rattle.std.specs.Prelude.{◌≡◌, ◌↔◌, ◌==◌, IfErr, IfOk, IsTrue, Some, length, map, slice_get};
 ghost use Rattle.csv.specs.Records.{fields_of};
-ghost use Rattle.mig_base.specs.Rows.{header_of, records_of};
+ghost use Rattle.mig_base.specs.Rows.{header_row, records_of};
 ghost use Rattle.mig_csv.specs.Opened.{IsOpened};
 ghost use Rattle.mig_csv.specs.Refusals.{RefusesHeader};
 
@@ -43,7 +43,7 @@ pub(crate) fn has_sides(row: &ByteRecord) -> bool
 
 /// Whether the row is the header of the file. A disks file has one of two.
 fn is_header(file: FileKind, row: &ByteRecord) -> bool
-    ensures { IsTrue result ↔ (fields_of row.now ≡ header_of file (length (fields_of row.now) == 4)) }
+    ensures { IsTrue result ↔ (fields_of row.now ≡ header_row file (length (fields_of row.now) == 4)) }
 {
     match file {
         FileKind::Disks if has_sides(row) => has_fields(row, &[b"disk", b"out", b"in", b"slots"]),

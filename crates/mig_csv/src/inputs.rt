@@ -3,11 +3,11 @@ ghost use Rattle.std.specs.Prelude.{◌≡◌, IfErr, IfOk};
 ghost use Rattle.mig_base.specs.InputLists.{IsInput};
 ghost use Rattle.mig_base.specs.Refusals.{Accepted, AcceptedTight};
 ghost use Rattle.mig_base.specs.Targets.{IsRoomy};
-ghost use Rattle.mig_csv.specs.Refusals.{IsRefusal, IsTightRefusal};
+ghost use Rattle.mig_csv.specs.Refusals.{IsInputError, IsTightRefusal};
 
 use crate::disks::{DiskList, read_disks};
 use crate::errors::InputError;
-use crate::items::{Layout, read_now};
+use crate::items::{PlacedItems, read_now};
 use crate::next::read_next;
 use crate::room::{all_next, check_room};
 use mig_base::{DiskId, Input};
@@ -26,7 +26,7 @@ use std::alloc::Global;
 pub fn read_input(alloc: Global, disks: &[u8], now: &[u8], next: &[u8]) -> Result<Input, InputError>
     ensures accepted { IfOk result (Accepted (record { disks = disks.now; now = now.now; next = next.now })) }
     ensures roomy { IfOk result IsRoomy }
-    ensures refused { IfErr result (IsRefusal (record { disks = disks.now; now = now.now; next = next.now })) }
+    ensures refused { IfErr result (IsInputError (record { disks = disks.now; now = now.now; next = next.now })) }
 {
     let input = read_tight(alloc, disks, now, next)?;
     check_room(alloc, &input)?;
@@ -50,7 +50,7 @@ pub fn read_tight(alloc: Global, disks: &[u8], now: &[u8], next: &[u8]) -> Resul
 }
 
 /// The input of these disks and items, with the disks that the items are to go to.
-pub(crate) fn input_of(listed: DiskList, layout: Layout, next: Vec<DiskId>) -> Input
+pub(crate) fn input_of(listed: DiskList, layout: PlacedItems, next: Vec<DiskId>) -> Input
     requires { IsInput (record { disks = listed.disks.items; items = layout.items.items; spots = layout.spots.items; next = next.items }) }
     ensures { result ≡ record { disks = listed.disks.items; items = layout.items.items; spots = layout.spots.items; next = next.items } }
 {

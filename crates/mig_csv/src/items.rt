@@ -30,22 +30,22 @@ struct Placed {
 
 /// The items that rows of a now file list, and their spots.
 #[derive(Drop)]
-pub(crate) struct Layout {
+pub(crate) struct PlacedItems {
     pub(crate) names: NameTable,
     taken: SpotTable,
     pub(crate) items: Vec<Name>,
     pub(crate) spots: Vec<Spot>,
 }
 
-impl Layout {
+impl PlacedItems {
     /// No items, and tables with room for so many. An error is want of memory.
-    fn with_capacity(alloc: Global, rows: usize) -> Result<Layout, AllocError>
+    fn with_capacity(alloc: Global, rows: usize) -> Result<PlacedItems, AllocError>
         ensures names { IfOk result (λ r. r.names ≡ []) }
         ensures taken { IfOk result (λ r. r.taken ≡ []) }
         ensures items { IfOk result (λ r. r.items.items ≡ []) }
         ensures spots { IfOk result (λ r. r.spots.items ≡ []) }
     {
-        Ok(Layout {
+        Ok(PlacedItems {
             names: NameTable::with_capacity(alloc, rows)?,
             taken: SpotTable::with_capacity(alloc, rows)?,
             items: Vec::new(alloc),
@@ -72,7 +72,11 @@ impl Layout {
 
 /// The items that a now file lists, in its order, or the first fault of the file.
 #[inline(never)]
-pub(crate) fn read_now(alloc: Global, bytes: &[u8], disks: &DiskList) -> Result<Layout, InputError>
+pub(crate) fn read_now(
+    alloc: Global,
+    bytes: &[u8],
+    disks: &DiskList,
+) -> Result<PlacedItems, InputError>
     requires named { disks.now.names ≡ map (λ d. d.name) disks.now.disks.items }
     requires few { length disks.now.disks.items ≤ MAX_DISKS }
     ensures items { IfOk result (λ r. r.items.items ≡ map first (rows_of bytes.now)) }
@@ -86,7 +90,7 @@ pub(crate) fn read_now(alloc: Global, bytes: &[u8], disks: &DiskList) -> Result<
     let mut row = ByteRecord::new(alloc);
     let mut records = Records::of(alloc, bytes);
     read_header(FileKind::Now, bytes, &mut records, &mut row)?;
-    let Ok(mut layout) = Layout::with_capacity(alloc, likely_rows(bytes.len())) else {
+    let Ok(mut layout) = PlacedItems::with_capacity(alloc, likely_rows(bytes.len())) else {
         return Err(InputError::Memory);
     };
     add_items(&mut records, &mut row, disks, &mut layout)?;
@@ -98,7 +102,7 @@ fn add_items(
     records: &mut Records<'_>,
     row: &mut ByteRecord,
     disks: &DiskList,
-    layout: &mut Layout,
+    layout: &mut PlacedItems,
 ) -> Result<(), InputError>
     requires named { disks.now.names ≡ map (λ d. d.name) disks.now.disks.items }
     requires few { length disks.now.disks.items ≤ MAX_DISKS }

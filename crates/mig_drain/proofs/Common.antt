@@ -8,12 +8,12 @@ pub use Rattle.mig_base.proofs.Rounds.{spot_disk}
 pub use Rattle.mig_base.proofs.Scheduled.{moves_there}
 pub use Rattle.mig_base.specs.Bounding.{disk_value, quotient}
 pub use Rattle.mig_base.specs.DiskNumbers.{numbers}
-pub use Rattle.mig_base.specs.InputLists.{IsInRange, IsInput, IsSpotOf, Lists, disk_at, no_disk, no_spot}
+pub use Rattle.mig_base.specs.InputLists.{InputLists, IsInRange, IsInput, IsSpotOf, disk_at, no_disk, no_spot}
 pub use Rattle.mig_base.specs.MadePlans.{TwoSides}
 pub use Rattle.mig_base.specs.Schedules.{Needs}
 pub use Rattle.mig_base.specs.Sides.{IsTwoSided}
 pub use Rattle.mig_base.specs.Targets.{incoming, present}
-pub use Rattle.mig_base.specs.Transfers.{Transfers, Trip, div_ceil, is_relocated, load, moves, passes, rounds_for, side_limit, side_load, source, target, transfers, trip, trips}
+pub use Rattle.mig_base.specs.Transfers.{Transfers, Transfer, div_ceil, is_relocated, load, moves, passes, rounds_for, side_limit, side_load, source, target, transfer_graph, transfer, transfers}
 pub use Rattle.mig_base.specs.declared.certs.Side.{Side}
 pub use Rattle.mig_base.specs.declared.certs.Side.TheVariants.{Incoming, Outgoing}
 pub use Rattle.mig_base.specs.declared.ids.DiskId.{DiskId}
@@ -21,7 +21,7 @@ pub use Rattle.mig_base.specs.declared.ids.Spot.{Spot}
 pub use Rattle.mig_base.specs.declared.inputs.Disk.{Disk}
 pub use Rattle.mig_base.specs.declared.inputs.Limits.{Limits}
 pub use Rattle.mig_base.specs.declared.inputs.Limits.TheVariants.{Joint, Split}
-pub use Rattle.mig_drain.specs.Receivers.{AreCounted, AreSmall, all_free, all_take, receiver, receiver_places, receivers_of, takes}
+pub use Rattle.mig_drain.specs.Receivers.{AreDiskCounts, AreSmall, all_free, all_take, receiver, receiver_places, receivers_of, takes}
 pub use Rattle.mig_drain.specs.Showing.{IsShown, IsShownBy}
 pub use Rattle.std.proofs.Common.{All, Bool, Contains, Err, IfOk, List, Ok, Result, [], ap, append-nil, arith, cond, count_by, eq-eqb, eqb, eqb-true, false, filter, fold, get_or, inl, inr}
 pub use Rattle.std.proofs.Common.{length, length-append, length-set, map, max, min, not, refl, replicate, set, subst, suc, sum_by, sym, take, true, zero, ℕ, ◌&&◌, ◌*◌, ◌++◌, ◌+◌}

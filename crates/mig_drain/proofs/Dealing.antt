@@ -1,11 +1,11 @@
 -- Items that are dealt to the other disks empty their disk, in as many rounds as are enough.
 use Rattle.mig_drain.proofs.Common.{All, All-append, All-from_get_or, All-head, All-map, All-replicate, All-tail, AreDealt, AreEnough, Bool, DiskId, Empties, Incoming, IsInput, IsTwoSided, List}
-use Rattle.mig_drain.proofs.Common.{Lists, Outgoing, PlansHave, Spot, TwoSides, [], ap, arith, can_take, cases_eq, count_by, count_by-filter, count_by-filter-le, count_by-le-one}
+use Rattle.mig_drain.proofs.Common.{InputLists, Outgoing, PlansHave, Spot, TwoSides, [], ap, arith, can_take, cases_eq, count_by, count_by-filter, count_by-filter-le, count_by-le-one}
 use Rattle.mig_drain.proofs.Common.{count_by_more_no, count_by_more_yes, differ, disk_at, div_ceil_times, eq-eqb, eqb, eqb-true, false, false≢true, filter_passes, flat_map, get_or}
 use Rattle.mig_drain.proofs.Common.{get_or-range_with_len, get_or-take, incoming, incoming_limit, inl, inr, is_other, is_relocated, length, length-append, length-range_with_len, length-replicate}
 use Rattle.mig_drain.proofs.Common.{limits_at, moves, moves_there, mul-le-mul_right, ne_eqb, no_spot, none_pass, not, one, others, others_can_take, outgoing_limit, places, present, quotient}
 use Rattle.mig_drain.proofs.Common.{range_more, range_with_len, rank, refl, replicate, side_load, side_positive, source, spot_disk, subst, suc, sum_by, sum_by-append, sum_by-cons, sum_by-le_each}
-use Rattle.mig_drain.proofs.Common.{sum_by-take-le, sum_by_more, sum_by_more_le, sum_by_push, sym, take, target, transfers, trip, trips, true, with_next, zero, ℕ, ◌&&◌, ◌*◌, ◌++◌, ◌+◌, ◌<◌, ◌∙◌}
+use Rattle.mig_drain.proofs.Common.{sum_by-take-le, sum_by_more, sum_by_more_le, sum_by_push, sym, take, target, transfer_graph, transfer, transfers, true, with_next, zero, ℕ, ◌&&◌, ◌*◌, ◌++◌, ◌+◌, ◌<◌, ◌∙◌}
 use Rattle.mig_drain.proofs.Common.{◌∷◌, ◌≡◌, ◌≢◌, ◌≤◌, ◌⊎◌}
 use Rattle.mig_drain.proofs.Emptying.{enough, other_below, other_not, present_counted}
 use Rattle.mig_drain.proofs.SideCounts.{leaving_counted, quotient_most, reaching_counted, rounds_few}
@@ -58,11 +58,11 @@ range_once n u = count_by-le-one (is_disk u) (range_with_len 0 n) (λ i j d l m 
 
 -- The places
 
-pub length-places : (input : Lists) (v r : ℕ) → length (places input v r) ≡ others_can_take input v r
+pub length-places : (input : InputLists) (v r : ℕ) → length (places input v r) ≡ others_can_take input v r
 length-places input v r = length_times (can_take input r) (others input v)
 
 -- each disk is among them as often as it can take an item, at most
-few_places : (input : Lists) (v r u : ℕ) → count_by (is_disk u) (places input v r) ≤ can_take input r u
+few_places : (input : InputLists) (v r u : ℕ) → count_by (is_disk u) (places input v r) ≤ can_take input r u
 few_places input v r u =
     let once : count_by (is_disk u) (others input v) ≤ 1 = omega (arith, count_by-filter-le (is_disk u) (is_other v) (range_with_len 0 (length input.disks)), range_once (length input.disks) u) in
     below (count_by (is_disk u) (others input v)) (can_take input r u) (count_by (is_disk u) (places input v r)) once (count_times (can_take input r) (others input v) u)
@@ -74,24 +74,24 @@ few_places input v r u =
 
 -- How many items before the next one are on the disk
 
-pub rank_more : (input : Lists) (v k : ℕ) → k < length input.spots → source input k ≡ v → rank input v (k + 1) ≡ rank input v k + 1
+pub rank_more : (input : InputLists) (v k : ℕ) → k < length input.spots → source input k ≡ v → rank input v (k + 1) ≡ rank input v k + 1
 rank_more input v k l at = count_by_more_yes (λ (s : Spot). eqb s.disk.0 v) input.spots k no_spot l (eq-eqb (source input k) v at)
 
-pub rank_stays : (input : Lists) (v k : ℕ) → k < length input.spots → source input k ≢ v → rank input v (k + 1) ≡ rank input v k
+pub rank_stays : (input : InputLists) (v k : ℕ) → k < length input.spots → source input k ≢ v → rank input v (k + 1) ≡ rank input v k
 rank_stays input v k l ne = count_by_more_no (λ (s : Spot). eqb s.disk.0 v) input.spots k no_spot l (ne_eqb (source input k) v ne)
 
-pub rank_less : (input : Lists) (v k : ℕ) → k < length input.spots → source input k ≡ v → rank input v k < present input v
+pub rank_less : (input : InputLists) (v k : ℕ) → k < length input.spots → source input k ≡ v → rank input v k < present input v
 rank_less input v k l at = omega (arith, sum_by_more_le (λ (s : Spot). one (eqb s.disk.0 v)) input.spots k no_spot l, ap one (eq-eqb (source input k) v at))
 
 -- items that are dealt to the first places are dealt to the places
-pub dealt_first : (input : Lists) (v n : ℕ) (disks : List ℕ) (next : List DiskId) → IsInput input → present input v ≤ n → AreDealt input v (take n disks) next → AreDealt input v disks next
+pub dealt_first : (input : InputLists) (v n : ℕ) (disks : List ℕ) (next : List DiskId) → IsInput input → present input v ≤ n → AreDealt input v (take n disks) next → AreDealt input v disks next
 dealt_first input v n disks next is few d = record {
   len = d.len;
   moved = λ item l at. d.moved item l at ∙ get_or-take n disks (rank input v item) 0 (omega (arith, few, rank_less input v item (omega (arith, l, is.spots_len)) at));
   stays = d.stays;
 }
 
-module _ (input : Lists) (is : IsInput input) (v : ℕ) (there : v < length input.disks) (r : ℕ) (next : List DiskId) (d : AreDealt input v (places input v r) next) (e : AreEnough input v r) where
+module _ (input : InputLists) (is : IsInput input) (v : ℕ) (there : v < length input.disks) (r : ℕ) (next : List DiskId) (d : AreDealt input v (places input v r) next) (e : AreEnough input v r) where
   spot_there : (item : ℕ) → item < length input.items → item < length input.spots
   spot_there item l = omega (arith, l, is.spots_len)
 
@@ -192,46 +192,46 @@ module _ (input : Lists) (is : IsInput input) (v : ℕ) (there : v < length inpu
         | inr ne ↦ absurd (differ (source input item) (target (with_next input next) item) t (sym (d.stays item (moves_there (with_next input next) k x l) ne)))
       ]
 
-  two_sided : IsTwoSided (transfers (with_next input next))
+  two_sided : IsTwoSided (transfer_graph (with_next input next))
   two_sided = (
     λ u. eqb u v,
-    All-map (λ t. eqb t.leaves v ≢ eqb t.reaches v) (trip (with_next input next)) (moves (with_next input next)) (λ k x l same.
+    All-map (λ t. eqb t.leaves v ≢ eqb t.reaches v) (transfer (with_next input next)) (moves (with_next input next)) (λ k x l same.
         let item = get_or (moves (with_next input next)) k x in
         false≢true (sym (ne_eqb (target (with_next input next) item) v (move_target k x l)) ∙ sym same ∙ eq-eqb (source input item) v (move_source k x l))),
   )
 
-  leaving_none : (u : ℕ) → u ≢ v → side_load Outgoing u (trips (with_next input next)) ≡ 0
+  leaving_none : (u : ℕ) → u ≢ v → side_load Outgoing u (transfers (with_next input next)) ≡ 0
   leaving_none u ne =
       let ms = moves (with_next input next) in
       leaving_counted (with_next input next) u ∙ none_pass (λ item. eqb (source input item) u) ms (λ k x l. ne_eqb (source input (get_or ms k x)) u (λ same. ne (sym same ∙ move_source k x l)))
 
   -- no more leave a disk, and no more reach it, than the rounds allow
-  leaving_few : (u : ℕ) → side_load Outgoing u (trips (with_next input next)) ≤ r * outgoing_limit input u
+  leaving_few : (u : ℕ) → side_load Outgoing u (transfers (with_next input next)) ≤ r * outgoing_limit input u
   leaving_few u = elim (cases_eq u v) [
     | inl at ↦
         let few = count_by-filter-le (λ item. eqb (source input item) v) (is_relocated (with_next input next)) (range_with_len 0 (length input.items)) in
         let own = (div_ceil_times (present input v) (outgoing_limit input v) (side_positive Outgoing (disk_at input.disks v).limits (limits_at input is v there))).0 in
         let up = mul-le-mul_right (outgoing_limit input v) e.leave in
-        let least : side_load Outgoing v (trips (with_next input next)) ≤ r * outgoing_limit input v = omega (arith, leaving_counted (with_next input next) v, few, present_counted input v is, own, up) in
-        subst (λ w. side_load Outgoing w (trips (with_next input next)) ≤ r * outgoing_limit input w) (sym at) least
+        let least : side_load Outgoing v (transfers (with_next input next)) ≤ r * outgoing_limit input v = omega (arith, leaving_counted (with_next input next) v, few, present_counted input v is, own, up) in
+        subst (λ w. side_load Outgoing w (transfers (with_next input next)) ≤ r * outgoing_limit input w) (sym at) least
     | inr ne ↦ omega (arith, leaving_none u ne)
   ]
 
-  reaching_few : (u : ℕ) → side_load Incoming u (trips (with_next input next)) ≤ r * incoming_limit input u
+  reaching_few : (u : ℕ) → side_load Incoming u (transfers (with_next input next)) ≤ r * incoming_limit input u
   reaching_few u = omega (arith, reaching_counted (with_next input next) u, incoming_few u)
 
   -- and each disk only gives or only takes
-  idle : (u : ℕ) → (side_load Outgoing u (trips (with_next input next)) ≡ 0) ⊎ (side_load Incoming u (trips (with_next input next)) ≡ 0)
+  idle : (u : ℕ) → (side_load Outgoing u (transfers (with_next input next)) ≡ 0) ⊎ (side_load Incoming u (transfers (with_next input next)) ≡ 0)
   idle u = elim (cases_eq u v) [
-    | inl at ↦ inr (ap (λ w. side_load Incoming w (trips (with_next input next))) at ∙ reaching_counted (with_next input next) v ∙ incoming_none)
+    | inl at ↦ inr (ap (λ w. side_load Incoming w (transfers (with_next input next))) at ∙ reaching_counted (with_next input next) v ∙ incoming_none)
     | inr ne ↦ inl (leaving_none u ne)
   ]
 
   -- so the rounds are the quotient, where no fewer are enough, and plans have as many
-  pub quotient_is : ((q : ℕ) → AreEnough input v q → r ≤ q) → quotient (transfers (with_next input next)) ≡ r
+  pub quotient_is : ((q : ℕ) → AreEnough input v q → r ≤ q) → quotient (transfer_graph (with_next input next)) ≡ r
   quotient_is least =
-      let most = quotient_most (transfers (with_next input next)) r (λ u l. rounds_few (disk_at input.disks u).limits u (trips (with_next input next)) r (limits_at input is u l) (leaving_few u) (reaching_few u) (idle u)) in
-      omega (arith, most, least (quotient (transfers (with_next input next))) (enough input is v there next empties))
+      let most = quotient_most (transfer_graph (with_next input next)) r (λ u l. rounds_few (disk_at input.disks u).limits u (transfers (with_next input next)) r (limits_at input is u l) (leaving_few u) (reaching_few u) (idle u)) in
+      omega (arith, most, least (quotient (transfer_graph (with_next input next))) (enough input is v there next empties))
 
   pub plans_have : ((q : ℕ) → AreEnough input v q → r ≤ q) → PlansHave (with_next input next) r
   plans_have least plan made = made.tight TwoSides two_sided ∙ quotient_is least

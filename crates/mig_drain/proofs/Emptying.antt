@@ -1,13 +1,13 @@
 -- Next disks that empty a disk need as many rounds as are enough for its items.
-use Rattle.mig_drain.proofs.Common.{All, All-filter, AreEnough, AreFewest, Bool, Contains, DiskId, Empties, Incoming, IsInput, List, Lists, NeedsToEmpty, Outgoing, Spot, [], ap, arith, can_take}
+use Rattle.mig_drain.proofs.Common.{All, All-filter, AreEnough, AreFewest, Bool, Contains, DiskId, Empties, Incoming, InputLists, IsInput, List, NeedsToEmpty, Outgoing, Spot, [], ap, arith, can_take}
 use Rattle.mig_drain.proofs.Common.{cond, count_by, count_by-filter, count_same, differ, disk_at, div_ceil-le, eq-eqb, eqb, false, false≢true, filter, filter_passes, get_or, get_or-le-sum_by}
 use Rattle.mig_drain.proofs.Common.{get_or-range_with_len, in_range, is_other, is_relocated, length, length-range_with_len, limits_at, moves, moves_there, nat_tests, ne_eqb, no_spot, not, one}
 use Rattle.mig_drain.proofs.Common.{others, outgoing_limit, present, quotient, range_with_len, refl, side_positive, source, subst, suc, sum_by, sum_by-le_each, sum_by-swap, sym, target}
-use Rattle.mig_drain.proofs.Common.{transfers, true, with_next, zero, ℕ, ◌&&◌, ◌<◌, ◌∙◌, ◌∷◌, ◌≡◌, ◌≢◌, ◌≤◌}
+use Rattle.mig_drain.proofs.Common.{transfer_graph, true, with_next, zero, ℕ, ◌&&◌, ◌<◌, ◌∙◌, ◌∷◌, ◌≡◌, ◌≢◌, ◌≤◌}
 use Rattle.mig_drain.proofs.SideCounts.{leaving_counted, needs_quotient, reaching_counted, side_within_quotient}
 
 -- the input with other next disks is an input
-pub is_input : (input : Lists) (next : List DiskId) → IsInput input → length next ≡ length input.items → All (λ d. d.0 < length input.disks) next → IsInput (with_next input next)
+pub is_input : (input : InputLists) (next : List DiskId) → IsInput input → length next ≡ length input.items → All (λ d. d.0 < length input.disks) next → IsInput (with_next input next)
 is_input input next is len there = record {
   few_disks = is.few_disks;
   named_disks = is.named_disks;
@@ -40,21 +40,21 @@ kept {X} p (y ∷ ys) x (suc k, l, is) t = in_tail (p y) refl (kept p ys x (k, o
 
 -- the other disks are disks, and other ones, and all of them
 
-other_there : (input : Lists) (v u : ℕ) → u < length input.disks → u ≢ v → Contains (others input v) u
+other_there : (input : InputLists) (v u : ℕ) → u < length input.disks → u ≢ v → Contains (others input v) u
 other_there input v u l ne =
     let n = length input.disks in
     kept (is_other v) (range_with_len 0 n) u (u, omega (arith, l, length-range_with_len 0 n), in_range n u u l) (ap not (ne_eqb u v ne))
 
-pub other_below : (input : Lists) (v : ℕ) → All (λ u. u < length input.disks) (others input v)
+pub other_below : (input : InputLists) (v : ℕ) → All (λ u. u < length input.disks) (others input v)
 other_below input v =
     let n = length input.disks in
     All-filter (is_other v) (λ u. u < n) (range_with_len 0 n) (λ j e m. let h : j < n = omega (arith, m, length-range_with_len 0 n) in omega (arith, h, get_or-range_with_len 0 n j e h))
 
-pub other_not : (input : Lists) (v : ℕ) → All (λ u. u ≢ v) (others input v)
+pub other_not : (input : InputLists) (v : ℕ) → All (λ u. u ≢ v) (others input v)
 other_not input v k d l = differ (get_or (others input v) k d) v (filter_passes (is_other v) (range_with_len 0 (length input.disks)) k d l)
 
 -- how many items are on a disk, counted by number
-pub present_counted : (input : Lists) (v : ℕ) → IsInput input → present input v ≡ count_by (λ item. eqb (source input item) v) (range_with_len 0 (length input.items))
+pub present_counted : (input : InputLists) (v : ℕ) → IsInput input → present input v ≡ count_by (λ item. eqb (source input item) v) (range_with_len 0 (length input.items))
 present_counted input v is =
     let n = length input.items in
     let items = range_with_len 0 n in
@@ -66,7 +66,7 @@ both_less true b = omega arith
 both_less false true = omega arith
 both_less false false = omega arith
 
-module _ (input : Lists) (is : IsInput input) (v : ℕ) (there : v < length input.disks) (next : List DiskId) (e : Empties input v next) where
+module _ (input : InputLists) (is : IsInput input) (v : ℕ) (there : v < length input.disks) (next : List DiskId) (e : Empties input v next) where
   -- each item of the disk is moved away
   leaves : (item : ℕ) → item < length input.items → target (with_next input next) item ≢ v
   leaves item l = e.leaves item (record { 0 = 0 }) (omega (arith, l, e.len))
@@ -108,19 +108,19 @@ module _ (input : Lists) (is : IsInput input) (v : ℕ) (there : v < length inpu
       omega (arith, own_moves, each, sum_by-swap (λ item u. one (eqb (source input item) v && eqb (target (with_next input next) item) u)) ms (others input v))
 
   -- which takes as many as come to it, at most
-  taken : (u : ℕ) → u < length input.disks → count_by (λ item. eqb (source input item) v && eqb (target (with_next input next) item) u) (moves (with_next input next)) ≤ can_take input (quotient (transfers (with_next input next))) u
+  taken : (u : ℕ) → u < length input.disks → count_by (λ item. eqb (source input item) v && eqb (target (with_next input next) item) u) (moves (with_next input next)) ≤ can_take input (quotient (transfer_graph (with_next input next))) u
   taken u l =
       let ms = moves (with_next input next) in
       let come = sum_by-le_each (λ item. one (eqb (source input item) v && eqb (target (with_next input next) item) u)) (λ item. one (eqb (target (with_next input next) item) u)) ms (λ k d h. both_less (eqb (source input (get_or ms k d)) v) (eqb (target (with_next input next) (get_or ms k d)) u)) in
-      omega (arith, come, e.roomy u l, reaching_counted (with_next input next) u, side_within_quotient (transfers (with_next input next)) Incoming u l (limits_at input is u l))
+      omega (arith, come, e.roomy u l, reaching_counted (with_next input next) u, side_within_quotient (transfer_graph (with_next input next)) Incoming u l (limits_at input is u l))
 
-  pub enough : AreEnough input v (quotient (transfers (with_next input next)))
+  pub enough : AreEnough input v (quotient (transfer_graph (with_next input next)))
   enough =
       let ms = moves (with_next input next) in
-      let q = quotient (transfers (with_next input next)) in
+      let q = quotient (transfer_graph (with_next input next)) in
       record {
         leave = div_ceil-le (present input v) (outgoing_limit input v) q (side_positive Outgoing (disk_at input.disks v).limits (limits_at input is v there))
-            (omega (arith, own_moves, leaving_counted (with_next input next) v, side_within_quotient (transfers (with_next input next)) Outgoing v there (limits_at input is v there)));
+            (omega (arith, own_moves, leaving_counted (with_next input next) v, side_within_quotient (transfer_graph (with_next input next)) Outgoing v there (limits_at input is v there)));
         come = omega (
           arith,
           split,
@@ -130,6 +130,6 @@ module _ (input : Lists) (is : IsInput input) (v : ℕ) (there : v < length inpu
       }
 
 -- so the fewest rounds that are enough are needed
-pub needs_to_empty : (input : Lists) (v rounds : ℕ) → IsInput input → v < length input.disks → AreFewest input v rounds → NeedsToEmpty input v rounds
+pub needs_to_empty : (input : InputLists) (v rounds : ℕ) → IsInput input → v < length input.disks → AreFewest input v rounds → NeedsToEmpty input v rounds
 needs_to_empty input v r is there fewest next e rounds round_of scheduled obeys =
-    omega (arith, fewest.least (quotient (transfers (with_next input next))) (enough input is v there next e), needs_quotient (with_next input next) (is_input input next is e.len e.there) rounds round_of scheduled obeys)
+    omega (arith, fewest.least (quotient (transfer_graph (with_next input next))) (enough input is v there next e), needs_quotient (with_next input next) (is_input input next is e.len e.there) rounds round_of scheduled obeys)

@@ -1,5 +1,5 @@
 -- The other disks as a list: what they take, and the places that they stand for.
-use Rattle.mig_drain.proofs.Common.{All, All-head, All-map, All-tail, AreCounted, AreFewest, AreSmall, Bool, DiskId, Err, IfOk, Incoming, IsInput, IsShown, IsShownBy, List, Lists, Nothing, Ok}
+use Rattle.mig_drain.proofs.Common.{All, All-head, All-map, All-tail, AreDiskCounts, AreFewest, AreSmall, Bool, DiskId, Err, IfOk, Incoming, InputLists, IsInput, IsShown, IsShownBy, List, Nothing, Ok}
 use Rattle.mig_drain.proofs.Common.{Others, Own, Receiver, Result, Shown, Spot, [], all_free, all_take, ap, append-nil, arith, can_take, cases_eq, cases_lt, cond, count_by, count_by-le-length}
 use Rattle.mig_drain.proofs.Common.{count_by_more_no, count_by_more_yes, disk_at, div_ceil, eq-eqb, eqb, false, filter, filter-append, flat_map, flat_map-append, free_elsewhere, free_slots}
 use Rattle.mig_drain.proofs.Common.{get_or, get_or-replicate, get_or-set_other, get_or-set_same, get_or_append_left, get_or_push, incoming_limit, inl, inr, is_other, length, length-append}
@@ -39,7 +39,7 @@ too_few list middle items q less all = elim (cases_lt middle q) [
 receiver_by : (a b : Receiver) → a.disk.0 ≡ b.disk.0 → a.free ≡ b.free → a.limit ≡ b.limit → a ≡ b
 receiver_by a b d f l i = record { disk = record { 0 = d i }; free = f i; limit = l i }
 
-one_more : (input : Lists) (v k : ℕ) (b : Bool) → is_other v k ≡ b → map (receiver input) (filter (is_other v) (range_with_len 0 (k + 1))) ≡ map (receiver input) (filter (is_other v) (range_with_len 0 k)) ++ cond b (receiver input k ∷ []) []
+one_more : (input : InputLists) (v k : ℕ) (b : Bool) → is_other v k ≡ b → map (receiver input) (filter (is_other v) (range_with_len 0 (k + 1))) ≡ map (receiver input) (filter (is_other v) (range_with_len 0 k)) ++ cond b (receiver input k ∷ []) []
 one_more input v k true t =
     ap (λ xs. map (receiver input) (filter (is_other v) xs)) (range_more k) ∙ ap (map (receiver input)) (filter-append (is_other v) (range_with_len 0 k) (k ∷ []) ∙ ap (λ c. filter (is_other v) (range_with_len 0 k) ++ cond c (k ∷ []) []) t)
     ∙ map-append (receiver input) (filter (is_other v) (range_with_len 0 k)) (k ∷ [])
@@ -47,15 +47,15 @@ one_more input v k false t =
     ap (λ xs. map (receiver input) (filter (is_other v) xs)) (range_more k) ∙ ap (map (receiver input)) (filter-append (is_other v) (range_with_len 0 k) (k ∷ []) ∙ ap (λ c. filter (is_other v) (range_with_len 0 k) ++ cond c (k ∷ []) []) t ∙ append-nil (filter (is_other v) (range_with_len 0 k)))
     ∙ sym (append-nil (map (receiver input) (filter (is_other v) (range_with_len 0 k))))
 
-pub receivers_more : (input : Lists) (v k : ℕ) (x : Receiver) → k ≢ v → x.disk.0 ≡ k → x.free ≡ free_slots input k → x.limit ≡ incoming_limit input k
+pub receivers_more : (input : InputLists) (v k : ℕ) (x : Receiver) → k ≢ v → x.disk.0 ≡ k → x.free ≡ free_slots input k → x.limit ≡ incoming_limit input k
     → map (receiver input) (filter (is_other v) (range_with_len 0 k)) ++ x ∷ [] ≡ map (receiver input) (filter (is_other v) (range_with_len 0 (k + 1)))
 receivers_more input v k x ne d f l =
     ap (λ (y : Receiver). map (receiver input) (filter (is_other v) (range_with_len 0 k)) ++ y ∷ []) (receiver_by x (receiver input k) d f l) ∙ sym (one_more input v k true (ap not (ne_eqb k v ne)))
 
-pub receivers_same : (input : Lists) (v k : ℕ) → k ≡ v → map (receiver input) (filter (is_other v) (range_with_len 0 k)) ≡ map (receiver input) (filter (is_other v) (range_with_len 0 (k + 1)))
+pub receivers_same : (input : InputLists) (v k : ℕ) → k ≡ v → map (receiver input) (filter (is_other v) (range_with_len 0 k)) ≡ map (receiver input) (filter (is_other v) (range_with_len 0 (k + 1)))
 receivers_same input v k at = sym (append-nil (map (receiver input) (filter (is_other v) (range_with_len 0 k)))) ∙ sym (one_more input v k false (ap not (eq-eqb k v at)))
 
-pub receivers_small : (input : Lists) (v : ℕ) → IsInput input → AreSmall (receivers_of input v)
+pub receivers_small : (input : InputLists) (v : ℕ) → IsInput input → AreSmall (receivers_of input v)
 receivers_small input v is =
     let us = others input v in
     let n = length input.disks in
@@ -67,14 +67,14 @@ receivers_small input v is =
     }
 
 -- what they take is what the other disks can take
-pub all_take_is : (input : Lists) (v r : ℕ) → all_take r (receivers_of input v) ≡ others_can_take input v r
+pub all_take_is : (input : InputLists) (v r : ℕ) → all_take r (receivers_of input v) ≡ others_can_take input v r
 all_take_is input v r = sum_by-map (takes r) (receiver input) (others input v)
 
-pub all_free_is : (input : Lists) (v : ℕ) → all_free (receivers_of input v) ≡ free_elsewhere input v
+pub all_free_is : (input : InputLists) (v : ℕ) → all_free (receivers_of input v) ≡ free_elsewhere input v
 all_free_is input v = sum_by-map (λ (x : Receiver). x.free) (receiver input) (others input v)
 
 -- the other disks never take more than their free slots
-pub takes_most : (input : Lists) (v r : ℕ) → others_can_take input v r ≤ free_elsewhere input v
+pub takes_most : (input : InputLists) (v r : ℕ) → others_can_take input v r ≤ free_elsewhere input v
 takes_most input v r = sum_by-le-sum_by (can_take input r) (free_slots input) (others input v) (λ u. omega arith)
 
 -- Their places
@@ -83,7 +83,7 @@ numbers-replicate : (n u : ℕ) → numbers (replicate n (record { 0 = u })) ≡
 numbers-replicate zero u = refl
 numbers-replicate (suc n) u = ap (λ (xs : List ℕ). u ∷ xs) (numbers-replicate n u)
 
-pub places_are : (input : Lists) (v r : ℕ) → numbers (receiver_places r (receivers_of input v)) ≡ places input v r
+pub places_are : (input : InputLists) (v r : ℕ) → numbers (receiver_places r (receivers_of input v)) ≡ places input v r
 places_are input v r = over (others input v)
   where
     over : (us : List ℕ) → numbers (receiver_places r (map (receiver input) us)) ≡ flat_map (λ u. replicate (can_take input r u) u) us
@@ -94,11 +94,11 @@ places_are input v r = over (others input v)
         ∙ ap (λ (xs : List ℕ). replicate (can_take input r u) u ++ xs) (over us)
 
 -- so many first places are those of the other disks, and there are so many
-pub first_places_are : (input : Lists) (v r items : ℕ) (list : List Receiver) (disks : List DiskId) → list ≡ receivers_of input v → disks ≡ take items (receiver_places r list) → numbers disks ≡ take items (places input v r)
+pub first_places_are : (input : InputLists) (v r items : ℕ) (list : List Receiver) (disks : List DiskId) → list ≡ receivers_of input v → disks ≡ take items (receiver_places r list) → numbers disks ≡ take items (places input v r)
 first_places_are input v r items list disks all first =
     ap (λ (ds : List DiskId). numbers ds) first ∙ sym (take-map (λ (d : DiskId). d.0) items (receiver_places r list)) ∙ ap (λ (xs : List Receiver). take items (numbers (receiver_places r xs))) all ∙ ap (take items) (places_are input v r)
 
-pub places_enough : (input : Lists) (v r items : ℕ) (list : List Receiver) (disks : List DiskId) → list ≡ receivers_of input v → disks ≡ take items (receiver_places r list) → items ≤ all_take r list → length disks ≡ items
+pub places_enough : (input : InputLists) (v r items : ℕ) (list : List Receiver) (disks : List DiskId) → list ≡ receivers_of input v → disks ≡ take items (receiver_places r list) → items ≤ all_take r list → length disks ≡ items
 places_enough input v r items list disks all first room =
     sym (length-map disks (λ (d : DiskId). d.0)) ∙ ap (λ (xs : List ℕ). length xs) (first_places_are input v r items list disks all first)
     ∙ length-take-le items (places input v r) (omega (arith, room, ap (all_take r) all, all_take_is input v r, length-places input v r))
@@ -148,11 +148,11 @@ places_more list r n i d disks times l is t =
 
 -- Items that are counted
 
-pub counted_none : (disks : ℕ) (spots : List Spot) → AreCounted disks (take 0 spots) (replicate disks 0)
+pub counted_none : (disks : ℕ) (spots : List Spot) → AreDiskCounts disks (take 0 spots) (replicate disks 0)
 counted_none disks spots = record { len = length-replicate disks 0; count = λ v h. get_or-replicate disks v 0 0 h }
 
-pub counted_more : (disks : ℕ) (spots : List Spot) (counts : List ℕ) (i n : ℕ) → i < length spots → (get_or spots i no_spot).disk.0 < disks → n ≡ get_or counts (get_or spots i no_spot).disk.0 0 + 1 → AreCounted disks (take i spots) counts
-    → AreCounted disks (take (i + 1) spots) (set counts (get_or spots i no_spot).disk.0 n)
+pub counted_more : (disks : ℕ) (spots : List Spot) (counts : List ℕ) (i n : ℕ) → i < length spots → (get_or spots i no_spot).disk.0 < disks → n ≡ get_or counts (get_or spots i no_spot).disk.0 0 + 1 → AreDiskCounts disks (take i spots) counts
+    → AreDiskCounts disks (take (i + 1) spots) (set counts (get_or spots i no_spot).disk.0 n)
 counted_more disks spots counts i n h there is_n a =
     let w = (get_or spots i no_spot).disk.0 in
     record {
@@ -165,18 +165,18 @@ counted_more disks spots counts i n h there is_n a =
     }
 
 -- so many are at most as many as the spots
-pub counted_few : (disks : ℕ) (spots : List Spot) (counts : List ℕ) (i v : ℕ) → i ≤ length spots → v < disks → AreCounted disks (take i spots) counts → get_or counts v 0 ≤ i
+pub counted_few : (disks : ℕ) (spots : List Spot) (counts : List ℕ) (i v : ℕ) → i ≤ length spots → v < disks → AreDiskCounts disks (take i spots) counts → get_or counts v 0 ≤ i
 counted_few disks spots counts i v le h a = omega (arith, a.count v h, count_by-le-length (λ (s : Spot). eqb s.disk.0 v) (take i spots), length-take-le i spots le)
 
 -- Items that are dealt
 
-pub record DealtBelow (input : Lists) (v : ℕ) (disks : List ℕ) (n place : ℕ) (next : List DiskId) : Type 0 where
+pub record DealtBelow (input : InputLists) (v : ℕ) (disks : List ℕ) (n place : ℕ) (next : List DiskId) : Type 0 where
   pub len : length next ≡ n
   pub ranked : place ≡ rank input v n
   pub moved : (item : ℕ) → item < n → source input item ≡ v → target (with_next input next) item ≡ get_or disks (rank input v item) 0
   pub stays : (item : ℕ) → item < n → source input item ≢ v → target (with_next input next) item ≡ source input item
 
-module _ (input : Lists) (v : ℕ) (disks : List ℕ) (n place : ℕ) (next : List DiskId) (there : n < length input.spots) (b : DealtBelow input v disks n place next) where
+module _ (input : InputLists) (v : ℕ) (disks : List ℕ) (n place : ℕ) (next : List DiskId) (there : n < length input.spots) (b : DealtBelow input v disks n place next) where
   old : (x : DiskId) (item : ℕ) → item < n → target (with_next input (next ++ x ∷ [])) item ≡ target (with_next input next) item
   old x item l = ap (λ (d : DiskId). d.0) (get_or_append_left next (x ∷ []) (record { 0 = 0 }) item (omega (arith, l, b.len)))
 
@@ -216,7 +216,7 @@ module _ (input : Lists) (v : ℕ) (disks : List ℕ) (n place : ℕ) (next : Li
 
 -- From the list to the input
 
-pub fewest_is : (input : Lists) (v r items limit : ℕ) (list : List Receiver) → list ≡ receivers_of input v → items ≡ present input v → limit ≡ outgoing_limit input v → div_ceil items limit ≤ r → items ≤ all_take r list
+pub fewest_is : (input : InputLists) (v r items limit : ℕ) (list : List Receiver) → list ≡ receivers_of input v → items ≡ present input v → limit ≡ outgoing_limit input v → div_ceil items limit ≤ r → items ≤ all_take r list
     → ((q : ℕ) → div_ceil items limit ≤ q → items ≤ all_take q list → r ≤ q) → AreFewest input v r
 fewest_is input v r items limit list b i l low all least =
     let own : div_ceil items limit ≡ own_rounds input v = ap (λ n. div_ceil n limit) i ∙ ap (div_ceil (present input v)) l in
@@ -226,7 +226,7 @@ fewest_is input v r items limit list b i l low all least =
       least = λ q e. least q (omega (arith, own, e.leave)) (omega (arith, i, e.come, same q));
     }
 
-pub shown_is : (input : Lists) (v r items limit : ℕ) (list : List Receiver) (shown : Shown) → list ≡ receivers_of input v → items ≡ present input v → limit ≡ outgoing_limit input v → IsShownBy list items limit r shown → IsShown input v r shown
+pub shown_is : (input : InputLists) (v r items limit : ℕ) (list : List Receiver) (shown : Shown) → list ≡ receivers_of input v → items ≡ present input v → limit ≡ outgoing_limit input v → IsShownBy list items limit r shown → IsShown input v r shown
 shown_is input v r items limit list Nothing b i l h = sym i ∙ h
 shown_is input v r items limit list (Own load most) b i l h = (h.0, h.1 ∙ i, h.2 ∙ l, h.3 ∙ ap (λ n. div_ceil n limit) i ∙ ap (div_ceil (present input v)) l)
 shown_is input v r items limit list (Others room) b i l h =

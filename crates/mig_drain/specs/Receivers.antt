@@ -3,16 +3,16 @@ use Rattle.std.specs.Prelude.{◌≡◌, ◌==◌, ◌*◌, ◌≤◌, ◌<◌, 
 use Rattle.std.specs.List.{flat_map}
 use Rattle.mig_base.specs.declared.ids.DiskId.{DiskId}
 use Rattle.mig_base.specs.declared.ids.Spot.{Spot}
-use Rattle.mig_base.specs.InputLists.{Lists}
+use Rattle.mig_base.specs.InputLists.{InputLists}
 use Rattle.mig_base.specs.Draining.{free_slots, incoming_limit, others}
 use Rattle.mig_drain.specs.declared.receivers.Receiver.{Receiver}
 
 -- a disk with its free slots, and with how many items may reach it in one round
-abbrev pub receiver : Lists → ℕ → Receiver
+abbrev pub receiver : InputLists → ℕ → Receiver
 receiver input u = record { disk = record { 0 = u }; free = free_slots input u; limit = incoming_limit input u }
 
 -- those of the other disks
-abbrev pub receivers_of : Lists → ℕ → List Receiver
+abbrev pub receivers_of : InputLists → ℕ → List Receiver
 receivers_of input v = map (receiver input) (others input v)
 
 -- how many items one of them can take in so many rounds, and all of them together
@@ -38,6 +38,6 @@ abbrev pub receiver_places : ℕ → List Receiver → List DiskId
 receiver_places rounds list = flat_map (λ receiver. replicate (takes rounds receiver) receiver.disk) list
 
 -- how many of these spots are on each of so many disks
-pub record AreCounted (disks : ℕ) (spots : List Spot) (counts : List ℕ) : Type 0 where
+pub record AreDiskCounts (disks : ℕ) (spots : List Spot) (counts : List ℕ) : Type 0 where
   pub len : length counts ≡ disks
   pub count : (v : ℕ) → v < disks → slice_index counts v ≡ count_by (λ spot. spot.disk.0 == v) spots

@@ -1,12 +1,12 @@
 //! Emptying a disk.
 ghost use Rattle.std.specs.Prelude.{◌≡◌, ℕ, ◌<◌, ◌≤◌, length, IfErr, IfOk, IsErr};
-ghost use Rattle.mig_base.specs.Transfers.{div_ceil, transfers};
+ghost use Rattle.mig_base.specs.Transfers.{div_ceil, transfer_graph};
 ghost use Rattle.mig_base.specs.Targets.{present};
 ghost use Rattle.mig_base.specs.Bounding.{quotient};
 ghost use Rattle.mig_base.specs.DiskNumbers.{numbers};
 ghost use Rattle.mig_base.specs.Draining.{AreDealt, AreFewest, Empties, NeedsToEmpty, PlansHave, free_elsewhere, places, with_next};
 ghost use Rattle.mig_drain.specs.Causes.{IsDrainCause};
-ghost use Rattle.mig_drain.specs.Receivers.{AreCounted, AreSmall, all_free, all_take, receivers_of};
+ghost use Rattle.mig_drain.specs.Receivers.{AreDiskCounts, AreSmall, all_free, all_take, receivers_of};
 ghost use Rattle.mig_drain.specs.Showing.{IsShown, IsShownBy};
 
 use crate::drained::{Drained, Shown, Targets};
@@ -19,7 +19,7 @@ use std::alloc::{AllocError, Global};
 
 /// How many items each disk has now.
 fn count_items(alloc: Global, input: &Input) -> Result<Vec<u32>, AllocError>
-    ensures { IfOk result (λ v. AreCounted (length input.now.disks) input.now.spots v.items) }
+    ensures { IfOk result (λ v. AreDiskCounts (length input.now.disks) input.now.spots v.items) }
 {
     let mut counts = vec![in alloc; 0; input.disks().len()]?;
     for spot in input.now() {
@@ -134,7 +134,7 @@ fn find_drain(alloc: Global, input: &Input, disk: DiskId) -> Result<Drained, Dra
 pub fn drain(alloc: Global, input: &Input, disk: DiskId) -> Result<Drained, DrainError>
     requires { disk.0 < length input.now.disks }
     ensures empties { IfOk result (λ d. Empties input.now disk.0 d.next) }
-    ensures rounds { IfOk result (λ d. quotient (transfers (with_next input.now d.next)) ≡ d.rounds) }
+    ensures rounds { IfOk result (λ d. quotient (transfer_graph (with_next input.now d.next)) ≡ d.rounds) }
     ensures planned { IfOk result (λ d. PlansHave (with_next input.now d.next) d.rounds) }
     ensures needed { IfOk result (λ d. NeedsToEmpty input.now disk.0 d.rounds) }
     ensures fewest { IfOk result (λ d. AreFewest input.now disk.0 d.rounds) }

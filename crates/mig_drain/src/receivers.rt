@@ -2,7 +2,7 @@
 ghost use Rattle.std.specs.Prelude.{◌≡◌, ◌++◌, ◌<◌, ◌≤◌, ℕ, length, map, replicate, take, IfOk, OnOk};
 ghost use Rattle.mig_base.specs.InputLists.{IsInRange};
 ghost use Rattle.mig_base.specs.Transfers.{side_limit};
-ghost use Rattle.mig_drain.specs.Receivers.{AreCounted, AreSmall, all_free, all_take, receiver_places, receivers_of, takes};
+ghost use Rattle.mig_drain.specs.Receivers.{AreDiskCounts, AreSmall, all_free, all_take, receiver_places, receivers_of, takes};
 
 use mig_base::{DiskId, Input, Limits, Side};
 use std::alloc::{AllocError, Global};
@@ -49,7 +49,7 @@ pub fn other_disks(
     disk: DiskId,
     counts: &[u32],
 ) -> Result<Vec<Receiver>, AllocError>
-    requires { AreCounted (length input.now.disks) input.now.spots counts.now }
+    requires { AreDiskCounts (length input.now.disks) input.now.spots counts.now }
     ensures receivers { IfOk result (λ v. v.items ≡ receivers_of input.now disk.0) }
     ensures small { IfOk result (λ v. AreSmall v.items) }
 {

@@ -16,7 +16,7 @@ pub use Rattle.mig_base.proofs.SafetyLaws.{slot_apart}
 pub use Rattle.mig_base.proofs.StoreSteps.{same_image, same_none, shape_told, told_kept}
 pub use Rattle.mig_base.specs.Arrivals.{IsPlanSpot, IsReached}
 pub use Rattle.mig_base.specs.Flights.{in_flight}
-pub use Rattle.mig_base.specs.InputLists.{Lists}
+pub use Rattle.mig_base.specs.InputLists.{InputLists}
 pub use Rattle.mig_base.specs.JobCells.{IsPlanSlot}
 pub use Rattle.mig_base.specs.Layouts.{At, IsSource, IsTarget, round_at}
 pub use Rattle.mig_base.specs.RoundEvents.{IsRun}
@@ -34,7 +34,7 @@ pub use Rattle.mig_base.specs.declared.ids.Shift.{Shift}
 pub use Rattle.mig_base.specs.declared.ids.Spot.{Spot}
 pub use Rattle.mig_drill.specs.Drills.{count_line, marks_line, stop_line, stop_lines}
 pub use Rattle.mig_drill.specs.Stops.{HasResumed, LeavesSound}
-pub use Rattle.mig_drill.specs.Stores.{AreJobCells, IsClear, IsEndOf, IsFilled, IsMade, Joins, StaysTold, TellsJob}
+pub use Rattle.mig_drill.specs.Stores.{AddsCells, AreJobCells, HoldsMade, IsEndOf, IsPrepared, IsZeroed, StaysTold, TellsJob}
 pub use Rattle.mig_drill.specs.Writes.{marks_after, round_writes, sets_mark, writes_of}
 pub use Rattle.mig_drill.specs.declared.writes.Write.{Write}
 pub use Rattle.mig_drill.specs.declared.writes.Write.TheVariants.{ClearMark, Copy, Erase, SetMark}
@@ -46,8 +46,8 @@ pub use Rattle.mig_lanes.specs.Runs.{Finishes}
 pub use Rattle.mig_mover.proofs.TargetLaws.{in_round}
 pub use Rattle.mig_mover.specs.Moves.{Keeps}
 pub use Rattle.mig_store.proofs.CellTables.{different_cells, eq-same}
-pub use Rattle.mig_store.specs.Asking.{Contents, fresh}
-pub use Rattle.mig_store.specs.Calls.{Call}
+pub use Rattle.mig_store.specs.Asking.{CellBytes, fresh}
+pub use Rattle.mig_store.specs.Calls.{StoreCall}
 pub use Rattle.mig_store.specs.HeldCells.{held_at, zero_bytes, zero_held}
 pub use Rattle.mig_store.specs.Ledgers.{Log, state_at}
 pub use Rattle.mig_store.specs.Memories.{Memory, mem_is_state, state_of}

@@ -1,6 +1,6 @@
 -- The cells by which a plan is carried out, gathered one by one.
 use Rattle.mig_drill.proofs.Common.{Any, AreJobCells, Bool, Cell, Contains, Contains-append_left, Contains-append_right, Contains-from_any, Contains-push, Contains-push_cases, Flight, IsEndOf}
-use Rattle.mig_drill.proofs.Common.{IsJobCell, IsMark, IsPlanSlot, IsPlanSpot, IsSource, IsTarget, Joins, List, Lists, Mark, None, Option, Shift, Some, Spot, Task, [], any_contains, ap, arith}
+use Rattle.mig_drill.proofs.Common.{AddsCells, InputLists, IsJobCell, IsMark, IsPlanSlot, IsPlanSpot, IsSource, IsTarget, List, Mark, None, Option, Shift, Some, Spot, Task, [], any_contains, ap, arith}
 use Rattle.mig_drill.proofs.Common.{cases_eq, cases_lt, cond, eq-same, eq-value, false, flight_of, flights_of, get_or, get_or_from_slice_get, get_or_past, inl, inr, insert_key, length}
 use Rattle.mig_drill.proofs.Common.{length-map, list_any, map, option_map, refl, round_at, slice_get, slice_get-get_or, slice_get-map, slice_get_within, slot_of, subst, suc, sym, true, zero, ℕ}
 use Rattle.mig_drill.proofs.Common.{⊎_elim, ◌++◌, ◌+◌, ◌<◌, ◌↔◌, ◌∙◌, ◌∷◌, ◌≡◌, ◌≤◌, ◌⊎◌}
@@ -11,9 +11,9 @@ eq = eq-value.it
 
 -- Joining cells
 
-module _ (P : Cell → Type 0) (old mid : List Cell) (joins : Joins P old mid) where
+module _ (P : Cell → Type 0) (old mid : List Cell) (joins : AddsCells P old mid) where
   -- one cell more
-  pub joins_one : (k : Cell) → Joins (λ c. P c ⊎ (c ≡ k)) old (insert_key eq mid k)
+  pub joins_one : (k : Cell) → AddsCells (λ c. P c ⊎ (c ≡ k)) old (insert_key eq mid k)
   joins_one k c = at (list_any (eq k) mid) refl
     where
       at : (b : Bool) → list_any (eq k) mid ≡ b → Contains (insert_key eq mid k) c ↔ (Contains old c ⊎ (P c ⊎ (c ≡ k)))
@@ -38,10 +38,10 @@ module _ (P : Cell → Type 0) (old mid : List Cell) (joins : Joins P old mid) w
       )
 
   -- the same cells in other words
-  pub joins_as : (Q : Cell → Type 0) → ((c : Cell) → P c → Q c) → ((c : Cell) → Q c → P c) → Joins Q old mid
+  pub joins_as : (Q : Cell → Type 0) → ((c : Cell) → P c → Q c) → ((c : Cell) → Q c → P c) → AddsCells Q old mid
   joins_as Q to from c = (λ has. ⊎_elim (λ was. inl was) (λ p. inr (to c p)) ((joins c).0 has), λ any. (joins c).1 (⊎_elim (λ was. inl was) (λ q. inr (from c q)) any))
 
-  pub joins_then : (Q : Cell → Type 0) (new : List Cell) → Joins Q mid new → Joins (λ c. P c ⊎ Q c) old new
+  pub joins_then : (Q : Cell → Type 0) (new : List Cell) → AddsCells Q mid new → AddsCells (λ c. P c ⊎ Q c) old new
   joins_then Q new more c = (
     λ has. elim ((more c).0 has) [
       | inl in_mid ↦ ⊎_elim (λ was. inl was) (λ p. inr (inl p)) ((joins c).0 in_mid)
@@ -54,7 +54,7 @@ module _ (P : Cell → Type 0) (old mid : List Cell) (joins : Joins P old mid) w
     ],
   )
 
-pub joins_none : (P : Cell → Type 0) (cells : List Cell) → ((c : Cell) → P c → ⊥) → Joins P cells cells
+pub joins_none : (P : Cell → Type 0) (cells : List Cell) → ((c : Cell) → P c → ⊥) → AddsCells P cells cells
 joins_none P cells none c = (λ has. inl has, λ any. ⊎_elim (λ was. was) (λ p. absurd (none c p)) any)
 
 -- The ends of a round's copies
@@ -67,7 +67,7 @@ same_some : (f g : Flight) → Some f ≡ Some g → f ≡ g
 same_some f g e = cc
 
 module _ (fs : List Flight) (n : ℕ) (f : Flight) (at : slice_get fs n ≡ Some f) where
-  ends_both : (old mid : List Cell) → Joins (IsEndBefore fs n) old mid → Joins (IsEndBefore fs (n + 1)) old (insert_key eq (insert_key eq mid f.from) f.to)
+  ends_both : (old mid : List Cell) → AddsCells (IsEndBefore fs n) old mid → AddsCells (IsEndBefore fs (n + 1)) old (insert_key eq (insert_key eq mid f.from) f.to)
   ends_both old mid joins =
       let first = joins_one (IsEndBefore fs n) old mid joins f.from in
       let both = joins_one (λ c. IsEndBefore fs n c ⊎ (c ≡ f.from)) old (insert_key eq mid f.from) first f.to in
@@ -88,15 +88,15 @@ module _ (fs : List Flight) (n : ℕ) (f : Flight) (at : slice_get fs n ≡ Some
           by (inr other) = inl (inl (k, g, omega arith, here, end))
 
   -- both slots of a copy more
-  pub ends_more : (old mid next new : List Cell) → next ≡ insert_key eq mid f.from → new ≡ insert_key eq next f.to → Joins (IsEndBefore fs n) old mid → Joins (IsEndBefore fs (n + 1)) old new
+  pub ends_more : (old mid next new : List Cell) → next ≡ insert_key eq mid f.from → new ≡ insert_key eq next f.to → AddsCells (IsEndBefore fs n) old mid → AddsCells (IsEndBefore fs (n + 1)) old new
   ends_more old mid next new one other joins =
-      subst (λ (l : List Cell). Joins (IsEndBefore fs (n + 1)) old l) (ap (λ (l : List Cell). insert_key eq l f.to) (sym one) ∙ sym other) (ends_both old mid joins)
+      subst (λ (l : List Cell). AddsCells (IsEndBefore fs (n + 1)) old l) (ap (λ (l : List Cell). insert_key eq l f.to) (sym one) ∙ sym other) (ends_both old mid joins)
 
-pub none_before : (fs : List Flight) (cells : List Cell) → Joins (IsEndBefore fs 0) cells cells
+pub none_before : (fs : List Flight) (cells : List Cell) → AddsCells (IsEndBefore fs 0) cells cells
 none_before fs cells = joins_none (IsEndBefore fs 0) cells (λ c end. let less = end.2 in absurd (omega arith))
 
 -- all of them
-pub ends_all : (fs : List Flight) (n : ℕ) → length fs ≤ n → (old new : List Cell) → Joins (IsEndBefore fs n) old new → Joins (IsEndOf fs) old new
+pub ends_all : (fs : List Flight) (n : ℕ) → length fs ≤ n → (old new : List Cell) → AddsCells (IsEndBefore fs n) old new → AddsCells (IsEndOf fs) old new
 ends_all fs n most old new joins = joins_as (IsEndBefore fs n) old new joins (IsEndOf fs) to from
   where
     to : (c : Cell) → IsEndBefore fs n c → IsEndOf fs c
@@ -153,7 +153,7 @@ module _ (task : Task) where
       )
 
   -- with a round more
-  pub gathers_more : (n : ℕ) (cells next new : List Cell) → Gathers task n cells → next ≡ insert_key eq cells (Mark (n + 1)) → Joins (IsEndOf (flights_of task.input (round_at task.plan (n + 1)))) next new → Gathers task (n + 1) new
+  pub gathers_more : (n : ℕ) (cells next new : List Cell) → Gathers task n cells → next ≡ insert_key eq cells (Mark (n + 1)) → AddsCells (IsEndOf (flights_of task.input (round_at task.plan (n + 1)))) next new → Gathers task (n + 1) new
   gathers_more n cells next new gathers is joins_next c = (
     λ has. elim ((joins c).0 has) [
       | inl before ↦ to (marked before)
@@ -162,13 +162,13 @@ module _ (task : Task) where
     from,
   )
     where
-      joins : Joins (IsEndOf (flights_of task.input (round_at task.plan (n + 1)))) (insert_key eq cells (Mark (n + 1))) new
-      joins = subst (λ (l : List Cell). Joins (IsEndOf (flights_of task.input (round_at task.plan (n + 1)))) l new) is joins_next
+      joins : AddsCells (IsEndOf (flights_of task.input (round_at task.plan (n + 1)))) (insert_key eq cells (Mark (n + 1))) new
+      joins = subst (λ (l : List Cell). AddsCells (IsEndOf (flights_of task.input (round_at task.plan (n + 1)))) l new) is joins_next
 
-      none : Joins (λ c. ⊥) cells cells
+      none : AddsCells (λ c. ⊥) cells cells
       none = joins_none (λ c. ⊥) cells (λ c out. out)
 
-      mark : Joins (λ c. ⊥ ⊎ (c ≡ Mark (n + 1))) cells (insert_key eq cells (Mark (n + 1)))
+      mark : AddsCells (λ c. ⊥ ⊎ (c ≡ Mark (n + 1))) cells (insert_key eq cells (Mark (n + 1)))
       mark = joins_one (λ c. ⊥) cells cells none (Mark (n + 1))
 
       marked : Contains (insert_key eq cells (Mark (n + 1))) c → Contains cells c ⊎ (c ≡ Mark (n + 1))

@@ -7,7 +7,7 @@ ghost use Rattle.mig_base.specs.Slots.{IsListedCell};
 ghost use Rattle.mig_base.specs.Stores.{flights, ChangesOnly, IsSettled};
 ghost use Rattle.mig_store.specs.HeldCells.{zero_held};
 ghost use Rattle.mig_store.specs.Memories.{state_of};
-ghost use Rattle.mig_drill.specs.Stores.{AreJobCells, IsClear, IsEndOf, IsFilled, IsMade, Joins, StaysTold, TellsJob};
+ghost use Rattle.mig_drill.specs.Stores.{AddsCells, AreJobCells, HoldsMade, IsEndOf, IsPrepared, IsZeroed, StaysTold, TellsJob};
 
 use crate::limits::MAX_DRILL_SHIFTS;
 use indexmap::IndexSet;
@@ -21,7 +21,7 @@ use std::alloc::{AllocError, Global};
 fn add_round(cells: &mut IndexSet<Cell>, job: &Job, round: u32) -> Result<(), AllocError>
     requires from { 1 ≤ round }
     requires to { round ≤ length job.now.plan }
-    ensures { OnOk result (Joins (IsEndOf (flights_of job.now.input (round_at job.now.plan round))) cells.old.keys cells.new.keys) }
+    ensures { OnOk result (AddsCells (IsEndOf (flights_of job.now.input (round_at job.now.plan round))) cells.old.keys cells.new.keys) }
 {
     for place in 0..job.round_len(round) {
         let (from, to) = job.copy(round, place);
@@ -68,7 +68,7 @@ pub fn store_of(alloc: Global, job: &Job, cells: &IndexSet<Cell>) -> Result<MemS
 // Writes zeros to a cell.
 fn clear(store: &mut MemStore, cell: &Cell) -> Result<(), StoreFailed>
     requires { flights (state_of store.old) ≡ [] }
-    ensures clear { OnOk result (IsClear (state_of store.new).reads cell.now) }
+    ensures clear { OnOk result (IsZeroed (state_of store.new).reads cell.now) }
     ensures change { ChangesOnly (λ c. c ≡ cell.now) (state_of store.old) (state_of store.new) }
 {
     store.write(cell, &[0; 4096][..cell.len()])
@@ -77,7 +77,7 @@ fn clear(store: &mut MemStore, cell: &Cell) -> Result<(), StoreFailed>
 // Writes zeros to each of these cells.
 fn clear_all(store: &mut MemStore, cells: &[Cell]) -> Result<(), StoreFailed>
     requires { flights (state_of store.old) ≡ [] }
-    ensures clear { OnOk result (All (IsClear (state_of store.new).reads) cells.now) }
+    ensures clear { OnOk result (All (IsZeroed (state_of store.new).reads) cells.now) }
     ensures none { flights (state_of store.new) ≡ [] }
     ensures told { StaysTold (state_of store.old).reads (state_of store.new).reads }
 {
@@ -91,8 +91,8 @@ fn clear_all(store: &mut MemStore, cells: &[Cell]) -> Result<(), StoreFailed>
 fn put_round(input: &Input, store: &mut MemStore, shifts: &[Shift]) -> Result<(), StoreFailed>
     requires items { All (λ s. s.item.0 < length input.now.items) shifts.now }
     requires none { flights (state_of store.old) ≡ [] }
-    ensures made { OnOk result (All (λ s. IsMade input.now (state_of store.new).reads s.item.0) shifts.now) }
-    ensures kept { OnOk result ((item : ℕ) → item < length input.now.items → IsMade input.now (state_of store.old).reads item → IsMade input.now (state_of store.new).reads item) }
+    ensures made { OnOk result (All (λ s. HoldsMade input.now (state_of store.new).reads s.item.0) shifts.now) }
+    ensures kept { OnOk result ((item : ℕ) → item < length input.now.items → HoldsMade input.now (state_of store.old).reads item → HoldsMade input.now (state_of store.new).reads item) }
     ensures change { ChangesOnly (IsListedCell input.now) (state_of store.old) (state_of store.new) }
 {
     input.keeps_rules();
@@ -105,7 +105,7 @@ fn put_round(input: &Input, store: &mut MemStore, shifts: &[Shift]) -> Result<()
 // Puts the items that a plan shifts where they are now.
 fn put_items(job: &Job, store: &mut MemStore) -> Result<(), StoreFailed>
     requires { flights (state_of store.old) ≡ [] }
-    ensures made { OnOk result ((item : ℕ) → IsShifted job.now.plan item → IsMade job.now.input (state_of store.new).reads item) }
+    ensures made { OnOk result ((item : ℕ) → IsShifted job.now.plan item → HoldsMade job.now.input (state_of store.new).reads item) }
     ensures change { ChangesOnly (IsListedCell job.now.input) (state_of store.old) (state_of store.new) }
 {
     for round in job.plan().rounds() {
@@ -118,7 +118,7 @@ fn put_items(job: &Job, store: &mut MemStore) -> Result<(), StoreFailed>
 fn fill(job: &Job, store: &mut MemStore, cells: &[Cell]) -> Result<(), StoreFailed>
     requires none { flights (state_of store.old) ≡ [] }
     requires cells { AreJobCells job.now cells.now }
-    ensures filled { OnOk result (IsFilled job.now (state_of store.new).reads) }
+    ensures filled { OnOk result (IsPrepared job.now (state_of store.new).reads) }
     ensures settled { OnOk result (IsSettled (state_of store.new)) }
     ensures landed { OnOk result (flights (state_of store.new) ≡ []) }
     ensures told { StaysTold (state_of store.old).reads (state_of store.new).reads }
@@ -138,7 +138,7 @@ pub fn filled(job: &Job, store: MemStore, cells: &IndexSet<Cell>) -> Result<MemS
     requires cells { AreJobCells job.now cells.now.keys }
     requires told { TellsJob job.now (state_of store) }
     ensures told { IfOk result (λ store. TellsJob job.now (state_of store)) }
-    ensures filled { IfOk result (λ store. IsFilled job.now (state_of store).reads) }
+    ensures filled { IfOk result (λ store. IsPrepared job.now (state_of store).reads) }
     ensures settled { IfOk result (λ store. IsSettled (state_of store)) }
     ensures landed { IfOk result (λ store. flights (state_of store) ≡ []) }
 {

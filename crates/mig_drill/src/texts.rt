@@ -6,7 +6,7 @@ ghost use Rattle.mig_words.specs.Puts.{Puts};
 
 use crate::writes::Write;
 use mig_io::{Sink, SinkFailed};
-use mig_words::Part::{Number, Text};
+use mig_words::TextPart::{Number, Text};
 use mig_words::put_parts;
 
 // Puts a line of a word and a number.

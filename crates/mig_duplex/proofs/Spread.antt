@@ -1,11 +1,11 @@
 -- From a complete proper colouring of nodes on two sides to colours that spread the edges of each disk.
 use Rattle.mig_duplex.proofs.Common.{All, AreColours, AreOnSides, AreSides, AreThrough, Bool, Colour, Colouring, Copied, CopyId, DiskId, EdgeId, Incoming, IsGraph, IsInRange, IsLimited, IsProper}
-use Rattle.mig_duplex.proofs.Common.{IsSpread, IsTwoSided, Joint, KeepsLimit, Leads, Limits, List, None, Option, Outgoing, Side, Some, Split, StandsForEnds, Transfers, Trip, [], ap, arith, blank}
-use Rattle.mig_duplex.proofs.Common.{cases_eq, colour_at, colour_at_disk, count_by, count_by-filter, count_of, disk_at, div_ceil, div_ceil-le, div_ceil_times, drop, edges_of, entering_in, eqb}
-use Rattle.mig_duplex.proofs.Common.{false, false≢true, first_of, get_or, get_or-drop, get_or-replicate, get_or-take, get_or_default, head_of, heads, in_of, in_range, inl, inr, is_duplex}
+use Rattle.mig_duplex.proofs.Common.{IsSplitAt, IsSpread, Joint, KeepsLimit, Leads, Limits, List, None, Option, Outgoing, Side, Some, Split, StandsForEnds, Transfers, Transfer, [], ap, arith, blank}
+use Rattle.mig_duplex.proofs.Common.{cases_eq, colour_at, colour_at_disk, count_by, count_by-filter, div_ceil, div_ceil-le, div_ceil_times, drop, edges_of, entering_in, eqb, listed_disk, occurrences}
+use Rattle.mig_duplex.proofs.Common.{false, false≢true, first_copy, get_or, get_or-drop, get_or-replicate, get_or-take, get_or_default, head_of, heads, in_of, in_range, inl, inr, is_duplex}
 use Rattle.mig_duplex.proofs.Common.{is_forward, is_split, leaving_in, length, length-drop, length-map, length-range_with_len, length-replicate, length-take-le, limit, map, max, mul-le-mul_right}
 use Rattle.mig_duplex.proofs.Common.{mul_comm, nat_tests, no_disk, one, out_of, passes, quotient, range_with_len, refl, replicate, rounds_for, same_Some, same_copy, second_of, side_load}
-use Rattle.mig_duplex.proofs.Common.{slice_get, slice_get-get_or, slice_get_within, subst, suc, sum_by-cons, sum_by-map, sum_by-same_each, sym, tail_of, tails, take, trip_at, true}
+use Rattle.mig_duplex.proofs.Common.{slice_get, slice_get-get_or, slice_get_within, subst, suc, sum_by-cons, sum_by-map, sum_by-same_each, sym, tail_of, tails, take, transfer_at, true}
 use Rattle.mig_duplex.proofs.Common.{value_within_quotient, zero, ℕ, ◌&&◌, ◌+◌, ◌-◌, ◌<◌, ◌||◌, ◌∙◌, ◌∷◌, ◌≡◌, ◌≢◌, ◌≤◌, ◌⊎◌}
 use Rattle.mig_duplex.proofs.Quotients.{limits_of}
 use Rattle.mig_base.proofs.Copies.{IsProper as IsProperCopies}
@@ -25,7 +25,7 @@ side_at left nodes ends a e v w row =
     let same : p ≡ (v, w) = same_Some p (v, w) (sym (slice_get-get_or ends e.0 (record { 0 = 0 }, record { 0 = 0 }) h) ∙ row) in
     (omega (arith, a e.0 h, ap (λ (x : CopyId × CopyId). x.0.0) same), omega (arith, a e.0 h, ap (λ (x : CopyId × CopyId). x.1.0) same))
 
-pub two_sided : (g : Colouring) (left nodes : ℕ) (ends : List (CopyId × CopyId)) → g.ends ≡ ends → AreOnSides left nodes ends → IsTwoSided g left
+pub two_sided : (g : Colouring) (left nodes : ℕ) (ends : List (CopyId × CopyId)) → g.ends ≡ ends → AreOnSides left nodes ends → IsSplitAt g left
 two_sided g left nodes ends same a e v w joins =
     elim joins [
       | inl row ↦ (let x = side_at left nodes ends a e v w (subst (λ (y : List (CopyId × CopyId)). slice_get y e.0 ≡ Some (v, w)) same row) in inl (x.0, x.1))
@@ -48,18 +48,18 @@ or_cases a b k h = elim (cases_eq a k) [ inl e ↦ inl e | inr ne ↦ inr (right
     right a b k ne h = grind (arith, nat_tests)
 
 -- an edge that meets a node leads from it
-pub leads_at : (g : Colouring) (colours : List Colour) (e k : ℕ) → AreColours g colours → e < length g.ends → (eqb (first_of g.ends e) k || eqb (second_of g.ends e) k) ≡ true → (w : CopyId) × Leads g (record { 0 = k }) (record { 0 = colour_at colours e }) (record { 0 = e }) w
+pub leads_at : (g : Colouring) (colours : List Colour) (e k : ℕ) → AreColours g colours → e < length g.ends → (eqb (first_copy g.ends e) k || eqb (second_of g.ends e) k) ≡ true → (w : CopyId) × Leads g (record { 0 = k }) (record { 0 = colour_at colours e }) (record { 0 = e }) w
 leads_at g colours e k a h met =
     let p = get_or g.ends e (record { 0 = 0 }, record { 0 = 0 }) in
     let row : slice_get g.ends e ≡ Some p = slice_get-get_or g.ends e (record { 0 = 0 }, record { 0 = 0 }) h in
-    elim (or_cases (first_of g.ends e) (second_of g.ends e) k met) [
+    elim (or_cases (first_copy g.ends e) (second_of g.ends e) k met) [
       | inl s ↦ (p.1, record { joins = inl (row ∙ ap (λ (c : CopyId). Some (c, p.1)) (same_copy p.0 (record { 0 = k }) s)); colour = a.has e h })
       | inr s ↦ (p.0, record { joins = inr (row ∙ ap (λ (c : CopyId). Some (p.0, c)) (same_copy p.1 (record { 0 = k }) s)); colour = a.has e h })
     ]
 
 -- no two edges of one colour meet at a node
 pub apart_at : (g : Colouring) (colours : List Colour) (d e k : ℕ) → IsProper g → AreColours g colours → d < e → e < length g.ends → colour_at colours d ≡ colour_at colours e
-    → (eqb (first_of g.ends d) k || eqb (second_of g.ends d) k) ≡ true → (eqb (first_of g.ends e) k || eqb (second_of g.ends e) k) ≡ true → ⊥
+    → (eqb (first_copy g.ends d) k || eqb (second_of g.ends d) k) ≡ true → (eqb (first_copy g.ends e) k || eqb (second_of g.ends e) k) ≡ true → ⊥
 apart_at g colours d e k proper a lt there same m n =
     let x = leads_at g colours d k a (omega (arith, lt, there)) m in
     let y = leads_at g colours e k a there n in
@@ -67,7 +67,7 @@ apart_at g colours d e k proper a lt there same m n =
     let eq = ap (λ (i : EdgeId). i.0) (proper.apart (record { 0 = k }) (record { 0 = colour_at colours e }) (record { 0 = d }) (record { 0 = e }) x.0 y.0 turned y.1) in
     absurd (omega (arith, eq, lt))
 
-pub home_is : (homes : List DiskId) (k : ℕ) → get_or (map (λ (d : DiskId). d.0) homes) k 0 ≡ disk_at homes k
+pub home_is : (homes : List DiskId) (k : ℕ) → get_or (map (λ (d : DiskId). d.0) homes) k 0 ≡ listed_disk homes k
 home_is [] k = refl
 home_is (d ∷ ds) zero = refl
 home_is (d ∷ ds) (suc k) = home_is ds k
@@ -76,10 +76,10 @@ home_is (d ∷ ds) (suc k) = home_is ds k
 
 -- edges of one colour with this end are at most as many as the disk has copies, where each edge is at a copy of its end, and at its copy's node
 at_side : (g : Colouring) (m : ℕ) (node at end : ℕ → ℕ) (homes : List DiskId) (colours : List Colour) → IsProper g → AreColours g colours → length g.ends ≡ m
-    → ((e : ℕ) → e < m → (eqb (first_of g.ends e) (node (at e)) || eqb (second_of g.ends e) (node (at e))) ≡ true) → ((e : ℕ) → e < m → at e < length homes) → ((e : ℕ) → e < m → disk_at homes (at e) ≡ end e)
-    → (c v : ℕ) → count_by (λ e. eqb (colour_at colours e) c && eqb v (end e)) (range_with_len 0 m) ≤ count_of v homes
+    → ((e : ℕ) → e < m → (eqb (first_copy g.ends e) (node (at e)) || eqb (second_of g.ends e) (node (at e))) ≡ true) → ((e : ℕ) → e < m → at e < length homes) → ((e : ℕ) → e < m → listed_disk homes (at e) ≡ end e)
+    → (c v : ℕ) → count_by (λ e. eqb (colour_at colours e) c && eqb v (end e)) (range_with_len 0 m) ≤ occurrences v homes
 at_side g m node at end homes colours proper a len met there home c v =
-    let x : Copied = record { edges = m; homes = map (λ (d : DiskId). d.0) homes; first = at; second = at; trip = λ e. record { leaves = end e; reaches = end e }; colour = colour_at colours } in
+    let x : Copied = record { edges = m; homes = map (λ (d : DiskId). d.0) homes; first = at; second = at; transfer = λ e. record { leaves = end e; reaches = end e }; colour = colour_at colours } in
     let stands : (e : ℕ) → e < m → StandsForEnds x e = λ e h. record {
       first_there = omega (arith, there e h, length-map homes (λ (d : DiskId). d.0));
       second_there = omega (arith, there e h, length-map homes (λ (d : DiskId). d.0));
@@ -87,8 +87,8 @@ at_side g m node at end homes colours proper a len met there home c v =
       reaches = inl (home_is homes (at e) ∙ home e h);
     } in
     let alone : IsProperCopies x = λ d e k lt h same p q. apart_at g colours d e (node k) proper a lt (omega (arith, h, len)) same
-    (subst (λ j. (eqb (first_of g.ends d) (node j) || eqb (second_of g.ends d) (node j)) ≡ true) (is_at (at d) k p) (met d (omega (arith, lt, h))))
-    (subst (λ j. (eqb (first_of g.ends e) (node j) || eqb (second_of g.ends e) (node j)) ≡ true) (is_at (at e) k q) (met e h)) in
+    (subst (λ j. (eqb (first_copy g.ends d) (node j) || eqb (second_of g.ends d) (node j)) ≡ true) (is_at (at d) k p) (met d (omega (arith, lt, h))))
+    (subst (λ j. (eqb (first_copy g.ends e) (node j) || eqb (second_of g.ends e) (node j)) ≡ true) (is_at (at e) k q) (met e h)) in
     let law = colour_at_disk x c v stands alone in
     let same = sum_by-same_each (λ e. one (eqb (colour_at colours e) c && eqb v (end e))) (λ e. one (eqb (colour_at colours e) c && (eqb v (end e) || eqb v (end e)))) (range_with_len 0 m) (λ k d h. twice (eqb (colour_at colours (get_or (range_with_len 0 m) k d)) c) (eqb v (end (get_or (range_with_len 0 m) k d)))) in
     omega (arith, law, same, sum_by-map (λ n. one (eqb n v)) (λ (d : DiskId). d.0) homes)
@@ -110,33 +110,33 @@ spread_by_sides g graph q ds left node ends homes colours a t proper c is_q = re
   leaving = λ k v h. omega (
     arith,
     a.left_number v h,
-    at_side g m node (first_of ends) (λ e. tail_of (trip_at graph.trips e) (is_forward ds e)) (take left homes) colours proper c len
-        (λ e h. at_first (first_of g.ends e) (second_of g.ends e) (node (first_of ends e)) (t.first e (omega (arith, h, a.one_each))))
+    at_side g m node (first_copy ends) (λ e. tail_of (transfer_at graph.transfers e) (is_forward ds e)) (take left homes) colours proper c len
+        (λ e h. at_first (first_copy g.ends e) (second_of g.ends e) (node (first_copy ends e)) (t.first e (omega (arith, h, a.one_each))))
         (λ e h. omega (arith, a.there e (omega (arith, h, a.one_each)), length-take-le left homes (left_within e h)))
-        (λ e h. ap (λ (d : DiskId). d.0) (get_or-take left homes (first_of ends e) (record { 0 = 0 }) (omega (arith, a.there e (omega (arith, h, a.one_each))))) ∙ a.first e (omega (arith, h, a.one_each)))
+        (λ e h. ap (λ (d : DiskId). d.0) (get_or-take left homes (first_copy ends e) (record { 0 = 0 }) (omega (arith, a.there e (omega (arith, h, a.one_each))))) ∙ a.first e (omega (arith, h, a.one_each)))
         k v,
   );
   entering = λ k v h. omega (
     arith,
     a.right_number v h,
-    at_side g m (λ j. node (left + j)) (λ e. second_of ends e - left) (λ e. head_of (trip_at graph.trips e) (is_forward ds e)) (drop left homes) colours proper c len
-        (λ e h. at_second (first_of g.ends e) (second_of g.ends e) (node (left + (second_of ends e - left))) (t.second e (omega (arith, h, a.one_each)) ∙ ap node (whole e h)))
+    at_side g m (λ j. node (left + j)) (λ e. second_of ends e - left) (λ e. head_of (transfer_at graph.transfers e) (is_forward ds e)) (drop left homes) colours proper c len
+        (λ e h. at_second (first_copy g.ends e) (second_of g.ends e) (node (left + (second_of ends e - left))) (t.second e (omega (arith, h, a.one_each)) ∙ ap node (whole e h)))
         (λ e h. omega (arith, a.there e (omega (arith, h, a.one_each)), length-drop left homes))
-        (λ e h. ap (λ (d : DiskId). d.0) (get_or-drop left homes (second_of ends e - left) (record { 0 = 0 })) ∙ ap (λ j. disk_at homes j) (sym (whole e h)) ∙ a.second e (omega (arith, h, a.one_each)))
+        (λ e h. ap (λ (d : DiskId). d.0) (get_or-drop left homes (second_of ends e - left) (record { 0 = 0 })) ∙ ap (λ j. listed_disk homes j) (sym (whole e h)) ∙ a.second e (omega (arith, h, a.one_each)))
         k v,
   );
 }
   where
     m : ℕ
-    m = length graph.trips
+    m = length graph.transfers
 
-    len : length g.ends ≡ length graph.trips
+    len : length g.ends ≡ length graph.transfers
     len = t.one_each ∙ a.one_each
 
-    left_within : (e : ℕ) → e < length graph.trips → left ≤ length homes
+    left_within : (e : ℕ) → e < length graph.transfers → left ≤ length homes
     left_within e h = omega (arith, a.there e (omega (arith, h, a.one_each)))
 
-    whole : (e : ℕ) → e < length graph.trips → second_of ends e ≡ left + (second_of ends e - left)
+    whole : (e : ℕ) → e < length graph.transfers → second_of ends e ≡ left + (second_of ends e - left)
     whole e h = omega (arith, a.there e (omega (arith, h, a.one_each)))
 
     at_first : (x y k : ℕ) → x ≡ k → (eqb x k || eqb y k) ≡ true
@@ -148,7 +148,7 @@ spread_by_sides g graph q ds left node ends homes colours a t proper c is_q = re
 -- ---- split limits, by the directions of the transfers
 
 -- the edges that leave a disk by its directions, and those that enter it, are then those that leave it and that reach it
-forward_out : (v : ℕ) (ts : List Trip) (ds : List Bool) → length ds ≡ length ts → ((k : ℕ) → k < length ts → is_forward ds k ≡ true) → out_of ts ds v ≡ side_load Outgoing v ts
+forward_out : (v : ℕ) (ts : List Transfer) (ds : List Bool) → length ds ≡ length ts → ((k : ℕ) → k < length ts → is_forward ds k ≡ true) → out_of ts ds v ≡ side_load Outgoing v ts
 forward_out v [] ds len forward = refl
 forward_out v (t ∷ ts) [] len forward = absurd (omega (arith, len))
 forward_out v (t ∷ ts) (d ∷ ds) len forward =
@@ -158,7 +158,7 @@ forward_out v (t ∷ ts) (d ∷ ds) len forward =
     turned : (a b : ℕ) → one (eqb a b) ≡ one (eqb b a)
     turned a b = grind (arith, nat_tests)
 
-forward_in : (v : ℕ) (ts : List Trip) (ds : List Bool) → length ds ≡ length ts → ((k : ℕ) → k < length ts → is_forward ds k ≡ true) → in_of ts ds v ≡ side_load Incoming v ts
+forward_in : (v : ℕ) (ts : List Transfer) (ds : List Bool) → length ds ≡ length ts → ((k : ℕ) → k < length ts → is_forward ds k ≡ true) → in_of ts ds v ≡ side_load Incoming v ts
 forward_in v [] ds len forward = refl
 forward_in v (t ∷ ts) [] len forward = absurd (omega (arith, len))
 forward_in v (t ∷ ts) (d ∷ ds) len forward =
@@ -172,14 +172,14 @@ forward_in v (t ∷ ts) (d ∷ ds) len forward =
 within_limit : (l limit q : ℕ) → 1 ≤ limit → 0 < q → div_ceil l limit ≤ q → div_ceil l q ≤ limit
 within_limit l limit q some pos most = div_ceil-le l q limit pos (omega (arith, (div_ceil_times l limit some).0, mul-le-mul_right limit most, mul_comm limit q))
 
--- the edges of a colour as trips, counted by a side
-in_colour : (graph : Transfers) (colours : List Colour) (c v : ℕ) (side : Side) → side_load side v (map (trip_at graph.trips) (edges_of colours c (length graph.trips))) ≡ count_by (λ e. eqb (colour_at colours e) c && passes side v (trip_at graph.trips e)) (range_with_len 0 (length graph.trips))
+-- the edges of a colour as transfers, counted by a side
+in_colour : (graph : Transfers) (colours : List Colour) (c v : ℕ) (side : Side) → side_load side v (map (transfer_at graph.transfers) (edges_of colours c (length graph.transfers))) ≡ count_by (λ e. eqb (colour_at colours e) c && passes side v (transfer_at graph.transfers e)) (range_with_len 0 (length graph.transfers))
 in_colour graph colours c v side =
-    sum_by-map (λ t. one (passes side v t)) (trip_at graph.trips) (edges_of colours c (length graph.trips))
-    ∙ count_by-filter (λ e. passes side v (trip_at graph.trips e)) (λ e. eqb (colour_at colours e) c) (range_with_len 0 (length graph.trips))
+    sum_by-map (λ t. one (passes side v t)) (transfer_at graph.transfers) (edges_of colours c (length graph.transfers))
+    ∙ count_by-filter (λ e. passes side v (transfer_at graph.transfers e)) (λ e. eqb (colour_at colours e) c) (range_with_len 0 (length graph.transfers))
 
-pub spread_split : (graph : Transfers) (ds : List Bool) (colours : List Colour) → IsGraph graph → is_duplex graph.disks ≡ true → 1 ≤ quotient graph → length ds ≡ length graph.trips
-    → ((k : ℕ) → k < length graph.trips → is_forward ds k ≡ true) → IsSpread graph (quotient graph) ds colours → IsLimited graph (quotient graph) colours
+pub spread_split : (graph : Transfers) (ds : List Bool) (colours : List Colour) → IsGraph graph → is_duplex graph.disks ≡ true → 1 ≤ quotient graph → length ds ≡ length graph.transfers
+    → ((k : ℕ) → k < length graph.transfers → is_forward ds k ≡ true) → IsSpread graph (quotient graph) ds colours → IsLimited graph (quotient graph) colours
 spread_split graph ds colours valid split pos len forward s = record {
   one_each = s.one_each;
   below = s.below;
@@ -187,18 +187,18 @@ spread_split graph ds colours valid split pos len forward s = record {
 }
   where
     m : ℕ
-    m = length graph.trips
+    m = length graph.transfers
 
     straight : (k d : ℕ) → k < length (range_with_len 0 m) → is_forward ds (get_or (range_with_len 0 m) k d) ≡ true
     straight k d h = ap (is_forward ds) (in_range m k d (omega (arith, h, length-range_with_len 0 m))) ∙ forward k (omega (arith, h, length-range_with_len 0 m))
 
-    leaves : (c v : ℕ) → side_load Outgoing v (map (trip_at graph.trips) (edges_of colours c m)) ≡ leaving_in graph ds colours c v
-    leaves c v = in_colour graph colours c v Outgoing ∙ sum_by-same_each (λ e. one (eqb (colour_at colours e) c && eqb v (trip_at graph.trips e).leaves)) (λ e. one (eqb (colour_at colours e) c && eqb v (tail_of (trip_at graph.trips e) (is_forward ds e)))) (range_with_len 0 m)
-        (λ k d h. let e = get_or (range_with_len 0 m) k d in ap (λ b. one (eqb (colour_at colours e) c && eqb v (tail_of (trip_at graph.trips e) b))) (sym (straight k d h)))
+    leaves : (c v : ℕ) → side_load Outgoing v (map (transfer_at graph.transfers) (edges_of colours c m)) ≡ leaving_in graph ds colours c v
+    leaves c v = in_colour graph colours c v Outgoing ∙ sum_by-same_each (λ e. one (eqb (colour_at colours e) c && eqb v (transfer_at graph.transfers e).leaves)) (λ e. one (eqb (colour_at colours e) c && eqb v (tail_of (transfer_at graph.transfers e) (is_forward ds e)))) (range_with_len 0 m)
+        (λ k d h. let e = get_or (range_with_len 0 m) k d in ap (λ b. one (eqb (colour_at colours e) c && eqb v (tail_of (transfer_at graph.transfers e) b))) (sym (straight k d h)))
 
-    reaches : (c v : ℕ) → side_load Incoming v (map (trip_at graph.trips) (edges_of colours c m)) ≡ entering_in graph ds colours c v
-    reaches c v = in_colour graph colours c v Incoming ∙ sum_by-same_each (λ e. one (eqb (colour_at colours e) c && eqb v (trip_at graph.trips e).reaches)) (λ e. one (eqb (colour_at colours e) c && eqb v (head_of (trip_at graph.trips e) (is_forward ds e)))) (range_with_len 0 m)
-        (λ k d h. let e = get_or (range_with_len 0 m) k d in ap (λ b. one (eqb (colour_at colours e) c && eqb v (head_of (trip_at graph.trips e) b))) (sym (straight k d h)))
+    reaches : (c v : ℕ) → side_load Incoming v (map (transfer_at graph.transfers) (edges_of colours c m)) ≡ entering_in graph ds colours c v
+    reaches c v = in_colour graph colours c v Incoming ∙ sum_by-same_each (λ e. one (eqb (colour_at colours e) c && eqb v (transfer_at graph.transfers e).reaches)) (λ e. one (eqb (colour_at colours e) c && eqb v (head_of (transfer_at graph.transfers e) (is_forward ds e)))) (range_with_len 0 m)
+        (λ k d h. let e = get_or (range_with_len 0 m) k d in ap (λ b. one (eqb (colour_at colours e) c && eqb v (head_of (transfer_at graph.transfers e) b))) (sym (straight k d h)))
 
     left : (a b n : ℕ) → max a b ≤ n → a ≤ n
     left a b n h = omega (arith, h)
@@ -206,9 +206,9 @@ spread_split graph ds colours valid split pos len forward s = record {
     right : (a b n : ℕ) → max a b ≤ n → b ≤ n
     right a b n h = omega (arith, h)
 
-    keeps : (c v : ℕ) (limits : Limits) → IsInRange limits → is_split limits ≡ true → rounds_for limits v graph.trips ≤ quotient graph → leaving_in graph ds colours c v ≤ div_ceil (out_of graph.trips ds v) (quotient graph) → entering_in graph ds colours c v ≤ div_ceil (in_of graph.trips ds v) (quotient graph) → KeepsLimit limits v (map (trip_at graph.trips) (edges_of colours c m))
+    keeps : (c v : ℕ) (limits : Limits) → IsInRange limits → is_split limits ≡ true → rounds_for limits v graph.transfers ≤ quotient graph → leaving_in graph ds colours c v ≤ div_ceil (out_of graph.transfers ds v) (quotient graph) → entering_in graph ds colours c v ≤ div_ceil (in_of graph.transfers ds v) (quotient graph) → KeepsLimit limits v (map (transfer_at graph.transfers) (edges_of colours c m))
     keeps c v (Joint l) range split most out into = absurd (false≢true split)
     keeps c v (Split outgoing incoming) range split most out into = (
-      omega (arith, leaves c v, out, ap (λ n. div_ceil n (quotient graph)) (forward_out v graph.trips ds len forward), within_limit (side_load Outgoing v graph.trips) outgoing (quotient graph) range.0.0 pos (left _ _ _ most)),
-      omega (arith, reaches c v, into, ap (λ n. div_ceil n (quotient graph)) (forward_in v graph.trips ds len forward), within_limit (side_load Incoming v graph.trips) incoming (quotient graph) range.1.0 pos (right _ _ _ most)),
+      omega (arith, leaves c v, out, ap (λ n. div_ceil n (quotient graph)) (forward_out v graph.transfers ds len forward), within_limit (side_load Outgoing v graph.transfers) outgoing (quotient graph) range.0.0 pos (left _ _ _ most)),
+      omega (arith, reaches c v, into, ap (λ n. div_ceil n (quotient graph)) (forward_in v graph.transfers ds len forward), within_limit (side_load Incoming v graph.transfers) incoming (quotient graph) range.1.0 pos (right _ _ _ most)),
     )

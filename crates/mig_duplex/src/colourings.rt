@@ -41,8 +41,8 @@ pub fn colour_spread(
     q: u32,
 ) -> Result<Vec<Colour>, AllocError>
     requires some { 1 ≤ q }
-    requires few { q ≤ length graph.now.trips }
-    requires directions { length directions.now ≡ length graph.now.trips }
+    requires few { q ≤ length graph.now.transfers }
+    requires directions { length directions.now ≡ length graph.now.transfers }
     ensures { IfOk result (λ v. IsSpread graph.now q directions.now v.items) }
 {
     graph.keeps_rules();

@@ -1,48 +1,48 @@
 -- All edges directed.
-use Rattle.mig_euler.proofs.Common.{AllInRange, AllPassed, Bool, DiskId, EndsTrail, IsBalanced, IsReady, List, None, Option, Some, [], ap, arith, bit, cases_eq, cases_lt, cond, enters, eq-eqb}
-use Rattle.mig_euler.proofs.Common.{eqb, false, get_or, inl, inr, is, leaves, length, length-replicate, map, ne_eqb, pair_head, pair_tail, pair_trip, points_forward, refl, replicate, same_disk}
+use Rattle.mig_euler.proofs.Common.{AllInRange, AllPassed, Bool, DiskId, EndsTrail, IsBalanced, IsBalancedSoFar, List, None, Option, Some, [], ap, arith, bit, cases_eq, cases_lt, cond, enters, eq-eqb}
+use Rattle.mig_euler.proofs.Common.{eqb, false, get_or, inl, inr, is, leaves, length, length-replicate, map, ne_eqb, pair_head, pair_tail, pair_transfer, points_forward, refl, replicate, same_disk}
 use Rattle.mig_euler.proofs.Common.{subst, suc, sum_by-cons, sym, total, true, waits, zero, ℕ, ◌%◌, ◌+◌, ◌<◌, ◌∙◌, ◌∷◌, ◌≡◌, ◌≤◌, ◌⊎◌}
 use Rattle.mig_base.specs.Directions as base
 use Rattle.mig_euler.proofs.Trail.{IsBalanced-trail, even_kept, odd_ended, trail_closed, IsBalanced-none}
 
 -- ---- where no edge waits anywhere, the counts are those of the directions
 
-same_tail : (p : DiskId × DiskId) (d : Bool) → base.tail_of (pair_trip p) d ≡ (pair_tail p d).0
+same_tail : (p : DiskId × DiskId) (d : Bool) → base.tail_of (pair_transfer p) d ≡ (pair_tail p d).0
 same_tail p true = refl
 same_tail p false = refl
 
-same_head : (p : DiskId × DiskId) (d : Bool) → base.head_of (pair_trip p) d ≡ (pair_head p d).0
+same_head : (p : DiskId × DiskId) (d : Bool) → base.head_of (pair_transfer p) d ≡ (pair_head p d).0
 same_head p true = refl
 same_head p false = refl
 
 itself : (w : DiskId) → is w w ≡ 1
 itself w = ap bit (eq-eqb w.0 w.0 refl)
 
-out_is : (v : DiskId) (ps : List (DiskId × DiskId)) (ds : List (Option Bool)) → ((w : DiskId) → total (waits w) ps ds ≡ 0) → length ds ≡ length ps → base.out_of (map pair_trip ps) (map points_forward ds) v.0 ≡ total (leaves v) ps ds
+out_is : (v : DiskId) (ps : List (DiskId × DiskId)) (ds : List (Option Bool)) → ((w : DiskId) → total (waits w) ps ds ≡ 0) → length ds ≡ length ps → base.out_of (map pair_transfer ps) (map points_forward ds) v.0 ≡ total (leaves v) ps ds
 out_is v [] ds h len = refl
 out_is v (p ∷ ps) [] h len = refl
 out_is v (p ∷ ps) (Some d ∷ ds) h len =
     omega (
       arith,
-      sum_by-cons (λ n. cond (eqb n v.0) 1 0) (base.tail_of (pair_trip p) d) (base.tails (map pair_trip ps) (map points_forward ds)),
+      sum_by-cons (λ n. cond (eqb n v.0) 1 0) (base.tail_of (pair_transfer p) d) (base.tails (map pair_transfer ps) (map points_forward ds)),
       ap {B = ℕ} (λ n. cond (eqb n v.0) 1 0) (same_tail p d),
       out_is v ps ds (λ w. omega (arith, h w)) (omega arith),
     )
 out_is v (p ∷ ps) (None ∷ ds) h len = absurd (omega (arith, h p.0, itself p.0))
 
-in_is : (v : DiskId) (ps : List (DiskId × DiskId)) (ds : List (Option Bool)) → ((w : DiskId) → total (waits w) ps ds ≡ 0) → length ds ≡ length ps → base.in_of (map pair_trip ps) (map points_forward ds) v.0 ≡ total (enters v) ps ds
+in_is : (v : DiskId) (ps : List (DiskId × DiskId)) (ds : List (Option Bool)) → ((w : DiskId) → total (waits w) ps ds ≡ 0) → length ds ≡ length ps → base.in_of (map pair_transfer ps) (map points_forward ds) v.0 ≡ total (enters v) ps ds
 in_is v [] ds h len = refl
 in_is v (p ∷ ps) [] h len = refl
 in_is v (p ∷ ps) (Some d ∷ ds) h len =
     omega (
       arith,
-      sum_by-cons (λ n. cond (eqb n v.0) 1 0) (base.head_of (pair_trip p) d) (base.heads (map pair_trip ps) (map points_forward ds)),
+      sum_by-cons (λ n. cond (eqb n v.0) 1 0) (base.head_of (pair_transfer p) d) (base.heads (map pair_transfer ps) (map points_forward ds)),
       ap {B = ℕ} (λ n. cond (eqb n v.0) 1 0) (same_head p d),
       in_is v ps ds (λ w. omega (arith, h w)) (omega arith),
     )
 in_is v (p ∷ ps) (None ∷ ds) h len = absurd (omega (arith, h p.0, itself p.0))
 
-Balances-settled : (ps : List (DiskId × DiskId)) (ds : List (Option Bool)) → IsBalanced ps ds → ((w : DiskId) → total (waits w) ps ds ≡ 0) → length ds ≡ length ps → base.Balances (map pair_trip ps) (map points_forward ds)
+Balances-settled : (ps : List (DiskId × DiskId)) (ds : List (Option Bool)) → IsBalanced ps ds → ((w : DiskId) → total (waits w) ps ds ≡ 0) → length ds ≡ length ps → base.Balances (map pair_transfer ps) (map points_forward ds)
 Balances-settled ps ds e h len =
     record {
       out_most = λ v. (let d : DiskId = record { 0 = v } in omega (arith, out_is d ps ds h len, in_is d ps ds h len, e.out_most d));
@@ -61,7 +61,7 @@ out_of_range (p ∷ ps) (None ∷ ds) n h v far =
     omega (arith, one, two, out_of_range ps ds n (λ e q s. h (record { 0 = suc e.0 }) q s) v far)
 
 -- one trail more
-pub ready_after : (ends : List (DiskId × DiskId)) (old now : List (Option Bool)) (from from' : List ℕ) (s : DiskId) → IsReady ends old from → EndsTrail ends old now s → AllPassed ends now from' → length from' ≡ length from → (total (waits s) ends old % 2 ≡ 1) ⊎ ((v : DiskId) → total (waits v) ends old % 2 ≡ 0) → IsReady ends now from'
+pub ready_after : (ends : List (DiskId × DiskId)) (old now : List (Option Bool)) (from from' : List ℕ) (s : DiskId) → IsBalancedSoFar ends old from → EndsTrail ends old now s → AllPassed ends now from' → length from' ≡ length from → (total (waits s) ends old % 2 ≡ 1) ⊎ ((v : DiskId) → total (waits v) ends old % 2 ≡ 0) → IsBalancedSoFar ends now from'
 ready_after ends old now from from' s r e passed len which =
     record {
       len = e.trail.len ∙ r.len;
@@ -110,10 +110,10 @@ zero_at zero i = refl
 zero_at (suc n) zero = refl
 zero_at (suc n) (suc i) = zero_at n i
 
-pub ready_first : (ends : List (DiskId × DiskId)) (n : ℕ) (first : List ℕ) → n ≡ length ends → AllInRange ends (length first) → AllPassed ends (replicate n None) first → IsReady ends (replicate n None) first
+pub ready_first : (ends : List (DiskId × DiskId)) (n : ℕ) (first : List ℕ) → n ≡ length ends → AllInRange ends (length first) → AllPassed ends (replicate n None) first → IsBalancedSoFar ends (replicate n None) first
 ready_first ends n first len range passed = record { len = length-replicate n None ∙ len; in_range = range; passed = passed; even = IsBalanced-none ends (replicate n None) (λ v. none_directed v ends n) }
 
-pub ready_start : (ends : List (DiskId × DiskId)) (disks n : ℕ) → n ≡ length ends → AllInRange ends disks → IsReady ends (replicate n None) (replicate disks 0)
+pub ready_start : (ends : List (DiskId × DiskId)) (disks n : ℕ) → n ≡ length ends → AllInRange ends disks → IsBalancedSoFar ends (replicate n None) (replicate disks 0)
 ready_start ends disks n len range =
     record {
       len = length-replicate n None ∙ len;
@@ -122,5 +122,5 @@ ready_start ends disks n len range =
       even = IsBalanced-none ends (replicate n None) (λ v. none_directed v ends n);
     }
 
-pub settled_balances : (ends : List (DiskId × DiskId)) (ds : List (Option Bool)) (out : List Bool) → IsBalanced ends ds → ((w : DiskId) → total (waits w) ends ds ≡ 0) → length ds ≡ length ends → out ≡ map points_forward ds → base.Balances (map pair_trip ends) out
-settled_balances ends ds out e h len is_out = subst (λ (q : List Bool). base.Balances (map pair_trip ends) q) (sym is_out) (Balances-settled ends ds e h len)
+pub settled_balances : (ends : List (DiskId × DiskId)) (ds : List (Option Bool)) (out : List Bool) → IsBalanced ends ds → ((w : DiskId) → total (waits w) ends ds ≡ 0) → length ds ≡ length ends → out ≡ map points_forward ds → base.Balances (map pair_transfer ends) out
+settled_balances ends ds out e h len is_out = subst (λ (q : List Bool). base.Balances (map pair_transfer ends) q) (sym is_out) (Balances-settled ends ds e h len)

@@ -2,7 +2,7 @@
 ghost use Rattle.std.specs.Prelude.{◌≡◌, ◌≢◌, length, vec_len, map, All, IfOk};
 ghost use Rattle.mig_base.specs.Directions.{Balances};
 ghost use Rattle.mig_euler.specs.Balance.{AllInRange};
-ghost use Rattle.mig_euler.specs.Pairs.{ArePairs, pair_trip};
+ghost use Rattle.mig_euler.specs.Pairs.{ArePairs, pair_transfer};
 ghost use Rattle.mig_euler.specs.Trails.{points_forward};
 
 use crate::links::link_ends;
@@ -27,7 +27,7 @@ fn orient_ends(
     requires in_range { AllInRange ends.now disks }
     requires no_loop { All (λ p. p.0 ≢ p.1) ends.now }
     ensures one_each { IfOk result (λ d. vec_len d ≡ length ends.now) }
-    ensures balance { IfOk result (λ d. Balances (map pair_trip ends.now) d.items) }
+    ensures balance { IfOk result (λ d. Balances (map pair_transfer ends.now) d.items) }
 {
     let mut directions = vec![in alloc; None; ends.len()]?;
     let mut from = vec![in alloc; ends.len(); disks as usize]?;
@@ -39,7 +39,7 @@ fn orient_ends(
 
 /// The ends of the edges.
 fn ends_of(alloc: Global, graph: &Graph) -> Result<Vec<(DiskId, DiskId)>, AllocError>
-    ensures { IfOk result (λ v. ArePairs graph.now.trips v.items) }
+    ensures { IfOk result (λ v. ArePairs graph.now.transfers v.items) }
 {
     let mut ends = Vec::new(alloc);
     for edge in 0..graph.edges() {
@@ -55,8 +55,8 @@ fn ends_of(alloc: Global, graph: &Graph) -> Result<Vec<(DiskId, DiskId)>, AllocE
 /// disk, as in Euler's argument; each edge is passed a few times, so the time is linear in the edges and disks. Errs
 /// for want of memory only.
 pub fn orient(alloc: Global, graph: &Graph) -> Result<Vec<bool>, AllocError>
-    ensures one_each { IfOk result (λ d. vec_len d ≡ length graph.now.trips) }
-    ensures balance { IfOk result (λ d. Balances graph.now.trips d.items) }
+    ensures one_each { IfOk result (λ d. vec_len d ≡ length graph.now.transfers) }
+    ensures balance { IfOk result (λ d. Balances graph.now.transfers d.items) }
 {
     graph.keeps_rules();
     let ends = ends_of(alloc, graph)?;

@@ -3,7 +3,7 @@ ghost use Rattle.std.specs.Prelude.{◌≡◌, ◌≢◌, ◌⊎◌, ◌<◌, �
 ghost use Rattle.mig_base.specs.declared.ids.DiskId.{DiskId};
 ghost use Rattle.mig_euler.specs.Balance.{pair_tail, pair_head, PassedBelow, AllPassed, AllInRange};
 ghost use Rattle.mig_euler.specs.Links.{AreLinks};
-ghost use Rattle.mig_euler.specs.Ready.{IsReady};
+ghost use Rattle.mig_euler.specs.Ready.{IsBalancedSoFar};
 ghost use Rattle.mig_euler.specs.Trails.{EndsTrail, total, waits};
 
 use crate::links::{next_place, waiting_edge, waits_at};
@@ -88,10 +88,10 @@ pub fn follow_odd(
     from: &mut [usize],
 )
     requires links { AreLinks ends.now links.now }
-    requires ready { IsReady ends.now directions.old from.old }
+    requires ready { IsBalancedSoFar ends.now directions.old from.old }
     requires no_loop { All (λ p. p.0 ≢ p.1) ends.now }
     requires few { length from.old < 2 ^ 32 }
-    ensures ready { IsReady ends.now directions.new from.new }
+    ensures ready { IsBalancedSoFar ends.now directions.new from.new }
     ensures even { (v : DiskId) → total (waits v) ends.now directions.new % 2 ≡ 0 }
 {
     for disk in 0..from.len() as u32 {
@@ -109,11 +109,11 @@ pub fn follow_rest(
     from: &mut [usize],
 )
     requires links { AreLinks ends.now links.now }
-    requires ready { IsReady ends.now directions.old from.old }
+    requires ready { IsBalancedSoFar ends.now directions.old from.old }
     requires no_loop { All (λ p. p.0 ≢ p.1) ends.now }
     requires few { length from.old < 2 ^ 32 }
     requires even { (v : DiskId) → total (waits v) ends.now directions.old % 2 ≡ 0 }
-    ensures ready { IsReady ends.now directions.new from.new }
+    ensures ready { IsBalancedSoFar ends.now directions.new from.new }
     ensures none { (v : DiskId) → total (waits v) ends.now directions.new ≡ 0 }
 {
     for disk in 0..from.len() as u32 {

@@ -13,7 +13,7 @@ pub use Rattle.mig_base.specs.contracts.cells.CellPartialEq.TheImpl.{eq-value}
 pub use Rattle.mig_base.specs.declared.cells.Cell.{Cell}
 pub use Rattle.mig_base.specs.declared.cells.Cell.TheVariants.{Gate, Head, Mark, Slot}
 pub use Rattle.mig_base.specs.declared.cells.Event.{Event}
-pub use Rattle.mig_calls.specs.Files.{EndsAt, Files, FilesChange, FilesLook, FilesState, FilesWrite, HasBytes, HasCallCause, IsCallCause, IsFilesState, IsLeftFilesBut}
+pub use Rattle.mig_calls.specs.Files.{EndsAt, FilesChange, FilesLook, FilesState, FilesWrite, HasBytes, HasCallCause, IsCallCause, IsFilesState, IsLeftFilesBut, PlaceBytes}
 pub use Rattle.mig_calls.specs.Files.{IsSettledAt, IsWithin, KeepsFlags, KeepsFlushed, NoByte, SameFilesBut, TouchesFile, len_of}
 pub use Rattle.mig_calls.specs.Places.{file_of, mark_at, offset_of}
 pub use Rattle.mig_calls.specs.Refusals.{HoldsItem, WhereTold}
@@ -22,16 +22,16 @@ pub use Rattle.mig_calls.specs.declared.calls.CallError.TheVariants.{Failed, Ful
 pub use Rattle.mig_calls.specs.declared.calls.Extent.{Extent}
 pub use Rattle.mig_calls.specs.declared.places.Place.{Place}
 pub use Rattle.mig_calls.specs.declared.places.Place.TheVariants.{Disk, Journal}
-pub use Rattle.mig_files.specs.Counting.{AreCounted, IsNotedAt, count_of, is_item, one_if, times}
+pub use Rattle.mig_files.specs.Counting.{AreCounted, IsNotedAt, is_item, item_count, one_if, times}
 pub use Rattle.mig_files.specs.Derived.{cell_bytes, cell_state, cells-shape, cells_of, image_of}
 pub use Rattle.mig_files.specs.Grounds.{IsFaultFor}
-pub use Rattle.mig_files.specs.Seeing.{AreHeld, IsFree, IsFreeFor, IsHeldElsewhere, KeepsSeen, LosesNone, LosesNoneBut, seen_at, seen_in}
+pub use Rattle.mig_files.specs.Seeing.{AreHeld, IsFreeFor, IsHeldElsewhere, KeepsSeen, LosesNone, LosesNoneBut, MayBeEmptied, seen_at, seen_in}
 pub use Rattle.mig_files.specs.Tasks.{KeepsClaim, Leaves, Unflushes, WasInterrupted}
 pub use Rattle.mig_files.specs.Tracking.{HasReadSome, HasSyncedSome, HasTried, HasWrittenSome, IsNoted, IsQuiet, IsStep, IsTracked, IsWriteStep}
 pub use Rattle.mig_files.specs.Tracking.{SameNotes, StaysAlive, StaysSame, WritesAlive}
 pub use Rattle.mig_files.specs.declared.tracked.Notes.{Notes}
-pub use Rattle.mig_files.specs.declared.tries.Task.{Task}
-pub use Rattle.mig_files.specs.declared.tries.Task.TheVariants.{Sync}
+pub use Rattle.mig_files.specs.declared.tries.RetriedCall.{RetriedCall}
+pub use Rattle.mig_files.specs.declared.tries.RetriedCall.TheVariants.{Sync}
 pub use Rattle.mig_store.specs.Grounds.{IsElsewhere}
 pub use Rattle.std.proofs.Common.{Bool, Err, IfNone, IfSome, IsFalse, IsSome, IsTrue, List, MatchBool, None, Ok, OnErr, OnOk, Option, Result, Some, [], ap, arith, cond, false, if◌then◌else◌, inl}
 pub use Rattle.std.proofs.Common.{inr, length, nat_eq, refl, replicate, rules, slice_index, slice_range, subst, suc, sym, take, true, zero, ℕ, ◌*◌, ◌++◌, ◌+◌, ◌-◌, ◌<◌, ◌↔◌, ◌∙◌, ◌∷◌, ◌≡◌}

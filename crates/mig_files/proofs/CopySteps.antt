@@ -5,7 +5,7 @@ use Rattle.mig_base.specs.Slots.{HasHeader}
 use Rattle.mig_files.specs.Seeing.{HoldsCopy}
 use Rattle.mig_files.specs.Sights.{slot_len}
 use Rattle.mig_files.proofs.Headers.{whole_read}
-use Rattle.mig_store.specs.Grounds.{BothHold, Differ, IsRestOf}
+use Rattle.mig_store.specs.Grounds.{BothHold, IsRestOf, SlotsDiffer}
 
 -- where both cells are told
 abbrev Where : (List ℕ → List ℕ → Type 0) → Option (List ℕ) → Option (List ℕ) → Type 0
@@ -47,5 +47,5 @@ module _ (s : FilesState) (from to : Cell) (slots : IsTrue (is_slot from) × IsT
     pub other_copy : (item : List ℕ) → HasHeader item left → ¬ HasHeader item copied → HoldsCopy (image_of s) from to
     other_copy item has not = on_slots (λ l c. (own : List ℕ) → BothHold l c own → IsRestOf l c) (λ own both. absurd (not (both.to ∙ sym both.from ∙ has)))
 
-    pub differ_by : (item : List ℕ) → BothHold left copied item → ¬ IsRestOf left copied → Differ (image_of s) from to
+    pub differ_by : (item : List ℕ) → BothHold left copied item → ¬ IsRestOf left copied → SlotsDiffer (image_of s) from to
     differ_by item both not = on_slots (λ l c. (i : List ℕ) × BothHold l c i × ¬ IsRestOf l c) (item, both, not)

@@ -1,5 +1,5 @@
 -- A change of files is a change of the cells that are read off them.
-use Rattle.mig_files.proofs.Common.{Bool, Cell, Changes, Ends, EndsAt, Err, Event, Files, FilesChange, FilesLook, FilesState, FilesWrite, HasBytes, IfSome, Image}
+use Rattle.mig_files.proofs.Common.{Bool, Cell, Changes, Ends, EndsAt, Err, Event, FilesChange, FilesLook, FilesState, FilesWrite, HasBytes, IfSome, Image, PlaceBytes}
 use Rattle.mig_files.proofs.Common.{IsFilesState, IsLeftBut, IsLeftFilesBut, IsSettled, IsSettledAt, IsTrue, IsWithin, List, NoByte, NoCell, None, Ok, OnOk, Place, Result}
 use Rattle.mig_files.proofs.Common.{SameBut, SameFilesBut, Some, [], ap, arith, cell_len, cell_state, cells-shape, cells_of, image_of, file_of, if◌then◌else◌, inl, inr, length, offset_of}
 use Rattle.mig_files.proofs.Common.{refl, rules, subst, suc, sym, zero, ℕ, ◌+◌, ◌<◌, ◌∙◌, ◌∷◌, ◌≡◌}
@@ -29,7 +29,7 @@ pub spares_cell : (cell : Cell) → Spares (λ c. c ≡ cell) (IsWithin (file_of
 spares_cell cell c out i lt is = apart c cell out i lt is
 
 module _ (R : Cell → Type 0) (P : Place → ℕ → Type 0) (spares : Spares R P) where
-  pub cells_same : (told : Place → Bool) (old new : Files) → SameFilesBut P old new → SameBut R (cells_of told old) (cells_of told new)
+  pub cells_same : (told : Place → Bool) (old new : PlaceBytes) → SameFilesBut P old new → SameBut R (cells_of told old) (cells_of told new)
   cells_same told old new same = record {
     same = λ cell out. ap (λ (bytes : List ℕ). if told (file_of cell) then Some bytes else None)
         (window-same (old (file_of cell)) (new (file_of cell)) (offset_of cell) (cell_len cell) (λ i lt. same (file_of cell) (offset_of cell + i) (spares cell out i lt)));
@@ -38,7 +38,7 @@ module _ (R : Cell → Type 0) (P : Place → ℕ → Type 0) (spares : Spares R
 
 module _ (R S : Cell → Type 0) (P Q : Place → ℕ → Type 0) (spares : Spares R P) (spared : Spares S Q) (added : List Event) (old new : FilesState) (a b : ℕ) (law : IsFilesState old)
     (change : FilesChange P Q old new) where
-  left_before : (image : Image) (files : Files) → IsLeftFilesBut Q old files → image ≡ cells_of new.told files → IsLeftBut S (cell_state old a) image
+  left_before : (image : Image) (files : PlaceBytes) → IsLeftFilesBut Q old files → image ≡ cells_of new.told files → IsLeftBut S (cell_state old a) image
   left_before image files (before, was, same) is =
       let now : image ≡ cells_of old.told files = is ∙ ap (λ (told : Place → Bool). cells_of told files) change.told in
       (cells_of old.told before, (before, was, refl), subst (λ (all : Image). SameBut S (cells_of old.told before) all) (sym now) (cells_same S Q spared old.told before files same))

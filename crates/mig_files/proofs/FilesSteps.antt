@@ -1,11 +1,11 @@
 -- How changes of files go one after another.
-use Rattle.mig_files.proofs.Common.{Bool, Files, FilesChange, FilesLook, FilesState, FilesWrite, HasBytes, IsLeftFilesBut, IsTrue, IsWithin, List, NoByte, Place, SameFilesBut, ap, arith, inl}
+use Rattle.mig_files.proofs.Common.{Bool, FilesChange, FilesLook, FilesState, FilesWrite, HasBytes, IsLeftFilesBut, IsTrue, IsWithin, List, NoByte, Place, PlaceBytes, SameFilesBut, ap, arith, inl}
 use Rattle.mig_files.proofs.Common.{inr, refl, sym, ℕ, ◌+◌, ◌∙◌}
 
-pub same_then : (P : Place → ℕ → Type 0) (a b c : Files) → SameFilesBut P a b → SameFilesBut P b c → SameFilesBut P a c
+pub same_then : (P : Place → ℕ → Type 0) (a b c : PlaceBytes) → SameFilesBut P a b → SameFilesBut P b c → SameFilesBut P a c
 same_then P a b c first then place i not = then place i not ∙ first place i not
 
-pub same_wide : (P Q : Place → ℕ → Type 0) → ((place : Place) (i : ℕ) → P place i → Q place i) → (a b : Files) → SameFilesBut P a b → SameFilesBut Q a b
+pub same_wide : (P Q : Place → ℕ → Type 0) → ((place : Place) (i : ℕ) → P place i → Q place i) → (a b : PlaceBytes) → SameFilesBut P a b → SameFilesBut Q a b
 same_wide P Q wide a b same place i not = same place i (λ p. not (wide place i p))
 
 -- nothing happened
@@ -37,7 +37,7 @@ change_then {P} {Q} {a} {b} {c} first then = record {
   images = λ left. then.images (first.images left);
 }
   where
-    back : (files : Files) → IsLeftFilesBut Q b files → IsLeftFilesBut Q a files
+    back : (files : PlaceBytes) → IsLeftFilesBut Q b files → IsLeftFilesBut Q a files
     back files (middle, left, same) =
         let (before, was, early) = first.crash middle left in
         (before, was, same_then Q before middle files early same)
@@ -59,7 +59,7 @@ change_wide P Q R wide wider a b change = record {
   images = change.images;
 }
   where
-    more : (files : Files) → IsLeftFilesBut Q a files → IsLeftFilesBut R a files
+    more : (files : PlaceBytes) → IsLeftFilesBut Q a files → IsLeftFilesBut R a files
     more files (before, left, same) = (before, left, same_wide Q R wider before files same)
 
 pub look_is_write : {file : Place} {at n : ℕ} {a b : FilesState} → FilesLook a b → FilesWrite file at n a b

@@ -1,5 +1,5 @@
 -- What the first bytes of a slot say.
-use Rattle.mig_files.proofs.Common.{Cell, EndsAt, Err, FilesLook, FilesState, HasBytes, HoldsItem, IfSome, IsCopy, IsElsewhere, IsFree, IsFreeFor, IsName, IsSome, List}
+use Rattle.mig_files.proofs.Common.{Cell, EndsAt, Err, FilesLook, FilesState, HasBytes, HoldsItem, IfSome, IsCopy, IsElsewhere, IsFreeFor, IsName, IsSome, List, MayBeEmptied}
 use Rattle.mig_files.proofs.Common.{None, Ok, OnOk, Option, Result, Some, WhereTold, ap, arith, cell_len, image_of, false≢true, file_of, header_of, length}
 use Rattle.mig_files.proofs.Common.{offset_of, places, replicate, rules, seen_in, slice_index, slice_range, subst, sym, take, take-append_seam, ℕ, ◌++◌, ◌+◌, ◌-◌, ◌<◌, ◌↔◌, ◌∙◌}
 use Rattle.mig_files.proofs.Common.{◌≡◌, ◌≤◌}
@@ -85,11 +85,11 @@ pub held_after : {a b : FilesState} → FilesLook a b → (slot : Cell) (item : 
 held_after look slot item holds = bytes_after look (file_of slot) (offset_of slot) 34 (header_of item) holds
 
 -- what is free was so before it was looked at
-pub free_before : {a b : FilesState} → FilesLook a b → (seen : Sights) (slot : Cell) → IsFree b seen slot → IsFree a seen slot
+pub free_before : {a b : FilesState} → FilesLook a b → (seen : Sights) (slot : Cell) → MayBeEmptied b seen slot → MayBeEmptied a seen slot
 free_before {a} {b} look seen slot free item name told holds = free item name (told_after look (file_of slot) told) (held_after look slot item holds)
 
 -- a slot that is free is free for any item
-pub free_for_any : (s : FilesState) (seen : Sights) (slot : Cell) (item : List ℕ) → IsFree s seen slot → IsFreeFor s seen slot item
+pub free_for_any : (s : FilesState) (seen : Sights) (slot : Cell) (item : List ℕ) → MayBeEmptied s seen slot → IsFreeFor s seen slot item
 free_for_any s seen slot item free other name apart told holds = free other name told holds
 
 -- with an item's header it holds no other
@@ -100,12 +100,12 @@ free_for_own s seen slot item first len is has other name apart told holds =
 
 -- with one that was seen elsewhere it is free
 pub free_by : (s : FilesState) (seen : Sights) (slot : Cell) (item first : List ℕ) → length first ≡ 34 → first ≡ header_of item
-    → WhereTold s slot (HasBytes (s.reads (file_of slot)) (offset_of slot) 34 first) → IsElsewhere (seen_in seen) item slot → IsFree s seen slot
+    → WhereTold s slot (HasBytes (s.reads (file_of slot)) (offset_of slot) 34 first) → IsElsewhere (seen_in seen) item slot → MayBeEmptied s seen slot
 free_by s seen slot item first len is has elsewhere other name told holds =
     let same : other ≡ item = same_item other item name.short (sym (held_is s slot first other len name.short (has told) holds) ∙ is) in
     subst (λ (i : List ℕ). IsElsewhere (seen_in seen) i slot) (sym same) elsewhere
 
 -- with no item's it is
 pub free_none : (s : FilesState) (seen : Sights) (slot : Cell) (first : List ℕ) → length first ≡ 34 → ((item : List ℕ) → IsName item → ¬ (first ≡ header_of item))
-    → WhereTold s slot (HasBytes (s.reads (file_of slot)) (offset_of slot) 34 first) → IsFree s seen slot
+    → WhereTold s slot (HasBytes (s.reads (file_of slot)) (offset_of slot) 34 first) → MayBeEmptied s seen slot
 free_none s seen slot first len none has item name told holds = absurd (none item name (held_is s slot first item len name.short (has told) holds))

@@ -1,5 +1,5 @@
 -- That items are still where they were seen.
-use Rattle.mig_files.proofs.Common.{AreHeld, Bool, Cell, FilesLook, FilesState, FilesWrite, HasBytes, HoldsItem, IfSome, IsFree, IsFreeFor, IsHeldElsewhere, IsTrue}
+use Rattle.mig_files.proofs.Common.{AreHeld, Bool, Cell, FilesLook, FilesState, FilesWrite, HasBytes, HoldsItem, IfSome, IsFreeFor, IsHeldElsewhere, IsTrue, MayBeEmptied}
 use Rattle.mig_files.proofs.Common.{KeepsSeen, List, LosesNone, LosesNoneBut, None, Some, WhereTold, ap, arith, cell_len, image_of, file_of, header_of, if◌then◌else◌, inl, inr}
 use Rattle.mig_files.proofs.Common.{[], is_slot, length, offset_of, refl, seen_at, slice_index, slice_range, subst, suc, sym, zero, ℕ, ◌+◌, ◌∙◌, ◌≡◌, ◌⊎◌}
 use Rattle.mig_base.proofs.CellTests.{cases_cell}
@@ -66,7 +66,7 @@ pub none_held : {s : FilesState} → AreHeld s []
 none_held = record { slots = λ slot item is. absurd (none_some is); holds = λ slot item is. absurd (none_some is) }
 
 -- what was seen elsewhere is held elsewhere
-pub none_lost : {s : FilesState} {seen : Sights} (slot : Cell) → AreHeld s seen → IsFree s seen slot → LosesNone s slot
+pub none_lost : {s : FilesState} {seen : Sights} (slot : Cell) → AreHeld s seen → MayBeEmptied s seen slot → LosesNone s slot
 none_lost slot held free item name told holds =
     let found = free item name told holds in
     (found.0, held.slots found.0 item found.1, found.2, held.holds found.0 item found.1)

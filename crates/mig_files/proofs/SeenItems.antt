@@ -1,5 +1,5 @@
 -- Where items were seen, and at how many slots.
-use Rattle.mig_files.proofs.Common.{AllByRecursion, AreCounted, Bool, Cell, Gate, Head, IsDistinct, IsElsewhere, IsNotedAt, List, Mark, MatchBool, None, Option, Slot, Some, [], ap, arith, cases_Bool, cond, count_of}
+use Rattle.mig_files.proofs.Common.{AllByRecursion, AreCounted, Bool, Cell, Gate, Head, IsDistinct, IsElsewhere, IsNotedAt, List, Mark, MatchBool, None, Option, Slot, Some, [], ap, arith, cases_Bool, cond, item_count}
 use Rattle.mig_files.proofs.Common.{IsDistinct-head, IsDistinct-tail, eq-value, false, false≢true, inl, inr, insert_entry, is_cell, is_cell-other, is_cell-same, is_cell-true, is_item, keys_of, length, lookup, ltb-false, ltb-true, nat_eq, nat_lt}
 use Rattle.mig_files.proofs.Common.{nat_list_eq_equiv, one_if, pointwise, refl, same_text, seen_at, seen_in, subst, sym, times, true, ℕ, ◌+◌, ◌-◌, ◌<◌, ◌∙◌, ◌∷◌, ◌≡◌, ◌≤◌, ◌⊎◌}
 
@@ -74,26 +74,26 @@ abbrev number : Option ℕ → ℕ
 number None = 0
 number (Some n) = n
 
-counted_up : (counts : List (List ℕ × ℕ)) (item : List ℕ) → count_of counts item ≡ number (lookup (pointwise nat_eq item) counts)
+counted_up : (counts : List (List ℕ × ℕ)) (item : List ℕ) → item_count counts item ≡ number (lookup (pointwise nat_eq item) counts)
 counted_up [] item = refl
 counted_up (e ∷ counts) item = at (pointwise nat_eq item e.0) (counted_up counts item)
   where
-    at : (b : Bool) → count_of counts item ≡ number (lookup (pointwise nat_eq item) counts) → cond b e.1 (count_of counts item) ≡ number (cond b (Some e.1) (lookup (pointwise nat_eq item) counts))
+    at : (b : Bool) → item_count counts item ≡ number (lookup (pointwise nat_eq item) counts) → cond b e.1 (item_count counts item) ≡ number (cond b (Some e.1) (lookup (pointwise nat_eq item) counts))
     at true rest = refl
     at false rest = rest
 
-pub some_count : (counts : List (List ℕ × ℕ)) (item : List ℕ) (n : ℕ) → Some n ≡ lookup (pointwise nat_eq item) counts → n ≡ count_of counts item
+pub some_count : (counts : List (List ℕ × ℕ)) (item : List ℕ) (n : ℕ) → Some n ≡ lookup (pointwise nat_eq item) counts → n ≡ item_count counts item
 some_count counts item n is = ap number is ∙ sym (counted_up counts item)
 
-pub no_count : (counts : List (List ℕ × ℕ)) (item : List ℕ) → None ≡ lookup (pointwise nat_eq item) counts → 0 ≡ count_of counts item
+pub no_count : (counts : List (List ℕ × ℕ)) (item : List ℕ) → None ≡ lookup (pointwise nat_eq item) counts → 0 ≡ item_count counts item
 no_count counts item is = ap number is ∙ sym (counted_up counts item)
 
 pub count_set : (old new : List (List ℕ × ℕ)) (item : List ℕ) (n : ℕ)
     → ((other : List ℕ) → lookup (pointwise nat_eq other) new ≡ cond (pointwise nat_eq item other) (Some n) (lookup (pointwise nat_eq other) old))
-    → (other : List ℕ) → count_of new other ≡ cond (pointwise nat_eq item other) n (count_of old other)
+    → (other : List ℕ) → item_count new other ≡ cond (pointwise nat_eq item other) n (item_count old other)
 count_set old new item n is other = counted_up new other ∙ ap number (is other) ∙ at (pointwise nat_eq item other)
   where
-    at : (b : Bool) → number (cond b (Some n) (lookup (pointwise nat_eq other) old)) ≡ cond b n (count_of old other)
+    at : (b : Bool) → number (cond b (Some n) (lookup (pointwise nat_eq other) old)) ≡ cond b n (item_count old other)
     at true = refl
     at false = sym (counted_up old other)
 
@@ -123,53 +123,53 @@ item_same : (item : List ℕ) → pointwise nat_eq item item ≡ true
 item_same item = nat_list_eq_equiv.refl item
 
 -- where an item is forgotten there is a number to lower
-pub some_times : {seen : Sights} {counts : List (List ℕ × ℕ)} (slot : Cell) (item : List ℕ) → AreCounted seen counts → Some item ≡ seen_at seen slot → 1 ≤ count_of counts item
+pub some_times : {seen : Sights} {counts : List (List ℕ × ℕ)} (slot : Cell) (item : List ℕ) → AreCounted seen counts → Some item ≡ seen_at seen slot → 1 ≤ item_count counts item
 some_times {seen} {counts} slot item law is =
     let here : one_if (is_item item (seen_at seen slot)) ≡ 1 = ap (λ (some : Option (List ℕ)). one_if (is_item item some)) (sym is) ∙ ap one_if (item_same item) in
     omega (arith, here, here_le seen slot item, law.counted item)
 
 -- one more is no more than there are slots
 pub counted_room : {old new : Sights} {counts : List (List ℕ × ℕ)} (slot : Cell) (item : List ℕ) → AreCounted old counts → IsNotedAt slot (Some item) old new → seen_at old slot ≡ None
-    → count_of counts item + 1 ≤ length new
+    → item_count counts item + 1 ≤ length new
 counted_room {old} {new} {counts} slot item law noted was =
     let none : one_if (is_item item (seen_at old slot)) ≡ 0 = ap (λ (s : Option (List ℕ)). one_if (is_item item s)) was in
     omega (arith, law.counted item, noted.counts item, none, ap one_if (item_same item), times_le new item)
 
 module _ {old new : Sights} {counts more : List (List ℕ × ℕ)} {slot : Cell} (law : AreCounted old counts) where
   changed : {some : Option (List ℕ)} → IsNotedAt slot some old new
-      → ((other : List ℕ) → count_of more other + one_if (is_item other (seen_at old slot)) ≡ count_of counts other + one_if (is_item other some)) → AreCounted new more
+      → ((other : List ℕ) → item_count more other + one_if (is_item other (seen_at old slot)) ≡ item_count counts other + one_if (is_item other some)) → AreCounted new more
   changed noted is = record { apart = noted.apart; counted = λ other. omega (arith, law.counted other, noted.counts other, is other) }
 
   pub counted_less : {item : List ℕ} → IsNotedAt slot None old new → Some item ≡ seen_at old slot
-      → ((other : List ℕ) → count_of more other ≡ cond (pointwise nat_eq item other) (count_of counts item - 1) (count_of counts other)) → AreCounted new more
+      → ((other : List ℕ) → item_count more other ≡ cond (pointwise nat_eq item other) (item_count counts item - 1) (item_count counts other)) → AreCounted new more
   counted_less {item} noted was less = changed noted (λ other. by other (pointwise nat_eq item other) refl)
     where
-      some : 1 ≤ count_of counts item
+      some : 1 ≤ item_count counts item
       some = some_times slot item law was
 
-      by : (other : List ℕ) (b : Bool) → b ≡ pointwise nat_eq item other → count_of more other + one_if (is_item other (seen_at old slot)) ≡ count_of counts other + 0
+      by : (other : List ℕ) (b : Bool) → b ≡ pointwise nat_eq item other → item_count more other + one_if (is_item other (seen_at old slot)) ≡ item_count counts other + 0
       by other true is =
           let same : item ≡ other = same_text item other is in
-          let now : count_of more other ≡ count_of counts item - 1 = less other ∙ ap (λ (b : Bool). cond b (count_of counts item - 1) (count_of counts other)) (sym is) in
+          let now : item_count more other ≡ item_count counts item - 1 = less other ∙ ap (λ (b : Bool). cond b (item_count counts item - 1) (item_count counts other)) (sym is) in
           let here : one_if (is_item other (seen_at old slot)) ≡ 1 = ap (λ (s : Option (List ℕ)). one_if (is_item other s)) (sym was) ∙ ap one_if (sym is) in
-          omega (arith, now, here, some, ap (count_of counts) same)
+          omega (arith, now, here, some, ap (item_count counts) same)
       by other false is =
-          let now : count_of more other ≡ count_of counts other = less other ∙ ap (λ (b : Bool). cond b (count_of counts item - 1) (count_of counts other)) (sym is) in
+          let now : item_count more other ≡ item_count counts other = less other ∙ ap (λ (b : Bool). cond b (item_count counts item - 1) (item_count counts other)) (sym is) in
           let here : one_if (is_item other (seen_at old slot)) ≡ 0 = ap (λ (s : Option (List ℕ)). one_if (is_item other s)) (sym was) ∙ ap one_if (sym is) in
           omega (arith, now, here)
 
   pub counted_more : {item : List ℕ} → IsNotedAt slot (Some item) old new → seen_at old slot ≡ None
-      → ((other : List ℕ) → count_of more other ≡ cond (pointwise nat_eq item other) (count_of counts item + 1) (count_of counts other)) → AreCounted new more
+      → ((other : List ℕ) → item_count more other ≡ cond (pointwise nat_eq item other) (item_count counts item + 1) (item_count counts other)) → AreCounted new more
   counted_more {item} noted was less = changed noted (λ other. by other (pointwise nat_eq item other) refl)
     where
-      by : (other : List ℕ) (b : Bool) → b ≡ pointwise nat_eq item other → count_of more other + one_if (is_item other (seen_at old slot)) ≡ count_of counts other + one_if (is_item other (Some item))
+      by : (other : List ℕ) (b : Bool) → b ≡ pointwise nat_eq item other → item_count more other + one_if (is_item other (seen_at old slot)) ≡ item_count counts other + one_if (is_item other (Some item))
       by other true is =
           let same : item ≡ other = same_text item other is in
-          let now : count_of more other ≡ count_of counts item + 1 = less other ∙ ap (λ (b : Bool). cond b (count_of counts item + 1) (count_of counts other)) (sym is) in
+          let now : item_count more other ≡ item_count counts item + 1 = less other ∙ ap (λ (b : Bool). cond b (item_count counts item + 1) (item_count counts other)) (sym is) in
           let here : one_if (is_item other (seen_at old slot)) ≡ 0 = ap (λ (s : Option (List ℕ)). one_if (is_item other s)) was in
-          omega (arith, now, here, ap one_if is, ap (count_of counts) same)
+          omega (arith, now, here, ap one_if is, ap (item_count counts) same)
       by other false is =
-          let now : count_of more other ≡ count_of counts other = less other ∙ ap (λ (b : Bool). cond b (count_of counts item + 1) (count_of counts other)) (sym is) in
+          let now : item_count more other ≡ item_count counts other = less other ∙ ap (λ (b : Bool). cond b (item_count counts item + 1) (item_count counts other)) (sym is) in
           let here : one_if (is_item other (seen_at old slot)) ≡ 0 = ap (λ (s : Option (List ℕ)). one_if (is_item other s)) was in
           omega (arith, now, here, ap one_if is)
 
@@ -231,7 +231,7 @@ tells [] item slot apart = inr (λ other. none_some other.1, omega arith)
 tells (e ∷ seen) item slot apart =
     one_more e seen item slot (IsDistinct-head eq e.0 (keys_of seen) apart) (tells seen item slot (IsDistinct-tail eq e.0 (keys_of seen) apart))
 
-pub is_elsewhere : {seen : Sights} {counts : List (List ℕ × ℕ)} (item : List ℕ) (slot : Cell) (here count : ℕ) → AreCounted seen counts → here ≡ here_in seen item slot → count ≡ count_of counts item
+pub is_elsewhere : {seen : Sights} {counts : List (List ℕ × ℕ)} (item : List ℕ) (slot : Cell) (here count : ℕ) → AreCounted seen counts → here ≡ here_in seen item slot → count ≡ item_count counts item
     → MatchBool (nat_lt here count) (IsElsewhere (seen_in seen) item slot) (¬ (IsElsewhere (seen_in seen) item slot))
 is_elsewhere {seen} {counts} item slot here count law is_here is_count = by (nat_lt here count) refl
   where

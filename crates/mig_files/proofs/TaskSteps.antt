@@ -1,8 +1,8 @@
 -- How what calls leave goes one after another.
-use Rattle.mig_files.proofs.Common.{Bool, FilesState, IsQuiet, Leaves, Place, Task, ap, arith, ◌∙◌}
+use Rattle.mig_files.proofs.Common.{Bool, FilesState, IsQuiet, Leaves, Place, RetriedCall, ap, arith, ◌∙◌}
 use Rattle.mig_files.proofs.FilesSteps.{change_then}
 
-pub leaves_then : {task : Task} {a b c : FilesState} → Leaves task a b → Leaves task b c → Leaves task a c
+pub leaves_then : {task : RetriedCall} {a b c : FilesState} → Leaves task a b → Leaves task b c → Leaves task a c
 leaves_then first then = record {
   change = change_then first.change then.change;
   named = λ keeps. then.named keeps ∙ first.named keeps;
@@ -12,7 +12,7 @@ leaves_then first then = record {
 }
 
 -- a call that only counts leaves all
-pub quiet_leaves : {task : Task} {a b : FilesState} → IsQuiet a b → Leaves task a b
+pub quiet_leaves : {task : RetriedCall} {a b : FilesState} → IsQuiet a b → Leaves task a b
 quiet_leaves {task} {a} {b} quiet = record {
   change = quiet.change;
   named = λ keeps. quiet.flags.named;

@@ -1,7 +1,7 @@
 -- How what is noted of files stays true.
 use Rattle.mig_files.proofs.Common.{Bool, CallError, Cell, Contains, Disk, Err, Failed, FilesState, Full, Gate, HasCallCause, Head, Interrupted}
 use Rattle.mig_files.proofs.Common.{IsCallCause, IsFalse, IsFilesState, IsNoted, IsQuiet, IsSettledAt, IsStep, IsTracked, IsTrue, IsWriteStep, Journal, KeepsClaim, KeepsFlags, KeepsFlushed, Leaves}
-use Rattle.mig_files.proofs.Common.{List, Mark, Notes, Place, Rose, SameNotes, Slot, StaysAlive, StaysSame, Sync, Task, TouchesFile, Unflushes, WritesAlive, ap}
+use Rattle.mig_files.proofs.Common.{List, Mark, Notes, Place, RetriedCall, Rose, SameNotes, Slot, StaysAlive, StaysSame, Sync, TouchesFile, Unflushes, WritesAlive, ap}
 use Rattle.mig_files.proofs.Common.{arith, cases_Bool, cell_len, false, false≢true, file_of, inl, inr, offset_of, refl, subst, sym, true, ℕ, ◌∙◌, ◌≡◌, ◌≤◌}
 use Rattle.mig_files.proofs.Derivation.{write_at_cell}
 use Rattle.mig_files.proofs.FilesSteps.{look_then, look_is_write, no_change, change_then}
@@ -89,7 +89,7 @@ place_synced place {t} {u} {a} {b} is alive same leaves keeps done disks journal
 }
 
 -- a call on names was made, or the claim
-pub task_made : {task : Task} {t u : Notes} {a b : FilesState} → IsTracked t a → IsFalse t.lost → u.lost ≡ t.lost → u.dirty ≡ t.dirty → Leaves task a b
+pub task_made : {task : RetriedCall} {t u : Notes} {a b : FilesState} → IsTracked t a → IsFalse t.lost → u.lost ≡ t.lost → u.dirty ≡ t.dirty → Leaves task a b
     → ((file : Place) → ¬ Unflushes task file) → (IsTrue u.claimed → IsTrue b.claimed) → (IsFalse u.made → IsTrue b.named)
     → (IsFalse u.unsynced → IsTrue (b.flushed Journal)) → IsTracked u b
 task_made {task} {t} {u} {a} {b} is alive lost dirty leaves none claimed named journal = record {
@@ -103,7 +103,7 @@ task_made {task} {t} {u} {a} {b} is alive lost dirty leaves none claimed named j
 }
 
 -- a sync failed, and is noted
-pub task_lost : {task : Task} {t u : Notes} {a b : FilesState} → IsTracked t a → IsTrue u.lost → Leaves task a b → Rose a.faults b.faults
+pub task_lost : {task : RetriedCall} {t u : Notes} {a b : FilesState} → IsTracked t a → IsTrue u.lost → Leaves task a b → Rose a.faults b.faults
     → (IsFalse u.made → IsTrue b.named)
     → ((p : List ℕ) → ¬ Contains u.dirty p → ¬ Unflushes task (Disk p) × ¬ Contains t.dirty p) → (IsFalse u.unsynced → ¬ Unflushes task Journal × IsFalse t.unsynced)
     → IsTracked u b

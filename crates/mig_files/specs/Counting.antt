@@ -23,14 +23,14 @@ times [] item = 0
 times (e ∷ seen) item = one_if (is_item item e.1) + times seen item
 
 -- the number that a table has for an item
-abbrev pub count_of : List (List ℕ × ℕ) → List ℕ → ℕ
-count_of [] item = 0
-count_of (e ∷ counts) item = if pointwise nat_eq item e.0 then e.1 else count_of counts item
+abbrev pub item_count : List (List ℕ × ℕ) → List ℕ → ℕ
+item_count [] item = 0
+item_count (e ∷ counts) item = if pointwise nat_eq item e.0 then e.1 else item_count counts item
 
 -- each slot is there once, and the numbers are right
 pub record AreCounted (seen : List (Cell × Option (List ℕ))) (counts : List (List ℕ × ℕ)) : Type 0 where
   pub apart : IsDistinct eq-value.it (keys_of seen)
-  pub counted : (item : List ℕ) → count_of counts item ≡ times seen item
+  pub counted : (item : List ℕ) → item_count counts item ≡ times seen item
 
 -- this is now what was seen at the slot
 pub record IsNotedAt (slot : Cell) (item : Option (List ℕ)) (old new : List (Cell × Option (List ℕ))) : Type 0 where

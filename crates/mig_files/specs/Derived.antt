@@ -8,7 +8,7 @@ use Rattle.mig_base.specs.Images.{Image}
 use Rattle.mig_base.specs.Stores.{State, IsState}
 use Rattle.mig_calls.specs.declared.places.Place.{Place}
 use Rattle.mig_calls.specs.Places.{file_of, offset_of}
-use Rattle.mig_calls.specs.Files.{Files, FilesState, IsFilesState}
+use Rattle.mig_calls.specs.Files.{FilesState, IsFilesState, PlaceBytes}
 
 -- n bytes of a file, from an offset on
 unfoldable pub window : (ℕ → ℕ) → ℕ → ℕ → List ℕ
@@ -16,11 +16,11 @@ window file at zero = []
 window file at (suc n) = file at ∷ window file (suc at) n
 
 -- the bytes of a cell
-abbrev pub cell_bytes : Files → Cell → List ℕ
+abbrev pub cell_bytes : PlaceBytes → Cell → List ℕ
 cell_bytes files cell = window (files (file_of cell)) (offset_of cell) (cell_len cell)
 
 -- those of each cell whose file is told
-abbrev pub cells_of : (Place → Bool) → Files → Image
+abbrev pub cells_of : (Place → Bool) → PlaceBytes → Image
 cells_of told files cell = if told (file_of cell) then Some (cell_bytes files cell) else None
 
 -- what these files show
@@ -31,9 +31,9 @@ image_of s = cells_of s.told s.reads
 abbrev pub cell_state : FilesState → ℕ → State
 cell_state s faults = record {
   reads = image_of s;
-  may_leave = λ image. (files : Files) × s.may_leave files × (image ≡ cells_of s.told files);
+  may_leave = λ image. (files : PlaceBytes) × s.may_leave files × (image ≡ cells_of s.told files);
   moment = s.moment;
-  left_since = λ t image. (files : Files) × s.left_since t files × (image ≡ cells_of s.told files);
+  left_since = λ t image. (files : PlaceBytes) × s.left_since t files × (image ≡ cells_of s.told files);
   events = None;
   faults = faults;
 }
@@ -41,8 +41,8 @@ cell_state s faults = record {
 -- the store tells what these files tell, and no events
 pub record ShowsFiles (files : FilesState) (store : State) : Type 0 where
   pub reads : store.reads ≡ image_of files
-  pub left : (image : Image) → store.may_leave image → (some : Files) × files.may_leave some × (image ≡ cells_of files.told some)
-  pub leaves : (some : Files) → files.may_leave some → store.may_leave (cells_of files.told some)
+  pub left : (image : Image) → store.may_leave image → (some : PlaceBytes) × files.may_leave some × (image ≡ cells_of files.told some)
+  pub leaves : (some : PlaceBytes) → files.may_leave some → store.may_leave (cells_of files.told some)
   pub events : store.events ≡ None
   pub faults : store.faults ≡ files.faults
 
@@ -62,7 +62,7 @@ window-len file at zero = refl
 window-len file at (suc n) = ap suc (window-len file (suc at) n)
 
 -- which cells are told, and how many bytes each has, is the same for all that the files may hold
-pub cells-shape : (told : Place → Bool) (a b : Files) (cell : Cell) → option_map length (cells_of told a cell) ≡ option_map length (cells_of told b cell)
+pub cells-shape : (told : Place → Bool) (a b : PlaceBytes) (cell : Cell) → option_map length (cells_of told a cell) ≡ option_map length (cells_of told b cell)
 cells-shape told a b cell = at (told (file_of cell))
   where
     at : (t : Bool) → option_map length (if t then Some (cell_bytes a cell) else None) ≡ option_map length (if t then Some (cell_bytes b cell) else None)

@@ -23,8 +23,9 @@ abbrev pub IsFreeFor : FilesState → List (Cell × Option (List ℕ)) → Cell 
 IsFreeFor s seen slot item = (other : List ℕ) → IsName other → ¬ (other ≡ item) → IsTrue (s.told (file_of slot)) → HoldsItem s slot other → IsElsewhere (seen_in seen) other slot
 
 -- it holds none that wasn't seen elsewhere
-abbrev pub IsFree : FilesState → List (Cell × Option (List ℕ)) → Cell → Type 0
-IsFree s seen slot = (item : List ℕ) → IsName item → IsTrue (s.told (file_of slot)) → HoldsItem s slot item → IsElsewhere (seen_in seen) item slot
+abbrev pub MayBeEmptied : FilesState → List (Cell × Option (List ℕ)) → Cell → Type 0
+MayBeEmptied s seen slot = (item : List ℕ) → IsName item → IsTrue (s.told (file_of slot)) → HoldsItem s slot item
+    → IsElsewhere (seen_in seen) item slot
 
 -- each item is still where it was seen, where its file is told
 pub record AreHeld (s : FilesState) (seen : List (Cell × Option (List ℕ))) : Type 0 where

@@ -6,8 +6,8 @@ use Rattle.mig_calls.specs.Files.{FilesState}
 use Rattle.mig_files.specs.declared.store.FileStore.{FileStore}
 
 -- what its files tell
-abbrev pub files_of : {C : Type 0} {k : Ghosts C} → FileStore C k → FilesState
-files_of {C} {k} s = k.state s.calls
+abbrev pub calls_state : {C : Type 0} {k : Ghosts C} → FileStore C k → FilesState
+calls_state {C} {k} s = k.state s.calls
 
 -- a sync has failed, so each call fails from now on
 abbrev pub has_failed : {C : Type 0} {k : Ghosts C} → FileStore C k → Bool

@@ -11,7 +11,7 @@ ghost use Rattle.mig_files.specs.Derived.{image_of};
 ghost use Rattle.mig_files.specs.Grounds.{IsFaultFor};
 ghost use Rattle.mig_files.specs.Seeing.{HoldsCopy};
 ghost use Rattle.mig_files.specs.Tracking.{IsTracked, IsStep, StaysAlive};
-ghost use Rattle.mig_store.specs.Grounds.{AreZeros, BothHold, Differ, IsRestOf};
+ghost use Rattle.mig_store.specs.Grounds.{AreZeros, BothHold, IsRestOf, SlotsDiffer};
 
 use crate::cells::read_part;
 use crate::slot_header::{is_header, item_of};
@@ -78,7 +78,7 @@ fn check_rest<C: Calls>(
     requires beside { WhereTold (C.Calls.state calls.old) to.now (HasBytes ((C.Calls.state calls.old).reads (file_of to.now)) (offset_of to.now) 4096 copied.now) }
     ensures same { OnOk result (HoldsCopy (image_of (C.Calls.state calls.old)) from.now to.now) }
     ensures step { IsStep tracked.now.notes (C.Calls.state calls.old) (C.Calls.state calls.new) }
-    ensures cause { OnErr result (IsFaultFor (Differ (image_of (C.Calls.state calls.old)) from.now to.now) (C.Calls.state calls.old) (C.Calls.state calls.new)) }
+    ensures cause { OnErr result (IsFaultFor (SlotsDiffer (image_of (C.Calls.state calls.old)) from.now to.now) (C.Calls.state calls.old) (C.Calls.state calls.new)) }
 {
     if is_rest(left, copied) {
         return Ok(());
@@ -106,7 +106,7 @@ fn compare<C: Calls>(
     requires read { WhereTold (C.Calls.state calls.old) from.now (HasBytes ((C.Calls.state calls.old).reads (file_of from.now)) (offset_of from.now) 4096 left.now) }
     ensures same { OnOk result (HoldsCopy (image_of (C.Calls.state calls.old)) from.now to.now) }
     ensures step { IsStep tracked.new.notes (C.Calls.state calls.old) (C.Calls.state calls.new) }
-    ensures cause { OnErr result (IsFaultFor (Differ (image_of (C.Calls.state calls.old)) from.now to.now) (C.Calls.state calls.old) (C.Calls.state calls.new)) }
+    ensures cause { OnErr result (IsFaultFor (SlotsDiffer (image_of (C.Calls.state calls.old)) from.now to.now) (C.Calls.state calls.old) (C.Calls.state calls.new)) }
 {
     let mut copied = [0; 4096];
     slot_at(calls, tracked, to, &mut copied)?;
@@ -128,7 +128,7 @@ pub fn expects_copy<C: Calls>(
     requires tracked { IsTracked tracked.old.notes (C.Calls.state calls.old) }
     ensures same { OnOk result (HoldsCopy (image_of (C.Calls.state calls.old)) from.now to.now) }
     ensures step { IsStep tracked.new.notes (C.Calls.state calls.old) (C.Calls.state calls.new) }
-    ensures cause { OnErr result (IsFaultFor (Differ (image_of (C.Calls.state calls.old)) from.now to.now) (C.Calls.state calls.old) (C.Calls.state calls.new)) }
+    ensures cause { OnErr result (IsFaultFor (SlotsDiffer (image_of (C.Calls.state calls.old)) from.now to.now) (C.Calls.state calls.old) (C.Calls.state calls.new)) }
 {
     let mut left = [0; 4096];
     slot_at(calls, tracked, from, &mut left)?;

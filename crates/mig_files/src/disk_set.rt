@@ -8,11 +8,11 @@ use std::marker::Model;
 
 /// Disks, each once.
 #[derive(Drop)]
-pub struct DiskSet {
+pub struct NamedDisks {
     names: IndexSet<Name>,
 }
 
-impl Model for DiskSet {
+impl Model for NamedDisks {
     ghost use Rattle.std.specs.Prelude.{ℕ, List};
 
     ghost Value = { List (List ℕ) };
@@ -20,12 +20,12 @@ impl Model for DiskSet {
     ghost view = { λ s. s.names.keys };
 }
 
-impl DiskSet {
+impl NamedDisks {
     /// No disks.
-    pub fn new(alloc: Global) -> DiskSet
+    pub fn new(alloc: Global) -> NamedDisks
         ensures { result ≡ [] }
     {
-        DiskSet {
+        NamedDisks {
             names: IndexSet::new(alloc),
         }
     }

@@ -7,13 +7,13 @@ ghost use Rattle.mig_calls.specs.Files.{EndsAt, HasBytes, len_of};
 ghost use Rattle.mig_calls.specs.Refusals.{HoldsItem, WhereTold};
 ghost use Rattle.mig_files.specs.Derived.{image_of};
 ghost use Rattle.mig_files.specs.Grounds.{IsFaultFor, IsLastBut};
-ghost use Rattle.mig_files.specs.Seeing.{seen_at, seen_in, AreHeld, KeepsSeen, IsFree, IsFreeFor};
+ghost use Rattle.mig_files.specs.Seeing.{seen_at, seen_in, AreHeld, KeepsSeen, MayBeEmptied, IsFreeFor};
 ghost use Rattle.mig_files.specs.Tracking.{IsTracked, IsStep, StaysAlive, StaysSame};
 ghost use Rattle.mig_store.specs.Grounds.{IsElsewhere, IsLast, Lacks};
 
 use crate::cells::{open_place, read_part};
 use crate::places::{end_of, place_of};
-use crate::seen::Seen;
+use crate::seen::SeenItems;
 use crate::slot_header::{HEADER, is_header, item_of};
 use crate::tracked::{Tracked, no_memory, refuse_with};
 use crate::tries::read_all;
@@ -44,7 +44,7 @@ fn header_at<C: Calls>(
 pub fn note_held<C: Calls>(
     calls: &mut C,
     tracked: &Tracked,
-    seen: &mut Seen,
+    seen: &mut SeenItems,
     slot: &Cell,
     item: &Name,
     found: &Extent,
@@ -73,7 +73,7 @@ pub fn note_held<C: Calls>(
 pub fn note_seen<C: Calls>(
     calls: &mut C,
     tracked: &Tracked,
-    seen: &mut Seen,
+    seen: &mut SeenItems,
     slot: &Cell,
     item: &Name,
 ) -> Result<(), StoreFailed>
@@ -100,7 +100,7 @@ pub fn note_seen<C: Calls>(
 pub fn expects<C: Calls>(
     calls: &mut C,
     tracked: &mut Tracked,
-    seen: &mut Seen,
+    seen: &mut SeenItems,
     slot: &Cell,
     item: &Name,
 ) -> Result<(), StoreFailed>
@@ -195,7 +195,7 @@ fn check_held<C: Calls>(
 fn check_item<C: Calls>(
     calls: &mut C,
     tracked: &Tracked,
-    seen: &Seen,
+    seen: &SeenItems,
     slot: &Cell,
     item: &Name,
 ) -> Result<(), StoreFailed>
@@ -218,14 +218,14 @@ fn check_item<C: Calls>(
 fn check_free<C: Calls>(
     calls: &mut C,
     tracked: &Tracked,
-    seen: &Seen,
+    seen: &SeenItems,
     slot: &Cell,
     first: &[u8; 34],
 ) -> Result<(), StoreFailed>
     requires slot { IsTrue (is_slot slot.now) }
     requires tracked { IsTracked tracked.now.notes (C.Calls.state calls.old) }
     requires header { WhereTold (C.Calls.state calls.old) slot.now (HasBytes ((C.Calls.state calls.old).reads (file_of slot.now)) (offset_of slot.now) 34 first.now) }
-    ensures free { OnOk result (IsFree (C.Calls.state calls.old) seen.now slot.now) }
+    ensures free { OnOk result (MayBeEmptied (C.Calls.state calls.old) seen.now slot.now) }
     ensures step { IsStep tracked.now.notes (C.Calls.state calls.old) (C.Calls.state calls.new) }
     ensures kept { OnOk result (StaysSame (C.Calls.state calls.old) (C.Calls.state calls.new)) }
     ensures cause { OnErr result (IsFaultFor (IsLast (image_of (C.Calls.state calls.old)) (seen_in seen.now) slot.now) (C.Calls.state calls.old) (C.Calls.state calls.new)) }
@@ -240,14 +240,14 @@ fn check_free<C: Calls>(
 pub fn expects_free<C: Calls>(
     calls: &mut C,
     tracked: &mut Tracked,
-    seen: &Seen,
+    seen: &SeenItems,
     slot: &Cell,
 ) -> Result<Extent, StoreFailed>
     requires slot { IsTrue (is_slot slot.now) }
     requires alive { IsFalse tracked.old.notes.lost }
     requires tracked { IsTracked tracked.old.notes (C.Calls.state calls.old) }
     ensures end { IfOk result (λ found. WhereTold (C.Calls.state calls.old) slot.now (EndsAt ((C.Calls.state calls.old).reads (file_of slot.now)) (len_of found))) }
-    ensures free { OnOk result (IsFree (C.Calls.state calls.old) seen.now slot.now) }
+    ensures free { OnOk result (MayBeEmptied (C.Calls.state calls.old) seen.now slot.now) }
     ensures step { IsStep tracked.new.notes (C.Calls.state calls.old) (C.Calls.state calls.new) }
     ensures kept { OnOk result (StaysAlive tracked.new.notes (C.Calls.state calls.old) (C.Calls.state calls.new)) }
     ensures cause { OnErr result (IsFaultFor (IsLast (image_of (C.Calls.state calls.old)) (seen_in seen.now) slot.now) (C.Calls.state calls.old) (C.Calls.state calls.new)) }
@@ -262,7 +262,7 @@ pub fn expects_free<C: Calls>(
 pub fn expects_free_for<C: Calls>(
     calls: &mut C,
     tracked: &mut Tracked,
-    seen: &Seen,
+    seen: &SeenItems,
     slot: &Cell,
     item: &Name,
 ) -> Result<(), StoreFailed>

@@ -16,5 +16,5 @@ mod tracked;
 mod tries;
 mod writes;
 
-pub use disk_set::DiskSet;
+pub use disk_set::NamedDisks;
 pub use store::{FileStore, MOST_OPEN};

@@ -1,7 +1,7 @@
 //! Where this process has seen items.
 ghost use Rattle.std.specs.Prelude.{◌≡◌, Some, None, List, ℕ, if◌then◌else◌, [], MatchBool, OnOk, OnErr, nat_eq};
 ghost use Rattle.std.specs.Cmp.Lexicographic.{pointwise};
-ghost use Rattle.mig_files.specs.Counting.{count_of, AreCounted, IsNotedAt};
+ghost use Rattle.mig_files.specs.Counting.{item_count, AreCounted, IsNotedAt};
 ghost use Rattle.mig_files.specs.Seeing.{seen_at, seen_in, KeepsSeen};
 ghost use Rattle.mig_store.specs.Grounds.{IsElsewhere};
 
@@ -12,13 +12,13 @@ use std::marker::Model;
 
 /// At each slot the item that this process has seen there since it last wrote to it.
 #[derive(Drop)]
-pub struct Seen {
+pub struct SeenItems {
     slots: IndexMap<Cell, Option<Name>>,
     // At how many slots each item was seen.
     counts: IndexMap<Name, usize>,
 }
 
-impl Model for Seen {
+impl Model for SeenItems {
     ghost use Rattle.std.specs.Prelude.{ℕ, List, Option};
     ghost use Rattle.mig_base.specs.declared.cells.Cell.{Cell};
     ghost use Rattle.mig_files.specs.Counting.{AreCounted};
@@ -58,7 +58,7 @@ fn set_item(
 
 // At how many slots an item was seen.
 fn count_in(counts: &IndexMap<Name, usize>, item: &Name) -> usize
-    ensures { result ≡ count_of counts.now.entries item.now }
+    ensures { result ≡ item_count counts.now.entries item.now }
 {
     match counts.get(item) {
         Some(count) => *count,
@@ -72,9 +72,9 @@ fn set_count(
     item: &Name,
     count: usize,
 ) -> Result<(), AllocError>
-    ensures set { OnOk result ((other : List ℕ) → count_of counts.new.entries other ≡ (if pointwise nat_eq item.now other then count else count_of counts.old.entries other)) }
+    ensures set { OnOk result ((other : List ℕ) → item_count counts.new.entries other ≡ (if pointwise nat_eq item.now other then count else item_count counts.old.entries other)) }
     ensures failed { OnErr result (counts.new.entries ≡ counts.old.entries) }
-    ensures absent { OnErr result (count_of counts.old.entries item.now ≡ 0) }
+    ensures absent { OnErr result (item_count counts.old.entries item.now ≡ 0) }
 {
     match counts.insert(*item, count) {
         Ok(_) => Ok(()),
@@ -127,12 +127,12 @@ fn note_at(
     }
 }
 
-impl Seen {
+impl SeenItems {
     /// No item was seen yet.
-    pub fn new(alloc: Global) -> Seen
+    pub fn new(alloc: Global) -> SeenItems
         ensures { result ≡ [] }
     {
-        Seen {
+        SeenItems {
             slots: IndexMap::new(alloc),
             counts: IndexMap::new(alloc),
         }

@@ -7,8 +7,8 @@ ghost use Rattle.mig_files.specs.Tracking.{IsTracked};
 
 mod serving;
 
-use crate::disk_set::DiskSet;
-use crate::seen::Seen;
+use crate::disk_set::NamedDisks;
+use crate::seen::SeenItems;
 use crate::tracked::{Notes, Tracked};
 use lru::LruCache;
 use mig_base::Name;
@@ -25,7 +25,7 @@ pub const MOST_OPEN: usize = 900;
 pub struct FileStore<C: Calls> {
     calls: C,
     tracked: Tracked,
-    seen: Seen,
+    seen: SeenItems,
     ghost tracks: { IsTracked tracked.notes (C.Calls.state calls) },
     ghost held: { AreHeld (C.Calls.state calls) seen },
 }
@@ -41,7 +41,7 @@ fn none_open(alloc: Global) -> Result<LruCache<Name, ()>, AllocError> {
 impl<C: Calls + Drop> FileStore<C> {
     #[tactic(auto, using(crate::proofs::Errs::err_any, crate::proofs::Holding::none_held))]
     /// The store over these calls, which has opened no file. The disks are handed in whose files the device may lack some bytes of, as where an earlier process ended without a sync; all others count so once they are looked at. An error is want of memory.
-    pub fn new(alloc: Global, calls: C, dirty: DiskSet) -> Result<FileStore<C>, AllocError>
+    pub fn new(alloc: Global, calls: C, dirty: NamedDisks) -> Result<FileStore<C>, AllocError>
         requires { (disk : List ℕ) → ¬ Contains dirty disk → IsTrue ((C.Calls.state calls).flushed (DiskFile disk)) }
         ensures shows { IfOk result (λ store. ShowsFiles (C.Calls.state calls) (⟦<FileStore<C> as Store>⟧.state store)) }
     {
@@ -56,11 +56,11 @@ impl<C: Calls + Drop> FileStore<C> {
                     made: true,
                     lost: false,
                 },
-                met: DiskSet::new(alloc),
+                met: NamedDisks::new(alloc),
                 open,
                 most: MOST_OPEN,
             },
-            seen: Seen::new(alloc),
+            seen: SeenItems::new(alloc),
         })
     }
 }

@@ -6,8 +6,8 @@ ghost use Rattle.mig_calls.specs.Files.{KeepsFlags};
 ghost use Rattle.mig_calls.specs.Refusals.{IsRefusalCause, counted};
 ghost use Rattle.mig_files.specs.Tracking.{IsTracked, IsStep, StaysAlive, SameNotes, IsNoted};
 
-use crate::disk_set::DiskSet;
-use crate::tries::{Task, make, refuse};
+use crate::disk_set::NamedDisks;
+use crate::tries::{RetriedCall, make, refuse};
 use lru::LruCache;
 use mig_base::Name;
 use mig_calls::{Calls, Place, Refusal};
@@ -18,7 +18,7 @@ use std::alloc::AllocError;
 #[derive(Drop)]
 pub struct Notes {
     /// The disks whose files the device may lack some bytes of.
-    pub dirty: DiskSet,
+    pub dirty: NamedDisks,
     /// The device may lack some bytes of the journal.
     pub unsynced: bool,
     /// This process alone may write.
@@ -33,7 +33,7 @@ pub struct Notes {
 pub struct Tracked {
     pub notes: Notes,
     /// The disks whose files this process has looked at.
-    pub met: DiskSet,
+    pub met: NamedDisks,
     /// The disks whose files are open, in the order of their use.
     pub open: LruCache<Name, ()>,
     /// How many may be open.
@@ -109,7 +109,7 @@ pub fn sync_disk<C: Calls>(
         return Ok(());
     }
     let place = Place::Disk(*name);
-    match make(calls, &Task::Sync { place }) {
+    match make(calls, &RetriedCall::Sync { place }) {
         Ok(()) => {
             tracked.notes.dirty.remove(name);
             Ok(())
@@ -135,7 +135,7 @@ pub fn sync_journal<C: Calls>(calls: &mut C, tracked: &mut Tracked) -> Result<()
         return Ok(());
     }
     let place = Place::Journal;
-    match make(calls, &Task::Sync { place }) {
+    match make(calls, &RetriedCall::Sync { place }) {
         Ok(()) => {
             tracked.notes.unsynced = false;
             Ok(())
@@ -160,7 +160,7 @@ pub fn claim<C: Calls>(calls: &mut C, tracked: &mut Tracked) -> Result<(), Store
         return Ok(());
     }
     tracked.notes.made = true;
-    make(calls, &Task::Claim)?;
+    make(calls, &RetriedCall::Claim)?;
     tracked.notes.claimed = true;
     Ok(())
 }
@@ -177,7 +177,7 @@ pub fn sync_names<C: Calls>(calls: &mut C, tracked: &mut Tracked) -> Result<(), 
     if !tracked.notes.made {
         return Ok(());
     }
-    match make(calls, &Task::SyncNames) {
+    match make(calls, &RetriedCall::SyncNames) {
         Ok(()) => {
             tracked.notes.made = false;
             Ok(())

@@ -4,7 +4,7 @@ ghost use Rattle.mig_base.specs.FaultCounts.{Rose};
 ghost use Rattle.mig_calls.specs.Files.{HasBytes, HasCallCause};
 ghost use Rattle.mig_calls.specs.Refusals.{IsRefusalCause, counted};
 ghost use Rattle.mig_files.specs.Tracking.{IsQuiet};
-ghost use Rattle.mig_files.specs.Tasks.{file_of_task, IsDone, Leaves, KeepsClaim, StaysClaimed};
+ghost use Rattle.mig_files.specs.Tasks.{file_of_retried, IsDone, Leaves, KeepsClaim, StaysClaimed};
 
 use mig_calls::{CallError, Calls, Place, Refusal};
 use mig_store::StoreFailed;
@@ -21,7 +21,7 @@ pub fn refuse<C: Calls>(calls: &mut C, why: &Refusal) -> StoreFailed
 
 /// A call that is made again where it was interrupted.
 #[derive(Clone, Copy)]
-pub enum Task {
+pub enum RetriedCall {
     /// Takes the right to write.
     Claim,
     /// Brings a file to the device.
@@ -30,34 +30,34 @@ pub enum Task {
     SyncNames,
 }
 
-impl Task {
+impl RetriedCall {
     /// The file that it is about.
     fn place(&self) -> Place
-        ensures { result ≡ file_of_task self.now }
+        ensures { result ≡ file_of_retried self.now }
     {
         match self {
-            Task::Sync { place } => *place,
-            Task::Claim | Task::SyncNames => Place::Journal,
+            RetriedCall::Sync { place } => *place,
+            RetriedCall::Claim | RetriedCall::SyncNames => Place::Journal,
         }
     }
 }
 
 /// Makes the call once.
-fn try_once<C: Calls>(calls: &mut C, task: &Task) -> Result<(), CallError>
+fn try_once<C: Calls>(calls: &mut C, task: &RetriedCall) -> Result<(), CallError>
     ensures done { OnOk result (IsDone task.now (C.Calls.state calls.new)) }
     ensures leaves { Leaves task.now (C.Calls.state calls.old) (C.Calls.state calls.new) }
     ensures claimed { StaysClaimed (C.Calls.state calls.old) (C.Calls.state calls.new) result }
     ensures cause { HasCallCause (C.Calls.state calls.old) (C.Calls.state calls.new) result }
 {
     match task {
-        Task::Claim => calls.claim(),
-        Task::Sync { place } => calls.sync(place),
-        Task::SyncNames => calls.sync_names(),
+        RetriedCall::Claim => calls.claim(),
+        RetriedCall::Sync { place } => calls.sync(place),
+        RetriedCall::SyncNames => calls.sync_names(),
     }
 }
 
 /// Makes the call until it is not interrupted.
-pub fn make<C: Calls>(calls: &mut C, task: &Task) -> Result<(), StoreFailed>
+pub fn make<C: Calls>(calls: &mut C, task: &RetriedCall) -> Result<(), StoreFailed>
     ensures done { OnOk result (IsDone task.now (C.Calls.state calls.new)) }
     ensures leaves { Leaves task.now (C.Calls.state calls.old) (C.Calls.state calls.new) }
     ensures claimed { OnOk result (KeepsClaim (C.Calls.state calls.old) (C.Calls.state calls.new)) }

@@ -16,7 +16,7 @@ ghost use Rattle.mig_store.specs.Grounds.{AreZeros, HoldsNone, IsErasure, IsLast
 use crate::cells::{read_part, write_cell};
 use crate::items::{expects_free, expects_free_for, note_held, note_seen};
 use crate::places::place_of;
-use crate::seen::Seen;
+use crate::seen::SeenItems;
 use crate::slot_header::item_of;
 use crate::tracked::{Tracked, claim, refuse_with};
 use mig_base::{Cell, Name};
@@ -44,7 +44,7 @@ fn empties(cell: &Cell, bytes: &[u8]) -> bool
 pub fn write_item<C: Calls>(
     calls: &mut C,
     tracked: &mut Tracked,
-    seen: &mut Seen,
+    seen: &mut SeenItems,
     cell: &Cell,
     bytes: &[u8],
 ) -> Result<(), StoreFailed>
@@ -72,7 +72,7 @@ pub fn write_item<C: Calls>(
 fn empty<C: Calls>(
     calls: &mut C,
     tracked: &mut Tracked,
-    seen: &mut Seen,
+    seen: &mut SeenItems,
     slot: &Cell,
     zeros: &[u8],
 ) -> Result<(), StoreFailed>
@@ -115,7 +115,7 @@ pub fn first_of(bytes: &[u8]) -> [u8; 34]
 fn read_item<C: Calls>(
     calls: &mut C,
     tracked: &mut Tracked,
-    seen: &mut Seen,
+    seen: &mut SeenItems,
     slot: &Cell,
     bytes: &mut [u8],
 ) -> Result<Name, StoreFailed>
@@ -149,7 +149,7 @@ fn read_item<C: Calls>(
 fn put_item<C: Calls>(
     calls: &mut C,
     tracked: &mut Tracked,
-    seen: &mut Seen,
+    seen: &mut SeenItems,
     slot: &Cell,
     item: &Name,
     bytes: &[u8],
@@ -179,7 +179,7 @@ fn put_item<C: Calls>(
 pub fn copy_item<C: Calls>(
     calls: &mut C,
     tracked: &mut Tracked,
-    seen: &mut Seen,
+    seen: &mut SeenItems,
     from: &Cell,
     to: &Cell,
 ) -> Result<(), StoreFailed>

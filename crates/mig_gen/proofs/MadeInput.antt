@@ -1,7 +1,7 @@
 -- A made case keeps what every input keeps.
-use Rattle.mig_gen.proofs.Common.{Disk, DiskId, IsCaseSize, IsDiskInRange, IsInput, IsName, IsSomeAnd, IsSpotOf, List, Lists, MAX_ITEMS, MAX_SLOTS, Name, Option, Some, Spot, ap, arith, case_of}
+use Rattle.mig_gen.proofs.Common.{Disk, DiskId, InputLists, IsCaseSize, IsDiskInRange, IsInput, IsName, IsSomeAnd, IsSpotOf, List, MAX_ITEMS, MAX_SLOTS, Name, Option, Some, Spot, ap, arith, case_of}
 use Rattle.mig_gen.proofs.Common.{div-add-mod, div-lt_iff_lt-mul, false, get_or-map-range_with_len, is_duplex, is_split, items_on, joint_disks, length, length-map-range_with_len, made_disk}
-use Rattle.mig_gen.proofs.Common.{made_item, map, mod-lt, mul-le-mul_left, next_at, no_disk, other, range_with_len, refl, slice_get-get_or, spot_at, subst, sym, ℕ, ◌%◌, ◌*◌, ◌-◌, ◌/◌, ◌<◌, ◌∙◌}
+use Rattle.mig_gen.proofs.Common.{made_item, map, mod-lt, mul-le-mul_left, next_at, no_disk, numbered_spot, other, range_with_len, refl, slice_get-get_or, subst, sym, ℕ, ◌%◌, ◌*◌, ◌-◌, ◌/◌, ◌<◌, ◌∙◌}
 use Rattle.mig_gen.proofs.Common.{◌≡◌, ◌≢◌, ◌≤◌}
 use Rattle.mig_gen.proofs.MadeLists.{all_of, other_low_high, pairs_of, next_are, spots_are}
 use Rattle.mig_gen.proofs.MadeNames.{numbered_is_name, same_number}
@@ -22,11 +22,11 @@ module _ (disks per_pair limit : ℕ) (size : IsCaseSize disks per_pair limit) w
   room : 2 * on_each ≤ MAX_SLOTS
   room = omega (arith, mul-le-mul_left on_each size.some_disks, few_items)
 
-  abbrev by_number : Lists
+  abbrev by_number : InputLists
   by_number = record {
     disks = map (made_disk limit (2 * on_each)) (range_with_len 0 disks);
     items = map made_item (range_with_len 0 count);
-    spots = map (spot_at on_each) (range_with_len 0 count);
+    spots = map (numbered_spot on_each) (range_with_len 0 count);
     next = map (next_at on_each per_pair) (range_with_len 0 count);
   }
 
@@ -38,7 +38,7 @@ module _ (disks per_pair limit : ℕ) (size : IsCaseSize disks per_pair limit) w
       let next = are_next ∙ sym (next_are disks per_pair) in
       λ i. record { disks = are_disks i; items = are_items i; spots = spots i; next = next i }
 
-  apart : (i j : ℕ) → i < j → spot_at on_each i ≢ spot_at on_each j
+  apart : (i j : ℕ) → i < j → numbered_spot on_each i ≢ numbered_spot on_each j
   apart i j lt e =
       let same_disk : i / on_each ≡ j / on_each = ap (λ (s : Spot). s.disk.0) e in
       let same_slot : i % on_each ≡ j % on_each = ap (λ (s : Spot). s.slot) e in
@@ -46,7 +46,7 @@ module _ (disks per_pair limit : ℕ) (size : IsCaseSize disks per_pair limit) w
       let b = div-add-mod j on_each in
       omega (arith, a, b, ap (λ q. on_each * q) same_disk)
 
-  on_disk : (i : ℕ) → i < count → IsSpotOf by_number.disks (spot_at on_each i)
+  on_disk : (i : ℕ) → i < count → IsSpotOf by_number.disks (numbered_spot on_each i)
   on_disk i lt =
       let at : i / on_each < disks = (div-lt_iff_lt-mul some_on_each).1 lt in
       let within : i / on_each < length by_number.disks = omega (arith, at, length-map-range_with_len (made_disk limit (2 * on_each)) 0 disks) in
@@ -68,11 +68,11 @@ module _ (disks per_pair limit : ℕ) (size : IsCaseSize disks per_pair limit) w
     few_items = omega (arith, length-map-range_with_len made_item 0 count, few_items);
     named_items = all_of made_item count IsName (λ i lt. numbered_is_name 105 i refl (omega (arith, lt, few_items)));
     item_names = pairs_of made_item count (λ a b. a ≢ b) (λ i j lt below e. let same = same_number 105 i j (omega (arith, lt, below, few_items)) (omega (arith, below, few_items)) e in omega (arith, lt, same));
-    spots_len = length-map-range_with_len (spot_at on_each) 0 count ∙ sym (length-map-range_with_len made_item 0 count);
+    spots_len = length-map-range_with_len (numbered_spot on_each) 0 count ∙ sym (length-map-range_with_len made_item 0 count);
     next_len = length-map-range_with_len (next_at on_each per_pair) 0 count ∙ sym (length-map-range_with_len made_item 0 count);
-    on_disks = all_of (spot_at on_each) count (IsSpotOf by_number.disks) on_disk;
+    on_disks = all_of (numbered_spot on_each) count (IsSpotOf by_number.disks) on_disk;
     next_disks = all_of (next_at on_each per_pair) count (λ disk. disk.0 < length by_number.disks) goes_to_disk;
-    spots_apart = pairs_of (spot_at on_each) count (λ a b. a ≢ b) (λ i j lt below. apart i j lt);
+    spots_apart = pairs_of (numbered_spot on_each) count (λ a b. a ≢ b) (λ i j lt below. apart i j lt);
   }
 
   pub is_input : IsInput (case_of disks per_pair limit)

@@ -1,6 +1,6 @@
 -- The lists of a made case by the numbers of their elements.
 use Rattle.mig_gen.proofs.Common.{All, AllPairs, DiskId, List, ap, arith, cases_lt, cond, flat_map, flat_map-map, get_or, get_or-map-range_with_len, inl, inr, items_on, le-ltb, length}
-use Rattle.mig_gen.proofs.Common.{length-map-range_with_len, lt-ltb, map, map_more, next_at, next_from, other, others, range_with_len, refl, replicate, spot_at, spots_on, subst, suc, sym, zero}
+use Rattle.mig_gen.proofs.Common.{disks_besides, length-map-range_with_len, lt-ltb, map, map_more, next_at, next_from, numbered_spot, other, range_with_len, refl, replicate, spots_on, subst, suc, sym, zero}
 use Rattle.mig_gen.proofs.Common.{ℕ, ◌*◌, ◌++◌, ◌+◌, ◌-◌, ◌/◌, ◌<◌, ◌∙◌, ◌∷◌, ◌≡◌, ◌≤◌}
 use Rattle.mig_gen.proofs.Grids.{rows_are}
 
@@ -37,7 +37,7 @@ other_high v k le = ap (λ b. cond b k (k + 1)) (le-ltb k v le)
 pub other_low_high : (v k : ℕ) → other v k ≤ k + 1
 other_low_high v k = elim (cases_lt k v) [ inl lt ↦ omega (arith, other_low v k lt) | inr le ↦ omega (arith, other_high v k le) ]
 
-others_are : (disks v : ℕ) → v < disks → others disks v ≡ map (other v) (range_with_len 0 (disks - 1))
+others_are : (disks v : ℕ) → v < disks → disks_besides disks v ≡ map (other v) (range_with_len 0 (disks - 1))
 others_are disks v lt =
     let more = disks - (v + 1) in
     let len : v + more ≡ disks - 1 = omega arith in
@@ -66,7 +66,7 @@ next_from_are disks per_pair v lt =
 
 -- the two lists by number
 module _ (disks per_pair : ℕ) where
-  pub spots_are : flat_map (spots_on (items_on disks per_pair)) (range_with_len 0 disks) ≡ map (spot_at (items_on disks per_pair)) (range_with_len 0 (disks * items_on disks per_pair))
+  pub spots_are : flat_map (spots_on (items_on disks per_pair)) (range_with_len 0 disks) ≡ map (numbered_spot (items_on disks per_pair)) (range_with_len 0 (disks * items_on disks per_pair))
   spots_are = rows_are (λ v slot. record { disk = record { 0 = v }; slot = slot }) (items_on disks per_pair) disks
 
   pub next_are : flat_map (next_from disks per_pair) (range_with_len 0 disks) ≡ map (next_at (items_on disks per_pair) per_pair) (range_with_len 0 (disks * items_on disks per_pair))

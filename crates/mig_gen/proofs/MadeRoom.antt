@@ -1,7 +1,7 @@
 -- A made case has room for what comes to each disk.
-use Rattle.mig_gen.proofs.Common.{Bool, DiskId, IsRoomy, List, Lists, Spot, [], ap, arith, case_of, count_by, count_by-filter-le, eq-eqb, fill_by_all, flat_map, get_or, get_or-map-range_with_len}
+use Rattle.mig_gen.proofs.Common.{Bool, DiskId, InputLists, IsRoomy, List, Spot, [], ap, arith, case_of, count_by, count_by-filter-le, eq-eqb, fill_by_all, flat_map, get_or, get_or-map-range_with_len}
 use Rattle.mig_gen.proofs.Common.{incoming, is_relocated, items_on, length, length-map-range_with_len, length-range_with_len, made_disk, made_item, mul-le-mul_left, next_at, next_from, no_disk}
-use Rattle.mig_gen.proofs.Common.{once_in_range, one, others, range_below, range_with_len, refl, replicate, spots_on, sum_by, sum_by-add, sum_by-append, sum_by-cons, sum_by-le, sum_by-map}
+use Rattle.mig_gen.proofs.Common.{disks_besides, once_in_range, one, range_below, range_with_len, refl, replicate, spots_on, sum_by, sum_by-add, sum_by-append, sum_by-cons, sum_by-le, sum_by-map}
 use Rattle.mig_gen.proofs.Common.{sum_by-replicate, sum_by-same_each, sym, target, ℕ, ◌*◌, ◌+◌, ◌-◌, ◌<◌, ◌==◌, ◌∙◌, ◌∷◌, ◌≡◌, ◌≤◌}
 use Rattle.mig_gen.proofs.Grids.{range_split}
 use Rattle.mig_gen.proofs.MadeLists.{next_are}
@@ -28,7 +28,7 @@ count_places p xs d =
 -- How often a disk comes
 
 -- among the disks other than one, and as that one: as often as among all
-others_counted : (disks v w : ℕ) → w < disks → count_by (λ x. x == v) (others disks w) + one (w == v) ≡ count_by (λ x. x == v) (range_with_len 0 disks)
+others_counted : (disks v w : ℕ) → w < disks → count_by (λ x. x == v) (disks_besides disks w) + one (w == v) ≡ count_by (λ x. x == v) (range_with_len 0 disks)
 others_counted disks v w lt =
     let f : ℕ → ℕ = λ x. one (x == v) in
     let more = disks - (w + 1) in
@@ -54,16 +54,16 @@ module _ (disks per_pair : ℕ) (v : ℕ) (lt : v < disks) where
       omega (arith, counted, each, scaled on_each (λ w. one (w == v)) (range_with_len 0 disks), mul-le-mul_left on_each (once_in_range 0 disks v))
 
   -- the items of another disk that go to it
-  from_disk : (w : ℕ) → count_by (λ disk. disk.0 == v) (next_from disks per_pair w) ≡ per_pair * count_by (λ x. x == v) (others disks w)
+  from_disk : (w : ℕ) → count_by (λ disk. disk.0 == v) (next_from disks per_pair w) ≡ per_pair * count_by (λ x. x == v) (disks_besides disks w)
   from_disk w =
       let q : DiskId → Bool = λ disk. disk.0 == v in
-      count_flat q (λ x. replicate per_pair (record { 0 = x })) (others disks w)
-      ∙ sum_by-same_each (λ x. count_by q (replicate per_pair (record { 0 = x }))) (λ x. per_pair * one (x == v)) (others disks w) (λ k d within. sum_by-replicate (λ (disk : DiskId). one (q disk)) per_pair (record { 0 = get_or (others disks w) k d }))
-      ∙ scaled per_pair (λ x. one (x == v)) (others disks w)
+      count_flat q (λ x. replicate per_pair (record { 0 = x })) (disks_besides disks w)
+      ∙ sum_by-same_each (λ x. count_by q (replicate per_pair (record { 0 = x }))) (λ x. per_pair * one (x == v)) (disks_besides disks w) (λ k d within. sum_by-replicate (λ (disk : DiskId). one (q disk)) per_pair (record { 0 = get_or (disks_besides disks w) k d }))
+      ∙ scaled per_pair (λ x. one (x == v)) (disks_besides disks w)
 
-  come_from : sum_by (λ w. count_by (λ x. x == v) (others disks w)) (range_with_len 0 disks) ≤ disks - 1
+  come_from : sum_by (λ w. count_by (λ x. x == v) (disks_besides disks w)) (range_with_len 0 disks) ≤ disks - 1
   come_from =
-      let f : ℕ → ℕ = λ w. count_by (λ x. x == v) (others disks w) in
+      let f : ℕ → ℕ = λ w. count_by (λ x. x == v) (disks_besides disks w) in
       let g : ℕ → ℕ = λ w. one (w == v) in
       let each = sum_by-le (λ w. f w + g w) 1 (range_with_len 0 disks) (λ k d within. let here = range_below disks k d within in omega (arith, others_counted disks v (get_or (range_with_len 0 disks) k d) here, once_in_range 0 disks v)) in
       omega (arith, each, sum_by-add f g (range_with_len 0 disks), length-range_with_len 0 disks, some_in_range disks v lt)
@@ -72,11 +72,11 @@ module _ (disks per_pair : ℕ) (v : ℕ) (lt : v < disks) where
   are_coming =
       let q : DiskId → Bool = λ disk. disk.0 == v in
       let counted = count_flat q (next_from disks per_pair) (range_with_len 0 disks) in
-      let each = sum_by-same_each (λ w. count_by q (next_from disks per_pair w)) (λ w. per_pair * count_by (λ x. x == v) (others disks w)) (range_with_len 0 disks) (λ k d within. from_disk (get_or (range_with_len 0 disks) k d)) in
-      omega (arith, counted, each, scaled per_pair (λ w. count_by (λ x. x == v) (others disks w)) (range_with_len 0 disks), mul-le-mul_left per_pair come_from)
+      let each = sum_by-same_each (λ w. count_by q (next_from disks per_pair w)) (λ w. per_pair * count_by (λ x. x == v) (disks_besides disks w)) (range_with_len 0 disks) (λ k d within. from_disk (get_or (range_with_len 0 disks) k d)) in
+      omega (arith, counted, each, scaled per_pair (λ w. count_by (λ x. x == v) (disks_besides disks w)) (range_with_len 0 disks), mul-le-mul_left per_pair come_from)
 
 module _ (disks per_pair limit : ℕ) where
-  abbrev input : Lists
+  abbrev input : InputLists
   input = case_of disks per_pair limit
 
   comes : (v : ℕ) → v < disks → incoming input v ≤ items_on disks per_pair

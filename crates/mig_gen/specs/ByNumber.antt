@@ -4,8 +4,8 @@ use Rattle.mig_base.specs.declared.ids.DiskId.{DiskId}
 use Rattle.mig_base.specs.declared.ids.Spot.{Spot}
 
 -- the spot of item i, where each disk has so many items
-abbrev pub spot_at : ℕ → ℕ → Spot
-spot_at items i = record { disk = record { 0 = i / items }; slot = i % items }
+abbrev pub numbered_spot : ℕ → ℕ → Spot
+numbered_spot items i = record { disk = record { 0 = i / items }; slot = i % items }
 
 -- the disk numbered k, from 0, among those other than v
 abbrev pub other : ℕ → ℕ → ℕ

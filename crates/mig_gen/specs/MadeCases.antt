@@ -7,7 +7,7 @@ use Rattle.mig_base.specs.declared.ids.Spot.{Spot}
 use Rattle.mig_base.specs.declared.inputs.Disk.{Disk}
 use Rattle.mig_base.specs.declared.inputs.Limits.TheVariants.{Joint}
 use Rattle.mig_base.specs.declared.limits.TheConstants.{MAX_DISKS, MAX_ITEMS, MAX_LIMIT}
-use Rattle.mig_base.specs.InputLists.{Lists}
+use Rattle.mig_base.specs.InputLists.{InputLists}
 
 -- which numbers make a case: 2 to `MAX_DISKS` disks, an item at least for each pair, at most `MAX_ITEMS` items in all, and a limit of 1 to
 -- `MAX_LIMIT`
@@ -36,15 +36,15 @@ abbrev pub spots_on : ℕ → ℕ → List Spot
 spots_on items v = map (λ slot. record { disk = record { 0 = v }; slot = slot }) (range_with_len 0 items)
 
 -- the disks other than v, in order
-abbrev pub others : ℕ → ℕ → List ℕ
-others disks v = range_with_len 0 v ++ range_with_len (v + 1) (disks - (v + 1))
+abbrev pub disks_besides : ℕ → ℕ → List ℕ
+disks_besides disks v = range_with_len 0 v ++ range_with_len (v + 1) (disks - (v + 1))
 
 -- the items of a disk go to each other disk in order, so many to each
 abbrev pub next_from : ℕ → ℕ → ℕ → List DiskId
-next_from disks per_pair v = flat_map (λ w. replicate per_pair (record { 0 = w })) (others disks v)
+next_from disks per_pair v = flat_map (λ w. replicate per_pair (record { 0 = w })) (disks_besides disks v)
 
 -- the disks, and the items disk by disk
-abbrev pub case_of : ℕ → ℕ → ℕ → Lists
+abbrev pub case_of : ℕ → ℕ → ℕ → InputLists
 case_of disks per_pair limit = record {
   disks = map (made_disk limit (2 * items_on disks per_pair)) (range_with_len 0 disks);
   items = map made_item (range_with_len 0 (disks * items_on disks per_pair));

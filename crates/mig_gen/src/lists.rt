@@ -4,7 +4,7 @@ ghost use Rattle.std.specs.Char.{is_ascii_alphanumeric};
 ghost use Rattle.std.specs.Fmt.{decimal};
 ghost use Rattle.std.specs.List.{range_with_len};
 ghost use Rattle.mig_base.specs.Naming.{IsName};
-ghost use Rattle.mig_gen.specs.ByNumber.{next_at, other, spot_at};
+ghost use Rattle.mig_gen.specs.ByNumber.{next_at, numbered_spot, other};
 ghost use Rattle.mig_gen.specs.MadeCases.{made_disk, made_item};
 
 use itoa::Buffer;
@@ -62,7 +62,7 @@ pub fn make_items(alloc: Global, items: u32) -> Result<Vec<Name>, AllocError>
 /// The spot of each item, where each disk has so many.
 pub fn number_spots(alloc: Global, items: u32, on_each: u32) -> Result<Vec<Spot>, AllocError>
     requires { 1 ≤ on_each }
-    ensures { IfOk result (λ made. made.items ≡ map (spot_at on_each) (range_with_len 0 items)) }
+    ensures { IfOk result (λ made. made.items ≡ map (numbered_spot on_each) (range_with_len 0 items)) }
 {
     (0..items)
         .map(|item| Spot {

@@ -9,8 +9,8 @@ pub record IsGraph (graph : Transfers) : Type 0 where
   pub disks_most : length graph.disks ≤ MAX_DISKS
   pub disks_valid : All IsDiskInRange graph.disks
   pub one_kind : All (λ disk. is_split disk.limits ≡ is_duplex graph.disks) graph.disks
-  pub edges_most : length graph.trips ≤ MAX_ITEMS
-  pub items_len : length graph.items ≡ length graph.trips
-  pub leaves_there : All (λ t. t.leaves < length graph.disks) graph.trips
-  pub reaches_there : All (λ t. t.reaches < length graph.disks) graph.trips
-  pub apart : All (λ t. t.leaves ≢ t.reaches) graph.trips
+  pub edges_most : length graph.transfers ≤ MAX_ITEMS
+  pub items_len : length graph.items ≡ length graph.transfers
+  pub leaves_there : All (λ t. t.leaves < length graph.disks) graph.transfers
+  pub reaches_there : All (λ t. t.reaches < length graph.disks) graph.transfers
+  pub apart : All (λ t. t.leaves ≢ t.reaches) graph.transfers

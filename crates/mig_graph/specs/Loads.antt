@@ -8,25 +8,25 @@ use Rattle.mig_base.specs.declared.inputs.Limits.{Limits}
 use Rattle.mig_base.specs.declared.inputs.Limits.TheVariants.{Joint, Split}
 use Rattle.mig_base.specs.declared.limits.TheConstants.{MAX_ITEMS}
 use Rattle.mig_base.specs.InputLists.{disk_at}
-use Rattle.mig_base.specs.Transfers.{Trip, side_load, div_ceil}
+use Rattle.mig_base.specs.Transfers.{Transfer, side_load, div_ceil}
 use Rattle.mig_base.specs.Bounding.{greatest}
 
--- the disk at which a trip counts on a side: the one that it leaves, or the one that it reaches
-abbrev pub end_on : Side → Trip → ℕ
+-- the disk at which a transfer counts on a side: the one that it leaves, or the one that it reaches
+abbrev pub end_on : Side → Transfer → ℕ
 end_on Outgoing t = t.leaves
 end_on Incoming t = t.reaches
 
 -- the load of each disk on a side
-pub record AreLoads (side : Side) (disks : ℕ) (trips : List Trip) (loads : List ℕ) : Type 0 where
+pub record AreLoads (side : Side) (disks : ℕ) (transfers : List Transfer) (loads : List ℕ) : Type 0 where
   pub len : length loads ≡ disks
-  pub counted : (v : ℕ) → v < disks → slice_index loads v ≡ side_load side v trips
+  pub counted : (v : ℕ) → v < disks → slice_index loads v ≡ side_load side v transfers
 
 -- a load for each disk, none of which is greater than there are items
-pub record AreFew (disks : List Disk) (loads : List ℕ) : Type 0 where
+pub record AreFewLoads (disks : List Disk) (loads : List ℕ) : Type 0 where
   pub len : length loads ≡ length disks
   pub most : All (λ n. n ≤ MAX_ITEMS) loads
 
--- how many rounds a disk with these limits needs for so many trips that leave it and so many that reach it
+-- how many rounds a disk with these limits needs for so many transfers that leave it and so many that reach it
 abbrev pub rounds_by : Limits → ℕ → ℕ → ℕ
 rounds_by (Joint limit) leaving reaching = div_ceil (leaving + reaching) limit
 rounds_by (Split outgoing incoming) leaving reaching = max (div_ceil leaving outgoing) (div_ceil reaching incoming)

@@ -1,7 +1,7 @@
 //! The moves of an input as edges.
 ghost use Rattle.std.specs.Prelude.{◌≡◌, IfOk, map};
-ghost use Rattle.mig_base.specs.Transfers.{moves, trips};
-ghost use Rattle.mig_graph.specs.Edges.{edge_item, edge_trip};
+ghost use Rattle.mig_base.specs.Transfers.{moves, transfers};
+ghost use Rattle.mig_graph.specs.Edges.{edge_item, edge_transfer};
 
 use mig_base::{DiskId, Input, ItemId};
 use std::alloc::{AllocError, Global};
@@ -17,7 +17,7 @@ pub struct Edge {
 /// An edge for each relocated item, in item order.
 pub fn edges_of(alloc: Global, input: &Input) -> Result<Vec<Edge>, AllocError>
     ensures items { IfOk result (λ v. map edge_item v.items ≡ moves input.now) }
-    ensures trips { IfOk result (λ v. map edge_trip v.items ≡ trips input.now) }
+    ensures transfers { IfOk result (λ v. map edge_transfer v.items ≡ transfers input.now) }
 {
     let mut edges = Vec::new(alloc);
     let spots = input.now();

@@ -2,7 +2,7 @@
 ghost use Rattle.std.specs.Prelude.{◌≡◌, ◌≢◌, ◌<◌, ◌≤◌, ◌↔◌, IsTrue, IfOk, true, false, length, slice_index};
 ghost use Rattle.mig_base.specs.declared.certs.Side.TheVariants.{Outgoing, Incoming};
 ghost use Rattle.mig_base.specs.InputLists.{disk_at, is_duplex, is_split};
-ghost use Rattle.mig_base.specs.Transfers.{load, side_load, side_limit, transfers};
+ghost use Rattle.mig_base.specs.Transfers.{load, side_load, side_limit, transfer_graph};
 ghost use Rattle.mig_base.specs.Bounding.{quotient, limit, IsEven};
 
 use crate::edges::{Edge, edges_of};
@@ -59,7 +59,7 @@ impl Graph {
     ///
     /// Takes time linear in the disks and items. Errs for want of memory only.
     pub fn of(alloc: Global, input: &Input) -> Result<Graph, AllocError>
-        ensures { IfOk result (λ g. g ≡ transfers input.now) }
+        ensures { IfOk result (λ g. g ≡ transfer_graph input.now) }
     {
         let edges = edges_of(alloc, input)?;
         let disks = Vec::from_slice(alloc, input.disks())?;
@@ -87,7 +87,7 @@ impl Graph {
 
     /// How many edges there are.
     pub fn edges(&self) -> u32
-        ensures edges { result ≡ length self.now.trips }
+        ensures edges { result ≡ length self.now.transfers }
         ensures valid { IsGraph self.now }
     {
         self.edges.len() as u32
@@ -152,7 +152,7 @@ impl Graph {
 
     /// The item that the edge moves.
     pub fn item(&self, edge: EdgeId) -> ItemId
-        requires { edge.0 < length self.now.trips }
+        requires { edge.0 < length self.now.transfers }
         ensures { result.0 ≡ slice_index self.now.items edge.0 }
     {
         self.edges[edge.0 as usize].item
@@ -160,8 +160,8 @@ impl Graph {
 
     /// The disk that the edge leaves, and the disk that it reaches: two different ones.
     pub fn ends(&self, edge: EdgeId) -> (DiskId, DiskId)
-        requires { edge.0 < length self.now.trips }
-        ensures ends { IsEdge self.now.trips edge.0 result.0.0 result.1.0 }
+        requires { edge.0 < length self.now.transfers }
+        ensures ends { IsEdge self.now.transfers edge.0 result.0.0 result.1.0 }
         ensures apart { result.0.0 ≢ result.1.0 }
     {
         let e = self.edges[edge.0 as usize];
@@ -171,7 +171,7 @@ impl Graph {
     /// How many edges have the disk as an end.
     pub fn load(&self, disk: DiskId) -> u32
         requires { disk.0 < length self.now.disks }
-        ensures load { result ≡ load disk.0 self.now.trips }
+        ensures load { result ≡ load disk.0 self.now.transfers }
         ensures most { result ≤ MAX_ITEMS }
     {
         self.outgoing[disk.0 as usize] + self.incoming[disk.0 as usize]
@@ -180,7 +180,7 @@ impl Graph {
     /// How many edges leave the disk.
     pub fn out_load(&self, disk: DiskId) -> u32
         requires { disk.0 < length self.now.disks }
-        ensures load { result ≡ side_load Outgoing disk.0 self.now.trips }
+        ensures load { result ≡ side_load Outgoing disk.0 self.now.transfers }
         ensures most { result ≤ MAX_ITEMS }
     {
         self.outgoing[disk.0 as usize]
@@ -189,7 +189,7 @@ impl Graph {
     /// How many edges reach the disk.
     pub fn in_load(&self, disk: DiskId) -> u32
         requires { disk.0 < length self.now.disks }
-        ensures load { result ≡ side_load Incoming disk.0 self.now.trips }
+        ensures load { result ≡ side_load Incoming disk.0 self.now.transfers }
         ensures most { result ≤ MAX_ITEMS }
     {
         self.incoming[disk.0 as usize]

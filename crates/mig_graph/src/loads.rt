@@ -1,8 +1,8 @@
 //! Loads in lists, and what follows from them.
 ghost use Rattle.std.specs.Prelude.{◌≡◌, ◌+◌, ◌<◌, ◌≤◌, IfOk, MatchBool, length, map, All};
 ghost use Rattle.mig_base.specs.InputLists.{IsDiskInRange, IsInRange};
-ghost use Rattle.mig_graph.specs.Edges.{edge_trip};
-ghost use Rattle.mig_graph.specs.Loads.{AreLoads, AreFew, EvenBy, IsEvenBy, end_on, quotient_by, rounds_by};
+ghost use Rattle.mig_graph.specs.Edges.{edge_transfer};
+ghost use Rattle.mig_graph.specs.Loads.{AreLoads, AreFewLoads, EvenBy, IsEvenBy, end_on, quotient_by, rounds_by};
 
 use crate::edges::Edge;
 use mig_base::{Disk, DiskId, Limits, MAX_ITEMS, Side};
@@ -10,7 +10,7 @@ use std::alloc::{AllocError, Global};
 
 /// The disk at which an edge counts on a side: the one that it leaves, or the one that it reaches.
 fn end_of(edge: Edge, side: Side) -> DiskId
-    ensures { result.0 ≡ end_on side (edge_trip edge) }
+    ensures { result.0 ≡ end_on side (edge_transfer edge) }
 {
     match side {
         Side::Outgoing => edge.from,
@@ -28,7 +28,7 @@ pub fn loads_of(
     requires few { length edges.now ≤ MAX_ITEMS }
     requires from { All (λ e. e.from.0 < disks) edges.now }
     requires to { All (λ e. e.to.0 < disks) edges.now }
-    ensures { IfOk result (λ v. AreLoads side disks (map edge_trip edges.now) v.items) }
+    ensures { IfOk result (λ v. AreLoads side disks (map edge_transfer edges.now) v.items) }
 {
     let mut loads = vec![in alloc; 0; disks]?;
     for edge in edges {
@@ -55,8 +55,8 @@ fn rounds_by(limits: Limits, leaving: u32, reaching: u32) -> u32
 
 /// The greatest number of rounds that a disk needs for its own edges.
 pub fn quotient_of(disks: &[Disk], outgoing: &[u32], incoming: &[u32]) -> u32
-    requires outgoing { AreFew disks.now outgoing.now }
-    requires incoming { AreFew disks.now incoming.now }
+    requires outgoing { AreFewLoads disks.now outgoing.now }
+    requires incoming { AreFewLoads disks.now incoming.now }
     requires valid { All IsDiskInRange disks.now }
     ensures { result ≡ quotient_by disks.now outgoing.now incoming.now (length disks.now) }
 {
@@ -82,8 +82,8 @@ fn is_even_by(limits: Limits, load: u32) -> bool
 
 /// Whether limits are joint, and those of disks with a load even.
 pub fn even_of(disks: &[Disk], outgoing: &[u32], incoming: &[u32]) -> bool
-    requires outgoing { AreFew disks.now outgoing.now }
-    requires incoming { AreFew disks.now incoming.now }
+    requires outgoing { AreFewLoads disks.now outgoing.now }
+    requires incoming { AreFewLoads disks.now incoming.now }
     ensures { MatchBool result (EvenBy disks.now outgoing.now incoming.now) (¬ EvenBy disks.now outgoing.now incoming.now) }
 {
     for disk in 0..disks.len() {

@@ -1,8 +1,8 @@
 //! Which line of a plan or of its certificate is not right, and why.
 
-use crate::excerpts::{Said, Shown, point, point_whole};
+use crate::excerpts::{Excerpt, Said, point, point_whole};
 use crate::files::{Given, Typed};
-use crate::plans::{Step, Want, count_at, line_at, look_for, word_at};
+use crate::plans::{NumberedLine, Want, count_at, line_at, look_for, word_at};
 use crate::rows::{Key, field, number_at};
 use mig_base::{Blame, read_digits};
 
@@ -41,7 +41,7 @@ fn cert_line(blame: &Blame) -> Option<(u32, &'static str)> {
 }
 
 /// Points to a line of the plan, or to the whole where it has no such line.
-fn point_step(f: &mut String, plan: &Typed<'_>, step: Option<Step<'_>>) -> Said {
+fn point_step(f: &mut String, plan: &Typed<'_>, step: Option<NumberedLine<'_>>) -> Said {
     match step {
         Some(step) => point(f, plan.word, step.line as usize, step.text.unwrap_or(&[])),
         None => point_whole(f, plan.word),
@@ -94,7 +94,7 @@ fn say_limit(
     point_step(f, plan, look_for(plan.bytes, &Want::Head(round)).first)?;
     let shifts = Want::Shifts(round, round.saturating_add(1), 1, disk);
     let leaving = look_for(plan.bytes, &shifts).count;
-    let name = Shown(disk);
+    let name = Excerpt(disk);
     write!(f, "{count} shifts of this round ")?;
     let Some(disks) = given.file("DISKS") else {
         return write!(f, "are too many for `{name}`");
@@ -138,8 +138,8 @@ fn say_elsewhere(
     let steps = look_for(plan.bytes, &in_round(item, round));
     let leaves = leaves(steps.first_text(), disk, slot);
     point_step(f, plan, if leaves { steps.second } else { steps.first })?;
-    let name = Shown(item);
-    let disk = Shown(disk);
+    let name = Excerpt(item);
+    let disk = Excerpt(disk);
     write!(
         f,
         "before round {round} `{name}` is in slot {slot} of `{disk}`, and a shift leaves where its item is: was NOW changed since `plan`?"
@@ -162,7 +162,7 @@ fn say_not_free(
     point_step(f, plan, steps.first)?;
     let name = word_at(steps.first_text(), 3);
     let slot = u64::from(count_at(steps.first_text(), 4));
-    let disk = Shown(name);
+    let disk = Excerpt(name);
     match given.slots_of(name) {
         Some(slots) if slot >= slots => write!(f, "`{disk}` has {slots} slots, which count from 0"),
         _ => write!(
@@ -180,9 +180,9 @@ fn disk_in<'a>(given: &Given<'a>, role: &str, item: &[u8]) -> Option<&'a [u8]> {
 
 fn say_wrong_end(f: &mut String, given: &Given<'_>, plan: &Typed<'_>, item: &[u8]) -> Said {
     let last = look_for(plan.bytes, &Want::Shifts(0, u32::MAX, 0, item)).last;
-    let name = Shown(item);
+    let name = Excerpt(item);
     let next = given.shown("NEXT");
-    let disk = Shown(disk_in(given, "NEXT", item).unwrap_or(b"another disk"));
+    let disk = Excerpt(disk_in(given, "NEXT", item).unwrap_or(b"another disk"));
     let later = if last.is_some() { "later " } else { "" };
     point_step(f, plan, last)?;
     write!(
@@ -194,7 +194,7 @@ fn say_wrong_end(f: &mut String, given: &Given<'_>, plan: &Typed<'_>, item: &[u8
 fn say_too_often(f: &mut String, given: &Given<'_>, plan: &Typed<'_>, item: &[u8]) -> Said {
     let last = look_for(plan.bytes, &Want::Shifts(0, u32::MAX, 0, item)).last;
     point_step(f, plan, last)?;
-    let name = Shown(item);
+    let name = Excerpt(item);
     let now = disk_in(given, "NOW", item);
     let (before, after) = if now.is_some() && now == disk_in(given, "NEXT", item) {
         ("", "stays on its disk, and a plan moves no item that stays")

@@ -1,6 +1,6 @@
 //! What was expected in a row that was refused.
 
-use crate::excerpts::{Said, Shown};
+use crate::excerpts::{Excerpt, Said};
 use crate::files::{Given, Typed};
 use crate::headers::without_empty;
 use crate::names::say_no_name;
@@ -136,7 +136,7 @@ fn say_number(f: &mut String, file: FileKind, sides: bool, row: &[u8]) -> Said {
     if wrong.is_empty() {
         return write!(f, "the {what} is empty; 1 to 10 digits are wanted");
     }
-    let wrong = Shown(wrong);
+    let wrong = Excerpt(wrong);
     write!(
         f,
         "the {what} is `{wrong}`; 1 to 10 digits are wanted, and nothing else"
@@ -165,7 +165,7 @@ fn say_range(f: &mut String, sides: bool, row: &[u8]) -> Said {
 
 /// A disk or an item that an earlier row of the file has.
 fn say_twice(f: &mut String, typed: &Typed<'_>, row: &[u8]) -> Said {
-    let name = Shown(field(row, 0));
+    let name = Excerpt(field(row, 0));
     let line = typed.line_of(&Key::First(field(row, 0)));
     write!(f, "`{name}` is listed before, in line {line}")
 }
@@ -173,7 +173,7 @@ fn say_twice(f: &mut String, typed: &Typed<'_>, row: &[u8]) -> Said {
 /// A slot that isn't below the disk's slots.
 fn say_slot(f: &mut String, given: &Given<'_>, row: &[u8]) -> Said {
     let name = field(row, 1);
-    let disk = Shown(name);
+    let disk = Excerpt(name);
     let word = given.shown("DISKS");
     match given.slots_of(name) {
         Some(slots) => {
@@ -192,7 +192,7 @@ fn say_taken(f: &mut String, now: &Typed<'_>, row: &[u8]) -> Said {
     let disk = field(row, 1);
     let slot = number_at(row, 2);
     let line = now.line_of(&Key::Spot { disk, slot });
-    let disk = Shown(disk);
+    let disk = Excerpt(disk);
     write!(
         f,
         "line {line} has slot {slot} of `{disk}`: a slot holds one item"

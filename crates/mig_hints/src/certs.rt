@@ -1,6 +1,6 @@
 //! The lines of a certificate's text.
 
-use crate::excerpts::{Said, Shown};
+use crate::excerpts::{Excerpt, Said};
 use crate::files::Given;
 use crate::plans::{line_at, word_at};
 use crate::rows::{Key, number_at};
@@ -53,7 +53,7 @@ fn say_bound(f: &mut String, given: &Given<'_>, line: &[u8]) -> Said {
             "wanted is `bound nothing`, `bound disk NAME LOAD LIMIT VALUE` with the disk's limit, or `bound set COUNT INSIDE VALUE`; where disks have two limits `bound nothing`, or `bound side NAME out LOAD LIMIT VALUE` or the same with `in`",
         );
     };
-    let name = Shown(word_at(line, 2));
+    let name = Excerpt(word_at(line, 2));
     let disks = given.shown("DISKS");
     write!(
         f,

@@ -1,6 +1,6 @@
 //! The commands, as they are listed on standard error.
 
-use mig_words::{ROWS, Row};
+use mig_words::{CommandRow, ROWS};
 use std::fmt::{self, Display, Formatter};
 
 /// The forms of all commands, for standard error.
@@ -28,7 +28,7 @@ Each command has just these words, in this order, and no options. Often:
   N is 2 to 1024, N times N - 1 times PERPAIR 1 to 65536, LIMIT 1 to 1024";
 
 /// The row of the command with this word.
-pub(crate) fn row_of(word: &str) -> Option<&'static Row> {
+pub(crate) fn row_of(word: &str) -> Option<&'static CommandRow> {
     for row in &ROWS {
         if row.word == word {
             return Some(row);
@@ -38,7 +38,7 @@ pub(crate) fn row_of(word: &str) -> Option<&'static Row> {
 }
 
 /// Whether the command only saves the file with this role, whatever other commands do.
-pub(crate) fn is_saved(row: &Row, role: &str) -> bool {
+pub(crate) fn is_saved(row: &CommandRow, role: &str) -> bool {
     for it in row.saved {
         if *it == role {
             return true;

@@ -8,9 +8,9 @@ const MOST: usize = 60;
 
 /// The first characters of a text, each as it is or, where it is none that can be seen, as its number.
 #[derive(Clone, Copy)]
-pub(crate) struct Shown<'a>(pub(crate) &'a [u8]);
+pub(crate) struct Excerpt<'a>(pub(crate) &'a [u8]);
 
-impl<'a> fmt::Display for Shown<'a> {
+impl<'a> fmt::Display for Excerpt<'a> {
     fn fmt<W: fmt::Write>(&self, f: &mut Formatter<W>) -> fmt::Result {
         match std::str::from_utf8(self.0) {
             Ok(text) => write_text(text, f),
@@ -60,13 +60,13 @@ pub(crate) type Said = Result<(), AllocError>;
 
 /// Points to a line of a file. Lines count from 1.
 pub(crate) fn point(f: &mut String, word: &str, line: usize, text: &[u8]) -> Said {
-    let word = Shown(word.as_bytes());
-    let text = Shown(text);
+    let word = Excerpt(word.as_bytes());
+    let text = Excerpt(text);
     write!(f, "migrate: {word}, line {line}: {text}\nmigrate: ")
 }
 
 /// Points to a file as a whole.
 pub(crate) fn point_whole(f: &mut String, word: &str) -> Said {
-    let word = Shown(word.as_bytes());
+    let word = Excerpt(word.as_bytes());
     write!(f, "migrate: {word}: ")
 }

@@ -1,8 +1,8 @@
 //! The files of a command: when each had changed before it, and what it holds where it hasn't changed since.
 
 use crate::commands::{is_saved, row_of};
-use crate::excerpts::{Said, Shown};
-use crate::rows::{Key, Row, field};
+use crate::excerpts::{Excerpt, Said};
+use crate::rows::{Key, NumberedRow, field};
 use mig_base::MAX_FILE_BYTES;
 use mig_io::read_first;
 use std::alloc::AllocError;
@@ -43,14 +43,14 @@ fn stamp_at<R: Files<File = File>>(rt: &R, name: &str) -> Option<Stamp> {
 
 /// The files that a command's words led to, as they were before it.
 #[derive(Clone, Copy)]
-pub struct Seen {
+pub struct Stamps {
     words: [Option<Stamp>; MOST_WORDS],
 }
 
-impl Seen {
+impl Stamps {
     /// Looks at them, and reads none.
-    pub fn of<R: Files<File = File>>(rt: &R, words: &[String]) -> Seen {
-        let mut seen = Seen {
+    pub fn of<R: Files<File = File>>(rt: &R, words: &[String]) -> Stamps {
+        let mut seen = Stamps {
             words: [None; MOST_WORDS],
         };
         for place in 0..MOST_WORDS {
@@ -63,7 +63,7 @@ impl Seen {
 
     /// Whether they are still the same.
     pub(crate) fn is_same<R: Files<File = File>>(&self, rt: &R, words: &[String]) -> bool {
-        self.words == Seen::of(rt, words).words
+        self.words == Stamps::of(rt, words).words
     }
 }
 
@@ -109,8 +109,8 @@ impl<'a> Given<'a> {
     }
 
     /// The word with this role, for what is said of it.
-    pub(crate) fn shown(&self, role: &'a str) -> Shown<'a> {
-        Shown(self.word(role).unwrap_or(role).as_bytes())
+    pub(crate) fn shown(&self, role: &'a str) -> Excerpt<'a> {
+        Excerpt(self.word(role).unwrap_or(role).as_bytes())
     }
 
     /// The file with this role.
@@ -122,7 +122,7 @@ impl<'a> Given<'a> {
     }
 
     /// The first row with this key in the file with this role.
-    pub(crate) fn find(&self, role: &str, key: &Key<'_>) -> Option<Row<'a>> {
+    pub(crate) fn find(&self, role: &str, key: &Key<'_>) -> Option<NumberedRow<'a>> {
         self.file(role)?.find(key)
     }
 
@@ -134,10 +134,16 @@ impl<'a> Given<'a> {
     /// Says that the file of disks doesn't list a disk.
     pub(crate) fn say_unlisted(&self, f: &mut String, disk: &[u8]) -> Said {
         let word = self.shown("DISKS");
-        let name = Shown(disk);
+        let name = Excerpt(disk);
         write!(f, "{word} lists no disk `{name}`")?;
         match self.find("DISKS", &Key::AnyCase(disk)) {
-            Some(alike) => { write!(f, ", but `{}`: capitals count", Shown(field(alike.text, 0))) }
+            Some(alike) => {
+                write!(
+                    f,
+                    ", but `{}`: capitals count",
+                    Excerpt(field(alike.text, 0))
+                )
+            }
             None => Ok(()),
         }
     }
@@ -147,7 +153,7 @@ impl<'a> Given<'a> {
 pub(crate) fn load<R: Files<File = File> + AllocGlobal>(
     rt: &R,
     words: &[String],
-    seen: &Seen,
+    seen: &Stamps,
 ) -> Result<Vec<Option<Vec<u8>>>, AllocError> {
     let mut texts = Vec::new(rt.alloc());
     for place in 0..MOST_WORDS {
@@ -160,7 +166,7 @@ pub(crate) fn load<R: Files<File = File> + AllocGlobal>(
 fn read_again<R: Files<File = File> + AllocGlobal>(
     rt: &R,
     words: &[String],
-    seen: &Seen,
+    seen: &Stamps,
     place: usize,
 ) -> Option<Vec<u8>> {
     let row = row_of(words.first()?.as_str())?;

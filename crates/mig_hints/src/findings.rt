@@ -2,13 +2,13 @@
 
 use crate::blames::say_blame;
 use crate::causes::say_cause;
-use crate::excerpts::{Said, Shown, point, point_whole};
+use crate::excerpts::{Excerpt, Said, point, point_whole};
 use crate::files::Given;
 use crate::headers::{role_of, say_no_header};
 use crate::rows::Key;
 use crate::texts::say_not_spelled;
 use mig_base::{FileKind, MAX_FILE_BYTES, Name, Why};
-use mig_words::Finding;
+use mig_words::InputRefusal;
 
 /// What is said where a plan is too large for a drill.
 const TOO_LARGE: &str =
@@ -27,13 +27,13 @@ fn bytes_of(name: &Option<Name>) -> &[u8] {
 }
 
 /// What is said of what was found.
-pub(crate) fn say_finding(f: &mut String, given: &Given<'_>, finding: &Finding) -> Said {
+pub(crate) fn say_finding(f: &mut String, given: &Given<'_>, finding: &InputRefusal) -> Said {
     match finding {
-        Finding::Blamed { blame, name } => say_blame(f, given, blame, bytes_of(name)),
-        Finding::Refused { file, row, why } => say_refused(f, given, *file, *row, why),
-        Finding::NotSpelled { text, line } => say_not_spelled(f, given, text, *line),
-        Finding::TooLarge { shifts: _ } => f.push_str(TOO_LARGE),
-        Finding::TooMany { disk, needs, slots } => {
+        InputRefusal::Blamed { blame, name } => say_blame(f, given, blame, bytes_of(name)),
+        InputRefusal::Refused { file, row, why } => say_refused(f, given, *file, *row, why),
+        InputRefusal::NotSpelled { text, line } => say_not_spelled(f, given, text, *line),
+        InputRefusal::TooLarge { shifts: _ } => f.push_str(TOO_LARGE),
+        InputRefusal::TooMany { disk, needs, slots } => {
             let next = given.shown("NEXT");
             point_disk(f, given, bytes_of(disk))?;
             write!(
@@ -42,9 +42,9 @@ pub(crate) fn say_finding(f: &mut String, given: &Given<'_>, finding: &Finding) 
             )?;
             f.push_str("no plan helps, so add slots, or give it fewer items")
         }
-        Finding::NoFreeSlot => f.push_str(NO_FREE),
-        Finding::NoDisk { name } => say_no_disk(f, given, name),
-        Finding::NoRoom { items, free } => {
+        InputRefusal::NoFreeSlot => f.push_str(NO_FREE),
+        InputRefusal::NoDisk { name } => say_no_disk(f, given, name),
+        InputRefusal::NoRoom { items, free } => {
             let now = given.shown("NOW");
             point_disk(f, given, given.word("NAME").unwrap_or("").as_bytes())?;
             write!(
@@ -88,7 +88,7 @@ fn point_disk(f: &mut String, given: &Given<'_>, disk: &[u8]) -> Said {
             return point(f, disks.word, row.line, row.text);
         }
     }
-    let name = Shown(disk);
+    let name = Excerpt(disk);
     write!(f, "migrate: disk `{name}`: ")
 }
 
@@ -98,7 +98,7 @@ fn say_no_disk(f: &mut String, given: &Given<'_>, name: &Name) -> Said {
     f.push_str("migrate: ")?;
     given.say_unlisted(f, name.bytes())?;
     if given.find("DISKS", &Key::First(next)).is_some() {
-        let next = Shown(next);
+        let next = Excerpt(next);
         return write!(f, ", and `{next}` stands for NEXT: the order is NAME NEXT");
     }
     Ok(())
@@ -110,7 +110,7 @@ pub(crate) fn say_no_file(f: &mut String, given: &Given<'_>, place: usize) -> Sa
         return Ok(());
     };
     let word = given.word(role).unwrap_or("");
-    let shown = Shown(word.as_bytes());
+    let shown = Excerpt(word.as_bytes());
     let help = help_for(given.command(), role, word);
     write!(
         f,

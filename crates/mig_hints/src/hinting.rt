@@ -2,12 +2,12 @@
 
 use crate::commands::Forms;
 use crate::excerpts::Said;
-use crate::files::{Given, Seen, load};
+use crate::files::{Given, Stamps, load};
 use crate::findings::{say_finding, say_no_file};
 use crate::journals::{say_begun, say_idle, say_other};
 use crate::stores::{say_lost, say_used};
 use crate::wrong_words::say_words;
-use mig_words::{Ending, StoreRefusal};
+use mig_words::{CommandError, StoreRefusal};
 use std::fs::File;
 use std::rt::Files;
 
@@ -16,9 +16,9 @@ use std::rt::Files;
 pub fn hint<R: AllocGlobal + Files<File = File> + Eprint>(
     rt: &R,
     words: &[String],
-    seen: &Seen,
+    seen: &Stamps,
     status: u8,
-    ending: Option<Ending>,
+    ending: Option<CommandError>,
 ) {
     let mut text = String::new(rt.alloc());
     let said = match ending {
@@ -38,8 +38,8 @@ fn say_ending<R: AllocGlobal + Files<File = File>>(
     rt: &R,
     f: &mut String,
     words: &[String],
-    seen: &Seen,
-    ending: &Ending,
+    seen: &Stamps,
+    ending: &CommandError,
 ) -> Said {
     let texts = load(rt, words, seen)?;
     if !seen.is_same(rt, words) {
@@ -50,9 +50,9 @@ fn say_ending<R: AllocGlobal + Files<File = File>>(
         texts: texts.as_slice(),
     };
     match ending {
-        Ending::NoFile { place } => say_no_file(f, &given, *place),
-        Ending::Found(finding) => say_finding(f, &given, finding),
-        Ending::Refusal(refusal) => say_refusal(rt, f, &given, refusal),
+        CommandError::NoFile { place } => say_no_file(f, &given, *place),
+        CommandError::Found(finding) => say_finding(f, &given, finding),
+        CommandError::Refusal(refusal) => say_refusal(rt, f, &given, refusal),
         _ => Ok(()),
     }
 }

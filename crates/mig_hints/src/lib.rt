@@ -22,5 +22,5 @@ mod texts;
 mod wrong_words;
 
 pub use commands::Forms;
-pub use files::Seen;
+pub use files::Stamps;
 pub use hinting::hint;

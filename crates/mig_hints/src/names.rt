@@ -2,11 +2,11 @@
 ghost use Rattle.std.specs.Prelude.{◌≡◌, not, position};
 ghost use Rattle.mig_base.specs.Naming.{is_name_byte};
 
-use crate::excerpts::{Said, Shown};
+use crate::excerpts::{Excerpt, Said};
 
 /// Why a field is no name.
 pub(crate) fn say_no_name(f: &mut String, what: &str, field: &[u8]) -> Said {
-    let shown = Shown(field);
+    let shown = Excerpt(field);
     let count = field.len();
     if field.is_empty() {
         return write!(f, "the name of the {what} is empty");
@@ -21,7 +21,7 @@ pub(crate) fn say_no_name(f: &mut String, what: &str, field: &[u8]) -> Said {
 }
 
 fn say_wrong_byte(f: &mut String, what: &str, field: &[u8], place: usize) -> Said {
-    let shown = Shown(field);
+    let shown = Excerpt(field);
     let number = place.saturating_add(1);
     write!(f, "byte {number} of `{shown}`, the name of the {what}, is ")?;
     match field.get(place..) {

@@ -4,7 +4,7 @@ use mig_base::read_digits;
 
 /// What a line of a plan's text is to be, where the lines before it are right.
 #[derive(Clone, Copy, PartialEq, Eq)]
-pub(crate) enum Place {
+pub(crate) enum LineKind {
     /// Before the first line.
     Start,
     Title,
@@ -35,14 +35,14 @@ pub(crate) fn count_at(line: &[u8], place: usize) -> u32 {
 
 /// A line of a plan's text, if it has one there. Lines and rounds count from 1; a round's head is in its round.
 #[derive(Clone, Copy)]
-pub(crate) struct Step<'a> {
+pub(crate) struct NumberedLine<'a> {
     pub(crate) line: u32,
     pub(crate) round: u32,
-    pub(crate) place: Place,
+    pub(crate) place: LineKind,
     pub(crate) text: Option<&'a [u8]>,
 }
 
-impl<'a> Step<'a> {
+impl<'a> NumberedLine<'a> {
     /// The word at a place of the line, from 0.
     pub(crate) fn word(&self, place: usize) -> &'a [u8] {
         word_at(self.text.unwrap_or(&[]), place)
@@ -67,33 +67,33 @@ impl<'a> Rest<'a> {
         text.get(..end.unwrap_or(text.len()))
     }
 
-    fn next_place(&self, step: &Step<'_>) -> Place {
+    fn next_place(&self, step: &NumberedLine<'_>) -> LineKind {
         match step.place {
-            Place::Start => Place::Title,
-            Place::Title => Place::Count,
-            Place::End | Place::Nothing => Place::Nothing,
-            _ if self.shifts > 0 => Place::Shift,
-            _ if step.round < self.rounds => Place::Head,
-            _ => Place::End,
+            LineKind::Start => LineKind::Title,
+            LineKind::Title => LineKind::Count,
+            LineKind::End | LineKind::Nothing => LineKind::Nothing,
+            _ if self.shifts > 0 => LineKind::Shift,
+            _ if step.round < self.rounds => LineKind::Head,
+            _ => LineKind::End,
         }
     }
 
     /// The line after this one.
-    fn take_step(&mut self, before: &Step<'_>) -> Step<'a> {
+    fn take_step(&mut self, before: &NumberedLine<'_>) -> NumberedLine<'a> {
         let text = self.take_line();
         let place = self.next_place(before);
         let line = text.unwrap_or(&[]);
         let mut round = before.round;
         match place {
-            Place::Count => self.rounds = count_at(line, 1),
-            Place::Head => {
+            LineKind::Count => self.rounds = count_at(line, 1),
+            LineKind::Head => {
                 round = round.saturating_add(1);
                 self.shifts = count_at(line, 2);
             }
-            Place::Shift => self.shifts = self.shifts.saturating_sub(1),
+            LineKind::Shift => self.shifts = self.shifts.saturating_sub(1),
             _ => {}
         }
-        Step {
+        NumberedLine {
             line: before.line.saturating_add(1),
             round,
             place,
@@ -114,11 +114,11 @@ pub(crate) enum Want<'a> {
 }
 
 impl<'a> Want<'a> {
-    fn fits(&self, step: &Step<'_>) -> bool {
+    fn fits(&self, step: &NumberedLine<'_>) -> bool {
         match (self, step.place) {
             (Want::Line(line), _) => step.line == *line,
-            (Want::Head(round), Place::Head) => step.round == *round,
-            (Want::Shifts(first, last, place, word), Place::Shift) => {
+            (Want::Head(round), LineKind::Head) => step.round == *round,
+            (Want::Shifts(first, last, place, word), LineKind::Shift) => {
                 step.round >= *first && step.round < *last && step.word(*place) == *word
             }
             _ => false,
@@ -129,9 +129,9 @@ impl<'a> Want<'a> {
 /// The lines that are looked for: the first, the second and the last of them, and how many they are.
 #[derive(Clone, Copy)]
 pub(crate) struct Steps<'a> {
-    pub(crate) first: Option<Step<'a>>,
-    pub(crate) second: Option<Step<'a>>,
-    pub(crate) last: Option<Step<'a>>,
+    pub(crate) first: Option<NumberedLine<'a>>,
+    pub(crate) second: Option<NumberedLine<'a>>,
+    pub(crate) last: Option<NumberedLine<'a>>,
     pub(crate) count: u32,
 }
 
@@ -161,10 +161,10 @@ pub(crate) fn look_for<'a>(text: &'a [u8], want: &Want<'_>) -> Steps<'a> {
         last: None,
         count: 0,
     };
-    let mut step = Step {
+    let mut step = NumberedLine {
         line: 0,
         round: 0,
-        place: Place::Start,
+        place: LineKind::Start,
         text: None,
     };
     let mut rest = Rest {

@@ -6,7 +6,7 @@ use mig_base::read_digits;
 
 /// A row, and the line that it stands in. Lines count from 1.
 #[derive(Clone, Copy)]
-pub(crate) struct Row<'a> {
+pub(crate) struct NumberedRow<'a> {
     pub(crate) line: usize,
     pub(crate) text: &'a [u8],
 }
@@ -19,11 +19,11 @@ pub(crate) fn without_mark(bytes: &[u8]) -> &[u8] {
     }
 }
 
-fn row_at(bytes: &[u8], at: usize) -> Option<Row<'_>> {
+fn row_at(bytes: &[u8], at: usize) -> Option<NumberedRow<'_>> {
     if at >= bytes.len() {
         return None;
     }
-    Some(Row {
+    Some(NumberedRow {
         line: line_of(bytes, at),
         text: line_from(bytes, at),
     })
@@ -31,13 +31,13 @@ fn row_at(bytes: &[u8], at: usize) -> Option<Row<'_>> {
 
 impl<'a> Typed<'a> {
     /// A row, if there is such a row. Row 0 is the header.
-    pub(crate) fn row(&self, number: u32) -> Option<Row<'a>> {
+    pub(crate) fn row(&self, number: u32) -> Option<NumberedRow<'a>> {
         let bytes = without_mark(self.bytes);
         row_at(bytes, row_start(bytes, number as usize)?)
     }
 
     /// The first row after the header with this key.
-    pub(crate) fn find(&self, key: &Key<'_>) -> Option<Row<'a>> {
+    pub(crate) fn find(&self, key: &Key<'_>) -> Option<NumberedRow<'a>> {
         let bytes = without_mark(self.bytes);
         let mut rows = Rows::of(self);
         for _ in 0..bytes.len() {

@@ -1,6 +1,6 @@
 //! What a slot of a disk holds, read from the disk's file.
 
-use crate::excerpts::Shown;
+use crate::excerpts::Excerpt;
 use crate::files::{is_missing, read_at};
 use crate::made::{HEADER, SLOT};
 use mig_base::Name;
@@ -11,7 +11,7 @@ use std::rt::Files;
 
 /// What a slot holds.
 #[derive(Clone, Copy)]
-pub(crate) enum Held {
+pub(crate) enum SlotContent {
     /// There is no file for the disk.
     NoFile,
     /// It can't be read.
@@ -24,30 +24,33 @@ pub(crate) enum Held {
     NoItem { used: bool },
 }
 
-impl Display for Held {
+impl Display for SlotContent {
     fn fmt<W: fmt::Write>(&self, f: &mut Formatter<W>) -> fmt::Result {
         match self {
-            Held::NoFile => f.write_str("there is no such file"),
-            Held::Unread => f.write_str("it can't be read"),
-            Held::Zeros => f.write_str("zeros are there"),
-            Held::Item(name) => {
-                let name = Shown(name.bytes());
+            SlotContent::NoFile => f.write_str("there is no such file"),
+            SlotContent::Unread => f.write_str("it can't be read"),
+            SlotContent::Zeros => f.write_str("zeros are there"),
+            SlotContent::Item(name) => {
+                let name = Excerpt(name.bytes());
                 write!(f, "the item `{name}` is there")
             }
-            Held::NoItem { .. } => f.write_str("bytes are there that are no item"),
+            SlotContent::NoItem { .. } => f.write_str("bytes are there that are no item"),
         }
     }
 }
 
-impl Held {
+impl SlotContent {
     /// Whether the slot counts as used.
     pub(crate) fn is_used(&self) -> bool {
-        matches!(self, Held::Item(_) | Held::NoItem { used: true })
+        matches!(
+            self,
+            SlotContent::Item(_) | SlotContent::NoItem { used: true }
+        )
     }
 
     /// Whether the slot's header names the item.
     pub(crate) fn is_item(&self, name: &Name) -> bool {
-        matches!(self, Held::Item(found) if found.bytes() == name.bytes())
+        matches!(self, SlotContent::Item(found) if found.bytes() == name.bytes())
     }
 }
 
@@ -57,27 +60,27 @@ pub(crate) fn look<R: Files<File = File> + AllocGlobal>(
     disk: &Name,
     slot: u32,
     bytes: &mut [u8; SLOT],
-) -> Result<Held, AllocError> {
-    let name = Shown(disk.bytes());
+) -> Result<SlotContent, AllocError> {
+    let name = Excerpt(disk.bytes());
     let file = format!(in rt.alloc(); "{name}.disk")?;
     if is_missing(rt, file.as_str()) {
-        return Ok(Held::NoFile);
+        return Ok(SlotContent::NoFile);
     }
     match read_at(rt, file.as_str(), u64::from(slot) * SLOT as u64, bytes) {
         Some(()) => Ok(held_in(bytes)),
-        None => Ok(Held::Unread),
+        None => Ok(SlotContent::Unread),
     }
 }
 
 /// What the bytes of a slot are: in its header the name is followed by zeros.
-fn held_in(bytes: &[u8; SLOT]) -> Held {
+fn held_in(bytes: &[u8; SLOT]) -> SlotContent {
     if bytes.iter().all(|b| *b == 0) {
-        return Held::Zeros;
+        return SlotContent::Zeros;
     }
     let used = bytes[0] == 1;
     let end = (2 + bytes[1] as usize).min(HEADER);
     match Name::read(&bytes[2..end]) {
-        Some(name) if used && bytes[end..HEADER].iter().all(|b| *b == 0) => Held::Item(name),
-        _ => Held::NoItem { used },
+        Some(name) if used && bytes[end..HEADER].iter().all(|b| *b == 0) => SlotContent::Item(name),
+        _ => SlotContent::NoItem { used },
     }
 }

@@ -1,10 +1,10 @@
 //! Status 9: which slot is not as it should be, what it holds, and where to look first.
 
-use crate::excerpts::{Said, Shown};
+use crate::excerpts::{Excerpt, Said};
 use crate::files::{Given, Typed};
 use crate::made::{SLOT, holds_made};
 use crate::rows::{Key, Rows, field, number_at};
-use crate::slots::{Held, look};
+use crate::slots::{SlotContent, look};
 use mig_base::Name;
 use std::alloc::AllocError;
 use std::fs::File;
@@ -22,7 +22,7 @@ fn spot_in(given: &Given<'_>, item: &Name) -> Option<(Name, u32)> {
 }
 
 fn say_slot(f: &mut String, disk: &Name, slot: u32) -> Said {
-    let disk = Shown(disk.bytes());
+    let disk = Excerpt(disk.bytes());
     write!(f, "migrate: {disk}.disk, slot {slot}")
 }
 
@@ -41,7 +41,7 @@ pub(crate) fn say_lost<R: Files<File = File> + AllocGlobal>(
     if held.is_item(item) {
         return Ok(());
     }
-    let item = Shown(item.bytes());
+    let item = Excerpt(item.bytes());
     let disks = given.shown("DISKS");
     let now = given.shown("NOW");
     say_slot(f, &disk, slot)?;
@@ -81,7 +81,7 @@ fn say_filled<R: Files<File = File> + AllocGlobal>(
     rt: &R,
     f: &mut String,
     given: &Given<'_>,
-    held: &Held,
+    held: &SlotContent,
 ) -> Said {
     write!(f, ": {held}")?;
     match given.file("NOW") {

@@ -1,9 +1,9 @@
 //! Which line of a plan, a certificate or a script is refused, and what was expected there.
 
 use crate::certs::say_cert_line;
-use crate::excerpts::{Said, Shown, point, point_whole};
+use crate::excerpts::{Excerpt, Said, point, point_whole};
 use crate::files::Given;
-use crate::plans::{Place, Want, line_at, look_for, word_at};
+use crate::plans::{LineKind, Want, line_at, look_for, word_at};
 use crate::rows::Key;
 use mig_base::{MAX_FILE_BYTES, MAX_ROUNDS, MAX_SHIFTS, MAX_SLOTS, read_digits};
 use mig_words::TextFile;
@@ -63,23 +63,23 @@ fn say_plan_line(f: &mut String, given: &Given<'_>, text: &[u8], number: u32) ->
         return f.push_str("the text ends here");
     };
     match step.place {
-        Place::Start | Place::Title => f.push_str(
+        LineKind::Start | LineKind::Title => f.push_str(
             "a plan begins with the line `migration-plan 1`: is this the file of PLAN?",
         ),
-        Place::Count => write!(
+        LineKind::Count => write!(
             f,
             "wanted is `rounds R`, the number of the plan's rounds, at most {MAX_ROUNDS}"
         ),
-        Place::Head => {
+        LineKind::Head => {
             let round = step.round;
             write!(
                 f,
                 "wanted is `round {round} C`, C the number of the lines that follow for it, at most {MAX_SHIFTS}"
             )
         }
-        Place::Shift => say_shift(f, given, step.text.unwrap_or(&[])),
-        Place::End => f.push_str("wanted is the line `end`: all rounds were there"),
-        Place::Nothing => f.push_str(after_end(step.text)),
+        LineKind::Shift => say_shift(f, given, step.text.unwrap_or(&[])),
+        LineKind::End => f.push_str("wanted is the line `end`: all rounds were there"),
+        LineKind::Nothing => f.push_str(after_end(step.text)),
     }
 }
 
@@ -112,7 +112,7 @@ fn is_wrong(given: &Given<'_>, place: usize, word: &[u8]) -> bool {
 }
 
 fn say_wrong(f: &mut String, given: &Given<'_>, place: usize, word: &[u8]) -> Said {
-    let word = Shown(word);
+    let word = Excerpt(word);
     let (role, kind) = match place {
         0 => ("NOW", "item"),
         1 | 3 => ("DISKS", "disk"),

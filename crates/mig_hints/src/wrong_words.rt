@@ -1,10 +1,10 @@
 //! Status 2: why the words are no command.
 
 use crate::commands::{is_saved, row_of};
-use crate::excerpts::{Said, Shown};
+use crate::excerpts::{Excerpt, Said};
 use crate::names::say_no_name;
 use mig_base::{MAX_DISKS, MAX_ITEMS, MAX_LIMIT, Name, read_digits};
-use mig_words::{ROWS, Row};
+use mig_words::{CommandRow, ROWS};
 use std::alloc::{AllocError, Global};
 use strsim::osa_distance;
 
@@ -50,7 +50,7 @@ pub(crate) fn say_words(alloc: Global, f: &mut String, words: &[String]) -> Said
 
 /// A word that is no command.
 fn say_unknown(f: &mut String, word: &str, nearest: Option<&'static str>) -> Said {
-    let shown = Shown(word.as_bytes());
+    let shown = Excerpt(word.as_bytes());
     match nearest {
         Some(command) => write!(f, "`{shown}` is no command; is it `{command}`?"),
         None if is_option(word) => {
@@ -76,17 +76,17 @@ fn option_in(given: &[String]) -> Option<&str> {
 }
 
 /// Too few words or too many.
-fn say_count(f: &mut String, row: &Row, given: &[String]) -> Said {
+fn say_count(f: &mut String, row: &CommandRow, given: &[String]) -> Said {
     match option_in(given) {
         Some(option) => {
-            let option = Shown(option.as_bytes());
+            let option = Excerpt(option.as_bytes());
             write!(f, "there are no options; `{option}` is one")
         }
         None => say_number(f, row, given),
     }
 }
 
-fn say_number(f: &mut String, row: &Row, given: &[String]) -> Said {
+fn say_number(f: &mut String, row: &CommandRow, given: &[String]) -> Said {
     let command = row.word;
     let wanted = row.roles.len();
     let count = given.len();
@@ -98,13 +98,13 @@ fn say_number(f: &mut String, row: &Row, given: &[String]) -> Said {
         return write!(f, "{role} is missing");
     }
     match given.get(wanted) {
-        Some(word) => write!(f, "`{}` is too many", Shown(word.as_bytes())),
+        Some(word) => write!(f, "`{}` is too many", Excerpt(word.as_bytes())),
         None => Ok(()),
     }
 }
 
 /// A word that can't name the file, or the disk, that it is for, or two that are the same.
-fn say_files(f: &mut String, row: &Row, given: &[String]) -> Said {
+fn say_files(f: &mut String, row: &CommandRow, given: &[String]) -> Said {
     for (role, word) in row.roles.iter().zip(given) {
         let bytes = word.as_bytes();
         let length = bytes.len();
@@ -117,7 +117,7 @@ fn say_files(f: &mut String, row: &Row, given: &[String]) -> Said {
                 return f.push_str(", and a file's name at most 255");
             }
             _ if bytes.ends_with(b".disk") || bytes.ends_with(b".mig") => {
-                let shown = Shown(bytes);
+                let shown = Excerpt(bytes);
                 write!(
                     f,
                     "`{shown}`, the word for {role}, is named as a disk's file or "
@@ -131,7 +131,7 @@ fn say_files(f: &mut String, row: &Row, given: &[String]) -> Said {
 }
 
 /// Two words that are the same where one of them is saved.
-fn say_pair(f: &mut String, row: &Row, given: &[String]) -> Said {
+fn say_pair(f: &mut String, row: &CommandRow, given: &[String]) -> Said {
     for (role, word) in row.roles.iter().zip(given) {
         if is_saved(row, role) {
             if let Some(other) = same_word(row.roles, given, role, word.as_str()) {
@@ -143,7 +143,7 @@ fn say_pair(f: &mut String, row: &Row, given: &[String]) -> Said {
 }
 
 fn say_same(f: &mut String, word: &[u8], role: &str, other: &str) -> Said {
-    let word = Shown(word);
+    let word = Excerpt(word);
     write!(
         f,
         "`{word}` is the word for {role} and for {other}, and {role} is saved: the two must differ"
@@ -161,10 +161,10 @@ fn same_word<'a>(roles: &[&'a str], given: &[String], role: &str, word: &str) ->
 }
 
 /// The three numbers of a rehearsal.
-fn say_case(f: &mut String, row: &Row, given: &[String]) -> Said {
+fn say_case(f: &mut String, row: &CommandRow, given: &[String]) -> Said {
     for (role, word) in row.roles.iter().zip(given) {
         if read_digits(word.as_bytes()).is_none() {
-            let word = Shown(word.as_bytes());
+            let word = Excerpt(word.as_bytes());
             return write!(
                 f,
                 "{role} is `{word}`, and must be 1 to 10 digits, nothing else"

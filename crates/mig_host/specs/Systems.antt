@@ -4,24 +4,24 @@ use Rattle.std.specs.declared.io.ErrorKind.{ErrorKind}
 use Rattle.std.specs.declared.io.ErrorKind.TheVariants.{NotFound, NotADirectory}
 use Rattle.mig_host.specs.declared.system.Kind.{Kind}
 use Rattle.mig_host.specs.declared.system.Kind.TheVariants as kind
-use Rattle.mig_host.specs.declared.system.Node.{Node}
-use Rattle.mig_host.specs.declared.system.Node.TheVariants.{Plain, Device}
+use Rattle.mig_host.specs.declared.system.FileIdentity.{FileIdentity}
+use Rattle.mig_host.specs.declared.system.FileIdentity.TheVariants.{Plain, Device}
 use Rattle.mig_host.specs.declared.system.Stat.{Stat}
-use Rattle.mig_host.specs.declared.identity.Found.{Found}
-use Rattle.mig_host.specs.declared.identity.Found.TheVariants as found
+use Rattle.mig_host.specs.declared.identity.PathKind.{PathKind}
+use Rattle.mig_host.specs.declared.identity.PathKind.TheVariants as found
 
 -- What was so of the system at a moment.
 pub data Fact : Type 0 where
   -- the path led to this file, over links
-  Led : (path : List ℕ) (node : Node) → Fact
+  Led : (path : List ℕ) (node : FileIdentity) → Fact
   -- it led to nothing
   Absent : (path : List ℕ) → Fact
   -- nothing stood there, and no link
   Bare : (path : List ℕ) → Fact
   -- this process made the file
-  Made : (node : Node) → Fact
+  Made : (node : FileIdentity) → Fact
   -- this process opened the file once more, and did not get its lock there
-  Denied : (node : Node) → Fact
+  Denied : (node : FileIdentity) → Fact
 
 -- What the system tells a process. Between any two calls, and within them, others act, so nothing is said of what is so now.
 pub record SystemState : Type 1 where
@@ -40,13 +40,13 @@ abbrev pub Finds : SystemState → SystemState → Fact → Type 0
 Finds old new fact = (t : ℕ) → t ≤ old.moment → new.saw fact t
 
 -- A file is this process's alone: it has held the lock since a moment, and since then the path led to it, and whoever opened it there did not get the lock.
-pub record IsOwn (s : SystemState) (path : List ℕ) (node : Node) (held : Bool) (from : ℕ) : Type 0 where
+pub record IsOwn (s : SystemState) (path : List ℕ) (node : FileIdentity) (held : Bool) (from : ℕ) : Type 0 where
   pub lock : IsTrue held
   pub led : s.saw (Led path node) from
   pub denied : s.saw (Denied node) from
 
 -- the path led to this file between old and new, and whoever opened it there did not get its lock
-pub record IsLookedAt (old new : SystemState) (path : List ℕ) (node : Node) : Type 0 where
+pub record IsLookedAt (old new : SystemState) (path : List ℕ) (node : FileIdentity) : Type 0 where
   pub led : Finds old new (Led path node)
   pub denied : Finds old new (Denied node)
 
@@ -55,32 +55,32 @@ abbrev pub IsNowhere : ErrorKind → Type 0
 IsNowhere k = (k ≡ NotFound) ⊎ (k ≡ NotADirectory)
 
 -- which file it is that the system tells of
-abbrev pub node_by : Kind → Stat → Node
+abbrev pub node_by : Kind → Stat → FileIdentity
 node_by kind.Device s = Device s.number
 node_by k s = Plain s.device s.inode
 
-abbrev pub stat_node : Stat → Node
+abbrev pub stat_node : Stat → FileIdentity
 stat_node s = node_by s.kind s
 
 -- what the system told is this
-abbrev pub IsKindOf : Stat → Found → Type 0
+abbrev pub IsKindOf : Stat → PathKind → Type 0
 IsKindOf s found.Nothing = ⊥
 IsKindOf s found.File = ⊤
 IsKindOf s (found.Device number) = stat_node s ≡ Device number
 
 -- nothing was there between old and new, where that is what was found
-abbrev pub IsBareAt : SystemState → SystemState → List ℕ → Found → Type 0
+abbrev pub IsBareAt : SystemState → SystemState → List ℕ → PathKind → Type 0
 IsBareAt old new path found.Nothing = Finds old new (Bare path)
 IsBareAt old new path other = ⊥
 
 -- what was found at a path between old and new
-abbrev pub IsFoundAt : SystemState → SystemState → List ℕ → Found → Type 0
+abbrev pub IsFoundAt : SystemState → SystemState → List ℕ → PathKind → Type 0
 IsFoundAt old new path found.Nothing = Finds old new (Absent path) × Finds old new (Bare path)
 IsFoundAt old new path found.File = ⊤
 IsFoundAt old new path (found.Device number) = Finds old new (Led path (Device number))
 
 -- the file that was opened after this was found
-abbrev pub IsOpenedAt : SystemState → SystemState → List ℕ → Node → Found → Type 0
+abbrev pub IsOpenedAt : SystemState → SystemState → List ℕ → FileIdentity → PathKind → Type 0
 IsOpenedAt old new path node found.Nothing = ⊥
 IsOpenedAt old new path node found.File = Finds old new (Led path node)
 IsOpenedAt old new path node (found.Device number) = node ≡ Device number

@@ -8,8 +8,8 @@ abbrev pub untold : SystemState
 untold = record { moment = 0; saw = λ fact t. ⊤ }
 
 -- What isn't told holds of no files, so each of these may be said.
-abbrev pub host_state : ℕ → ℕ → ℕ → Bool → FilesState
-host_state faults refused unmade usable = record {
+abbrev pub untold_state : ℕ → ℕ → ℕ → Bool → FilesState
+untold_state faults refused unmade usable = record {
   told = λ place. false;
   reads = λ place i. 0;
   may_leave = λ files. ⊥;
@@ -24,7 +24,7 @@ host_state faults refused unmade usable = record {
   usable = usable;
 }
 
-pub host_is_state : (faults refused unmade : ℕ) (usable : Bool) → IsFilesState (host_state faults refused unmade usable)
+pub host_is_state : (faults refused unmade : ℕ) (usable : Bool) → IsFilesState (untold_state faults refused unmade usable)
 host_is_state faults refused unmade usable = record {
   counts_now = λ t files le none. none;
   only_now = λ files none. none;

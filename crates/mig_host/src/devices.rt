@@ -1,21 +1,21 @@
 //! Block devices, as the system tells of them.
 use crate::failures::unless_told;
 use crate::mounts::check_mounts;
-use crate::system::{Node, System};
+use crate::system::{FileIdentity, System};
 use crate::tables::{list, major_and_minor, number_of, path_in, text_if_there, text_in};
 use std::io::{self, Error, ErrorKind};
 
 /// A device, a partition or a file that a device's bytes lie in.
 #[derive(Clone, Copy)]
-pub struct Part {
-    pub node: Node,
+pub struct DevicePart {
+    pub node: FileIdentity,
     /// All of its bytes are the device's.
     pub whole: bool,
 }
 
-impl Part {
+impl DevicePart {
     /// Whether it has bytes of one of these. Two partitions of a disk have bytes of one file, and none in common.
-    pub fn overlaps(&self, others: &[Part]) -> bool {
+    pub fn overlaps(&self, others: &[DevicePart]) -> bool {
         others.iter().any(|other| self.node == other.node && (self.whole || other.whole))
     }
 }
@@ -25,7 +25,7 @@ impl Part {
 pub struct Device {
     /// Its node in the system's own table, by which all processes lock it.
     pub path: String,
-    pub parts: Vec<Part>,
+    pub parts: Vec<DevicePart>,
 }
 
 /// Finds a device by its number. One that is in use, or of which the system doesn't tell, is refused.
@@ -128,7 +128,7 @@ fn check_devices<S: System>(sys: &S, system: &str, numbers: &[u64]) -> io::Resul
 const MOST_LAYERS: usize = 1024;
 
 /// The parts of a device: those of which all bytes are its own, and those that it has some bytes of, as the disk of a partition.
-fn parts_of<S: System>(sys: &S, folder: &str) -> io::Result<Vec<Part>> {
+fn parts_of<S: System>(sys: &S, folder: &str) -> io::Result<Vec<DevicePart>> {
     let mut parts = Vec::new(sys.alloc());
     let mut folders = Vec::new(sys.alloc());
     folders.push(path_in(sys.alloc(), folder, ".")?)?;
@@ -139,7 +139,7 @@ fn parts_of<S: System>(sys: &S, folder: &str) -> io::Result<Vec<Part>> {
 fn note_layers<S: System>(
     sys: &S,
     folders: &mut Vec<String>,
-    parts: &mut Vec<Part>,
+    parts: &mut Vec<DevicePart>,
 ) -> io::Result<()> {
     for n in 0..MOST_LAYERS {
         let Some(folder) = folders.pop() else {
@@ -156,11 +156,11 @@ fn note_parts<S: System>(
     sys: &S,
     folder: &str,
     whole: bool,
-    parts: &mut Vec<Part>,
+    parts: &mut Vec<DevicePart>,
 ) -> io::Result<()> {
     let number = number_in(sys, folder, "dev")?;
-    let node = Node::Device { number };
-    parts.push(Part { node, whole })?;
+    let node = FileIdentity::Device { number };
+    parts.push(DevicePart { node, whole })?;
     let path = path_in(sys.alloc(), folder, "loop/backing_file")?;
     match text_if_there(sys, path.as_str())? {
         Some(told) => note_file(sys, told.trim_end_matches('\n'), whole, parts),
@@ -168,11 +168,16 @@ fn note_parts<S: System>(
     }
 }
 
-fn note_file<S: System>(sys: &S, path: &str, whole: bool, parts: &mut Vec<Part>) -> io::Result<()> {
+fn note_file<S: System>(
+    sys: &S,
+    path: &str,
+    whole: bool,
+    parts: &mut Vec<DevicePart>,
+) -> io::Result<()> {
     match sys.entry(path) {
         Ok(found) => {
             let node = found.node();
-            parts.push(Part { node, whole })?;
+            parts.push(DevicePart { node, whole })?;
             Ok(())
         }
         Err(error) if error.kind() == ErrorKind::NotFound => Ok(()),

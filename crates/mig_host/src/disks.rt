@@ -6,7 +6,7 @@ use crate::failures::{Failure, too_many_open};
 use crate::identity::{check_name, exchanged};
 use crate::journal::Journal;
 use crate::opened::{Opened, open_again, open_to_read, open_to_write, take};
-use crate::system::{Access, Node, System};
+use crate::system::{Access, FileIdentity, System};
 use crate::texts::path_of;
 use indexmap::{IndexMap, IndexSet};
 use mig_base::Name;
@@ -22,9 +22,9 @@ pub struct Disks<S: System> {
     recent: usize,
     absent: IndexSet<Name>,
     /// The file of each disk that was opened.
-    known: IndexMap<Name, Node>,
+    known: IndexMap<Name, FileIdentity>,
     /// The disk that has this file, or, where that is told so, a part of it.
-    owners: IndexMap<Node, (Name, bool)>,
+    owners: IndexMap<FileIdentity, (Name, bool)>,
     /// A disk was written since the journal was.
     written: bool,
     /// The disks that were closed since it was looked whether they have their names still, and those that were written.
@@ -321,7 +321,7 @@ impl<S: System> Disks<S> {
     }
 
     /// Notes that a disk has a file, or a part of it. Two of them may have parts of one file.
-    fn note_owner(&mut self, name: &Name, node: Node, whole: bool) -> Result<(), Failure> {
+    fn note_owner(&mut self, name: &Name, node: FileIdentity, whole: bool) -> Result<(), Failure> {
         match self.owners.get(&node) {
             Some((other, owns)) if other != name && (*owns || whole) => {
                 return Err(Failure::OneFile(*name, *other));
@@ -347,7 +347,7 @@ impl<S: System> Disks<S> {
 /// Looks whether these disks have their names still, and forgets them.
 fn look_at_each<S: System>(
     sys: &mut S,
-    known: &IndexMap<Name, Node>,
+    known: &IndexMap<Name, FileIdentity>,
     names: &mut IndexSet<Name>,
 ) -> Result<(), Failure>
     ensures { Goes (S.System.state sys.old) (S.System.state sys.new) }
@@ -392,7 +392,7 @@ fn sync_named<S: System>(sys: &mut S, name: &Name, opened: &Opened<S>) -> Result
 }
 
 /// Refuses a disk whose name leads to another file than this one.
-fn check_named<S: System>(sys: &mut S, name: &Name, node: Node) -> Result<(), Failure>
+fn check_named<S: System>(sys: &mut S, name: &Name, node: FileIdentity) -> Result<(), Failure>
     ensures led { OnOk result (Finds (S.System.state sys.old) (S.System.state sys.new) (Led (disk_path name.now) node)) }
     ensures goes { Goes (S.System.state sys.old) (S.System.state sys.new) }
 {

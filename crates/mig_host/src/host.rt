@@ -2,14 +2,14 @@
 ghost use Rattle.std.specs.Prelude.{◌≡◌, ◌≤◌, IsTrue};
 ghost use Rattle.mig_calls.specs.declared.places.Place.{Place as Places};
 ghost use Rattle.mig_calls.specs.Files.{HasCallCause, IsCallCause, StaysUsable};
-ghost use Rattle.mig_host.specs.Untold.{host_state, host_is_state};
+ghost use Rattle.mig_host.specs.Untold.{untold_state, host_is_state};
 
 use crate::disks::Disks;
 use crate::failures::Failure;
 use crate::files::{claim_journal, noted, sync_names, write_journal};
 use crate::journal::Journal;
 use crate::system::System;
-use crate::texts::Told;
+use crate::texts::RefusalText;
 use mig_calls::{CallError, Calls, Extent, Place, Refusal, Written};
 
 /// The calls over a system. They tell nothing but how many failed or were not made, how often the store refused, and whether a sync failed in this process. What failed, and why, is said on standard error.
@@ -65,7 +65,7 @@ impl<S: System> SystemCalls<S> {
 
     /// Counts a call that failed, and says why. One that may be made again is counted apart, and not told.
     fn counted(&mut self, failure: Failure) -> CallError
-        ensures cause { IsCallCause (host_state self.old.faults self.old.refused self.old.unmade self.old.usable) (host_state self.new.faults self.new.refused self.new.unmade self.new.usable) result }
+        ensures cause { IsCallCause (untold_state self.old.faults self.old.refused self.old.unmade self.old.usable) (untold_state self.new.faults self.new.refused self.new.unmade self.new.usable) result }
         ensures usable { self.new.usable ≡ self.old.usable }
         ensures later { self.old.faults ≤ self.new.faults }
         ensures more { self.old.unmade ≤ self.new.unmade }
@@ -87,7 +87,7 @@ impl<S: System> SystemCalls<S> {
     /// What a call gave; where it failed, that is counted.
     fn answer<T>(&mut self, made: Result<T, Failure>) -> Result<T, CallError>
         ensures refused { self.new.refused ≡ self.old.refused }
-        ensures cause { HasCallCause (host_state self.old.faults self.old.refused self.old.unmade self.old.usable) (host_state self.new.faults self.new.refused self.new.unmade self.new.usable) result }
+        ensures cause { HasCallCause (untold_state self.old.faults self.old.refused self.old.unmade self.old.usable) (untold_state self.new.faults self.new.refused self.new.unmade self.new.usable) result }
         ensures usable { self.new.usable ≡ self.old.usable }
     {
         match made {
@@ -99,8 +99,8 @@ impl<S: System> SystemCalls<S> {
     /// The same of a sync: after one that failed nothing may be written.
     fn synced(&mut self, made: Result<(), Failure>) -> Result<(), CallError>
         ensures refused { self.new.refused ≡ self.old.refused }
-        ensures cause { HasCallCause (host_state self.old.faults self.old.refused self.old.unmade self.old.usable) (host_state self.new.faults self.new.refused self.new.unmade self.new.usable) result }
-        ensures usable { StaysUsable (host_state self.old.faults self.old.refused self.old.unmade self.old.usable) (host_state self.new.faults self.new.refused self.new.unmade self.new.usable) result }
+        ensures cause { HasCallCause (untold_state self.old.faults self.old.refused self.old.unmade self.old.usable) (untold_state self.new.faults self.new.refused self.new.unmade self.new.usable) result }
+        ensures usable { StaysUsable (untold_state self.old.faults self.old.refused self.old.unmade self.old.usable) (untold_state self.new.faults self.new.refused self.new.unmade self.new.usable) result }
     {
         match self.answer(made) {
             Ok(()) => Ok(()),
@@ -114,7 +114,7 @@ impl<S: System> SystemCalls<S> {
 }
 
 impl<S: System> Calls for SystemCalls<S> {
-    ghost state = { λ h. host_state h.faults h.refused h.unmade h.usable };
+    ghost state = { λ h. untold_state h.faults h.refused h.unmade h.usable };
 
     ghost is_state = { λ h. host_is_state h.faults h.refused h.unmade h.usable };
 
@@ -180,7 +180,7 @@ impl<S: System> Calls for SystemCalls<S> {
     }
 
     fn refuse(&mut self, why: &Refusal) {
-        self.sys.say(Told(why));
+        self.sys.say(RefusalText(why));
         if why.is_found() {
             self.refused = self.refused.saturating_add(1);
             return;

@@ -2,12 +2,12 @@
 ghost use Rattle.std.specs.Prelude.{IfOk, OnOk};
 ghost use Rattle.mig_host.specs.Systems.{Finds, Goes, IsBareAt, IsFoundAt, IsKindOf, Led};
 
-use crate::system::{Kind, Node, Stat, System};
+use crate::system::{FileIdentity, Kind, Stat, System};
 use std::io::{self, Error, ErrorKind};
 
 /// What a path of the store leads to.
 #[derive(Clone, Copy)]
-pub enum Found {
+pub enum PathKind {
     Nothing,
     File,
     /// A block device, with its number.
@@ -15,7 +15,7 @@ pub enum Found {
 }
 
 /// Looks at a path before it is opened: a pipe would hang there. A link that leads nowhere is refused, since it is a disk that isn't there and not a new one.
-pub fn found_at<S: System>(sys: &mut S, path: &str) -> io::Result<Found>
+pub fn found_at<S: System>(sys: &mut S, path: &str) -> io::Result<PathKind>
     ensures found { IfOk result (IsFoundAt (S.System.state sys.old) (S.System.state sys.new) path.now) }
     ensures goes { Goes (S.System.state sys.old) (S.System.state sys.new) }
 {
@@ -26,12 +26,12 @@ pub fn found_at<S: System>(sys: &mut S, path: &str) -> io::Result<Found>
     }
 }
 
-fn kind_of(stat: &Stat) -> io::Result<Found>
+fn kind_of(stat: &Stat) -> io::Result<PathKind>
     ensures { IfOk result (IsKindOf stat.now) }
 {
     match stat.kind {
-        Kind::Plain => Ok(Found::File),
-        Kind::Device => Ok(Found::Device(stat.number)),
+        Kind::Plain => Ok(PathKind::File),
+        Kind::Device => Ok(PathKind::Device(stat.number)),
         Kind::Folder => Err(ErrorKind::IsADirectory.into()),
         Kind::Link | Kind::Other => {
             Err(Error::other("it is neither a plain file nor a block device"))
@@ -40,13 +40,13 @@ fn kind_of(stat: &Stat) -> io::Result<Found>
 }
 
 /// Nothing is found only where no link stands either.
-fn nothing_at<S: System>(sys: &mut S, path: &str) -> io::Result<Found>
+fn nothing_at<S: System>(sys: &mut S, path: &str) -> io::Result<PathKind>
     ensures found { IfOk result (IsBareAt (S.System.state sys.old) (S.System.state sys.new) path.now) }
     ensures goes { Goes (S.System.state sys.old) (S.System.state sys.new) }
 {
     match sys.lstat(path) {
         Ok(stat) => Err(in_the_way(stat.kind == Kind::Link)),
-        Err(error) if error.kind() == ErrorKind::NotFound => Ok(Found::Nothing),
+        Err(error) if error.kind() == ErrorKind::NotFound => Ok(PathKind::Nothing),
         Err(error) => Err(error),
     }
 }
@@ -62,7 +62,7 @@ fn in_the_way(is_link: bool) -> Error {
 }
 
 /// Refuses a name that leads to another file than this one.
-pub fn check_name<S: System>(sys: &mut S, path: &str, node: Node) -> io::Result<()>
+pub fn check_name<S: System>(sys: &mut S, path: &str, node: FileIdentity) -> io::Result<()>
     ensures led { OnOk result (Finds (S.System.state sys.old) (S.System.state sys.new) (Led path.now node)) }
     ensures goes { Goes (S.System.state sys.old) (S.System.state sys.new) }
 {

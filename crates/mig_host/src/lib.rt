@@ -18,4 +18,4 @@ mod unsynced;
 
 pub use host::SystemCalls;
 pub use host_system::HostSystem;
-pub use system::{Access, Handle, Kind, Node, Stat, System};
+pub use system::{Access, FileIdentity, Handle, Kind, Stat, System};

@@ -1,12 +1,12 @@
 //! A file that is open, with reads and writes at an offset.
 ghost use Rattle.std.specs.Prelude.{◌≡◌, ◌⊎◌, ◌≤◌, ◌<◌, ℕ, IsTrue, IfOk, IfSome, IfNone, OnOk, length};
 ghost use Rattle.mig_host.specs.Systems.{Absent, Finds, Goes, IsLookedAt, IsOpenedAt, IsOwn, Led, Made};
-ghost use Rattle.mig_host.specs.declared.system.Node.{Node as Nodes};
-ghost use Rattle.mig_host.specs.declared.system.Node.TheVariants.{Device as DeviceOf};
+ghost use Rattle.mig_host.specs.declared.system.FileIdentity.{FileIdentity as Nodes};
+ghost use Rattle.mig_host.specs.declared.system.FileIdentity.TheVariants.{Device as DeviceOf};
 
-use crate::devices::{Part, find_device};
-use crate::identity::{Found, exchanged, found_at};
-use crate::system::{Access, Node, System};
+use crate::devices::{DevicePart, find_device};
+use crate::identity::{PathKind, exchanged, found_at};
+use crate::system::{Access, FileIdentity, System};
 use mig_calls::Extent;
 use std::io::{self, Error, ErrorKind};
 
@@ -19,9 +19,9 @@ pub struct Opened<S: System> {
     /// It may be read only.
     pub fixed: bool,
     /// Which file of the system it is.
-    pub node: Node,
+    pub node: FileIdentity,
     /// What its bytes lie in: the file itself, and of a device the others.
-    pub parts: Vec<Part>,
+    pub parts: Vec<DevicePart>,
     /// Its permissions.
     pub mode: u32,
     /// The look at the disk's name that comes after its last write; 0 before one.
@@ -37,9 +37,9 @@ pub fn open_to_read<S: System>(sys: &mut S, path: &str) -> io::Result<Option<Ope
     ensures goes { Goes (S.System.state sys.old) (S.System.state sys.new) }
 {
     match found_at(sys, path)? {
-        Found::Nothing => Ok(None),
-        Found::Device(number) => Ok(Some(open_device(sys, number, Access::Read)?)),
-        Found::File => open_if_there(sys, path),
+        PathKind::Nothing => Ok(None),
+        PathKind::Device(number) => Ok(Some(open_device(sys, number, Access::Read)?)),
+        PathKind::File => open_if_there(sys, path),
     }
 }
 
@@ -66,9 +66,9 @@ pub fn open_to_write<S: System>(sys: &mut S, path: &str) -> io::Result<(Opened<S
     ensures goes { Goes (S.System.state sys.old) (S.System.state sys.new) }
 {
     match found_at(sys, path)? {
-        Found::Nothing => make_or_open(sys, path),
-        Found::Device(number) => Ok((open_device(sys, number, Access::Both)?, false)),
-        Found::File => Ok((open_there(sys, path, Access::Both)?, false)),
+        PathKind::Nothing => make_or_open(sys, path),
+        PathKind::Device(number) => Ok((open_device(sys, number, Access::Both)?, false)),
+        PathKind::File => Ok((open_there(sys, path, Access::Both)?, false)),
     }
 }
 
@@ -91,7 +91,7 @@ fn make_or_open<S: System>(sys: &mut S, path: &str) -> io::Result<(Opened<S>, bo
 fn open_found<S: System>(
     sys: &mut S,
     path: &str,
-    found: Found,
+    found: PathKind,
     access: Access,
 ) -> io::Result<Opened<S>>
     ensures node { IfOk result (λ opened. IsOpenedAt (S.System.state sys.old) (S.System.state sys.new) path.now opened.node found) }
@@ -99,9 +99,9 @@ fn open_found<S: System>(
     ensures goes { Goes (S.System.state sys.old) (S.System.state sys.new) }
 {
     match found {
-        Found::Nothing => Err(exchanged()),
-        Found::Device(number) => open_device(sys, number, access),
-        Found::File => open_there(sys, path, access),
+        PathKind::Nothing => Err(exchanged()),
+        PathKind::Device(number) => open_device(sys, number, access),
+        PathKind::File => open_there(sys, path, access),
     }
 }
 
@@ -109,7 +109,7 @@ fn open_found<S: System>(
 pub fn open_again<S: System>(
     sys: &mut S,
     path: &str,
-    node: Node,
+    node: FileIdentity,
     access: Access,
 ) -> io::Result<Opened<S>>
     ensures same { IfOk result (λ opened. opened.node ≡ node) }
@@ -134,7 +134,7 @@ fn open_device<S: System>(sys: &mut S, number: u64, access: Access) -> io::Resul
 {
     let device = find_device(sys, number)?;
     let mut opened = open_there(sys, device.path.as_str(), access)?;
-    if opened.node != (Node::Device { number }) {
+    if opened.node != (FileIdentity::Device { number }) {
         return Err(Error::other("/dev has another node under the device's name"));
     }
     opened.parts = device.parts;
@@ -160,11 +160,11 @@ fn look_at<S: System>(sys: &S, file: S::File) -> io::Result<Opened<S>>
     let stat = sys.fstat(&file)?;
     let node = stat.node();
     let len = match node {
-        Node::Plain { .. } => stat.len,
-        Node::Device { .. } => sys.end(&file)?,
+        FileIdentity::Plain { .. } => stat.len,
+        FileIdentity::Device { .. } => sys.end(&file)?,
     };
     let mut parts = Vec::new(sys.alloc());
-    parts.push(Part { node, whole: true })?;
+    parts.push(DevicePart { node, whole: true })?;
     Ok(Opened {
         file,
         taken: false,
@@ -179,7 +179,7 @@ fn look_at<S: System>(sys: &S, file: S::File) -> io::Result<Opened<S>>
 
 /// What is meant for a standard stream that was closed must not land in the file.
 fn above_streams<S: System>(sys: &S, file: S::File) -> io::Result<S::File>
-    ensures { IfOk result (λ other. (node : Nodes) → S.File.is_of other node → S.File.is_of file node) }
+    ensures { IfOk result (λ other. (node : FileIdentity) → S.File.is_of other node → S.File.is_of file node) }
 {
     if sys.descriptor(&file) <= 2 {
         return sys.duplicate(&file);
@@ -201,7 +201,7 @@ pub fn take<S: System>(sys: &mut S, path: &str, opened: &mut Opened<S>) -> io::R
 }
 
 /// Sees that a path leads to a file that this process has taken, and that nobody who opens it there gets its lock.
-pub fn check_taken<S: System>(sys: &mut S, path: &str, node: Node) -> io::Result<()>
+pub fn check_taken<S: System>(sys: &mut S, path: &str, node: FileIdentity) -> io::Result<()>
     ensures looked { OnOk result (IsLookedAt (S.System.state sys.old) (S.System.state sys.new) path.now node) }
     ensures goes { Goes (S.System.state sys.old) (S.System.state sys.new) }
 {
@@ -255,8 +255,8 @@ impl<S: System> Opened<S> {
     /// How many bytes it has.
     pub fn extent(&self) -> Extent {
         match self.node {
-            Node::Plain { .. } => Extent::File { len: self.len },
-            Node::Device { .. } => Extent::Device { len: self.len },
+            FileIdentity::Plain { .. } => Extent::File { len: self.len },
+            FileIdentity::Device { .. } => Extent::Device { len: self.len },
         }
     }
 

@@ -2,7 +2,7 @@
 ghost use Rattle.std.specs.Prelude.{◌≡◌, ◌≤◌, ℕ, Bool, IsTrue, IsFalse, IfOk, IfErr, OnOk, length};
 ghost use Rattle.std.specs.IoError.{error_kind};
 ghost use Rattle.mig_host.specs.Systems.{SystemState, Finds, Goes, IsNowhere, stat_node, Led, Absent, Bare, Made, Denied};
-ghost use Rattle.mig_host.specs.declared.system.Node.{Node as Nodes};
+ghost use Rattle.mig_host.specs.declared.system.FileIdentity.{FileIdentity as Nodes};
 
 use std::alloc::Global;
 use std::fmt::Display;
@@ -10,7 +10,7 @@ use std::io::{self, Read, Write};
 
 /// Which file of the system it is, whatever its name. A device has a number, whatever file names it.
 #[derive(Clone, Copy, PartialEq, Eq, Hash)]
-pub enum Node {
+pub enum FileIdentity {
     Plain { device: u64, inode: u64 },
     Device { number: u64 },
 }
@@ -41,14 +41,14 @@ pub struct Stat {
 
 impl Stat {
     /// Which file it is.
-    pub fn node(&self) -> Node
+    pub fn node(&self) -> FileIdentity
         ensures { result ≡ stat_node self.now }
     {
         match self.kind {
-            Kind::Device => Node::Device {
+            Kind::Device => FileIdentity::Device {
                 number: self.number,
             },
-            _ => Node::Plain {
+            _ => FileIdentity::Plain {
                 device: self.device,
                 inode: self.inode,
             },
@@ -105,17 +105,18 @@ pub trait System: Drop {
 
     /// Opens the file that a path leads to. One that is to be made must not be there, nor a link.
     fn open(&mut self, path: &str, access: Access) -> io::Result<Self::File>
-        ensures led { IfOk result (λ file. (node : Nodes) → Self.File.is_of file node → Finds (state self.old) (state self.new) (Led path.now node)) }
-        ensures made { IfOk result (λ file. (node : Nodes) → Self.File.is_of file node → access ≡ Access.Make → Finds (state self.old) (state self.new) (Made node)) }
+        ensures led { IfOk result (λ file. (node : FileIdentity) → Self.File.is_of file node
+            → Finds (state self.old) (state self.new) (Led path.now node)) }
+        ensures made { IfOk result (λ file. (node : FileIdentity) → Self.File.is_of file node → access ≡ Access.Make → Finds (state self.old) (state self.new) (Made node)) }
         ensures absent { IfErr result (λ error. IsNowhere (error_kind error) → Finds (state self.old) (state self.new) (Absent path.now)) }
         ensures goes { Goes (state self.old) (state self.new) };
 
     /// Takes the file's lock, unless another opening of it has it.
     fn lock(&mut self, file: &mut Self::File) -> io::Result<bool>
-        ensures same { (node : Nodes) → Self.File.is_of file.old node → Self.File.is_of file.new node }
+        ensures same { (node : FileIdentity) → Self.File.is_of file.old node → Self.File.is_of file.new node }
         ensures held { IfOk result (λ got. IsTrue got → IsTrue (Self.File.holds file.new)) }
         ensures since { IfOk result (λ got. IsTrue got → Self.File.since file.new ≡ (state self.new).moment) }
-        ensures denied { IfOk result (λ got. IsFalse got → (node : Nodes) → Self.File.is_of file.old node → Finds (state self.old) (state self.new) (Denied node)) }
+        ensures denied { IfOk result (λ got. IsFalse got → (node : FileIdentity) → Self.File.is_of file.old node → Finds (state self.old) (state self.new) (Denied node)) }
         ensures goes { Goes (state self.old) (state self.new) };
 
     /// Reads some bytes at an offset.
@@ -151,7 +152,7 @@ pub trait System: Drop {
 
     /// Opens the open file once more, under another number.
     fn duplicate(&self, file: &Self::File) -> io::Result<Self::File>
-        ensures { IfOk result (λ other. (node : Nodes) → Self.File.is_of other node → Self.File.is_of file.now node) };
+        ensures { IfOk result (λ other. (node : FileIdentity) → Self.File.is_of other node → Self.File.is_of file.now node) };
 
     /// The number of an open file in this process.
     fn descriptor(&self, file: &Self::File) -> i32;

@@ -85,9 +85,9 @@ const MOUNTED: &str = "is the disk mounted?";
 
 /// Why the store refuses.
 #[derive(Clone, Copy)]
-pub struct Told<'a>(pub &'a Refusal);
+pub struct RefusalText<'a>(pub &'a Refusal);
 
-impl<'a> Display for Told<'a> {
+impl<'a> Display for RefusalText<'a> {
     fn fmt<W: fmt::Write>(&self, f: &mut Formatter<W>) -> fmt::Result {
         match self.0 {
             Refusal::Memory { place } => write_kind(f, place, ErrorKind::OutOfMemory),

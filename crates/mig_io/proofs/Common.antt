@@ -1,8 +1,8 @@
 -- The names that the proofs of this crate cite, passed on from one place. Declares nothing.
 pub use Rattle.mig_io.specs.Files.{Files, file}
-pub use Rattle.mig_io.specs.Memory.{Held}
-pub use Rattle.mig_io.specs.Places.{HasNone, IsFirstOf, file_in, files_of, map_of, room_in, rooms_of, with_value}
-pub use Rattle.mig_io.specs.declared.place.Place.{Place}
+pub use Rattle.mig_io.specs.Memory.{HeldFolder}
+pub use Rattle.mig_io.specs.Places.{HasNone, IsFirstPlace, file_in, files_of, map_of, room_in, rooms_of, with_value}
+pub use Rattle.mig_io.specs.declared.place.FolderEntry.{FolderEntry}
 pub use Rattle.std.proofs.Common.{Bool, List, None, Option, Some, [], ap, arith, cond, false, get_or, if◌then◌else◌, length, refl, rules, set, subst, suc, sym, true, vec_len, zero, ℕ, ◌++◌, ◌-◌}
 pub use Rattle.std.proofs.Common.{◌<◌, ◌∙◌, ◌∷◌, ◌≡◌, ◌≢◌, ◌≤◌}
 pub use Rattle.std.proofs.lemmas.Bool.Decides.{nat_tests}

@@ -4,7 +4,7 @@ ghost use Rattle.std.specs.IoError.{error_kind};
 
 use crate::reading::read_first;
 use crate::{Folder, LoadFault, SaveFailed};
-use mig_save::{HostSave, Node, PATH_MAX, Unsaved, node_of, save_over};
+use mig_save::{HostSave, Inode, PATH_MAX, Unsaved, node_of, save_over};
 use std::alloc::Global;
 use std::fs::{self, File};
 use std::io::{self, ErrorKind};
@@ -14,8 +14,8 @@ use std::rt::Files;
 pub struct DirFolder<'a, R: Files<File = File> + Eprint> {
     rt: &'a R,
     alloc: Global,
-    loaded: Vec<Node>,
-    saved: Option<Node>,
+    loaded: Vec<Inode>,
+    saved: Option<Inode>,
     faults: u64,
 }
 
@@ -76,7 +76,7 @@ fn read_noted(
     alloc: Global,
     file: &mut File,
     most: usize,
-    loaded: &mut Vec<Node>,
+    loaded: &mut Vec<Inode>,
 ) -> io::Result<Vec<u8>>
     ensures most { IfOk result (λ bytes. vec_len bytes ≤ most) }
 {
@@ -90,11 +90,11 @@ fn read_noted(
 fn save_named<R: Files<File = File>>(
     rt: &R,
     alloc: Global,
-    loaded: &[Node],
-    saved: Option<Node>,
+    loaded: &[Inode],
+    saved: Option<Inode>,
     name: &str,
     bytes: &[u8],
-) -> Result<Option<Node>, Unsaved> {
+) -> Result<Option<Inode>, Unsaved> {
     let mut room = [0u8; PATH_MAX];
     let mut calls = HostSave::new(rt, alloc, loaded, saved, name, &mut room);
     save_over(&mut calls, bytes)

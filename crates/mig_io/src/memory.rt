@@ -1,7 +1,7 @@
 ghost use Rattle.std.specs.Prelude.{◌≡◌, ◌≢◌, ◌≤◌, ◌<◌, ◌↔◌, ℕ, [], Some, None, IfOk, OnOk, OnErr, IsErrOf, IsOk, IsTrue, if◌then◌else◌, MatchOption, length, take, vec_len, Contains};
 ghost use Rattle.std.specs.Option.{IfSome, IsSomeAnd};
 
-use crate::place::Place;
+use crate::place::FolderEntry;
 use crate::{Folder, LoadFault, SaveFailed, places};
 use std::alloc::{AllocError, Global};
 use std::marker::Model;
@@ -9,7 +9,7 @@ use std::marker::Model;
 /// A folder in memory, which fails at the calls that it is told.
 pub struct MemFolder {
     alloc: Global,
-    places: Vec<Place>,
+    places: Vec<FolderEntry>,
     failing: Vec<u64>,
     calls: u64,
     faults: u64,
@@ -28,9 +28,9 @@ impl Drop for MemFolder {
 }
 
 impl Model for MemFolder {
-    ghost use Rattle.mig_io.specs.Memory.{Held, held_code};
+    ghost use Rattle.mig_io.specs.Memory.{HeldFolder, held_code};
 
-    ghost Value = { Held };
+    ghost Value = { HeldFolder };
 
     ghost coded = { held_code };
 
@@ -82,12 +82,12 @@ impl MemFolder {
 
 impl MemFolder {
     ghost use Rattle.mig_io.specs.Counts.{next_count};
-    ghost use Rattle.mig_io.specs.Memory.{fails, after_call, SavesAll};
+    ghost use Rattle.mig_io.specs.Memory.{folder_fails, folder_after, SavesAll};
 
     /// Counts a call, and says whether it is one that fails.
     fn begin(&mut self) -> bool
-        ensures fails { result ≡ fails self.old }
-        ensures counted { self.new ≡ after_call self.old self.old.faults }
+        ensures fails { result ≡ folder_fails self.old }
+        ensures counted { self.new ≡ folder_after self.old self.old.faults }
     {
         let fails = self.failing.iter().any(|n| *n == self.calls);
         self.calls = self.calls.saturating_add(1);
@@ -106,17 +106,17 @@ impl Folder for MemFolder {
     ghost use Rattle.std.specs.FinMap as map;
     ghost use Rattle.mig_io.specs.Files.{file};
     ghost use Rattle.mig_io.specs.Counts.{next_count};
-    ghost use Rattle.mig_io.specs.Memory.{fails, after_call, SavesAll};
+    ghost use Rattle.mig_io.specs.Memory.{folder_fails, folder_after, SavesAll};
 
     ghost state = { λ s. record { files = Some s.files; faults = s.faults } };
 
     /// Fails exactly at the numbers that were given.
     fn load(&mut self, alloc: Global, name: &str, most: usize) -> Result<Vec<u8>, LoadFault>
-        ensures failed { IsErrOf result LoadFault.Failed ↔ IsTrue (fails self.old) }
+        ensures failed { IsErrOf result LoadFault.Failed ↔ IsTrue (folder_fails self.old) }
         ensures bytes { IfOk result (λ bytes. IsSomeAnd (file self.old.files name.now) (λ whole. bytes.items ≡ take most whole)) }
         ensures most { IfOk result (λ bytes. vec_len bytes ≤ most) }
         ensures missing { IsErrOf result LoadFault.Missing → file self.old.files name.now ≡ None }
-        ensures after { self.new ≡ after_call self.old (if fails self.old then next_count self.old.faults else self.old.faults) }
+        ensures after { self.new ≡ folder_after self.old (if folder_fails self.old then next_count self.old.faults else self.old.faults) }
     {
         if self.begin() {
             self.fault();
@@ -133,8 +133,8 @@ impl Folder for MemFolder {
 
     /// Fails exactly at the numbers that were given, where nothing was granted to the name, and where the bytes are more than that.
     fn save(&mut self, name: &str, bytes: &[u8]) -> Result<(), SaveFailed>
-        ensures saved { OnOk result (self.new ≡ after_call (record self.old { files = map.insert self.old.files name.now bytes.now }) self.old.faults) }
-        ensures failed { OnErr result (self.new ≡ after_call self.old (next_count self.old.faults)) }
+        ensures saved { OnOk result (self.new ≡ folder_after (record self.old { files = map.insert self.old.files name.now bytes.now }) self.old.faults) }
+        ensures failed { OnErr result (self.new ≡ folder_after self.old (next_count self.old.faults)) }
         ensures succeeds { IsOk result ↔ SavesAll self.old name.now bytes.now }
     {
         if self.begin() || !places::save(&mut self.places, name, bytes) {

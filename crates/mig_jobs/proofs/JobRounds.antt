@@ -1,5 +1,5 @@
 -- The rounds of a job.
-use Rattle.mig_jobs.proofs.Common.{At, Cell, Contains, Contains-get_or, IsTask, List, Lists, MAX_FILE_BYTES, Shift, Some, Task, [], ap, arith, at_map, flight_of, flights_of, from_disk, get_or}
+use Rattle.mig_jobs.proofs.Common.{At, Cell, Contains, Contains-get_or, InputLists, IsTask, List, MAX_FILE_BYTES, Shift, Some, Task, [], ap, arith, at_map, flight_of, flights_of, from_disk, get_or}
 use Rattle.mig_jobs.proofs.Common.{get_or_default, layout_at, length, length-append, no_spot, round_at, shifts_of, slice_get, slice_get-get_or, slot_of, subst, suc, sym, take, to_disk, zero, ℕ}
 use Rattle.mig_jobs.proofs.Common.{◌+◌, ◌-◌, ◌<◌, ◌∙◌, ◌∷◌, ◌≡◌, ◌≤◌}
 
@@ -44,15 +44,15 @@ no_shift = record { item = record { 0 = 0 }; from = no_spot; to = no_spot }
 -- the shift that the code finds
 module _ (task : Task) (is : IsTask task) (round place : ℕ) (low : 1 ≤ round) (high : round ≤ length task.plan) (within : place < length (round_at task.plan round))
     (shifts : List Shift) (same : shifts ≡ round_at task.plan round) where
-  pub shift_on_disks : (input : Lists) → input ≡ task.input → ((get_or shifts place no_shift).from.disk.0 < length input.disks) × ((get_or shifts place no_shift).to.disk.0 < length input.disks)
-  shift_on_disks input is_input = subst (λ (i : Lists). ((get_or shifts place no_shift).from.disk.0 < length i.disks) × ((get_or shifts place no_shift).to.disk.0 < length i.disks)) (sym is_input)
+  pub shift_on_disks : (input : InputLists) → input ≡ task.input → ((get_or shifts place no_shift).from.disk.0 < length input.disks) × ((get_or shifts place no_shift).to.disk.0 < length input.disks)
+  shift_on_disks input is_input = subst (λ (i : InputLists). ((get_or shifts place no_shift).from.disk.0 < length i.disks) × ((get_or shifts place no_shift).to.disk.0 < length i.disks)) (sym is_input)
       (subst (λ (l : List Shift). ((get_or l place no_shift).from.disk.0 < length task.input.disks) × ((get_or l place no_shift).to.disk.0 < length task.input.disks)) (sym same)
       (on_disks task is round low high (get_or (round_at task.plan round) place no_shift) (Contains-get_or (round_at task.plan round) place no_shift within)))
 
-  pub copy_is : (input : Lists) → input ≡ task.input → (from to : Cell) → from ≡ slot_of input (get_or shifts place no_shift).from → to ≡ slot_of input (get_or shifts place no_shift).to
+  pub copy_is : (input : InputLists) → input ≡ task.input → (from to : Cell) → from ≡ slot_of input (get_or shifts place no_shift).from → to ≡ slot_of input (get_or shifts place no_shift).to
       → slice_get (flights_of task.input (round_at task.plan round)) place ≡ Some (record { from = from; to = to })
   copy_is input is_input from to is_from is_to =
       at_map (flight_of task.input) (round_at task.plan round) place (get_or (round_at task.plan round) place no_shift) (slice_get-get_or (round_at task.plan round) place no_shift within)
       ∙ ap (λ (l : List Shift). Some (flight_of task.input (get_or l place no_shift))) (sym same)
-      ∙ ap (λ (i : Lists). Some (flight_of i (get_or shifts place no_shift))) (sym is_input)
+      ∙ ap (λ (i : InputLists). Some (flight_of i (get_or shifts place no_shift))) (sym is_input)
       ∙ (λ i. Some (record { from = sym is_from i; to = sym is_to i }))

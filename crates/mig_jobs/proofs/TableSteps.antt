@@ -1,5 +1,5 @@
 -- How the tables of a job come to be.
-use Rattle.mig_jobs.proofs.Common.{Any-from_list_any, AreDifferent, At, At-item, Bool, Contains, IsTrue, List, Lists, Runs, Shift, Spot, [], and_parts, ap, append-nil, arith, cases_Bool, cond}
+use Rattle.mig_jobs.proofs.Common.{Any-from_list_any, AreDifferent, At, At-item, Bool, Contains, InputLists, IsTrue, List, Runs, Shift, Spot, [], and_parts, ap, append-nil, arith, cases_Bool, cond}
 use Rattle.mig_jobs.proofs.Common.{eq-eqb, eqb-true, false, false≢true, flat_map-append, free_targets, get_or, get_or-take, get_or_default, inl, inr, leaves, length, length-take, list_any}
 use Rattle.mig_jobs.proofs.Common.{list_any_at, map, not, refl, round_at, same_spot, shifts_of, suc, sym, take, take_more, true, ℕ, ◌&&◌, ◌++◌, ◌+◌, ◌<◌, ◌==◌, ◌↔◌, ◌∙◌, ◌∷◌, ◌≡◌}
 
@@ -10,7 +10,7 @@ pub shifts_more : (plan : List (List Shift)) (i : ℕ) (d : List Shift) → i < 
 shifts_more plan i d lt = ap shifts_of (take_more plan i d lt) ∙ flat_map-append (λ (r : List Shift). r) (take i plan) (get_or plan i d ∷ []) ∙ ap (λ (l : List Shift). shifts_of (take i plan) ++ l) (append-nil (get_or plan i d))
 
 -- a shifted item is one of the input's
-pub shifted_item : (input : Lists) (plan : List (List Shift)) → Runs input plan → (i : ℕ) → i < length plan → (s : Shift) → Contains (round_at plan (suc i)) s → s.item.0 < length input.spots
+pub shifted_item : (input : InputLists) (plan : List (List Shift)) → Runs input plan → (i : ℕ) → i < length plan → (s : Shift) → Contains (round_at plan (suc i)) s → s.item.0 < length input.spots
 shifted_item input plan runs i lt s has = At-item input plan i s.item.0 s.from runs (omega arith) (leaves input (At input plan i) (round_at plan (suc i)) (runs.rounds i lt) s has)
 
 -- Spots

@@ -1,6 +1,6 @@
 -- When the spots that a plan names are free.
 use Rattle.mig_jobs.proofs.Common.{All, All-append, All-map, Any, Any-from_list_any, AreVacancies, At, Bool, Contains, Contains-append_left, Contains-append_right, Contains-get_or, IsInput}
-use Rattle.mig_jobs.proofs.Common.{IsNamed, IsPlanSpot, IsSource, IsTaken, IsTarget, IsVacant, List, Lists, Runs, Shift, Some, Spot, Vacancy, [], any_contains, ap, arith, at_target, begun_by, cases_Bool}
+use Rattle.mig_jobs.proofs.Common.{InputLists, IsNamed, IsPlanSpot, IsSource, IsTaken, IsTarget, IsVacant, List, Runs, Shift, Some, Spot, Vacancy, [], any_contains, ap, arith, at_target, begun_by, cases_Bool}
 use Rattle.mig_jobs.proofs.Common.{cases_eq, cases_lt, cond, cond-false, cond-true, contains_any, ended_by, ended_in, eq-eqb, eqb-true, false, false≢true, filter, filter_passes, get_or}
 use Rattle.mig_jobs.proofs.Common.{get_or_default, in_some, inl, inr, leaves, left_in, length, list_any, list_any_at, map, moved_cases, no_round, open_in, open_of, refl, round_at, same_spot}
 use Rattle.mig_jobs.proofs.Common.{slice_get-get_or, source_facts, subst, suc, sym, target_facts, true, vacancies_in, zero, ℕ, ⊎_elim, ◌++◌, ◌<◌, ◌==◌, ◌∙◌, ◌∷◌, ◌≡◌, ◌≤◌, ◌⊎◌}
@@ -16,13 +16,13 @@ module _ (key : Shift → Spot) (shifts : List Shift) (spot : Spot) where
       (ap (λ (s : Shift). same_spot (key s) spot) any.3 ∙ ap (λ (p : Spot). same_spot p spot) any.4 ∙ spot_same spot))
 
 -- the spot was left in this round, the first r went by since, and it has been free
-pub record IsLeftSince (input : Lists) (plan : List (List Shift)) (r : ℕ) (spot : Spot) (f : ℕ) : Type 0 where
+pub record IsLeftSince (input : InputLists) (plan : List (List Shift)) (r : ℕ) (spot : Spot) (f : ℕ) : Type 0 where
   pub some : 1 ≤ f
   pub most : f ≤ r
   pub left : IsSource plan f spot
   pub free : (k : ℕ) → f ≤ k → k ≤ r → ¬ IsTaken (At input plan k) spot
 
-module _ (input : Lists) (valid : IsInput input) (plan : List (List Shift)) (runs : Runs input plan) where
+module _ (input : InputLists) (valid : IsInput input) (plan : List (List Shift)) (runs : Runs input plan) where
   -- a free spot to which no shift goes stays free
   pub stays_free : (r : ℕ) (spot : Spot) → r < length plan → (IsTarget plan (suc r) spot → ⊥) → (IsTaken (At input plan r) spot → ⊥) → IsTaken (At input plan (suc r)) spot → ⊥
   stays_free r spot lt no_target free taken = ⊎_elim

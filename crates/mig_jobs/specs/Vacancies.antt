@@ -3,16 +3,16 @@ use Rattle.std.specs.Prelude.{◌≡◌, ◌==◌, ◌<◌, ◌≤◌, ℕ, zero
 use Rattle.std.specs.List.{list_any}
 use Rattle.mig_base.specs.declared.ids.Spot.{Spot}
 use Rattle.mig_base.specs.declared.ids.Shift.{Shift}
-use Rattle.mig_base.specs.InputLists.{Lists}
+use Rattle.mig_base.specs.InputLists.{InputLists}
 use Rattle.mig_base.specs.Layouts.{At, IsTaken, round_at}
 use Rattle.mig_base.specs.Arrivals.{IsNamed, IsPlanSpot}
 use Rattle.mig_jobs.specs.JobTables.{same_spot}
 use Rattle.mig_jobs.specs.declared.vacancies.Vacancy.{Vacancy}
 
 -- the round that a table has for a spot; 0 where it has none
-abbrev pub round_of : List (Spot × ℕ) → Spot → ℕ
-round_of [] spot = 0
-round_of (e ∷ es) spot = if same_spot spot e.0 then e.1 else round_of es spot
+abbrev pub table_round : List (Spot × ℕ) → Spot → ℕ
+table_round [] spot = 0
+table_round (e ∷ es) spot = if same_spot spot e.0 then e.1 else table_round es spot
 
 -- the rounds in which spots were last left, once this round's shifts are carried out: this round for a spot that they leave, and 0 for one that they go to
 abbrev pub left_after : (Spot → ℕ) → ℕ → List Shift → Spot → ℕ
@@ -56,7 +56,7 @@ abbrev pub IsVacant : Vacancy → ℕ → Type 0
 IsVacant v k = (v.from ≤ k) × (k < v.until)
 
 -- Each vacancy is of a spot of the plan's shifts that is free all the while, and each named spot that is free after some rounds has a vacancy then.
-pub record AreVacancies (input : Lists) (plan : List (List Shift)) (vs : List Vacancy) : Type 0 where
+pub record AreVacancies (input : InputLists) (plan : List (List Shift)) (vs : List Vacancy) : Type 0 where
   pub named : All (λ v. IsPlanSpot plan v.spot) vs
   pub free : All (λ v. (k : ℕ) → k ≤ length plan → IsVacant v k → ¬ IsTaken (At input plan k) v.spot) vs
   pub all : (k : ℕ) (spot : Spot) → k ≤ length plan → IsNamed input plan spot → ¬ IsTaken (At input plan k) spot → Any (λ v. (v.spot ≡ spot) × IsVacant v k) vs

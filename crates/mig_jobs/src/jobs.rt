@@ -11,11 +11,11 @@ ghost use Rattle.mig_base.specs.Running.{Runs, is_of};
 ghost use Rattle.mig_base.specs.Slots.{slot_of};
 ghost use Rattle.mig_jobs.specs.JobTables.{free_targets};
 ghost use Rattle.mig_base.specs.Tasks.{Task, IsTask};
-ghost use Rattle.mig_jobs.specs.Stops.{stops_in};
+ghost use Rattle.mig_jobs.specs.Stops.{waypoints_in};
 ghost use Rattle.mig_jobs.specs.Vacancies.{AreVacancies};
 ghost use Rattle.sha2.specs.Sha256.{sha256};
 
-use crate::stops::{Stop, spot_until, stops_of};
+use crate::stops::{Waypoint, spot_until, stops_of};
 use crate::tables::targets_of;
 use crate::vacancies::{Vacancy, vacancies_of};
 use mig_base::{Cell, Input, ItemId, MAX_FILE_BYTES, MAX_ROUNDS, Plan, Round, Shift, Spot};
@@ -35,7 +35,7 @@ pub struct Job {
     // When the spots of now and of the plan are free.
     vacancies: Vec<Vacancy>,
     // For each item where the plan's shifts take it, in the order of their rounds.
-    stops: Vec<Vec<Stop>>,
+    stops: Vec<Vec<Waypoint>>,
 }
 
 impl Drop for Job {
@@ -56,7 +56,7 @@ impl Model for Job {
     ghost use Rattle.std.specs.Prelude.{◌≡◌, length};
     ghost use Rattle.mig_base.specs.Readiness.{shifts_of};
     ghost use Rattle.mig_jobs.specs.JobTables.{free_targets};
-    ghost use Rattle.mig_jobs.specs.Stops.{AreStops};
+    ghost use Rattle.mig_jobs.specs.Stops.{AreWaypoints};
     ghost use Rattle.mig_base.specs.Tasks.{Task, IsTask};
     ghost use Rattle.mig_jobs.specs.Vacancies.{vacancies_in};
 
@@ -66,7 +66,7 @@ impl Model for Job {
 
     ghost invariant = { λ j. IsTask (record { input = j.input; plan = j.plan; digest = j.digest }) × (j.shifts ≡ length (shifts_of j.plan))
         × (j.targets.items ≡ free_targets j.input.spots (shifts_of j.plan)) × (j.vacancies.items ≡ vacancies_in j.plan)
-        × AreStops j.input j.plan (length j.plan) j.stops.items };
+        × AreWaypoints j.input j.plan (length j.plan) j.stops.items };
 }
 
 // The same input in memory of its own.
@@ -254,9 +254,9 @@ impl Job {
     }
 
     // Where the plan's shifts take an item.
-    fn item_stops(&self, item: usize) -> &[Stop]
+    fn item_stops(&self, item: usize) -> &[Waypoint]
         requires { item < length self.now.input.items }
-        ensures { result.now ≡ stops_in self.now.plan (length self.now.plan) item }
+        ensures { result.now ≡ waypoints_in self.now.plan (length self.now.plan) item }
     {
         self.stops[item].as_slice()
     }

@@ -3,7 +3,7 @@ ghost use Rattle.std.specs.Prelude.{◌≡◌, [], OnOk, if◌then◌else◌};
 ghost use Rattle.std.specs.List.{list_any};
 ghost use Rattle.mig_base.specs.declared.ids.Spot.{Spot};
 ghost use Rattle.mig_jobs.specs.JobTables.{same_spot};
-ghost use Rattle.mig_jobs.specs.Vacancies.{round_of, left_after};
+ghost use Rattle.mig_jobs.specs.Vacancies.{table_round, left_after};
 
 use indexmap::IndexMap;
 use mig_base::{Shift, Spot};
@@ -44,7 +44,7 @@ impl LeftRounds {
 
     /// The round in which the spot was last left.
     pub fn round(&self, spot: &Spot) -> u32
-        ensures { result ≡ round_of self.now spot.now }
+        ensures { result ≡ table_round self.now spot.now }
     {
         match self.rounds.get(spot) {
             Some(round) => *round,
@@ -54,7 +54,7 @@ impl LeftRounds {
 
     // Sets the round of a spot.
     fn set(&mut self, spot: Spot, round: u32) -> Result<(), AllocError>
-        ensures { OnOk result ((other : Spot) → round_of self.new other ≡ (if same_spot spot other then round else round_of self.old other)) }
+        ensures { OnOk result ((other : Spot) → table_round self.new other ≡ (if same_spot spot other then round else table_round self.old other)) }
     {
         match self.rounds.insert(spot, round) {
             Ok(_) => Ok(()),
@@ -64,7 +64,7 @@ impl LeftRounds {
 
     // Sets the round of a spot to 0. One that was never left needs no place in the table.
     fn forget(&mut self, spot: Spot) -> Result<(), AllocError>
-        ensures { OnOk result ((other : Spot) → round_of self.new other ≡ (if same_spot spot other then 0 else round_of self.old other)) }
+        ensures { OnOk result ((other : Spot) → table_round self.new other ≡ (if same_spot spot other then 0 else table_round self.old other)) }
     {
         if self.round(&spot) == 0 {
             return Ok(());
@@ -74,7 +74,7 @@ impl LeftRounds {
 
     // Shifts go to spots.
     fn fill(&mut self, shifts: &[Shift]) -> Result<(), AllocError>
-        ensures { OnOk result ((spot : Spot) → round_of self.new spot ≡ (if list_any (λ s. same_spot s.to spot) shifts.now then 0 else round_of self.old spot)) }
+        ensures { OnOk result ((spot : Spot) → table_round self.new spot ≡ (if list_any (λ s. same_spot s.to spot) shifts.now then 0 else table_round self.old spot)) }
     {
         for s in shifts {
             self.forget(s.to)?;
@@ -84,7 +84,7 @@ impl LeftRounds {
 
     // Shifts leave spots in a round.
     fn leave(&mut self, shifts: &[Shift], round: u32) -> Result<(), AllocError>
-        ensures { OnOk result ((spot : Spot) → round_of self.new spot ≡ (if list_any (λ s. same_spot s.from spot) shifts.now then round else round_of self.old spot)) }
+        ensures { OnOk result ((spot : Spot) → table_round self.new spot ≡ (if list_any (λ s. same_spot s.from spot) shifts.now then round else table_round self.old spot)) }
     {
         for s in shifts {
             self.set(s.from, round)?;
@@ -94,7 +94,7 @@ impl LeftRounds {
 
     /// Carries out the shifts of a round. An error is want of memory.
     pub fn shift(&mut self, shifts: &[Shift], round: u32) -> Result<(), AllocError>
-        ensures { OnOk result ((spot : Spot) → round_of self.new spot ≡ left_after (round_of self.old) round shifts.now spot) }
+        ensures { OnOk result ((spot : Spot) → table_round self.new spot ≡ left_after (table_round self.old) round shifts.now spot) }
     {
         self.fill(shifts)?;
         self.leave(shifts, round)

@@ -2,7 +2,7 @@
 ghost use Rattle.std.specs.Prelude.{◌≡◌, ◌≤◌, ◌++◌, [], ◌∷◌, IfOk, OnOk, length, map};
 ghost use Rattle.mig_base.specs.declared.ids.Spot.{Spot};
 ghost use Rattle.mig_base.specs.declared.limits.TheConstants.{MAX_ROUNDS};
-ghost use Rattle.mig_jobs.specs.Vacancies.{round_of, left_in, ended_by, ended_in, open_of, open_in, vacancies_in};
+ghost use Rattle.mig_jobs.specs.Vacancies.{table_round, left_in, ended_by, ended_in, open_of, open_in, vacancies_in};
 
 use crate::left_rounds::LeftRounds;
 use mig_base::{Plan, Round, Shift, Spot};
@@ -23,7 +23,7 @@ fn add_ended(
     round: u32,
     vacancies: &mut Vec<Vacancy>,
 ) -> Result<(), AllocError>
-    ensures { OnOk result (vacancies.new.items ≡ vacancies.old.items ++ map (ended_by (round_of left.now) round) shifts.now) }
+    ensures { OnOk result (vacancies.new.items ≡ vacancies.old.items ++ map (ended_by (table_round left.now) round) shifts.now) }
 {
     for s in shifts {
         vacancies.push(Vacancy {
@@ -43,7 +43,7 @@ fn add_open(
     until: u32,
     vacancies: &mut Vec<Vacancy>,
 ) -> Result<(), AllocError>
-    ensures { OnOk result (vacancies.new.items ≡ vacancies.old.items ++ open_of (round_of left.now) until round (s.now ∷ [])) }
+    ensures { OnOk result (vacancies.new.items ≡ vacancies.old.items ++ open_of (table_round left.now) until round (s.now ∷ [])) }
 {
     if left.round(&s.from) == round {
         vacancies.push(Vacancy {
@@ -63,7 +63,7 @@ fn add_all_open(
     until: u32,
     vacancies: &mut Vec<Vacancy>,
 ) -> Result<(), AllocError>
-    ensures { OnOk result (vacancies.new.items ≡ vacancies.old.items ++ open_of (round_of left.now) until round shifts.now) }
+    ensures { OnOk result (vacancies.new.items ≡ vacancies.old.items ++ open_of (table_round left.now) until round shifts.now) }
 {
     for s in shifts {
         add_open(left, s, round, until, vacancies)?;
@@ -79,7 +79,7 @@ fn end_rounds(
 ) -> Result<(), AllocError>
     requires few { length rounds.now ≤ MAX_ROUNDS }
     requires none { left.old ≡ [] }
-    ensures left { OnOk result ((spot : Spot) → round_of left.new spot ≡ left_in rounds.now (length rounds.now) spot) }
+    ensures left { OnOk result ((spot : Spot) → table_round left.new spot ≡ left_in rounds.now (length rounds.now) spot) }
     ensures ended { OnOk result (vacancies.new.items ≡ vacancies.old.items ++ ended_in rounds.now (length rounds.now)) }
 {
     for k in 0..rounds.len() {
@@ -98,7 +98,7 @@ fn open_rounds(
     vacancies: &mut Vec<Vacancy>,
 ) -> Result<(), AllocError>
     requires few { length rounds.now ≤ MAX_ROUNDS }
-    requires left { (spot : Spot) → round_of left.now spot ≡ left_in rounds.now (length rounds.now) spot }
+    requires left { (spot : Spot) → table_round left.now spot ≡ left_in rounds.now (length rounds.now) spot }
     ensures open { OnOk result (vacancies.new.items ≡ vacancies.old.items ++ open_in rounds.now (length rounds.now)) }
 {
     let until = rounds.len() as u32 + 1;

@@ -6,6 +6,6 @@ pub use Rattle.mig_base.specs.declared.ids.EdgeId.{EdgeId}
 pub use Rattle.mig_board.proofs.Laws.{IsPart, PaintsOne-exchanged, PaintsOne-painted, both_free, ends_elsewhere, exchanges_joins, exchanges_plain, exchanges_start, not_full}
 pub use Rattle.mig_board.proofs.Walks.{end_cases}
 pub use Rattle.mig_board.specs.Colouring.{Colouring, IsFreeAt, IsMissing, IsPresent, IsProper, Joins}
-pub use Rattle.mig_board.specs.Growth.{IsTwoSided, PaintsOne}
+pub use Rattle.mig_board.specs.Growth.{IsSplitAt, PaintsOne}
 pub use Rattle.mig_board.specs.Walk.{Exchanges}
 pub use Rattle.std.proofs.Common.{arith, rules}

@@ -1,7 +1,7 @@
 ghost use Rattle.std.specs.Prelude.{◌≡◌, ◌*◌, ◌/◌, ◌%◌, ◌^◌, ◌<◌, ◌≤◌, length, MatchOption};
 ghost use Rattle.mig_base.specs.declared.ids.CopyId.{CopyId};
 ghost use Rattle.mig_board.specs.Colouring.{IsFull, IsMissing, IsProper, degree_of};
-ghost use Rattle.mig_board.specs.Growth.{IsPlain, IsBlank, IsComplete, SameGraph, PaintsOne, IsTwoSided};
+ghost use Rattle.mig_board.specs.Growth.{IsPlain, IsBlank, IsComplete, SameGraph, PaintsOne, IsSplitAt};
 
 use mig_base::{Colour, CopyId, EdgeId};
 use mig_board::Board;
@@ -40,7 +40,7 @@ fn missing_near(board: &Board, node: CopyId, from: Colour) -> Option<Colour>
 fn colour_edge(board: &mut Board, edge: EdgeId, left: u32)
     requires in_range { edge.0 < length board.old.ends }
     requires plain { IsPlain board.old edge }
-    requires sides { IsTwoSided board.old left }
+    requires sides { IsSplitAt board.old left }
     requires few { (v : CopyId) → v.0 < board.old.nodes → degree_of board.old v ≤ board.old.colours }
     ensures { PaintsOne board.old board.new edge }
 {
@@ -67,7 +67,7 @@ fn colour_edge(board: &mut Board, edge: EdgeId, left: u32)
 /// needs no more colours than its greatest degree.
 pub fn colour_sides(board: &mut Board, left: u32)
     requires blank { IsBlank board.old }
-    requires sides { IsTwoSided board.old left }
+    requires sides { IsSplitAt board.old left }
     requires few { (v : CopyId) → v.0 < board.old.nodes → degree_of board.old v ≤ board.old.colours }
     ensures coloured { IsComplete board.new }
     ensures graph { SameGraph board.old board.new }

@@ -1,5 +1,5 @@
 -- The end of a round: its mark, and the erasures after it.
-use Rattle.mig_lanes.proofs.Common.{All, AreZeros, Bool, Cell, ChangesOnly, Contains, Contains-get_or, Contents, HasCopied, HasDone, IfSome, Image, IsInUse, IsJobCell, IsSettled, IsSound}
+use Rattle.mig_lanes.proofs.Common.{All, Bool, Cell, ChangesOnly, Contains, Contains-get_or, Contents, HasCopied, HasDone, HoldsZeros, IfSome, Image, IsInUse, IsJobCell, IsSettled, IsSound}
 use Rattle.mig_lanes.proofs.Common.{IsSoundAfter, IsSourceSlot, IsTask, IsWorkCell, LeavesOnly, Mark, NoCell, SameBut, Shift, Some, State, Task, Tells, [], ap, arith, cases_Bool, changes_leave}
 use Rattle.mig_lanes.proofs.Common.{changes_then, changes_wider, from_same, get_or, inl, inr, is_marked, is_one, leaves_then, length, marking, other_bytes, refl, round_at, same_wider}
 use Rattle.mig_lanes.proofs.Common.{settled_change, slot_of, sound_after, subst, suc, sym, tells_kept, told_is, unmarked, ℕ, ⊎_elim, ◌<◌, ◌∙◌, ◌∷◌, ◌≡◌, ◌≤◌}
@@ -56,7 +56,7 @@ module _ (task : Task) (is : IsTask task) (k : ℕ) (lt : k < length task.plan) 
             (λ before image left same. sound_after task.input is.valid task.plan is.runs task.digest contents (suc k) lt asked image (erasing image (from_same (IsSourceSlot task.input task.plan round) set.reads before image (settled_set before left) same))))
 
         -- the state after the round
-        pub done_next : All (λ s. AreZeros (erased.reads (slot_of task.input s.from))) (round_at task.plan round) → HasDone asked task.input task.plan task.digest contents erased round
+        pub done_next : All (λ s. HoldsZeros (erased.reads (slot_of task.input s.from))) (round_at task.plan round) → HasDone asked task.input task.plan task.digest contents erased round
         done_next zeros_there = subst (HasDone asked task.input task.plan task.digest contents erased) (sym next) (record {
           sound = erasing erased.reads erase.told;
           erased = λ j d in_range. told_is _ _ (tells (slot_of task.input (get_or (round_at task.plan (suc k)) j d).from) (source_job (get_or (round_at task.plan (suc k)) j d) (Contains-get_or (round_at task.plan (suc k)) j d in_range))) (zeros_next j d in_range);
@@ -68,8 +68,8 @@ module _ (task : Task) (is : IsTask task) (k : ℕ) (lt : k < length task.plan) 
             tells : Tells (IsJobCell task.input task.plan) erased.reads
             tells = tells_kept (IsSourceSlot task.input task.plan round) (IsJobCell task.input task.plan) set.reads erased.reads erase.told tells_set
 
-            zeros_next : All (λ s. AreZeros (erased.reads (slot_of task.input s.from))) (round_at task.plan (suc k))
-            zeros_next = subst (λ (n : ℕ). All (λ s. AreZeros (erased.reads (slot_of task.input s.from))) (round_at task.plan n)) next zeros_there
+            zeros_next : All (λ s. HoldsZeros (erased.reads (slot_of task.input s.from))) (round_at task.plan (suc k))
+            zeros_next = subst (λ (n : ℕ). All (λ s. HoldsZeros (erased.reads (slot_of task.input s.from))) (round_at task.plan n)) next zeros_there
 
 -- The cells that change
 

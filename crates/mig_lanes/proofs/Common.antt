@@ -2,14 +2,14 @@
 pub use Rattle.mig_base.proofs.ArrivalLaws.{reached, reached_sound}
 pub use Rattle.mig_base.proofs.CellTests.{cases_cell, is_cell-same}
 pub use Rattle.mig_base.proofs.Common.{Adds, All, All-contains, All-map, AllPairs, AllWithin, Any, AreFlights, AreRounds, At, BeginsRun, Bool, Changes, ChangesOnly, Contains}
-pub use Rattle.mig_base.proofs.Common.{Contains-append_left, Contains-get_or, Contents, Ends, Err, HasDone, IfSome, Image, IsCopy, IsInUse, IsLegal, IsPermutation, IsRound, IsSafe, IsSettled}
-pub use Rattle.mig_base.proofs.Common.{IsSome, IsSound, IsSoundAfter, IsSourceOf, IsSourceSlot, IsTaken, IsTargetOf, IsTrue, IsUnused, IsWorkCell, KeepsLimits, LeavesOnly, List, Lists, NoCell}
-pub use Rattle.mig_base.proofs.Common.{None, Ok, Option, SameBut, SettlesTo, Some, State, Tells, Trip, [], after_event, after_events, and_parts, ap, append-nil, append_assoc, arith, began}
+pub use Rattle.mig_base.proofs.Common.{AreRoundEvents, Contains-append_left, Contains-get_or, Contents, Ends, Err, HasDone, IfSome, Image, IsCopy, IsInUse, IsLegal, IsPermutation, IsSafe, IsSettled}
+pub use Rattle.mig_base.proofs.Common.{InputLists, IsSome, IsSound, IsSoundAfter, IsSourceOf, IsSourceSlot, IsTaken, IsTargetOf, IsTrue, IsUnused, IsWorkCell, KeepsLimits, LeavesOnly, List, NoCell}
+pub use Rattle.mig_base.proofs.Common.{None, Ok, Option, SameBut, SettlesTo, Some, State, Tells, Transfer, [], after_event, after_events, and_parts, ap, append-nil, append_assoc, arith, began}
 pub use Rattle.mig_base.proofs.Common.{cases_Bool, cases_eq, cases_lt, cond, count_by, count_of, drop, ended, err_from_is_err_and, false, false_from_ne_true, false≢true, filter, filter_passes}
 pub use Rattle.mig_base.proofs.Common.{flight_of, flights, flights_of, fold-append, get_or, get_or-map-range_with_len, get_or-take, get_or_default, get_or_from_slice_get, inl, inr, is_armed}
 pub use Rattle.mig_base.proofs.Common.{is_flight, is_marked, is_one, is_slot, item_cell, item_name, length, length-map, length-map-range_with_len, map, map-append, no_disk, no_spot, not}
 pub use Rattle.mig_base.proofs.Common.{on_ok_weaker, option_map, range_with_len, refl, round_at, rules, same_text, shifts_of, slice_get-get_or, slice_get_within, slot_of, subst, suc}
-pub use Rattle.mig_base.proofs.Common.{sum_by-append, sym, take, take-append-le, take_all, take_more, trip_of, true, zero, zeros, ℕ, ⊎_elim, ◌++◌, ◌+◌, ◌-◌, ◌<◌, ◌∙◌, ◌∷◌, ◌≡◌, ◌≢◌, ◌≤◌, ◌⊎◌}
+pub use Rattle.mig_base.proofs.Common.{sum_by-append, sym, take, take-append-le, take_all, take_more, transfer_of, true, zero, zeros, ℕ, ⊎_elim, ◌++◌, ◌+◌, ◌-◌, ◌<◌, ◌∙◌, ◌∷◌, ◌≡◌, ◌≢◌, ◌≤◌, ◌⊎◌}
 pub use Rattle.mig_base.proofs.Counting.{count_by-filter-le}
 pub use Rattle.mig_base.proofs.Elements.{map_more}
 pub use Rattle.mig_base.proofs.KeptLimits.{keeps_fewer, keeps_none}
@@ -20,7 +20,7 @@ pub use Rattle.mig_base.proofs.SafetyLaws.{marking, other_bytes, slot_apart, sou
 pub use Rattle.mig_base.proofs.StoreSteps.{changes_leave, changes_none, changes_then, changes_wider, events_none, events_then, from_same, leaves_none, leaves_then, leaves_wider, quiet_leaves}
 pub use Rattle.mig_base.proofs.StoreSteps.{same_image, same_then, same_wider, settled_change, tells_kept, told_is}
 pub use Rattle.mig_base.specs.Arrivals.{IsPlanSpot, IsReached}
-pub use Rattle.mig_base.specs.Flights.{AreWithinLimits, disk_of_cell, in_flight, trip_of_flight}
+pub use Rattle.mig_base.specs.Flights.{AreWithinLimits, disk_of_cell, in_flight, transfer_of_flight}
 pub use Rattle.mig_base.specs.InputLists.{disk_at}
 pub use Rattle.mig_base.specs.JobCells.{IsJobCell}
 pub use Rattle.mig_base.specs.Readiness.{CanTake, IsFirstLost, IsFirstUsed, IsReady}
@@ -41,7 +41,7 @@ pub use Rattle.mig_journal.proofs.Steps.{on_ok_is}
 pub use Rattle.mig_lanes.specs.LaneSteps.{BeginsRound, BeginsRounds, HasCopied, HaveLanded, copies_of, later_rounds}
 pub use Rattle.mig_lanes.specs.Runs.{Finishes, IsJournalFault, IsPart, IsPartOf}
 pub use Rattle.mig_mover.proofs.Settling.{armed_told, gate_kept, journal_kept, settled_reads, tells_more}
-pub use Rattle.mig_mover.specs.Erasures.{AreZeros}
+pub use Rattle.mig_mover.specs.Erasures.{HoldsZeros}
 pub use Rattle.mig_mover.specs.Moves.{Enters, IsFault, IsReadyIdle, IsResumeFault, IsRunning, IsStartFault, Keeps, Settles, StaysArmed}
 pub use Rattle.mig_mover.specs.declared.faults.MoveFault.{MoveFault}
 pub use Rattle.mig_mover.specs.declared.faults.MoveFault.TheVariants.{NotStarted, NotThere, Occupied, OtherPlan, Started, Store}

@@ -1,6 +1,6 @@
 -- Fewer copies in flight keep the limits of disks too.
 use Rattle.mig_lanes.proofs.Common.{AreWithinLimits, Bool, Disk, Flight, List, [], arith, cond, count_by, count_by-filter-le, disk_at, filter, keeps_fewer, keeps_none, map, refl, suc, sum_by-append}
-use Rattle.mig_lanes.proofs.Common.{take, trip_of_flight, zero, ℕ, ◌+◌, ◌∷◌, ◌≡◌, ◌≤◌}
+use Rattle.mig_lanes.proofs.Common.{take, transfer_of_flight, zero, ℕ, ◌+◌, ◌∷◌, ◌≡◌, ◌≤◌}
 
 count_cons : {X : Type 0} (p : X → Bool) (x : X) (xs : List X) → count_by p (x ∷ xs) ≡ cond (p x) 1 0 + count_by p xs
 count_cons p x xs = let e = sum_by-append (λ y. cond (p y) 1 0) (x ∷ []) xs in omega arith
@@ -18,8 +18,8 @@ module _ (disks : List Disk) where
   -- of each kind there are no more than before
   pub fewer_within : (fs gs : List Flight) → ((p : Flight → Bool) → count_by p fs ≤ count_by p gs) → AreWithinLimits disks gs → AreWithinLimits disks fs
   fewer_within fs gs fewer within v lt =
-      keeps_fewer (disk_at disks v).limits v (map (trip_of_flight disks) fs) (map (trip_of_flight disks) gs)
-      (λ p. omega (arith, fewer (λ c. p (trip_of_flight disks c)), count_map p (trip_of_flight disks) fs, count_map p (trip_of_flight disks) gs)) (within v lt)
+      keeps_fewer (disk_at disks v).limits v (map (transfer_of_flight disks) fs) (map (transfer_of_flight disks) gs)
+      (λ p. omega (arith, fewer (λ c. p (transfer_of_flight disks c)), count_map p (transfer_of_flight disks) fs, count_map p (transfer_of_flight disks) gs)) (within v lt)
 
   pub none_within : AreWithinLimits disks []
   none_within v lt = keeps_none (disk_at disks v).limits v

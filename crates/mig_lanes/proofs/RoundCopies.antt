@@ -1,9 +1,9 @@
 -- The copies of a job's round.
-use Rattle.mig_lanes.proofs.Common.{All, All-map, AllPairs, Any, AreFlights, At, Cell, Contains, Contains-get_or, Flight, IsLegal, IsTargetOf, IsTargetSlot, IsTask, IsTrue, List, Lists, Shift}
+use Rattle.mig_lanes.proofs.Common.{All, All-map, AllPairs, Any, AreFlights, At, Cell, Contains, Contains-get_or, Flight, InputLists, IsLegal, IsTargetOf, IsTargetSlot, IsTask, IsTrue, List, Shift}
 use Rattle.mig_lanes.proofs.Common.{Some, Task, [], ap, arith, contains_any, copies_of, flight_of, flights_of, get_or, get_or_from_slice_get, is_slot, leaves, length, on_disks, refl, round_at}
 use Rattle.mig_lanes.proofs.Common.{slice_get, slice_get_within, slot_apart, slot_of, suc, sym, target_free, zero, ℕ, ◌<◌, ◌∙◌, ◌∷◌, ◌≡◌, ◌≢◌, ◌≤◌}
 
-module _ (input : Lists) where
+module _ (input : InputLists) where
   -- a target of the copies is one of the shifts
   to_of : (shifts : List Shift) (cell : Cell) → IsTargetOf (flights_of input shifts) cell → Any (λ s. slot_of input s.to ≡ cell) shifts
   to_of [] cell any = let lt = any.2 in absurd (omega arith)

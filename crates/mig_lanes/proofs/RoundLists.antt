@@ -1,13 +1,13 @@
 -- The events of rounds, one after the other.
-use Rattle.mig_lanes.proofs.Common.{AreRounds, BeginsRound, BeginsRounds, Event, Flight, IsPermutation, IsPermutation-refl, IsRound, List, Task, [], ap, append-nil, append_assoc, arith, began}
+use Rattle.mig_lanes.proofs.Common.{AreRoundEvents, AreRounds, BeginsRound, BeginsRounds, Event, Flight, IsPermutation, IsPermutation-refl, List, Task, [], ap, append-nil, append_assoc, arith, began}
 use Rattle.mig_lanes.proofs.Common.{copies_of, drop, ended, later_rounds, length, map, map-append, map_more, range_with_len, refl, subst, suc, sym, take, take-append-drop, take_all, ℕ, ⊎_elim}
 use Rattle.mig_lanes.proofs.Common.{◌++◌, ◌+◌, ◌-◌, ◌<◌, ◌∙◌, ◌∷◌, ◌≡◌, ◌≤◌}
 
 -- part of a round's events is a prefix of a whole round's
-part_is_prefix : (round : List Flight) (added : List Event) → BeginsRound round added → (more : List Event) × IsRound round (added ++ more)
+part_is_prefix : (round : List Flight) (added : List Event) → BeginsRound round added → (more : List Event) × AreRoundEvents round (added ++ more)
 part_is_prefix round added part = ⊎_elim early late part.all_first
   where
-    early : part.done ≡ [] → (more : List Event) × IsRound round (added ++ more)
+    early : part.done ≡ [] → (more : List Event) × AreRoundEvents round (added ++ more)
     early none = (
       map began (drop part.begun round) ++ map ended part.left,
       record {
@@ -19,7 +19,7 @@ part_is_prefix round added part = ⊎_elim early late part.all_first
       },
     )
 
-    late : length round ≤ part.begun → (more : List Event) × IsRound round (added ++ more)
+    late : length round ≤ part.begun → (more : List Event) × AreRoundEvents round (added ++ more)
     late all = (
       map ended part.left,
       record {
@@ -45,7 +45,7 @@ rounds_append [] ys a b none more = subst (AreRounds ys) (sym (ap (λ (l : List 
 rounds_append (x ∷ xs) ys a b are more =
     (are.0, are.1 ++ b, ap (λ (l : List Event). l ++ b) are.2 ∙ append_assoc are.0 are.1 b, are.3, rounds_append xs ys are.1 b are.4 more)
 
-one_round : (round : List Flight) (added : List Event) → IsRound round added → AreRounds (round ∷ []) added
+one_round : (round : List Flight) (added : List Event) → AreRoundEvents round added → AreRounds (round ∷ []) added
 one_round round added is = (added, [], sym (append-nil added), is, refl)
 
 -- of rounds, the first ones, and then part of one
@@ -67,7 +67,7 @@ module _ (task : Task) (k n : ℕ) (low : k ≤ n) where
   abbrev pub rounds_to : List (List Flight)
   rounds_to = map (copies_of task) (range_with_len (k + 1) (n - k))
 
-  pub rounds_next : (a b : List Event) → AreRounds (map (copies_of task) (range_with_len (k + 1) (n - k))) a → IsRound (copies_of task (n + 1)) b → AreRounds (map (copies_of task) (range_with_len (k + 1) (n + 1 - k))) (a ++ b)
+  pub rounds_next : (a b : List Event) → AreRounds (map (copies_of task) (range_with_len (k + 1) (n - k))) a → AreRoundEvents (copies_of task (n + 1)) b → AreRounds (map (copies_of task) (range_with_len (k + 1) (n + 1 - k))) (a ++ b)
   rounds_next a b are is = subst (λ (l : List (List Flight)). AreRounds l (a ++ b)) (sym next) (rounds_append rounds_to (copies_of task (n + 1) ∷ []) a b are (one_round (copies_of task (n + 1)) b is))
     where
       next : map (copies_of task) (range_with_len (k + 1) (n + 1 - k)) ≡ map (copies_of task) (range_with_len (k + 1) (n - k)) ++ copies_of task (n + 1) ∷ []

@@ -1,6 +1,6 @@
 -- What a round's copies give once they end.
 use Rattle.mig_lanes.proofs.Common.{All-contains, AreFlights, BeginsRound, Cell, Changes, Contains, Contains-append_left, Contains-get_or, Contains-permutation, Ends, Event, Flight, HaveLanded}
-use Rattle.mig_lanes.proofs.Common.{IsCopy, IsPermutation, IsPermutation-refl, IsPermutation-sym, IsRound, IsSome, IsTargetOf, List, NoCell, None, Option, State, [], any_contains, ap, append-nil}
+use Rattle.mig_lanes.proofs.Common.{AreRoundEvents, IsCopy, IsPermutation, IsPermutation-refl, IsPermutation-sym, IsSome, IsTargetOf, List, NoCell, None, Option, State, [], any_contains, ap, append-nil}
 use Rattle.mig_lanes.proofs.Common.{arith, began, cases_cell, changes_then, changes_wider, contains_any, ended, false≢true, flights, flights_none, get_or, inl, inr, length, map, one_by, refl}
 use Rattle.mig_lanes.proofs.Common.{subst, suc, sym, take, take_all, target_cases, target_permuted, zero, ℕ, ⊎_elim, ◌++◌, ◌<◌, ◌∙◌, ◌∷◌, ◌≡◌, ◌⊎◌}
 use Rattle.mig_lanes.proofs.Beginning.{flights_all_began, flights_after}
@@ -72,7 +72,7 @@ module _ (cs : List Flight) (are : AreFlights cs) (first mid : State) (none : fl
       each_once = once told;
     }
 
-    pub whole_round : flights new ≡ [] → IsSome first.events → IsRound cs (map began cs ++ map ended these)
+    pub whole_round : flights new ≡ [] → IsSome first.events → AreRoundEvents cs (map began cs ++ map ended these)
     whole_round landed told = record {
       order = these;
       each_once = subst (IsPermutation cs) (ap (λ (l : List Flight). these ++ l) landed ∙ append-nil these) (once told);

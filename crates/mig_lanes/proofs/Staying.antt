@@ -1,5 +1,5 @@
 -- What copies in flight keep all through the events of rounds: all that holds of none, and of some where it holds of more.
-use Rattle.mig_lanes.proofs.Common.{All, All-contains, AreRounds, BeginsRun, Bool, Contains, Contains-permutation, Event, Flight, IsPermutation, IsRound, IsRun, List, [], after_event, after_events, ap, arith}
+use Rattle.mig_lanes.proofs.Common.{All, All-contains, AreRoundEvents, AreRounds, BeginsRun, Bool, Contains, Contains-permutation, Event, Flight, IsPermutation, IsRun, List, [], after_event, after_events, ap, arith}
 use Rattle.mig_lanes.proofs.Common.{began, cases_lt, contains_kept, ended, false≢true, filter, filter_passes, fold-append, inl, inr, is_flight, is_flight-same, length, map, not, refl, subst, suc, sym, take}
 use Rattle.mig_lanes.proofs.Common.{take-append-add, take-append-le, take-map, take_all, true, zero, ℕ, ◌++◌, ◌+◌, ◌-◌, ◌<◌, ◌∙◌, ◌∷◌, ◌≡◌, ◌≤◌}
 use Rattle.mig_lanes.proofs.Beginning.{flights_all_began}
@@ -27,7 +27,7 @@ empty (f ∷ fs) none = absurd (none f (0, omega arith, refl))
 pub all_landed : (fs order : List Flight) → IsPermutation fs order → after_events fs (map ended order) ≡ []
 all_landed fs order same = empty (after_events fs (map ended order)) (λ x has. let rest = left_over fs order x has in rest.1 (Contains-permutation fs order x same rest.0))
 
-pub round_lands : (round : List Flight) (added : List Event) → IsRound round added → after_events [] added ≡ []
+pub round_lands : (round : List Flight) (added : List Event) → AreRoundEvents round added → after_events [] added ≡ []
 round_lands round added is = ap (after_events []) is.is ∙ fold-append after_event [] (map began round) (map ended is.order) ∙ ap (λ (l : List Flight). after_events l (map ended is.order)) (flights_all_began [] round) ∙ all_landed round is.order is.each_once
 
 module _ (P : List Flight → Type 0) (none : P []) (first : (n : ℕ) (fs : List Flight) → P fs → P (take n fs)) (fewer : (p : Flight → Bool) (fs : List Flight) → P fs → P (filter p fs)) where
@@ -59,7 +59,7 @@ module _ (P : List Flight → Type 0) (none : P []) (first : (n : ℕ) (fs : Lis
           subst P (sym e) (late n)
 
   -- the events of a round
-  round_stays : (round : List Flight) (added : List Event) → P round → IsRound round added → Stay [] added
+  round_stays : (round : List Flight) (added : List Event) → P round → AreRoundEvents round added → Stay [] added
   round_stays round added keep is = subst (Stay []) (sym is.is) (then_stay [] round (map began round) (map ended is.order) (flights_all_began [] round)
       (λ m within. subst P (sym (ap (after_events []) (take-map began m round) ∙ flights_all_began [] (take m round))) (first m round keep)) (ends_stay round is.order keep))
 

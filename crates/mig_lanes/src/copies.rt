@@ -4,7 +4,7 @@ ghost use Rattle.mig_base.specs.declared.cells.Event.{Event};
 ghost use Rattle.mig_base.specs.declared.cells.Flight.{Flight};
 ghost use Rattle.mig_base.specs.Images.{IsCopy, NoCell};
 ghost use Rattle.mig_base.specs.Flights.{began, IsTargetOf, AreFlights};
-ghost use Rattle.mig_base.specs.RoundEvents.{IsRound};
+ghost use Rattle.mig_base.specs.RoundEvents.{AreRoundEvents};
 ghost use Rattle.mig_base.specs.Stores.{State, flights, Changes, Ends, IsSettled, HasCause};
 ghost use Rattle.mig_base.specs.Tasks.{Task};
 ghost use Rattle.mig_mover.specs.Erasures.{AreAsked};
@@ -70,7 +70,7 @@ pub fn run_copies<S: Store>(job: &Job, store: &mut S, round: u32) -> Result<(), 
     ensures copied { OnOk result (All (λ c. IsCopy ((S.state store.old).reads c.from) ((S.state store.new).reads c.to)) (copies_of job.now round)) }
     ensures settled { OnOk result (IsSettled (S.state store.new)) }
     ensures landed { OnOk result (flights (S.state store.new) ≡ []) }
-    ensures round { OnOk result (IsSome (S.state store.old).events → (added : List Event) × IsRound (copies_of job.now round) added × Changes (IsTargetOf (copies_of job.now round)) (IsTargetOf (copies_of job.now round)) added (S.state store.old) (S.state store.new)) }
+    ensures round { OnOk result (IsSome (S.state store.old).events → (added : List Event) × AreRoundEvents (copies_of job.now round) added × Changes (IsTargetOf (copies_of job.now round)) (IsTargetOf (copies_of job.now round)) added (S.state store.old) (S.state store.new)) }
     ensures part { IsSome (S.state store.old).events → (added : List Event) × BeginsRound (copies_of job.now round) added × Changes (IsTargetOf (copies_of job.now round)) (IsTargetOf (copies_of job.now round)) added (S.state store.old) (S.state store.new) }
     ensures change { (added : List Event) × Changes (IsTargetOf (copies_of job.now round)) (IsTargetOf (copies_of job.now round)) added (S.state store.old) (S.state store.new) }
     // Where the items were seen, nothing is refused of what comes after the round's copies.

@@ -1,7 +1,7 @@
 //! Rounds, one after the other.
 ghost use Rattle.std.specs.Prelude.{◌≡◌, ◌+◌, ◌<◌, ◌≤◌, Bool, ℕ, List, [], OnOk, length};
 ghost use Rattle.mig_base.specs.JobCells.{IsWorkCell};
-ghost use Rattle.mig_base.specs.RoundEvents.{IsRound, AreRounds, Adds};
+ghost use Rattle.mig_base.specs.RoundEvents.{AreRoundEvents, AreRounds, Adds};
 ghost use Rattle.mig_base.specs.RoundStates.{HasDone};
 ghost use Rattle.mig_base.specs.Safety.{Contents, IsSound};
 ghost use Rattle.mig_base.specs.Stores.{State, flights, Changes, ChangesOnly, LeavesOnly, IsSettled};
@@ -47,7 +47,7 @@ fn carry_out<S: Store>(job: &Job, store: &mut S, k: u32) -> Result<(), StoreFail
         HasDone asked job.now.input job.now.plan job.now.digest contents (S.state store.new) (k + 1)) }
     ensures landed { OnOk result (flights (S.state store.new) ≡ []) }
     // All copies begin before one is waited for, and each ends once.
-    ensures round { OnOk result (Adds (IsRound (copies_of job.now (k + 1))) (S.state store.old) (S.state store.new)) }
+    ensures round { OnOk result (Adds (AreRoundEvents (copies_of job.now (k + 1))) (S.state store.old) (S.state store.new)) }
     ensures part { Adds (BeginsRound (copies_of job.now (k + 1))) (S.state store.old) (S.state store.new) }
     ensures change { (added : List Event) × Changes (IsWorkCell job.now.input job.now.plan) (IsWorkCell job.now.input job.now.plan) added (S.state store.old) (S.state store.new) }
     ensures seen { OnOk result (S.refuses → IsSeen job.now (S.seen store.old) (S.state store.old).reads k → IsSeen job.now (S.seen store.new) (S.state store.new).reads (k + 1)) }

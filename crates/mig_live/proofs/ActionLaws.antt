@@ -1,6 +1,6 @@
 -- The steps that are left, and what many of them write and add.
-use Rattle.mig_live.proofs.Common.{Cell, Changes, ChangesOnly, Event, List, Lists, NoCell, OnOk, Result, Shift, Some, State, Task, [], ap, append-nil, append_assoc, arith, cases_lt, changes_none}
-use Rattle.mig_live.proofs.Common.{changes_then, changes_wider, drop, drop-drop, flight_of, inl, inr, length, length-append, length-map, map, on_ok_weaker, refl, round_at, shifts_in, slice_get}
+use Rattle.mig_live.proofs.Common.{Cell, Changes, ChangesOnly, Event, InputLists, List, NoCell, OnOk, Result, Shift, Some, State, Task, [], ap, append-nil, append_assoc, arith, cases_lt, changes_none}
+use Rattle.mig_live.proofs.Common.{changes_then, changes_wider, drop, drop-drop, flight_of, inl, inr, length, length-append, length-map, map, on_ok_weaker, refl, round_at, round_size, slice_get}
 use Rattle.mig_live.proofs.Common.{slice_get_within, slot_of, steps_after, subst, suc, sum_by, sum_by-cons, sym, take, take-add, take-append-drop, zero, ℕ, ◌*◌, ◌++◌, ◌+◌, ◌-◌, ◌<◌, ◌∙◌, ◌∷◌, ◌≡◌, ◌≤◌, ◌⊎◌}
 use Rattle.mig_live.specs.Actions.{Action, AllWrite, AreMade, AreMadeInPart, Copy, Erase, IsMade, MakesFirst, SetMark, Sync, Writes, actions_after, actions_from, actions_since, all_events, copies}
 use Rattle.mig_live.specs.Actions.{erasures, events_of}
@@ -45,7 +45,7 @@ drop_past f [] ys p n is = ap (λ (m : ℕ). drop m ys) (let e : p ≡ n = omega
 drop_past f (t ∷ ts) ys zero n is = absurd (omega (arith, is))
 drop_past f (t ∷ ts) ys (suc p) n is = drop_past f ts ys p n (omega (arith, is))
 
-module _ (input : Lists) where
+module _ (input : InputLists) where
   pub after_round : (n k : ℕ) (plan : List (List Shift)) → k < length plan
       → actions_from input n (drop k plan) ≡ copies input (round_at plan (suc k)) ++ (Sync ∷ SetMark (suc n) ∷ (erasures input (round_at plan (suc k)) ++ actions_from input (suc n) (drop (suc k) plan)))
   after_round n k [] lt = absurd (omega (arith, lt))
@@ -66,7 +66,7 @@ module _ (task : Task) (k : ℕ) where
   left_erase p s at = subst (λ (n : ℕ). drop p (actions_since task k) ≡ Erase (slot_of task.input s.from) ∷ drop n (actions_since task k)) (next_is p)
       (drop_in (λ s. Erase (slot_of task.input s.from)) (round_at task.plan k) (actions_after task k) p s at)
 
-  pub past_erasures : (p place : ℕ) → p ≡ shifts_in task.plan k + place → drop p (actions_since task k) ≡ drop place (actions_after task k)
+  pub past_erasures : (p place : ℕ) → p ≡ round_size task.plan k + place → drop p (actions_since task k) ≡ drop place (actions_after task k)
   past_erasures p place is = drop_past (λ s. Erase (slot_of task.input s.from)) (round_at task.plan k) (actions_after task k) p place is
 
   module _ (lt : k < length task.plan) where
@@ -81,18 +81,18 @@ module _ (task : Task) (k : ℕ) where
         (subst (λ (n : ℕ). drop place (copies task.input (round_at task.plan (suc k)) ++ rest) ≡ Copy (flight_of task.input s) ∷ drop n (copies task.input (round_at task.plan (suc k)) ++ rest)) (next_is place)
         (drop_in (λ s. Copy (flight_of task.input s)) (round_at task.plan (suc k)) rest place s at))
 
-    past_copies : (p n : ℕ) → p ≡ shifts_in task.plan (suc k) + n → drop p (actions_after task k) ≡ drop n rest
+    past_copies : (p n : ℕ) → p ≡ round_size task.plan (suc k) + n → drop p (actions_after task k) ≡ drop n rest
     past_copies p n is = ap (λ (l : List Action). drop p l) these ∙ drop_past (λ s. Copy (flight_of task.input s)) (round_at task.plan (suc k)) rest p n is
 
-    left_sync : (p : ℕ) → p ≡ shifts_in task.plan (suc k) → drop p (actions_after task k) ≡ Sync ∷ drop (p + 1) (actions_after task k)
+    left_sync : (p : ℕ) → p ≡ round_size task.plan (suc k) → drop p (actions_after task k) ≡ Sync ∷ drop (p + 1) (actions_after task k)
     left_sync p is = past_copies p 0 (omega (arith, is)) ∙ ap (λ (l : List Action). Sync ∷ l) (sym (past_copies (p + 1) 1 (omega (arith, is))))
 
-    pub left_mark : (p next : ℕ) → p ≡ shifts_in task.plan k + shifts_in task.plan (suc k) + 1 → next ≡ suc k → drop p (actions_since task k) ≡ SetMark next ∷ actions_since task next
+    pub left_mark : (p next : ℕ) → p ≡ round_size task.plan k + round_size task.plan (suc k) + 1 → next ≡ suc k → drop p (actions_since task k) ≡ SetMark next ∷ actions_since task next
     left_mark p next is same = subst (λ (n : ℕ). drop p (actions_since task k) ≡ SetMark n ∷ actions_since task n) (sym same)
-        (past_erasures p (shifts_in task.plan (suc k) + 1) (omega (arith, is)) ∙ past_copies (shifts_in task.plan (suc k) + 1) 1 (omega arith))
+        (past_erasures p (round_size task.plan (suc k) + 1) (omega (arith, is)) ∙ past_copies (round_size task.plan (suc k) + 1) 1 (omega arith))
 
   -- a sync comes after the copies of a round, and after the erasures of the last one
-  pub syncs_next : (p : ℕ) → p ≡ shifts_in task.plan (suc k) → drop p (actions_after task k) ≡ Sync ∷ drop (p + 1) (actions_after task k)
+  pub syncs_next : (p : ℕ) → p ≡ round_size task.plan (suc k) → drop p (actions_after task k) ≡ Sync ∷ drop (p + 1) (actions_after task k)
   syncs_next p is = elim (cases_lt k (length task.plan)) [
     | inl lt ↦ left_sync lt p is
     | inr past ↦ subst (λ (l : List Action). drop p l ≡ Sync ∷ drop (p + 1) l) (sym (after_last task.input k k task.plan past))
@@ -103,7 +103,7 @@ module _ (task : Task) (k : ℕ) where
 abbrev steps_of_rounds : List (List Shift) → ℕ
 steps_of_rounds rounds = sum_by (λ shifts. 2 * length shifts + 2) rounds
 
-count_from : (input : Lists) (n : ℕ) (rounds : List (List Shift)) → length (actions_from input n rounds) ≡ steps_of_rounds rounds + 1
+count_from : (input : InputLists) (n : ℕ) (rounds : List (List Shift)) → length (actions_from input n rounds) ≡ steps_of_rounds rounds + 1
 count_from input n [] = refl
 count_from input n (shifts ∷ rounds) =
     let tail = actions_from input (suc n) rounds in
@@ -117,7 +117,7 @@ count_from input n (shifts ∷ rounds) =
       count_from input (suc n) rounds,
     )
 
-pub count_since : (task : Task) (k : ℕ) → length (actions_since task k) ≡ shifts_in task.plan k + steps_after task.plan k
+pub count_since : (task : Task) (k : ℕ) → length (actions_since task k) ≡ round_size task.plan k + steps_after task.plan k
 count_since task k = omega (
   arith,
   length-append (erasures task.input (round_at task.plan k)) (actions_after task k),

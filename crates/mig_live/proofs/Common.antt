@@ -2,7 +2,7 @@
 pub use Rattle.hex.specs.Hex.{encode_lower}
 pub use Rattle.mig_base.proofs.ArrivalLaws.{reached}
 pub use Rattle.mig_base.proofs.CellTests.{cases_cell}
-pub use Rattle.mig_base.proofs.Common.{All-push, AllByRecursion, IfErr, IsWorkCell, Leads, MatchOption, Stops, codes, decimal, eq-eqb, false≢true, get_or_default, item_name, length-decimal-le}
+pub use Rattle.mig_base.proofs.Common.{All-push, AllByRecursion, FitsAlong, IfErr, IsWorkCell, MatchOption, Stops, codes, decimal, eq-eqb, false≢true, get_or_default, item_name, length-decimal-le}
 pub use Rattle.mig_base.proofs.Common.{length-map, pieces, recursion_from_All, words, ◌==◌}
 pub use Rattle.mig_base.proofs.Landing.{ends_are_quiet, flights_began, flights_same, no_target, target_left, target_one, target_permuted}
 pub use Rattle.mig_base.proofs.Listed.{some_map}
@@ -15,7 +15,7 @@ pub use Rattle.mig_base.specs.Arrivals.{IsReached}
 pub use Rattle.mig_base.specs.Cells.{is_slot}
 pub use Rattle.mig_base.specs.Flights.{IsTargetOf, began, ended, in_flight}
 pub use Rattle.mig_base.specs.Images.{Image, IsCopy, NoCell, SameBut}
-pub use Rattle.mig_base.specs.InputLists.{IsInput, Lists}
+pub use Rattle.mig_base.specs.InputLists.{InputLists, IsInput}
 pub use Rattle.mig_base.specs.JobCells.{IsJobCell, SettlesTo, Tells}
 pub use Rattle.mig_base.specs.Journals.{is_marked, is_one}
 pub use Rattle.mig_base.specs.Layouts.{At, IsTaken, round_at}
@@ -45,13 +45,13 @@ pub use Rattle.mig_live.specs.Orders.{IsOrder, all_reads, all_steps, order_line,
 pub use Rattle.mig_live.specs.Replies.{AreCutOff, ArePut, ArePutUpTo, AreReplies, replies, reply_line}
 pub use Rattle.mig_live.specs.Scripts.{IsScriptError, IsStopAt, Over, Piece, ScriptLine, ScriptNext, ScriptPlace, ScriptText, WereRead}
 pub use Rattle.mig_live.specs.Sessions.{InStep, IsSession, IsUnsynced, Session, done_in, is_synced, marks_by, steps_after}
-pub use Rattle.mig_live.specs.Underways.{IsAmong, IsAtStep, IsFilledBy, IsLeftBy, IsLoose, IsUnderway, shifts_in, steps_in}
+pub use Rattle.mig_live.specs.Underways.{IsAmong, IsAmongTargets, IsAtStep, IsLeftBy, IsLoose, IsUnderway, round_size, steps_in}
 pub use Rattle.mig_live.specs.declared.limits.TheConstants.{MAX_ORDERS}
 pub use Rattle.mig_live.specs.declared.orders.Order.{Order}
 pub use Rattle.mig_live.specs.declared.orders.Order.TheVariants.{Read, Step}
 pub use Rattle.mig_live.specs.declared.scripts.ScriptError.{ScriptError}
 pub use Rattle.mig_live.specs.declared.serving.ServeFault.{ServeFault}
-pub use Rattle.mig_mover.specs.Erasures.{AreZeros}
+pub use Rattle.mig_mover.specs.Erasures.{HoldsZeros}
 pub use Rattle.mig_mover.specs.Moves.{Enters}
 pub use Rattle.mig_store.specs.declared.store.StoreFailed.{StoreFailed}
 pub use Rattle.mig_text.proofs.Common.{decimal_injective}

@@ -5,13 +5,13 @@ use Rattle.mig_base.specs.declared.certs.Side.TheVariants.{Incoming, Outgoing}
 use Rattle.mig_base.proofs.Counting.{one}
 use Rattle.mig_base.proofs.KeptLimits.{limits_at}
 use Rattle.mig_base.proofs.Landing.{is_flight-same}
-use Rattle.mig_base.specs.Flights.{AreWithinLimits, trip_of_flight}
+use Rattle.mig_base.specs.Flights.{AreWithinLimits, transfer_of_flight}
 use Rattle.mig_base.specs.InputLists.{IsInRange, disk_at}
-use Rattle.mig_base.specs.Transfers.{KeepsLimit, Trip}
+use Rattle.mig_base.specs.Transfers.{KeepsLimit, Transfer}
 use Rattle.mig_base.specs.declared.inputs.Limits.{Limits}
 use Rattle.mig_base.specs.declared.inputs.Limits.TheVariants.{Joint, Split}
 use Rattle.mig_live.proofs.ActionLaws.{events_append}
-use Rattle.mig_live.proofs.Common.{Action, Bool, Copy, Erase, Event, Flight, IsInput, IsTargetOf, List, Lists, None, Option, Runs, SetMark, Shift, Some, State, Sync, Task, [], actions_from}
+use Rattle.mig_live.proofs.Common.{Action, Bool, Copy, Erase, Event, Flight, InputLists, IsInput, IsTargetOf, List, None, Option, Runs, SetMark, Shift, Some, State, Sync, Task, [], actions_from}
 use Rattle.mig_live.proofs.Common.{all_events, ap, append_assoc, arith, began, cases_Bool, copies, drop, ended, erasures, false, false≢true, flight_of, flights, get_or, get_or_default, in_flight}
 use Rattle.mig_live.proofs.Common.{is_some, length, map, option_map, refl, round_at, slice_get, slice_get-get_or, slot_of, subst, suc, sym, take, take-append-drop, target_one, true, zero, ℕ}
 use Rattle.mig_live.proofs.Common.{⊎_elim, ◌++◌, ◌+◌, ◌<◌, ◌∙◌, ◌∷◌, ◌≡◌, ◌≤◌}
@@ -33,7 +33,7 @@ lone_rounds (SetMark n ∷ actions) = lone_rounds actions
 lone_rounds (Erase slot ∷ actions) = lone_rounds actions
 
 -- and these are the copies of rounds
-module _ (input : Lists) where
+module _ (input : InputLists) where
   abbrev lone_of : List Shift → List (List Flight)
   lone_of shifts = map (λ s. flight_of input s ∷ []) shifts
 
@@ -57,19 +57,19 @@ module _ (input : Lists) where
       (All-append P (lone_of shifts) (flat_map lone_of rounds) (All-map P (λ s. flight_of input s ∷ []) shifts (all 0 shifts (omega arith))) (all_lone P rounds (λ j d lt. all (suc j) d (omega (arith, lt)))))
 
   -- a lone copy is within all limits
-  at_most_one : (p : Trip → Bool) (t : Trip) → count_by p (t ∷ []) ≤ 1
+  at_most_one : (p : Transfer → Bool) (t : Transfer) → count_by p (t ∷ []) ≤ 1
   at_most_one p t = let e = sum_by-cons (λ u. one (p u)) t [] in by (p t) e
     where
       by : (b : Bool) → count_by p (t ∷ []) ≡ one b + count_by p [] → count_by p (t ∷ []) ≤ 1
       by true e = omega (arith, e)
       by false e = omega (arith, e)
 
-  lone_keeps : (limits : Limits) (v : ℕ) (t : Trip) → IsInRange limits → KeepsLimit limits v (t ∷ [])
+  lone_keeps : (limits : Limits) (v : ℕ) (t : Transfer) → IsInRange limits → KeepsLimit limits v (t ∷ [])
   lone_keeps (Joint limit) v t in_range = omega (arith, at_most_one (touches v) t, in_range.0)
   lone_keeps (Split outgoing incoming) v t in_range = (omega (arith, at_most_one (passes Outgoing v) t, in_range.0.0), omega (arith, at_most_one (passes Incoming v) t, in_range.1.0))
 
   pub lone_within : IsInput input → (c : Flight) → AreWithinLimits input.disks (c ∷ [])
-  lone_within valid c v lt = lone_keeps (disk_at input.disks v).limits v (trip_of_flight input.disks c) (limits_at input valid v lt)
+  lone_within valid c v lt = lone_keeps (disk_at input.disks v).limits v (transfer_of_flight input.disks c) (limits_at input valid v lt)
 
 -- Events that are told, and what is in flight after them
 

@@ -1,7 +1,7 @@
 -- The middle of a round, by the laws of safe images.
-use Rattle.mig_live.proofs.Common.{All-contains, AreZeros, At, Bool, Cell, Changes, ChangesOnly, Contains, Contains-get_or, Contents, Event, HasDone, IfSome, Image, IsAmong, IsCopied, IsCopy}
-use Rattle.mig_live.proofs.Common.{IsFilledBy, IsInUse, IsInput, IsJobCell, IsLeftBy, IsLegal, IsLoose, IsSettled, IsSound, IsSoundAfter, IsSourceSlot, IsTaken, IsUnderway, LeavesOnly, List}
-use Rattle.mig_live.proofs.Common.{Lists, Mark, NoCell, Option, Runs, SameBut, SettledBut, Shift, Some, Spot, State, Tells, [], any_contains, ap, arith, at_target, cases_Bool, cases_cell, cases_eq}
+use Rattle.mig_live.proofs.Common.{All-contains, At, Bool, Cell, Changes, ChangesOnly, Contains, Contains-get_or, Contents, Event, HasDone, HoldsZeros, IfSome, Image, IsAmong, IsCopied, IsCopy}
+use Rattle.mig_live.proofs.Common.{IsAmongTargets, IsInUse, IsInput, IsJobCell, IsLeftBy, IsLegal, IsLoose, IsSettled, IsSound, IsSoundAfter, IsSourceSlot, IsTaken, IsUnderway, LeavesOnly, List}
+use Rattle.mig_live.proofs.Common.{InputLists, Mark, NoCell, Option, Runs, SameBut, SettledBut, Shift, Some, Spot, State, Tells, [], any_contains, ap, arith, at_target, cases_Bool, cases_cell, cases_eq}
 use Rattle.mig_live.proofs.Common.{changes_leave, changes_wider, flights, flights_same, from_disk, get_or, get_or_from_slice_get, here, in_some, inl, inr, is_marked, is_one, layout_at, leaves}
 use Rattle.mig_live.proofs.Common.{length, marking, moved_cases, one_target, other_bytes, refl, round_at, same_image, same_wider, settled_change, slice_get, slice_get-get_or, slice_get_within}
 use Rattle.mig_live.proofs.Common.{slot_apart, slot_of, sound_after, source_facts, subst, suc, sym, target_free, to_disk, told_is, told_kept, unmarked, zero, zeros, ℕ, ⊎_elim, ◌+◌, ◌<◌, ◌∙◌, ◌∷◌}
@@ -27,23 +27,23 @@ among_cases n shifts s t here (place, lt, at) = elim (cases_eq place n) [
   | inr other ↦ inl (place, omega arith, at)
 ]
 
-left_more : (input : Lists) (n m : ℕ) (shifts : List Shift) (cell : Cell) → n ≤ m → IsLeftBy input n shifts cell → IsLeftBy input m shifts cell
+left_more : (input : InputLists) (n m : ℕ) (shifts : List Shift) (cell : Cell) → n ≤ m → IsLeftBy input n shifts cell → IsLeftBy input m shifts cell
 left_more input n m shifts cell le (s, among, at) = (s, among_more n m shifts s le among, at)
 
-filled_more : (input : Lists) (n m : ℕ) (shifts : List Shift) (cell : Cell) → n ≤ m → IsFilledBy input n shifts cell → IsFilledBy input m shifts cell
+filled_more : (input : InputLists) (n m : ℕ) (shifts : List Shift) (cell : Cell) → n ≤ m → IsAmongTargets input n shifts cell → IsAmongTargets input m shifts cell
 filled_more input n m shifts cell le (s, among, at) = (s, among_more n m shifts s le among, at)
 
-loose_more : (input : Lists) (plan : List (List Shift)) (k e c f d : ℕ) (cell : Cell) → e ≤ f → c ≤ d → IsLoose input plan k e c cell → IsLoose input plan k f d cell
+loose_more : (input : InputLists) (plan : List (List Shift)) (k e c f d : ℕ) (cell : Cell) → e ≤ f → c ≤ d → IsLoose input plan k e c cell → IsLoose input plan k f d cell
 loose_more input plan k e c f d cell le_e le_c (inl from) = inl (left_more input e f (round_at plan k) cell le_e from)
 loose_more input plan k e c f d cell le_e le_c (inr to) = inr (filled_more input c d (round_at plan (suc k)) cell le_c to)
 
 -- the slots of the middle of a round are in use around it
-pub loose_in_use : (input : Lists) (plan : List (List Shift)) (k e c : ℕ) (cell : Cell) → IsLoose input plan k e c cell → IsInUse input plan k cell
+pub loose_in_use : (input : InputLists) (plan : List (List Shift)) (k e c : ℕ) (cell : Cell) → IsLoose input plan k e c cell → IsInUse input plan k cell
 loose_in_use input plan k e c cell (inl (s, among, at)) = inl (s.from, any_contains (λ (t : Shift). t.from ≡ s.from) (round_at plan k) s (among_has e (round_at plan k) s among) refl, at)
 loose_in_use input plan k e c cell (inr (s, among, at)) = inr (s.to, any_contains (λ (t : Shift). t.to ≡ s.to) (round_at plan (suc k)) s (among_has c (round_at plan (suc k)) s among) refl, at)
 
 -- the same is read, and no other cell is unsettled
-pub way_on : (asked : Bool) (input : Lists) (plan : List (List Shift)) (digest : List ℕ) (contents : Contents) (k : ℕ) (old new : State) (e c : ℕ) → old.reads ≡ new.reads → SettledBut (IsLoose input plan k e c) new → flights new ≡ []
+pub way_on : (asked : Bool) (input : InputLists) (plan : List (List Shift)) (digest : List ℕ) (contents : Contents) (k : ℕ) (old new : State) (e c : ℕ) → old.reads ≡ new.reads → SettledBut (IsLoose input plan k e c) new → flights new ≡ []
     → IsUnderway asked input plan digest contents old k e c → IsUnderway asked input plan digest contents new k e c
 way_on asked input plan digest contents k old new e c same settled landed way = record {
   sound = subst (λ (image : Image). IsSoundAfter asked input plan digest contents image k) same way.sound;
@@ -54,7 +54,7 @@ way_on asked input plan digest contents k old new e c same settled landed way = 
   tells = subst (λ (image : Image). Tells (IsJobCell input plan) image) same way.tells;
 }
 
-module _ (input : Lists) (valid : IsInput input) (plan : List (List Shift)) (runs : Runs input plan) (digest : List ℕ) (contents : Contents) (k : ℕ) (most : k ≤ length plan) (asked : Bool) where
+module _ (input : InputLists) (valid : IsInput input) (plan : List (List Shift)) (runs : Runs input plan) (digest : List ℕ) (contents : Contents) (k : ℕ) (most : k ≤ length plan) (asked : Bool) where
   abbrev pub Sound : Image → Type 0
   Sound = IsSound asked input plan digest contents
 
@@ -88,13 +88,13 @@ module _ (input : Lists) (valid : IsInput input) (plan : List (List Shift)) (run
     pub erase_leaves : IsUnderway asked input plan digest contents old k e 0 → LeavesOnly Sound old new
     erase_leaves = step_leaves (λ c. c ≡ slot_of input s.from) erase_used [] old new e 0 change
 
-    module _ (way : IsUnderway asked input plan digest contents old k e 0) (zeroed : AreZeros (new.reads (slot_of input s.from))) where
+    module _ (way : IsUnderway asked input plan digest contents old k e 0) (zeroed : HoldsZeros (new.reads (slot_of input s.from))) where
       now_zeros : new.reads (slot_of input s.from) ≡ Some zeros
       now_zeros = told_is (new.reads (slot_of input s.from)) zeros
           (step_tells (λ c. c ≡ slot_of input s.from) [] old new e 0 change way (slot_of input s.from)
           (inr (s.from, (k, inl (any_contains (λ (t : Shift). t.from ≡ s.from) (round_at plan k) s (among_has (e + 1) (round_at plan k) s (e, omega arith, here)) refl)), refl))) zeroed
 
-      none_filled : (cell : Cell) → IsFilledBy input 0 (round_at plan (suc k)) cell → ⊥
+      none_filled : (cell : Cell) → IsAmongTargets input 0 (round_at plan (suc k)) cell → ⊥
       none_filled cell (t, among, at) = let low = among.1 in omega arith
 
       still_zeros : (m : Shift) → IsAmong (e + 1) (round_at plan k) m → new.reads (slot_of input m.from) ≡ Some zeros
@@ -124,7 +124,7 @@ module _ (input : Lists) (valid : IsInput input) (plan : List (List Shift)) (run
   -- numbers past the ends of the rounds stand for all
   module _ (s : State) (e c f d : ℕ) (from_more : (m : Shift) → IsAmong e (round_at plan k) m → IsAmong f (round_at plan k) m) (from_less : (m : Shift) → IsAmong f (round_at plan k) m → IsAmong e (round_at plan k) m)
       (to_more : (m : Shift) → IsAmong c (round_at plan (suc k)) m → IsAmong d (round_at plan (suc k)) m) (to_less : (m : Shift) → IsAmong d (round_at plan (suc k)) m → IsAmong c (round_at plan (suc k)) m) where
-    filled_same : (cell : Cell) → IsFilledBy input c (round_at plan (suc k)) cell → IsFilledBy input d (round_at plan (suc k)) cell
+    filled_same : (cell : Cell) → IsAmongTargets input c (round_at plan (suc k)) cell → IsAmongTargets input d (round_at plan (suc k)) cell
     filled_same cell (t, among, at) = (t, to_more t among, at)
 
     loose_same : (cell : Cell) → IsLoose input plan k e c cell → IsLoose input plan k f d cell
@@ -249,7 +249,7 @@ module _ (input : Lists) (valid : IsInput input) (plan : List (List Shift)) (run
       from_on_disk (suc r) le s has = from_disk input (At input plan r) (round_at plan (suc r)) (runs.rounds r (omega arith)) (layout_at input valid plan runs r (omega arith)) s has
 
       -- what a shift of the round fills is taken after it
-      taken : (m : Shift) → Contains (round_at plan k) m → IsFilledBy input c (round_at plan (suc k)) (slot_of input m.from) → IsTaken (At input plan (suc k)) m.from
+      taken : (m : Shift) → Contains (round_at plan k) m → IsAmongTargets input c (round_at plan (suc k)) (slot_of input m.from) → IsTaken (At input plan (suc k)) m.from
       taken m has (t, among, at) =
           let has_t = among_has c (round_at plan (suc k)) t among in
           (t.item.0, at_target input (At input plan k) (round_at plan (suc k)) legal t has_t ∙ ap Some (slot_apart input valid t.to m.from (to_on_disk t has_t) (from_on_disk k most m has) at))
@@ -296,7 +296,7 @@ module _ (input : Lists) (valid : IsInput input) (plan : List (List Shift)) (run
       has_among t has = (has.0, (let low = has.1 in omega arith), slice_get-get_or (round_at plan (suc k)) has.0 t has.1 ∙ ap Some has.2)
 
       -- a source of round k that is taken after round k + 1 was filled by it
-      filled : (m : Shift) → Contains (round_at plan k) m → IsTaken (At input plan (suc k)) m.from → IsFilledBy input c (round_at plan (suc k)) (slot_of input m.from)
+      filled : (m : Shift) → Contains (round_at plan k) m → IsTaken (At input plan (suc k)) m.from → IsAmongTargets input c (round_at plan (suc k)) (slot_of input m.from)
       filled m has (item, at) = ⊎_elim
           (λ last. (last.0, has_among last.0 last.1, ap (λ (p : Spot). slot_of input p) (in_some last.0.to m.from (sym last.3 ∙ at))))
           (λ stayed. absurd ((source_facts input valid plan runs k m.from most (any_contains (λ (t : Shift). t.from ≡ m.from) (round_at plan k) m has refl)).1 (item, sym stayed.1 ∙ at)))
@@ -315,7 +315,7 @@ module _ (input : Lists) (valid : IsInput input) (plan : List (List Shift)) (run
       }
 
 -- a shift's two slots differ
-pub copy_apart : (input : Lists) (valid : IsInput input) (plan : List (List Shift)) (runs : Runs input plan) (k : ℕ) (lt : k < length plan) (s : Shift) (place : ℕ) → slice_get (round_at plan (suc k)) place ≡ Some s → slot_of input s.from ≡ slot_of input s.to → ⊥
+pub copy_apart : (input : InputLists) (valid : IsInput input) (plan : List (List Shift)) (runs : Runs input plan) (k : ℕ) (lt : k < length plan) (s : Shift) (place : ℕ) → slice_get (round_at plan (suc k)) place ≡ Some s → slot_of input s.from ≡ slot_of input s.to → ⊥
 copy_apart input valid plan runs k lt s place here same =
     let has = among_has (place + 1) (round_at plan (suc k)) s (place, omega arith, here) in
     let legal = runs.rounds k lt in

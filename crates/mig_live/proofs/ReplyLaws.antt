@@ -1,5 +1,5 @@
 -- Replies that are put, order by order.
-use Rattle.mig_live.proofs.Common.{ArePut, ArePutUpTo, AreReplies, Bool, Contents, Err, Extends, ExtendsByPrefix, ExtendsInPart, IfSome, InStep, None, Option, Some, IsErrAnd, ItemId, List, Lists, Ok, Order, Read, Result, ServeFault, Session, SinkState}
+use Rattle.mig_live.proofs.Common.{ArePut, ArePutUpTo, AreReplies, Bool, Contents, Err, Extends, ExtendsByPrefix, ExtendsInPart, IfSome, InStep, None, Option, Some, IsErrAnd, ItemId, List, InputLists, Ok, Order, Read, Result, ServeFault, Session, SinkState}
 use Rattle.mig_live.proofs.Common.{State, Step, Task, [], all_reads, all_steps, ap, append-nil, append_assoc, arith, codes, encode_lower, flat_map-append}
 use Rattle.mig_live.proofs.Common.{get_or, inl, inr, item_name, length, map, map-append, named, puts_nothing, refl, replies, reply_line, sha256, steps_of, subst, sym, take, take_more, text_of_lines}
 use Rattle.mig_live.proofs.Common.{then_extends, words, ℕ, ◌++◌, ◌+◌, ◌<◌, ◌∙◌, ◌∷◌, ◌≡◌, ◌≤◌}
@@ -34,7 +34,7 @@ reads_append [] ys = refl
 reads_append (Read item ∷ xs) ys = ap (λ (l : List ℕ). item.0 ∷ l) (reads_append xs ys)
 reads_append (Step count ∷ xs) ys = reads_append xs ys
 
-module _ (input : Lists) (contents : Contents) where
+module _ (input : InputLists) (contents : Contents) where
   replies_append : (xs ys : List Order) → replies input contents (xs ++ ys) ≡ replies input contents xs ++ replies input contents ys
   replies_append xs ys =
       ap (λ (items : List ℕ). text_of_lines (map (reply_line input contents) items)) (reads_append xs ys)

@@ -1,5 +1,5 @@
 -- The pieces of a script's text, and where it goes wrong.
-use Rattle.mig_live.proofs.Common.{All-push, AllByRecursion, IsInput, IsOrder, IsScriptError, IsStopAt, Lacks, Lacks-decimal, Lacks-words, Leads, List, Lists, MAX_FILE_BYTES, MAX_ORDERS}
+use Rattle.mig_live.proofs.Common.{All-push, AllByRecursion, FitsAlong, InputLists, IsInput, IsOrder, IsScriptError, IsStopAt, Lacks, Lacks-decimal, Lacks-words, List, MAX_FILE_BYTES, MAX_ORDERS}
 use Rattle.mig_live.proofs.Common.{MatchOption, None, Option, Order, Over, Piece, Read, ScriptError, ScriptLine, ScriptNext, ScriptPlace, ScriptText, Some, Step, Stops, WereRead, [], ap}
 use Rattle.mig_live.proofs.Common.{append_assoc, arith, codes, decimal, decimal_injective, get_or, inl, inr, item_name, lacks_test, length, length-append, length-decimal-le, length-map, map}
 use Rattle.mig_live.proofs.Common.{map-append, order_line, order_words, pieces, recursion_from_All, refl, subst, suc, sym, text_of_lines, zero, ℕ, ◌*◌, ◌++◌, ◌+◌, ◌<◌, ◌∙◌, ◌∷◌, ◌≡◌, ◌≢◌, ◌≤◌}
@@ -13,7 +13,7 @@ use Rattle.mig_text.proofs.PlanReads.{text_from_pieces}
 
 -- Lines
 
-module _ (input : Lists) (valid : IsInput input) where
+module _ (input : InputLists) (valid : IsInput input) where
   -- no word of an order has a blank, or the end of a line
   words_lack_blank : (order : Order) → IsOrder input order → AllByRecursion (Lacks 32) (order_words input order)
   words_lack_blank (Read item) fits = (lacks_test 32 (codes "read") refl, (item_lacks input valid 32 item.0 refl fits, tt))
@@ -85,11 +85,11 @@ module _ (input : Lists) (valid : IsInput input) where
 -- Places
 
 -- an order's line isn't empty
-line_full : (input : Lists) (order : Order) → order_line input order ≡ [] → ⊥
+line_full : (input : InputLists) (order : Order) → order_line input order ≡ [] → ⊥
 line_full input (Read item) e = absurd cc
 line_full input (Step count) e = absurd cc
 
-module _ (input : Lists) where
+module _ (input : InputLists) where
   -- a piece at a place has one place after it
   one_next : (a : ScriptPlace) (piece : List ℕ) (b c : ScriptPlace) → ScriptNext input a piece b → ScriptNext input a piece c → b ≡ c
   one_next (Piece number zero) piece b c h k = absurd h
@@ -101,7 +101,7 @@ module _ (input : Lists) where
 
   -- the lines of orders lead on
   orders_lead : (orders : List Order) (number all left : ℕ) → AllByRecursion (IsOrder input) orders → number + length orders ≤ MAX_ORDERS + 1 → all ≡ length orders + left
-      → Leads (ScriptNext input) (Piece number all) (map (order_line input) orders) (Piece (number + length orders) left)
+      → FitsAlong (ScriptNext input) (Piece number all) (map (order_line input) orders) (Piece (number + length orders) left)
   orders_lead [] number all left fits few count = let a : number + 0 ≡ number = omega arith in let b : left ≡ all = omega (arith, count) in (λ i. Piece (a i) (b i))
   orders_lead (order ∷ orders) number zero left fits few count = absurd (omega (arith, count))
   orders_lead (order ∷ orders) number (suc all) left fits few count =
@@ -109,7 +109,7 @@ module _ (input : Lists) where
         Piece (number + 1) all,
         (
           inl (omega (arith, few), (order, fits.0, refl), refl),
-          subst (λ (n : ℕ). Leads (ScriptNext input) (Piece (number + 1) all) (map (order_line input) orders) (Piece n left)) last
+          subst (λ (n : ℕ). FitsAlong (ScriptNext input) (Piece (number + 1) all) (map (order_line input) orders) (Piece n left)) last
               (orders_lead orders (number + 1) all left fits.1 (omega (arith, few)) (omega (arith, count))),
         ),
       )
@@ -118,7 +118,7 @@ module _ (input : Lists) where
     count : length text ≡ length orders + length rest
     count = omega (arith, ap length read.cut, length-append (map (order_line input) orders) rest, length-map orders (order_line input))
 
-    leads : Leads (ScriptNext input) (Piece 1 (length text)) (map (order_line input) orders) (Piece (1 + length orders) (length rest))
+    leads : FitsAlong (ScriptNext input) (Piece 1 (length text)) (map (order_line input) orders) (Piece (1 + length orders) (length rest))
     leads = orders_lead orders 1 (length text) (length rest) (recursion_from_All (IsOrder input) orders read.fit) (omega (arith, read.few)) count
 
     -- the next piece doesn't fit, or there is none
@@ -167,7 +167,7 @@ module _ (input : Lists) where
 
 -- The whole text
 
-module _ (input : Lists) (valid : IsInput input) (bytes : List ℕ) where
+module _ (input : InputLists) (valid : IsInput input) (bytes : List ℕ) where
   abbrev lines_of : List Order → List (List ℕ)
   lines_of orders = map (order_line input) orders
 
@@ -175,8 +175,8 @@ module _ (input : Lists) (valid : IsInput input) (bytes : List ℕ) where
   fitting orders text = recursion_from_All (IsOrder input) orders text.fit
 
   -- the pieces of a script fit
-  text_leads : (orders : List Order) → ScriptText input orders bytes → Leads (ScriptNext input) (Piece 1 (length (pieces bytes))) (pieces bytes) Over
-  text_leads orders text = subst (λ (t : List (List ℕ)). Leads (ScriptNext input) (Piece 1 (length t)) t Over)
+  text_leads : (orders : List Order) → ScriptText input orders bytes → FitsAlong (ScriptNext input) (Piece 1 (length (pieces bytes))) (pieces bytes) Over
+  text_leads orders text = subst (λ (t : List (List ℕ)). FitsAlong (ScriptNext input) (Piece 1 (length t)) t Over)
       (sym (ap pieces text.lines ∙ pieces_of_lines (lines_of orders) (lines_lack input valid orders (fitting orders text))))
       (Leads-append (ScriptNext input) (Piece 1 (length (lines_of orders ++ [] ∷ []))) (Piece (1 + length orders) 1) Over (lines_of orders) ([] ∷ [])
       (orders_lead input orders 1 (length (lines_of orders ++ [] ∷ [])) 1 (fitting orders text) (omega (arith, text.few)) (omega (arith, length-append (lines_of orders) ([] ∷ []), length-map orders (order_line input))))

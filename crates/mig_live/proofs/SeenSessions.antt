@@ -1,6 +1,6 @@
 -- What a store that refuses has seen of the items of a session, and that it refuses neither its steps nor its reads.
 use Rattle.mig_live.proofs.Common.{All, All-contains, AreMade, Contains, Image, IsOrder, IsTask, ItemId, List, Option, Order, Read, Session, State}
-use Rattle.mig_live.proofs.Common.{Task, [], actions_left, arith, get_or, get_or_default, item_name, length, refl, shifts_in}
+use Rattle.mig_live.proofs.Common.{Task, [], actions_left, arith, get_or, get_or_default, item_name, length, refl, round_size}
 use Rattle.mig_live.proofs.Common.{steps_after, steps_in, subst, suc, sym, take, zero, ℕ, ◌+◌, ◌-◌, ◌<◌, ◌∙◌, ◌∷◌, ◌≡◌, ◌≤◌}
 use Rattle.std.specs.Option.{IsSomeAnd}
 use Rattle.mig_base.specs.Slots.{HasHeader, item_cell}
@@ -16,9 +16,9 @@ use Rattle.mig_store.specs.Grounds.{Lacks, Sights}
 pub entered_seen : (task : Task) (marked left : ℕ) → left ≡ steps_after task.plan marked → (seen : Sights) (image : Image)
     → IsSeen task seen image marked
     → InSight (record { task = task; marked = marked; left = left }) seen image
-entered_seen task marked left count = seen_early task marked (shifts_in task.plan marked + steps_after task.plan marked - left) (omega (arith, count))
+entered_seen task marked left count = seen_early task marked (round_size task.plan marked + steps_after task.plan marked - left) (omega (arith, count))
 
-module _ (task : Task) (marked left done : ℕ) (sum : done + left ≡ shifts_in task.plan marked + steps_after task.plan marked) where
+module _ (task : Task) (marked left done : ℕ) (sum : done + left ≡ round_size task.plan marked + steps_after task.plan marked) where
   -- before a step
   pub seen_before : (live : Session) → live ≡ record { task = task; marked = marked; left = left } → (p : ℕ) → done ≡ p
       → (seen : Sights) (image : Image) → InSight live seen image → IsSeenAtStep task seen image marked p
@@ -29,14 +29,14 @@ module _ (task : Task) (marked left done : ℕ) (sum : done + left ≡ shifts_in
   pub seen_within : 0 < left → (seen : Sights) (image : Image) → IsSeenAtStep task seen image marked (done + 1)
       → InSight (record { task = task; marked = marked; left = left - 1 }) seen image
   seen_within some seen image = subst (IsSeenAtStep task seen image marked)
-      (let e : done + 1 ≡ shifts_in task.plan marked + steps_after task.plan marked - (left - 1) = omega (arith, sum, some) in e)
+      (let e : done + 1 ≡ round_size task.plan marked + steps_after task.plan marked - (left - 1) = omega (arith, sum, some) in e)
 
   -- after a mark
   pub seen_mark : marked < length task.plan → done ≡ steps_in task.plan marked → (seen : Sights) (image : Image)
       → IsSeenAtStep task seen image (marked + 1) 0 → InSight (record { task = task; marked = marked + 1; left = left - 1 }) seen image
   seen_mark lt full seen image = subst (IsSeenAtStep task seen image (marked + 1))
       (let total = kept_mark task marked left done sum lt full in
-      let e : 0 ≡ shifts_in task.plan (marked + 1) + steps_after task.plan (marked + 1) - (left - 1) = omega (arith, total) in e)
+      let e : 0 ≡ round_size task.plan (marked + 1) + steps_after task.plan (marked + 1) - (left - 1) = omega (arith, total) in e)
 
 -- Orders
 

@@ -2,7 +2,7 @@
 use Rattle.mig_live.proofs.Common.{At, Cell, Contains, Flight, IfSome, Image, IsAmong, IsTask, IsWorkCell, List, Mark, NoCell, None, Option, SameBut}
 use Rattle.mig_live.proofs.Common.{Shift, Some, Spot, Task, [], any_contains, ap, arith, cases_eq, cases_lt, false≢true, flights_of, get_or}
 use Rattle.mig_live.proofs.Common.{get_or_from_slice_get, inl, inr, is_slot, item_name, layout_at, leaves, length, moved_cases, option_map, round_at}
-use Rattle.mig_live.proofs.Common.{shifts_in, shifts_of, slice_get, slice_get-get_or, slice_get_within, slot_apart, slot_of, steps_in, subst, suc}
+use Rattle.mig_live.proofs.Common.{round_size, shifts_of, slice_get, slice_get-get_or, slice_get_within, slot_apart, slot_of, steps_in, subst, suc}
 use Rattle.mig_live.proofs.Common.{sym, zero, ℕ, ⊎_elim, ◌+◌, ◌-◌, ◌<◌, ◌∙◌, ◌∷◌, ◌≡◌, ◌≤◌, ◌⊎◌}
 use Rattle.std.proofs.lemmas.List.Elements.{Contains-append_left, Contains-append_right}
 use Rattle.std.specs.Option.{IsSomeAnd}
@@ -22,7 +22,7 @@ use Rattle.mig_mover.specs.Holdings.{IsSeen, cell_at}
 use Rattle.mig_store.specs.Grounds.{IsNoSlot, IsSeenAtBoth, Lacks, Remembers, Sights}
 
 -- before a shift of the next round is copied
-pub seen_early : (task : Task) (k p : ℕ) → p ≤ shifts_in task.plan k → (seen : Sights) (image : Image) → IsSeen task seen image k
+pub seen_early : (task : Task) (k p : ℕ) → p ≤ round_size task.plan k → (seen : Sights) (image : Image) → IsSeen task seen image k
     → IsSeenAtStep task seen image k p
 seen_early task k p few seen image seeing = record { items = seeing; copied = λ m among. absurd (omega (arith, among.1, few)) }
 
@@ -35,7 +35,7 @@ module _ (task : Task) (is : IsTask task) (k : ℕ) (most : k ≤ length task.pl
   IsThere seen m = seen (slot_of task.input m.to) (item_name task.input m.item.0)
 
   -- a sync
-  pub seen_synced : (p : ℕ) → shifts_in task.plan (suc k) ≤ p - shifts_in task.plan k → (seen after : Sights) → Remembers NoCell seen after
+  pub seen_synced : (p : ℕ) → round_size task.plan (suc k) ≤ p - round_size task.plan k → (seen after : Sights) → Remembers NoCell seen after
       → (image new : Image) → SameBut NoCell image new → IsSeenAtStep task seen image k p → IsSeenAtStep task after new k (p + 1)
   seen_synced p all seen after kept image new quiet sight = record {
     items = seen_beside task is k most seen image sight.items NoCell (λ cell none. absurd none) after
@@ -58,7 +58,7 @@ module _ (task : Task) (is : IsTask task) (k : ℕ) (most : k ≤ length task.pl
     -- a copy
     module _ (place : ℕ) (within : place < length next) (f : Flight) (at : slice_get (flights_of task.input next) place ≡ Some f) (seen : Sights)
         (image : Image) (law : AreWhereSeen seen image) (after : Sights) (kept : Remembers (λ c. (c ≡ f.from) ⊎ (c ≡ f.to)) seen after) where
-      pub seen_more : (p : ℕ) → p ≡ shifts_in task.plan k + place → IsSeenAtStep task seen image k p → (new : Image)
+      pub seen_more : (p : ℕ) → p ≡ round_size task.plan k + place → IsSeenAtStep task seen image k p → (new : Image)
           → SameBut (λ c. c ≡ f.to) image new → IsSeenAtBoth after f.from f.to → AreWhereSeen after new → IsSeenAtStep task after new k (p + 1)
       seen_more p here sight new step both after_law = record { items = now.0; copied = copied }
         where
@@ -69,7 +69,7 @@ module _ (task : Task) (is : IsTask task) (k : ℕ) (most : k ≤ length task.pl
           now : IsSeen task after new k × AreMovedTo task (suc k) (place + 1) after
           now = seen_copied task is k lt place within f at seen image law (sight.items, moved) after new step kept both after_law
 
-          copied : (m : Shift) → IsAmong (p + 1 - shifts_in task.plan k) next m → IsThere after m
+          copied : (m : Shift) → IsAmong (p + 1 - round_size task.plan k) next m → IsThere after m
           copied m (j, low, there) =
               subst (IsThere after) (get_or_from_slice_get next j m m there) (now.1 j m (omega arith) (omega (arith, low, here)))
 

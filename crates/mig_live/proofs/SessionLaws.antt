@@ -1,9 +1,9 @@
 -- What the calls of a session keep.
-use Rattle.mig_live.proofs.Common.{Action, All, AllWrite, AreMadeInPart, Bool, Cell, ChangesOnly, Contents, Enters, Image, InStep, IsAtStep, IsFilledBy, IsInput, IsJobCell}
-use Rattle.mig_live.proofs.Common.{IsLoose, IsMade, IsReached, IsSession, IsSettled, IsSound, IsSoundAfter, IsTask, IsUnderway, IsUnsynced, LeavesOnly, List, Lists, Looks}
+use Rattle.mig_live.proofs.Common.{Action, All, AllWrite, AreMadeInPart, Bool, Cell, ChangesOnly, Contents, Enters, Image, InStep, IsAmongTargets, IsAtStep, IsInput, IsJobCell}
+use Rattle.mig_live.proofs.Common.{InputLists, IsLoose, IsMade, IsReached, IsSession, IsSettled, IsSound, IsSoundAfter, IsTask, IsUnderway, IsUnsynced, LeavesOnly, List, Looks}
 use Rattle.mig_live.proofs.Common.{NoCell, Runs, SameBut, ServeFault, Session, SettledBut, SettlesTo, Shift, Some, State, Task, Tells, [], actions_left, actions_since, ap}
 use Rattle.mig_live.proofs.Common.{append_assoc, arith, cases_lt, changes_wider, done_in, drop, drop_all, eqb-true, flights_same, get_or, inl, inr, is_synced, leaves_then}
-use Rattle.mig_live.proofs.Common.{length, look_quiet, marks_by, reached, refl, round_at, same_image, same_wider, settled_change, shifts_in, slice_get-get_or, slice_get_within}
+use Rattle.mig_live.proofs.Common.{length, look_quiet, marks_by, reached, refl, round_at, round_size, same_image, same_wider, settled_change, slice_get-get_or, slice_get_within}
 use Rattle.mig_live.proofs.Common.{slot_of, steps_after, steps_in, subst, suc, sym, take, true, zero, zeros, ℕ, ◌*◌, ◌++◌, ◌+◌, ◌-◌, ◌<◌, ◌↔◌, ◌∙◌, ◌∷◌, ◌≡◌, ◌≤◌, ◌⊎◌}
 use Rattle.mig_live.proofs.ActionLaws.{count_since}
 use Rattle.mig_live.proofs.Middle.{from_done, way_on}
@@ -11,14 +11,14 @@ use Rattle.mig_live.proofs.StepCounts.{marks_after, marks_before, marks_none, sh
 use Rattle.mig_live.specs.Replies.{AreMadeUpTo, IsLeftAfter, LeavesAfter, telling}
 use Rattle.mig_live.specs.declared.serving.ServeFault.TheVariants as serve_fault
 
-module _ (asked : Bool) (input : Lists) (plan : List (List Shift)) (digest : List ℕ) (contents : Contents) (k : ℕ) (old new : State) where
+module _ (asked : Bool) (input : InputLists) (plan : List (List Shift)) (digest : List ℕ) (contents : Contents) (k : ℕ) (old new : State) where
   settled_quiet : (P : Cell → Type 0) → ChangesOnly NoCell old new → SettledBut P old → SettledBut P new
   settled_quiet P quiet = settled_change P [] old new (changes_wider P P NoCell NoCell (λ cell none. absurd none) (λ cell none. absurd none) [] old new quiet)
 
   -- where nothing is written and no event comes, nothing changes
   pub step_quiet : (p : ℕ) → ChangesOnly NoCell old new → IsAtStep asked input plan digest contents old k p → IsAtStep asked input plan digest contents new k p
   step_quiet p quiet at = record {
-    underway = way_on asked input plan digest contents k old new p _ (same_image old.reads new.reads quiet.told) (settled_quiet (IsLoose input plan k p (p - shifts_in plan k)) quiet at.underway.settled)
+    underway = way_on asked input plan digest contents k old new p _ (same_image old.reads new.reads quiet.told) (settled_quiet (IsLoose input plan k p (p - round_size plan k)) quiet at.underway.settled)
         (flights_same old new quiet.events ∙ at.underway.landed) at.underway;
     synced = λ high. settled_quiet NoCell quiet (at.synced high);
   }
@@ -29,7 +29,7 @@ module _ (asked : Bool) (input : Lists) (plan : List (List Shift)) (digest : Lis
 
 -- Steps
 
-module _ (task : Task) (marked left done : ℕ) (sum : done + left ≡ shifts_in task.plan marked + steps_after task.plan marked) where
+module _ (task : Task) (marked left done : ℕ) (sum : done + left ≡ round_size task.plan marked + steps_after task.plan marked) where
   abbrev pub session : Session
   session = record { task = task; marked = marked; left = left }
 
@@ -64,33 +64,33 @@ module _ (task : Task) (marked left done : ℕ) (sum : done + left ≡ shifts_in
 
       pub within_step : 0 < left → ((asked : Bool) (contents : Contents) → IsAtStep asked task.input task.plan task.digest contents old marked p → IsAtStep asked task.input task.plan task.digest contents new marked (p + 1))
           → (asked : Bool) (contents : Contents) → InStep asked live contents old → InStep asked (record { task = task; marked = marked; left = left - 1 }) contents new
-      within_step some gives asked contents at = subst (IsAtStep asked task.input task.plan task.digest contents new marked) (let e : p + 1 ≡ shifts_in task.plan marked + steps_after task.plan marked - (left - 1) = omega (arith, sum, here, some) in e)
+      within_step some gives asked contents at = subst (IsAtStep asked task.input task.plan task.digest contents new marked) (let e : p + 1 ≡ round_size task.plan marked + steps_after task.plan marked - (left - 1) = omega (arith, sum, here, some) in e)
           (gives asked contents (before_step asked contents at))
 
       pub mark_step : marked < length task.plan → p ≡ steps_in task.plan marked → ((asked : Bool) (contents : Contents) → IsAtStep asked task.input task.plan task.digest contents old marked p → IsAtStep asked task.input task.plan task.digest contents new (marked + 1) 0)
           → (asked : Bool) (contents : Contents) → InStep asked live contents old → InStep asked (record { task = task; marked = marked + 1; left = left - 1 }) contents new
-      mark_step lt full gives asked contents at = subst (IsAtStep asked task.input task.plan task.digest contents new (marked + 1)) (let e : 0 ≡ shifts_in task.plan (marked + 1) + steps_after task.plan (marked + 1) - (left - 1) = omega (arith, next) in e)
+      mark_step lt full gives asked contents at = subst (IsAtStep asked task.input task.plan task.digest contents new (marked + 1)) (let e : 0 ≡ round_size task.plan (marked + 1) + steps_after task.plan (marked + 1) - (left - 1) = omega (arith, next) in e)
           (gives asked contents (before_step asked contents at))
         where
-          suc_is : shifts_in task.plan (suc marked) ≡ shifts_in task.plan (marked + 1)
-          suc_is = ap (shifts_in task.plan) (let e : suc marked ≡ marked + 1 = omega arith in e)
+          suc_is : round_size task.plan (suc marked) ≡ round_size task.plan (marked + 1)
+          suc_is = ap (round_size task.plan) (let e : suc marked ≡ marked + 1 = omega arith in e)
 
-          next : left ≡ shifts_in task.plan (marked + 1) + steps_after task.plan (marked + 1) + 1
+          next : left ≡ round_size task.plan (marked + 1) + steps_after task.plan (marked + 1) + 1
           next = omega (arith, sum, here, full, suc_is, steps_more task.plan marked lt)
 
   -- what a session keeps
-  pub kept_mark : marked < length task.plan → done ≡ steps_in task.plan marked → 0 + (left - 1) ≡ shifts_in task.plan (marked + 1) + steps_after task.plan (marked + 1)
+  pub kept_mark : marked < length task.plan → done ≡ steps_in task.plan marked → 0 + (left - 1) ≡ round_size task.plan (marked + 1) + steps_after task.plan (marked + 1)
   kept_mark lt full =
-      let suc_is : shifts_in task.plan (suc marked) ≡ shifts_in task.plan (marked + 1) = ap (shifts_in task.plan) (let e : suc marked ≡ marked + 1 = omega arith in e) in
+      let suc_is : round_size task.plan (suc marked) ≡ round_size task.plan (marked + 1) = ap (round_size task.plan) (let e : suc marked ≡ marked + 1 = omega arith in e) in
       omega (arith, sum, full, suc_is, steps_more task.plan marked lt)
 
 -- A step is the first of those that are left
-module _ (task : Task) (marked left done : ℕ) (sum : done + left ≡ shifts_in task.plan marked + steps_after task.plan marked) (live : Session) (it : live ≡ record { task = task; marked = marked; left = left })
+module _ (task : Task) (marked left done : ℕ) (sum : done + left ≡ round_size task.plan marked + steps_after task.plan marked) (live : Session) (it : live ≡ record { task = task; marked = marked; left = left })
     (p : ℕ) (here : done ≡ p) (old new : State) where
   pub part_here : AreMadeInPart [] (take 1 (drop p (actions_since task marked))) old new → AreMadeInPart [] (take 1 (actions_left live)) old new
   part_here = subst (λ (l : List Action). AreMadeInPart [] (take 1 l) old new) (sym (left_here task marked left done sum live it p here))
 
-  pub made_here : (rest : List Action) (k more since : ℕ) → since + more ≡ shifts_in task.plan k + steps_after task.plan k → rest ≡ drop since (actions_since task k)
+  pub made_here : (rest : List Action) (k more since : ℕ) → since + more ≡ round_size task.plan k + steps_after task.plan k → rest ≡ drop since (actions_since task k)
       → (a : Action) × (drop p (actions_since task marked) ≡ a ∷ rest) × IsMade a old new
       → (a : Action) × (actions_left live ≡ a ∷ actions_left (record { task = task; marked = k; left = more })) × IsMade a old new
   made_here rest k more since total is (a, first, made) = (
@@ -109,16 +109,16 @@ module _ (task : Task) (is : IsTask task) (marked left : ℕ) (count : left ≡ 
   pub entered : Enters task old new marked → Tells (IsJobCell task.input task.plan) old.reads → SettlesTo (IsSound asked task.input task.plan task.digest contents) old
       → InStep asked (record { task = task; marked = marked; left = left }) contents new
   entered enters tells settles = record {
-    underway = subst (IsUnderway asked task.input task.plan task.digest contents new marked done) (let e : 0 ≡ done - shifts_in task.plan marked = omega (arith, count) in e)
+    underway = subst (IsUnderway asked task.input task.plan task.digest contents new marked done) (let e : 0 ≡ done - round_size task.plan marked = omega (arith, count) in e)
         (from_done task.input is.valid task.plan is.runs task.digest contents marked enters.most asked new done (omega (arith, count)) enters.landed (enters.done asked contents tells settles));
     synced = λ high. absurd (omega (arith, count));
   }
     where
       done : ℕ
-      done = shifts_in task.plan marked + steps_after task.plan marked - left
+      done = round_size task.plan marked + steps_after task.plan marked - left
 
 -- what every session keeps
-pub keeps_session : (task : Task) (marked left done : ℕ) → marked ≤ length task.plan → done + left ≡ shifts_in task.plan marked + steps_after task.plan marked → done ≤ steps_in task.plan marked
+pub keeps_session : (task : Task) (marked left done : ℕ) → marked ≤ length task.plan → done + left ≡ round_size task.plan marked + steps_after task.plan marked → done ≤ steps_in task.plan marked
     → (live : Session) → live ≡ record { task = task; marked = marked; left = left } → IsSession live
 keeps_session task marked left done most sum high live it = subst IsSession (sym it) (record { most = most; low = omega (arith, sum); high = omega (arith, sum, high) })
 
@@ -134,14 +134,14 @@ module _ (live : Session) (valid : IsInput live.task.input) (runs : Runs live.ta
     | inr past ↦ (let most = keeps.most in omega arith)
   ]
     where
-      suc_is : shifts_in live.task.plan (suc live.marked) ≡ shifts_in live.task.plan (live.marked + 1)
-      suc_is = ap (shifts_in live.task.plan) (let e : suc live.marked ≡ live.marked + 1 = omega arith in e)
+      suc_is : round_size live.task.plan (suc live.marked) ≡ round_size live.task.plan (live.marked + 1)
+      suc_is = ap (round_size live.task.plan) (let e : suc live.marked ≡ live.marked + 1 = omega arith in e)
 
   last_full : steps_in live.task.plan live.marked ≤ done_in live
   last_full = omega (arith, none, steps_last live.task.plan live.marked (omega (arith, all_marked)), shifts_past live.task.plan live.marked (omega (arith, all_marked)))
 
   -- no shift comes after the last round
-  no_shift : (c : ℕ) (cell : Cell) → IsFilledBy live.task.input c (round_at live.task.plan (suc live.marked)) cell → ⊥
+  no_shift : (c : ℕ) (cell : Cell) → IsAmongTargets live.task.input c (round_at live.task.plan (suc live.marked)) cell → ⊥
   no_shift c cell (t, among, same) =
       let past = shifts_past live.task.plan live.marked (omega (arith, all_marked)) in
       let low = slice_get_within (round_at live.task.plan (suc live.marked)) among.0 t among.2 in
@@ -149,7 +149,7 @@ module _ (live : Session) (valid : IsInput live.task.input) (runs : Runs live.ta
 
   last_erased : All (λ m. s.reads (slot_of live.task.input m.from) ≡ Some zeros) (round_at live.task.plan live.marked)
   last_erased = λ j d lt. at.underway.erased (get_or (round_at live.task.plan live.marked) j d) (j, omega (arith, lt, last_full), slice_get-get_or (round_at live.task.plan live.marked) j d lt)
-      (no_shift (done_in live - shifts_in live.task.plan live.marked) (slot_of live.task.input (get_or (round_at live.task.plan live.marked) j d).from))
+      (no_shift (done_in live - round_size live.task.plan live.marked) (slot_of live.task.input (get_or (round_at live.task.plan live.marked) j d).from))
 
   pub last_settled : IsSettled s
   last_settled = at.synced last_full
@@ -173,7 +173,7 @@ more_steps first live same old mid new sofar in_step step asked contents at = le
 -- Marks
 
 -- a round is marked exactly where no more steps are left than come from its mark on
-pub marks_by_left : (live : Session) → IsSession live → (r : ℕ) → r ≤ length live.task.plan → (r ≤ live.marked ↔ live.left ≤ shifts_in live.task.plan r + steps_after live.task.plan r)
+pub marks_by_left : (live : Session) → IsSession live → (r : ℕ) → r ≤ length live.task.plan → (r ≤ live.marked ↔ live.left ≤ round_size live.task.plan r + steps_after live.task.plan r)
 marks_by_left live keeps r most = (
   λ le. (let low = keeps.low in omega (arith, low, steps_fall live.task.plan r live.marked le keeps.most)),
   λ few. elim (cases_lt live.marked r) [
@@ -210,12 +210,12 @@ module _ (live : Session) (keeps : IsSession live) where
       let none = marks_none live.task.plan found steps (omega (arith, sum)) in
       let few : live.left ≤ steps_from live.task.plan found = elim left [ inl is ↦ omega (arith, is) | inr h ↦ (let f = h.2 in omega (arith, f)) ] in
       omega (arith, none, these_marked found (omega (arith, sum)) few (λ lt. absurd (omega (arith, sum, lt))))
-  marks_counted (suc more) found steps sum left = elim (cases_lt steps (shifts_in live.task.plan (suc found) + 2)) [
+  marks_counted (suc more) found steps sum left = elim (cases_lt steps (round_size live.task.plan (suc found) + 2)) [
     | inl before ↦ omega (arith, marks_before live.task.plan found steps lt before, these_marked found (omega (arith, sum)) few (λ _. many before left))
     | inr after ↦ omega (
       arith,
       marks_after live.task.plan found steps lt after,
-      marks_counted more (suc found) (steps - (2 * shifts_in live.task.plan (suc found) + 2)) (omega (arith, sum)) (later after left),
+      marks_counted more (suc found) (steps - (2 * round_size live.task.plan (suc found) + 2)) (omega (arith, sum)) (later after left),
     )
   ]
     where
@@ -225,13 +225,13 @@ module _ (live : Session) (keeps : IsSession live) where
       few : live.left ≤ steps_from live.task.plan found
       few = elim left [ inl is ↦ omega (arith, is) | inr h ↦ (let f = h.2 in omega (arith, f)) ]
 
-      many : steps < shifts_in live.task.plan (suc found) + 2 → Left found steps → steps_from live.task.plan (suc found) < live.left
+      many : steps < round_size live.task.plan (suc found) + 2 → Left found steps → steps_from live.task.plan (suc found) < live.left
       many before (inl is) = omega (arith, is, before, steps_next live.task.plan found lt)
       many before (inr h) = let high = h.1 in omega (arith, high, steps_next live.task.plan found lt)
 
-      later : shifts_in live.task.plan (suc found) + 2 ≤ steps → Left found steps → Left (suc found) (steps - (2 * shifts_in live.task.plan (suc found) + 2))
+      later : round_size live.task.plan (suc found) + 2 ≤ steps → Left found steps → Left (suc found) (steps - (2 * round_size live.task.plan (suc found) + 2))
       later after (inr h) = let none = h.0 in absurd (omega (arith, none, after))
-      later after (inl is) = elim (cases_lt steps (2 * shifts_in live.task.plan (suc found) + 2)) [
+      later after (inl is) = elim (cases_lt steps (2 * round_size live.task.plan (suc found) + 2)) [
         | inl within ↦ inr (omega (arith, within), omega (arith, is, within, steps_next live.task.plan found lt), omega (arith, is, after, within, steps_next live.task.plan found lt))
         | inr past ↦ inl (omega (arith, is, past, steps_next live.task.plan found lt))
       ]
@@ -245,7 +245,7 @@ module _ (asked : Bool) (live : Session) (contents : Contents) (s : State) (at :
       sound = at.underway.sound;
       copied = at.underway.copied;
       erased = at.underway.erased;
-      settled = λ image left. same_wider (IsUnsynced live) (IsLoose live.task.input live.task.plan live.marked (done_in live) (done_in live - shifts_in live.task.plan live.marked)) (λ cell of. of.1) s.reads image left;
+      settled = λ image left. same_wider (IsUnsynced live) (IsLoose live.task.input live.task.plan live.marked (done_in live) (done_in live - round_size live.task.plan live.marked)) (λ cell of. of.1) s.reads image left;
       landed = refl;
       tells = at.underway.tells;
     };
@@ -254,7 +254,7 @@ module _ (asked : Bool) (live : Session) (contents : Contents) (s : State) (at :
 
   left_before : (image : Image) → s.may_leave image → SameBut (IsUnsynced live) s.reads image
   left_before image left = elim (cases_lt (done_in live) (steps_in live.task.plan live.marked)) [
-    | inl low ↦ same_wider (IsLoose live.task.input live.task.plan live.marked (done_in live) (done_in live - shifts_in live.task.plan live.marked)) (IsUnsynced live) (λ cell of. (low, of)) s.reads image (at.underway.settled image left)
+    | inl low ↦ same_wider (IsLoose live.task.input live.task.plan live.marked (done_in live) (done_in live - round_size live.task.plan live.marked)) (IsUnsynced live) (λ cell of. (low, of)) s.reads image (at.underway.settled image left)
     | inr high ↦ same_wider NoCell (IsUnsynced live) (λ cell none. absurd none) s.reads image (at.synced high image left)
   ]
 

@@ -1,5 +1,5 @@
 -- How many steps there are.
-use Rattle.mig_live.proofs.Common.{List, Shift, [], ap, arith, cases_lt, drop, false, inl, inr, length, length-append, marks_by, nat_lt, nat_tests, refl, shifts_in, shifts_of, steps_after}
+use Rattle.mig_live.proofs.Common.{List, Shift, [], ap, arith, cases_lt, drop, false, inl, inr, length, length-append, marks_by, nat_lt, nat_tests, refl, round_size, shifts_of, steps_after}
 use Rattle.mig_live.proofs.Common.{subst, suc, sum_by, sum_by-cons, true, zero, ℕ, ◌*◌, ◌++◌, ◌+◌, ◌-◌, ◌<◌, ◌∷◌, ◌≡◌, ◌≤◌}
 
 abbrev all_steps : List (List Shift) → ℕ
@@ -8,15 +8,15 @@ all_steps plan = sum_by (λ shifts. 2 * length shifts + 2) plan
 first_steps : (r : List Shift) (rs : List (List Shift)) → all_steps (r ∷ rs) ≡ 2 * length r + 2 + all_steps rs
 first_steps r rs = sum_by-cons (λ (shifts : List Shift). 2 * length shifts + 2) r rs
 
-steps_first : (r : List Shift) (rs : List (List Shift)) → steps_after (r ∷ rs) zero ≡ 2 * shifts_in (r ∷ rs) (suc zero) + 2 + steps_after (r ∷ rs) (suc zero)
+steps_first : (r : List Shift) (rs : List (List Shift)) → steps_after (r ∷ rs) zero ≡ 2 * round_size (r ∷ rs) (suc zero) + 2 + steps_after (r ∷ rs) (suc zero)
 steps_first r rs =
     let a : steps_after (r ∷ rs) zero ≡ all_steps (r ∷ rs) + 1 = refl in
     let b : steps_after (r ∷ rs) (suc zero) ≡ all_steps rs + 1 = refl in
-    let l : shifts_in (r ∷ rs) (suc zero) ≡ length r = refl in
+    let l : round_size (r ∷ rs) (suc zero) ≡ length r = refl in
     omega (arith, a, b, l, first_steps r rs)
 
 -- a round more
-pub steps_next : (plan : List (List Shift)) (k : ℕ) → k < length plan → steps_after plan k ≡ 2 * shifts_in plan (suc k) + 2 + steps_after plan (suc k)
+pub steps_next : (plan : List (List Shift)) (k : ℕ) → k < length plan → steps_after plan k ≡ 2 * round_size plan (suc k) + 2 + steps_after plan (suc k)
 steps_next [] k lt = absurd (omega arith)
 steps_next (r ∷ rs) zero lt = omega (arith, steps_first r rs)
 steps_next (r ∷ rs) (suc k) lt = steps_next rs k (omega arith)
@@ -33,7 +33,7 @@ pub steps_some : (plan : List (List Shift)) (k : ℕ) → 1 ≤ steps_after plan
 steps_some plan k = omega arith
 
 -- a round past the last has no shift
-pub shifts_past : (plan : List (List Shift)) (k : ℕ) → length plan ≤ k → shifts_in plan (suc k) ≡ 0
+pub shifts_past : (plan : List (List Shift)) (k : ℕ) → length plan ≤ k → round_size plan (suc k) ≡ 0
 shifts_past [] k le = refl
 shifts_past (r ∷ rs) zero le = absurd (omega arith)
 shifts_past (r ∷ rs) (suc k) le = shifts_past rs k (omega arith)
@@ -53,24 +53,24 @@ steps_few (r ∷ rs) (suc k) =
     let n : length (shifts_of (r ∷ rs)) ≡ length (r ++ shifts_of rs) = ap (λ (xs : List Shift). length xs) l in
     omega (a, n, arith, length-append r (shifts_of rs), steps_few rs k)
 
-pub steps_more : (plan : List (List Shift)) (k : ℕ) → k < length plan → steps_after plan k ≡ 2 * shifts_in plan (k + 1) + 2 + steps_after plan (k + 1)
-steps_more plan k lt = subst (λ (n : ℕ). steps_after plan k ≡ 2 * shifts_in plan n + 2 + steps_after plan n) (let e : suc k ≡ k + 1 = omega arith in e) (steps_next plan k lt)
+pub steps_more : (plan : List (List Shift)) (k : ℕ) → k < length plan → steps_after plan k ≡ 2 * round_size plan (k + 1) + 2 + steps_after plan (k + 1)
+steps_more plan k lt = subst (λ (n : ℕ). steps_after plan k ≡ 2 * round_size plan n + 2 + steps_after plan n) (let e : suc k ≡ k + 1 = omega arith in e) (steps_next plan k lt)
 
-pub shifts_few : (plan : List (List Shift)) (k : ℕ) → shifts_in plan k ≤ length (shifts_of plan)
+pub shifts_few : (plan : List (List Shift)) (k : ℕ) → round_size plan k ≤ length (shifts_of plan)
 shifts_few plan zero = omega arith
-shifts_few [] (suc k) = let none : shifts_in [] (suc k) ≡ 0 = refl in omega (arith, none)
+shifts_few [] (suc k) = let none : round_size [] (suc k) ≡ 0 = refl in omega (arith, none)
 shifts_few (r ∷ rs) (suc zero) =
-    let here : shifts_in (r ∷ rs) (suc zero) ≡ length r = refl in
+    let here : round_size (r ∷ rs) (suc zero) ≡ length r = refl in
     let n : length (shifts_of (r ∷ rs)) ≡ length (r ++ shifts_of rs) = refl in
     omega (arith, here, n, length-append r (shifts_of rs))
 shifts_few (r ∷ rs) (suc (suc k)) =
-    let there : shifts_in (r ∷ rs) (suc (suc k)) ≡ shifts_in rs (suc k) = refl in
+    let there : round_size (r ∷ rs) (suc (suc k)) ≡ round_size rs (suc k) = refl in
     let n : length (shifts_of (r ∷ rs)) ≡ length (r ++ shifts_of rs) = refl in
     omega (arith, there, n, length-append r (shifts_of rs), shifts_few rs (suc k))
 
 -- the steps from the mark of a round on, that round's erasures among them
 abbrev pub steps_from : List (List Shift) → ℕ → ℕ
-steps_from plan r = shifts_in plan r + steps_after plan r
+steps_from plan r = round_size plan r + steps_after plan r
 
 -- later marks leave fewer
 pub steps_fall : (plan : List (List Shift)) (a b : ℕ) → a ≤ b → b ≤ length plan → steps_from plan b ≤ steps_from plan a
@@ -97,14 +97,14 @@ marks_none (r ∷ rs) zero steps le = absurd (omega arith)
 marks_none (r ∷ rs) (suc k) steps le = marks_none rs k steps (omega arith)
 
 -- the next round isn't marked
-pub marks_before : (plan : List (List Shift)) (k steps : ℕ) → k < length plan → steps < shifts_in plan (suc k) + 2 → marks_by (drop k plan) steps ≡ 0
+pub marks_before : (plan : List (List Shift)) (k steps : ℕ) → k < length plan → steps < round_size plan (suc k) + 2 → marks_by (drop k plan) steps ≡ 0
 marks_before [] k steps lt few = absurd (omega arith)
 marks_before (r ∷ rs) zero steps lt few = rw (is_less steps (length r + 2) few) refl
 marks_before (r ∷ rs) (suc k) steps lt few = marks_before rs k steps (omega arith) few
 
 -- or it is
-pub marks_after : (plan : List (List Shift)) (k steps : ℕ) → k < length plan → shifts_in plan (suc k) + 2 ≤ steps
-    → marks_by (drop k plan) steps ≡ suc (marks_by (drop (suc k) plan) (steps - (2 * shifts_in plan (suc k) + 2)))
+pub marks_after : (plan : List (List Shift)) (k steps : ℕ) → k < length plan → round_size plan (suc k) + 2 ≤ steps
+    → marks_by (drop k plan) steps ≡ suc (marks_by (drop (suc k) plan) (steps - (2 * round_size plan (suc k) + 2)))
 marks_after [] k steps lt many = absurd (omega arith)
 marks_after (r ∷ rs) zero steps lt many = rw (not_less steps (length r + 2) many) refl
 marks_after (r ∷ rs) (suc k) steps lt many = marks_after rs k steps (omega arith) many

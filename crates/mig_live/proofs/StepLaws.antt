@@ -1,6 +1,6 @@
 -- The steps between two marks, by their number.
 use Rattle.mig_live.proofs.Common.{Bool, ChangesOnly, Contents, Err, HasDone, IfSome, IsAtStep, IsSettled, IsSound, IsState, IsTask, IsUnderway, LeavesOnly, Mark, NoCell, Ok, OnOk, Result, State}
-use Rattle.mig_live.proofs.Common.{Task, [], arith, flights, flights_same, length, quiet_leaves, same_image, shifts_in, steps_in, subst, suc, sym, ℕ, ◌+◌, ◌-◌, ◌<◌, ◌∙◌, ◌∷◌, ◌≡◌, ◌≤◌}
+use Rattle.mig_live.proofs.Common.{Task, [], arith, flights, flights_same, length, quiet_leaves, round_size, same_image, steps_in, subst, suc, sym, ℕ, ◌+◌, ◌-◌, ◌<◌, ◌∙◌, ◌∷◌, ◌≡◌, ◌≤◌}
 use Rattle.mig_live.proofs.Middle.{past_sources, past_targets, way_settled, mark_leaves, mark_more, from_done, to_done}
 
 pub on_ok_both : {T E : Type 0} {P Q R : Type 0} (r : Result T E) → (P → Q → R) → OnOk r P → OnOk r Q → OnOk r R
@@ -15,49 +15,49 @@ module _ (task : Task) (is : IsTask task) (k : ℕ) (most : k ≤ length task.pl
   AtStep s p = IsAtStep asked task.input task.plan task.digest contents s k p
 
   -- the ends of the erasures
-  pub done_begins : (s : State) → flights s ≡ [] → HasDone asked task.input task.plan task.digest contents s k → AtStep s (shifts_in task.plan k)
+  pub done_begins : (s : State) → flights s ≡ [] → HasDone asked task.input task.plan task.digest contents s k → AtStep s (round_size task.plan k)
   done_begins s none done = record {
-    underway = subst (Way s (shifts_in task.plan k)) (let e : 0 ≡ shifts_in task.plan k - shifts_in task.plan k = omega arith in e) (from_done task.input is.valid task.plan is.runs task.digest contents k most asked s (shifts_in task.plan k) (omega arith) none done);
+    underway = subst (Way s (round_size task.plan k)) (let e : 0 ≡ round_size task.plan k - round_size task.plan k = omega arith in e) (from_done task.input is.valid task.plan is.runs task.digest contents k most asked s (round_size task.plan k) (omega arith) none done);
     synced = λ high. absurd (omega arith);
   }
 
-  pub erased_ends : (s : State) → AtStep s (shifts_in task.plan k) → HasDone asked task.input task.plan task.digest contents s k
-  erased_ends s at = to_done task.input is.valid task.plan is.runs task.digest contents k most asked s (shifts_in task.plan k) (omega arith)
-      (subst (Way s (shifts_in task.plan k)) (let e : shifts_in task.plan k - shifts_in task.plan k ≡ 0 = omega arith in e) at.underway)
+  pub erased_ends : (s : State) → AtStep s (round_size task.plan k) → HasDone asked task.input task.plan task.digest contents s k
+  erased_ends s at = to_done task.input is.valid task.plan is.runs task.digest contents k most asked s (round_size task.plan k) (omega arith)
+      (subst (Way s (round_size task.plan k)) (let e : round_size task.plan k - round_size task.plan k ≡ 0 = omega arith in e) at.underway)
 
   -- an erasure
-  module _ (p : ℕ) (lt : p < shifts_in task.plan k) where
+  module _ (p : ℕ) (lt : p < round_size task.plan k) where
     pub before_erase : (s : State) → AtStep s p → Way s p 0
-    before_erase s at = subst (Way s p) (let e : p - shifts_in task.plan k ≡ 0 = omega arith in e) at.underway
+    before_erase s at = subst (Way s p) (let e : p - round_size task.plan k ≡ 0 = omega arith in e) at.underway
 
     pub after_erase : (s : State) → Way s (p + 1) 0 → AtStep s (p + 1)
     after_erase s way = record {
-      underway = subst (Way s (p + 1)) (let e : 0 ≡ p + 1 - shifts_in task.plan k = omega arith in e) way;
+      underway = subst (Way s (p + 1)) (let e : 0 ≡ p + 1 - round_size task.plan k = omega arith in e) way;
       synced = λ high. absurd (omega arith);
     }
 
   -- a copy
-  module _ (p place : ℕ) (here : p - shifts_in task.plan k ≡ place) where
+  module _ (p place : ℕ) (here : p - round_size task.plan k ≡ place) where
     pub before_copy : (s : State) → AtStep s p → Way s p place
     before_copy s at = subst (Way s p) here at.underway
 
-    pub after_copy : shifts_in task.plan k ≤ p → place < shifts_in task.plan (suc k) → (s : State) → Way s p (place + 1) → AtStep s (p + 1)
+    pub after_copy : round_size task.plan k ≤ p → place < round_size task.plan (suc k) → (s : State) → Way s p (place + 1) → AtStep s (p + 1)
     after_copy low lt s way = record {
-      underway = subst (Way s (p + 1)) (let e : place + 1 ≡ p + 1 - shifts_in task.plan k = omega arith in e)
+      underway = subst (Way s (p + 1)) (let e : place + 1 ≡ p + 1 - round_size task.plan k = omega arith in e)
           (past_sources task.input is.valid task.plan is.runs task.digest contents k most asked s p (p + 1) (place + 1) low (omega arith) way);
       synced = λ high. absurd (omega arith);
     }
 
   -- a sync
-  module _ (p : ℕ) (low : shifts_in task.plan k ≤ p) (high : shifts_in task.plan (suc k) ≤ p - shifts_in task.plan k) (old new : State) (quiet : ChangesOnly NoCell old new) where
+  module _ (p : ℕ) (low : round_size task.plan k ≤ p) (high : round_size task.plan (suc k) ≤ p - round_size task.plan k) (old new : State) (quiet : ChangesOnly NoCell old new) where
     pub sync_leaves : IsState old → LeavesOnly (IsSound asked task.input task.plan task.digest contents) old new
     sync_leaves law = quiet_leaves (IsSound asked task.input task.plan task.digest contents) NoCell [] old new law quiet
 
     pub after_sync : IsSettled new → AtStep old p → AtStep new (p + 1)
     after_sync settled at = record {
-      underway = past_targets task.input is.valid task.plan is.runs task.digest contents k most asked new (p + 1) (p - shifts_in task.plan k) (p + 1 - shifts_in task.plan k) high (omega arith)
-          (past_sources task.input is.valid task.plan is.runs task.digest contents k most asked new p (p + 1) (p - shifts_in task.plan k) low (omega arith)
-          (way_settled task.input is.valid task.plan is.runs task.digest contents k most asked old new p (p - shifts_in task.plan k) (same_image old.reads new.reads quiet.told) settled (flights_same old new quiet.events ∙ at.underway.landed) at.underway));
+      underway = past_targets task.input is.valid task.plan is.runs task.digest contents k most asked new (p + 1) (p - round_size task.plan k) (p + 1 - round_size task.plan k) high (omega arith)
+          (past_sources task.input is.valid task.plan is.runs task.digest contents k most asked new p (p + 1) (p - round_size task.plan k) low (omega arith)
+          (way_settled task.input is.valid task.plan is.runs task.digest contents k most asked old new p (p - round_size task.plan k) (same_image old.reads new.reads quiet.told) settled (flights_same old new quiet.events ∙ at.underway.landed) at.underway));
       synced = λ full. settled;
     }
 
@@ -66,20 +66,20 @@ module _ (task : Task) (is : IsTask task) (k : ℕ) (most : k ≤ length task.pl
     mark_here : ChangesOnly (λ x. x ≡ Mark (suc k)) old set
     mark_here = subst (λ (n : ℕ). ChangesOnly (λ x. x ≡ Mark n) old set) next mark
 
-    all_to : shifts_in task.plan (suc k) ≤ steps_in task.plan k - shifts_in task.plan k
+    all_to : round_size task.plan (suc k) ≤ steps_in task.plan k - round_size task.plan k
     all_to = omega arith
 
     pub leaves_mark : AtStep old (steps_in task.plan k) → LeavesOnly (IsSound asked task.input task.plan task.digest contents) old set
-    leaves_mark at = mark_leaves task.input is.valid task.plan is.runs task.digest contents k most asked lt old (steps_in task.plan k) (steps_in task.plan k - shifts_in task.plan k) (omega arith) all_to at.underway (at.synced (omega arith)) set mark_here
+    leaves_mark at = mark_leaves task.input is.valid task.plan is.runs task.digest contents k most asked lt old (steps_in task.plan k) (steps_in task.plan k - round_size task.plan k) (omega arith) all_to at.underway (at.synced (omega arith)) set mark_here
 
     pub after_mark : IfSome (set.reads (Mark round)) (λ bytes. bytes ≡ 1 ∷ []) → IsSettled set → AtStep old (steps_in task.plan k) → IsAtStep asked task.input task.plan task.digest contents set round 0
     after_mark marked settled at = subst (λ (n : ℕ). IsAtStep asked task.input task.plan task.digest contents set n 0) (sym next) (record {
-      underway = subst (IsUnderway asked task.input task.plan task.digest contents set (suc k) 0) (let e : 0 ≡ 0 - shifts_in task.plan (suc k) = omega arith in e)
-          (mark_more task.input is.valid task.plan is.runs task.digest contents k most asked lt old (steps_in task.plan k) (steps_in task.plan k - shifts_in task.plan k) (omega arith) all_to at.underway (at.synced (omega arith)) set mark_here
+      underway = subst (IsUnderway asked task.input task.plan task.digest contents set (suc k) 0) (let e : 0 ≡ 0 - round_size task.plan (suc k) = omega arith in e)
+          (mark_more task.input is.valid task.plan is.runs task.digest contents k most asked lt old (steps_in task.plan k) (steps_in task.plan k - round_size task.plan k) (omega arith) all_to at.underway (at.synced (omega arith)) set mark_here
           (subst (λ (n : ℕ). IfSome (set.reads (Mark n)) (λ bytes. bytes ≡ 1 ∷ [])) next marked) settled);
       synced = λ high. settled;
     })
 
 -- no step is done since mark k
 pub at_start : (task : Task) (asked : Bool) (contents : Contents) (s : State) (k : ℕ) → IsAtStep asked task.input task.plan task.digest contents s k 0 → IsUnderway asked task.input task.plan task.digest contents s k 0 0
-at_start task asked contents s k at = subst (IsUnderway asked task.input task.plan task.digest contents s k 0) (let e : 0 - shifts_in task.plan k ≡ 0 = omega arith in e) at.underway
+at_start task asked contents s k at = subst (IsUnderway asked task.input task.plan task.digest contents s k 0) (let e : 0 - round_size task.plan k ≡ 0 = omega arith in e) at.underway

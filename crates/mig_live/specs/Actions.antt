@@ -7,14 +7,14 @@ use Rattle.mig_base.specs.declared.cells.Flight.{Flight}
 use Rattle.mig_base.specs.declared.ids.Shift.{Shift}
 use Rattle.mig_base.specs.Flights.{began, ended}
 use Rattle.mig_base.specs.Images.{IsCopy}
-use Rattle.mig_base.specs.InputLists.{Lists}
+use Rattle.mig_base.specs.InputLists.{InputLists}
 use Rattle.mig_base.specs.Layouts.{round_at}
 use Rattle.mig_base.specs.RoundEvents.{flight_of}
 use Rattle.mig_base.specs.Slots.{slot_of}
 use Rattle.mig_base.specs.Stores.{State, Changes, IsSettled}
 use Rattle.mig_base.specs.Tasks.{Task}
 use Rattle.mig_live.specs.Sessions.{Session, done_in}
-use Rattle.mig_mover.specs.Erasures.{AreZeros}
+use Rattle.mig_mover.specs.Erasures.{HoldsZeros}
 
 -- what a step does: it copies a slot to another, syncs, sets the mark of a round and syncs, or erases a slot
 pub data Action : Type 0 where
@@ -24,14 +24,14 @@ pub data Action : Type 0 where
   Erase : Cell → Action
 
 -- the copies of a round with these shifts, and the erasures that follow its mark
-abbrev pub copies : Lists → List Shift → List Action
+abbrev pub copies : InputLists → List Shift → List Action
 copies input shifts = map (λ s. Copy (flight_of input s)) shifts
 
-abbrev pub erasures : Lists → List Shift → List Action
+abbrev pub erasures : InputLists → List Shift → List Action
 erasures input shifts = map (λ s. Erase (slot_of input s.from)) shifts
 
 -- the steps of the rounds after the first k, in order: of each its copies, a sync, its mark and its erasures; and the last sync
-abbrev pub actions_from : Lists → ℕ → List (List Shift) → List Action
+abbrev pub actions_from : InputLists → ℕ → List (List Shift) → List Action
 actions_from input k [] = Sync ∷ []
 actions_from input k (shifts ∷ rounds) = copies input shifts ++ (Sync ∷ SetMark (suc k) ∷ (erasures input shifts ++ actions_from input (suc k) rounds))
 
@@ -68,16 +68,16 @@ all_events [] = []
 all_events (a ∷ actions) = events_of a ++ all_events actions
 
 -- what a step leaves
-abbrev pub Leaves : Action → State → State → Type 0
-Leaves (Copy c) old new = IsCopy (old.reads c.from) (new.reads c.to)
-Leaves Sync old new = IsSettled new
-Leaves (SetMark n) old new = IfSome (new.reads (Mark n)) (λ bytes. bytes ≡ 1 ∷ []) × IsSettled new
-Leaves (Erase slot) old new = AreZeros (new.reads slot)
+abbrev pub StepLeaves : Action → State → State → Type 0
+StepLeaves (Copy c) old new = IsCopy (old.reads c.from) (new.reads c.to)
+StepLeaves Sync old new = IsSettled new
+StepLeaves (SetMark n) old new = IfSome (new.reads (Mark n)) (λ bytes. bytes ≡ 1 ∷ []) × IsSettled new
+StepLeaves (Erase slot) old new = HoldsZeros (new.reads slot)
 
 -- the step was made, and nothing else was done
 pub record IsMade (a : Action) (old new : State) : Type 0 where
   pub change : Changes (Writes a) (Writes a) (events_of a) old new
-  pub leaves : Leaves a old new
+  pub leaves : StepLeaves a old new
 
 -- these steps were made: no cell is written but theirs, and the events are theirs
 abbrev pub AreMade : List Action → State → State → Type 0

@@ -4,7 +4,7 @@ use Rattle.hex.specs.Hex.{encode_lower}
 use Rattle.mig_base.specs.declared.cells.Cell.{Cell}
 use Rattle.mig_base.specs.FaultCounts.{Rose}
 use Rattle.mig_base.specs.Images.{Image, SameBut}
-use Rattle.mig_base.specs.InputLists.{Lists}
+use Rattle.mig_base.specs.InputLists.{InputLists}
 use Rattle.mig_base.specs.Safety.{Contents}
 use Rattle.mig_base.specs.Stores.{State, IsLeftBut}
 use Rattle.mig_base.specs.Texts.{item_name, text_of_lines, words}
@@ -21,11 +21,11 @@ use Rattle.mig_live.specs.declared.serving.ServeFault.TheVariants as serve_fault
 use Rattle.sha2.specs.Sha256.{sha256}
 
 -- the reply to a read of an item: `ITEM HEX`, with the digest of its contents
-abbrev pub reply_line : Lists → Contents → ℕ → List ℕ
+abbrev pub reply_line : InputLists → Contents → ℕ → List ℕ
 reply_line input contents item = words (item_name input item ∷ encode_lower (sha256 (contents item)) ∷ [])
 
 -- the replies to orders, a line for each read
-abbrev pub replies : Lists → Contents → List Order → List ℕ
+abbrev pub replies : InputLists → Contents → List Order → List ℕ
 replies input contents orders = text_of_lines (map (reply_line input contents) (all_reads orders))
 
 -- the text is the replies to orders, whatever contents the session's store holds

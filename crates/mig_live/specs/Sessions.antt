@@ -16,7 +16,7 @@ use Rattle.mig_live.specs.declared.orders.Order.TheVariants.{Read}
 use Rattle.mig_base.specs.Texts.{item_name}
 use Rattle.mig_mover.specs.Holdings.{IsSeen}
 use Rattle.mig_store.specs.Grounds.{Sights}
-use Rattle.mig_live.specs.Underways.{shifts_in, steps_in, IsAmong, IsAtStep, IsLoose}
+use Rattle.mig_live.specs.Underways.{round_size, steps_in, IsAmong, IsAtStep, IsLoose}
 
 -- what is carried out, how many of its rounds are marked, and how many steps are left
 pub record Session : Type 0 where
@@ -35,12 +35,12 @@ marks_by (shifts ∷ rounds) steps = if nat_lt steps (length shifts + 2) then 0 
 
 -- how many steps are done since the last mark; erasures that `enter` did count too
 abbrev pub done_in : Session → ℕ
-done_in live = shifts_in live.task.plan live.marked + steps_after live.task.plan live.marked - live.left
+done_in live = round_size live.task.plan live.marked + steps_after live.task.plan live.marked - live.left
 
 -- what every session keeps: as many rounds are marked as have their marks among the steps that are done
 pub record IsSession (live : Session) : Type 0 where
   pub most : live.marked ≤ length live.task.plan
-  pub low : live.left ≤ shifts_in live.task.plan live.marked + steps_after live.task.plan live.marked
+  pub low : live.left ≤ round_size live.task.plan live.marked + steps_after live.task.plan live.marked
   pub high : done_in live ≤ steps_in live.task.plan live.marked
 
 -- whether the next step is a mark, where a step is left
@@ -54,7 +54,7 @@ InStep asked live contents s = IsAtStep asked live.task.input live.task.plan liv
 -- k rounds are marked and p steps are done since: each item was seen where these rounds took it, and those that the next round has copied at their targets too
 pub record IsSeenAtStep (task : Task) (seen : Sights) (image : Image) (k p : ℕ) : Type 0 where
   pub items : IsSeen task seen image k
-  pub copied : (m : Shift) → IsAmong (p - shifts_in task.plan k) (round_at task.plan (suc k)) m → seen (slot_of task.input m.to) (item_name task.input m.item.0)
+  pub copied : (m : Shift) → IsAmong (p - round_size task.plan k) (round_at task.plan (suc k)) m → seen (slot_of task.input m.to) (item_name task.input m.item.0)
 
 -- so it is of the session's steps: nothing that its next step does is refused
 abbrev pub InSight : Session → Sights → Image → Type 0
@@ -72,4 +72,4 @@ pub record InSightFor (live : Session) (orders : List Order) (seen : Sights) (im
 -- the cells that it has written since its last sync
 abbrev pub IsUnsynced : Session → Cell → Type 0
 IsUnsynced live cell = (done_in live < steps_in live.task.plan live.marked)
-    × IsLoose live.task.input live.task.plan live.marked (done_in live) (done_in live - shifts_in live.task.plan live.marked) cell
+    × IsLoose live.task.input live.task.plan live.marked (done_in live) (done_in live - round_size live.task.plan live.marked) cell

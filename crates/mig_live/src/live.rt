@@ -18,7 +18,7 @@ ghost use Rattle.mig_store.specs.Grounds.{HasGround, Lacks};
 ghost use Rattle.mig_mover.specs.Moves.{Keeps, Enters, IsFault, IsResumeFault, MayBeHalting, StaysArmed};
 ghost use Rattle.mig_live.specs.Actions.{Action, AreMade, AreMadeInPart, IsMade, actions_left};
 ghost use Rattle.mig_live.specs.Sessions.{Session, IsSession, InSight, InStep, is_synced, marks_by, steps_after};
-ghost use Rattle.mig_live.specs.Underways.{shifts_in, steps_in};
+ghost use Rattle.mig_live.specs.Underways.{round_size, steps_in};
 
 use crate::steps::{mark_next, shifts_of_round, step_within};
 use mig_base::ItemId;
@@ -46,13 +46,13 @@ pub struct Live<'a> {
 impl<'a> Model for Live<'a> {
     ghost use Rattle.std.specs.Prelude.{◌≡◌, ◌+◌, ◌≤◌, length};
     ghost use Rattle.mig_live.specs.Sessions.{Session, steps_after};
-    ghost use Rattle.mig_live.specs.Underways.{shifts_in, steps_in};
+    ghost use Rattle.mig_live.specs.Underways.{round_size, steps_in};
 
     ghost Value = { Session };
 
     ghost view = { λ l. record { task = l.job.now; marked = l.marked; left = l.left } };
 
-    ghost invariant = { λ l. (l.marked ≤ length l.job.now.plan) × (l.done + l.left ≡ shifts_in l.job.now.plan l.marked + steps_after l.job.now.plan l.marked)
+    ghost invariant = { λ l. (l.marked ≤ length l.job.now.plan) × (l.done + l.left ≡ round_size l.job.now.plan l.marked + steps_after l.job.now.plan l.marked)
         × (l.done ≤ steps_in l.job.now.plan l.marked) };
 }
 
@@ -236,7 +236,7 @@ impl<'a> Live<'a> {
     pub fn marks_follow_steps(&self)
         ensures rules { IsTask self.now.task }
         ensures session { IsSession self.now }
-        ensures round { (r : ℕ) → r ≤ length self.now.task.plan → (r ≤ self.now.marked ↔ self.now.left ≤ shifts_in self.now.task.plan r + steps_after self.now.task.plan r) }
+        ensures round { (r : ℕ) → r ≤ length self.now.task.plan → (r ≤ self.now.marked ↔ self.now.left ≤ round_size self.now.task.plan r + steps_after self.now.task.plan r) }
         ensures count { (found steps : ℕ) → found ≤ length self.now.task.plan → self.now.left ≡ steps_after self.now.task.plan found - steps
             → self.now.marked ≡ found + marks_by (drop found self.now.task.plan) steps }
     {

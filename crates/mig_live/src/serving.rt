@@ -19,7 +19,7 @@ use mig_base::{ItemId, Name};
 use mig_io::{Sink, SinkFailed};
 use mig_journal::digest_of;
 use mig_store::{Store, StoreFailed};
-use mig_words::Part::{Hex, Text};
+use mig_words::TextPart::{Hex, Text};
 use mig_words::put_parts;
 use thiserror::Error;
 

@@ -13,7 +13,7 @@ ghost use Rattle.mig_live.specs.Actions.{MakesFirst, actions_after, actions_sinc
 ghost use Rattle.mig_mover.specs.Holdings.{IsSeen};
 ghost use Rattle.mig_store.specs.Grounds.{HasGround, IsSeenAtBoth, IsUncopiable, Remembers};
 ghost use Rattle.mig_live.specs.Sessions.{IsSeenAtStep};
-ghost use Rattle.mig_live.specs.Underways.{IsUnderway, IsAtStep, shifts_in, steps_in};
+ghost use Rattle.mig_live.specs.Underways.{IsUnderway, IsAtStep, round_size, steps_in};
 
 use mig_base::Cell;
 use mig_jobs::Job;
@@ -72,7 +72,7 @@ fn copy_next<S: Store>(job: &Job, store: &mut S, k: u32, place: u32) -> Result<(
         IsUnderway asked job.now.input job.now.plan job.now.digest contents (S.state store.new) k e (place + 1)) }
     ensures first { MakesFirst (drop place (actions_after job.now k)) (drop (place + 1) (actions_after job.now k)) (S.state store.old) (S.state store.new) result }
     ensures landed { OnOk result (flights (S.state store.new) ≡ []) }
-    ensures seen { OnOk result (S.refuses → IsSeenAtStep job.now (S.seen store.old) (S.state store.old).reads k (shifts_in job.now.plan k + place) → IsSeenAtStep job.now (S.seen store.new) (S.state store.new).reads k (shifts_in job.now.plan k + place + 1)) }
+    ensures seen { OnOk result (S.refuses → IsSeenAtStep job.now (S.seen store.old) (S.state store.old).reads k (round_size job.now.plan k + place) → IsSeenAtStep job.now (S.seen store.new) (S.state store.new).reads k (round_size job.now.plan k + place + 1)) }
     ensures cause { HasGround S.refuses (¬ IsSeen job.now (S.seen store.old) (S.state store.old).reads k) (S.state store.old) (S.state store.new) result }
 {
     job.keeps_rules();
@@ -93,7 +93,7 @@ fn settle<S: Store>(store: &mut S) -> Result<(), StoreFailed>
 
 /// How many shifts a round has; none where there is no such round. Rounds count from 1.
 pub(crate) fn shifts_of_round(job: &Job, round: u32) -> u32
-    ensures count { result ≡ shifts_in job.now.plan round }
+    ensures count { result ≡ round_size job.now.plan round }
     ensures few { result ≤ MAX_FILE_BYTES }
 {
     job.keeps_rules();

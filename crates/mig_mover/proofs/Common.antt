@@ -3,7 +3,7 @@ pub use Rattle.mig_base.proofs.ArrivalLaws.{free_bytes, fresh_sound, gate_bytes,
 pub use Rattle.mig_base.proofs.CellTests.{cases_cell}
 pub use Rattle.mig_base.proofs.Common.{Adds, All, All-contains, AllWithin, Any-from_list_any, AreFlights, At, BeginsRun, Bool, Changes, Contains, Contains-get_or, Contents, Ends}
 pub use Rattle.mig_base.proofs.Common.{Err, IfErr, IfOk, IfSome, Image, IsCopy, IsInUse, IsInput, IsJobCell, IsMark, IsPermutation, IsSafe, IsSafeAt, IsSettled, IsShifted, IsSome}
-pub use Rattle.mig_base.proofs.Common.{IsSound, IsSoundAfter, IsSourceSlot, IsState, IsTargetOf, IsThere, IsTrue, IsUnused, IsUsed, LeavesOnly, List, Lists, MatchBool, None, Ok}
+pub use Rattle.mig_base.proofs.Common.{InputLists, IsSound, IsSoundAfter, IsSourceSlot, IsState, IsTargetOf, IsThere, IsTrue, IsUnused, IsUsed, LeavesOnly, List, MatchBool, None, Ok}
 pub use Rattle.mig_base.proofs.Common.{Option, Result, SameBut, SettlesTo, Some, State, Tells, [], ap, append-nil, append_assoc, arith, cases_Bool, cases_eq, cases_lt}
 pub use Rattle.mig_base.proofs.Common.{common_steps, cond, cond-true, count_of, drop, ended, eqb-true, false, false≢true, fill_by_all, filter, flight_of, flights, flights_of}
 pub use Rattle.mig_base.proofs.Common.{get_or, get_or_default, get_or_from_slice_get, inl, inr, is_armed, is_marked, is_of, is_one, is_slot, item_name, length}
@@ -41,7 +41,7 @@ pub use Rattle.mig_journal.specs.FreshJournals.{IsArming, IsFresh}
 pub use Rattle.mig_journal.specs.SeenJournals.{HasHead, is_running}
 pub use Rattle.mig_journal.specs.declared.looking.Seen.{Seen}
 pub use Rattle.mig_journal.specs.declared.looking.Seen.TheVariants.{Idle}
-pub use Rattle.mig_mover.specs.Erasures.{AreZeros, AreAsked, IsItemAsked}
+pub use Rattle.mig_mover.specs.Erasures.{HoldsZeros, AreAsked, IsItemAsked}
 pub use Rattle.mig_mover.specs.Fillings.{HasMade, IsFillFault, IsFillFaultOn, IsFillRefusal, IsFillable, IsFirstTaken, IsSoundForAll, WasFillable, made_contents}
 pub use Rattle.mig_mover.specs.Halts.{AreErased, EndsHalted, IsClosingCell, KeepsHaltSafe}
 pub use Rattle.mig_mover.specs.Moves.{Enters, EntersOn, IsFault, IsFaultOn, IsLanded, IsPlanFault, IsReadyIdle, IsRefusal, IsRunning, Keeps, KeepsOn, Lands, MayBeHalting, Settles}

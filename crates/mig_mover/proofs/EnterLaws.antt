@@ -1,7 +1,7 @@
 -- How a migration is entered from a settled store.
-use Rattle.mig_mover.proofs.Common.{All, AreZeros, At, Bool, Cell, ChangesOnly, Contents, EntersOn, Gate, HasContents, HasHeader, Head, IfSome, Image, IsArming, IsCleanAt, IsFresh, IsInUse}
+use Rattle.mig_mover.proofs.Common.{All, At, Bool, Cell, ChangesOnly, Contents, EntersOn, Gate, HasContents, HasHeader, Head, HoldsZeros, IfSome, Image, IsArming, IsCleanAt, IsFresh, IsInUse}
 use Rattle.mig_mover.proofs.Common.{IsJobCell, IsJournal, IsMark, IsReady, IsReadyIdle, IsRunning, IsSafeAt, IsSettled, IsSome, IsSound, IsSoundAfter, IsSourceSlot, IsState, IsTask, KeepsOn}
-use Rattle.mig_mover.proofs.Common.{LeavesOnly, List, Lists, Mark, NoCell, None, Option, SameBut, Shift, Some, Spot, State, Task, Tells, [], ap, arith, cases_Bool, changes_leave, changes_then}
+use Rattle.mig_mover.proofs.Common.{InputLists, LeavesOnly, List, Mark, NoCell, None, Option, SameBut, Shift, Some, Spot, State, Task, Tells, [], ap, arith, cases_Bool, changes_leave, changes_then}
 use Rattle.mig_mover.proofs.Common.{changes_wider, cond-true, count_idle, count_of, false, false≢true, first_byte, flights, flights_same, fresh_sound, get_or, get_or_default, idle_sound}
 use Rattle.mig_mover.proofs.Common.{idle_stand, inl, inr, is_armed, is_marked, is_one, item_name, leaves_then, leaves_wider, length, other_bytes, prefix_len, quiet_leaves, quiet_same}
 use Rattle.mig_mover.proofs.Common.{range_with_len, refl, round_at, same_then, same_wider, settled_change, slot_of, sound_after, subst, sym, tells_kept, then_step, told_is, told_kept, true, ℕ}
@@ -14,7 +14,7 @@ zero_mark (Some bytes) is = ap (λ (l : List ℕ). is_one (Some l)) is
 one_gate : (cell : Option (List ℕ)) → IsSome cell → IfSome cell (λ bytes. bytes ≡ 1 ∷ []) → is_one cell ≡ true
 one_gate cell some is = ap is_one (told_is cell (1 ∷ []) some is)
 
-slot_no_journal : (input : Lists) (rounds : ℕ) (spot : Spot) → IsJournal rounds (slot_of input spot) → ⊥
+slot_no_journal : (input : InputLists) (rounds : ℕ) (spot : Spot) → IsJournal rounds (slot_of input spot) → ⊥
 slot_no_journal input rounds spot (inl head) = cc
 slot_no_journal input rounds spot (inr (inl gate)) = cc
 slot_no_journal input rounds spot (inr (inr mark)) = let e = mark.3 in cc
@@ -175,7 +175,7 @@ module _ (task : Task) where
     armed_erased armed = changes_leave (λ image. is_armed image ≡ true) (IsSourceSlot task.input task.plan k) (IsSourceSlot task.input task.plan k) [] old new work
         (λ before image left same. ap is_one ((from_settled before image left same).same Gate no_gate) ∙ armed)
 
-    pub enters_erased : flights old ≡ [] → All (λ s. AreZeros (new.reads (slot_of task.input s.from))) (round_at task.plan k) → EntersOn task old new k
+    pub enters_erased : flights old ≡ [] → All (λ s. HoldsZeros (new.reads (slot_of task.input s.from))) (round_at task.plan k) → EntersOn task old new k
     enters_erased none zeros_there = record {
       done = λ asked contents tells sound.
           let now = tells_kept (IsSourceSlot task.input task.plan k) (IsJobCell task.input task.plan) old.reads new.reads work.told tells in

@@ -1,16 +1,16 @@
 -- The steps of a loop over a round that erases what its shifts leave.
-use Rattle.mig_mover.proofs.Common.{AllWithin, AreZeros, Cell, Flight, IfSome, Image, IsPlanSlot, IsSourceSlot, IsTrue, List, Lists, Option, SameBut, Shift, Some, ap, arith, at_map, cases_cell, cases_eq, flight_of}
+use Rattle.mig_mover.proofs.Common.{AllWithin, Cell, Flight, HoldsZeros, IfSome, Image, InputLists, IsPlanSlot, IsSourceSlot, IsTrue, List, Option, SameBut, Shift, Some, ap, arith, at_map, cases_cell, cases_eq, flight_of}
 use Rattle.mig_mover.proofs.Common.{flights_of, get_or, get_or_default, inl, inr, is_slot, length, refl, round_at, slice_get, slice_get-get_or, slot_of, subst, sym, ℕ, ◌+◌, ◌<◌, ◌∙◌, ◌≡◌, ◌⊎◌}
 
 in_some : (f g : Flight) → Some f ≡ Some g → f ≡ g
 in_some f g e = cc
 
 -- the copy at a place is that of the shift there
-pub copy_of : (input : Lists) (shifts : List Shift) (place : ℕ) (f : Flight) (d : Shift) → place < length shifts → slice_get (flights_of input shifts) place ≡ Some f → f ≡ flight_of input (get_or shifts place d)
+pub copy_of : (input : InputLists) (shifts : List Shift) (place : ℕ) (f : Flight) (d : Shift) → place < length shifts → slice_get (flights_of input shifts) place ≡ Some f → f ≡ flight_of input (get_or shifts place d)
 copy_of input shifts place f d lt at =
     in_some f (flight_of input (get_or shifts place d)) (sym at ∙ at_map (flight_of input) shifts place (get_or shifts place d) (slice_get-get_or shifts place d lt))
 
-module _ (input : Lists) (plan : List (List Shift)) (round place : ℕ) (lt : place < length (round_at plan round)) (f : Flight) (d : Shift) (at : slice_get (flights_of input (round_at plan round)) place ≡ Some f) where
+module _ (input : InputLists) (plan : List (List Shift)) (round place : ℕ) (lt : place < length (round_at plan round)) (f : Flight) (d : Shift) (at : slice_get (flights_of input (round_at plan round)) place ≡ Some f) where
   from_is : f.from ≡ slot_of input (get_or (round_at plan round) place d).from
   from_is = ap (λ (h : Flight). h.from) (copy_of input (round_at plan round) place f d lt at)
 
@@ -34,22 +34,22 @@ module _ (input : Lists) (plan : List (List Shift)) (round place : ℕ) (lt : pl
   to_named = let s = get_or (round_at plan round) place d in (s.to, (round, inr (place, s, lt, get_or_default (round_at plan round) place s d lt, refl)), sym to_is)
 
   -- one slot more is erased
-  pub erased_more : (old new : Image) → SameBut (λ c. c ≡ f.from) old new → AllWithin (λ s. AreZeros (old (slot_of input s.from))) (round_at plan round) 0 place → AreZeros (new f.from)
-      → AllWithin (λ s. AreZeros (new (slot_of input s.from))) (round_at plan round) 0 (place + 1)
+  pub erased_more : (old new : Image) → SameBut (λ c. c ≡ f.from) old new → AllWithin (λ s. HoldsZeros (old (slot_of input s.from))) (round_at plan round) 0 place → HoldsZeros (new f.from)
+      → AllWithin (λ s. HoldsZeros (new (slot_of input s.from))) (round_at plan round) 0 (place + 1)
   erased_more old new step sofar erased k e low high = which (cases_eq k place)
     where
-      kept : (cell : Cell) → AreZeros (old cell) → (cell ≡ f.from) ⊎ (cell ≡ f.from → ⊥) → AreZeros (new cell)
-      kept cell was (inl is) = subst (λ (c : Cell). AreZeros (new c)) (sym is) erased
-      kept cell was (inr not) = subst AreZeros (sym (step.same cell not)) was
+      kept : (cell : Cell) → HoldsZeros (old cell) → (cell ≡ f.from) ⊎ (cell ≡ f.from → ⊥) → HoldsZeros (new cell)
+      kept cell was (inl is) = subst (λ (c : Cell). HoldsZeros (new c)) (sym is) erased
+      kept cell was (inr not) = subst HoldsZeros (sym (step.same cell not)) was
 
-      which : (k ≡ place) ⊎ (k ≡ place → ⊥) → AreZeros (new (slot_of input (get_or (round_at plan round) k e).from))
+      which : (k ≡ place) ⊎ (k ≡ place → ⊥) → HoldsZeros (new (slot_of input (get_or (round_at plan round) k e).from))
       which (inl last) =
           let same : get_or (round_at plan round) k e ≡ get_or (round_at plan round) place d = ap (λ (n : ℕ). get_or (round_at plan round) n e) last ∙ get_or_default (round_at plan round) place e d lt in
-          subst (λ (c : Cell). AreZeros (new c)) (from_is ∙ ap (λ (s : Shift). slot_of input s.from) (sym same)) erased
+          subst (λ (c : Cell). HoldsZeros (new c)) (from_is ∙ ap (λ (s : Shift). slot_of input s.from) (sym same)) erased
       which (inr other) = kept _ (sofar k e low (omega arith)) (cases_cell _ _)
 
 -- one copy more was compared
-pub compared_more : (P : Cell → Cell → Type 0) (input : Lists) (shifts : List Shift) (place : ℕ) → place < length shifts → AllWithin (λ s. P (slot_of input s.from) (slot_of input s.to)) shifts 0 place
+pub compared_more : (P : Cell → Cell → Type 0) (input : InputLists) (shifts : List Shift) (place : ℕ) → place < length shifts → AllWithin (λ s. P (slot_of input s.from) (slot_of input s.to)) shifts 0 place
     → IfSome (slice_get (flights_of input shifts) place) (λ f. P f.from f.to) → AllWithin (λ s. P (slot_of input s.from) (slot_of input s.to)) shifts 0 (place + 1)
 compared_more P input shifts place lt sofar here k e low high = which (cases_eq k place)
   where

@@ -1,6 +1,6 @@
 -- The steps of a filling.
 use Rattle.mig_mover.proofs.Common.{All, AllWithin, At, BeginsRun, Cell, Changes, ChangesOnly, Contains, Contains-get_or, Ends, Event, Flight, Gate, HasContents, HasMade, IfSome, Image, IsFillFault}
-use Rattle.mig_mover.proofs.Common.{IsFillFaultOn, IsFillRefusal, IsFillable, IsFirstTaken, IsInput, IsListedCell, IsRunning, IsSoundForAll, IsTargetOf, IsUnused, IsUsed, Lands, List, Lists}
+use Rattle.mig_mover.proofs.Common.{InputLists, IsFillFaultOn, IsFillRefusal, IsFillable, IsFirstTaken, IsInput, IsListedCell, IsRunning, IsSoundForAll, IsTargetOf, IsUnused, IsUsed, Lands, List}
 use Rattle.mig_mover.proofs.Common.{MoveFault, NoCell, NotStarted, NotThere, Occupied, OnOk, Option, OtherPlan, Result, SameBut, Settles, Shift, Some, Spot, Started, State, Store, Tells}
 use Rattle.mig_mover.proofs.Common.{WasFillable, [], ap, append-nil, arith, cases_eq, changes_then, changes_wider, false, flights, get_or, get_or_default, get_or_from_slice_get, idle_sound, inl}
 use Rattle.mig_mover.proofs.Common.{inr, is_armed, is_one, item_cell, item_name, length, made_contents, made_slot, no_spot, quiet_same, refl, slice_get, slice_get-get_or, slice_get_within}
@@ -10,7 +10,7 @@ use Rattle.mig_mover.proofs.Settling.{settles_land, settles_landed, settles_quie
 
 -- Looking at listed spots
 
-module _ (input : Lists) (image : Image) (spots : List Spot) (is : spots ≡ input.spots) where
+module _ (input : InputLists) (image : Image) (spots : List Spot) (is : spots ≡ input.spots) where
   pub first_taken : (k : ℕ) → k < length spots → AllWithin (IsUnused input image) spots 0 k → IsUsed input image (get_or spots k no_spot) → IsFirstTaken input image (get_or spots k no_spot)
   first_taken k lt before used = record {
     item = k;
@@ -23,18 +23,18 @@ module _ (input : Lists) (image : Image) (spots : List Spot) (is : spots ≡ inp
   none_taken n most before = subst (λ (l : List Spot). All (IsUnused input image) l) is (λ k d lt. before k d (omega arith) (omega (arith, lt, most)))
 
 -- a listed spot is on a disk
-pub spot_known : (input : Lists) → IsInput input → (spots : List Spot) → spots ≡ input.spots → (k : ℕ) → k < length spots → (get_or spots k no_spot).disk.0 < length input.disks
+pub spot_known : (input : InputLists) → IsInput input → (spots : List Spot) → spots ≡ input.spots → (k : ℕ) → k < length spots → (get_or spots k no_spot).disk.0 < length input.disks
 spot_known input valid spots is k lt = subst (λ (l : List Spot). (get_or l k no_spot).disk.0 < length input.disks) (sym is) (spot_disk input.disks _ (valid.on_disks k no_spot (subst (λ (l : List Spot). k < length l) is lt)))
 
-pub spot_listed : (input : Lists) (spots : List Spot) → spots ≡ input.spots → (k : ℕ) → k < length spots → Contains input.spots (get_or spots k no_spot)
+pub spot_listed : (input : InputLists) (spots : List Spot) → spots ≡ input.spots → (k : ℕ) → k < length spots → Contains input.spots (get_or spots k no_spot)
 spot_listed input spots is k lt = subst (λ (l : List Spot). Contains l (get_or spots k no_spot)) is (Contains-get_or spots k no_spot lt)
 
 -- Writing made slots
 
-abbrev pub IsMade : Lists → Image → ℕ → Type 0
+abbrev pub IsMade : InputLists → Image → ℕ → Type 0
 IsMade input image item = IfSome (image (item_cell input item)) (λ slot. slot ≡ made_slot (item_name input item))
 
-module _ (input : Lists) (valid : IsInput input) (item : ℕ) (lt : item < length input.items) where
+module _ (input : InputLists) (valid : IsInput input) (item : ℕ) (lt : item < length input.items) where
   pub listed_cell : (cell : Cell) → cell ≡ item_cell input item → IsListedCell input cell
   listed_cell cell is = (get_or input.spots item no_spot, Contains-get_or input.spots item no_spot (subst (λ (n : ℕ). item < n) (sym valid.spots_len) lt), sym is)
 
@@ -57,7 +57,7 @@ module _ (input : Lists) (valid : IsInput input) (item : ℕ) (lt : item < lengt
 
 -- What is sound once the slots are made
 
-module _ (input : Lists) (valid : IsInput input) (image : Image) (made : HasMade input image) where
+module _ (input : InputLists) (valid : IsInput input) (image : Image) (made : HasMade input image) where
   made_stand : Tells (IsListedCell input) image → (plan : List (List Shift)) → HasContents input (At input plan 0) (made_contents input) image
   made_stand tells plan item spot at =
       let lt : item < length input.items = subst (λ (n : ℕ). item < n) valid.spots_len (slice_get_within input.spots item spot at) in
@@ -68,7 +68,7 @@ module _ (input : Lists) (valid : IsInput input) (image : Image) (made : HasMade
   made_sound idle tells asked plan digest = idle_sound asked input plan digest (made_contents input) image (made_stand tells plan) idle
 
 -- the slot made for an item is written where the item is listed
-module _ (input : Lists) (item : ℕ) (spots : List Spot) (spots_is : spots ≡ input.spots) (cell : Cell) (cell_is : cell ≡ slot_of input (get_or spots item no_spot)) where
+module _ (input : InputLists) (item : ℕ) (spots : List Spot) (spots_is : spots ≡ input.spots) (cell : Cell) (cell_is : cell ≡ slot_of input (get_or spots item no_spot)) where
   pub listed : cell ≡ item_cell input item
   listed = cell_is ∙ ap (λ (l : List Spot). slot_of input (get_or l item no_spot)) spots_is
 
@@ -85,7 +85,7 @@ module _ (input : Lists) (item : ℕ) (spots : List Spot) (spots_is : spots ≡ 
 
 -- Beginning with a sync
 
-module _ (input : Lists) (old mid new : State) where
+module _ (input : InputLists) (old mid new : State) where
   pub fault_more : Settles old mid → old.faults ≤ mid.faults → {R Q : Type 0} → (R → Q) → (fault : MoveFault) → IsFillFaultOn R input mid new fault → IsFillFault Q input old new fault
   fault_more settles later f Store (inl rose) = inl (rose_from later rose)
   fault_more settles later f Store (inr why) = inr (f why)
@@ -122,7 +122,7 @@ module _ (input : Lists) (old mid new : State) where
 
 -- Filling a store with no copy in flight
 
-module _ (input : Lists) (old found : State) (none : flights old ≡ []) (seek : ChangesOnly NoCell old found) where
+module _ (input : InputLists) (old found : State) (none : flights old ≡ []) (seek : ChangesOnly NoCell old found) where
   pub found_none : flights found ≡ []
   found_none = still_none NoCell old found none seek
 

@@ -1,5 +1,5 @@
 -- Closing a migration early: the free slots are erased, the store is synced, and the journal is closed.
-use Rattle.mig_mover.proofs.Common.{AreErased, AreFreeZeros, AreZeros, ChangesOnly, Contents, EndsHalted, Gate, IfSome, Image, IsAt, IsClosingCell, IsFreeSlot, IsHaltCell, IsHaltSafe, IsHalted}
+use Rattle.mig_mover.proofs.Common.{AreErased, AreFreeZeros, ChangesOnly, Contents, EndsHalted, Gate, HoldsZeros, IfSome, Image, IsAt, IsClosingCell, IsFreeSlot, IsHaltCell, IsHaltSafe, IsHalted}
 use Rattle.mig_mover.proofs.Common.{IsSafe, IsSafeAfter, IsSafeAt, IsSettled, IsSome, IsState, IsTask, KeepsHaltSafe, LeavesOnly, NoCell, Some, State, Task, Tells, [], ap, changes_leave}
 use Rattle.mig_mover.proofs.Common.{changes_wider, count_of, false≢true, free_bytes, gate_bytes, inl, inr, is_one, leaves_then, length, quiet_leaves, quiet_same, refl, same_then, same_wider}
 use Rattle.mig_mover.proofs.Common.{slot_of, subst, sym, then_quiet, then_step, told_is, told_kept, ℕ, ⊎_elim, ◌∙◌, ◌∷◌, ◌≡◌, ◌≤◌}
@@ -17,7 +17,7 @@ module _ (task : Task) (is : IsTask task) (k : ℕ) (most : k ≤ length task.pl
   -- what is erased stays so
   module _ (zeros : AreErased task k erased.reads) (synced : State) (quiet : ChangesOnly NoCell erased synced) (closed : State) (close : ChangesOnly (λ c. c ≡ Gate) synced closed) where
     pub erased_closed : AreErased task k closed.reads
-    erased_closed spot named free = subst AreZeros (ap (λ (image : Image). image (slot_of task.input spot)) (quiet_same erased synced quiet) ∙ sym (close.told.same (slot_of task.input spot) (λ e. cc)))
+    erased_closed spot named free = subst HoldsZeros (ap (λ (image : Image). image (slot_of task.input spot)) (quiet_same erased synced quiet) ∙ sym (close.told.same (slot_of task.input spot) (λ e. cc)))
         (zeros spot named free)
 
   module _ (settled : IsSettled old) (at : IsAt task old.reads k) (contents : Contents) (tells : Tells (IsHaltCell task.input task.plan) old.reads) (safe : IsSafe task.input task.plan task.digest contents old.reads) where

@@ -1,5 +1,5 @@
 -- The steps of a loop over vacancies that erases those that last.
-use Rattle.mig_mover.proofs.Common.{AllWithin, AreAsked, AreErased, AreVacancies, AreZeros, Cell, Image, IsFreeSlot, IsTask, IsVacant, List, SameBut, Spot, Task, Vacancy, ap, arith, cases_cell, cases_eq}
+use Rattle.mig_mover.proofs.Common.{AllWithin, AreAsked, AreErased, AreVacancies, Cell, HoldsZeros, Image, IsFreeSlot, IsTask, IsVacant, List, SameBut, Spot, Task, Vacancy, ap, arith, cases_cell, cases_eq}
 use Rattle.mig_mover.proofs.Common.{cases_lt, get_or, get_or_default, inl, inr, length, named_on_disk, no_spot, refl, slot_of, subst, sym, ℕ, ◌+◌, ◌<◌, ◌∙◌, ◌≡◌, ◌≤◌, ◌⊎◌}
 
 -- what a vacancy that isn't there would be
@@ -21,7 +21,7 @@ cases_vacant v k = at (cases_lt k v.from) (cases_lt k v.until)
 module _ (task : Task) (is : IsTask task) (found : ℕ) (most : found ≤ length task.plan) (vs : List Vacancy) (are : AreVacancies task.input task.plan vs) where
   -- the slots of these vacancies that last are zeros
   abbrev pub AreErasedTo : ℕ → Image → Type 0
-  AreErasedTo i image = AllWithin (λ v. IsVacant v found → AreZeros (image (slot_of task.input v.spot))) vs 0 i
+  AreErasedTo i image = AllWithin (λ v. IsVacant v found → HoldsZeros (image (slot_of task.input v.spot))) vs 0 i
 
   module _ (i : ℕ) (lt : i < length vs) (d : Vacancy) where
     pub vacancy_disk : (get_or vs i d).spot.disk.0 < length task.input.disks
@@ -35,16 +35,16 @@ module _ (task : Task) (is : IsTask task) (found : ℕ) (most : found ≤ length
 
     -- one slot more is erased
     pub erased_more : (old new : Image) → SameBut (λ c. IsVacant (get_or vs i d) found × (c ≡ slot_of task.input (get_or vs i d).spot)) old new → AreErasedTo i old
-        → (IsVacant (get_or vs i d) found → AreZeros (new (slot_of task.input (get_or vs i d).spot))) → AreErasedTo (i + 1) new
+        → (IsVacant (get_or vs i d) found → HoldsZeros (new (slot_of task.input (get_or vs i d).spot))) → AreErasedTo (i + 1) new
     erased_more old new step sofar erased j e low high = which (cases_eq j i)
       where
-        kept : (cell : Cell) → AreZeros (old cell) → IsVacant (get_or vs i d) found ⊎ (IsVacant (get_or vs i d) found → ⊥) → (cell ≡ slot_of task.input (get_or vs i d).spot) ⊎ (cell ≡ slot_of task.input (get_or vs i d).spot → ⊥) → AreZeros (new cell)
-        kept cell was (inl vacant) (inl same) = subst (λ (c : Cell). AreZeros (new c)) (sym same) (erased vacant)
-        kept cell was (inl vacant) (inr other) = subst AreZeros (sym (step.same cell (λ of. other of.1))) was
-        kept cell was (inr not) same = subst AreZeros (sym (step.same cell (λ of. not of.0))) was
+        kept : (cell : Cell) → HoldsZeros (old cell) → IsVacant (get_or vs i d) found ⊎ (IsVacant (get_or vs i d) found → ⊥) → (cell ≡ slot_of task.input (get_or vs i d).spot) ⊎ (cell ≡ slot_of task.input (get_or vs i d).spot → ⊥) → HoldsZeros (new cell)
+        kept cell was (inl vacant) (inl same) = subst (λ (c : Cell). HoldsZeros (new c)) (sym same) (erased vacant)
+        kept cell was (inl vacant) (inr other) = subst HoldsZeros (sym (step.same cell (λ of. other of.1))) was
+        kept cell was (inr not) same = subst HoldsZeros (sym (step.same cell (λ of. not of.0))) was
 
-        which : (j ≡ i) ⊎ (j ≡ i → ⊥) → IsVacant (get_or vs j e) found → AreZeros (new (slot_of task.input (get_or vs j e).spot))
-        which (inl last) = subst (λ (v : Vacancy). IsVacant v found → AreZeros (new (slot_of task.input v.spot))) (sym (ap (λ (n : ℕ). get_or vs n e) last ∙ get_or_default vs i e d lt)) erased
+        which : (j ≡ i) ⊎ (j ≡ i → ⊥) → IsVacant (get_or vs j e) found → HoldsZeros (new (slot_of task.input (get_or vs j e).spot))
+        which (inl last) = subst (λ (v : Vacancy). IsVacant v found → HoldsZeros (new (slot_of task.input v.spot))) (sym (ap (λ (n : ℕ). get_or vs n e) last ∙ get_or_default vs i e d lt)) erased
         which (inr other) = λ vacant. kept _ (sofar j e low (omega arith) vacant) (cases_vacant (get_or vs i d) found) (cases_cell _ _)
 
   -- once a loop asked for those that last, it asked for each named slot that is free
@@ -57,5 +57,5 @@ module _ (task : Task) (is : IsTask task) (found : ℕ) (most : found ≤ length
   pub all_erased : (image : Image) → AreErasedTo (length vs) image → AreErased task found image
   all_erased image erased spot named free =
       let any = are.all found spot most named free in
-      subst (λ (p : Spot). AreZeros (image (slot_of task.input p))) (ap (λ (v : Vacancy). v.spot) any.3 ∙ any.4.0)
+      subst (λ (p : Spot). HoldsZeros (image (slot_of task.input p))) (ap (λ (v : Vacancy). v.spot) any.3 ∙ any.4.0)
       (erased any.0 any.1 (omega arith) any.2 (subst (λ (v : Vacancy). IsVacant v found) (sym any.3) any.4.1))

@@ -8,7 +8,7 @@ use Rattle.mig_journal.proofs.Steps.{only_rose}
 use Rattle.mig_base.specs.Stores.{HasCause}
 use Rattle.mig_store.specs.Grounds.{HasGround, IsLast, Sights}
 use Rattle.mig_store.specs.Grounds.{AreZeros as AllZeros}
-use Rattle.mig_mover.proofs.Common.{Err, IsListedCell, Lists, Ok, Result, State, made_slot}
+use Rattle.mig_mover.proofs.Common.{Err, InputLists, IsListedCell, Ok, Result, State, made_slot}
 use Rattle.mig_base.specs.Naming.{IsName}
 use Rattle.mig_jobs.proofs.VacancyLaws.{source_taken}
 use Rattle.mig_mover.proofs.AskedSlots.{in_plan}
@@ -26,7 +26,7 @@ used_by : (name bytes : List ℕ) → HasHeader name bytes → first_byte bytes 
 used_by name bytes has = sym (first_of bytes) ∙ ap (λ (l : List ℕ). slice_index_or l 0 0) has
 
 -- an unused slot that is told holds no item
-pub unused_not_last : (input : Lists) (image : Image) (spot : Spot) → Contains input.spots spot → Tells (IsListedCell input) image → IsUnused input image spot → {seen : Sights} → IsLast image seen (slot_of input spot) → ⊥
+pub unused_not_last : (input : InputLists) (image : Image) (spot : Spot) → Contains input.spots spot → Tells (IsListedCell input) image → IsUnused input image spot → {seen : Sights} → IsLast image seen (slot_of input spot) → ⊥
 unused_not_last input image spot has tells unused last = by (image (slot_of input spot)) (tells (slot_of input spot) (spot, has, refl)) unused last.held
   where
     by : (o : Option (List ℕ)) → IsSome o → IfSome o (λ bytes. first_byte bytes ≡ 1 → ⊥) → IfSome o (HasHeader last.item) → ⊥

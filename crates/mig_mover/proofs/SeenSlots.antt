@@ -1,5 +1,5 @@
 -- What a store that refuses has seen of a plan's slots, and that it refuses nothing then.
-use Rattle.mig_mover.proofs.Common.{AllWithin, AreZeros, At, At-item, Cell, Contains, HasHeader, IfSome, Image, IsFreeSlot, IsJournal, IsShifted, IsSome, IsSourceSlot, IsTarget, IsTask, List, Lists}
+use Rattle.mig_mover.proofs.Common.{AllWithin, At, At-item, Cell, Contains, HasHeader, HoldsZeros, IfSome, Image, InputLists, IsFreeSlot, IsJournal, IsShifted, IsSome, IsSourceSlot, IsTarget, IsTask, List}
 use Rattle.mig_mover.proofs.Common.{None, Option, SameBut, Shift, Some, Spot, Task, [], any_contains, ap, arith, cases_Bool, cases_cell, cases_eq, contains_any, false, false≢true, get_or, get_or_default, header_of, inl, inr}
 use Rattle.mig_mover.proofs.Common.{item_name, key_false, key_true, leaves, length, list_any, moved_cases, named_on_disk, option_map, refl, replicate, round_at, same_spot, slot_apart, slot_of, source_facts, subst, suc, sym, take, take-append_seam}
 use Rattle.mig_mover.proofs.Common.{Any-from_list_any, Err, Flight, Ok, Result, Rose, State, at_map, eqb-true, flight_of, flights_of, is_of, is_slot, shifts_of, slice_get, slice_get-get_or}
@@ -12,7 +12,7 @@ use Rattle.mig_base.specs.Slots.{zeros}
 use Rattle.mig_base.specs.Stores.{HasCause}
 use Rattle.mig_mover.proofs.AskedSlots.{IsFreeOrHeld, shifted, step_back}
 use Rattle.mig_mover.specs.Holdings.{AreAlike, AreItemsKept, HoldNoOther, IsItemKept, IsItemSeen, IsSeen, IsShiftedName, cell_at}
-use Rattle.mig_store.specs.Grounds.{Differ, HasGround, Holds, IsLast, IsNoSlot, IsSeenAtBoth, IsUncopiable, Lacks, Remembers, Sights}
+use Rattle.mig_store.specs.Grounds.{HasGround, Holds, IsLast, IsNoSlot, IsSeenAtBoth, IsUncopiable, Lacks, Remembers, Sights, SlotsDiffer}
 
 -- what a cell that is told holds
 told_and : {T : Type 0} (P Q : T → Type 0) (o : Option T) → IsSomeAnd o P → IfSome o Q → IsSomeAnd o (λ x. P x × Q x)
@@ -61,7 +61,7 @@ clash P None told holds lacks = false≢true told
 clash P (Some x) told holds lacks = lacks holds
 
 -- the name that a list of the items shows is the item's
-pub name_is : (input : Lists) (item : ℕ) → item < length input.items → (items : List (List ℕ)) → items ≡ input.items → (name : List ℕ) → name ≡ get_or items item name → name ≡ item_name input item
+pub name_is : (input : InputLists) (item : ℕ) → item < length input.items → (items : List (List ℕ)) → items ≡ input.items → (name : List ℕ) → name ≡ get_or items item name → name ≡ item_name input item
 name_is input item lt items are name at = at ∙ ap (λ (l : List (List ℕ)). get_or l item name) are ∙ get_or_default input.items item name [] lt
 
 -- a slot's first bytes name one item
@@ -147,10 +147,10 @@ module _ (task : Task) (is : IsTask task) (k : ℕ) (most : k ≤ length task.pl
 
     -- a free slot was emptied
     pub seen_erased : (free : Cell) → IsFreeSlot task.input task.plan k free → (after : Sights) (new : Image) → SameBut (λ c. c ≡ free) image new → Remembers (λ c. c ≡ free) seen after
-        → AreZeros (new free) → IsSeen task after new k
+        → HoldsZeros (new free) → IsSeen task after new k
     seen_erased free vacant after new step kept erased = seen_written free vacant after new step (λ cell name is_name out was. kept cell name out was) (none (new free) erased)
       where
-        none : (o : Option (List ℕ)) → AreZeros o → IfSome o (λ bytes. (name : List ℕ) → IsName name → HasHeader name bytes → IsShiftedName task name)
+        none : (o : Option (List ℕ)) → HoldsZeros o → IfSome o (λ bytes. (name : List ℕ) → IsName name → HasHeader name bytes → IsShiftedName task name)
         none None empty = tt
         none (Some bytes) empty = λ name is_name has. absurd (zeros_name_none name (subst (HasHeader name) empty has))
 
@@ -195,9 +195,9 @@ not_lacked task image k item cell shift at lacks kept =
 
 -- slots that are alike don't differ
 pub not_differing : (task : Task) (image : Image) (k place : ℕ) (d : Shift) → place < length (round_at task.plan k)
-    → IfSome (slice_get (flights_of task.input (round_at task.plan k)) place) (λ f. Differ image f.from f.to) → AreAlike task image k → ⊥
+    → IfSome (slice_get (flights_of task.input (round_at task.plan k)) place) (λ f. SlotsDiffer image f.from f.to) → AreAlike task image k → ⊥
 not_differing task image k place d lt differ alike =
-    alike place d lt (subst (λ (o : Option Flight). IfSome o (λ f. Differ image f.from f.to)) (at_map (flight_of task.input) (round_at task.plan k) place (get_or (round_at task.plan k) place d) (slice_get-get_or (round_at task.plan k) place d lt)) differ)
+    alike place d lt (subst (λ (o : Option Flight). IfSome o (λ f. SlotsDiffer image f.from f.to)) (at_map (flight_of task.input) (round_at task.plan k) place (get_or (round_at task.plan k) place d) (slice_get-get_or (round_at task.plan k) place d lt)) differ)
 
 -- A ground that is handed on
 
@@ -244,7 +244,7 @@ source_free_slot task is k most cell (spot, source, same) = (spot, inr (k, inl s
 -- a vacancy that lasts was emptied, or nothing was written
 pub seen_vacant : (task : Task) (is : IsTask task) (k : ℕ) (most : k ≤ length task.plan) (seen : Sights) (image : Image) → IsSeen task seen image k → (free : Cell) {Lasts : Type 0}
     → Lasts ⊎ (Lasts → ⊥) → (Lasts → IsFreeSlot task.input task.plan k free) → (after : Sights) (new : Image) → SameBut (λ c. Lasts × (c ≡ free)) image new → Remembers (λ c. Lasts × (c ≡ free)) seen after
-    → (Lasts → AreZeros (new free)) → IsSeen task after new k
+    → (Lasts → HoldsZeros (new free)) → IsSeen task after new k
 seen_vacant task is k most seen image seeing free (inl lasts) vacant after new step kept erased =
     seen_erased task is k most seen image seeing free (vacant lasts) after new (record { same = λ cell out. step.same cell (λ both. out both.1); shape = step.shape }) (λ cell name out was. kept cell name (λ both. out both.1) was) (erased lasts)
 seen_vacant task is k most seen image seeing free (inr not) vacant after new step kept erased =

@@ -1,5 +1,5 @@
 -- An item that a plan shifts is where its first shift leaves it: at a slot that the plan names.
-use Rattle.mig_mover.proofs.Common.{All-contains, At, Bool, Contains, IsPlanSpot, IsShifted, List, Lists, None, Option, Shift, Some, Spot, [], ap, arith, eqb-true, false}
+use Rattle.mig_mover.proofs.Common.{All-contains, At, Bool, Contains, InputLists, IsPlanSpot, IsShifted, List, None, Option, Shift, Some, Spot, [], ap, arith, eqb-true, false}
 use Rattle.mig_mover.proofs.Common.{inl, inr, length, refl, round_at, shifts_of, slice_get, suc, sym, true, zero, ℕ, ⊎_elim, ◌<◌, ◌∙◌, ◌∷◌, ◌≡◌, ◌≤◌, ◌⊎◌}
 use Rattle.mig_base.specs.Layouts.{last_target}
 use Rattle.mig_base.specs.Running.{Runs}
@@ -20,7 +20,7 @@ last_shift (s ∷ shifts) item t e = by (last_shift shifts item) (last_target sh
         let none : last_target (s ∷ shifts) item ≡ None = ap (λ (o : Option Spot). option_or o (if eqb s.item.0 item then Some s.to else None)) later ∙ ap (λ b. if b then Some s.to else None) here in
         let wrong : ◌≡◌ {A = Option Spot} None (Some t) = sym none ∙ e in cc
 
-module _ (input : Lists) (plan : List (List Shift)) (runs : Runs input plan) (item : ℕ) (spot : Spot) (here : slice_get input.spots item ≡ Some spot) where
+module _ (input : InputLists) (plan : List (List Shift)) (runs : Runs input plan) (item : ℕ) (spot : Spot) (here : slice_get input.spots item ≡ Some spot) where
   -- a shift of the item from where it is in the beginning
   leaves_first : (k : ℕ) → k < length plan → At input plan k item ≡ Some spot → (s : Shift) → Contains (round_at plan (suc k)) s → s.item.0 ≡ item → IsPlanSpot plan spot
   leaves_first k within still s has of =

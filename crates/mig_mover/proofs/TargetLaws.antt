@@ -1,6 +1,6 @@
 -- What a plan's free targets say of its shifts.
 use Rattle.mig_mover.proofs.Common.{All, AllWithin, Any-from_list_any, At, Bool, CanTake, Contains, Contains-append_cases, IfNone, Image, IsFirstUsed, IsLost, IsShifted, IsTask, IsThere}
-use Rattle.mig_mover.proofs.Common.{IsUnused, IsUsed, List, Lists, MatchBool, None, Option, Shift, Some, Spot, Task, [], ap, arith, cases_Bool, cases_eq, cond, eqb-true, false, false≢true}
+use Rattle.mig_mover.proofs.Common.{InputLists, IsUnused, IsUsed, List, MatchBool, None, Option, Shift, Some, Spot, Task, [], ap, arith, cases_Bool, cases_eq, cond, eqb-true, false, false≢true}
 use Rattle.mig_mover.proofs.Common.{filter, free_targets, get_or, get_or_default, inl, inr, is_of, length, list_any, map, no_spot, not, refl, round_at, same_spot, shifts_of, slice_get, subst}
 use Rattle.mig_mover.proofs.Common.{suc, sym, take, there, to_disk, true, zero, ℕ, ⊎_elim, ◌+◌, ◌<◌, ◌∙◌, ◌∷◌, ◌≡◌, ◌⊎◌}
 use Rattle.mig_jobs.proofs.TableSteps.{listed_has, has_listed}
@@ -115,10 +115,10 @@ shifted_is : (plan : List (List Shift)) (item : ℕ) → list_any (is_of item) (
 shifted_is plan item said = let any = Any-from_list_any (is_of item) (shifts_of plan) said in (any.0, any.1, any.2, any.3, eqb-true any.1.item.0 item any.4)
 
 -- an item that the plan shifts is lost exactly where it isn't there
-pub lost_answer : (task : Task) (image : Image) (item : ℕ) (input : Lists) (said : Bool) → input ≡ task.input → list_any (is_of item) (shifts_of task.plan) ≡ true → MatchBool said (IsThere input image item) (IsLost input image item)
+pub lost_answer : (task : Task) (image : Image) (item : ℕ) (input : InputLists) (said : Bool) → input ≡ task.input → list_any (is_of item) (shifts_of task.plan) ≡ true → MatchBool said (IsThere input image item) (IsLost input image item)
     → MatchBool (not said) (IsShifted task.plan item × IsLost task.input image item) (IsShifted task.plan item → IsThere task.input image item)
-lost_answer task image item input true same shifted is = λ moves. subst (λ (i : Lists). IsThere i image item) same is
-lost_answer task image item input false same shifted is = (shifted_is task.plan item shifted, subst (λ (i : Lists). IsLost i image item) same is)
+lost_answer task image item input true same shifted is = λ moves. subst (λ (i : InputLists). IsThere i image item) same is
+lost_answer task image item input false same shifted is = (shifted_is task.plan item shifted, subst (λ (i : InputLists). IsLost i image item) same is)
 
 pub next_item : (P : ℕ → Type 0) (k : ℕ) → ((i : ℕ) → i < k → P i) → P k → (i : ℕ) → i < k + 1 → P i
 next_item P k before here i lt = at (cases_eq i k)

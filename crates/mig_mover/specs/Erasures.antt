@@ -9,8 +9,8 @@ use Rattle.mig_base.specs.Slots.{slot_of, zeros}
 use Rattle.mig_base.specs.Tasks.{Task}
 
 -- the cell holds zeros, where it is told
-abbrev pub AreZeros : Option (List ℕ) → Type 0
-AreZeros cell = IfSome cell (λ bytes. bytes ≡ zeros)
+abbrev pub HoldsZeros : Option (List ℕ) → Type 0
+HoldsZeros cell = IfSome cell (λ bytes. bytes ≡ zeros)
 
 -- each copy of a round was compared with what its source still holds
 abbrev pub AreCompared : (Cell → Cell → Type 0) → Task → ℕ → Type 0

@@ -10,12 +10,12 @@ use Rattle.mig_base.specs.Layouts.{At, IsTaken}
 use Rattle.mig_base.specs.Safety.{Contents, IsSafe}
 use Rattle.mig_base.specs.Slots.{slot_of}
 use Rattle.mig_base.specs.Stores.{State, LeavesOnly}
-use Rattle.mig_mover.specs.Erasures.{AreZeros}
+use Rattle.mig_mover.specs.Erasures.{HoldsZeros}
 use Rattle.mig_base.specs.Tasks.{Task}
 
 -- zeros stand at each named spot that is free after k rounds, where its slot is told
 abbrev pub AreErased : Task → ℕ → Image → Type 0
-AreErased task k image = (spot : Spot) → IsNamed task.input task.plan spot → ¬ IsTaken (At task.input task.plan k) spot → AreZeros (image (slot_of task.input spot))
+AreErased task k image = (spot : Spot) → IsNamed task.input task.plan spot → ¬ IsTaken (At task.input task.plan k) spot → HoldsZeros (image (slot_of task.input spot))
 
 -- the cells that closing after k rounds writes: the gate, and the named slots that are free then
 abbrev pub IsClosingCell : Task → ℕ → Cell → Type 0

@@ -15,7 +15,7 @@ use Rattle.mig_base.specs.Slots.{HasHeader, slot_of}
 use Rattle.mig_base.specs.Stores.{State, flights}
 use Rattle.mig_base.specs.Tasks.{Task}
 use Rattle.mig_base.specs.Texts.{item_name}
-use Rattle.mig_store.specs.Grounds.{Differ, Sights}
+use Rattle.mig_store.specs.Grounds.{Sights, SlotsDiffer}
 
 -- the slot of an item after k rounds
 abbrev pub cell_at : Task → ℕ → ℕ → Option Cell
@@ -38,7 +38,7 @@ HoldNoOther task image k = (cell : Cell) → IsFreeSlot task.input task.plan k c
 
 -- what round k left is what it copied
 abbrev pub AreAlike : Task → Image → ℕ → Type 0
-AreAlike task image k = All (λ s. ¬ Differ image (slot_of task.input s.from) (slot_of task.input s.to)) (round_at task.plan k)
+AreAlike task image k = All (λ s. ¬ SlotsDiffer image (slot_of task.input s.from) (slot_of task.input s.to)) (round_at task.plan k)
 
 -- After k rounds the cells show no ground on which a store refuses.
 pub record IsKept (task : Task) (image : Image) (k : ℕ) : Type 0 where

@@ -4,7 +4,7 @@ use Rattle.mig_base.specs.declared.cells.Cell.TheVariants.{Gate, Mark}
 use Rattle.mig_base.specs.declared.ids.Shift.{Shift}
 use Rattle.mig_base.specs.Arrivals.{AreFreeZeros, IsReached, IsHaltSafe}
 use Rattle.mig_base.specs.Images.{Image, SameBut}
-use Rattle.mig_base.specs.InputLists.{Lists, IsInput}
+use Rattle.mig_base.specs.InputLists.{InputLists, IsInput}
 use Rattle.mig_base.specs.JobCells.{IsFreeSlot}
 use Rattle.mig_base.specs.Journals.{is_marked}
 use Rattle.mig_base.specs.Layouts.{round_at}
@@ -14,8 +14,8 @@ use Rattle.mig_base.specs.Safety.{Contents, IsSafeAfter, IsSoundAfter}
 use Rattle.mig_base.specs.Slots.{slot_of, zeros}
 
 -- for each input, plan that runs on it, digest of the plan, and contents of the items
-abbrev pub ForEachPlan : (Lists → List (List Shift) → List ℕ → Contents → Type 0) → Type 0
-ForEachPlan Law = (input : Lists) (plan : List (List Shift)) (digest : List ℕ) (contents : Contents) → IsInput input → Runs input plan → Law input plan digest contents
+abbrev pub ForEachPlan : (InputLists → List (List Shift) → List ℕ → Contents → Type 0) → Type 0
+ForEachPlan Law = (input : InputLists) (plan : List (List Shift)) (digest : List ℕ) (contents : Contents) → IsInput input → Runs input plan → Law input plan digest contents
 
 -- Between two marks
 

@@ -12,7 +12,7 @@ ghost use Rattle.mig_base.specs.Safety.{Contents, IsSafe};
 ghost use Rattle.mig_base.specs.Slots.{slot_of};
 ghost use Rattle.mig_base.specs.Stores.{State, flights, ChangesOnly, LeavesOnly, IsSettled, HasCause};
 ghost use Rattle.mig_journal.specs.SeenJournals.{is_running, HasHead};
-ghost use Rattle.mig_mover.specs.Erasures.{AreAsked, AreCompared, AreZeros};
+ghost use Rattle.mig_mover.specs.Erasures.{AreAsked, AreCompared, HoldsZeros};
 ghost use Rattle.mig_base.specs.Images.{NoCell};
 ghost use Rattle.mig_mover.specs.Holdings.{IsKeptMarked, IsSeen, IsUnrefused};
 ghost use Rattle.mig_store.specs.Grounds.{HasGround, Remembers};
@@ -111,7 +111,7 @@ fn erase_last<S: Store>(job: &Job, store: &mut S, k: u32) -> Result<(), StoreFai
     requires asked { AreAsked S.asked job.now }
     requires none { flights (S.state store.old) ≡ [] }
     requires compared { AreCompared S.compared job.now k }
-    ensures erased { OnOk result (All (λ s. AreZeros ((S.state store.new).reads (slot_of job.now.input s.from))) (round_at job.now.plan k)) }
+    ensures erased { OnOk result (All (λ s. HoldsZeros ((S.state store.new).reads (slot_of job.now.input s.from))) (round_at job.now.plan k)) }
     ensures change { ChangesOnly (IsSourceSlot job.now.input job.now.plan k) (S.state store.old) (S.state store.new) }
     ensures seen { OnOk result (IsSeen job.now (S.seen store.old) (S.state store.old).reads k → IsSeen job.now (S.seen store.new) (S.state store.new).reads k) }
     ensures cause { HasGround S.refuses (¬ IsSeen job.now (S.seen store.old) (S.state store.old).reads k) (S.state store.old) (S.state store.new) result }

@@ -6,7 +6,7 @@ ghost use Rattle.mig_base.specs.Cells.{is_slot};
 ghost use Rattle.mig_base.specs.Stores.{State, flights, ChangesOnly};
 ghost use Rattle.mig_base.specs.RoundStates.{IsSourceSlot};
 ghost use Rattle.mig_base.specs.Tasks.{Task};
-ghost use Rattle.mig_mover.specs.Erasures.{AreAsked, AreZeros};
+ghost use Rattle.mig_mover.specs.Erasures.{AreAsked, HoldsZeros};
 ghost use Rattle.mig_mover.specs.Holdings.{IsSeen};
 ghost use Rattle.mig_store.specs.Grounds.{HasGround, IsLast, Remembers};
 
@@ -29,7 +29,7 @@ pub fn erase<S: Store>(store: &mut S, slot: &Cell) -> Result<(), StoreFailed>
     requires slot { IsTrue (is_slot slot.now) }
     requires asked { S.asked slot.now }
     requires none { flights (S.state store.old) ≡ [] }
-    ensures erased { OnOk result (AreZeros ((S.state store.new).reads slot.now)) }
+    ensures erased { OnOk result (HoldsZeros ((S.state store.new).reads slot.now)) }
     ensures change { ChangesOnly (λ c. c ≡ slot.now) (S.state store.old) (S.state store.new) }
     ensures seen { Remembers (λ c. c ≡ slot.now) (S.seen store.old) (S.seen store.new) }
     ensures cause { HasGround S.refuses (IsLast (S.state store.old).reads (S.seen store.old) slot.now) (S.state store.old) (S.state store.new) result }
@@ -43,7 +43,7 @@ pub fn erase_sources<S: Store>(job: &Job, store: &mut S, round: u32) -> Result<(
     requires to { round ≤ length job.now.plan }
     requires asked { AreAsked S.asked job.now }
     requires none { flights (S.state store.old) ≡ [] }
-    ensures erased { OnOk result (All (λ s. AreZeros ((S.state store.new).reads (slot_of job.now.input s.from))) (round_at job.now.plan round)) }
+    ensures erased { OnOk result (All (λ s. HoldsZeros ((S.state store.new).reads (slot_of job.now.input s.from))) (round_at job.now.plan round)) }
     ensures change { ChangesOnly (IsSourceSlot job.now.input job.now.plan round) (S.state store.old) (S.state store.new) }
     ensures seen { OnOk result (IsSeen job.now (S.seen store.old) (S.state store.old).reads round → IsSeen job.now (S.seen store.new) (S.state store.new).reads round) }
     ensures cause { HasGround S.refuses (¬ IsSeen job.now (S.seen store.old) (S.state store.old).reads round) (S.state store.old) (S.state store.new) result }

@@ -13,7 +13,7 @@ ghost use Rattle.mig_jobs.specs.Vacancies.{IsVacant};
 ghost use Rattle.mig_base.specs.Texts.{item_name};
 ghost use Rattle.mig_mover.specs.Erasures.{AreAsked, AreCompared, IsItemAsked};
 ghost use Rattle.mig_mover.specs.Holdings.{AreAlike, AreItemsKept, IsItemKept, IsItemSeen, IsKept, IsSeen, cell_at};
-ghost use Rattle.mig_store.specs.Grounds.{Differ, HasGround, IsLast, Lacks, Remembers};
+ghost use Rattle.mig_store.specs.Grounds.{HasGround, IsLast, Lacks, Remembers, SlotsDiffer};
 
 use mig_base::{Cell, ItemId};
 use mig_jobs::{Job, Vacancy, spot_cell};
@@ -126,7 +126,7 @@ fn expect_copied<S: Store>(
     ensures compared { OnOk result (IfSome (slice_get (flights_of job.now.input (round_at job.now.plan round)) place) (λ f. S.compared f.from f.to)) }
     ensures change { ChangesOnly NoCell (S.state store.old) (S.state store.new) }
     ensures seen { Remembers NoCell (S.seen store.old) (S.seen store.new) }
-    ensures cause { HasGround S.refuses (IfSome (slice_get (flights_of job.now.input (round_at job.now.plan round)) place) (λ f. Differ (S.state store.old).reads f.from f.to)) (S.state store.old) (S.state store.new) result }
+    ensures cause { HasGround S.refuses (IfSome (slice_get (flights_of job.now.input (round_at job.now.plan round)) place) (λ f. SlotsDiffer (S.state store.old).reads f.from f.to)) (S.state store.old) (S.state store.new) result }
 {
     let (from, to) = job.copy(round, place);
     store.expects_copy(&from, &to)

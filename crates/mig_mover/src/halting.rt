@@ -4,7 +4,7 @@ ghost use Rattle.mig_base.specs.declared.cells.Cell.TheVariants.{Gate};
 ghost use Rattle.mig_base.specs.JobCells.{IsFreeSlot};
 ghost use Rattle.mig_base.specs.Slots.{slot_of};
 ghost use Rattle.mig_base.specs.Stores.{State, flights, ChangesOnly, IsSettled};
-ghost use Rattle.mig_mover.specs.Erasures.{AreAsked, AreCompared, AreZeros};
+ghost use Rattle.mig_mover.specs.Erasures.{AreAsked, AreCompared, HoldsZeros};
 ghost use Rattle.mig_mover.specs.Halts.{AreErased, IsClosingCell, KeepsHaltSafe, EndsHalted};
 ghost use Rattle.mig_mover.specs.Holdings.{IsSeen};
 ghost use Rattle.mig_mover.specs.Stands.{IsAt};
@@ -28,7 +28,7 @@ fn erase_vacant<S: Store>(
     requires disk { v.now.spot.disk.0 < length job.now.input.disks }
     requires asked { IsVacant v.now found → S.asked (slot_of job.now.input v.now.spot) }
     requires none { flights (S.state store.old) ≡ [] }
-    ensures erased { OnOk result (IsVacant v.now found → AreZeros ((S.state store.new).reads (slot_of job.now.input v.now.spot))) }
+    ensures erased { OnOk result (IsVacant v.now found → HoldsZeros ((S.state store.new).reads (slot_of job.now.input v.now.spot))) }
     ensures change { ChangesOnly (λ c. IsVacant v.now found × (c ≡ slot_of job.now.input v.now.spot)) (S.state store.old) (S.state store.new) }
     ensures seen { Remembers (λ c. IsVacant v.now found × (c ≡ slot_of job.now.input v.now.spot)) (S.seen store.old) (S.seen store.new) }
     ensures cause { HasGround S.refuses (IsVacant v.now found × IsLast (S.state store.old).reads (S.seen store.old) (slot_of job.now.input v.now.spot)) (S.state store.old) (S.state store.new) result }

@@ -10,7 +10,7 @@ use Rattle.mig_base.specs.declared.ids.DiskId.{DiskId}
 use Rattle.mig_base.specs.declared.ids.Shift.{Shift}
 use Rattle.mig_base.specs.declared.ids.Spot.{Spot}
 use Rattle.mig_numbers.proofs.Rows.{rows_next}
-use Rattle.mig_numbers.specs.Handed.{is_row_of, row_of, rows_for, rows_of, rows_upto}
+use Rattle.mig_numbers.specs.Handed.{is_row_of, plan_rows, row_of, rows_for, rows_upto}
 use Rattle.mig_gen.specs.MadeCases.{made_item}
 use Rattle.mig_numbers.specs.Numbers.{input_of, next_of, no_item, spot_of}
 use Rattle.mig_numbers.specs.declared.numbers.DiskNumbers.{DiskNumbers}
@@ -52,12 +52,12 @@ rows_len plan (suc k) h =
     subst (λ n. length (rows_upto plan n) ≡ sum_by (λ (round : List Shift). length round) (take n plan)) (add-one k) step
 
 -- of all rounds
-pub all_count : (plan : List (List Shift)) (i : ℕ) → count_by (is_row_of i) (rows_of plan) ≡ shift_count plan i
+pub all_count : (plan : List (List Shift)) (i : ℕ) → count_by (is_row_of i) (plan_rows plan) ≡ shift_count plan i
 all_count plan i =
     rows_count plan i (length plan) (omega arith)
     ∙ ap (λ (p : List (List Shift)). shift_count p i) (take_all (length plan) plan (omega arith))
 
-pub all_len : (plan : List (List Shift)) → length (rows_of plan) ≡ sum_by (λ (round : List Shift). length round) plan
+pub all_len : (plan : List (List Shift)) → length (plan_rows plan) ≡ sum_by (λ (round : List Shift). length round) plan
 all_len plan =
     rows_len plan (length plan) (omega arith)
     ∙ ap (λ (p : List (List Shift)). sum_by (λ (round : List Shift). length round) p) (take_all (length plan) plan (omega arith))
@@ -96,10 +96,10 @@ module _ (split : Bool) (disks : List DiskNumbers) (items : List ItemNumbers) (p
   pub once_shift : (i : ℕ) → i < length items → shift_count plan i ≡ rows_for (get_or items i no_item)
   once_shift i lt = made.once i (omega (arith, lt, items_len)) ∙ relocated_by split disks items i lt
 
-  pub once_rows : (i : ℕ) → i < length items → count_by (is_row_of i) (rows_of plan) ≡ rows_for (get_or items i no_item)
+  pub once_rows : (i : ℕ) → i < length items → count_by (is_row_of i) (plan_rows plan) ≡ rows_for (get_or items i no_item)
   once_rows i lt = all_count plan i ∙ once_shift i lt
 
-  pub few_rows : length (rows_of plan) ≤ length items
+  pub few_rows : length (plan_rows plan) ≤ length items
   few_rows =
       let few = few_shifts (input_of split disks items) plan made.once made.fits.shifts in
       omega (arith, few, in_all plan, items_len, all_len plan)

@@ -1,14 +1,14 @@
 -- What a plan's rows keep: whose they are, where they go, and the limits of each round.
-use Rattle.mig_base.proofs.Common.{All, All-append, All-contains, All-filter, All-map, Bool, Contains, Contains-append_cases, Contains-append_left, Contains-append_right, IsLowestFree, IsMoveShift, List, Lists}
+use Rattle.mig_base.proofs.Common.{All, All-append, All-contains, All-filter, All-map, Bool, Contains, Contains-append_cases, Contains-append_left, Contains-append_right, InputLists, IsLowestFree, IsMoveShift, List}
 use Rattle.mig_base.proofs.Common.{[], add-one, ap, append-nil, arith, cases_lt, cond, false, filter, filter-append, filter_passes, get_or, get_or-take, inl, inr, is_relocated, length, length-map-range_with_len, length-take-le, map}
-use Rattle.mig_base.proofs.Common.{move_at, moves, nat_tests, no_spot, refl, round_at, shift_count, source, subst, suc, sym, take, target, target_at, trip_of, true, zero, ℕ, ⊎_elim, ◌++◌, ◌+◌, ◌<◌, ◌==◌, ◌∙◌, ◌∷◌, ◌≡◌, ◌≤◌}
+use Rattle.mig_base.proofs.Common.{move_at, moves, nat_tests, no_spot, refl, round_at, shift_count, source, subst, suc, sym, take, target, target_at, transfer_of, true, zero, ℕ, ⊎_elim, ◌++◌, ◌+◌, ◌<◌, ◌==◌, ◌∙◌, ◌∷◌, ◌≡◌, ◌≤◌}
 use Rattle.mig_base.proofs.Components.{increasing_filter}
 use Rattle.mig_base.proofs.Planned.{move_relocated, move_there}
 use Rattle.mig_base.proofs.Room.{lowest_at}
 use Rattle.mig_base.proofs.Scheduled.{shifted_first, shifted_round}
 use Rattle.mig_base.specs.MadePlans.{IsPlanOf}
 use Rattle.mig_base.specs.Schedules.{Needs}
-use Rattle.mig_base.specs.Transfers.{KeepsLimit, Trip}
+use Rattle.mig_base.specs.Transfers.{KeepsLimit, Transfer}
 use Rattle.mig_base.specs.declared.certs.Cert.{Cert}
 use Rattle.mig_base.specs.declared.ids.DiskId.{DiskId}
 use Rattle.mig_base.specs.declared.ids.Shift.{Shift}
@@ -21,7 +21,7 @@ use Rattle.mig_numbers.proofs.Founds.{found_rounds, found_value}
 use Rattle.mig_numbers.proofs.Inputs.{made_at}
 use Rattle.mig_numbers.proofs.Lists.{map_map}
 use Rattle.mig_numbers.proofs.Rows.{rows_next}
-use Rattle.mig_numbers.specs.Handed.{AreRows, IsPlanned, IsRow, found_of, is_before, is_in_round, row_of, row_spot, row_trip, rows_of, rows_upto, set_in}
+use Rattle.mig_numbers.specs.Handed.{AreRows, IsPlanned, IsRow, found_of, is_before, is_in_round, plan_rows, row_of, row_spot, row_transfer, rows_upto, set_in}
 use Rattle.mig_numbers.specs.Numbers.{disk_in, input_of, limits_of, next_of, no_item, no_numbers, spot_of}
 use Rattle.mig_numbers.specs.Refusals.{AreSound}
 use Rattle.mig_numbers.specs.declared.numbers.DiskNumbers.{DiskNumbers}
@@ -126,7 +126,7 @@ lowest_in xs ys v w s t forth back e f l =
     subst (IsLowestFree ys w) f (subst (λ n. IsLowestFree ys n s) e here)
 
 -- a row is that of a move
-record IsMoveRow (input : Lists) (targets : List Spot) (rounds : ℕ) (row : ShiftNumbers) : Type 0 where
+record IsMoveRow (input : InputLists) (targets : List Spot) (rounds : ℕ) (row : ShiftNumbers) : Type 0 where
   move : ℕ
   within : move < length (moves input)
   item_is : row.item ≡ move_at input move
@@ -135,14 +135,14 @@ record IsMoveRow (input : Lists) (targets : List Spot) (rounds : ℕ) (row : Shi
   in_rounds : row.round ≤ rounds
 
 module _ (split : Bool) (disks : List DiskNumbers) (items : List ItemNumbers) (plan : List (List Shift)) (made : IsPlanOf (input_of split disks items) plan) where
-  abbrev input : Lists
+  abbrev input : InputLists
   input = input_of split disks items
 
   abbrev targets : List Spot
   targets = made.targets.0
 
   abbrev rows : List ShiftNumbers
-  rows = rows_of plan
+  rows = plan_rows plan
 
   ascending : (a b : ℕ) → a < b → b < length (moves input) → move_at input a < move_at input b
   ascending a b lt within = increasing_filter (is_relocated input) 0 (length input.items) a b 0 lt within
@@ -244,32 +244,32 @@ module _ (split : Bool) (disks : List DiskNumbers) (items : List ItemNumbers) (p
         lowest = subst (λ i. IsLowestFree (map spot_of items ++ map row_spot (filter (is_before i) rows)) (get_or items i no_item).next_disk (row_spot row)) (sym r.item_is) lowest;
       }
 
-  -- the trips of the rows in a round are those of its shifts
-  trip_same : (k : ℕ) (s : Shift) → IsMoveShift input targets s → row_trip items (row_of (k + 1) s) ≡ trip_of s
-  trip_same k s m =
+  -- the transfers of the rows in a round are those of its shifts
+  transfer_same : (k : ℕ) (s : Shift) → IsMoveShift input targets s → row_transfer items (row_of (k + 1) s) ≡ transfer_of s
+  transfer_same k s m =
       let there = item_there m.0 m.1 in
       let from : source input (move_at input m.0) ≡ (get_or items (move_at input m.0) no_item).disk = ap (λ (x : Spot). x.disk.0) (get_or-map spot_of items (move_at input m.0) no_item no_spot there) in
       let to = (target_at targets m.0).disk.0 in
-      subst (λ (x : Shift). row_trip items (row_of (k + 1) x) ≡ trip_of x) (sym m.2) (ap (λ n. leg n to) (sym from))
+      subst (λ (x : Shift). row_transfer items (row_of (k + 1) x) ≡ transfer_of x) (sym m.2) (ap (λ n. leg n to) (sym from))
     where
-      leg : ℕ → ℕ → Trip
+      leg : ℕ → ℕ → Transfer
       leg a b = record { leaves = a; reaches = b }
 
-  trips_same : (k : ℕ) → k < length plan → map (row_trip items) (filter (is_in_round (k + 1)) rows) ≡ map trip_of (round_at plan (suc k))
-  trips_same k lt =
-      let f : Shift → Trip = λ s. row_trip items (row_of (k + 1) s) in
-      ap (map (row_trip items)) (round_rows plan k (length plan) lt) ∙ map_map (row_trip items) (row_of (k + 1)) (round_at plan (suc k))
-      ∙ map_same f trip_of (round_at plan (suc k)) (λ i d below. trip_same k (get_or (round_at plan (suc k)) i d) (move_shift_of k lt i d below))
+  transfers_same : (k : ℕ) → k < length plan → map (row_transfer items) (filter (is_in_round (k + 1)) rows) ≡ map transfer_of (round_at plan (suc k))
+  transfers_same k lt =
+      let f : Shift → Transfer = λ s. row_transfer items (row_of (k + 1) s) in
+      ap (map (row_transfer items)) (round_rows plan k (length plan) lt) ∙ map_map (row_transfer items) (row_of (k + 1)) (round_at plan (suc k))
+      ∙ map_same f transfer_of (round_at plan (suc k)) (λ i d below. transfer_same k (get_or (round_at plan (suc k)) i d) (move_shift_of k lt i d below))
 
-  limits_kept : (sound : AreSound split disks items) (r v : ℕ) → 1 ≤ r → r ≤ length plan → v < length disks → KeepsLimit (limits_of split (get_or disks v no_numbers)) v (map (row_trip items) (filter (is_in_round r) rows))
+  limits_kept : (sound : AreSound split disks items) (r v : ℕ) → 1 ≤ r → r ≤ length plan → v < length disks → KeepsLimit (limits_of split (get_or disks v no_numbers)) v (map (row_transfer items) (filter (is_in_round r) rows))
   limits_kept sound zero v least most there = absurd (omega (arith, least))
   limits_kept sound (suc k) v least most there =
       let lt : k < length plan = omega (arith, most) in
       let kept = (made.runs.rounds k lt).limits v (omega (arith, there, length-map-range_with_len (disk_in split disks) 0 (length disks))) in
       let at = made_at split disks items sound.few sound.disks_sound sound.items_sound v there in
-      let here : KeepsLimit (limits_of split (get_or disks v no_numbers)) v (map trip_of (round_at plan (suc k))) = subst (λ (d : Disk). KeepsLimit d.limits v (map trip_of (round_at plan (suc k)))) at kept in
-      subst (λ m. KeepsLimit (limits_of split (get_or disks v no_numbers)) v (map (row_trip items) (filter (is_in_round m) rows))) (add-one k)
-      (subst (KeepsLimit (limits_of split (get_or disks v no_numbers)) v) (sym (trips_same k lt)) here)
+      let here : KeepsLimit (limits_of split (get_or disks v no_numbers)) v (map transfer_of (round_at plan (suc k))) = subst (λ (d : Disk). KeepsLimit d.limits v (map transfer_of (round_at plan (suc k)))) at kept in
+      subst (λ m. KeepsLimit (limits_of split (get_or disks v no_numbers)) v (map (row_transfer items) (filter (is_in_round m) rows))) (add-one k)
+      (subst (KeepsLimit (limits_of split (get_or disks v no_numbers)) v) (sym (transfers_same k lt)) here)
 
   are_rows : AreSound split disks items → AreRows split disks items rows (length plan)
   are_rows sound = record {
@@ -280,7 +280,7 @@ module _ (split : Bool) (disks : List DiskNumbers) (items : List ItemNumbers) (p
 
 -- a certified plan's rows and numbers are all that is promised
 pub planned : (split : Bool) (disks : List DiskNumbers) (items : List ItemNumbers) (plan : List (List Shift)) (cert : Cert) (found : Found) → AreSound split disks items → IsCertified (input_of split disks items) plan cert → found ≡ found_of cert
-    → IsPlanned split disks items (rows_of plan) (set_in cert.bound) found
+    → IsPlanned split disks items (plan_rows plan) (set_in cert.bound) found
 planned split disks items plan cert found sound made is =
     let rounds : found.rounds ≡ length plan = ap (λ (f : Found). f.rounds) is ∙ found_rounds cert ∙ made.holds.rounds in
     record {
@@ -291,6 +291,6 @@ planned split disks items plan cert found sound made is =
       rows_are = refl;
       set_is = refl;
       found_is = is;
-      keeps = subst (AreRows split disks items (rows_of plan)) (sym rounds) (are_rows split disks items plan made.planned sound);
+      keeps = subst (AreRows split disks items (plan_rows plan)) (sym rounds) (are_rows split disks items plan made.planned sound);
       needs = subst (Needs (input_of split disks items)) (sym (ap (λ (f : Found). f.value) is ∙ found_value cert)) made.needs;
     }

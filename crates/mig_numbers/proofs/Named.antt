@@ -1,5 +1,5 @@
 -- Inputs that differ in names alone are judged alike.
-use Rattle.mig_base.proofs.Common.{All, At, Bool, CertHolds, FirstBlame, IsArrivedAt, IsFirstShift, IsLegal, IsSo, IsSomeAnd, IsSpotOf, IsTrue, KeepsLimit, KeepsLimits, Layout, List, Lists, Needs, None, Once, Option, Runs, Some, Trip, [], after_shifts, ap, arith, bound_value, class_of, cond, disk_at, div_ceil, fill_by_all, filter, get_or, inl, inr, inside, is_relocated, is_split, length, length-map, length-map-range_with_len, load, map, most_ends, moves, no_disk, no_spot, not, numbers, quotient, range_with_len, refl, round_at, rounds_for, shift_at, side_limit, side_load, slice_get, stated_load, subst, suc, sum_by, sym, transfers, trip_of, trips, trips_in, zero, ℕ, ⊎_elim, ◌%◌, ◌-◌, ◌/◌, ◌<◌, ◌==◌, ◌||◌, ◌∙◌, ◌∷◌, ◌≡◌, ◌≢◌, ◌≤◌, ◌⊎◌}
+use Rattle.mig_base.proofs.Common.{All, At, Bool, CertHolds, FirstBlame, InputLists, IsArrivedAt, IsFirstShift, IsLegal, IsSo, IsSomeAnd, IsSpotOf, IsTrue, KeepsLimit, KeepsLimits, Layout, List, Needs, None, Once, Option, Runs, Some, Transfer, [], after_shifts, ap, arith, bound_value, class_of, cond, disk_at, div_ceil, fill_by_all, filter, get_or, inl, inr, inside, is_relocated, is_split, length, length-map, length-map-range_with_len, load, map, most_ends, moves, no_disk, no_spot, not, numbers, quotient, range_with_len, refl, round_at, rounds_for, shift_at, side_limit, side_load, slice_get, stated_load, subst, suc, sum_by, sym, transfer_graph, transfer_of, transfers, transfers_in, zero, ℕ, ⊎_elim, ◌%◌, ◌-◌, ◌/◌, ◌<◌, ◌==◌, ◌||◌, ◌∙◌, ◌∷◌, ◌≡◌, ◌≢◌, ◌≤◌, ◌⊎◌}
 use Rattle.mig_base.specs.Bounding.{counted_load, counted_value, greatest}
 use Rattle.mig_base.specs.Judging.{Differ, EndsElsewhere, IsLeast, IsMovedTooOften, IsOver, LacksSlot, LeavesElsewhere}
 use Rattle.mig_base.specs.Transfers.{IsOverLimit}
@@ -28,7 +28,7 @@ use Rattle.std.specs.List.{list_all}
 use Rattle.std.specs.Option.{option_map}
 
 -- inputs that differ in names alone
-pub record AreAlike (a b : Lists) : Type 0 where
+pub record AreAlike (a b : InputLists) : Type 0 where
   pub disks : map shape a.disks ≡ map shape b.disks
   pub items : length a.items ≡ length b.items
   pub spots : a.spots ≡ b.spots
@@ -52,19 +52,19 @@ least_by P Q n to back h = record { holds = to n h.holds; least = λ k lt q. h.l
 
 -- What is counted, of limits, the number of disks, transfers and next disks
 
-abbrev trip_by : List Spot → List DiskId → ℕ → Trip
-trip_by spots next item = record { leaves = (get_or spots item no_spot).disk.0; reaches = (get_or next item (record { 0 = 0 })).0 }
+abbrev transfer_by : List Spot → List DiskId → ℕ → Transfer
+transfer_by spots next item = record { leaves = (get_or spots item no_spot).disk.0; reaches = (get_or next item (record { 0 = 0 })).0 }
 
-abbrev class_from : (ℕ → Limits) → ℕ → List Trip → Class
+abbrev class_from : (ℕ → Limits) → ℕ → List Transfer → Class
 class_from l n ts = cond (is_split (l 0)) Duplex (cond (list_all (λ v. not (not (load v ts == 0)) || (most_ends (l v) % 2 == 0)) (range_with_len 0 n)) Even General)
 
-abbrev set_from : List ℕ → (ℕ → Limits) → List Trip → ℕ
+abbrev set_from : List ℕ → (ℕ → Limits) → List Transfer → ℕ
 set_from set l ts = cond (sum_by (λ v. most_ends (l v)) set / 2 == 0) 0 (div_ceil (inside set ts) (sum_by (λ v. most_ends (l v)) set / 2))
 
-abbrev limits_in : Lists → ℕ → Limits
+abbrev limits_in : InputLists → ℕ → Limits
 limits_in input v = (disk_at input.disks v).limits
 
-module _ (a b : Lists) (alike : AreAlike a b) where
+module _ (a b : InputLists) (alike : AreAlike a b) where
   disk_count : length a.disks ≡ length b.disks
   disk_count = sym (length-map a.disks shape) ∙ ap (λ (ps : List (Limits × ℕ)). length ps) alike.disks ∙ length-map b.disks shape
 
@@ -84,11 +84,11 @@ module _ (a b : Lists) (alike : AreAlike a b) where
   at_same plan zero = ap (λ (ss : List Spot). λ (item : ℕ). slice_get ss item) alike.spots
   at_same plan (suc k) = ap (λ (l : Layout). λ (item : ℕ). after_shifts l (round_at plan (suc k)) item) (at_same plan k)
 
-  kept : (ts : List Trip) → KeepsLimits a.disks ts → KeepsLimits b.disks ts
+  kept : (ts : List Transfer) → KeepsLimits a.disks ts → KeepsLimits b.disks ts
   kept ts h v lt = subst (λ (l : Limits). KeepsLimit l v ts) (limits_at v) (h v (omega (arith, lt, disk_count)))
 
   legal : (l : Layout) (shifts : List Shift) → IsLegal a l shifts → IsLegal b l shifts
-  legal l shifts h = record { some = h.some; leaves = h.leaves; once = h.once; free = λ i d lt. let f = h.free i d lt in (spot_there (get_or shifts i d).to f.0, f.1); apart = h.apart; limits = kept (map trip_of shifts) h.limits }
+  legal l shifts h = record { some = h.some; leaves = h.leaves; once = h.once; free = λ i d lt. let f = h.free i d lt in (spot_there (get_or shifts i d).to f.0, f.1); apart = h.apart; limits = kept (map transfer_of shifts) h.limits }
 
   arrived : (plan : List (List Shift)) (item : ℕ) → IsArrivedAt a (At a plan (length plan)) item → IsArrivedAt b (At b plan (length plan)) item
   arrived plan item h = subst (λ (l : Layout). IsArrivedAt b l item) (at_same plan (length plan)) (h ∙ ap (λ (ns : List DiskId). slice_get ns item) alike.next)
@@ -109,52 +109,52 @@ module _ (a b : Lists) (alike : AreAlike a b) where
   moves_same : moves a ≡ moves b
   moves_same = ap (λ (f : ℕ → Bool). filter f (range_with_len 0 (length a.items))) (fun_ext relocated) ∙ ap (λ n. filter (is_relocated b) (range_with_len 0 n)) alike.items
 
-  trip_same : trip_by a.spots a.next ≡ trip_by b.spots b.next
-  trip_same = ap (λ (ss : List Spot). trip_by ss a.next) alike.spots ∙ ap (λ (ns : List DiskId). trip_by b.spots ns) alike.next
+  transfer_same : transfer_by a.spots a.next ≡ transfer_by b.spots b.next
+  transfer_same = ap (λ (ss : List Spot). transfer_by ss a.next) alike.spots ∙ ap (λ (ns : List DiskId). transfer_by b.spots ns) alike.next
 
-  trips_same : trips a ≡ trips b
-  trips_same = ap (λ (f : ℕ → Trip). map f (moves a)) trip_same ∙ ap (map (trip_by b.spots b.next)) moves_same
+  transfers_same : transfers a ≡ transfers b
+  transfers_same = ap (λ (f : ℕ → Transfer). map f (moves a)) transfer_same ∙ ap (map (transfer_by b.spots b.next)) moves_same
 
-  trips_in_same : (round_of : ℕ → ℕ) (r : ℕ) → trips_in a round_of r ≡ trips_in b round_of r
-  trips_in_same round_of r = ap (λ (f : ℕ → Trip). map f (filter (λ item. round_of item == r) (moves a))) trip_same ∙ ap (λ (ms : List ℕ). map (trip_by b.spots b.next) (filter (λ item. round_of item == r) ms)) moves_same
+  transfers_in_same : (round_of : ℕ → ℕ) (r : ℕ) → transfers_in a round_of r ≡ transfers_in b round_of r
+  transfers_in_same round_of r = ap (λ (f : ℕ → Transfer). map f (filter (λ item. round_of item == r) (moves a))) transfer_same ∙ ap (λ (ms : List ℕ). map (transfer_by b.spots b.next) (filter (λ item. round_of item == r) ms)) moves_same
 
-  quotient_same : quotient (transfers a) ≡ quotient (transfers b)
-  quotient_same = ap (λ (l : ℕ → Limits). greatest (map (λ v. rounds_for (l v) v (trips a)) (range_with_len 0 (length a.disks)))) all_limits
-      ∙ ap (λ n. greatest (map (λ v. rounds_for (limits_in b v) v (trips a)) (range_with_len 0 n))) disk_count
-      ∙ ap (λ (ts : List Trip). greatest (map (λ v. rounds_for (limits_in b v) v ts) (range_with_len 0 (length b.disks)))) trips_same
+  quotient_same : quotient (transfer_graph a) ≡ quotient (transfer_graph b)
+  quotient_same = ap (λ (l : ℕ → Limits). greatest (map (λ v. rounds_for (l v) v (transfers a)) (range_with_len 0 (length a.disks)))) all_limits
+      ∙ ap (λ n. greatest (map (λ v. rounds_for (limits_in b v) v (transfers a)) (range_with_len 0 n))) disk_count
+      ∙ ap (λ (ts : List Transfer). greatest (map (λ v. rounds_for (limits_in b v) v ts) (range_with_len 0 (length b.disks)))) transfers_same
 
-  class_same : class_of (transfers a) ≡ class_of (transfers b)
-  class_same = ap (λ (l : ℕ → Limits). class_from l (length a.disks) (trips a)) all_limits ∙ ap (λ n. class_from (limits_in b) n (trips a)) disk_count ∙ ap (λ (ts : List Trip). class_from (limits_in b) (length b.disks) ts) trips_same
+  class_same : class_of (transfer_graph a) ≡ class_of (transfer_graph b)
+  class_same = ap (λ (l : ℕ → Limits). class_from l (length a.disks) (transfers a)) all_limits ∙ ap (λ n. class_from (limits_in b) n (transfers a)) disk_count ∙ ap (λ (ts : List Transfer). class_from (limits_in b) (length b.disks) ts) transfers_same
 
-  load_same : (bound : Bound) → counted_load (transfers a) bound ≡ counted_load (transfers b) bound
+  load_same : (bound : Bound) → counted_load (transfer_graph a) bound ≡ counted_load (transfer_graph b) bound
   load_same Nothing = refl
-  load_same (OfDisk disk l x) = ap (load disk.0) trips_same
-  load_same (OfSide disk side l x) = ap (side_load side disk.0) trips_same
-  load_same (OfSet set i x) = ap (inside (numbers set)) trips_same
+  load_same (OfDisk disk l x) = ap (load disk.0) transfers_same
+  load_same (OfSide disk side l x) = ap (side_load side disk.0) transfers_same
+  load_same (OfSet set i x) = ap (inside (numbers set)) transfers_same
 
-  value_same : (bound : Bound) → counted_value (transfers a) bound ≡ counted_value (transfers b) bound
+  value_same : (bound : Bound) → counted_value (transfer_graph a) bound ≡ counted_value (transfer_graph b) bound
   value_same Nothing = refl
-  value_same (OfDisk disk l x) = ap (λ (m : Limits). rounds_for m disk.0 (trips a)) (limits_at disk.0) ∙ ap (rounds_for (limits_in b disk.0) disk.0) trips_same
-  value_same (OfSide disk side l x) = ap (λ (m : Limits). div_ceil (side_load side disk.0 (trips a)) (side_limit side m)) (limits_at disk.0) ∙ ap (λ (ts : List Trip). div_ceil (side_load side disk.0 ts) (side_limit side (limits_in b disk.0))) trips_same
-  value_same (OfSet set i x) = ap (λ (l : ℕ → Limits). set_from (numbers set) l (trips a)) all_limits ∙ ap (set_from (numbers set) (limits_in b)) trips_same
+  value_same (OfDisk disk l x) = ap (λ (m : Limits). rounds_for m disk.0 (transfers a)) (limits_at disk.0) ∙ ap (rounds_for (limits_in b disk.0) disk.0) transfers_same
+  value_same (OfSide disk side l x) = ap (λ (m : Limits). div_ceil (side_load side disk.0 (transfers a)) (side_limit side m)) (limits_at disk.0) ∙ ap (λ (ts : List Transfer). div_ceil (side_load side disk.0 ts) (side_limit side (limits_in b disk.0))) transfers_same
+  value_same (OfSet set i x) = ap (λ (l : ℕ → Limits). set_from (numbers set) l (transfers a)) all_limits ∙ ap (set_from (numbers set) (limits_in b)) transfers_same
 
   holds : (plan : List (List Shift)) (cert : Cert) → CertHolds a plan cert → CertHolds b plan cert
   holds plan cert h = record { rounds = h.rounds; quotient_is = h.quotient_is ∙ quotient_same; class = h.class ∙ class_same; bound = record { loads = h.bound.loads ∙ load_same cert.bound; values = h.bound.values ∙ value_same cert.bound } }
 
 -- and back
-module _ (a b : Lists) (alike : AreAlike a b) where
+module _ (a b : InputLists) (alike : AreAlike a b) where
   abbrev back : AreAlike b a
   back = record { disks = sym alike.disks; items = sym alike.items; spots = sym alike.spots; next = sym alike.next }
 
   needs : (n : ℕ) → Needs a n → Needs b n
   needs n h rounds round_of all obeys = h rounds round_of (subst (All (λ item. (1 ≤ round_of item) × (round_of item ≤ rounds))) (moves_same b a back) all)
-      (λ r lo hi. subst (KeepsLimits a.disks) (trips_in_same b a back round_of r) (kept b a back (trips_in b round_of r) (obeys r lo hi)))
+      (λ r lo hi. subst (KeepsLimits a.disks) (transfers_in_same b a back round_of r) (kept b a back (transfers_in b round_of r) (obeys r lo hi)))
 
   lacks : (l : Layout) (round : List Shift) (k : ℕ) → LacksSlot a l round k → LacksSlot b l round k
   lacks l round k h = ⊎_elim (λ none. inl (λ there. none (spot_there b a back (shift_at round k).to there))) (λ more. inr more) h
 
   over : (round : List Shift) (v count : ℕ) → IsOver a round v count → IsOver b round v count
-  over round v count h = subst (λ (l : Limits). IsOverLimit l v (map trip_of round) count) (limits_at a b alike v) h
+  over round v count h = subst (λ (l : Limits). IsOverLimit l v (map transfer_of round) count) (limits_at a b alike v) h
 
   elsewhere : (plan : List (List Shift)) (item : ℕ) → EndsElsewhere a plan item → EndsElsewhere b plan item
   elsewhere plan item h = (omega (arith, h.0, alike.items), λ there. h.1 (arrived b a back plan item there))
@@ -163,7 +163,7 @@ module _ (a b : Lists) (alike : AreAlike a b) where
   too_often plan item h = (omega (arith, h.0, alike.items), ⊎_elim (λ more. inl more) (λ some. inr (some.0, subst (λ t. ¬ IsTrue t) (relocated a b alike item) some.1)) h.1)
 
 -- what is so of one is so of the other
-module _ (a b : Lists) (alike : AreAlike a b) where
+module _ (a b : InputLists) (alike : AreAlike a b) where
   other : AreAlike b a
   other = record { disks = sym alike.disks; items = sym alike.items; spots = sym alike.spots; next = sym alike.next }
 
@@ -188,14 +188,14 @@ module _ (a b : Lists) (alike : AreAlike a b) where
   so plan cert Memory h = h
 
 -- and which fault is the first
-pub first_blame : (a b : Lists) → AreAlike a b → (plan : List (List Shift)) (cert : Cert) (blame : Blame) → FirstBlame a plan cert blame → FirstBlame b plan cert blame
+pub first_blame : (a b : InputLists) → AreAlike a b → (plan : List (List Shift)) (cert : Cert) (blame : Blame) → FirstBlame a plan cert blame → FirstBlame b plan cert blame
 first_blame a b alike plan cert blame h = record { so = so a b alike plan cert blame h.so; first = λ c d. h.first c (so b a (other a b alike) plan cert c d) }
 
-pub no_fault : (a b : Lists) → AreAlike a b → (plan : List (List Shift)) (cert : Cert) → HasNoFault a plan cert → HasNoFault b plan cert
+pub no_fault : (a b : InputLists) → AreAlike a b → (plan : List (List Shift)) (cert : Cert) → HasNoFault a plan cert → HasNoFault b plan cert
 no_fault a b alike plan cert h = record { runs = runs a b alike plan h.runs; once = once a b alike plan h.once; holds = holds a b alike plan cert h.holds; needs = needs a b alike (bound_value cert.bound) h.needs }
 
 -- any input that numbers stand for is like the one whose names are made
-pub alike_by : (split : Bool) (disks : List DiskNumbers) (items : List ItemNumbers) (input : Lists) → StandFor split disks items input → AreAlike (input_of split disks items) input
+pub alike_by : (split : Bool) (disks : List DiskNumbers) (items : List ItemNumbers) (input : InputLists) → StandFor split disks items input → AreAlike (input_of split disks items) input
 alike_by split disks items input s =
     let by : ℕ → Limits × ℕ = λ k. shape_by split (get_or disks k no_numbers) in
     let none : Limits × ℕ = shape no_disk in

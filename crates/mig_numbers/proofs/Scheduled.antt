@@ -1,6 +1,6 @@
 -- The rounds that pairs are given are a schedule that keeps each limit.
 use Rattle.mig_base.proofs.Common.{All, Bool, IsSchedule, List, Obeys, [], ap, arith, cases_lt, cond, count_by, eq-eqb, false, filter, filter_passes, get_or, get_or-le-sum_by, get_or-map-range_with_len, inl, inr, is_of, is_relocated, length, length-map-range_with_len}
-use Rattle.mig_base.proofs.Common.{list_any, map, moves, position_or_len, range_with_len, refl, round_at, round_of, shift_count, subst, suc, sum_by-cons, sym, trip, true, zero, ℕ, ◌+◌, ◌<◌, ◌==◌, ◌||◌, ◌∙◌, ◌∷◌, ◌≡◌, ◌≢◌, ◌≤◌}
+use Rattle.mig_base.proofs.Common.{list_any, map, moves, position_or_len, range_with_len, refl, round_at, round_of, shift_count, subst, suc, sum_by-cons, sym, transfer, true, zero, ℕ, ◌+◌, ◌<◌, ◌==◌, ◌||◌, ◌∙◌, ◌∷◌, ◌≡◌, ◌≢◌, ◌≤◌}
 use Rattle.mig_base.proofs.Scheduled.{IsShiftedAt, moves_there, obeys, scheduled, shifted_first}
 use Rattle.mig_base.specs.Schedules.{Needs}
 use Rattle.mig_base.specs.Transfers.{KeepsLimits}
@@ -102,7 +102,7 @@ module _ (split : Bool) (limits : List LimitNumbers) (pairs : List PairNumbers) 
         takes = subst (λ n. IsSchedule input n (round_for rounds)) (sym count) (λ k d lt.
             subst (λ r. (1 ≤ r) × (r ≤ length plan)) (same k d lt) (all k d lt));
         obeys = subst (λ n. Obeys input n (round_for rounds)) (sym count) (λ r least most.
-            subst (λ ms. KeepsLimits input.disks (map (trip input) ms)) (filter_alike (round_of plan) (round_for rounds) r (moves input) same) (obeys input plan valid made.planned.runs once r least most));
+            subst (λ ms. KeepsLimits input.disks (map (transfer input) ms)) (filter_alike (round_of plan) (round_for rounds) r (moves input) same) (obeys input plan valid made.planned.runs once r least most));
         rests = λ i lt ends.
             let item = get_or-map-range_with_len (item_for pairs) 0 (length pairs) i i no_item lt (omega arith) in
             let none : shift_count plan i ≡ 0 = once_shift split (disks_for limits) items plan made.planned i (omega (arith, lt, items_len)) ∙ ap rows_for item ∙ ap (λ b. cond b 0 1) (eq-eqb (get_or pairs i no_pair).from (get_or pairs i no_pair).to ends) in

@@ -1,5 +1,5 @@
 -- A schedule is refused for neither slots nor room: each pair has a slot of its own, and there is one for each.
-use Rattle.mig_base.proofs.Common.{Bool, List, Lists, ap, arith, get_or, get_or-map-range_with_len, get_or-take, inl, inr, length, length-map-range_with_len, map, nat_tests, no_disk, range_with_len, refl, source, subst, suc, sym, take, target, zero, ℕ, ◌+◌, ◌<◌, ◌∙◌, ◌≡◌, ◌≤◌, ⊎_elim}
+use Rattle.mig_base.proofs.Common.{Bool, List, InputLists, ap, arith, get_or, get_or-map-range_with_len, get_or-take, inl, inr, length, length-map-range_with_len, map, nat_tests, no_disk, range_with_len, refl, source, subst, suc, sym, take, target, zero, ℕ, ◌+◌, ◌<◌, ◌∙◌, ◌≡◌, ◌≤◌, ⊎_elim}
 use Rattle.mig_base.specs.InputLists.{disk_at}
 use Rattle.mig_base.specs.declared.ids.DiskId.{DiskId}
 use Rattle.mig_base.specs.declared.ids.Spot.{Spot}
@@ -9,25 +9,25 @@ use Rattle.mig_csv.proofs.Needs.{left_over, left_over-end, left_over-next, left_
 use Rattle.mig_csv.specs.Lists.{slots_for}
 use Rattle.mig_gen.specs.MadeCases.{made_item}
 use Rattle.mig_numbers.specs.Numbers.{disk_in, input_of, no_item, no_numbers, spot_of}
-use Rattle.mig_numbers.specs.Refusals.{AreFew, IsDiskFault, IsFirstItemFault, IsRefusal, IsRoomFault, IsSizeFault, refused_of}
+use Rattle.mig_numbers.specs.Refusals.{AreFew, IsDiskFault, IsFirstItemFault, IsNumbersRefusal, IsRoomFault, IsSizeFault, refused_of}
 use Rattle.mig_numbers.specs.Rounds.{IsOfPairs, disk_for, disks_for, item_for, items_for}
 use Rattle.mig_numbers.specs.declared.numbers.DiskNumbers.{DiskNumbers}
 use Rattle.mig_numbers.specs.declared.numbers.ItemNumbers.{ItemNumbers}
 use Rattle.mig_numbers.specs.declared.numbers.LimitNumbers.{LimitNumbers}
 use Rattle.mig_numbers.specs.declared.numbers.PairNumbers.{PairNumbers}
-use Rattle.mig_numbers.specs.declared.numbers.Refusal.{Refusal}
-use Rattle.mig_numbers.specs.declared.numbers.Refusal.TheVariants.{Memory, NoRoom, OutOfRange, SlotTaken, SlotTooHigh, TooManyDisks, TooManyItems, UnknownDisk, UnknownNext}
+use Rattle.mig_numbers.specs.declared.numbers.NumbersRefusal.{NumbersRefusal}
+use Rattle.mig_numbers.specs.declared.numbers.NumbersRefusal.TheVariants.{Memory, NoRoom, OutOfRange, SlotTaken, SlotTooHigh, TooManyDisks, TooManyItems, UnknownDisk, UnknownNext}
 use Rattle.std.proofs.lemmas.List.{get_or-map, length-map, length-take}
 
 slots_le : (on to : DiskId) (v : ℕ) → slots_for on to v ≤ 1
 slots_le on to v = grind (arith, nat_tests)
 
 -- an item needs one slot at most, whatever the disk
-left_le : (input : Lists) (v m k : ℕ) → length input.spots ≡ length input.items → k + m ≡ length input.items → left_over input v k ≤ m
+left_le : (input : InputLists) (v m k : ℕ) → length input.spots ≡ length input.items → k + m ≡ length input.items → left_over input v k ≤ m
 left_le input v zero k len e = omega (arith, left_over-end input v k (omega (arith, e)) len)
 left_le input v (suc m) k len e = omega (arith, left_over-next input v k (omega (arith, e)) len, slots_le (record { 0 = source input k }) (record { 0 = target input k }) v, left_le input v m (k + 1) len (omega (arith, e)))
 
-abbrev IsOther : Refusal → Type 0
+abbrev IsOther : NumbersRefusal → Type 0
 IsOther Memory = ⊥
 IsOther _ = ◌≡◌ {A = ℕ} 0 0
 
@@ -75,12 +75,12 @@ module _ (split : Bool) (limits : List LimitNumbers) (pairs : List PairNumbers) 
       omega (arith, r.1, r.2, r.3, has, left_over-start input k, left_le input k (length items) 0 spots (omega (arith, names)), few.few_items)
 
   -- a cause other than want of memory has one of four grounds
-  first_of_items : (why : Refusal) → IsOther why → (IsSizeFault disks items why → ⊥) → (IsDiskFault split disks why → ⊥) → (AreFew disks items → IsFirstItemFault disks items why → ⊥)
-      → (AreFew disks items → IsRoomFault (input_of split disks items) why → ⊥) → IsRefusal split disks items why → ⊥
+  first_of_items : (why : NumbersRefusal) → IsOther why → (IsSizeFault disks items why → ⊥) → (IsDiskFault split disks why → ⊥) → (AreFew disks items → IsFirstItemFault disks items why → ⊥)
+      → (AreFew disks items → IsRoomFault (input_of split disks items) why → ⊥) → IsNumbersRefusal split disks items why → ⊥
   first_of_items why o size disk item room h =
       ⊎_elim (λ u. ⊎_elim (λ m. subst IsOther m o) (λ a. ⊎_elim size (λ b. ⊎_elim (λ d. disk d.1) (λ f. item f.0 f.2) b) a) u) (λ r. room r.0.0 r.1) h
 
-  pub slotless : (why : Refusal) → IsRefusal split disks items why → IsOfPairs (refused_of why).cause
+  pub slotless : (why : NumbersRefusal) → IsNumbersRefusal split disks items why → IsOfPairs (refused_of why).cause
   slotless TooManyDisks h = inl (omega arith)
   slotless TooManyItems h = inl (omega arith)
   slotless (OutOfRange k) h = inl (omega arith)

@@ -2,7 +2,7 @@
 use Rattle.mig_base.proofs.Common.{All, All-filter, All-map, Bool, List, [], ap, append-nil, arith, cases_eq, cases_lt, cond, count_by-le-length, false, fill_by_all, filter, filter-append, get_or, get_or-set_other, get_or-set_same, inl, inr}
 use Rattle.mig_base.proofs.Common.{get_or_default, ⊎_elim, ◌-◌, ◌⊎◌}
 use Rattle.mig_base.proofs.Common.{length, length-map, length-map-range_with_len, length-set, map, map-append, nat_tests, range_with_len, set, suc, sym, take, take_all, true, zero, ℕ, ◌++◌, ◌+◌, ◌<◌, ◌==◌, ◌∙◌, ◌∷◌, ◌≡◌, ◌≤◌}
-use Rattle.mig_base.specs.InputLists.{Lists}
+use Rattle.mig_base.specs.InputLists.{InputLists}
 use Rattle.mig_base.specs.Running.{PlanFits, ShiftFits}
 use Rattle.mig_base.specs.declared.ids.Shift.{Shift}
 use Rattle.mig_base.specs.declared.limits.TheConstants.{MAX_ROUNDS, MAX_SHIFTS}
@@ -12,7 +12,7 @@ use Rattle.mig_numbers.specs.Handed.{is_in_round}
 use Rattle.mig_numbers.specs.Judged.{AreRowsSound, IsRowSound, plan_by, shift_by, shifts_in}
 use Rattle.mig_numbers.specs.Numbers.{disk_in, input_of, no_item, no_numbers}
 use Rattle.mig_numbers.specs.Refusals.{AreSound}
-use Rattle.mig_numbers.specs.Spelled.{AreSorted, shifts_of}
+use Rattle.mig_numbers.specs.Spelled.{AreSorted, round_shifts}
 use Rattle.mig_numbers.specs.declared.numbers.DiskNumbers.{DiskNumbers}
 use Rattle.mig_numbers.specs.declared.numbers.ItemNumbers.{ItemNumbers}
 use Rattle.mig_numbers.specs.declared.numbers.ShiftNumbers.{ShiftNumbers}
@@ -58,12 +58,12 @@ module _ (items : List ItemNumbers) (rows : List ShiftNumbers) (n : ℕ) (row : 
   }
 
 -- the rounds that all rows are sorted into are the plan's
-pub sorted_is : (items : List ItemNumbers) (rows : List ShiftNumbers) (rounds : ℕ) (made : List (Vec Shift Global)) → AreSorted items rows rounds (length rows) made → map shifts_of made ≡ plan_by items rows rounds
+pub sorted_is : (items : List ItemNumbers) (rows : List ShiftNumbers) (rounds : ℕ) (made : List (Vec Shift Global)) → AreSorted items rows rounds (length rows) made → map round_shifts made ≡ plan_by items rows rounds
 sorted_is items rows rounds made sorted =
-    fill_by_all (shifts_in items rows) (map shifts_of made) rounds [] (length-map made shifts_of ∙ sorted.len) (λ k h. at made k (omega (arith, h, sorted.len))
+    fill_by_all (shifts_in items rows) (map round_shifts made) rounds [] (length-map made round_shifts ∙ sorted.len) (λ k h. at made k (omega (arith, h, sorted.len))
     (λ d. sorted.each k d h ∙ ap (λ (rs : List ShiftNumbers). shifts_in items rs k) (take_all (length rows) rows (omega arith))))
   where
-    at : (made : List (Vec Shift Global)) (k : ℕ) {r : List Shift} → k < length made → ((d : Vec Shift Global) → (get_or made k d).items ≡ r) → get_or (map shifts_of made) k [] ≡ r
+    at : (made : List (Vec Shift Global)) (k : ℕ) {r : List Shift} → k < length made → ((d : Vec Shift Global) → (get_or made k d).items ≡ r) → get_or (map round_shifts made) k [] ≡ r
     at [] k lt h = absurd (omega (arith, lt))
     at (v ∷ made) zero lt h = h v
     at (v ∷ made) (suc k) lt h = at made k (omega (arith, lt)) h
@@ -71,7 +71,7 @@ sorted_is items rows rounds made sorted =
 -- a plan of sound rows fits the input
 module _ (split : Bool) (disks : List DiskNumbers) (items : List ItemNumbers) (rows : List ShiftNumbers) (rounds : ℕ) (few : rounds ≤ MAX_ROUNDS)
     (sound : AreSound split disks items) (rows_sound : AreRowsSound disks items rounds rows (length rows)) where
-  abbrev pub input : Lists
+  abbrev pub input : InputLists
   input = input_of split disks items
 
   row_fits : (row : ShiftNumbers) (k : ℕ) → IsRowSound disks items rounds k row → ShiftFits input (shift_by items row)

@@ -7,7 +7,7 @@ use Rattle.mig_base.specs.Transfers.{moves}
 use Rattle.mig_base.specs.declared.ids.Shift.{Shift}
 use Rattle.mig_gen.specs.MadeCases.{made_item}
 use Rattle.mig_numbers.proofs.Counts.{all_count, all_len, relocated_by}
-use Rattle.mig_numbers.specs.Handed.{IsHanded, is_row_of, rows_for, rows_of}
+use Rattle.mig_numbers.specs.Handed.{IsHanded, is_row_of, plan_rows, rows_for}
 use Rattle.mig_numbers.specs.Numbers.{input_of, no_item}
 use Rattle.mig_numbers.specs.Refusals.{AreThere}
 use Rattle.mig_numbers.specs.Tight.{HandsTight}
@@ -34,15 +34,15 @@ module _ (split : Bool) (disks : List DiskNumbers) (items : List ItemNumbers) (p
   items_len = length-map-range_with_len made_item 0 (length items)
 
   counts : (i : ℕ) → i < length items
-      → (rows_for (get_or items i no_item) ≤ count_by (is_row_of i) (rows_of plan))
-      × (count_by (is_row_of i) (rows_of plan) ≤ 2 * rows_for (get_or items i no_item))
+      → (rows_for (get_or items i no_item) ≤ count_by (is_row_of i) (plan_rows plan))
+      × (count_by (is_row_of i) (plan_rows plan) ≤ 2 * rows_for (get_or items i no_item))
   counts i lt =
       let there : i < length (input_of split disks items).items = omega (arith, lt, items_len) in
       let b = between (is_relocated (input_of split disks items) i) (shift_count plan i) (made.relocated i there) (made.others i there) in
       let by = relocated_by split disks items i lt in
       (omega (arith, all_count plan i, b.0, by), omega (arith, all_count plan i, b.1, by))
 
-  pub hands_tight : AreThere split disks items → (old shifts : List ShiftNumbers) (count : ℕ) → IsHanded (rows_of plan) old shifts count
+  pub hands_tight : AreThere split disks items → (old shifts : List ShiftNumbers) (count : ℕ) → IsHanded (plan_rows plan) old shifts count
       → HandsTight split disks items old shifts count
   hands_tight there old shifts count handed =
       let input = input_of split disks items in

@@ -2,7 +2,7 @@
 use Rattle.std.specs.Prelude.{Bool, List, length, ℕ, ◌<◌, ◌≡◌, ◌≤◌, ◌⊎◌}
 use Rattle.mig_base.specs.DiskNumbers.{numbers}
 use Rattle.mig_base.specs.Draining.{AreDealt, AreFewest, Empties, NeedsToEmpty, PlansHave, free_elsewhere, places, with_next}
-use Rattle.mig_base.specs.InputLists.{Lists}
+use Rattle.mig_base.specs.InputLists.{InputLists}
 use Rattle.mig_base.specs.Targets.{present}
 use Rattle.mig_base.specs.declared.ids.DiskId.{DiskId}
 use Rattle.mig_drain.specs.Showing.{IsShown}
@@ -19,7 +19,7 @@ use Rattle.mig_numbers.specs.declared.numbers.Unmade.{Unmade}
 use Rattle.mig_numbers.specs.declared.numbers.Unmade.TheVariants.{Impossible, Unfit}
 
 -- These next disks empty the disk. Each plan for them has so many rounds, and no next disks that empty it need fewer, which this shows
-pub record IsDrain (input : Lists) (v : ℕ) (next : List DiskId) (rounds : ℕ) (shown : Shown) : Type 0 where
+pub record IsDrain (input : InputLists) (v : ℕ) (next : List DiskId) (rounds : ℕ) (shown : Shown) : Type 0 where
   pub empties : Empties input v next
   pub planned : PlansHave (with_next input next) rounds
   pub needed : NeedsToEmpty input v rounds
@@ -45,7 +45,7 @@ pub record HandsDrain (split : Bool) (disks : List DiskNumbers) (items : List It
   pub drained_is : drained ≡ drain_of rounds shown
 
 -- the disk isn't there (4), or has more items than the others have free slots, with both numbers (8)
-abbrev pub CantDrain : Lists → ℕ → Refused → Type 0
+abbrev pub CantDrain : InputLists → ℕ → Refused → Type 0
 CantDrain input v refused = (refused.place ≡ v) × (((refused.cause ≡ 4) × (length input.disks ≤ v))
     ⊎ ((refused.cause ≡ 8) × (refused.needs ≡ present input v) × (refused.has ≡ free_elsewhere input v) × (refused.has < refused.needs)))
 

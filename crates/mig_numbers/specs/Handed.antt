@@ -6,7 +6,7 @@ use Rattle.mig_base.specs.DiskNumbers.{numbers}
 use Rattle.mig_base.specs.Layouts.{round_at}
 use Rattle.mig_base.specs.Schedules.{Needs}
 use Rattle.mig_base.specs.Targets.{IsLowestFree}
-use Rattle.mig_base.specs.Transfers.{KeepsLimit, Trip}
+use Rattle.mig_base.specs.Transfers.{KeepsLimit, Transfer}
 use Rattle.mig_base.specs.declared.certs.Bound.{Bound}
 use Rattle.mig_base.specs.declared.certs.Bound.TheVariants.{Nothing, OfDisk, OfSet, OfSide}
 use Rattle.mig_base.specs.declared.certs.Cert.{Cert}
@@ -32,8 +32,8 @@ row_of round s = record { item = s.item.0; to_disk = s.to.disk.0; to_slot = s.to
 abbrev pub rows_upto : List (List Shift) → ℕ → List ShiftNumbers
 rows_upto plan n = flat_map (λ k. map (row_of (k + 1)) (round_at plan (suc k))) (range_with_len 0 n)
 
-abbrev pub rows_of : List (List Shift) → List ShiftNumbers
-rows_of plan = rows_upto plan (length plan)
+abbrev pub plan_rows : List (List Shift) → List ShiftNumbers
+plan_rows plan = rows_upto plan (length plan)
 
 -- What is promised of rows
 
@@ -52,8 +52,8 @@ abbrev pub rows_for : ItemNumbers → ℕ
 rows_for item = if item.disk == item.next_disk then 0 else 1
 
 -- the transfer that a row is, and the spot that it goes to
-abbrev pub row_trip : List ItemNumbers → ShiftNumbers → Trip
-row_trip items row = record { leaves = (slice_index_or items row.item no_item).disk; reaches = row.to_disk }
+abbrev pub row_transfer : List ItemNumbers → ShiftNumbers → Transfer
+row_transfer items row = record { leaves = (slice_index_or items row.item no_item).disk; reaches = row.to_disk }
 
 abbrev pub row_spot : ShiftNumbers → Spot
 row_spot row = record { disk = record { 0 = row.to_disk }; slot = row.to_slot }
@@ -69,7 +69,7 @@ pub record IsRow (items : List ItemNumbers) (rows : List ShiftNumbers) (rounds :
 pub record AreRows (split : Bool) (disks : List DiskNumbers) (items : List ItemNumbers) (rows : List ShiftNumbers) (rounds : ℕ) : Type 0 where
   pub each : All (IsRow items rows rounds) rows
   pub once : (i : ℕ) → i < length items → count_by (is_row_of i) rows ≡ rows_for (slice_index_or items i no_item)
-  pub limits : (r v : ℕ) → 1 ≤ r → r ≤ rounds → v < length disks → KeepsLimit (limits_of split (slice_index_or disks v no_numbers)) v (map (row_trip items) (filter (is_in_round r) rows))
+  pub limits : (r v : ℕ) → 1 ≤ r → r ≤ rounds → v < length disks → KeepsLimit (limits_of split (slice_index_or disks v no_numbers)) v (map (row_transfer items) (filter (is_in_round r) rows))
 
 -- What is found
 
@@ -100,7 +100,7 @@ pub record IsPlanned (split : Bool) (disks : List DiskNumbers) (items : List Ite
   pub rounds : List (List Shift)
   pub certificate : Cert
   pub certified : IsCertified (input_of split disks items) rounds certificate
-  pub rows_are : rows ≡ rows_of rounds
+  pub rows_are : rows ≡ plan_rows rounds
   pub set_is : set ≡ set_in certificate.bound
   pub found_is : found ≡ found_of certificate
   pub keeps : AreRows split disks items rows found.rounds

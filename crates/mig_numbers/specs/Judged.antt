@@ -3,7 +3,7 @@ use Rattle.std.specs.Prelude.{AllPairs, Bool, List, filter, if◌then◌else◌,
 use Rattle.std.specs.List.{range_with_len}
 use Rattle.mig_base.specs.Bounding.{bound_value}
 use Rattle.mig_base.specs.Certificates.{CertFits, CertHolds}
-use Rattle.mig_base.specs.InputLists.{Lists}
+use Rattle.mig_base.specs.InputLists.{InputLists}
 use Rattle.mig_base.specs.Judging.{FirstBlame}
 use Rattle.mig_base.specs.Running.{Once, Runs}
 use Rattle.mig_base.specs.Schedules.{Needs}
@@ -56,7 +56,7 @@ abbrev pub AreRowsSound : List DiskNumbers → List ItemNumbers → ℕ → List
 AreRowsSound disks items rounds rows n = (k : ℕ) (d : ShiftNumbers) → k < n → IsRowSound disks items rounds k (slice_index_or rows k d)
 
 -- the first row for which that isn't so
-pub record IsRowFault (disks : List DiskNumbers) (items : List ItemNumbers) (rounds : ℕ) (rows : List ShiftNumbers) (k : ℕ) : Type 0 where
+pub record IsFirstWrongRow (disks : List DiskNumbers) (items : List ItemNumbers) (rounds : ℕ) (rows : List ShiftNumbers) (k : ℕ) : Type 0 where
   pub within : k < length rows
   pub unsound : (d : ShiftNumbers) → ¬ IsRowSound disks items rounds k (slice_index_or rows k d)
   pub before : AreRowsSound disks items rounds rows k
@@ -80,7 +80,7 @@ abbrev pub cert_by : Found → List ℕ → Cert
 cert_by found set = record { rounds = found.rounds; quotient = found.quotient; class = class_by found.class; bound = bound_by found set }
 
 -- the numbers are those of this certificate, which fits the input; a set has each disk once, in the order of their numbers
-pub record IsFoundSound (input : Lists) (set : List ℕ) (found : Found) : Type 0 where
+pub record IsFoundSound (input : InputLists) (set : List ℕ) (found : Found) : Type 0 where
   pub few : found.rounds ≤ MAX_ROUNDS
   pub increasing : AllPairs (λ v w. v < w) set
   pub same : found ≡ found_of (cert_by found set)
@@ -124,34 +124,35 @@ abbrev pub shape_by : Bool → DiskNumbers → Limits × ℕ
 shape_by split d = (limits_of split d, d.slots)
 
 -- the numbers stand for the input, whatever its disks and its items are called
-pub record StandFor (split : Bool) (disks : List DiskNumbers) (items : List ItemNumbers) (input : Lists) : Type 0 where
+pub record StandFor (split : Bool) (disks : List DiskNumbers) (items : List ItemNumbers) (input : InputLists) : Type 0 where
   pub disks_are : map shape input.disks ≡ map (shape_by split) disks
   pub items_are : length input.items ≡ length items
   pub spots_are : input.spots ≡ map spot_of items
   pub next_are : input.next ≡ map next_of items
 
 -- the plan runs and moves each relocated item once, the certificate holds, and every schedule needs as many rounds as its bound says
-pub record HasNoFault (input : Lists) (plan : List (List Shift)) (cert : Cert) : Type 0 where
+pub record HasNoFault (input : InputLists) (plan : List (List Shift)) (cert : Cert) : Type 0 where
   pub runs : Runs input plan
   pub once : Once input plan
   pub holds : CertHolds input plan cert
   pub needs : Needs input (bound_value cert.bound)
 
 -- nothing is wrong, whatever the names
-pub record IsRight (split : Bool) (disks : List DiskNumbers) (items : List ItemNumbers) (rows : List ShiftNumbers) (set : List ℕ) (found : Found) (judged : Judged) : Type 0 where
+pub record AreRightNumbers (split : Bool) (disks : List DiskNumbers) (items : List ItemNumbers) (rows : List ShiftNumbers) (set : List ℕ) (found : Found) (judged : Judged) : Type 0 where
   pub spelled : AreSpelled split disks items rows set found
-  pub faultless : (input : Lists) → StandFor split disks items input → HasNoFault input (plan_by items rows found.rounds) (cert_by found set)
+  pub faultless : (input : InputLists) → StandFor split disks items input → HasNoFault input (plan_by items rows found.rounds) (cert_by found set)
   pub says : judged ≡ right found
 
 -- this is the first thing that is wrong with the plan, or with what was found, whatever the names
 pub record IsBlamed (split : Bool) (disks : List DiskNumbers) (items : List ItemNumbers) (rows : List ShiftNumbers) (set : List ℕ) (found : Found) (judged : Judged) : Type 0 where
   pub spelled : AreSpelled split disks items rows set found
   pub blame : Blame
-  pub first : (input : Lists) → StandFor split disks items input → FirstBlame input (plan_by items rows found.rounds) (cert_by found set) blame
+  pub first : (input : InputLists) → StandFor split disks items input → FirstBlame input (plan_by items rows found.rounds) (cert_by found set) blame
   pub says : judged ≡ blame_by blame
 
 -- what was found is of no certificate, or else the first row that is of no plan is this one
 abbrev pub IsUnspelled : Bool → List DiskNumbers → List ItemNumbers → List ShiftNumbers → List ℕ → Found → Judged → Type 0
 IsUnspelled split disks items rows set found judged = AreSound split disks items
     × (((¬ IsFoundSound (input_of split disks items) set found) × (judged ≡ says 15 0 0 0 0))
-    ⊎ (IsFoundSound (input_of split disks items) set found × ((k : ℕ) × IsRowFault disks items found.rounds rows k × (judged ≡ says 14 0 k 0 0))))
+    ⊎ (IsFoundSound (input_of split disks items) set found
+    × ((k : ℕ) × IsFirstWrongRow disks items found.rounds rows k × (judged ≡ says 14 0 k 0 0))))

@@ -2,7 +2,7 @@
 use Rattle.std.specs.Prelude.{Bool, List, length, map, slice_index_or, codes, ℕ, ◌++◌, true, false}
 use Rattle.std.specs.Fmt.{decimal}
 use Rattle.std.specs.List.{range_with_len}
-use Rattle.mig_base.specs.InputLists.{Lists}
+use Rattle.mig_base.specs.InputLists.{InputLists}
 use Rattle.mig_base.specs.declared.ids.DiskId.{DiskId}
 use Rattle.mig_base.specs.declared.ids.Spot.{Spot}
 use Rattle.mig_base.specs.declared.inputs.Disk.{Disk}
@@ -39,7 +39,7 @@ abbrev pub disk_in : Bool → List DiskNumbers → ℕ → Disk
 disk_in split disks k = disk_by split (slice_index_or disks k no_numbers) k
 
 -- the input: each disk has its limits and its slots, each item its spot and its next disk, at their places
-abbrev pub input_of : Bool → List DiskNumbers → List ItemNumbers → Lists
+abbrev pub input_of : Bool → List DiskNumbers → List ItemNumbers → InputLists
 input_of split disks items = record {
   disks = map (disk_in split disks) (range_with_len 0 (length disks));
   items = map made_item (range_with_len 0 (length items));

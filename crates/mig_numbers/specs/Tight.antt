@@ -1,10 +1,10 @@
 -- Plans for tight space, in rows.
 use Rattle.std.specs.Prelude.{Bool, List, count_by, length, slice_index_or, ℕ, ◌*◌, ◌+◌, ◌<◌, ◌≡◌, ◌≤◌, ◌⊎◌}
-use Rattle.mig_base.specs.InputLists.{Lists}
+use Rattle.mig_base.specs.InputLists.{InputLists}
 use Rattle.mig_base.specs.TightPlans.{Fits, HasFreeSlot, HasMove, HasNoPlan, IsTightPlan, parked}
 use Rattle.mig_base.specs.Transfers.{moves}
 use Rattle.mig_base.specs.declared.ids.Shift.{Shift}
-use Rattle.mig_numbers.specs.Handed.{IsHanded, is_row_of, rows_for, rows_of}
+use Rattle.mig_numbers.specs.Handed.{IsHanded, is_row_of, plan_rows, rows_for}
 use Rattle.mig_numbers.specs.Numbers.{input_of, no_item}
 use Rattle.mig_numbers.specs.Refusals.{AreThere, IsUnfit}
 use Rattle.mig_numbers.specs.declared.numbers.DiskNumbers.{DiskNumbers}
@@ -21,16 +21,16 @@ pub record HandsTight (split : Bool) (disks : List DiskNumbers) (items : List It
   pub there : AreThere split disks items
   pub rounds : List (List Shift)
   pub made : IsTightPlan (input_of split disks items) rounds
-  pub in_shifts : IsHanded (rows_of rounds) old shifts count
+  pub in_shifts : IsHanded (plan_rows rounds) old shifts count
   pub single : count ≡ length rounds
   pub parks : count ≡ length (moves (input_of split disks items)) + parked (input_of split disks items) rounds
-  pub least : (i : ℕ) → i < length items → rows_for (slice_index_or items i no_item) ≤ count_by (is_row_of i) (rows_of rounds)
-  pub most : (i : ℕ) → i < length items → count_by (is_row_of i) (rows_of rounds) ≤ 2 * rows_for (slice_index_or items i no_item)
+  pub least : (i : ℕ) → i < length items → rows_for (slice_index_or items i no_item) ≤ count_by (is_row_of i) (plan_rows rounds)
+  pub most : (i : ℕ) → i < length items → count_by (is_row_of i) (plan_rows rounds) ≤ 2 * rows_for (slice_index_or items i no_item)
   pub few : count ≤ 2 * length items
 
 -- No plan at all can be carried out: this is the first disk that is the next disk of more items than it has slots, with both numbers (9); or no slot
 -- is free, and some item is to go to another disk (10)
-abbrev pub IsNoPlan : Lists → Refused → Type 0
+abbrev pub IsNoPlan : InputLists → Refused → Type 0
 IsNoPlan input refused = HasNoPlan input × (((refused.cause ≡ 9) × IsFirstOverfull input refused.place refused.needs refused.has)
     ⊎ ((refused.cause ≡ 10) × Fits input × HasMove input × ¬ HasFreeSlot input))
 

@@ -1,10 +1,12 @@
 //! Checks over numbers.
 ghost use Rattle.std.specs.Prelude.{◌≡◌, ◌⊎◌, IfErr, IfOk};
-ghost use Rattle.mig_numbers.specs.Judged.{IsBlamed, IsRight, IsUnspelled, blame_by, right, says};
+ghost use Rattle.mig_numbers.specs.Judged.{AreRightNumbers, IsBlamed, IsUnspelled, blame_by, right, says};
 ghost use Rattle.mig_numbers.specs.Refusals.{Refuses};
-ghost use Rattle.mig_numbers.specs.Spelled.{IsFault};
+ghost use Rattle.mig_numbers.specs.Spelled.{IsCheckFault};
 
-use crate::numbers::{DiskNumbers, Found, ItemNumbers, Judged, Refusal, Refused, ShiftNumbers};
+use crate::numbers::{
+    DiskNumbers, Found, ItemNumbers, Judged, NumbersRefusal, Refused, ShiftNumbers,
+};
 use crate::reading::read_numbers;
 use crate::spelling::{read_found, read_rows, row_fault};
 use crate::writing::refused_in;
@@ -48,9 +50,9 @@ fn blame_by(blame: Blame) -> Judged
 
 /// Why a plan isn't right.
 #[derive(Clone, Copy, Drop)]
-enum Fault {
+enum CheckFault {
     /// The numbers stand for no input, or memory is wanting.
-    Refused(Refusal),
+    Refused(NumbersRefusal),
     /// They spell no plan with a certificate.
     Unspelled(Judged),
     /// The plan or what was found is wrong.
@@ -66,29 +68,29 @@ fn judged(
     rows: &[ShiftNumbers],
     set: &[u32],
     found: Found,
-) -> Result<Judged, Fault>
-    ensures right { IfOk result (IsRight split disks.now items.now rows.now set.now found) }
-    ensures fault { IfErr result (IsFault split disks.now items.now rows.now set.now found) }
+) -> Result<Judged, CheckFault>
+    ensures right { IfOk result (AreRightNumbers split disks.now items.now rows.now set.now found) }
+    ensures fault { IfErr result (IsCheckFault split disks.now items.now rows.now set.now found) }
 {
     let input = match read_numbers(alloc, split, disks, items) {
         Ok(input) => input,
-        Err(why) => return Err(Fault::Refused(why)),
+        Err(why) => return Err(CheckFault::Refused(why)),
     };
     let cert = match read_found(alloc, &input, set, found) {
         Ok(Some(cert)) => cert,
-        Ok(None) => return Err(Fault::Unspelled(says(15, 0, 0, 0, 0))),
-        Err(_) => return Err(Fault::Refused(Refusal::Memory)),
+        Ok(None) => return Err(CheckFault::Unspelled(says(15, 0, 0, 0, 0))),
+        Err(_) => return Err(CheckFault::Refused(NumbersRefusal::Memory)),
     };
     if let Some(row) = row_fault(disks, items, found.rounds, rows) {
-        return Err(Fault::Unspelled(says(14, 0, row, 0, 0)));
+        return Err(CheckFault::Unspelled(says(14, 0, row, 0, 0)));
     }
     let Ok(plan) = read_rows(alloc, disks, items, found.rounds, rows) else {
-        return Err(Fault::Refused(Refusal::Memory));
+        return Err(CheckFault::Refused(NumbersRefusal::Memory));
     };
     match judge(alloc, &input, &plan, &cert) {
         Ok(_) => Ok(right(found)),
-        Err(Blame::Memory) => Err(Fault::Refused(Refusal::Memory)),
-        Err(blame) => Err(Fault::Blamed(blame_by(blame))),
+        Err(Blame::Memory) => Err(CheckFault::Refused(NumbersRefusal::Memory)),
+        Err(blame) => Err(CheckFault::Blamed(blame_by(blame))),
     }
 }
 
@@ -117,7 +119,7 @@ pub fn check_numbers(
     verdict: &mut Judged,
     refused: &mut Refused,
 ) -> u32
-    ensures right { result ≡ 0 → IsRight split disks.now items.now shifts.now set.now found.now verdict.new }
+    ensures right { result ≡ 0 → AreRightNumbers split disks.now items.now shifts.now set.now found.now verdict.new }
     ensures blamed { result ≡ 1 → IsBlamed split disks.now items.now shifts.now set.now found.now verdict.new }
     ensures refused { result ≡ 3 → Refuses split disks.now items.now refused.new }
     ensures unspelled { result ≡ 10 → IsUnspelled split disks.now items.now shifts.now set.now found.now verdict.new }
@@ -128,16 +130,16 @@ pub fn check_numbers(
             *verdict = right;
             0
         }
-        Err(Fault::Blamed(blame)) => {
+        Err(CheckFault::Blamed(blame)) => {
             *verdict = blame;
             1
         }
-        Err(Fault::Unspelled(what)) => {
+        Err(CheckFault::Unspelled(what)) => {
             *verdict = what;
             10
         }
-        Err(Fault::Refused(Refusal::Memory)) => 7,
-        Err(Fault::Refused(why)) => {
+        Err(CheckFault::Refused(NumbersRefusal::Memory)) => 7,
+        Err(CheckFault::Refused(why)) => {
             *refused = refused_in(why);
             3
         }

@@ -5,7 +5,7 @@ ghost use Rattle.mig_numbers.specs.Drains.{CantDrain, HandsDrain, IsUndrained, d
 ghost use Rattle.mig_numbers.specs.Numbers.{input_of};
 ghost use Rattle.mig_numbers.specs.Refusals.{AreThere, RefusesUnfit};
 
-use crate::numbers::{DiskNumbers, DrainNumbers, ItemNumbers, Refusal, Refused, Unmade};
+use crate::numbers::{DiskNumbers, DrainNumbers, ItemNumbers, NumbersRefusal, Refused, Unmade};
 use crate::reading::read_any;
 use crate::writing::{refusal, refused_in, write_ids};
 use mig_base::DiskId;
@@ -48,7 +48,7 @@ fn undrained(
             needs: items,
             has: free,
         }),
-        DrainError::Memory => Unmade::Unfit(Refusal::Memory),
+        DrainError::Memory => Unmade::Unfit(NumbersRefusal::Memory),
     }
 }
 
@@ -115,7 +115,7 @@ pub fn drain_numbers(
             *refused = why;
             14
         }
-        Err(Unmade::Unfit(Refusal::Memory)) => 7,
+        Err(Unmade::Unfit(NumbersRefusal::Memory)) => 7,
         Err(Unmade::Unfit(why)) => {
             *refused = refused_in(why);
             3

@@ -63,7 +63,7 @@ pub struct Judged {
 
 /// Why there is no plan.
 #[derive(Clone, Copy, Drop)]
-pub enum Refusal {
+pub enum NumbersRefusal {
     /// There are more disks than there may be.
     TooManyDisks,
     /// There are more items than there may be.
@@ -88,7 +88,7 @@ pub enum Refusal {
 #[derive(Clone, Copy, Drop)]
 pub(crate) enum Unmade {
     /// They stand for no input, or memory is wanting.
-    Unfit(Refusal),
+    Unfit(NumbersRefusal),
     /// They do, but it can't be done.
     Impossible(Refused),
 }

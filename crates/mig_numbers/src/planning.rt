@@ -3,9 +3,9 @@ ghost use Rattle.std.specs.Prelude.{◌≡◌, ◌≢◌, ◌⊎◌, ◌≤◌, 
 ghost use Rattle.mig_base.specs.Targets.{IsRoomy};
 ghost use Rattle.mig_best.specs.Certified.{IsCertified};
 ghost use Rattle.mig_numbers.specs.Handed.{HandsPlan};
-ghost use Rattle.mig_numbers.specs.Refusals.{IsRefusal, Refuses};
+ghost use Rattle.mig_numbers.specs.Refusals.{IsNumbersRefusal, Refuses};
 
-use crate::numbers::{DiskNumbers, Found, ItemNumbers, Refusal, Refused, ShiftNumbers};
+use crate::numbers::{DiskNumbers, Found, ItemNumbers, NumbersRefusal, Refused, ShiftNumbers};
 use crate::reading::read_numbers;
 use crate::writing::{found_in, refused_in, write_plan, write_set};
 use mig_base::Input;
@@ -24,7 +24,7 @@ pub(crate) fn plan_input(alloc: Global, input: &Input) -> Result<Certified, Allo
 
 /// How many shifts there are and disks of a bound's set, and what was found.
 #[derive(Clone, Copy)]
-struct Counted {
+struct PlanCounts {
     shifts: usize,
     set_disks: usize,
     found: Found,
@@ -38,9 +38,9 @@ fn plan_into(
     items: &[ItemNumbers],
     shifts: &mut [ShiftNumbers],
     set: &mut [u32],
-) -> Result<Counted, Refusal>
+) -> Result<PlanCounts, NumbersRefusal>
     ensures planned { IfOk result (λ done. HandsPlan split disks.now items.now shifts.old shifts.new done.shifts set.old set.new done.set_disks done.found) }
-    ensures refused { IfErr result (IsRefusal split disks.now items.now) }
+    ensures refused { IfErr result (IsNumbersRefusal split disks.now items.now) }
     ensures kept { IfErr result (λ _. (shifts.new ≡ shifts.old) × (set.new ≡ set.old)) }
 {
     let input = match read_numbers(alloc, split, disks, items) {
@@ -48,9 +48,9 @@ fn plan_into(
         Err(why) => return Err(why),
     };
     let Ok(made) = plan_input(alloc, &input) else {
-        return Err(Refusal::Memory);
+        return Err(NumbersRefusal::Memory);
     };
-    Ok(Counted {
+    Ok(PlanCounts {
         shifts: write_plan(shifts, &made.plan),
         set_disks: write_set(set, &made.cert.bound),
         found: found_in(&made.cert),
@@ -90,7 +90,7 @@ pub fn plan_numbers(
             *found = done.found;
             if done.shifts <= shifts.len() { 0 } else { 100 }
         }
-        Err(Refusal::Memory) => 7,
+        Err(NumbersRefusal::Memory) => 7,
         Err(why) => {
             *refused = refused_in(why);
             3

@@ -4,9 +4,9 @@ ghost use Rattle.std.specs.List.{range_with_len};
 ghost use Rattle.mig_base.specs.Targets.{IsRoomy};
 ghost use Rattle.mig_numbers.specs.Numbers.{disk_in, input_of, limits_of, next_of, spot_of};
 ghost use Rattle.mig_numbers.specs.Refusals.{AreDisksSound, AreFew, AreItemsSound, AreSound, AreThere, IsDiskFault, IsDiskSound, IsFirstItemFault, IsItemFault};
-ghost use Rattle.mig_numbers.specs.Refusals.{IsItemSound, IsRefusal, IsRoomFault, IsSizeFault, IsUnfit};
+ghost use Rattle.mig_numbers.specs.Refusals.{IsItemSound, IsNumbersRefusal, IsRoomFault, IsSizeFault, IsUnfit};
 
-use crate::numbers::{DiskNumbers, ItemNumbers, Refusal};
+use crate::numbers::{DiskNumbers, ItemNumbers, NumbersRefusal};
 use mig_base::{
     Disk, DiskId, Input, Limits, MAX_DISKS, MAX_ITEMS, MAX_LIMIT, MAX_SLOTS, Spot, Why,
 };
@@ -16,14 +16,14 @@ use mig_names::SpotTable;
 use std::alloc::{AllocError, Global};
 
 /// Whether there are too many disks or items.
-fn size_fault(disks: &[DiskNumbers], items: &[ItemNumbers]) -> Option<Refusal>
+fn size_fault(disks: &[DiskNumbers], items: &[ItemNumbers]) -> Option<NumbersRefusal>
     ensures { MatchOption result (AreFew disks.now items.now) (IsSizeFault disks.now items.now) }
 {
     if disks.len() > MAX_DISKS {
-        return Some(Refusal::TooManyDisks);
+        return Some(NumbersRefusal::TooManyDisks);
     }
     if items.len() > MAX_ITEMS {
-        return Some(Refusal::TooManyItems);
+        return Some(NumbersRefusal::TooManyItems);
     }
     None
 }
@@ -54,13 +54,13 @@ fn is_disk_sound(split: bool, disk: DiskNumbers) -> bool
 }
 
 /// The first disk whose numbers are out of range.
-fn disk_fault(split: bool, disks: &[DiskNumbers]) -> Option<Refusal>
+fn disk_fault(split: bool, disks: &[DiskNumbers]) -> Option<NumbersRefusal>
     requires { length disks.now ≤ MAX_DISKS }
     ensures { MatchOption result (AreDisksSound split disks.now (length disks.now)) (IsDiskFault split disks.now) }
 {
     for (k, disk) in disks.iter().enumerate() {
         if !is_disk_sound(split, *disk) {
-            return Some(Refusal::OutOfRange { disk: k as u32 });
+            return Some(NumbersRefusal::OutOfRange { disk: k as u32 });
         }
     }
     None
@@ -82,39 +82,43 @@ fn item_fault(
     taken: &SpotTable,
     item: ItemNumbers,
     place: u32,
-) -> Option<Refusal>
+) -> Option<NumbersRefusal>
     ensures { MatchOption result (IsItemSound disks.now taken.now item) (IsItemFault disks.now taken.now item place) }
 {
     if item.disk as usize >= disks.len() {
-        return Some(Refusal::UnknownDisk { item: place });
+        return Some(NumbersRefusal::UnknownDisk { item: place });
     }
     if item.slot >= disks[item.disk as usize].slots {
-        return Some(Refusal::SlotTooHigh { item: place });
+        return Some(NumbersRefusal::SlotTooHigh { item: place });
     }
     if taken.contains(&spot_of(item)) {
-        return Some(Refusal::SlotTaken { item: place });
+        return Some(NumbersRefusal::SlotTaken { item: place });
     }
     if item.next_disk as usize >= disks.len() {
-        return Some(Refusal::UnknownNext { item: place });
+        return Some(NumbersRefusal::UnknownNext { item: place });
     }
     None
 }
 
 /// Whether each item is where it may be and goes where it may go, or why not, by the first item of which that isn't so.
-fn check_items(alloc: Global, disks: &[DiskNumbers], items: &[ItemNumbers]) -> Result<(), Refusal>
+fn check_items(
+    alloc: Global,
+    disks: &[DiskNumbers],
+    items: &[ItemNumbers],
+) -> Result<(), NumbersRefusal>
     requires { length items.now ≤ MAX_ITEMS }
     ensures sound { IfOk result (λ _. AreItemsSound disks.now items.now (length items.now)) }
-    ensures fault { IfErr result (λ why. (why ≡ Refusal.Memory) ⊎ IsFirstItemFault disks.now items.now why) }
+    ensures fault { IfErr result (λ why. (why ≡ NumbersRefusal.Memory) ⊎ IsFirstItemFault disks.now items.now why) }
 {
     let Ok(mut taken) = SpotTable::with_capacity(alloc, items.len()) else {
-        return Err(Refusal::Memory);
+        return Err(NumbersRefusal::Memory);
     };
     for (k, item) in items.iter().enumerate() {
         if let Some(why) = item_fault(disks, &taken, *item, k as u32) {
             return Err(why);
         }
         if taken.push(spot_of(*item)).is_err() {
-            return Err(Refusal::Memory);
+            return Err(NumbersRefusal::Memory);
         }
     }
     Ok(())
@@ -173,8 +177,8 @@ fn make_input(
 }
 
 /// The first disk that lacks room for what is on it and what comes to it, or want of memory.
-fn room_fault(alloc: Global, input: &Input) -> Option<Refusal>
-    ensures { MatchOption result (IsRoomy input.now) (λ why. (why ≡ Refusal.Memory) ⊎ IsRoomFault input.now why) }
+fn room_fault(alloc: Global, input: &Input) -> Option<NumbersRefusal>
+    ensures { MatchOption result (IsRoomy input.now) (λ why. (why ≡ NumbersRefusal.Memory) ⊎ IsRoomFault input.now why) }
 {
     match check_room(alloc, input) {
         Ok(()) => None,
@@ -184,12 +188,12 @@ fn room_fault(alloc: Global, input: &Input) -> Option<Refusal>
                 why: Why::NoRoom { needs, slots, .. },
                 ..
             },
-        ) => Some(Refusal::NoRoom {
+        ) => Some(NumbersRefusal::NoRoom {
             disk: row - 1,
             needs,
             slots,
         }),
-        Err(_) => Some(Refusal::Memory),
+        Err(_) => Some(NumbersRefusal::Memory),
     }
 }
 
@@ -199,7 +203,7 @@ pub(crate) fn read_any(
     split: bool,
     disks: &[DiskNumbers],
     items: &[ItemNumbers],
-) -> Result<Input, Refusal>
+) -> Result<Input, NumbersRefusal>
     ensures input { IfOk result (λ input. input ≡ input_of split disks.now items.now) }
     ensures there { IfOk result (λ _. AreThere split disks.now items.now) }
     ensures refused { IfErr result (IsUnfit split disks.now items.now) }
@@ -215,7 +219,7 @@ pub(crate) fn read_any(
     }
     match make_input(alloc, split, disks, items) {
         Ok(input) => Ok(input),
-        Err(_) => Err(Refusal::Memory),
+        Err(_) => Err(NumbersRefusal::Memory),
     }
 }
 
@@ -225,10 +229,10 @@ pub(crate) fn read_numbers(
     split: bool,
     disks: &[DiskNumbers],
     items: &[ItemNumbers],
-) -> Result<Input, Refusal>
+) -> Result<Input, NumbersRefusal>
     ensures input { IfOk result (λ input. input ≡ input_of split disks.now items.now) }
     ensures sound { IfOk result (λ _. AreSound split disks.now items.now) }
-    ensures refused { IfErr result (IsRefusal split disks.now items.now) }
+    ensures refused { IfErr result (IsNumbersRefusal split disks.now items.now) }
 {
     let input = match read_any(alloc, split, disks, items) {
         Ok(input) => input,

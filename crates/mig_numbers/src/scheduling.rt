@@ -2,11 +2,11 @@
 ghost use Rattle.std.specs.Prelude.{◌≡◌, ◌≢◌, ◌↔◌, ◌⊎◌, ◌≤◌, ◌<◌, All, IfErr, IfOk, ℕ, if◌then◌else◌, length, map, slice_index_or};
 ghost use Rattle.std.specs.List.{list_any};
 ghost use Rattle.mig_base.specs.Running.{is_of};
-ghost use Rattle.mig_numbers.specs.Refusals.{IsRefusal, Refuses};
+ghost use Rattle.mig_numbers.specs.Refusals.{IsNumbersRefusal, Refuses};
 ghost use Rattle.mig_numbers.specs.Rounds.{HandsRounds, IsOfPairs, disk_for, disks_for, items_for, round_in};
 
 use crate::numbers::{
-    DiskNumbers, Found, ItemNumbers, LimitNumbers, PairNumbers, Refusal, Refused,
+    DiskNumbers, Found, ItemNumbers, LimitNumbers, NumbersRefusal, PairNumbers, Refused,
 };
 use crate::planning::plan_input;
 use crate::reading::read_numbers;
@@ -94,30 +94,30 @@ fn schedule_into(
     pairs: &[PairNumbers],
     rounds: &mut [u32],
     set: &mut [u32],
-) -> Result<Scheduled, Refusal>
+) -> Result<Scheduled, NumbersRefusal>
     requires { length pairs.now ≤ length rounds.old }
     ensures scheduled { IfOk result (λ done. HandsRounds split limits.now pairs.now rounds.new set.old set.new done.set_disks done.found) }
-    ensures refused { IfErr result (IsRefusal split (disks_for limits.now) (items_for pairs.now)) }
+    ensures refused { IfErr result (IsNumbersRefusal split (disks_for limits.now) (items_for pairs.now)) }
     ensures kept { IfErr result (λ _. (rounds.new ≡ rounds.old) × (set.new ≡ set.old)) }
 {
     if limits.len() > MAX_DISKS {
-        return Err(Refusal::TooManyDisks);
+        return Err(NumbersRefusal::TooManyDisks);
     }
     if pairs.len() > MAX_ITEMS {
-        return Err(Refusal::TooManyItems);
+        return Err(NumbersRefusal::TooManyItems);
     }
     let Ok(disks) = make_rooms(alloc, limits) else {
-        return Err(Refusal::Memory);
+        return Err(NumbersRefusal::Memory);
     };
     let Ok(items) = make_movers(alloc, pairs) else {
-        return Err(Refusal::Memory);
+        return Err(NumbersRefusal::Memory);
     };
     let input = match read_numbers(alloc, split, &disks, &items) {
         Ok(input) => input,
         Err(why) => return Err(why),
     };
     let Ok(made) = plan_input(alloc, &input) else {
-        return Err(Refusal::Memory);
+        return Err(NumbersRefusal::Memory);
     };
     clear(rounds);
     mark_plan(rounds, &made.plan);
@@ -160,7 +160,7 @@ pub fn schedule(
             *found = done.found;
             0
         }
-        Err(Refusal::Memory) => 7,
+        Err(NumbersRefusal::Memory) => 7,
         Err(why) => {
             *refused = refused_in(why);
             3

@@ -2,9 +2,9 @@
 ghost use Rattle.std.specs.Prelude.{◌≡◌, ◌≤◌, ◌<◌, ◌↔◌, [], All, AllPairs, IfNone, IfOk, IfSome, IsTrue, MatchOption, length, map, slice_index_or, vec_len, ◌⊎◌, ◌-◌};
 ghost use Rattle.mig_base.specs.Certificates.{CertFits, IsOfKind, is_duplex_class};
 ghost use Rattle.mig_base.specs.Bounding.{BoundFits};
-ghost use Rattle.mig_base.specs.Transfers.{transfers};
-ghost use Rattle.mig_numbers.specs.Judged.{AreRowsSound, IsFoundSound, IsRowFault, IsRowSound, bound_by, cert_by, class_by, disk_id, plan_by, shift_by, side_by};
-ghost use Rattle.mig_numbers.specs.Spelled.{AreSorted, shifts_of};
+ghost use Rattle.mig_base.specs.Transfers.{transfer_graph};
+ghost use Rattle.mig_numbers.specs.Judged.{AreRowsSound, IsFirstWrongRow, IsFoundSound, IsRowSound, bound_by, cert_by, class_by, disk_id, plan_by, shift_by, side_by};
+ghost use Rattle.mig_numbers.specs.Spelled.{AreSorted, round_shifts};
 
 use crate::numbers::{DiskNumbers, Found, ItemNumbers, ShiftNumbers};
 use crate::writing::found_in;
@@ -36,7 +36,7 @@ pub(crate) fn row_fault(
     rounds: u32,
     rows: &[ShiftNumbers],
 ) -> Option<u32>
-    ensures { MatchOption result (AreRowsSound disks.now items.now rounds rows.now (length rows.now)) (IsRowFault disks.now items.now rounds rows.now) }
+    ensures { MatchOption result (AreRowsSound disks.now items.now rounds rows.now (length rows.now)) (IsFirstWrongRow disks.now items.now rounds rows.now) }
 {
     for (k, row) in rows.iter().enumerate() {
         if !is_row_sound(disks, items, rounds, k, *row) {
@@ -99,7 +99,7 @@ fn sort_rows(
 
 /// The plan of these rounds.
 fn plan_of(alloc: Global, made: Vec<Vec<Shift>>) -> Result<Plan, AllocError>
-    ensures { IfOk result (λ plan. plan ≡ map shifts_of made.items) }
+    ensures { IfOk result (λ plan. plan ≡ map round_shifts made.items) }
 {
     let mut rounds = Vec::with_capacity(alloc, made.len())?;
     for round in made {
@@ -249,7 +249,7 @@ fn are_there(count: usize, ids: &[DiskId]) -> bool
 
 /// Whether the disks of a bound are there.
 fn is_within(input: &Input, bound: &Bound) -> bool
-    ensures { IsTrue result ↔ BoundFits (transfers input.now) bound.now }
+    ensures { IsTrue result ↔ BoundFits (transfer_graph input.now) bound.now }
 {
     let count = input.disks().len();
     match bound {

@@ -5,7 +5,7 @@ ghost use Rattle.mig_numbers.specs.Refusals.{AreThere, RefusesUnfit};
 ghost use Rattle.mig_numbers.specs.Tight.{HandsTight, IsNoPlan, IsUnplanned};
 ghost use Rattle.mig_tight.specs.Causes.{HasNoPlanUnlessMemory, IsTightCause};
 
-use crate::numbers::{DiskNumbers, ItemNumbers, Refusal, Refused, ShiftNumbers, Unmade};
+use crate::numbers::{DiskNumbers, ItemNumbers, NumbersRefusal, Refused, ShiftNumbers, Unmade};
 use crate::reading::read_any;
 use crate::writing::{refusal, refused_in, write_plan};
 use mig_tight::{TightError, tight_plan};
@@ -26,7 +26,7 @@ fn unplanned(split: bool, disks: &[DiskNumbers], items: &[ItemNumbers], error: T
             has: slots,
         }),
         TightError::NoFree => Unmade::Impossible(refusal(10, 0)),
-        TightError::Memory => Unmade::Unfit(Refusal::Memory),
+        TightError::Memory => Unmade::Unfit(NumbersRefusal::Memory),
     }
 }
 
@@ -85,7 +85,7 @@ pub fn plan_tight_numbers(
             *refused = why;
             13
         }
-        Err(Unmade::Unfit(Refusal::Memory)) => 7,
+        Err(Unmade::Unfit(NumbersRefusal::Memory)) => 7,
         Err(Unmade::Unfit(why)) => {
             *refused = refused_in(why);
             3

@@ -2,11 +2,11 @@
 ghost use Rattle.std.specs.Prelude.{◌≡◌, ◌≤◌, ◌<◌, ◌+◌, ◌^◌, ◌++◌, All, List, length, map, slice_set};
 ghost use Rattle.mig_base.specs.Bounding.{side_place};
 ghost use Rattle.mig_base.specs.DiskNumbers.{numbers};
-ghost use Rattle.mig_numbers.specs.Handed.{IsHanded, class_number, covered, found_of, row_of, rows_of, set_in};
+ghost use Rattle.mig_numbers.specs.Handed.{IsHanded, class_number, covered, found_of, plan_rows, row_of, set_in};
 ghost use Rattle.mig_numbers.specs.Refusals.{refused_of};
 ghost use Rattle.mig_numbers.specs.declared.numbers.ShiftNumbers.{ShiftNumbers};
 
-use crate::numbers::{Found, Refusal, Refused, ShiftNumbers};
+use crate::numbers::{Found, NumbersRefusal, Refused, ShiftNumbers};
 use mig_base::{Bound, Cert, Class, DiskId, MAX_ROUNDS, MAX_SHIFTS, Plan, Shift, Side};
 
 /// A shift in numbers.
@@ -48,7 +48,7 @@ fn write_round(rows: &mut [ShiftNumbers], at: usize, round: u32, shifts: &[Shift
 pub(crate) fn write_plan(rows: &mut [ShiftNumbers], plan: &Plan) -> usize
     requires rounds { length plan.now ≤ MAX_ROUNDS }
     requires shifts { All (λ round. length round ≤ MAX_SHIFTS) plan.now }
-    ensures { IsHanded (rows_of plan.now) rows.old rows.new result }
+    ensures { IsHanded (plan_rows plan.now) rows.old rows.new result }
 {
     let mut at = 0;
     for (k, round) in plan.rounds().iter().enumerate() {
@@ -163,19 +163,19 @@ pub(crate) fn refusal(cause: u32, place: u32) -> Refused
 }
 
 /// A refusal in numbers.
-pub(crate) fn refused_in(why: Refusal) -> Refused
+pub(crate) fn refused_in(why: NumbersRefusal) -> Refused
     ensures { result ≡ refused_of why }
 {
     match why {
-        Refusal::Memory => refusal(0, 0),
-        Refusal::TooManyDisks => refusal(1, 0),
-        Refusal::TooManyItems => refusal(2, 0),
-        Refusal::OutOfRange { disk } => refusal(3, disk),
-        Refusal::UnknownDisk { item } => refusal(4, item),
-        Refusal::SlotTooHigh { item } => refusal(5, item),
-        Refusal::SlotTaken { item } => refusal(6, item),
-        Refusal::UnknownNext { item } => refusal(7, item),
-        Refusal::NoRoom { disk, needs, slots } => Refused {
+        NumbersRefusal::Memory => refusal(0, 0),
+        NumbersRefusal::TooManyDisks => refusal(1, 0),
+        NumbersRefusal::TooManyItems => refusal(2, 0),
+        NumbersRefusal::OutOfRange { disk } => refusal(3, disk),
+        NumbersRefusal::UnknownDisk { item } => refusal(4, item),
+        NumbersRefusal::SlotTooHigh { item } => refusal(5, item),
+        NumbersRefusal::SlotTaken { item } => refusal(6, item),
+        NumbersRefusal::UnknownNext { item } => refusal(7, item),
+        NumbersRefusal::NoRoom { disk, needs, slots } => Refused {
             cause: 8,
             place: disk,
             needs,

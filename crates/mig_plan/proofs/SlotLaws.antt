@@ -1,6 +1,6 @@
 -- Rows of slots: what one spot more takes, and how long the rows are.
 use Rattle.mig_plan.proofs.Common.{All, All-append, All-map, AreCounts, AreFree, AreTaken, AreTakenSlots, AreWidths, Bool, Contains, Contains-append_left, Contains-push, Contains-push_cases}
-use Rattle.mig_plan.proofs.Common.{DiskId, Global, IsFirstFree, IsFreeFrom, IsInput, List, Lists, Spot, Vec, [], ap, arith, cases_eq, cases_lt, count_by-filter-le, count_by-le-length, count_of}
+use Rattle.mig_plan.proofs.Common.{DiskId, Global, InputLists, IsFirstFree, IsFreeFrom, IsInput, List, Spot, Vec, [], ap, arith, cases_eq, cases_lt, count_by-filter-le, count_by-le-length, occurrences}
 use Rattle.mig_plan.proofs.Common.{eqb, false, false≢true, fill_by_all, get_or, get_or-replicate, get_or-set_other, get_or-set_same, get_or_default, get_or_past, incoming, inl, inr, is_relocated}
 use Rattle.mig_plan.proofs.Common.{is_taken, length, length-append, length-map, length-replicate, length-set, map, one, range_with_len, refl, row_at, set, spot, spot_by, spot_disk, subst}
 use Rattle.mig_plan.proofs.Common.{sum_by-append, sum_by-map, sym, take, take_more, target, true, ℕ, ◌++◌, ◌+◌, ◌<◌, ◌∙◌, ◌∷◌, ◌≡◌, ◌≢◌, ◌≤◌}
@@ -86,29 +86,29 @@ module _ (widths : List ℕ) (spots : List Spot) (i : ℕ) (d : Spot) (rows : Li
 
 -- how long the rows are
 
-count_next : (input : Lists) (v : ℕ) → IsInput input → incoming input v ≤ count_of v input.next
+count_next : (input : InputLists) (v : ℕ) → IsInput input → incoming input v ≤ occurrences v input.next
 count_next input v is =
     let goes : ℕ → Bool = λ item. eqb (target input item) v in
     let items = range_with_len 0 (length input.items) in
     let e = fill_by_all (λ item. get_or input.next item (record { 0 = 0 })) input.next (length input.items) (record { 0 = 0 }) is.next_len (λ k h. refl) in
-    omega (arith, count_by-filter-le goes (is_relocated input) items, sum_by-map (λ (d : DiskId). one (eqb d.0 v)) (λ item. get_or input.next item (record { 0 = 0 })) items, ap (λ (xs : List DiskId). count_of v xs) e)
+    omega (arith, count_by-filter-le goes (is_relocated input) items, sum_by-map (λ (d : DiskId). one (eqb d.0 v)) (λ item. get_or input.next item (record { 0 = 0 })) items, ap (λ (xs : List DiskId). occurrences v xs) e)
 
-pub widths_are : (input : Lists) (n : ℕ) (stops : List DiskId) (widths : List ℕ) → IsInput input → n ≡ length input.disks → stops ≡ map (λ (s : Spot). s.disk) input.spots ++ input.next → AreCounts n stops widths → AreWidths input widths
+pub widths_are : (input : InputLists) (n : ℕ) (stops : List DiskId) (widths : List ℕ) → IsInput input → n ≡ length input.disks → stops ≡ map (λ (s : Spot). s.disk) input.spots ++ input.next → AreCounts n stops widths → AreWidths input widths
 widths_are input n stops widths is disks list a =
     let on : List DiskId = map (λ (s : Spot). s.disk) input.spots in
     record {
       len = a.len ∙ disks;
-      enough = λ v h. omega (arith, a.counted v (omega (arith, h, disks)), ap (λ (xs : List DiskId). count_of v xs) list, sum_by-append (λ (d : DiskId). one (eqb d.0 v)) on input.next, sum_by-map (λ (d : DiskId). one (eqb d.0 v)) (λ (s : Spot). s.disk) input.spots, count_next input v is);
+      enough = λ v h. omega (arith, a.counted v (omega (arith, h, disks)), ap (λ (xs : List DiskId). occurrences v xs) list, sum_by-append (λ (d : DiskId). one (eqb d.0 v)) on input.next, sum_by-map (λ (d : DiskId). one (eqb d.0 v)) (λ (s : Spot). s.disk) input.spots, count_next input v is);
       few = λ v h. omega (arith, a.counted v (omega (arith, h, disks)), count_by-le-length (λ (d : DiskId). eqb d.0 v) stops, ap (λ (xs : List DiskId). length xs) list, length-append on input.next, length-map input.spots (λ (s : Spot). s.disk), is.spots_len, is.next_len, is.few_items);
     }
 
 -- each disk of the list is there
-pub stops_there : (input : Lists) (n : ℕ) (stops : List DiskId) → IsInput input → n ≡ length input.disks → stops ≡ map (λ (s : Spot). s.disk) input.spots ++ input.next → All (λ (d : DiskId). d.0 < n) stops
+pub stops_there : (input : InputLists) (n : ℕ) (stops : List DiskId) → IsInput input → n ≡ length input.disks → stops ≡ map (λ (s : Spot). s.disk) input.spots ++ input.next → All (λ (d : DiskId). d.0 < n) stops
 stops_there input n stops is disks list = subst (λ (xs : List DiskId). All (λ (d : DiskId). d.0 < n) xs) (sym list) (All-append (λ (d : DiskId). d.0 < n) (map (λ (s : Spot). s.disk) input.spots) input.next
     (All-map (λ (d : DiskId). d.0 < n) (λ (s : Spot). s.disk) input.spots (λ k d h. omega (arith, spot_disk input.disks (get_or input.spots k d) (is.on_disks k d h), disks)))
     (λ k d h. omega (arith, is.next_disks k d h, disks)))
 
-pub taken_are : (input : Lists) (widths : List ℕ) (spots : List Spot) (rows : List (Vec Bool Global)) → spots ≡ input.spots → AreWidths input widths → AreTaken widths spots rows → AreTakenSlots input rows
+pub taken_are : (input : InputLists) (widths : List ℕ) (spots : List Spot) (rows : List (Vec Bool Global)) → spots ≡ input.spots → AreWidths input widths → AreTaken widths spots rows → AreTakenSlots input rows
 taken_are input widths spots rows same w a =
     let P : List Spot → Type 0 = λ xs. AreTaken widths xs rows in
     let t : AreTaken widths input.spots rows = subst P same a in
@@ -121,7 +121,7 @@ taken_are input widths spots rows same w a =
     }
 
 -- the first slot of a disk's row that isn't taken is a spot that no item has
-pub free_from : (input : Lists) (rows : List (Vec Bool Global)) (v from slot : ℕ) (d : Vec Bool Global) → AreTakenSlots input rows → v < length rows → IsFirstFree (row_at rows v d) from slot → IsFreeFrom input.spots v from slot
+pub free_from : (input : InputLists) (rows : List (Vec Bool Global)) (v from slot : ℕ) (d : Vec Bool Global) → AreTakenSlots input rows → v < length rows → IsFirstFree (row_at rows v d) from slot → IsFreeFrom input.spots v from slot
 free_from input rows v from slot d a h f = record {
   from_on = f.from_on;
   free = λ has. false≢true (sym f.free ∙ a.all v slot d h has);

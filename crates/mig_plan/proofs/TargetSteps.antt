@@ -1,14 +1,14 @@
 -- The spots that relocated items are given, one after the other.
 use Rattle.mig_plan.proofs.Common.{AreFirstTargets, AreTargets, Bool, Contains, Contains-append_cases, Contains-append_left, Contains-append_right, Contains-push, IsFreeFrom, IsLowestFree, List}
-use Rattle.mig_plan.proofs.Common.{Lists, Spot, [], ap, append-nil, arith, cases_eq, cases_lt, cond, drop, false, filter, filter-append, first_moves, get_or, get_or-replicate, get_or-set_other}
+use Rattle.mig_plan.proofs.Common.{InputLists, Spot, [], ap, append-nil, arith, cases_eq, cases_lt, cond, drop, false, filter, filter-append, first_moves, get_or, get_or-replicate, get_or-set_other}
 use Rattle.mig_plan.proofs.Common.{get_or-set_same, get_or_append_left, get_or_default, get_or_push, incoming, inl, inr, is_relocated, length, length-append, length-replicate, length-set, map-id}
 use Rattle.mig_plan.proofs.Common.{move_at, moves, no_spot, present, range_more, range_with_len, refl, replicate, same_Some, set, slice_get-get_or, slice_get_within, some_free, spot, subst, sym}
 use Rattle.mig_plan.proofs.Common.{take, take-append-drop, take-append-le, take-map-range_with_len, take_all, target, target_at, true, ℕ, ◌++◌, ◌+◌, ◌<◌, ◌∙◌, ◌∷◌, ◌≡◌, ◌≤◌}
 
-moves_by : (input : Lists) (i : ℕ) (b : Bool) → is_relocated input i ≡ b → first_moves input (i + 1) ≡ first_moves input i ++ cond b (i ∷ []) []
+moves_by : (input : InputLists) (i : ℕ) (b : Bool) → is_relocated input i ≡ b → first_moves input (i + 1) ≡ first_moves input i ++ cond b (i ∷ []) []
 moves_by input i b t = ap (filter (is_relocated input)) (range_more i) ∙ filter-append (is_relocated input) (range_with_len 0 i) (i ∷ []) ∙ ap (λ c. first_moves input i ++ cond c (i ∷ []) []) t
 
-pub start : (input : Lists) (n : ℕ) → n ≡ length input.disks → AreFirstTargets input 0 [] (replicate n 0)
+pub start : (input : InputLists) (n : ℕ) → n ≡ length input.disks → AreFirstTargets input 0 [] (replicate n 0)
 start input n is = record {
   len = refl;
   each = λ e h. absurd (omega arith);
@@ -17,17 +17,17 @@ start input n is = record {
   below = λ e h. absurd (omega arith);
 }
 
-pub stays : (input : Lists) (i : ℕ) (targets : List Spot) (cursors : List ℕ) → is_relocated input i ≡ false → AreFirstTargets input i targets cursors → AreFirstTargets input (i + 1) targets cursors
+pub stays : (input : InputLists) (i : ℕ) (targets : List Spot) (cursors : List ℕ) → is_relocated input i ≡ false → AreFirstTargets input i targets cursors → AreFirstTargets input (i + 1) targets cursors
 stays input i targets cursors f a =
     let same : first_moves input (i + 1) ≡ first_moves input i = moves_by input i false f ∙ append-nil (first_moves input i) in
     record { len = a.len ∙ ap (λ (x : List ℕ). length x) (sym same); each = a.each; cursors_len = a.cursors_len; passed = a.passed; below = a.below }
 
 -- the place of a relocated item among the moves
-pub record IsMoveAt (input : Lists) (i move : ℕ) : Type 0 where
+pub record IsMoveAt (input : InputLists) (i move : ℕ) : Type 0 where
   pub there : move < length (moves input)
   pub item : move_at input move ≡ i
 
-pub move_is : (input : Lists) (i move : ℕ) → i < length input.items → is_relocated input i ≡ true → move ≡ length (first_moves input i) → IsMoveAt input i move
+pub move_is : (input : InputLists) (i move : ℕ) → i < length input.items → is_relocated input i ≡ true → move ≡ length (first_moves input i) → IsMoveAt input i move
 move_is input i move h t e =
     let p : ℕ → Bool = is_relocated input in
     let items = range_with_len 0 (length input.items) in
@@ -50,7 +50,7 @@ more_taken spots targets t s has = elim (Contains-append_cases spots targets s h
 ]
 
 -- a relocated item is given the free slot that is found from the cursor of its next disk on
-module _ (input : Lists) (i : ℕ) (targets : List Spot) (cursors : List ℕ) (v r : ℕ) (h : i < length input.items) (t : is_relocated input i ≡ true) (there : v < length input.disks) (next : v ≡ target input i) (a : AreFirstTargets input i targets cursors) (x : IsFreeFrom input.spots v (get_or cursors v 0) r) where
+module _ (input : InputLists) (i : ℕ) (targets : List Spot) (cursors : List ℕ) (v r : ℕ) (h : i < length input.items) (t : is_relocated input i ≡ true) (there : v < length input.disks) (next : v ≡ target input i) (a : AreFirstTargets input i targets cursors) (x : IsFreeFrom input.spots v (get_or cursors v 0) r) where
   T : List Spot
   T = targets ++ spot v r ∷ []
 
@@ -116,7 +116,7 @@ module _ (input : Lists) (i : ℕ) (targets : List Spot) (cursors : List ℕ) (v
   }
 
 -- there is such a slot among as many as the disk has items and gets
-pub not_full : (input : Lists) (i : ℕ) (targets : List Spot) (cursors : List ℕ) (v slots : ℕ) → i < length input.items → is_relocated input i ≡ true → v < length input.disks → v ≡ target input i → present input v + incoming input v ≤ slots → AreFirstTargets input i targets cursors → ((s : ℕ) → get_or cursors v 0 ≤ s → s < slots → Contains input.spots (spot v s)) → ⊥
+pub not_full : (input : InputLists) (i : ℕ) (targets : List Spot) (cursors : List ℕ) (v slots : ℕ) → i < length input.items → is_relocated input i ≡ true → v < length input.disks → v ≡ target input i → present input v + incoming input v ≤ slots → AreFirstTargets input i targets cursors → ((s : ℕ) → get_or cursors v 0 ≤ s → s < slots → Contains input.spots (spot v s)) → ⊥
 not_full input i targets cursors v slots h t there next room a full =
     let move = length targets in
     let is = move_is input i move h t a.len in
@@ -126,7 +126,7 @@ not_full input i targets cursors v slots h t there next room a full =
       | inr ge ↦ Contains-append_left input.spots targets (spot v s) (full s ge l)
     ])
 
-pub finish : (input : Lists) (n : ℕ) (targets : List Spot) (cursors : List ℕ) → n ≡ length input.items → AreFirstTargets input n targets cursors → AreTargets input targets
+pub finish : (input : InputLists) (n : ℕ) (targets : List Spot) (cursors : List ℕ) → n ≡ length input.items → AreFirstTargets input n targets cursors → AreTargets input targets
 finish input n targets cursors e a =
     let x : AreFirstTargets input (length input.items) targets cursors = subst (λ m. AreFirstTargets input m targets cursors) e a in
     record {

@@ -5,17 +5,17 @@ use Rattle.std.specs.declared.vec.Vec.{Vec}
 use Rattle.mig_base.specs.declared.ids.Colour.{Colour}
 use Rattle.mig_base.specs.declared.ids.Spot.{Spot}
 use Rattle.mig_base.specs.declared.ids.Shift.{Shift}
-use Rattle.mig_base.specs.InputLists.{Lists}
+use Rattle.mig_base.specs.InputLists.{InputLists}
 use Rattle.mig_base.specs.Planned.{move_shift}
 use Rattle.mig_base.specs.Colourings.{edges_of}
 
 -- the shifts of the first n edges of one colour
-abbrev pub row_of : Lists → List Spot → List Colour → ℕ → ℕ → List Shift
-row_of input targets colours c n = map (move_shift input targets) (edges_of colours c n)
+abbrev pub colour_row : InputLists → List Spot → List Colour → ℕ → ℕ → List Shift
+colour_row input targets colours c n = map (move_shift input targets) (edges_of colours c n)
 
 -- each row has the shifts of its colour among the first n edges
-pub record AreRows (input : Lists) (targets : List Spot) (colours : List Colour) (n : ℕ) (rows : List (Vec Shift Global)) : Type 0 where
-  pub row : (c : ℕ) (d : Vec Shift Global) → c < length rows → (slice_index_or rows c d).items ≡ row_of input targets colours c n
+pub record AreColourRows (input : InputLists) (targets : List Spot) (colours : List Colour) (n : ℕ) (rows : List (Vec Shift Global)) : Type 0 where
+  pub row : (c : ℕ) (d : Vec Shift Global) → c < length rows → (slice_index_or rows c d).items ≡ colour_row input targets colours c n
 
 -- the shifts that a row has
 abbrev pub items_of : Vec Shift Global → List Shift

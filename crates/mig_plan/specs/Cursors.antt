@@ -2,7 +2,7 @@
 use Rattle.std.specs.Prelude.{◌≡◌, ℕ, ◌++◌, ◌<◌, ◌≤◌, List, length, Contains, slice_index, take, filter}
 use Rattle.std.specs.List.{range_with_len}
 use Rattle.mig_base.specs.declared.ids.Spot.{Spot}
-use Rattle.mig_base.specs.InputLists.{Lists}
+use Rattle.mig_base.specs.InputLists.{InputLists}
 use Rattle.mig_base.specs.Transfers.{is_relocated, target}
 use Rattle.mig_base.specs.Targets.{IsLowestFree}
 use Rattle.mig_base.specs.Planned.{move_at, target_at}
@@ -18,11 +18,11 @@ pub record IsFreeFrom (taken : List Spot) (v from slot : ℕ) : Type 0 where
   pub lowest : (s : ℕ) → from ≤ s → s < slot → Contains taken (spot v s)
 
 -- the relocated items among the first n
-abbrev pub first_moves : Lists → ℕ → List ℕ
+abbrev pub first_moves : InputLists → ℕ → List ℕ
 first_moves input n = filter (is_relocated input) (range_with_len 0 n)
 
 -- The spots that these are given. Below a disk's cursor every slot is taken, and none of these spots is above it
-pub record AreFirstTargets (input : Lists) (n : ℕ) (targets : List Spot) (cursors : List ℕ) : Type 0 where
+pub record AreFirstTargets (input : InputLists) (n : ℕ) (targets : List Spot) (cursors : List ℕ) : Type 0 where
   pub len : length targets ≡ length (first_moves input n)
   pub each : (move : ℕ) → move < length targets → IsLowestFree (input.spots ++ take move targets) (target input (move_at input move)) (target_at targets move)
   pub cursors_len : length cursors ≡ length input.disks

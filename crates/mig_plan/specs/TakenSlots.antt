@@ -3,7 +3,7 @@ use Rattle.std.specs.Prelude.{◌≡◌, ℕ, ◌+◌, ◌<◌, ◌≤◌, ◌^�
 use Rattle.std.specs.declared.alloc.Global.{Global}
 use Rattle.std.specs.declared.vec.Vec.{Vec}
 use Rattle.mig_base.specs.declared.ids.Spot.{Spot}
-use Rattle.mig_base.specs.InputLists.{Lists}
+use Rattle.mig_base.specs.InputLists.{InputLists}
 use Rattle.mig_base.specs.Targets.{present, incoming}
 use Rattle.mig_plan.specs.Cursors.{spot}
 
@@ -23,7 +23,7 @@ pub record IsFirstFree (row : List Bool) (from slot : ℕ) : Type 0 where
   pub lower : (s : ℕ) → from ≤ s → s < slot → is_taken row s ≡ true
 
 -- each disk's number isn't less than the items that it has and those that come to it
-pub record AreWidths (input : Lists) (widths : List ℕ) : Type 0 where
+pub record AreWidths (input : InputLists) (widths : List ℕ) : Type 0 where
   pub len : length widths ≡ length input.disks
   pub enough : (v : ℕ) → v < length input.disks → present input v + incoming input v ≤ slice_index widths v
   pub few : (v : ℕ) → v < length input.disks → slice_index widths v ≤ 2 ^ 17
@@ -41,7 +41,7 @@ pub record AreTaken (widths : List ℕ) (spots : List Spot) (rows : List (Vec Bo
   pub all : (v s : ℕ) (d : Vec Bool Global) → v < length rows → Contains spots (spot v s) → is_taken (row_at rows v d) s ≡ true
 
 -- the same of the spots that items have now, with rows that are long enough for all that come
-pub record AreTakenSlots (input : Lists) (rows : List (Vec Bool Global)) : Type 0 where
+pub record AreTakenSlots (input : InputLists) (rows : List (Vec Bool Global)) : Type 0 where
   pub len : length rows ≡ length input.disks
   pub enough : (v : ℕ) (d : Vec Bool Global) → v < length rows → present input v + incoming input v ≤ length (row_at rows v d)
   pub few : (v : ℕ) (d : Vec Bool Global) → v < length rows → length (row_at rows v d) ≤ 2 ^ 17

@@ -42,9 +42,9 @@ fn colour_directed(
     q: u32,
 ) -> Result<Vec<Colour>, AllocError>
     requires some { 1 ≤ q }
-    requires few { q ≤ length graph.now.trips }
+    requires few { q ≤ length graph.now.transfers }
     requires joint { is_duplex graph.now.disks ≡ false }
-    requires directions { length directions.now ≡ length graph.now.trips }
+    requires directions { length directions.now ≡ length graph.now.transfers }
     requires fit { SidesFit graph.now q directions.now }
     ensures { IfOk result (λ v. IsLimited graph.now q v.items) }
 {
@@ -89,7 +89,7 @@ fn dealt_board(
     colours: u32,
 ) -> Result<Board, AllocError>
     requires joint { is_duplex graph.now.disks ≡ false }
-    requires some { 0 < length graph.now.trips }
+    requires some { 0 < length graph.now.transfers }
     requires room { 2 * colours ≤ 3 * quotient graph.now }
     ensures { IfOk result (IsDealtBoard graph.now colours) }
 {
@@ -109,7 +109,7 @@ fn colour_within_few(
     start: u32,
 ) -> Result<Option<Vec<Colour>>, AllocError>
     requires joint { is_duplex graph.now.disks ≡ false }
-    requires some { 0 < length graph.now.trips }
+    requires some { 0 < length graph.now.transfers }
     requires room { 2 * colours ≤ 3 * quotient graph.now }
     ensures { IfOk result (λ o. IfSome o (λ v. IsLimited graph.now colours v.items)) }
 {
@@ -130,7 +130,7 @@ fn colour_surely(
     start: u32,
 ) -> Result<Vec<Colour>, AllocError>
     requires joint { is_duplex graph.now.disks ≡ false }
-    requires some { 0 < length graph.now.trips }
+    requires some { 0 < length graph.now.transfers }
     requires enough { 3 * quotient graph.now ≤ 2 * colours + 1 }
     requires room { 2 * colours ≤ 3 * quotient graph.now }
     requires start { start ≤ colours }
@@ -155,7 +155,7 @@ fn colour_general(
     start: u32,
 ) -> Result<(Vec<Colour>, u32), AllocError>
     requires joint { is_duplex graph.now.disks ≡ false }
-    requires some { 0 < length graph.now.trips }
+    requires some { 0 < length graph.now.transfers }
     requires enough { 3 * quotient graph.now ≤ 2 * most + 1 }
     requires room { 2 * most ≤ 3 * quotient graph.now }
     requires start { start ≤ most }
@@ -193,7 +193,7 @@ fn colour_any(
     start: u32,
 ) -> Result<(Vec<Colour>, u32), AllocError>
     requires joint { is_duplex graph.now.disks ≡ false }
-    requires some { 0 < length graph.now.trips }
+    requires some { 0 < length graph.now.transfers }
     requires enough { 3 * quotient graph.now ≤ 2 * most + 1 }
     requires room { 2 * most ≤ 3 * quotient graph.now }
     requires start { start ≤ most }

@@ -29,8 +29,8 @@ fn two_sides(alloc: Global, graph: &Graph) -> Result<Option<Vec<bool>>, AllocErr
 /// Directions by which each edge leads from the one side to the other.
 fn across(alloc: Global, graph: &Graph, sides: &[bool]) -> Result<Vec<bool>, AllocError>
     requires { length sides.now ≡ length graph.now.disks }
-    ensures one_each { IfOk result (λ d. vec_len d ≡ length graph.now.trips) }
-    ensures leads { IfOk result (λ d. LeadsAcross (side_of sides.now) graph.now.trips d.items) }
+    ensures one_each { IfOk result (λ d. vec_len d ≡ length graph.now.transfers) }
+    ensures leads { IfOk result (λ d. LeadsAcross (side_of sides.now) graph.now.transfers d.items) }
 {
     let mut directions = Vec::with_capacity(alloc, graph.edges() as usize)?;
     for edge in 0..graph.edges() {
@@ -45,8 +45,8 @@ fn across(alloc: Global, graph: &Graph, sides: &[bool]) -> Result<Vec<bool>, All
 /// from one side of the disks to the other, all from the one side. None comes exactly where neither is so.
 pub fn directions_for(alloc: Global, graph: &Graph) -> Result<Option<Vec<bool>>, AllocError>
     requires joint { is_duplex graph.now.disks ≡ false }
-    requires some { 0 < length graph.now.trips }
-    ensures one_each { IfOk result (λ o. IfSome o (λ d. vec_len d ≡ length graph.now.trips)) }
+    requires some { 0 < length graph.now.transfers }
+    ensures one_each { IfOk result (λ o. IfSome o (λ d. vec_len d ≡ length graph.now.transfers)) }
     ensures fit { IfOk result (λ o. IfSome o (λ d. SidesFit graph.now (quotient graph.now) d.items)) }
     ensures none { IfOk result (λ o. IfNone o ((why : Reason) → ¬ Because why graph.now)) }
 {

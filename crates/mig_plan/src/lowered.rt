@@ -16,7 +16,7 @@ fn lowered_rounds(graph: &Graph, disk: DiskId) -> Option<u32>
     ensures part { IfNone result (IsTrue (takes_part graph.now disk.0)) }
     ensures none { IfNone result (limit graph.now disk.0 < 2) }
     ensures some { IfSome result (λ _. IsTrue (takes_part graph.now disk.0) → 2 ≤ limit graph.now disk.0) }
-    ensures rounds { IfSome result (λ r. r ≡ div_ceil (load disk.0 graph.now.trips) (lowered_limit graph.now disk.0)) }
+    ensures rounds { IfSome result (λ r. r ≡ div_ceil (load disk.0 graph.now.transfers) (lowered_limit graph.now disk.0)) }
 {
     let load = graph.load(disk);
     if load == 0 {

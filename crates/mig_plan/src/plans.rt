@@ -1,9 +1,9 @@
 ghost use Rattle.std.specs.Prelude.{◌≡◌, ◌≤◌, length, IfOk};
 ghost use Rattle.mig_base.specs.Lowered.{lowered_quotient, IsLowerable};
-ghost use Rattle.mig_base.specs.Transfers.{transfers};
+ghost use Rattle.mig_base.specs.Transfers.{transfer_graph};
 ghost use Rattle.mig_base.specs.Targets.{AreTargets, IsRoomy};
 ghost use Rattle.mig_base.specs.MadePlans.{IsPlanOf};
-ghost use Rattle.mig_base.specs.Planned.{GoesToTargets, IsFilled};
+ghost use Rattle.mig_base.specs.Planned.{GoesToTargets, HasNoEmptyRound};
 ghost use Rattle.mig_base.specs.Running.{Once, PlanFits, Runs};
 
 use crate::colourings::{colour_lowered, colour_moves};
@@ -21,7 +21,7 @@ fn plan_moves(
     targets: &[Spot],
     start: u32,
 ) -> Result<Plan, AllocError>
-    requires graph { graph.now ≡ transfers input.now }
+    requires graph { graph.now ≡ transfer_graph input.now }
     requires roomy { IsRoomy input.now }
     requires targets { AreTargets input.now targets.now }
     ensures planned { IfOk result (IsPlanOf input.now) }
@@ -53,7 +53,7 @@ pub fn make_plan_from(
     graph: &Graph,
     start: u32,
 ) -> Result<Plan, AllocError>
-    requires graph { graph.now ≡ transfers input.now }
+    requires graph { graph.now ≡ transfer_graph input.now }
     requires roomy { IsRoomy input.now }
     ensures planned { IfOk result (IsPlanOf input.now) }
 {
@@ -69,7 +69,7 @@ pub fn make_lowered_plan(
     graph: &Graph,
     rounds: u32,
 ) -> Result<Plan, AllocError>
-    requires graph { graph.now ≡ transfers input.now }
+    requires graph { graph.now ≡ transfer_graph input.now }
     requires roomy { IsRoomy input.now }
     requires lowerable { IsLowerable graph.now }
     requires rounds { rounds ≡ lowered_quotient graph.now }
@@ -77,7 +77,7 @@ pub fn make_lowered_plan(
     ensures runs { IfOk result (Runs input.now) }
     ensures once { IfOk result (Once input.now) }
     ensures targets { IfOk result (GoesToTargets input.now) }
-    ensures filled { IfOk result IsFilled }
+    ensures filled { IfOk result HasNoEmptyRound }
     ensures few { IfOk result (λ p. length p ≤ rounds) }
 {
     let targets = target_spots(alloc, input)?;

@@ -1,9 +1,9 @@
 //! From a colouring that keeps each limit to a plan.
 ghost use Rattle.std.specs.Prelude.{◌≡◌, ◌≤◌, length, filter, map, IfOk};
-ghost use Rattle.mig_base.specs.Transfers.{transfers};
+ghost use Rattle.mig_base.specs.Transfers.{transfer_graph};
 ghost use Rattle.mig_base.specs.Targets.{AreTargets, IsRoomy};
 ghost use Rattle.mig_base.specs.Running.{Runs, Once, PlanFits};
-ghost use Rattle.mig_base.specs.Planned.{GoesToTargets, IsFilled};
+ghost use Rattle.mig_base.specs.Planned.{GoesToTargets, HasNoEmptyRound};
 ghost use Rattle.mig_base.specs.Colourings.{IsLimited};
 ghost use Rattle.mig_plan.specs.ColourRows.{is_filled, items_of};
 
@@ -35,7 +35,7 @@ pub fn plan_of(
     colours: &[Colour],
     count: u32,
 ) -> Result<Plan, AllocError>
-    requires graph { graph.now ≡ transfers input.now }
+    requires graph { graph.now ≡ transfer_graph input.now }
     requires roomy { IsRoomy input.now }
     requires targets { AreTargets input.now targets.now }
     requires limited { IsLimited graph.now count colours.now }
@@ -43,7 +43,7 @@ pub fn plan_of(
     ensures runs { IfOk result (Runs input.now) }
     ensures once { IfOk result (Once input.now) }
     ensures targets { IfOk result (GoesToTargets input.now) }
-    ensures filled { IfOk result IsFilled }
+    ensures filled { IfOk result HasNoEmptyRound }
     ensures few { IfOk result (λ p. length p ≤ count) }
 {
     input.keeps_rules();

@@ -1,8 +1,8 @@
 //! The shifts of the moves, by colour.
 ghost use Rattle.std.specs.Prelude.{◌≡◌, ◌<◌, ◌≤◌, [], length, vec_len, All, IfOk};
-ghost use Rattle.mig_base.specs.Transfers.{transfers};
+ghost use Rattle.mig_base.specs.Transfers.{transfer_graph};
 ghost use Rattle.mig_base.specs.Planned.{move_shift};
-ghost use Rattle.mig_plan.specs.ColourRows.{AreRows};
+ghost use Rattle.mig_plan.specs.ColourRows.{AreColourRows};
 
 use mig_base::{Colour, EdgeId, Input, MAX_ITEMS, Shift, Spot};
 use mig_graph::Graph;
@@ -10,9 +10,9 @@ use std::alloc::{AllocError, Global};
 
 /// The shift of a move.
 fn shift_of(input: &Input, graph: &Graph, targets: &[Spot], edge: u32) -> Shift
-    requires graph { graph.now ≡ transfers input.now }
-    requires edge { edge < length graph.now.trips }
-    requires targets { length targets.now ≡ length graph.now.trips }
+    requires graph { graph.now ≡ transfer_graph input.now }
+    requires edge { edge < length graph.now.transfers }
+    requires targets { length targets.now ≡ length graph.now.transfers }
     ensures { result ≡ move_shift input.now targets.now edge }
 {
     let item = graph.item(EdgeId(edge));
@@ -57,12 +57,12 @@ pub fn rows_of(
     colours: &[Colour],
     count: u32,
 ) -> Result<Vec<Vec<Shift>>, AllocError>
-    requires graph { graph.now ≡ transfers input.now }
-    requires targets { length targets.now ≡ length graph.now.trips }
-    requires colours { length colours.now ≡ length graph.now.trips }
+    requires graph { graph.now ≡ transfer_graph input.now }
+    requires targets { length targets.now ≡ length graph.now.transfers }
+    requires colours { length colours.now ≡ length graph.now.transfers }
     requires below { All (λ c. c.0 < count) colours.now }
     ensures len { IfOk result (λ v. vec_len v ≡ count) }
-    ensures rows { IfOk result (λ v. AreRows input.now targets.now colours.now (length colours.now) v.items) }
+    ensures rows { IfOk result (λ v. AreColourRows input.now targets.now colours.now (length colours.now) v.items) }
 {
     let edges = graph.edges();
     let sizes = sizes_of(alloc, colours, count)?;

@@ -70,8 +70,8 @@ abbrev pub IsBytes : List ℕ → SaveState → Content → Type 0
 IsBytes bytes s content = IsTrue s.told → content ≡ Some bytes
 
 -- a crash leaves nothing but what stands under the name
-abbrev pub IsSettled : SaveState → Type 0
-IsSettled s = (content : Content) → s.may_leave content → content ≡ s.stands
+abbrev pub IsContentSettled : SaveState → Type 0
+IsContentSettled s = (content : Content) → s.may_leave content → content ≡ s.stands
 
 -- the file that was made has these bytes, stands under the name, and is on the device
 pub record IsPlaced (bytes : List ℕ) (old new : SaveState) : Type 0 where

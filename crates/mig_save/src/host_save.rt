@@ -4,7 +4,7 @@ ghost use Rattle.std.specs.Prelude.{◌≢◌, ◌≤◌, ◌<◌, IfOk, IfErr, 
 ghost use Rattle.mig_base.specs.FaultCounts.{Rose};
 ghost use Rattle.mig_save.specs.HostSaves.{host_state, host_is_state};
 
-use crate::save_calls::{Node, SaveCalls, Target};
+use crate::save_calls::{Inode, SaveCalls, Target};
 use crate::writing::{write_some, write_whole};
 use std::alloc::Global;
 use std::fs::{self, File, Metadata, OpenOptions, Permissions};
@@ -14,11 +14,11 @@ use std::path::Path;
 use std::rt::Files;
 
 /// The node of a plain file. A pipe or a device may be read and written in one run.
-pub fn node_of(found: &Metadata) -> Option<Node> {
+pub fn node_of(found: &Metadata) -> Option<Inode> {
     if !found.is_file() {
         return None;
     }
-    Some(Node {
+    Some(Inode {
         device: found.dev(),
         inode: found.ino(),
     })
@@ -27,13 +27,13 @@ pub fn node_of(found: &Metadata) -> Option<Node> {
 /// The files that a run has used: none of them is saved over.
 #[derive(Clone, Copy)]
 struct Used<'a> {
-    loaded: &'a [Node],
-    saved: Option<Node>,
+    loaded: &'a [Inode],
+    saved: Option<Inode>,
 }
 
 impl<'a> Used<'a> {
     /// Why a file is not to be saved over.
-    fn refusal(&self, node: Node) -> Option<&'static str> {
+    fn refusal(&self, node: Inode) -> Option<&'static str> {
         if self.loaded.contains(&node) {
             Some("it was loaded in this run")
         } else if self.saved == Some(node) {
@@ -77,8 +77,8 @@ impl<'a, R: Files<File = File>> HostSave<'a, R> {
     pub fn new(
         rt: &'a R,
         alloc: Global,
-        loaded: &'a [Node],
-        saved: Option<Node>,
+        loaded: &'a [Inode],
+        saved: Option<Inode>,
         name: &'a str,
         room: &'a mut [u8; PATH_MAX],
     ) -> Self {
@@ -163,7 +163,7 @@ impl<'a, R: Files<File = File>> HostSave<'a, R> {
         Ok(())
     }
 
-    fn check_made_at_path(&self, made: Option<Node>) -> io::Result<()> {
+    fn check_made_at_path(&self, made: Option<Inode>) -> io::Result<()> {
         if node_of(&self.stand_at(self.path?)?) != made {
             return Err(Error::other("another process saves it at this moment"));
         }
@@ -229,7 +229,7 @@ impl<'a, R: Files<File = File>> SaveCalls for HostSave<'a, R> {
         }
     }
 
-    fn node(&mut self) -> io::Result<Option<Node>> {
+    fn node(&mut self) -> io::Result<Option<Inode>> {
         match node_of_open(&self.file) {
             Ok(node) => Ok(node),
             Err(error) => Err(self.counted(error)),
@@ -250,7 +250,7 @@ impl<'a, R: Files<File = File>> SaveCalls for HostSave<'a, R> {
         }
     }
 
-    fn check_made(&mut self, made: Option<Node>) -> io::Result<()> {
+    fn check_made(&mut self, made: Option<Inode>) -> io::Result<()> {
         match self.check_made_at_path(made) {
             Ok(()) => Ok(()),
             Err(error) => Err(self.counted(error)),
@@ -271,7 +271,7 @@ impl<'a, R: Files<File = File>> SaveCalls for HostSave<'a, R> {
         }
     }
 
-    fn save_in_place(&mut self, bytes: &[u8]) -> io::Result<Option<Node>> {
+    fn save_in_place(&mut self, bytes: &[u8]) -> io::Result<Option<Inode>> {
         match write_in_place(self.file.take(), bytes) {
             Ok(node) => Ok(node),
             Err(error) => Err(self.counted(error)),
@@ -286,7 +286,7 @@ fn set_mode_of(file: &Option<File>, mode: u32) -> io::Result<()> {
     }
 }
 
-fn node_of_open(file: &Option<File>) -> io::Result<Option<Node>> {
+fn node_of_open(file: &Option<File>) -> io::Result<Option<Inode>> {
     match file {
         Some(file) => Ok(node_of(&again(|| file.metadata())?)),
         None => Err(ErrorKind::NotFound.into()),
@@ -396,7 +396,7 @@ fn new_path<'b>(name: &str, room: &'b mut [u8; PATH_MAX]) -> io::Result<&'b str>
 }
 
 /// Writes into what is there. A plain file, which a link leads to, is emptied first.
-fn write_in_place(file: Option<File>, bytes: &[u8]) -> io::Result<Option<Node>> {
+fn write_in_place(file: Option<File>, bytes: &[u8]) -> io::Result<Option<Inode>> {
     let Some(mut file) = file else {
         return Err(ErrorKind::NotFound.into());
     };

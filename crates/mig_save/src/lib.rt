@@ -10,5 +10,5 @@ mod writing;
 pub use host_save::{HostSave, PATH_MAX, node_of};
 pub use mem_save::MemSave;
 pub use replacing::{Unsaved, save_over};
-pub use save_calls::{Node, SaveCalls, Target};
+pub use save_calls::{Inode, SaveCalls, Target};
 pub use writing::write_whole;

@@ -1,16 +1,16 @@
 //! The calls that save a file, in memory.
 ghost use Rattle.std.specs.Prelude.{◌≡◌, ◌≤◌, ◌++◌, ◌∷◌, [], IsTrue, IsFalse, IfOk, OnOk, OnErr};
 ghost use Rattle.mig_base.specs.FaultCounts.{Rose};
-ghost use Rattle.mig_save.specs.Saves.{IsSettled};
-ghost use Rattle.mig_save.specs.MemSaves.{Moment, after_step, content_of, mem_state, mem_is_state};
+ghost use Rattle.mig_save.specs.Saves.{IsContentSettled};
+ghost use Rattle.mig_save.specs.MemSaves.{SaveMoment, after_save_step, content_of, mem_state, mem_is_state};
 
-use crate::save_calls::{Node, SaveCalls, Target};
+use crate::save_calls::{Inode, SaveCalls, Target};
 use std::alloc::{AllocError, Global};
 use std::io::{self, ErrorKind};
 
 /// What was done to the name and to the new file beside it.
 #[derive(Clone, Copy)]
-pub enum Step {
+pub enum SaveStep {
     Made,
     Wrote { byte: u8 },
     Synced,
@@ -26,7 +26,7 @@ pub struct MemSave {
     told: bool,
     /// What stood under the name at first.
     first: Option<Vec<u8>>,
-    steps: Vec<Step>,
+    steps: Vec<SaveStep>,
     /// How many calls were made.
     calls: u64,
     /// The number of the call that fails, counted from 1.
@@ -39,7 +39,7 @@ impl MemSave {
     pub fn new(alloc: Global, first: Option<Vec<u8>>, failing: u64) -> Self
         ensures told { IsTrue (⟦<MemSave as SaveCalls>⟧.state result).told }
         ensures stands { (⟦<MemSave as SaveCalls>⟧.state result).stands ≡ content_of first }
-        ensures settled { IsSettled (⟦<MemSave as SaveCalls>⟧.state result) }
+        ensures settled { IsContentSettled (⟦<MemSave as SaveCalls>⟧.state result) }
     {
         MemSave {
             told: true,
@@ -97,7 +97,7 @@ impl MemSave {
     }
 
     /// Notes a step; an error where memory is refused.
-    fn note(&mut self, step: Step) -> io::Result<()>
+    fn note(&mut self, step: SaveStep) -> io::Result<()>
         ensures told { self.new.told ≡ self.old.told }
         ensures first { self.new.first ≡ self.old.first }
         ensures done { OnOk result (self.new.steps.items ≡ self.old.steps.items ++ step ∷ []) }
@@ -116,18 +116,18 @@ impl MemSave {
 /// What a step makes of what stands under the name, and of the new file. An error is want of memory.
 fn follow(
     alloc: Global,
-    step: &Step,
+    step: &SaveStep,
     stands: &mut Option<Vec<u8>>,
     beside: &mut Vec<u8>,
 ) -> Result<(), AllocError>
-    ensures stands { OnOk result ((m : Moment) → content_of stands.old ≡ m.stands → beside.old.items ≡ m.beside → content_of stands.new ≡ (after_step m step.now).stands) }
-    ensures beside { OnOk result ((m : Moment) → beside.old.items ≡ m.beside → beside.new.items ≡ (after_step m step.now).beside) }
+    ensures stands { OnOk result ((m : SaveMoment) → content_of stands.old ≡ m.stands → beside.old.items ≡ m.beside → content_of stands.new ≡ (after_save_step m step.now).stands) }
+    ensures beside { OnOk result ((m : SaveMoment) → beside.old.items ≡ m.beside → beside.new.items ≡ (after_save_step m step.now).beside) }
 {
     match step {
-        Step::Made | Step::Removed => *beside = Vec::new(alloc),
-        Step::Wrote { byte } => beside.push(*byte)?,
-        Step::Renamed => *stands = Some(beside.clone()?),
-        Step::Synced | Step::FolderSynced => {}
+        SaveStep::Made | SaveStep::Removed => *beside = Vec::new(alloc),
+        SaveStep::Wrote { byte } => beside.push(*byte)?,
+        SaveStep::Renamed => *stands = Some(beside.clone()?),
+        SaveStep::Synced | SaveStep::FolderSynced => {}
     }
     Ok(())
 }
@@ -148,7 +148,7 @@ impl SaveCalls for MemSave {
 
     fn make(&mut self) -> io::Result<()> {
         self.enter()?;
-        self.note(Step::Made)
+        self.note(SaveStep::Made)
     }
 
     fn check_left(&mut self) -> io::Result<()> {
@@ -157,44 +157,44 @@ impl SaveCalls for MemSave {
 
     fn remove(&mut self) -> io::Result<()> {
         self.enter()?;
-        self.note(Step::Removed)
+        self.note(SaveStep::Removed)
     }
 
     fn set_mode(&mut self, _mode: u32) -> io::Result<()> {
         self.enter()
     }
 
-    fn node(&mut self) -> io::Result<Option<Node>> {
+    fn node(&mut self) -> io::Result<Option<Inode>> {
         self.enter()?;
         Ok(None)
     }
 
     fn write(&mut self, bytes: &[u8]) -> io::Result<usize> {
         self.enter()?;
-        self.note(Step::Wrote { byte: bytes[0] })?;
+        self.note(SaveStep::Wrote { byte: bytes[0] })?;
         Ok(1)
     }
 
     fn sync(&mut self) -> io::Result<()> {
         self.enter()?;
-        self.note(Step::Synced)
+        self.note(SaveStep::Synced)
     }
 
-    fn check_made(&mut self, _made: Option<Node>) -> io::Result<()> {
+    fn check_made(&mut self, _made: Option<Inode>) -> io::Result<()> {
         self.enter()
     }
 
     fn rename(&mut self) -> io::Result<()> {
         self.enter()?;
-        self.note(Step::Renamed)
+        self.note(SaveStep::Renamed)
     }
 
     fn sync_folder(&mut self) -> io::Result<()> {
         self.enter()?;
-        self.note(Step::FolderSynced)
+        self.note(SaveStep::FolderSynced)
     }
 
-    fn save_in_place(&mut self, _bytes: &[u8]) -> io::Result<Option<Node>> {
+    fn save_in_place(&mut self, _bytes: &[u8]) -> io::Result<Option<Inode>> {
         self.enter()?;
         Ok(None)
     }

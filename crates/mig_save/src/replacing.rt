@@ -1,9 +1,9 @@
 //! Saving a file whole: after a crash a plain file holds what it held before, or the new bytes.
 ghost use Rattle.std.specs.Prelude.{◌≡◌, ◌≤◌, ◌++◌, [], Some, ℕ, IsTrue, IfErr, OnOk, OnErr, length};
 ghost use Rattle.mig_base.specs.FaultCounts.{Rose};
-ghost use Rattle.mig_save.specs.Saves.{IsBytes, IsPlaced, IsSettled, LeavesOldOrNew, SaveChange, StandsAs, Stays};
+ghost use Rattle.mig_save.specs.Saves.{IsBytes, IsContentSettled, IsPlaced, LeavesOldOrNew, SaveChange, StandsAs, Stays};
 
-use crate::save_calls::{Node, SaveCalls, Target};
+use crate::save_calls::{Inode, SaveCalls, Target};
 use std::fmt::{self, Display, Formatter};
 use std::io::{self, Error, ErrorKind};
 
@@ -37,10 +37,10 @@ impl Display for Unsaved {
 }
 
 /// Makes the file hold these bytes, and answers which one it is. A plain file is replaced whole: a crash at any moment leaves what it might have left before, or the new bytes. A terminal, a pipe, or what a link leads to is written in place.
-pub fn save_over<C: SaveCalls>(calls: &mut C, bytes: &[u8]) -> Result<Option<Node>, Unsaved>
+pub fn save_over<C: SaveCalls>(calls: &mut C, bytes: &[u8]) -> Result<Option<Inode>, Unsaved>
     ensures whole { IsTrue (C.SaveCalls.state calls.old).told → LeavesOldOrNew bytes.now (C.SaveCalls.state calls.old) (C.SaveCalls.state calls.new) }
     ensures saved { OnOk result (IsTrue (C.SaveCalls.state calls.old).told → (C.SaveCalls.state calls.new).stands ≡ Some bytes.now) }
-    ensures settled { OnOk result (IsTrue (C.SaveCalls.state calls.old).told → IsTrue (C.SaveCalls.state calls.old).listed → IsSettled (C.SaveCalls.state calls.new)) }
+    ensures settled { OnOk result (IsTrue (C.SaveCalls.state calls.old).told → IsTrue (C.SaveCalls.state calls.old).listed → IsContentSettled (C.SaveCalls.state calls.new)) }
     ensures stands { IfErr result (λ unsaved. IsTrue (C.SaveCalls.state calls.old).told → StandsAs bytes.now (C.SaveCalls.state calls.old) (C.SaveCalls.state calls.new) unsaved) }
     ensures failed { OnErr result (Rose (C.SaveCalls.state calls.old).failures (C.SaveCalls.state calls.new).failures) }
 {
@@ -63,7 +63,11 @@ pub fn save_over<C: SaveCalls>(calls: &mut C, bytes: &[u8]) -> Result<Option<Nod
 }
 
 /// Writes a new file beside the name, and gives it the name once it is whole. The new file is removed where that fails.
-fn replace<C: SaveCalls>(calls: &mut C, bytes: &[u8], mode: Option<u32>) -> io::Result<Option<Node>>
+fn replace<C: SaveCalls>(
+    calls: &mut C,
+    bytes: &[u8],
+    mode: Option<u32>,
+) -> io::Result<Option<Inode>>
     ensures placed { OnOk result (IsPlaced bytes.now (C.SaveCalls.state calls.old) (C.SaveCalls.state calls.new)) }
     ensures unchanged { OnErr result ((C.SaveCalls.state calls.new).stands ≡ (C.SaveCalls.state calls.old).stands) }
     ensures change { SaveChange (IsBytes bytes.now (C.SaveCalls.state calls.old)) (C.SaveCalls.state calls.old) (C.SaveCalls.state calls.new) }
@@ -99,7 +103,7 @@ fn fill_and_rename<C: SaveCalls>(
     calls: &mut C,
     bytes: &[u8],
     mode: Option<u32>,
-) -> io::Result<Option<Node>>
+) -> io::Result<Option<Inode>>
     requires made { IsTrue (C.SaveCalls.state calls.old).made }
     requires empty { IsTrue (C.SaveCalls.state calls.old).told → (C.SaveCalls.state calls.old).beside ≡ [] }
     ensures placed { OnOk result (IsPlaced bytes.now (C.SaveCalls.state calls.old) (C.SaveCalls.state calls.new)) }
@@ -114,7 +118,7 @@ fn fill_and_rename<C: SaveCalls>(
 }
 
 /// Fills the new file, and brings it to the device.
-fn fill<C: SaveCalls>(calls: &mut C, bytes: &[u8], mode: Option<u32>) -> io::Result<Option<Node>>
+fn fill<C: SaveCalls>(calls: &mut C, bytes: &[u8], mode: Option<u32>) -> io::Result<Option<Inode>>
     requires made { IsTrue (C.SaveCalls.state calls.old).made }
     requires empty { IsTrue (C.SaveCalls.state calls.old).told → (C.SaveCalls.state calls.old).beside ≡ [] }
     ensures filled { OnOk result (IsTrue (C.SaveCalls.state calls.old).told → (C.SaveCalls.state calls.new).beside ≡ bytes.now) }

@@ -1,13 +1,13 @@
 //! What saving a file asks of the system: a few calls on what stands under one name, and on a new file beside it.
 ghost use Rattle.std.specs.Prelude.{◌≡◌, ◌≤◌, ◌<◌, ◌++◌, [], Some, IsTrue, IsFalse, IfOk, OnOk, OnErr, length, take};
 ghost use Rattle.mig_base.specs.FaultCounts.{Rose};
-ghost use Rattle.mig_save.specs.Saves.{SaveState, IsSaveState, IsNewWhole, IsSettled, KeepsNew, SaveChange, Stays};
+ghost use Rattle.mig_save.specs.Saves.{SaveState, IsSaveState, IsNewWhole, IsContentSettled, KeepsNew, SaveChange, Stays};
 
 use std::io;
 
 /// Which file of the system it is, whatever its name.
 #[derive(Clone, Copy, PartialEq, Eq)]
-pub struct Node {
+pub struct Inode {
     pub device: u64,
     pub inode: u64,
 }
@@ -59,7 +59,7 @@ pub trait SaveCalls {
         ensures failed { OnErr result (Rose (state self.old).failures (state self.new).failures) };
 
     /// Which file of the system the new one is, if it is a plain one.
-    fn node(&mut self) -> io::Result<Option<Node>>
+    fn node(&mut self) -> io::Result<Option<Inode>>
         requires { IsTrue (state self.old).made }
         ensures new_file { KeepsNew (state self.old) (state self.new) }
         ensures stays { Stays (state self.old) (state self.new) }
@@ -86,7 +86,7 @@ pub trait SaveCalls {
         ensures failed { OnErr result (Rose (state self.old).failures (state self.new).failures) };
 
     /// An error where the new file's own name leads to another file by now.
-    fn check_made(&mut self, made: Option<Node>) -> io::Result<()>
+    fn check_made(&mut self, made: Option<Inode>) -> io::Result<()>
         requires { IsTrue (state self.old).made }
         ensures new_file { KeepsNew (state self.old) (state self.new) }
         ensures stays { Stays (state self.old) (state self.new) }
@@ -104,12 +104,12 @@ pub trait SaveCalls {
 
     /// Brings the name to the device, where its folder can be opened.
     fn sync_folder(&mut self) -> io::Result<()>
-        ensures settled { OnOk result (IsTrue (state self.old).listed → IsTrue (state self.old).placed → IsTrue (state self.old).flushed → IsSettled (state self.new)) }
+        ensures settled { OnOk result (IsTrue (state self.old).listed → IsTrue (state self.old).placed → IsTrue (state self.old).flushed → IsContentSettled (state self.new)) }
         ensures stays { Stays (state self.old) (state self.new) }
         ensures failed { OnErr result (Rose (state self.old).failures (state self.new).failures) };
 
     /// Writes the bytes into what `look` opened, and says which plain file that is. Nothing that is told is written so.
-    fn save_in_place(&mut self, bytes: &[u8]) -> io::Result<Option<Node>>
+    fn save_in_place(&mut self, bytes: &[u8]) -> io::Result<Option<Inode>>
         requires { IsFalse (state self.old).told }
         ensures failed { OnErr result (Rose (state self.old).failures (state self.new).failures) };
 

@@ -1,5 +1,5 @@
 -- What is reached from one disk, neighbour by neighbour.
-use Rattle.mig_sides.proofs.Common.{All, Bool, Contains, DiskId, IsKept, IsSome, List, Node, None, Option, Reaches, Some, [], ap, arith, cases_eq, cases_lt, child_of, disk_on, false, false≢true}
+use Rattle.mig_sides.proofs.Common.{All, Bool, Contains, DiskId, IsSome, List, Node, None, Option, Reaches, Some, StayReached, [], ap, arith, cases_eq, cases_lt, child_of, disk_on, false, false≢true}
 use Rattle.mig_sides.proofs.Common.{get_or, get_or-set_other, get_or-set_same, get_or_append_left, get_or_default, get_or_push, inl, inr, is_some, length, length-append, length-set, node_at}
 use Rattle.mig_sides.proofs.Common.{none-some, not, refl, same_Some, set, subst, sym, true, ℕ, ◌++◌, ◌+◌, ◌<◌, ◌∙◌, ◌∷◌, ◌≡◌}
 use Rattle.mig_sides.proofs.TreeLaws.{kept_set, one_less, some_node}
@@ -32,7 +32,7 @@ module _ (disk : DiskId) (node : Node) (near : List DiskId) (old mid : List (Opt
   here : node_at new w.0 ≡ Some child
   here = get_or-set_same mid w.0 (Some child) None there
 
-  pub kept : IsKept mid new
+  pub kept : StayReached mid new
   kept = kept_set mid w.0 child plain
 
   long : length (queue ++ w ∷ []) ≡ length queue + 1
@@ -73,7 +73,7 @@ module _ (disk : DiskId) (node : Node) (near : List DiskId) (old mid : List (Opt
   reached_now = ap is_some here
 
 -- what was reached stays so
-pub still_reached : (old later : List (Option Node)) (v : ℕ) → IsKept old later → IsSome (node_at old v) → IsSome (node_at later v)
+pub still_reached : (old later : List (Option Node)) (v : ℕ) → StayReached old later → IsSome (node_at old v) → IsSome (node_at later v)
 still_reached old later v kept some = let n = some_node (node_at old v) some in ap is_some (kept v n.0 n.1)
 
 plain_of : (o : Option Node) (b : Bool) → is_some o ≡ not b → b ≡ true → o ≡ None
@@ -90,7 +90,7 @@ reach_then near i d o b disk node old mid later was queue longer h there is fres
     let plain : node_at mid e.0 ≡ None = get_or_default mid e.0 None o within ∙ plain_of (get_or mid e.0 o) b is fresh in
     let here : disk_on near i ≡ e.0 = ap (λ (x : DiskId). x.0) (get_or_default near i (record { 0 = 0 }) d h) in
     let more = reaches_more disk node near old mid was queue e within plain (i, h, get_or_default near i e d h) r in
-    let kept_now : IsKept mid (set mid e.0 (Some (child_of disk node))) = kept_set mid e.0 (child_of disk node) plain in
+    let kept_now : StayReached mid (set mid e.0 (Some (child_of disk node))) = kept_set mid e.0 (child_of disk node) plain in
     let now : IsSome (node_at (set mid e.0 (Some (child_of disk node))) e.0) = ap is_some (get_or-set_same mid e.0 (Some (child_of disk node)) None within) in (
       subst (λ (n : List (Option Node)). Reaches disk node near old n was longer) (sym is_later) (subst (λ (q : List DiskId). Reaches disk node near old (set mid e.0 (Some (child_of disk node))) was q) (sym is_longer) more),
       λ k l. subst (λ (n : List (Option Node)). IsSome (node_at n (disk_on near k))) (sym is_later) (elim (cases_lt k i) [

@@ -1,5 +1,5 @@
 -- Trees of reached disks that grow.
-use Rattle.mig_sides.proofs.Common.{AreApart, AreTrees, IsDone, IsJoined, IsKept, IsParent, IsRootedAt, IsSome, List, Node, None, Option, Some, Transfers, ap, arith, cases_eq, cases_lt, cond}
+use Rattle.mig_sides.proofs.Common.{AreApart, AreTrees, IsExplored, IsJoined, IsParent, IsRootedAt, IsSome, List, Node, None, Option, Some, StayReached, Transfers, ap, arith, cases_eq, cases_lt, cond}
 use Rattle.mig_sides.proofs.Common.{false≢true, get_or-set_other, get_or_past, inl, inr, is_none, is_some, length, node_at, none-some, refl, same_Some, set, subst, sum_by-set, sym, unreached, ℕ}
 use Rattle.mig_sides.proofs.Common.{◌+◌, ◌<◌, ◌∙◌, ◌≡◌, ◌≢◌, ◌≤◌, ◌⊎◌}
 
@@ -21,7 +21,7 @@ one_less nodes v node h none =
     less : (s u x y : ℕ) → s + x ≡ u + y → x ≡ 1 → y ≡ 0 → s + 1 ≡ u
     less s u x y e one none = omega arith
 
-pub kept_set : (nodes : List (Option Node)) (v : ℕ) (node : Node) → node_at nodes v ≡ None → IsKept nodes (set nodes v (Some node))
+pub kept_set : (nodes : List (Option Node)) (v : ℕ) (node : Node) → node_at nodes v ≡ None → StayReached nodes (set nodes v (Some node))
 kept_set nodes v node none w found is = elim (cases_eq w v) [
   | inl e ↦ absurd (none-some found (sym none ∙ ap (node_at nodes) (sym e) ∙ is))
   | inr ne ↦ get_or-set_other nodes v w (Some node) None ne ∙ is
@@ -30,10 +30,10 @@ kept_set nodes v node none w found is = elim (cases_eq w v) [
 -- what is known of a disk that is reached now
 pub record IsWell (graph : Transfers) (nodes : List (Option Node)) (v : ℕ) (node : Node) : Type 0 where
   pub rooted : IsRootedAt nodes v node
-  pub branch : node.rank ≢ 0 → IsJoined graph.trips v node.parent.0
+  pub branch : node.rank ≢ 0 → IsJoined graph.transfers v node.parent.0
   pub low : node.rank + unreached nodes < length nodes
 
-module _ (graph : Transfers) (old new : List (Option Node)) (kept : IsKept old new) where
+module _ (graph : Transfers) (old new : List (Option Node)) (kept : StayReached old new) where
   same_node : (v : ℕ) (m node : Node) → node_at old v ≡ Some m → node_at new v ≡ Some node → m ≡ node
   same_node v m node was is = same_Some m node (sym (kept v m was) ∙ is)
 
@@ -63,12 +63,12 @@ module _ (graph : Transfers) (old new : List (Option Node)) (kept : IsKept old n
   pub still_apart : (v w : ℕ) → AreApart old v w → AreApart new v w
   still_apart v w a = record { one = a.one; other = a.other; one_is = kept v a.one a.one_is; other_is = kept w a.other a.other_is; apart = a.apart }
 
-  pub still_done : (v : ℕ) → IsDone graph.trips old v → IsDone graph.trips new v
+  pub still_done : (v : ℕ) → IsExplored graph.transfers old v → IsExplored graph.transfers new v
   still_done v done w j = still_apart v w (done w j)
 
 -- an edge joins a disk with its parent
-pub parent_joined : (graph : Transfers) (nodes : List (Option Node)) (v p : ℕ) → AreTrees graph nodes → IsParent nodes v p → IsJoined graph.trips v p
-parent_joined graph nodes v p t is = subst (IsJoined graph.trips v) is.parent (t.branches v is.node is.node_is is.deep)
+pub parent_joined : (graph : Transfers) (nodes : List (Option Node)) (v p : ℕ) → AreTrees graph nodes → IsParent nodes v p → IsJoined graph.transfers v p
+parent_joined graph nodes v p t is = subst (IsJoined graph.transfers v) is.parent (t.branches v is.node is.node_is is.deep)
 
 -- what was reached is there
 pub reached_there : (nodes : List (Option Node)) (v : ℕ) → IsSome (node_at nodes v) → v < length nodes

@@ -1,15 +1,15 @@
 -- Walks of odd length leave no two sides.
-use Rattle.mig_sides.proofs.Common.{Bool, DiskId, IsJoined, IsOddWalk, IsTwoSided, List, Separates, Transfers, Trip, ap, arith, disk_on, false, inl, inr, length, refl, subst, suc, sym, true}
+use Rattle.mig_sides.proofs.Common.{Bool, DiskId, IsJoined, IsOddWalk, IsTwoSided, List, Separates, Transfers, Transfer, ap, arith, disk_on, false, inl, inr, length, refl, subst, suc, sym, true}
 use Rattle.mig_sides.proofs.Common.{zero, ℕ, ◌+◌, ◌-◌, ◌/◌, ◌<◌, ◌∙◌, ◌≡◌, ◌≢◌}
 
-pub turned : (trips : List Trip) (v w : ℕ) → IsJoined trips v w → IsJoined trips w v
-turned trips v w j = elim j [ inl a ↦ inr a | inr b ↦ inl b ]
+pub turned : (transfers : List Transfer) (v w : ℕ) → IsJoined transfers v w → IsJoined transfers w v
+turned transfers v w j = elim j [ inl a ↦ inr a | inr b ↦ inl b ]
 
 -- the ends of an edge are on different sides
-pub joined_apart : (graph : Transfers) (side : ℕ → Bool) (v w : ℕ) → Separates side graph → IsJoined graph.trips v w → side v ≢ side w
+pub joined_apart : (graph : Transfers) (side : ℕ → Bool) (v w : ℕ) → Separates side graph → IsJoined graph.transfers v w → side v ≢ side w
 joined_apart graph side v w apart j = elim j [
-  | inl has ↦ subst (λ (t : Trip). side t.leaves ≢ side t.reaches) has.2 (apart has.0 (record { leaves = v; reaches = w }) has.1)
-  | inr has ↦ (λ same. subst (λ (t : Trip). side t.leaves ≢ side t.reaches) has.2 (apart has.0 (record { leaves = w; reaches = v }) has.1) (sym same))
+  | inl has ↦ subst (λ (t : Transfer). side t.leaves ≢ side t.reaches) has.2 (apart has.0 (record { leaves = v; reaches = w }) has.1)
+  | inr has ↦ (λ same. subst (λ (t : Transfer). side t.leaves ≢ side t.reaches) has.2 (apart has.0 (record { leaves = w; reaches = v }) has.1) (sym same))
 ]
 
 -- of three values, of which each differs from the next, the first is the last
@@ -28,7 +28,7 @@ every_other side walk (suc m) steps h =
     let last : m + m + 1 + 1 ≡ suc m + suc m = omega arith in
     every_other side walk m steps (omega arith) ∙ two_steps (at (m + m)) (at (m + m + 1)) (at (m + m + 1 + 1)) (steps (m + m) (omega arith)) (steps (m + m + 1) (omega arith)) ∙ ap at last
 
-pub odd_none : (graph : Transfers) (walk : List DiskId) → IsOddWalk graph.trips walk → ¬ IsTwoSided graph
+pub odd_none : (graph : Transfers) (walk : List DiskId) → IsOddWalk graph.transfers walk → ¬ IsTwoSided graph
 odd_none graph walk w two =
     let side = two.0 in
     let m = length walk / 2 in

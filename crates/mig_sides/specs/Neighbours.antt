@@ -3,7 +3,7 @@ use Rattle.std.specs.Prelude.{◌≡◌, ℕ, ◌<◌, List, All, Contains, leng
 use Rattle.std.specs.declared.alloc.Global.{Global}
 use Rattle.std.specs.declared.vec.Vec.{Vec}
 use Rattle.mig_base.specs.declared.ids.DiskId.{DiskId}
-use Rattle.mig_base.specs.Transfers.{Transfers, Trip}
+use Rattle.mig_base.specs.Transfers.{Transfers, Transfer}
 use Rattle.mig_sides.specs.Walks.{IsJoined}
 
 -- the list of a disk
@@ -11,11 +11,11 @@ abbrev pub list_at : List (Vec DiskId Global) → ℕ → Vec DiskId Global → 
 list_at near v d = (slice_index_or near v d).items
 
 -- each list has the disks with which edges join its disk, and no others
-pub record AreNear (trips : List Trip) (near : List (Vec DiskId Global)) : Type 0 where
-  pub joined : (v : ℕ) (d : Vec DiskId Global) → v < length near → All (λ w. IsJoined trips v w.0) (list_at near v d)
-  pub all : (v w : ℕ) (d : Vec DiskId Global) → v < length near → IsJoined trips v w → Contains (list_at near v d) (record { 0 = w })
+pub record AreNear (transfers : List Transfer) (near : List (Vec DiskId Global)) : Type 0 where
+  pub joined : (v : ℕ) (d : Vec DiskId Global) → v < length near → All (λ w. IsJoined transfers v w.0) (list_at near v d)
+  pub all : (v w : ℕ) (d : Vec DiskId Global) → v < length near → IsJoined transfers v w → Contains (list_at near v d) (record { 0 = w })
 
 -- a list for each disk
 pub record AreNeighbours (graph : Transfers) (near : List (Vec DiskId Global)) : Type 0 where
   pub len : length near ≡ length graph.disks
-  pub each : AreNear graph.trips near
+  pub each : AreNear graph.transfers near

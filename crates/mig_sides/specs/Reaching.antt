@@ -10,7 +10,7 @@ abbrev pub child_of : DiskId → Node → Node
 child_of disk node = record { parent = disk; root = node.root; rank = node.rank + 1 }
 
 -- a neighbour that was reached now and is queued
-pub record IsFresh (disk : DiskId) (node : Node) (near : List DiskId) (was queue : List DiskId) (v : ℕ) (found : Node) : Type 0 where
+pub record IsNewlyReached (disk : DiskId) (node : Node) (near : List DiskId) (was queue : List DiskId) (v : ℕ) (found : Node) : Type 0 where
   pub child : found ≡ child_of disk node
   pub beside : Contains near (record { 0 = v })
   pub place : ℕ
@@ -22,7 +22,7 @@ pub record IsFresh (disk : DiskId) (node : Node) (near : List DiskId) (was queue
 pub record Reaches (disk : DiskId) (node : Node) (near : List DiskId) (old new : List (Option Node)) (was queue : List DiskId) : Type 0 where
   pub len : length new ≡ length old
   pub kept : (v : ℕ) (found : Node) → node_at old v ≡ Some found → node_at new v ≡ Some found
-  pub fresh : (v : ℕ) (found : Node) → node_at old v ≡ None → node_at new v ≡ Some found → IsFresh disk node near was queue v found
+  pub fresh : (v : ℕ) (found : Node) → node_at old v ≡ None → node_at new v ≡ Some found → IsNewlyReached disk node near was queue v found
   pub longer : length was ≤ length queue
   pub before : (k : ℕ) → k < length was → disk_on queue k ≡ disk_on was k
   pub added : (k : ℕ) → length was ≤ k → k < length queue → node_at new (disk_on queue k) ≡ Some (child_of disk node)

@@ -2,7 +2,7 @@
 ghost use Rattle.std.specs.Prelude.{◌≡◌, ◌<◌, length, IfOk, MatchOption, None};
 ghost use Rattle.mig_sides.specs.Neighbours.{AreNeighbours};
 ghost use Rattle.mig_sides.specs.Trees.{node_at};
-ghost use Rattle.mig_sides.specs.Searches.{AreAllReached, AreOnOneSide, HasGrown, IsSettled};
+ghost use Rattle.mig_sides.specs.Searches.{AreAllReached, AreExplored, AreOnOneSide, HasGrown};
 
 use crate::trees::{Node, met, node_of, reach};
 use mig_base::DiskId;
@@ -19,7 +19,7 @@ fn grow(
     root: DiskId,
 ) -> Result<Option<(DiskId, DiskId)>, AllocError>
     requires near { AreNeighbours graph.now near.now }
-    requires settled { IsSettled graph.now nodes.old }
+    requires settled { AreExplored graph.now nodes.old }
     requires root { root.0 < length nodes.old }
     requires plain { node_at nodes.old root.0 ≡ None }
     ensures { IfOk result (λ o. MatchOption o (HasGrown graph.now nodes.old nodes.new root.0) (λ ends. AreOnOneSide graph.now nodes.new ends.0.0 ends.1.0)) }
@@ -53,7 +53,7 @@ pub fn search(
     nodes: &mut [Option<Node>],
 ) -> Result<Option<(DiskId, DiskId)>, AllocError>
     requires near { AreNeighbours graph.now near.now }
-    requires settled { IsSettled graph.now nodes.old }
+    requires settled { AreExplored graph.now nodes.old }
     ensures { IfOk result (λ o. MatchOption o (AreAllReached graph.now nodes.new) (λ ends. AreOnOneSide graph.now nodes.new ends.0.0 ends.1.0)) }
 {
     for disk in 0..graph.disks() {

@@ -1,26 +1,26 @@
 -- Counting the ends of each disk.
-use Rattle.mig_split.proofs.Common.{AreCounts, DiskId, List, ap, arith, cases_eq, count_by, count_by-le-length, count_by-le-one, count_by_more_no, count_by_more_yes, count_of, disk_at, eq-eqb}
+use Rattle.mig_split.proofs.Common.{AreCounts, DiskId, List, ap, arith, cases_eq, count_by, count_by-le-length, count_by-le-one, count_by_more_no, count_by_more_yes, eq-eqb, listed_disk, occurrences}
 use Rattle.mig_split.proofs.Common.{eqb, fill_by_all, get_or, get_or-range_with_len, get_or-replicate, get_or-set_other, get_or-set_same, inl, inr, length, length-range_with_len}
 use Rattle.mig_split.proofs.Common.{length-replicate, length-set, map, nat_tests, ne_eqb, one, range_with_len, refl, replicate, set, subst, sum, sum-map, sum_by, sum_by-le, sum_by-swap, sym}
 use Rattle.mig_split.proofs.Common.{take, true, ℕ, ◌+◌, ◌<◌, ◌∙◌, ◌≡◌, ◌≢◌, ◌≤◌}
 
-pub count_of_same : (stops : List DiskId) (i v : ℕ) → i < length stops → disk_at stops i ≡ v → count_of v (take (i + 1) stops) ≡ count_of v (take i stops) + 1
+pub count_of_same : (stops : List DiskId) (i v : ℕ) → i < length stops → listed_disk stops i ≡ v → occurrences v (take (i + 1) stops) ≡ occurrences v (take i stops) + 1
 count_of_same stops i v h e = count_by_more_yes (λ (d : DiskId). eqb d.0 v) stops i (record { 0 = 0 }) h (eq-eqb _ _ e)
 
-pub count_of_other : (stops : List DiskId) (i v : ℕ) → i < length stops → v ≢ disk_at stops i → count_of v (take (i + 1) stops) ≡ count_of v (take i stops)
+pub count_of_other : (stops : List DiskId) (i v : ℕ) → i < length stops → v ≢ listed_disk stops i → occurrences v (take (i + 1) stops) ≡ occurrences v (take i stops)
 count_of_other stops i v h e = count_by_more_no (λ (d : DiskId). eqb d.0 v) stops i (record { 0 = 0 }) h (ne_eqb _ _ (λ x. e (sym x)))
 
 pub AreCounts-start : (disks : ℕ) (stops : List DiskId) → AreCounts disks (take 0 stops) (replicate disks 0)
 AreCounts-start disks stops = record { len = length-replicate disks 0; counted = λ v h. get_or-replicate disks v 0 0 h }
 
-pub AreCounts-more : (disks : ℕ) (stops : List DiskId) (counts : List ℕ) (i n : ℕ) → i < length stops → disk_at stops i < disks → n ≡ get_or counts (disk_at stops i) 0 + 1 → AreCounts disks (take i stops) counts → AreCounts disks (take (i + 1) stops) (set counts (disk_at stops i) n)
+pub AreCounts-more : (disks : ℕ) (stops : List DiskId) (counts : List ℕ) (i n : ℕ) → i < length stops → listed_disk stops i < disks → n ≡ get_or counts (listed_disk stops i) 0 + 1 → AreCounts disks (take i stops) counts → AreCounts disks (take (i + 1) stops) (set counts (listed_disk stops i) n)
 AreCounts-more disks stops counts i n h there is_n a =
     record {
-      len = length-set counts (disk_at stops i) n ∙ a.len;
-      counted = λ v hv. elim (cases_eq v (disk_at stops i)) [
-        | inl e ↦ subst (λ m. get_or (set counts (disk_at stops i) n) m 0 ≡ count_of m (take (i + 1) stops)) (sym e)
-            (get_or-set_same counts (disk_at stops i) n 0 (omega (arith, there, a.len)) ∙ is_n ∙ omega (arith, a.counted (disk_at stops i) there, count_of_same stops i (disk_at stops i) h refl))
-        | inr ne ↦ get_or-set_other counts (disk_at stops i) v n 0 ne ∙ a.counted v hv ∙ sym (count_of_other stops i v h ne)
+      len = length-set counts (listed_disk stops i) n ∙ a.len;
+      counted = λ v hv. elim (cases_eq v (listed_disk stops i)) [
+        | inl e ↦ subst (λ m. get_or (set counts (listed_disk stops i) n) m 0 ≡ occurrences m (take (i + 1) stops)) (sym e)
+            (get_or-set_same counts (listed_disk stops i) n 0 (omega (arith, there, a.len)) ∙ is_n ∙ omega (arith, a.counted (listed_disk stops i) there, count_of_same stops i (listed_disk stops i) h refl))
+        | inr ne ↦ get_or-set_other counts (listed_disk stops i) v n 0 ne ∙ a.counted v hv ∙ sym (count_of_other stops i v h ne)
       ];
     }
 
@@ -32,8 +32,8 @@ pub counts_total : (disks : ℕ) (stops : List DiskId) (counts : List ℕ) → A
 counts_total disks stops counts a =
     let n = disks in
     let f : ℕ → DiskId → ℕ = λ v d. one (eqb d.0 v) in
-    let e : counts ≡ map (λ v. count_of v stops) (range_with_len 0 n) = fill_by_all (λ v. count_of v stops) counts n 0 a.len (λ v h. a.counted v h) in
-    let total : sum counts ≡ sum_by (λ v. count_of v stops) (range_with_len 0 n) = ap (λ (xs : List ℕ). sum xs) e ∙ sum-map (λ v. count_of v stops) (range_with_len 0 n) in
+    let e : counts ≡ map (λ v. occurrences v stops) (range_with_len 0 n) = fill_by_all (λ v. occurrences v stops) counts n 0 a.len (λ v h. a.counted v h) in
+    let total : sum counts ≡ sum_by (λ v. occurrences v stops) (range_with_len 0 n) = ap (λ (xs : List ℕ). sum xs) e ∙ sum-map (λ v. occurrences v stops) (range_with_len 0 n) in
     let turned = sum_by-swap f (range_with_len 0 n) stops in
     let most = sum_by-le (λ (d : DiskId). sum_by (λ v. f v d) (range_with_len 0 n)) 1 stops (λ k d h. once (get_or stops k d).0 n) in
     omega (arith, total, turned, most)

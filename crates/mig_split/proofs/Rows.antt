@@ -1,5 +1,5 @@
 -- Decks side by side.
-use Rattle.mig_split.proofs.Common.{AreDecks, AreFresh, Deck, DiskId, List, [], ap, arith, cases_eq, cases_lt, cond, count_of, deck_at, disk_at, eq-eqb, eqb, get_or, get_or-append_right}
+use Rattle.mig_split.proofs.Common.{AreDecks, AreFresh, Deck, DiskId, List, [], ap, arith, cases_eq, cases_lt, cond, deck_at, eq-eqb, eqb, get_or, get_or-append_right, listed_disk, occurrences}
 use Rattle.mig_split.proofs.Common.{get_or-replicate, get_or-take, get_or_append_left, get_or_past, get_or_push, inl, inr, length, length-append, length-replicate, length-take-le, ne_eqb}
 use Rattle.mig_split.proofs.Common.{no_deck, refl, replicate, subst, sum_by-append, sum_by-replicate, sum_by_more, sym, take, ℕ, ◌*◌, ◌++◌, ◌+◌, ◌-◌, ◌<◌, ◌∙◌, ◌∷◌, ◌≡◌, ◌≢◌, ◌≤◌}
 
@@ -17,24 +17,24 @@ AreDecks-start numbers =
     }
 
 -- a list of disks with one more deck's places
-one_of : (v n : ℕ) (homes : List DiskId) → count_of v (homes ++ replicate n (record { 0 = v })) ≡ count_of v homes + n
+one_of : (v n : ℕ) (homes : List DiskId) → occurrences v (homes ++ replicate n (record { 0 = v })) ≡ occurrences v homes + n
 one_of v n homes =
     let D : DiskId = record { 0 = v } in
     let f : DiskId → ℕ = λ d. cond (eqb d.0 v) 1 0 in
     let here : f D ≡ 1 = ap (λ b. cond b 1 0) (eq-eqb v v refl) in
     omega (arith, sum_by-append f homes (replicate n D), sum_by-replicate f n D, ap (λ m. n * m) here)
 
-other_of : (v w n : ℕ) (homes : List DiskId) → v ≢ w → count_of v (homes ++ replicate n (record { 0 = w })) ≡ count_of v homes
+other_of : (v w n : ℕ) (homes : List DiskId) → v ≢ w → occurrences v (homes ++ replicate n (record { 0 = w })) ≡ occurrences v homes
 other_of v w n homes ne =
     let D : DiskId = record { 0 = w } in
     let f : DiskId → ℕ = λ d. cond (eqb d.0 v) 1 0 in
     let here : f D ≡ 0 = ap (λ b. cond b 1 0) (ne_eqb w v (λ x. ne (sym x))) in
     omega (arith, sum_by-append f homes (replicate n D), sum_by-replicate f n D, ap (λ m. n * m) here)
 
-at_old : (homes : List DiskId) (w n k : ℕ) → k < length homes → disk_at (homes ++ replicate n (record { 0 = w })) k ≡ disk_at homes k
+at_old : (homes : List DiskId) (w n k : ℕ) → k < length homes → listed_disk (homes ++ replicate n (record { 0 = w })) k ≡ listed_disk homes k
 at_old homes w n k h = ap (λ (d : DiskId). d.0) (get_or_append_left homes (replicate n (record { 0 = w })) (record { 0 = 0 }) k h)
 
-at_new : (homes : List DiskId) (w n k : ℕ) → length homes ≤ k → k < length homes + n → disk_at (homes ++ replicate n (record { 0 = w })) k ≡ w
+at_new : (homes : List DiskId) (w n k : ℕ) → length homes ≤ k → k < length homes + n → listed_disk (homes ++ replicate n (record { 0 = w })) k ≡ w
 at_new homes w n k h l =
     let D : DiskId = record { 0 = w } in
     ap (λ (d : DiskId). d.0) (get_or-append_right homes (replicate n D) (length homes) k (record { 0 = 0 }) refl h ∙ get_or-replicate n (k - length homes) D (record { 0 = 0 }) (omega arith))
@@ -64,19 +64,19 @@ AreDecks-more numbers decks homes i deck h is_first is_count a =
         | inr ne ↦ subst (λ (x : Deck). x.first + x.count ≤ length H) (sym (deck_old decks deck v (omega (arith, a.len, now, hv, then', ne)))) (omega (arith, a.inside v (omega (arith, now, hv, then', ne)), long))
       ];
       home = λ v j hv. elim (cases_eq v i) [
-        | inl e ↦ subst (λ (x : Deck). j < x.count → disk_at H (x.first + j) ≡ v) (sym (deck_new decks deck v (omega (arith, a.len, now, e)))) (λ hj. at_new homes i deck.count (deck.first + j) (omega (arith, is_first)) (omega (arith, is_first, hj)) ∙ sym e)
-        | inr ne ↦ subst (λ (x : Deck). j < x.count → disk_at H (x.first + j) ≡ v) (sym (deck_old decks deck v (omega (arith, a.len, now, hv, then', ne)))) (λ hj. at_old homes i deck.count ((deck_at decks v).first + j) (omega (arith, hj, a.inside v (omega (arith, now, hv, then', ne)))) ∙ a.home v j (omega (arith, now, hv, then', ne)) hj)
+        | inl e ↦ subst (λ (x : Deck). j < x.count → listed_disk H (x.first + j) ≡ v) (sym (deck_new decks deck v (omega (arith, a.len, now, e)))) (λ hj. at_new homes i deck.count (deck.first + j) (omega (arith, is_first)) (omega (arith, is_first, hj)) ∙ sym e)
+        | inr ne ↦ subst (λ (x : Deck). j < x.count → listed_disk H (x.first + j) ≡ v) (sym (deck_old decks deck v (omega (arith, a.len, now, hv, then', ne)))) (λ hj. at_old homes i deck.count ((deck_at decks v).first + j) (omega (arith, hj, a.inside v (omega (arith, now, hv, then', ne)))) ∙ a.home v j (omega (arith, now, hv, then', ne)) hj)
       ];
       deck = λ k hk. elim (cases_lt k (length homes)) [
         | inl l ↦ (let old = a.deck k l in
-            let w = disk_at homes k in
+            let w = listed_disk homes k in
             subst (λ u. (u < length (take (i + 1) numbers)) × ((deck_at D u).first ≤ k) × (k < (deck_at D u).first + (deck_at D u).count)) (sym (at_old homes i deck.count k l))
             (omega (arith, old.0, now, then'), subst (λ (x : Deck). x.first ≤ k) (sym (deck_old decks deck w (omega (arith, a.len, old.0)))) old.1, subst (λ (x : Deck). k < x.first + x.count) (sym (deck_old decks deck w (omega (arith, a.len, old.0)))) old.2))
         | inr l ↦ subst (λ u. (u < length (take (i + 1) numbers)) × ((deck_at D u).first ≤ k) × (k < (deck_at D u).first + (deck_at D u).count)) (sym (at_new homes i deck.count k l (omega (arith, hk, long))))
             (omega (arith, then'), subst (λ (x : Deck). x.first ≤ k) (sym (deck_new decks deck i (omega (arith, a.len, now)))) (omega (arith, is_first, l)), subst (λ (x : Deck). k < x.first + x.count) (sym (deck_new decks deck i (omega (arith, a.len, now)))) (omega (arith, is_first, hk, long)))
       ];
       number_of = λ v hv. elim (cases_eq v i) [
-        | inl e ↦ subst (λ m. count_of m H ≡ (deck_at D m).count) (sym e) (one_of i deck.count homes ∙ omega (arith, a.none_of i (omega (arith, now)), ap (λ (x : Deck). x.count) (deck_new decks deck i (omega (arith, a.len, now)))))
+        | inl e ↦ subst (λ m. occurrences m H ≡ (deck_at D m).count) (sym e) (one_of i deck.count homes ∙ omega (arith, a.none_of i (omega (arith, now)), ap (λ (x : Deck). x.count) (deck_new decks deck i (omega (arith, a.len, now)))))
         | inr ne ↦ other_of v i deck.count homes ne ∙ a.number_of v (omega (arith, now, hv, then', ne)) ∙ ap (λ (x : Deck). x.count) (sym (deck_old decks deck v (omega (arith, a.len, now, hv, then', ne))))
       ];
       none_of = λ v hv. other_of v i deck.count homes (λ e. absurd (omega (arith, e, hv, then'))) ∙ a.none_of v (omega (arith, now, hv, then'));

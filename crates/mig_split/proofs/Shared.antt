@@ -1,6 +1,6 @@
 -- From nodes on each side to the nodes of edges.
-use Rattle.mig_split.proofs.Common.{All, AreFilled, AreNodes, AreNodesOf, AreOnSides, ArePairs, Bool, CopyId, IsShared, List, ap, arith, cases_lt, cond, copy_at, count_at, count_by, count_same}
-use Rattle.mig_split.proofs.Common.{ends_at, eqb, false, first_of, get_or, get_or_default, inl, inr, is_end, length, mul-le-mul_left, nat_lt, nat_tests, one, second_of, subst, suc}
+use Rattle.mig_split.proofs.Common.{All, AreCopyPairs, AreFilled, AreNodes, AreNodesOf, AreOnSides, Bool, CopyId, IsShared, List, ap, arith, cases_lt, cond, copy_at, count_at, count_by, count_same}
+use Rattle.mig_split.proofs.Common.{ends_at, eqb, false, first_copy, get_or, get_or_default, inl, inr, is_end, length, mul-le-mul_left, nat_lt, nat_tests, one, second_of, subst, suc}
 use Rattle.mig_split.proofs.Common.{sum_by-le_each, sym, true, zero, ℕ, ◌*◌, ◌+◌, ◌-◌, ◌<◌, ◌||◌, ◌∙◌, ◌≡◌, ◌≤◌}
 use Rattle.mig_split.proofs.Halves.{ends_most, firsts_are, firsts_none, seconds_are, seconds_none}
 
@@ -50,7 +50,7 @@ pub record AreParted (q left copies : ℕ) (firsts seconds : List CopyId) : Type
   pub firsts_most : (k : ℕ) → k < left → count_at k firsts ≤ q
   pub seconds_most : (k : ℕ) → k < copies - left → count_at k seconds ≤ q
 
-pub AreParted-all : (q left copies : ℕ) (ends : List (CopyId × CopyId)) (firsts seconds : List CopyId) → left ≤ copies → AreOnSides left copies ends → ((k : CopyId) → k.0 < copies → ends_at k ends ≤ q) → length firsts ≡ length seconds → ArePairs firsts seconds left ends → AreParted q left copies firsts seconds
+pub AreParted-all : (q left copies : ℕ) (ends : List (CopyId × CopyId)) (firsts seconds : List CopyId) → left ≤ copies → AreOnSides left copies ends → ((k : CopyId) → k.0 < copies → ends_at k ends ≤ q) → length firsts ≡ length seconds → AreCopyPairs firsts seconds left ends → AreParted q left copies firsts seconds
 AreParted-all q left copies ends firsts seconds low sides most same p =
     record {
       firsts_there = λ e d h. subst (λ (c : CopyId). c.0 < left) (get_or_default firsts e (record { 0 = 0 }) d h) (omega (arith, p.first e h, (sides e (omega (arith, h, p.len))).0));
@@ -84,7 +84,7 @@ node_right left from first second k c e = ap (λ b. cond b (first k) (from + sec
     not_less : (a b c : ℕ) → a ≡ b + c → nat_lt a b ≡ false
     not_less a b c h = grind (arith, nat_tests)
 
-pub AreNodes-all : (q left copies : ℕ) (ends : List (CopyId × CopyId)) (firsts seconds : List CopyId) (n m : ℕ) (outs ins : List CopyId) (new : List (CopyId × CopyId)) → AreOnSides left copies ends → length firsts ≡ length seconds → ArePairs firsts seconds left ends → IsShared q firsts n outs → IsShared q seconds m ins → ArePairs outs ins n new → AreNodes q ends n (n + m) new
+pub AreNodes-all : (q left copies : ℕ) (ends : List (CopyId × CopyId)) (firsts seconds : List CopyId) (n m : ℕ) (outs ins : List CopyId) (new : List (CopyId × CopyId)) → AreOnSides left copies ends → length firsts ≡ length seconds → AreCopyPairs firsts seconds left ends → IsShared q firsts n outs → IsShared q seconds m ins → AreCopyPairs outs ins n new → AreNodes q ends n (n + m) new
 AreNodes-all q left copies ends firsts seconds n m outs ins new sides same p o i r =
     let at : (e : ℕ) → e < length ends → (e < length firsts) × (e < length seconds) × (e < length outs) = λ e h. (omega (arith, h, p.len), omega (arith, h, p.len, same), omega (arith, h, p.len, o.one_each)) in
     let long : length new ≡ length ends = r.len ∙ o.one_each ∙ sym p.len in
@@ -93,7 +93,7 @@ AreNodes-all q left copies ends firsts seconds n m outs ins new sides same p o i
       node = node_by left n o.node i.node;
       through = record {
         one_each = long;
-        first = λ e h. r.first e (at e h).2 ∙ o.is e (at e h).0 ∙ ap o.node (sym (p.first e (at e h).0)) ∙ sym (node_left left n o.node i.node (first_of ends e) (sides e h).0);
+        first = λ e h. r.first e (at e h).2 ∙ o.is e (at e h).0 ∙ ap o.node (sym (p.first e (at e h).0)) ∙ sym (node_left left n o.node i.node (first_copy ends e) (sides e h).0);
         second = λ e h. r.second e (at e h).2 ∙ ap (λ k. n + k) (i.is e (at e h).1) ∙ sym (node_right left n o.node i.node (second_of ends e) (copy_at seconds e) (p.second e (at e h).0));
       };
       there = λ e h.

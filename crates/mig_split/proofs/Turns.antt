@@ -1,6 +1,6 @@
 -- Dealing from decks in turn.
 use Rattle.mig_split.proofs.Common.{AreDecks, AreFresh, Bool, CopyId, Deck, DiskId, IsAfter, IsDealing, IsDealtBy, IsEnough, IsTurn, List, [], ap, arith, cases_eq, cases_lt, cond, count_at}
-use Rattle.mig_split.proofs.Common.{count_of, deck_at, disk_at, eq-eqb, eqb, false, get_or-le-sum_by, get_or-set_other, get_or-set_same, get_or_append_left, get_or_default, get_or_push, gone}
+use Rattle.mig_split.proofs.Common.{deck_at, eq-eqb, eqb, false, get_or-le-sum_by, get_or-set_other, get_or-set_same, get_or_append_left, get_or_default, get_or_push, gone, listed_disk, occurrences}
 use Rattle.mig_split.proofs.Common.{inl, inr, is_gone, length, length-append, length-set, mul-le-mul_left, nat_tests, ne_eqb, no_deck, place_after, refl, set, subst, suc, sum_by_push, sym, take}
 use Rattle.mig_split.proofs.Common.{take_all, true, zero, ℕ, ◌*◌, ◌++◌, ◌+◌, ◌-◌, ◌<◌, ◌∙◌, ◌∷◌, ◌≡◌, ◌≢◌, ◌≤◌}
 use Rattle.mig_split.proofs.Counts.{count_of_same, count_of_other}
@@ -19,8 +19,8 @@ AreDecks-set numbers decks homes v later next h n a =
       len = length-set decks v next ∙ a.len;
       number = λ w hw. (same w).1 ∙ a.number w hw;
       inside = λ w hw. omega (arith, same w, a.inside w hw);
-      home = λ w j hw hj. ap (λ m. disk_at homes (m + j)) (same w).0 ∙ a.home w j hw (omega (arith, same w, hj));
-      deck = λ k hk. ((a.deck k hk).0, omega (arith, same (disk_at homes k), a.deck k hk), omega (arith, same (disk_at homes k), a.deck k hk));
+      home = λ w j hw hj. ap (λ m. listed_disk homes (m + j)) (same w).0 ∙ a.home w j hw (omega (arith, same w, hj));
+      deck = λ k hk. ((a.deck k hk).0, omega (arith, same (listed_disk homes k), a.deck k hk), omega (arith, same (listed_disk homes k), a.deck k hk));
       number_of = λ w hw. a.number_of w hw ∙ sym (same w).1;
       none_of = a.none_of;
       total = a.total;
@@ -99,44 +99,44 @@ IsTurn-same deck dealt more copies c apart is_more t =
     }
 
 -- a deck with an end to deal has a copy
-pub some_copy : (q : ℕ) (numbers : List ℕ) (decks : List Deck) (homes stops : List DiskId) (i : ℕ) → i < length stops → disk_at stops i < length numbers → IsEnough q stops numbers → AreDecks numbers decks homes → 0 < (deck_at decks (disk_at stops i)).count
+pub some_copy : (q : ℕ) (numbers : List ℕ) (decks : List Deck) (homes stops : List DiskId) (i : ℕ) → i < length stops → listed_disk stops i < length numbers → IsEnough q stops numbers → AreDecks numbers decks homes → 0 < (deck_at decks (listed_disk stops i)).count
 some_copy q numbers decks homes stops i h there enough a =
-    let v = disk_at stops i in
-    let some : 1 ≤ count_of v stops = omega (arith, get_or-le-sum_by (λ (d : DiskId). cond (eqb d.0 v) 1 0) stops i (record { 0 = 0 }) h, ap {B = ℕ} (λ b. cond b 1 0) (eq-eqb v v refl)) in
+    let v = listed_disk stops i in
+    let some : 1 ≤ occurrences v stops = omega (arith, get_or-le-sum_by (λ (d : DiskId). cond (eqb d.0 v) 1 0) stops i (record { 0 = 0 }) h, ap {B = ℕ} (λ b. cond b 1 0) (eq-eqb v v refl)) in
     not_zero (deck_at decks v).count q (omega (arith, some, enough v there, ap (λ m. m * q) (a.number v there)))
   where
     not_zero : (n q : ℕ) → 1 ≤ n * q → 0 < n
     not_zero zero q h = absurd (omega (arith, h))
     not_zero (suc n) q h = omega arith
 
-pub IsDealing-more : (numbers : List ℕ) (decks : List Deck) (homes stops : List DiskId) (copies : List CopyId) (i : ℕ) (later : Bool) (next : Deck) → length copies ≡ i → i < length stops → disk_at stops i < length decks → 0 < (deck_at decks (disk_at stops i)).count → AreDecks numbers decks homes → IsAfter (deck_at decks (disk_at stops i)) later next → IsDealing stops homes decks copies →
-    IsDealing stops homes (set decks (disk_at stops i) next) (copies ++ record { 0 = (deck_at decks (disk_at stops i)).first + (deck_at decks (disk_at stops i)).next } ∷ [])
+pub IsDealing-more : (numbers : List ℕ) (decks : List Deck) (homes stops : List DiskId) (copies : List CopyId) (i : ℕ) (later : Bool) (next : Deck) → length copies ≡ i → i < length stops → listed_disk stops i < length decks → 0 < (deck_at decks (listed_disk stops i)).count → AreDecks numbers decks homes → IsAfter (deck_at decks (listed_disk stops i)) later next → IsDealing stops homes decks copies →
+    IsDealing stops homes (set decks (listed_disk stops i) next) (copies ++ record { 0 = (deck_at decks (listed_disk stops i)).first + (deck_at decks (listed_disk stops i)).next } ∷ [])
 IsDealing-more numbers decks homes stops copies i later next len h within pos a n x =
-    let v = disk_at stops i in
+    let v = listed_disk stops i in
     let deck = deck_at decks v in
     let c = deck.first + deck.next in
     let new = copies ++ record { 0 = c } ∷ [] in
     let small : deck.next < deck.count = (x.turn v within).next_in pos in
     let hv : v < length numbers = omega (arith, within, a.len) in
     let long : length new ≡ i + 1 = length-append copies (record { 0 = c } ∷ []) ∙ omega (arith, len) in
-    let here : disk_at homes c ≡ v = a.home v deck.next hv small in
+    let here : listed_disk homes c ≡ v = a.home v deck.next hv small in
     record {
       there = λ k hk. elim (cases_lt k (length copies)) [
         | inl l ↦ subst (λ m. m < length homes) (sym (ap (λ (y : CopyId). y.0) (get_or_append_left copies (record { 0 = c } ∷ []) (record { 0 = 0 }) k l))) (x.there k l)
         | inr l ↦ subst (λ m. m < length homes) (sym (ap (λ (y : CopyId). y.0) (get_or_push copies (record { 0 = c }) (record { 0 = 0 }) k (omega (arith, l, hk, long, len))))) (omega (arith, small, a.inside v hv))
       ];
       home = λ k hk. elim (cases_lt k (length copies)) [
-        | inl l ↦ ap (λ (y : CopyId). disk_at homes y.0) (get_or_append_left copies (record { 0 = c } ∷ []) (record { 0 = 0 }) k l) ∙ x.home k l
-        | inr l ↦ ap (λ (y : CopyId). disk_at homes y.0) (get_or_push copies (record { 0 = c }) (record { 0 = 0 }) k (omega (arith, l, hk, long, len))) ∙ here ∙ ap (disk_at stops) (omega (arith, l, hk, long, len))
+        | inl l ↦ ap (λ (y : CopyId). listed_disk homes y.0) (get_or_append_left copies (record { 0 = c } ∷ []) (record { 0 = 0 }) k l) ∙ x.home k l
+        | inr l ↦ ap (λ (y : CopyId). listed_disk homes y.0) (get_or_push copies (record { 0 = c }) (record { 0 = 0 }) k (omega (arith, l, hk, long, len))) ∙ here ∙ ap (listed_disk stops) (omega (arith, l, hk, long, len))
       ];
-      turn = λ w hw. subst (λ m. IsTurn (deck_at (set decks v next) w) (count_of w (take m stops)) new) (sym long) (elim (cases_eq w v) [
-        | inl e ↦ subst (λ u. IsTurn (deck_at (set decks v next) u) (count_of u (take (i + 1) stops)) new) (sym e)
-            (subst (λ (y : Deck). IsTurn y (count_of v (take (i + 1) stops)) new) (sym (get_or-set_same decks v next no_deck within))
-            (IsTurn-more deck later next (count_of v (take i stops)) (count_of v (take (i + 1) stops)) copies pos n (count_of_same stops i v h refl) (subst (λ m. IsTurn deck (count_of v (take m stops)) copies) len (x.turn v within))))
-        | inr ne ↦ subst (λ (y : Deck). IsTurn y (count_of w (take (i + 1) stops)) new) (sym (get_or-set_other decks v w next no_deck ne))
-            (IsTurn-same (deck_at decks w) (count_of w (take i stops)) (count_of w (take (i + 1) stops)) copies c
-            (λ j hj e. ne (sym (a.home w j (omega (arith, hw, a.len, length-set decks v next)) hj) ∙ ap (disk_at homes) (sym e) ∙ here))
-            (count_of_other stops i w h ne) (subst (λ m. IsTurn (deck_at decks w) (count_of w (take m stops)) copies) len (x.turn w (omega (arith, hw, length-set decks v next)))))
+      turn = λ w hw. subst (λ m. IsTurn (deck_at (set decks v next) w) (occurrences w (take m stops)) new) (sym long) (elim (cases_eq w v) [
+        | inl e ↦ subst (λ u. IsTurn (deck_at (set decks v next) u) (occurrences u (take (i + 1) stops)) new) (sym e)
+            (subst (λ (y : Deck). IsTurn y (occurrences v (take (i + 1) stops)) new) (sym (get_or-set_same decks v next no_deck within))
+            (IsTurn-more deck later next (occurrences v (take i stops)) (occurrences v (take (i + 1) stops)) copies pos n (count_of_same stops i v h refl) (subst (λ m. IsTurn deck (occurrences v (take m stops)) copies) len (x.turn v within))))
+        | inr ne ↦ subst (λ (y : Deck). IsTurn y (occurrences w (take (i + 1) stops)) new) (sym (get_or-set_other decks v w next no_deck ne))
+            (IsTurn-same (deck_at decks w) (occurrences w (take i stops)) (occurrences w (take (i + 1) stops)) copies c
+            (λ j hj e. ne (sym (a.home w j (omega (arith, hw, a.len, length-set decks v next)) hj) ∙ ap (listed_disk homes) (sym e) ∙ here))
+            (count_of_other stops i w h ne) (subst (λ m. IsTurn (deck_at decks w) (occurrences w (take m stops)) copies) len (x.turn w (omega (arith, hw, length-set decks v next)))))
       ]);
     }
 
@@ -196,11 +196,11 @@ IsDealtBy-all q numbers decks homes stops copies enough a x len =
       number = λ v hv. a.number_of v hv ∙ a.number v hv;
       most = λ k hk.
           (let at = a.deck k hk in
-          let v = disk_at homes k in
+          let v = listed_disk homes k in
           let deck = deck_at decks v in
-          most_at q deck (count_of v stops) copies (k - deck.first) k (omega (arith, at)) (omega (arith, at))
+          most_at q deck (occurrences v stops) copies (k - deck.first) k (omega (arith, at)) (omega (arith, at))
           (omega (arith, enough v at.0, ap (λ m. m * q) (a.number v at.0)))
-          (subst (λ (ss : List DiskId). IsTurn deck (count_of v ss) copies) (take_all (length copies) stops (omega (arith, len))) (x.turn v (omega (arith, at.0, a.len)))));
+          (subst (λ (ss : List DiskId). IsTurn deck (occurrences v ss) copies) (take_all (length copies) stops (omega (arith, len))) (x.turn v (omega (arith, at.0, a.len)))));
       homes_there = λ k d hk. subst (λ (y : DiskId). y.0 < length numbers) (get_or_default homes k (record { 0 = 0 }) d hk) (a.deck k hk).0;
       total = a.total;
     }
@@ -211,9 +211,9 @@ pub record IsNextCopy (deck : Deck) (homes : ℕ) : Type 0 where
   pub small : deck.next < deck.count
   pub there : deck.first + deck.next < homes
 
-pub next_copy : (q : ℕ) (numbers : List ℕ) (decks : List Deck) (homes stops : List DiskId) (copies : List CopyId) (i : ℕ) (deck : Deck) → i < length stops → disk_at stops i < length numbers → IsEnough q stops numbers → AreDecks numbers decks homes → IsDealing stops homes decks copies → deck ≡ deck_at decks (disk_at stops i) → IsNextCopy deck (length homes)
+pub next_copy : (q : ℕ) (numbers : List ℕ) (decks : List Deck) (homes stops : List DiskId) (copies : List CopyId) (i : ℕ) (deck : Deck) → i < length stops → listed_disk stops i < length numbers → IsEnough q stops numbers → AreDecks numbers decks homes → IsDealing stops homes decks copies → deck ≡ deck_at decks (listed_disk stops i) → IsNextCopy deck (length homes)
 next_copy q numbers decks homes stops copies i deck h within enough a x is =
-    let v = disk_at stops i in
+    let v = listed_disk stops i in
     let there : v < length decks = omega (arith, within, a.len) in
     let some = some_copy q numbers decks homes stops i h within enough a in
     let small = (x.turn v there).next_in some in

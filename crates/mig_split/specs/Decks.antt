@@ -3,7 +3,7 @@ use Rattle.std.specs.Prelude.{◌≡◌, ℕ, ◌+◌, ◌-◌, ◌*◌, ◌<◌
 use Rattle.mig_base.specs.declared.ids.DiskId.{DiskId}
 use Rattle.mig_base.specs.declared.ids.CopyId.{CopyId}
 use Rattle.mig_split.specs.declared.decks.Deck.{Deck}
-use Rattle.mig_split.specs.Dealing.{count_of, count_at, disk_at, copy_at}
+use Rattle.mig_split.specs.Dealing.{occurrences, count_at, listed_disk, copy_at}
 
 -- what a deck that isn't there would be
 abbrev pub no_deck : Deck
@@ -16,17 +16,17 @@ deck_at decks v = slice_index_or decks v no_deck
 -- how many ends each disk has
 pub record AreCounts (disks : ℕ) (stops : List DiskId) (counts : List ℕ) : Type 0 where
   pub len : length counts ≡ disks
-  pub counted : (v : ℕ) → v < disks → slice_index counts v ≡ count_of v stops
+  pub counted : (v : ℕ) → v < disks → slice_index counts v ≡ occurrences v stops
 
 -- so many copies of each disk, whose places lie side by side in the homes
 pub record AreDecks (numbers : List ℕ) (decks : List Deck) (homes : List DiskId) : Type 0 where
   pub len : length decks ≡ length numbers
   pub number : (v : ℕ) → v < length numbers → (deck_at decks v).count ≡ slice_index numbers v
   pub inside : (v : ℕ) → v < length numbers → (deck_at decks v).first + (deck_at decks v).count ≤ length homes
-  pub home : (v j : ℕ) → v < length numbers → j < (deck_at decks v).count → disk_at homes ((deck_at decks v).first + j) ≡ v
-  pub deck : (k : ℕ) → k < length homes → (disk_at homes k < length numbers) × ((deck_at decks (disk_at homes k)).first ≤ k) × (k < (deck_at decks (disk_at homes k)).first + (deck_at decks (disk_at homes k)).count)
-  pub number_of : (v : ℕ) → v < length numbers → count_of v homes ≡ (deck_at decks v).count
-  pub none_of : (v : ℕ) → length numbers ≤ v → count_of v homes ≡ 0
+  pub home : (v j : ℕ) → v < length numbers → j < (deck_at decks v).count → listed_disk homes ((deck_at decks v).first + j) ≡ v
+  pub deck : (k : ℕ) → k < length homes → (listed_disk homes k < length numbers) × ((deck_at decks (listed_disk homes k)).first ≤ k) × (k < (deck_at decks (listed_disk homes k)).first + (deck_at decks (listed_disk homes k)).count)
+  pub number_of : (v : ℕ) → v < length numbers → occurrences v homes ≡ (deck_at decks v).count
+  pub none_of : (v : ℕ) → length numbers ≤ v → occurrences v homes ≡ 0
   pub total : length homes ≡ sum numbers
 
 -- no deck has been dealt from
@@ -62,5 +62,5 @@ pub record IsTurn (deck : Deck) (dealt : ℕ) (copies : List CopyId) : Type 0 wh
 -- the first ends are dealt
 pub record IsDealing (stops homes : List DiskId) (decks : List Deck) (copies : List CopyId) : Type 0 where
   pub there : (i : ℕ) → i < length copies → copy_at copies i < length homes
-  pub home : (i : ℕ) → i < length copies → disk_at homes (copy_at copies i) ≡ disk_at stops i
-  pub turn : (v : ℕ) → v < length decks → IsTurn (deck_at decks v) (count_of v (take (length copies) stops)) copies
+  pub home : (i : ℕ) → i < length copies → listed_disk homes (copy_at copies i) ≡ listed_disk stops i
+  pub turn : (v : ℕ) → v < length decks → IsTurn (deck_at decks v) (occurrences v (take (length copies) stops)) copies

@@ -4,17 +4,17 @@ use Rattle.std.specs.List.{count_by}
 use Rattle.mig_base.specs.declared.ids.CopyId.{CopyId}
 use Rattle.mig_base.specs.Ends.{ends_at}
 use Rattle.mig_split.specs.declared.sharing.Last.{Last}
-use Rattle.mig_split.specs.Copies.{first_of, second_of}
+use Rattle.mig_split.specs.Copies.{first_copy, second_of}
 use Rattle.mig_split.specs.Dealing.{copy_at, count_at}
 
 -- each edge joins a copy below `left` with one from `left` on
 abbrev pub AreOnSides : ℕ → ℕ → List (CopyId × CopyId) → Type 0
-AreOnSides left copies ends = (e : ℕ) → e < length ends → (first_of ends e < left) × (left ≤ second_of ends e) × (second_of ends e < copies)
+AreOnSides left copies ends = (e : ℕ) → e < length ends → (first_copy ends e < left) × (left ≤ second_of ends e) × (second_of ends e < copies)
 
 -- each edge joins the nodes of its copies
 pub record AreThrough (node : ℕ → ℕ) (ends new : List (CopyId × CopyId)) : Type 0 where
   pub one_each : length new ≡ length ends
-  pub first : (e : ℕ) → e < length ends → first_of new e ≡ node (first_of ends e)
+  pub first : (e : ℕ) → e < length ends → first_copy new e ≡ node (first_copy ends e)
   pub second : (e : ℕ) → e < length ends → second_of new e ≡ node (second_of ends e)
 
 -- Each edge between copies joins the nodes of its copies, below `left` for the first copy and from `left` on for the second; no node has more than q ends, and there are few nodes.

@@ -43,7 +43,7 @@ pub fn split_sides(
     q: u32,
 ) -> Result<Sides, AllocError>
     requires q { 1 ≤ q }
-    requires directions { length directions.now ≡ length graph.now.trips }
+    requires directions { length directions.now ≡ length graph.now.transfers }
     ensures nodes { IfOk result (λ s. s.nodes ≡ vec_len s.homes) }
     ensures sides { IfOk result (λ s. AreSides q graph.now directions.now s.left s.ends.items s.homes.items) }
 {
@@ -138,7 +138,7 @@ pub fn split_limits(
     share: u32,
 ) -> Result<Copies, AllocError>
     requires joint { is_duplex graph.now.disks ≡ false }
-    requires directions { length directions.now ≡ length graph.now.trips }
+    requires directions { length directions.now ≡ length graph.now.transfers }
     requires some { 1 ≤ share }
     requires most { share ≤ quotient graph.now }
     ensures nodes { IfOk result (λ s. s.nodes ≡ vec_len s.homes) }

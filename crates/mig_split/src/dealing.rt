@@ -1,7 +1,7 @@
 //! Ends of edges, dealt to copies of their disks.
 ghost use Rattle.std.specs.Prelude.{◌≡◌, ◌<◌, ◌≤◌, ◌^◌, length, map, sum, All, IfOk};
 ghost use Rattle.mig_base.specs.Transfers.{div_ceil};
-ghost use Rattle.mig_split.specs.Dealing.{AreFew, IsDealt, IsDealtBy, IsEnough};
+ghost use Rattle.mig_split.specs.Dealing.{AreFewCopies, IsDealt, IsDealtBy, IsEnough};
 
 use crate::decks::{after, count_disks, make_decks};
 use mig_base::{CopyId, DiskId, MAX_DISKS};
@@ -32,7 +32,7 @@ pub fn few_numbers(
     requires q { 1 ≤ q }
     requires there { All (λ d. d.0 < disks) stops.now }
     requires few { length stops.now ≤ 2 ^ 17 }
-    ensures { IfOk result (λ v. AreFew q disks stops.now v.items) }
+    ensures { IfOk result (λ v. AreFewCopies q disks stops.now v.items) }
 {
     let counts = count_disks(alloc, disks as usize, stops)?;
     ceils_of(alloc, &counts, q)

@@ -1,6 +1,6 @@
 //! The ends of edges, by the edges' directions.
 ghost use Rattle.std.specs.Prelude.{◌≡◌, ◌+◌, ◌<◌, ◌^◌, length, All, IfOk};
-ghost use Rattle.mig_split.specs.Copies.{AreTails, AreHeads, ArePairs, AreStops};
+ghost use Rattle.mig_split.specs.Copies.{AreTails, AreHeads, AreCopyPairs, AreEndDisks};
 
 use mig_base::{CopyId, DiskId, EdgeId};
 use mig_graph::Graph;
@@ -12,8 +12,8 @@ pub fn tails_of(
     graph: &Graph,
     directions: &[bool],
 ) -> Result<Vec<DiskId>, AllocError>
-    requires { length directions.now ≡ length graph.now.trips }
-    ensures { IfOk result (λ v. AreTails graph.now.trips directions.now v.items) }
+    requires { length directions.now ≡ length graph.now.transfers }
+    ensures { IfOk result (λ v. AreTails graph.now.transfers directions.now v.items) }
 {
     let mut disks = Vec::with_capacity(alloc, directions.len())?;
     for edge in 0..graph.edges() {
@@ -30,8 +30,8 @@ pub fn heads_of(
     graph: &Graph,
     directions: &[bool],
 ) -> Result<Vec<DiskId>, AllocError>
-    requires { length directions.now ≡ length graph.now.trips }
-    ensures { IfOk result (λ v. AreHeads graph.now.trips directions.now v.items) }
+    requires { length directions.now ≡ length graph.now.transfers }
+    ensures { IfOk result (λ v. AreHeads graph.now.transfers directions.now v.items) }
 {
     let mut disks = Vec::with_capacity(alloc, directions.len())?;
     for edge in 0..graph.edges() {
@@ -48,8 +48,8 @@ pub fn stops_of(
     graph: &Graph,
     directions: &[bool],
 ) -> Result<Vec<DiskId>, AllocError>
-    requires { length directions.now ≡ length graph.now.trips }
-    ensures { IfOk result (λ v. AreStops graph.now.trips directions.now v.items) }
+    requires { length directions.now ≡ length graph.now.transfers }
+    ensures { IfOk result (λ v. AreEndDisks graph.now.transfers directions.now v.items) }
 {
     let mut stops = tails_of(alloc, graph, directions)?;
     let heads = heads_of(alloc, graph, directions)?;
@@ -66,7 +66,7 @@ pub fn pair_up(
 ) -> Result<Vec<(CopyId, CopyId)>, AllocError>
     requires same { length firsts.now ≡ length seconds.now }
     requires fits { All (λ c. from + c.0 < 2 ^ 32) seconds.now }
-    ensures { IfOk result (λ v. ArePairs firsts.now seconds.now from v.items) }
+    ensures { IfOk result (λ v. AreCopyPairs firsts.now seconds.now from v.items) }
 {
     let mut ends = Vec::with_capacity(alloc, firsts.len())?;
     for place in 0..firsts.len() {

@@ -2,7 +2,7 @@
 ghost use Rattle.std.specs.Prelude.{◌≡◌, ℕ, ◌+◌, ◌<◌, ◌≤◌, ◌^◌, length, vec_len, All, IfOk};
 ghost use Rattle.mig_base.specs.declared.ids.CopyId.{CopyId};
 ghost use Rattle.mig_base.specs.Ends.{ends_at};
-ghost use Rattle.mig_split.specs.Copies.{second_of, ArePairs};
+ghost use Rattle.mig_split.specs.Copies.{second_of, AreCopyPairs};
 ghost use Rattle.mig_split.specs.Dealing.{copy_at, count_at};
 ghost use Rattle.mig_split.specs.Sharing.{AreCopyCounts, AreFilled, AreNodes, AreNodesOf, AreOnSides, IsFilledBy, IsShared};
 
@@ -130,7 +130,7 @@ fn unpair(
 ) -> Result<(Vec<CopyId>, Vec<CopyId>), AllocError>
     requires { (e : ℕ) → e < length ends.now → from ≤ second_of ends.now e }
     ensures same { IfOk result (λ r. vec_len r.0 ≡ vec_len r.1) }
-    ensures pairs { IfOk result (λ r. ArePairs r.0.items r.1.items from ends.now) }
+    ensures pairs { IfOk result (λ r. AreCopyPairs r.0.items r.1.items from ends.now) }
 {
     let mut firsts = Vec::with_capacity(alloc, ends.len())?;
     let mut seconds = Vec::with_capacity(alloc, ends.len())?;

@@ -19,9 +19,9 @@ pub use Rattle.mig_base.specs.declared.cells.Cell.TheVariants.{Gate, Head, Mark,
 pub use Rattle.mig_base.specs.declared.cells.Event.{Event}
 pub use Rattle.mig_base.specs.declared.cells.Event.TheVariants.{Began}
 pub use Rattle.mig_base.specs.declared.cells.Flight.{Flight}
-pub use Rattle.mig_store.specs.Asking.{Contents, ask, asked_by, bytes_at, bytes_of, crash, fresh, land, picked, seen, settle}
-pub use Rattle.mig_store.specs.Calls.{AreNoted, Call, Copies, IsSpan, Lands, Recorded, Synced, Wrote, call_of, call_with, calls_of}
-pub use Rattle.mig_store.specs.Entries.{AreWithin, IsWithin, crash_entry, first_of, firsts, seen_all, zero_entry}
+pub use Rattle.mig_store.specs.Asking.{CellBytes, ask, asked_by, bytes_at, bytes_of, crash, fresh, land, picked, seen, settle}
+pub use Rattle.mig_store.specs.Calls.{AreNoted, Copies, IsSpan, Lands, Recorded, StoreCall, Synced, Wrote, call_of, call_with, calls_of}
+pub use Rattle.mig_store.specs.Entries.{AreWithin, IsWithinPeriod, crash_entry, first_of, firsts, seen_all, zero_entry}
 pub use Rattle.mig_store.specs.HeldCells.{HasLengths, cell_of, change_at, held_at, held_map, put_at, zero_held}
 pub use Rattle.mig_store.specs.Ledgers.{HaveLength, IsLaid, IsLog, IsMoment, IsUnsettled, LeftSince, Log, MayLeave, Moment, after, after_call, begin_with, flying, is_sync, moment_of, reads}
 pub use Rattle.mig_store.specs.Ledgers.{state_at}

@@ -1,15 +1,15 @@
 -- A record with one call more.
-use Rattle.mig_store.proofs.Common.{Call, Contents, Event, Flight, HaveLength, Held, IfSome, IsLog, IsMoment, IsSome, IsSomeAnd, List, Log, Moment, None, Option, Some, [], after, after_call, ap}
+use Rattle.mig_store.proofs.Common.{CellBytes, Event, Flight, HaveLength, Held, IfSome, IsLog, IsMoment, IsSome, IsSomeAnd, List, Log, Moment, None, Option, Some, StoreCall, [], after, after_call, ap}
 use Rattle.mig_store.proofs.Common.{arith, flying, held_at, length, length-append, moment_of, option_map, refl, subst, sym, ℕ, ◌++◌, ◌+◌, ◌<◌, ◌∙◌, ◌∷◌, ◌≡◌, ◌≤◌}
 use Rattle.mig_store.proofs.Moments.{after-push}
 
 -- the moment of a record with one call more
-module _ (log : Log) (held held_new : List (Held Contents)) (noted noted_new : List Event) (aloft aloft_new : List Flight) (call : Call) (is : IsLog log held noted aloft) (room : length log.calls < log.room)
+module _ (log : Log) (held held_new : List (Held CellBytes)) (noted noted_new : List Event) (aloft aloft_new : List Flight) (call : StoreCall) (is : IsLog log held noted aloft) (room : length log.calls < log.room)
     (cells : held_at held_new ≡ (after_call (moment_of log) call).cells) (events : noted_new ≡ (after_call (moment_of log) call).events) (flights : aloft_new ≡ flying (after_call (moment_of log) call))
     (moment : IsMoment (after_call (moment_of log) call)) (few_events : length noted_new ≤ length log.calls + 1) (few_flights : length aloft_new ≤ length log.calls + 1) where
-  pub logged : (first : List (Held (List ℕ))) (calls : List Call) → first ≡ log.first → calls ≡ log.calls ++ call ∷ [] → IsLog (record { first = first; calls = calls; room = log.room }) held_new noted_new aloft_new
+  pub logged : (first : List (Held (List ℕ))) (calls : List StoreCall) → first ≡ log.first → calls ≡ log.calls ++ call ∷ [] → IsLog (record { first = first; calls = calls; room = log.room }) held_new noted_new aloft_new
   logged first calls same pushed =
-      let long : length calls ≡ length log.calls + 1 = ap (λ (l : List Call). length l) pushed ∙ length-append log.calls (call ∷ []) in
+      let long : length calls ≡ length log.calls + 1 = ap (λ (l : List StoreCall). length l) pushed ∙ length-append log.calls (call ∷ []) in
       let m : after log.first calls ≡ after_call (moment_of log) call = ap (after log.first) pushed ∙ after-push log.first log.calls call in
       subst (λ (l : List (Held (List ℕ))). IsLog (record { first = l; calls = calls; room = log.room }) held_new noted_new aloft_new) (sym same) (record {
         cells = cells ∙ ap (λ (n : Moment). n.cells) (sym m);
@@ -22,18 +22,18 @@ module _ (log : Log) (held held_new : List (Held Contents)) (noted noted_new : L
       })
 
 -- a cell shows these bytes
-pub shown-is : (o : Option Contents) (bytes : List ℕ) → option_map (λ (c : Contents). c.shown) o ≡ Some bytes → IsSomeAnd o (λ c. c.shown ≡ bytes)
+pub shown-is : (o : Option CellBytes) (bytes : List ℕ) → option_map (λ (c : CellBytes). c.shown) o ≡ Some bytes → IsSomeAnd o (λ c. c.shown ≡ bytes)
 shown-is None bytes e = cc
 shown-is (Some c) bytes e = cc
 
-pub shown-some : (o : Option Contents) → IsSome (option_map (λ (c : Contents). c.shown) o) → IsSome o
+pub shown-some : (o : Option CellBytes) → IsSome (option_map (λ (c : CellBytes). c.shown) o) → IsSome o
 shown-some None some = some
 shown-some (Some c) some = refl
 
 -- they have the cell's length
-pub shown-length : (n : ℕ) (o : Option Contents) (bytes : List ℕ) → option_map (λ (c : Contents). c.shown) o ≡ Some bytes → IfSome o (HaveLength n) → length bytes ≡ n
+pub shown-length : (n : ℕ) (o : Option CellBytes) (bytes : List ℕ) → option_map (λ (c : CellBytes). c.shown) o ≡ Some bytes → IfSome o (HaveLength n) → length bytes ≡ n
 shown-length n o bytes e long = at o (shown-is o bytes e) long
   where
-    at : (o : Option Contents) → IsSomeAnd o (λ c. c.shown ≡ bytes) → IfSome o (HaveLength n) → length bytes ≡ n
+    at : (o : Option CellBytes) → IsSomeAnd o (λ c. c.shown ≡ bytes) → IfSome o (HaveLength n) → length bytes ≡ n
     at None none long = absurd none
     at (Some c) is long = ap (λ (l : List ℕ). length l) (sym is) ∙ long.shown

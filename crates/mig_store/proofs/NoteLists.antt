@@ -1,5 +1,5 @@
 -- Calls whose bytes stand in one list.
-use Rattle.mig_store.proofs.Common.{Act, All, All-append, AreNoted, Bool, Call, Copy, IsSpan, Land, List, Note, Recorded, Span, Sync, Write, [], ap, arith, call_of, call_with, calls_of, cond}
+use Rattle.mig_store.proofs.Common.{Act, All, All-append, AreNoted, Bool, Copy, IsSpan, Land, List, Note, Recorded, Span, StoreCall, Sync, Write, [], ap, arith, call_of, call_with, calls_of, cond}
 use Rattle.mig_store.proofs.Common.{count_by, drop, drop-append-le, drop-append_seam, get_or, is_sync, length, length-append, length-drop, length-map, map-append, refl, slice_range, subst, suc}
 use Rattle.mig_store.proofs.Common.{sum_by-cons, sym, take, take-append-le, take_all, zero, ℕ, ◌*◌, ◌++◌, ◌+◌, ◌-◌, ◌<◌, ◌∙◌, ◌∷◌, ◌≡◌, ◌≤◌}
 
@@ -56,7 +56,7 @@ module _ (notes new_notes : List Note) (bytes more new_bytes : List ℕ) (act : 
   pub calls_note : calls_of new_bytes new_notes ≡ calls_of bytes notes ++ call_with act more ∷ []
   calls_note =
       calls_more notes new_notes new_bytes act span noted more ((λ i. slice_range (grown i) (begins i) (is_end i)) ∙ span_new bytes more)
-      ∙ ap (λ (l : List Call). l ++ call_with act more ∷ []) (ap (λ (l : List ℕ). calls_of l notes) grown ∙ calls_kept bytes more notes are.spans)
+      ∙ ap (λ (l : List StoreCall). l ++ call_with act more ∷ []) (ap (λ (l : List ℕ). calls_of l notes) grown ∙ calls_kept bytes more notes are.spans)
 
   pub noted_note : length more ≤ 4096 → AreNoted new_notes new_bytes
   noted_note short =
@@ -84,6 +84,6 @@ same_sync Sync bytes others = refl
 pub syncs_of : (bytes : List ℕ) (notes : List Note) → count_by is_sync (calls_of bytes notes) ≡ count_by notes_sync notes
 syncs_of bytes [] = refl
 syncs_of bytes (n ∷ notes) =
-    sum_by-cons (λ (c : Call). cond (is_sync c) 1 0) (call_of bytes n) (calls_of bytes notes)
+    sum_by-cons (λ (c : StoreCall). cond (is_sync c) 1 0) (call_of bytes n) (calls_of bytes notes)
     ∙ (λ i. cond (same_sync n.act (slice_range bytes n.span.from n.span.to) (slice_range [] n.span.from n.span.to) i) 1 0 + syncs_of bytes notes i)
     ∙ sym (sum_by-cons (λ (m : Note). cond (notes_sync m) 1 0) n notes)

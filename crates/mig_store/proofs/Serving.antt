@@ -1,5 +1,5 @@
 -- What a store in memory tells after each kind of call.
-use Rattle.mig_store.proofs.Common.{Bool, Call, Cell, Changes, Contains, Copies, Ends, Event, Flight, Held, IfSome, Image, IsCopy, IsMoment, IsPermutation, IsSettled, IsTargetOf, Lands, List}
+use Rattle.mig_store.proofs.Common.{Bool, Cell, Changes, Contains, Copies, Ends, Event, Flight, Held, IfSome, Image, IsCopy, IsMoment, IsPermutation, IsSettled, IsTargetOf, Lands, List, StoreCall}
 use Rattle.mig_store.proofs.Common.{Log, MayLeave, Memory, Moment, NoCell, SameBut, Synced, Wrote, [], after, after_call, ap, append-nil, arith, began, cell_len, cond, contains_any, ended}
 use Rattle.mig_store.proofs.Common.{ends_one_others, false, filter, flights_began, flying, get_or, is_flight, length, moment_of, not, pushed, reads, refl, state_at, state_of, subst, suc, sym}
 use Rattle.mig_store.proofs.Common.{target_here, target_right, true, zero, ℕ, ◌++◌, ◌<◌, ◌∙◌, ◌∷◌, ◌≡◌}
@@ -10,7 +10,7 @@ module _ (m n : Memory) where
   pub mem_still : (P Q : Cell → Type 0) → n.log ≡ m.log → Changes P Q [] (state_of m) (state_of n)
   mem_still P Q same = subst (λ (l : Log). Changes P Q [] (state_of m) (state_at l.first l.calls n.trouble.faults)) (sym same) (unrecorded P Q m.log.first m.log.calls m.trouble.faults n.trouble.faults)
 
-  module _ (call : Call) (same : n.log ≡ pushed m.log call) where
+  module _ (call : StoreCall) (same : n.log ≡ pushed m.log call) where
     pub mem_moment : moment_of n.log ≡ after_call (moment_of m.log) call
     mem_moment = ap moment_of same ∙ after-push m.log.first m.log.calls call
 
@@ -49,8 +49,8 @@ module _ (m n : Memory) where
     mem_settled = subst (λ (x : Moment). (image : Image) → MayLeave x image → SameBut NoCell (reads x) image) (sym (mem_moment Synced same)) (synced_settled (moment_of m.log) is)
 
 -- a copy that ends
-module _ (first : List (Held (List ℕ))) (calls : List Call) (f : Flight) (is : IsMoment (after first calls)) (has : Contains (flying (after first calls)) f) (a b : ℕ) where
-  abbrev next_calls : List Call
+module _ (first : List (Held (List ℕ))) (calls : List StoreCall) (f : Flight) (is : IsMoment (after first calls)) (has : Contains (flying (after first calls)) f) (a b : ℕ) where
+  abbrev next_calls : List StoreCall
   next_calls = calls ++ Lands f.from f.to ∷ []
 
   next_flights : flying (after first next_calls) ≡ filter (λ c. not (is_flight f c)) (flying (after first calls))

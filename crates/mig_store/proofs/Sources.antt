@@ -1,12 +1,12 @@
 -- The bytes that a copy reads.
-use Rattle.mig_store.proofs.Common.{Bool, Call, Cell, Contents, Copies, Entry, Flight, Held, IfSome, IsMoment, IsSome, List, Log, None, Option, Some, [], ap, bytes_at, cell_len, false≢true}
+use Rattle.mig_store.proofs.Common.{Bool, Cell, CellBytes, Copies, Entry, Flight, Held, IfSome, IsMoment, IsSome, List, Log, None, Option, Some, StoreCall, [], ap, bytes_at, cell_len, false≢true}
 use Rattle.mig_store.proofs.Common.{held_at, length, moment_of, option_map, pushed, reads, refl, seen_all, subst, sym, ℕ, ◌++◌, ◌∙◌, ◌∷◌, ◌≡◌}
 use Rattle.mig_store.proofs.EntryLists.{reads_entry, reads_nothing}
 use Rattle.mig_store.proofs.Logs.{shown-length}
 
 module _ (log : Log) (period : ℕ) (held : List (Held Entry)) (cells : held_at (seen_all log.calls period held) ≡ (moment_of log).cells) (cell : Cell) (told : IsSome (reads (moment_of log) cell)) where
-  shows : option_map (λ (c : Contents). c.shown) (held_at (seen_all log.calls period held) cell) ≡ reads (moment_of log) cell
-  shows = ap (λ (cells : Cell → Option Contents). option_map (λ (c : Contents). c.shown) (cells cell)) cells
+  shows : option_map (λ (c : CellBytes). c.shown) (held_at (seen_all log.calls period held) cell) ≡ reads (moment_of log) cell
+  shows = ap (λ (cells : Cell → Option CellBytes). option_map (λ (c : CellBytes). c.shown) (cells cell)) cells
 
   -- a cell that is told is held
   entry : (e : Entry) × (held_at held cell ≡ Some e)
@@ -34,7 +34,7 @@ module _ (log : Log) (period : ℕ) (held : List (Held Entry)) (cells : held_at 
       subst (λ (o : Option Entry). IfSome o (λ e. Q (bytes_at log.calls e.first e.shown))) (ap (λ (l : List (Held Entry)). held_at l cell) same ∙ entry.1) holds
 
   -- the record with a call more, of this source
-  pub source_pushed : (old new : Log) → log ≡ old → (call : List ℕ → Call) → new.first ≡ log.first → new.calls ≡ log.calls ++ call source ∷ [] → new.room ≡ log.room
+  pub source_pushed : (old new : Log) → log ≡ old → (call : List ℕ → StoreCall) → new.first ≡ log.first → new.calls ≡ log.calls ++ call source ∷ [] → new.room ≡ log.room
       → IfSome (reads (moment_of old) cell) (λ bytes. new ≡ record { first = old.first; calls = old.calls ++ call bytes ∷ []; room = old.room })
   source_pushed old new is call first calls room =
       subst (λ (l : Log). IfSome (reads (moment_of l) cell) (λ bytes. new ≡ record { first = l.first; calls = l.calls ++ call bytes ∷ []; room = l.room })) is

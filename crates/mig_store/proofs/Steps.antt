@@ -1,5 +1,5 @@
 -- What each kind of call in a record changes.
-use Rattle.mig_store.proofs.Common.{All, All-append, All-contains, AreFlights, Began, Bool, Cell, Contains, Contains-get_or, Contents, Copies, Flight, HaveLength, IfSome, Image, IsCopy, IsLaid}
+use Rattle.mig_store.proofs.Common.{All, All-append, All-contains, AreFlights, Began, Bool, Cell, CellBytes, Contains, Contains-get_or, Copies, Flight, HaveLength, IfSome, Image, IsCopy, IsLaid}
 use Rattle.mig_store.proofs.Common.{IsMoment, IsSome, IsSomeAnd, IsSourceOf, IsTargetOf, IsUnsettled, Lands, List, MayLeave, Moment, NoCell, None, Option, SameBut, Some, Synced, Wrote, []}
 use Rattle.mig_store.proofs.Common.{after_call, after_events, any_contains, ap, arith, ask, cases_cell, cell_len, cond, contains_kept, false, false≢true, filter, filter_passes, flights_began}
 use Rattle.mig_store.proofs.Common.{flights_ended, flights_filter, flights_push, flying, get_or, inl, inr, is_flight, is_flight-same, land, length, not, one_by, option_map, reads, refl}
@@ -7,11 +7,11 @@ use Rattle.mig_store.proofs.Common.{same_none, same_wider, settle, subst, suc, s
 use Rattle.mig_store.proofs.CellLists.{change_at-other, change_at-here}
 use Rattle.mig_store.proofs.Moments.{changed_lengths, changed_told, changed_crash, changed_laid}
 
-ask_shape : (bytes : List ℕ) (done : Bool) (n : ℕ) → length bytes ≡ n → (c : Contents) → HaveLength n c → HaveLength n (ask bytes done c)
+ask_shape : (bytes : List ℕ) (done : Bool) (n : ℕ) → length bytes ≡ n → (c : CellBytes) → HaveLength n c → HaveLength n (ask bytes done c)
 ask_shape bytes true n fits c long = record { kept = long.kept; shown = fits; asked = fits }
 ask_shape bytes false n fits c long = record { kept = long.kept; shown = long.shown; asked = fits }
 
-land_shape : (n : ℕ) (c : Contents) → HaveLength n c → HaveLength n (land c)
+land_shape : (n : ℕ) (c : CellBytes) → HaveLength n c → HaveLength n (land c)
 land_shape n c long = record { kept = long.kept; shown = long.asked; asked = long.asked }
 
 -- a write
@@ -35,9 +35,9 @@ module _ (m : Moment) (is : IsMoment m) (cell : Cell) (bytes : List ℕ) (done :
   }
 
 pub wrote_shows : (m : Moment) (cell : Cell) (bytes : List ℕ) → IfSome (reads (after_call m (Wrote cell bytes true)) cell) (λ told. told ≡ bytes)
-wrote_shows m cell bytes = subst (λ (o : Option Contents). IfSome (option_map (λ (c : Contents). c.shown) o) (λ told. told ≡ bytes)) (sym (change_at-here (ask bytes true) cell m.cells)) (here (m.cells cell))
+wrote_shows m cell bytes = subst (λ (o : Option CellBytes). IfSome (option_map (λ (c : CellBytes). c.shown) o) (λ told. told ≡ bytes)) (sym (change_at-here (ask bytes true) cell m.cells)) (here (m.cells cell))
   where
-    here : (o : Option Contents) → IfSome (option_map (λ (c : Contents). c.shown) (option_map (ask bytes true) o)) (λ told. told ≡ bytes)
+    here : (o : Option CellBytes) → IfSome (option_map (λ (c : CellBytes). c.shown) (option_map (ask bytes true) o)) (λ told. told ≡ bytes)
     here None = tt
     here (Some c) = refl
 
@@ -63,10 +63,10 @@ module _ (m : Moment) (is : IsMoment m) (f : Flight) (bytes : List ℕ) (done : 
 
     module _ (source : IsSomeAnd (m.cells f.from) (λ c. c.shown ≡ bytes)) (target : IsSome (m.cells f.to)) where
       laid_new : IsLaid asked f
-      laid_new = subst (λ (o : Option Contents). IsSomeAnd o (λ source. IsSomeAnd (asked.cells f.to) (λ target. (target.asked ≡ source.shown) × (target.unsettled ≡ true)))) (sym (change_at-other (ask bytes false) f.to m.cells f.from from_other))
-          (subst (λ (o : Option Contents). IsSomeAnd (m.cells f.from) (λ source. IsSomeAnd o (λ target. (target.asked ≡ source.shown) × (target.unsettled ≡ true)))) (sym (change_at-here (ask bytes false) f.to m.cells)) (at (m.cells f.from) (m.cells f.to) source target))
+      laid_new = subst (λ (o : Option CellBytes). IsSomeAnd o (λ source. IsSomeAnd (asked.cells f.to) (λ target. (target.asked ≡ source.shown) × (target.unsettled ≡ true)))) (sym (change_at-other (ask bytes false) f.to m.cells f.from from_other))
+          (subst (λ (o : Option CellBytes). IsSomeAnd (m.cells f.from) (λ source. IsSomeAnd o (λ target. (target.asked ≡ source.shown) × (target.unsettled ≡ true)))) (sym (change_at-here (ask bytes false) f.to m.cells)) (at (m.cells f.from) (m.cells f.to) source target))
         where
-          at : (s t : Option Contents) → IsSomeAnd s (λ c. c.shown ≡ bytes) → IsSome t → IsSomeAnd s (λ source. IsSomeAnd (option_map (ask bytes false) t) (λ target. (target.asked ≡ source.shown) × (target.unsettled ≡ true)))
+          at : (s t : Option CellBytes) → IsSomeAnd s (λ c. c.shown ≡ bytes) → IsSome t → IsSomeAnd s (λ source. IsSomeAnd (option_map (ask bytes false) t) (λ target. (target.asked ≡ source.shown) × (target.unsettled ≡ true)))
           at None t none some = absurd none
           at (Some c) None is none = absurd (false≢true none)
           at (Some c) (Some t) is some = (sym is, refl)
@@ -95,7 +95,7 @@ module _ (m : Moment) (is : IsMoment m) (f : Flight) (has : Contains (flying m) 
   abbrev landed : Moment
   landed = after_call m (Lands f.from f.to)
 
-  shape : (c : Contents) → HaveLength (cell_len f.to) c → HaveLength (cell_len f.to) (land c)
+  shape : (c : CellBytes) → HaveLength (cell_len f.to) c → HaveLength (cell_len f.to) (land c)
   shape = land_shape (cell_len f.to)
 
   laid : IsLaid m f
@@ -107,7 +107,7 @@ module _ (m : Moment) (is : IsMoment m) (f : Flight) (has : Contains (flying m) 
   target_unsettled : IsUnsettled m f.to
   target_unsettled = at (m.cells f.from) (m.cells f.to) laid
     where
-      at : (s t : Option Contents) → IsSomeAnd s (λ source. IsSomeAnd t (λ target. (target.asked ≡ source.shown) × (target.unsettled ≡ true))) → IsSomeAnd t (λ c. c.unsettled ≡ true)
+      at : (s t : Option CellBytes) → IsSomeAnd s (λ source. IsSomeAnd t (λ target. (target.asked ≡ source.shown) × (target.unsettled ≡ true))) → IsSomeAnd t (λ c. c.unsettled ≡ true)
       at None t none = absurd none
       at (Some c) None none = absurd none
       at (Some c) (Some t) is = is.1
@@ -120,17 +120,17 @@ module _ (m : Moment) (is : IsMoment m) (f : Flight) (has : Contains (flying m) 
         where
           at : (cell ≡ f.to) ⊎ (cell ≡ f.to → ⊥) → image cell ≡ reads m cell
           at (inl e) = absurd (out (subst (IsUnsettled m) (sym e) target_unsettled))
-          at (inr other) = left.same cell (λ un. out (subst (λ (o : Option Contents). IsSomeAnd o (λ c. c.unsettled ≡ true)) (change_at-other land f.to m.cells cell other) un))
+          at (inr other) = left.same cell (λ un. out (subst (λ (o : Option CellBytes). IsSomeAnd o (λ c. c.unsettled ≡ true)) (change_at-other land f.to m.cells cell other) un))
               ∙ (changed_told m landed is land f.to refl shape).same cell other
 
   pub landed_crash : (image : Image) → MayLeave landed image → (old : Image) × MayLeave m old × SameBut NoCell old image
   landed_crash image left = (image, landed_leaves image left, same_none NoCell image)
 
   pub landed_copied : IsCopy (reads m f.from) (reads landed f.to)
-  landed_copied = subst (λ (o : Option Contents). IsCopy (reads m f.from) (option_map (λ (c : Contents). c.shown) o)) (sym (change_at-here land f.to m.cells)) (at (m.cells f.from) (m.cells f.to) laid)
+  landed_copied = subst (λ (o : Option CellBytes). IsCopy (reads m f.from) (option_map (λ (c : CellBytes). c.shown) o)) (sym (change_at-here land f.to m.cells)) (at (m.cells f.from) (m.cells f.to) laid)
     where
-      at : (s t : Option Contents) → IsSomeAnd s (λ source. IsSomeAnd t (λ target. (target.asked ≡ source.shown) × (target.unsettled ≡ true)))
-          → IsCopy (option_map (λ (c : Contents). c.shown) s) (option_map (λ (c : Contents). c.shown) (option_map land t))
+      at : (s t : Option CellBytes) → IsSomeAnd s (λ source. IsSomeAnd t (λ target. (target.asked ≡ source.shown) × (target.unsettled ≡ true)))
+          → IsCopy (option_map (λ (c : CellBytes). c.shown) s) (option_map (λ (c : CellBytes). c.shown) (option_map land t))
       at None t none = absurd none
       at (Some c) None none = absurd none
       at (Some c) (Some t) is = is.0
@@ -165,11 +165,11 @@ module _ (m : Moment) (is : IsMoment m) where
   abbrev synced : Moment
   synced = after_call m Synced
 
-  same_at : (o : Option Contents) → option_map (λ (c : Contents). c.shown) (option_map settle o) ≡ option_map (λ (c : Contents). c.shown) o
+  same_at : (o : Option CellBytes) → option_map (λ (c : CellBytes). c.shown) (option_map settle o) ≡ option_map (λ (c : CellBytes). c.shown) o
   same_at None = refl
   same_at (Some c) = refl
 
-  settled_at : (o : Option Contents) → IsSomeAnd (option_map settle o) (λ c. c.unsettled ≡ true) → ⊥
+  settled_at : (o : Option CellBytes) → IsSomeAnd (option_map settle o) (λ c. c.unsettled ≡ true) → ⊥
   settled_at None none = none
   settled_at (Some c) un = false≢true un
 
@@ -196,6 +196,6 @@ module _ (m : Moment) (is : IsMoment m) where
     laid = subst (λ (l : List Flight). All (IsLaid synced) l) (sym none) (λ k d lt. absurd (omega arith));
   }
     where
-      at : (n : ℕ) (o : Option Contents) → IfSome o (HaveLength n) → IfSome (option_map settle o) (HaveLength n)
+      at : (n : ℕ) (o : Option CellBytes) → IfSome o (HaveLength n) → IfSome (option_map settle o) (HaveLength n)
       at n None long = tt
       at n (Some c) long = record { kept = long.shown; shown = long.shown; asked = long.shown }

@@ -7,18 +7,18 @@ use Rattle.mig_store.specs.declared.calls.Note.{Note}
 use Rattle.mig_store.specs.declared.calls.Span.{Span}
 
 -- a call of a store in memory, with its bytes
-pub data Call : Type 0 where
+pub data StoreCall : Type 0 where
   -- these bytes were asked to be written; a write that failed left the cell
-  Wrote : Cell → List ℕ → Bool → Call
+  Wrote : Cell → List ℕ → Bool → StoreCall
   -- a copy of these bytes was asked to begin, and began if it is done
-  Copies : Cell → Cell → List ℕ → Bool → Call
+  Copies : Cell → Cell → List ℕ → Bool → StoreCall
   -- a copy ended
-  Lands : Cell → Cell → Call
+  Lands : Cell → Cell → StoreCall
   -- a sync succeeded
-  Synced : Call
+  Synced : StoreCall
 
 -- an act, with the bytes that it asks to be written
-abbrev pub call_with : Act → List ℕ → Call
+abbrev pub call_with : Act → List ℕ → StoreCall
 call_with (Write cell done) bytes = Wrote cell bytes done
 call_with (Copy from to done) bytes = Copies from to bytes done
 call_with (Land from to) bytes = Lands from to
@@ -26,16 +26,16 @@ call_with Sync bytes = Synced
 
 -- a record's calls, and the room for calls
 pub record Recorded : Type 0 where
-  pub calls : List Call
+  pub calls : List StoreCall
   pub room : ℕ
 
 -- The bytes of all calls stand in one list
 
 -- the call of a note, by that list
-abbrev pub call_of : List ℕ → Note → Call
+abbrev pub call_of : List ℕ → Note → StoreCall
 call_of bytes n = call_with n.act (slice_range bytes n.span.from n.span.to)
 
-abbrev pub calls_of : List ℕ → List Note → List Call
+abbrev pub calls_of : List ℕ → List Note → List StoreCall
 calls_of bytes notes = map (call_of bytes) notes
 
 -- a part of so many bytes, no longer than a slot

@@ -77,8 +77,8 @@ pub record BothHold (left copied item : List ℕ) : Type 0 where
   pub to : HasHeader item copied
 
 -- where both are told, they hold one item, and the first has bytes of it that the second hasn't
-abbrev pub Differ : Image → Cell → Cell → Type 0
-Differ image from to = IfSome (image from) (λ left. IfSome (image to) (λ copied. (item : List ℕ) × BothHold left copied item × ¬ IsRestOf left copied))
+abbrev pub SlotsDiffer : Image → Cell → Cell → Type 0
+SlotsDiffer image from to = IfSome (image from) (λ left. IfSome (image to) (λ copied. (item : List ℕ) × BothHold left copied item × ¬ IsRestOf left copied))
 
 -- what was seen at any slot but these is seen still
 abbrev pub Remembers : (Cell → Type 0) → Sights → Sights → Type 0

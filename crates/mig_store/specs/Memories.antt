@@ -5,7 +5,7 @@ use Rattle.std.proofs.lemmas.List.{take_all}
 use Rattle.mig_base.specs.declared.cells.Cell.{Cell}
 use Rattle.mig_base.specs.declared.cells.Flight.{Flight}
 use Rattle.mig_base.specs.Stores.{State, IsState}
-use Rattle.mig_store.specs.Calls.{Call, Lands, Synced}
+use Rattle.mig_store.specs.Calls.{Lands, StoreCall, Synced}
 use Rattle.mig_store.specs.declared.ends.Landing.{Landing}
 use Rattle.mig_store.specs.declared.trouble.Trouble.{Trouble}
 use Rattle.mig_store.specs.Ledgers.{Log, after, moment_of, flying, MayLeave, state_at}
@@ -23,8 +23,8 @@ state_of m = state_at m.log.first m.log.calls m.trouble.faults
 
 pub mem_is_state : (m : Memory) → IsState (state_of m)
 mem_is_state m = record {
-  counts_now = λ t image le now. (length m.log.calls, le, omega arith, subst (λ (l : List Call). MayLeave (after m.log.first l) image) (sym (take_all (length m.log.calls) m.log.calls (omega arith))) now);
-  only_now = λ image left. subst (λ (l : List Call). MayLeave (after m.log.first l) image) (take_all left.0 m.log.calls left.1) left.3;
+  counts_now = λ t image le now. (length m.log.calls, le, omega arith, subst (λ (l : List StoreCall). MayLeave (after m.log.first l) image) (sym (take_all (length m.log.calls) m.log.calls (omega arith))) now);
+  only_now = λ image left. subst (λ (l : List StoreCall). MayLeave (after m.log.first l) image) (take_all left.0 m.log.calls left.1) left.3;
   reads_left = λ image left. record { same = λ cell out. refl; shape = λ cell. refl };
   shape = λ image left cell. left.shape cell;
 }
@@ -32,16 +32,16 @@ mem_is_state m = record {
 -- What each call leaves
 
 -- the record has room for so many calls more
-abbrev pub HasRoom : ℕ → Memory → Type 0
-HasRoom places m = length m.log.calls + places ≤ m.log.room
+abbrev pub HasCallRoom : ℕ → Memory → Type 0
+HasCallRoom places m = length m.log.calls + places ≤ m.log.room
 
 -- the record with a call more
-abbrev pub pushed : Log → Call → Log
+abbrev pub pushed : Log → StoreCall → Log
 pushed log call = record { first = log.first; calls = log.calls ++ call ∷ []; room = log.room }
 
 -- a copy can be recorded: both cells are told, and there is room
 abbrev pub CanCopy : Cell → Cell → Memory → Type 0
-CanCopy from to m = HasRoom 1 m × IsSome ((state_of m).reads from) × IsSome ((state_of m).reads to)
+CanCopy from to m = HasCallRoom 1 m × IsSome ((state_of m).reads from) × IsSome ((state_of m).reads to)
 
 -- a call that failed counts as a fault
 abbrev pub faulted : {T E : Type 0} → Result T E → Trouble → Trouble

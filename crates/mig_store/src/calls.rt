@@ -40,13 +40,13 @@ pub struct Note {
 ///
 /// The bytes of all calls stand in one list, one after the other, which has room for those of each call that is still to come.
 #[derive(Drop)]
-pub struct Calls {
+pub struct CallRecord {
     notes: Vec<Note>,
     bytes: Vec<u8>,
     room: u32,
 }
 
-impl Model for Calls {
+impl Model for CallRecord {
     ghost use Rattle.std.specs.Prelude.{◌≤◌, ◌*◌, length, vec_capacity};
     ghost use Rattle.mig_store.specs.Calls.{Recorded, AreNoted, calls_of};
 
@@ -98,13 +98,13 @@ fn part(bytes: &[u8], span: Span) -> &[u8]
     &bytes[span.from..span.to]
 }
 
-impl Calls {
+impl CallRecord {
     /// No calls, with room for so many. An error is want of memory.
-    pub fn new(alloc: Global, room: u32) -> Result<Calls, AllocError>
+    pub fn new(alloc: Global, room: u32) -> Result<CallRecord, AllocError>
         ensures calls { IfOk result (λ made. made.calls ≡ []) }
         ensures room { IfOk result (λ made. made.room ≡ room) }
     {
-        Ok(Calls {
+        Ok(CallRecord {
             notes: Vec::with_capacity(alloc, room as usize)?,
             bytes: Vec::with_capacity(alloc, room as usize * 4096)?,
             room,

@@ -1,13 +1,13 @@
 //! What a store in memory keeps of a cell.
 ghost use Rattle.std.specs.Prelude.{◌≡◌, ◌<◌, ◌≤◌, ◌+◌, ◌++◌, ◌∷◌, [], ◌/◌, ℕ, List, IfOk, IfSome, length, map, slice_get, take};
-ghost use Rattle.mig_store.specs.Calls.{Call, Copies, call_with};
+ghost use Rattle.mig_store.specs.Calls.{Copies, StoreCall, call_with};
 ghost use Rattle.mig_store.specs.Bytes.{overwritten};
 ghost use Rattle.mig_store.specs.Asking.{ask, asked_by, land, bytes_at, bytes_of, seen};
 ghost use Rattle.mig_store.specs.HeldCells.{cell_of, held_at, change_at, held_map};
-ghost use Rattle.mig_store.specs.Entries.{firsts, seen_all, crash_entry, IsWithin, AreWithin, zero_entry};
+ghost use Rattle.mig_store.specs.Entries.{firsts, seen_all, crash_entry, IsWithinPeriod, AreWithin, zero_entry};
 
 use crate::block::Block;
-use crate::calls::{Act, Calls};
+use crate::calls::{Act, CallRecord};
 use crate::cell_table::CellTable;
 use crate::held::{Held, get, zero_block};
 use mig_base::{Cell, Flight};
@@ -69,7 +69,7 @@ fn halves(kept: &[u8], asked: &[u8]) -> Block
 
 impl Entry {
     // The bytes that the call at this place asks for, or the first ones.
-    fn bytes<'a>(&'a self, calls: &'a Calls, place: Option<usize>) -> &'a [u8]
+    fn bytes<'a>(&'a self, calls: &'a CallRecord, place: Option<usize>) -> &'a [u8]
         ensures value { result.now ≡ bytes_at calls.now.calls self.now.first place }
         ensures short { length result.now ≤ 4096 }
     {
@@ -80,14 +80,14 @@ impl Entry {
     }
 
     /// What a read gives, after these calls.
-    pub fn shown<'a>(&'a self, calls: &'a Calls) -> &'a [u8]
+    pub fn shown<'a>(&'a self, calls: &'a CallRecord) -> &'a [u8]
         ensures { result.now ≡ bytes_at calls.now.calls self.now.first self.now.shown }
     {
         self.bytes(calls, self.shown)
     }
 
     // Records a call that asks what a read gives to be written.
-    fn note_shown(&self, calls: &mut Calls, act: &Act)
+    fn note_shown(&self, calls: &mut CallRecord, act: &Act)
         requires { length calls.old.calls < calls.old.room }
         ensures calls { calls.new.calls ≡ calls.old.calls ++ call_with act.now (bytes_at calls.old.calls self.now.first self.now.shown) ∷ [] }
         ensures room { calls.new.room ≡ calls.old.room }
@@ -100,9 +100,10 @@ impl Entry {
 
     // Takes what the call at this place asks for.
     fn ask(&mut self, period: u64, place: usize, done: bool)
-        ensures seen { (calls : List Call) → seen calls period self.new ≡ ask (asked_by (slice_get calls place)) done (seen calls period self.old) }
+        ensures seen { (calls : List StoreCall)
+            → seen calls period self.new ≡ ask (asked_by (slice_get calls place)) done (seen calls period self.old) }
         ensures first { self.new.first ≡ self.old.first }
-        ensures within { IsWithin place period self.old → IsWithin (place + 1) period self.new }
+        ensures within { IsWithinPeriod place period self.old → IsWithinPeriod (place + 1) period self.new }
     {
         if self.period != period {
             self.kept = self.shown;
@@ -115,9 +116,9 @@ impl Entry {
     }
 
     fn land(&mut self, period: u64)
-        ensures seen { (calls : List Call) → seen calls period self.new ≡ land (seen calls period self.old) }
+        ensures seen { (calls : List StoreCall) → seen calls period self.new ≡ land (seen calls period self.old) }
         ensures first { self.new.first ≡ self.old.first }
-        ensures within { (count : ℕ) → IsWithin count period self.old → IsWithin count period self.new }
+        ensures within { (count : ℕ) → IsWithinPeriod count period self.old → IsWithinPeriod count period self.new }
     {
         if self.period == period {
             self.shown = self.asked;
@@ -125,7 +126,7 @@ impl Entry {
     }
 
     // Keeps what is picked, after these calls, as the first bytes.
-    fn crash(&mut self, calls: &Calls, period: u64, pick: Pick)
+    fn crash(&mut self, calls: &CallRecord, period: u64, pick: Pick)
         ensures { self.new ≡ crash_entry calls.now.calls period pick self.old }
     {
         if self.period == period {
@@ -148,7 +149,7 @@ impl Entry {
 pub fn note_copy(
     table: &CellTable,
     held: &[Held<Entry>],
-    calls: &mut Calls,
+    calls: &mut CallRecord,
     flight: &Flight,
     done: bool,
 )
@@ -177,7 +178,7 @@ pub fn ask_at(
     done: bool,
 )
     requires cells { table.now ≡ map cell_of held.old.items }
-    ensures seen { (calls : List Call) → held_at (seen_all calls period held.new.items) ≡ change_at (ask (asked_by (slice_get calls place)) done) cell.now (held_at (seen_all calls period held.old.items)) }
+    ensures seen { (calls : List StoreCall) → held_at (seen_all calls period held.new.items) ≡ change_at (ask (asked_by (slice_get calls place)) done) cell.now (held_at (seen_all calls period held.old.items)) }
     ensures first { firsts held.new.items ≡ firsts held.old.items }
     ensures within { AreWithin place period held.old.items → AreWithin (place + 1) period held.new.items }
 {
@@ -190,7 +191,7 @@ pub fn ask_at(
 /// Shows the bytes that were asked to be written to the cell, if it is held and unsettled.
 pub fn land_at(table: &CellTable, held: &mut Vec<Held<Entry>>, period: u64, cell: &Cell)
     requires cells { table.now ≡ map cell_of held.old.items }
-    ensures seen { (calls : List Call) → held_at (seen_all calls period held.new.items) ≡ change_at land cell.now (held_at (seen_all calls period held.old.items)) }
+    ensures seen { (calls : List StoreCall) → held_at (seen_all calls period held.new.items) ≡ change_at land cell.now (held_at (seen_all calls period held.old.items)) }
     ensures first { firsts held.new.items ≡ firsts held.old.items }
     ensures within { (count : ℕ) → AreWithin count period held.old.items → AreWithin count period held.new.items }
 {
@@ -201,7 +202,7 @@ pub fn land_at(table: &CellTable, held: &mut Vec<Held<Entry>>, period: u64, cell
 }
 
 /// Leaves in each cell what is picked, after these calls.
-pub fn crash_all(held: &mut Vec<Held<Entry>>, calls: &Calls, period: u64, pick: Pick)
+pub fn crash_all(held: &mut Vec<Held<Entry>>, calls: &CallRecord, period: u64, pick: Pick)
     ensures { held.new.items ≡ map (held_map (crash_entry calls.now.calls period pick)) held.old.items }
 {
     for h in held.iter_mut() {

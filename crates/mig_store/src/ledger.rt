@@ -9,7 +9,7 @@ ghost use Rattle.mig_store.specs.HeldCells.{held_at, held_map, zero_held};
 ghost use Rattle.mig_store.specs.Asking.{picked};
 ghost use Rattle.mig_store.specs.Ledgers.{Log, is_sync, IsMoment, moment_of, reads, flying};
 
-use crate::calls::{Act, Calls};
+use crate::calls::{Act, CallRecord};
 use crate::cell_table::CellTable;
 use crate::contents::{Entry, Pick, ask_at, crash_all, land_at, note_copy, zero_entries};
 use crate::growing::push;
@@ -24,7 +24,7 @@ pub struct Ledger {
     held: Vec<Held<Entry>>,
     /// One more than the number of syncs.
     period: u64,
-    calls: Calls,
+    calls: CallRecord,
     events: Vec<Event>,
     flying: Vec<Flight>,
     room: u32,
@@ -69,7 +69,7 @@ impl Ledger {
             table: CellTable::of(alloc, cells)?,
             held: zero_entries(alloc, cells)?,
             period: 1,
-            calls: Calls::new(alloc, room)?,
+            calls: CallRecord::new(alloc, room)?,
             events: Vec::with_capacity(alloc, room as usize)?,
             flying: Vec::with_capacity(alloc, room as usize)?,
             room,

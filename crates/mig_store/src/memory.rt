@@ -11,12 +11,12 @@ ghost use Rattle.mig_store.specs.Calls.{Wrote, Copies, Lands};
 ghost use Rattle.mig_store.specs.declared.ends.EndOrder.{EndOrder};
 ghost use Rattle.mig_store.specs.declared.trouble.Trouble.{Trouble};
 ghost use Rattle.mig_store.specs.Asking.{picked};
-ghost use Rattle.mig_store.specs.Grounds.{Differ, HasGround, IsErasure, IsLast, IsUncopiable, Lacks};
+ghost use Rattle.mig_store.specs.Grounds.{HasGround, IsErasure, IsLast, IsUncopiable, Lacks, SlotsDiffer};
 ghost use Rattle.mig_store.specs.HeldCells.{zero_held};
 ghost use Rattle.mig_store.specs.Ledgers.{Log, is_sync, IsMoment, moment_of, flying, state_at};
 ghost use Rattle.mig_store.specs.Orders.{after_end};
 ghost use Rattle.mig_store.specs.Troubles.{fails, fails_write, next_number, next_write};
-ghost use Rattle.mig_store.specs.Memories.{Memory, HasRoom, CanCopy, pushed, faulted, aloft, next_flight, landed, land_many, synced, state_of, mem_is_state};
+ghost use Rattle.mig_store.specs.Memories.{Memory, HasCallRoom, CanCopy, pushed, faulted, aloft, next_flight, landed, land_many, synced, state_of, mem_is_state};
 
 use crate::contents::Pick;
 use crate::ends::{EndOrder, Landing};
@@ -244,7 +244,7 @@ impl Store for MemStore {
         ensures succeeds { IsOk result }
         ensures after { self.new ≡ self.old }
         ensures change { Looks (state_of self.old) (state_of self.new) }
-        ensures cause { HasGround ⊥ (Differ (state_of self.old).reads from.now to.now) (state_of self.old) (state_of self.new) result }
+        ensures cause { HasGround ⊥ (SlotsDiffer (state_of self.old).reads from.now to.now) (state_of self.old) (state_of self.new) result }
     {
         Ok(())
     }
@@ -254,9 +254,9 @@ impl Store for MemStore {
         requires length { length bytes.now ≡ cell_len cell.now }
         requires not_target { ¬ IsTargetOf (flights (state_of self.old)) cell.now }
         requires not_source { ¬ IsSourceOf (flights (state_of self.old)) cell.now }
-        ensures succeeds { IsOk result ↔ (fails_write self.old.trouble ≡ false) × HasRoom 1 self.old }
-        ensures recorded { HasRoom 1 self.old → self.new ≡ record { log = pushed self.old.log (Wrote cell.now bytes.now (is_ok result)); landing = self.old.landing; trouble = faulted result (next_write self.old.trouble) } }
-        ensures full { ¬ HasRoom 1 self.old → self.new ≡ record self.old { trouble = faulted result (next_write self.old.trouble) } }
+        ensures succeeds { IsOk result ↔ (fails_write self.old.trouble ≡ false) × HasCallRoom 1 self.old }
+        ensures recorded { HasCallRoom 1 self.old → self.new ≡ record { log = pushed self.old.log (Wrote cell.now bytes.now (is_ok result)); landing = self.old.landing; trouble = faulted result (next_write self.old.trouble) } }
+        ensures full { ¬ HasCallRoom 1 self.old → self.new ≡ record self.old { trouble = faulted result (next_write self.old.trouble) } }
         ensures written { OnOk result (IfSome ((state_of self.new).reads cell.now) (λ told. told ≡ bytes.now)) }
         ensures change { ChangesOnly (λ c. c ≡ cell.now) (state_of self.old) (state_of self.new) }
         ensures cause { HasGround ⊥ (IsErasure cell.now bytes.now × IsLast (state_of self.old).reads (λ slot item. ⊤) cell.now) (state_of self.old) (state_of self.new) result }
@@ -315,7 +315,7 @@ impl Store for MemStore {
 
     /// Fails exactly at the numbers that were given, after the fuse, and where a copy is in flight and the record is full.
     fn ended(&mut self) -> Result<Option<(Cell, Cell)>, StoreFailed>
-        ensures succeeds { IsOk result ↔ (fails self.old.trouble ≡ false) × (aloft self.old ≢ [] → HasRoom 1 self.old) }
+        ensures succeeds { IsOk result ↔ (fails self.old.trouble ≡ false) × (aloft self.old ≢ [] → HasCallRoom 1 self.old) }
         ensures named { IfOk result (λ answer. IfSome answer (λ c. next_flight self.old ≡ Some (record { from = c.0; to = c.1 }))) }
         ensures landed { IfOk result (λ answer. self.new ≡ record (landed self.old (option_map (λ c. record { from = c.0; to = c.1 }) answer)) { trouble = next_number self.old.trouble }) }
         ensures failed { OnErr result (self.new ≡ record self.old { trouble = faulted result (next_number self.old.trouble) }) }
@@ -341,7 +341,7 @@ impl Store for MemStore {
 
     /// Fails exactly at the numbers that were given, after the fuse, and where the record has no room for the sync and an end of each copy in flight.
     fn sync(&mut self) -> Result<(), StoreFailed>
-        ensures succeeds { IsOk result ↔ (fails self.old.trouble ≡ false) × HasRoom (length (aloft self.old) + 1) self.old }
+        ensures succeeds { IsOk result ↔ (fails self.old.trouble ≡ false) × HasCallRoom (length (aloft self.old) + 1) self.old }
         ensures synced { OnOk result (self.new ≡ record (synced self.old) { trouble = next_number self.old.trouble }) }
         ensures failed { OnErr result (self.new ≡ record self.old { trouble = faulted result (next_number self.old.trouble) }) }
         ensures ends { (these : List Flight) × Ends these (state_of self.old) (state_of self.new) }

@@ -7,7 +7,7 @@ ghost use Rattle.mig_base.specs.declared.cells.Flight.{Flight};
 ghost use Rattle.mig_base.specs.Flights.{began, IsTargetOf, IsSourceOf};
 ghost use Rattle.mig_base.specs.Naming.{IsName};
 ghost use Rattle.mig_base.specs.Stores.{State, IsState, flights, IsMoving, Changes, ChangesOnly, Looks, Ends, named, IsSettled, HasCause};
-ghost use Rattle.mig_store.specs.Grounds.{Differ, HasGround, Holds, IsErasure, IsLast, IsSeenAtBoth, IsUncopiable, Lacks, Remembers};
+ghost use Rattle.mig_store.specs.Grounds.{HasGround, Holds, IsErasure, IsLast, IsSeenAtBoth, IsUncopiable, Lacks, Remembers, SlotsDiffer};
 
 use mig_base::{Cell, Name};
 
@@ -66,7 +66,7 @@ pub trait Store {
         ensures compared { OnOk result (compared from.now to.now) }
         ensures seen { Remembers NoCell (seen self.old) (seen self.new) }
         ensures change { Looks (state self.old) (state self.new) }
-        ensures cause { HasGround refuses (Differ (state self.old).reads from.now to.now) (state self.old) (state self.new) result };
+        ensures cause { HasGround refuses (SlotsDiffer (state self.old).reads from.now to.now) (state self.old) (state self.new) result };
 
     /// Writes a cell. A store that refuses does so where zeros are written to a slot that holds an item which it has seen at no other. Until a sync succeeds a crash may leave any bytes in the cell, also where the write failed.
     fn write(&mut self, cell: &Cell, bytes: &[u8]) -> Result<(), StoreFailed>

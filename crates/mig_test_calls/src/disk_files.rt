@@ -3,7 +3,7 @@
 use crate::file_stores::{RealStore, crashed, mem_store, real_store};
 use crate::work_folder::{enter, leave};
 use mig_base::{Cell, Name};
-use mig_calls::{Calls, MemCalls, Pick, Trouble};
+use mig_calls::{CallTrouble, Calls, FilePick, MemCalls};
 use mig_files::{FileStore, MOST_OPEN};
 use mig_store::Store;
 use std::fs::{self, File};
@@ -91,7 +91,13 @@ fn a_synced_cell_is_read_by_a_new_store(rt: HostRuntime) {
 #[test]
 fn a_synced_cell_is_left_by_a_crash(rt: HostRuntime) {
     let alloc = rt.alloc();
-    for pick in [Pick::Old, Pick::New, Pick::Front, Pick::Back, Pick::Ones] {
+    for pick in [
+        FilePick::Old,
+        FilePick::New,
+        FilePick::Front,
+        FilePick::Back,
+        FilePick::Ones,
+    ] {
         let mut store = mem_store(&rt, alloc, MemCalls::new(alloc));
         expect_written(&rt, &mut store);
         expect_read_back(&rt, &mut crashed(&rt, alloc, store, pick));
@@ -138,7 +144,7 @@ fn more_disks_than_open_files(rt: HostRuntime) {
 fn more_disks_than_may_be_open(rt: HostRuntime) {
     let alloc = rt.alloc();
     for most_open in [2, 3, 10] {
-        let mut trouble = Trouble::none(alloc);
+        let mut trouble = CallTrouble::none(alloc);
         trouble.most_open = most_open;
         trouble.most_bytes = 1500;
         trouble.interrupts = 5;
@@ -147,7 +153,7 @@ fn more_disks_than_may_be_open(rt: HostRuntime) {
         let mut store = mem_store(&rt, alloc, calls);
         expect_many_written(&rt, &mut store, 20);
         expect_many_read(&rt, &mut store, 20);
-        expect_many_read(&rt, &mut crashed(&rt, alloc, store, Pick::Old), 20);
+        expect_many_read(&rt, &mut crashed(&rt, alloc, store, FilePick::Old), 20);
     }
 }
 

@@ -1,10 +1,10 @@
 //! The store over the working folder, and over files in memory.
 ghost use Rattle.std.specs.Prelude.{IsTrue, ℕ, List};
 ghost use Rattle.mig_calls.specs.declared.places.Place.TheVariants.{Disk as DiskFile};
-ghost use Rattle.mig_calls.specs.Memory.{mem_state};
+ghost use Rattle.mig_calls.specs.Memory.{files_state};
 
-use mig_calls::{MemCalls, Pick};
-use mig_files::{DiskSet, FileStore};
+use mig_calls::{FilePick, MemCalls};
+use mig_files::{FileStore, NamedDisks};
 use mig_host::{HostSystem, SystemCalls};
 use std::alloc::Global;
 use std::fs::File;
@@ -21,14 +21,14 @@ pub fn real_store<'a, R: Abort + Files<File = File> + Eprint>(
     alloc: Global,
 ) -> RealStore<'a, R> {
     let calls = SystemCalls::new(HostSystem::new(rt, alloc));
-    FileStore::new(alloc, calls, DiskSet::new(alloc)).expect(rt, "ample memory")
+    FileStore::new(alloc, calls, NamedDisks::new(alloc)).expect(rt, "ample memory")
 }
 
 /// A store over files in memory that has opened none.
 pub fn mem_store(rt: &impl Abort, alloc: Global, calls: MemCalls) -> FileStore<MemCalls>
-    requires { (disk : List ℕ) → IsTrue ((mem_state calls).flushed (DiskFile disk)) }
+    requires { (disk : List ℕ) → IsTrue ((files_state calls).flushed (DiskFile disk)) }
 {
-    FileStore::new(alloc, calls, DiskSet::new(alloc)).expect(rt, "ample memory")
+    FileStore::new(alloc, calls, NamedDisks::new(alloc)).expect(rt, "ample memory")
 }
 
 /// A store over the files in memory that a crash of this one leaves.
@@ -36,7 +36,7 @@ pub fn crashed(
     rt: &impl Abort,
     alloc: Global,
     store: FileStore<MemCalls>,
-    pick: Pick,
+    pick: FilePick,
 ) -> FileStore<MemCalls> {
     let calls = store.into_calls().crash(pick).expect(rt, "ample memory");
     mem_store(rt, alloc, calls)

@@ -3,7 +3,7 @@ ghost use Rattle.std.specs.Prelude.{◌≡◌, IsTrue};
 
 use crate::work_folder::{enter, leave};
 use mig_base::Name;
-use mig_calls::{CallError, Calls, Extent, MemCalls, Pick, Place, Refusal, Trouble};
+use mig_calls::{CallError, CallTrouble, Calls, Extent, FilePick, MemCalls, Place, Refusal};
 use mig_host::{Access, HostSystem, System, SystemCalls};
 use std::fs::{self, File};
 use std::io::ErrorKind;
@@ -161,7 +161,7 @@ fn after_a_sync_that_failed_in_this_process(rt: HostRuntime) {
 #[test]
 fn after_a_sync_that_failed_in_memory(rt: HostRuntime) {
     let mut calls = MemCalls::new(rt.alloc());
-    let mut trouble = Trouble::none(rt.alloc());
+    let mut trouble = CallTrouble::none(rt.alloc());
     trouble.failing = vec![in rt.alloc(); 2].expect(&rt, "ample memory");
     calls.trouble(trouble);
     assert!(rt; calls.claim().is_ok());
@@ -169,7 +169,7 @@ fn after_a_sync_that_failed_in_memory(rt: HostRuntime) {
     calls.restart();
     assert!(rt; calls.claim() == Err(CallError::Failed));
     assert!(rt; calls.sync_names() == Err(CallError::Failed));
-    let mut mounted = calls.crash(Pick::New).expect(&rt, "ample memory");
+    let mut mounted = calls.crash(FilePick::New).expect(&rt, "ample memory");
     assert!(rt; mounted.claim().is_ok());
     assert!(rt; mounted.sync(&disk_of(b"a")).is_ok());
 }

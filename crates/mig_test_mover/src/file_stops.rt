@@ -2,14 +2,14 @@
 //! of files, and what is reached then.
 ghost use Rattle.std.specs.Prelude.{IsTrue, ℕ, List};
 ghost use Rattle.mig_calls.specs.declared.places.Place.TheVariants.{Disk as DiskFile};
-ghost use Rattle.mig_calls.specs.Memory.{mem_state};
+ghost use Rattle.mig_calls.specs.Memory.{files_state};
 
 use crate::cases::{Case, LEFT_TWICE, ONE_MOVE, THREE_ITEMS, job_of};
 use crate::cells::slot_of;
 use crate::stores::made;
 use mig_base::Cell;
-use mig_calls::{MemCalls, Pick, Trouble};
-use mig_files::{DiskSet, FileStore};
+use mig_calls::{CallTrouble, FilePick, MemCalls};
+use mig_files::{FileStore, NamedDisks};
 use mig_jobs::Job;
 use mig_lanes::{resume_lanes, start_lanes};
 use mig_store::Store;
@@ -18,7 +18,13 @@ use std::panic::Expect;
 use std::process::Abort;
 
 // What a crash leaves.
-static PICKS: [Pick; 5] = [Pick::Old, Pick::New, Pick::Front, Pick::Back, Pick::Ones];
+static PICKS: [FilePick; 5] = [
+    FilePick::Old,
+    FilePick::New,
+    FilePick::Front,
+    FilePick::Back,
+    FilePick::Ones,
+];
 
 // More calls than any of these plans makes.
 const MANY: u64 = 2000;
@@ -63,8 +69,8 @@ static WITH_FEW_FILES: Manner = Manner {
 };
 
 // What goes wrong in this manner at the call of this number, counted from 1.
-fn trouble_of(rt: &impl Abort, alloc: Global, manner: &Manner, number: u64) -> Trouble {
-    let mut trouble = Trouble::none(alloc);
+fn trouble_of(rt: &impl Abort, alloc: Global, manner: &Manner, number: u64) -> CallTrouble {
+    let mut trouble = CallTrouble::none(alloc);
     trouble.interrupts = manner.interrupts;
     trouble.most_bytes = manner.most_bytes;
     trouble.most_open = manner.most_open;
@@ -81,12 +87,12 @@ fn store_over(
     rt: &impl Abort,
     alloc: Global,
     mut calls: MemCalls,
-    trouble: Trouble,
+    trouble: CallTrouble,
 ) -> FileStore<MemCalls>
-    requires { (disk : List ℕ) → IsTrue ((mem_state calls).flushed (DiskFile disk)) }
+    requires { (disk : List ℕ) → IsTrue ((files_state calls).flushed (DiskFile disk)) }
 {
     calls.trouble(trouble);
-    FileStore::new(alloc, calls, DiskSet::new(alloc)).expect(rt, "ample memory")
+    FileStore::new(alloc, calls, NamedDisks::new(alloc)).expect(rt, "ample memory")
 }
 
 // A store over what a crash leaves of the files of this one, whose calls go wrong so.
@@ -94,8 +100,8 @@ fn crashed(
     rt: &impl Abort,
     alloc: Global,
     store: FileStore<MemCalls>,
-    pick: Pick,
-    trouble: Trouble,
+    pick: FilePick,
+    trouble: CallTrouble,
 ) -> FileStore<MemCalls> {
     let calls = store.into_calls().crash(pick).expect(rt, "ample memory");
     store_over(rt, alloc, calls, trouble)
@@ -140,11 +146,11 @@ fn start(
     alloc: Global,
     job: &Job,
     case: &Case<'_>,
-    trouble: Trouble,
+    trouble: CallTrouble,
 ) -> (bool, FileStore<MemCalls>) {
-    let mut store = store_over(rt, alloc, MemCalls::new(alloc), Trouble::none(alloc));
+    let mut store = store_over(rt, alloc, MemCalls::new(alloc), CallTrouble::none(alloc));
     fill(rt, &mut store, case);
-    let mut store = crashed(rt, alloc, store, Pick::New, trouble);
+    let mut store = crashed(rt, alloc, store, FilePick::New, trouble);
     let ended = start_lanes(job, &mut store).is_ok();
     (ended, store)
 }
@@ -161,11 +167,11 @@ fn survives(
     alloc: Global,
     job: &Job,
     case: &Case<'_>,
-    trouble: Trouble,
-    pick: Pick,
+    trouble: CallTrouble,
+    pick: FilePick,
 ) -> (bool, bool) {
     let (ended, store) = start(rt, alloc, job, case, trouble);
-    let mut store = crashed(rt, alloc, store, pick, Trouble::none(alloc));
+    let mut store = crashed(rt, alloc, store, pick, CallTrouble::none(alloc));
     (reaches(&mut store, job, case, ended), ended)
 }
 
@@ -196,7 +202,7 @@ fn survives_two(
     job: &Job,
     first: u64,
     second: u64,
-    pick: Pick,
+    pick: FilePick,
 ) -> bool {
     let (_, store) = start(
         rt,
@@ -208,7 +214,7 @@ fn survives_two(
     let trouble = trouble_of(rt, alloc, &STOPPED, second);
     let mut store = crashed(rt, alloc, store, pick, trouble);
     let ended = resume_lanes(job, &mut store).is_ok();
-    let mut store = crashed(rt, alloc, store, pick, Trouble::none(alloc));
+    let mut store = crashed(rt, alloc, store, pick, CallTrouble::none(alloc));
     reaches(&mut store, job, &ONE_MOVE, ended)
 }
 

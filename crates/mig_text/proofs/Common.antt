@@ -1,5 +1,5 @@
 -- The names that the proofs of this crate cite, passed on from one place. Declares nothing.
-pub use Rattle.mig_base.proofs.Common.{All, All-push, AllByRecursion, AreDifferent, Contains, Err, IfOk, IsInput, IsLine, IsMisfit, IsName, IsTrue, Leads, List, Lists, MatchOption, None, Ok}
+pub use Rattle.mig_base.proofs.Common.{All, All-push, AllByRecursion, AreDifferent, Contains, Err, FitsAlong, IfOk, InputLists, IsInput, IsLine, IsMisfit, IsName, IsTrue, List, MatchOption, None, Ok}
 pub use Rattle.mig_base.proofs.Common.{Once, Option, PlanFits, PlanText, Result, Runs, ShiftFits, Some, Stops, [], ap, append-nil, append_assoc, arith, cases_lt, codes, common_steps, count_by}
 pub use Rattle.mig_base.proofs.Common.{count_by-le-length, decimal, decimal_injective, disk_name, eq-eqb, eqb, eqb-true, false, false≢true, get_or, get_or-append_seam, get_or-range_with_len}
 pub use Rattle.mig_base.proofs.Common.{get_or_default, get_or_from_slice_get, inl, inr, is_of, is_ok, is_relocated, item_name, length, length-append, length-decimal-le, length-map}
@@ -17,7 +17,7 @@ pub use Rattle.mig_base.specs.declared.inputs.Disk.{Disk}
 pub use Rattle.mig_base.specs.declared.limits.TheConstants.{MAX_FILE_BYTES, MAX_ROUNDS, MAX_SHIFTS, MAX_SLOTS}
 pub use Rattle.mig_base.specs.declared.names.Name.{Name}
 pub use Rattle.mig_text.specs.Digits.{IsNumeralWord}
-pub use Rattle.mig_text.specs.Finding.{names_of}
+pub use Rattle.mig_text.specs.Finding.{listed_names}
 pub use Rattle.mig_text.specs.PlanParts.{AreRoundsRead, IsHeadLine, IsPlanOpened, IsRoundPart, IsRoundRead, IsShiftLine, head_line, shift_words}
 pub use Rattle.mig_text.specs.Reads.{EndsWrong, HasNoBlank, IfLine, IsCountUpTo, IsMiss, IsStop, Left, Misses, Took, TookAll}
 pub use Rattle.mig_text.specs.declared.errors.TextError.{TextError}

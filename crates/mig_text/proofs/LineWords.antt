@@ -1,5 +1,5 @@
 -- A line is read through its words.
-use Rattle.mig_text.proofs.Common.{AllByRecursion, HasNoBlank, IsInput, Lacks, Lacks-decimal, List, Lists, MAX_SHIFTS, MAX_SLOTS, MatchOption, None, Option, Shift, ShiftFits, Some, [], ap, arith}
+use Rattle.mig_text.proofs.Common.{AllByRecursion, HasNoBlank, InputLists, IsInput, Lacks, Lacks-decimal, List, MAX_SHIFTS, MAX_SLOTS, MatchOption, None, Option, Shift, ShiftFits, Some, [], ap, arith}
 use Rattle.mig_text.proofs.Common.{codes, decimal, disk_name, lacks_test, length, refl, round_lacks, shift_line, shift_words, slice_split, sym, words, words_lack, ℕ, ◌<◌, ◌==◌, ◌^◌, ◌∙◌, ◌∷◌}
 use Rattle.mig_text.proofs.Common.{◌≡◌, ◌≢◌, ◌≤◌}
 use Rattle.mig_text.proofs.Places.{split_words, words_split}
@@ -33,14 +33,14 @@ pub head_read : (line : List ℕ) (r : ℕ) (o : Option ℕ) → r < 2 ^ 32
 head_read line r None hr m = λ n le e. m n le (words_are line (codes "round") (decimal r ∷ decimal n ∷ []) (head_lack r n hr (omega arith)) e)
 head_read line r (Some n) hr m = (m.0, line_is line _ m.1)
 
-pub shift_read : (input : Lists) (line : List ℕ) (o : Option Shift) → IsInput input
+pub shift_read : (input : InputLists) (line : List ℕ) (o : Option Shift) → IsInput input
     → MatchOption o ((s : Shift) → ShiftFits input s → words_of line ≢ shift_words input s) (λ s. ShiftFits input s × (words_of line ≡ shift_words input s))
     → MatchOption o ((s : Shift) → ShiftFits input s → line ≢ shift_line input s) (λ s. ShiftFits input s × (line ≡ shift_line input s))
 shift_read input line None valid m = λ s fits e. m s fits (words_are line _ _ (words_lack input valid 32 (omega arith) refl s fits) e)
 shift_read input line (Some s) valid m = (m.0, line_is line _ m.1)
 
 -- where the words after the first spot begin with no spot
-pub no_second_spot : (input : Lists) (all : List (List ℕ)) (w : List ℕ) (rest : List (List ℕ)) (a b : List ℕ) (last : List (List ℕ)) → all ≡ w ∷ rest → rest ≡ a ∷ b ∷ last
+pub no_second_spot : (input : InputLists) (all : List (List ℕ)) (w : List ℕ) (rest : List (List ℕ)) (a b : List ℕ) (last : List (List ℕ)) → all ≡ w ∷ rest → rest ≡ a ∷ b ∷ last
     → ((d slot : ℕ) (more : List (List ℕ)) → d < length input.disks → slot < MAX_SLOTS → last ≢ disk_name input d ∷ decimal slot ∷ more)
     → (s : Shift) → ShiftFits input s → all ≢ shift_words input s
 no_second_spot input all w rest a b last e f none s fits g = none s.to.disk.0 s.to.slot [] fits.to_disk fits.to_slot cc

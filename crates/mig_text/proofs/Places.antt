@@ -1,32 +1,32 @@
 -- A text whose pieces all fit has no misfit.
-use Rattle.mig_text.proofs.Common.{All-from_recursion, AllByRecursion, IsMisfit, Lacks, Leads, List, Stops, [], after_line, ap, append_assoc, arith, eq-eqb, eqb, false}
+use Rattle.mig_text.proofs.Common.{All-from_recursion, AllByRecursion, FitsAlong, IsMisfit, Lacks, List, Stops, [], after_line, ap, append_assoc, arith, eq-eqb, eqb, false}
 use Rattle.mig_text.proofs.Common.{join_with_byte-slice_split, length, length-append, nat_tests, pieces, refl, slice_split, slice_split_at, slice_split_none, subst, sym, text_of_lines, words, ℕ}
 use Rattle.mig_text.proofs.Common.{◌++◌, ◌+◌, ◌==◌, ◌∙◌, ◌∷◌, ◌≡◌, ◌≢◌}
 
 module _ {P : Type 0} (Next : P → List ℕ → P → Type 0) where
-  pub Leads-append : (a b c : P) (xs ys : List (List ℕ)) → Leads Next a xs b → Leads Next b ys c → Leads Next a (xs ++ ys) c
-  Leads-append a b c [] ys h k = subst (λ z. Leads Next z ys c) h k
+  pub Leads-append : (a b c : P) (xs ys : List (List ℕ)) → FitsAlong Next a xs b → FitsAlong Next b ys c → FitsAlong Next a (xs ++ ys) c
+  Leads-append a b c [] ys h k = subst (λ z. FitsAlong Next z ys c) h k
   Leads-append a b c (x ∷ xs) ys h k = (h.0, (h.1.0, Leads-append h.0 b c xs ys h.1.1 k))
 
   -- where a place and a piece have one place after them, what is left of a text that fits fits
   pub Leads-rest : ((a : P) (piece : List ℕ) (b c : P) → Next a piece b → Next a piece c → b ≡ c)
-      → (a b c : P) (xs ys : List (List ℕ)) → Leads Next a xs b → Leads Next a (xs ++ ys) c → Leads Next b ys c
-  Leads-rest one a b c [] ys h k = subst (λ z. Leads Next z ys c) (sym h) k
+      → (a b c : P) (xs ys : List (List ℕ)) → FitsAlong Next a xs b → FitsAlong Next a (xs ++ ys) c → FitsAlong Next b ys c
+  Leads-rest one a b c [] ys h k = subst (λ z. FitsAlong Next z ys c) (sym h) k
   Leads-rest one a b c (x ∷ xs) ys h k =
       let same : k.0 ≡ h.0 = one a x k.0 h.0 k.1.0 h.1.0 in
-      Leads-rest one h.0 b c xs ys h.1.1 (subst (λ z. Leads Next z (xs ++ ys) c) same k.1.1)
+      Leads-rest one h.0 b c xs ys h.1.1 (subst (λ z. FitsAlong Next z (xs ++ ys) c) same k.1.1)
 
-  stops_not : (over place : P) (after : List (List ℕ)) → Stops Next over place after → Leads Next place after over → ⊥
+  stops_not : (over place : P) (after : List (List ℕ)) → Stops Next over place after → FitsAlong Next place after over → ⊥
   stops_not over place [] s h = s (sym h)
   stops_not over place (x ∷ xs) s h = s h.0 h.1.0
 
   pub no_misfit : ((a : P) (piece : List ℕ) (b c : P) → Next a piece b → Next a piece c → b ≡ c)
-      → (first over : P) (text : List (List ℕ)) (n : ℕ) → Leads Next first text over → IsMisfit Next first over text n → ⊥
+      → (first over : P) (text : List (List ℕ)) (n : ℕ) → FitsAlong Next first text over → IsMisfit Next first over text n → ⊥
   no_misfit one first over text n fits m =
-      stops_not over m.place m.after m.stops (Leads-rest one first m.place over m.before m.after m.fit (subst (λ t. Leads Next first t over) m.cut fits))
+      stops_not over m.place m.after m.stops (Leads-rest one first m.place over m.before m.after m.fit (subst (λ t. FitsAlong Next first t over) m.cut fits))
 
   -- a misfit of the rest is one of the whole
-  pub later_misfit : (first place over : P) (front rest : List (List ℕ)) (n : ℕ) → Leads Next first front place → IsMisfit Next place over rest n
+  pub later_misfit : (first place over : P) (front rest : List (List ℕ)) (n : ℕ) → FitsAlong Next first front place → IsMisfit Next place over rest n
       → IsMisfit Next first over (front ++ rest) (length front + n)
   later_misfit first place over front rest n h m = record {
     before = front ++ m.before;

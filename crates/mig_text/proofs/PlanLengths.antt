@@ -1,5 +1,5 @@
 -- How long the text of a plan is.
-use Rattle.mig_text.proofs.Common.{All, AllByRecursion, IsInput, List, Lists, MAX_ROUNDS, PlanText, Shift, ShiftFits, [], ap, arith, codes, decimal, disk_name, head_line, item_name, length}
+use Rattle.mig_text.proofs.Common.{All, AllByRecursion, InputLists, IsInput, List, MAX_ROUNDS, PlanText, Shift, ShiftFits, [], ap, arith, codes, decimal, disk_name, head_line, item_name, length}
 use Rattle.mig_text.proofs.Common.{length-append, length-decimal-le, map, no_disk, recursion_from_All, round_lines, shift_line, text_of_lines, words, ℕ, ◌*◌, ◌++◌, ◌+◌, ◌<◌, ◌^◌, ◌∙◌, ◌∷◌, ◌≡◌}
 use Rattle.mig_text.proofs.Common.{◌≤◌}
 
@@ -18,7 +18,7 @@ abbrev pub shifts_in : List (List Shift) → ℕ
 shifts_in [] = 0
 shifts_in (round ∷ rounds) = length round + shifts_in rounds
 
-module _ (input : Lists) (valid : IsInput input) where
+module _ (input : InputLists) (valid : IsInput input) where
   shift_length : (s : Shift) → ShiftFits input s → length (shift_line input s) ≤ 110
   shift_length s fits =
       let item : length (item_name input s.item.0) ≤ 32 = (valid.named_items s.item.0 [] fits.item).short in

@@ -1,6 +1,6 @@
 -- The reading of a plan, part by part.
 use Rattle.mig_text.proofs.Common.{All, All-push, AllByRecursion, AreRoundsRead, End, EndsWrong, Err, Head, IfLine, IfOk, IsCountUpTo, IsHeadLine, IsInput, IsLine, IsMisfit, IsMiss, IsPlanOpened}
-use Rattle.mig_text.proofs.Common.{IsRoundPart, IsRoundRead, IsShiftLine, IsStop, Last, Leads, Left, List, Lists, MAX_FILE_BYTES, MAX_ROUNDS, MAX_SHIFTS, Move, Ok, Over, PlanFits, PlanLine}
+use Rattle.mig_text.proofs.Common.{FitsAlong, InputLists, IsRoundPart, IsRoundRead, IsShiftLine, IsStop, Last, Left, List, MAX_FILE_BYTES, MAX_ROUNDS, MAX_SHIFTS, Move, Ok, Over, PlanFits, PlanLine}
 use Rattle.mig_text.proofs.Common.{PlanNext, PlanText, Result, Shift, ShiftFits, Stops, TextError, Title, Took, TookAll, Total, [], after_line, ap, append-nil, append_assoc, arith, before_rounds}
 use Rattle.mig_text.proofs.Common.{before_shifts, codes, decimal, head_line, inl, inr, join_with_byte, join_with_byte-slice_split, length, length-append, map, map-append, pieces, plan_lines}
 use Rattle.mig_text.proofs.Common.{recursion_from_All, refl, round_lines, shift_line, subst, suc, sym, text_of_lines, words, ℕ, ◌++◌, ◌+◌, ◌-◌, ◌<◌, ◌∙◌, ◌∷◌, ◌≡◌, ◌≢◌, ◌≤◌}
@@ -8,7 +8,7 @@ use Rattle.mig_text.proofs.PlanPlaces.{rounds_lead, line_no_plan}
 use Rattle.mig_text.specs.declared.errors.TextError.TheVariants as text_error
 use Rattle.mig_text.proofs.Stops.{took_none, took_one, took_both, took_next, miss_stops, later_stops}
 
-module _ (input : Lists) where
+module _ (input : InputLists) where
   pub title_stops : (old : Left) (e : TextError) → IsMiss (λ piece. piece ≡ codes "migration-plan 1") old e → IsStop (PlanNext input) Title Over old e
   title_stops old e m = miss_stops (PlanNext input) Title Over (λ piece. piece ≡ codes "migration-plan 1") old e (λ q. absurd cc) (λ piece next n. n.0) m
 
@@ -44,20 +44,20 @@ module _ (input : Lists) where
 
   -- the head of a round and its first shifts lead to the next
   shifts_lead_on : (shifts : List Shift) (more r left : ℕ) → AllByRecursion (ShiftFits input) shifts
-      → Leads (PlanNext input) (before_shifts (length shifts + suc more) r left) (map (shift_line input) shifts) (Move more r left)
+      → FitsAlong (PlanNext input) (before_shifts (length shifts + suc more) r left) (map (shift_line input) shifts) (Move more r left)
   shifts_lead_on [] more r left h = let e : suc more ≡ 0 + suc more = omega arith in ap (λ n. before_shifts n r left) e
   shifts_lead_on (s ∷ shifts) more r left h =
       let e : suc (length shifts + suc more) ≡ suc (length shifts) + suc more = omega arith in
-      subst (λ n. Leads (PlanNext input) (before_shifts n r left) (map (shift_line input) (s ∷ shifts)) (Move more r left)) e
+      subst (λ n. FitsAlong (PlanNext input) (before_shifts n r left) (map (shift_line input) (s ∷ shifts)) (Move more r left)) e
       (before_shifts (length shifts + suc more) r left, ((s, (h.0, refl, refl)), shifts_lead_on shifts more r left h.1))
 
   part_leads : (r n more left : ℕ) (shifts : List Shift) → n ≤ MAX_SHIFTS → n ≡ length shifts + suc more → All (ShiftFits input) shifts
-      → Leads (PlanNext input) (Head r left) (head_line r n ∷ map (shift_line input) shifts) (Move more r left)
+      → FitsAlong (PlanNext input) (Head r left) (head_line r n ∷ map (shift_line input) shifts) (Move more r left)
   part_leads r n more left shifts few e h = (
     before_shifts n r left,
     (
       (n, (few, refl, refl)),
-      subst (λ m. Leads (PlanNext input) (before_shifts m r left) (map (shift_line input) shifts) (Move more r left)) (sym e) (shifts_lead_on shifts more r left (recursion_from_All _ shifts h)),
+      subst (λ m. FitsAlong (PlanNext input) (before_shifts m r left) (map (shift_line input) shifts) (Move more r left)) (sym e) (shifts_lead_on shifts more r left (recursion_from_All _ shifts h)),
     ),
   )
 
@@ -128,12 +128,12 @@ module _ (input : Lists) where
       let sum : length rounds + suc left ≡ total = omega (arith, so_far.count) in
       let at : 1 + length rounds ≡ k + 1 = omega (arith, so_far.count) in
       later_stops (PlanNext input) (before_rounds 1 total) (Head (k + 1) left) Over old now (round_lines input 1 rounds) e
-      (subst (λ n. Leads (PlanNext input) (before_rounds 1 n) (round_lines input 1 rounds) (Head (k + 1) left)) sum
-      (subst (λ r. Leads (PlanNext input) (before_rounds 1 (length rounds + suc left)) (round_lines input 1 rounds) (Head r left)) at
+      (subst (λ n. FitsAlong (PlanNext input) (before_rounds 1 n) (round_lines input 1 rounds) (Head (k + 1) left)) sum
+      (subst (λ r. FitsAlong (PlanNext input) (before_rounds 1 (length rounds + suc left)) (round_lines input 1 rounds) (Head r left)) at
       (rounds_lead input rounds 1 (suc left) (are_fitting rounds so_far.few_shifts so_far.fitting))))
       so_far.took (s left)
 
-  opening_leads : (total : ℕ) → total ≤ MAX_ROUNDS → Leads (PlanNext input) Title (codes "migration-plan 1" ∷ words (codes "rounds" ∷ decimal total ∷ []) ∷ []) (before_rounds 1 total)
+  opening_leads : (total : ℕ) → total ≤ MAX_ROUNDS → FitsAlong (PlanNext input) Title (codes "migration-plan 1" ∷ words (codes "rounds" ∷ decimal total ∷ []) ∷ []) (before_rounds 1 total)
   opening_leads total few = (Total, ((refl, refl), (before_rounds 1 total, ((total, (few, refl, refl)), refl))))
 
   pub rounds_stop : (total : ℕ) (old now : Left) (e : TextError) → IsPlanOpened total old now → IsStop (PlanNext input) (before_rounds 1 total) Over now e → IsStop (PlanNext input) Title Over old e
@@ -145,7 +145,7 @@ module _ (input : Lists) where
       let sum : length rounds + 0 ≡ total = omega (arith, read.count) in
       rounds_stop total old a e opened
       (later_stops (PlanNext input) (before_rounds 1 total) End Over a b (round_lines input 1 rounds) e
-      (subst (λ n. Leads (PlanNext input) (before_rounds 1 n) (round_lines input 1 rounds) End) sum (rounds_lead input rounds 1 0 (are_fitting rounds read.few_shifts read.fitting)))
+      (subst (λ n. FitsAlong (PlanNext input) (before_rounds 1 n) (round_lines input 1 rounds) End) sum (rounds_lead input rounds 1 0 (are_fitting rounds read.few_shifts read.fitting)))
       read.took s)
 
 -- lines and an empty piece, joined by LF, are the text of the lines
@@ -158,18 +158,18 @@ pub text_from_pieces : (bytes : List ℕ) (ls : List (List ℕ)) → pieces byte
 text_from_pieces bytes ls e = sym (join_with_byte-slice_split 10 bytes) ∙ ap (join_with_byte 10) e ∙ joined ls
 
 -- what a stop says of the whole text
-pub plan_line : (input : Lists) (bytes : List ℕ) (e : TextError) → IsInput input → length bytes ≤ MAX_FILE_BYTES → IsStop (PlanNext input) Title Over (record { taken = 0; pieces = pieces bytes }) e → IfLine (PlanLine input bytes) e
+pub plan_line : (input : InputLists) (bytes : List ℕ) (e : TextError) → IsInput input → length bytes ≤ MAX_FILE_BYTES → IsStop (PlanNext input) Title Over (record { taken = 0; pieces = pieces bytes }) e → IfLine (PlanLine input bytes) e
 plan_line input bytes text_error.Memory valid short s = tt
 plan_line input bytes (text_error.Line n) valid short s =
     let same : s.0 ≡ n = omega (arith, s.1.0) in
     let line : IsLine (PlanNext input) Title Over bytes n = record { long = λ l. absurd (omega arith); short = λ _. subst (IsMisfit (PlanNext input) Title Over (pieces bytes)) same s.1.1 } in
     record { no_plan = line_no_plan input bytes n valid line; line = line }
 
-pub too_long : (input : Lists) (bytes : List ℕ) → MAX_FILE_BYTES < length bytes → PlanLine input bytes 0
+pub too_long : (input : InputLists) (bytes : List ℕ) → MAX_FILE_BYTES < length bytes → PlanLine input bytes 0
 too_long input bytes long = record { no_plan = λ plan text. long; line = record { long = λ _. refl; short = λ s. absurd (omega arith) } }
 
 -- the value of a text whose lines were read
-pub plan_text : (input f : Lists) (bytes : List ℕ) (old : Left) (r : Result (List (List Shift)) TextError) → f ≡ input → old ≡ record { taken = 0; pieces = pieces bytes }
+pub plan_text : (input f : InputLists) (bytes : List ℕ) (old : Left) (r : Result (List (List Shift)) TextError) → f ≡ input → old ≡ record { taken = 0; pieces = pieces bytes }
     → IfOk r (PlanFits f) → IfOk r (λ plan. old.pieces ≡ plan_lines f plan ++ [] ∷ []) → IfOk r (λ plan. PlanText input plan bytes)
 plan_text input f bytes old (Ok plan) e l fits lines = record {
   fits = subst (λ q. PlanFits q plan) e fits;

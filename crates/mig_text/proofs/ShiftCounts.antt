@@ -1,5 +1,5 @@
 -- A plan that moves each relocated item once has at most as many shifts as there are items.
-use Rattle.mig_text.proofs.Common.{All, AllByRecursion, Bool, IsInput, List, Lists, MAX_FILE_BYTES, Once, PlanText, Runs, Shift, ShiftFits, [], ap, arith, cases_lt, cond, count_by, eqb, false}
+use Rattle.mig_text.proofs.Common.{All, AllByRecursion, Bool, InputLists, IsInput, List, MAX_FILE_BYTES, Once, PlanText, Runs, Shift, ShiftFits, [], ap, arith, cases_lt, cond, count_by, eqb, false}
 use Rattle.mig_text.proofs.Common.{get_or, get_or-range_with_len, get_or_default, inl, inr, is_of, is_relocated, length, length-decimal-le, length-range_with_len, nat_tests, one, range_with_len}
 use Rattle.mig_text.proofs.Common.{recursion_from_All, refl, shift_count, subst, suc, sum_by, sum_by-cons, sum_by-le_each, sum_by-swap, true, zero, ℕ, ◌+◌, ◌<◌, ◌∙◌, ◌∷◌, ◌≡◌, ◌≤◌}
 use Rattle.mig_text.proofs.PlanLengths.{shifts_in, plan_length}
@@ -41,7 +41,7 @@ at_most_one true = omega arith
 at_most_one false = omega arith
 
 -- where each item stands in one shift at most, the shifts are at most as many as the items
-pub few_shifts : (input : Lists) (plan : List (List Shift)) → Once input plan → All (λ (round : List Shift). All (ShiftFits input) round) plan → shifts_in plan ≤ length input.items
+pub few_shifts : (input : InputLists) (plan : List (List Shift)) → Once input plan → All (λ (round : List Shift). All (ShiftFits input) round) plan → shifts_in plan ≤ length input.items
 few_shifts input plan once fits =
     let n : ℕ = length input.items in
     let counts = plan_counts n plan (recursion_from_All _ plan (λ k d h j e lt. (fits k d h j e lt).item)) in
@@ -58,7 +58,7 @@ few_rounds [] h = omega arith
 few_rounds (round ∷ plan) h = omega (arith, h.0, few_rounds plan h.1)
 
 -- the text of such a plan is short
-pub short_text : (input : Lists) (plan : List (List Shift)) (bytes : List ℕ) → IsInput input → Runs input plan → Once input plan → PlanText input plan bytes → length bytes ≤ MAX_FILE_BYTES
+pub short_text : (input : InputLists) (plan : List (List Shift)) (bytes : List ℕ) → IsInput input → Runs input plan → Once input plan → PlanText input plan bytes → length bytes ≤ MAX_FILE_BYTES
 short_text input plan bytes valid runs once text =
     let some : AllByRecursion (λ (round : List Shift). 0 < length round) plan = recursion_from_All _ plan (λ k d h. subst (λ (r : List Shift). 0 < length r) (get_or_default plan k [] d h) (runs.rounds k h).some) in
     let long = plan_length input valid 5 plan bytes (λ k d h. let few = text.fits.few_shifts k d h in length-decimal-le 5 (length (get_or plan k d)) (omega arith) (omega (arith, few)) (omega (arith, few))) text in

@@ -1,12 +1,12 @@
 -- The text of a plan has a line for each shift, and so at least as many bytes as the plan has shifts.
-use Rattle.mig_text.proofs.Common.{List, Lists, PlanText, Shift, [], ap, arith, codes, decimal, head_line, length, length-append, map, round_lines, shift_line, shifts_of, text_of_lines, words, ℕ}
+use Rattle.mig_text.proofs.Common.{InputLists, List, PlanText, Shift, [], ap, arith, codes, decimal, head_line, length, length-append, map, round_lines, shift_line, shifts_of, text_of_lines, words, ℕ}
 use Rattle.mig_text.proofs.Common.{◌++◌, ◌+◌, ◌∷◌, ◌≡◌, ◌≤◌}
 use Rattle.mig_text.proofs.PlanLengths.{text_cons, text_append}
 
 shifts_cons : (round : List Shift) (rounds : List (List Shift)) → length (shifts_of (round ∷ rounds)) ≡ length round + length (shifts_of rounds)
 shifts_cons round rounds = length-append round (shifts_of rounds)
 
-module _ (input : Lists) where
+module _ (input : InputLists) where
   one_each : (round : List Shift) → length round ≤ length (text_of_lines (map (shift_line input) round))
   one_each [] = omega arith
   one_each (s ∷ round) = omega (arith, text_cons (shift_line input s) (map (shift_line input) round), one_each round)

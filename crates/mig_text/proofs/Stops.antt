@@ -1,5 +1,5 @@
 -- Where the reading of lines stops.
-use Rattle.mig_text.proofs.Common.{IsMisfit, IsMiss, IsStop, Leads, Left, List, Misses, Stops, TextError, Took, TookAll, [], ap, append_assoc, arith, length, length-append, refl, subst, sym, ℕ}
+use Rattle.mig_text.proofs.Common.{FitsAlong, IsMisfit, IsMiss, IsStop, Left, List, Misses, Stops, TextError, Took, TookAll, [], ap, append_assoc, arith, length, length-append, refl, subst, sym, ℕ}
 use Rattle.mig_text.proofs.Common.{◌++◌, ◌+◌, ◌∙◌, ◌∷◌, ◌≢◌}
 use Rattle.mig_text.specs.declared.errors.TextError.TheVariants as text_error
 use Rattle.mig_text.proofs.Places.{later_misfit}
@@ -30,7 +30,7 @@ module _ {P : Type 0} (Next : P → List ℕ → P → Type 0) where
       subst (IsStop Next place over old) (sym m.0)
       (1, (refl, record { before = []; after = old.pieces; place = place; cut = refl; fit = refl; stops = missed place over Wanted old.pieces differs h m.1; number = omega arith }))
 
-  pub later_stops : (first place over : P) (old now : Left) (front : List (List ℕ)) (e : TextError) → Leads Next first front place → TookAll old front now → IsStop Next place over now e → IsStop Next first over old e
+  pub later_stops : (first place over : P) (old now : Left) (front : List (List ℕ)) (e : TextError) → FitsAlong Next first front place → TookAll old front now → IsStop Next place over now e → IsStop Next first over old e
   later_stops first place over old now front text_error.Memory leads took s = tt
   later_stops first place over old now front (text_error.Line n) leads took s = (
     length front + s.0,

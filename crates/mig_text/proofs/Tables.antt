@@ -1,5 +1,5 @@
 -- Disks by name.
-use Rattle.mig_text.proofs.Common.{All, AreDifferent, Contains, Disk, IsInput, IsName, List, Lists, Name, Some, [], ap, arith, disk_name, drop, drop-cons, get_or, get_or-map}
+use Rattle.mig_text.proofs.Common.{All, AreDifferent, Contains, Disk, InputLists, IsInput, IsName, List, Name, Some, [], ap, arith, disk_name, drop, drop-cons, get_or, get_or-map}
 use Rattle.mig_text.proofs.Common.{get_or_from_slice_get, length, length-map, map, no_disk, slice_get, slice_get_within, suc, sym, ℕ, ◌++◌, ◌<◌, ◌∙◌, ◌∷◌, ◌≡◌, ◌≢◌}
 use Rattle.std.proofs.lemmas.List as lists
 use Rattle.mig_text.proofs.Different.{not_before_in}
@@ -7,7 +7,7 @@ use Rattle.mig_text.proofs.Different.{not_before_in}
 abbrev pub name_of_disk : Disk → Name
 name_of_disk d = d.name
 
-module _ (input : Lists) (valid : IsInput input) where
+module _ (input : InputLists) (valid : IsInput input) where
   pub at_disk : (k : ℕ) → get_or (map name_of_disk input.disks) k [] ≡ disk_name input k
   at_disk k = get_or-map name_of_disk input.disks k no_disk
 

@@ -3,7 +3,7 @@ ghost use Rattle.std.specs.Prelude.{◌≡◌, ◌≢◌, ◌<◌, ℕ, ◌∷�
 ghost use Rattle.mig_base.specs.InputLists.{AreDifferent, IsInput};
 ghost use Rattle.mig_base.specs.Naming.{IsName};
 ghost use Rattle.mig_base.specs.Texts.{disk_name, item_name};
-ghost use Rattle.mig_text.specs.Finding.{names_of};
+ghost use Rattle.mig_text.specs.Finding.{listed_names};
 
 use mig_base::{Disk, DiskId, Input, ItemId, Name};
 use mig_names::NameTable;
@@ -28,10 +28,10 @@ impl Drop for Finder<'_> {
 }
 
 impl<'a> Model for Finder<'a> {
-    ghost use Rattle.mig_base.specs.InputLists.{Lists};
+    ghost use Rattle.mig_base.specs.InputLists.{InputLists};
     ghost use Rattle.mig_text.specs.Finding.{IsFinderOf};
 
-    ghost Value = { Lists };
+    ghost Value = { InputLists };
 
     ghost view = { λ a. a.input.now };
 
@@ -98,8 +98,8 @@ fn place(table: &NameTable, word: &[u8]) -> Option<usize>
 
 /// The names of disks.
 fn disk_names(alloc: Global, disks: &[Disk]) -> Result<NameTable, AllocError>
-    requires { AreDifferent (names_of disks.now) }
-    ensures { IfOk result (λ t. t ≡ names_of disks.now) }
+    requires { AreDifferent (listed_names disks.now) }
+    ensures { IfOk result (λ t. t ≡ listed_names disks.now) }
 {
     let mut table = NameTable::with_capacity(alloc, disks.len())?;
     for disk in disks {

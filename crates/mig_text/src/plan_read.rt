@@ -1,6 +1,6 @@
 //! Reading the text of a plan.
 ghost use Rattle.std.specs.Prelude.{◌≡◌, ◌++◌, ◌∷◌, ◌≤◌, ◌<◌, ℕ, List, [], length, IfErr, IfOk};
-ghost use Rattle.mig_base.specs.InputLists.{Lists};
+ghost use Rattle.mig_base.specs.InputLists.{InputLists};
 ghost use Rattle.mig_base.specs.Misfits.{pieces};
 ghost use Rattle.mig_base.specs.PlanLines.{before_rounds, Head, Over, PlanLine, PlanNext, Title};
 ghost use Rattle.mig_base.specs.Readiness.{shifts_of};
@@ -47,7 +47,7 @@ fn read_lines(alloc: Global, finder: &Finder<'_>, mut lines: Lines<'_>) -> Resul
 /// The number of rounds, from the first two lines.
 fn take_opening(lines: &mut Lines<'_>) -> Result<u32, TextError>
     ensures ok { IfOk result (λ total. IsPlanOpened total lines.old lines.new) }
-    ensures line { IfErr result (λ e. (input : Lists) → IsStop (PlanNext input) Title Over lines.old e) }
+    ensures line { IfErr result (λ e. (input : InputLists) → IsStop (PlanNext input) Title Over lines.old e) }
 {
     lines.take_fixed(b"migration-plan 1")?;
     lines.take_count(b"rounds", MAX_ROUNDS as u32)

@@ -3,9 +3,9 @@ pub use Rattle.mig_base.proofs.Copies.{count_by-le-one}
 pub use Rattle.mig_base.proofs.Counting.{count_by-filter, count_by-filter-le, count_same, one, sum_by-add, sum_by-le_each, sum_by-map, sum_by-same_each, sum_by-swap}
 pub use Rattle.mig_base.proofs.Rounds.{in_some, moved_cases, spot_disk}
 pub use Rattle.mig_base.proofs.SameIds.{spot_by}
-pub use Rattle.mig_base.specs.InputLists.{AreDifferent, IsInput, IsSpotOf, Lists, disk_at, no_disk, no_spot}
+pub use Rattle.mig_base.specs.InputLists.{AreDifferent, InputLists, IsInput, IsSpotOf, disk_at, no_disk, no_spot}
 pub use Rattle.mig_base.specs.Layouts.{At, IsTaken, Layout, after_shifts, round_at}
-pub use Rattle.mig_base.specs.Running.{IsArrivedAt, IsFree, IsLegal, Once, PlanFits, Runs, ShiftFits, is_of, shift_count, trip_of}
+pub use Rattle.mig_base.specs.Running.{IsArrivedAt, IsFree, IsLegal, Once, PlanFits, Runs, ShiftFits, is_of, shift_count, transfer_of}
 pub use Rattle.mig_base.specs.Targets.{IsRoomy, incoming, present}
 pub use Rattle.mig_base.specs.Transfers.{is_relocated, moves, source, target, touches}
 pub use Rattle.mig_base.specs.declared.ids.DiskId.{DiskId}
@@ -15,7 +15,7 @@ pub use Rattle.mig_base.specs.declared.ids.Spot.{Spot}
 pub use Rattle.mig_base.specs.declared.inputs.Disk.{Disk}
 pub use Rattle.mig_base.specs.declared.names.Name.{Name}
 pub use Rattle.mig_split.specs.Decks.{AreCounts}
-pub use Rattle.mig_tight.specs.PlanStates.{ArePlaced, AreQueues, HasSpares, History, IsOnNext, IsSound, IsUnawaited, PlanState, Reaches, WaitsFor, count_on, first_slots, layout_of, queue_at}
+pub use Rattle.mig_tight.specs.PlanStates.{ArePlaced, AreQueues, HasSpares, History, IsOnNext, IsSoundState, IsUnawaited, PlanState, RoundsLead, WaitsFor, count_on, first_slots, layout_of, queue_at}
 pub use Rattle.mig_tight.specs.PlanStates.{spot_at}
 pub use Rattle.mig_tight.specs.Progress.{AreClearedBelow, AreUnawaited, AreUnawaitedBelow, IsCleared, Preserves, shifted, waiting_count}
 pub use Rattle.mig_tight.specs.Spares.{AreEnds, IsBefore, SparesBefore, spot}
@@ -44,12 +44,12 @@ pub use Rattle.mig_base.proofs.SafetyLaws.{layout_at}
 pub use Rattle.mig_base.proofs.SameIds.{same_disk}
 pub use Rattle.mig_base.proofs.Scheduled.{is_at}
 pub use Rattle.mig_base.proofs.Spelling.{same_place}
-pub use Rattle.mig_base.specs.Transfers.{KeepsLimit, Trip, passes}
+pub use Rattle.mig_base.specs.Transfers.{KeepsLimit, Transfer, passes}
 pub use Rattle.mig_base.specs.InputLists.{IsInRange}
 pub use Rattle.mig_base.specs.declared.certs.Side.TheVariants.{Incoming, Outgoing}
 pub use Rattle.mig_base.specs.declared.inputs.Limits.{Limits}
 pub use Rattle.mig_base.specs.declared.inputs.Limits.TheVariants.{Joint, Split}
-pub use Rattle.mig_split.specs.Dealing.{count_of}
+pub use Rattle.mig_split.specs.Dealing.{occurrences}
 pub use Rattle.mig_tight.specs.declared.errors.TightError.{TightError}
 pub use Rattle.mig_tight.specs.declared.errors.TightError.TheVariants.{Memory, NoFree, TooMany}
 pub use Rattle.std.proofs.lemmas.List.{length_push}

@@ -1,5 +1,5 @@
 -- A disk that is full of items that belong there has no item that waits for it.
-use Rattle.mig_tight.proofs.Common.{AreClearedBelow, AreUnawaited, Bool, Contains, DiskId, Fits, IsInput, IsOnNext, IsRoomy, IsSound, ItemId, List, Lists, PlanState, Spot, WaitsFor, [], ap}
+use Rattle.mig_tight.proofs.Common.{AreClearedBelow, AreUnawaited, Bool, Contains, DiskId, Fits, InputLists, IsInput, IsOnNext, IsRoomy, IsSoundState, ItemId, List, PlanState, Spot, WaitsFor, [], ap}
 use Rattle.mig_tight.proofs.Common.{arith, cases_eq, count_by, count_by-filter, count_by-filter-le, count_on, eq-eqb, eqb, false, fill_by_all, get_or, get_or-range_with_len, get_or-set_other}
 use Rattle.mig_tight.proofs.Common.{get_or_default, incoming, inl, inr, is_relocated, length, length-range_with_len, length-set, nat_tests, ne_eqb, no_spot, none_pass, one, queue_at}
 use Rattle.mig_tight.proofs.Common.{range_with_len, refl, set, source, spot_at, subst, sum_by-map, sum_by-set, sym, target, true, wanted, ℕ, ⊎_elim, ◌&&◌, ◌+◌, ◌<◌, ◌∙◌, ◌≡◌, ◌≢◌, ◌≤◌}
@@ -38,14 +38,14 @@ one_on spots i v there off =
     omega (arith, sum_by-set f spots i (spot_on v) no_spot there, ap one (ne_eqb (spot_at spots i).disk.0 v off), ap one (on_self v))
 
 -- no more items come to a disk than belong there
-incoming_le : (input : Lists) → IsInput input → (v : ℕ) → incoming input v ≤ wanted input v
+incoming_le : (input : InputLists) → IsInput input → (v : ℕ) → incoming input v ≤ wanted input v
 incoming_le input is v =
     let goes : ℕ → Bool = λ item. eqb (target input item) v in
     let items = range_with_len 0 (length input.items) in
     let e = fill_by_all (λ item. get_or input.next item (record { 0 = 0 })) input.next (length input.items) (record { 0 = 0 }) is.next_len (λ k h. refl) in
     omega (arith, count_by-filter-le goes (is_relocated input) items, sum_by-map (λ (d : DiskId). one (eqb d.0 v)) (λ item. get_or input.next item (record { 0 = 0 })) items, ap (λ (xs : List DiskId). count_by (λ (d : DiskId). eqb d.0 v) xs) e)
 
-module _ (input : Lists) (is : IsInput input) (s : PlanState) (st : IsSound input s) (unawaited : AreUnawaited s) where
+module _ (input : InputLists) (is : IsInput input) (s : PlanState) (st : IsSoundState input s) (unawaited : AreUnawaited s) where
   -- Where all items have been seen to, all are on their next disks
   module _ (fits : Fits input) (cleared : AreClearedBelow input s (length input.items)) where
     belongs : (v : ℕ) → (queue_at s.waiting v ≡ [] → ⊥) → (k : ℕ) → k < length input.items → (spot_at s.spots k).disk.0 ≡ v → target input k ≡ v

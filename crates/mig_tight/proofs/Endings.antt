@@ -1,6 +1,6 @@
 -- Where all items are on their next disks, the rounds are a plan.
 use Rattle.mig_tight.proofs.Common.{All, All-head, At, Bool, DiskId, Err, Fits, HasFreeSlot, HasMove, HasNoPlanUnlessMemory, IfErr, IfOk, IsArrivedAt, IsErrAnd, IsInput, IsNoFreeOrMemory}
-use Rattle.mig_tight.proofs.Common.{IsOnNext, IsRoomy, IsSound, IsTightCause, IsTightPlan, IsTooManyOrMemory, Layout, List, Lists, Memory, NoFree, Ok, Once, Option, PlanFits, PlanState, Result}
+use Rattle.mig_tight.proofs.Common.{InputLists, IsOnNext, IsRoomy, IsSoundState, IsTightCause, IsTightPlan, IsTooManyOrMemory, Layout, List, Memory, NoFree, Ok, Once, Option, PlanFits, PlanState, Result}
 use Rattle.mig_tight.proofs.Common.{Runs, Shift, ShiftFits, Some, Spot, TightError, TooMany, [], ap, arith, cases_eq, cond, count_by, count_by-le-one, eq-eqb, eqb, false, false≢true, get_or}
 use Rattle.mig_tight.proofs.Common.{get_or-le-sum_by, get_or-range_with_len, inl, inr, is_of, is_relocated, layout_of, length, length-filter, length-range_with_len, moves, nat_tests, no_spot}
 use Rattle.mig_tight.proofs.Common.{one, option_map, parked, range_with_len, refl, same_disk, shift_count, slice_get, slice_get-get_or, source, spot_at, subst, sum_by, sum_by-add}
@@ -9,7 +9,7 @@ use Rattle.mig_tight.proofs.Histories.{relocated_from}
 use Rattle.mig_tight.proofs.StateSteps.{relocated_apart}
 use Rattle.mig_tight.proofs.RunningPlans.{runs_fits, runs_free}
 
-module _ (input : Lists) (is : IsInput input) (s : PlanState) (st : IsSound input s) (on_next : (item : ℕ) → item < length input.items → IsOnNext input s.spots item) where
+module _ (input : InputLists) (is : IsInput input) (s : PlanState) (st : IsSoundState input s) (on_next : (item : ℕ) → item < length input.items → IsOnNext input s.spots item) where
   arrived : (item : ℕ) → item < length input.items → IsArrivedAt input (At input s.rounds (length s.rounds)) item
   arrived item l =
       let here : layout_of s.spots item ≡ Some (spot_at s.spots item) = slice_get-get_or s.spots item no_spot (omega (arith, l, st.placed.len)) in
@@ -52,7 +52,7 @@ sum_ones : {X : Type 0} (xs : List X) → sum_by (λ x. 1) xs ≡ length xs
 sum_ones [] = refl
 sum_ones {X} (x ∷ xs) = let f : X → ℕ = λ y. 1 in omega (arith, sum_by-cons f x xs, sum_ones xs)
 
-round_counted : (input : Lists) (round : List Shift) → 0 < length round → All (ShiftFits input) round → 1 ≤ sum_by (λ i. count_by (is_of i) round) (range_with_len 0 (length input.items))
+round_counted : (input : InputLists) (round : List Shift) → 0 < length round → All (ShiftFits input) round → 1 ≤ sum_by (λ i. count_by (is_of i) round) (range_with_len 0 (length input.items))
 round_counted input [] some fits = absurd (omega (arith, some))
 round_counted input (s ∷ ss) some fits =
     let n = length input.items in
@@ -75,7 +75,7 @@ range_once n k = count_by-le-one (λ i. eqb k i) (range_with_len 0 n) (λ i j d 
 one_shift : (s : Shift) (i : ℕ) → count_by (is_of i) (s ∷ []) ≡ one (eqb s.item.0 i)
 one_shift s i = omega (arith, sum_by-cons (λ x. one (is_of i x)) s [])
 
-round_counted_once : (input : Lists) (round : List Shift) → length round ≡ 1 → All (ShiftFits input) round → sum_by (λ i. count_by (is_of i) round) (range_with_len 0 (length input.items)) ≡ 1
+round_counted_once : (input : InputLists) (round : List Shift) → length round ≡ 1 → All (ShiftFits input) round → sum_by (λ i. count_by (is_of i) round) (range_with_len 0 (length input.items)) ≡ 1
 round_counted_once input [] single fits = absurd (omega (arith, single))
 round_counted_once input (s ∷ t ∷ ss) single fits = absurd (omega (arith, single))
 round_counted_once input (s ∷ []) single fits =
@@ -90,7 +90,7 @@ twice c true some none = let h = some refl in let low = h.0 in let high = h.1 in
 twice c false some none = let h = none refl in grind (arith, nat_tests)
 
 -- a tight plan has a round for each relocated item, and one more for each item that it shifts twice
-pub rounds_counted : (input : Lists) (plan : List (List Shift)) → IsTightPlan input plan → All (λ round. All (ShiftFits input) round) plan → length plan ≡ length (moves input) + parked input plan
+pub rounds_counted : (input : InputLists) (plan : List (List Shift)) → IsTightPlan input plan → All (λ round. All (ShiftFits input) round) plan → length plan ≡ length (moves input) + parked input plan
 rounds_counted input plan tight fits =
     let n = length input.items in
     let items = range_with_len 0 n in
@@ -103,7 +103,7 @@ rounds_counted input plan tight fits =
     twice (shift_count plan i) (is_relocated input i) (tight.relocated i there) (tight.others i there)) in
     omega (arith, rounds, swap, each, sum_by-add (λ i. one (is_relocated input i)) (λ i. one (eqb (shift_count plan i) 2)) items, length-filter (is_relocated input) items)
 
-pub few_rounds : (input : Lists) (rounds : List (List Shift)) → length input.items ≤ 65536 → All (λ round. length round ≡ 1) rounds → All (λ round. All (ShiftFits input) round) rounds → ((item : ℕ) → item < length input.items → shift_count rounds item ≤ 2) → length rounds ≤ 131072
+pub few_rounds : (input : InputLists) (rounds : List (List Shift)) → length input.items ≤ 65536 → All (λ round. length round ≡ 1) rounds → All (λ round. All (ShiftFits input) round) rounds → ((item : ℕ) → item < length input.items → shift_count rounds item ≤ 2) → length rounds ≤ 131072
 few_rounds input rounds few single fits most =
     let n = length input.items in
     let items = range_with_len 0 n in
@@ -114,7 +114,7 @@ few_rounds input rounds few single fits most =
     subst (λ j. shift_count rounds j ≤ 2) (sym (get_or-range_with_len 0 n k d m ∙ omega arith)) (most k m)) in
     omega (arith, each, sum_ones rounds, swap, all, length-range_with_len 0 n, few)
 
-pub plan_fits : (input : Lists) (s : PlanState) → IsInput input → IsSound input s → PlanFits input s.rounds
+pub plan_fits : (input : InputLists) (s : PlanState) → IsInput input → IsSoundState input s → PlanFits input s.rounds
 plan_fits input s is st = record {
   few_rounds = few_rounds input s.rounds is.few_items st.reaches.single st.reaches.fits (λ item l. ⊎_elim
       (λ u. omega (arith, u.count))
@@ -125,7 +125,7 @@ plan_fits input s is st = record {
 }
 
 -- where nothing is relocated, no round is a plan
-pub tight_nothing : (input : Lists) → IsInput input → (HasMove input → ⊥) → IsTightPlan input []
+pub tight_nothing : (input : InputLists) → IsInput input → (HasMove input → ⊥) → IsTightPlan input []
 tight_nothing input is none =
     let still : (item : ℕ) → item < length input.items → is_relocated input item ≡ true → ⊥ = λ item l r. none (item, l, r) in
     record {
@@ -153,11 +153,11 @@ tight_nothing input is none =
     by_case item true e not_moved = absurd (not_moved e)
     by_case item false e not_moved = sym (ap {B = ℕ} (λ c. cond c 1 0) e)
 
-pub fits_nothing : (input : Lists) → PlanFits input []
+pub fits_nothing : (input : InputLists) → PlanFits input []
 fits_nothing input = record { few_rounds = omega arith; few_shifts = λ k d l. absurd (omega (arith, l)); shifts = λ k d l. absurd (omega (arith, l)) }
 
 -- What is so of a plan that is found, and of each cause, says when each answer comes
-module _ (input : Lists) (is : IsInput input) where
+module _ (input : InputLists) (is : IsInput input) where
   pub no_plan : (e : TightError) → IsTightCause input e → HasNoPlanUnlessMemory input e
   no_plan (TooMany disk needs slots) cause = λ plan runs. absurd (omega (arith, cause.over, cause.needs_is, cause.slots_is, runs_fits input is plan runs disk.0 cause.there))
   no_plan NoFree cause = λ plan runs. cause.2 (runs_free input is plan runs cause.1)

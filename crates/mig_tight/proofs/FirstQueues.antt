@@ -1,5 +1,5 @@
 -- The queues of the first n items.
-use Rattle.mig_tight.proofs.Common.{All, All-push, AreDifferent, AreQueues, Contains, Contains-append_left, Contains-push, IsInput, ItemId, List, Lists, WaitsFor, [], ap, arith, cases_eq}
+use Rattle.mig_tight.proofs.Common.{All, All-push, AreDifferent, AreQueues, Contains, Contains-append_left, Contains-push, InputLists, IsInput, ItemId, List, WaitsFor, [], ap, arith, cases_eq}
 use Rattle.mig_tight.proofs.Common.{cases_lt, false, false≢true, get_or, get_or-set_other, get_or-set_same, get_or_append_left, get_or_push, inl, inr, is_relocated, length, length-set}
 use Rattle.mig_tight.proofs.Common.{length_push, queue_at, set, source, subst, sym, target, true, ℕ, ◌++◌, ◌+◌, ◌<◌, ◌∙◌, ◌∷◌, ◌≡◌, ◌≢◌}
 use Rattle.mig_tight.proofs.Histories.{relocated_from}
@@ -7,7 +7,7 @@ use Rattle.mig_tight.proofs.Histories.{relocated_from}
 abbrev id : ℕ → ItemId
 id item = record { 0 = item }
 
-pub record AreQueuesBelow (input : Lists) (n : ℕ) (waiting : List (List ItemId)) : Type 0 where
+pub record AreQueuesBelow (input : InputLists) (n : ℕ) (waiting : List (List ItemId)) : Type 0 where
   pub len : length waiting ≡ length input.disks
   pub all_wait : (v : ℕ) → v < length input.disks → All (WaitsFor input input.spots v) (queue_at waiting v)
   pub below : (v : ℕ) → v < length input.disks → All (λ i. i.0 < n) (queue_at waiting v)
@@ -23,7 +23,7 @@ apart_push xs x apart fresh i j d l m = elim (cases_lt j (length xs)) [
       λ e. fresh i d (omega (arith, l, at)) (sym (get_or_append_left xs (x ∷ []) d i (omega (arith, l, at))) ∙ e ∙ get_or_push xs x d j (sym at))
 ]
 
-pub queued_start : (input : Lists) (waiting : List (List ItemId)) → length waiting ≡ length input.disks → All (λ q. q ≡ []) waiting → AreQueuesBelow input 0 waiting
+pub queued_start : (input : InputLists) (waiting : List (List ItemId)) → length waiting ≡ length input.disks → All (λ q. q ≡ []) waiting → AreQueuesBelow input 0 waiting
 queued_start input waiting len none =
     let empty : (v : ℕ) → v < length input.disks → queue_at waiting v ≡ [] = λ v h. none v [] (omega (arith, h, len)) in
     record {
@@ -34,7 +34,7 @@ queued_start input waiting len none =
       everyone = λ item h. absurd (omega (arith, h));
     }
 
-pub queued_stays : (input : Lists) (n : ℕ) (waiting : List (List ItemId)) → is_relocated input n ≡ false → AreQueuesBelow input n waiting → AreQueuesBelow input (n + 1) waiting
+pub queued_stays : (input : InputLists) (n : ℕ) (waiting : List (List ItemId)) → is_relocated input n ≡ false → AreQueuesBelow input n waiting → AreQueuesBelow input (n + 1) waiting
 queued_stays input n waiting f q = record {
   len = q.len;
   all_wait = q.all_wait;
@@ -46,7 +46,7 @@ queued_stays input n waiting f q = record {
   ];
 }
 
-module _ (input : Lists) (is : IsInput input) (n : ℕ) (waiting : List (List ItemId)) (there : n < length input.items) (t : is_relocated input n ≡ true) (away : source input n ≢ target input n) (q : AreQueuesBelow input n waiting) (v : ℕ) (goes : v ≡ target input n) (new : List ItemId) (more : new ≡ queue_at waiting v ++ id n ∷ []) where
+module _ (input : InputLists) (is : IsInput input) (n : ℕ) (waiting : List (List ItemId)) (there : n < length input.items) (t : is_relocated input n ≡ true) (away : source input n ≢ target input n) (q : AreQueuesBelow input n waiting) (v : ℕ) (goes : v ≡ target input n) (new : List ItemId) (more : new ≡ queue_at waiting v ++ id n ∷ []) where
   pub disk_there : v < length input.disks
   disk_there = omega (arith, goes, is.next_disks n (record { 0 = 0 }) (omega (arith, there, is.next_len)))
 
@@ -85,7 +85,7 @@ module _ (input : Lists) (is : IsInput input) (n : ℕ) (waiting : List (List It
     ];
   }
 
-pub queued_end : (input : Lists) (n : ℕ) (waiting : List (List ItemId)) → n ≡ length input.items → AreQueuesBelow input n waiting → AreQueues input input.spots waiting
+pub queued_end : (input : InputLists) (n : ℕ) (waiting : List (List ItemId)) → n ≡ length input.items → AreQueuesBelow input n waiting → AreQueues input input.spots waiting
 queued_end input n waiting all q = record {
   len = q.len;
   all_wait = q.all_wait;

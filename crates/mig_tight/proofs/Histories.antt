@@ -1,5 +1,5 @@
 -- What items have been through, after one shift more.
-use Rattle.mig_tight.proofs.Common.{History, IsOnNext, IsRoomy, List, Lists, PlanState, Shift, Spot, [], ap, arith, cond, count_by, eq-eqb, eqb, get_or-set_same, inl, inr, is_of, is_relocated}
+use Rattle.mig_tight.proofs.Common.{History, InputLists, IsOnNext, IsRoomy, List, PlanState, Shift, Spot, [], ap, arith, cond, count_by, eq-eqb, eqb, get_or-set_same, inl, inr, is_of, is_relocated}
 use Rattle.mig_tight.proofs.Common.{length, ne_eqb, no_spot, not, queue_at, refl, set, shift_count, source, spot_at, sum_by-cons, sum_by_push, sym, target, true, ℕ, ◌++◌, ◌+◌, ◌<◌, ◌∙◌}
 use Rattle.mig_tight.proofs.Common.{◌∷◌, ◌≡◌, ◌≢◌}
 use Rattle.mig_tight.proofs.Queueing.{spot_other}
@@ -15,10 +15,10 @@ pub count_other : (rounds : List (List Shift)) (s : Shift) (item : ℕ) → item
 count_other rounds s item ne = sum_by_push (λ r. count_by (is_of item) r) rounds (s ∷ []) ∙ omega (arith, count_one s item, ap {B = ℕ} (λ b. cond b 1 0) (ne_eqb s.item.0 item (λ e. ne (sym e))))
 
 -- an item that isn't on its next disk, and was never shifted, is relocated
-pub relocated_from : (input : Lists) (item : ℕ) → source input item ≢ target input item → is_relocated input item ≡ true
+pub relocated_from : (input : InputLists) (item : ℕ) → source input item ≢ target input item → is_relocated input item ≡ true
 relocated_from input item ne = ap not (ne_eqb (source input item) (target input item) ne)
 
-module _ (input : Lists) (spots : List Spot) (rounds : List (List Shift)) (s : Shift) (a b : PlanState) (there : s.item.0 < length spots) (a_spots : a.spots ≡ spots) (a_rounds : a.rounds ≡ rounds) (b_spots : b.spots ≡ set spots s.item.0 s.to) (b_rounds : b.rounds ≡ rounds ++ (s ∷ []) ∷ []) where
+module _ (input : InputLists) (spots : List Spot) (rounds : List (List Shift)) (s : Shift) (a b : PlanState) (there : s.item.0 < length spots) (a_spots : a.spots ≡ spots) (a_rounds : a.rounds ≡ rounds) (b_spots : b.spots ≡ set spots s.item.0 s.to) (b_rounds : b.rounds ≡ rounds ++ (s ∷ []) ∷ []) where
   other_spot : (item : ℕ) → item ≢ s.item.0 → spot_at b.spots item ≡ spot_at a.spots item
   other_spot item ne = ap (λ (l : List Spot). spot_at l item) b_spots ∙ spot_other spots s.item.0 s.to item ne ∙ ap (λ (l : List Spot). spot_at l item) (sym a_spots)
 

@@ -1,5 +1,5 @@
 -- The items that wait, after one of them was shifted.
-use Rattle.mig_tight.proofs.Common.{All, AreDifferent, AreQueues, Contains, Contains-push_cases, IsOnNext, ItemId, List, Lists, Spot, WaitsFor, [], ap, arith, cases_eq, get_or, get_or-set_other}
+use Rattle.mig_tight.proofs.Common.{All, AreDifferent, AreQueues, Contains, Contains-push_cases, InputLists, IsOnNext, ItemId, List, Spot, WaitsFor, [], ap, arith, cases_eq, get_or, get_or-set_other}
 use Rattle.mig_tight.proofs.Common.{get_or-set_same, get_or_append_left, get_or_push, inl, inr, length, length-set, length_push, no_spot, queue_at, refl, set, spot_at, subst, sym, target, ℕ}
 use Rattle.mig_tight.proofs.Common.{◌++◌, ◌<◌, ◌∙◌, ◌∷◌, ◌≡◌, ◌≢◌}
 
@@ -13,14 +13,14 @@ same_item a b e i = record { 0 = e i }
 pub spot_other : (spots : List Spot) (item : ℕ) (to : Spot) (other : ℕ) → other ≢ item → spot_at (set spots item to) other ≡ spot_at spots other
 spot_other spots item to other ne = get_or-set_other spots item other to no_spot ne
 
-on_next_other : (input : Lists) (spots : List Spot) (item : ℕ) (to : Spot) (other : ℕ) → other ≢ item → IsOnNext input (set spots item to) other → IsOnNext input spots other
+on_next_other : (input : InputLists) (spots : List Spot) (item : ℕ) (to : Spot) (other : ℕ) → other ≢ item → IsOnNext input (set spots item to) other → IsOnNext input spots other
 on_next_other input spots item to other ne h = ap (λ (s : Spot). s.disk.0) (sym (spot_other spots item to other ne)) ∙ h
 
-waits_other : (input : Lists) (spots : List Spot) (item : ℕ) (to : Spot) (v : ℕ) (other : ItemId) → other.0 ≢ item → WaitsFor input spots v other → WaitsFor input (set spots item to) v other
+waits_other : (input : InputLists) (spots : List Spot) (item : ℕ) (to : Spot) (v : ℕ) (other : ItemId) → other.0 ≢ item → WaitsFor input spots v other → WaitsFor input (set spots item to) v other
 waits_other input spots item to v other ne w = record { there = w.there; goes = w.goes; away = λ h. w.away (on_next_other input spots item to other.0 ne h) }
 
 -- an item that waits went to its next disk
-module _ (input : Lists) (spots : List Spot) (waiting : List (List ItemId)) (v : ℕ) (x : ItemId) (rest : List ItemId) (to : Spot) (q : AreQueues input spots waiting) (there : v < length input.disks) (len : length spots ≡ length input.items) (was : queue_at waiting v ≡ rest ++ x ∷ []) (on : to.disk.0 ≡ v) where
+module _ (input : InputLists) (spots : List Spot) (waiting : List (List ItemId)) (v : ℕ) (x : ItemId) (rest : List ItemId) (to : Spot) (q : AreQueues input spots waiting) (there : v < length input.disks) (len : length spots ≡ length input.items) (was : queue_at waiting v ≡ rest ++ x ∷ []) (on : to.disk.0 ≡ v) where
   last_there : length rest < length (rest ++ x ∷ [])
   last_there = omega (arith, length_push rest x)
 
@@ -102,7 +102,7 @@ module _ (input : Lists) (spots : List Spot) (waiting : List (List ItemId)) (v :
   ]
 
 -- an item that waits went to a disk that isn't its next disk
-module _ (input : Lists) (spots : List Spot) (waiting : List (List ItemId)) (x : ℕ) (to : Spot) (q : AreQueues input spots waiting) (there : x < length spots) (far : to.disk.0 ≢ target input x) where
+module _ (input : InputLists) (spots : List Spot) (waiting : List (List ItemId)) (x : ℕ) (to : Spot) (q : AreQueues input spots waiting) (there : x < length spots) (far : to.disk.0 ≢ target input x) where
   away_now : IsOnNext input (set spots x to) x → ⊥
   away_now h = far (ap (λ (s : Spot). s.disk.0) (sym (get_or-set_same spots x to no_spot there)) ∙ h)
 

@@ -1,5 +1,5 @@
 -- Which inputs have a plan that runs.
-use Rattle.mig_tight.proofs.Common.{All, All-cons, All-contains, AllPairs-cons, AreDifferent, At, At-some, Contains, DiskId, Fits, HasFreeSlot, HasMove, IsFree, IsInput, IsSpotOf, List, Lists}
+use Rattle.mig_tight.proofs.Common.{All, All-cons, All-contains, AllPairs-cons, AreDifferent, At, At-some, Contains, DiskId, Fits, HasFreeSlot, HasMove, InputLists, IsFree, IsInput, IsSpotOf, List}
 use Rattle.mig_tight.proofs.Common.{Option, Runs, Shift, Some, Spot, ap, arith, cases_lt, count_same, eq-eqb, eqb, false≢true, get_or, get_or-map, get_or-range_with_len, get_or_default, in_some}
 use Rattle.mig_tight.proofs.Common.{inl, inr, is_at, layout_at, length, length-map, length-range_with_len, map, moved_cases, no_spot, not, one, option_map, present, range_with_len, refl}
 use Rattle.mig_tight.proofs.Common.{round_at, same_disk, slice_get, slice_get-get_or, slice_get_within, slots_of, source, spot, spot_disk, subst, suc, sum_by-cons, sym, target, unwrap_or, zero}
@@ -7,7 +7,7 @@ use Rattle.mig_tight.proofs.Common.{ℕ, ⊎_elim, ◌<◌, ◌∙◌, ◌∷◌
 use Rattle.mig_base.proofs.SlotCounts.{pigeons_above, spot_slot}
 
 -- more spots than the present ones are on a disk where one more is free
-pub present_below : (input : Lists) (spot : Spot) → IsInput input → IsSpotOf input.disks spot → (Contains input.spots spot → ⊥) → present input spot.disk.0 < slots_of input spot.disk.0
+pub present_below : (input : InputLists) (spot : Spot) → IsInput input → IsSpotOf input.disks spot → (Contains input.spots spot → ⊥) → present input spot.disk.0 < slots_of input spot.disk.0
 present_below input spot is there fresh =
     let v = spot.disk.0 in
     let apart : AreDifferent (spot ∷ input.spots) = AllPairs-cons (λ (x y : Spot). x ≢ y) spot input.spots (λ k d l e. fresh (k, l, at_it k d l (sym e))) is.spots_apart in
@@ -20,7 +20,7 @@ present_below input spot is there fresh =
     at_it : (k : ℕ) (d : Spot) → k < length input.spots → get_or input.spots k d ≡ spot → get_or input.spots k spot ≡ spot
     at_it k d l e = get_or_default input.spots k spot d l ∙ e
 
-module _ (input : Lists) (is : IsInput input) (plan : List (List Shift)) (runs : Runs input plan) where
+module _ (input : InputLists) (is : IsInput input) (plan : List (List Shift)) (runs : Runs input plan) where
   slots_at : (k : ℕ) → k ≤ length plan → (item : ℕ) (spot : Spot) → At input plan k item ≡ Some spot → IsSpotOf input.disks spot
   slots_at zero le item spot at =
       let l = slice_get_within input.spots item spot at in

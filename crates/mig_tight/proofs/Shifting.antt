@@ -1,9 +1,9 @@
 -- One shift more: an item goes to a spare, and leaves a spare where it was.
 use Rattle.mig_tight.proofs.Common.{All, All-cons, All-contains, All-nil, All-push, All-set, ArePlaced, At, At-append, At-push, Contains, Contains-get_or, HasSpares, Incoming, IsFree, IsInRange}
-use Rattle.mig_tight.proofs.Common.{IsInput, IsLegal, IsListOf-shift, IsSpotOf, IsTaken, Joint, KeepsLimit, Layout, Limits, List, Lists, Outgoing, Reaches, Shift, ShiftFits, Some, Split, Spot}
-use Rattle.mig_tight.proofs.Common.{Trip, [], after_shifts, ap, arith, cases_eq, cases_lt, count_by-le-length, disk_at, eqb, get_or, get_or-set_other, get_or-set_same, get_or_default}
+use Rattle.mig_tight.proofs.Common.{InputLists, IsInput, IsLegal, IsListOf-shift, IsSpotOf, IsTaken, Joint, KeepsLimit, Layout, Limits, List, Outgoing, RoundsLead, Shift, ShiftFits, Some, Split, Spot}
+use Rattle.mig_tight.proofs.Common.{Transfer, [], after_shifts, ap, arith, cases_eq, cases_lt, count_by-le-length, disk_at, eqb, get_or, get_or-set_other, get_or-set_same, get_or_default}
 use Rattle.mig_tight.proofs.Common.{get_or_push, incoming, inl, inr, is_at, layout_of, length, length-set, length_push, no_disk, no_spot, one, passes, refl, round_at, round_at-append, set}
-use Rattle.mig_tight.proofs.Common.{slice_get-get_or, slice_get_within, spot, spot_at, spot_disk, subst, suc, sum_by-set, sym, touches, trip_of, ℕ, ◌++◌, ◌<◌, ◌∙◌, ◌∷◌, ◌≡◌, ◌≢◌, ◌≤◌}
+use Rattle.mig_tight.proofs.Common.{slice_get-get_or, slice_get_within, spot, spot_at, spot_disk, subst, suc, sum_by-set, sym, touches, transfer_of, ℕ, ◌++◌, ◌<◌, ◌∙◌, ◌∷◌, ◌≡◌, ◌≢◌, ◌≤◌}
 use Rattle.mig_base.proofs.SlotCounts.{spot_slot}
 use Rattle.mig_tight.proofs.ListLaws.{pairs_one, place_of, set_apart, contains_set}
 
@@ -12,20 +12,20 @@ abbrev pub shift_to : List Spot → List Spot → ℕ → ℕ → Shift
 shift_to spots spares item h = record { item = record { 0 = item }; from = spot_at spots item; to = spot_at spares h }
 
 -- earlier layouts stay
-At_same : (input : Lists) (rounds more : List (List Shift)) (k : ℕ) → k ≤ length rounds → At input (rounds ++ more) k ≡ At input rounds k
+At_same : (input : InputLists) (rounds more : List (List Shift)) (k : ℕ) → k ≤ length rounds → At input (rounds ++ more) k ≡ At input rounds k
 At_same input rounds more k le = λ i item. At-append input rounds more k item le i
 
-slot_small : (input : Lists) (spot : Spot) → IsInput input → IsSpotOf input.disks spot → spot.slot < 65536
+slot_small : (input : InputLists) (spot : Spot) → IsInput input → IsSpotOf input.disks spot → spot.slot < 65536
 slot_small input spot is of =
     let r = is.disk_ranges spot.disk.0 no_disk (spot_disk input.disks spot of) in
     omega (arith, spot_slot input.disks spot of, r.2)
 
--- a trip alone keeps all limits
-keeps_one : (limits : Limits) (v : ℕ) (t : Trip) → IsInRange limits → KeepsLimit limits v (t ∷ [])
+-- a transfer alone keeps all limits
+keeps_one : (limits : Limits) (v : ℕ) (t : Transfer) → IsInRange limits → KeepsLimit limits v (t ∷ [])
 keeps_one (Joint limit) v t range = omega (arith, count_by-le-length (touches v) (t ∷ []), range.0)
 keeps_one (Split outgoing incoming) v t range = (omega (arith, count_by-le-length (passes Outgoing v) (t ∷ []), range.0.0), omega (arith, count_by-le-length (passes Incoming v) (t ∷ []), range.1.0))
 
-module _ (input : Lists) (is : IsInput input) (spots spares : List Spot) (item h : ℕ) (placed : ArePlaced input spots spares) (there : item < length input.items) (spare : h < length spares) where
+module _ (input : InputLists) (is : IsInput input) (spots spares : List Spot) (item h : ℕ) (placed : ArePlaced input spots spares) (there : item < length input.items) (spare : h < length spares) where
   within : item < length spots
   within = omega (arith, there, placed.len)
 
@@ -51,7 +51,7 @@ module _ (input : Lists) (is : IsInput input) (spots spares : List Spot) (item h
         once = pairs_one (λ (t u : Shift). t.item ≢ u.item) s;
         free = All-cons (λ (t : Shift). IsFree input (layout_of spots) t.to) s [] (placed.spares_there h no_spot spare, not_taken) (All-nil (λ (t : Shift). IsFree input (layout_of spots) t.to));
         apart = pairs_one (λ (t u : Shift). t.to ≢ u.to) s;
-        limits = λ v l. keeps_one (disk_at input.disks v).limits v (trip_of s) (is.disk_ranges v no_disk l).0;
+        limits = λ v l. keeps_one (disk_at input.disks v).limits v (transfer_of s) (is.disk_ranges v no_disk l).0;
       }
 
   fits_one : All (ShiftFits input) (shift_to spots spares item h ∷ [])
@@ -67,7 +67,7 @@ module _ (input : Lists) (is : IsInput input) (spots spares : List Spot) (item h
   next_layout : after_shifts (layout_of spots) (shift_to spots spares item h ∷ []) ≡ layout_of (set spots item (spot_at spares h))
   next_layout = λ i k. sym (IsListOf-shift (layout_of spots) spots (shift_to spots spares item h) within (λ n. refl) k) i
 
-  pub reaches_more : (rounds : List (List Shift)) → Reaches input spots rounds → Reaches input (set spots item (spot_at spares h)) (rounds ++ (shift_to spots spares item h ∷ []) ∷ [])
+  pub reaches_more : (rounds : List (List Shift)) → RoundsLead input spots rounds → RoundsLead input (set spots item (spot_at spares h)) (rounds ++ (shift_to spots spares item h ∷ []) ∷ [])
   reaches_more rounds w =
       let round = shift_to spots spares item h ∷ [] in
       let more = round ∷ [] in

@@ -1,28 +1,28 @@
 -- The free slots of the disks, slot by slot.
 use Rattle.mig_tight.proofs.Common.{All, All-append, All-map, All-nil, All-push, All-weaker, AreCounts, AreDifferent, AreEnds, ArePlaced, Contains, Contains-append_left, Contains-append_right}
-use Rattle.mig_tight.proofs.Common.{Contains-push, DiskId, HasFreeSlot, HasSpares, IsBefore, IsInput, List, Lists, SparesBefore, Spot, [], ap, arith, cases_eq, count_by-le-length, count_of, eqb}
+use Rattle.mig_tight.proofs.Common.{Contains-push, DiskId, HasFreeSlot, HasSpares, InputLists, IsBefore, IsInput, List, SparesBefore, Spot, [], ap, arith, cases_eq, count_by-le-length, eqb, occurrences}
 use Rattle.mig_tight.proofs.Common.{first_slots, get_or, get_or-take, inl, inr, length, length-append, length-map, length-take, map, no_spot, one, pigeons, refl, spot, spot_at, spot_by}
 use Rattle.mig_tight.proofs.Common.{spot_disk, subst, sum_by-append, sum_by-map, sym, take, ℕ, ⊎_elim, ◌++◌, ◌+◌, ◌<◌, ◌∙◌, ◌∷◌, ◌≡◌, ◌⊎◌}
 use Rattle.mig_base.proofs.SlotCounts.{spot_is_of}
 use Rattle.mig_tight.proofs.RunningPlans.{present_below}
 use Rattle.mig_tight.proofs.FirstQueues.{apart_push}
 
-pub ends_are : (input : Lists) (n : ℕ) (stops : List DiskId) (counts : List ℕ) → IsInput input → n ≡ length input.disks → stops ≡ map (λ (s : Spot). s.disk) input.spots ++ input.next → AreCounts n stops counts → AreEnds input counts
+pub ends_are : (input : InputLists) (n : ℕ) (stops : List DiskId) (counts : List ℕ) → IsInput input → n ≡ length input.disks → stops ≡ map (λ (s : Spot). s.disk) input.spots ++ input.next → AreCounts n stops counts → AreEnds input counts
 ends_are input n stops counts is disks list a =
     let on : List DiskId = map (λ (s : Spot). s.disk) input.spots in
     record {
       len = a.len ∙ disks;
-      count = λ v h. omega (arith, a.counted v (omega (arith, h, disks)), ap (λ (xs : List DiskId). count_of v xs) list, sum_by-append (λ (d : DiskId). one (eqb d.0 v)) on input.next, sum_by-map (λ (d : DiskId). one (eqb d.0 v)) (λ (s : Spot). s.disk) input.spots);
+      count = λ v h. omega (arith, a.counted v (omega (arith, h, disks)), ap (λ (xs : List DiskId). occurrences v xs) list, sum_by-append (λ (d : DiskId). one (eqb d.0 v)) on input.next, sum_by-map (λ (d : DiskId). one (eqb d.0 v)) (λ (s : Spot). s.disk) input.spots);
       few = λ v h. omega (arith, a.counted v (omega (arith, h, disks)), count_by-le-length (λ (d : DiskId). eqb d.0 v) stops, ap (λ (xs : List DiskId). length xs) list, length-append on input.next, length-map input.spots (λ (s : Spot). s.disk), is.spots_len, is.next_len, is.few_items);
     }
 
 -- each disk of the list is there
-pub stops_there : (input : Lists) (n : ℕ) (stops : List DiskId) → IsInput input → n ≡ length input.disks → stops ≡ map (λ (s : Spot). s.disk) input.spots ++ input.next → All (λ (d : DiskId). d.0 < n) stops
+pub stops_there : (input : InputLists) (n : ℕ) (stops : List DiskId) → IsInput input → n ≡ length input.disks → stops ≡ map (λ (s : Spot). s.disk) input.spots ++ input.next → All (λ (d : DiskId). d.0 < n) stops
 stops_there input n stops is disks list = subst (λ (xs : List DiskId). All (λ (d : DiskId). d.0 < n) xs) (sym list) (All-append (λ (d : DiskId). d.0 < n) (map (λ (s : Spot). s.disk) input.spots) input.next
     (All-map (λ (d : DiskId). d.0 < n) (λ (s : Spot). s.disk) input.spots (λ k d h. omega (arith, spot_disk input.disks (get_or input.spots k d) (is.on_disks k d h), disks)))
     (λ k d h. omega (arith, is.next_disks k d h, disks)))
 
-pub spares_start : (input : Lists) → SparesBefore input 0 0 []
+pub spares_start : (input : InputLists) → SparesBefore input 0 0 []
 spares_start input = record {
   there = All-nil (λ (spare : Spot). (spare.disk.0 < length input.disks) × (spare.slot < first_slots input spare.disk.0));
   free = All-nil (λ (spare : Spot). Contains input.spots spare → ⊥);
@@ -47,7 +47,7 @@ split d n v s (inr p) = let lt = p.1 in elim (cases_eq s n) [
   | inr off ↦ inl (inr (p.0, omega (arith, lt, off)))
 ]
 
-module _ (input : Lists) (d n : ℕ) (spares : List Spot) (there : d < length input.disks) (here : n < first_slots input d) (b : SparesBefore input d n spares) where
+module _ (input : InputLists) (d n : ℕ) (spares : List Spot) (there : d < length input.disks) (here : n < first_slots input d) (b : SparesBefore input d n spares) where
   pub spares_taken : Contains input.spots (spot d n) → SparesBefore input d (n + 1) spares
   spares_taken t = record {
     there = b.there;
@@ -73,7 +73,7 @@ module _ (input : Lists) (d n : ℕ) (spares : List Spot) (there : d < length in
   }
 
 -- after the last slot of a disk that is looked at comes the first of the next disk
-pub spares_row : (input : Lists) (d n : ℕ) (spares : List Spot) → n ≡ first_slots input d → SparesBefore input d n spares → SparesBefore input (d + 1) 0 spares
+pub spares_row : (input : InputLists) (d n : ℕ) (spares : List Spot) → n ≡ first_slots input d → SparesBefore input d n spares → SparesBefore input (d + 1) 0 spares
 spares_row input d n spares all b = record {
   there = b.there;
   free = b.free;
@@ -88,7 +88,7 @@ spares_row input d n spares all b = record {
       e);
 }
 
-module _ (input : Lists) (is : IsInput input) (d : ℕ) (spares : List Spot) (all : d ≡ length input.disks) (b : SparesBefore input d 0 spares) where
+module _ (input : InputLists) (is : IsInput input) (d : ℕ) (spares : List Spot) (all : d ≡ length input.disks) (b : SparesBefore input d 0 spares) where
   pub spares_placed : ArePlaced input input.spots spares
   spares_placed = record {
     len = is.spots_len;
@@ -112,7 +112,7 @@ module _ (input : Lists) (is : IsInput input) (d : ℕ) (spares : List Spot) (al
       )
 
 -- there is a spare exactly where a slot is free
-module _ (input : Lists) (is : IsInput input) (spares : List Spot) (placed : ArePlaced input input.spots spares) (enough : HasSpares input input.spots spares) where
+module _ (input : InputLists) (is : IsInput input) (spares : List Spot) (placed : ArePlaced input input.spots spares) (enough : HasSpares input input.spots spares) where
   pub free_from_spare : 0 < length spares → HasFreeSlot input
   free_from_spare some =
       let spare = spot_at spares 0 in

@@ -1,5 +1,5 @@
 -- A waiting item that is shifted to a spare of its next disk, and one that is parked.
-use Rattle.mig_tight.proofs.Common.{AreClearedBelow, AreUnawaited, AreUnawaitedBelow, History, IsCleared, IsInput, IsOnNext, IsSound, IsUnawaited, ItemId, List, Lists, PlanState, Preserves, Spot}
+use Rattle.mig_tight.proofs.Common.{AreClearedBelow, AreUnawaited, AreUnawaitedBelow, History, InputLists, IsCleared, IsInput, IsOnNext, IsSoundState, IsUnawaited, ItemId, List, PlanState, Preserves, Spot}
 use Rattle.mig_tight.proofs.Common.{WaitsFor, [], ap, arith, cases_eq, cases_spot, eq-eqb, false≢true, get_or, get_or-set_other, get_or-set_same, get_or_read, inl, inr, is_relocated, length}
 use Rattle.mig_tight.proofs.Common.{length-set, length_push, no_spot, not, queue_at, refl, set, shift_count, shifted, source, spot_at, spot_disk, subst, sum_by-set, sym, target, true}
 use Rattle.mig_tight.proofs.Common.{waiting_count, ℕ, ⊎_elim, ◌++◌, ◌+◌, ◌<◌, ◌∙◌, ◌∷◌, ◌≡◌, ◌≢◌, ◌≤◌}
@@ -8,14 +8,14 @@ use Rattle.mig_tight.proofs.Queueing.{spot_other, waits_last, AreQueues-filled, 
 use Rattle.mig_tight.proofs.Histories.{history_other, history_filled, history_parked}
 use Rattle.mig_tight.proofs.Counts.{someone_waits, tight}
 
-pub relocated_apart : (input : Lists) (item : ℕ) → is_relocated input item ≡ true → source input item ≢ target input item
+pub relocated_apart : (input : InputLists) (item : ℕ) → is_relocated input item ≡ true → source input item ≢ target input item
 relocated_apart input item r e = false≢true (sym (ap not (eq-eqb (source input item) (target input item) e)) ∙ r)
 
 -- what comes after what comes after
-pub Preserves-refl : (input : Lists) (h : ℕ) (a : PlanState) → Preserves input h a a
+pub Preserves-refl : (input : InputLists) (h : ℕ) (a : PlanState) → Preserves input h a a
 Preserves-refl input h a = record { spares_len = refl; spares = λ j ne. refl; queues = λ v e. e; moved = λ item l ne. ne }
 
-pub Preserves-trans : (input : Lists) (h : ℕ) (a b c : PlanState) → Preserves input h a b → Preserves input h b c → Preserves input h a c
+pub Preserves-trans : (input : InputLists) (h : ℕ) (a b c : PlanState) → Preserves input h a b → Preserves input h b c → Preserves input h a c
 Preserves-trans input h a b c x y = record {
   spares_len = y.spares_len ∙ x.spares_len;
   spares = λ j ne. y.spares j ne ∙ x.spares j ne;
@@ -24,34 +24,34 @@ Preserves-trans input h a b c x y = record {
 }
 
 -- where nobody waits for the disk of another spare, nobody does later
-pub unawaited_after : (input : Lists) (h : ℕ) (a b : PlanState) → Preserves input h a b → (j : ℕ) → j ≢ h → IsUnawaited a.waiting (spot_at a.spares j) → IsUnawaited b.waiting (spot_at b.spares j)
+pub unawaited_after : (input : InputLists) (h : ℕ) (a b : PlanState) → Preserves input h a b → (j : ℕ) → j ≢ h → IsUnawaited a.waiting (spot_at a.spares j) → IsUnawaited b.waiting (spot_at b.spares j)
 unawaited_after input h a b on j ne rest = ap (λ (x : Spot). queue_at b.waiting x.disk.0) (on.spares j ne) ∙ on.queues (spot_at a.spares j).disk.0 rest
 
-pub all_unawaited : (input : Lists) (h : ℕ) (a b : PlanState) → Preserves input h a b → AreUnawaited a → IsUnawaited b.waiting (spot_at b.spares h) → AreUnawaited b
+pub all_unawaited : (input : InputLists) (h : ℕ) (a b : PlanState) → Preserves input h a b → AreUnawaited a → IsUnawaited b.waiting (spot_at b.spares h) → AreUnawaited b
 all_unawaited input h a b on rest here j l = elim (cases_eq j h) [
   | inl at ↦ subst (λ k. IsUnawaited b.waiting (spot_at b.spares k)) (sym at) here
   | inr off ↦ unawaited_after input h a b on j off (rest j (omega (arith, l, on.spares_len)))
 ]
 
-pub unawaited_more : (input : Lists) (h : ℕ) (a b : PlanState) → Preserves input h a b → AreUnawaitedBelow a h → IsUnawaited b.waiting (spot_at b.spares h) → AreUnawaitedBelow b (h + 1)
+pub unawaited_more : (input : InputLists) (h : ℕ) (a b : PlanState) → Preserves input h a b → AreUnawaitedBelow a h → IsUnawaited b.waiting (spot_at b.spares h) → AreUnawaitedBelow b (h + 1)
 unawaited_more input h a b on rest here j l = elim (cases_eq j h) [
   | inl at ↦ subst (λ k. IsUnawaited b.waiting (spot_at b.spares k)) (sym at) here
   | inr off ↦ unawaited_after input h a b on j off (rest j (omega (arith, l, off)))
 ]
 
-pub cleared_after : (input : Lists) (h n : ℕ) (a b : PlanState) → n ≤ length input.items → Preserves input h a b → AreClearedBelow input a n → AreClearedBelow input b n
+pub cleared_after : (input : InputLists) (h n : ℕ) (a b : PlanState) → n ≤ length input.items → Preserves input h a b → AreClearedBelow input a n → AreClearedBelow input b n
 cleared_after input h n a b le on cleared item l relocated same = elim (cases_spot (spot_at a.spots item) (spot_at input.spots item)) [
   | inl was ↦ on.queues (spot_at input.spots item).disk.0 (cleared item l relocated was)
   | inr moved ↦ absurd (on.moved item (omega (arith, l, le)) moved same)
 ]
 
-pub cleared_more : (input : Lists) (n : ℕ) (a b : PlanState) → n ≤ length input.items → Preserves input 0 a b → AreClearedBelow input a n → IsCleared input b n → AreClearedBelow input b (n + 1)
+pub cleared_more : (input : InputLists) (n : ℕ) (a b : PlanState) → n ≤ length input.items → Preserves input 0 a b → AreClearedBelow input a n → IsCleared input b n → AreClearedBelow input b (n + 1)
 cleared_more input n a b le on cleared here item l = elim (cases_eq item n) [
   | inl at ↦ subst (λ i. IsCleared input b i) (sym at) here
   | inr off ↦ cleared_after input 0 n a b le on cleared item (omega (arith, l, off))
 ]
 
-module _ (input : Lists) (is : IsInput input) (s : PlanState) (st : IsSound input s) where
+module _ (input : InputLists) (is : IsInput input) (s : PlanState) (st : IsSoundState input s) where
   -- an item that waits for the disk of a spare goes there
   module _ (h : ℕ) (spare : h < length s.spares) (x : ItemId) (rest : List ItemId) (was : queue_at s.waiting (spot_at s.spares h).disk.0 ≡ rest ++ x ∷ []) where
     abbrev popped : PlanState
@@ -72,7 +72,7 @@ module _ (input : Lists) (is : IsInput input) (s : PlanState) (st : IsSound inpu
     still_none : (u : ℕ) → queue_at s.waiting u ≡ [] → queue_at (set s.waiting (spot_at s.spares h).disk.0 rest) u ≡ []
     still_none = shorter input s.spots s.waiting (spot_at s.spares h).disk.0 x rest (spot_at s.spares h) st.queues disk_there st.placed.len was refl
 
-    pub IsSound-filled : IsSound input next
+    pub IsSound-filled : IsSoundState input next
     IsSound-filled = record {
       reaches = reaches_more input is s.spots s.spares x.0 h st.placed waits.there spare s.rounds st.reaches;
       placed = placed_more input is s.spots s.spares x.0 h st.placed waits.there spare;
@@ -144,7 +144,7 @@ module _ (input : Lists) (is : IsInput input) (s : PlanState) (st : IsSound inpu
         more)
         (st.history x there)
 
-    pub IsSound-parked : IsSound input parked
+    pub IsSound-parked : IsSoundState input parked
     IsSound-parked = record {
       reaches = reaches_more input is s.spots s.spares x 0 st.placed there spare s.rounds st.reaches;
       placed = placed_more input is s.spots s.spares x 0 st.placed there spare;
@@ -171,7 +171,7 @@ module _ (input : Lists) (is : IsInput input) (s : PlanState) (st : IsSound inpu
     }
 
 -- the same as the code reads it
-module _ (input : Lists) (is : IsInput input) (s : PlanState) (st : IsSound input s) (h : ℕ) (spare : h < length s.spares) (read : Spot) (at_spare : read ≡ get_or s.spares h read) where
+module _ (input : InputLists) (is : IsInput input) (s : PlanState) (st : IsSoundState input s) (h : ℕ) (spare : h < length s.spares) (read : Spot) (at_spare : read ≡ get_or s.spares h read) where
   read_is : read ≡ spot_at s.spares h
   read_is = get_or_read s.spares h read spare at_spare no_spot
 
@@ -191,8 +191,8 @@ module _ (input : Lists) (is : IsInput input) (s : PlanState) (st : IsSound inpu
     abbrev next_at : ℕ → PlanState
     next_at d = shifted (record { spots = s.spots; spares = s.spares; waiting = set s.waiting d rest; rounds = s.rounds }) x.0 h
 
-    pub IsSound-read : IsSound input (next_at read.disk.0)
-    IsSound-read = subst (λ (y : Spot). IsSound input (next_at y.disk.0)) (sym read_is) (IsSound-filled input is s st h spare x rest was)
+    pub IsSound-read : IsSoundState input (next_at read.disk.0)
+    IsSound-read = subst (λ (y : Spot). IsSoundState input (next_at y.disk.0)) (sym read_is) (IsSound-filled input is s st h spare x rest was)
 
     pub Preserves-read : Preserves input h s (next_at read.disk.0)
     Preserves-read = subst (λ (y : Spot). Preserves input h s (next_at y.disk.0)) (sym read_is) (Preserves-filled input is s st h spare x rest was)

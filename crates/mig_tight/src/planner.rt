@@ -1,7 +1,7 @@
 //! A plan of single shifts in the making.
 ghost use Rattle.std.specs.Prelude.{◌≡◌, ◌==◌, ◌+◌, ◌<◌, ◌≤◌, ◌≢◌, ◌++◌, ◌∷◌, [], not, true, length, IfOk, OnOk};
 ghost use Rattle.mig_base.specs.Transfers.{is_relocated};
-ghost use Rattle.mig_tight.specs.PlanStates.{IsUnawaited, HasSpares, IsOnNext, ArePlaced, IsSound, queue_at, spot_at};
+ghost use Rattle.mig_tight.specs.PlanStates.{IsUnawaited, HasSpares, IsOnNext, ArePlaced, IsSoundState, queue_at, spot_at};
 ghost use Rattle.mig_tight.specs.Progress.{AreUnawaited, AreClearedBelow, IsCleared, Preserves, AreUnawaitedBelow, shifted, waiting_count};
 
 use crate::queues::{Queue, queues_of};
@@ -43,7 +43,7 @@ impl Planner {
     pub fn new(alloc: Global, input: &Input, spares: Vec<Spot>) -> Result<Planner, AllocError>
         requires placed { ArePlaced input.now input.now.spots spares.items }
         requires enough { HasSpares input.now input.now.spots spares.items }
-        ensures sound { IfOk result (IsSound input.now) }
+        ensures sound { IfOk result (IsSoundState input.now) }
         ensures spares { IfOk result (λ w. w.spares ≡ spares.items) }
         ensures spots { IfOk result (λ w. w.spots ≡ input.now.spots) }
     {
@@ -90,10 +90,10 @@ impl Planner {
 
     /// Shifts an item that waits for the spare's disk to the spare.
     fn fill(&mut self, alloc: Global, input: &Input, spare: usize) -> Result<(), AllocError>
-        requires sound { IsSound input.now self.old }
+        requires sound { IsSoundState input.now self.old }
         requires spare { spare < length self.old.spares }
         requires awaited { 0 < length (queue_at self.old.waiting (spot_at self.old.spares spare).disk.0) }
-        ensures sound { OnOk result (IsSound input.now self.new) }
+        ensures sound { OnOk result (IsSoundState input.now self.new) }
         ensures preserves { OnOk result (Preserves input.now spare self.old self.new) }
         ensures fewer { OnOk result (waiting_count self.new + 1 ≡ waiting_count self.old) }
     {
@@ -108,9 +108,9 @@ impl Planner {
     /// Shifts an item that waits for the spare's disk to it, and then one that waits for the disk of the spare that this leaves,
     /// and so on, until nobody waits there.
     pub fn settle(&mut self, alloc: Global, input: &Input, spare: usize) -> Result<(), AllocError>
-        requires sound { IsSound input.now self.old }
+        requires sound { IsSoundState input.now self.old }
         requires spare { spare < length self.old.spares }
-        ensures sound { OnOk result (IsSound input.now self.new) }
+        ensures sound { OnOk result (IsSoundState input.now self.new) }
         ensures preserves { OnOk result (Preserves input.now spare self.old self.new) }
         ensures unawaited { OnOk result (IsUnawaited self.new.waiting (spot_at self.new.spares spare)) }
     {
@@ -123,8 +123,8 @@ impl Planner {
 
     /// Settles each spare.
     pub fn settle_all(&mut self, alloc: Global, input: &Input) -> Result<(), AllocError>
-        requires { IsSound input.now self.old }
-        ensures sound { OnOk result (IsSound input.now self.new) }
+        requires { IsSoundState input.now self.old }
+        ensures sound { OnOk result (IsSoundState input.now self.new) }
         ensures unawaited { OnOk result (AreUnawaited self.new) }
         ensures spares { OnOk result (length self.new.spares ≡ length self.old.spares) }
     {
@@ -136,14 +136,14 @@ impl Planner {
 
     /// Parks an item of a disk for which others wait at the first spare, and settles the spare that it leaves.
     fn park(&mut self, alloc: Global, input: &Input, item: ItemId) -> Result<(), AllocError>
-        requires sound { IsSound input.now self.old }
+        requires sound { IsSoundState input.now self.old }
         requires unawaited { AreUnawaited self.old }
         requires spare { 0 < length self.old.spares }
         requires there { item.0 < length input.now.items }
         requires relocated { is_relocated input.now item.0 ≡ true }
         requires unmoved { spot_at self.old.spots item.0 ≡ spot_at input.now.spots item.0 }
         requires awaited { 0 < length (queue_at self.old.waiting (spot_at input.now.spots item.0).disk.0) }
-        ensures sound { OnOk result (IsSound input.now self.new) }
+        ensures sound { OnOk result (IsSoundState input.now self.new) }
         ensures unawaited { OnOk result (AreUnawaited self.new) }
         ensures preserves { OnOk result (Preserves input.now 0 self.old self.new) }
         ensures moved { OnOk result (spot_at self.new.spots item.0 ≢ spot_at input.now.spots item.0) }
@@ -155,11 +155,11 @@ impl Planner {
 
     /// Parks an item, where it was never shifted and others wait for its disk.
     fn clear(&mut self, alloc: Global, input: &Input, item: ItemId) -> Result<(), AllocError>
-        requires sound { IsSound input.now self.old }
+        requires sound { IsSoundState input.now self.old }
         requires unawaited { AreUnawaited self.old }
         requires spare { 0 < length self.old.spares }
         requires there { item.0 < length input.now.items }
-        ensures sound { OnOk result (IsSound input.now self.new) }
+        ensures sound { OnOk result (IsSoundState input.now self.new) }
         ensures unawaited { OnOk result (AreUnawaited self.new) }
         ensures preserves { OnOk result (Preserves input.now 0 self.old self.new) }
         ensures cleared { OnOk result (IsCleared input.now self.new item.0) }
@@ -179,10 +179,10 @@ impl Planner {
 
     /// Parks items of disks for which others wait, until nobody waits.
     pub fn clear_all(&mut self, alloc: Global, input: &Input) -> Result<(), AllocError>
-        requires sound { IsSound input.now self.old }
+        requires sound { IsSoundState input.now self.old }
         requires unawaited { AreUnawaited self.old }
         requires spare { 0 < length self.old.spares }
-        ensures sound { OnOk result (IsSound input.now self.new) }
+        ensures sound { OnOk result (IsSoundState input.now self.new) }
         ensures unawaited { OnOk result (AreUnawaited self.new) }
         ensures cleared { OnOk result (AreClearedBelow input.now self.new (length input.now.items)) }
     {

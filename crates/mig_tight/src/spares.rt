@@ -1,7 +1,7 @@
 //! The free slots that items may be shifted to.
 ghost use Rattle.std.specs.Prelude.{◌≡◌, ◌+◌, ◌<◌, length, map, IfOk, OnOk};
 ghost use Rattle.mig_tight.specs.PlanStates.{ArePlaced, HasSpares, first_slots};
-ghost use Rattle.mig_tight.specs.Spares.{AreEnds, AreWidths, SparesBefore};
+ghost use Rattle.mig_tight.specs.Spares.{AreEnds, AreSearchWidths, SparesBefore};
 
 use mig_base::{DiskId, Input, Spot};
 use mig_names::SpotTable;
@@ -26,7 +26,7 @@ fn ends_of(alloc: Global, input: &Input) -> Result<Vec<u32>, AllocError>
 
 /// How many of its first slots are looked at, for each disk.
 fn widths_of(alloc: Global, input: &Input) -> Result<Vec<u32>, AllocError>
-    ensures { IfOk result (λ v. AreWidths input.now v.items) }
+    ensures { IfOk result (λ v. AreSearchWidths input.now v.items) }
 {
     let disks = input.disks();
     let ends = ends_of(alloc, input)?;

@@ -1,6 +1,6 @@
 -- Bytes that are alike are read alike: where a file is too long, that is the first thing that is wrong with it.
-use Rattle.mig_top.proofs.Common.{Accepted, Accepted-short, AcceptedTight, AcceptedTight-short, Alike, AreReadAlike, Bodies, CertLine, CertText, Disks, Fault, FileKind, Found, IsFinding, IsListing}
-use Rattle.mig_top.proofs.Common.{IsNoCert, IsNoPlan, IsRefusalBy, IsSame, LayoutBodies, List, ListingFault, ListingRefusedAs, Lists, MAX_FILE_BYTES, Next, NotSpelled, Now, Outcome, PlanLine}
+use Rattle.mig_top.proofs.Common.{Accepted, Accepted-short, AcceptedTight, AcceptedTight-short, Alike, AreReadAlike, CertLine, CertText, Disks, Fault, FileKind, Found, IsInputRefusal, IsListing, ThreeFiles}
+use Rattle.mig_top.proofs.Common.{InputLists, IsNoCert, IsPlanUnspelled, IsRefusalBy, IsSame, LayoutBodies, List, ListingFault, ListingRefusedAs, MAX_FILE_BYTES, Next, NotSpelled, Now, Outcome, PlanLine}
 use Rattle.mig_top.proofs.Common.{PlanText, Reader, Refused, RefusedAs, RefusedTightAs, Roomy, Step, Tight, Why, arith, cases_lt, inl, inr, length, length-take, other_cause, reads_cert, reads_input}
 use Rattle.mig_top.proofs.Common.{reads_layout, reads_plan, refl, refused_tight, refused_with_room, subst, sym, take, take_all, ℕ, ◌+◌, ◌<◌, ◌≡◌, ◌≤◌}
 use Rattle.mig_csv.proofs.TooLong.{carried_first, disks_alone, disks_apart, next_apart}
@@ -24,7 +24,7 @@ begins whole = elim (cases_lt MAX_FILE_BYTES (length whole)) [
 
 -- Inputs
 
-abbrev three : (disks now next : List ℕ) → Bodies
+abbrev three : (disks now next : List ℕ) → ThreeFiles
 three disks now next = record { disks = disks; now = now; next = next }
 
 refused : (d n x e m y : List ℕ) → Alike d e → Alike n m → Alike x y → (f : FileKind) (r : ℕ) (w : Why) → RefusedAs (three d n x) f r w → RefusedAs (three e m y) f r w
@@ -38,18 +38,18 @@ refused d n x e m y (inl same) (inl also) (inl too) f r w h =
     subst (λ (b : List ℕ). RefusedAs (three b m y) f r w) same (subst (λ (b : List ℕ). RefusedAs (three d b y) f r w) also (subst (λ (b : List ℕ). RefusedAs (three d n b) f r w) too h))
 
 -- the three files of two inputs are alike
-abbrev AreAlike : Bodies → Bodies → Type 0
+abbrev AreAlike : ThreeFiles → ThreeFiles → Type 0
 AreAlike a b = Alike a.disks b.disks × Alike a.now b.now × Alike a.next b.next
 
 -- what is so of three files that are short enough is so of those that are alike
-same_three : (P : Bodies → Type 0) (a b : Bodies) → AreAlike a b → length a.disks ≤ MAX_FILE_BYTES → length a.now ≤ MAX_FILE_BYTES → length a.next ≤ MAX_FILE_BYTES → P a → P b
+same_three : (P : ThreeFiles → Type 0) (a b : ThreeFiles) → AreAlike a b → length a.disks ≤ MAX_FILE_BYTES → length a.now ≤ MAX_FILE_BYTES → length a.next ≤ MAX_FILE_BYTES → P a → P b
 same_three P a b like disks now next h =
     let d = short_same a.disks b.disks like.0 disks in
     let n = short_same a.now b.now like.1 now in
     let x = short_same a.next b.next like.2 next in
     subst P (λ i. three (d i) (n i) (x i)) h
 
-input_passes : (a b : Bodies) → AreAlike a b → (input : Lists) → Accepted a input → Accepted b input
+input_passes : (a b : ThreeFiles) → AreAlike a b → (input : InputLists) → Accepted a input → Accepted b input
 input_passes a b like input h = same_three (λ c. Accepted c input) a b like (Accepted-short a input h Disks) (Accepted-short a input h Now) (Accepted-short a input h Next) h
 
 -- what holds of all that is alike holds both ways
@@ -59,23 +59,23 @@ same_by Like back reads passes stops a b like =
     let other = back a b like in
     record { passes = λ v. (passes a b like v, passes b a other v); stops = λ o. (stops a b like o, stops b a other o) }
 
-refusal_stops : (R S : FileKind → ℕ → Why → Type 0) → ((f : FileKind) (r : ℕ) (w : Why) → R f r w → S f r w) → (o : Outcome) → IsFinding (IsRefusalBy R) o → IsFinding (IsRefusalBy S) o
+refusal_stops : (R S : FileKind → ℕ → Why → Type 0) → ((f : FileKind) (r : ℕ) (w : Why) → R f r w → S f r w) → (o : Outcome) → IsInputRefusal (IsRefusalBy R) o → IsInputRefusal (IsRefusalBy S) o
 refusal_stops R S to (Found (Refused f r w)) h = to f r w h
 refusal_stops R S to _ h = absurd h
 
-inputs_by : (reads : Bodies → Step Lists) → ((a b : Bodies) → AreAlike a b → (v : Lists) → (reads a).Passes v → (reads b).Passes v)
-    → ((a b : Bodies) → AreAlike a b → (o : Outcome) → (reads a).Stops o → (reads b).Stops o) → (a b : Bodies) → AreAlike a b → IsSame (reads a) (reads b)
+inputs_by : (reads : ThreeFiles → Step InputLists) → ((a b : ThreeFiles) → AreAlike a b → (v : InputLists) → (reads a).Passes v → (reads b).Passes v)
+    → ((a b : ThreeFiles) → AreAlike a b → (o : Outcome) → (reads a).Stops o → (reads b).Stops o) → (a b : ThreeFiles) → AreAlike a b → IsSame (reads a) (reads b)
 inputs_by = same_by AreAlike (λ a b like. (alike_sym a.disks b.disks like.0, alike_sym a.now b.now like.1, alike_sym a.next b.next like.2))
 
 -- the same where nobody asks for room: what is refused so is refused alike, and for no want of room
-tight_passes : (a b : Bodies) → AreAlike a b → (input : Lists) → AcceptedTight a input → AcceptedTight b input
+tight_passes : (a b : ThreeFiles) → AreAlike a b → (input : InputLists) → AcceptedTight a input → AcceptedTight b input
 tight_passes a b like input h = same_three (λ c. AcceptedTight c input) a b like (AcceptedTight-short a input h Disks) (AcceptedTight-short a input h Now) (AcceptedTight-short a input h Next) h
 
-tight_refused : (a b : Bodies) → AreAlike a b → (f : FileKind) (r : ℕ) (w : Why) → RefusedTightAs a f r w → RefusedTightAs b f r w
+tight_refused : (a b : ThreeFiles) → AreAlike a b → (f : FileKind) (r : ℕ) (w : Why) → RefusedTightAs a f r w → RefusedTightAs b f r w
 tight_refused a b like f r w h =
     refused_tight b f r w (other_cause a f r w h.fault) (refused a.disks a.now a.next b.disks b.now b.next like.0 like.1 like.2 f r w (refused_with_room a f r w h))
 
-inputs : (reader : Reader) (a b : Bodies) → AreAlike a b → IsSame (reads_input reader a) (reads_input reader b)
+inputs : (reader : Reader) (a b : ThreeFiles) → AreAlike a b → IsSame (reads_input reader a) (reads_input reader b)
 inputs Roomy = inputs_by (reads_input Roomy) input_passes
     (λ a b like. refusal_stops (RefusedAs a) (RefusedAs b) (refused a.disks a.now a.next b.disks b.now b.next like.0 like.1 like.2))
 inputs Tight = inputs_by (reads_input Tight) tight_passes
@@ -91,11 +91,11 @@ listing_refused d n e m (inl same) (inr long) f r w h = subst (λ (b : List ℕ)
 listing_refused d n e m (inl same) (inl also) f r w h = subst (λ (b : List ℕ). ListingRefusedAs b m f r w) same (subst (λ (b : List ℕ). ListingRefusedAs d b f r w) also h)
 
 module _ (a b : LayoutBodies) (disks : Alike a.disks b.disks) (now : Alike a.now b.now) where
-  short_listed : (input : Lists) (f : FileKind) (bytes : List ℕ) → IsListing a.disks a.now input → (MAX_FILE_BYTES < length bytes → ListingFault a.disks a.now f 0 why.TooLong)
+  short_listed : (input : InputLists) (f : FileKind) (bytes : List ℕ) → IsListing a.disks a.now input → (MAX_FILE_BYTES < length bytes → ListingFault a.disks a.now f 0 why.TooLong)
       → length bytes ≤ MAX_FILE_BYTES
   short_listed input f bytes h fault = elim (cases_lt MAX_FILE_BYTES (length bytes)) [ inl long ↦ absurd (h.sound f 0 why.TooLong (fault long)) | inr short ↦ short ]
 
-  layout_passes : (input : Lists) → IsListing a.disks a.now input → IsListing b.disks b.now input
+  layout_passes : (input : InputLists) → IsListing a.disks a.now input → IsListing b.disks b.now input
   layout_passes input h =
       let d = short_same a.disks b.disks disks (short_listed input Disks a.disks h (λ long. (refl, long))) in
       let n = short_same a.now b.now now (short_listed input Now a.now h (λ long. (refl, long))) in
@@ -110,8 +110,8 @@ layouts = same_by AreLayoutsAlike (λ a b like. (alike_sym a.disks b.disks like.
 
 -- Texts
 
-module _ (a b : List ℕ) (input : Lists) (same : Alike a b) where
-  plan_stops : (o : Outcome) → IsFinding (IsNoPlan a input) o → IsFinding (IsNoPlan b input) o
+module _ (a b : List ℕ) (input : InputLists) (same : Alike a b) where
+  plan_stops : (o : Outcome) → IsInputRefusal (IsPlanUnspelled a input) o → IsInputRefusal (IsPlanUnspelled b input) o
   plan_stops (Found (NotSpelled text_file.Plan line)) h = by same
     where
       by : Alike a b → PlanLine input b line
@@ -119,7 +119,7 @@ module _ (a b : List ℕ) (input : Lists) (same : Alike a b) where
       by (inr long) = record { no_plan = λ plan text. long.1; line = record { long = λ _. h.line.long long.0; short = λ le. absurd (let more = long.1 in omega (arith, le, more)) } }
   plan_stops _ h = absurd h
 
-  cert_stops : (o : Outcome) → IsFinding (IsNoCert a input) o → IsFinding (IsNoCert b input) o
+  cert_stops : (o : Outcome) → IsInputRefusal (IsNoCert a input) o → IsInputRefusal (IsNoCert b input) o
   cert_stops (Found (NotSpelled text_file.Cert line)) h = by same
     where
       by : Alike a b → CertLine input b line
@@ -131,10 +131,10 @@ module _ (a b : List ℕ) (input : Lists) (same : Alike a b) where
 short_passes : {X : Type 0} (Spells : X → List ℕ → Type 0) (a b : List ℕ) → Alike a b → (x : X) → Spells x a × (length a ≤ MAX_FILE_BYTES) → Spells x b × (length b ≤ MAX_FILE_BYTES)
 short_passes Spells a b same x h = subst (λ (t : List ℕ). Spells x t × (length t ≤ MAX_FILE_BYTES)) (short_same a b same h.1) h
 
-plans : (input : Lists) (a b : List ℕ) → Alike a b → IsSame (reads_plan a input) (reads_plan b input)
+plans : (input : InputLists) (a b : List ℕ) → Alike a b → IsSame (reads_plan a input) (reads_plan b input)
 plans input = same_by Alike alike_sym (λ bytes. reads_plan bytes input) (short_passes (PlanText input)) (λ a b. plan_stops a b input)
 
-certs : (input : Lists) (a b : List ℕ) → Alike a b → IsSame (reads_cert a input) (reads_cert b input)
+certs : (input : InputLists) (a b : List ℕ) → Alike a b → IsSame (reads_cert a input) (reads_cert b input)
 certs input = same_by Alike alike_sym (λ bytes. reads_cert bytes input) (short_passes (CertText input)) (λ a b. cert_stops a b input)
 
 pub read_alike : AreReadAlike

@@ -1,21 +1,21 @@
 -- The lines of an audit, and how `audit` ends.
 use Rattle.mig_top.proofs.Common.{AreOfLayout, AreSightLines, Audit, AuditStops, Bool, Call, Cell, Done, Err, Extends, Flight, FormEndsAs, HasHeader, HasPutSight, HavePutSights, IfSome, IsAudit}
-use Rattle.mig_top.proofs.Common.{IsMoving, IsSightOf, IsTargetOf, List, Lists, Looks, MatchBool, None, Option, Shows, Sight, SightStops, SinkFault, SinkState, SinkStops, Some, State, Stop}
+use Rattle.mig_top.proofs.Common.{AuditStop, InputLists, IsMoving, IsSightOf, IsTargetOf, List, Looks, MatchBool, None, Option, Shows, Sight, SightStops, SinkFault, SinkState, SinkStops, Some, State}
 use Rattle.mig_top.proofs.Common.{StoreFault, StoreStops, Untouched, WorldEnds, [], append-nil, append_assoc, arith, begins_more, bytes_eq, bytes_eq-Decides, false, false≢true, flights_same}
 use Rattle.mig_top.proofs.Common.{header_of, inl, inr, item_cell, item_name, length, puts_nothing, refl, sha256, sight_count, sight_line, subst, suc, sym, take, then_begins, then_extends, true, zero}
 use Rattle.mig_top.proofs.Common.{ℕ, ⊎_elim, if◌then◌else◌, ◌++◌, ◌+◌, ◌-◌, ◌<◌, ◌∙◌, ◌≡◌, ◌≤◌}
 use Rattle.mig_top.proofs.EndsOf.{shown}
 use Rattle.mig_top.specs.Ends.{FormFinishes}
-use Rattle.mig_words.specs.declared.endings.Ending.TheVariants as ending
+use Rattle.mig_words.specs.declared.endings.CommandError.TheVariants as ending
 use Rattle.mig_top.proofs.Steps.{if_map}
-use Rattle.mig_top.specs.declared.audit_command.Stop.TheVariants as stop
+use Rattle.mig_top.specs.declared.audit_command.AuditStop.TheVariants as stop
 
 -- what is seen of an item is seen at the beginning, where nothing was written since
 module _ (old mid : State) (looks : Looks old mid) where
   moving : (cell : Cell) → IsMoving mid cell → IsMoving old cell
   moving cell h = (h.0, subst (λ (fs : List Flight). IsTargetOf fs cell) (flights_same old mid looks.events) h.1)
 
-  pub seen_before : (input : Lists) (item : ℕ) (sight : Sight) → IsSightOf input mid item sight → IsSightOf input old item sight
+  pub seen_before : (input : InputLists) (item : ℕ) (sight : Sight) → IsSightOf input mid item sight → IsSightOf input old item sight
   seen_before input item sight h = record {
     named = λ still. rw (looks.told.same (item_cell input item) still) at (h.named (λ m. still (moving (item_cell input item) m)));
     digest = λ still. rw (looks.told.same (item_cell input item) still) at (h.digest (λ m. still (moving (item_cell input item) m)));
@@ -23,7 +23,7 @@ module _ (old mid : State) (looks : Looks old mid) where
 
 -- Line by line
 
-pub no_lines : (input : Lists) (store : State) (out : SinkState) → HavePutSights input store 0 out out 0
+pub no_lines : (input : InputLists) (store : State) (out : SinkState) → HavePutSights input store 0 out out 0
 no_lines input store out = record { lines = []; are = (refl, refl); put = (puts_nothing out).extended; few = omega arith }
 
 -- one more is counted where it is named
@@ -31,7 +31,7 @@ count_few : (here item : ℕ) (named : Bool) → here ≤ item → here + (if na
 count_few here item true few = omega arith
 count_few here item false few = omega arith
 
-module _ (input : Lists) (old mid : State) (looks : Looks old mid) (item : ℕ) (first out : SinkState) (here : ℕ) (lines : HavePutSights input old item first out here) where
+module _ (input : InputLists) (old mid : State) (looks : Looks old mid) (item : ℕ) (first out : SinkState) (here : ℕ) (lines : HavePutSights input old item first out here) where
   more_are : (sight : Sight) → IsSightOf input mid item sight → AreSightLines input old (suc item) (lines.lines ++ sight_line input item sight) (here + (if sight.named then 1 else 0))
   more_are sight seen = (lines.lines, here, sight, lines.are, seen_before old mid looks input item sight seen, refl, refl)
 
@@ -47,7 +47,7 @@ module _ (input : Lists) (old mid : State) (looks : Looks old mid) (item : ℕ) 
 
   -- or it wasn't
   module _ (within : item < length input.items) (last : State) (later : first.faults ≤ out.faults) (store_later : old.faults ≤ mid.faults) where
-    pub line_stops : (new : SinkState) (s : Stop) → SightStops input mid last item out new s → AuditStops input old last first new s
+    pub line_stops : (new : SinkState) (s : AuditStop) → SightStops input mid last item out new s → AuditStops input old last first new s
     line_stops new stop.Sink (rose, sight, seen, part) = record {
       rose = omega (arith, later, rose);
       item = item;
@@ -71,7 +71,7 @@ module _ (input : Lists) (old mid : State) (looks : Looks old mid) (item : ℕ) 
         held_still e h = subst (λ (o : Option (List ℕ)). IfSome first.held (λ held. o ≡ Some (held ++ lines.lines))) (sym e) h
 
 -- something can be said of each item
-some_sight : (input : Lists) (store : State) (item : ℕ) → (sight : Sight) × IsSightOf input store item sight
+some_sight : (input : InputLists) (store : State) (item : ℕ) → (sight : Sight) × IsSightOf input store item sight
 some_sight input store item = by (store.reads (item_cell input item)) refl
   where
     name : List ℕ
@@ -88,7 +88,7 @@ some_sight input store item = by (store.reads (item_cell input item)) refl
         (record { named = is; digest = sha256 slot }, record { named = λ still. rw e (tell slot is refl); digest = λ still. rw e refl })
 
 -- lines can be gone on with
-more_lines : (input : Lists) (store : State) (more item : ℕ) (lines : List ℕ) (here : ℕ) → AreSightLines input store item lines here
+more_lines : (input : InputLists) (store : State) (more item : ℕ) (lines : List ℕ) (here : ℕ) → AreSightLines input store item lines here
     → (rest : List ℕ) × (count : ℕ) × AreSightLines input store (more + item) (lines ++ rest) count
 more_lines input store zero item lines here are =
     let e : item ≡ 0 + item = omega arith in
@@ -105,7 +105,7 @@ more_lines input store (suc more) item lines here are =
     )
 
 -- up to a whole text
-pub whole_audit : (input : Lists) (store : State) (item : ℕ) (lines : List ℕ) (here : ℕ) → item ≤ length input.items → AreSightLines input store item lines here
+pub whole_audit : (input : InputLists) (store : State) (item : ℕ) (lines : List ℕ) (here : ℕ) → item ≤ length input.items → AreSightLines input store item lines here
     → (rest : List ℕ) × IsAudit input store (lines ++ rest)
 whole_audit input store item lines here most are =
     let (rest, count, so) = more_lines input store (length input.items - item) item lines here are in
@@ -115,7 +115,7 @@ whole_audit input store item lines here most are =
 
 -- The ends
 
-module _ {k : Call} {disks now : List ℕ} (same : Untouched k.before.folder k.after.folder) (looks : Looks k.before.store k.after.store) (input : Lists)
+module _ {k : Call} {disks now : List ℕ} (same : Untouched k.before.folder k.after.folder) (looks : Looks k.before.store k.after.store) (input : InputLists)
     (layout : AreOfLayout k.before.folder disks now input) where
   audit_done : (text : List ℕ) → IsAudit input k.before.store text → WorldEnds k (Audit disks now) (Done text)
   audit_done text audit = record { cause = if_map k.before.folder.files (λ files holds. (input, holds, audit)) layout; leaves = same; store = looks }

@@ -1,12 +1,12 @@
 -- What `plan`, `fill`, `audit` and `drill` promise, from the causes of their outcomes and what they leave; and what `check` says of what `plan` saved.
-use Rattle.mig_top.proofs.Common.{Accepted, AreRefused, AreSaved, AreThere, Audit, AuditsWell, Because, Bodies, Bound, Call, CauseIn, Check, ChecksSaved, Done, Drill, DrillsWell, EndsAs, Extends}
+use Rattle.mig_top.proofs.Common.{Accepted, AreRefused, AreSaved, Audit, AuditsWell, Because, BeginWith, Bound, Call, CauseIn, Check, ChecksSaved, Done, Drill, DrillsWell, EndsAs, Extends, ThreeFiles}
 use Rattle.mig_top.proofs.Common.{FileKind, Files, Fill, FillsWell, FindsTask, FolderFailed, FolderFault, Form, FormCause, Found, HasPlanned, HoldsFirst, HoldsLayout, IsAudit, IsDiskBound}
-use Rattle.mig_top.proofs.Common.{IsEndOf, IsFillCell, IsFilled, IsInput, IsListed, IsMissing, IsOrNotPut, IsPlanSaved, IsRight, IsSomeAnd, IsUntouched, List, Lists, MAX_DRILL_SHIFTS}
+use Rattle.mig_top.proofs.Common.{HasNoFile, InputLists, IsFillCell, IsFilled, IsInput, IsListed, IsOrNotPut, IsOutcomeOf, IsPlanSaved, IsRight, IsSomeAnd, IsUntouched, List, MAX_DRILL_SHIFTS}
 use Rattle.mig_top.proofs.Common.{MAX_FILE_BYTES, Memory, Names, NoFile, None, NotSpelled, Nothing, OfDisk, OfSet, OfSide, Option, Outcome, Plan, PlanBodies, PlansWell}
-use Rattle.mig_top.proofs.Common.{Reason, Refusal, Refused, Roomy, SinkFailed, SinkFault, Some, Stands, StandsForNone, Step, StoreFault, Task, TellsStill, TooLarge, Unlisted}
-use Rattle.mig_top.proofs.Common.{Untouched, Why, WorldEnds, WritesApart, [], after, ap, arith, bound_value, checks, code, codes, drill_text, eq-eqb, file, filled_text}
+use Rattle.mig_top.proofs.Common.{FilesStand, Reason, Refusal, Refused, Roomy, SinkFailed, SinkFault, Some, StandsForNone, Step, StoreFault, Task, TellsStill, TooLarge, Unlisted}
+use Rattle.mig_top.proofs.Common.{Untouched, Why, WorldEnds, WritesApart, [], and_then, ap, arith, bound_value, checks, code, codes, drill_text, eq-eqb, file, filled_text}
 use Rattle.mig_top.proofs.Common.{finds, first, fits_drill, if◌then◌else◌, inl, inr, layout_in, length, loads_input, loads_layout, loads_plan, quotient, refl, roomy, second}
-use Rattle.mig_top.proofs.Common.{not_spelled, refusal_between, shifts_of, stands, subst, sym, take, take_all, task_in, transfers, verdict_text, ℕ, ⊎_elim, ◌++◌, ◌+◌, ◌<◌, ◌∙◌, ◌≡◌, ◌≢◌, ◌≤◌, ◌⊎◌}
+use Rattle.mig_top.proofs.Common.{not_spelled, refusal_between, shifts_of, stands, subst, sym, take, take_all, task_in, transfer_graph, verdict_text, ℕ, ⊎_elim, ◌++◌, ◌+◌, ◌<◌, ◌∙◌, ◌≡◌, ◌≢◌, ◌≤◌, ◌⊎◌}
 use Rattle.mig_top.proofs.Plainly.{found_input, loads_there, there_loads}
 use Rattle.mig_top.proofs.EndsOf.{cause_at, done_by, ends_of, ends_so, holds_by, put_by, told_at, unrefused}
 use Rattle.mig_top.proofs.Exactness.{checks_exact, comes_exactly, input_loads, is_input, layout_in_exact, task_in_exact}
@@ -26,7 +26,7 @@ abbrev pub IsNoFile : Outcome → Type 0
 IsNoFile (NoFile word) = Unit {0}
 IsNoFile _ = ⊥
 
-is_no_file : (files : Files) (name : List ℕ) (o : Outcome) → IsMissing name files o → IsNoFile o
+is_no_file : (files : Files) (name : List ℕ) (o : Outcome) → HasNoFile name files o → IsNoFile o
 is_no_file files name (NoFile word) h = tt
 is_no_file files name _ h = absurd h
 
@@ -47,9 +47,9 @@ module _ (k : Call) (names : Names) (cert : List ℕ) (files : Files) (is : k.be
 
   -- the cause of each outcome of `plan`
   abbrev Means : Outcome → Type 0
-  Means (Done text) = (input : Lists) × Stands files names input
+  Means (Done text) = (input : InputLists) × FilesStand files names input
   Means (Found (Refused f n w)) = AreRefused files names f n w
-  Means (NoFile word) = (bodies : Bodies) → AreThere files names bodies → ⊥
+  Means (NoFile word) = (bodies : ThreeFiles) → BeginWith files names bodies → ⊥
   Means _ = ⊥
 
   means : (o : Outcome) → FormCause files k.before.store form o → Means o
@@ -67,14 +67,14 @@ module _ (k : Call) (names : Names) (cert : List ℕ) (files : Files) (is : k.be
   none_stands : StandsForNone files names → (text : List ℕ) → WorldEnds k form (Done text) → ⊥
   none_stands none text h = by (told_cause (Done text) h.cause)
     where
-      by : (input : Lists) × Stands files names input → ⊥
+      by : (input : InputLists) × FilesStand files names input → ⊥
       by (input, s) =
           let loads = there_loads files names in
           let same = (input_loads names files).one_found s.bodies none.bodies (loads s.bodies s.there) (loads none.bodies none.there) in
-          none.none input (subst (λ (b : Bodies). Accepted b input) same s.read)
+          none.none input (subst (λ (b : ThreeFiles). Accepted b input) same s.read)
 
   module _ {status : ℕ} where
-    ends_by : (o : Outcome) → Means o → status ≡ code o → (bodies : Bodies) → AreThere files names bodies → (status ≡ 0) ⊎ (status ≡ 3) ⊎ (status ≡ 7)
+    ends_by : (o : Outcome) → Means o → status ≡ code o → (bodies : ThreeFiles) → BeginWith files names bodies → (status ≡ 0) ⊎ (status ≡ 3) ⊎ (status ≡ 7)
     ends_by (Done text) means at bodies there = inl at
     ends_by (Found (Refused f n w)) means at bodies there = inr (inl at)
     ends_by (NoFile word) means at bodies there = absurd (means bodies there)
@@ -123,7 +123,7 @@ module _ (names : Names) (cert text : List ℕ) (old files : Files) (apart : Wri
   kept : (name bytes : List ℕ) → name ≢ names.plan → name ≢ cert → HoldsFirst old name bytes → HoldsFirst files name bytes
   kept name bytes p c = subst (λ (o : Option (List ℕ)). IsSomeAnd o (λ whole. bytes ≡ take (MAX_FILE_BYTES + 1) whole)) (sym (saved.others name p c))
 
-  still_there : (bodies : Bodies) → AreThere old names bodies → AreThere files names bodies
+  still_there : (bodies : ThreeFiles) → BeginWith old names bodies → BeginWith files names bodies
   still_there bodies h = record {
     disks = kept names.disks bodies.disks (λ e. apart.0.0 (sym e)) (λ e. apart.1.0 (sym e)) h.disks;
     now = kept names.now bodies.now (λ e. apart.0.1.0 (sym e)) (λ e. apart.1.1.0 (sym e)) h.now;
@@ -163,9 +163,9 @@ module _ (names : Names) (cert text : List ℕ) (old files : Files) (apart : Wri
   disk_value_is (OfSide disk side l x) q h = h
   disk_value_is (OfSet set i x) q h = absurd h
 
-  told_optimal : (why : Reason) → Because why (transfers saved.input) → (t : List ℕ) → (checks names cert files).Passes t → t ≡ codes "optimal\n"
+  told_optimal : (why : Reason) → Because why (transfer_graph saved.input) → (t : List ℕ) → (checks names cert files).Passes t → t ≡ codes "optimal\n"
   told_optimal why holds t h =
-      let value = disk_value_is saved.texts.certificate.bound (quotient (transfers saved.input)) (saved.texts.made.shown why holds) in
+      let value = disk_value_is saved.texts.certificate.bound (quotient (transfer_graph saved.input)) (saved.texts.made.shown why holds) in
       (checks_exact names cert files).one_found t (verdict_text saved.texts.rounds saved.texts.certificate) h is_verdict
       ∙ ap (λ b. if b then codes "optimal\n" else codes "bounded\n") (eq-eqb _ _ (saved.texts.made.planned.tight why holds ∙ sym value))
 
@@ -180,30 +180,30 @@ module _ (names : Names) (cert text : List ℕ) (old files : Files) (apart : Wri
 
 -- `fill` and `audit`
 
-module _ {k : Call} {words : List (List ℕ)} {status : ℕ} (ends : EndsAs k words status) (files : Files) (disks : List ℕ) (now : List ℕ) (input : Lists) (is : k.before.folder.files ≡ Some files) where
+module _ {k : Call} {words : List (List ℕ)} {status : ℕ} (ends : EndsAs k words status) (files : Files) (disks : List ℕ) (now : List ℕ) (input : InputLists) (is : k.before.folder.files ≡ Some files) where
   -- `fill`
 
   module _ (l : IsListed words (Fill disks now)) (holds : HoldsLayout files disks now input) where
-    one_layout : (a b : Lists) → HoldsLayout files disks now a → HoldsLayout files disks now b → a ≡ b
+    one_layout : (a b : InputLists) → HoldsLayout files disks now a → HoldsLayout files disks now b → a ≡ b
     one_layout = (layout_in_exact disks now files).one_found
 
     filled_by : (text : List ℕ) → WorldEnds k (Fill disks now) (Done text) → IsFilled input k.before.store k.after.store
     filled_by text h =
         let from = h.store in
-        subst (λ (i : Lists). IsFilled i k.before.store k.after.store) (one_layout from.0 input (told_at (λ f. HoldsLayout f disks now from.0) k.before.folder.files files is from.1) holds) from.2
+        subst (λ (i : InputLists). IsFilled i k.before.store k.after.store) (one_layout from.0 input (told_at (λ f. HoldsLayout f disks now from.0) k.before.folder.files files is from.1) holds) from.2
 
     -- what is told is no ground to refuse
     fill_told : TellsStill (IsFillCell input) k.before.store → IsRefusable k (Fill disks now) → ⊥
     fill_told tells (other, are, untold) =
         let same = one_layout input other holds (told_at (λ f. HoldsLayout f disks now other) k.before.folder.files files is are) in
-        untold (λ cell of. (subst (λ (i : Lists). TellsStill (IsFillCell i) k.before.store) same tells).cells cell (inr of))
+        untold (λ cell of. (subst (λ (i : InputLists). TellsStill (IsFillCell i) k.before.store) same tells).cells cell (inr of))
 
     pub fills_well : FillsWell k input status
     fills_well = record {
       filled = λ done. let d = done_by (ends_of ends (Fill disks now) l) (λ text h. h.cause) done in filled_by d.0 d.1;
       fills = λ tells fillable fine quiet sound. unrefused k status (fill_told tells) (comes_exactly ends files (Fill disks now) is l (Done (filled_text input))
           (lead (layout_in disks now files) (fill_rest k.before.store) input holds (Done (filled_text input)) (tt, fillable, refl)) fine quiet
-          (sound, λ other same. subst (λ (i : Lists). TellsStill (IsFillCell i) k.before.store) (one_layout input other holds same) tells));
+          (sound, λ other same. subst (λ (i : InputLists). TellsStill (IsFillCell i) k.before.store) (one_layout input other holds same) tells));
     }
 
   -- `audit`
@@ -227,15 +227,15 @@ module _ {k : Call} {words : List (List ℕ)} {status : ℕ} (ends : EndsAs k wo
 
 -- what is left of it once its task is known
 abbrev drill_rest : Task → Step (List ℕ)
-drill_rest task = after (fits_drill task.plan) (λ _. finds (λ text. text ≡ drill_text task.plan))
+drill_rest task = and_then (fits_drill task.plan) (λ _. finds (λ text. text ≡ drill_text task.plan))
 
 module _ {k : Call} {words : List (List ℕ)} {status : ℕ} (ends : EndsAs k words status) (files : Files) (names : Names) (task : Task)
     (is : k.before.folder.files ≡ Some files) (holds : FindsTask files (roomy names) task) (l : IsListed words (Drill names)) where
   -- the cause of an outcome says how the drill of this plan ends
-  drill_end : (o : Outcome) → CauseIn k.before (Drill names) o → IsEndOf (drill_rest task) o
+  drill_end : (o : Outcome) → CauseIn k.before (Drill names) o → IsOutcomeOf (drill_rest task) o
   drill_end o h = follow (task_in (roomy names) files) (task_in_exact (roomy names) files) drill_rest task holds o (cause_at k files is (Drill names) o h)
 
-  drill_comes : (o : Outcome) → IsEndOf (drill_rest task) o → (FolderFailed k → ⊥) → (SinkFailed k → ⊥) → (status ≡ code o) ⊎ (status ≡ 7)
+  drill_comes : (o : Outcome) → IsOutcomeOf (drill_rest task) o → (FolderFailed k → ⊥) → (SinkFailed k → ⊥) → (status ≡ code o) ⊎ (status ≡ 7)
   drill_comes o h fine quiet = unrefused k status (λ none. none) (comes_exactly ends files (Drill names) is l o (lead (task_in (roomy names) files) drill_rest task holds o h) fine quiet tt)
 
   is_large : (o : Outcome) → status ≡ code o → IsOrNotPut (WorldEnds k (Drill names)) k.before.sink k.after.sink o → status ≡ 11 → MAX_DRILL_SHIFTS < length (shifts_of task.plan)

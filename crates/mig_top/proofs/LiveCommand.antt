@@ -2,7 +2,7 @@
 use Rattle.mig_top.proofs.Common.{Adds, All, All-contains, AreAnswers, AreOfScripted, BeginsRun, Bool, Call, Cell, Contents, Done, Err, Event, FormEndsAs, Gate, GoesOn, HasHeader, IfSome, Image, IsFault, IsInput, IsJobCell, IsReached}
 use Rattle.mig_top.proofs.Common.{IsResumable, IsResumeFault, IsResumeRefusal, IsSafeAfter, IsServed, IsSome, IsSomeAnd, IsSound, IsTargetOf, Keeps, LeavesOnly, List, Live, MoveFault, Names, None}
 use Rattle.mig_top.proofs.Common.{Option, Order, Rose, Runs, Scripted, ServesAll, SettlesTo, Shows, SinkFault, SinkState, Some, State, StaysArmed, Step, Task, Tells, Untouched, WentOn}
-use Rattle.mig_top.proofs.Common.{WorldEnds, [], after, all_steps, ap, append_assoc, arith, count_most, count_of, drop, false≢true, fault_outcome, finds, flights, inl, inr, is_armed, item_cell, item_name, left_text, length}
+use Rattle.mig_top.proofs.Common.{WorldEnds, [], all_steps, and_then, ap, append_assoc, arith, count_most, count_of, drop, false≢true, fault_outcome, finds, flights, inl, inr, is_armed, item_cell, item_name, left_text, length}
 use Rattle.mig_top.proofs.Common.{length-append, marks_by, option_map, refl, replies, resumes, scripted_in, steps_after, steps_left, subst, sym, take, then_begins, then_extends, true, ℕ, ⊎_elim, ◌++◌}
 use Rattle.mig_top.proofs.Common.{◌+◌, ◌-◌, ◌∙◌, ◌∷◌, ◌≡◌, ◌≤◌, ◌⊎◌}
 use Rattle.mig_base.specs.RoundEvents.{IsRun}
@@ -29,14 +29,14 @@ use Rattle.mig_top.proofs.LiveFaults.{counts_still, reads_still, settled_still}
 use Rattle.mig_top.proofs.SessionEvents.{refused_events, session_events, stopped_events, whole_events}
 use Rattle.mig_top.specs.Ends.{FormFinishes, IsRefusable}
 use Rattle.mig_top.specs.live.Looks.{IsServable}
-use Rattle.mig_words.specs.declared.endings.Ending.TheVariants as ending
+use Rattle.mig_words.specs.declared.endings.CommandError.TheVariants as ending
 use Rattle.mig_top.proofs.StoreCommands.{rest_cause, shown_by}
 use Rattle.mig_top.specs.Stores.{HasFound}
 use Rattle.std.proofs.Math.Seq.{take-append-add}
 
 -- what is left of it once its files are read
 abbrev pub live_rest : State → Scripted → Step (List ℕ)
-live_rest store read = after (resumes read.task store) (λ found. finds (IsServed read store found))
+live_rest store read = and_then (resumes read.task store) (λ found. finds (IsServed read store found))
 
 -- a beginning of a text that follows others is one of both
 begun_both : (answers next : List ℕ) (old new : Option (List ℕ)) → IfSome old (λ held. ExtendsByPrefix next (held ++ answers) new) → IfSome old (λ held. ExtendsByPrefix (answers ++ next) held new)

@@ -1,5 +1,5 @@
 -- What a session leaves whose store failed at one of its orders.
-use Rattle.mig_top.proofs.Common.{Bool, Cell, Contents, Gate, Image, IsSettled, List, Lists, NoCell, SameBut, State, Task, [], ap, arith, cases_lt, count_most, count_of, drop, false≢true, inl, inr, is_armed}
+use Rattle.mig_top.proofs.Common.{Bool, Cell, Contents, Gate, Image, InputLists, IsSettled, List, NoCell, SameBut, State, Task, [], ap, arith, cases_lt, count_most, count_of, drop, false≢true, inl, inr, is_armed}
 use Rattle.mig_top.proofs.Common.{is_one, is_slot, length, length-append, same_image, subst, sym, take, true, ℕ, ⊎_elim, ◌++◌, ◌∙◌, ◌∷◌, ◌≡◌, ◌≤◌, ◌⊎◌}
 use Rattle.mig_base.proofs.MarkCounts.{counted}
 use Rattle.mig_base.proofs.StoreSteps.{same_then}
@@ -20,7 +20,7 @@ later_still k cell (inl slot) = inl slot
 later_still k cell (inr (n, lt, is)) = inr (n, omega (arith, lt), is)
 
 -- steps after mark k write no others
-later_from : (input : Lists) (k : ℕ) (rounds : List (List Shift)) (cell : Cell) → AllWrite (actions_from input k rounds) cell → IsLater k cell
+later_from : (input : InputLists) (k : ℕ) (rounds : List (List Shift)) (cell : Cell) → AllWrite (actions_from input k rounds) cell → IsLater k cell
 later_from input k [] cell (inl none) = absurd none
 later_from input k [] cell (inr none) = absurd none
 later_from input k (shifts ∷ rounds) cell any = ⊎_elim (λ copy. inl (ap is_slot copy.2)) (λ rest. elim rest [

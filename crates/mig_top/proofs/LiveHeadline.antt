@@ -1,5 +1,5 @@
 -- What `live` promises, from the causes of its outcomes and what it leaves.
-use Rattle.mig_top.proofs.Common.{AreOfScripted, Bool, Call, Cell, Contents, Done, EndsAs, Extends, Files, Gate, GoesOn, Holds, Image, IsInput, IsJobCell, IsListed, IsMoving, IsOrNotPut}
+use Rattle.mig_top.proofs.Common.{AreOfScripted, Bool, Call, Cell, Contents, Done, EndsAs, Extends, Files, Gate, GoesOn, HoldsContents, Image, IsInput, IsJobCell, IsListed, IsMoving, IsOrNotPut}
 use Rattle.mig_top.proofs.Common.{IsReadyIdle, IsServed, IsSome, IsSound, IsState, IsTargetOf, IsUntouched, LeavesOnly, List, Live, LiveLeaves, Names, NoCell, Order, Outcome, Refusal}
 use Rattle.mig_top.proofs.Common.{ResumesInFlight, ResumesWell, Runs, Says, Scripted, ServesAll, ServesWell, SettlesTo, SinkFault, Some, State, StoreFault, WentOn, WorldEnds}
 use Rattle.mig_top.proofs.Common.{[], ap, arith, changes_wider, code, count_most, count_of, flights, inl, inr, is_armed, left_text, length, not_done, refl, replies, resumes, scripted_in, steps_left}
@@ -12,7 +12,7 @@ use Rattle.mig_top.proofs.StoreEnds.{untouched_looks}
 use Rattle.mig_top.proofs.StoreExact.{resumes_exact}
 use Rattle.mig_top.proofs.Steps.{follow, only_done}
 use Rattle.mig_top.proofs.TaskHeadline.{by_untouched, is_resumable, leaves_same, no_resume_refusal, status_so}
-use Rattle.mig_top.specs.Calls.{IsDone}
+use Rattle.mig_top.specs.Calls.{Succeeds}
 use Rattle.mig_top.specs.live.Leaves.{ForScripted}
 use Rattle.mig_top.specs.live.Looks.{IsServable}
 use Rattle.mig_top.specs.live.Promise.{LeavesStill, MayGoOn}
@@ -93,8 +93,8 @@ module _ {k : Call} {words : List (List ℕ)} {status : ℕ} (ends : EndsAs k wo
         }
 
     well : ((status ≡ 0) ⊎ (status ≡ 6) → (flights new ≡ []) × (IsSome (old.reads Gate) → (image : Image) → new.may_leave image → is_armed image ≡ true))
-        → (status ≡ 0 → (asked : Bool) (contents : Contents) → Holds asked read.task contents old → Extends (replies read.task.input contents read.orders ++ left_text (steps_left read n)) k.before.sink k.after.sink)
-        → (status ≡ 0 → (contents : Contents) → Holds true read.task contents old → WentOn read contents new n) → ServesWell k read status
+        → (status ≡ 0 → (asked : Bool) (contents : Contents) → HoldsContents asked read.task contents old → Extends (replies read.task.input contents read.orders ++ left_text (steps_left read n)) k.before.sink k.after.sink)
+        → (status ≡ 0 → (contents : Contents) → HoldsContents true read.task contents old → WentOn read contents new n) → ServesWell k read status
     well done told went = record {
       safe = λ asked contents tells. since (IsSound asked read.task.input read.task.plan read.task.digest contents) (g.carries.keeps.sound asked contents tells);
       ready = λ tells. since (IsReadyIdle read.task) (g.carries.keeps.ready tells);
@@ -148,7 +148,7 @@ module _ {k : Call} {words : List (List ℕ)} {status : ℕ} (ends : EndsAs k wo
   session_ground : ForScripted k.before.folder names script (λ r. ¬ IsServable r old) → ¬ IsServable read old
   session_ground (r, are, not) = subst (λ (s : Scripted). ¬ IsServable s old) (same r are) not
 
-  serves : ((o : Outcome) → (resumes read.task old).Stops o → ⊥) → IsDone k (¬ IsServable read old) status
+  serves : ((o : Outcome) → (resumes read.task old).Stops o → ⊥) → Succeeds k (¬ IsServable read old) status
   serves none fine quiet sound = refused_to k status session_ground
       (status_so ends files is (Live names script) l
       (λ o h. only_done (resumes read.task old) (IsServed read old) none o (follow (scripted_in names script files) (scripted_exact names script files) (live_rest old) read holds o h)) fine quiet sound)

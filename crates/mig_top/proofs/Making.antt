@@ -1,45 +1,45 @@
 -- What a command that makes something promises, from the causes of its outcomes and what it leaves.
-use Rattle.mig_top.proofs.Common.{Call, CauseIn, Done, EndsAs, Extends, Files, Finding, FolderFailed, FolderFault, Form, FormCause, Found, IsBegun, IsCut, IsListed, IsOrNotPut, IsSomeAnd, List}
-use Rattle.mig_top.proofs.Common.{Lists, Memory, Outcome, Refusal, SinkFault, Some, StoreFault, Unlisted, WorldEnds, arith, code, finding_code, inl, inr, refusal_between, ℕ, ◌<◌, ◌∙◌, ◌≡◌, ◌≤◌, ◌⊎◌}
+use Rattle.mig_top.proofs.Common.{Call, CauseIn, Done, EndsAs, Extends, Files, FolderFailed, FolderFault, Form, FormCause, Found, InputRefusal, IsBegun, IsCutShort, IsListed, IsOrNotPut, IsSomeAnd, List}
+use Rattle.mig_top.proofs.Common.{InputLists, Memory, Outcome, Refusal, SinkFault, Some, StoreFault, Unlisted, WorldEnds, arith, code, inl, input_code, inr, refusal_between, ℕ, ◌<◌, ◌∙◌, ◌≡◌, ◌≤◌, ◌⊎◌}
 use Rattle.mig_top.proofs.EndsOf.{cause_at, ends_of, ends_so, put_by}
 use Rattle.mig_top.specs.Making.{MakesWell}
 
 -- the cause of each outcome where the files stand for an input: it is done, or this is wrong
-abbrev pub Means : (Finding → Type 0) → Outcome → Type 0
+abbrev pub Means : (InputRefusal → Type 0) → Outcome → Type 0
 Means Wrong (Done text) = Unit {0}
 Means Wrong (Found f) = Wrong f
 Means Wrong _ = ⊥
 
 -- how such a command is stopped, and what is wrong where it is
-pub record IsMaker (k : Call) (form : Form) (files : Files) (Stands CannotMake : Lists → Type 0) (Wrong : Lists → Finding → Type 0) (number : ℕ) : Type 0 where
-  pub means : (input : Lists) → Stands input → (o : Outcome) → FormCause files k.before.store form o → Means (Wrong input) o
-  pub stopped : (f : Finding) → finding_code f ≡ number → FormCause files k.before.store form (Found f) → (input : Lists) × Stands input × Wrong input f
-  pub cannot : (input : Lists) → Stands input → (f : Finding) → Wrong input f → CannotMake input
-  pub has_number : (input : Lists) (f : Finding) → Wrong input f → finding_code f ≡ number
-  pub undone : (input : Lists) → Stands input → CannotMake input → (text : List ℕ) → WorldEnds k form (Done text) → ⊥
-  pub uncut : (text : List ℕ) → IsCut k form text → ⊥
+pub record IsMaker (k : Call) (form : Form) (files : Files) (Stands CannotMake : InputLists → Type 0) (Wrong : InputLists → InputRefusal → Type 0) (number : ℕ) : Type 0 where
+  pub means : (input : InputLists) → Stands input → (o : Outcome) → FormCause files k.before.store form o → Means (Wrong input) o
+  pub stopped : (f : InputRefusal) → input_code f ≡ number → FormCause files k.before.store form (Found f) → (input : InputLists) × Stands input × Wrong input f
+  pub cannot : (input : InputLists) → Stands input → (f : InputRefusal) → Wrong input f → CannotMake input
+  pub has_number : (input : InputLists) (f : InputRefusal) → Wrong input f → input_code f ≡ number
+  pub undone : (input : InputLists) → Stands input → CannotMake input → (text : List ℕ) → WorldEnds k form (Done text) → ⊥
+  pub uncut : (text : List ℕ) → IsCutShort k form text → ⊥
   pub unbegun : (before : List ℕ) → IsBegun k form before → ⊥
 
-module _ {k : Call} {form : Form} {files : Files} {Stands CannotMake : Lists → Type 0} {Wrong : Lists → Finding → Type 0} {number : ℕ} (is : k.before.folder.files ≡ Some files)
+module _ {k : Call} {form : Form} {files : Files} {Stands CannotMake : InputLists → Type 0} {Wrong : InputLists → InputRefusal → Type 0} {number : ℕ} (is : k.before.folder.files ≡ Some files)
     (it : IsMaker k form files Stands CannotMake Wrong number) (high : 10 ≤ number) (low : number < 16) where
-  told_cause : (input : Lists) → Stands input → (o : Outcome) → CauseIn k.before form o → Means (Wrong input) o
+  told_cause : (input : InputLists) → Stands input → (o : Outcome) → CauseIn k.before form o → Means (Wrong input) o
   told_cause input held o h = it.means input held o (cause_at k files is form o h)
 
-  cannot_by : (f : Finding) → (input : Lists) × Stands input × Wrong input f → (input : Lists) × Stands input × CannotMake input
+  cannot_by : (f : InputRefusal) → (input : InputLists) × Stands input × Wrong input f → (input : InputLists) × Stands input × CannotMake input
   cannot_by f (input, held, wrong) = (input, held, it.cannot input held f wrong)
 
   module _ {status : ℕ} where
-    ends_by : (input : Lists) (o : Outcome) → Means (Wrong input) o → status ≡ code o → (status ≡ 0) ⊎ (status ≡ 7) ⊎ (status ≡ number)
+    ends_by : (input : InputLists) (o : Outcome) → Means (Wrong input) o → status ≡ code o → (status ≡ 0) ⊎ (status ≡ 7) ⊎ (status ≡ number)
     ends_by input (Done text) m at = inl at
     ends_by input (Found f) m at = inr (inr (at ∙ it.has_number input f m))
     ends_by input _ m at = absurd m
 
-    refused_by : (o : Outcome) → status ≡ code o → IsOrNotPut (WorldEnds k form) k.before.sink k.after.sink o → status ≡ number → (input : Lists) × Stands input × CannotMake input
+    refused_by : (o : Outcome) → status ≡ code o → IsOrNotPut (WorldEnds k form) k.before.sink k.after.sink o → status ≡ number → (input : InputLists) × Stands input × CannotMake input
     refused_by (Found f) at h is_number = cannot_by f (it.stopped f (omega (arith, at, is_number)) (cause_at k files is form (Found f) h.cause))
     refused_by (Refusal r) at h is_number = absurd (omega (arith, at, is_number, high, (refusal_between r).1))
     refused_by o at h is_number = absurd (omega (arith, at, is_number, high, low))
 
-    refuses_by : (input : Lists) → Stands input → CannotMake input → (FolderFailed k → ⊥) → (o : Outcome) → status ≡ code o
+    refuses_by : (input : InputLists) → Stands input → CannotMake input → (FolderFailed k → ⊥) → (o : Outcome) → status ≡ code o
         → IsOrNotPut (WorldEnds k form) k.before.sink k.after.sink o → (status ≡ 7) ⊎ (status ≡ number)
     refuses_by input held none fine (Done text) at h = absurd (it.undone input held none text h)
     refuses_by input held none fine (SinkFault text) at (rose, inl h) = absurd (it.undone input held none text h)

@@ -1,13 +1,13 @@
 -- How a rehearsal ends, as a call of the program and as its promise.
-use Rattle.mig_top.proofs.Common.{Call, Done, Ending, EndsAs, FolderFault, IsListed, IsOrNotPut, IsRehearsalEnd, IsUntouched, List, Memory, Outcome, Rehearse, RehearsesWell, Result, Rose, SinkFault}
+use Rattle.mig_top.proofs.Common.{Call, CommandError, Done, EndsAs, FolderFault, IsListed, IsOrNotPut, IsRehearsalEnd, IsUntouched, List, Memory, Outcome, Rehearse, RehearsesWell, Result, Rose, SinkFault}
 use Rattle.mig_top.proofs.Common.{StoreFault, Untouched, WorldEnds, [], case_in, code, inl, inr, ℕ, ◌≡◌, ◌⊎◌}
 use Rattle.mig_top.proofs.EndsOf.{ends_of, finishes_map, put_by}
-use Rattle.mig_top.specs.Ends.{Finishes, FormFinishes}
+use Rattle.mig_top.specs.Ends.{EndsOrStops, FormFinishes}
 
 module _ (k : Call) (disks per_pair limit : List ℕ) where
   -- whatever folder and store tell, it does nothing with either
-  pub rehearsal_finishes : Untouched k.before.folder k.after.folder → IsUntouched k.before.store k.after.store → (result : Result ℕ Ending)
-      → Finishes [] (IsRehearsalEnd (case_in disks per_pair limit)) k.before.sink k.after.sink result → FormFinishes k (Rehearse disks per_pair limit) result
+  pub rehearsal_finishes : Untouched k.before.folder k.after.folder → IsUntouched k.before.store k.after.store → (result : Result ℕ CommandError)
+      → EndsOrStops [] (IsRehearsalEnd (case_in disks per_pair limit)) k.before.sink k.after.sink result → FormFinishes k (Rehearse disks per_pair limit) result
   rehearsal_finishes same kept result h = finishes_map [] k.before.sink k.after.sink ends result h
     where
       ends : (o : Outcome) → IsRehearsalEnd (case_in disks per_pair limit) o → WorldEnds k (Rehearse disks per_pair limit) o

@@ -1,10 +1,10 @@
 -- How `fill`, `move`, `resume` and `halt` end.
-use Rattle.mig_top.proofs.Common.{AreOfLayout, AreOfTask, Call, Carries, Cell, ChangedOnly, ChangesOnly, Contents, Done, Ending, EndsHalted, Event, Files, Fill, FolderState, Gate, Halt}
-use Rattle.mig_top.proofs.Common.{HaltsAll, HaltsInPart, HasFound, HasMade, Head, IfSome, Image, IsClosingCell, IsEndOf, IsFault, IsFillFault, IsFillRefusal, IsHaltCell, IsHaltSafe, IsJobCell, IsLayoutSaved}
-use Rattle.mig_top.proofs.Common.{IsResumable, IsResumeFault, IsResumeRefusal, IsSafe, IsSafeAt, IsSettled, IsShown, IsSome, IsSomeAnd, IsStandFault, IsStandRefusal, IsStanding, IsStartFault}
-use Rattle.mig_top.proofs.Common.{IsStartRefusal, IsStartable, IsState, IsTargetOf, KeepsHaltSafe, KeepsHalting, Lands, LeavesOnly, List, Lists, MayHalt, Move, MoveFault, MovesAll, MovesInPart}
+use Rattle.mig_top.proofs.Common.{AreOfLayout, AreOfTask, Call, Carries, Cell, ChangedOnly, ChangesOnly, CommandError, Contents, Done, EndsHalted, Event, Files, Fill, FolderState, Gate, Halt}
+use Rattle.mig_top.proofs.Common.{HaltsAll, HaltsInPart, HasFound, HasMade, Head, IfSome, Image, IsClosingCell, IsFault, IsFillFault, IsFillRefusal, IsHaltCell, IsHaltSafe, IsJobCell, IsLayoutSaved, IsOutcomeOf}
+use Rattle.mig_top.proofs.Common.{IsResumable, IsResumeFault, IsResumeRefusal, IsSafe, IsSafeAt, IsSettled, IsShownFault, IsSome, IsSomeAnd, IsStandFault, IsStandRefusal, IsStanding, IsStartFault}
+use Rattle.mig_top.proofs.Common.{InputLists, IsStartRefusal, IsStartable, IsState, IsTargetOf, KeepsHaltSafe, KeepsHalting, Lands, LeavesOnly, List, MayHalt, Move, MoveFault, MovesAll, MovesInPart}
 use Rattle.mig_top.proofs.Common.{NoCell, None, Option, OthersStay, Outcome, Resume, ResumesAll, ResumesInPart, SaveEnds, SavesLayout, Settles, Some, State, Step, Task, TaskNames, Tells}
-use Rattle.mig_top.proofs.Common.{Untouched, WasFillable, WorldEnds, WritesListed, [], after, append-nil, arith, changes_then, changes_wider, count_of, done_text, false, false≢true, fault_outcome}
+use Rattle.mig_top.proofs.Common.{Untouched, WasFillable, WorldEnds, WritesListed, [], and_then, append-nil, arith, changes_then, changes_wider, count_of, done_text, false, false≢true, fault_outcome}
 use Rattle.mig_top.proofs.Common.{filled_text, fills, finds, flights, four_and, gate_kept, halted_text, inl, inr, is_armed, journal_kept, layout_in, leaves_then, length, outcome_of, quiet_leaves}
 use Rattle.mig_top.proofs.Common.{refl, resumes, same_image, settled_reads, settles_land, settles_landed, stands, starts, subst, sym, task_in, tells_more, ℕ, ◌∙◌, ◌≡◌, ◌≤◌, ◌⊎◌}
 use Rattle.mig_top.proofs.Steps.{if_map, lead}
@@ -17,19 +17,19 @@ use Rattle.mig_mover.specs.Holdings.{IsUnrefused}
 use Rattle.mig_store.specs.Grounds.{FailedOr}
 use Rattle.mig_top.specs.Ends.{IsRefusable}
 use Rattle.mig_mover.specs.declared.faults.MoveFault.TheVariants as fault
-use Rattle.mig_words.specs.declared.endings.Ending.TheVariants as ending
+use Rattle.mig_words.specs.declared.endings.CommandError.TheVariants as ending
 use Rattle.mig_top.specs.Calls as calls
 
 -- what is left of `move` once its task is known, and of `resume`
 abbrev pub move_rest : State → Task → Step (List ℕ)
-move_rest store task = after (starts task store) (λ _. finds (λ text. text ≡ done_text task.plan 0))
+move_rest store task = and_then (starts task store) (λ _. finds (λ text. text ≡ done_text task.plan 0))
 
 abbrev pub resume_rest : State → Task → Step (List ℕ)
-resume_rest store task = after (resumes task store) (λ found. finds (λ text. text ≡ done_text task.plan found))
+resume_rest store task = and_then (resumes task store) (λ found. finds (λ text. text ≡ done_text task.plan found))
 
 -- what a refusal of a store that is settled shows
-pub shown_by : (k : Call) (input : Lists) (f : MoveFault) → Settles k.before.store k.after.store → (Shows : Image → MoveFault → Type 0) → Shows k.after.store.reads f
-    → IsShown input k.before.store Shows (fault_outcome input f)
+pub shown_by : (k : Call) (input : InputLists) (f : MoveFault) → Settles k.before.store k.after.store → (Shows : Image → MoveFault → Type 0) → Shows k.after.store.reads f
+    → IsShownFault input k.before.store Shows (fault_outcome input f)
 shown_by k input f settles Shows h = record {
   fault = f;
   is = refl;
@@ -41,7 +41,7 @@ shown_by k input f settles Shows h = record {
 
 -- what is left of a command once its files are read leads to its outcome
 pub rest_cause : {A : Type 0} (k : Call) (first : Files → Step A) (rest : A → Step (List ℕ)) (read : A) → IfSome k.before.folder.files (λ files. (first files).Passes read)
-    → (o : Outcome) → IsEndOf (rest read) o → IfSome k.before.folder.files (λ files. IsEndOf (after (first files) rest) o)
+    → (o : Outcome) → IsOutcomeOf (rest read) o → IfSome k.before.folder.files (λ files. IsOutcomeOf (and_then (first files) rest) o)
 rest_cause k first rest read are o h = if_map k.before.folder.files (λ files holds. lead (first files) rest read holds o h) are
 
 -- `move` and `resume`
@@ -99,10 +99,10 @@ module _ {k : Call} {names : TaskNames} (same : Untouched k.before.folder k.afte
 -- `fill`
 
 -- what is left of it once its layout is read
-abbrev pub fill_rest : State → Lists → Step (List ℕ)
-fill_rest store input = after (fills input store) (λ _. finds (λ text. text ≡ filled_text input))
+abbrev pub fill_rest : State → InputLists → Step (List ℕ)
+fill_rest store input = and_then (fills input store) (λ _. finds (λ text. text ≡ filled_text input))
 
-module _ {k : Call} {disks now : List ℕ} (same : Untouched k.before.folder k.after.folder) (input : Lists) (layout : AreOfLayout k.before.folder disks now input)
+module _ {k : Call} {disks now : List ℕ} (same : Untouched k.before.folder k.after.folder) (input : InputLists) (layout : AreOfLayout k.before.folder disks now input)
     (writes : WritesListed input k.before.store k.after.store) where
   -- the layout was read, and the store refused
   pub fill_refused : (f : MoveFault) → IsFillFault (k.refuses × ¬ Tells (IsListedCell input) k.before.store.reads) input k.before.store k.after.store f → WorldEnds k (Fill disks now) (fault_outcome input f)
@@ -131,7 +131,7 @@ module _ {k : Call} {disks now : List ℕ} (same : Untouched k.before.folder k.a
 
 -- what is left of it once its task is known
 abbrev pub halt_rest : State → Task → Step (List ℕ)
-halt_rest store task = after (stands task store) (λ found. finds (λ text. text ≡ halted_text task.plan found))
+halt_rest store task = and_then (stands task store) (λ found. finds (λ text. text ≡ halted_text task.plan found))
 
 -- Once it is known where the plan stands
 
@@ -215,7 +215,7 @@ module _ (task : Task) (old mid : State) (k : ℕ) (stood : Stands task old mid 
 
 -- a change of a folder that begins with the files of another
 module _ (R : Files → Files → Type 0) (before from to : FolderState) (same : from.files ≡ before.files) where
-  pub changes_before : calls.Changes from to R → calls.Changes before to R
+  pub changes_before : calls.RelatesFiles from to R → calls.RelatesFiles before to R
   changes_before = subst (λ (o : Option Files). IfSome o (λ files. IsSomeAnd to.files (R files))) same
 
 pub saved_only : (task : Task) (layout : List ℕ) (k : ℕ) (old new : FolderState) → SavesLayout task layout k old new → ChangedOnly layout old new
@@ -245,7 +245,7 @@ module _ {k : Call} {names : TaskNames} {layout : List ℕ} where
   halt_refused task are same lands _ h = absurd h
 
   -- the layout isn't saved
-  pub halt_unsaved : (loaded : FolderState) → loaded.files ≡ k.before.folder.files → k.before.folder.faults ≤ loaded.faults → Settles k.before.store k.after.store → (e : Ending)
+  pub halt_unsaved : (loaded : FolderState) → loaded.files ≡ k.before.folder.files → k.before.folder.faults ≤ loaded.faults → Settles k.before.store k.after.store → (e : CommandError)
       → SaveEnds layout loaded k.after.folder e
       → WorldEnds k (Halt names layout) (outcome_of (four_and names.files []) e)
   halt_unsaved loaded same later settles ending.FolderFault h = record {

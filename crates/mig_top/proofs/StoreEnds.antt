@@ -1,7 +1,7 @@
 -- What the ends of commands say of the store.
-use Rattle.mig_top.proofs.Common.{Audit, Call, CauseIn, Cell, Ending, EndsAs, Err, Event, Files, Fill, FolderLeaves, Form, Halt, HasFiles, IfSome, Image, IsEndOf, IsMoving, IsOrNotPut, IsState}
+use Rattle.mig_top.proofs.Common.{Audit, Call, CauseIn, Cell, CommandError, EndsAs, Err, Event, Files, Fill, FolderLeaves, Form, Halt, HasFiles, IfSome, Image, IsMoving, IsOrNotPut, IsOutcomeOf, IsState}
 use Rattle.mig_top.proofs.Common.{IsTargetOf, IsUntouched, IsUnwritten, List, Live, Looks, Move, NoCell, Outcome, Resume, SameBut, Settles, State, Step, StoreLeaves, TakesFrom, WorldEnds}
-use Rattle.mig_top.proofs.Common.{WritesLast, WroteNothing, [], after, arith, changes_none, code, flights, inl, inr, outcome_of, refl, same_image, subst, sym, ℕ, ⊎_elim, ◌∙◌, ◌≡◌, ◌⊎◌}
+use Rattle.mig_top.proofs.Common.{WritesLast, WroteNothing, [], and_then, arith, changes_none, code, flights, inl, inr, outcome_of, refl, same_image, subst, sym, ℕ, ⊎_elim, ◌∙◌, ◌≡◌, ◌⊎◌}
 use Rattle.mig_base.specs.Stores.{Changes}
 use Rattle.mig_words.specs.Outcomes as out
 use Rattle.mig_top.proofs.EndsOf.{IsUnread, files_cause, files_unread}
@@ -47,13 +47,13 @@ unread_store k (Halt names layout) out.Memory u kept = inl kept
 unread_store k form o u kept = kept
 
 -- how such a command ends
-pub unread : {k : Call} {form : Form} {A B : Type 0} {view : B → A} {names : List (List ℕ)} {first : Files → Step A} {e : Ending} (rest : A → Step (List ℕ))
-    → ((o : Outcome) → IfSome k.before.folder.files (λ files. IsEndOf (after (first files) rest) o) → CauseIn k.before form o)
+pub unread : {k : Call} {form : Form} {A B : Type 0} {view : B → A} {names : List (List ℕ)} {first : Files → Step A} {e : CommandError} (rest : A → Step (List ℕ))
+    → ((o : Outcome) → IfSome k.before.folder.files (λ files. IsOutcomeOf (and_then (first files) rest) o) → CauseIn k.before form o)
     → HasFiles form → ((o : Outcome) → IsUnread o → FolderLeaves k.before.folder k.after.folder form o) → IsUntouched k.before.store k.after.store
     → TakesFrom view k.before.folder k.after.folder names first (Err e) → WorldEnds k form (outcome_of names e)
 unread {k = k} {form = form} {names = names} {first = first} {e = e} rest to has leaves kept h =
     let o = outcome_of names e in
-    let steps : Files → Step (List ℕ) = λ files. after (first files) rest in
+    let steps : Files → Step (List ℕ) = λ files. and_then (first files) rest in
     let all : TakesFrom (λ (text : List ℕ). text) k.before.folder k.after.folder names steps (Err e) = fails_first h refl (λ files o s. inl s) in
     let (u, cause) = files_unread names k.before.folder k.after.folder steps e all.stops in
     record { cause = files_cause k form steps has to o cause; leaves = leaves o u; store = unread_store k form o u kept }

@@ -1,6 +1,6 @@
 -- The steps of commands over a store are exact, where it tells the cells that decide and those that copies in flight read.
 use Rattle.mig_top.proofs.Common.{All, All-contains, CanTake, Cell, Contains, Gate, Head, IfSome, Image, IsFillCell, IsFillRefusal, IsFillable, IsFirstLost, IsFirstTaken, IsFirstUsed, IsInput}
-use Rattle.mig_top.proofs.Common.{IsJobCell, IsLanded, IsPlanSpot, IsReady, IsResumeRefusal, IsShown, IsSome, IsStandRefusal, IsStartRefusal, IsUnused, List, Lists, MoveFault, None, Occupied, Option}
+use Rattle.mig_top.proofs.Common.{InputLists, IsJobCell, IsLanded, IsPlanSpot, IsReady, IsResumeRefusal, IsShownFault, IsSome, IsStandRefusal, IsStartRefusal, IsUnused, List, MoveFault, None, Occupied, Option}
 use Rattle.mig_top.proofs.Common.{Outcome, Runs, Some, Spot, Started, State, Task, Tells, TellsStill, ap, arith, code, false, false≢true, fault_outcome, fills, flights, get_or, get_or_from_slice_get}
 use Rattle.mig_top.proofs.Common.{inl, inr, is_armed, is_one, is_slot, item_cell, length, no_spot, refl, resumes, shifted_named, shifts_of, slice_get-get_or, slice_get_within, slot_of, stands, starts}
 use Rattle.mig_top.proofs.Common.{subst, sym, target_named, true, ℕ, ⊎_elim, ◌<◌, ◌∙◌, ◌≡◌, ◌⊎◌}
@@ -11,12 +11,12 @@ use Rattle.mig_mover.specs.declared.faults.MoveFault.TheVariants as fault
 
 module _ (store : State) (sources : All (λ c. IsSome (store.reads c.from)) (flights store)) where
   -- what a step that stops by one of these refusals shows, it shows in each such image
-  pub shown_at : {input : Lists} {Shows : Image → MoveFault → Type 0} {o : Outcome} (image : Image) → IsLanded store image → (h : IsShown input store Shows o) → Shows image h.fault
+  pub shown_at : {input : InputLists} {Shows : Image → MoveFault → Type 0} {o : Outcome} (image : Image) → IsLanded store image → (h : IsShownFault input store Shows o) → Shows image h.fault
   shown_at {Shows = Shows} image landed h = subst (λ (im : Image). Shows im h.fault) (one_image store sources h.image image h.landed landed) h.shows
 
-  pub shown_one : {input : Lists} {Shows : Image → MoveFault → Type 0}
+  pub shown_one : {input : InputLists} {Shows : Image → MoveFault → Type 0}
       → ((image : Image) → IsLanded store image → (f g : MoveFault) → Shows image f → Shows image g → code (fault_outcome input f) ≡ code (fault_outcome input g))
-      → (o p : Outcome) → IsShown input store Shows o → IsShown input store Shows p → code o ≡ code p
+      → (o p : Outcome) → IsShownFault input store Shows o → IsShownFault input store Shows p → code o ≡ code p
   shown_one one o p h k = ap code h.is ∙ one h.image h.landed h.fault k.fault h.shows (shown_at h.image h.landed k) ∙ sym (ap code k.is)
 
 -- bytes that are told aren't both so and otherwise
@@ -26,7 +26,7 @@ told_apart (Some bytes) told p q apart = apart bytes p q
 
 -- `fill`
 
-module _ (input : Lists) (image : Image) (told : Tells (IsFillCell input) image) where
+module _ (input : InputLists) (image : Image) (told : Tells (IsFillCell input) image) where
   not_taken : (spot : Spot) → IsFillable input image → IsFirstTaken input image spot → ⊥
   not_taken spot fillable taken =
       let within = slice_get_within input.spots taken.item spot taken.listed in
@@ -48,7 +48,7 @@ module _ (input : Lists) (image : Image) (told : Tells (IsFillCell input) image)
   one_fill_refusal (Occupied disk slot) _ h k = absurd k
   one_fill_refusal _ g h k = absurd h
 
-pub fills_exact : (input : Lists) (store : State) → TellsStill (IsFillCell input) store → IsExact (fills input store)
+pub fills_exact : (input : InputLists) (store : State) → TellsStill (IsFillCell input) store → IsExact (fills input store)
 fills_exact input store tells =
     record { one_found = λ a b h k. refl; not_both = apart; one_stop = shown_one store tells.sources (λ image landed. one_fill_refusal input image (told image landed)) }
   where

@@ -1,9 +1,9 @@
 -- What `move`, `resume` and `halt` promise, from the causes of their outcomes and what they leave; also where copies may be in flight.
 use Rattle.mig_top.proofs.Common.{Adds, AllMayHalt, AreFlights, AreOfTask, At, BeginsAfter, BeginsRun, Bool, Call, Carries, Cell, ChangedOnly, Contents, Disk, Done, EndsAs, Extends, Files, FindsTask}
 use Rattle.mig_top.proofs.Common.{Finishes, FolderFault, Form, FormCause, FormEndsAs, Gate, Halt, HaltLeaves, HaltsAll, HaltsInPart, HaltsWell, HasContents, Head, IfSome, Image}
-use Rattle.mig_top.proofs.Common.{IsArrived, IsClosingCell, IsCut, IsHaltCell, IsHalted, IsInput, IsJobCell, IsLanded, IsLayoutSaved, IsListed, IsOrNotPut, IsPermutation-refl, IsReadyIdle}
-use Rattle.mig_top.proofs.Common.{IsReadyInFlight, IsReadyOnceLanded, IsResumable, IsResumeRefusal, IsSafe, IsShown, IsSomeAnd, IsSound, IsStandRefusal, IsStartRefusal, IsState, IsTargetOf}
-use Rattle.mig_top.proofs.Common.{IsUntouched, IsUnwritten, KeepsHalting, Lands, LeavesOnly, List, Lists, MayBeHalting, MayHalt, Memory, Move, MoveLeaves, MovesWell, OthersStay, Outcome, Refusal}
+use Rattle.mig_top.proofs.Common.{IsArrived, IsClosingCell, IsCutShort, IsHaltCell, IsHalted, IsInput, IsJobCell, IsLanded, IsLayoutSaved, IsListed, IsOrNotPut, IsPermutation-refl, IsReadyIdle}
+use Rattle.mig_top.proofs.Common.{IsReadyInFlight, IsReadyOnceLanded, IsResumable, IsResumeRefusal, IsSafe, IsShownFault, IsSomeAnd, IsSound, IsStandRefusal, IsStartRefusal, IsState, IsTargetOf}
+use Rattle.mig_top.proofs.Common.{InputLists, IsUntouched, IsUnwritten, KeepsHalting, Lands, LeavesOnly, List, MayBeHalting, MayHalt, Memory, Move, MoveLeaves, MovesWell, OthersStay, Outcome, Refusal}
 use Rattle.mig_top.proofs.Common.{Resume, ResumeLeaves, ResumesHalting, ResumesInFlight, ResumesWell, Runs, SavesLayout, Says, Settles, SettlesTo, SinkFault, Slot, Some, Spot}
 use Rattle.mig_top.proofs.Common.{StartsInFlight, StartsWell, State, StaysArmed, StoreFault, StoreLeaves, Task, TaskNames, Tells, TellsStill, Untouched, WorldEnds, WroteNothing, [], ap}
 use Rattle.mig_top.proofs.Common.{append-nil, arith, code, count_most, count_of, disk_at, done_text, ended, events_none, false, false≢true, flights, halted_text, idle_sound, inl, inr, is_armed}
@@ -16,7 +16,7 @@ use Rattle.mig_top.proofs.Steps.{follow, lead, only_done}
 use Rattle.mig_top.proofs.StoreEnds.{form_quiet, quiet, untouched_quiet}
 use Rattle.mig_mover.proofs.LandedImages.{journal_landed, told_landed}
 use Rattle.mig_mover.specs.Holdings.{IsUnrefused}
-use Rattle.mig_top.specs.Calls.{IsDone}
+use Rattle.mig_top.specs.Calls.{Succeeds}
 use Rattle.mig_top.specs.Ends.{IsRefusable}
 use Rattle.mig_top.specs.carry.Leaves.{ForTask}
 use Rattle.mig_top.proofs.StoreExact.{named_refused, resume_apart, start_apart}
@@ -29,11 +29,11 @@ module _ (task : Task) (store : State) (valid : IsInput task.input) (runs : Runs
   armed_at : (image : Image) → IsLanded store image → is_armed image ≡ is_armed store.reads
   armed_at image landed = ap is_one (journal_landed store image landed ready.slots Gate refl)
 
-  no_start_refusal : is_armed store.reads ≡ false → (o : Outcome) → IsShown task.input store (IsStartRefusal task) o → ⊥
+  no_start_refusal : is_armed store.reads ≡ false → (o : Outcome) → IsShownFault task.input store (IsStartRefusal task) o → ⊥
   no_start_refusal idle o h =
       start_apart task valid runs h.image (job_told h.image h.landed) (ready.ready h.image (h.left ready.images) (armed_at h.image h.landed ∙ idle)) h.fault h.shows
 
-  pub no_resume_refusal : (is_armed store.reads ≡ true → store.reads Head ≡ Some task.digest) → (o : Outcome) → IsShown task.input store (IsResumeRefusal task) o → ⊥
+  pub no_resume_refusal : (is_armed store.reads ≡ true → store.reads Head ≡ Some task.digest) → (o : Outcome) → IsShownFault task.input store (IsResumeRefusal task) o → ⊥
   no_resume_refusal named o h = resume_apart task valid runs h.image (job_told h.image h.landed) head (ready.ready h.image (h.left ready.images)) h.fault h.shows
     where
       head : is_armed h.image ≡ true → IfSome (h.image Head) (λ kept. kept ≡ task.digest)
@@ -43,7 +43,7 @@ module _ (task : Task) (store : State) (valid : IsInput task.input) (runs : Runs
 
 -- a command comes to its end, and is done or ends otherwise only where something fails, or the store refuses
 pub status_so : {k : Call} {words : List (List ℕ)} {status : ℕ} → EndsAs k words status → (files : Files) → k.before.folder.files ≡ Some files → (form : Form) → IsListed words form
-    → ((o : Outcome) → FormCause files k.before.store form o → code o ≡ 0) → IsDone k (IsRefusable k form) status
+    → ((o : Outcome) → FormCause files k.before.store form o → code o ≡ 0) → Succeeds k (IsRefusable k form) status
 status_so {k = k} {status = status} ends files is form l done fine quiet sound = elim (ends_so ends files is form l fine quiet) [
   | inl e ↦ inl (e.2 ∙ done e.0 e.1)
   | inr (inl seven) ↦ inr (inl seven)
@@ -141,7 +141,7 @@ module _ (old new : State) (law : IsState old) where
   by_settles settles = by_lands (settles_land old new settles)
 
 -- a slot has the name of its disk alone
-same_slot : (a b : Lists) → a.disks ≡ b.disks → (spot : Spot) → slot_of a spot ≡ slot_of b spot
+same_slot : (a b : InputLists) → a.disks ≡ b.disks → (spot : Spot) → slot_of a spot ≡ slot_of b spot
 same_slot a b e spot = ap (λ (disks : List Disk). Slot (disk_at disks spot.disk.0).name spot.slot) e
 
 -- where a plan is halted, a migration over the layout there begins well
@@ -197,7 +197,7 @@ module _ {k : Call} {words : List (List ℕ)} {status : ℕ} (ends : EndsAs k wo
   resume_kept o h = move_kept o h
 
   module _ (form : Form) (l : IsListed words form) (form_kept : (o : Outcome) → StoreLeaves k form o → AreKept task old new)
-      (form_finished : (text : List ℕ) → StoreLeaves k form (Done text) → (found : ℕ) × Finishes task old new found) (uncut : (text : List ℕ) → IsCut k form text → ⊥) where
+      (form_finished : (text : List ℕ) → StoreLeaves k form (Done text) → (found : ℕ) × Finishes task old new found) (uncut : (text : List ℕ) → IsCutShort k form text → ⊥) where
     e : FormEndsAs k form status
     e = ends_of ends form l
 
@@ -281,13 +281,13 @@ module _ {k : Call} {words : List (List ℕ)} {status : ℕ} (ends : EndsAs k wo
   module _ (layout : List ℕ) (l : IsListed words (Halt names layout)) where
     -- Completeness
 
-    not_shown : AreFlights (flights old) → is_armed old.reads ≡ true → old.reads Head ≡ Some task.digest → (o : Outcome) → IsShown task.input old (IsStandRefusal task) o → ⊥
+    not_shown : AreFlights (flights old) → is_armed old.reads ≡ true → old.reads Head ≡ Some task.digest → (o : Outcome) → IsShownFault task.input old (IsStandRefusal task) o → ⊥
     not_shown are armed named o h =
         let same : h.image Head ≡ Some task.digest = journal_landed old h.image h.landed are Head refl ∙ named in
         named_refused task h.image (ap is_one (journal_landed old h.image h.landed are Gate refl) ∙ armed)
         (rw same refl) (rw same refl) h.fault h.shows
 
-    completes : AreFlights (flights old) → is_armed old.reads ≡ true → old.reads Head ≡ Some task.digest → IsDone k (¬ IsUnrefused task old) status
+    completes : AreFlights (flights old) → is_armed old.reads ≡ true → old.reads Head ≡ Some task.digest → Succeeds k (¬ IsUnrefused task old) status
     completes are armed named fine quiet sound =
         refused_to k status (resume_ground ends files names task is holds)
         (status_so ends files is (Halt names layout) l (λ o h. only_done (stands task old) (λ found text. text ≡ halted_text task.plan found)

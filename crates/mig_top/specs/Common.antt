@@ -6,7 +6,7 @@ pub use Rattle.mig_base.specs.CertLines.{CertLine}
 pub use Rattle.mig_base.specs.FaultCounts.{Rose}
 pub use Rattle.mig_base.specs.Flights.{AreFlights, IsTargetOf}
 pub use Rattle.mig_base.specs.Images.{Image, SameBut}
-pub use Rattle.mig_base.specs.InputLists.{Lists, no_spot}
+pub use Rattle.mig_base.specs.InputLists.{InputLists, no_spot}
 pub use Rattle.mig_base.specs.JobCells.{IsHaltCell, IsJobCell, SettlesTo, Tells}
 pub use Rattle.mig_base.specs.Journals.{count_of, is_armed}
 pub use Rattle.mig_base.specs.Layouts.{At, IsListOf}
@@ -14,7 +14,7 @@ pub use Rattle.mig_base.specs.PlanLines.{PlanLine}
 pub use Rattle.mig_base.specs.Readiness.{IsReady, shifts_of}
 pub use Rattle.mig_base.specs.Refusals.{Accepted, AcceptedTight, RefusedAs, RefusedTightAs}
 pub use Rattle.mig_base.specs.RoundEvents.{Adds, BeginsRun, IsRun}
-pub use Rattle.mig_base.specs.Rows.{Bodies}
+pub use Rattle.mig_base.specs.Rows.{ThreeFiles}
 pub use Rattle.mig_base.specs.Running.{Runs}
 pub use Rattle.mig_base.specs.Safety.{Contents, IsSafe, IsSafeAfter, IsSound}
 pub use Rattle.mig_base.specs.Slots.{HasHeader, IsListedCell, item_cell}
@@ -22,7 +22,7 @@ pub use Rattle.mig_base.specs.Stores.{Changes, IsLeftBut, IsMoving, IsSettled, L
 pub use Rattle.mig_base.specs.Tasks.{Task}
 pub use Rattle.mig_base.specs.Texts.{CertText, PlanText, disk_name, item_name, text_of_lines, words}
 pub use Rattle.mig_base.specs.TightPlans.{HasNoPlan}
-pub use Rattle.mig_base.specs.Transfers.{moves, transfers}
+pub use Rattle.mig_base.specs.Transfers.{moves, transfer_graph}
 pub use Rattle.mig_base.specs.declared.cells.Cell.{Cell}
 pub use Rattle.mig_base.specs.declared.cells.Cell.TheVariants.{Gate, Head}
 pub use Rattle.mig_base.specs.declared.cells.Event.{Event}
@@ -53,9 +53,9 @@ pub use Rattle.mig_mover.specs.declared.faults.MoveFault.TheVariants.{NotStarted
 pub use Rattle.mig_mover.specs.declared.sights.Sight.{Sight}
 pub use Rattle.mig_words.specs.Outcomes.{Done, Outcome, Refusal, SinkFault, StoreFault, Unlisted, code, fault_outcome, joined, text_of}
 pub use Rattle.mig_words.specs.Words.{After, Audit, Check, Drain, Drill, Fill, Form, Halt, IsListed, Live, Move, Names, Plan, PlanTight, Rehearse, Resume, TaskNames, roomy}
-pub use Rattle.mig_words.specs.declared.endings.Ending.{Ending}
-pub use Rattle.mig_words.specs.declared.endings.Finding.{Finding}
-pub use Rattle.mig_words.specs.declared.endings.Finding.TheVariants.{NoDisk, NoFreeSlot, NoRoom, NotSpelled, Refused, TooLarge, TooMany}
+pub use Rattle.mig_words.specs.declared.endings.CommandError.{CommandError}
+pub use Rattle.mig_words.specs.declared.endings.InputRefusal.{InputRefusal}
+pub use Rattle.mig_words.specs.declared.endings.InputRefusal.TheVariants.{NoDisk, NoFreeSlot, NoRoom, NotSpelled, Refused, TooLarge, TooMany}
 pub use Rattle.mig_words.specs.declared.words.Reader.{Reader}
 pub use Rattle.mig_words.specs.declared.words.Reader.TheVariants.{Roomy, Tight}
 pub use Rattle.sha2.specs.Sha256.{sha256}

@@ -1,11 +1,12 @@
 -- What commands find in a store whatever they are, and that they left it as it was.
 use Rattle.std.specs.Prelude.{All, IsSome, length, ℕ, ◌≡◌, ◌≢◌, ◌≤◌}
-use Rattle.mig_top.specs.Common.{AreFlights, Cell, Image, IsJobCell, Lists, MoveFault, Outcome, State, Task, Tells, count_of, fault_outcome, flights}
+use Rattle.mig_top.specs.Common.{AreFlights, Cell, Image, InputLists, IsJobCell, MoveFault, Outcome, State, Task, Tells, count_of, fault_outcome}
+use Rattle.mig_top.specs.Common.{flights}
 use Rattle.mig_mover.specs.Moves.{IsLanded}
 use Rattle.mig_top.specs.Calls.{Call}
 
 -- the fault for which what reads may give, once each copy in flight has ended, shows a cause
-pub record IsShown (input : Lists) (store : State) (Shows : Image → MoveFault → Type 0) (o : Outcome) : Type 0 where
+pub record IsShownFault (input : InputLists) (store : State) (Shows : Image → MoveFault → Type 0) (o : Outcome) : Type 0 where
   pub fault : MoveFault
   pub is : o ≡ fault_outcome input fault
   pub image : Image

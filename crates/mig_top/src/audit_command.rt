@@ -14,38 +14,38 @@ use mig_base::{Input, ItemId};
 use mig_io::{Folder, Sink, SinkFailed};
 use mig_mover::{Sight, sight};
 use mig_store::{Store, StoreFailed};
-use mig_words::Part::{Hex, Number, Text};
-use mig_words::{Ending, put_parts, show_parts};
+use mig_words::TextPart::{Hex, Number, Text};
+use mig_words::{CommandError, put_parts, show_parts};
 use std::alloc::Global;
 
 /// Why an audit isn't done.
 #[derive(Clone, Copy, Debug, PartialEq, Eq)]
-pub enum Stop {
+pub enum AuditStop {
     /// The sink failed.
     Sink,
     /// The store failed.
     Store,
 }
 
-impl From<SinkFailed> for Stop {
+impl From<SinkFailed> for AuditStop {
     ghost use Rattle.std.specs.Prelude.{◌≡◌};
-    ghost use Rattle.mig_top.specs.declared.audit_command.Stop.TheVariants as stop;
+    ghost use Rattle.mig_top.specs.declared.audit_command.AuditStop.TheVariants as stop;
 
     ghost from_gives = { λ _ e. e ≡ stop.Sink };
 
     fn from(_: SinkFailed) -> Self {
-        Stop::Sink
+        AuditStop::Sink
     }
 }
 
-impl From<StoreFailed> for Stop {
+impl From<StoreFailed> for AuditStop {
     ghost use Rattle.std.specs.Prelude.{◌≡◌};
-    ghost use Rattle.mig_top.specs.declared.audit_command.Stop.TheVariants as stop;
+    ghost use Rattle.mig_top.specs.declared.audit_command.AuditStop.TheVariants as stop;
 
     ghost from_gives = { λ _ e. e ≡ stop.Store };
 
     fn from(_: StoreFailed) -> Self {
-        Stop::Store
+        AuditStop::Store
     }
 }
 
@@ -90,7 +90,7 @@ fn put_sight<K: Sink, S: Store>(
     store: &mut S,
     input: &Input,
     item: ItemId,
-) -> Result<bool, Stop>
+) -> Result<bool, AuditStop>
     requires { item.0 < length input.now.items }
     ensures put { IfOk result (HasPutSight input.now (S.state store.old) item.0 (K.state out.old) (K.state out.new)) }
     ensures stopped { IfErr result (SightStops input.now (S.state store.old) (S.state store.new) item.0 (K.state out.old) (K.state out.new)) }
@@ -112,7 +112,11 @@ fn count_named(here: u32, named: bool) -> u32
 }
 
 /// Puts the line of each item, in order, and answers how many are named.
-fn put_sights<K: Sink, S: Store>(out: &mut K, store: &mut S, input: &Input) -> Result<u32, Stop>
+fn put_sights<K: Sink, S: Store>(
+    out: &mut K,
+    store: &mut S,
+    input: &Input,
+) -> Result<u32, AuditStop>
     ensures put { IfOk result (HavePutSights input.now (S.state store.old) (length input.now.items) (K.state out.old) (K.state out.new)) }
     ensures stopped { IfErr result (AuditStops input.now (S.state store.old) (S.state store.new) (K.state out.old) (K.state out.new)) }
     ensures looks { Looks (S.state store.old) (S.state store.new) }
@@ -135,7 +139,7 @@ pub fn run_audit<F: Folder, K: Sink, S: Store>(
     store: &mut S,
     disks: &str,
     now: &str,
-) -> Result<u8, Ending>
+) -> Result<u8, CommandError>
     ensures { FormFinishes (call S.refuses (world (F.state folder.old) (K.state out.old) (S.state store.old)) (world (F.state folder.new) (K.state out.new) (S.state store.new))) (Audit disks.now now.now) result }
 {
     let input = load_layout(alloc, folder, disks, now)?;
@@ -149,7 +153,7 @@ pub fn run_audit<F: Folder, K: Sink, S: Store>(
                 Text(b" lost\n"),
             ],
         )),
-        Err(Stop::Sink) => Ok(6),
-        Err(Stop::Store) => Err(Ending::StoreFault),
+        Err(AuditStop::Sink) => Ok(6),
+        Err(AuditStop::Store) => Err(CommandError::StoreFault),
     }
 }

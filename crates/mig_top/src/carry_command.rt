@@ -8,7 +8,7 @@ use crate::tasks::load_job;
 use mig_io::{Folder, Sink};
 use mig_lanes::{resume_lanes, start_lanes};
 use mig_store::Store;
-use mig_words::{Ending, TaskFiles, fault_ending, show_rounds};
+use mig_words::{CommandError, TaskFiles, fault_ending, show_rounds};
 use std::alloc::Global;
 
 /// `move`, with its text. Once the job is made it takes no memory.
@@ -18,7 +18,7 @@ pub fn run_move<F: Folder, K: Sink, S: Store>(
     out: &mut K,
     store: &mut S,
     task: TaskFiles<'_>,
-) -> Result<u8, Ending>
+) -> Result<u8, CommandError>
     ensures { FormFinishes (call S.refuses (world (F.state folder.old) (K.state out.old) (S.state store.old)) (world (F.state folder.new) (K.state out.new) (S.state store.new))) (Move (task_names task.entry)) result }
 {
     let job = load_job(alloc, folder, task)?;
@@ -35,7 +35,7 @@ pub fn run_resume<F: Folder, K: Sink, S: Store>(
     out: &mut K,
     store: &mut S,
     task: TaskFiles<'_>,
-) -> Result<u8, Ending>
+) -> Result<u8, CommandError>
     ensures { FormFinishes (call S.refuses (world (F.state folder.old) (K.state out.old) (S.state store.old)) (world (F.state folder.new) (K.state out.new) (S.state store.new))) (Resume (task_names task.entry)) result }
 {
     let job = load_job(alloc, folder, task)?;

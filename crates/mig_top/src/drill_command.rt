@@ -4,7 +4,7 @@ ghost use Rattle.mig_base.specs.Readiness.{shifts_of};
 ghost use Rattle.mig_drill.specs.Drills.{drill_text};
 ghost use Rattle.mig_top.specs.Calls.{Untouched};
 ghost use Rattle.mig_top.specs.Causes.{drills};
-ghost use Rattle.mig_top.specs.Ends.{Finishes, FolderEnds};
+ghost use Rattle.mig_top.specs.Ends.{EndsOrStops, FolderEnds};
 ghost use Rattle.mig_top.specs.Steps.{TakesFrom};
 ghost use Rattle.mig_words.specs.Commands.{names_in};
 ghost use Rattle.mig_words.specs.Words.{four_and};
@@ -14,7 +14,7 @@ use mig_commands::small_job;
 use mig_drill::{DrillFault, MAX_DRILL_SHIFTS, drill};
 use mig_io::{Folder, Sink};
 use mig_jobs::Job;
-use mig_words::{Ending, PlanFiles};
+use mig_words::{CommandError, PlanFiles};
 use std::alloc::Global;
 
 /// The job of a plan that isn't too large for a drill.
@@ -22,7 +22,7 @@ fn load_small_job<F: Folder>(
     alloc: Global,
     folder: &mut F,
     files: PlanFiles<'_>,
-) -> Result<Job, Ending>
+) -> Result<Job, CommandError>
     ensures takes { TakesFrom (λ job. drill_text job.plan) (F.state folder.old) (F.state folder.new) (four_and (names_in files.entry) []) (drills (names_in files.entry)) result }
     ensures fits { IfOk result (λ job. length (shifts_of job.plan) ≤ MAX_DRILL_SHIFTS) }
     ensures same { (F.state folder.new).files ≡ (F.state folder.old).files }
@@ -38,13 +38,13 @@ pub fn run_drill<F: Folder, K: Sink>(
     folder: &mut F,
     out: &mut K,
     files: PlanFiles<'_>,
-) -> Result<u8, Ending>
-    ensures { Finishes (four_and (names_in files.entry) []) (FolderEnds (F.state folder.old) (F.state folder.new) (drills (names_in files.entry)) (λ o. Untouched (F.state folder.old) (F.state folder.new))) (K.state out.old) (K.state out.new) result }
+) -> Result<u8, CommandError>
+    ensures { EndsOrStops (four_and (names_in files.entry) []) (FolderEnds (F.state folder.old) (F.state folder.new) (drills (names_in files.entry)) (λ o. Untouched (F.state folder.old) (F.state folder.new))) (K.state out.old) (K.state out.new) result }
 {
     let job = load_small_job(alloc, folder, files)?;
     match drill(alloc, job.input(), &job, out) {
         Ok(_) => Ok(0),
         Err(DrillFault::Sink) => Ok(6),
-        Err(DrillFault::Memory) => Err(Ending::Memory),
+        Err(DrillFault::Memory) => Err(CommandError::Memory),
     }
 }

@@ -7,8 +7,8 @@ use crate::layout_reads::{item_count, load_layout};
 use mig_io::{Folder, Sink};
 use mig_mover::fill;
 use mig_store::Store;
-use mig_words::Part::{Number, Text};
-use mig_words::{Ending, fault_ending, show_parts};
+use mig_words::TextPart::{Number, Text};
+use mig_words::{CommandError, fault_ending, show_parts};
 use std::alloc::Global;
 
 /// `fill`, with its text. Once the files are read it takes no memory.
@@ -19,7 +19,7 @@ pub fn run_fill<F: Folder, K: Sink, S: Store>(
     store: &mut S,
     disks: &str,
     now: &str,
-) -> Result<u8, Ending>
+) -> Result<u8, CommandError>
     ensures { FormFinishes (call S.refuses (world (F.state folder.old) (K.state out.old) (S.state store.old)) (world (F.state folder.new) (K.state out.new) (S.state store.new))) (Fill disks.now now.now) result }
 {
     let input = load_layout(alloc, folder, disks, now)?;

@@ -1,12 +1,12 @@
 //! `rehearse`: makes a case from three numbers, plans it, and tells how good the plan is.
 ghost use Rattle.std.specs.Prelude.{[]};
-ghost use Rattle.mig_top.specs.Ends.{Finishes, IsRehearsalEnd};
+ghost use Rattle.mig_top.specs.Ends.{EndsOrStops, IsRehearsalEnd};
 ghost use Rattle.mig_top.specs.rehearse.Texts.{case_in};
 ghost use Rattle.mig_words.specs.Words.{AreCaseWords};
 
 use mig_commands::rehearsed;
 use mig_io::Sink;
-use mig_words::{Ending, show};
+use mig_words::{CommandError, show};
 use std::alloc::Global;
 
 /// `rehearse`, with its text.
@@ -16,9 +16,9 @@ pub fn run_rehearse<K: Sink>(
     disks: &str,
     per_pair: &str,
     limit: &str,
-) -> Result<u8, Ending>
+) -> Result<u8, CommandError>
     requires { AreCaseWords disks.now per_pair.now limit.now }
-    ensures { Finishes [] (IsRehearsalEnd (case_in disks.now per_pair.now limit.now)) (K.state out.old) (K.state out.new) result }
+    ensures { EndsOrStops [] (IsRehearsalEnd (case_in disks.now per_pair.now limit.now)) (K.state out.old) (K.state out.new) result }
 {
     let text = rehearsed(alloc, disks, per_pair, limit)?;
     Ok(show(out, &text))

@@ -6,7 +6,7 @@ pub use Rattle.mig_words.specs.Commands.{form_of}
 pub use Rattle.mig_words.specs.Outcomes.{blame_pieces, cause_text, joined}
 pub use Rattle.mig_words.specs.Puts.{Puts, part_text}
 pub use Rattle.mig_words.specs.Words.{Form, IsFileWord, IsListed, texts}
-pub use Rattle.mig_words.specs.declared.putting.Part.TheVariants.{Text}
+pub use Rattle.mig_words.specs.declared.putting.TextPart.TheVariants.{Text}
 pub use Rattle.std.proofs.Common.{Err, List, MatchOption, None, Ok, Option, Result, Some, [], add-one, ap, append_assoc, arith, codes, drop, false, get_or, length, map, refl, rules, subst, suc}
 pub use Rattle.std.proofs.Common.{sym, take, true, ℕ, ◌++◌, ◌+◌, ◌<◌, ◌∙◌, ◌∷◌, ◌≡◌, ◌≢◌}
 pub use Rattle.std.proofs.Math.Seq.{drop-cons, take-append-add, take-length}

@@ -1,8 +1,8 @@
 -- Which statuses outcomes have.
 use Rattle.mig_words.proofs.Common.{List, arith, refl, subst, sym, ℕ, ◌∙◌, ◌≡◌, ◌≢◌}
-use Rattle.mig_words.specs.Outcomes.{Done, Found, Outcome, Refusal, SinkFault, code, finding_code, spelling_code, store_code}
-use Rattle.mig_words.specs.declared.endings.Finding.{Finding}
-use Rattle.mig_words.specs.declared.endings.Finding.TheVariants as finding
+use Rattle.mig_words.specs.Outcomes.{Done, Found, Outcome, Refusal, SinkFault, code, input_code, spelling_code, store_code}
+use Rattle.mig_words.specs.declared.endings.InputRefusal.{InputRefusal}
+use Rattle.mig_words.specs.declared.endings.InputRefusal.TheVariants as finding
 use Rattle.mig_words.specs.declared.endings.StoreRefusal.{StoreRefusal}
 use Rattle.mig_words.specs.declared.endings.StoreRefusal.TheVariants as refusal
 use Rattle.mig_words.specs.declared.endings.TextFile.{TextFile}
@@ -19,7 +19,7 @@ spelling_is text_file.Script = inr refl
 pub not_spelled : (f : TextFile) {status n : ℕ} → status ≡ spelling_code f → status ≡ n → n ≢ 10 → n ≢ 15 → ⊥
 not_spelled f at is ten fifteen = ⊎_elim (λ e. ten (sym is ∙ at ∙ e)) (λ e. fifteen (sym is ∙ at ∙ e)) (spelling_is f)
 
-pub finding_apart : (f : Finding) → (finding_code f ≢ 0) × (finding_code f ≢ 6) × (finding_code f ≤ 15)
+pub finding_apart : (f : InputRefusal) → (input_code f ≢ 0) × (input_code f ≢ 6) × (input_code f ≤ 15)
 finding_apart (finding.Blamed b name) = (λ e. cc, λ e. cc, omega arith)
 finding_apart (finding.NotSpelled f line) =
     (λ e. not_spelled f refl e (λ e. cc) (λ e. cc), λ e. not_spelled f refl e (λ e. cc) (λ e. cc), ⊎_elim (λ e. omega (arith, e)) (λ e. omega (arith, e)) (spelling_is f))

@@ -8,15 +8,15 @@ use Rattle.mig_base.specs.declared.faults.FileKind.{FileKind}
 use Rattle.mig_base.specs.declared.faults.FileKind.TheVariants as file
 use Rattle.mig_base.specs.declared.faults.Why.{Why}
 use Rattle.mig_base.specs.declared.faults.Why.TheVariants as why
-use Rattle.mig_base.specs.InputLists.{Lists}
+use Rattle.mig_base.specs.InputLists.{InputLists}
 use Rattle.mig_base.specs.declared.inputs.Disk.{Disk}
 use Rattle.mig_mover.specs.declared.faults.MoveFault.{MoveFault}
 use Rattle.mig_mover.specs.declared.faults.MoveFault.TheVariants as fault
 use Rattle.hex.specs.Hex.{encode_lower}
-use Rattle.mig_words.specs.declared.endings.Ending.{Ending}
-use Rattle.mig_words.specs.declared.endings.Ending.TheVariants as ending
-use Rattle.mig_words.specs.declared.endings.Finding.{Finding}
-use Rattle.mig_words.specs.declared.endings.Finding.TheVariants as finding
+use Rattle.mig_words.specs.declared.endings.CommandError.{CommandError}
+use Rattle.mig_words.specs.declared.endings.CommandError.TheVariants as ending
+use Rattle.mig_words.specs.declared.endings.InputRefusal.{InputRefusal}
+use Rattle.mig_words.specs.declared.endings.InputRefusal.TheVariants as finding
 use Rattle.mig_words.specs.declared.endings.StoreRefusal.{StoreRefusal}
 use Rattle.mig_words.specs.declared.endings.StoreRefusal.TheVariants as refusal
 use Rattle.mig_words.specs.declared.endings.TextFile.{TextFile}
@@ -35,12 +35,12 @@ pub data Outcome : Type 0 where
   Memory : Outcome
   NoFile : (word : List ℕ) → Outcome
   -- the plan, its certificate or a file of the command is wrong
-  Found : (finding : Finding) → Outcome
+  Found : (finding : InputRefusal) → Outcome
   -- what the store holds doesn't let the command begin
   Refusal : (refusal : StoreRefusal) → Outcome
 
 -- the outcome of an ending, where the command loads the files of these names
-abbrev pub outcome_of : List (List ℕ) → Ending → Outcome
+abbrev pub outcome_of : List (List ℕ) → CommandError → Outcome
 outcome_of names ending.Unlisted = Unlisted
 outcome_of names ending.FolderFault = FolderFault
 outcome_of names ending.StoreFault = StoreFault []
@@ -54,11 +54,11 @@ abbrev pub name_if : Option Disk → Option (List ℕ)
 name_if (Some disk) = Some disk.name
 name_if None = None
 
-abbrev pub disk_listed : Lists → ℕ → Option (List ℕ)
+abbrev pub disk_listed : InputLists → ℕ → Option (List ℕ)
 disk_listed input disk = name_if (slice_get input.disks disk)
 
 -- the outcome of a mover's fault
-abbrev pub fault_outcome : Lists → MoveFault → Outcome
+abbrev pub fault_outcome : InputLists → MoveFault → Outcome
 fault_outcome input fault.Store = StoreFault []
 fault_outcome input fault.Started = Refusal refusal.Started
 fault_outcome input (fault.OtherPlan kept ours) = Refusal (refusal.OtherPlan kept ours)
@@ -72,15 +72,15 @@ spelling_code text_file.Plan = 10
 spelling_code text_file.Cert = 10
 spelling_code text_file.Script = 15
 
-abbrev pub finding_code : Finding → ℕ
-finding_code (finding.Blamed b name) = 1
-finding_code (finding.Refused f row w) = 3
-finding_code (finding.NotSpelled f line) = spelling_code f
-finding_code (finding.TooLarge shifts) = 11
-finding_code (finding.TooMany disk needs slots) = 13
-finding_code finding.NoFreeSlot = 13
-finding_code (finding.NoDisk name) = 14
-finding_code (finding.NoRoom items free) = 14
+abbrev pub input_code : InputRefusal → ℕ
+input_code (finding.Blamed b name) = 1
+input_code (finding.Refused f row w) = 3
+input_code (finding.NotSpelled f line) = spelling_code f
+input_code (finding.TooLarge shifts) = 11
+input_code (finding.TooMany disk needs slots) = 13
+input_code finding.NoFreeSlot = 13
+input_code (finding.NoDisk name) = 14
+input_code (finding.NoRoom items free) = 14
 
 abbrev pub store_code : StoreRefusal → ℕ
 store_code refusal.Started = 8
@@ -97,7 +97,7 @@ code (StoreFault before) = 5
 code (SinkFault text) = 6
 code Memory = 7
 code (NoFile word) = 16
-code (Found f) = finding_code f
+code (Found f) = input_code f
 code (Refusal r) = store_code r
 
 -- the pieces of a text, one after the other
@@ -105,14 +105,14 @@ abbrev pub joined : List (List ℕ) → List ℕ
 joined = flat_map (λ piece. piece)
 
 -- the name of the item or the disk that a blame names, if it names one
-abbrev pub named : Lists → Blame → Option (List ℕ)
-named input (blame.NotHere r item) = slice_get input.items item.0
-named input (blame.TwiceInRound r item) = slice_get input.items item.0
-named input (blame.SlotNotFree r item) = slice_get input.items item.0
-named input (blame.OverLimit r disk count) = disk_listed input disk.0
-named input (blame.WrongEnd item) = slice_get input.items item.0
-named input (blame.MovedTooOften item count) = slice_get input.items item.0
-named input _ = None
+abbrev pub blamed_name : InputLists → Blame → Option (List ℕ)
+blamed_name input (blame.NotHere r item) = slice_get input.items item.0
+blamed_name input (blame.TwiceInRound r item) = slice_get input.items item.0
+blamed_name input (blame.SlotNotFree r item) = slice_get input.items item.0
+blamed_name input (blame.OverLimit r disk count) = disk_listed input disk.0
+blamed_name input (blame.WrongEnd item) = slice_get input.items item.0
+blamed_name input (blame.MovedTooOften item count) = slice_get input.items item.0
+blamed_name input _ = None
 
 -- two numbers that differ
 abbrev pub kept_counted : ℕ → ℕ → List (List ℕ)
@@ -177,15 +177,15 @@ text_word text_file.Cert = codes "certificate"
 text_word text_file.Script = codes "script"
 
 -- the text that is put with what was found wrong, with what a store refuses, and with each outcome
-abbrev pub finding_text : Finding → List ℕ
-finding_text (finding.Blamed b name) = joined (blame_pieces b (unwrap_or name []))
-finding_text (finding.Refused f row w) = refusal_text f row w
-finding_text (finding.NotSpelled f line) = joined (codes "refused " ∷ text_word f ∷ codes " line " ∷ decimal line ∷ codes "\n" ∷ [])
-finding_text (finding.TooLarge shifts) = joined (codes "too large for a drill " ∷ decimal shifts ∷ codes "\n" ∷ [])
-finding_text (finding.TooMany disk needs slots) = joined (codes "too many for " ∷ unwrap_or disk [] ∷ codes ", needs " ∷ decimal needs ∷ codes ", has " ∷ decimal slots ∷ codes "\n" ∷ [])
-finding_text finding.NoFreeSlot = codes "no free slot\n"
-finding_text (finding.NoDisk name) = joined (codes "no disk " ∷ name ∷ codes "\n" ∷ [])
-finding_text (finding.NoRoom items free) = joined (codes "no room, " ∷ decimal items ∷ codes " items, " ∷ decimal free ∷ codes " free\n" ∷ [])
+abbrev pub input_text : InputRefusal → List ℕ
+input_text (finding.Blamed b name) = joined (blame_pieces b (unwrap_or name []))
+input_text (finding.Refused f row w) = refusal_text f row w
+input_text (finding.NotSpelled f line) = joined (codes "refused " ∷ text_word f ∷ codes " line " ∷ decimal line ∷ codes "\n" ∷ [])
+input_text (finding.TooLarge shifts) = joined (codes "too large for a drill " ∷ decimal shifts ∷ codes "\n" ∷ [])
+input_text (finding.TooMany disk needs slots) = joined (codes "too many for " ∷ unwrap_or disk [] ∷ codes ", needs " ∷ decimal needs ∷ codes ", has " ∷ decimal slots ∷ codes "\n" ∷ [])
+input_text finding.NoFreeSlot = codes "no free slot\n"
+input_text (finding.NoDisk name) = joined (codes "no disk " ∷ name ∷ codes "\n" ∷ [])
+input_text (finding.NoRoom items free) = joined (codes "no room, " ∷ decimal items ∷ codes " items, " ∷ decimal free ∷ codes " free\n" ∷ [])
 
 abbrev pub store_text : StoreRefusal → List ℕ
 store_text refusal.Started = codes "journal started\n"
@@ -202,5 +202,5 @@ text_of (StoreFault before) = before ++ codes "store fault\n"
 text_of (SinkFault text) = text
 text_of Memory = codes "no memory\n"
 text_of (NoFile word) = joined (codes "no file " ∷ word ∷ codes "\n" ∷ [])
-text_of (Found f) = finding_text f
+text_of (Found f) = input_text f
 text_of (Refusal r) = store_text r

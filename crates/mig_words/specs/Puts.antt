@@ -5,11 +5,11 @@ use Rattle.hex.specs.Hex.{encode_lower}
 use Rattle.mig_base.specs.FaultCounts.{Rose}
 use Rattle.mig_io.specs.Held.{SinkState, Extends, ExtendsInPart}
 use Rattle.mig_io.specs.declared.sink.SinkFailed.{SinkFailed}
-use Rattle.mig_words.specs.declared.putting.Part.{Part}
-use Rattle.mig_words.specs.declared.putting.Part.TheVariants.{Text, Number, Hex}
+use Rattle.mig_words.specs.declared.putting.TextPart.{TextPart}
+use Rattle.mig_words.specs.declared.putting.TextPart.TheVariants.{Text, Number, Hex}
 
 -- a number stands in decimal, and a digest in hexadecimal
-abbrev pub part_text : Part → List ℕ
+abbrev pub part_text : TextPart → List ℕ
 part_text (Text text) = text.now
 part_text (Number n) = decimal n
 part_text (Hex digest) = encode_lower digest.now

@@ -32,7 +32,7 @@ impl TextFile {
 
 /// What is found wrong with what a command was given, with what its text shows.
 #[derive(Clone, Copy)]
-pub enum Finding {
+pub enum InputRefusal {
     /// The plan or its certificate is blamed. The name is that of the item or the disk that the blame names, if it names one.
     Blamed {
         blame: Blame,
@@ -72,30 +72,30 @@ pub enum Finding {
     },
 }
 
-impl Finding {
-    ghost use Rattle.mig_words.specs.Outcomes.{finding_code};
+impl InputRefusal {
+    ghost use Rattle.mig_words.specs.Outcomes.{input_code};
 
     /// The number of the status.
     fn code(&self) -> u8
-        ensures { result ≡ finding_code self.now }
+        ensures { result ≡ input_code self.now }
     {
         match self {
-            Finding::Blamed { blame: _, name: _ } => 1,
-            Finding::Refused {
+            InputRefusal::Blamed { blame: _, name: _ } => 1,
+            InputRefusal::Refused {
                 file: _,
                 row: _,
                 why: _,
             } => 3,
-            Finding::NotSpelled { text, line: _ } => text.code(),
-            Finding::TooLarge { shifts: _ } => 11,
-            Finding::TooMany {
+            InputRefusal::NotSpelled { text, line: _ } => text.code(),
+            InputRefusal::TooLarge { shifts: _ } => 11,
+            InputRefusal::TooMany {
                 disk: _,
                 needs: _,
                 slots: _,
             } => 13,
-            Finding::NoFreeSlot => 13,
-            Finding::NoDisk { name: _ } => 14,
-            Finding::NoRoom { items: _, free: _ } => 14,
+            InputRefusal::NoFreeSlot => 13,
+            InputRefusal::NoDisk { name: _ } => 14,
+            InputRefusal::NoRoom { items: _, free: _ } => 14,
         }
     }
 }
@@ -134,7 +134,7 @@ impl StoreRefusal {
 
 /// Why a command isn't done.
 #[derive(Clone, Copy)]
-pub enum Ending {
+pub enum CommandError {
     /// The words are no command in its listed form.
     Unlisted,
     /// A load or a save failed.
@@ -146,12 +146,12 @@ pub enum Ending {
     /// A file isn't there: that of the word with this place among those that the command loads, from 0.
     NoFile { place: usize },
     /// Something is wrong with what the command was given.
-    Found(Finding),
+    Found(InputRefusal),
     /// What the store holds doesn't let the command begin.
     Refusal(StoreRefusal),
 }
 
-impl Ending {
+impl CommandError {
     ghost use Rattle.std.specs.Prelude.{List, ℕ};
     ghost use Rattle.mig_words.specs.Outcomes.{code, outcome_of};
 
@@ -160,58 +160,58 @@ impl Ending {
         ensures { (names : List (List ℕ)) → result ≡ code (outcome_of names self.now) }
     {
         match self {
-            Ending::Unlisted => 2,
-            Ending::FolderFault => 4,
-            Ending::StoreFault => 5,
-            Ending::Memory => 7,
-            Ending::NoFile { place: _ } => 16,
-            Ending::Found(finding) => finding.code(),
-            Ending::Refusal(refusal) => refusal.code(),
+            CommandError::Unlisted => 2,
+            CommandError::FolderFault => 4,
+            CommandError::StoreFault => 5,
+            CommandError::Memory => 7,
+            CommandError::NoFile { place: _ } => 16,
+            CommandError::Found(finding) => finding.code(),
+            CommandError::Refusal(refusal) => refusal.code(),
         }
     }
 }
 
-impl From<AllocError> for Ending {
-    ghost use Rattle.mig_words.specs.declared.endings.Ending.TheVariants as ending;
+impl From<AllocError> for CommandError {
+    ghost use Rattle.mig_words.specs.declared.endings.CommandError.TheVariants as ending;
 
     ghost from_gives = { λ _ e. e ≡ ending.Memory };
 
     fn from(_error: AllocError) -> Self {
-        Ending::Memory
+        CommandError::Memory
     }
 }
 
-impl<T: Drop> From<AllocFailed<T>> for Ending {
-    ghost use Rattle.mig_words.specs.declared.endings.Ending.TheVariants as ending;
+impl<T: Drop> From<AllocFailed<T>> for CommandError {
+    ghost use Rattle.mig_words.specs.declared.endings.CommandError.TheVariants as ending;
 
     ghost from_gives = { λ _ e. e ≡ ending.Memory };
 
     fn from(_error: AllocFailed<T>) -> Self {
-        Ending::Memory
+        CommandError::Memory
     }
 }
 
-impl From<SaveFailed> for Ending {
-    ghost use Rattle.mig_words.specs.declared.endings.Ending.TheVariants as ending;
+impl From<SaveFailed> for CommandError {
+    ghost use Rattle.mig_words.specs.declared.endings.CommandError.TheVariants as ending;
 
     ghost from_gives = { λ _ e. e ≡ ending.FolderFault };
 
     fn from(_error: SaveFailed) -> Self {
-        Ending::FolderFault
+        CommandError::FolderFault
     }
 }
 
-impl From<InputError> for Ending {
-    ghost use Rattle.mig_words.specs.Endings.{ending_of};
+impl From<InputError> for CommandError {
+    ghost use Rattle.mig_words.specs.Endings.{error_of};
 
-    ghost from_gives = { λ error e. e ≡ ending_of error };
+    ghost from_gives = { λ error e. e ≡ error_of error };
 
     fn from(error: InputError) -> Self {
         match error {
             InputError::Refused { file, row, why } => {
-                Ending::Found(Finding::Refused { file, row, why })
+                CommandError::Found(InputRefusal::Refused { file, row, why })
             }
-            InputError::Memory => Ending::Memory,
+            InputError::Memory => CommandError::Memory,
         }
     }
 }

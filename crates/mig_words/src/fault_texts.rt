@@ -4,7 +4,7 @@ ghost use Rattle.std.specs.Fmt.{decimal};
 ghost use Rattle.mig_words.specs.Outcomes.{blame_pieces, cause_text, in_round, joined, kept_counted, named_count};
 ghost use Rattle.mig_words.specs.Puts.{Puts};
 
-use crate::putting::Part::{Number, Text};
+use crate::putting::TextPart::{Number, Text};
 use crate::putting::put_parts;
 use mig_base::{Blame, Why};
 use mig_io::{Sink, SinkFailed};

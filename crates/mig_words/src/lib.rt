@@ -10,8 +10,8 @@ mod telling;
 mod words;
 
 pub use case_words::number_in;
-pub use endings::{Ending, Finding, StoreRefusal, TextFile};
+pub use endings::{CommandError, InputRefusal, StoreRefusal, TextFile};
 pub use naming::{disk_in, fault_ending, name_in};
-pub use putting::{Part, put_parts};
+pub use putting::{TextPart, put_parts};
 pub use telling::{show, show_halted, show_parked, show_parts, show_rounds, tell};
-pub use words::{CaseWords, Command, PlanFiles, ROWS, Reader, Row, TaskFiles, read_words};
+pub use words::{CaseWords, Command, CommandRow, PlanFiles, ROWS, Reader, TaskFiles, read_words};

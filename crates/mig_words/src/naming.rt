@@ -1,8 +1,8 @@
 //! The names of items and disks.
 ghost use Rattle.std.specs.Prelude.{◌≡◌, ℕ, List, slice_get};
-ghost use Rattle.mig_words.specs.Outcomes.{disk_listed, fault_outcome, named, outcome_of};
+ghost use Rattle.mig_words.specs.Outcomes.{blamed_name, disk_listed, fault_outcome, outcome_of};
 
-use crate::endings::{Ending, StoreRefusal};
+use crate::endings::{CommandError, StoreRefusal};
 use mig_base::{Blame, DiskId, Input, ItemId, Name};
 use mig_mover::MoveFault;
 
@@ -25,7 +25,7 @@ pub fn disk_in(input: &Input, disk: DiskId) -> Option<Name>
 
 /// The name of the item or the disk that a blame names, if it names one.
 pub fn name_in(input: &Input, blame: &Blame) -> Option<Name>
-    ensures { result ≡ named input.now blame.now }
+    ensures { result ≡ blamed_name input.now blame.now }
 {
     match blame {
         Blame::NotHere { round: _, item } => item_in(input, *item),
@@ -43,20 +43,20 @@ pub fn name_in(input: &Input, blame: &Blame) -> Option<Name>
 }
 
 /// The ending that a mover's fault is, with the names that its text shows.
-pub fn fault_ending(input: &Input, fault: MoveFault) -> Ending
+pub fn fault_ending(input: &Input, fault: MoveFault) -> CommandError
     ensures { (names : List (List ℕ)) → outcome_of names result ≡ fault_outcome input.now fault }
 {
     match fault {
-        MoveFault::Store => Ending::StoreFault,
-        MoveFault::Started => Ending::Refusal(StoreRefusal::Started),
+        MoveFault::Store => CommandError::StoreFault,
+        MoveFault::Started => CommandError::Refusal(StoreRefusal::Started),
         MoveFault::OtherPlan { kept, ours } => {
-            Ending::Refusal(StoreRefusal::OtherPlan { kept, ours })
+            CommandError::Refusal(StoreRefusal::OtherPlan { kept, ours })
         }
-        MoveFault::NotStarted => Ending::Refusal(StoreRefusal::NotStarted),
-        MoveFault::NotThere { item } => Ending::Refusal(StoreRefusal::NotThere {
+        MoveFault::NotStarted => CommandError::Refusal(StoreRefusal::NotStarted),
+        MoveFault::NotThere { item } => CommandError::Refusal(StoreRefusal::NotThere {
             item: item_in(input, item),
         }),
-        MoveFault::Occupied { disk, slot } => Ending::Refusal(StoreRefusal::Occupied {
+        MoveFault::Occupied { disk, slot } => CommandError::Refusal(StoreRefusal::Occupied {
             disk: disk_in(input, disk),
             slot,
         }),

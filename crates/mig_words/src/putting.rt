@@ -10,7 +10,7 @@ use mig_io::{Sink, SinkFailed};
 
 /// A part of a text.
 #[derive(Clone, Copy)]
-pub enum Part<'a> {
+pub enum TextPart<'a> {
     Text(&'a [u8]),
     /// In decimal.
     Number(u32),
@@ -30,21 +30,21 @@ fn hex_text(digest: &[u8; 32]) -> [u8; 64]
 }
 
 /// Puts a part.
-fn put_part<K: Sink>(out: &mut K, part: &Part<'_>) -> Result<(), SinkFailed>
+fn put_part<K: Sink>(out: &mut K, part: &TextPart<'_>) -> Result<(), SinkFailed>
     ensures { Puts (part_text part.now) (K.state out.old) (K.state out.new) result }
 {
     match part {
-        Part::Text(text) => out.put(text),
-        Part::Number(number) => {
+        TextPart::Text(text) => out.put(text),
+        TextPart::Number(number) => {
             let mut buffer = Buffer::new();
             out.put(buffer.format(*number).as_bytes())
         }
-        Part::Hex(digest) => out.put(&hex_text(digest)),
+        TextPart::Hex(digest) => out.put(&hex_text(digest)),
     }
 }
 
 /// Puts parts, one after the other, up to the first that fails.
-pub fn put_parts<K: Sink>(out: &mut K, parts: &[Part<'_>]) -> Result<(), SinkFailed>
+pub fn put_parts<K: Sink>(out: &mut K, parts: &[TextPart<'_>]) -> Result<(), SinkFailed>
     ensures { Puts (joined (map part_text parts.now)) (K.state out.old) (K.state out.new) result }
 {
     for part in parts {

@@ -3,15 +3,15 @@ ghost use Rattle.std.specs.Prelude.{◌≡◌, ◌≤◌, ◌∷◌, [], codes, 
 ghost use Rattle.std.specs.Fmt.{decimal};
 ghost use Rattle.mig_base.specs.FaultCounts.{Rose};
 ghost use Rattle.mig_io.specs.Held.{Extends, ExtendsInPart};
-ghost use Rattle.mig_words.specs.Outcomes.{code, file_word, finding_text, joined, outcome_of, refusal_text, store_text, text_of, text_word};
-ghost use Rattle.mig_words.specs.declared.endings.Finding.TheVariants as finding;
+ghost use Rattle.mig_words.specs.Outcomes.{code, file_word, input_text, joined, outcome_of, refusal_text, store_text, text_of, text_word};
+ghost use Rattle.mig_words.specs.declared.endings.InputRefusal.TheVariants as finding;
 ghost use Rattle.mig_words.specs.declared.endings.StoreRefusal.TheVariants as refusal;
 ghost use Rattle.mig_words.specs.Puts.{Puts, Shows, part_text};
 
-use crate::endings::{Ending, Finding, StoreRefusal, TextFile};
+use crate::endings::{CommandError, InputRefusal, StoreRefusal, TextFile};
 use crate::fault_texts::{put_blame, put_cause};
-use crate::putting::Part::{Hex, Number, Text};
-use crate::putting::{Part, put_parts};
+use crate::putting::TextPart::{Hex, Number, Text};
+use crate::putting::{TextPart, put_parts};
 use mig_base::{FileKind, Name, Why};
 use mig_io::{Sink, SinkFailed};
 
@@ -119,7 +119,7 @@ fn put_occupied<K: Sink>(out: &mut K, disk: &Option<Name>, slot: u32) -> Result<
 
 /// Puts how many shifts a plan has that is too large for a drill.
 fn put_too_large<K: Sink>(out: &mut K, shifts: u32) -> Result<(), SinkFailed>
-    ensures { Puts (finding_text (finding.TooLarge shifts)) (K.state out.old) (K.state out.new) result }
+    ensures { Puts (input_text (finding.TooLarge shifts)) (K.state out.old) (K.state out.new) result }
 {
     put_parts(
         out,
@@ -134,7 +134,7 @@ fn put_too_many<K: Sink>(
     needs: u32,
     slots: u32,
 ) -> Result<(), SinkFailed>
-    ensures { Puts (finding_text (finding.TooMany disk.now needs slots)) (K.state out.old) (K.state out.new) result }
+    ensures { Puts (input_text (finding.TooMany disk.now needs slots)) (K.state out.old) (K.state out.new) result }
 {
     put_parts(
         out,
@@ -152,14 +152,14 @@ fn put_too_many<K: Sink>(
 
 /// Puts the name that no disk has.
 fn put_no_disk<K: Sink>(out: &mut K, name: &Name) -> Result<(), SinkFailed>
-    ensures { Puts (finding_text (finding.NoDisk name.now)) (K.state out.old) (K.state out.new) result }
+    ensures { Puts (input_text (finding.NoDisk name.now)) (K.state out.old) (K.state out.new) result }
 {
     put_parts(out, &[Text(b"no disk "), Text(name.bytes()), Text(b"\n")])
 }
 
 /// Puts how many items a disk has, and how many slots are free on the others.
 fn put_no_room<K: Sink>(out: &mut K, items: u32, free: u32) -> Result<(), SinkFailed>
-    ensures { Puts (finding_text (finding.NoRoom items free)) (K.state out.old) (K.state out.new) result }
+    ensures { Puts (input_text (finding.NoRoom items free)) (K.state out.old) (K.state out.new) result }
 {
     put_parts(
         out,
@@ -195,18 +195,18 @@ fn name_at<'a>(names: &[&'a str], place: usize) -> &'a str
 }
 
 /// Puts the text of what was found wrong.
-fn put_finding<K: Sink>(out: &mut K, finding: &Finding) -> Result<(), SinkFailed>
-    ensures { Puts (finding_text finding.now) (K.state out.old) (K.state out.new) result }
+fn put_finding<K: Sink>(out: &mut K, finding: &InputRefusal) -> Result<(), SinkFailed>
+    ensures { Puts (input_text finding.now) (K.state out.old) (K.state out.new) result }
 {
     match finding {
-        Finding::Blamed { blame, name } => put_blame(out, blame, name_bytes(name)),
-        Finding::Refused { file, row, why } => put_refusal(out, *file, *row, why),
-        Finding::NotSpelled { text, line } => put_misfit(out, *text, *line),
-        Finding::TooLarge { shifts } => put_too_large(out, *shifts),
-        Finding::TooMany { disk, needs, slots } => put_too_many(out, disk, *needs, *slots),
-        Finding::NoFreeSlot => out.put(b"no free slot\n"),
-        Finding::NoDisk { name } => put_no_disk(out, name),
-        Finding::NoRoom { items, free } => put_no_room(out, *items, *free),
+        InputRefusal::Blamed { blame, name } => put_blame(out, blame, name_bytes(name)),
+        InputRefusal::Refused { file, row, why } => put_refusal(out, *file, *row, why),
+        InputRefusal::NotSpelled { text, line } => put_misfit(out, *text, *line),
+        InputRefusal::TooLarge { shifts } => put_too_large(out, *shifts),
+        InputRefusal::TooMany { disk, needs, slots } => put_too_many(out, disk, *needs, *slots),
+        InputRefusal::NoFreeSlot => out.put(b"no free slot\n"),
+        InputRefusal::NoDisk { name } => put_no_disk(out, name),
+        InputRefusal::NoRoom { items, free } => put_no_room(out, *items, *free),
     }
 }
 
@@ -224,29 +224,29 @@ fn put_store_refusal<K: Sink>(out: &mut K, refusal: &StoreRefusal) -> Result<(),
 }
 
 /// Puts the text of an ending of a command that loads the files of these names.
-fn put_text<K: Sink>(out: &mut K, ending: &Ending, names: &[&str]) -> Result<(), SinkFailed>
+fn put_text<K: Sink>(out: &mut K, ending: &CommandError, names: &[&str]) -> Result<(), SinkFailed>
     ensures { Puts (text_of (outcome_of (map (λ n. n.now) names.now) ending.now)) (K.state out.old) (K.state out.new) result }
 {
     match ending {
-        Ending::Unlisted => out.put(b"words not understood\n"),
-        Ending::FolderFault => out.put(b"folder fault\n"),
-        Ending::StoreFault => out.put(b"store fault\n"),
-        Ending::Memory => out.put(b"no memory\n"),
-        Ending::NoFile { place } => {
+        CommandError::Unlisted => out.put(b"words not understood\n"),
+        CommandError::FolderFault => out.put(b"folder fault\n"),
+        CommandError::StoreFault => out.put(b"store fault\n"),
+        CommandError::Memory => out.put(b"no memory\n"),
+        CommandError::NoFile { place } => {
             let word = name_at(names, *place);
             put_parts(
                 out,
                 &[Text(b"no file "), Text(word.as_bytes()), Text(b"\n")],
             )
         }
-        Ending::Found(finding) => put_finding(out, finding),
-        Ending::Refusal(refusal) => put_store_refusal(out, refusal),
+        CommandError::Found(finding) => put_finding(out, finding),
+        CommandError::Refusal(refusal) => put_store_refusal(out, refusal),
     }
 }
 
 /// Puts the text of an ending of a command that loads the files of these names, and answers the number of its status.
 /// A fault of the sink ends the text there.
-pub fn tell<K: Sink>(out: &mut K, ending: &Ending, names: &[&str]) -> u8
+pub fn tell<K: Sink>(out: &mut K, ending: &CommandError, names: &[&str]) -> u8
     ensures status { result ≡ code (outcome_of (map (λ n. n.now) names.now) ending.now) }
     ensures begun { ExtendsInPart (text_of (outcome_of (map (λ n. n.now) names.now) ending.now)) (K.state out.old) (K.state out.new) }
     ensures whole { (Rose (K.state out.old).faults (K.state out.new).faults → ⊥) → Extends (text_of (outcome_of (map (λ n. n.now) names.now) ending.now)) (K.state out.old) (K.state out.new) }
@@ -267,7 +267,7 @@ pub fn show<K: Sink>(out: &mut K, text: &[u8]) -> u8
 }
 
 /// The same of a text that is put part by part.
-pub fn show_parts<K: Sink>(out: &mut K, parts: &[Part<'_>]) -> u8
+pub fn show_parts<K: Sink>(out: &mut K, parts: &[TextPart<'_>]) -> u8
     ensures { Shows (joined (map part_text parts.now)) (K.state out.old) (K.state out.new) result }
 {
     if put_parts(out, parts).is_err() {

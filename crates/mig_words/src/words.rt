@@ -8,7 +8,7 @@ use crate::case_words::over_three_numbers;
 use mig_base::Name;
 
 /// A command in its listed form.
-pub struct Row {
+pub struct CommandRow {
     /// The command's own word.
     pub word: &'static str,
     /// It, and what the words after it stand for.
@@ -24,7 +24,7 @@ pub struct Row {
 /// The words of a row up to `=>` are read, and those after it only saved.
 macro_rules! rows {
     ($($word:literal $($role:ident)* => $($saved:ident)*: $does:literal;)*) => {
-        [$(Row {
+        [$(CommandRow {
             word: $word,
             form: concat!($word $(, " ", stringify!($role))* $(, " ", stringify!($saved))*),
             roles: &[$(stringify!($role),)* $(stringify!($saved),)*],
@@ -35,7 +35,7 @@ macro_rules! rows {
 }
 
 /// The commands in the order in which they are listed.
-pub static ROWS: [Row; 17] = rows! {
+pub static ROWS: [CommandRow; 17] = rows! {
     "plan" DISKS NOW NEXT => PLAN CERT: "plan the moves from NOW to NEXT, and save PLAN and CERT";
     "check" DISKS NOW NEXT PLAN CERT =>: "judge a plan and its certificate";
     "after" DISKS NOW NEXT PLAN =>: "print where the items are once the plan is carried out";

@@ -11,9 +11,9 @@ ghost use Rattle.mig_calls.specs.Refusals.{HoldsItem, WhereTold};
 ghost use Rattle.mig_files.specs.Derived.{cell_state, cell_is_state};
 ghost use Rattle.mig_files.specs.Grounds.{IsSaid};
 ghost use Rattle.mig_files.specs.Seeing.{seen_at, seen_in, HoldsCopy, KeepsSeen, KeepsSeenBut, LosesNone, MayCopy};
-ghost use Rattle.mig_files.specs.Serving.{files_of, seen_of, has_failed};
+ghost use Rattle.mig_files.specs.Serving.{calls_state, seen_of, has_failed};
 ghost use Rattle.mig_files.specs.Sights.{holds_seen};
-ghost use Rattle.mig_store.specs.Grounds.{Differ, HasGround, IsErasure, IsLast, IsSeenAtBoth, IsUncopiable, Lacks, Remembers};
+ghost use Rattle.mig_store.specs.Grounds.{HasGround, IsErasure, IsLast, IsSeenAtBoth, IsUncopiable, Lacks, Remembers, SlotsDiffer};
 
 use crate::cells::read_cell;
 use crate::copies::expects_copy;
@@ -61,13 +61,13 @@ impl<C: Calls> Store for FileStore<C> {
     /// Refuses a slot that doesn't hold the whole of the item.
     fn expects(&mut self, slot: &Cell, name: &Name) -> Result<(), StoreFailed>
         requires slot { IsTrue (is_slot slot.now) }
-        ensures held { OnOk result (WhereTold (files_of self.old) slot.now (HoldsItem (files_of self.old) slot.now name.now)) }
+        ensures held { OnOk result (WhereTold (calls_state self.old) slot.now (HoldsItem (calls_state self.old) slot.now name.now)) }
         ensures noted { OnOk result (seen_in (seen_of self.new) slot.now name.now) }
         ensures kept { KeepsSeen (seen_of self.old) (seen_of self.new) slot.now }
         ensures seen { Remembers (λ c. c ≡ slot.now) (seen_in (seen_of self.old)) (seen_in (seen_of self.new)) }
         ensures change { Looks (⟦<FileStore<C> as Store>⟧.state self.old) (⟦<FileStore<C> as Store>⟧.state self.new) }
         ensures cause { HasGround ⊤ (Lacks (⟦<FileStore<C> as Store>⟧.state self.old).reads slot.now name.now) (⟦<FileStore<C> as Store>⟧.state self.old) (⟦<FileStore<C> as Store>⟧.state self.new) result }
-        ensures said { OnErr result (IsSaid (files_of self.old) (files_of self.new)) }
+        ensures said { OnErr result (IsSaid (calls_state self.old) (calls_state self.new)) }
         ensures alive { OnOk result (IsFalse (has_failed self.old)) }
         ensures failed { IsTrue (has_failed self.old) → IsTrue (has_failed self.new) }
     {
@@ -86,12 +86,12 @@ impl<C: Calls> Store for FileStore<C> {
     /// Refuses a slot that holds an item which this process has seen nowhere else. Where it doesn't refuse, another slot holds the item.
     fn expects_free(&mut self, slot: &Cell) -> Result<(), StoreFailed>
         requires slot { IsTrue (is_slot slot.now) }
-        ensures free { OnOk result (LosesNone (files_of self.old) slot.now) }
+        ensures free { OnOk result (LosesNone (calls_state self.old) slot.now) }
         ensures kept { seen_of self.new ≡ seen_of self.old }
         ensures seen { Remembers NoCell (seen_in (seen_of self.old)) (seen_in (seen_of self.new)) }
         ensures change { Looks (⟦<FileStore<C> as Store>⟧.state self.old) (⟦<FileStore<C> as Store>⟧.state self.new) }
         ensures cause { HasGround ⊤ (IsLast (⟦<FileStore<C> as Store>⟧.state self.old).reads (seen_in (seen_of self.old)) slot.now) (⟦<FileStore<C> as Store>⟧.state self.old) (⟦<FileStore<C> as Store>⟧.state self.new) result }
-        ensures said { OnErr result (IsSaid (files_of self.old) (files_of self.new)) }
+        ensures said { OnErr result (IsSaid (calls_state self.old) (calls_state self.new)) }
         ensures alive { OnOk result (IsFalse (has_failed self.old)) }
         ensures failed { IsTrue (has_failed self.old) → IsTrue (has_failed self.new) }
     {
@@ -111,8 +111,8 @@ impl<C: Calls> Store for FileStore<C> {
         ensures kept { seen_of self.new ≡ seen_of self.old }
         ensures seen { Remembers NoCell (seen_in (seen_of self.old)) (seen_in (seen_of self.new)) }
         ensures change { Looks (⟦<FileStore<C> as Store>⟧.state self.old) (⟦<FileStore<C> as Store>⟧.state self.new) }
-        ensures cause { HasGround ⊤ (Differ (⟦<FileStore<C> as Store>⟧.state self.old).reads from.now to.now) (⟦<FileStore<C> as Store>⟧.state self.old) (⟦<FileStore<C> as Store>⟧.state self.new) result }
-        ensures said { OnErr result (IsSaid (files_of self.old) (files_of self.new)) }
+        ensures cause { HasGround ⊤ (SlotsDiffer (⟦<FileStore<C> as Store>⟧.state self.old).reads from.now to.now) (⟦<FileStore<C> as Store>⟧.state self.old) (⟦<FileStore<C> as Store>⟧.state self.new) result }
+        ensures said { OnErr result (IsSaid (calls_state self.old) (calls_state self.new)) }
         ensures alive { OnOk result (IsFalse (has_failed self.old)) }
         ensures failed { IsTrue (has_failed self.old) → IsTrue (has_failed self.new) }
     {
@@ -128,13 +128,13 @@ impl<C: Calls> Store for FileStore<C> {
         requires not_target { ¬ IsTargetOf (flights (⟦<FileStore<C> as Store>⟧.state self.old)) cell.now }
         requires not_source { ¬ IsSourceOf (flights (⟦<FileStore<C> as Store>⟧.state self.old)) cell.now }
         ensures written { OnOk result (IfSome ((⟦<FileStore<C> as Store>⟧.state self.new).reads cell.now) (λ told. told ≡ bytes.now)) }
-        ensures free { IsErasure cell.now bytes.now → OnOk result (LosesNone (files_of self.old) cell.now) }
+        ensures free { IsErasure cell.now bytes.now → OnOk result (LosesNone (calls_state self.old) cell.now) }
         ensures forgotten { OnOk result (seen_at (seen_of self.new) cell.now ≡ None) }
         ensures kept { KeepsSeen (seen_of self.old) (seen_of self.new) cell.now }
         ensures seen { Remembers (λ c. c ≡ cell.now) (seen_in (seen_of self.old)) (seen_in (seen_of self.new)) }
         ensures change { ChangesOnly (λ c. c ≡ cell.now) (⟦<FileStore<C> as Store>⟧.state self.old) (⟦<FileStore<C> as Store>⟧.state self.new) }
         ensures cause { HasGround ⊤ (IsErasure cell.now bytes.now × IsLast (⟦<FileStore<C> as Store>⟧.state self.old).reads (seen_in (seen_of self.old)) cell.now) (⟦<FileStore<C> as Store>⟧.state self.old) (⟦<FileStore<C> as Store>⟧.state self.new) result }
-        ensures said { OnErr result (IsSaid (files_of self.old) (files_of self.new)) }
+        ensures said { OnErr result (IsSaid (calls_state self.old) (calls_state self.new)) }
         ensures alive { OnOk result (IsFalse (has_failed self.old)) }
         ensures failed { IsTrue (has_failed self.old) → IsTrue (has_failed self.new) }
     {
@@ -159,13 +159,13 @@ impl<C: Calls> Store for FileStore<C> {
         requires not_source { ¬ IsSourceOf (flights (⟦<FileStore<C> as Store>⟧.state self.old)) to.now }
         ensures begun { OnOk result (Changes (λ c. c ≡ to.now) (λ c. c ≡ to.now) (began (record { from = from.now; to = to.now }) ∷ []) (⟦<FileStore<C> as Store>⟧.state self.old) (⟦<FileStore<C> as Store>⟧.state self.new)) }
         ensures copied { OnOk result (¬ IsMoving (⟦<FileStore<C> as Store>⟧.state self.new) to.now → IsCopy ((⟦<FileStore<C> as Store>⟧.state self.old).reads from.now) ((⟦<FileStore<C> as Store>⟧.state self.new).reads to.now)) }
-        ensures free { OnOk result ((item : List ℕ) × MayCopy (files_of self.old) from.now to.now item) }
+        ensures free { OnOk result ((item : List ℕ) × MayCopy (calls_state self.old) from.now to.now item) }
         ensures noted { OnOk result (⊤ → IsSeenAtBoth (seen_in (seen_of self.new)) from.now to.now) }
         ensures kept { KeepsSeenBut (seen_of self.old) (seen_of self.new) from.now to.now }
         ensures seen { Remembers (λ c. (c ≡ from.now) ⊎ (c ≡ to.now)) (seen_in (seen_of self.old)) (seen_in (seen_of self.new)) }
         ensures change { (n : ℕ) × Changes (λ c. c ≡ to.now) (λ c. c ≡ to.now) (take n (began (record { from = from.now; to = to.now }) ∷ [])) (⟦<FileStore<C> as Store>⟧.state self.old) (⟦<FileStore<C> as Store>⟧.state self.new) }
         ensures cause { HasGround ⊤ (IsUncopiable (⟦<FileStore<C> as Store>⟧.state self.old).reads (seen_in (seen_of self.new)) from.now to.now) (⟦<FileStore<C> as Store>⟧.state self.old) (⟦<FileStore<C> as Store>⟧.state self.new) result }
-        ensures said { OnErr result (IsSaid (files_of self.old) (files_of self.new)) }
+        ensures said { OnErr result (IsSaid (calls_state self.old) (calls_state self.new)) }
         ensures alive { OnOk result (IsFalse (has_failed self.old)) }
         ensures failed { IsTrue (has_failed self.old) → IsTrue (has_failed self.new) }
     {

@@ -17,7 +17,7 @@ pub record Carries (task : Task) (old new : State) : Type 0 where
   pub armed : StaysArmed old new
 
 -- the copies that were in flight ended, and nothing else was done
-pub record Refuses (task : Task) (old new : State) : Type 0 where
+pub record OnlyLands (task : Task) (old new : State) : Type 0 where
   pub carries : Carries task old new
   pub settles : Settles old new
 
@@ -58,7 +58,7 @@ abbrev pub MoveLeaves : FolderState → State → State → TaskNames → Outcom
 MoveLeaves folder old new names (Done text) = ForTask folder names (λ task. MovesAll task old new 0 × MovesInPart task old new 0)
 MoveLeaves folder old new names (StoreFault before) = ForTask folder names (λ task. MovesInPart task old new 0)
 MoveLeaves folder old new names (Refusal refusal.NotStarted) = IsUntouched old new
-MoveLeaves folder old new names (Refusal r) = ForTask folder names (λ task. Refuses task old new)
+MoveLeaves folder old new names (Refusal r) = ForTask folder names (λ task. OnlyLands task old new)
 MoveLeaves folder old new names o = IsUntouched old new
 
 abbrev pub ResumeLeaves : FolderState → State → State → TaskNames → Outcome → Type 0

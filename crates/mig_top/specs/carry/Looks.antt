@@ -3,7 +3,7 @@ use Rattle.std.specs.Prelude.{IsSome, List, [], codes, length, true, ℕ, ◌∷
 use Rattle.mig_top.specs.Common.{AreFlights, Gate, Head, IfSome, Image, IsJobCell, IsRefusal, MoveFault, NotStarted, Shift, Started, State, Task, Tells, count_of, decimal, flights, is_armed, joined}
 use Rattle.mig_mover.specs.Moves.{IsReadyOnceLanded, WasReady}
 use Rattle.mig_top.specs.Steps.{Step}
-use Rattle.mig_top.specs.Stores.{IsShown}
+use Rattle.mig_top.specs.Stores.{IsShownFault}
 
 -- the causes for which starting a plan is refused, and resuming it
 abbrev pub IsStartRefusal : Task → Image → MoveFault → Type 0
@@ -28,10 +28,10 @@ pub record IsResumable (task : Task) (store : State) (k : ℕ) : Type 0 where
 
 -- the steps of `move` and `resume` at the store
 abbrev pub starts : Task → State → Step (Unit {0})
-starts task store = record { Passes = λ _. IsStartable task store; Stops = IsShown task.input store (IsStartRefusal task) }
+starts task store = record { Passes = λ _. IsStartable task store; Stops = IsShownFault task.input store (IsStartRefusal task) }
 
 abbrev pub resumes : Task → State → Step ℕ
-resumes task store = record { Passes = IsResumable task store; Stops = IsShown task.input store (IsResumeRefusal task) }
+resumes task store = record { Passes = IsResumable task store; Stops = IsShownFault task.input store (IsResumeRefusal task) }
 
 -- `done R rounds, found k`
 abbrev pub done_text : List (List Shift) → ℕ → List ℕ

@@ -3,7 +3,7 @@ use Rattle.std.specs.Prelude.{Bool, Some, false, true, ℕ, ◌≡◌, ◌⊎◌
 use Rattle.mig_top.specs.Common.{AreFlights, Contents, Head, Image, IsArrived, IsJobCell, IsReached, IsReadyIdle, IsSafe, IsSettled, IsSound, MayBeHalting, SettlesTo, State, Task, Tells, flights}
 use Rattle.mig_top.specs.Common.{is_armed}
 use Rattle.mig_mover.specs.Moves.{IsReadyOnceLanded}
-use Rattle.mig_top.specs.Calls.{Call, FolderFailed, IsDone, SinkFailed, StoreFailed}
+use Rattle.mig_top.specs.Calls.{Call, FolderFailed, SinkFailed, StoreFailed, Succeeds}
 use Rattle.mig_top.specs.Stores.{TellsStill}
 
 -- What `move` and `resume` promise for a task, whatever the status. Cells of the task and images are told.
@@ -38,7 +38,7 @@ abbrev pub ResumesWell : Call → Task → Type 0 → ℕ → Type 0
 ResumesWell k task Ground status =
     TellsStill (IsJobCell task.input task.plan) k.before.store → IsReadyOnceLanded task k.before.store ⊎
     ((is_armed k.before.store.reads ≡ true) × (k.before.store.reads Head ≡ Some task.digest))
-    → IsDone k Ground status
+    → Succeeds k Ground status
 
 -- `resume` where closing the plan after n rounds was stopped and the gate is still 1: no item is lost, whatever the status, and with status 0, and
 -- with 6, each has arrived.
@@ -61,4 +61,4 @@ StartsInFlight k task status = IsReadyInFlight task k.before.store → is_armed 
     → (FolderFailed k → ⊥) → (SinkFailed k → ⊥) → (StoreFailed k → ⊥) → (status ≡ 0) ⊎ (status ≡ 7)
 
 abbrev pub ResumesInFlight : Call → Task → Type 0 → ℕ → Type 0
-ResumesInFlight k task Ground status = IsReadyInFlight task k.before.store → (is_armed k.before.store.reads ≡ true → k.before.store.reads Head ≡ Some task.digest) → IsDone k Ground status
+ResumesInFlight k task Ground status = IsReadyInFlight task k.before.store → (is_armed k.before.store.reads ≡ true → k.before.store.reads Head ≡ Some task.digest) → Succeeds k Ground status

@@ -1,6 +1,6 @@
 -- What `halt` leaves in a folder and in a store.
 use Rattle.std.specs.Prelude.{List, [], ℕ, ◌≡◌, ◌⊎◌}
-use Rattle.mig_top.specs.Common.{BeginsRun, ChangedOnly, Changes, Contents, Done, Ending, Event, Files, FolderState, Image, IsClosingCell, IsHaltCell, IsHaltSafe, IsHalted, IsSafe, IsSettled}
+use Rattle.mig_top.specs.Common.{BeginsRun, ChangedOnly, Changes, CommandError, Contents, Done, Event, Files, FolderState, Image, IsClosingCell, IsHaltCell, IsHaltSafe, IsHalted, IsSafe, IsSettled}
 use Rattle.mig_top.specs.Common.{IsTargetOf, Lands, LeavesOnly, Outcome, Refusal, Rose, Saves, Settles, SettlesTo, State, StoreFault, Task, TaskNames, Tells, flights}
 use Rattle.mig_top.specs.Causes.{IsLayoutAfter}
 use Rattle.mig_top.specs.Stores.{HasFound, IsUntouched}
@@ -8,7 +8,7 @@ use Rattle.mig_top.specs.carry.Leaves.{ForTask}
 use Rattle.mig_top.specs.halt.Looks.{halted_text}
 use Rattle.mig_words.specs.Outcomes.{FolderFault, Memory}
 use Rattle.mig_words.specs.declared.endings.StoreRefusal.TheVariants as refusal
-use Rattle.mig_words.specs.declared.endings.Ending.TheVariants as ending
+use Rattle.mig_words.specs.declared.endings.CommandError.TheVariants as ending
 use Rattle.mig_top.specs.Calls as calls
 
 -- the file of the layout holds the text of the layout after k rounds, and no other file changed
@@ -19,10 +19,10 @@ pub record IsLayoutSaved (task : Task) (layout : List ℕ) (k : ℕ) (old new : 
 
 -- and so of two states of a folder, as far as files are told
 abbrev pub SavesLayout : Task → List ℕ → ℕ → FolderState → FolderState → Type 0
-SavesLayout task layout k old new = calls.Changes old new (IsLayoutSaved task layout k)
+SavesLayout task layout k old new = calls.RelatesFiles old new (IsLayoutSaved task layout k)
 
 -- why the layout wasn't saved
-abbrev pub SaveEnds : List ℕ → FolderState → FolderState → Ending → Type 0
+abbrev pub SaveEnds : List ℕ → FolderState → FolderState → CommandError → Type 0
 SaveEnds layout old new ending.FolderFault = Rose old.faults new.faults × ChangedOnly layout old new
 SaveEnds layout old new ending.Memory = calls.Untouched old new
 SaveEnds layout old new _ = ⊥

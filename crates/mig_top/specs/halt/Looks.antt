@@ -2,7 +2,7 @@
 use Rattle.std.specs.Prelude.{IsSome, List, [], codes, length, true, ℕ, ◌∷◌, ◌≡◌}
 use Rattle.mig_top.specs.Common.{AreFlights, Gate, Head, IfSome, Image, IsRefusal, MoveFault, NotStarted, OtherPlan, Shift, State, Task, decimal, flights, is_armed, joined}
 use Rattle.mig_top.specs.Steps.{Step}
-use Rattle.mig_top.specs.Stores.{HasFound, IsShown}
+use Rattle.mig_top.specs.Stores.{HasFound, IsShownFault}
 
 -- the causes for which it isn't said where a migration stands: the gate isn't 1, or the head is another plan's digest
 abbrev pub IsStandRefusal : Task → Image → MoveFault → Type 0
@@ -18,7 +18,7 @@ pub record IsStanding (task : Task) (store : State) (k : ℕ) : Type 0 where
 
 -- the step of `halt` at the store
 abbrev pub stands : Task → State → Step ℕ
-stands task store = record { Passes = IsStanding task store; Stops = IsShown task.input store (IsStandRefusal task) }
+stands task store = record { Passes = IsStanding task store; Stops = IsShownFault task.input store (IsStandRefusal task) }
 
 -- `halted after k of R`
 abbrev pub halted_text : List (List Shift) → ℕ → List ℕ

@@ -3,7 +3,7 @@ use Rattle.std.specs.Prelude.{List, Some, [], true, ℕ, ◌≡◌, ◌⊎◌}
 use Rattle.mig_top.specs.Common.{Adds, AreFlights, At, BeginsRun, Contents, Extends, Files, Head, Image, IsHaltCell, IsHaltSafe, IsHalted, IsLeftBut, IsListOf, IsSettled, IsSomeAnd, IsSound}
 use Rattle.mig_top.specs.Common.{OthersStay, Task, Tells, flights, is_armed}
 use Rattle.mig_mover.specs.Holdings.{IsUnrefused}
-use Rattle.mig_top.specs.Calls.{Call, IsDone}
+use Rattle.mig_top.specs.Calls.{Call, Succeeds}
 use Rattle.mig_top.specs.Stores.{HasFound, WroteNothing}
 use Rattle.mig_top.specs.halt.Leaves.{AllMayHalt, IsLayoutSaved, MayHalt}
 use Rattle.mig_top.specs.halt.Looks.{halted_text}
@@ -39,7 +39,7 @@ pub record HaltsWell (k : Call) (files : Files) (task : Task) (layout : List ℕ
   pub ended : Adds (BeginsRun (flights k.before.store) []) k.before.store k.after.store
   pub told : status ≡ 0 → Extends (halted_text task.plan rounds) k.before.sink k.after.sink
   -- where the journal names the plan, and nothing fails, the plan is halted, unless memory was refused, or the store refused on a ground that its cells show
-  pub halts : AreFlights (flights k.before.store) → is_armed k.before.store.reads ≡ true → k.before.store.reads Head ≡ Some task.digest → IsDone k (¬ IsUnrefused task k.before.store) status
+  pub halts : AreFlights (flights k.before.store) → is_armed k.before.store.reads ≡ true → k.before.store.reads Head ≡ Some task.digest → Succeeds k (¬ IsUnrefused task k.before.store) status
   -- and a migration that begins at the layout there begins well, whatever its plan
   pub next : (status ≡ 0) ⊎ (status ≡ 6) → (contents : Contents) → Tells (IsHaltCell task.input task.plan) k.before.store.reads → MayHalt task contents k.before.store
       → (begun : Task) → BeginsAfter task rounds begun → IsSound true begun.input begun.plan begun.digest contents k.after.store.reads

@@ -11,7 +11,7 @@ use Rattle.mig_top.specs.Common.{Adds, BeginsRun, Contents, Done, FolderState, G
 use Rattle.mig_top.specs.Common.{SinkFault, State, StoreFault, Task, all_steps, count_of, flights, is_armed, marks_by}
 use Rattle.mig_top.specs.carry.Leaves.{Carries}
 use Rattle.mig_live.specs.Events.{IsRunAndPart, lone_after, lone_copies}
-use Rattle.mig_top.specs.live.Looks.{AreAnswers, Holds, IsServed, steps_left}
+use Rattle.mig_top.specs.live.Looks.{AreAnswers, HoldsContents, IsServed, steps_left}
 use Rattle.mig_top.specs.live.Reads.{Scripted, scripted_in}
 use Rattle.mig_top.specs.Stores.{HasFound, IsUntouched}
 use Rattle.mig_words.specs.declared.endings.StoreRefusal.TheVariants as refusal
@@ -50,7 +50,7 @@ pub record ServesAll (read : Scripted) (old new : State) (k : ℕ) : Type 0 wher
   pub landed : flights new ≡ []
   -- the gate is 1 then
   pub armed : IsSome (old.reads Gate) → (image : Image) → new.may_leave image → is_armed image ≡ true
-  pub went : (contents : Contents) → Holds true read.task contents old → WentOn read contents new k
+  pub went : (contents : Contents) → HoldsContents true read.task contents old → WentOn read contents new k
 
 -- The sink failed at the reply to a read: the orders before it were carried out, their replies were put, and then a beginning of this one.
 pub record StopsAtReply (call : Call) (read : Scripted) (k : ℕ) (text : List ℕ) : Type 0 where
@@ -72,9 +72,9 @@ pub record StopsAtOrder (read : Scripted) (old new : State) (k : ℕ) (text : Li
   pub order : Order
   pub at : slice_get read.orders whole ≡ Some order
   pub replied : AreAnswers read.task old (take whole read.orders) text
-  pub marked : (contents : Contents) → Holds true read.task contents old → (image : Image) → (image ≡ new.reads) ⊎ new.may_leave image
+  pub marked : (contents : Contents) → HoldsContents true read.task contents old → (image : Image) → (image ≡ new.reads) ⊎ new.may_leave image
       → k + marks_by (drop k read.task.plan) (all_steps (take whole read.orders)) ≤ count_of (length read.task.plan) image
-  pub went : (contents : Contents) → Holds true read.task contents old → steps_left (first_orders whole read) k ≡ 0 → WentOn (first_orders whole read) contents new k
+  pub went : (contents : Contents) → HoldsContents true read.task contents old → steps_left (first_orders whole read) k ≡ 0 → WentOn (first_orders whole read) contents new k
   pub events : Adds (IsRunAndPart (flights old) (steps_by (first_orders whole read) k) (take (steps_of order) (drop (all_steps (take whole read.orders)) (actions_after read.task k)))) old new
 
 abbrev pub StopsAtOnce : State → State → List ℕ → Type 0

@@ -9,8 +9,8 @@ use Rattle.mig_top.specs.Common.{Contents, IsJobCell, IsMoving, IsSound, Order, 
 use Rattle.mig_top.specs.live.Reads.{Scripted}
 
 -- the store holds these contents: once it is settled what reads give is sound with them; and the cells of the task are told
-abbrev pub Holds : Bool → Task → Contents → State → Type 0
-Holds asked task contents store = Tells (IsJobCell task.input task.plan) store.reads × SettlesTo (IsSound asked task.input task.plan task.digest contents) store
+abbrev pub HoldsContents : Bool → Task → Contents → State → Type 0
+HoldsContents asked task contents store = Tells (IsJobCell task.input task.plan) store.reads × SettlesTo (IsSound asked task.input task.plan task.digest contents) store
 
 -- The cells show no ground on which a store may refuse what a script asks: none in its plan, and each item that is read and that the plan doesn't
 -- shift is where it is listed, and no copy goes there.
@@ -21,7 +21,8 @@ pub record IsServable (read : Scripted) (s : State) : Type 0 where
 
 -- the text is the replies to orders, whatever contents the store held in the beginning
 abbrev pub AreAnswers : Task → State → List Order → List ℕ → Type 0
-AreAnswers task store orders text = (asked : Bool) (contents : Contents) → Holds asked task contents store → text ≡ replies task.input contents orders
+AreAnswers task store orders text = (asked : Bool) (contents : Contents) → HoldsContents asked task contents store
+    → text ≡ replies task.input contents orders
 
 -- how many steps are left at the end, where so many rounds were marked in the beginning
 abbrev pub steps_left : Scripted → ℕ → ℕ

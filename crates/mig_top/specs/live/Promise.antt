@@ -8,7 +8,7 @@ use Rattle.mig_top.specs.Calls.{Call}
 use Rattle.mig_top.specs.carry.Promise.{IsReadyInFlight}
 use Rattle.mig_live.specs.Events.{lone_after}
 use Rattle.mig_top.specs.live.Leaves.{WentOn}
-use Rattle.mig_top.specs.live.Looks.{Holds, left_text, steps_left}
+use Rattle.mig_top.specs.live.Looks.{HoldsContents, left_text, steps_left}
 use Rattle.mig_top.specs.live.Reads.{Scripted}
 use Rattle.mig_top.specs.Stores.{HasFound}
 
@@ -41,6 +41,6 @@ pub record ServesWell (k : Call) (read : Scripted) (status : ℕ) : Type 0 where
   pub landed : (status ≡ 0) ⊎ (status ≡ 6) → flights k.after.store ≡ []
   pub armed : (status ≡ 0) ⊎ (status ≡ 6) → IsSome (k.before.store.reads Gate) → (image : Image) → k.after.store.may_leave image → is_armed image ≡ true
   -- with status 0 each read was replied with its item's contents, and then it was put how many steps are left; and the plan was carried out by these steps
-  pub told : status ≡ 0 → (asked : Bool) (contents : Contents) → Holds asked read.task contents k.before.store
+  pub told : status ≡ 0 → (asked : Bool) (contents : Contents) → HoldsContents asked read.task contents k.before.store
       → Extends (replies read.task.input contents read.orders ++ left_text (steps_left read rounds)) k.before.sink k.after.sink
-  pub went : status ≡ 0 → (contents : Contents) → Holds true read.task contents k.before.store → WentOn read contents k.after.store rounds
+  pub went : status ≡ 0 → (contents : Contents) → HoldsContents true read.task contents k.before.store → WentOn read contents k.after.store rounds

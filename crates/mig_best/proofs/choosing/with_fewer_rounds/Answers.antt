@@ -1,17 +1,17 @@
-use Rattle.mig_best.proofs.Common.{Because, Err, GoesToTargets, IfOk, IsFilled, IsInput, IsPlanOf, IsWithinLowered, List, Lists, Ok, Once, PlanFits, Result, Runs, Shift, Transfers, ap, arith}
-use Rattle.mig_best.proofs.Common.{length, lowered_quotient, plan_made, quotient, subst, transfers, ℕ, ◌<◌, ◌∙◌, ◌≡◌, ◌≤◌}
+use Rattle.mig_best.proofs.Common.{Because, Err, GoesToTargets, HasNoEmptyRound, IfOk, InputLists, IsInput, IsPlanOf, IsWithinLowered, List, Ok, Once, PlanFits, Result, Runs, Shift, Transfers, ap, arith}
+use Rattle.mig_best.proofs.Common.{length, lowered_quotient, plan_made, quotient, subst, transfer_graph, ℕ, ◌<◌, ◌∙◌, ◌≡◌, ◌≤◌}
 use Rattle.mig_best.proofs.choosing.with_fewer_rounds.Goals as goal
 
 -- what holds of a plan of fewer rounds if there is one
-if_made : {E : Type 0} (input : Lists) (graph : Transfers) (plan : List (List Shift)) (n : ℕ) (r : Result (List (List Shift)) E) → IsInput input → graph ≡ transfers input → IsPlanOf input plan → n < length plan
-    → IfOk r (PlanFits input) → IfOk r (Runs input) → IfOk r (Once input) → IfOk r (GoesToTargets input) → IfOk r IsFilled → IfOk r (λ p. length p ≤ n) → IfOk r (IsPlanOf input)
+if_made : {E : Type 0} (input : InputLists) (graph : Transfers) (plan : List (List Shift)) (n : ℕ) (r : Result (List (List Shift)) E) → IsInput input → graph ≡ transfer_graph input → IsPlanOf input plan → n < length plan
+    → IfOk r (PlanFits input) → IfOk r (Runs input) → IfOk r (Once input) → IfOk r (GoesToTargets input) → IfOk r HasNoEmptyRound → IfOk r (λ p. length p ≤ n) → IfOk r (IsPlanOf input)
 if_made input graph plan n (Err x) valid is planned fewer fits runs once targets filled few = tt
 if_made input graph plan n (Ok p) valid is planned fewer fits runs once targets filled few =
     plan_made input graph p n valid is fits runs once targets filled few
     (λ why holds. omega (arith, fewer, planned.tight why (subst (Because why) is holds), ap quotient is))
     (omega (arith, fewer, planned.most, ap quotient is))
 
-within : {E : Type 0} (input : Lists) (graph : Transfers) (n : ℕ) (r : Result (List (List Shift)) E) → graph ≡ transfers input → n ≡ lowered_quotient graph → IfOk r (λ p. length p ≤ n) → IfOk r (IsWithinLowered input)
+within : {E : Type 0} (input : InputLists) (graph : Transfers) (n : ℕ) (r : Result (List (List Shift)) E) → graph ≡ transfer_graph input → n ≡ lowered_quotient graph → IfOk r (λ p. length p ≤ n) → IfOk r (IsWithinLowered input)
 within input graph n (Err x) is rounds few = tt
 within input graph n (Ok p) is rounds few = λ lowerable. omega (arith, few, rounds ∙ ap lowered_quotient is)
 

@@ -15,7 +15,7 @@ returns-in_ok-vec-in-Triple c =
       names,
       IsBest-whole g (ByTriple x y z) c.args.best.value c.requires.joint best,
       record {
-        loads = c.inside_three.ensures.inside ∙ ap (λ (s : List ℕ). inside s g.trips) (sym names);
+        loads = c.inside_three.ensures.inside ∙ ap (λ (s : List ℕ). inside s g.transfers) (sym names);
         values = best.value_is ∙ ap (λ (s : List ℕ). set_value g s) (sym names);
       },
     )

@@ -19,7 +19,7 @@ returns-then-index-root c =
     let label = c.index.ensures ∙ get_or_default labels r c.index.result.now 0 there in
     let none : get_or labels r 0 ≡ r → IsTrue (takes_part g r) → ⊥ = λ root part. elim c.then-index-root.branch [
       | then-index-root-via-then-index-root w ↦ w.if-index-root.true (label ∙ root)
-      | then-index-root-via-else-index-root+then-load-eq0 w ↦ differ (load r g.trips) 0 part (sym w.load.ensures.load ∙ w.if-load-eq0.true)
+      | then-index-root-via-else-index-root+then-load-eq0 w ↦ differ (load r g.transfers) 0 part (sym w.load.ensures.load ∙ w.if-load-eq0.true)
     ] in
     IsBestBelow-keeps_label g labels (candidate_by labels c.args.best.witness) c.args.best.value r c.requires.valid parts.labelling (λ root part cand. absurd (none root part)) c.requires.before
 
@@ -48,7 +48,7 @@ returns-then-from c =
     let parts = c.requires.components in
     let set = labelled labels r in
     let sum : c.index-sum.result.now ≡ limit_sum g set = c.index-sum.ensures ∙ get_or_default sums r c.index-sum.result.now 0 (omega (arith, c.requires.there, parts.sums_len)) ∙ parts.sum r c.requires.there in
-    let i : c.index-inside.result.now ≡ inside set g.trips = c.index-inside.ensures ∙ get_or_default insides r c.index-inside.result.now 0 (omega (arith, c.requires.there, parts.insides_len)) ∙ parts.inside r c.requires.there in
+    let i : c.index-inside.result.now ≡ inside set g.transfers = c.index-inside.ensures ∙ get_or_default insides r c.index-inside.result.now 0 (omega (arith, c.requires.there, parts.insides_len)) ∙ parts.inside r c.requires.there in
     let half : 0 < c.index-sum.result.now / 2 = omega (arith, c.if-half-eq0.false) in
     let e = set_value-half g set c.index-sum.result.now c.index-inside.result.now sum i half in
     let le = div_ceil-le c.index-inside.result.now (c.index-sum.result.now / 2) c.args.best.value half (rw (← c.from.ensures, ← c.from-2.ensures, ← c.from-3.ensures) c.if-from.true) in
@@ -65,9 +65,9 @@ returns c =
     let set = labelled labels r in
     let there : r < length labels = omega (arith, c.requires.there, parts.labelling.len) in
     let root : get_or labels r 0 ≡ r = sym (c.index.ensures ∙ get_or_default labels r c.index.result.now 0 there) ∙ c.if-index-root.false in
-    let part = not_none (load r g.trips) (λ none. c.if-load-eq0.false (c.load.ensures.load ∙ none)) in
+    let part = not_none (load r g.transfers) (λ none. c.if-load-eq0.false (c.load.ensures.load ∙ none)) in
     let sum : c.index-sum.result.now ≡ limit_sum g set = c.index-sum.ensures ∙ get_or_default sums r c.index-sum.result.now 0 (omega (arith, c.requires.there, parts.sums_len)) ∙ parts.sum r c.requires.there in
-    let i : c.index-inside.result.now ≡ inside set g.trips = c.index-inside.ensures ∙ get_or_default insides r c.index-inside.result.now 0 (omega (arith, c.requires.there, parts.insides_len)) ∙ parts.inside r c.requires.there in
+    let i : c.index-inside.result.now ≡ inside set g.transfers = c.index-inside.ensures ∙ get_or_default insides r c.index-inside.result.now 0 (omega (arith, c.requires.there, parts.insides_len)) ∙ parts.inside r c.requires.there in
     let half : 0 < c.index-sum.result.now / 2 = omega (arith, c.if-half-eq0.false) in
     let e = set_value-half g set c.index-sum.result.now c.index-inside.result.now sum i half in
     let gt = div_ceil-gt c.index-inside.result.now (c.index-sum.result.now / 2) c.args.best.value half (rw (← c.from.ensures, ← c.from-2.ensures, ← c.from-3.ensures) c.if-from.false) in

@@ -1,4 +1,4 @@
-use Rattle.mig_bounds.proofs.Common.{CountsPairs, List, Trip, ap, arith, get_or, length, length-set, subst, sym, take, ℕ, ◌*◌, ◌+◌, ◌<◌, ◌∙◌, ◌≡◌, ◌≤◌}
+use Rattle.mig_bounds.proofs.Common.{CountsPairs, List, Transfer, ap, arith, get_or, length, length-set, subst, sym, take, ℕ, ◌*◌, ◌+◌, ◌<◌, ◌∙◌, ◌≡◌, ◌≤◌}
 use Rattle.mig_bounds.proofs.PairTables.{cell_within, cell_small, counted, next_small, CountsPairs-more, leaves_below, reaches_below}
 use Rattle.mig_bounds.proofs.pairs.pairs_of.Goals as goal
 use Rattle.mig_bounds.proofs.pairs.pairs_of.Goals.{After-ends}
@@ -7,24 +7,24 @@ use Rattle.mig_bounds.proofs.pairs.pairs_of.Goals.{After-ends}
 ends : (c : After-ends) → (c.ends.result.0.0 < c.disks-count.result) × (c.ends.result.1.0 < c.disks-count.result)
 ends c =
     let g = c.args.graph.now in
-    let t : Trip = record { leaves = c.ends.result.0.0; reaches = c.ends.result.1.0 } in
+    let t : Transfer = record { leaves = c.ends.result.0.0; reaches = c.ends.result.1.0 } in
     let valid = c.disks-count.ensures.valid in
     let n = c.disks-count.ensures.disks in
-    let from = leaves_below (length g.disks) g.trips c.loop-edge.edge t valid.leaves_there c.ends.ensures.ends in
-    let to = reaches_below (length g.disks) g.trips c.loop-edge.edge t valid.reaches_there c.ends.ensures.ends in
+    let from = leaves_below (length g.disks) g.transfers c.loop-edge.edge t valid.leaves_there c.ends.ensures.ends in
+    let to = reaches_below (length g.disks) g.transfers c.loop-edge.edge t valid.reaches_there c.ends.ensures.ends in
     (omega (arith, n, from), omega (arith, n, to))
 
 -- the table counts the edges before this one
-before : (c : After-ends) → CountsPairs c.disks-count.result (take c.loop-edge.edge c.args.graph.now.trips) c.loop-edge.pairs.items
-before c = subst (λ k. CountsPairs k (take c.loop-edge.edge c.args.graph.now.trips) c.loop-edge.pairs.items) (sym c.disks-count.ensures.disks) c.loop-edge.invariant
+before : (c : After-ends) → CountsPairs c.disks-count.result (take c.loop-edge.edge c.args.graph.now.transfers) c.loop-edge.pairs.items
+before c = subst (λ k. CountsPairs k (take c.loop-edge.edge c.args.graph.now.transfers) c.loop-edge.pairs.items) (sym c.disks-count.ensures.disks) c.loop-edge.invariant
 
 -- each cell of two disks is there, and has counted the edges before this one at most
 cell : (c : After-ends) → (a b : ℕ) → a < c.disks-count.result → b < c.disks-count.result
-    → (a * c.disks-count.result + b < length c.loop-edge.pairs.items) × (get_or c.loop-edge.pairs.items (a * c.disks-count.result + b) 0 ≤ c.loop-edge.edge) × (c.loop-edge.edge < length c.args.graph.now.trips)
+    → (a * c.disks-count.result + b < length c.loop-edge.pairs.items) × (get_or c.loop-edge.pairs.items (a * c.disks-count.result + b) 0 ≤ c.loop-edge.edge) × (c.loop-edge.edge < length c.args.graph.now.transfers)
 cell c a b ha hb =
     let n = c.disks-count.result in
-    let low : c.loop-edge.edge < length c.args.graph.now.trips = omega (arith, c.edges-edge-end.ensures.edges, c.loop-edge-test.true) in
-    (omega (arith, cell_within n a b ha hb, (before c).len), cell_small n c.args.graph.now.trips c.loop-edge.pairs.items c.loop-edge.edge a b (omega (arith, low)) ha hb (before c), low)
+    let low : c.loop-edge.edge < length c.args.graph.now.transfers = omega (arith, c.edges-edge-end.ensures.edges, c.loop-edge-test.true) in
+    (omega (arith, cell_within n a b ha hb, (before c).len), cell_small n c.args.graph.now.transfers c.loop-edge.pairs.items c.loop-edge.edge a b (omega (arith, low)) ha hb (before c), low)
 
 pub count_one-requires : goal.count_one-requires
 count_one-requires c =
@@ -51,9 +51,9 @@ loop-edge-preserved c =
     let at = (goal.at.loop-edge-preserved c).After-ends in
     let g = c.args.graph.now in
     let n = c.disks-count.result in
-    let t : Trip = record { leaves = c.ends.result.0.0; reaches = c.ends.result.1.0 } in
+    let t : Transfer = record { leaves = c.ends.result.0.0; reaches = c.ends.result.1.0 } in
     let there = t.leaves * n + t.reaches in
     let back = t.reaches * n + t.leaves in
     let both = c.count_one-in-loop-edge.ensures ∙ ap (λ (xs : List ℕ). counted xs back) c.count_one.ensures in
-    rw both (subst (λ x. CountsPairs x (take (c.loop-edge.edge + 1) g.trips) (counted (counted c.loop-edge.pairs.items there) back)) c.disks-count.ensures.disks
-    (CountsPairs-more n g.trips c.loop-edge.pairs.items c.loop-edge.edge t c.ends.ensures.ends (ends at).0 (ends at).1 c.ends.ensures.apart (before at)))
+    rw both (subst (λ x. CountsPairs x (take (c.loop-edge.edge + 1) g.transfers) (counted (counted c.loop-edge.pairs.items there) back)) c.disks-count.ensures.disks
+    (CountsPairs-more n g.transfers c.loop-edge.pairs.items c.loop-edge.edge t c.ends.ensures.ends (ends at).0 (ends at).1 c.ends.ensures.apart (before at)))

@@ -11,7 +11,7 @@ loop-b-preserved c =
     record {
       above = λ b h. elim (cases_lt b c.loop-b.b) [
         | inl lt ↦ omega (arith, c.loop-b.invariant.above b lt, old)
-        | inr ge ↦ (let same : b ≡ c.loop-b.b = omega (arith, ge, h) in omega (arith, ap (λ n. between c.args.a n g.trips) same, c.pair-joined.ensures.count, new))
+        | inr ge ↦ (let same : b ≡ c.loop-b.b = omega (arith, ge, h) in omega (arith, ap (λ n. between c.args.a n g.transfers) same, c.pair-joined.ensures.count, new))
       ];
       most = most;
     }

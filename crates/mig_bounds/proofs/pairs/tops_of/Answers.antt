@@ -13,7 +13,7 @@ loop-a-preserved c =
       len = omega (arith, ap (λ (xs : List ℕ). length xs) is, length-append old (top ∷ []), c.loop-a.invariant.len);
       above = λ a b h there. elim (cases_lt a c.loop-a.a) [
         | inl lt ↦ omega (arith, before a lt, c.loop-a.invariant.above a b lt there)
-        | inr ge ↦ (let same : a ≡ c.loop-a.a = omega (arith, ge, h) in omega (arith, ap (λ k. get_or c.push.new.self.items k 0) same, here, ap (λ k. between k b g.trips) same, c.top_of.ensures.above b there))
+        | inr ge ↦ (let same : a ≡ c.loop-a.a = omega (arith, ge, h) in omega (arith, ap (λ k. get_or c.push.new.self.items k 0) same, here, ap (λ k. between k b g.transfers) same, c.top_of.ensures.above b there))
       ];
       most = λ a h. elim (cases_lt a c.loop-a.a) [
         | inl lt ↦ omega (arith, before a lt, c.loop-a.invariant.most a lt)

@@ -4,8 +4,8 @@ use Rattle.mig_bounds.proofs.SideSteps.{loaded_side, none_more, side_keeps, side
 use Rattle.mig_bounds.proofs.sides.better_side.Goals as goal
 
 -- the value of the side, by its load and its limit
-value_of : (graph : Transfers) (v l m r : ℕ) (side : Side) → l ≡ side_load side v graph.trips → m ≡ side_limit side (disk_at graph.disks v).limits → r ≡ div_ceil l m → r ≡ side_value graph side v
-value_of graph v l m r side load limit is = is ∙ ap (λ n. div_ceil n m) load ∙ ap (λ n. div_ceil (side_load side v graph.trips) n) limit
+value_of : (graph : Transfers) (v l m r : ℕ) (side : Side) → l ≡ side_load side v graph.transfers → m ≡ side_limit side (disk_at graph.disks v).limits → r ≡ div_ceil l m → r ≡ side_value graph side v
+value_of graph v l m r side load limit is = is ∙ ap (λ n. div_ceil n m) load ∙ ap (λ n. div_ceil (side_load side v graph.transfers) n) limit
 
 -- a side with a load needs a round
 some_rounds : (l m r : ℕ) → 1 ≤ m → l ≢ 0 → r ≡ div_ceil l m → 0 < r

@@ -8,7 +8,7 @@ pub returns-then-pair-eq0 : goal.returns-then-pair-eq0
 returns-then-pair-eq0 c =
     let g = c.args.graph.now in
     let best = candidate_of c.args.best.set in
-    let apart : (between c.args.a c.args.b g.trips ≡ 0) ⊎ ((between c.args.a c.args.c g.trips ≡ 0) ⊎ (between c.args.b c.args.c g.trips ≡ 0)) = inr (elim c.then-pair-eq0.branch [
+    let apart : (between c.args.a c.args.b g.transfers ≡ 0) ⊎ ((between c.args.a c.args.c g.transfers ≡ 0) ⊎ (between c.args.b c.args.c g.transfers ≡ 0)) = inr (elim c.then-pair-eq0.branch [
       | then-pair-eq0-via-then-pair-eq0 w ↦ inl (sym c.pair.ensures.count ∙ w.if-pair-eq0.true)
       | then-pair-eq0-via-else-pair-eq0+then-pair-eq0-2 w ↦ inr (sym w.pair-else-pair-eq0.ensures.count ∙ w.if-pair-eq0-2.true)
     ]) in
@@ -38,7 +38,7 @@ returns c =
     let gt = div_ceil-gt i.result (sum.result / 2) c.args.best.value half (rw (← c.from.ensures, ← c.from-2.ensures, ← c.from-3.ensures) c.if-from.false) in
     let part_a = joined_takes_part g c.args.a c.args.c (λ none. c.if-pair-eq0.false (c.pair.ensures.count ∙ none)) in
     let part_b = joined_takes_part g c.args.b c.args.c (λ none. c.if-pair-eq0-2.false (c.pair-else-pair-eq0.ensures.count ∙ none)) in
-    let part_c = joined_takes_part g c.args.c c.args.a (λ none. c.if-pair-eq0.false (c.pair.ensures.count ∙ between_comm c.args.a c.args.c g.trips ∙ none)) in
+    let part_c = joined_takes_part g c.args.c c.args.a (λ none. c.if-pair-eq0.false (c.pair.ensures.count ∙ between_comm c.args.a c.args.c g.transfers ∙ none)) in
     IsBestBelow-takes g (candidate_of c.args.best.set) (ByTriple c.args.a c.args.b c.args.c) c.args.best.value c.div_ceil.result (1 ∷ c.args.a ∷ c.args.b ∷ c.args.c ∷ []) (1 ∷ c.args.a ∷ c.args.b ∷ (c.args.c + 1) ∷ [])
     (c.requires.order_ab, c.requires.order_bc, c.requires.there, part_a, part_b, part_c, omega (arith, c.if-sum-eq0.false, sum.ensures.sum))
     (c.div_ceil.ensures ∙ sym e)

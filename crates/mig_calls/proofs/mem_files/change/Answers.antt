@@ -1,4 +1,4 @@
-use Rattle.mig_calls.proofs.Common.{AreDifferent, List, Seen, ap, changed, look, subst}
+use Rattle.mig_calls.proofs.Common.{AreDifferent, List, SeenFile, ap, changed, look, subst}
 use Rattle.mig_calls.proofs.FileLists.{places_kept, seen_change, seen_same, on_ok, on_err}
 use Rattle.mig_calls.proofs.mem_files.change.Goals as goal
 
@@ -13,5 +13,5 @@ returns-in-Some-clause-done c = on_ok c.change.result
 
 pub returns-in-Some-clause-nothing : goal.returns-in-Some-clause-nothing
 returns-in-Some-clause-nothing c = on_err c.change.result
-    (λ is q. ap (λ (l : List Seen). look l q) (seen_same c.args.files.now.items c.in-Some.i c.index_mut.result.now c.change.new.self c.index_mut.ensures.value c.change.ensures.place is))
+    (λ is q. ap (λ (l : List SeenFile). look l q) (seen_same c.args.files.now.items c.in-Some.i c.index_mut.result.now c.change.new.self c.index_mut.ensures.value c.change.ensures.place is))
     c.change.ensures.nothing

@@ -1,4 +1,4 @@
-use Rattle.mig_check.proofs.Common.{DiskId, List, ap, arith, limit_sum, numbers, subst, sym, take, take_all, transfers, ◌+◌, ◌∙◌, ◌≡◌}
+use Rattle.mig_check.proofs.Common.{DiskId, List, ap, arith, limit_sum, numbers, subst, sym, take, take_all, transfer_graph, ◌+◌, ◌∙◌, ◌≡◌}
 use Rattle.mig_check.proofs.MoveCounts.{SumStep, sum_step}
 use Rattle.mig_check.proofs.counted.sum_limits.Goals as goal
 
@@ -16,4 +16,4 @@ pub returns : goal.returns
 returns c =
     let items = c.ids-disk-items.result.now in
     let whole : take c.loop-disk.disk-index items ≡ c.args.set.now = take_all c.loop-disk.disk-index items c.loop-disk-test.false ∙ c.ids-disk-items.ensures.value in
-    c.loop-disk.invariant.is ∙ ap (λ (s : List DiskId). limit_sum (transfers c.args.input.now) (numbers s)) whole
+    c.loop-disk.invariant.is ∙ ap (λ (s : List DiskId). limit_sum (transfer_graph c.args.input.now) (numbers s)) whole

@@ -1,11 +1,11 @@
-use Rattle.mig_check.proofs.Common.{All, At, FirstBlame-after, IsLegal, IsListOf, Layout, List, Lists, PlanFits, RoundBlame, Shift, ShiftFits, Spot, [], after_round, ap, arith, below_more}
+use Rattle.mig_check.proofs.Common.{All, At, FirstBlame-after, InputLists, IsLegal, IsListOf, Layout, List, PlanFits, RoundBlame, Shift, ShiftFits, Spot, [], after_round, ap, arith, below_more}
 use Rattle.mig_check.proofs.Common.{get_or_default, layout_of, length, round_at, subst, suc, sym, ℕ, ◌+◌, ◌<◌, ◌∙◌, ◌≡◌}
 use Rattle.mig_check.proofs.BlameCases.{run_blame}
 use Rattle.mig_check.proofs.LayoutLists.{IsListOf-next, items_there, length-after_round}
 use Rattle.mig_check.proofs.rounds.check_rounds.Goals as goal
 
 -- the shifts of a round of a plan that fits
-fits_at : (input : Lists) (plan : List (List Shift)) (k : ℕ) (round : List Shift) → PlanFits input plan → ◌<◌ k (length plan) → round ≡ round_at plan (suc k) → All (ShiftFits input) round
+fits_at : (input : InputLists) (plan : List (List Shift)) (k : ℕ) (round : List Shift) → PlanFits input plan → ◌<◌ k (length plan) → round ≡ round_at plan (suc k) → All (ShiftFits input) round
 fits_at input plan k round fits there is = subst (λ (r : List Shift). All (ShiftFits input) r) (sym is) (fits.shifts k [] there)
 
 pub returns-in-Err-clause-blame : goal.returns-in-Err-clause-blame

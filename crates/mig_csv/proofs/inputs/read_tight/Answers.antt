@@ -1,4 +1,4 @@
-use Rattle.mig_csv.proofs.Common.{AcceptedTight, AcceptedTight-IsInput, Bodies, Lists, err_from_is_err_and, sym, ◌∙◌}
+use Rattle.mig_csv.proofs.Common.{AcceptedTight, AcceptedTight-IsInput, InputLists, ThreeFiles, err_from_is_err_and, sym, ◌∙◌}
 use Rattle.mig_csv.proofs.Whole.{clean_next, clean_now, listed_of, none_missing, refusal_of_disks, refusal_of_missing, refusal_of_next, refusal_of_now}
 use Rattle.mig_csv.proofs.Tight.{accepted_tight, disks_other, missing_other, next_other, now_other, tight_refusal}
 use Rattle.mig_csv.proofs.inputs.read_tight.Goals as goal
@@ -6,14 +6,14 @@ use Rattle.mig_csv.proofs.inputs.read_tight.Goals.{In_ok-next}
 
 pub returns-in_err-listed-clause-refused : goal.returns-in_err-listed-clause-refused
 returns-in_err-listed-clause-refused c =
-    let fs : Bodies = record { disks = c.args.disks.now; now = c.args.now.now; next = c.args.next.now } in
+    let fs : ThreeFiles = record { disks = c.args.disks.now; now = c.args.now.now; next = c.args.next.now } in
     let p = err_from_is_err_and c.from_residual.result c.from_residual.ensures.1 in
     let fault = c.in_err-listed.ensures.fault in
     rw (p.1, p.2) (tight_refusal fs _ (disks_other fs.disks _ fault) (refusal_of_disks fs _ fault))
 
 pub returns-in_err-layout-clause-refused : goal.returns-in_err-layout-clause-refused
 returns-in_err-layout-clause-refused c =
-    let fs : Bodies = record { disks = c.args.disks.now; now = c.args.now.now; next = c.args.next.now } in
+    let fs : ThreeFiles = record { disks = c.args.disks.now; now = c.args.now.now; next = c.args.next.now } in
     let p = err_from_is_err_and c.from_residual-in_err-layout.result c.from_residual-in_err-layout.ensures.1 in
     let d = c.in_ok-listed.ensures in
     let fault = c.in_err-layout.ensures.fault in
@@ -21,7 +21,7 @@ returns-in_err-layout-clause-refused c =
 
 pub returns-in_err-places-clause-refused : goal.returns-in_err-places-clause-refused
 returns-in_err-places-clause-refused c =
-    let fs : Bodies = record { disks = c.args.disks.now; now = c.args.now.now; next = c.args.next.now } in
+    let fs : ThreeFiles = record { disks = c.args.disks.now; now = c.args.now.now; next = c.args.next.now } in
     let p = err_from_is_err_and c.from_residual-in_err-places.result c.from_residual-in_err-places.ensures.1 in
     let d = c.in_ok-listed.ensures in
     let n = c.in_ok-layout.ensures in
@@ -30,7 +30,7 @@ returns-in_err-places-clause-refused c =
 
 pub returns-in_err-next-clause-refused : goal.returns-in_err-next-clause-refused
 returns-in_err-next-clause-refused c =
-    let fs : Bodies = record { disks = c.args.disks.now; now = c.args.now.now; next = c.args.next.now } in
+    let fs : ThreeFiles = record { disks = c.args.disks.now; now = c.args.now.now; next = c.args.next.now } in
     let p = err_from_is_err_and c.from_residual-in_err-next.result c.from_residual-in_err-next.ensures.1 in
     let d = c.in_ok-listed.ensures in
     let n = c.in_ok-layout.ensures in
@@ -42,10 +42,10 @@ returns-in_err-next-clause-refused c =
     (rw (← c.deref.ensures.value) at x.value) missing))
 
 -- what the files list, and that nothing but room may be wrong with them
-abbrev bodies : goal.In_ok-next → Bodies
+abbrev bodies : goal.In_ok-next → ThreeFiles
 bodies c = record { disks = c.args.disks.now; now = c.args.now.now; next = c.args.next.now }
 
-abbrev lists : goal.In_ok-next → Lists
+abbrev lists : goal.In_ok-next → InputLists
 lists c = record { disks = c.in_ok-listed.listed.disks.items; items = c.in_ok-layout.layout.items.items; spots = c.in_ok-layout.layout.spots.items; next = c.in_ok-next.next.items }
 
 accepted : (c : goal.In_ok-next) → AcceptedTight (bodies c) (lists c)

@@ -1,4 +1,4 @@
-use Rattle.mig_drain.proofs.Common.{DiskId, List, Lists, Spot, ap, arith, eq-eqb, eqb, eqb-true, false, false≢true, get_or, get_or-map, length, no_spot, numbers, source, subst, sym}
+use Rattle.mig_drain.proofs.Common.{DiskId, InputLists, List, Spot, ap, arith, eq-eqb, eqb, eqb-true, false, false≢true, get_or, get_or-map, length, no_spot, numbers, source, subst, sym}
 use Rattle.mig_drain.proofs.Common.{true, ℕ, ◌+◌, ◌<◌, ◌∙◌, ◌≡◌, ◌≢◌}
 use Rattle.mig_drain.proofs.Dealing.{rank_less}
 use Rattle.mig_drain.proofs.ReceiverLaws.{DealtBelow, dealt_moves, dealt_stays}
@@ -6,10 +6,10 @@ use Rattle.mig_drain.proofs.drains.deal.Goals as goal
 use Rattle.mig_drain.proofs.drains.deal.Goals.{then-eq+in_ok-push, else-eq+in_ok-push-2}
 
 -- the item is on the disk
-is_there : (input : Lists) (v item : ℕ) (now : List Spot) → now ≡ input.spots → eqb (get_or now item no_spot).disk.0 v ≡ true → source input item ≡ v
+is_there : (input : InputLists) (v item : ℕ) (now : List Spot) → now ≡ input.spots → eqb (get_or now item no_spot).disk.0 v ≡ true → source input item ≡ v
 is_there input v item now same test = ap (λ (l : List Spot). (get_or l item no_spot).disk.0) (sym same) ∙ eqb-true (get_or now item no_spot).disk.0 v test
 
-is_away : (input : Lists) (v item : ℕ) (now : List Spot) → now ≡ input.spots → eqb (get_or now item no_spot).disk.0 v ≡ false → source input item ≢ v
+is_away : (input : InputLists) (v item : ℕ) (now : List Spot) → now ≡ input.spots → eqb (get_or now item no_spot).disk.0 v ≡ false → source input item ≢ v
 is_away input v item now same test at = false≢true (sym test ∙ eq-eqb (get_or now item no_spot).disk.0 v (ap (λ (l : List Spot). (get_or l item no_spot).disk.0) same ∙ at))
 
 pub bounds-places-rank : goal.bounds-places-rank

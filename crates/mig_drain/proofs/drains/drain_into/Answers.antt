@@ -1,11 +1,11 @@
-use Rattle.mig_drain.proofs.Common.{AreDealt, Disk, List, Lists, Outgoing, ap, arith, get_or, get_or_default, length, no_disk, numbers, outgoing_limit, places, side_limit, subst, sym}
+use Rattle.mig_drain.proofs.Common.{AreDealt, Disk, InputLists, List, Outgoing, ap, arith, get_or, get_or_default, length, no_disk, numbers, outgoing_limit, places, side_limit, subst, sym}
 use Rattle.mig_drain.proofs.Common.{take, ℕ, ◌<◌, ◌∙◌, ◌≡◌, ◌≤◌}
 use Rattle.mig_drain.proofs.Dealing.{dealt_first}
 use Rattle.mig_drain.proofs.ReceiverLaws.{fewest_is, first_places_are, places_enough, shown_is}
 use Rattle.mig_drain.proofs.drains.drain_into.Goals as goal
 
 -- the limit on what leaves the disk
-limit_is : (input : Lists) (v limit : ℕ) (disks : List Disk) (disk : Disk) → v < length input.disks → disks ≡ input.disks → limit ≡ side_limit Outgoing (get_or disks v disk).limits → limit ≡ outgoing_limit input v
+limit_is : (input : InputLists) (v limit : ℕ) (disks : List Disk) (disk : Disk) → v < length input.disks → disks ≡ input.disks → limit ≡ side_limit Outgoing (get_or disks v disk).limits → limit ≡ outgoing_limit input v
 limit_is input v limit disks disk there same is =
     is ∙ ap (λ (d : Disk). side_limit Outgoing d.limits) (get_or_default disks v disk no_disk (omega (arith, there, ap (λ (l : List Disk). length l) same)) ∙ ap (λ (l : List Disk). get_or l v no_disk) same)
 

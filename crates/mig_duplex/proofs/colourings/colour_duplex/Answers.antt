@@ -19,10 +19,10 @@ returns c =
     let valid = c.edges.ensures.valid in
     let ds = c.in_ok-forward.forward.items in
     let m = c.edges-2.result in
-    let some : 0 < length graph.trips = omega (arith, c.edges.ensures.edges, c.if-edges-eq0.false) in
+    let some : 0 < length graph.transfers = omega (arith, c.edges.ensures.edges, c.if-edges-eq0.false) in
     let all_true : ds ≡ replicate m true = search rules in
-    let len : length ds ≡ length graph.trips = ap (λ (xs : List Bool). length xs) all_true ∙ length-replicate m true ∙ c.edges-2.ensures.edges in
-    let forward : (k : ℕ) → k < length graph.trips → is_forward ds k ≡ true = λ k h.
+    let len : length ds ≡ length graph.transfers = ap (λ (xs : List Bool). length xs) all_true ∙ length-replicate m true ∙ c.edges-2.ensures.edges in
+    let forward : (k : ℕ) → k < length graph.transfers → is_forward ds k ≡ true = λ k h.
     ap (λ (xs : List Bool). is_forward xs k) all_true ∙ get_or-replicate m k true false (omega (arith, h, c.edges-2.ensures.edges)) in
     IfOk-weaker c.colour_spread.result (λ (v : Vec Colour Global). IsSpread graph c.quotient.result c.deref.result.now v.items) (λ (v : Vec Colour Global). IsLimited graph (quotient graph) v.items)
     (λ v h. spread_split graph ds v.items valid c.requires (quotient_some graph (has_ranges graph valid) valid.leaves_there some) len forward (subst (λ n. IsSpread graph n ds v.items) c.quotient.ensures (subst (λ (xs : List Bool). IsSpread graph c.quotient.result xs v.items) c.deref.ensures.value h)))

@@ -1,11 +1,11 @@
-use Rattle.mig_euler.proofs.Common.{Bool, DiskId, IsReady, List, Option, arith, inl, length, subst, sym, total, waits, ℕ, ◌%◌, ◌+◌, ◌<◌, ◌∙◌, ◌≡◌}
+use Rattle.mig_euler.proofs.Common.{Bool, DiskId, IsBalancedSoFar, List, Option, arith, inl, length, subst, sym, total, waits, ℕ, ◌%◌, ◌+◌, ◌<◌, ◌∙◌, ◌≡◌}
 use Rattle.mig_euler.proofs.OrientLaws.{ready_after, even_after, even_everywhere, below_disk}
 use Rattle.mig_euler.proofs.trails.follow_odd.Goals as goal
 use Rattle.mig_euler.proofs.trails.follow_odd.Goals.{then-is_odd, else-is_odd}
 
 -- the loop's invariant after disk i
 abbrev After : List (DiskId × DiskId) → ℕ → ℕ → List (Option Bool) → List ℕ → Type 0
-After ends n i ds from = IsReady ends ds from × (length from ≡ n) × ((v : DiskId) → v.0 < i + 1 → total (waits v) ends ds % 2 ≡ 0)
+After ends n i ds from = IsBalancedSoFar ends ds from × (length from ≡ n) × ((v : DiskId) → v.0 < i + 1 → total (waits v) ends ds % 2 ≡ 0)
 
 pub loop-disk-preserved : goal.loop-disk-preserved
 loop-disk-preserved c =

@@ -1,5 +1,5 @@
-use Rattle.mig_euler.proofs.Common.{DiskId, IsReady, length, total, waits, ◌%◌, ◌<◌, ◌≡◌}
+use Rattle.mig_euler.proofs.Common.{DiskId, IsBalancedSoFar, length, total, waits, ◌%◌, ◌<◌, ◌≡◌}
 use Rattle.mig_euler.proofs.trails.follow_odd.Given as goal
 
 abbrev pub invariant-loop-disk : goal.invariant-loop-disk
-invariant-loop-disk l = IsReady l.ends l.directions l.from × (length l.from ≡ length l.initial.from) × ((v : DiskId) → v.0 < l.disk → total (waits v) l.ends l.directions % 2 ≡ 0)
+invariant-loop-disk l = IsBalancedSoFar l.ends l.directions l.from × (length l.from ≡ length l.initial.from) × ((v : DiskId) → v.0 < l.disk → total (waits v) l.ends l.directions % 2 ≡ 0)

@@ -5,7 +5,7 @@ use Rattle.mig_files.proofs.Headers.{header_after}
 use Rattle.mig_files.proofs.Grounds.{on_err, fault_after}
 use Rattle.mig_files.proofs.CopySteps.{other_copy}
 use Rattle.mig_files.specs.Seeing.{HoldsCopy}
-use Rattle.mig_store.specs.Grounds.{Differ}
+use Rattle.mig_store.specs.Grounds.{SlotsDiffer}
 use Rattle.mig_files.proofs.copies.compare.Goals as goal
 
 pub check_rest-requires-clause-both : goal.check_rest-requires-clause-both
@@ -25,7 +25,7 @@ returns-then-is_header-clause-step g c = step_then c.slot_at.ensures.step c.chec
 
 pub returns-then-is_header-clause-cause : goal.returns-then-is_header-clause-cause
 returns-then-is_header-clause-cause g c =
-    on_err c.check_rest.result c.check_rest.ensures.cause (fault_after (λ image. Differ image c.args.from.now c.args.to.now) c.slot_at.ensures.step)
+    on_err c.check_rest.result c.check_rest.ensures.cause (fault_after (λ image. SlotsDiffer image c.args.from.now c.args.to.now) c.slot_at.ensures.step)
 
 pub returns-clause-same : goal.returns-clause-same
 returns-clause-same g c =

@@ -5,7 +5,7 @@ use Rattle.mig_files.proofs.Headers.{header_after}
 use Rattle.mig_files.proofs.Grounds.{on_err, fault_after}
 use Rattle.mig_files.proofs.CopySteps.{no_copy}
 use Rattle.mig_files.specs.Seeing.{HoldsCopy}
-use Rattle.mig_store.specs.Grounds.{Differ}
+use Rattle.mig_store.specs.Grounds.{SlotsDiffer}
 use Rattle.mig_files.proofs.copies.expects_copy.Goals as goal
 
 pub compare-requires-clause-header : goal.compare-requires-clause-header
@@ -22,7 +22,7 @@ returns-in-Some-clause-step g c = step_then c.slot_at.ensures.step c.compare.ens
 
 pub returns-in-Some-clause-cause : goal.returns-in-Some-clause-cause
 returns-in-Some-clause-cause g c =
-    on_err c.compare.result c.compare.ensures.cause (fault_after (λ image. Differ image c.args.from.now c.args.to.now) c.slot_at.ensures.step)
+    on_err c.compare.result c.compare.ensures.cause (fault_after (λ image. SlotsDiffer image c.args.from.now c.args.to.now) c.slot_at.ensures.step)
 
 pub returns-in-None-clause-same : goal.returns-in-None-clause-same
 returns-in-None-clause-same g c =

@@ -1,4 +1,4 @@
-use Rattle.mig_gen.proofs.Common.{IsInput, IsRoomy, Lists, false, is_duplex, subst, sym, ◌∙◌, ◌≡◌}
+use Rattle.mig_gen.proofs.Common.{InputLists, IsInput, IsRoomy, false, is_duplex, subst, sym, ◌∙◌, ◌≡◌}
 use Rattle.mig_gen.proofs.MadeInput.{is_input, is_joint, made_is}
 use Rattle.mig_gen.proofs.MadeRoom.{has_room}
 use Rattle.mig_gen.proofs.cases.make_case.Goals as goal
@@ -20,4 +20,4 @@ returns-clause-roomy c =
 pub returns-clause-joint : goal.returns-clause-joint
 returns-clause-joint c =
     let is = made_is c.args.disks c.args.per_pair c.args.limit c.requires c.in_ok-disks.disks.items c.in_ok-names.names.items c.in_ok-spots.spots.items c.in_ok-next.next.items c.in_ok-disks.ensures c.in_ok-names.ensures c.in_ok-spots.ensures c.in_ok-next.ensures in
-    subst (λ (i : Lists). is_duplex i.disks ≡ false) (sym (c.new.ensures ∙ is)) (is_joint c.args.disks c.args.per_pair c.args.limit c.requires)
+    subst (λ (i : InputLists). is_duplex i.disks ≡ false) (sym (c.new.ensures ∙ is)) (is_joint c.args.disks c.args.per_pair c.args.limit c.requires)

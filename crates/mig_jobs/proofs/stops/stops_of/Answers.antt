@@ -1,4 +1,4 @@
-use Rattle.mig_jobs.proofs.Common.{AreStops, Contains, Contains-get_or, List, Shift, [], ap, arith, get_or, get_or_default, length, round_at, subst, suc, ℕ, ◌+◌, ◌<◌, ◌∙◌, ◌≡◌}
+use Rattle.mig_jobs.proofs.Common.{AreWaypoints, Contains, Contains-get_or, List, Shift, [], ap, arith, get_or, get_or_default, length, round_at, subst, suc, ℕ, ◌+◌, ◌<◌, ◌∙◌, ◌≡◌}
 use Rattle.mig_jobs.proofs.StopLaws.{rounds_more}
 use Rattle.mig_jobs.proofs.TableSteps.{shifted_item}
 use Rattle.mig_jobs.proofs.stops.stops_of.Goals as goal
@@ -23,5 +23,5 @@ loop-k-preserved c =
     let plan = c.args.plan.now in
     let k = c.loop-k.k in
     let shifts : c.shifts.result.now ≡ round_at plan (suc k) = round_is plan k c.rounds-rounds.result.now c.rounds-rounds.ensures c.index-rounds-k.result c.index-rounds-k.is c.loop-k-test.true c.shifts.result.now c.shifts.ensures in
-    subst (λ (n : ℕ). AreStops c.args.input.now plan n c.add_stops.new.rows.items) (let e : suc k ≡ k + 1 = omega arith in e)
+    subst (λ (n : ℕ). AreWaypoints c.args.input.now plan n c.add_stops.new.rows.items) (let e : suc k ≡ k + 1 = omega arith in e)
     (rounds_more c.args.input.now plan k (k + 1) c.shifts.result.now c.loop-k.rows.items c.add_stops.new.rows.items (omega arith) shifts c.in_ok-add_stops.ensures.len c.in_ok-add_stops.ensures.rows c.loop-k.invariant)

@@ -1,6 +1,6 @@
 use Rattle.mig_journal.proofs.Steps.{err_any}
 use Rattle.mig_mover.proofs.SeenSlots.{cause_ground, ground_after, rose_with}
-use Rattle.mig_lanes.proofs.Common.{Adds, AreRounds, BeginsRound, BeginsRounds, HasDone, IsRound, IsSound, IsWorkCell, NoCell, [], arith, copies_of, ends_are_quiet, later_rounds, leaves_none}
+use Rattle.mig_lanes.proofs.Common.{Adds, AreRoundEvents, AreRounds, BeginsRound, BeginsRounds, HasDone, IsSound, IsWorkCell, NoCell, [], arith, copies_of, ends_are_quiet, later_rounds, leaves_none}
 use Rattle.mig_lanes.proofs.Common.{leaves_then, length, map, on_ok_is, on_ok_weaker, quiet_leaves, range_with_len, rules, same_image, subst, ℕ, ◌+◌, ◌-◌, ◌≡◌}
 use Rattle.mig_lanes.proofs.CarryingOn.{change_none, change_then, change_quiet, none_yet, done_synced}
 use Rattle.mig_lanes.proofs.EventSteps.{adds_then, adds_kept, adds_wider}
@@ -49,7 +49,7 @@ loop-done-preserved g c =
       done = λ asked contents done. c.in_ok-carry_out.ensures.done asked contents (c.loop-done.invariant.done asked contents done);
       landed = c.in_ok-carry_out.ensures.landed;
       rounds = adds_then (AreRounds (map (copies_of c.args.job.now) (range_with_len (c.args.k + 1) (c.loop-done.done - c.args.k)))) old mid new
-          (IsRound (copies_of c.args.job.now (c.loop-done.done + 1))) (AreRounds (map (copies_of c.args.job.now) (range_with_len (c.args.k + 1) (c.loop-done.done + 1 - c.args.k))))
+          (AreRoundEvents (copies_of c.args.job.now (c.loop-done.done + 1))) (AreRounds (map (copies_of c.args.job.now) (range_with_len (c.args.k + 1) (c.loop-done.done + 1 - c.args.k))))
           (rounds_next c.args.job.now c.args.k c.loop-done.done c.loop-done.invariant.low) c.loop-done.invariant.rounds c.in_ok-carry_out.ensures.round;
       change = change_then (IsWorkCell c.args.job.now.input c.args.job.now.plan) old mid new c.loop-done.invariant.change c.carry_out.ensures.change;
       later = omega (arith, c.loop-done.invariant.later, c.carry_out.ensures.cause.later);

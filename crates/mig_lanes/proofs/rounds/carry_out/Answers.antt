@@ -2,7 +2,7 @@ use Rattle.mig_journal.proofs.Steps.{err_any}
 use Rattle.mig_mover.specs.Holdings.{IsSeen}
 use Rattle.mig_mover.proofs.SeenSlots.{ground_with, rose_after}
 use Rattle.mig_lanes.proofs.EventSteps.{adds_kept}
-use Rattle.mig_lanes.proofs.Common.{IsRound, IsSound, [], arith, copies_of, leaves_then, on_ok_is, on_ok_weaker, ◌++◌, ◌+◌, subst, ◌≡◌}
+use Rattle.mig_lanes.proofs.Common.{AreRoundEvents, IsSound, [], arith, copies_of, leaves_then, on_ok_is, on_ok_weaker, ◌++◌, ◌+◌, subst, ◌≡◌}
 use Rattle.mig_lanes.proofs.Carrying.{exit_copy, has_copied, copy_work, closed_work}
 use Rattle.mig_lanes.proofs.rounds.carry_out.Goals as goal
 
@@ -29,7 +29,7 @@ returns-clause-done g c = on_ok_weaker c.close_round.result (λ closed asked con
     c.close_round.ensures.done
 
 pub returns-clause-round : goal.returns-clause-round
-returns-clause-round g c = on_ok_is c.close_round.result (adds_kept (IsRound (copies_of c.args.job.now (c.args.k + 1))) (g.S.Store.state c.args.store.now) (g.S.Store.state c.run_copies.new.store) (g.S.Store.state c.close_round.new.store)
+returns-clause-round g c = on_ok_is c.close_round.result (adds_kept (AreRoundEvents (copies_of c.args.job.now (c.args.k + 1))) (g.S.Store.state c.args.store.now) (g.S.Store.state c.run_copies.new.store) (g.S.Store.state c.close_round.new.store)
     (λ told. let round = c.in_ok-run_copies.ensures.round told in (round.0, round.1, round.2.events)) c.close_round.ensures.change.events)
 
 pub returns-clause-change : goal.returns-clause-change

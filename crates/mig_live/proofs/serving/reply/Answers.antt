@@ -1,4 +1,4 @@
-use Rattle.mig_live.proofs.Common.{ArePutUpTo, IfErr, Lists, Read, Task, [], ap, arith, item_name, ◌∙◌, ◌∷◌, ◌≡◌}
+use Rattle.mig_live.proofs.Common.{ArePutUpTo, IfErr, InputLists, Read, Task, [], ap, arith, item_name, ◌∙◌, ◌∷◌, ◌≡◌}
 use Rattle.mig_live.proofs.ReplyLaws.{handed, part_put, reply_is}
 use Rattle.mig_live.proofs.SeenSessions.{not_lacking}
 use Rattle.mig_live.specs.Replies.{IsServeFault}
@@ -13,7 +13,7 @@ use Rattle.mig_live.proofs.serving.reply.Goals.{After-put_reply}
 named : (g : given.Over) (c : goal.After-put_reply g) → c.index-items-item.result ≡ item_name c.args.live.now.task.input c.args.item.0
 named g c =
     let input = c.input.ensures.value ∙ ap (λ (t : Task). t.input) c.job.ensures in
-    name_is c.args.live.now.task.input c.args.item.0 c.requires.item c.items.result.now (c.items.ensures.value ∙ ap (λ (l : Lists). l.items) input)
+    name_is c.args.live.now.task.input c.args.item.0 c.requires.item c.items.result.now (c.items.ensures.value ∙ ap (λ (l : InputLists). l.items) input)
     c.index-items-item.result c.index-items-item.is
 
 pub returns-in_err-put_reply-clause-put : goal.returns-in_err-put_reply-clause-put

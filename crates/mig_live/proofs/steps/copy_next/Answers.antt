@@ -1,6 +1,6 @@
 use Rattle.mig_live.proofs.ActionLaws.{left_copy, makes}
 use Rattle.mig_live.proofs.Common.{Cell, Changes, Copy, Flight, IsCopy, [], actions_after, ap, arith, began, drop, ended, flight_of, is_slot, length}
-use Rattle.mig_live.proofs.Common.{on_ok_weaker, refl, round_at, shifts_in, slot_of, subst, suc, sym, take, ℕ, ◌+◌, ◌<◌, ◌∙◌, ◌∷◌, ◌≡◌}
+use Rattle.mig_live.proofs.Common.{on_ok_weaker, refl, round_at, round_size, slot_of, subst, suc, sym, take, ℕ, ◌+◌, ◌<◌, ◌∙◌, ◌∷◌, ◌≡◌}
 use Rattle.mig_live.proofs.Middle.{copy_leaves, copy_more, copy_apart}
 use Rattle.mig_live.proofs.Places.{at_next, shift_next}
 use Rattle.mig_live.proofs.SeenSteps.{seen_more}
@@ -72,7 +72,7 @@ returns-clause-seen g c =
     on_ok_weaker c.copy_slot.result (λ noted refuses sight.
     seen_more job c.keeps_rules.ensures c.args.k (omega (arith, c.requires.more)) c.requires.more c.args.place c.requires.place f at seen old
     (λ slot item name was. g.met.S.Store.holds_seen c.args.store.now slot item refuses name was) after c.copy_slot.ensures.seen
-    (shifts_in job.plan c.args.k + c.args.place) refl sight new c.copy_slot.ensures.part.1.told (noted refuses)
+    (round_size job.plan c.args.k + c.args.place) refl sight new c.copy_slot.ensures.part.1.told (noted refuses)
     (λ slot item name was. g.met.S.Store.holds_seen c.copy_slot.new.store slot item refuses name was)) c.copy_slot.ensures.noted
 
 pub returns-clause-cause : goal.returns-clause-cause

@@ -1,6 +1,6 @@
 use Rattle.mig_mover.proofs.SeenSlots.{ground_to, not_last, seen_erased, source_free_slot}
 use Rattle.mig_live.proofs.ActionLaws.{left_erase, makes}
-use Rattle.mig_live.proofs.Common.{AreZeros, Cell, ChangesOnly, Erase, Flight, actions_since, ap, drop, flights_same, is_slot, on_ok_is, on_ok_weaker, round_at, subst, sym, ◌+◌, ◌∙◌, ◌∷◌, ◌≡◌, refl}
+use Rattle.mig_live.proofs.Common.{HoldsZeros, Cell, ChangesOnly, Erase, Flight, actions_since, ap, drop, flights_same, is_slot, on_ok_is, on_ok_weaker, round_at, subst, sym, ◌+◌, ◌∙◌, ◌∷◌, ◌≡◌, refl}
 use Rattle.mig_live.proofs.Middle.{erase_leaves, erase_more}
 use Rattle.mig_live.proofs.Places.{shift_of}
 use Rattle.mig_jobs.proofs.JobRounds.{no_shift}
@@ -34,7 +34,7 @@ returns-clause-done g c =
     let old = g.S.Store.state c.args.store.now in
     let new = g.S.Store.state c.erase.new.store in
     on_ok_weaker c.erase.result (λ erased asked contents way. erase_more c.args.job.now.input c.keeps_rules.ensures.valid c.args.job.now.plan c.keeps_rules.ensures.runs c.args.job.now.digest contents c.args.k c.requires.most asked s.0 old new c.args.place s.1
-    (subst (λ (cell : Cell). ChangesOnly (λ k. k ≡ cell) old new) s.2 c.erase.ensures.change) way (subst (λ (cell : Cell). AreZeros (new.reads cell)) s.2 erased)) c.erase.ensures.erased
+    (subst (λ (cell : Cell). ChangesOnly (λ k. k ≡ cell) old new) s.2 c.erase.ensures.change) way (subst (λ (cell : Cell). HoldsZeros (new.reads cell)) s.2 erased)) c.erase.ensures.erased
 
 pub returns-clause-landed : goal.returns-clause-landed
 returns-clause-landed g c = on_ok_is c.erase.result (flights_same (g.S.Store.state c.args.store.now) (g.S.Store.state c.erase.new.store) c.erase.ensures.change.events ∙ c.requires.none)

@@ -1,25 +1,25 @@
 use Rattle.mig_live.proofs.ActionLaws.{makes, makes_same, past_erasures, syncs_next}
 use Rattle.mig_live.proofs.Common.{Action, List, Shift, Sync, actions_after, actions_since, ap, arith, drop, flights_same, on_ok_is, on_ok_weaker}
-use Rattle.mig_live.proofs.Common.{shifts_in, subst, suc, sym, ℕ, ◌+◌, ◌-◌, ◌<◌, ◌∙◌, ◌∷◌, ◌≡◌, ◌≤◌}
+use Rattle.mig_live.proofs.Common.{round_size, subst, suc, sym, ℕ, ◌+◌, ◌-◌, ◌<◌, ◌∙◌, ◌∷◌, ◌≡◌, ◌≤◌}
 use Rattle.mig_live.proofs.SeenSteps.{seen_early, seen_synced}
 use Rattle.mig_live.proofs.StepLaws.{before_erase, after_erase, before_copy, after_copy, sync_leaves, after_sync}
 use Rattle.mig_live.specs.Sessions.{IsSeenAtStep}
 use Rattle.mig_mover.proofs.SeenSlots.{cause_ground, ground_to}
 use Rattle.mig_live.proofs.steps.step_within.Goals as goal
 
-past : (p k : ℕ) (plan : List (List Shift)) (erasures copies : ℕ) → erasures ≡ shifts_in plan k → copies ≡ shifts_in plan (k + 1) → copies ≤ p - erasures → shifts_in plan (suc k) ≤ p - shifts_in plan k
+past : (p k : ℕ) (plan : List (List Shift)) (erasures copies : ℕ) → erasures ≡ round_size plan k → copies ≡ round_size plan (k + 1) → copies ≤ p - erasures → round_size plan (suc k) ≤ p - round_size plan k
 past p k plan erasures copies first second le =
-    let next : shifts_in plan (k + 1) ≡ shifts_in plan (suc k) = ap (shifts_in plan) (let e : k + 1 ≡ suc k = omega arith in e) in
+    let next : round_size plan (k + 1) ≡ round_size plan (suc k) = ap (round_size plan) (let e : k + 1 ≡ suc k = omega arith in e) in
     omega (arith, first, second, next, le)
 
 pub returns-then-p-erasures-clause-any_moment : goal.returns-then-p-erasures-clause-any_moment
 returns-then-p-erasures-clause-any_moment g c =
-    let lt : c.args.p < shifts_in c.args.job.now.plan c.args.k = omega (arith, c.if-p-erasures.true, c.shifts_of_round-erasures.ensures.count) in
+    let lt : c.args.p < round_size c.args.job.now.plan c.args.k = omega (arith, c.if-p-erasures.true, c.shifts_of_round-erasures.ensures.count) in
     λ asked contents at. c.erase_next.ensures.any_moment asked contents (before_erase c.args.job.now c.keeps_rules.ensures c.args.k c.requires.most asked contents c.args.p lt (g.S.Store.state c.args.store.now) at)
 
 pub returns-then-p-erasures-clause-done : goal.returns-then-p-erasures-clause-done
 returns-then-p-erasures-clause-done g c =
-    let lt : c.args.p < shifts_in c.args.job.now.plan c.args.k = omega (arith, c.if-p-erasures.true, c.shifts_of_round-erasures.ensures.count) in
+    let lt : c.args.p < round_size c.args.job.now.plan c.args.k = omega (arith, c.if-p-erasures.true, c.shifts_of_round-erasures.ensures.count) in
     on_ok_weaker c.erase_next.result (λ done asked contents at.
     after_erase c.args.job.now c.keeps_rules.ensures c.args.k c.requires.most asked contents c.args.p lt (g.S.Store.state c.erase_next.new.store)
     (done asked contents (before_erase c.args.job.now c.keeps_rules.ensures c.args.k c.requires.most asked contents c.args.p lt (g.S.Store.state c.args.store.now) at))) c.erase_next.ensures.done
@@ -31,8 +31,8 @@ returns-then-p-erasures-2-clause-any_moment g c =
 
 pub returns-then-p-erasures-2-clause-done : goal.returns-then-p-erasures-2-clause-done
 returns-then-p-erasures-2-clause-done g c =
-    let next : shifts_in c.args.job.now.plan (c.args.k + 1) ≡ shifts_in c.args.job.now.plan (suc c.args.k) = ap (shifts_in c.args.job.now.plan) (let e : c.args.k + 1 ≡ suc c.args.k = omega arith in e) in
-    let same : c.args.p - shifts_in c.args.job.now.plan c.args.k ≡ c.args.p - c.shifts_of_round-erasures.result = ap (λ (n : ℕ). c.args.p - n) (sym c.shifts_of_round-erasures.ensures.count) in
+    let next : round_size c.args.job.now.plan (c.args.k + 1) ≡ round_size c.args.job.now.plan (suc c.args.k) = ap (round_size c.args.job.now.plan) (let e : c.args.k + 1 ≡ suc c.args.k = omega arith in e) in
+    let same : c.args.p - round_size c.args.job.now.plan c.args.k ≡ c.args.p - c.shifts_of_round-erasures.result = ap (λ (n : ℕ). c.args.p - n) (sym c.shifts_of_round-erasures.ensures.count) in
     on_ok_weaker c.copy_next.result (λ done asked contents at.
     after_copy c.args.job.now c.keeps_rules.ensures c.args.k c.requires.most asked contents c.args.p (c.args.p - c.shifts_of_round-erasures.result) same
     (omega (arith, c.if-p-erasures.false, c.shifts_of_round-erasures.ensures.count)) (omega (arith, c.if-p-erasures-2.true, c.shifts_of_round-copies.ensures.count, next)) (g.S.Store.state c.copy_next.new.store)
@@ -68,8 +68,8 @@ pub returns-clause-first : goal.returns-clause-first
 returns-clause-first g c =
     let job = c.args.job.now in
     let k = c.args.k in
-    let place = c.args.p - shifts_in job.plan k in
-    let low : shifts_in job.plan k ≤ c.args.p = omega (arith, c.if-p-erasures.false, c.shifts_of_round-erasures.ensures.count) in
+    let place = c.args.p - round_size job.plan k in
+    let low : round_size job.plan k ≤ c.args.p = omega (arith, c.if-p-erasures.false, c.shifts_of_round-erasures.ensures.count) in
     let high = past c.args.p k job.plan _ _ c.shifts_of_round-erasures.ensures.count c.shifts_of_round-copies.ensures.count c.if-p-erasures-2.false in
     makes c.settle.result (drop c.args.p (actions_since job k)) (drop (c.args.p + 1) (actions_since job k)) Sync (g.S.Store.state c.args.store.now) (g.S.Store.state c.settle.new.store)
     (past_erasures job k c.args.p place (omega (arith, low)) ∙ syncs_next job k place (omega (arith, low, high, c.requires.place))
@@ -80,7 +80,7 @@ pub returns-then-p-erasures-clause-seen : goal.returns-then-p-erasures-clause-se
 returns-then-p-erasures-clause-seen g c =
     let job = c.args.job.now in
     let new = (g.S.Store.state c.erase_next.new.store).reads in
-    let few : c.args.p + 1 ≤ shifts_in job.plan c.args.k = omega (arith, c.if-p-erasures.true, c.shifts_of_round-erasures.ensures.count) in
+    let few : c.args.p + 1 ≤ round_size job.plan c.args.k = omega (arith, c.if-p-erasures.true, c.shifts_of_round-erasures.ensures.count) in
     on_ok_weaker c.erase_next.result (λ go refuses sight.
     seen_early job c.args.k (c.args.p + 1) few (g.S.Store.seen c.erase_next.new.store) new (go sight.items)) c.erase_next.ensures.seen
 
@@ -92,7 +92,7 @@ returns-then-p-erasures-2-clause-seen g c =
     let job = c.args.job.now in
     let old = (g.S.Store.state c.args.store.now).reads in
     let new = (g.S.Store.state c.copy_next.new.store).reads in
-    let first = shifts_in job.plan c.args.k in
+    let first = round_size job.plan c.args.k in
     let place = c.args.p - c.shifts_of_round-erasures.result in
     let here : c.args.p ≡ first + place = omega (arith, c.if-p-erasures.false, c.shifts_of_round-erasures.ensures.count) in
     on_ok_weaker c.copy_next.result (λ go refuses sight.

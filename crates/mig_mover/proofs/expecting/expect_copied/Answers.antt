@@ -1,4 +1,4 @@
-use Rattle.mig_store.specs.Grounds.{Differ}
+use Rattle.mig_store.specs.Grounds.{SlotsDiffer}
 use Rattle.mig_mover.proofs.SeenSlots.{ground_to}
 use Rattle.mig_mover.proofs.Common.{Flight, IfSome, Option, on_ok_weaker, subst, sym}
 use Rattle.mig_mover.proofs.EraseSteps.{both_slots}
@@ -16,4 +16,4 @@ returns-clause-compared g c =
 
 pub returns-clause-cause : goal.returns-clause-cause
 returns-clause-cause g c =
-    ground_to c.expects_copy.result (λ differ. subst (λ (o : Option Flight). IfSome o (λ f. Differ (g.S.Store.state c.args.store.now).reads f.from f.to)) (sym c.copy-from.ensures) differ) c.expects_copy.ensures.cause
+    ground_to c.expects_copy.result (λ differ. subst (λ (o : Option Flight). IfSome o (λ f. SlotsDiffer (g.S.Store.state c.args.store.now).reads f.from f.to)) (sym c.copy-from.ensures) differ) c.expects_copy.ensures.cause

@@ -1,6 +1,6 @@
 use Rattle.mig_store.specs.Grounds.{IsLast}
 use Rattle.mig_journal.proofs.Steps.{remembers_wider}
-use Rattle.mig_mover.proofs.Common.{Cell, Lists, ap, arith, rules, slot_of, subst, ◌∙◌, ◌≡◌}
+use Rattle.mig_mover.proofs.Common.{Cell, InputLists, ap, arith, rules, slot_of, subst, ◌∙◌, ◌≡◌}
 use Rattle.mig_mover.proofs.SeenSlots.{ground_to}
 use Rattle.mig_mover.proofs.halting.erase_vacant.Given as given
 use Rattle.mig_mover.proofs.halting.erase_vacant.Goals as goal
@@ -8,7 +8,7 @@ use Rattle.mig_mover.proofs.halting.erase_vacant.Goals.{After-erase}
 
 -- the slot that is erased is the vacancy's
 slot : (g : given.Over) (c : After-erase g) → c.spot_cell.result ≡ slot_of c.args.job.now.input c.args.v.now.spot
-slot g c = c.spot_cell.ensures ∙ ap (λ (l : Lists). slot_of l c.args.v.now.spot) c.input.ensures.value
+slot g c = c.spot_cell.ensures ∙ ap (λ (l : InputLists). slot_of l c.args.v.now.spot) c.input.ensures.value
 
 pub returns-then-found-v-clause-change : goal.returns-then-found-v-clause-change
 returns-then-found-v-clause-change g c = search rules

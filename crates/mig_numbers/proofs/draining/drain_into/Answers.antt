@@ -1,6 +1,6 @@
 use Rattle.mig_base.proofs.Common.{length-map-range_with_len}
 use Rattle.mig_base.specs.DiskNumbers.{numbers}
-use Rattle.mig_base.specs.InputLists.{Lists}
+use Rattle.mig_base.specs.InputLists.{InputLists}
 use Rattle.mig_base.specs.declared.ids.DiskId.{DiskId}
 use Rattle.mig_gen.specs.MadeCases.{made_item}
 use Rattle.mig_numbers.specs.Drains.{IsDrain}
@@ -16,7 +16,7 @@ returns-in-Ok-drain-clause-drained c =
     let drains : IsDrain c.in-Ok.input c.args.disk made.next made.rounds made.shown =
     record { empties = h.empties; planned = h.planned; needed = h.needed; fewest = h.fewest; dealt = h.dealt; shows = h.shown } in
     let names = length-map-range_with_len made_item 0 (length c.args.items.now) in
-    let here = subst (λ (i : Lists). IsDrain i c.args.disk made.next made.rounds made.shown) c.in-Ok.ensures.input drains in
+    let here = subst (λ (i : InputLists). IsDrain i c.args.disk made.next made.rounds made.shown) c.in-Ok.ensures.input drains in
     let handed =
     subst (λ (ids : List DiskId). IsHanded (numbers ids) c.args.next.now c.write_ids.new.set c.write_ids.result) c.ids.ensures c.write_ids.ensures in
     record {

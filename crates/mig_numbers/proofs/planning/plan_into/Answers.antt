@@ -1,9 +1,9 @@
 use Rattle.std.proofs.Common.{arith, subst}
-use Rattle.mig_base.specs.InputLists.{Lists}
+use Rattle.mig_base.specs.InputLists.{InputLists}
 use Rattle.mig_best.specs.Certified.{IsCertified}
 use Rattle.mig_numbers.proofs.Counts.{few_rows}
 use Rattle.mig_numbers.proofs.Kept.{planned}
-use Rattle.mig_numbers.specs.Handed.{rows_of, set_in}
+use Rattle.mig_numbers.specs.Handed.{plan_rows, set_in}
 use Rattle.mig_numbers.proofs.planning.plan_into.Goals as goal
 
 pub returns-clause-planned : goal.returns-clause-planned
@@ -13,9 +13,9 @@ returns-clause-planned c =
     let split = c.args.split in
     let disks = c.args.disks.now in
     let items = c.args.items.now in
-    let made = subst (λ (i : Lists). IsCertified i plan cert) c.in-Ok.ensures.input c.in-Ok-plan_input.ensures in
+    let made = subst (λ (i : InputLists). IsCertified i plan cert) c.in-Ok.ensures.input c.in-Ok-plan_input.ensures in
     record {
-      rows = rows_of plan;
+      rows = plan_rows plan;
       within = set_in cert.bound;
       planned = planned split disks items plan cert c.found_in.result c.in-Ok.ensures.sound made c.found_in.ensures;
       in_shifts = c.write_plan.ensures;

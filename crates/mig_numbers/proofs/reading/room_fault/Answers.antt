@@ -6,7 +6,7 @@ use Rattle.mig_base.specs.declared.inputs.Disk.{Disk}
 use Rattle.mig_csv.specs.Lists.{RefusesRoom}
 use Rattle.mig_csv.specs.declared.errors.InputError.TheVariants.{Refused}
 use Rattle.mig_numbers.specs.Refusals.{IsRoomFault}
-use Rattle.mig_numbers.specs.declared.numbers.Refusal.TheVariants.{NoRoom}
+use Rattle.mig_numbers.specs.declared.numbers.NumbersRefusal.TheVariants.{NoRoom}
 use Rattle.mig_numbers.proofs.reading.room_fault.Goals as goal
 use Rattle.std.proofs.lemmas.Option.{slice_get_within}
 

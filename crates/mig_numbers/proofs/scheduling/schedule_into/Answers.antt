@@ -1,6 +1,6 @@
 use Rattle.std.proofs.Common.{List, arith, inl, inr, length, subst, sym, ◌∙◌, ◌≡◌}
 use Rattle.mig_base.proofs.Common.{length-map-range_with_len}
-use Rattle.mig_base.specs.InputLists.{Lists}
+use Rattle.mig_base.specs.InputLists.{InputLists}
 use Rattle.mig_base.specs.Targets.{IsRoomy}
 use Rattle.mig_best.specs.Certified.{IsCertified}
 use Rattle.mig_gen.specs.MadeCases.{made_item}
@@ -32,7 +32,7 @@ mark_plan-requires-clause-within c k d lt j e below =
     let read = c.in-Ok-read_numbers.ensures in
     let pairs = c.args.pairs.now in
     let items : c.deref-2.result.now ≡ items_for pairs = c.deref-2.ensures.value ∙ c.in-Ok-make_movers.ensures in
-    let made = subst (λ (i : Lists). IsCertified i c.in-Ok-plan_input.made.plan c.in-Ok-plan_input.made.cert) read.input c.in-Ok-plan_input.ensures in
+    let made = subst (λ (i : InputLists). IsCertified i c.in-Ok-plan_input.made.plan c.in-Ok-plan_input.made.cert) read.input c.in-Ok-plan_input.ensures in
     let made2 = subst (λ (is : List ItemNumbers). IsCertified (input_of c.args.split c.deref.result.now is) c.in-Ok-plan_input.made.plan c.in-Ok-plan_input.made.cert) items made in
     omega (arith, (made2.planned.fits.shifts k d lt j e below).item, length-map-range_with_len made_item 0 (length (items_for pairs)), length-map-range_with_len (item_for pairs) 0 (length pairs), c.requires, c.clear.auto.rounds)
 
@@ -44,7 +44,7 @@ returns-clause-scheduled c =
     let cert = c.in-Ok-plan_input.made.cert in
     let disks : c.deref.result.now ≡ disks_for c.args.limits.now = c.deref.ensures.value ∙ c.in-Ok.ensures in
     let items : c.deref-2.result.now ≡ items_for c.args.pairs.now = c.deref-2.ensures.value ∙ c.in-Ok-make_movers.ensures in
-    let made = subst (λ (i : Lists). IsCertified i plan cert) read.input c.in-Ok-plan_input.ensures in
+    let made = subst (λ (i : InputLists). IsCertified i plan cert) read.input c.in-Ok-plan_input.ensures in
     let made2 = subst (λ (is : List ItemNumbers). IsCertified (input_of split c.deref.result.now is) plan cert) items made in
     let sound = subst (λ (is : List ItemNumbers). AreSound split c.deref.result.now is) items read.sound in
     let made3 = subst (λ (ds : List DiskNumbers). IsCertified (input_of split ds (items_for c.args.pairs.now)) plan cert) disks made2 in

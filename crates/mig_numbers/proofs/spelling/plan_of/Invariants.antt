@@ -1,6 +1,6 @@
 use Rattle.std.proofs.Common.{map, ◌≡◌}
-use Rattle.mig_numbers.specs.Spelled.{shifts_of}
+use Rattle.mig_numbers.specs.Spelled.{round_shifts}
 use Rattle.mig_numbers.proofs.spelling.plan_of.Given as goal
 
 abbrev pub invariant-loop-round : goal.invariant-loop-round
-invariant-loop-round l = l.rounds.items ≡ map shifts_of l.yielded
+invariant-loop-round l = l.rounds.items ≡ map round_shifts l.yielded

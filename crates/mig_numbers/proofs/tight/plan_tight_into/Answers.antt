@@ -1,5 +1,5 @@
 use Rattle.std.proofs.Common.{length, subst, ◌+◌, ◌≡◌}
-use Rattle.mig_base.specs.InputLists.{Lists}
+use Rattle.mig_base.specs.InputLists.{InputLists}
 use Rattle.mig_base.specs.TightPlans.{IsTightPlan, parked}
 use Rattle.mig_base.specs.Transfers.{moves}
 use Rattle.mig_numbers.proofs.TightRows.{hands_tight}
@@ -9,7 +9,7 @@ pub returns-in-Ok-tight_plan-clause-planned : goal.returns-in-Ok-tight_plan-clau
 returns-in-Ok-tight_plan-clause-planned c =
     let plan = c.in-Ok-tight_plan.plan in
     let read = c.in-Ok.ensures in
-    let made = subst (λ (i : Lists). IsTightPlan i plan) read.input c.in-Ok-tight_plan.ensures.tight in
-    let parks = subst (λ (i : Lists). length plan ≡ length (moves i) + parked i plan) read.input c.in-Ok-tight_plan.ensures.parked in
+    let made = subst (λ (i : InputLists). IsTightPlan i plan) read.input c.in-Ok-tight_plan.ensures.tight in
+    let parks = subst (λ (i : InputLists). length plan ≡ length (moves i) + parked i plan) read.input c.in-Ok-tight_plan.ensures.parked in
     hands_tight c.args.split c.args.disks.now c.args.items.now plan made parks read.there
     c.args.shifts.now c.write_plan.new.rows c.write_plan.result c.write_plan.ensures

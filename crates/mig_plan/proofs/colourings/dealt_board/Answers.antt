@@ -25,7 +25,7 @@ new-requires-clause-few_entries c =
     let g = c.args.graph.now in
     let s = c.in_ok-copies.copies in
     let is_n : s.nodes ≡ length s.homes.items = omega (arith, c.in_ok-copies.ensures.nodes) in
-    few_general s.nodes c.quotient.result c.div_ceil-share.result c.args.colours (length g.trips) (length g.disks)
+    few_general s.nodes c.quotient.result c.div_ceil-share.result c.args.colours (length g.transfers) (length g.disks)
     (omega (arith, c.requires.room, c.quotient.ensures)) c.div_ceil-share.ensures
     (omega (arith, c.in_ok-copies.ensures.copies.room, ap (λ m. m * c.div_ceil-share.result) is_n)) valid.edges_most valid.disks_most
     (omega (arith, quotient_most g (has_ranges g valid), valid.edges_most, c.quotient.ensures))

@@ -1,4 +1,4 @@
-use Rattle.mig_plan.proofs.Common.{AreFirstTargets, AreTakenSlots, Bool, DiskId, Global, IsFirstFree, IsFreeFrom, IsInput, List, Lists, Spot, Vec, ap, arith, get_or, get_or_default}
+use Rattle.mig_plan.proofs.Common.{AreFirstTargets, AreTakenSlots, Bool, DiskId, Global, InputLists, IsFirstFree, IsFreeFrom, IsInput, List, Spot, Vec, ap, arith, get_or, get_or_default}
 use Rattle.mig_plan.proofs.Common.{is_taken, length, row_at, set, subst, sym, target, ℕ, ◌+◌, ◌<◌, ◌∙◌, ◌≡◌}
 use Rattle.mig_plan.proofs.SlotLaws.{free_from}
 use Rattle.mig_plan.proofs.TargetSteps.{stays, goes, not_full, finish}
@@ -9,13 +9,13 @@ use Rattle.mig_plan.proofs.targets.target_spots.Goals.{then-relocated+in-Some+in
 abbrev next_disk : List DiskId → ℕ → ℕ
 next_disk next i = (get_or next i (record { 0 = 0 })).0
 
-record IsHere (input : Lists) (next : List DiskId) (rows : ℕ) (i : ℕ) : Type 0 where
+record IsHere (input : InputLists) (next : List DiskId) (rows : ℕ) (i : ℕ) : Type 0 where
   item : i < length input.items
   disk : next_disk next i ≡ target input i
   there : next_disk next i < length input.disks
   row : next_disk next i < rows
 
-here : (input : Lists) (next : List DiskId) (rows i : ℕ) → IsInput input → next ≡ input.next → rows ≡ length input.disks → i < length next → IsHere input next rows i
+here : (input : InputLists) (next : List DiskId) (rows i : ℕ) → IsInput input → next ≡ input.next → rows ≡ length input.disks → i < length next → IsHere input next rows i
 here input next rows i is same len h =
     let item : i < length input.items = omega (arith, h, ap (λ (x : List DiskId). length x) same, is.next_len) in
     let disk : next_disk next i ≡ target input i = ap (λ (x : List DiskId). next_disk x i) same in

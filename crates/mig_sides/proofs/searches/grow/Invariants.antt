@@ -1,10 +1,10 @@
-use Rattle.mig_sides.proofs.Common.{IsGrowing, IsKept, IsSome, length, node_at, unreached, ◌+◌, ◌-◌}
+use Rattle.mig_sides.proofs.Common.{IsGrowing, IsSome, StayReached, length, node_at, unreached, ◌+◌, ◌-◌}
 use Rattle.mig_sides.proofs.searches.grow.Given as goal
 
 abbrev pub invariant-loop-next : goal.invariant-loop-next
 invariant-loop-next l = record {
   growing : IsGrowing l.graph l.fn.root.0 l.nodes l.queue.items l.next;
-  kept : IsKept l.fn.nodes l.nodes;
+  kept : StayReached l.fn.nodes l.nodes;
   reached : IsSome (node_at l.nodes l.fn.root.0);
 }
 

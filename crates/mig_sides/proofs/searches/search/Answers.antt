@@ -1,4 +1,4 @@
-use Rattle.mig_sides.proofs.Common.{AreOnOneSide, HasGrown, IsSettled, IsSome, List, Node, Option, ap, is_some, node_at, not, subst, sym, ◌∙◌}
+use Rattle.mig_sides.proofs.Common.{AreExplored, AreOnOneSide, HasGrown, IsSome, List, Node, Option, ap, is_some, node_at, not, subst, sym, ◌∙◌}
 use Rattle.mig_sides.proofs.SearchLaws.{none_met, not_some, reached_more}
 use Rattle.mig_sides.proofs.searches.search.Goals as goal
 use Rattle.mig_sides.proofs.searches.search.Goals.{then-is_none+in_ok-met+else-is_some, else-is_none}
@@ -19,7 +19,7 @@ loop-disk-preserved c =
       | else-is_none w ↦
           (let is : IsSome (node_at old disk) = c.is_none.ensures ∙ ap not w.if-is_none.false in
           record {
-            settled = subst (λ (n : List (Option Node)). IsSettled graph n) (sym w.nodes-is) before.settled;
+            settled = subst (λ (n : List (Option Node)). AreExplored graph n) (sym w.nodes-is) before.settled;
             reached = reached_more old later disk (λ v node was. ap (λ (n : List (Option Node)). node_at n v) w.nodes-is ∙ was) (ap (λ (n : List (Option Node)). is_some (node_at n disk)) w.nodes-is ∙ is) before.reached;
           })
     ]

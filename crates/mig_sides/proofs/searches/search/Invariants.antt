@@ -1,8 +1,8 @@
-use Rattle.mig_sides.proofs.Common.{IsSettled, IsSome, node_at, ℕ, ◌<◌}
+use Rattle.mig_sides.proofs.Common.{AreExplored, IsSome, node_at, ℕ, ◌<◌}
 use Rattle.mig_sides.proofs.searches.search.Given as goal
 
 abbrev pub invariant-loop-disk : goal.invariant-loop-disk
 invariant-loop-disk l = record {
-  settled : IsSettled l.graph l.nodes;
+  settled : AreExplored l.graph l.nodes;
   reached : (v : ℕ) → v < l.disk → IsSome (node_at l.nodes v);
 }

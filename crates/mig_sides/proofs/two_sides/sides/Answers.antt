@@ -14,7 +14,7 @@ returns-in-Some-clause-none c =
     let same : c.deref-in-Some.result.now ≡ nodes = c.deref-in-Some.ensures.value ∙ take_at nodes _ _ len in
     let met : AreOnOneSide graph nodes one.0 other.0 = MatchOption-at_some (AreAllReached graph nodes) (λ ends. AreOnOneSide graph nodes ends.0.0 ends.1.0) (one, other) c.in-Some.is c.in_ok-one.ensures in
     let between = subst (λ (n : List (Option Node)). IsWalkBetween n one.0 other.0 walk) same c.in_ok-disks.ensures in
-    subst (λ (disks : List DiskId). IsOddWalk graph.trips disks × ¬ IsTwoSided graph) (sym c.of.ensures) (shows_none graph nodes one.0 other.0 walk met between)
+    subst (λ (disks : List DiskId). IsOddWalk graph.transfers disks × ¬ IsTwoSided graph) (sym c.of.ensures) (shows_none graph nodes one.0 other.0 walk met between)
 
 pub returns-clause-apart : goal.returns-clause-apart
 returns-clause-apart c =

@@ -12,7 +12,7 @@ join-requires-clause-few c =
       arith,
       ap (λ (xs : List ℕ). sum xs) c.deref.ensures.value,
       shared_sum g ds c.args.share stops c.in_ok-numbers.numbers.items c.requires.some c.requires.directions valid.apart c.in_ok-stops.ensures c.in_ok-numbers.ensures,
-      stops_len g.trips ds stops c.in_ok-stops.ensures,
+      stops_len g.transfers ds stops c.in_ok-stops.ensures,
       valid.edges_most,
     )
 
@@ -23,7 +23,7 @@ join-requires-clause-there c =
     let len : length g.disks ≡ length c.deref.result.now = sym c.in_ok-numbers.ensures.len ∙ ap (λ (xs : List ℕ). length xs) (sym c.deref.ensures.value) in
     subst (λ (xs : List DiskId). All (λ d. d.0 < length c.deref.result.now) xs) (sym c.deref-2.ensures.value)
     (subst (λ n. All (λ d. d.0 < n) c.in_ok-stops.stops.items) len
-    (stops_there g.trips c.args.directions.now c.in_ok-stops.stops.items (length g.disks) c.in_ok-stops.ensures valid.leaves_there valid.reaches_there))
+    (stops_there g.transfers c.args.directions.now c.in_ok-stops.stops.items (length g.disks) c.in_ok-stops.ensures valid.leaves_there valid.reaches_there))
 
 pub join-requires-clause-enough : goal.join-requires-clause-enough
 join-requires-clause-enough c =

@@ -1,20 +1,20 @@
-use Rattle.mig_split.proofs.Common.{All, AreDecks, CopyId, Deck, DiskId, IsAfter, IsDealing, IsEnough, List, [], ap, arith, deck_at, disk_at, get_or, get_or_default, length, nat_le, no_deck, set}
+use Rattle.mig_split.proofs.Common.{All, AreDecks, CopyId, Deck, DiskId, IsAfter, IsDealing, IsEnough, List, [], ap, arith, deck_at, get_or, get_or_default, length, listed_disk, nat_le, no_deck, set}
 use Rattle.mig_split.proofs.Common.{subst, sym, ℕ, ◌++◌, ◌+◌, ◌<◌, ◌∙◌, ◌∷◌, ◌≡◌}
 use Rattle.mig_split.proofs.Turns.{IsDealtBy-all, IsDealing-more, AreDecks-set, some_copy, next_copy, IsNextCopy}
 use Rattle.mig_split.proofs.dealing.deal_by.Goals as goal
 
 -- the deck that is read has a copy to deal
 record IsReady (numbers : List ℕ) (stops homes : List DiskId) (decks : List Deck) (i : ℕ) (deck : Deck) : Type 0 where
-  there : disk_at stops i < length numbers
-  within : disk_at stops i < length decks
-  is : deck ≡ deck_at decks (disk_at stops i)
+  there : listed_disk stops i < length numbers
+  within : listed_disk stops i < length decks
+  is : deck ≡ deck_at decks (listed_disk stops i)
   next : IsNextCopy deck (length homes)
 
-ready : (q : ℕ) (numbers : List ℕ) (stops homes : List DiskId) (decks : List Deck) (copies : List CopyId) (i : ℕ) (deck : Deck) → All (λ d. d.0 < length numbers) stops → i < length stops → IsEnough q stops numbers → AreDecks numbers decks homes → IsDealing stops homes decks copies → deck ≡ get_or decks (disk_at stops i) deck → IsReady numbers stops homes decks i deck
+ready : (q : ℕ) (numbers : List ℕ) (stops homes : List DiskId) (decks : List Deck) (copies : List CopyId) (i : ℕ) (deck : Deck) → All (λ d. d.0 < length numbers) stops → i < length stops → IsEnough q stops numbers → AreDecks numbers decks homes → IsDealing stops homes decks copies → deck ≡ get_or decks (listed_disk stops i) deck → IsReady numbers stops homes decks i deck
 ready q numbers stops homes decks copies i deck all h enough a x read =
-    let there : disk_at stops i < length numbers = all i (record { 0 = 0 }) h in
-    let within : disk_at stops i < length decks = omega (arith, there, a.len) in
-    let is : deck ≡ deck_at decks (disk_at stops i) = read ∙ get_or_default decks (disk_at stops i) deck no_deck within in
+    let there : listed_disk stops i < length numbers = all i (record { 0 = 0 }) h in
+    let within : listed_disk stops i < length decks = omega (arith, there, a.len) in
+    let is : deck ≡ deck_at decks (listed_disk stops i) = read ∙ get_or_default decks (listed_disk stops i) deck no_deck within in
     record { there = there; within = within; is = is; next = next_copy q numbers decks homes stops copies i deck h there enough a x is }
 
 pub overflow_add-deck : goal.overflow_add-deck
@@ -30,7 +30,7 @@ after-requires-clause-next c = (ready c.args.q c.args.numbers.now c.args.stops.n
 pub loop-stop-preserved : goal.loop-stop-preserved
 loop-stop-preserved c =
     let i = c.loop-stop.stop-index in
-    let v = disk_at c.args.stops.now i in
+    let v = listed_disk c.args.stops.now i in
     let decks = c.loop-stop.decks.items in
     let numbers = c.args.numbers.now in
     let homes = c.in_ok-decks.homes.items in

@@ -1,5 +1,5 @@
-use Rattle.mig_split.proofs.Common.{disk_at, is_forward, length, tail_of, trip_at, ℕ, ◌<◌, ◌≡◌}
+use Rattle.mig_split.proofs.Common.{is_forward, length, listed_disk, tail_of, transfer_at, ℕ, ◌<◌, ◌≡◌}
 use Rattle.mig_split.proofs.ends.tails_of.Given as goal
 
 abbrev pub invariant-loop-edge : goal.invariant-loop-edge
-invariant-loop-edge l = record { len : length l.disks.items ≡ l.edge; known : (k : ℕ) → k < l.edge → disk_at l.disks.items k ≡ tail_of (trip_at l.graph.trips k) (is_forward l.directions k) }
+invariant-loop-edge l = record { len : length l.disks.items ≡ l.edge; known : (k : ℕ) → k < l.edge → listed_disk l.disks.items k ≡ tail_of (transfer_at l.graph.transfers k) (is_forward l.directions k) }

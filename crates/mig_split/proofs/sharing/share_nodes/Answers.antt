@@ -1,4 +1,4 @@
-use Rattle.mig_split.proofs.Common.{All, ArePairs, CopyId, IsShared, List, MAX_ITEMS, ap, arith, count_at, get_or_default, length, subst, sym, ℕ, ◌+◌, ◌-◌, ◌<◌, ◌∙◌, ◌≡◌, ◌≤◌}
+use Rattle.mig_split.proofs.Common.{All, AreCopyPairs, CopyId, IsShared, List, MAX_ITEMS, ap, arith, count_at, get_or_default, length, subst, sym, ℕ, ◌+◌, ◌-◌, ◌<◌, ◌∙◌, ◌≡◌, ◌≤◌}
 use Rattle.mig_split.proofs.Shared.{AreNodes-all, AreParted-all, few_nodes}
 use Rattle.mig_split.proofs.sharing.share_nodes.Goals as goal
 
@@ -13,7 +13,7 @@ share-requires-clause-most c =
     let s = c.args.sides.now in
     let firsts = c.in_ok-firsts.firsts.items in
     let seconds = c.in_ok-firsts.seconds.items in
-    let pairs : ArePairs firsts seconds s.left s.ends.items = subst (λ x. ArePairs firsts seconds s.left x) c.deref.ensures.value c.in_ok-firsts.ensures.pairs in
+    let pairs : AreCopyPairs firsts seconds s.left s.ends.items = subst (λ x. AreCopyPairs firsts seconds s.left x) c.deref.ensures.value c.in_ok-firsts.ensures.pairs in
     let parted = AreParted-all c.args.q s.left s.nodes s.ends.items firsts seconds c.requires.left c.requires.sides c.requires.most (omega (arith, c.in_ok-firsts.ensures.same)) pairs in
     subst (λ (x : List CopyId). (k : ℕ) → k < s.left → count_at k x ≤ c.args.q) (sym c.deref-2.ensures.value) parted.firsts_most
 
@@ -22,7 +22,7 @@ share-requires-2-clause-there c =
     let s = c.args.sides.now in
     let firsts = c.in_ok-firsts.firsts.items in
     let seconds = c.in_ok-firsts.seconds.items in
-    let pairs : ArePairs firsts seconds s.left s.ends.items = subst (λ x. ArePairs firsts seconds s.left x) c.deref.ensures.value c.in_ok-firsts.ensures.pairs in
+    let pairs : AreCopyPairs firsts seconds s.left s.ends.items = subst (λ x. AreCopyPairs firsts seconds s.left x) c.deref.ensures.value c.in_ok-firsts.ensures.pairs in
     let parted = AreParted-all c.args.q s.left s.nodes s.ends.items firsts seconds c.requires.left c.requires.sides c.requires.most (omega (arith, c.in_ok-firsts.ensures.same)) pairs in
     subst (λ (x : List CopyId). All (λ (k : CopyId). k.0 < s.nodes - s.left) x) (sym c.deref-3.ensures.value) parted.seconds_there
 
@@ -31,7 +31,7 @@ share-requires-2-clause-most c =
     let s = c.args.sides.now in
     let firsts = c.in_ok-firsts.firsts.items in
     let seconds = c.in_ok-firsts.seconds.items in
-    let pairs : ArePairs firsts seconds s.left s.ends.items = subst (λ x. ArePairs firsts seconds s.left x) c.deref.ensures.value c.in_ok-firsts.ensures.pairs in
+    let pairs : AreCopyPairs firsts seconds s.left s.ends.items = subst (λ x. AreCopyPairs firsts seconds s.left x) c.deref.ensures.value c.in_ok-firsts.ensures.pairs in
     let parted = AreParted-all c.args.q s.left s.nodes s.ends.items firsts seconds c.requires.left c.requires.sides c.requires.most (omega (arith, c.in_ok-firsts.ensures.same)) pairs in
     subst (λ (x : List CopyId). (k : ℕ) → k < s.nodes - s.left → count_at k x ≤ c.args.q) (sym c.deref-3.ensures.value) parted.seconds_most
 
@@ -68,9 +68,9 @@ returns c =
     let out = c.in_ok-out.out in
     let enter = c.in_ok-enter.enter in
     let new = c.in_ok-ends.ends.items in
-    let pairs : ArePairs firsts seconds s.left s.ends.items = subst (λ x. ArePairs firsts seconds s.left x) c.deref.ensures.value c.in_ok-firsts.ensures.pairs in
+    let pairs : AreCopyPairs firsts seconds s.left s.ends.items = subst (λ x. AreCopyPairs firsts seconds s.left x) c.deref.ensures.value c.in_ok-firsts.ensures.pairs in
     let outs : IsShared q firsts out.nodes out.stops.items = subst (λ (x : List CopyId). IsShared q x out.nodes out.stops.items) c.deref-2.ensures.value c.in_ok-out.ensures in
     let ins : IsShared q seconds enter.nodes enter.stops.items = subst (λ (x : List CopyId). IsShared q x enter.nodes enter.stops.items) c.deref-3.ensures.value c.in_ok-enter.ensures in
-    let joined : ArePairs out.stops.items enter.stops.items out.nodes new =
-    subst (λ (x : List CopyId). ArePairs x enter.stops.items out.nodes new) c.deref-4.ensures.value (subst (λ (x : List CopyId). ArePairs c.deref-4.result.now x out.nodes new) c.deref-5.ensures.value c.in_ok-ends.ensures) in
+    let joined : AreCopyPairs out.stops.items enter.stops.items out.nodes new =
+    subst (λ (x : List CopyId). AreCopyPairs x enter.stops.items out.nodes new) c.deref-4.ensures.value (subst (λ (x : List CopyId). AreCopyPairs c.deref-4.result.now x out.nodes new) c.deref-5.ensures.value c.in_ok-ends.ensures) in
     AreNodes-all q s.left s.nodes s.ends.items firsts seconds out.nodes enter.nodes out.stops.items enter.stops.items new c.requires.sides (omega (arith, c.in_ok-firsts.ensures.same)) pairs outs ins joined

@@ -1,4 +1,4 @@
-use Rattle.mig_store.proofs.Common.{AreDifferent, Entry, Held, IsWithin, List, ap, ask, asked_by, first_of, held_map, map-set_same, seen, slice_get, subst, sym, ℕ, ◌+◌, ◌∙◌}
+use Rattle.mig_store.proofs.Common.{AreDifferent, Entry, Held, IsWithinPeriod, List, ap, ask, asked_by, first_of, held_map, map-set_same, seen, slice_get, subst, sym, ℕ, ◌+◌, ◌∙◌}
 use Rattle.mig_store.proofs.EntryLists.{seen_at-set, seen_at-none, set_all, within_one, within_more}
 use Rattle.mig_store.proofs.contents.ask_at.Goals as goal
 
@@ -19,8 +19,8 @@ returns-in-Some-clause-first c =
 pub returns-in-Some-clause-within : goal.returns-in-Some-clause-within
 returns-in-Some-clause-within c = λ within.
     let d = c.index_mut.result.now in
-    set_all (IsWithin c.args.place c.args.period) (IsWithin (c.args.place + 1) c.args.period) (within_one c.args.place c.args.period) c.args.held.now.items c.in-Some.i (record { cell = d.cell; value = c.ask.new.self }) d within
-    (λ here. c.ask.ensures.within (subst (λ (h : Held Entry). IsWithin c.args.place c.args.period h.value) (sym c.index_mut.ensures.value) here))
+    set_all (IsWithinPeriod c.args.place c.args.period) (IsWithinPeriod (c.args.place + 1) c.args.period) (within_one c.args.place c.args.period) c.args.held.now.items c.in-Some.i (record { cell = d.cell; value = c.ask.new.self }) d within
+    (λ here. c.ask.ensures.within (subst (λ (h : Held Entry). IsWithinPeriod c.args.place c.args.period h.value) (sym c.index_mut.ensures.value) here))
 
 pub returns-in-None-clause-seen : goal.returns-in-None-clause-seen
 returns-in-None-clause-seen c = λ calls. seen_at-none calls c.args.period c.args.held.now.items c.args.cell.now (ask (asked_by (slice_get calls c.args.place)) c.args.done) (rw (← c.requires.cells) c.in-None.ensures.found)

@@ -1,4 +1,4 @@
-use Rattle.mig_store.proofs.Common.{AreDifferent, Entry, Held, IsWithin, List, ap, first_of, held_map, land, map-set_same, seen, subst, sym, ℕ, ◌∙◌}
+use Rattle.mig_store.proofs.Common.{AreDifferent, Entry, Held, IsWithinPeriod, List, ap, first_of, held_map, land, map-set_same, seen, subst, sym, ℕ, ◌∙◌}
 use Rattle.mig_store.proofs.EntryLists.{seen_at-set, seen_at-none, set_all}
 use Rattle.mig_store.proofs.contents.land_at.Goals as goal
 
@@ -21,5 +21,5 @@ returns-in-None-clause-seen c = λ calls. seen_at-none calls c.args.period c.arg
 pub returns-in-Some-clause-within : goal.returns-in-Some-clause-within
 returns-in-Some-clause-within c = λ count within.
     let d = c.index_mut.result.now in
-    set_all (IsWithin count c.args.period) (IsWithin count c.args.period) (λ e here. here) c.args.held.now.items c.in-Some.i (record { cell = d.cell; value = c.land.new.self }) d within
-    (λ here. c.land.ensures.within count (subst (λ (h : Held Entry). IsWithin count c.args.period h.value) (sym c.index_mut.ensures.value) here))
+    set_all (IsWithinPeriod count c.args.period) (IsWithinPeriod count c.args.period) (λ e here. here) c.args.held.now.items c.in-Some.i (record { cell = d.cell; value = c.land.new.self }) d within
+    (λ here. c.land.ensures.within count (subst (λ (h : Held Entry). IsWithinPeriod count c.args.period h.value) (sym c.index_mut.ensures.value) here))

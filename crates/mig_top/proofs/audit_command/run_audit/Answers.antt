@@ -1,4 +1,4 @@
-use Rattle.mig_top.proofs.Common.{IsAudit, Lists, err_from_is_err_and, finds}
+use Rattle.mig_top.proofs.Common.{InputLists, IsAudit, err_from_is_err_and, finds}
 use Rattle.mig_top.proofs.EndsOf.{stopped}
 use Rattle.mig_top.proofs.StoreEnds.{unread, untouched}
 use Rattle.mig_top.proofs.Auditing.{lines_end, sink_stops, store_stops}
@@ -6,7 +6,7 @@ use Rattle.mig_top.proofs.audit_command.run_audit.Goals as goal
 
 pub returns-in_err-input : goal.returns-in_err-input
 returns-in_err-input g c =
-    let rest = λ (input : Lists). finds (IsAudit input (g.S.Store.state c.args.store.now)) in
+    let rest = λ (input : InputLists). finds (IsAudit input (g.S.Store.state c.args.store.now)) in
     let p = err_from_is_err_and c.from_residual.result c.from_residual.ensures.1 in
     rw (p.1, p.2) (stopped (g.K.Sink.state c.args.out.now) c.in_err-input.field-0.0 (unread rest (λ o h. h) tt (λ o u. c.load_layout.ensures.same) untouched c.in_err-input.ensures.takes))
 

@@ -3,7 +3,7 @@ use Rattle.mig_top.proofs.EndsOf.{files_end, shown, stopped, unread_leaves}
 use Rattle.mig_top.proofs.OneSave.{drain_found, drain_saved, save_leaves}
 use Rattle.mig_top.proofs.Steps.{if_map}
 use Rattle.mig_top.specs.drain.Texts.{DrainLeaves, IsDrainFound}
-use Rattle.mig_words.specs.declared.endings.Ending.TheVariants.{FolderFault}
+use Rattle.mig_words.specs.declared.endings.CommandError.TheVariants.{FolderFault}
 use Rattle.mig_top.proofs.drain_command.run_drain.Goals as goal
 
 pub returns-in_err-text : goal.returns-in_err-text

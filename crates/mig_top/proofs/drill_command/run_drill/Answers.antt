@@ -1,5 +1,5 @@
 use Rattle.mig_top.proofs.Common.{DrillFault, IsDrillFault, Rose, arith, begins, drill_text, err_from_is_err_and, inl, inr, refl, subst, ◌≡◌}
-use Rattle.mig_words.specs.declared.endings.Ending.TheVariants as ending
+use Rattle.mig_words.specs.declared.endings.CommandError.TheVariants as ending
 use Rattle.mig_top.proofs.EndsOf.{files_end, shown, stopped, stopped_from}
 use Rattle.mig_top.proofs.drill_command.run_drill.Goals as goal
 

@@ -3,7 +3,7 @@ use Rattle.mig_top.proofs.EndsOf.{files_end, one_changed, shown, stopped, unread
 use Rattle.mig_top.proofs.PlanSaves.{are_saved, half_saved}
 use Rattle.mig_top.proofs.Steps.{if_map}
 use Rattle.mig_top.specs.plan.Leaves.{PlanLeaves}
-use Rattle.mig_words.specs.declared.endings.Ending.TheVariants.{FolderFault}
+use Rattle.mig_words.specs.declared.endings.CommandError.TheVariants.{FolderFault}
 use Rattle.mig_top.proofs.plan_command.run_plan.Goals as goal
 
 pub returns-in_err-texts : goal.returns-in_err-texts

@@ -1,5 +1,5 @@
 use Rattle.mig_top.proofs.Common.{err_from_is_err_and}
-use Rattle.mig_words.specs.declared.endings.Ending.TheVariants as ending
+use Rattle.mig_words.specs.declared.endings.CommandError.TheVariants as ending
 use Rattle.mig_top.proofs.EndsOf.{shown, stopped}
 use Rattle.mig_top.proofs.rehearse_command.run_rehearse.Goals as goal
 

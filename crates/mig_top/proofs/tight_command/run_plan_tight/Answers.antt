@@ -3,7 +3,7 @@ use Rattle.mig_top.proofs.EndsOf.{files_end, shown, stopped, unread_leaves}
 use Rattle.mig_top.proofs.OneSave.{save_leaves, tight_found, tight_saved}
 use Rattle.mig_top.proofs.Steps.{if_map}
 use Rattle.mig_top.specs.plan_tight.Texts.{IsTightFound, TightLeaves}
-use Rattle.mig_words.specs.declared.endings.Ending.TheVariants.{FolderFault}
+use Rattle.mig_words.specs.declared.endings.CommandError.TheVariants.{FolderFault}
 use Rattle.mig_top.proofs.tight_command.run_plan_tight.Goals as goal
 
 pub returns-in_err-text : goal.returns-in_err-text

@@ -10,12 +10,12 @@ returns c =
     let is = c.in_ok-labels.ensures in
     let valid = c.requires.valid in
     let sums = subst (λ (x : List ℕ). AreLimitSums g x (length g.disks) c.in_ok-sums.sums.items) c.deref.ensures.value c.in_ok-sums.ensures in
-    let insides = subst (λ (x : List ℕ). AreInsides x g.trips c.in_ok-insides.insides.items) c.deref-2.ensures.value c.in_ok-insides.ensures in
+    let insides = subst (λ (x : List ℕ). AreInsides x g.transfers c.in_ok-insides.insides.items) c.deref-2.ensures.value c.in_ok-insides.ensures in
     record {
       labelling = is;
       sums_len = sums.len ∙ is.len;
       sum = λ r h. sums.sum r (omega (arith, h, is.len)) ∙ ap (λ n. limit_sum g (filter (λ v. eqb (get_or labels v 0) r) (range_with_len 0 n))) (sym is.len);
       insides_len = insides.len ∙ is.len;
       inside = λ r h. insides.count r (omega (arith, h, is.len)) ∙ sym (inside_labelled g labels r valid is);
-      inside_most = λ r h. omega (arith, inside_small labels c.in_ok-insides.insides.items g.trips r (omega (arith, h, is.len)) insides, valid.edges_most);
+      inside_most = λ r h. omega (arith, inside_small labels c.in_ok-insides.insides.items g.transfers r (omega (arith, h, is.len)) insides, valid.edges_most);
     }

@@ -1,7 +1,7 @@
-use Rattle.mig_calls.proofs.Common.{Memory, NoByte, ap, arith, false}
+use Rattle.mig_calls.proofs.Common.{FileMemory, NoByte, ap, arith, false}
 use Rattle.mig_calls.proofs.MemorySteps.{kept_at}
 use Rattle.mig_calls.proofs.memory.MemCalls.give_up.Goals as goal
 
 pub returns-clause-look : goal.returns-clause-look
-returns-clause-look c = kept_at NoByte c.args.self.now c.self.inside.disk _ _ _ _ false (ap (λ (m : Memory). m.steps) c.self.view_is)
-    (omega (arith, ap (λ (m : Memory). m.refused) c.self.view_is))
+returns-clause-look c = kept_at NoByte c.args.self.now c.self.inside.disk _ _ _ _ false (ap (λ (m : FileMemory). m.steps) c.self.view_is)
+    (omega (arith, ap (λ (m : FileMemory). m.refused) c.self.view_is))

@@ -1,4 +1,4 @@
-use Rattle.mig_calls.proofs.Common.{IsWithin, Memory, Wrote, ap, arith, length}
+use Rattle.mig_calls.proofs.Common.{FileMemory, IsWithin, Wrote, ap, arith, length}
 use Rattle.mig_calls.proofs.FileLists.{on_ok}
 use Rattle.mig_calls.proofs.FilesSteps.{either}
 use Rattle.mig_calls.proofs.MemorySteps.{kept_change, kept_touches, touches, wrote_has, wrote_given}
@@ -20,5 +20,5 @@ returns-in-Ok-clause-flags c = either c.change.result c.change.ensures.done c.ch
 
 pub returns-in-Err-clause-change : goal.returns-in-Err-clause-change
 returns-in-Err-clause-change c =
-    kept_change (IsWithin c.args.place.now c.args.at (length c.args.values.now)) c.args.self.now c.fail.new.self (ap (λ (m : Memory). m.steps) c.fail.ensures.same)
-    (omega (arith, ap (λ (m : Memory). m.refused) c.fail.ensures.same))
+    kept_change (IsWithin c.args.place.now c.args.at (length c.args.values.now)) c.args.self.now c.fail.new.self (ap (λ (m : FileMemory). m.steps) c.fail.ensures.same)
+    (omega (arith, ap (λ (m : FileMemory). m.refused) c.fail.ensures.same))

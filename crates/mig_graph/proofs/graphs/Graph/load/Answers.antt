@@ -10,7 +10,7 @@ overflow_add-result c =
 pub returns-clause-load : goal.returns-clause-load
 returns-clause-load c =
     let there = ap (λ (t : Transfers). length t.disks) c.self.view_is in
-    both_loads c.self.inside c.args.disk.0 _ _ c.self.invariant (omega (arith, c.requires, there)) c.index.ensures c.index-2.ensures ∙ ap (λ (t : Transfers). load c.args.disk.0 t.trips) c.self.view_is
+    both_loads c.self.inside c.args.disk.0 _ _ c.self.invariant (omega (arith, c.requires, there)) c.index.ensures c.index-2.ensures ∙ ap (λ (t : Transfers). load c.args.disk.0 t.transfers) c.self.view_is
 
 pub returns-clause-most : goal.returns-clause-most
 returns-clause-most c =

@@ -5,5 +5,5 @@ use Rattle.mig_graph.proofs.graphs.Graph.out_load.Goals as goal
 pub returns-clause-most : goal.returns-clause-most
 returns-clause-most c =
     let g = c.self.inside in
-    let few = few_loads Outgoing g.disks.items (transfers_of g).trips g.outgoing.items c.self.invariant.graph.edges_most c.self.invariant.outgoing in
+    let few = few_loads Outgoing g.disks.items (transfers_of g).transfers g.outgoing.items c.self.invariant.graph.edges_most c.self.invariant.outgoing in
     subst (λ n. n ≤ MAX_ITEMS) (sym c.index.ensures) (few.most c.args.disk.0 c.index.result.now (omega (arith, c.requires, ap (λ (t : Transfers). length t.disks) c.self.view_is, few.len)))

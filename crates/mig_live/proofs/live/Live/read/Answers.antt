@@ -1,6 +1,6 @@
 use Rattle.std.specs.Option.{IsSomeAnd}
 use Rattle.mig_journal.proofs.Steps.{err_any, looks_then, remembers_synced}
-use Rattle.mig_live.proofs.Common.{Cell, Image, List, Lists, Option, Session, [], ap, arith, done_in, flights, item_name, length, look_quiet}
+use Rattle.mig_live.proofs.Common.{Cell, Image, InputLists, List, Option, Session, [], ap, arith, done_in, flights, item_name, length, look_quiet}
 use Rattle.mig_live.proofs.Common.{on_ok_is, same_image, subst, sym, ℕ, ◌<◌, ◌∙◌, ◌≡◌}
 use Rattle.mig_live.proofs.SeenSteps.{seen_read}
 use Rattle.mig_live.specs.Sessions.{InSight, IsSeenAtStep}
@@ -35,7 +35,7 @@ named : (g : given.Over) (c : goal.After-expects g) → c.index-items-item.resul
 named g c =
     let input = c.self.inside.job.now.input in
     name_is input c.args.item.0 (subst (λ (l : Session). c.args.item.0 < length l.task.input.items) (sym c.self.view_is) c.requires.item)
-    c.items.result.now (c.items.ensures.value ∙ ap (λ (l : Lists). l.items) c.input.ensures.value) c.index-items-item.result c.index-items-item.is
+    c.items.result.now (c.items.ensures.value ∙ ap (λ (l : InputLists). l.items) c.input.ensures.value) c.index-items-item.result c.index-items-item.is
 
 pub returns-in_err-expects-clause-cause : goal.returns-in_err-expects-clause-cause
 returns-in_err-expects-clause-cause g c =

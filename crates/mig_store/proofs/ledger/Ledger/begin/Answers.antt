@@ -1,4 +1,4 @@
-use Rattle.mig_store.proofs.Common.{AreWithin, Call, Contents, Copies, Event, Flight, Held, IsMoment, IsSome, IsSourceOf, IsTargetOf, List, Log, Some, [], after_call, after_events, ap, arith}
+use Rattle.mig_store.proofs.Common.{AreWithin, CellBytes, Copies, Event, Flight, Held, IsMoment, IsSome, IsSourceOf, IsTargetOf, List, Log, Some, StoreCall, [], after_call, after_events, ap, arith}
 use Rattle.mig_store.proofs.Common.{ask, began, cell_len, change_at, cond-false, cond-true, false, firsts, flights_began, flying, held_at, length, length-append, moment_of, reads, refl, seen_all}
 use Rattle.mig_store.proofs.Common.{subst, sym, true, ℕ, ◌++◌, ◌+◌, ◌<◌, ◌∙◌, ◌∷◌, ◌≡◌}
 use Rattle.mig_store.proofs.EntryLists.{asked_last, same_cells, seen_more, within_all}
@@ -21,7 +21,7 @@ invariant_of-self c =
     let noted : new ≡ old ++ Copies f.from f.to bytes c.args.done ∷ [] =
     source_held log c.self.inside.period c.self.inside.held.items is.cells f.from told (λ b. new ≡ old ++ Copies f.from f.to b c.args.done ∷ []) c.deref.result.now c.deref.ensures.value c.note_copy.ensures.calls in
     let fits : length bytes ≡ cell_len f.to = source_long log c.self.inside.period c.self.inside.held.items is.cells f.from told is.moment ∙ c.requires.length in
-    let call : Call = Copies f.from f.to bytes c.args.done in
+    let call : StoreCall = Copies f.from f.to bytes c.args.done in
     let m = moment_of log in
     let moment : IsMoment (after_call (moment_of log) (Copies f.from f.to bytes c.args.done)) =
     (asked_moment (moment_of log) is.moment f bytes c.args.done fits c.requires.flight
@@ -35,7 +35,7 @@ invariant_of-self c =
       logged log (seen_all old c.self.inside.period c.self.inside.held.items) (seen_all new c.self.inside.period c.ask_at.new.held.items) c.self.inside.events.items c.push.new.list.items c.self.inside.flying.items c.push-then-done.new.list.items
           (Copies f.from f.to bytes c.args.done) is room
           (c.ask_at.ensures.seen new ∙ ap (λ (b : List ℕ). change_at (ask b false) f.to (held_at (seen_all new c.self.inside.period c.self.inside.held.items))) (asked_last old new call c.len-place.result noted place)
-          ∙ ap (λ (l : List (Held Contents)). change_at (ask bytes false) f.to (held_at l)) (seen_more old call new c.self.inside.period c.self.inside.period c.self.inside.held.items noted c.self.invariant.2)
+          ∙ ap (λ (l : List (Held CellBytes)). change_at (ask bytes false) f.to (held_at l)) (seen_more old call new c.self.inside.period c.self.inside.period c.self.inside.held.items noted c.self.invariant.2)
           ∙ ap (change_at (ask bytes false) f.to) is.cells)
           (c.push.ensures.items ∙ ap (λ (l : List Event). l ++ began f ∷ []) is.events ∙ sym (cond-true _ _ _ done))
           (c.push-then-done.ensures.items ∙ ap (λ (l : List Flight). l ++ f ∷ []) is.flights ∙ sym (ap (after_events []) (cond-true _ _ _ done) ∙ flights_began [] m.events f))
@@ -46,7 +46,7 @@ invariant_of-self c =
       c.self.invariant.1 ∙ sym (same_cells c.self.inside.held.items c.ask_at.new.held.items c.ask_at.ensures.first),
       within_all old new call c.self.inside.period c.ask_at.new.held.items noted (subst (λ (n : ℕ). AreWithin (n + 1) c.self.inside.period c.ask_at.new.held.items) place (c.ask_at.ensures.within (subst (λ (n : ℕ). AreWithin n c.self.inside.period c.self.inside.held.items) (sym place) c.self.invariant.2))),
       c.self.invariant.3,
-      omega (arith, c.self.invariant.4, ap (λ (l : List Call). length l) noted, length-append c.self.inside.calls.calls (Copies f.from f.to bytes c.args.done ∷ [])),
+      omega (arith, c.self.invariant.4, ap (λ (l : List StoreCall). length l) noted, length-append c.self.inside.calls.calls (Copies f.from f.to bytes c.args.done ∷ [])),
       omega (arith, c.note_copy.ensures.room, c.self.invariant.5),
       omega (arith, c.push.ensures.capacity, c.self.invariant.6),
       omega (arith, c.push-then-done.ensures.capacity, c.self.invariant.7),
@@ -66,7 +66,7 @@ invariant_of-self-else-done c =
     let noted : new ≡ old ++ Copies f.from f.to bytes c.args.done ∷ [] =
     source_held log c.self.inside.period c.self.inside.held.items is.cells f.from told (λ b. new ≡ old ++ Copies f.from f.to b c.args.done ∷ []) c.deref.result.now c.deref.ensures.value c.note_copy.ensures.calls in
     let fits : length bytes ≡ cell_len f.to = source_long log c.self.inside.period c.self.inside.held.items is.cells f.from told is.moment ∙ c.requires.length in
-    let call : Call = Copies f.from f.to bytes c.args.done in
+    let call : StoreCall = Copies f.from f.to bytes c.args.done in
     let m = moment_of log in
     let moment : IsMoment (after_call (moment_of log) (Copies f.from f.to bytes c.args.done)) =
     (asked_moment (moment_of log) is.moment f bytes c.args.done fits c.requires.flight
@@ -80,7 +80,7 @@ invariant_of-self-else-done c =
       logged log (seen_all old c.self.inside.period c.self.inside.held.items) (seen_all new c.self.inside.period c.ask_at.new.held.items) c.self.inside.events.items c.self.inside.events.items c.self.inside.flying.items c.self.inside.flying.items
           (Copies f.from f.to bytes c.args.done) is room
           (c.ask_at.ensures.seen new ∙ ap (λ (b : List ℕ). change_at (ask b false) f.to (held_at (seen_all new c.self.inside.period c.self.inside.held.items))) (asked_last old new call c.len-place.result noted place)
-          ∙ ap (λ (l : List (Held Contents)). change_at (ask bytes false) f.to (held_at l)) (seen_more old call new c.self.inside.period c.self.inside.period c.self.inside.held.items noted c.self.invariant.2)
+          ∙ ap (λ (l : List (Held CellBytes)). change_at (ask bytes false) f.to (held_at l)) (seen_more old call new c.self.inside.period c.self.inside.period c.self.inside.held.items noted c.self.invariant.2)
           ∙ ap (change_at (ask bytes false) f.to) is.cells)
           (is.events ∙ sym (cond-false _ _ _ done))
           (is.flights ∙ sym (ap (after_events []) (cond-false _ _ _ done)))
@@ -91,7 +91,7 @@ invariant_of-self-else-done c =
       c.self.invariant.1 ∙ sym (same_cells c.self.inside.held.items c.ask_at.new.held.items c.ask_at.ensures.first),
       within_all old new call c.self.inside.period c.ask_at.new.held.items noted (subst (λ (n : ℕ). AreWithin (n + 1) c.self.inside.period c.ask_at.new.held.items) place (c.ask_at.ensures.within (subst (λ (n : ℕ). AreWithin n c.self.inside.period c.self.inside.held.items) (sym place) c.self.invariant.2))),
       c.self.invariant.3,
-      omega (arith, c.self.invariant.4, ap (λ (l : List Call). length l) noted, length-append c.self.inside.calls.calls (Copies f.from f.to bytes c.args.done ∷ [])),
+      omega (arith, c.self.invariant.4, ap (λ (l : List StoreCall). length l) noted, length-append c.self.inside.calls.calls (Copies f.from f.to bytes c.args.done ∷ [])),
       omega (arith, c.note_copy.ensures.room, c.self.invariant.5),
       c.self.invariant.6,
       c.self.invariant.7,

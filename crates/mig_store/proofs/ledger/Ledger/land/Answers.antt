@@ -1,4 +1,4 @@
-use Rattle.mig_store.proofs.Common.{Call, Contains, Contents, Event, Flight, Held, Lands, List, Log, [], ap, arith, change_at, ended, firsts, flights_remove, flying, get_or, held_at, land}
+use Rattle.mig_store.proofs.Common.{CellBytes, Contains, Event, Flight, Held, Lands, List, Log, StoreCall, [], ap, arith, change_at, ended, firsts, flights_remove, flying, get_or, held_at, land}
 use Rattle.mig_store.proofs.Common.{length, length-append, moment_of, remove, seen_all, subst, sym, ◌++◌, ◌<◌, ◌∙◌, ◌∷◌, ◌≡◌}
 use Rattle.mig_store.proofs.EntryLists.{same_cells, seen_more, within_all, within_more}
 use Rattle.mig_store.proofs.Logs.{logged}
@@ -18,7 +18,7 @@ invariant_of-self c =
     let room : length log.calls < log.room = subst (λ (l : Log). length l.calls < l.room) (sym c.self.view_is) c.requires.room in (
       logged log (seen_all old c.self.inside.period c.self.inside.held.items) (seen_all new c.self.inside.period c.land_at.new.held.items) c.self.inside.events.items c.push.new.list.items c.self.inside.flying.items c.remove-flight.new.self.items
           (Lands f.from f.to) is room
-          (c.land_at.ensures.seen new ∙ ap (λ (l : List (Held Contents)). change_at land f.to (held_at l)) (seen_more old (Lands f.from f.to) new c.self.inside.period c.self.inside.period c.self.inside.held.items c.note.ensures.calls c.self.invariant.2)
+          (c.land_at.ensures.seen new ∙ ap (λ (l : List (Held CellBytes)). change_at land f.to (held_at l)) (seen_more old (Lands f.from f.to) new c.self.inside.period c.self.inside.period c.self.inside.held.items c.note.ensures.calls c.self.invariant.2)
           ∙ ap (change_at land f.to) is.cells)
           (c.push.ensures.items ∙ ap (λ (l : List Event). l ++ ended f ∷ []) is.events)
           (c.remove-flight.ensures.items ∙ ap (λ (l : List Flight). remove l c.args.index) is.flights
@@ -29,7 +29,7 @@ invariant_of-self c =
       c.self.invariant.1 ∙ sym (same_cells c.self.inside.held.items c.land_at.new.held.items c.land_at.ensures.first),
       within_all old new (Lands f.from f.to) c.self.inside.period c.land_at.new.held.items c.note.ensures.calls (within_more (length old) c.self.inside.period c.land_at.new.held.items (c.land_at.ensures.within (length old) c.self.invariant.2)),
       c.self.invariant.3,
-      omega (arith, c.self.invariant.4, ap (λ (l : List Call). length l) c.note.ensures.calls, length-append c.self.inside.calls.calls (Lands f.from f.to ∷ [])),
+      omega (arith, c.self.invariant.4, ap (λ (l : List StoreCall). length l) c.note.ensures.calls, length-append c.self.inside.calls.calls (Lands f.from f.to ∷ [])),
       omega (arith, c.note.ensures.room, c.self.invariant.5),
       omega (arith, c.push.ensures.capacity, c.self.invariant.6),
       omega (arith, c.remove-flight.ensures.capacity, c.self.invariant.7),

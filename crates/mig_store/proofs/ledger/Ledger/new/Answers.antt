@@ -1,4 +1,4 @@
-use Rattle.mig_store.proofs.Common.{AreWithin, Call, Cell, Contents, Entry, Event, Flight, Held, IsLog, List, [], ap, arith, cell_of, firsts, fresh, held_at, held_map, length, map, option_map, seen_all}
+use Rattle.mig_store.proofs.Common.{AreWithin, Cell, CellBytes, Entry, Event, Flight, Held, IsLog, List, StoreCall, [], ap, arith, cell_of, firsts, fresh, held_at, held_map, length, map, option_map, seen_all}
 use Rattle.mig_store.proofs.Common.{subst, sym, zero_entry, zero_held, ℕ, ◌+◌, ◌∙◌, ◌≡◌, ◌≤◌}
 use Rattle.mig_store.proofs.CellLists.{held_at-map, zero-lengths}
 use Rattle.mig_store.proofs.Crashes.{HaveLengths, fresh_log}
@@ -16,7 +16,7 @@ module _ (cells : List Cell) (items : List (Held Entry)) (zero : items ≡ map z
   is_first : firsts items ≡ map zero_held cells
   is_first = ap firsts zero ∙ firsts_zero cells
 
-  module _ (calls : List Call) where
+  module _ (calls : List StoreCall) where
     is_held : seen_all calls 1 items ≡ map (held_map fresh) (firsts items)
     is_held = ap (seen_all calls 1) zero ∙ seen_zero calls cells ∙ ap (λ (l : List (Held (List ℕ))). map (held_map fresh) l) (sym is_first)
 
@@ -24,7 +24,7 @@ module _ (cells : List Cell) (items : List (Held Entry)) (zero : items ≡ map z
     is_log none room events no_events flying no_flying =
         let first = firsts items in
         let held = seen_all calls 1 items in
-        let shown : held_at held ≡ (λ cell. option_map fresh (held_at first cell)) = ap (λ (l : List (Held Contents)). held_at l) is_held ∙ (λ i cell. held_at-map fresh first cell i) in
+        let shown : held_at held ≡ (λ cell. option_map fresh (held_at first cell)) = ap (λ (l : List (Held CellBytes)). held_at l) is_held ∙ (λ i cell. held_at-map fresh first cell i) in
         let lengths : HaveLengths (held_at first) = subst (λ (l : List (Held (List ℕ))). HaveLengths (held_at l)) (sym is_first) (zero-lengths cells) in
         subst (λ (l : List Event). IsLog (record { first = first; calls = calls; room = room }) held l flying) (sym no_events)
         (subst (λ (l : List Flight). IsLog (record { first = first; calls = calls; room = room }) held [] l) (sym no_flying) (fresh_log first held shown lengths room calls none))

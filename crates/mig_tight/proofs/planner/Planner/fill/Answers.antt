@@ -1,9 +1,9 @@
-use Rattle.mig_tight.proofs.Common.{IsSound, ItemId, List, Lists, PlanState, Preserves, ap, arith, false≢true, length, on_ok_weaker, queue_at, set, shifted, spot_at, subst, sym, ℕ, ◌<◌, ◌≡◌}
+use Rattle.mig_tight.proofs.Common.{InputLists, IsSoundState, ItemId, List, PlanState, Preserves, ap, arith, false≢true, length, on_ok_weaker, queue_at, set, shifted, spot_at, subst, sym, ℕ, ◌<◌, ◌≡◌}
 use Rattle.mig_tight.proofs.StateSteps.{item_there_read, read_queue, IsSound-read, Preserves-read}
 use Rattle.mig_tight.proofs.planner.Planner.fill.Goals as goal
 
-sound : (input : Lists) (a s : PlanState) → a ≡ s → IsSound input s → IsSound input a
-sound input a s e st = let P : PlanState → Type 0 = λ t. IsSound input t in subst P (sym e) st
+sound : (input : InputLists) (a s : PlanState) → a ≡ s → IsSoundState input s → IsSoundState input a
+sound input a s e st = let P : PlanState → Type 0 = λ t. IsSoundState input t in subst P (sym e) st
 
 spare_there : (h : ℕ) (a s : PlanState) → a ≡ s → h < length s.spares → h < length a.spares
 spare_there h a s e lt = let P : PlanState → Type 0 = λ t. h < length t.spares in subst P (sym e) lt
@@ -25,7 +25,7 @@ shift-requires-clause-item c =
 pub returns-clause-sound : goal.returns-clause-sound
 returns-clause-sound c =
     let a : PlanState = record { spots = c.self.inside.spots.items; spares = c.self.inside.spares.items; waiting = c.self.inside.waiting.items; rounds = c.self.inside.rounds.items } in
-    let P : PlanState → Type 0 = λ s. IsSound c.args.input.now s in
+    let P : PlanState → Type 0 = λ s. IsSoundState c.args.input.now s in
     on_ok_weaker c.shift.result (λ e. subst P (sym e) (IsSound-read c.args.input.now c.keeps_rules.ensures a (sound c.args.input.now a c.args.self.now c.self.view_is c.requires.sound) c.args.spare (spare_there c.args.spare a c.args.self.now c.self.view_is c.requires.spare) c.index.result.now c.index.ensures c.index_mut.result.now c.pop.new.self c.in-Some.item c.index_mut.ensures.value c.in-Some.ensures.taken)) c.shift.ensures
 
 pub returns-clause-preserves : goal.returns-clause-preserves

@@ -1,4 +1,4 @@
-use Rattle.mig_tight.proofs.Common.{Err, IsSound, Ok, OnOk, PlanState, Preserves, Result, on_ok_weaker, spot_at, subst, sym, ◌≢◌}
+use Rattle.mig_tight.proofs.Common.{Err, IsSoundState, Ok, OnOk, PlanState, Preserves, Result, on_ok_weaker, spot_at, subst, sym, ◌≢◌}
 use Rattle.mig_tight.proofs.StateSteps.{IsSound-parked, Preserves-parked, moved_now, Preserves-trans, all_unawaited}
 use Rattle.mig_tight.proofs.planner.Planner.park.Goals as goal
 
@@ -8,7 +8,7 @@ both (Err e) f p q = tt
 
 pub settle-requires-clause-sound : goal.settle-requires-clause-sound
 settle-requires-clause-sound c =
-    let P : PlanState → Type 0 = λ s. IsSound c.args.input.now s in
+    let P : PlanState → Type 0 = λ s. IsSoundState c.args.input.now s in
     subst P (sym c.in_ok-shift.ensures) (IsSound-parked c.args.input.now c.keeps_rules.ensures c.args.self.now c.requires.sound c.requires.unawaited c.requires.spare c.args.item.0 c.requires.there c.requires.relocated c.requires.unmoved c.requires.awaited)
 
 pub returns-clause-preserves : goal.returns-clause-preserves

@@ -1,5 +1,5 @@
 use Rattle.mig_store.proofs.Common.{All, IsSpan, List, Note, length, subst, sym, ℕ}
-use Rattle.mig_store.proofs.calls.Calls.asked.Goals as goal
+use Rattle.mig_store.proofs.calls.CallRecord.asked.Goals as goal
 
 pub part-requires : goal.part-requires
 part-requires c =

@@ -1,5 +1,5 @@
 use Rattle.mig_files.proofs.DiskLists.{removed_kept, shorter}
-use Rattle.mig_files.proofs.disk_set.DiskSet.remove.Goals as goal
+use Rattle.mig_files.proofs.disk_set.NamedDisks.remove.Goals as goal
 
 pub returns-clause-kept : goal.returns-clause-kept
 returns-clause-kept c = rw (← c.self.view_is) (λ p out has. removed_kept c.self.inside.names.keys _ c.args.name.now p (c.swap_remove.ensures.updates.2 p) out has)

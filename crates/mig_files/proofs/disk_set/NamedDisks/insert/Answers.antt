@@ -1,7 +1,7 @@
 use Rattle.mig_files.proofs.Common.{Contains, List, subst, sym, ℕ}
 use Rattle.mig_files.proofs.DiskLists.{inserted}
-use Rattle.mig_files.proofs.disk_set.DiskSet.insert.Goals as goal
-use Rattle.mig_files.proofs.disk_set.DiskSet.insert.Goals.{in-Ok, in-Err}
+use Rattle.mig_files.proofs.disk_set.NamedDisks.insert.Goals as goal
+use Rattle.mig_files.proofs.disk_set.NamedDisks.insert.Goals.{in-Ok, in-Err}
 
 pub returns-clause-noted : goal.returns-clause-noted
 returns-clause-noted c = elim c.match-insert.branch [

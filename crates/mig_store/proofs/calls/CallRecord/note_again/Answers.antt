@@ -1,6 +1,6 @@
 use Rattle.mig_store.proofs.Common.{All, IsSpan, List, Note, Recorded, [], ap, arith, asked_by, call_with, calls_of, length, slice_get, slice_range, subst, sym, ◌++◌, ◌<◌, ◌∙◌, ◌∷◌, ◌≡◌}
 use Rattle.mig_store.proofs.NoteLists.{calls_more, noted_more, long_more, room_left}
-use Rattle.mig_store.proofs.calls.Calls.note_again.Goals as goal
+use Rattle.mig_store.proofs.calls.CallRecord.note_again.Goals as goal
 
 pub returns-clause-calls : goal.returns-clause-calls
 returns-clause-calls c =

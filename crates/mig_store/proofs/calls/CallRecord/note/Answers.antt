@@ -1,6 +1,6 @@
 use Rattle.mig_store.proofs.Common.{Recorded, [], ap, arith, call_with, ◌++◌, ◌∙◌, ◌∷◌}
 use Rattle.mig_store.proofs.NoteLists.{calls_note, noted_note, long_more, room_left}
-use Rattle.mig_store.proofs.calls.Calls.note.Goals as goal
+use Rattle.mig_store.proofs.calls.CallRecord.note.Goals as goal
 
 pub invariant_of-self : goal.invariant_of-self
 invariant_of-self c = (

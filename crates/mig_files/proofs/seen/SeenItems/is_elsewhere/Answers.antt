@@ -1,6 +1,6 @@
 use Rattle.mig_files.proofs.Common.{List, Option, ap, is_item, one_if, sym, ℕ, ◌∙◌}
 use Rattle.mig_files.proofs.SeenItems.{is_elsewhere}
-use Rattle.mig_files.proofs.seen.Seen.is_elsewhere.Goals as goal
+use Rattle.mig_files.proofs.seen.SeenItems.is_elsewhere.Goals as goal
 
 pub returns-in-Some : goal.returns-in-Some
 returns-in-Some c = rw (← c.self.view_is) (is_elsewhere c.args.item.now c.args.slot.now 1 c.count_in-count.result c.self.invariant

@@ -1,5 +1,5 @@
 use Rattle.mig_words.proofs.Common.{rules}
-use Rattle.mig_words.proofs.endings.EndingFromInputError.from.Goals as goal
+use Rattle.mig_words.proofs.endings.CommandErrorFromInputError.from.Goals as goal
 
 pub returns-in-Refused : goal.returns-in-Refused
 returns-in-Refused c = search rules

@@ -1,6 +1,6 @@
 use Rattle.mig_store.proofs.Common.{List, Note, Recorded, ap, arith, count_by, is_sync, length, sym, take_all, ◌∙◌}
 use Rattle.mig_store.proofs.NoteLists.{notes_sync, syncs_of}
-use Rattle.mig_store.proofs.calls.Calls.syncs.Goals as goal
+use Rattle.mig_store.proofs.calls.CallRecord.syncs.Goals as goal
 
 pub overflow_add-syncs : goal.overflow_add-syncs
 overflow_add-syncs c = omega (arith, c.self.invariant.1, ap (λ (l : List Note). length l) c.deref-note-items.ensures.value)
