@@ -41,7 +41,7 @@ pub use Rattle.mig_drill.specs.declared.writes.Write.TheVariants.{ClearMark, Cop
 pub use Rattle.mig_io.specs.Held.{SinkState}
 pub use Rattle.mig_jobs.proofs.JobRounds.{no_shift, round_is}
 pub use Rattle.mig_journal.proofs.Steps.{on_ok_is, still_none, sync_same, then_step}
-pub use Rattle.mig_lanes.specs.LaneSteps.{later_rounds}
+pub use Rattle.mig_lanes.specs.LaneSteps.{FliesOn, later_rounds}
 pub use Rattle.mig_lanes.specs.Runs.{Finishes}
 pub use Rattle.mig_mover.proofs.TargetLaws.{in_round}
 pub use Rattle.mig_mover.specs.Moves.{Keeps}

@@ -1,9 +1,9 @@
 -- How a store is filled, write by write.
 use Rattle.mig_drill.proofs.Common.{All, All-contains, AllWithin, AreJobCells, Bool, Cell, CellBytes, Contains, Contains-get_or, Err, Held, IfSome, Image, IsInput, IsPrepared, IsZeroed, StoreCall}
-use Rattle.mig_drill.proofs.Common.{HoldsMade, InputLists, IsJobCell, IsListedCell, IsShifted, IsSome, IsState, IsTask, List, Memory, None, Ok, OnOk, Option, Result, SameBut, Shift, Some, State}
+use Rattle.mig_drill.proofs.Common.{HoldsMade, InputLists, IsListedCell, IsShifted, IsSome, IsState, IsTask, List, Memory, None, Ok, OnOk, Option, Result, SameBut, Shift, Some, State}
 use Rattle.mig_drill.proofs.Common.{StaysTold, Task, TellsJob, [], ap, arith, cases_cell, cases_eq, cases_lt, cond, false, false≢true, fresh, get_or, get_or_default, held_at, in_round, inl, inr}
-use Rattle.mig_drill.proofs.Common.{is_cell, is_cell-same, item_cell, item_name, length, made_slot, map, no_spot, option_map, refl, round_at, shape_told, slot_apart, slot_of, spot_disk, state_at}
-use Rattle.mig_drill.proofs.Common.{state_of, subst, suc, sym, true, zero, zero_bytes, zero_held, ℕ, ⊎_elim, ◌+◌, ◌<◌, ◌∙◌, ◌∷◌, ◌≡◌, ◌≤◌, ◌⊎◌}
+use Rattle.mig_drill.proofs.Common.{is_cell, is_cell-same, item_cell, item_name, length, made_slot, map, no_spot, option_map, refl, round_at, shape_told, slot_apart, spot_disk, state_at}
+use Rattle.mig_drill.proofs.Common.{state_of, subst, suc, sym, true, zero, zero_bytes, zero_held, ℕ, ◌+◌, ◌<◌, ◌∙◌, ◌∷◌, ◌≡◌, ◌≤◌, ◌⊎◌}
 use Rattle.mig_drill.proofs.ItemLists.{shifted_item}
 
 -- Cells that are told

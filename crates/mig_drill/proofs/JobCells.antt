@@ -1,8 +1,8 @@
 -- The cells by which a plan is carried out, gathered one by one.
-use Rattle.mig_drill.proofs.Common.{Any, AreJobCells, Bool, Cell, Contains, Contains-append_left, Contains-append_right, Contains-from_any, Contains-push, Contains-push_cases, Flight, IsEndOf}
-use Rattle.mig_drill.proofs.Common.{AddsCells, InputLists, IsJobCell, IsMark, IsPlanSlot, IsPlanSpot, IsSource, IsTarget, List, Mark, None, Option, Shift, Some, Spot, Task, [], any_contains, ap, arith}
+use Rattle.mig_drill.proofs.Common.{Any, AreJobCells, Bool, Cell, Contains, Contains-append_left, Contains-from_any, Contains-push, Contains-push_cases, Flight, IsEndOf}
+use Rattle.mig_drill.proofs.Common.{AddsCells, IsJobCell, IsMark, List, Mark, None, Option, Shift, Some, Task, [], any_contains, ap, arith}
 use Rattle.mig_drill.proofs.Common.{cases_eq, cases_lt, cond, eq-same, eq-value, false, flight_of, flights_of, get_or, get_or_from_slice_get, get_or_past, inl, inr, insert_key, length}
-use Rattle.mig_drill.proofs.Common.{length-map, list_any, map, option_map, refl, round_at, slice_get, slice_get-get_or, slice_get-map, slice_get_within, slot_of, subst, suc, sym, true, zero, ℕ}
+use Rattle.mig_drill.proofs.Common.{list_any, option_map, refl, round_at, slice_get, slice_get-get_or, slice_get-map, slice_get_within, slot_of, subst, suc, sym, true, zero, ℕ}
 use Rattle.mig_drill.proofs.Common.{⊎_elim, ◌++◌, ◌+◌, ◌<◌, ◌↔◌, ◌∙◌, ◌∷◌, ◌≡◌, ◌≤◌, ◌⊎◌}
 use Rattle.mig_base.specs.declared.cells.Cell.TheVariants.{Head, Gate}
 

@@ -1,6 +1,7 @@
 -- A plan that is started, crashes, and is resumed.
-use Rattle.mig_drill.proofs.Common.{Adds, AreFlights, Err, Event, Finishes, Flight, HasResumed, IfOk, Image, IsReached, IsRun, IsSettled, IsSome, IsSound, IsState, Keeps, LeavesOnly}
+use Rattle.mig_drill.proofs.Common.{AreFlights, Err, Event, Finishes, Flight, FliesOn, HasResumed, IfOk, Image, IsReached, IsRun, IsSettled, IsSome, IsSound, IsState, Keeps, LeavesOnly}
 use Rattle.mig_base.proofs.Common.{Contents}
+use Rattle.mig_mover.specs.declared.faults.MoveFault.{MoveFault}
 use Rattle.mig_drill.proofs.Common.{LeavesSound, List, Ok, Option, Result, SettlesTo, Some, State, Task, TellsJob, [], ap, arith, count_of, flights, flights_none, in_flight, inl, inr, is_ok}
 use Rattle.mig_drill.proofs.Common.{later_rounds, length, option_map, refl, same_image, shape_told, subst, sym, told_kept, true, ℕ, ◌++◌, ◌∙◌, ◌≡◌}
 
@@ -52,10 +53,6 @@ pub ended : {T E : Type 0} (r : Result T E) (P : T → Type 0) → IfOk r P → 
 ended (Ok x) P holds ok = (x, holds)
 ended (Err e) P holds ok = cc
 
-ended_both : {T E : Type 0} (r : Result T E) (P Q : T → Type 0) → IfOk r P → IfOk r Q → is_ok r ≡ true → (x : T) × P x × Q x
-ended_both (Ok x) P Q one other ok = (x, one, other)
-ended_both (Err e) P Q one other ok = cc
-
 module _ (task : Task) (first started crashed resumed : State) (at_started : IsState started) (crash : started.may_leave crashed.reads) (start : Keeps task first started) where
   told_crashed : TellsJob task first → TellsJob task crashed
   told_crashed tells cell job = shape_told (started.reads cell) (crashed.reads cell) (at_started.shape crashed.reads crash cell) (told_kept _ first.reads started.reads start.change.1.told cell (tells cell job))
@@ -65,14 +62,14 @@ module _ (task : Task) (first started crashed resumed : State) (at_started : IsS
   stop_told resume tells cell job = told_kept _ crashed.reads resumed.reads resume.change.1.told cell (told_crashed tells cell job)
 
   -- and the events are those of the rounds that weren't marked
-  pub stop_resumed : crashed.events ≡ Some [] → {E : Type 0} (r : Result ℕ E) → IfOk r (Finishes task crashed resumed) → IfOk r (λ k. Adds (IsRun (flights crashed) (later_rounds task k)) crashed resumed) → is_ok r ≡ true
+  pub stop_resumed : crashed.events ≡ Some [] → (r : Result ℕ MoveFault) → FliesOn task crashed resumed r → is_ok r ≡ true
       → (marks : ℕ) → marks ≡ count_of (length task.plan) crashed.reads → TellsJob task first → HasResumed task marks resumed
-  stop_resumed none r finishes events ok marks is tells =
-      let both = ended_both r (Finishes task crashed resumed) (λ k. Adds (IsRun (flights crashed) (later_rounds task k)) crashed resumed) finishes events ok in
+  stop_resumed none (Ok k) flies ok marks is tells =
       let landed : flights crashed ≡ [] = ap in_flight none in
-      let k_is : both.0 ≡ marks = both.1.found (told_crashed tells) (subst AreFlights (sym landed) flights_none) ∙ sym is in
-      let adds = both.2 (subst (λ (o : Option (List Event)). IsSome o) (sym none) refl) in (
+      let k_is : k ≡ marks = flies.0.found (told_crashed tells) (subst AreFlights (sym landed) flights_none) ∙ sym is in
+      let adds = flies.1.all (subst (λ (o : Option (List Event)). IsSome o) (sym none) refl) in (
         adds.0,
-        subst (λ (k : ℕ). IsRun [] (later_rounds task k) adds.0) k_is (subst (λ (fs : List Flight). IsRun fs (later_rounds task both.0) adds.0) landed adds.1),
+        subst (λ (k : ℕ). IsRun [] (later_rounds task k) adds.0) k_is (subst (λ (fs : List Flight). IsRun fs (later_rounds task k) adds.0) landed adds.1),
         adds.2 ∙ ap (option_map (λ (before : List Event). before ++ adds.0)) none,
       )
+  stop_resumed none (Err fault) flies ok marks is tells = cc

@@ -38,11 +38,11 @@ pub use Rattle.mig_base.specs.declared.ids.Spot.{Spot}
 pub use Rattle.mig_base.specs.declared.inputs.Disk.{Disk}
 pub use Rattle.mig_jobs.proofs.JobRounds.{on_disks}
 pub use Rattle.mig_journal.proofs.Steps.{on_ok_is}
-pub use Rattle.mig_lanes.specs.LaneSteps.{BeginsRound, BeginsRounds, HasCopied, HaveLanded, copies_of, later_rounds}
-pub use Rattle.mig_lanes.specs.Runs.{Finishes, IsJournalFault, IsPart, IsPartOf}
+pub use Rattle.mig_lanes.specs.LaneSteps.{BeginsRound, BeginsRounds, Flies, FliesOn, HasCopied, HaveLanded, IsPart, IsPartOf, copies_of, later_rounds}
+pub use Rattle.mig_lanes.specs.Runs.{Carries, Faults, Finishes, HasFound, HasStarted, IsJournalFault, KeepsHalting, Resumes, Starts}
 pub use Rattle.mig_mover.proofs.Settling.{armed_told, gate_kept, journal_kept, settled_reads, tells_more}
 pub use Rattle.mig_mover.specs.Erasures.{HoldsZeros}
-pub use Rattle.mig_mover.specs.Moves.{Enters, IsFault, IsReadyIdle, IsResumeFault, IsRunning, IsStartFault, Keeps, Settles, StaysArmed}
+pub use Rattle.mig_mover.specs.Moves.{Enters, IsFault, IsPlanFault, IsReadyIdle, IsRefusal, IsResumeFault, IsRunning, IsStartFault, Keeps, MayBeHalting, Settles, StaysArmed}
 pub use Rattle.mig_mover.specs.declared.faults.MoveFault.{MoveFault}
 pub use Rattle.mig_mover.specs.declared.faults.MoveFault.TheVariants.{NotStarted, NotThere, Occupied, OtherPlan, Started, Store}
 pub use Rattle.std.proofs.Common.{slice_get}

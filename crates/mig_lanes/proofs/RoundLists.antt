@@ -58,10 +58,6 @@ part_append xs ys round a b are part =
           (rounds_append xs (round ∷ ys) a ((b ++ whole.0) ++ rest.0) are (b ++ whole.0, rest.0, refl, whole.1, rest.1)),
     )
 
--- whole rounds are a beginning
-rounds_begin : (xs ys : List (List Flight)) (a : List Event) → AreRounds xs a → BeginsRounds (xs ++ ys) a
-rounds_begin xs ys a are = let rest = some_rounds ys in (rest.0, rounds_append xs ys a rest.0 are rest.1)
-
 module _ (task : Task) (k n : ℕ) (low : k ≤ n) where
   -- the rounds k + 1 to n
   abbrev pub rounds_to : List (List Flight)

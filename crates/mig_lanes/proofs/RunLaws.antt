@@ -1,8 +1,10 @@
 -- A plan that is entered, and whose rounds are then carried out.
-use Rattle.mig_lanes.proofs.Common.{Adds, AreRounds, BeginsRounds, BeginsRun, Bool, Cell, Changes, Contents, Enters, Event, Finishes, Flight, Gate, HasDone, Image, IsJobCell, IsPart, IsReached, SameBut, IsSome}
-use Rattle.mig_lanes.proofs.Common.{IsReadyIdle, IsRun, IsSafe, IsSettled, IsSound, IsTargetOf, IsTask, IsWorkCell, Keeps, LeavesOnly, List, SettlesTo, State, StaysArmed, Task, Tells, [], ap}
-use Rattle.mig_lanes.proofs.Common.{append-nil, append_assoc, arith, armed_told, changes_leave, changes_then, changes_wider, ended, false, false≢true, flights, inl, inr, is_armed, is_one}
-use Rattle.mig_lanes.proofs.Common.{later_rounds, leaves_then, leaves_wider, length, map, reached, reached_sound, refl, sound_after, subst, sym, true, ℕ, ◌++◌, ◌∙◌, ◌≡◌, ◌≤◌, ◌⊎◌}
+use Rattle.mig_lanes.proofs.Common.{Adds, AreRounds, BeginsRounds, BeginsRun, Bool, Carries, Cell, Changes, Contents, Enters, Event, Finishes, Flight}
+use Rattle.mig_lanes.proofs.Common.{Gate, HasDone, Image, IsJobCell, IsPart, IsReached, IsReadyIdle, IsRun, IsSafe, IsSettled, IsSome, IsSound}
+use Rattle.mig_lanes.proofs.Common.{IsTargetOf, IsTask, IsWorkCell, Keeps, LeavesOnly, List, SameBut, SettlesTo, State, StaysArmed, Task, Tells, []}
+use Rattle.mig_lanes.proofs.Common.{ap, append-nil, append_assoc, arith, armed_told, changes_leave, changes_then, changes_wider, ended, false}
+use Rattle.mig_lanes.proofs.Common.{false≢true, flights, inl, inr, is_armed, is_one, later_rounds, leaves_then, leaves_wider, length, map, reached}
+use Rattle.mig_lanes.proofs.Common.{reached_sound, refl, sound_after, subst, sym, true, ℕ, ◌++◌, ◌∙◌, ◌≡◌, ◌≤◌, ◌⊎◌}
 use Rattle.mig_lanes.proofs.EventSteps.{adds_then, adds_wider}
 use Rattle.mig_lanes.proofs.RoundLists.{some_rounds}
 use Rattle.mig_lanes.proofs.RunKeeps.{job_part}
@@ -10,9 +12,6 @@ use Rattle.mig_lanes.proofs.RunKeeps.{job_part}
 settles_wider : (P Q : Image → Type 0) (s : State) → ((image : Image) → P image → Q image) → SettlesTo P s → SettlesTo Q s
 settles_wider P Q s gives (inl now) = inl (gives s.reads now.0, now.1)
 settles_wider P Q s gives (inr told) = inr (λ image left. gives image (told.0 image left), told.1)
-
-safe_sound : (task : Task) (contents : Contents) (image : Image) → IsSafe task.input task.plan task.digest contents image → IsSound false task.input task.plan task.digest contents image
-safe_sound task contents image safe = record { safe = safe; clean = λ asked. absurd (false≢true asked) }
 
 work_job : (task : Task) (cell : Cell) → IsWorkCell task.input task.plan cell → IsJobCell task.input task.plan cell
 work_job task cell (inl mark) = inl (inr (inr mark))
@@ -26,9 +25,6 @@ settles_now P s (inr told) = told.0 s.reads told.1
 gate_no_work : (task : Task) → IsWorkCell task.input task.plan Gate → ⊥
 gate_no_work task (inl mark) = let e = mark.3 in cc
 gate_no_work task (inr slot) = let e = slot.2 in cc
-
-gate_job : (task : Task) → IsJobCell task.input task.plan Gate
-gate_job task = inl (inr (inl refl))
 
 -- a plan is entered, and then cells are changed that rounds may change
 module _ (task : Task) (old mid new : State) (keeps : Keeps task old mid) (gate : IsSome (old.reads Gate) → (image : Image) → mid.may_leave image → is_armed image ≡ true)
@@ -46,7 +42,7 @@ module _ (task : Task) (old mid new : State) (keeps : Keeps task old mid) (gate 
     sound = λ asked contents tells before. leaves_then (IsSound asked task.input task.plan task.digest contents) old mid new (keeps.sound asked contents tells before) (moment asked contents tells before);
     ready = λ tells before. leaves_then (IsReadyIdle task) old mid new (keeps.ready tells before)
         (changes_leave (IsReadyIdle task) (IsWorkCell task.input task.plan) (IsWorkCell task.input task.plan) change.0 mid new change.1
-        (λ from image left same idle. absurd (false≢true (sym idle ∙ armed_from (tells Gate (gate_job task)) from image left same))));
+        (λ from image left same idle. absurd (false≢true (sym idle ∙ armed_from (tells Gate (inl (inr (inl refl)))) from image left same))));
     change = (
       keeps.change.0 ++ change.0,
       changes_then (λ cell. IsTargetOf (flights old) cell ⊎ IsJobCell task.input task.plan cell) (IsJobCell task.input task.plan) keeps.change.0 change.0 old mid new keeps.change.1
@@ -61,14 +57,14 @@ module _ (task : Task) (old mid new : State) (keeps : Keeps task old mid) (gate 
       (changes_leave (λ image. is_armed image ≡ true) (IsWorkCell task.input task.plan) (IsWorkCell task.input task.plan) change.0 mid new change.1
       (armed_from (armed_told old.reads (settles_now (λ image. is_armed image ≡ true) old before))))
 
-module _ (task : Task) (is : IsTask task) (old mid new : State) (keeps : Keeps task old mid) (k : ℕ) (enters : Enters task old mid k) where
+module _ (task : Task) (is : IsTask task) (old mid new : State) (keeps : Keeps task old mid) (stays : StaysArmed old mid) (k : ℕ) (enters : Enters task old mid k) where
   module _ (moment : (asked : Bool) (contents : Contents) → HasDone asked task.input task.plan task.digest contents mid k → LeavesOnly (IsSound asked task.input task.plan task.digest contents) mid new)
       (change : (added : List Event) × Changes (IsWorkCell task.input task.plan) (IsWorkCell task.input task.plan) added mid new) (later : mid.faults ≤ new.faults) where
-    pub run_keeps : Keeps task old new
-    run_keeps = work_keeps task old mid new keeps enters.armed (λ asked contents tells before. moment asked contents (enters.done asked contents tells before)) change later
-
-    pub run_armed : StaysArmed old mid → StaysArmed old new
-    run_armed = work_stays task old mid new keeps enters.armed (λ asked contents tells before. moment asked contents (enters.done asked contents tells before)) change later
+    pub run_carries : Carries task old new
+    run_carries = record {
+      keeps = work_keeps task old mid new keeps enters.armed (λ asked contents tells before. moment asked contents (enters.done asked contents tells before)) change later;
+      armed = work_stays task old mid new keeps enters.armed (λ asked contents tells before. moment asked contents (enters.done asked contents tells before)) change later stays;
+    }
 
     -- where closing the plan early was stopped
     pub run_halting : (contents : Contents) → LeavesOnly (IsSafe task.input task.plan task.digest contents) old mid → HasDone false task.input task.plan task.digest contents mid k → LeavesOnly (IsSafe task.input task.plan task.digest contents) old new
@@ -79,11 +75,11 @@ module _ (task : Task) (is : IsTask task) (old mid new : State) (keeps : Keeps t
   run_finishes done settled landed = record {
     reached = λ contents tells before. let d = done true contents (enters.done true contents tells before) in reached task.input is.valid task.plan is.runs task.digest contents new.reads d.sound d.erased;
     arrived = λ contents tells before. (done false contents (enters.done false contents tells
-        (settles_wider (IsSafe task.input task.plan task.digest contents) (IsSound false task.input task.plan task.digest contents) old (safe_sound task contents) before))).sound.after;
+        (settles_wider (IsSafe task.input task.plan task.digest contents) (IsSound false task.input task.plan task.digest contents) old
+        (λ image safe. record { safe = safe; clean = λ asked. absurd (false≢true asked) }) before))).sound.after;
     settled = settled;
     landed = landed;
-    most = enters.most;
-    found = enters.found;
+    found = record { most = enters.most; found = enters.found };
     ready = enters.ready;
   }
 

@@ -2,7 +2,8 @@
 use Rattle.mig_top.proofs.Common.{AreOfLayout, AreSightLines, Audit, AuditStops, Bool, Call, Cell, Done, Err, Extends, Flight, FormEndsAs, HasHeader, HasPutSight, HavePutSights, IfSome, IsAudit}
 use Rattle.mig_top.proofs.Common.{AuditStop, InputLists, IsMoving, IsSightOf, IsTargetOf, List, Looks, MatchBool, None, Option, Shows, Sight, SightStops, SinkFault, SinkState, SinkStops, Some, State}
 use Rattle.mig_top.proofs.Common.{StoreFault, StoreStops, Untouched, WorldEnds, [], append-nil, append_assoc, arith, begins_more, bytes_eq, bytes_eq-Decides, false, false≢true, flights_same}
-use Rattle.mig_top.proofs.Common.{header_of, inl, inr, item_cell, item_name, length, puts_nothing, refl, sha256, sight_count, sight_line, subst, suc, sym, take, then_begins, then_extends, true, zero}
+use Rattle.mig_top.proofs.Common.{header_of, inl, inr, item_cell, item_name, length, refl, sha256, sight_count, sight_line, subst, suc}
+use Rattle.mig_top.proofs.Common.{sym, take, then_begins, then_extends, true, zero}
 use Rattle.mig_top.proofs.Common.{ℕ, ⊎_elim, if◌then◌else◌, ◌++◌, ◌+◌, ◌-◌, ◌<◌, ◌∙◌, ◌≡◌, ◌≤◌}
 use Rattle.mig_top.proofs.EndsOf.{shown}
 use Rattle.mig_top.specs.Ends.{FormFinishes}
@@ -22,9 +23,6 @@ module _ (old mid : State) (looks : Looks old mid) where
   }
 
 -- Line by line
-
-pub no_lines : (input : InputLists) (store : State) (out : SinkState) → HavePutSights input store 0 out out 0
-no_lines input store out = record { lines = []; are = (refl, refl); put = (puts_nothing out).extended; few = omega arith }
 
 -- one more is counted where it is named
 count_few : (here item : ℕ) (named : Bool) → here ≤ item → here + (if named then 1 else 0) ≤ item + 1

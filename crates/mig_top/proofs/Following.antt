@@ -13,7 +13,8 @@ names_plan task contents s may armed = (may.sound s.reads may.ready.images).safe
 settles : (task : Task) (contents : Contents) (s : State) → MayGoOn task contents s → SettlesTo (IsSafe task.input task.plan task.digest contents) s
 settles task contents s may = inr ((λ image left. (may.sound image left).safe), may.ready.images)
 
-module _ (refuses : Type 0) (first between last : World) (read : Scripted) (contents : Contents) (status : ℕ) (may : MayGoOn read.task contents first.store) (serves : ServesWell (call refuses first between) read status) where
+module _ {refuses : Type 0} {first between : World} (last : World) {read : Scripted} {contents : Contents} {status : ℕ}
+    (may : MayGoOn read.task contents first.store) (serves : ServesWell (call refuses first between) read status) where
   abbrev next_call : Call
   next_call = call refuses between last
 

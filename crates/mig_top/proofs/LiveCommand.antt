@@ -31,7 +31,7 @@ use Rattle.mig_top.specs.Ends.{FormFinishes, IsRefusable}
 use Rattle.mig_top.specs.live.Looks.{IsServable}
 use Rattle.mig_words.specs.declared.endings.CommandError.TheVariants as ending
 use Rattle.mig_top.proofs.StoreCommands.{rest_cause, shown_by}
-use Rattle.mig_top.specs.Stores.{HasFound}
+use Rattle.mig_lanes.specs.Runs.{HasFound}
 use Rattle.std.proofs.Math.Seq.{take-append-add}
 
 -- what is left of it once its files are read

@@ -1,7 +1,7 @@
 -- What `live` promises, from the causes of its outcomes and what it leaves.
 use Rattle.mig_top.proofs.Common.{AreOfScripted, Bool, Call, Cell, Contents, Done, EndsAs, Extends, Files, Gate, GoesOn, HoldsContents, Image, IsInput, IsJobCell, IsListed, IsMoving, IsOrNotPut}
 use Rattle.mig_top.proofs.Common.{IsReadyIdle, IsServed, IsSome, IsSound, IsState, IsTargetOf, IsUntouched, LeavesOnly, List, Live, LiveLeaves, Names, NoCell, Order, Outcome, Refusal}
-use Rattle.mig_top.proofs.Common.{ResumesInFlight, ResumesWell, Runs, Says, Scripted, ServesAll, ServesWell, SettlesTo, SinkFault, Some, State, StoreFault, WentOn, WorldEnds}
+use Rattle.mig_top.proofs.Common.{ResumesInFlight, ResumesLanding, Runs, Says, Scripted, ServesAll, ServesWell, SettlesTo, SinkFault, Some, State, StoreFault, WentOn, WorldEnds}
 use Rattle.mig_top.proofs.Common.{[], ap, arith, changes_wider, code, count_most, count_of, flights, inl, inr, is_armed, left_text, length, not_done, refl, replies, resumes, scripted_in, steps_left}
 use Rattle.mig_top.proofs.Common.{subst, take, told_kept, true, ℕ, ⊎_elim, ◌++◌, ◌∙◌, ◌≡◌, ◌⊎◌}
 use Rattle.mig_top.proofs.EndsOf.{ends_of, refused_to, told_at}
@@ -11,7 +11,7 @@ use Rattle.mig_top.proofs.SessionEvents.{refused_events, slots_kept, within_kept
 use Rattle.mig_top.proofs.StoreEnds.{untouched_looks}
 use Rattle.mig_top.proofs.StoreExact.{resumes_exact}
 use Rattle.mig_top.proofs.Steps.{follow, only_done}
-use Rattle.mig_top.proofs.TaskHeadline.{by_untouched, is_resumable, leaves_same, no_resume_refusal, status_so}
+use Rattle.mig_top.proofs.TaskHeadline.{by_untouched, held_in_flight, held_landing, leaves_same, no_resume_refusal, status_so}
 use Rattle.mig_top.specs.Calls.{Succeeds}
 use Rattle.mig_top.specs.live.Leaves.{ForScripted}
 use Rattle.mig_top.specs.live.Looks.{IsServable}
@@ -153,9 +153,8 @@ module _ {k : Call} {words : List (List ℕ)} {status : ℕ} (ends : EndsAs k wo
       (status_so ends files is (Live names script) l
       (λ o h. only_done (resumes read.task old) (IsServed read old) none o (follow (scripted_in names script files) (scripted_exact names script files) (live_rest old) read holds o h)) fine quiet sound)
 
-  pub live_resumes : ResumesWell k read.task (¬ IsServable read old) status
-  live_resumes tells before =
-      serves (λ o stops. (resumes_exact read.task old valid.0 valid.1 tells).not_both (count_of (length read.task.plan) old.reads) o (is_resumable read.task old before) stops)
+  pub live_resumes : ResumesLanding k read.task (¬ IsServable read old) status
+  live_resumes tells before = serves (no_resume_refusal read.task old valid.0 valid.1 tells.cells (held_landing read.task old tells before))
 
   pub live_in_flight : ResumesInFlight k read.task (¬ IsServable read old) status
-  live_in_flight ready named = serves (no_resume_refusal read.task old valid.0 valid.1 ready named)
+  live_in_flight ready named = serves (no_resume_refusal read.task old valid.0 valid.1 ready.cells (held_in_flight read.task old ready named))

@@ -1,6 +1,6 @@
 -- The two saves of `plan`.
 use Rattle.mig_top.proofs.Common.{AreSaved, Files, IfSome, IsPlanSaved, IsSomeAnd, List, Names, None, Option, OthersStay, PlanTexts, Roomy}
-use Rattle.mig_top.proofs.Common.{Saves, Some, and_then, plans_texts, subst, ℕ, ◌∙◌, ◌≡◌, ◌≢◌}
+use Rattle.mig_top.proofs.Common.{Saves, Some, plans_texts, subst, ℕ, ◌∙◌, ◌≡◌, ◌≢◌}
 use Rattle.mig_top.proofs.Plainly.{found_input}
 
 module _ (names : Names) (cert : List ℕ) (apart : names.plan ≢ cert) (texts : PlanTexts) where

@@ -1,19 +1,7 @@
--- How a rehearsal ends, as a call of the program and as its promise.
-use Rattle.mig_top.proofs.Common.{Call, CommandError, Done, EndsAs, FolderFault, IsListed, IsOrNotPut, IsRehearsalEnd, IsUntouched, List, Memory, Outcome, Rehearse, RehearsesWell, Result, Rose, SinkFault}
-use Rattle.mig_top.proofs.Common.{StoreFault, Untouched, WorldEnds, [], case_in, code, inl, inr, ℕ, ◌≡◌, ◌⊎◌}
-use Rattle.mig_top.proofs.EndsOf.{ends_of, finishes_map, put_by}
-use Rattle.mig_top.specs.Ends.{EndsOrStops, FormFinishes}
-
-module _ (k : Call) (disks per_pair limit : List ℕ) where
-  -- whatever folder and store tell, it does nothing with either
-  pub rehearsal_finishes : Untouched k.before.folder k.after.folder → IsUntouched k.before.store k.after.store → (result : Result ℕ CommandError)
-      → EndsOrStops [] (IsRehearsalEnd (case_in disks per_pair limit)) k.before.sink k.after.sink result → FormFinishes k (Rehearse disks per_pair limit) result
-  rehearsal_finishes same kept result h = finishes_map [] k.before.sink k.after.sink ends result h
-    where
-      ends : (o : Outcome) → IsRehearsalEnd (case_in disks per_pair limit) o → WorldEnds k (Rehearse disks per_pair limit) o
-      ends (Done text) h = record { cause = h; leaves = same; store = kept }
-      ends Memory h = record { cause = tt; leaves = same; store = kept }
-      ends _ h = absurd h
+-- What `rehearse` promises, from the causes of its outcomes and what it puts.
+use Rattle.mig_top.proofs.Common.{Call, Done, EndsAs, FolderFault, IsListed, IsOrNotPut, List, Memory, Outcome, Rehearse, RehearsesWell, Rose}
+use Rattle.mig_top.proofs.Common.{SinkFault, StoreFault, WorldEnds, case_in, code, inl, inr, ℕ, ◌≡◌, ◌⊎◌}
+use Rattle.mig_top.proofs.EndsOf.{ends_of, put_by}
 
 module _ {k : Call} {words : List (List ℕ)} {status : ℕ} (disks per_pair limit : List ℕ) where
   pub rehearses_well : EndsAs k words status → IsListed words (Rehearse disks per_pair limit) → RehearsesWell k.before.sink k.after.sink (case_in disks per_pair limit) status

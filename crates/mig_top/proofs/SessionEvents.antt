@@ -9,8 +9,7 @@ use Rattle.mig_base.specs.RoundEvents.{IsRun}
 use Rattle.mig_lanes.proofs.EventSteps.{adds_then, adds_wider}
 use Rattle.mig_lanes.proofs.RunKeeps.{part_of}
 use Rattle.mig_lanes.proofs.RunLaws.{begins_only, begins_then, run_then}
-use Rattle.mig_lanes.specs.LaneSteps.{BeginsRounds}
-use Rattle.mig_lanes.specs.Runs.{IsPartOf}
+use Rattle.mig_lanes.specs.LaneSteps.{BeginsRounds, IsPartOf}
 use Rattle.mig_live.proofs.ActionLaws.{events_append}
 use Rattle.mig_live.proofs.Common.{Action, AreMadeInPart, Event, Flight, IsInput, List, Runs, State, Task, [], actions_after, all_events, ap, append_assoc, arith, drop, flight_of, flights}
 use Rattle.mig_live.proofs.Common.{get_or, length, option_map, refl, subst, sym, take, take_all, ℕ, ◌++◌, ◌∙◌, ◌≡◌}

@@ -125,12 +125,10 @@ module _ (task : Task) (valid : IsInput task.input) (runs : Runs task.input task
   -- where a journal whose gate is 1 names the plan, and the image is ready where it isn't, no resumption is refused
   pub resume_apart : (is_armed image ≡ true → IfSome (image Head) (λ kept. kept ≡ task.digest)) → (is_armed image ≡ false → IsReady task.input task.plan image) → (f : MoveFault)
       → IsResumeRefusal task image f → ⊥
-  resume_apart named ready fault.Store h = absurd h
-  resume_apart named ready fault.NotStarted h = absurd h
-  resume_apart named ready fault.Started h = absurd h
   resume_apart named ready (fault.OtherPlan kept ours) h = other_apart task image kept ours head (named (h.0 gate)) h
   resume_apart named ready (fault.NotThere item) h = not_lost item.0 (ready h.0) h.1
   resume_apart named ready (fault.Occupied disk slot) h = not_used (record { disk = disk; slot = slot }) (ready h.0) h.2
+  resume_apart named ready _ h = absurd h
 
   -- and where it is ready, no start
   pub start_apart : IsReady task.input task.plan image → (f : MoveFault) → IsStartRefusal task image f → ⊥
@@ -140,12 +138,11 @@ module _ (task : Task) (valid : IsInput task.input) (runs : Runs task.input task
 
   -- a refusal that says that the gate is 1 has one status, and one that says that it isn't has another
   code_told : (f : MoveFault) → IsStartRefusal task image f → ((code (fault_outcome task.input f) ≡ 8) × (is_armed image ≡ true)) ⊎ ((code (fault_outcome task.input f) ≡ 9) × (is_armed image ≡ false))
-  code_told fault.Store h = absurd h
-  code_told fault.NotStarted h = absurd h
   code_told fault.Started h = inl (refl, h.0 gate)
   code_told (fault.OtherPlan kept ours) h = inl (refl, h.0 gate)
   code_told (fault.NotThere item) h = inr (refl, h.0)
   code_told (fault.Occupied disk slot) h = inr (refl, h.0)
+  code_told _ h = absurd h
 
   -- so refusals that are shown at once have one
   one_start : (f g : MoveFault) → IsStartRefusal task image f → IsStartRefusal task image g → code (fault_outcome task.input f) ≡ code (fault_outcome task.input g)

@@ -9,37 +9,66 @@ use Rattle.mig_top.proofs.Common.{StartsInFlight, StartsWell, State, StaysArmed,
 use Rattle.mig_top.proofs.Common.{append-nil, arith, code, count_most, count_of, disk_at, done_text, ended, events_none, false, false≢true, flights, halted_text, idle_sound, inl, inr, is_armed}
 use Rattle.mig_top.proofs.Common.{is_one, length, map, not_done, refl, resumes, same_image, same_none, same_wider, settles_land, slot_of, stands, starts, subst, sym, task_in, true, ℕ, ⊎_elim, ◌∙◌}
 use Rattle.mig_top.proofs.Common.{◌≡◌, ◌⊎◌}
+use Rattle.mig_top.proofs.Common.{FolderFailed, HoldsIn, IsHalting, IsHaltSafe, IsReady, MovesBy, MovesLanding, NoCell, None, ResumesLanding, ShowsNoGround}
+use Rattle.mig_top.proofs.Common.{SinkFailed, StartsLanding, StoreFailed}
 use Rattle.mig_top.proofs.EndsOf.{done_by, ends_of, ends_so, holds_by, one_changed, refused_so, refused_to, told_at, unrefused}
 use Rattle.mig_top.proofs.Exactness.{comes_exactly, is_task, task_in_exact}
 use Rattle.mig_top.proofs.StoreCommands.{halt_rest, move_rest, resume_rest, saved_only}
 use Rattle.mig_top.proofs.Steps.{follow, lead, only_done}
 use Rattle.mig_top.proofs.StoreEnds.{form_quiet, quiet, untouched_quiet}
-use Rattle.mig_mover.proofs.LandedImages.{journal_landed, told_landed}
+use Rattle.mig_mover.proofs.LandedImages.{journal_landed, one_image, told_landed}
 use Rattle.mig_mover.specs.Holdings.{IsUnrefused}
 use Rattle.mig_top.specs.Calls.{Succeeds}
 use Rattle.mig_top.specs.Ends.{IsRefusable}
 use Rattle.mig_top.specs.carry.Leaves.{ForTask}
 use Rattle.mig_top.proofs.StoreExact.{named_refused, resume_apart, start_apart}
 use Rattle.mig_words.specs.declared.endings.StoreRefusal.TheVariants as refusal
+use Rattle.mig_base.proofs.Landing.{flights_none, no_target}
+use Rattle.mig_base.specs.Flights.{in_flight}
 
-module _ (task : Task) (store : State) (valid : IsInput task.input) (runs : Runs task.input task.plan) (ready : IsReadyInFlight task store) where
-  job_told : (image : Image) → IsLanded store image → Tells (IsJobCell task.input task.plan) image
-  job_told image landed = told_landed store image landed (IsJobCell task.input task.plan) ready.cells
+no_flights : (s : State) → s.events ≡ None → flights s ≡ []
+no_flights s = ap in_flight
 
+-- what is so before holds once the store is settled
+settles_held : (s : State) (P : Image → Type 0) → HoldsIn s P → SettlesTo P s
+settles_held s P (inl now) = inl (now.0, no_flights s now.1)
+settles_held s P (inr told) = inr told
+
+-- and of what reads give once copies have ended
+landed_held : (s : State) (P : Image → Type 0) → HoldsIn s P → (image : Image) → IsLanded s image → (s.may_leave s.reads → s.may_leave image) → P image
+landed_held s P (inl now) image landed left = subst P (same_image s.reads image
+    (same_wider (IsTargetOf (flights s)) NoCell (λ cell any. no_target (flights s) cell (no_flights s now.1) any) s.reads image landed.others)) now.0
+landed_held s P (inr told) image landed left = told.0 image (left told.1)
+
+-- a resumption isn't refused where what reads give once copies have ended is ready, or names the plan
+pub no_resume_refusal : (task : Task) (store : State) → IsInput task.input → Runs task.input task.plan → Tells (IsJobCell task.input task.plan) store.reads
+    → ((image : Image) → IsLanded store image → (store.may_leave store.reads → store.may_leave image) → IsReadyIdle task image × (is_armed image ≡ true → image Head ≡ Some task.digest))
+    → (o : Outcome) → IsShownFault task.input store (IsResumeRefusal task) o → ⊥
+no_resume_refusal task store valid runs cells held o h =
+    let at = held h.image h.landed h.left in
+    resume_apart task valid runs h.image (told_landed store h.image h.landed (IsJobCell task.input task.plan) cells) (λ armed. rw (at.1 armed) refl) at.0 h.fault h.shows
+
+module _ (task : Task) (store : State) (ready : IsReadyInFlight task store) where
   armed_at : (image : Image) → IsLanded store image → is_armed image ≡ is_armed store.reads
   armed_at image landed = ap is_one (journal_landed store image landed ready.slots Gate refl)
 
-  no_start_refusal : is_armed store.reads ≡ false → (o : Outcome) → IsShownFault task.input store (IsStartRefusal task) o → ⊥
-  no_start_refusal idle o h =
-      start_apart task valid runs h.image (job_told h.image h.landed) (ready.ready h.image (h.left ready.images) (armed_at h.image h.landed ∙ idle)) h.fault h.shows
+  pub held_in_flight : (is_armed store.reads ≡ true → store.reads Head ≡ Some task.digest) → (image : Image) → IsLanded store image
+      → (store.may_leave store.reads → store.may_leave image) → IsReadyIdle task image × (is_armed image ≡ true → image Head ≡ Some task.digest)
+  held_in_flight named image landed left = (
+    ready.ready image (left ready.images),
+    λ armed. journal_landed store image landed ready.slots Head refl ∙ named (sym (armed_at image landed) ∙ armed),
+  )
 
-  pub no_resume_refusal : (is_armed store.reads ≡ true → store.reads Head ≡ Some task.digest) → (o : Outcome) → IsShownFault task.input store (IsResumeRefusal task) o → ⊥
-  no_resume_refusal named o h = resume_apart task valid runs h.image (job_told h.image h.landed) head (ready.ready h.image (h.left ready.images)) h.fault h.shows
-    where
-      head : is_armed h.image ≡ true → IfSome (h.image Head) (λ kept. kept ≡ task.digest)
-      head armed =
-          let same : h.image Head ≡ Some task.digest = journal_landed store h.image h.landed ready.slots Head refl ∙ named (sym (armed_at h.image h.landed) ∙ armed) in
-          rw same refl
+-- or where that image is ready, or the journal names the plan
+pub held_landing : (task : Task) (store : State) → TellsStill (IsJobCell task.input task.plan) store → IsReadyOnceLanded task store ⊎ ((is_armed store.reads ≡ true) × (store.reads Head ≡ Some task.digest))
+    → (image : Image) → IsLanded store image → (store.may_leave store.reads → store.may_leave image) → IsReadyIdle task image × (is_armed image ≡ true → image Head ≡ Some task.digest)
+held_landing task store tells (inl (other, lands, ready)) image landed left =
+    let now : IsReady task.input task.plan image = subst (IsReady task.input task.plan) (one_image store tells.sources other image lands landed) ready in
+    (λ idle. now, λ armed. absurd (false≢true (sym now.idle ∙ armed)))
+held_landing task store tells (inr (armed, named)) image landed left = (
+  λ idle. absurd (false≢true (sym idle ∙ ap is_one (journal_landed store image landed tells.slots Gate refl) ∙ armed)),
+  λ still. journal_landed store image landed tells.slots Head refl ∙ named,
+)
 
 -- a command comes to its end, and is done or ends otherwise only where something fails, or the store refuses
 pub status_so : {k : Call} {words : List (List ℕ)} {status : ℕ} → EndsAs k words status → (files : Files) → k.before.folder.files ≡ Some files → (form : Form) → IsListed words form
@@ -68,34 +97,50 @@ module _ {k : Call} {words : List (List ℕ)} {status : ℕ} (ends : EndsAs k wo
   resume_ground : ForTask k.before.folder names (λ t. ¬ IsUnrefused t k.before.store) → ¬ IsUnrefused task k.before.store
   resume_ground (t, are, refused) = subst (λ (u : Task). ¬ IsUnrefused u k.before.store) (same_task k files names task is holds t are) refused
 
-  pub starts_in_flight : IsListed words (Move names) → StartsInFlight k task status
-  starts_in_flight l ready idle fine quiet sound =
+  -- where each image that reads may give once copies have ended is ready
+  starts_from : IsListed words (Move names) → Tells (IsJobCell task.input task.plan) k.before.store.reads
+      → ((image : Image) → IsLanded k.before.store image → (k.before.store.may_leave k.before.store.reads → k.before.store.may_leave image) → IsReady task.input task.plan image)
+      → (FolderFailed k → ⊥) → (SinkFailed k → ⊥) → (StoreFailed k → ⊥) → (status ≡ 0) ⊎ (status ≡ 7)
+  starts_from l cells ready fine quiet sound =
       let valid = is_task files names task holds in
-      unrefused k status (start_ground ready.cells)
+      unrefused k status (start_ground cells)
       (status_so ends files is (Move names) l (λ o h. only_done (starts task k.before.store) (λ _ text. text ≡ done_text task.plan 0)
-      (no_start_refusal task k.before.store valid.0 valid.1 ready idle) o (follow (task_in names files) (task_in_exact names files) (move_rest k.before.store) task holds o h)) fine quiet sound)
+      (λ o h. start_apart task valid.0 valid.1 h.image (told_landed k.before.store h.image h.landed (IsJobCell task.input task.plan) cells) (ready h.image h.landed h.left) h.fault h.shows)
+      o (follow (task_in names files) (task_in_exact names files) (move_rest k.before.store) task holds o h)) fine quiet sound)
 
-  pub resumes_in_flight : IsListed words (Resume names) → ResumesInFlight k task (¬ IsUnrefused task k.before.store) status
-  resumes_in_flight l ready named fine quiet sound =
+  starts_well : IsListed words (Move names) → StartsWell k task status
+  starts_well l cells ready = starts_from l cells (landed_held k.before.store (IsReady task.input task.plan) ready)
+
+  starts_landing : IsListed words (Move names) → StartsLanding k task status
+  starts_landing l tells (image, landed, ready) = starts_from l tells.cells
+      (λ other lands left. subst (IsReady task.input task.plan) (one_image k.before.store tells.sources image other landed lands) ready)
+
+  starts_in_flight : IsListed words (Move names) → StartsInFlight k task status
+  starts_in_flight l ready idle = starts_from l ready.cells
+      (λ image landed left. ready.ready image (left ready.images) (armed_at task k.before.store ready image landed ∙ idle))
+
+  resumes_from : {Ground : Type 0} → (¬ IsUnrefused task k.before.store → Ground) → IsListed words (Resume names) → Tells (IsJobCell task.input task.plan) k.before.store.reads
+      → ((image : Image) → IsLanded k.before.store image → (k.before.store.may_leave k.before.store.reads → k.before.store.may_leave image)
+      → IsReadyIdle task image × (is_armed image ≡ true → image Head ≡ Some task.digest)) → Succeeds k Ground status
+  resumes_from shows l cells held fine quiet sound =
       let valid = is_task files names task holds in
-      refused_to k status resume_ground
-      (status_so ends files is (Resume names) l (λ o h. only_done (resumes task k.before.store) (λ found text. text ≡ done_text task.plan found)
-      (no_resume_refusal task k.before.store valid.0 valid.1 ready named) o (follow (task_in names files) (task_in_exact names files) (resume_rest k.before.store) task holds o h)) fine quiet sound)
+      refused_to k status (λ ground. shows (resume_ground ground)) (status_so ends files is (Resume names) l
+      (λ o h. only_done (resumes task k.before.store) (λ found text. text ≡ done_text task.plan found) (no_resume_refusal task k.before.store valid.0 valid.1 cells held)
+      o (follow (task_in names files) (task_in_exact names files) (resume_rest k.before.store) task holds o h)) fine quiet sound)
 
--- a store that is ready, or whose journal names the plan, lets it be resumed
-pub is_resumable : (task : Task) (store : State) → IsReadyOnceLanded task store ⊎ ((is_armed store.reads ≡ true) × (store.reads Head ≡ Some task.digest))
-    → IsResumable task store (count_of (length task.plan) store.reads)
-is_resumable task store before =
-    record { most = count_most (length task.plan) store.reads; found = λ tells are. refl; ours = λ are gate armed. ours are armed before; ready = λ are idle gate. ready idle before }
-  where
-    ours : AreFlights (flights store) → is_armed store.reads ≡ true → IsReadyOnceLanded task store ⊎ ((is_armed store.reads ≡ true) × (store.reads Head ≡ Some task.digest))
-        → IfSome (store.reads Head) (λ kept. kept ≡ task.digest)
-    ours are armed (inl (image, landed, r)) = absurd (false≢true (sym r.idle ∙ ap is_one (journal_landed store image landed are Gate refl) ∙ armed))
-    ours are armed (inr (a, named)) = rw named refl
+  resumes_well : IsListed words (Resume names) → ResumesWell k task status
+  resumes_well l cells held = resumes_from shows l cells (landed_held k.before.store (λ image. IsReadyIdle task image × (is_armed image ≡ true → image Head ≡ Some task.digest)) held)
+    where
+      shows : ¬ IsUnrefused task k.before.store → ¬ ShowsNoGround task k.before.store
+      shows refused none =
+          let landed = no_flights k.before.store none.alone in
+          refused (record { slots = subst AreFlights (sym landed) flights_none; told = none.cells; kept = λ armed named. (landed, none.kept armed named) })
 
-    ready : is_armed store.reads ≡ false → IsReadyOnceLanded task store ⊎ ((is_armed store.reads ≡ true) × (store.reads Head ≡ Some task.digest)) → IsReadyOnceLanded task store
-    ready idle (inl r) = r
-    ready idle (inr (armed, named)) = absurd (false≢true (sym idle ∙ armed))
+  resumes_landing : IsListed words (Resume names) → ResumesLanding k task (¬ IsUnrefused task k.before.store) status
+  resumes_landing l tells before = resumes_from (λ refused. refused) l tells.cells (held_landing task k.before.store tells before)
+
+  resumes_in_flight : IsListed words (Resume names) → ResumesInFlight k task (¬ IsUnrefused task k.before.store) status
+  resumes_in_flight l ready named = resumes_from (λ refused. refused) l ready.cells (held_in_flight task k.before.store ready named)
 
 -- what holds whatever the outcome
 pub record AreKept (task : Task) (old new : State) : Type 0 where
@@ -211,21 +256,24 @@ module _ {k : Call} {words : List (List ℕ)} {status : ℕ} (ends : EndsAs k wo
     since : (P : Image → Type 0) → LeavesOnly P old new → ((image : Image) → old.may_leave image → P image) → (image : Image) → new.left_since old.moment image → P image
     since P leaves all image left = ⊎_elim (λ past. all image (law.only_now image past)) (λ p. p) (leaves.since old.moment image (omega arith) left)
 
-    form_moves_well : MovesWell k task status
-    form_moves_well = record {
+    moves_by : (Before : (Image → Type 0) → Type 0) → ((P : Image → Type 0) → Before P → SettlesTo P old) → MovesBy Before k task status
+    moves_by Before settles = record {
       safe = λ asked contents tells images all. since (IsSound asked task.input task.plan task.digest contents) (kept.sound asked contents tells (inr (all, images))) all;
       ready = λ tells images all. since (IsReadyIdle task) (kept.ready tells (inr (all, images))) all;
       armed = λ images all. since (λ image. is_armed image ≡ true) (kept.armed (inr (all, images))) all;
-      reached = λ done contents tells before. (finished done).1.reached contents tells before;
-      arrived = λ done contents tells before. (finished done).1.arrived contents tells before;
+      reached = λ done contents tells before. (finished done).1.reached contents tells (settles (IsSound true task.input task.plan task.digest contents) before);
+      arrived = λ done contents tells before. (finished done).1.arrived contents tells (settles (IsSafe task.input task.plan task.digest contents) before);
       settled = λ done. (finished done).1.settled;
     }
 
-  pub move_moves : IsListed words (Move names) → MovesWell k task status
-  move_moves l = form_moves_well (Move names) l move_kept (λ text h. finished_of h.0 0 h.1 h.2.0.finishes) (λ text h. h)
+    form_moves : MovesWell k task status × MovesLanding k task status
+    form_moves = (moves_by (HoldsIn old) (settles_held old), moves_by (λ P. SettlesTo P old) (λ P before. before))
 
-  pub resume_moves : IsListed words (Resume names) → MovesWell k task status
-  resume_moves l = form_moves_well (Resume names) l resume_kept (λ text h. finished_of h.0 h.2.0 h.1 h.2.1.moves.finishes) (λ text h. h)
+  -- what `move` promises, where copies may be in flight too
+  pub moves_well : IsListed words (Move names) → (MovesWell k task status × StartsWell k task status) × (MovesLanding k task status × StartsLanding k task status × StartsInFlight k task status)
+  moves_well l =
+      let moves = form_moves (Move names) l move_kept (λ text h. finished_of h.0 0 h.1 h.2.0.finishes) (λ text h. h) in
+      ((moves.0, starts_well ends files names task is holds l), (moves.1, starts_landing ends files names task is holds l, starts_in_flight ends files names task is holds l))
 
   -- Where closing the plan early was stopped no item is lost
 
@@ -252,29 +300,32 @@ module _ {k : Call} {words : List (List ℕ)} {status : ℕ} (ends : EndsAs k wo
   arrives_done : (text : List ℕ) → StoreLeaves k (Resume names) (Done text) → Arrives task
   arrives_done text h = subst Arrives (same h.0 h.1) h.2.1.halted
 
-  pub resumes_halting : IsListed words (Resume names) → ResumesHalting k task status
-  resumes_halting l =
+  halting_by : (May : Contents → ℕ → Type 0) → ((contents : Contents) (n : ℕ) → May contents n → MayBeHalting task contents old n) → IsListed words (Resume names)
+      → ResumesHalting May k task status
+  halting_by May gives l =
       let e = ends_of ends (Resume names) l in
       record {
-        safe = holds_by e Since (λ o h. since_form o h.store);
-        arrived = λ done. let d = done_by e (λ text h. h.cause) done in arrives_done d.0 d.1.store;
+        safe = λ contents n tells may. holds_by e Since (λ o h. since_form o h.store) contents n tells (gives contents n may);
+        arrived = λ done contents n tells may. let d = done_by e (λ text h. h.cause) done in arrives_done d.0 d.1.store contents n tells (gives contents n may);
       }
 
-  still : TellsStill (IsJobCell task.input task.plan) old → (other : Task) → FindsTask files names other → TellsStill (IsJobCell other.input other.plan) old
-  still tells other so = subst (λ (t : Task). TellsStill (IsJobCell t.input t.plan) old) (one_task files names task other holds so) tells
+  still_halting : (contents : Contents) (n : ℕ) → IsHalting task old contents n → MayBeHalting task contents old n
+  still_halting contents n (alone, armed, held) =
+      record { armed = armed; slots = subst AreFlights (sym (no_flights old alone)) flights_none; images = settles_held old (λ image. IsHaltSafe task.input task.plan task.digest contents image n) held }
 
-  pub starts_well : IsListed words (Move names) → StartsWell k task status
-  starts_well l tells ready fine quiet sound =
-      unrefused k status (start_ground ends files names task is holds tells.cells) (comes_exactly ends files (Move names) is l
-      (Done (done_text task.plan 0)) (lead (task_in names files) (move_rest old) task holds (Done (done_text task.plan 0)) (tt, λ are gate. ready, refl))
-      fine quiet (sound, still tells))
-
-  pub resumes_well : IsListed words (Resume names) → ResumesWell k task (¬ IsUnrefused task k.before.store) status
-  resumes_well l tells before fine quiet sound =
-      let found = count_of (length task.plan) old.reads in
-      refused_to k status (resume_ground ends files names task is holds) (comes_exactly ends files (Resume names) is l
-      (Done (done_text task.plan found)) (lead (task_in names files) (resume_rest old) task holds (Done (done_text task.plan found)) (found, is_resumable task old before, refl))
-      fine quiet (sound, still tells))
+  pub resumes_all : IsListed words (Resume names) → (MovesWell k task status × ResumesWell k task status × ResumesHalting (IsHalting task old) k task status)
+      × (MovesLanding k task status × ResumesLanding k task (¬ IsUnrefused task old) status × ResumesInFlight k task (¬ IsUnrefused task old) status
+      × ResumesHalting (λ contents. MayBeHalting task contents old) k task status)
+  resumes_all l =
+      let moves = form_moves (Resume names) l resume_kept (λ text h. finished_of h.0 h.2.0 h.1 h.2.1.moves.finishes) (λ text h. h) in (
+        (moves.0, resumes_well ends files names task is holds l, halting_by (IsHalting task old) still_halting l),
+        (
+          moves.1,
+          resumes_landing ends files names task is holds l,
+          resumes_in_flight ends files names task is holds l,
+          halting_by (λ contents. MayBeHalting task contents old) (λ contents n may. may) l,
+        ),
+      )
 
   -- `halt`
 

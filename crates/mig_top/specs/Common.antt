@@ -38,8 +38,8 @@ pub use Rattle.mig_drill.specs.Drills.{drill_text}
 pub use Rattle.mig_drill.specs.declared.limits.TheConstants.{MAX_DRILL_SHIFTS}
 pub use Rattle.mig_io.specs.Files.{ChangedOnly, Files, FolderState, OthersStay, Saves, file}
 pub use Rattle.mig_io.specs.Held.{Extends, ExtendsInPart, SinkState}
-pub use Rattle.mig_lanes.specs.LaneSteps.{later_rounds}
-pub use Rattle.mig_lanes.specs.Runs.{Finishes, IsPart}
+pub use Rattle.mig_lanes.specs.LaneSteps.{IsPart, later_rounds}
+pub use Rattle.mig_lanes.specs.Runs.{Carries, Finishes, HasFound, KeepsHalting}
 pub use Rattle.mig_live.specs.Orders.{all_steps}
 pub use Rattle.mig_live.specs.Replies.{replies}
 pub use Rattle.mig_live.specs.Scripts.{ScriptText}

@@ -1,7 +1,6 @@
 -- What commands find in a store whatever they are, and that they left it as it was.
-use Rattle.std.specs.Prelude.{All, IsSome, length, ℕ, ◌≡◌, ◌≢◌, ◌≤◌}
-use Rattle.mig_top.specs.Common.{AreFlights, Cell, Image, InputLists, IsJobCell, MoveFault, Outcome, State, Task, Tells, count_of, fault_outcome}
-use Rattle.mig_top.specs.Common.{flights}
+use Rattle.std.specs.Prelude.{All, IsSome, ℕ, ◌≡◌, ◌≢◌}
+use Rattle.mig_top.specs.Common.{AreFlights, Cell, Image, InputLists, MoveFault, Outcome, State, Tells, fault_outcome, flights}
 use Rattle.mig_mover.specs.Moves.{IsLanded}
 use Rattle.mig_top.specs.Calls.{Call}
 
@@ -20,11 +19,6 @@ pub record TellsStill (P : Cell → Type 0) (store : State) : Type 0 where
   pub cells : Tells P store.reads
   pub slots : AreFlights (flights store)
   pub sources : All (λ c. IsSome (store.reads c.from)) (flights store)
-
--- so many rounds were marked
-pub record HasFound (task : Task) (old : State) (k : ℕ) : Type 0 where
-  pub most : k ≤ length task.plan
-  pub found : Tells (IsJobCell task.input task.plan) old.reads → AreFlights (flights old) → k ≡ count_of (length task.plan) old.reads
 
 -- the store is as it was
 pub record IsUntouched (old new : State) : Type 0 where

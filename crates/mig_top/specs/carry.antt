@@ -1,3 +1,4 @@
+pub mod InFlight
 pub mod Leaves
 pub mod Looks
 pub mod Promise

@@ -1,20 +1,16 @@
 -- What `move` and `resume` leave in a store.
 use Rattle.std.specs.Prelude.{ℕ, ◌≡◌}
-use Rattle.mig_top.specs.Common.{Adds, Contents, Done, Finishes, FolderState, IfSome, IsArrived, IsJobCell, IsPart, IsReached, IsRun, IsSafe, Keeps, LeavesOnly, MayBeHalting, Outcome}
-use Rattle.mig_top.specs.Common.{Refusal, Settles, SettlesTo, State, StaysArmed, StoreFault, Task, TaskNames, Tells, flights, later_rounds}
+use Rattle.mig_top.specs.Common.{Adds, Carries, Contents, Done, Finishes, FolderState, HasFound, IfSome, IsArrived, IsJobCell, IsPart, IsReached}
+use Rattle.mig_top.specs.Common.{IsRun, KeepsHalting, MayBeHalting, Outcome, Refusal, Settles, SettlesTo, State, StoreFault, Task, TaskNames, Tells}
+use Rattle.mig_top.specs.Common.{flights, later_rounds}
 use Rattle.mig_top.specs.Loads.{FindsTask}
-use Rattle.mig_top.specs.Stores.{HasFound, IsUntouched}
+use Rattle.mig_top.specs.Stores.{IsUntouched}
 use Rattle.mig_top.specs.carry.Looks.{done_text}
 use Rattle.mig_words.specs.declared.endings.StoreRefusal.TheVariants as refusal
 
 -- the four files, where they are told, stand for this task
 abbrev pub AreOfTask : FolderState → TaskNames → Task → Type 0
 AreOfTask folder names task = IfSome folder.files (λ files. FindsTask files names task)
-
--- what holds whatever is answered; the gate stays 1 once it is
-pub record Carries (task : Task) (old new : State) : Type 0 where
-  pub keeps : Keeps task old new
-  pub armed : StaysArmed old new
 
 -- the copies that were in flight ended, and nothing else was done
 pub record OnlyLands (task : Task) (old new : State) : Type 0 where
@@ -36,12 +32,7 @@ pub record MovesAll (task : Task) (old new : State) (k : ℕ) : Type 0 where
   pub finishes : Finishes task old new k
   pub events : Adds (IsRun (flights old) (later_rounds task k)) old new
 
--- where closing the plan early was stopped, no item is lost
-abbrev pub KeepsHalting : Task → State → State → Type 0
-KeepsHalting task old new = (contents : Contents) (n : ℕ) → Tells (IsJobCell task.input task.plan) old.reads → MayBeHalting task contents old n
-    → LeavesOnly (IsSafe task.input task.plan task.digest contents) old new
-
--- and a plan that is carried out after it arrives; one that had reached its target stays so
+-- also where closing the plan early was stopped: no item is lost, and each arrives; a plan that had reached its target stays so
 pub record ResumesAll (task : Task) (old new : State) (k : ℕ) : Type 0 where
   pub moves : MovesAll task old new k
   pub halting : KeepsHalting task old new

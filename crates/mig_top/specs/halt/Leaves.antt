@@ -1,9 +1,10 @@
 -- What `halt` leaves in a folder and in a store.
 use Rattle.std.specs.Prelude.{List, [], ℕ, ◌≡◌, ◌⊎◌}
-use Rattle.mig_top.specs.Common.{BeginsRun, ChangedOnly, Changes, CommandError, Contents, Done, Event, Files, FolderState, Image, IsClosingCell, IsHaltCell, IsHaltSafe, IsHalted, IsSafe, IsSettled}
-use Rattle.mig_top.specs.Common.{IsTargetOf, Lands, LeavesOnly, Outcome, Refusal, Rose, Saves, Settles, SettlesTo, State, StoreFault, Task, TaskNames, Tells, flights}
+use Rattle.mig_top.specs.Common.{BeginsRun, ChangedOnly, Changes, CommandError, Contents, Done, Event, Files, FolderState, HasFound, Image}
+use Rattle.mig_top.specs.Common.{IsClosingCell, IsHaltCell, IsHaltSafe, IsHalted, IsSafe, IsSettled, IsTargetOf, Lands, LeavesOnly, Outcome, Refusal}
+use Rattle.mig_top.specs.Common.{Rose, Saves, Settles, SettlesTo, State, StoreFault, Task, TaskNames, Tells, flights}
 use Rattle.mig_top.specs.Causes.{IsLayoutAfter}
-use Rattle.mig_top.specs.Stores.{HasFound, IsUntouched}
+use Rattle.mig_top.specs.Stores.{IsUntouched}
 use Rattle.mig_top.specs.carry.Leaves.{ForTask}
 use Rattle.mig_top.specs.halt.Looks.{halted_text}
 use Rattle.mig_words.specs.Outcomes.{FolderFault, Memory}

@@ -1,8 +1,9 @@
 -- What `halt` finds in a store, and how that ends it.
 use Rattle.std.specs.Prelude.{IsSome, List, [], codes, length, true, ℕ, ◌∷◌, ◌≡◌}
-use Rattle.mig_top.specs.Common.{AreFlights, Gate, Head, IfSome, Image, IsRefusal, MoveFault, NotStarted, OtherPlan, Shift, State, Task, decimal, flights, is_armed, joined}
+use Rattle.mig_top.specs.Common.{AreFlights, Gate, HasFound, Head, IfSome, Image, IsRefusal, MoveFault, NotStarted, OtherPlan, Shift, State, Task}
+use Rattle.mig_top.specs.Common.{decimal, flights, is_armed, joined}
 use Rattle.mig_top.specs.Steps.{Step}
-use Rattle.mig_top.specs.Stores.{HasFound, IsShownFault}
+use Rattle.mig_top.specs.Stores.{IsShownFault}
 
 -- the causes for which it isn't said where a migration stands: the gate isn't 1, or the head is another plan's digest
 abbrev pub IsStandRefusal : Task → Image → MoveFault → Type 0

@@ -1,10 +1,10 @@
 -- What `halt` promises.
 use Rattle.std.specs.Prelude.{List, Some, [], true, ℕ, ◌≡◌, ◌⊎◌}
-use Rattle.mig_top.specs.Common.{Adds, AreFlights, At, BeginsRun, Contents, Extends, Files, Head, Image, IsHaltCell, IsHaltSafe, IsHalted, IsLeftBut, IsListOf, IsSettled, IsSomeAnd, IsSound}
-use Rattle.mig_top.specs.Common.{OthersStay, Task, Tells, flights, is_armed}
+use Rattle.mig_top.specs.Common.{Adds, AreFlights, At, BeginsRun, Contents, Extends, Files, HasFound, Head, Image, IsHaltCell, IsHaltSafe, IsHalted}
+use Rattle.mig_top.specs.Common.{IsLeftBut, IsListOf, IsSettled, IsSomeAnd, IsSound, OthersStay, Task, Tells, flights, is_armed}
 use Rattle.mig_mover.specs.Holdings.{IsUnrefused}
 use Rattle.mig_top.specs.Calls.{Call, Succeeds}
-use Rattle.mig_top.specs.Stores.{HasFound, WroteNothing}
+use Rattle.mig_top.specs.Stores.{WroteNothing}
 use Rattle.mig_top.specs.halt.Leaves.{AllMayHalt, IsLayoutSaved, MayHalt}
 use Rattle.mig_top.specs.halt.Looks.{halted_text}
 

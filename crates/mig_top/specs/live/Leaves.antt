@@ -2,18 +2,18 @@
 use Rattle.std.specs.Prelude.{IsSome, List, Some, [], drop, length, slice_get, take, true, ℕ, ◌++◌, ◌+◌, ◌∷◌, ◌≡◌, ◌≤◌, ◌⊎◌}
 use Rattle.mig_base.specs.declared.ids.ItemId.{ItemId}
 use Rattle.mig_io.specs.Held.{ExtendsByPrefix}
-use Rattle.mig_lanes.specs.Runs.{IsPartOf}
+use Rattle.mig_lanes.specs.LaneSteps.{IsPartOf}
 use Rattle.mig_live.specs.Actions.{Action, actions_after}
 use Rattle.mig_live.specs.Orders.{steps_of}
 use Rattle.mig_live.specs.declared.orders.Order.TheVariants.{Read}
 use Rattle.mig_top.specs.Calls.{Call}
-use Rattle.mig_top.specs.Common.{Adds, BeginsRun, Contents, Done, FolderState, Gate, IfSome, Image, IsReached, IsRun, IsSafeAfter, IsSettled, Names, Order, Outcome, Refusal, Settles}
-use Rattle.mig_top.specs.Common.{SinkFault, State, StoreFault, Task, all_steps, count_of, flights, is_armed, marks_by}
-use Rattle.mig_top.specs.carry.Leaves.{Carries}
+use Rattle.mig_top.specs.Common.{Adds, BeginsRun, Carries, Contents, Done, FolderState, Gate, HasFound, IfSome, Image, IsReached, IsRun, IsSafeAfter}
+use Rattle.mig_top.specs.Common.{IsSettled, Names, Order, Outcome, Refusal, Settles, SinkFault, State, StoreFault, Task, all_steps, count_of, flights}
+use Rattle.mig_top.specs.Common.{is_armed, marks_by}
 use Rattle.mig_live.specs.Events.{IsRunAndPart, lone_after, lone_copies}
 use Rattle.mig_top.specs.live.Looks.{AreAnswers, HoldsContents, IsServed, steps_left}
 use Rattle.mig_top.specs.live.Reads.{Scripted, scripted_in}
-use Rattle.mig_top.specs.Stores.{HasFound, IsUntouched}
+use Rattle.mig_top.specs.Stores.{IsUntouched}
 use Rattle.mig_words.specs.declared.endings.StoreRefusal.TheVariants as refusal
 
 -- the five files, where they are told, stand for a task and its script of which this holds

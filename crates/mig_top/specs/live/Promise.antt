@@ -2,15 +2,15 @@
 use Rattle.std.specs.Prelude.{Bool, IsSome, List, [], true, ℕ, ◌++◌, ◌≡◌, ◌⊎◌}
 use Rattle.mig_base.specs.Flights.{AreWithinLimits, IsTargetOf}
 use Rattle.mig_base.specs.Stores.{Changes}
-use Rattle.mig_lanes.specs.Runs.{IsPartOf}
-use Rattle.mig_top.specs.Common.{Adds, Contents, Event, Extends, Gate, Image, IsHaltCell, IsJobCell, IsReadyIdle, IsSound, SettlesTo, State, Task, Tells, flights, is_armed, replies}
+use Rattle.mig_lanes.specs.LaneSteps.{IsPartOf}
+use Rattle.mig_top.specs.Common.{Adds, Contents, Event, Extends, Gate, HasFound, Image, IsHaltCell, IsJobCell, IsReadyIdle, IsSound, SettlesTo, State}
+use Rattle.mig_top.specs.Common.{Task, Tells, flights, is_armed, replies}
 use Rattle.mig_top.specs.Calls.{Call}
-use Rattle.mig_top.specs.carry.Promise.{IsReadyInFlight}
+use Rattle.mig_top.specs.carry.InFlight.{IsReadyInFlight}
 use Rattle.mig_live.specs.Events.{lone_after}
 use Rattle.mig_top.specs.live.Leaves.{WentOn}
 use Rattle.mig_top.specs.live.Looks.{HoldsContents, left_text, steps_left}
 use Rattle.mig_top.specs.live.Reads.{Scripted}
-use Rattle.mig_top.specs.Stores.{HasFound}
 
 -- A store that a session of the task, `resume` and `halt` may take up: cells and images are told, each image that a crash may leave holds these contents, left slots are zeros, and one whose
 -- gate isn't 1 is ready. Copies may be in flight, within the limits of disks.

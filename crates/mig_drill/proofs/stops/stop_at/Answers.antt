@@ -11,7 +11,7 @@ returns-clause-keeps c contents before =
     stop_keeps c.args.job.now contents (state_of first) (state_of started) (state_of left) (state_of resumed) (mem_is_state first) (mem_is_state started) (mem_is_state left) (mem_is_state resumed)
     (same_none _ _) (same_none _ _) c.crash-left.ensures.left c.crash-left.ensures.settled
     (ap (λ (calls : List StoreCall). flights (state_at left.log.first calls left.trouble.faults)) c.crash-left.ensures.calls)
-    c.start_lanes.ensures.keeps c.resume_lanes.ensures.keeps (subst (LeavesSound c.args.job.now contents) (sym (ap state_of c.fuse.ensures)) before)
+    c.start_lanes.ensures.starts.carries.keeps c.resume_lanes.ensures.resumes.carries.keeps (subst (LeavesSound c.args.job.now contents) (sym (ap state_of c.fuse.ensures)) before)
 
 pub returns-clause-reached : goal.returns-clause-reached
 returns-clause-reached c done contents before =
@@ -19,11 +19,11 @@ returns-clause-reached c done contents before =
     let started = c.start_lanes.new.store in
     let left = c.crash-left.result in
     let resumed = c.resume_lanes.new.store in
-    let finished = ended c.resume_lanes.result _ c.resume_lanes.ensures.finishes (sym c.is_ok-reached.ensures.value ∙ done) in
+    let finished = ended c.resume_lanes.result _ c.resume_lanes.ensures.resumes.finishes (sym c.is_ok-reached.ensures.value ∙ done) in
     stop_reaches c.args.job.now contents (state_of first) (state_of started) (state_of left) (state_of resumed) (mem_is_state first) (mem_is_state started) (mem_is_state left) (mem_is_state resumed)
     (same_none _ _) (same_none _ _) c.crash-left.ensures.left c.crash-left.ensures.settled
     (ap (λ (calls : List StoreCall). flights (state_at left.log.first calls left.trouble.faults)) c.crash-left.ensures.calls)
-    c.start_lanes.ensures.keeps c.resume_lanes.ensures.keeps (subst (LeavesSound c.args.job.now contents) (sym (ap state_of c.fuse.ensures)) before)
+    c.start_lanes.ensures.starts.carries.keeps c.resume_lanes.ensures.resumes.carries.keeps (subst (LeavesSound c.args.job.now contents) (sym (ap state_of c.fuse.ensures)) before)
     finished.0 finished.1
 
 pub returns-clause-marks : goal.returns-clause-marks
@@ -34,7 +34,7 @@ returns-clause-told c tells =
     let first = c.fuse.new.self in
     let started = c.start_lanes.new.store in
     let left = c.crash-left.result in
-    stop_told c.args.job.now (state_of first) (state_of started) (state_of left) (state_of c.resume_lanes.new.store) (mem_is_state started) c.crash-left.ensures.left c.start_lanes.ensures.keeps c.resume_lanes.ensures.keeps
+    stop_told c.args.job.now (state_of first) (state_of started) (state_of left) (state_of c.resume_lanes.new.store) (mem_is_state started) c.crash-left.ensures.left c.start_lanes.ensures.starts.carries.keeps c.resume_lanes.ensures.resumes.carries.keeps
     (subst (TellsJob c.args.job.now) (sym (ap state_of c.fuse.ensures)) tells)
 
 pub returns-clause-resumed : goal.returns-clause-resumed
@@ -42,7 +42,7 @@ returns-clause-resumed c done tells =
     let first = c.fuse.new.self in
     let started = c.start_lanes.new.store in
     let left = c.crash-left.result in
-    stop_resumed c.args.job.now (state_of first) (state_of started) (state_of left) (state_of c.resume_lanes.new.store) (mem_is_state started) c.crash-left.ensures.left c.start_lanes.ensures.keeps
-    (ap (λ (calls : List StoreCall). (state_at left.log.first calls left.trouble.faults).events) c.crash-left.ensures.calls) c.resume_lanes.result c.resume_lanes.ensures.finishes c.resume_lanes.ensures.events
+    stop_resumed c.args.job.now (state_of first) (state_of started) (state_of left) (state_of c.resume_lanes.new.store) (mem_is_state started) c.crash-left.ensures.left c.start_lanes.ensures.starts.carries.keeps
+    (ap (λ (calls : List StoreCall). (state_at left.log.first calls left.trouble.faults).events) c.crash-left.ensures.calls) c.resume_lanes.result c.resume_lanes.ensures.flies
     (sym c.is_ok-reached.ensures.value ∙ done) c.count_rounds-marks.result (c.count_rounds-marks.ensures ∙ ap (λ (n : ℕ). count_of n (state_of left).reads) c.rounds.ensures.count)
     (subst (TellsJob c.args.job.now) (sym (ap state_of c.fuse.ensures)) tells)

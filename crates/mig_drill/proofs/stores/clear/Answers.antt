@@ -1,4 +1,4 @@
-use Rattle.mig_drill.proofs.Common.{All-replicate, All-take, refl, replicate, state_of, take, ℕ, ◌≡◌}
+use Rattle.mig_drill.proofs.Common.{All-replicate, All-take, refl, state_of, ℕ, ◌≡◌}
 use Rattle.mig_drill.proofs.FillLaws.{written_clear}
 use Rattle.mig_drill.proofs.stores.clear.Goals as goal
 

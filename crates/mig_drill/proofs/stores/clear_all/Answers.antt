@@ -1,4 +1,4 @@
-use Rattle.mig_drill.proofs.Common.{Cell, arith, state_of, still_none, told_kept, ◌≡◌}
+use Rattle.mig_drill.proofs.Common.{arith, state_of, still_none, told_kept, ◌≡◌}
 use Rattle.mig_drill.proofs.FillLaws.{clear_more}
 use Rattle.mig_drill.proofs.stores.clear_all.Goals as goal
 

@@ -1,4 +1,4 @@
-use Rattle.mig_drill.proofs.Common.{IsListedCell, flights, on_ok_is, state_of, still_none, sync_same, told_kept}
+use Rattle.mig_drill.proofs.Common.{IsListedCell, on_ok_is, state_of, still_none, sync_same, told_kept}
 use Rattle.mig_drill.proofs.FillLaws.{filled_then}
 use Rattle.mig_drill.proofs.stores.fill.Goals as goal
 

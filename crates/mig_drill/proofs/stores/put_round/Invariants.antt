@@ -1,4 +1,4 @@
-use Rattle.mig_drill.proofs.Common.{AllWithin, ChangesOnly, HoldsMade, IsListedCell, [], flights, length, state_of, ℕ, ◌<◌, ◌≡◌}
+use Rattle.mig_drill.proofs.Common.{AllWithin, ChangesOnly, HoldsMade, IsListedCell, length, state_of, ℕ, ◌<◌}
 use Rattle.mig_drill.proofs.stores.put_round.Given as goal
 
 -- the items of the first shifts are made, and those that were made still are

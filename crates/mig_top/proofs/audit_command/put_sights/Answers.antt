@@ -1,17 +1,8 @@
-use Rattle.mig_top.proofs.Common.{AuditStops, HavePutSights, IfErr, arith, length, subst, sym, ℕ, ◌+◌, ◌≡◌}
+use Rattle.mig_top.proofs.Common.{AuditStops, HavePutSights, IfErr, arith, subst, sym, ℕ, ◌+◌}
 use Rattle.mig_journal.proofs.Steps.{looks_then}
-use Rattle.mig_top.proofs.Auditing.{line_more, line_stops, no_lines}
+use Rattle.mig_top.proofs.Auditing.{line_more, line_stops}
 use Rattle.mig_top.proofs.Steps.{handed}
-use Rattle.mig_top.proofs.StoreEnds.{looks_none}
 use Rattle.mig_top.proofs.audit_command.put_sights.Goals as goal
-
-pub loop-item-init : goal.loop-item-init
-loop-item-init g c = record {
-  put = no_lines c.args.input.now (g.S.Store.state c.args.store.now) (g.K.Sink.state c.args.out.now);
-  looks = looks_none (g.S.Store.state c.args.store.now);
-  later = omega arith;
-  store_later = omega arith;
-}
 
 pub loop-item-preserved : goal.loop-item-preserved
 loop-item-preserved g c =
@@ -44,21 +35,3 @@ returns-in_err-put_sight-clause-stopped g c =
 pub returns-in_err-put_sight-clause-looks : goal.returns-in_err-put_sight-clause-looks
 returns-in_err-put_sight-clause-looks g c =
     looks_then (g.S.Store.state c.args.store.now) (g.S.Store.state c.loop-item.store) (g.S.Store.state c.put_sight.new.store) c.loop-item.invariant.looks c.put_sight.ensures.looks
-
-pub returns-in_err-put_sight-clause-later : goal.returns-in_err-put_sight-clause-later
-returns-in_err-put_sight-clause-later g c = omega (arith, c.loop-item.invariant.later, c.put_sight.ensures.later)
-
-pub returns-in_err-put_sight-clause-store_later : goal.returns-in_err-put_sight-clause-store_later
-returns-in_err-put_sight-clause-store_later g c = omega (arith, c.loop-item.invariant.store_later, c.put_sight.ensures.store_later)
-
-pub returns : goal.returns
-returns g c =
-    let inv = c.loop-item.invariant in
-    record {
-      put = subst (λ (n : ℕ). HavePutSights c.args.input.now (g.S.Store.state c.args.store.now) n (g.K.Sink.state c.args.out.now) (g.K.Sink.state c.loop-item.out) c.loop-item.here)
-          (let e : c.loop-item.item ≡ length c.args.input.now.items = omega (arith, c.loop-item-test.false, c.item_count-item-end.ensures.count, c.loop-item.auto.item-end) in e) inv.put;
-      stopped = tt;
-      looks = inv.looks;
-      later = inv.later;
-      store_later = inv.store_later;
-    }

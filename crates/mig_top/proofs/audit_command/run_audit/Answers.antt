@@ -1,5 +1,5 @@
-use Rattle.mig_top.proofs.Common.{InputLists, IsAudit, err_from_is_err_and, finds}
-use Rattle.mig_top.proofs.EndsOf.{stopped}
+use Rattle.mig_top.proofs.Common.{InputLists, IsAudit, finds}
+use Rattle.mig_top.proofs.EndsOf.{err_is, stopped}
 use Rattle.mig_top.proofs.StoreEnds.{unread, untouched}
 use Rattle.mig_top.proofs.Auditing.{lines_end, sink_stops, store_stops}
 use Rattle.mig_top.proofs.audit_command.run_audit.Goals as goal
@@ -7,8 +7,8 @@ use Rattle.mig_top.proofs.audit_command.run_audit.Goals as goal
 pub returns-in_err-input : goal.returns-in_err-input
 returns-in_err-input g c =
     let rest = λ (input : InputLists). finds (IsAudit input (g.S.Store.state c.args.store.now)) in
-    let p = err_from_is_err_and c.from_residual.result c.from_residual.ensures.1 in
-    rw (p.1, p.2) (stopped (g.K.Sink.state c.args.out.now) c.in_err-input.field-0.0 (unread rest (λ o h. h) tt (λ o u. c.load_layout.ensures.same) untouched c.in_err-input.ensures.takes))
+    rw (err_is c.from_residual.ensures.1)
+    (stopped _ _ (unread rest (λ o h. h) tt (λ o u. c.load_layout.ensures.same) untouched c.in_err-input.ensures.takes))
 
 pub returns-in-Ok : goal.returns-in-Ok
 returns-in-Ok g c =

@@ -1,4 +1,4 @@
-use Rattle.mig_top.proofs.Common.{Carries, [], done_text, err_from_is_err_and, four_and, task_names}
+use Rattle.mig_top.proofs.Common.{[], done_text, err_from_is_err_and, four_and, task_names}
 use Rattle.mig_top.proofs.StoreCommands.{resume_done, resume_refused, resume_rest}
 use Rattle.mig_top.proofs.EndsOf.{refused, shown, stopped}
 use Rattle.mig_top.proofs.StoreEnds.{unread, untouched}
@@ -11,26 +11,22 @@ returns-in_err-job g c =
 
 pub returns-in-Ok : goal.returns-in-Ok
 returns-in-Ok g c =
-    let old = g.S.Store.state c.args.store.now in
-    let task = c.in_ok-job.job in
     let found = c.in-Ok.found in
-    let e = c.resume_lanes.ensures in
-    let ok = c.in-Ok.ensures in
-    let carries : Carries task old (g.S.Store.state c.resume_lanes.new.store) = record { keeps = e.keeps; armed = e.armed } in
-    shown (done_text task.plan found)
-    (resume_done c.load_job.ensures.same c.in_ok-job.ensures.takes.passes carries found
-    (record { moves = record { carries = carries; finishes = ok.finishes; events = ok.events }; halting = e.halting; halted = ok.halted; kept = ok.kept })
-    (record { carries = carries; part = ok.within })
-    (record { most = ok.finishes.most; found = ok.finishes.found; ours = ok.ours; ready = ok.finishes.ready }))
+    let ok = c.in-Ok.ensures.resumes in
+    let flies = c.in-Ok.ensures.flies.1 in
+    shown (done_text c.in_ok-job.job.plan found)
+    (resume_done c.load_job.ensures.same c.in_ok-job.ensures.takes.passes ok.carries found
+    (record { moves = record { carries = ok.carries; finishes = ok.finishes; events = flies.all }; halting = ok.halting; halted = ok.halted; kept = ok.kept })
+    (record { carries = ok.carries; part = flies.part })
+    (record { most = ok.finishes.found.most; found = ok.finishes.found.found; ours = ok.ours; ready = ok.finishes.ready }))
     (rw c.rounds.ensures.count at c.show_rounds.ensures)
 
 pub returns : goal.returns
 returns g c =
     let task = c.in_ok-job.job in
-    let names = four_and (task_names c.args.task).files [] in
-    let e = c.resume_lanes.ensures in
-    let bad = c.in-Err.ensures in
-    let carries : Carries task (g.S.Store.state c.args.store.now) (g.S.Store.state c.resume_lanes.new.store) = record { keeps = e.keeps; armed = e.armed } in
-    refused (g.K.Sink.state c.args.out.now) c.fault_ending.result c.input.result.now task.input c.in-Err.fault (c.fault_ending.ensures names) c.input.ensures.value
-    (resume_refused c.load_job.ensures.same c.in_ok-job.ensures.takes.passes carries
-    (e.part.0, record { most = e.part.1; found = e.part.2 }, record { carries = carries; part = e.part.3 }) e.halting c.in-Err.fault bad.fault bad.kind)
+    let bad = c.in-Err.ensures.resumes in
+    let flies = c.in-Err.ensures.flies in
+    refused (g.K.Sink.state c.args.out.now) c.fault_ending.result c.input.result.now task.input c.in-Err.fault
+    (c.fault_ending.ensures (four_and (task_names c.args.task).files [])) c.input.ensures.value
+    (resume_refused c.load_job.ensures.same c.in_ok-job.ensures.takes.passes bad.carries (flies.0, flies.1, record { carries = bad.carries; part = flies.2 }) bad.halting c.in-Err.fault
+    bad.faults.fault bad.kind)

@@ -1,25 +1,23 @@
-use Rattle.mig_top.proofs.Common.{IsDrainSaved, OthersStay, Saves, arith, drain_texts_of, empties_texts, err_from_is_err_and, inl, inr}
-use Rattle.mig_top.proofs.EndsOf.{files_end, shown, stopped, unread_leaves}
+use Rattle.mig_top.proofs.Common.{IsDrainSaved, OthersStay, Saves, arith, drain_texts_of, empties_texts, inl, inr}
+use Rattle.mig_top.proofs.EndsOf.{err_is, files_end, shown, stopped, unread_leaves}
 use Rattle.mig_top.proofs.OneSave.{drain_found, drain_saved, save_leaves}
 use Rattle.mig_top.proofs.Steps.{if_map}
 use Rattle.mig_top.specs.drain.Texts.{DrainLeaves, IsDrainFound}
-use Rattle.mig_words.specs.declared.endings.CommandError.TheVariants.{FolderFault}
 use Rattle.mig_top.proofs.drain_command.run_drain.Goals as goal
 
 pub returns-in_err-text : goal.returns-in_err-text
 returns-in_err-text g c =
     let same = c.load_drain.ensures.same in
-    let p = err_from_is_err_and c.from_residual.result c.from_residual.ensures.1 in
     let a = c.args in
     let Leaves = DrainLeaves (g.F.Folder.state a.folder.now) (g.F.Folder.state c.load_drain.new.folder) a.disks.now a.now.now a.name a.next.now in
-    rw (p.1, p.2) (stopped (g.K.Sink.state a.out.now) c.in_err-text.field-0.0 (files_end c.in_err-text.ensures.takes (λ files o s. s) (unread_leaves Leaves (inl same) same (λ word. same) (λ f. same))))
+    rw (err_is c.from_residual.ensures.1)
+    (stopped _ _ (files_end c.in_err-text.ensures.takes (λ files o s. s) (unread_leaves Leaves (inl same) same (λ word. same) (λ f. same))))
 
 pub returns-in_err-save : goal.returns-in_err-save
 returns-in_err-save g c =
     let a = c.args in
     let texts = drain_texts_of c.in_ok-text.text in
-    let p = err_from_is_err_and c.from_residual-in_err-save.result c.from_residual-in_err-save.ensures.1 in
-    rw (p.1, p.2) (stopped (g.K.Sink.state c.args.out.now) FolderFault (record {
+    rw (err_is c.from_residual-in_err-save.ensures.1) (stopped _ _ (record {
       cause = omega (arith, c.load_drain.ensures.later, c.in_err-save.ensures.failed);
       leaves =
           inr (save_leaves (λ f. (empties_texts a.disks.now a.now.now a.name f).Passes texts) (OthersStay a.next.now) (λ f h. IsDrainFound a.disks.now a.now.now a.name f × OthersStay a.next.now f h)

@@ -1,12 +1,7 @@
-use Rattle.mig_top.proofs.Common.{DrillFault, IsDrillFault, Rose, arith, begins, drill_text, err_from_is_err_and, inl, inr, refl, subst, ◌≡◌}
+use Rattle.mig_top.proofs.Common.{DrillFault, IsDrillFault, Rose, arith, begins, drill_text, inl, inr, refl, subst, ◌≡◌}
 use Rattle.mig_words.specs.declared.endings.CommandError.TheVariants as ending
-use Rattle.mig_top.proofs.EndsOf.{files_end, shown, stopped, stopped_from}
+use Rattle.mig_top.proofs.EndsOf.{shown, stopped_from}
 use Rattle.mig_top.proofs.drill_command.run_drill.Goals as goal
-
-pub returns-in_err-job : goal.returns-in_err-job
-returns-in_err-job g c =
-    let p = err_from_is_err_and c.from_residual.result c.from_residual.ensures.1 in
-    rw (p.1, p.2) (stopped (g.K.Sink.state c.args.out.now) c.in_err-job.field-0.0 (files_end c.in_err-job.ensures.takes (λ files o s. s) (λ o u. c.load_small_job.ensures.same)))
 
 pub returns-in-Ok : goal.returns-in-Ok
 returns-in-Ok g c =

@@ -1,13 +1,13 @@
-use Rattle.mig_top.proofs.Common.{[], err_from_is_err_and, filled_text, refl, ◌∷◌}
+use Rattle.mig_top.proofs.Common.{[], filled_text, refl, ◌∷◌}
 use Rattle.mig_top.proofs.StoreCommands.{fill_done, fill_refused, fill_rest}
-use Rattle.mig_top.proofs.EndsOf.{refused, shown, stopped}
+use Rattle.mig_top.proofs.EndsOf.{err_is, refused, shown, stopped}
 use Rattle.mig_top.proofs.StoreEnds.{unread, untouched}
 use Rattle.mig_top.proofs.fill_command.run_fill.Goals as goal
 
 pub returns-in_err-input : goal.returns-in_err-input
 returns-in_err-input g c =
-    let p = err_from_is_err_and c.from_residual.result c.from_residual.ensures.1 in
-    rw (p.1, p.2) (stopped (g.K.Sink.state c.args.out.now) c.in_err-input.field-0.0 (unread (fill_rest (g.S.Store.state c.args.store.now)) (λ o h. h) tt (λ o u. c.load_layout.ensures.same) untouched c.in_err-input.ensures.takes))
+    rw (err_is c.from_residual.ensures.1) (stopped _ _ (unread (fill_rest (g.S.Store.state c.args.store.now))
+    (λ o h. h) tt (λ o u. c.load_layout.ensures.same) untouched c.in_err-input.ensures.takes))
 
 pub returns-in-Ok : goal.returns-in-Ok
 returns-in-Ok g c =

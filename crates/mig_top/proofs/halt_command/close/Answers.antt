@@ -1,6 +1,6 @@
-use Rattle.mig_top.proofs.Common.{[], err_from_is_err_and, four_and, halted_text}
+use Rattle.mig_top.proofs.Common.{[], four_and, halted_text}
 use Rattle.mig_top.proofs.StoreCommands.{halt_done, halt_failed, halt_refused, halt_unsaved, in_part, in_whole, is_standing}
-use Rattle.mig_top.proofs.EndsOf.{failed_with, refused, shown, stopped}
+use Rattle.mig_top.proofs.EndsOf.{err_is, failed_with, refused, shown, stopped}
 use Rattle.mig_mover.specs.Holdings.{IsUnrefused}
 use Rattle.mig_store.specs.Grounds.{FailedOr}
 use Rattle.mig_top.proofs.halt_command.close.Goals as goal
@@ -13,8 +13,8 @@ returns-in-Err g c before names are same later =
 pub returns-in_err-save_layout : goal.returns-in_err-save_layout
 returns-in_err-save_layout g c before names are same later =
     let e = c.in_err-save_layout in
-    let p = err_from_is_err_and c.from_residual.result c.from_residual.ensures.1 in
-    rw (p.1, p.2) (stopped (g.K.Sink.state c.args.out.now) e.field-0.0 (halt_unsaved (g.F.Folder.state c.args.folder.now) same later c.in-Ok.ensures.stands.settles e.field-0.0 e.ensures.failed))
+    rw (err_is c.from_residual.ensures.1)
+    (stopped _ _ (halt_unsaved (g.F.Folder.state c.args.folder.now) same later c.in-Ok.ensures.stands.settles e.field-0.0 e.ensures.failed))
 
 pub returns-in-Ok-halt : goal.returns-in-Ok-halt
 returns-in-Ok-halt g c before names are same later =

@@ -1,16 +1,16 @@
-use Rattle.mig_top.proofs.Common.{Shows, [], all_steps, ap, err_from_is_err_and, four_and, left_text, names_in, scripted_read, subst, true, ℕ, ◌-◌, ◌∙◌, ◌∷◌}
+use Rattle.mig_top.proofs.Common.{Shows, [], all_steps, ap, four_and, left_text, names_in, scripted_read, subst, true, ℕ, ◌-◌, ◌∙◌, ◌∷◌}
 use Rattle.mig_live.specs.Replies.{AreCutOff, IsServeFault}
 use Rattle.mig_live.specs.Sessions.{InSightFor}
 use Rattle.mig_live.specs.declared.serving.ServeFault.{ServeFault}
-use Rattle.mig_top.proofs.EndsOf.{refused, stopped}
+use Rattle.mig_top.proofs.EndsOf.{err_is, refused, stopped}
 use Rattle.mig_top.proofs.LiveCommand.{live_done, live_failed, live_refused, live_rest, live_unput, went_on}
 use Rattle.mig_top.proofs.StoreEnds.{unread, untouched}
 use Rattle.mig_top.proofs.live_command.run_live.Goals as goal
 
 pub returns-in_err-read : goal.returns-in_err-read
 returns-in_err-read g c =
-    let p = err_from_is_err_and c.from_residual.result c.from_residual.ensures.1 in
-    rw (p.1, p.2) (stopped (g.K.Sink.state c.args.out.now) c.in_err-read.field-0.0 (unread (live_rest (g.S.Store.state c.args.store.now)) (λ o h. h) tt (λ o u. c.load_scripted.ensures.same) untouched c.in_err-read.ensures.takes))
+    rw (err_is c.from_residual.ensures.1) (stopped _ _ (unread (live_rest (g.S.Store.state c.args.store.now))
+    (λ o h. h) tt (λ o u. c.load_scripted.ensures.same) untouched c.in_err-read.ensures.takes))
 
 pub returns-in-Err : goal.returns-in-Err
 returns-in-Err g c =

@@ -1,24 +1,22 @@
-use Rattle.mig_top.proofs.Common.{Files, IfSome, IsSomeAnd, Option, OthersStay, arith, err_from_is_err_and, inl, inr, names_in, subst, texts_of}
-use Rattle.mig_top.proofs.EndsOf.{files_end, one_changed, shown, stopped, unread_leaves}
+use Rattle.mig_top.proofs.Common.{Files, IfSome, IsSomeAnd, Option, OthersStay, arith, inl, inr, names_in, subst, texts_of}
+use Rattle.mig_top.proofs.EndsOf.{err_is, files_end, one_changed, shown, stopped, unread_leaves}
 use Rattle.mig_top.proofs.PlanSaves.{are_saved, half_saved}
 use Rattle.mig_top.proofs.Steps.{if_map}
 use Rattle.mig_top.specs.plan.Leaves.{PlanLeaves}
-use Rattle.mig_words.specs.declared.endings.CommandError.TheVariants.{FolderFault}
 use Rattle.mig_top.proofs.plan_command.run_plan.Goals as goal
 
 pub returns-in_err-texts : goal.returns-in_err-texts
 returns-in_err-texts g c =
     let same = c.load_planned.ensures.same in
     let still = one_changed (g.F.Folder.state c.args.folder.now) (g.F.Folder.state c.load_planned.new.folder) c.args.files.plan.now same in
-    let p = err_from_is_err_and c.from_residual.result c.from_residual.ensures.1 in
     let Leaves = PlanLeaves (g.F.Folder.state c.args.folder.now) (g.F.Folder.state c.load_planned.new.folder) (names_in c.args.files) c.args.cert.now in
-    rw (p.1, p.2) (stopped (g.K.Sink.state c.args.out.now) c.in_err-texts.field-0.0 (files_end c.in_err-texts.ensures.takes (λ files o s. s) (unread_leaves Leaves (inl still) same (λ word. same) (λ f. same))))
+    rw (err_is c.from_residual.ensures.1)
+    (stopped _ _ (files_end c.in_err-texts.ensures.takes (λ files o s. s) (unread_leaves Leaves (inl still) same (λ word. same) (λ f. same))))
 
 pub returns-in_err-save : goal.returns-in_err-save
 returns-in_err-save g c =
     let new = g.F.Folder.state c.save.new.self in
-    let p = err_from_is_err_and c.from_residual-in_err-save.result c.from_residual-in_err-save.ensures.1 in
-    rw (p.1, p.2) (stopped (g.K.Sink.state c.args.out.now) FolderFault (record {
+    rw (err_is c.from_residual-in_err-save.ensures.1) (stopped _ _ (record {
       cause = omega (arith, c.load_planned.ensures.later, c.in_err-save.ensures.failed);
       leaves = inl (subst (λ (o : Option Files). IfSome o (λ files. IsSomeAnd new.files (OthersStay c.args.files.plan.now files))) c.load_planned.ensures.same c.save.ensures.others);
     }))
@@ -26,8 +24,7 @@ returns-in_err-save g c =
 pub returns-in_err-save-2 : goal.returns-in_err-save-2
 returns-in_err-save-2 g c =
     let old = g.F.Folder.state c.args.folder.now in
-    let p = err_from_is_err_and c.from_residual-in_err-save-2.result c.from_residual-in_err-save-2.ensures.1 in
-    rw (p.1, p.2) (stopped (g.K.Sink.state c.args.out.now) FolderFault (record {
+    rw (err_is c.from_residual-in_err-save-2.ensures.1) (stopped _ _ (record {
       cause = omega (arith, c.load_planned.ensures.later, c.save.ensures.later, c.in_err-save-2.ensures.failed);
       leaves =
           inr (half_saved (names_in c.args.files) c.args.cert.now c.requires (texts_of c.in_ok-texts.texts) old.files (g.F.Folder.state c.load_planned.new.folder).files

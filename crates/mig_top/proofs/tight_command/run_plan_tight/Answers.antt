@@ -1,24 +1,22 @@
-use Rattle.mig_top.proofs.Common.{IsTightSaved, OthersStay, Saves, arith, err_from_is_err_and, inl, inr, names_in, plans_tight_texts, tight_texts_of}
-use Rattle.mig_top.proofs.EndsOf.{files_end, shown, stopped, unread_leaves}
+use Rattle.mig_top.proofs.Common.{IsTightSaved, OthersStay, Saves, arith, inl, inr, names_in, plans_tight_texts, tight_texts_of}
+use Rattle.mig_top.proofs.EndsOf.{err_is, files_end, shown, stopped, unread_leaves}
 use Rattle.mig_top.proofs.OneSave.{save_leaves, tight_found, tight_saved}
 use Rattle.mig_top.proofs.Steps.{if_map}
 use Rattle.mig_top.specs.plan_tight.Texts.{IsTightFound, TightLeaves}
-use Rattle.mig_words.specs.declared.endings.CommandError.TheVariants.{FolderFault}
 use Rattle.mig_top.proofs.tight_command.run_plan_tight.Goals as goal
 
 pub returns-in_err-text : goal.returns-in_err-text
 returns-in_err-text g c =
     let same = c.load_tight.ensures.same in
-    let p = err_from_is_err_and c.from_residual.result c.from_residual.ensures.1 in
     let Leaves = TightLeaves (g.F.Folder.state c.args.folder.now) (g.F.Folder.state c.load_tight.new.folder) (names_in c.args.files) in
-    rw (p.1, p.2) (stopped (g.K.Sink.state c.args.out.now) c.in_err-text.field-0.0 (files_end c.in_err-text.ensures.takes (λ files o s. s) (unread_leaves Leaves (inl same) same (λ word. same) (λ f. same))))
+    rw (err_is c.from_residual.ensures.1)
+    (stopped _ _ (files_end c.in_err-text.ensures.takes (λ files o s. s) (unread_leaves Leaves (inl same) same (λ word. same) (λ f. same))))
 
 pub returns-in_err-save : goal.returns-in_err-save
 returns-in_err-save g c =
     let n = names_in c.args.files in
     let texts = tight_texts_of c.in_ok-text.text in
-    let p = err_from_is_err_and c.from_residual-in_err-save.result c.from_residual-in_err-save.ensures.1 in
-    rw (p.1, p.2) (stopped (g.K.Sink.state c.args.out.now) FolderFault (record {
+    rw (err_is c.from_residual-in_err-save.ensures.1) (stopped _ _ (record {
       cause = omega (arith, c.load_tight.ensures.later, c.in_err-save.ensures.failed);
       leaves =
           inr (save_leaves (λ f. (plans_tight_texts n f).Passes texts) (OthersStay n.plan) (λ f h. IsTightFound n f × OthersStay n.plan f h) (λ f h made others. (tight_found n texts f made, others))
