@@ -1,8 +1,9 @@
 -- A change of files is a change of the cells that are read off them.
-use Rattle.mig_files.proofs.Common.{Bool, Cell, Changes, Ends, EndsAt, Err, Event, FilesChange, FilesLook, FilesState, FilesWrite, HasBytes, IfSome, Image, PlaceBytes}
-use Rattle.mig_files.proofs.Common.{IsFilesState, IsLeftBut, IsLeftFilesBut, IsSettled, IsSettledAt, IsTrue, IsWithin, List, NoByte, NoCell, None, Ok, OnOk, Place, Result}
-use Rattle.mig_files.proofs.Common.{SameBut, SameFilesBut, Some, [], ap, arith, cell_len, cell_state, cells-shape, cells_of, image_of, file_of, if◌then◌else◌, inl, inr, length, offset_of}
-use Rattle.mig_files.proofs.Common.{refl, rules, subst, suc, sym, zero, ℕ, ◌+◌, ◌<◌, ◌∙◌, ◌∷◌, ◌≡◌}
+use Rattle.mig_files.proofs.Common.{Bool, Cell, Changes, Ends, EndsAt, Err, Event, FilesChange, FilesLook, FilesState, FilesWrite, HasBytes, IfSome}
+use Rattle.mig_files.proofs.Common.{Image, PlaceBytes, IsFilesState, IsLeftBut, IsLeftFilesBut, IsSettled, IsSettledAt, IsTrue, IsWithin, List}
+use Rattle.mig_files.proofs.Common.{NoByte, NoCell, None, Ok, OnOk, Place, Result, SameBut, SameFilesBut, Some, [], ap, arith, cell_len, cell_state}
+use Rattle.mig_files.proofs.Common.{cells-shape, cells_of, image_of, file_of, if◌then◌else◌, inl, inr, length, offset_of, refl, rules, subst, suc}
+use Rattle.mig_files.proofs.Common.{sym, zero, ℕ, ◌+◌, ◌<◌, ◌∙◌, ◌∷◌, ◌≡◌}
 use Rattle.mig_files.specs.Derived.{window}
 use Rattle.mig_files.specs.Sights.{on_told, window-has}
 use Rattle.mig_files.proofs.Apart.{apart}
@@ -59,12 +60,12 @@ module _ (R S : Cell → Type 0) (P Q : Place → ℕ → Type 0) (spares : Spar
     events = refl;
   }
 
--- a cell that was read
-pub cell_read : (s : FilesState) (faults : ℕ) (cell : Cell) (bytes : List ℕ) → length bytes ≡ cell_len cell
+-- what is so of the bytes that a cell's file has there is so of the cell
+pub cell_has : (s : FilesState) (cell : Cell) (bytes : List ℕ) → length bytes ≡ cell_len cell
     → (IsTrue (s.told (file_of cell)) → HasBytes (s.reads (file_of cell)) (offset_of cell) (cell_len cell) bytes)
-    → IfSome ((cell_state s faults).reads cell) (λ told. bytes ≡ told)
-cell_read s faults cell bytes len has =
-    on_told s cell (λ told. bytes ≡ told) (λ told. window-has (s.reads (file_of cell)) (offset_of cell) (cell_len cell) bytes len (has told))
+    → (P : List ℕ → Type 0) → P bytes → IfSome (image_of s cell) P
+cell_has s cell bytes len has P so =
+    on_told s cell P (λ told. subst P (window-has (s.reads (file_of cell)) (offset_of cell) (cell_len cell) bytes len (has told)) so)
 
 -- all files are settled, so all cells are
 pub cells_settled : (s : FilesState) (faults : ℕ) → ((cell : Cell) → IsSettledAt s (file_of cell)) → IsSettled (cell_state s faults)
@@ -73,13 +74,6 @@ cells_settled s faults settled image (files, left, is) = subst (λ (all : Image)
       (window-same (s.reads (file_of cell)) (files (file_of cell)) (offset_of cell) (cell_len cell) (λ i lt. settled cell files left (offset_of cell + i)));
   shape = λ cell. cells-shape s.told files s.reads cell;
 })
-
--- a cell that was written
-pub cell_written : (s : FilesState) (cell : Cell) (bytes : List ℕ) → length bytes ≡ cell_len cell
-    → (IsTrue (s.told (file_of cell)) → HasBytes (s.reads (file_of cell)) (offset_of cell) (cell_len cell) bytes)
-    → IfSome (image_of s cell) (λ told. told ≡ bytes)
-cell_written s cell bytes len has =
-    on_told s cell (λ told. told ≡ bytes) (λ told. sym (window-has (s.reads (file_of cell)) (offset_of cell) (cell_len cell) bytes len (has told)))
 
 -- a write to one cell
 pub cell_changes : (cell : Cell) (added : List Event) {old new : FilesState} {a b : ℕ} → IsFilesState old → FilesWrite (file_of cell) (offset_of cell) (cell_len cell) old new
@@ -126,8 +120,9 @@ pub cell_written_at : (s : FilesState) (cell : Cell) {file : Place} {at : ℕ} (
     → (IsTrue (s.told file) → HasBytes (s.reads file) at (length bytes) bytes) → IfSome (image_of s cell) (λ told. told ≡ bytes)
 cell_written_at s cell {file} {at} bytes is_file is_at is_n has =
     let Says : Place → ℕ → ℕ → Type 0 = λ p a m. IsTrue (s.told p) → HasBytes (s.reads p) a m bytes in
-    cell_written s cell bytes is_n (subst (λ (m : ℕ). Says (file_of cell) (offset_of cell) m) is_n
+    cell_has s cell bytes is_n (subst (λ (m : ℕ). Says (file_of cell) (offset_of cell) m) is_n
     (subst (λ (a : ℕ). Says (file_of cell) a (length bytes)) is_at (subst (λ (p : Place). Says p at (length bytes)) is_file has)))
+    (λ told. told ≡ bytes) refl
 
 pub write_at_cell : (cell : Cell) {file : Place} {at n : ℕ} {a b c : FilesState} → file ≡ file_of cell → at ≡ offset_of cell → n ≡ cell_len cell → FilesLook a b
     → FilesWrite file at n b c → FilesWrite (file_of cell) (offset_of cell) (cell_len cell) a c

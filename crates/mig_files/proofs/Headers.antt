@@ -1,21 +1,19 @@
 -- What the first bytes of a slot say.
-use Rattle.mig_files.proofs.Common.{Cell, EndsAt, Err, FilesLook, FilesState, HasBytes, HoldsItem, IfSome, IsCopy, IsElsewhere, IsFreeFor, IsName, IsSome, List, MayBeEmptied}
-use Rattle.mig_files.proofs.Common.{None, Ok, OnOk, Option, Result, Some, WhereTold, ap, arith, cell_len, image_of, false≢true, file_of, header_of, length}
-use Rattle.mig_files.proofs.Common.{offset_of, places, replicate, rules, seen_in, slice_index, slice_range, subst, sym, take, take-append_seam, ℕ, ◌++◌, ◌+◌, ◌-◌, ◌<◌, ◌↔◌, ◌∙◌}
-use Rattle.mig_files.proofs.Common.{◌≡◌, ◌≤◌}
+use Rattle.mig_files.proofs.Common.{Cell, EndsAt, Err, FilesLook, FilesState, HasBytes, HoldsItem, IfSome, IsCopy, IsElsewhere, IsFreeFor, IsName}
+use Rattle.mig_files.proofs.Common.{IsSome, List, MayBeEmptied, None, Ok, OnOk, Option, Result, Some, WhereTold, ap, arith, cell_len, image_of}
+use Rattle.mig_files.proofs.Common.{false≢true, file_of, header_of, length, offset_of, places, refl, replicate, rules, seen_in, slice_index}
+use Rattle.mig_files.proofs.Common.{slice_range, subst, sym, take, take-append_seam, ℕ, ◌++◌, ◌+◌, ◌-◌, ◌<◌, ◌↔◌, ◌∙◌, ◌≡◌, ◌≤◌}
 use Rattle.mig_files.specs.Sights.{header_len, window-has}
-use Rattle.mig_files.proofs.Derivation.{cell_read, cell_written}
+use Rattle.mig_files.proofs.Derivation.{cell_has}
 use Rattle.mig_files.proofs.FilesSteps.{told_before, told_after, bytes_after, bytes_before}
 use Rattle.mig_files.proofs.SeenItems.{Sights}
-
--- as many bytes of one place are the same
-pub same_bytes : (f : ℕ → ℕ) (at : ℕ) (a b : List ℕ) → length a ≡ 34 → length b ≡ 34 → HasBytes f at 34 a → HasBytes f at 34 b → a ≡ b
-same_bytes f at a b la lb ha hb = window-has f at 34 a la ha ∙ sym (window-has f at 34 b lb hb)
 
 -- a slot that holds an item begins with its header
 pub held_is : (s : FilesState) (slot : Cell) (first item : List ℕ) → length first ≡ 34 → length item ≤ 32 → HasBytes (s.reads (file_of slot)) (offset_of slot) 34 first
     → HoldsItem s slot item → first ≡ header_of item
-held_is s slot first item len short has holds = same_bytes (s.reads (file_of slot)) (offset_of slot) first (header_of item) len (header_len item short) has holds
+held_is s slot first item len short has holds =
+    window-has (s.reads (file_of slot)) (offset_of slot) 34 first len has
+    ∙ sym (window-has (s.reads (file_of slot)) (offset_of slot) 34 (header_of item) (header_len item short) holds)
 
 pub header_after : {a b : FilesState} → FilesLook a b → (slot : Cell) (n : ℕ) (first : List ℕ) → WhereTold a slot (HasBytes (a.reads (file_of slot)) (offset_of slot) n first)
     → WhereTold b slot (HasBytes (b.reads (file_of slot)) (offset_of slot) n first)
@@ -44,7 +42,9 @@ not_held s slot first item len name not has told holds = not (held_is s slot fir
 pub whole_read : (s : FilesState) (cell : Cell) (n : ℕ) (bytes : List ℕ) → n ≡ cell_len cell → length bytes ≡ cell_len cell
     → WhereTold s cell (HasBytes (s.reads (file_of cell)) (offset_of cell) n bytes)
     → IfSome (image_of s cell) (λ told. bytes ≡ told)
-whole_read s cell n bytes is_n len has = cell_read s 0 cell bytes len (λ told. subst (λ (m : ℕ). HasBytes (s.reads (file_of cell)) (offset_of cell) m bytes) is_n (has told))
+whole_read s cell n bytes is_n len has =
+    cell_has s cell bytes len (λ told. subst (λ (m : ℕ). HasBytes (s.reads (file_of cell)) (offset_of cell) m bytes) is_n (has told))
+    (λ told. bytes ≡ told) refl
 
 -- the name in a header
 pub name_range : (item : List ℕ) → slice_range (header_of item) 2 (2 + length item) ≡ item
@@ -62,7 +62,9 @@ on_any (Err e) a = tt
 pub emptied : (s : FilesState) (cell : Cell) (zeros : List ℕ) (end : ℕ) → length zeros ≡ cell_len cell → ((i : ℕ) → i < length zeros → slice_index zeros i ≡ 0)
     → end ≤ offset_of cell → WhereTold s cell (EndsAt (s.reads (file_of cell)) end)
     → IfSome (image_of s cell) (λ told. told ≡ zeros)
-emptied s cell zeros end len all le ends = cell_written s cell zeros len (λ told i lt. all i (omega (arith, lt, len)) ∙ sym (ends told (offset_of cell + i) (omega (arith, le))))
+emptied s cell zeros end len all le ends =
+    cell_has s cell zeros len (λ told i lt. all i (omega (arith, lt, len)) ∙ sym (ends told (offset_of cell + i) (omega (arith, le))))
+    (λ told. told ≡ zeros) refl
 
 -- what was read is what was written
 pub copied : (from to : Option (List ℕ)) (bytes : List ℕ) → IfSome from (λ told. bytes ≡ told) → IfSome to (λ told. told ≡ bytes) → IsCopy from to

@@ -1,10 +1,24 @@
 -- Where items were seen, and at how many slots.
-use Rattle.mig_files.proofs.Common.{AllByRecursion, AreCounted, Bool, Cell, Gate, Head, IsDistinct, IsElsewhere, IsNotedAt, List, Mark, MatchBool, None, Option, Slot, Some, [], ap, arith, cases_Bool, cond, item_count}
-use Rattle.mig_files.proofs.Common.{IsDistinct-head, IsDistinct-tail, eq-value, false, false≢true, inl, inr, insert_entry, is_cell, is_cell-other, is_cell-same, is_cell-true, is_item, keys_of, length, lookup, ltb-false, ltb-true, nat_eq, nat_lt}
-use Rattle.mig_files.proofs.Common.{nat_list_eq_equiv, one_if, pointwise, refl, same_text, seen_at, seen_in, subst, sym, times, true, ℕ, ◌+◌, ◌-◌, ◌<◌, ◌∙◌, ◌∷◌, ◌≡◌, ◌≤◌, ◌⊎◌}
+use Rattle.mig_files.proofs.Common.{AllByRecursion, AreCounted, Bool, Cell, Gate, Head, IsDistinct, IsDistinct-head, IsDistinct-tail, IsElsewhere}
+use Rattle.mig_files.proofs.Common.{IsNotedAt, List, Mark, MatchBool, None, Option, Slot, Some, [], ap, arith, cond, eq-value, false, false≢true}
+use Rattle.mig_files.proofs.Common.{insert_entry, is_cell, is_cell-same, is_cell-true, is_item, item_count, keys_of, length, lookup, nat_eq}
+use Rattle.mig_files.proofs.Common.{nat_list_eq_equiv, one_if, pointwise, refl, same_text, seen_at, seen_in, sym, times, true, ℕ, ◌+◌, ◌<◌, ◌∙◌, ◌∷◌}
+use Rattle.mig_files.proofs.Common.{◌≡◌, ◌≤◌}
+use Rattle.std.proofs.Common.{not}
+use Rattle.std.specs.Map.{set_value}
+use Rattle.std.specs.Option.{option_eq, option_flatten as flat, unwrap_or}
+
+abbrev Seen : Type 0
+Seen = Option (List ℕ)
 
 abbrev pub Sights : Type 0
-Sights = List (Cell × Option (List ℕ))
+Sights = List (Cell × Seen)
+
+abbrev Counts : Type 0
+Counts = List (List ℕ × ℕ)
+
+pub none_some : {A : Type 0} {x : A} → None ≡ Some x → ⊥
+none_some is = cc
 
 abbrev eq : Cell → Cell → Bool
 eq = eq-value.it
@@ -16,96 +30,122 @@ eq-is Gate Gate = refl
 eq-is (Mark m) (Mark n) = refl
 eq-is _ _ = refl
 
-pub none_some : {A : Type 0} {x : A} → None ≡ Some x → ⊥
-none_some is = cc
+abbrev same : List ℕ → List ℕ → Bool
+same = pointwise nat_eq
+
+pub same_own : (item : List ℕ) → same item item ≡ true
+same_own item = nat_list_eq_equiv.refl item
+
+-- 1 where it is this item
+abbrev one : List ℕ → Seen → ℕ
+one item seen = one_if (is_item item seen)
 
 -- What look-ups say
 
-abbrev flat : Option (Option (List ℕ)) → Option (List ℕ)
-flat None = None
-flat (Some item) = item
-
 looked_up : (seen : Sights) (slot : Cell) → seen_at seen slot ≡ flat (lookup (eq slot) seen)
 looked_up [] slot = refl
-looked_up (e ∷ seen) slot = ap (λ (b : Bool). cond b e.1 (seen_at seen slot)) (sym (eq-is slot e.0)) ∙ at (eq slot e.0) (looked_up seen slot)
+looked_up (e ∷ seen) slot =
+    ap (λ (b : Bool). cond b e.1 (seen_at seen slot)) (sym (eq-is slot e.0)) ∙ at (eq slot e.0) (lookup (eq slot) seen) (looked_up seen slot)
   where
-    at : (b : Bool) → seen_at seen slot ≡ flat (lookup (eq slot) seen) → cond b e.1 (seen_at seen slot) ≡ flat (cond b (Some e.1) (lookup (eq slot) seen))
-    at true rest = refl
-    at false rest = rest
+    at : (b : Bool) (found : Option Seen) → seen_at seen slot ≡ flat found → cond b e.1 (seen_at seen slot) ≡ flat (cond b (Some e.1) found)
+    at true found is = refl
+    at false found is = is
 
-pub some_seen : (seen : Sights) (slot : Cell) (item : Option (List ℕ)) → Some item ≡ lookup (eq slot) seen → item ≡ seen_at seen slot
-some_seen seen slot item is = ap flat is ∙ sym (looked_up seen slot)
+pub seen_by : (seen : Sights) (slot : Cell) (found : Option Seen) → found ≡ lookup (eq slot) seen → flat found ≡ seen_at seen slot
+seen_by seen slot found is = ap flat is ∙ sym (looked_up seen slot)
 
-pub none_seen : (seen : Sights) (slot : Cell) → None ≡ lookup (eq slot) seen → None ≡ seen_at seen slot
-none_seen seen slot is = ap flat is ∙ sym (looked_up seen slot)
-
-seen_set : (old new : Sights) (slot : Cell) (item : Option (List ℕ)) → ((other : Cell) → lookup (eq other) new ≡ cond (eq slot other) (Some item) (lookup (eq other) old))
-    → (other : Cell) → seen_at new other ≡ cond (is_cell slot other) item (seen_at old other)
-seen_set old new slot item is other =
-    looked_up new other ∙ ap flat (is other) ∙ ap (λ (b : Bool). flat (cond b (Some item) (lookup (eq other) old))) (eq-is slot other) ∙ at (is_cell slot other)
-  where
-    at : (b : Bool) → flat (cond b (Some item) (lookup (eq other) old)) ≡ cond b item (seen_at old other)
-    at true = refl
-    at false = sym (looked_up old other)
-
-times_set : (seen : Sights) (slot : Cell) (item : Option (List ℕ)) (some : List ℕ)
-    → times (insert_entry eq seen slot item) some + one_if (is_item some (seen_at seen slot)) ≡ times seen some + one_if (is_item some item)
-times_set [] slot item some = omega arith
-times_set (e ∷ seen) slot item some =
-    subst (λ (b : Bool). times (insert_entry eq (e ∷ seen) slot item) some + one_if (is_item some (cond b e.1 (seen_at seen slot))) ≡ times (e ∷ seen) some + one_if (is_item some item)) (eq-is slot e.0)
-    (at (eq slot e.0) (times_set seen slot item some))
-  where
-    at : (b : Bool) → times (insert_entry eq seen slot item) some + one_if (is_item some (seen_at seen slot)) ≡ times seen some + one_if (is_item some item)
-        → times (cond b ((e.0, item) ∷ seen) (e ∷ insert_entry eq seen slot item)) some + one_if (is_item some (cond b e.1 (seen_at seen slot))) ≡ times (e ∷ seen) some + one_if (is_item some item)
-    at true rest = omega arith
-    at false rest = omega (arith, rest)
-
-pub noted_at : (old new : Sights) (slot : Cell) (item : Option (List ℕ)) → IsDistinct eq (keys_of new) → new ≡ insert_entry eq old slot item
-    → ((other : Cell) → lookup (eq other) new ≡ cond (eq slot other) (Some item) (lookup (eq other) old)) → IsNotedAt slot item old new
-noted_at old new slot item apart entries updates = record {
-  apart = apart;
-  seen = seen_set old new slot item updates;
-  counts = λ some. subst (λ (l : Sights). times l some + one_if (is_item some (seen_at old slot)) ≡ times old some + one_if (is_item some item)) (sym entries) (times_set old slot item some);
-}
-
--- What a table of numbers says
-
-abbrev number : Option ℕ → ℕ
-number None = 0
-number (Some n) = n
-
-counted_up : (counts : List (List ℕ × ℕ)) (item : List ℕ) → item_count counts item ≡ number (lookup (pointwise nat_eq item) counts)
+pub counted_up : (counts : Counts) (item : List ℕ) → item_count counts item ≡ unwrap_or (lookup (same item) counts) 0
 counted_up [] item = refl
-counted_up (e ∷ counts) item = at (pointwise nat_eq item e.0) (counted_up counts item)
+counted_up (e ∷ counts) item = at (same item e.0) (lookup (same item) counts) (counted_up counts item)
   where
-    at : (b : Bool) → item_count counts item ≡ number (lookup (pointwise nat_eq item) counts) → cond b e.1 (item_count counts item) ≡ number (cond b (Some e.1) (lookup (pointwise nat_eq item) counts))
-    at true rest = refl
-    at false rest = rest
+    at : (b : Bool) (found : Option ℕ) → item_count counts item ≡ unwrap_or found 0
+        → cond b e.1 (item_count counts item) ≡ unwrap_or (cond b (Some e.1) found) 0
+    at true found is = refl
+    at false found is = is
 
-pub some_count : (counts : List (List ℕ × ℕ)) (item : List ℕ) (n : ℕ) → Some n ≡ lookup (pointwise nat_eq item) counts → n ≡ item_count counts item
-some_count counts item n is = ap number is ∙ sym (counted_up counts item)
+-- What writes do
 
-pub no_count : (counts : List (List ℕ × ℕ)) (item : List ℕ) → None ≡ lookup (pointwise nat_eq item) counts → 0 ≡ item_count counts item
-no_count counts item is = ap number is ∙ sym (counted_up counts item)
+module _ (e : Cell × Seen) (seen : Sights) (item : Seen) (some : List ℕ) where
+  times_step : (b : Bool) (rest : Sights) (found : Option Seen) → times rest some + one some (flat found) ≡ times seen some + one some item
+      → times (cond b ((e.0, item) ∷ seen) (e ∷ rest)) some + one some (flat (cond b (Some e.1) found)) ≡ times (e ∷ seen) some + one some item
+  times_step true rest found is = omega arith
+  times_step false rest found is = omega (arith, is)
 
-pub count_set : (old new : List (List ℕ × ℕ)) (item : List ℕ) (n : ℕ)
-    → ((other : List ℕ) → lookup (pointwise nat_eq other) new ≡ cond (pointwise nat_eq item other) (Some n) (lookup (pointwise nat_eq other) old))
-    → (other : List ℕ) → item_count new other ≡ cond (pointwise nat_eq item other) n (item_count old other)
-count_set old new item n is other = counted_up new other ∙ ap number (is other) ∙ at (pointwise nat_eq item other)
+times_put : (seen : Sights) (slot : Cell) (item : Seen) (some : List ℕ)
+    → times (insert_entry eq seen slot item) some + one some (flat (lookup (eq slot) seen)) ≡ times seen some + one some item
+times_put [] slot item some = omega arith
+times_put (e ∷ seen) slot item some =
+    times_step e seen item some (eq slot e.0) (insert_entry eq seen slot item) (lookup (eq slot) seen) (times_put seen slot item some)
+
+times_taken : (seen : Sights) (slot : Cell) (some : List ℕ)
+    → times (set_value (eq slot) seen None) some + one some (flat (lookup (eq slot) seen)) ≡ times seen some + 0
+times_taken [] slot some = omega arith
+times_taken (e ∷ seen) slot some =
+    times_step e seen None some (eq slot e.0) (set_value (eq slot) seen None) (lookup (eq slot) seen) (times_taken seen slot some)
+
+abbrev Updates : Sights → Sights → Cell → Seen → Type 0
+Updates old new slot item = (other : Cell) → lookup (eq other) new ≡ cond (eq slot other) (Some item) (lookup (eq other) old)
+
+module _ (old new : Sights) (slot : Cell) (item : Seen) (apart : IsDistinct eq (keys_of new)) (updates : Updates old new slot item) where
+  seen_then : (other : Cell) → seen_at new other ≡ cond (is_cell slot other) item (seen_at old other)
+  seen_then other =
+      looked_up new other ∙ ap flat (updates other) ∙ ap (λ (b : Bool). flat (cond b (Some item) (lookup (eq other) old))) (eq-is slot other)
+      ∙ at (is_cell slot other)
+    where
+      at : (b : Bool) → flat (cond b (Some item) (lookup (eq other) old)) ≡ cond b item (seen_at old other)
+      at true = refl
+      at false = sym (looked_up old other)
+
+  noted_by : (made : Sights) → new ≡ made
+      → ((some : List ℕ) → times made some + one some (flat (lookup (eq slot) old)) ≡ times old some + one some item) → IsNotedAt slot item old new
+  noted_by made is counts = record {
+    apart = apart;
+    seen = seen_then;
+    counts = λ some. omega (arith, counts some, ap (λ (l : Sights). times l some) is, ap (one some) (looked_up old slot));
+  }
+
+  pub noted_put : new ≡ insert_entry eq old slot item → IsNotedAt slot item old new
+  noted_put is = noted_by (insert_entry eq old slot item) is (times_put old slot item)
+
+pub noted_taken : (old new : Sights) (slot : Cell) (left : Seen) → left ≡ None → IsDistinct eq (keys_of new) → Updates old new slot left
+    → new ≡ set_value (eq slot) old left → IsNotedAt slot None old new
+noted_taken old new slot left none apart updates is =
+    noted_by old new slot None apart (rw none at updates) (set_value (eq slot) old None) (rw none at is) (times_taken old slot)
+
+-- where nothing was seen there is nothing to take
+pub noted_none : (seen : Sights) (slot : Cell) → IsDistinct eq (keys_of seen) → None ≡ seen_at seen slot → IsNotedAt slot None seen seen
+noted_none seen slot apart none = record {
+  apart = apart;
+  seen = λ other. at other (is_cell slot other) refl;
+  counts = λ some. omega (arith, ap (one some) none);
+}
   where
-    at : (b : Bool) → number (cond b (Some n) (lookup (pointwise nat_eq other) old)) ≡ cond b n (item_count old other)
-    at true = refl
-    at false = sym (counted_up old other)
+    at : (other : Cell) (b : Bool) → is_cell slot other ≡ b → seen_at seen other ≡ cond b None (seen_at seen other)
+    at other true is = ap (seen_at seen) (sym (is_cell-true slot other is)) ∙ sym none
+    at other false is = refl
 
--- The numbers stay right
+module _ (old new : Counts) (item : List ℕ) (n : ℕ)
+    (updates : (other : List ℕ) → lookup (same other) new ≡ cond (same item other) (Some n) (lookup (same other) old)) where
+  count_then : (other : List ℕ) (b : Bool) → same item other ≡ b → item_count new other ≡ unwrap_or (cond b (Some n) (lookup (same other) old)) 0
+  count_then other b is =
+      counted_up new other ∙ ap (λ (found : Option ℕ). unwrap_or found 0) (updates other)
+      ∙ ap (λ (c : Bool). unwrap_or (cond c (Some n) (lookup (same other) old)) 0) is
 
-here_le : (seen : Sights) (slot : Cell) (item : List ℕ) → one_if (is_item item (seen_at seen slot)) ≤ times seen item
-here_le [] slot item = omega arith
-here_le (e ∷ seen) slot item = at (is_cell slot e.0) (here_le seen slot item)
-  where
-    at : (b : Bool) → one_if (is_item item (seen_at seen slot)) ≤ times seen item → one_if (is_item item (cond b e.1 (seen_at seen slot))) ≤ one_if (is_item item e.1) + times seen item
-    at true rest = omega arith
-    at false rest = omega (arith, rest)
+  pub raised : n ≡ item_count old item + 1 → (other : List ℕ) → item_count new other ≡ item_count old other + one_if (same item other)
+  raised more other = at (same item other) refl
+    where
+      at : (b : Bool) → same item other ≡ b → item_count new other ≡ item_count old other + one_if b
+      at true is = omega (arith, more, count_then other true is, ap (item_count old) (same_text item other (sym is)))
+      at false is = omega (arith, count_then other false is, counted_up old other)
+
+  pub lowered : n + 1 ≡ item_count old item → (other : List ℕ) → item_count new other + one_if (same item other) ≡ item_count old other
+  lowered less other = at (same item other) refl
+    where
+      at : (b : Bool) → same item other ≡ b → item_count new other + one_if b ≡ item_count old other
+      at true is = omega (arith, less, count_then other true is, ap (item_count old) (same_text item other (sym is)))
+      at false is = omega (arith, count_then other false is, counted_up old other)
+
+-- At how many slots an item was seen
 
 one_le : (b : Bool) → one_if b ≤ 1
 one_le true = omega arith
@@ -115,132 +155,88 @@ pub times_le : (seen : Sights) (item : List ℕ) → times seen item ≤ length 
 times_le [] item = omega arith
 times_le (e ∷ seen) item = omega (arith, one_le (is_item item e.1), times_le seen item)
 
-item_is : (item : List ℕ) (some : Option (List ℕ)) → is_item item some ≡ true → some ≡ Some item
+-- 1 where it was seen here
+abbrev here : Sights → List ℕ → Cell → ℕ
+here seen item slot = one item (seen_at seen slot)
+
+here_le : (seen : Sights) (slot : Cell) (item : List ℕ) → here seen item slot ≤ times seen item
+here_le [] slot item = omega arith
+here_le (e ∷ seen) slot item = at (is_cell slot e.0) (here_le seen slot item)
+  where
+    at : (b : Bool) → here seen item slot ≤ times seen item → one item (cond b e.1 (seen_at seen slot)) ≤ one item e.1 + times seen item
+    at true rest = omega arith
+    at false rest = omega (arith, rest)
+
+-- it counts at each of two slots
+both_le : (seen : Sights) (item : List ℕ) (a b : Cell) → ¬ (a ≡ b) → here seen item a + here seen item b ≤ times seen item
+both_le [] item a b apart = omega arith
+both_le (e ∷ seen) item a b apart = at (is_cell a e.0) (is_cell b e.0) refl refl (both_le seen item a b apart)
+  where
+    at : (x y : Bool) → is_cell a e.0 ≡ x → is_cell b e.0 ≡ y → here seen item a + here seen item b ≤ times seen item
+        → one item (cond x e.1 (seen_at seen a)) + one item (cond y e.1 (seen_at seen b)) ≤ one item e.1 + times seen item
+    at true true is_a is_b rest = absurd (apart (is_cell-true a e.0 is_a ∙ sym (is_cell-true b e.0 is_b)))
+    at true false is_a is_b rest = omega (arith, here_le seen b item)
+    at false true is_a is_b rest = omega (arith, here_le seen a item)
+    at false false is_a is_b rest = omega (arith, rest)
+
+none_after : (seen : Sights) (slot : Cell) → AllByRecursion (λ y. eq slot y ≡ false) (keys_of seen) → None ≡ seen_at seen slot
+none_after [] slot all = refl
+none_after (e ∷ seen) slot all =
+    none_after seen slot all.1 ∙ ap (λ (b : Bool). cond b e.1 (seen_at seen slot)) (sym (sym (eq-is slot e.0) ∙ all.0))
+
+item_is : (item : List ℕ) (seen : Seen) → is_item item seen ≡ true → seen ≡ Some item
 item_is item None is = absurd (false≢true is)
 item_is item (Some other) is = ap Some (same_text other item (sym is))
 
-item_same : (item : List ℕ) → pointwise nat_eq item item ≡ true
-item_same item = nat_list_eq_equiv.refl item
-
--- where an item is forgotten there is a number to lower
-pub some_times : {seen : Sights} {counts : List (List ℕ × ℕ)} (slot : Cell) (item : List ℕ) → AreCounted seen counts → Some item ≡ seen_at seen slot → 1 ≤ item_count counts item
-some_times {seen} {counts} slot item law is =
-    let here : one_if (is_item item (seen_at seen slot)) ≡ 1 = ap (λ (some : Option (List ℕ)). one_if (is_item item some)) (sym is) ∙ ap one_if (item_same item) in
-    omega (arith, here, here_le seen slot item, law.counted item)
-
--- one more is no more than there are slots
-pub counted_room : {old new : Sights} {counts : List (List ℕ × ℕ)} (slot : Cell) (item : List ℕ) → AreCounted old counts → IsNotedAt slot (Some item) old new → seen_at old slot ≡ None
-    → item_count counts item + 1 ≤ length new
-counted_room {old} {new} {counts} slot item law noted was =
-    let none : one_if (is_item item (seen_at old slot)) ≡ 0 = ap (λ (s : Option (List ℕ)). one_if (is_item item s)) was in
-    omega (arith, law.counted item, noted.counts item, none, ap one_if (item_same item), times_le new item)
-
-module _ {old new : Sights} {counts more : List (List ℕ × ℕ)} {slot : Cell} (law : AreCounted old counts) where
-  changed : {some : Option (List ℕ)} → IsNotedAt slot some old new
-      → ((other : List ℕ) → item_count more other + one_if (is_item other (seen_at old slot)) ≡ item_count counts other + one_if (is_item other some)) → AreCounted new more
-  changed noted is = record { apart = noted.apart; counted = λ other. omega (arith, law.counted other, noted.counts other, is other) }
-
-  pub counted_less : {item : List ℕ} → IsNotedAt slot None old new → Some item ≡ seen_at old slot
-      → ((other : List ℕ) → item_count more other ≡ cond (pointwise nat_eq item other) (item_count counts item - 1) (item_count counts other)) → AreCounted new more
-  counted_less {item} noted was less = changed noted (λ other. by other (pointwise nat_eq item other) refl)
-    where
-      some : 1 ≤ item_count counts item
-      some = some_times slot item law was
-
-      by : (other : List ℕ) (b : Bool) → b ≡ pointwise nat_eq item other → item_count more other + one_if (is_item other (seen_at old slot)) ≡ item_count counts other + 0
-      by other true is =
-          let same : item ≡ other = same_text item other is in
-          let now : item_count more other ≡ item_count counts item - 1 = less other ∙ ap (λ (b : Bool). cond b (item_count counts item - 1) (item_count counts other)) (sym is) in
-          let here : one_if (is_item other (seen_at old slot)) ≡ 1 = ap (λ (s : Option (List ℕ)). one_if (is_item other s)) (sym was) ∙ ap one_if (sym is) in
-          omega (arith, now, here, some, ap (item_count counts) same)
-      by other false is =
-          let now : item_count more other ≡ item_count counts other = less other ∙ ap (λ (b : Bool). cond b (item_count counts item - 1) (item_count counts other)) (sym is) in
-          let here : one_if (is_item other (seen_at old slot)) ≡ 0 = ap (λ (s : Option (List ℕ)). one_if (is_item other s)) (sym was) ∙ ap one_if (sym is) in
-          omega (arith, now, here)
-
-  pub counted_more : {item : List ℕ} → IsNotedAt slot (Some item) old new → seen_at old slot ≡ None
-      → ((other : List ℕ) → item_count more other ≡ cond (pointwise nat_eq item other) (item_count counts item + 1) (item_count counts other)) → AreCounted new more
-  counted_more {item} noted was less = changed noted (λ other. by other (pointwise nat_eq item other) refl)
-    where
-      by : (other : List ℕ) (b : Bool) → b ≡ pointwise nat_eq item other → item_count more other + one_if (is_item other (seen_at old slot)) ≡ item_count counts other + one_if (is_item other (Some item))
-      by other true is =
-          let same : item ≡ other = same_text item other is in
-          let now : item_count more other ≡ item_count counts item + 1 = less other ∙ ap (λ (b : Bool). cond b (item_count counts item + 1) (item_count counts other)) (sym is) in
-          let here : one_if (is_item other (seen_at old slot)) ≡ 0 = ap (λ (s : Option (List ℕ)). one_if (is_item other s)) was in
-          omega (arith, now, here, ap one_if is, ap (item_count counts) same)
-      by other false is =
-          let now : item_count more other ≡ item_count counts other = less other ∙ ap (λ (b : Bool). cond b (item_count counts item + 1) (item_count counts other)) (sym is) in
-          let here : one_if (is_item other (seen_at old slot)) ≡ 0 = ap (λ (s : Option (List ℕ)). one_if (is_item other s)) was in
-          omega (arith, now, here, ap one_if is)
-
--- Whether an item was seen elsewhere
-
-none_after : (seen : Sights) (slot : Cell) → AllByRecursion (λ y. eq slot y ≡ false) (keys_of seen) → seen_at seen slot ≡ None
-none_after [] slot all = refl
-none_after (e ∷ seen) slot all = ap (λ (b : Bool). cond b e.1 (seen_at seen slot)) (sym (eq-is slot e.0) ∙ all.0) ∙ none_after seen slot all.1
-
-skip : (e : Cell × Option (List ℕ)) (seen : Sights) (slot : Cell) → ¬ (slot ≡ e.0) → seen_at (e ∷ seen) slot ≡ seen_at seen slot
-skip e seen slot not = ap (λ (b : Bool). cond b e.1 (seen_at seen slot)) (is_cell-other slot e.0 not)
-
-head_at : (e : Cell × Option (List ℕ)) (seen : Sights) (slot : Cell) → slot ≡ e.0 → seen_at (e ∷ seen) slot ≡ e.1
-head_at e seen slot same = ap (λ (b : Bool). cond b e.1 (seen_at seen slot)) (is_cell-same slot e.0 same)
-
-abbrev here_in : Sights → List ℕ → Cell → ℕ
-here_in seen item slot = one_if (is_item item (seen_at seen slot))
-
--- it was seen elsewhere exactly where it was seen at more slots than this one
-abbrev Tells : Sights → List ℕ → Cell → Type 0
-Tells seen item slot = (IsElsewhere (seen_in seen) item slot × (here_in seen item slot < times seen item)) ⊎ (¬ (IsElsewhere (seen_in seen) item slot) × (times seen item ≤ here_in seen item slot))
-
-module _ (e : Cell × Option (List ℕ)) (seen : Sights) (item : List ℕ) (slot : Cell) (alone : AllByRecursion (λ y. eq e.0 y ≡ false) (keys_of seen)) where
-  first_here : slot ≡ e.0 → Tells seen item slot → Tells (e ∷ seen) item slot
-  first_here same rest =
-      let here : here_in (e ∷ seen) item slot ≡ one_if (is_item item e.1) = ap (λ (s : Option (List ℕ)). one_if (is_item item s)) (head_at e seen slot same) in
-      let none : here_in seen item slot ≡ 0 = ap (λ (s : Option (List ℕ)). one_if (is_item item s)) (ap (seen_at seen) same ∙ none_after seen e.0 alone) in
-      elim rest [
-        | inl is ↦ inl ((is.0.0, skip e seen is.0.0 (λ at. is.0.2 (at ∙ sym same)) ∙ is.0.1, is.0.2), omega (arith, here, none, is.1))
-        | inr is ↦ inr (λ other. is.0 (other.0, sym (skip e seen other.0 (λ at. other.2 (at ∙ sym same))) ∙ other.1, other.2), omega (arith, here, none, is.1))
-      ]
-
-  module _ (apart : ¬ (slot ≡ e.0)) where
-    here : here_in (e ∷ seen) item slot ≡ here_in seen item slot
-    here = ap (λ (s : Option (List ℕ)). one_if (is_item item s)) (skip e seen slot apart)
-
-    first_elsewhere : is_item item e.1 ≡ true → Tells (e ∷ seen) item slot
-    first_elsewhere is = inl ((e.0, head_at e seen e.0 refl ∙ item_is item e.1 is, λ same. apart (sym same)), omega (arith, here, ap one_if is, here_le seen slot item))
-
-    first_other : is_item item e.1 ≡ false → Tells seen item slot → Tells (e ∷ seen) item slot
-    first_other not rest = elim rest [
-      | inl is ↦ inl ((is.0.0, skip e seen is.0.0 (λ at. none_some (sym (none_after seen e.0 alone) ∙ ap (seen_at seen) (sym at) ∙ is.0.1)) ∙ is.0.1, is.0.2), omega (arith, here, ap one_if not, is.1))
-      | inr is ↦ inr (λ other. is.0 (other.0, sym (skip e seen other.0 (λ at. false≢true (sym not ∙ ap (is_item item) (sym (head_at e seen other.0 at) ∙ other.1) ∙ item_same item))) ∙ other.1, other.2), omega (arith, here, ap one_if not, is.1))
-    ]
-
--- what is so of the rest is so of all
-module _ (e : Cell × Option (List ℕ)) (seen : Sights) (item : List ℕ) (slot : Cell) where
-  one_more : AllByRecursion (λ y. eq e.0 y ≡ false) (keys_of seen) → Tells seen item slot → Tells (e ∷ seen) item slot
-  one_more alone rest = elim (cases_Bool (is_cell slot e.0)) [
-    | inl same ↦ first_here e seen item slot alone (is_cell-true slot e.0 same) rest
-    | inr not ↦ elim (cases_Bool (is_item item e.1)) [
-      | inl is ↦ first_elsewhere e seen item slot alone (λ same. false≢true (sym not ∙ is_cell-same slot e.0 same)) is
-      | inr off ↦ first_other e seen item slot alone (λ same. false≢true (sym not ∙ is_cell-same slot e.0 same)) off rest
-    ]
-  ]
-
-tells : (seen : Sights) (item : List ℕ) (slot : Cell) → IsDistinct eq (keys_of seen) → Tells seen item slot
-tells [] item slot apart = inr (λ other. none_some other.1, omega arith)
-tells (e ∷ seen) item slot apart =
-    one_more e seen item slot (IsDistinct-head eq e.0 (keys_of seen) apart) (tells seen item slot (IsDistinct-tail eq e.0 (keys_of seen) apart))
-
-pub is_elsewhere : {seen : Sights} {counts : List (List ℕ × ℕ)} (item : List ℕ) (slot : Cell) (here count : ℕ) → AreCounted seen counts → here ≡ here_in seen item slot → count ≡ item_count counts item
-    → MatchBool (nat_lt here count) (IsElsewhere (seen_in seen) item slot) (¬ (IsElsewhere (seen_in seen) item slot))
-is_elsewhere {seen} {counts} item slot here count law is_here is_count = by (nat_lt here count) refl
+-- one that was seen at more slots than this one was seen at another
+found : (seen : Sights) (item : List ℕ) (slot : Cell) → IsDistinct eq (keys_of seen) → here seen item slot < times seen item
+    → IsElsewhere (seen_in seen) item slot
+found [] item slot apart more = absurd (omega (arith, more))
+found (e ∷ seen) item slot apart more =
+    at (is_cell slot e.0) (is_item item e.1) refl refl more (found seen item slot (IsDistinct-tail eq e.0 (keys_of seen) apart))
   where
-    by : (r : Bool) → nat_lt here count ≡ r → MatchBool r (IsElsewhere (seen_in seen) item slot) (¬ (IsElsewhere (seen_in seen) item slot))
-    by true is = elim (tells seen item slot law.apart) [
-      | inl at ↦ at.0
-      | inr not ↦ absurd (omega (arith, ltb-true here count is, is_here, is_count, law.counted item, not.1))
-    ]
-    by false is = elim (tells seen item slot law.apart) [
-      | inl at ↦ absurd (omega (arith, ltb-false here count is, is_here, is_count, law.counted item, at.1))
-      | inr not ↦ not.0
-    ]
+    none : None ≡ seen_at seen e.0
+    none = none_after seen e.0 (IsDistinct-head eq e.0 (keys_of seen) apart)
+
+    kept : (c : Cell) (b : Bool) → is_cell c e.0 ≡ b → seen_at seen c ≡ Some item → cond b e.1 (seen_at seen c) ≡ Some item
+    kept c true is was = absurd (none_some (none ∙ ap (seen_at seen) (sym (is_cell-true c e.0 is)) ∙ was))
+    kept c false is was = was
+
+    first : is_item item e.1 ≡ true → seen_at (e ∷ seen) e.0 ≡ Some item
+    first own = ap (λ (b : Bool). cond b e.1 (seen_at seen e.0)) (is_cell-same e.0 e.0 refl) ∙ item_is item e.1 own
+
+    later : IsElsewhere (seen_in seen) item slot → IsElsewhere (seen_in (e ∷ seen)) item slot
+    later it = (it.0, kept it.0 (is_cell it.0 e.0) refl it.1, it.2)
+
+    at : (x y : Bool) → is_cell slot e.0 ≡ x → is_item item e.1 ≡ y → one item (cond x e.1 (seen_at seen slot)) < one item e.1 + times seen item
+        → (here seen item slot < times seen item → IsElsewhere (seen_in seen) item slot) → IsElsewhere (seen_in (e ∷ seen)) item slot
+    at true y is own more rest =
+        later (rest (omega (arith, more, ap (one item) (none ∙ ap (seen_at seen) (sym (is_cell-true slot e.0 is))))))
+    at false true is own more rest = (e.0, first own, λ same. false≢true (sym is ∙ is_cell-same slot e.0 (sym same)))
+    at false false is own more rest = later (rest (omega (arith, more, ap one_if own)))
+
+module _ {seen : Sights} {counts : Counts} (law : AreCounted seen counts) (item : List ℕ) (slot : Cell) where
+  elsewhere : here seen item slot < item_count counts item → IsElsewhere (seen_in seen) item slot
+  elsewhere more = found seen item slot law.apart (omega (arith, more, law.counted item))
+
+  pub nowhere : item_count counts item ≤ here seen item slot → ¬ IsElsewhere (seen_in seen) item slot
+  nowhere few other =
+      omega (arith, few, law.counted item, both_le seen item other.0 slot other.2, ap (one item) other.1, ap one_if (same_own item))
+
+  pub at_two : 2 ≤ item_count counts item → IsElsewhere (seen_in seen) item slot
+  at_two two = elsewhere (omega (arith, two, one_le (is_item item (seen_at seen slot))))
+
+  abbrev Tells : Bool → Type 0
+  Tells there = MatchBool there (IsElsewhere (seen_in seen) item slot) (¬ IsElsewhere (seen_in seen) item slot)
+
+  -- one that was seen at one slot was seen elsewhere exactly where it wasn't seen here
+  pub at_one : item_count counts item ≡ 1 → (there : Bool) → there ≡ not (option_eq same (seen_at seen slot) (Some item)) → Tells there
+  at_one once there is = rw is (by (seen_at seen slot) refl)
+    where
+      which : (other : List ℕ) → seen_at seen slot ≡ Some other → (b : Bool) → same other item ≡ b → Tells (not b)
+      which other at true is_same = nowhere (omega (arith, once, ap (one item) at, ap one_if is_same))
+      which other at false is_other = elsewhere (omega (arith, once, ap (one item) at, ap one_if is_other))
+
+      by : (o : Seen) → seen_at seen slot ≡ o → Tells (not (option_eq same o (Some item)))
+      by None at = elsewhere (omega (arith, once, ap (one item) at))
+      by (Some other) at = which other at (same other item) refl

@@ -1,8 +1,9 @@
 -- How what is noted of files stays true.
-use Rattle.mig_files.proofs.Common.{Bool, CallError, Cell, Contains, Disk, Err, Failed, FilesState, Full, Gate, HasCallCause, Head, Interrupted}
-use Rattle.mig_files.proofs.Common.{IsCallCause, IsFalse, IsFilesState, IsNoted, IsQuiet, IsSettledAt, IsStep, IsTracked, IsTrue, IsWriteStep, Journal, KeepsClaim, KeepsFlags, KeepsFlushed, Leaves}
-use Rattle.mig_files.proofs.Common.{List, Mark, Notes, Place, RetriedCall, Rose, SameNotes, Slot, StaysAlive, StaysSame, Sync, TouchesFile, Unflushes, WritesAlive, ap}
-use Rattle.mig_files.proofs.Common.{arith, cases_Bool, cell_len, false, false≢true, file_of, inl, inr, offset_of, refl, subst, sym, true, ℕ, ◌∙◌, ◌≡◌, ◌≤◌}
+use Rattle.mig_files.proofs.Common.{Bool, CallError, Cell, Contains, Disk, Err, FilesState, Gate, HasCallCause, Head, IsCallCause, IsFalse}
+use Rattle.mig_files.proofs.Common.{IsFilesState, IsNoted, IsQuiet, IsSettledAt, IsStep, IsTracked, IsTrue, IsWriteStep, Journal, KeepsClaim}
+use Rattle.mig_files.proofs.Common.{KeepsFlags, KeepsFlushed, Leaves, List, Mark, Notes, Place, SameNotes, Slot, StaysAlive, StaysSame, Sync}
+use Rattle.mig_files.proofs.Common.{TouchesFile, WritesAlive, ap, arith, cases_Bool, cell_len, false, false≢true, file_of, inl, inr, offset_of, refl}
+use Rattle.mig_files.proofs.Common.{subst, sym, true, ℕ, ◌∙◌, ◌≡◌}
 use Rattle.mig_files.proofs.Derivation.{write_at_cell}
 use Rattle.mig_files.proofs.FilesSteps.{look_then, look_is_write, no_change, change_then}
 
@@ -12,16 +13,6 @@ flushed_kept {place} {a} {b} leaves is other was = elim (cases_Bool (b.flushed o
   | inl is_on ↦ is_on
   | inr is_off ↦ leaves.flushed other (λ e. false≢true (sym is_off ∙ ap b.flushed e ∙ is)) was
 ]
-
--- where flags are kept, so is what is noted
-pub tracked_kept : {t : Notes} {a b : FilesState} → KeepsFlags a b → a.faults ≤ b.faults → IsTracked t a → IsTracked t b
-tracked_kept flags later is = record {
-  lost = λ on. omega (arith, is.lost on, later);
-  claimed = λ off on. flags.rights.claimed ∙ is.claimed off on;
-  named = λ off. flags.named ∙ is.named off;
-  disks = λ disk out. ap (λ (f : Place → Bool). f (Disk disk)) flags.flushed ∙ is.disks disk out;
-  journal = λ off. ap (λ (f : Place → Bool). f Journal) flags.flushed ∙ is.journal off;
-}
 
 pub step_none : {t : Notes} {s : FilesState} → IsTracked t s → IsStep t s s
 step_none is = record { tracked = is; change = no_change; later = omega arith; more = omega arith }
@@ -44,27 +35,35 @@ alive_then first then = record {
   claimed = λ is. then.claimed (first.claimed is);
 }
 
--- where flags are kept nothing is lost
-pub alive_kept : {t : Notes} {a b : FilesState} → KeepsFlags a b → IsFalse t.lost → StaysAlive t a b
-alive_kept flags alive = record {
+pub alive_same : {t : Notes} {a b : FilesState} → StaysSame a b → IsFalse t.lost → StaysAlive t a b
+alive_same same alive = record {
   alive = alive;
-  flushed = λ place is. ap (λ (f : Place → Bool). f place) flags.flushed ∙ is;
-  claimed = λ is. flags.rights.claimed ∙ is;
+  flushed = λ place is. ap (λ (f : Place → Bool). f place) same.flushed ∙ is;
+  claimed = λ is. same.claimed ∙ is;
 }
 
+-- where flags are kept nothing is lost
+pub alive_kept : {t : Notes} {a b : FilesState} → KeepsFlags a b → IsFalse t.lost → StaysAlive t a b
+alive_kept flags alive = alive_same (record { flushed = flags.flushed; claimed = flags.rights.claimed }) alive
+
 -- what an error says of the counts
-pub cause_failed : {T : Type 0} {a b : FilesState} {error : CallError} → error ≡ Failed → HasCallCause {T = T} a b (Err error) → Rose a.faults b.faults
-cause_failed {T} {a} {b} {error} is has = subst (IsCallCause a b) is has.cause
-
-pub cause_full : {T : Type 0} {a b : FilesState} {error : CallError} → error ≡ Full → HasCallCause {T = T} a b (Err error) → Rose a.unmade b.unmade
-cause_full {T} {a} {b} {error} is has = subst (IsCallCause a b) is has.cause
-
-pub cause_interrupted : {T : Type 0} {a b : FilesState} {error : CallError} → error ≡ Interrupted → HasCallCause {T = T} a b (Err error) → Rose a.unmade b.unmade
-cause_interrupted {T} {a} {b} {error} is has = subst (IsCallCause a b) is has.cause
+pub cause_of : {T : Type 0} {a b : FilesState} {error what : CallError} → error ≡ what → HasCallCause {T = T} a b (Err error) → IsCallCause a b what
+cause_of {T} {a} {b} is has = subst (IsCallCause a b) is has.cause
 
 -- a quiet call leaves true what is noted
 pub quiet_step : {t : Notes} {a b : FilesState} → IsTracked t a → IsQuiet a b → IsStep t a b
-quiet_step is quiet = record { tracked = tracked_kept quiet.flags quiet.later is; change = quiet.change; later = quiet.later; more = quiet.more }
+quiet_step {t} {a} {b} is quiet = record {
+  tracked = record {
+    lost = λ on. omega (arith, is.lost on, quiet.later);
+    claimed = λ off on. quiet.flags.rights.claimed ∙ is.claimed off on;
+    named = λ off. quiet.flags.named ∙ is.named off;
+    disks = λ disk out. ap (λ (f : Place → Bool). f (Disk disk)) quiet.flags.flushed ∙ is.disks disk out;
+    journal = λ off. ap (λ (f : Place → Bool). f Journal) quiet.flags.flushed ∙ is.journal off;
+  };
+  change = quiet.change;
+  later = quiet.later;
+  more = quiet.more;
+}
 
 -- a file was synced, and is noted as such
 pub place_synced : (place : Place) {t u : Notes} {a b : FilesState} → IsTracked t a → IsFalse t.lost → SameNotes t u → Leaves (Sync place) a b → KeepsClaim a b
@@ -86,33 +85,6 @@ place_synced place {t} {u} {a} {b} is alive same leaves keeps done disks journal
         let apart : ¬ (Journal ≡ place) = λ e. false≢true (sym not ∙ ap b.flushed e ∙ done) in
         leaves.flushed Journal apart (is.journal (journal apart off))
   ];
-}
-
--- a call on names was made, or the claim
-pub task_made : {task : RetriedCall} {t u : Notes} {a b : FilesState} → IsTracked t a → IsFalse t.lost → u.lost ≡ t.lost → u.dirty ≡ t.dirty → Leaves task a b
-    → ((file : Place) → ¬ Unflushes task file) → (IsTrue u.claimed → IsTrue b.claimed) → (IsFalse u.made → IsTrue b.named)
-    → (IsFalse u.unsynced → IsTrue (b.flushed Journal)) → IsTracked u b
-task_made {task} {t} {u} {a} {b} is alive lost dirty leaves none claimed named journal = record {
-  lost = λ on. absurd (false≢true (sym alive ∙ sym lost ∙ on));
-  claimed = λ off. claimed;
-  named = named;
-  disks = λ disk out.
-      let not : ¬ Contains t.dirty disk = λ has. out (subst (λ (l : List (List ℕ)). Contains l disk) (sym dirty) has) in
-      leaves.flushed (Disk disk) (none (Disk disk)) (is.disks disk not);
-  journal = journal;
-}
-
--- a sync failed, and is noted
-pub task_lost : {task : RetriedCall} {t u : Notes} {a b : FilesState} → IsTracked t a → IsTrue u.lost → Leaves task a b → Rose a.faults b.faults
-    → (IsFalse u.made → IsTrue b.named)
-    → ((p : List ℕ) → ¬ Contains u.dirty p → ¬ Unflushes task (Disk p) × ¬ Contains t.dirty p) → (IsFalse u.unsynced → ¬ Unflushes task Journal × IsFalse t.unsynced)
-    → IsTracked u b
-task_lost is lost leaves rose named disks journal = record {
-  lost = λ on. omega (arith, rose);
-  claimed = λ off. absurd (false≢true (sym off ∙ lost));
-  named = named;
-  disks = λ disk out. leaves.flushed (Disk disk) (disks disk out).0 (is.disks disk (disks disk out).1);
-  journal = λ off. leaves.flushed Journal (journal off).0 (is.journal (journal off).1);
 }
 
 -- more is noted
@@ -181,13 +153,6 @@ step_at_cell {t} {u} cell {file} {at} {n} {a} {b} {c} is_file is_at is_n step wr
   more = omega (arith, step.more, write.more);
 }
 
-pub alive_same : {t : Notes} {a b : FilesState} → StaysSame a b → IsFalse t.lost → StaysAlive t a b
-alive_same same alive = record {
-  alive = alive;
-  flushed = λ place is. ap (λ (f : Place → Bool). f place) same.flushed ∙ is;
-  claimed = λ is. same.claimed ∙ is;
-}
-
 -- after a sync that didn't fail
 pub synced_alive : {place : Place} {t : Notes} {a b : FilesState} → IsFalse t.lost → Leaves (Sync place) a b → KeepsClaim a b → IsTrue (b.flushed place) → StaysAlive t a b
 synced_alive alive leaves keeps done = record {
@@ -203,3 +168,9 @@ settled_cell law claimed named disks journal (Slot d t) = law.settled (law.sure 
 settled_cell law claimed named disks journal Head = law.settled (law.sure claimed) named Journal journal
 settled_cell law claimed named disks journal Gate = law.settled (law.sure claimed) named Journal journal
 settled_cell law claimed named disks journal (Mark n) = law.settled (law.sure claimed) named Journal journal
+
+-- how steps that only look follow one another
+pub ruleset steps = (step_none, step_then, quiet_step, alive_none, alive_then, alive_same, alive_kept)
+
+-- how steps follow one another where some write
+pub ruleset write_steps = (step_none, step_then, step_is_write, write_step_then, writes_none, writes_then, alive_is_write)

@@ -13,7 +13,7 @@ use crate::pieces::write_all;
 use crate::places::{end_of, place_of};
 use crate::slot_header::item_of;
 use crate::tracked::{Tracked, refuse_with};
-use crate::tries::read_all;
+use crate::tries::read_found;
 use mig_base::Cell;
 use mig_calls::{Calls, Extent, Place, Refusal};
 use mig_store::StoreFailed;
@@ -71,7 +71,7 @@ pub fn read_part<C: Calls>(
 {
     let (place, offset) = place_of(cell);
     let found = open_place(calls, tracked, &place)?;
-    read_all(calls, &place, offset, into)?;
+    read_found(calls, &place, offset, &found, into)?;
     Ok(found)
 }
 

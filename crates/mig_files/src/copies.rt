@@ -11,7 +11,7 @@ ghost use Rattle.mig_files.specs.Derived.{image_of};
 ghost use Rattle.mig_files.specs.Grounds.{IsFaultFor};
 ghost use Rattle.mig_files.specs.Seeing.{HoldsCopy};
 ghost use Rattle.mig_files.specs.Tracking.{IsTracked, IsStep, StaysAlive};
-ghost use Rattle.mig_store.specs.Grounds.{AreZeros, BothHold, IsRestOf, SlotsDiffer};
+ghost use Rattle.mig_store.specs.Grounds.{AreZeros, IsRestOf, SlotsDiffer};
 
 use crate::cells::read_part;
 use crate::slot_header::{is_header, item_of};
@@ -61,35 +61,7 @@ fn slot_at<C: Calls>(
     read_part(calls, tracked, slot, into)
 }
 
-/// Refuses a slot that has bytes of its item which the copy hasn't.
-fn check_rest<C: Calls>(
-    calls: &mut C,
-    tracked: &Tracked,
-    from: &Cell,
-    to: &Cell,
-    item: &Name,
-    left: &[u8; 4096],
-    copied: &[u8; 4096],
-) -> Result<(), StoreFailed>
-    requires slots { IsTrue (is_slot from.now) × IsTrue (is_slot to.now) }
-    requires tracked { IsTracked tracked.now.notes (C.Calls.state calls.old) }
-    requires both { BothHold left.now copied.now item.now }
-    requires read { WhereTold (C.Calls.state calls.old) from.now (HasBytes ((C.Calls.state calls.old).reads (file_of from.now)) (offset_of from.now) 4096 left.now) }
-    requires beside { WhereTold (C.Calls.state calls.old) to.now (HasBytes ((C.Calls.state calls.old).reads (file_of to.now)) (offset_of to.now) 4096 copied.now) }
-    ensures same { OnOk result (HoldsCopy (image_of (C.Calls.state calls.old)) from.now to.now) }
-    ensures step { IsStep tracked.now.notes (C.Calls.state calls.old) (C.Calls.state calls.new) }
-    ensures cause { OnErr result (IsFaultFor (SlotsDiffer (image_of (C.Calls.state calls.old)) from.now to.now) (C.Calls.state calls.old) (C.Calls.state calls.new)) }
-{
-    if is_rest(left, copied) {
-        return Ok(());
-    }
-    let slot = *from;
-    let other = *to;
-    let item = *item;
-    Err(refuse_with(calls, tracked, &Refusal::Differs { slot, other, item }))
-}
-
-/// Compares a slot that holds an item with the one that it was copied to.
+/// Compares a slot that holds an item with the one that it was copied to, and refuses it where it has bytes which the copy hasn't.
 fn compare<C: Calls>(
     calls: &mut C,
     tracked: &mut Tracked,
@@ -110,10 +82,16 @@ fn compare<C: Calls>(
 {
     let mut copied = [0; 4096];
     slot_at(calls, tracked, to, &mut copied)?;
-    if is_header(&first_of(&copied), item) {
-        return check_rest(calls, tracked, from, to, item, left, &copied);
+    if !is_header(&first_of(&copied), item) {
+        return Ok(());
     }
-    Ok(())
+    if is_rest(left, &copied) {
+        return Ok(());
+    }
+    let slot = *from;
+    let other = *to;
+    let item = *item;
+    Err(refuse_with(calls, tracked, &Refusal::Differs { slot, other, item }))
 }
 
 /// Refuses a slot that has bytes of its item which the slot that it was copied to, and that holds it, hasn't.

@@ -16,29 +16,10 @@ use crate::places::{end_of, place_of};
 use crate::seen::SeenItems;
 use crate::slot_header::{HEADER, is_header, item_of};
 use crate::tracked::{Tracked, no_memory, refuse_with};
-use crate::tries::read_all;
+use crate::tries::read_found;
 use mig_base::{Cell, Name};
 use mig_calls::{Calls, Extent, Refusal};
 use mig_store::StoreFailed;
-
-/// The first bytes of a slot, and how many bytes its file has.
-fn header_at<C: Calls>(
-    calls: &mut C,
-    tracked: &mut Tracked,
-    slot: &Cell,
-    into: &mut [u8; 34],
-) -> Result<Extent, StoreFailed>
-    requires slot { IsTrue (is_slot slot.now) }
-    requires alive { IsFalse tracked.old.notes.lost }
-    requires tracked { IsTracked tracked.old.notes (C.Calls.state calls.old) }
-    ensures header { OnOk result (WhereTold (C.Calls.state calls.old) slot.now (HasBytes ((C.Calls.state calls.old).reads (file_of slot.now)) (offset_of slot.now) 34 into.new)) }
-    ensures end { IfOk result (λ found. WhereTold (C.Calls.state calls.old) slot.now (EndsAt ((C.Calls.state calls.old).reads (file_of slot.now)) (len_of found))) }
-    ensures step { IsStep tracked.new.notes (C.Calls.state calls.old) (C.Calls.state calls.new) }
-    ensures kept { OnOk result (StaysAlive tracked.new.notes (C.Calls.state calls.old) (C.Calls.state calls.new)) }
-    ensures cause { OnErr result (Rose (C.Calls.state calls.old).faults (C.Calls.state calls.new).faults) }
-{
-    read_part(calls, tracked, slot, into)
-}
 
 /// Notes that a slot holds an item. One that its file's end cuts is refused.
 pub fn note_held<C: Calls>(
@@ -121,30 +102,6 @@ pub fn expects<C: Calls>(
     note_held(calls, tracked, seen, slot, item, &found)
 }
 
-/// Refuses a slot whose disk's file isn't there.
-fn check_there<C: Calls>(
-    calls: &mut C,
-    tracked: &Tracked,
-    slot: &Cell,
-    item: &Name,
-    found: &Extent,
-) -> Result<(), StoreFailed>
-    requires slot { IsTrue (is_slot slot.now) }
-    requires tracked { IsTracked tracked.now.notes (C.Calls.state calls.old) }
-    requires end { WhereTold (C.Calls.state calls.old) slot.now (EndsAt ((C.Calls.state calls.old).reads (file_of slot.now)) (len_of found.now)) }
-    ensures step { IsStep tracked.now.notes (C.Calls.state calls.old) (C.Calls.state calls.new) }
-    ensures cause { OnErr result (IsFaultFor (Lacks (image_of (C.Calls.state calls.old)) slot.now item.now) (C.Calls.state calls.old) (C.Calls.state calls.new)) }
-{
-    match found {
-        Extent::Absent => {
-            let slot = *slot;
-            let item = *item;
-            Err(refuse_with(calls, tracked, &Refusal::NoDisk { slot, item }))
-        }
-        Extent::File { .. } | Extent::Device { .. } => Ok(()),
-    }
-}
-
 /// The first bytes of a slot that should hold an item, and how many bytes its file has. That the file isn't there is refused before it is read.
 fn header_there<C: Calls>(
     calls: &mut C,
@@ -163,8 +120,12 @@ fn header_there<C: Calls>(
 {
     let (place, offset) = place_of(slot);
     let found = open_place(calls, tracked, &place)?;
-    check_there(calls, tracked, slot, item, &found)?;
-    read_all(calls, &place, offset, into)?;
+    if let Extent::Absent = found {
+        let slot = *slot;
+        let item = *item;
+        return Err(refuse_with(calls, tracked, &Refusal::NoDisk { slot, item }));
+    }
+    read_found(calls, &place, offset, &found, into)?;
     Ok(found)
 }
 
@@ -253,7 +214,7 @@ pub fn expects_free<C: Calls>(
     ensures cause { OnErr result (IsFaultFor (IsLast (image_of (C.Calls.state calls.old)) (seen_in seen.now) slot.now) (C.Calls.state calls.old) (C.Calls.state calls.new)) }
 {
     let mut first = [0; HEADER];
-    let found = header_at(calls, tracked, slot, &mut first)?;
+    let found = read_part(calls, tracked, slot, &mut first)?;
     check_free(calls, tracked, seen, slot, &first)?;
     Ok(found)
 }
@@ -275,7 +236,7 @@ pub fn expects_free_for<C: Calls>(
     ensures cause { OnErr result (IsFaultFor (IsLastBut (image_of (C.Calls.state calls.old)) (seen_in seen.now) slot.now item.now) (C.Calls.state calls.old) (C.Calls.state calls.new)) }
 {
     let mut first = [0; HEADER];
-    header_at(calls, tracked, slot, &mut first)?;
+    read_part(calls, tracked, slot, &mut first)?;
     if is_header(&first, item) {
         return Ok(());
     }

@@ -1,5 +1,5 @@
 //! The store of cells over files of the working folder.
-#![tactic(auto, using(crate::proofs::Errs::err_any))]
+#![tactic(auto, using(crate::proofs::Errs::err_any, crate::proofs::TrackingSteps::steps, crate::proofs::Holding::held_looked))]
 
 mod cells;
 mod copies;

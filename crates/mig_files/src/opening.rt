@@ -5,6 +5,7 @@ ghost use Rattle.mig_calls.specs.Files.{EndsAt, len_of};
 ghost use Rattle.mig_files.specs.Tracking.{IsTracked, IsStep, StaysAlive, SameNotes};
 
 use crate::tracked::{Tracked, no_memory, refuse_with, sync_disk};
+use lru::LruCache;
 use mig_base::Name;
 use mig_calls::{CallError, Calls, Extent, Place, Refusal};
 use mig_store::StoreFailed;
@@ -74,6 +75,12 @@ fn make_room<C: Calls>(calls: &mut C, tracked: &mut Tracked) -> Result<(), Store
     Ok(())
 }
 
+/// Makes a disk's file the last used one, where it is open, and says whether it is.
+fn promote(open: &mut LruCache<Name, ()>, name: &Name) -> bool {
+    let last = open.peek_mru();
+    last.is_some_and(|(last, _)| last == name) || open.promote(name)
+}
+
 /// Makes a disk's file the last used one, and closes another where too many are open. One that was never looked at counts as dirty.
 pub fn enter<C: Calls>(calls: &mut C, tracked: &mut Tracked, name: &Name) -> Result<(), StoreFailed>
     requires alive { IsFalse tracked.old.notes.lost }
@@ -82,7 +89,7 @@ pub fn enter<C: Calls>(calls: &mut C, tracked: &mut Tracked, name: &Name) -> Res
     ensures kept { OnOk result (StaysAlive tracked.new.notes (C.Calls.state calls.old) (C.Calls.state calls.new)) }
     ensures cause { OnErr result (Rose (C.Calls.state calls.old).faults (C.Calls.state calls.new).faults) }
 {
-    if tracked.open.promote(name) {
+    if promote(&mut tracked.open, name) {
         return Ok(());
     }
     if meet(tracked, name).is_err() {

@@ -1,4 +1,6 @@
 //! Whole writes, by calls that may do a part.
+#![tactic(auto, using(crate::proofs::Errs::err_any, crate::proofs::TrackingSteps::write_steps))]
+
 ghost use Rattle.std.specs.Prelude.{◌≡◌, ◌≤◌, ◌<◌, ◌+◌, ◌^◌, IsTrue, IsFalse, IfOk, OnOk, OnErr, length};
 ghost use Rattle.mig_base.specs.FaultCounts.{Rose};
 ghost use Rattle.mig_calls.specs.Files.{HasBytes, HasCallCause};

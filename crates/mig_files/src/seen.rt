@@ -1,7 +1,6 @@
 //! Where this process has seen items.
-ghost use Rattle.std.specs.Prelude.{◌≡◌, Some, None, List, ℕ, if◌then◌else◌, [], MatchBool, OnOk, OnErr, nat_eq};
-ghost use Rattle.std.specs.Cmp.Lexicographic.{pointwise};
-ghost use Rattle.mig_files.specs.Counting.{item_count, AreCounted, IsNotedAt};
+ghost use Rattle.std.specs.Prelude.{◌≡◌, ◌≤◌, ◌<◌, ◌+◌, ◌^◌, Some, None, List, ℕ, [], MatchBool, IfOk, OnOk, OnErr};
+ghost use Rattle.mig_files.specs.Counting.{is_item, item_count, one_if, IsNotedAt};
 ghost use Rattle.mig_files.specs.Seeing.{seen_at, seen_in, KeepsSeen};
 ghost use Rattle.mig_store.specs.Grounds.{IsElsewhere};
 
@@ -34,25 +33,34 @@ impl Model for SeenItems {
 fn item_at(slots: &IndexMap<Cell, Option<Name>>, slot: &Cell) -> Option<Name>
     ensures { result ≡ seen_at slots.now.entries slot.now }
 {
-    match slots.get(slot) {
-        Some(item) => *item,
-        None => None,
-    }
+    slots.get(slot).copied().flatten()
 }
 
-// Sets what was seen at a slot. Only one that is new takes memory.
-fn set_item(
+// Puts an item to a slot, and answers which was seen there before. Only a slot that is new takes memory.
+fn put_at(
     slots: &mut IndexMap<Cell, Option<Name>>,
     slot: &Cell,
-    item: Option<Name>,
-) -> Result<(), AllocError>
-    ensures set { OnOk result (IsNotedAt slot.now item slots.old.entries slots.new.entries) }
+    item: &Name,
+) -> Result<Option<Name>, AllocError>
+    ensures before { IfOk result (λ before. before ≡ seen_at slots.old.entries slot.now) }
+    ensures put { OnOk result (IsNotedAt slot.now (Some item.now) slots.old.entries slots.new.entries) }
     ensures failed { OnErr result (slots.new.entries ≡ slots.old.entries) }
     ensures absent { OnErr result (seen_at slots.old.entries slot.now ≡ None) }
 {
-    match slots.insert(*slot, item) {
-        Ok(_) => Ok(()),
+    match slots.insert(*slot, Some(*item)) {
+        Ok(before) => Ok(before.flatten()),
         Err(_) => Err(AllocError),
+    }
+}
+
+// Takes the item that was seen at a slot.
+fn take_at(slots: &mut IndexMap<Cell, Option<Name>>, slot: &Cell) -> Option<Name>
+    ensures before { result ≡ seen_at slots.old.entries slot.now }
+    ensures taken { IsNotedAt slot.now None slots.old.entries slots.new.entries }
+{
+    match slots.get_mut(slot) {
+        Some(item) => item.take(),
+        None => None,
     }
 }
 
@@ -60,70 +68,35 @@ fn set_item(
 fn count_in(counts: &IndexMap<Name, usize>, item: &Name) -> usize
     ensures { result ≡ item_count counts.now.entries item.now }
 {
-    match counts.get(item) {
-        Some(count) => *count,
-        None => 0,
-    }
+    counts.get(item).copied().unwrap_or(0)
 }
 
-// Sets at how many slots an item was seen. Only one that is new takes memory.
-fn set_count(
-    counts: &mut IndexMap<Name, usize>,
-    item: &Name,
-    count: usize,
-) -> Result<(), AllocError>
-    ensures set { OnOk result ((other : List ℕ) → item_count counts.new.entries other ≡ (if pointwise nat_eq item.now other then count else item_count counts.old.entries other)) }
+// Counts an item at one slot more. Only one that is new takes memory.
+fn raise(counts: &mut IndexMap<Name, usize>, item: &Name) -> Result<(), AllocError>
+    requires { item_count counts.old.entries item.now < 2 ^ 63 }
+    ensures raised { OnOk result ((other : List ℕ) →
+        item_count counts.new.entries other ≡ item_count counts.old.entries other + one_if (is_item other (Some item.now))) }
     ensures failed { OnErr result (counts.new.entries ≡ counts.old.entries) }
-    ensures absent { OnErr result (item_count counts.old.entries item.now ≡ 0) }
 {
-    match counts.insert(*item, count) {
-        Ok(_) => Ok(()),
+    match counts.entry(*item) {
+        Ok(entry) => {
+            *entry.or_insert(0) += 1;
+            Ok(())
+        }
         Err(_) => Err(AllocError),
     }
 }
 
-// Forgets what was seen at a slot.
-fn forget_at(
-    slots: &mut IndexMap<Cell, Option<Name>>,
-    counts: &mut IndexMap<Name, usize>,
-    slot: &Cell,
-)
-    requires { AreCounted slots.old.entries counts.old.entries }
-    ensures counted { AreCounted slots.new.entries counts.new.entries }
-    ensures forgotten { seen_at slots.new.entries slot.now ≡ None }
-    ensures others { KeepsSeen slots.old.entries slots.new.entries slot.now }
+// Counts an item, if it is one, at one slot less.
+fn lower(counts: &mut IndexMap<Name, usize>, item: Option<Name>)
+    requires { (other : List ℕ) → one_if (is_item other item) ≤ item_count counts.old.entries other }
+    ensures { (other : List ℕ) → item_count counts.new.entries other + one_if (is_item other item) ≡ item_count counts.old.entries other }
 {
-    if let Some(item) = item_at(slots, slot) {
-        let count = count_in(counts, &item);
-        // Both are there, so neither takes memory.
-        let _ = set_item(slots, slot, None);
-        let _ = set_count(counts, &item, count - 1);
-    }
-}
-
-// Notes an item at a slot where none was seen.
-fn note_at(
-    slots: &mut IndexMap<Cell, Option<Name>>,
-    counts: &mut IndexMap<Name, usize>,
-    slot: &Cell,
-    item: &Name,
-) -> Result<(), AllocError>
-    requires counted { AreCounted slots.old.entries counts.old.entries }
-    requires none { seen_at slots.old.entries slot.now ≡ None }
-    ensures counted { AreCounted slots.new.entries counts.new.entries }
-    ensures noted { OnOk result (seen_at slots.new.entries slot.now ≡ Some item.now) }
-    ensures failed { OnErr result (seen_at slots.new.entries slot.now ≡ None) }
-    ensures others { KeepsSeen slots.old.entries slots.new.entries slot.now }
-{
-    set_item(slots, slot, Some(*item))?;
-    let _len = slots.len();
-    let count = count_in(counts, item);
-    match set_count(counts, item, count + 1) {
-        Ok(()) => Ok(()),
-        Err(failed) => {
-            let _ = set_item(slots, slot, None);
-            Err(failed)
-        }
+    let Some(item) = item else {
+        return;
+    };
+    if let Some(count) = counts.get_mut(&item) {
+        *count -= 1;
     }
 }
 
@@ -144,11 +117,20 @@ impl SeenItems {
         ensures failed { OnErr result (seen_at self.new slot.now ≡ None) }
         ensures others { KeepsSeen self.old self.new slot.now }
     {
-        if item_at(&self.slots, slot) == Some(*item) {
+        let before = put_at(&mut self.slots, slot, item)?;
+        if before == Some(*item) {
             return Ok(());
         }
-        forget_at(&mut self.slots, &mut self.counts, slot);
-        note_at(&mut self.slots, &mut self.counts, slot, item)
+        // The item counts at no more slots than there are, so one more fits.
+        let _len = self.slots.len();
+        lower(&mut self.counts, before);
+        match raise(&mut self.counts, item) {
+            Ok(()) => Ok(()),
+            Err(failed) => {
+                let _ = take_at(&mut self.slots, slot);
+                Err(failed)
+            }
+        }
     }
 
     /// Forgets what a slot holds, which is about to be written.
@@ -156,18 +138,18 @@ impl SeenItems {
         ensures forgotten { seen_at self.new slot.now ≡ None }
         ensures others { KeepsSeen self.old self.new slot.now }
     {
-        forget_at(&mut self.slots, &mut self.counts, slot)
+        let before = take_at(&mut self.slots, slot);
+        lower(&mut self.counts, before);
     }
 
     /// Whether an item was seen at another slot than this one.
     pub fn is_elsewhere(&self, item: &Name, slot: &Cell) -> bool
         ensures { MatchBool result (IsElsewhere (seen_in self.now) item.now slot.now) (¬ (IsElsewhere (seen_in self.now) item.now slot.now)) }
     {
-        let count = count_in(&self.counts, item);
-        match item_at(&self.slots, slot) {
-            Some(here) if here == *item => count > 1,
-            Some(_) => count > 0,
-            None => count > 0,
+        match count_in(&self.counts, item) {
+            0 => false,
+            1 => item_at(&self.slots, slot) != Some(*item),
+            _ => true,
         }
     }
 }

@@ -80,10 +80,7 @@ pub fn note_write(tracked: &mut Tracked, place: &Place) -> Result<(), AllocError
     ensures notes { SameNotes tracked.old.notes tracked.new.notes }
 {
     match place {
-        Place::Disk(name) => {
-            tracked.notes.dirty.insert(name)?;
-            tracked.met.insert(name)
-        }
+        Place::Disk(name) => tracked.notes.dirty.insert(name),
         Place::Journal => {
             tracked.notes.unsynced = true;
             Ok(())

@@ -1,12 +1,14 @@
 //! Calls that are made again where they were interrupted.
+#![tactic(auto, using(crate::proofs::Errs::err_any, crate::proofs::TaskSteps::leaves_then, crate::proofs::TaskSteps::quiet_leaves))]
+
 ghost use Rattle.std.specs.Prelude.{◌≡◌, ◌≤◌, ◌<◌, ◌+◌, ◌^◌, IsTrue, IfOk, OnOk, OnErr, length};
 ghost use Rattle.mig_base.specs.FaultCounts.{Rose};
-ghost use Rattle.mig_calls.specs.Files.{HasBytes, HasCallCause};
+ghost use Rattle.mig_calls.specs.Files.{EndsAt, HasBytes, HasCallCause, len_of};
 ghost use Rattle.mig_calls.specs.Refusals.{IsRefusalCause, counted};
 ghost use Rattle.mig_files.specs.Tracking.{IsQuiet};
 ghost use Rattle.mig_files.specs.Tasks.{file_of_retried, IsDone, Leaves, KeepsClaim, StaysClaimed};
 
-use mig_calls::{CallError, Calls, Place, Refusal};
+use mig_calls::{CallError, Calls, Extent, Place, Refusal};
 use mig_store::StoreFailed;
 
 /// Says why the store refuses, which is counted.
@@ -125,4 +127,28 @@ pub fn read_all<C: Calls>(
         done = read_more(calls, place, offset, into, done)?;
     }
     Err(refuse(calls, &Refusal::Interrupted { place: *place }))
+}
+
+/// The same where it is known how many bytes the file has: past its end it isn't read. One that isn't there is: it may be a link that leads nowhere, which is refused.
+pub fn read_found<C: Calls>(
+    calls: &mut C,
+    place: &Place,
+    offset: u64,
+    found: &Extent,
+    into: &mut [u8],
+) -> Result<(), StoreFailed>
+    requires room { offset + length into.old < 2 ^ 64 }
+    requires short { length into.old < 2 ^ 62 }
+    requires end { IsTrue ((C.Calls.state calls.old).told place.now) → EndsAt ((C.Calls.state calls.old).reads place.now) (len_of found.now) }
+    ensures bytes { OnOk result (IsTrue ((C.Calls.state calls.old).told place.now) → HasBytes ((C.Calls.state calls.old).reads place.now) offset (length into.old) into.new) }
+    ensures quiet { IsQuiet (C.Calls.state calls.old) (C.Calls.state calls.new) }
+    ensures cause { OnErr result (Rose (C.Calls.state calls.old).faults (C.Calls.state calls.new).faults) }
+{
+    match found {
+        Extent::File { len } if *len <= offset => {
+            into.fill(0);
+            Ok(())
+        }
+        _ => read_all(calls, place, offset, into),
+    }
 }

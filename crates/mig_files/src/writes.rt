@@ -1,4 +1,6 @@
 //! Writes of cells and copies of slots, by which no item is lost that was seen nowhere else.
+#![tactic(auto, using(crate::proofs::Errs::err_any, crate::proofs::TrackingSteps::write_steps, crate::proofs::Holding::held_looked))]
+
 ghost use Rattle.std.specs.Prelude.{◌≡◌, ◌≢◌, ◌⊎◌, ◌≤◌, ◌<◌, ◌+◌, ℕ, List, Some, None, IsTrue, IsFalse, IfOk, IfSome, MatchBool, OnOk, OnErr, length, slice_index, slice_range};
 ghost use Rattle.mig_base.specs.FaultCounts.{Rose};
 ghost use Rattle.mig_base.specs.Cells.{cell_len, is_slot};

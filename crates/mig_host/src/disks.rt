@@ -27,9 +27,9 @@ pub struct Disks<S: System> {
     owners: IndexMap<FileIdentity, (Name, bool)>,
     /// A disk was written since the journal was.
     written: bool,
-    /// The disks that were closed since it was looked whether they have their names still, and those that were written.
-    closed: IndexSet<Name>,
-    unlooked: IndexSet<Name>,
+    /// The files of the disks that were closed since it was looked whether they have their names still, and of those that were written.
+    closed: IndexMap<Name, FileIdentity>,
+    unlooked: IndexMap<Name, FileIdentity>,
     /// The number of the next look at these, from 1 on.
     looks: u64,
     /// The permissions of the first file that was opened: new ones get the same.
@@ -46,8 +46,8 @@ impl<S: System> Disks<S> {
             known: IndexMap::new(alloc),
             owners: IndexMap::new(alloc),
             written: false,
-            closed: IndexSet::new(alloc),
-            unlooked: IndexSet::new(alloc),
+            closed: IndexMap::new(alloc),
+            unlooked: IndexMap::new(alloc),
             looks: 1,
             mode: None,
         }
@@ -84,13 +84,15 @@ impl<S: System> Disks<S> {
         journal: &Journal<S>,
         name: &Name,
     ) -> Result<Extent, Failure> {
-        let is_known = self.known.contains_key(name);
-        match self.to_read(sys, journal, name) {
-            Ok(Some(opened)) => Ok(opened.extent()),
-            Ok(None) => Ok(Extent::Absent),
-            Err(failure) if failure.is_missing() && !is_known => Ok(Extent::Absent),
-            Err(failure) => Err(failure),
+        let failure = match self.to_read(sys, journal, name) {
+            Ok(Some(opened)) => return Ok(opened.extent()),
+            Ok(None) => return Ok(Extent::Absent),
+            Err(failure) => failure,
+        };
+        if failure.is_missing() && !self.known.contains_key(name) {
+            return Ok(Extent::Absent);
         }
+        Err(failure)
     }
 
     /// Writes some of the bytes to a disk's file, which is made where it isn't there. Where the journal was written since disks were, it looks first whether those have their names still: what the journal marks may now be emptied.
@@ -106,15 +108,18 @@ impl<S: System> Disks<S> {
         ensures some { IfOk result (λ written. 0 < length bytes.now → 0 < written.count) }
     {
         if !self.written {
-            look_at_each(sys, &self.known, &mut self.unlooked)?;
+            look_at_each(sys, &mut self.unlooked)?;
             self.looks = self.looks.saturating_add(1);
         }
         let made = self.open_for_writing(sys, journal, name)?;
         self.written = true;
-        let Some(opened) = self.open.get_mut(name) else {
+        let Some(place) = self.find(name) else {
             return Err(Failure::memory(*name));
         };
-        if opened.look != self.looks && self.unlooked.insert(*name).is_err() {
+        let Some(opened) = self.open.get_index_mut(place) else {
+            return Err(Failure::memory(*name));
+        };
+        if opened.look != self.looks && self.unlooked.insert(*name, opened.node).is_err() {
             return Err(Failure::memory(*name));
         }
         opened.look = self.looks;
@@ -143,14 +148,17 @@ impl<S: System> Disks<S> {
     pub fn check_closed(&mut self, sys: &mut S) -> Result<(), Failure>
         ensures { Goes (S.System.state sys.old) (S.System.state sys.new) }
     {
-        look_at_each(sys, &self.known, &mut self.closed)?;
+        look_at_each(sys, &mut self.closed)?;
         self.written = false;
         Ok(())
     }
 
     /// Closes a disk's file. Where memory is refused it stays open.
     pub fn close(&mut self, name: &Name) {
-        if self.closed.insert(*name).is_ok() {
+        let Some(opened) = self.open.get(name) else {
+            return;
+        };
+        if self.closed.insert(*name, opened.node).is_ok() {
             let _ = self.open.swap_remove(name);
         }
     }
@@ -164,23 +172,24 @@ impl<S: System> Disks<S> {
     ) -> Result<Option<&Opened<S>>, Failure>
         ensures { IfOk result (λ found. IfSome found (λ opened. IsTrue journal.now.locked → IsTrue opened.now.taken ⊎ IsTrue opened.now.fixed)) }
     {
-        if self.last_found(name).is_none() && !self.finds(name) && !self.absent.contains(name) {
-            self.open_for_reading(sys, journal, name)?;
-            let _ = self.finds(name);
+        let Some(place) = self.find_or_open(sys, journal, name)? else {
+            return Ok(None);
+        };
+        if journal.is_claimed() {
+            self.lock_open(sys, name, place)?;
         }
-        if !journal.is_claimed() {
-            return Ok(self.last_found(name));
-        }
-        self.lock_open(sys, name)?;
-        match self.last_found(name) {
-            Some(opened) if !opened.is_steady() => Err(Failure::OfDisk(*name, exchanged())),
-            found => Ok(found),
+        match self.open.get_index(place) {
+            Some((_, opened)) if journal.is_claimed() && !opened.is_steady() => {
+                Err(Failure::OfDisk(*name, exchanged()))
+            }
+            found => Ok(found.map(|(_, opened)| opened)),
         }
     }
 
     /// Opens the disk's file for writing too, for this process alone, where it is open for reading. One that can't be written is left as it is.
-    fn lock_open(&mut self, sys: &mut S, name: &Name) -> Result<(), Failure> {
-        if self.last_found(name).is_none_or(|opened| opened.is_taken()) {
+    fn lock_open(&mut self, sys: &mut S, name: &Name, place: usize) -> Result<(), Failure> {
+        let found = self.open.get_index(place);
+        if found.is_none_or(|(_, opened)| opened.is_steady()) {
             return Ok(());
         }
         match self.find_to_write(sys, name) {
@@ -210,23 +219,29 @@ impl<S: System> Disks<S> {
         }
     }
 
-    /// The disk's file, where it is open and was the last one that was looked up.
-    fn last_found(&self, name: &Name) -> Option<&Opened<S>> {
-        match self.open.get_index(self.recent) {
-            Some((disk, opened)) if disk == name => Some(opened),
-            _ => None,
+    /// The place of the disk's file among those that are open.
+    fn find(&mut self, name: &Name) -> Option<usize> {
+        let recent = self.open.get_index(self.recent);
+        if !recent.is_some_and(|(disk, _)| disk == name) {
+            self.recent = self.open.get_index_of(name)?;
         }
+        Some(self.recent)
     }
 
-    /// Looks up whether the disk's file is open.
-    fn finds(&mut self, name: &Name) -> bool {
-        match self.open.get_index_of(name) {
-            Some(place) => {
-                self.recent = place;
-                true
-            }
-            None => false,
+    /// The same of a file that is opened where it isn't, if it is there.
+    fn find_or_open(
+        &mut self,
+        sys: &mut S,
+        journal: &Journal<S>,
+        name: &Name,
+    ) -> Result<Option<usize>, Failure> {
+        if let Some(place) = self.find(name) {
+            return Ok(Some(place));
         }
+        if !self.absent.contains(name) {
+            self.open_for_reading(sys, journal, name)?;
+        }
+        Ok(self.find(name))
     }
 
     /// Opens the disk's file, if it is there.
@@ -257,8 +272,11 @@ impl<S: System> Disks<S> {
         journal: &Journal<S>,
         name: &Name,
     ) -> Result<bool, Failure> {
-        if self.open.get(name).is_some_and(|opened| opened.is_taken()) {
-            return Ok(false);
+        if let Some(place) = self.find(name) {
+            let found = self.open.get_index(place);
+            if found.is_some_and(|(_, opened)| opened.is_taken()) {
+                return Ok(false);
+            }
         }
         let (opened, made) = self
             .find_to_write(sys, name)
@@ -347,17 +365,14 @@ impl<S: System> Disks<S> {
 /// Looks whether these disks have their names still, and forgets them.
 fn look_at_each<S: System>(
     sys: &mut S,
-    known: &IndexMap<Name, FileIdentity>,
-    names: &mut IndexSet<Name>,
+    files: &mut IndexMap<Name, FileIdentity>,
 ) -> Result<(), Failure>
     ensures { Goes (S.System.state sys.old) (S.System.state sys.new) }
 {
-    for name in names.iter() {
-        if let Some(node) = known.get(name) {
-            check_named(sys, name, *node)?;
-        }
+    for (name, node) in files.iter() {
+        check_named(sys, name, *node)?;
     }
-    names.clear();
+    files.clear();
     Ok(())
 }
 

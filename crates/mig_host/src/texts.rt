@@ -39,7 +39,8 @@ pub fn path_of(alloc: Global, name: &Name) -> io::Result<String>
     let Ok(name) = std::str::from_utf8(name.bytes()) else {
         return Err(ErrorKind::InvalidFilename.into());
     };
-    let mut path = String::from_str(alloc, name)?;
+    let mut path = String::with_capacity(alloc, name.len() + 5)?;
+    path.push_str(name)?;
     path.push_str(".disk")?;
     Ok(path)
 }

@@ -1,6 +1,4 @@
 //! How the store serves: its calls are those of any store.
-#![tactic(auto, using(crate::proofs::Errs::err_any, crate::proofs::Holding::held_looked))]
-
 ghost use Rattle.std.specs.Prelude.{◌≡◌, ◌≢◌, ◌⊎◌, ◌∷◌, [], None, ℕ, List, ⊤, IsTrue, IsFalse, IfOk, IfSome, IfNone, OnOk, OnErr, length, take};
 ghost use Rattle.mig_base.specs.declared.cells.Flight.{Flight};
 ghost use Rattle.mig_base.specs.Cells.{cell_len, is_slot};

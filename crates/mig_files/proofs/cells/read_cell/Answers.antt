@@ -1,6 +1,5 @@
 use Rattle.mig_files.proofs.Common.{file_of, length, ◌∙◌}
 use Rattle.mig_files.proofs.FilesSteps.{look_then}
-use Rattle.mig_files.proofs.TrackingSteps.{step_then}
 use Rattle.mig_files.proofs.Derivation.{end_after}
 use Rattle.mig_files.proofs.Headers.{whole_read, on_any}
 use Rattle.mig_files.proofs.cells.read_cell.Goals as goal
@@ -9,13 +8,7 @@ pub check_whole-requires-clause-end : goal.check_whole-requires-clause-end
 check_whole-requires-clause-end g c =
     end_after (look_then c.read_part.ensures.step.change c.check_room.ensures.step.change) (file_of c.args.cell.now) _ c.in_ok-found.ensures.end
 
-pub returns-in_err-check_room-clause-step : goal.returns-in_err-check_room-clause-step
-returns-in_err-check_room-clause-step g c = step_then c.read_part.ensures.step c.check_room.ensures.step
-
 pub returns-clause-bytes : goal.returns-clause-bytes
 returns-clause-bytes g c =
     on_any c.check_whole.result (whole_read (g.C.Calls.state c.args.calls.now) c.args.cell.now (length c.args.into.now) c.read_part.new.into c.requires.length
     (c.read_part.auto.into ∙ c.requires.length) c.in_ok-found.ensures.bytes)
-
-pub returns-clause-step : goal.returns-clause-step
-returns-clause-step g c = step_then (step_then c.read_part.ensures.step c.check_room.ensures.step) c.check_whole.ensures.step

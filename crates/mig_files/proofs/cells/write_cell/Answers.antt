@@ -1,4 +1,4 @@
-use Rattle.mig_files.proofs.TrackingSteps.{step_at_cell, step_is_write}
+use Rattle.mig_files.proofs.TrackingSteps.{step_at_cell}
 use Rattle.mig_files.proofs.Derivation.{cell_written_at, on_ok}
 use Rattle.mig_files.proofs.cells.write_cell.Goals as goal
 
@@ -9,6 +9,3 @@ returns-clause-written g c =
 
 pub returns-clause-step : goal.returns-clause-step
 returns-clause-step g c = step_at_cell c.args.cell.now c.place_of-place.ensures.file c.place_of-place.ensures.offset c.requires.length c.open_with_room.ensures.step c.write_all.ensures.step
-
-pub returns-in_err-open_with_room-clause-step : goal.returns-in_err-open_with_room-clause-step
-returns-in_err-open_with_room-clause-step g c = step_is_write c.open_with_room.ensures.step

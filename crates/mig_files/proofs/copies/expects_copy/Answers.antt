@@ -1,5 +1,4 @@
 use Rattle.mig_files.proofs.Common.{sym, ◌∙◌}
-use Rattle.mig_files.proofs.TrackingSteps.{step_then}
 use Rattle.mig_files.proofs.Derivation.{image_before, on_ok}
 use Rattle.mig_files.proofs.Headers.{header_after}
 use Rattle.mig_files.proofs.Grounds.{on_err, fault_after}
@@ -16,9 +15,6 @@ compare-requires-clause-read g c = header_after c.slot_at.ensures.step.change c.
 
 pub returns-in-Some-clause-same : goal.returns-in-Some-clause-same
 returns-in-Some-clause-same g c = on_ok c.compare.result c.compare.ensures.same (image_before (λ image. HoldsCopy image c.args.from.now c.args.to.now) c.slot_at.ensures.step.change)
-
-pub returns-in-Some-clause-step : goal.returns-in-Some-clause-step
-returns-in-Some-clause-step g c = step_then c.slot_at.ensures.step c.compare.ensures.step
 
 pub returns-in-Some-clause-cause : goal.returns-in-Some-clause-cause
 returns-in-Some-clause-cause g c =

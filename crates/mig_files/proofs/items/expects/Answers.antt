@@ -1,9 +1,7 @@
 use Rattle.mig_files.proofs.Common.{file_of}
 use Rattle.mig_files.proofs.FilesSteps.{look_then, told_before}
-use Rattle.mig_files.proofs.TrackingSteps.{step_then}
 use Rattle.mig_files.proofs.Derivation.{end_after}
 use Rattle.mig_files.proofs.Headers.{header_after, held_after, held_before, on_any}
-use Rattle.mig_files.proofs.Holding.{held_looked}
 use Rattle.mig_files.proofs.Grounds.{fault_after}
 use Rattle.mig_files.proofs.Errs.{err_any}
 use Rattle.mig_store.specs.Grounds.{Lacks}
@@ -21,25 +19,8 @@ note_held-requires-clause-holds g c = λ told.
     let look = c.check_held.ensures.step.change in
     held_after look c.args.slot.now c.args.item.now (c.in_ok-check_held.ensures.held (told_before look (file_of c.args.slot.now) told))
 
-pub note_held-requires-clause-held : goal.note_held-requires-clause-held
-note_held-requires-clause-held g c = held_looked (look_then c.header_there.ensures.step.change c.check_held.ensures.step.change) c.requires.held
-
-pub returns-in_err-found-clause-held : goal.returns-in_err-found-clause-held
-returns-in_err-found-clause-held g c = held_looked c.header_there.ensures.step.change c.requires.held
-
-pub returns-in_err-check_held-clause-held : goal.returns-in_err-check_held-clause-held
-returns-in_err-check_held-clause-held g c = held_looked (look_then c.header_there.ensures.step.change c.check_held.ensures.step.change) c.requires.held
-
-pub returns-in_err-check_held-clause-step : goal.returns-in_err-check_held-clause-step
-returns-in_err-check_held-clause-step g c =
-    step_then c.header_there.ensures.step c.check_held.ensures.step
-
 pub returns-clause-holds : goal.returns-clause-holds
 returns-clause-holds g c = on_any c.note_held.result (held_before c.header_there.ensures.step.change c.args.slot.now c.args.item.now c.in_ok-check_held.ensures.held)
-
-pub returns-clause-step : goal.returns-clause-step
-returns-clause-step g c =
-    step_then (step_then c.header_there.ensures.step c.check_held.ensures.step) c.note_held.ensures.step
 
 pub returns-in_err-check_held-clause-cause : goal.returns-in_err-check_held-clause-cause
 returns-in_err-check_held-clause-cause g c =

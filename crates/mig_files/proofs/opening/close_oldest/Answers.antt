@@ -3,5 +3,6 @@ use Rattle.mig_files.proofs.opening.close_oldest.Goals as goal
 
 pub returns-clause-step : goal.returns-clause-step
 returns-clause-step g c =
+    let quiet = c.close.ensures in
     step_then c.sync_disk.ensures.step
-    (quiet_step c.sync_disk.ensures.step.tracked (record { flags = c.close.ensures.flags; change = c.close.ensures.change; later = c.close.ensures.later; more = c.close.ensures.more }))
+    (quiet_step c.sync_disk.ensures.step.tracked (record { flags = quiet.flags; change = quiet.change; later = quiet.later; more = quiet.more }))

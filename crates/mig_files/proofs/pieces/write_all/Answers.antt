@@ -11,12 +11,6 @@ tries-init g c = record {
   counted = omega arith;
 }
 
-pub write_more-requires-clause-claimed : goal.write_more-requires-clause-claimed
-write_more-requires-clause-claimed g c = c.tries.invariant.kept.claimed c.requires.claimed
-
-pub returns-in_err-done-clause-step : goal.returns-in_err-done-clause-step
-returns-in_err-done-clause-step g c = write_step_then c.tries.invariant.step c.write_more.ensures.step
-
 pub tries-preserved : goal.tries-preserved
 tries-preserved g c = record {
   count = c.in_ok-done.ensures.count;
@@ -26,8 +20,5 @@ tries-preserved g c = record {
   counted = omega (arith, c.tries.invariant.counted, c.in_ok-done.ensures.progress);
 }
 
-pub returns-clause-step : goal.returns-clause-step
-returns-clause-step g c = write_step_then c.tries.invariant.step (step_is_write c.refuse_with.ensures.step)
-
-pub returns-clause-cause : goal.returns-clause-cause
-returns-clause-cause g c = omega (arith, c.tries.invariant.step.later, c.refuse_with.ensures.rose)
+pub returns-in_err-done-clause-step : goal.returns-in_err-done-clause-step
+returns-in_err-done-clause-step g c = write_step_then c.tries.invariant.step c.write_more.ensures.step

@@ -1,8 +1,6 @@
-use Rattle.mig_files.proofs.SeenItems.{some_seen, none_seen}
+use Rattle.mig_files.proofs.Common.{◌∙◌}
+use Rattle.mig_files.proofs.SeenItems.{seen_by}
 use Rattle.mig_files.proofs.seen.item_at.Goals as goal
 
-pub returns-in-Some : goal.returns-in-Some
-returns-in-Some c = some_seen c.args.slots.now.entries c.args.slot.now c.in-Some.item.now c.in-Some.ensures.value
-
-pub returns-in-None : goal.returns-in-None
-returns-in-None c = none_seen c.args.slots.now.entries c.args.slot.now c.in-None.ensures.value
+pub returns : goal.returns
+returns c = c.flatten.ensures ∙ seen_by _ c.args.slot.now c.copied.result (c.copied.ensures ∙ c.get.ensures.value)

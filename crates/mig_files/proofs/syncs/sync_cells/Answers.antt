@@ -1,20 +1,6 @@
 use Rattle.mig_files.proofs.Common.{Disk, Journal}
-use Rattle.mig_files.proofs.TrackingSteps.{settled_cell, step_then}
+use Rattle.mig_files.proofs.TrackingSteps.{settled_cell}
 use Rattle.mig_files.proofs.syncs.sync_cells.Goals as goal
-
-pub returns-in_err-sync_journal-clause-step : goal.returns-in_err-sync_journal-clause-step
-returns-in_err-sync_journal-clause-step g c = step_then c.claim.ensures.step c.sync_journal.ensures.step
-
-pub returns-in_err-sync_disks-clause-step : goal.returns-in_err-sync_disks-clause-step
-returns-in_err-sync_disks-clause-step g c = step_then (step_then c.claim.ensures.step c.sync_journal.ensures.step) c.sync_disks.ensures.step
-
-pub returns-in_err-sync_names-clause-step : goal.returns-in_err-sync_names-clause-step
-returns-in_err-sync_names-clause-step g c =
-    step_then (step_then (step_then c.claim.ensures.step c.sync_journal.ensures.step) c.sync_disks.ensures.step) c.sync_names.ensures.step
-
-pub returns-clause-step : goal.returns-clause-step
-returns-clause-step g c =
-    step_then (step_then (step_then c.claim.ensures.step c.sync_journal.ensures.step) c.sync_disks.ensures.step) c.sync_names.ensures.step
 
 pub returns-clause-settled : goal.returns-clause-settled
 returns-clause-settled g c =

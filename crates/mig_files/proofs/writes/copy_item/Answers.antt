@@ -1,5 +1,5 @@
 use Rattle.mig_files.proofs.Common.{image_of, inr, refl, seen_in, ◌∙◌}
-use Rattle.mig_files.proofs.TrackingSteps.{step_at_cell, step_is_write}
+use Rattle.mig_files.proofs.TrackingSteps.{step_at_cell}
 use Rattle.mig_files.proofs.Derivation.{on_ok}
 use Rattle.mig_files.proofs.Headers.{copied}
 use Rattle.mig_files.proofs.Holding.{lost_but_before}
@@ -8,14 +8,8 @@ use Rattle.mig_files.specs.Grounds.{IsLastBut}
 use Rattle.mig_files.specs.Sights.{holds_cell}
 use Rattle.mig_files.proofs.writes.copy_item.Goals as goal
 
-pub returns-clause-step : goal.returns-clause-step
-returns-clause-step g c = step_at_cell c.args.to.now refl refl refl c.read_item.ensures.step c.put_item.ensures.step
-
 pub returns-clause-copied : goal.returns-clause-copied
 returns-clause-copied g c = on_ok c.put_item.result c.put_item.ensures.written (λ written. copied _ _ _ c.in_ok-item.ensures.bytes written)
-
-pub returns-in_err-item-clause-step : goal.returns-in_err-item-clause-step
-returns-in_err-item-clause-step g c = step_is_write c.read_item.ensures.step
 
 pub returns-clause-free : goal.returns-clause-free
 returns-clause-free g c = on_ok c.put_item.result c.put_item.ensures.free (λ free. (
@@ -38,3 +32,6 @@ returns-clause-cause g c =
     on_err c.put_item.result c.put_item.ensures.cause (λ why.
     or_by (fault_after (λ image. IsLastBut image (seen_in c.put_item.new.seen) c.args.to.now c.in_ok-item.item) c.read_item.ensures.step why)
     (λ last. (last.0, inr (other_last (image_of a) c.args.from.now c.args.to.now c.in_ok-item.item held last.1))))
+
+pub returns-clause-step : goal.returns-clause-step
+returns-clause-step g c = step_at_cell c.args.to.now refl refl refl c.read_item.ensures.step c.put_item.ensures.step

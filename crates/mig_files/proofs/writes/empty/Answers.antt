@@ -5,15 +5,6 @@ use Rattle.mig_files.proofs.Holding.{held_less, held_looked, held_written, none_
 use Rattle.mig_files.proofs.Derivation.{end_after}
 use Rattle.mig_files.proofs.writes.empty.Goals as goal
 
-pub returns-in_err-found-clause-step : goal.returns-in_err-found-clause-step
-returns-in_err-found-clause-step g c = step_is_write c.expects_free.ensures.step
-
-pub returns-in_err-found-clause-held : goal.returns-in_err-found-clause-held
-returns-in_err-found-clause-held g c = held_looked c.expects_free.ensures.step.change c.requires.held
-
-pub returns-clause-step : goal.returns-clause-step
-returns-clause-step g c = step_at_cell c.args.slot.now refl refl refl c.expects_free.ensures.step c.write_cell.ensures.step
-
 pub returns-clause-held : goal.returns-clause-held
 returns-clause-held g c =
     held_written c.args.slot.now (step_at_cell c.args.slot.now refl refl refl c.expects_free.ensures.step c.write_cell.ensures.step).change c.forget.ensures.others c.forget.ensures.forgotten
@@ -25,9 +16,6 @@ returns-then-len-offset-clause-written g c =
     emptied b c.args.slot.now c.args.zeros.now (len_of c.in_ok-found.found) c.requires.length c.requires.zeros (omega arith)
     (end_after c.expects_free.ensures.step.change (file_of c.args.slot.now) _ c.in_ok-found.ensures.end)
 
-pub returns-then-len-offset-clause-step : goal.returns-then-len-offset-clause-step
-returns-then-len-offset-clause-step g c = step_is_write c.expects_free.ensures.step
-
 pub returns-then-len-offset-clause-held : goal.returns-then-len-offset-clause-held
 returns-then-len-offset-clause-held g c = held_less c.args.slot.now c.forget.ensures.others c.forget.ensures.forgotten (held_looked c.expects_free.ensures.step.change c.requires.held)
 
@@ -36,3 +24,9 @@ returns-then-len-offset-clause-free g c = none_lost c.args.slot.now c.requires.h
 
 pub returns-clause-free : goal.returns-clause-free
 returns-clause-free g c = on_any c.write_cell.result (none_lost c.args.slot.now c.requires.held c.in_ok-found.ensures.free)
+
+pub returns-clause-step : goal.returns-clause-step
+returns-clause-step g c = step_at_cell c.args.slot.now refl refl refl c.expects_free.ensures.step c.write_cell.ensures.step
+
+pub returns-then-len-offset-clause-step : goal.returns-then-len-offset-clause-step
+returns-then-len-offset-clause-step g c = step_is_write c.expects_free.ensures.step

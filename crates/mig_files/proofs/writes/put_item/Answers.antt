@@ -1,23 +1,9 @@
 use Rattle.mig_files.proofs.Common.{refl}
 use Rattle.mig_files.proofs.TrackingSteps.{step_then, step_at_cell, step_is_write, write_step_then}
-use Rattle.mig_files.proofs.FilesSteps.{look_then}
 use Rattle.mig_files.proofs.Headers.{on_any}
-use Rattle.mig_files.proofs.Holding.{held_looked, held_written, holds_written, none_lost_but}
+use Rattle.mig_files.proofs.Holding.{held_written, holds_written, none_lost_but}
 use Rattle.mig_files.proofs.Derivation.{written_after}
 use Rattle.mig_files.proofs.writes.put_item.Goals as goal
-
-pub returns-in_err-expects_free_for-clause-step : goal.returns-in_err-expects_free_for-clause-step
-returns-in_err-expects_free_for-clause-step g c = step_is_write c.expects_free_for.ensures.step
-
-pub returns-in_err-claim-clause-step : goal.returns-in_err-claim-clause-step
-returns-in_err-claim-clause-step g c = step_is_write (step_then c.expects_free_for.ensures.step c.claim.ensures.step)
-
-pub returns-in_err-write_cell-clause-step : goal.returns-in_err-write_cell-clause-step
-returns-in_err-write_cell-clause-step g c = (step_at_cell c.args.slot.now refl refl refl (step_then c.expects_free_for.ensures.step c.claim.ensures.step) c.write_cell.ensures.step)
-
-pub returns-clause-step : goal.returns-clause-step
-returns-clause-step g c =
-    write_step_then (step_at_cell c.args.slot.now refl refl refl (step_then c.expects_free_for.ensures.step c.claim.ensures.step) c.write_cell.ensures.step) (step_is_write c.note_seen.ensures.step)
 
 pub returns-clause-written : goal.returns-clause-written
 returns-clause-written g c = on_any _ (written_after c.note_seen.ensures.step.change c.args.slot.now _ c.in_ok-write_cell.ensures.written)
@@ -34,13 +20,20 @@ note_seen-requires-clause-held g c =
     held_written c.args.slot.now (step_at_cell c.args.slot.now refl refl refl (step_then c.expects_free_for.ensures.step c.claim.ensures.step) c.write_cell.ensures.step).change
     c.forget.ensures.others c.forget.ensures.forgotten c.requires.held
 
-pub returns-in_err-expects_free_for-clause-held : goal.returns-in_err-expects_free_for-clause-held
-returns-in_err-expects_free_for-clause-held g c = held_looked c.expects_free_for.ensures.step.change c.requires.held
-
-pub returns-in_err-claim-clause-held : goal.returns-in_err-claim-clause-held
-returns-in_err-claim-clause-held g c = held_looked (look_then c.expects_free_for.ensures.step.change c.claim.ensures.step.change) c.requires.held
-
 pub returns-in_err-write_cell-clause-held : goal.returns-in_err-write_cell-clause-held
 returns-in_err-write_cell-clause-held g c =
     held_written c.args.slot.now (step_at_cell c.args.slot.now refl refl refl (step_then c.expects_free_for.ensures.step c.claim.ensures.step) c.write_cell.ensures.step).change
     c.forget.ensures.others c.forget.ensures.forgotten c.requires.held
+
+pub returns-in_err-expects_free_for-clause-step : goal.returns-in_err-expects_free_for-clause-step
+returns-in_err-expects_free_for-clause-step g c = step_is_write c.expects_free_for.ensures.step
+
+pub returns-in_err-claim-clause-step : goal.returns-in_err-claim-clause-step
+returns-in_err-claim-clause-step g c = step_is_write (step_then c.expects_free_for.ensures.step c.claim.ensures.step)
+
+pub returns-in_err-write_cell-clause-step : goal.returns-in_err-write_cell-clause-step
+returns-in_err-write_cell-clause-step g c = (step_at_cell c.args.slot.now refl refl refl (step_then c.expects_free_for.ensures.step c.claim.ensures.step) c.write_cell.ensures.step)
+
+pub returns-clause-step : goal.returns-clause-step
+returns-clause-step g c =
+    write_step_then (step_at_cell c.args.slot.now refl refl refl (step_then c.expects_free_for.ensures.step c.claim.ensures.step) c.write_cell.ensures.step) (step_is_write c.note_seen.ensures.step)

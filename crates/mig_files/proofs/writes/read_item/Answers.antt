@@ -1,8 +1,5 @@
 use Rattle.mig_files.proofs.Common.{arith, file_of, inr, length, ◌∙◌}
-use Rattle.mig_files.proofs.FilesSteps.{look_then}
-use Rattle.mig_files.proofs.TrackingSteps.{step_then}
 use Rattle.mig_files.proofs.Headers.{held_by, header_after, first_has, not_held, whole_read}
-use Rattle.mig_files.proofs.Holding.{held_looked}
 use Rattle.mig_files.proofs.Derivation.{end_after}
 use Rattle.mig_files.proofs.Grounds.{lacks_cell}
 use Rattle.mig_files.proofs.writes.read_item.Goals as goal
@@ -14,15 +11,6 @@ note_held-requires-clause-holds g c =
     held_by b c.args.slot.now c.first_of.result c.in-Some.item c.in-Some.ensures.some
     (first_has b c.args.slot.now n c.read_part.new.into c.first_of.result c.requires.whole (omega (arith, c.read_part.auto.into)) c.first_of.ensures.first
     (header_after c.read_part.ensures.step.change c.args.slot.now n c.read_part.new.into c.in_ok-found.ensures.bytes))
-
-pub note_held-requires-clause-held : goal.note_held-requires-clause-held
-note_held-requires-clause-held g c = held_looked c.read_part.ensures.step.change c.requires.held
-
-pub returns-in_err-found-clause-held : goal.returns-in_err-found-clause-held
-returns-in_err-found-clause-held g c = held_looked c.read_part.ensures.step.change c.requires.held
-
-pub returns-in-None-clause-held : goal.returns-in-None-clause-held
-returns-in-None-clause-held g c = held_looked (look_then c.read_part.ensures.step.change c.refuse_with.ensures.step.change) c.requires.held
 
 pub note_held-requires-clause-end : goal.note_held-requires-clause-end
 note_held-requires-clause-end g c = end_after c.read_part.ensures.step.change (file_of c.args.slot.now) _ c.in_ok-found.ensures.end
@@ -39,15 +27,6 @@ pub returns-in_ok-note_held-in-Some-clause-bytes : goal.returns-in_ok-note_held-
 returns-in_ok-note_held-in-Some-clause-bytes g c =
     whole_read (g.C.Calls.state c.args.calls.now) c.args.slot.now (length c.args.bytes.now) c.read_part.new.into c.requires.length
     (c.read_part.auto.into ∙ c.requires.length) c.in_ok-found.ensures.bytes
-
-pub returns-in_ok-note_held-in-Some-clause-step : goal.returns-in_ok-note_held-in-Some-clause-step
-returns-in_ok-note_held-in-Some-clause-step g c = step_then c.read_part.ensures.step c.note_held.ensures.step
-
-pub returns-in_err-note_held-in-Some-clause-step : goal.returns-in_err-note_held-in-Some-clause-step
-returns-in_err-note_held-in-Some-clause-step g c = step_then c.read_part.ensures.step c.note_held.ensures.step
-
-pub returns-in-None-clause-step : goal.returns-in-None-clause-step
-returns-in-None-clause-step g c = step_then c.read_part.ensures.step c.refuse_with.ensures.step
 
 pub returns-in_ok-note_held-in-Some-clause-holds : goal.returns-in_ok-note_held-in-Some-clause-holds
 returns-in_ok-note_held-in-Some-clause-holds g c =

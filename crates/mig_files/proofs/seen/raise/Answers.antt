@@ -1,0 +1,12 @@
+use Rattle.mig_files.proofs.Common.{arith, rules, ◌+◌}
+use Rattle.mig_files.proofs.SeenItems.{counted_up, raised}
+use Rattle.std.proofs.lemmas.Grind.{common_steps}
+use Rattle.mig_files.proofs.seen.raise.Goals as goal
+
+pub overflow_add-counts : goal.overflow_add-counts
+overflow_add-counts c = let h = counted_up c.args.counts.now.entries c.args.item.now in grind (arith, common_steps)
+
+pub returns-in-Ok-clause-raised : goal.returns-in-Ok-clause-raised
+returns-in-Ok-clause-raised c = λ other.
+    let h = counted_up c.args.counts.now.entries c.args.item.now in
+    raised c.args.counts.now.entries _ c.args.item.now (c.or_insert.result.now + 1) (search rules) (grind (arith, common_steps)) other
