@@ -26,6 +26,8 @@ def closed_half_way(program):
         before = room.files()
         Count.ended("halt again", room.run(*HALT), 8, "journal not started\n")
         Count.same("halt again changes nothing", room.files(), before)
+        room.write("other.txt", OTHER)
+        Count.ended("halt of another plan", room.run("halt", *FILES, "other.txt", "layout.csv"), 8, "journal not started\n")
         goes_on_from_the_layout(room)
 
 

@@ -1,8 +1,8 @@
 //! Which line of a plan or of its certificate is not right, and why.
 
 use crate::excerpts::{Excerpt, Said, point, point_whole};
-use crate::files::{Given, Typed};
-use crate::plans::{NumberedLine, Want, count_at, line_at, look_for, word_at};
+use crate::files::Given;
+use crate::plans::{NumberedLine, Steps, Want, count_at, line_at, look_for, word_at};
 use crate::rows::{Key, field, number_at};
 use mig_base::{Blame, read_digits};
 
@@ -14,7 +14,7 @@ pub(crate) fn say_blame(f: &mut String, given: &Given<'_>, blame: &Blame, name: 
             point(f, cert.word, line as usize, text)?;
             f.push_str(wanted)
         }
-        (None, _, Some(plan)) => say_plan(f, given, &plan, blame, name),
+        (None, _, Some(_)) => say_plan(f, given, blame, name),
         _ => Ok(()),
     }
 }
@@ -40,11 +40,17 @@ fn cert_line(blame: &Blame) -> Option<(u32, &'static str)> {
     }
 }
 
+/// Looks through the text of the plan.
+fn look_in<'a>(given: &Given<'a>, want: &Want<'_>) -> Steps<'a> {
+    look_for(given.file("PLAN").map_or(&[], |plan| plan.bytes), want)
+}
+
 /// Points to a line of the plan, or to the whole where it has no such line.
-fn point_step(f: &mut String, plan: &Typed<'_>, step: Option<NumberedLine<'_>>) -> Said {
+fn point_step(f: &mut String, given: &Given<'_>, step: Option<NumberedLine<'_>>) -> Said {
+    let word = given.word("PLAN").unwrap_or("");
     match step {
-        Some(step) => point(f, plan.word, step.line as usize, step.text.unwrap_or(&[])),
-        None => point_whole(f, plan.word),
+        Some(step) => point(f, word, step.line as usize, step.text.unwrap_or(&[])),
+        None => point_whole(f, word),
     }
 }
 
@@ -53,53 +59,40 @@ fn in_round(item: &[u8], round: u32) -> Want<'_> {
     Want::Shifts(round, round.saturating_add(1), 0, item)
 }
 
-fn say_plan(
-    f: &mut String,
-    given: &Given<'_>,
-    plan: &Typed<'_>,
-    blame: &Blame,
-    name: &[u8],
-) -> Said {
+fn say_plan(f: &mut String, given: &Given<'_>, blame: &Blame, name: &[u8]) -> Said {
     match blame {
         Blame::EmptyRound { round } => {
-            point_step(f, plan, look_for(plan.bytes, &Want::Head(*round)).first)?;
+            point_step(f, given, look_in(given, &Want::Head(*round)).first)?;
             f.push_str("a round has one shift at least")
         }
-        Blame::OverLimit { round, count, .. } => say_limit(f, given, plan, *round, name, *count),
-        Blame::NotHere { round, .. } => say_elsewhere(f, given, plan, *round, name),
+        Blame::OverLimit { round, count, .. } => say_limit(f, given, *round, name, *count),
+        Blame::NotHere { round, .. } => say_elsewhere(f, given, *round, name),
         Blame::TwiceInRound { round, .. } => {
-            let steps = look_for(plan.bytes, &in_round(name, *round));
-            point_step(f, plan, steps.second)?;
+            let steps = look_in(given, &in_round(name, *round));
+            point_step(f, given, steps.second)?;
             let first = steps.first_line();
             write!(
                 f,
                 "line {first} moves this item in the same round: a round moves an item once"
             )
         }
-        Blame::SlotNotFree { round, .. } => say_not_free(f, given, plan, *round, name),
-        Blame::WrongEnd { .. } => say_wrong_end(f, given, plan, name),
-        Blame::MovedTooOften { .. } => say_too_often(f, given, plan, name),
+        Blame::SlotNotFree { round, .. } => say_not_free(f, given, *round, name),
+        Blame::WrongEnd { .. } => say_wrong_end(f, given, name),
+        Blame::MovedTooOften { .. } => say_too_often(f, given, name),
         _ => Ok(()),
     }
 }
 
-fn say_limit(
-    f: &mut String,
-    given: &Given<'_>,
-    plan: &Typed<'_>,
-    round: u32,
-    disk: &[u8],
-    count: u32,
-) -> Said {
-    point_step(f, plan, look_for(plan.bytes, &Want::Head(round)).first)?;
+fn say_limit(f: &mut String, given: &Given<'_>, round: u32, disk: &[u8], count: u32) -> Said {
+    point_step(f, given, look_in(given, &Want::Head(round)).first)?;
     let shifts = Want::Shifts(round, round.saturating_add(1), 1, disk);
-    let leaving = look_for(plan.bytes, &shifts).count;
+    let leaving = look_in(given, &shifts).count;
     let name = Excerpt(disk);
     write!(f, "{count} shifts of this round ")?;
     let Some(disks) = given.file("DISKS") else {
         return write!(f, "are too many for `{name}`");
     };
-    let row = disks.text_of(&Key::First(disk));
+    let row: &[u8] = disks.find(&Key::First(disk)).map_or(&[], |row| row.text);
     let first = number_at(row, 1);
     let second = number_at(row, 2);
     if !disks.has_sides() {
@@ -112,32 +105,22 @@ fn say_limit(
 }
 
 /// Where an item is before a round: where an earlier shift left it, or where the file of now lists it.
-fn spot_before<'a>(
-    given: &Given<'a>,
-    plan: &Typed<'a>,
-    round: u32,
-    item: &[u8],
-) -> Option<(&'a [u8], u64)> {
-    if let Some(step) = look_for(plan.bytes, &Want::Shifts(0, round, 0, item)).last {
+fn spot_before<'a>(given: &Given<'a>, round: u32, item: &[u8]) -> Option<(&'a [u8], u64)> {
+    if let Some(step) = look_in(given, &Want::Shifts(0, round, 0, item)).last {
         return Some((step.word(3), read_digits(step.word(4))?));
     }
     let row = given.find("NOW", &Key::First(item))?;
     Some((field(row.text, 1), number_at(row.text, 2)))
 }
 
-fn say_elsewhere(
-    f: &mut String,
-    given: &Given<'_>,
-    plan: &Typed<'_>,
-    round: u32,
-    item: &[u8],
-) -> Said {
-    let Some((disk, slot)) = spot_before(given, plan, round, item) else {
+fn say_elsewhere(f: &mut String, given: &Given<'_>, round: u32, item: &[u8]) -> Said {
+    let Some((disk, slot)) = spot_before(given, round, item) else {
         return Ok(());
     };
-    let steps = look_for(plan.bytes, &in_round(item, round));
-    let leaves = leaves(steps.first_text(), disk, slot);
-    point_step(f, plan, if leaves { steps.second } else { steps.first })?;
+    let steps = look_in(given, &in_round(item, round));
+    let first = steps.first_text();
+    let leaves = word_at(first, 1) == disk && read_digits(word_at(first, 2)) == Some(slot);
+    point_step(f, given, if leaves { steps.second } else { steps.first })?;
     let name = Excerpt(item);
     let disk = Excerpt(disk);
     write!(
@@ -146,20 +129,9 @@ fn say_elsewhere(
     )
 }
 
-/// Whether a shift leaves this slot of a disk.
-fn leaves(shift: &[u8], disk: &[u8], slot: u64) -> bool {
-    word_at(shift, 1) == disk && read_digits(word_at(shift, 2)) == Some(slot)
-}
-
-fn say_not_free(
-    f: &mut String,
-    given: &Given<'_>,
-    plan: &Typed<'_>,
-    round: u32,
-    item: &[u8],
-) -> Said {
-    let steps = look_for(plan.bytes, &in_round(item, round));
-    point_step(f, plan, steps.first)?;
+fn say_not_free(f: &mut String, given: &Given<'_>, round: u32, item: &[u8]) -> Said {
+    let steps = look_in(given, &in_round(item, round));
+    point_step(f, given, steps.first)?;
     let name = word_at(steps.first_text(), 3);
     let slot = u64::from(count_at(steps.first_text(), 4));
     let disk = Excerpt(name);
@@ -178,22 +150,22 @@ fn disk_in<'a>(given: &Given<'a>, role: &str, item: &[u8]) -> Option<&'a [u8]> {
     Some(field(row.text, 1))
 }
 
-fn say_wrong_end(f: &mut String, given: &Given<'_>, plan: &Typed<'_>, item: &[u8]) -> Said {
-    let last = look_for(plan.bytes, &Want::Shifts(0, u32::MAX, 0, item)).last;
+fn say_wrong_end(f: &mut String, given: &Given<'_>, item: &[u8]) -> Said {
+    let last = look_in(given, &Want::Shifts(0, u32::MAX, 0, item)).last;
     let name = Excerpt(item);
     let next = given.shown("NEXT");
     let disk = Excerpt(disk_in(given, "NEXT", item).unwrap_or(b"another disk"));
     let later = if last.is_some() { "later " } else { "" };
-    point_step(f, plan, last)?;
+    point_step(f, given, last)?;
     write!(
         f,
         "no {later}line moves `{name}`, and {next} wants it on `{disk}`"
     )
 }
 
-fn say_too_often(f: &mut String, given: &Given<'_>, plan: &Typed<'_>, item: &[u8]) -> Said {
-    let last = look_for(plan.bytes, &Want::Shifts(0, u32::MAX, 0, item)).last;
-    point_step(f, plan, last)?;
+fn say_too_often(f: &mut String, given: &Given<'_>, item: &[u8]) -> Said {
+    let last = look_in(given, &Want::Shifts(0, u32::MAX, 0, item)).last;
+    point_step(f, given, last)?;
     let name = Excerpt(item);
     let now = disk_in(given, "NOW", item);
     let (before, after) = if now.is_some() && now == disk_in(given, "NEXT", item) {

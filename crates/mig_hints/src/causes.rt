@@ -124,13 +124,8 @@ fn what_at(file: FileKind, sides: bool, place: usize) -> &'static str {
 /// A field that should be a number, and is none.
 fn say_number(f: &mut String, file: FileKind, sides: bool, row: &[u8]) -> Said {
     let first = if file == FileKind::Disks { 1 } else { 2 };
-    let mut place = first;
-    for other in first..4 {
-        if read_digits(field(row, other)).is_none() {
-            place = other;
-            break;
-        }
-    }
+    let is_wrong = |place: &usize| read_digits(field(row, *place)).is_none();
+    let place = (first..4).find(is_wrong).unwrap_or(first);
     let what = what_at(file, sides, place);
     let wrong = field(row, place);
     if wrong.is_empty() {
@@ -199,14 +194,13 @@ fn say_taken(f: &mut String, now: &Typed<'_>, row: &[u8]) -> Said {
     )
 }
 
-const LEFT: &str = "A slot that an item leaves is not counted as room: ";
-
 /// A disk without room for what comes to it.
 fn say_room(f: &mut String, given: &Given<'_>, needs: u32, slots: u32) -> Said {
     write!(
         f,
-        "{needs} slots are wanted of the {slots}: one for each item that is on the disk now, and one for each that comes. {LEFT}"
+        "{needs} slots are wanted of the {slots}: one for each item that is on the disk now, and one for each that comes."
     )?;
+    f.push_str(" A slot that an item leaves is not counted as room: ")?;
     let command = given.command();
     if ["after", "move", "resume", "halt"].contains(&command) {
         return write!(f, "a plan of `plan-tight` is for `{command}-tight`");

@@ -2,7 +2,7 @@
 
 use crate::excerpts::{Excerpt, Said};
 use crate::files::Given;
-use crate::plans::{line_at, word_at};
+use crate::plans::{count_at, line_at, word_at};
 use crate::rows::{Key, number_at};
 use crate::texts::after_end;
 use mig_base::read_digits;
@@ -25,7 +25,8 @@ pub(crate) fn say_cert_line(f: &mut String, given: &Given<'_>, text: &[u8], numb
 /// The first line, which says whether disks have two limits.
 fn say_title(f: &mut String, given: &Given<'_>, line: &[u8]) -> Said {
     let disks = given.shown("DISKS");
-    let (made, has) = match sides_of(given) {
+    let has_sides = given.file("DISKS").map(|disks| disks.has_sides());
+    let (made, has) = match has_sides {
         Some(true) if line == b"migration-certificate 1".as_slice() => ("joint limits, one", "two"),
         Some(false) if line == b"migration-certificate 2".as_slice() => (
             "split limits, two",
@@ -39,11 +40,6 @@ fn say_title(f: &mut String, given: &Given<'_>, line: &[u8]) -> Said {
         f,
         "this certificate was made for {made} for each disk, and {disks} has {has} for each: plan again"
     )
-}
-
-/// Whether disks have two limits, where the file of disks can be read again.
-fn sides_of(given: &Given<'_>) -> Option<bool> {
-    Some(given.file("DISKS")?.has_sides())
 }
 
 /// The line of the bound, which may name a disk and its limit.
@@ -75,21 +71,15 @@ fn limits_of(given: &Given<'_>, line: &[u8]) -> Option<(u64, u64)> {
     }
     let there = read_digits(word_at(line, last - 1))?;
     let listed = number_at(disks.find(&Key::First(word_at(line, 2)))?.text, place);
-    if there == listed {
-        return None;
-    }
-    Some((there, listed))
+    (there != listed).then_some((there, listed))
 }
 
 /// What was expected after the line of the bound.
 fn member_line(text: &[u8], number: u32) -> &'static str {
-    let after = u64::from(number.saturating_sub(6));
-    let members = match line_at(text, 5) {
-        Some(line) if word_at(line, 1) == b"set".as_slice() => read_digits(word_at(
-            line, 2,
-        )).unwrap_or(0),
-        _ => 0,
-    };
+    let after = number.saturating_sub(6);
+    let bound = line_at(text, 5).unwrap_or(&[]);
+    let has_members = word_at(bound, 1) == b"set".as_slice();
+    let members = if has_members { count_at(bound, 2) } else { 0 };
     if after < members {
         return "wanted is the name of the set's next disk, in the order of DISKS";
     }

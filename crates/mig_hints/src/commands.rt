@@ -29,20 +29,10 @@ Each command has just these words, in this order, and no options. Often:
 
 /// The row of the command with this word.
 pub(crate) fn row_of(word: &str) -> Option<&'static CommandRow> {
-    for row in &ROWS {
-        if row.word == word {
-            return Some(row);
-        }
-    }
-    None
+    ROWS.iter().find(|row| row.word == word)
 }
 
 /// Whether the command only saves the file with this role, whatever other commands do.
 pub(crate) fn is_saved(row: &CommandRow, role: &str) -> bool {
-    for it in row.saved {
-        if *it == role {
-            return true;
-        }
-    }
-    false
+    row.saved.iter().any(|it| *it == role)
 }

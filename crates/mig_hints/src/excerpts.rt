@@ -35,15 +35,11 @@ fn write_one<W: fmt::Write>(c: char, f: &mut Formatter<W>) -> fmt::Result {
 }
 
 fn write_text<W: fmt::Write>(text: &str, f: &mut Formatter<W>) -> fmt::Result {
-    let mut shown = 0usize;
-    for c in text.chars() {
-        if shown >= MOST {
-            return f.write_str(" ..");
-        }
+    for c in text.chars().take(MOST) {
         write_one(c, f)?;
-        shown = shown.saturating_add(1);
     }
-    Ok(())
+    let is_cut = text.chars().nth(MOST).is_some();
+    f.write_str(if is_cut { " .." } else { "" })
 }
 
 /// Bytes that are no UTF-8 are shown as those of Latin-1.

@@ -2,11 +2,12 @@
 
 use crate::commands::{is_saved, row_of};
 use crate::excerpts::{Excerpt, Said};
-use crate::rows::{Key, NumberedRow, field};
+use crate::rows::{Key, NumberedRow, field, number_at};
 use mig_base::MAX_FILE_BYTES;
 use mig_io::read_first;
 use std::alloc::AllocError;
 use std::fs::{self, File};
+use std::io::ErrorKind;
 use std::os::unix::fs::{FileExt, FileTypeExt, MetadataExt};
 use std::rt::Files;
 
@@ -84,18 +85,12 @@ pub(crate) struct Given<'a> {
 impl<'a> Given<'a> {
     /// The name of the command.
     pub(crate) fn command(&self) -> &'a str {
-        match self.words {
-            [command, ..] => command.as_str(),
-            [] => "",
-        }
+        self.words.first().map_or("", |word| word.as_str())
     }
 
     /// What the words after it stand for, in their order.
     pub(crate) fn roles(&self) -> &'static [&'static str] {
-        match row_of(self.command()) {
-            Some(row) => row.roles,
-            None => &[],
-        }
+        row_of(self.command()).map_or(&[], |row| row.roles)
     }
 
     fn place_of(&self, role: &str) -> Option<usize> {
@@ -128,7 +123,9 @@ impl<'a> Given<'a> {
 
     /// How many slots the file of disks gives a disk.
     pub(crate) fn slots_of(&self, disk: &[u8]) -> Option<u64> {
-        self.file("DISKS")?.slots_of(disk)
+        let disks = self.file("DISKS")?;
+        let row = disks.find(&Key::First(disk))?;
+        Some(number_at(row.text, if disks.has_sides() { 3 } else { 2 }))
     }
 
     /// Says that the file of disks doesn't list a disk.
@@ -136,16 +133,11 @@ impl<'a> Given<'a> {
         let word = self.shown("DISKS");
         let name = Excerpt(disk);
         write!(f, "{word} lists no disk `{name}`")?;
-        match self.find("DISKS", &Key::AnyCase(disk)) {
-            Some(alike) => {
-                write!(
-                    f,
-                    ", but `{}`: capitals count",
-                    Excerpt(field(alike.text, 0))
-                )
-            }
-            None => Ok(()),
-        }
+        let Some(alike) = self.find("DISKS", &Key::AnyCase(disk)) else {
+            return Ok(());
+        };
+        let name = Excerpt(field(alike.text, 0));
+        write!(f, ", but `{name}`: capitals count")
     }
 }
 
@@ -155,11 +147,10 @@ pub(crate) fn load<R: Files<File = File> + AllocGlobal>(
     words: &[String],
     seen: &Stamps,
 ) -> Result<Vec<Option<Vec<u8>>>, AllocError> {
-    let mut texts = Vec::new(rt.alloc());
-    for place in 0..MOST_WORDS {
-        texts.push(read_again(rt, words, seen, place))?;
-    }
-    Ok(texts)
+    let places = 0..MOST_WORDS;
+    places
+        .map(|place| read_again(rt, words, seen, place))
+        .collect(rt.alloc())
 }
 
 /// The first bytes of the plain file at a place, if the command read it.
@@ -182,10 +173,7 @@ fn read_again<R: Files<File = File> + AllocGlobal>(
 
 /// Whether the name leads nowhere.
 pub(crate) fn is_missing<R: Files<File = File>>(rt: &R, name: &str) -> bool {
-    match fs::metadata(rt, name) {
-        Ok(_) => false,
-        Err(error) => error.kind() == std::io::ErrorKind::NotFound,
-    }
+    fs::metadata(rt, name).is_err_and(|error| error.kind() == ErrorKind::NotFound)
 }
 
 /// Reads at an offset of a file, if that can be done; what lies past its end is zeros.

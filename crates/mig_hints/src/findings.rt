@@ -6,24 +6,13 @@ use crate::excerpts::{Excerpt, Said, point, point_whole};
 use crate::files::Given;
 use crate::headers::{role_of, say_no_header};
 use crate::rows::Key;
-use crate::texts::say_not_spelled;
+use crate::texts::say_text;
 use mig_base::{FileKind, MAX_FILE_BYTES, Name, Why};
 use mig_words::InputRefusal;
 
-/// What is said where a plan is too large for a drill.
-const TOO_LARGE: &str =
-    "migrate: a drill takes a plan of at most 256 shifts; `rehearse` and `check` take larger ones";
-
-/// What is said where each slot of each disk has an item in it.
-const NO_FREE: &str =
-    "migrate: each slot of each disk has an item in it, so no item can be moved, in whatever order\nmigrate: one free slot on any disk will do: add a slot or a disk, or take an item away";
-
 /// The bytes of a name, if there is one.
 fn bytes_of(name: &Option<Name>) -> &[u8] {
-    match name {
-        Some(name) => name.bytes(),
-        None => &[],
-    }
+    name.as_ref().map_or(&[], |name| name.bytes())
 }
 
 /// What is said of what was found.
@@ -31,27 +20,34 @@ pub(crate) fn say_finding(f: &mut String, given: &Given<'_>, finding: &InputRefu
     match finding {
         InputRefusal::Blamed { blame, name } => say_blame(f, given, blame, bytes_of(name)),
         InputRefusal::Refused { file, row, why } => say_refused(f, given, *file, *row, why),
-        InputRefusal::NotSpelled { text, line } => say_not_spelled(f, given, text, *line),
-        InputRefusal::TooLarge { shifts: _ } => f.push_str(TOO_LARGE),
+        InputRefusal::NotSpelled { text, line } => say_text(f, given, text, *line),
+        InputRefusal::TooLarge { shifts: _ } => f.push_str(
+            "migrate: a drill takes a plan of at most 256 shifts; `rehearse` and `check` take larger ones",
+        ),
         InputRefusal::TooMany { disk, needs, slots } => {
             let next = given.shown("NEXT");
             point_disk(f, given, bytes_of(disk))?;
             write!(
                 f,
-                "{next} gives this disk {needs} items, and it has {slots} slots: "
-            )?;
-            f.push_str("no plan helps, so add slots, or give it fewer items")
+                "{next} gives this disk {needs} items, and it has {slots} slots: no plan helps, so add slots, or give it fewer items"
+            )
         }
-        InputRefusal::NoFreeSlot => f.push_str(NO_FREE),
+        InputRefusal::NoFreeSlot => {
+            f.push_str(
+                "migrate: each slot of each disk has an item in it, so no item can be moved, in whatever order\n",
+            )?;
+            f.push_str(
+                "migrate: one free slot on any disk will do: add a slot or a disk, or take an item away",
+            )
+        }
         InputRefusal::NoDisk { name } => say_no_disk(f, given, name),
         InputRefusal::NoRoom { items, free } => {
             let now = given.shown("NOW");
             point_disk(f, given, given.word("NAME").unwrap_or("").as_bytes())?;
             write!(
                 f,
-                "{now} has {items} items on this disk, and leaves {free} slots of "
-            )?;
-            f.push_str("the other disks free: add slots or a disk, or take items away")
+                "{now} has {items} items on this disk, and leaves {free} slots of the other disks free: add slots or a disk, or take items away"
+            )
         }
     }
 }
@@ -65,16 +61,12 @@ fn say_refused(f: &mut String, given: &Given<'_>, file: FileKind, number: u32, w
         point_whole(f, typed.word)?;
         return write!(f, "the file has more than {MAX_FILE_BYTES} bytes");
     }
-    let row = match typed.row(number) {
-        Some(row) => {
-            point(f, typed.word, row.line, row.text)?;
-            row.text
-        }
-        None => {
-            point_whole(f, typed.word)?;
-            &[]
-        }
-    };
+    let row = typed.row(number);
+    match row {
+        Some(row) => point(f, typed.word, row.line, row.text)?,
+        None => point_whole(f, typed.word)?,
+    }
+    let row: &[u8] = row.map_or(&[], |row| row.text);
     match why {
         Why::BadHeader => say_no_header(f, file, &typed),
         _ => say_cause(f, given, file, &typed, why, row),
@@ -83,10 +75,8 @@ fn say_refused(f: &mut String, given: &Given<'_>, file: FileKind, number: u32, w
 
 /// Points to the row of a disk.
 fn point_disk(f: &mut String, given: &Given<'_>, disk: &[u8]) -> Said {
-    if let Some(disks) = given.file("DISKS") {
-        if let Some(row) = disks.find(&Key::First(disk)) {
-            return point(f, disks.word, row.line, row.text);
-        }
+    if let Some(row) = given.find("DISKS", &Key::First(disk)) {
+        return point(f, given.word("DISKS").unwrap_or(""), row.line, row.text);
     }
     let name = Excerpt(disk);
     write!(f, "migrate: disk `{name}`: ")
@@ -111,27 +101,15 @@ pub(crate) fn say_no_file(f: &mut String, given: &Given<'_>, place: usize) -> Sa
     };
     let word = given.word(role).unwrap_or("");
     let shown = Excerpt(word.as_bytes());
-    let help = help_for(given.command(), role, word);
+    let help = match *role {
+        _ if word == "-" => "; /dev/stdin reads standard input",
+        _ if word.starts_with("-") => "; there are no options",
+        "PLAN" | "CERT" if given.command().ends_with("-tight") => "; `plan-tight` makes it",
+        "PLAN" | "CERT" => "; `plan` makes it",
+        _ => "",
+    };
     write!(
         f,
         "migrate: {shown}, the word for {role}, leads to no file{help}"
     )
-}
-
-/// What helps where the word for a role leads to no file.
-fn help_for(command: &str, role: &str, word: &str) -> &'static str {
-    if word == "-" {
-        return "; /dev/stdin reads standard input";
-    }
-    if word.starts_with("-") {
-        return "; there are no options";
-    }
-    if role != "PLAN" && role != "CERT" {
-        return "";
-    }
-    if command.ends_with("-tight") {
-        "; `plan-tight` makes it"
-    } else {
-        "; `plan` makes it"
-    }
 }

@@ -60,71 +60,20 @@ pub(crate) fn without_empty(row: &[u8]) -> &[u8] {
     }
 }
 
-/// Whether the first bytes are those of a text in UTF-16, with or without its mark.
-fn is_utf16(bytes: &[u8]) -> bool {
-    match bytes {
-        [0xff, 0xfe, ..] | [0xfe, 0xff, ..] => true,
-        [first, second, ..] => (*first == 0) != (*second == 0),
-        _ => false,
-    }
-}
-
-/// The other file whose header the line is.
-fn other_file(file: FileKind, line: &[u8]) -> Option<FileKind> {
-    for other in [FileKind::Disks, FileKind::Now, FileKind::Next] {
-        if other != file && is_meant(other, line) {
-            return Some(other);
-        }
-    }
-    None
-}
-
-/// Why the first bytes of a file are no text of rows.
+/// Why the first bytes of a file are no text of rows: UTF-16 is told by its mark, or by one of two bytes that is 0.
 fn other_kind(bytes: &[u8]) -> Option<&'static str> {
-    if is_utf16(bytes) {
-        return Some("the file is in UTF-16; save it as CSV UTF-8");
+    match bytes {
+        [0xef, 0xbb, 0xbf, ..] => Some(
+            "the file begins with two byte order marks; keep one or none",
+        ),
+        [b'P', b'K', 3, 4, ..] => {
+            Some("this is a spreadsheet or an archive, no text; save it as CSV UTF-8")
+        }
+        [0xff, 0xfe, ..] | [0xfe, 0xff, ..] | [0, (1..), ..] | [(1..), 0, ..] => {
+            Some("the file is in UTF-16; save it as CSV UTF-8")
+        }
+        _ => None,
     }
-    if bytes.starts_with(b"PK\x03\x04") {
-        return Some("this is a spreadsheet or an archive, no text; save it as CSV UTF-8");
-    }
-    if bytes.starts_with(b"\xef\xbb\xbf") {
-        return Some("the file begins with two byte order marks; keep one or none");
-    }
-    None
-}
-
-/// Why a line is not the header of a file, and which one is wanted.
-fn fault_of(file: FileKind, line: &[u8]) -> (&'static str, &'static str) {
-    let meant = meant_by(file, line);
-    let whole = without_empty(line);
-    if line.starts_with(b"sep=") || line.starts_with(b"#") {
-        return (
-            "remove this line: the first line must be ",
-            headers_of(file),
-        );
-    }
-    if !line.contains(&b',') && line.contains(&b';') {
-        return (
-            "the fields are separated by semicolons; separate by commas: ",
-            meant,
-        );
-    }
-    if !line.contains(&b',') && line.contains(&b'\t') {
-        return (
-            "the fields are separated by tabs; separate by commas: ",
-            meant,
-        );
-    }
-    if is_meant(file, line) {
-        return ("small letters and no blanks are wanted: ", meant);
-    }
-    if whole.len() < line.len() && is_meant(file, whole) {
-        return (
-            "delete the empty columns at its end: the first line must be ",
-            meant_by(file, whole),
-        );
-    }
-    ("the first line must be ", headers_of(file))
 }
 
 /// What is said where the first row of a file is not its header.
@@ -136,16 +85,31 @@ pub(crate) fn say_no_header(f: &mut String, file: FileKind, typed: &Typed<'_>) -
     let Some(row) = typed.row(0) else {
         return write!(f, "the file is empty; its first line must be {wanted}");
     };
-    if let Some(other) = other_file(file, row.text) {
-        return say_other(f, role_of(file), role_of(other), wanted);
+    let line = row.text;
+    let kinds = [FileKind::Disks, FileKind::Now, FileKind::Next];
+    let mut others = kinds.into_iter().filter(|other| *other != file);
+    if let Some(other) = others.find(|other| is_meant(*other, line)) {
+        let (here, there) = (role_of(file), role_of(other));
+        return write!(
+            f,
+            "this is the header of {there}, and this word stands for {here}, whose header is {wanted}: the words come in the order DISKS NOW NEXT"
+        );
     }
-    let (fault, header) = fault_of(file, row.text);
-    write!(f, "{fault}{header}")
-}
-
-fn say_other(f: &mut String, here: &str, there: &str, wanted: &str) -> Said {
-    write!(
-        f,
-        "this is the header of {there}, and this word stands for {here}, whose header is {wanted}: the words come in the order DISKS NOW NEXT"
-    )
+    let whole = without_empty(line);
+    let has_comma = line.contains(&b',');
+    let fault = if line.starts_with(b"sep=") || line.starts_with(b"#") {
+        return write!(f, "remove this line: the first line must be {wanted}");
+    } else if !has_comma && line.contains(&b';') {
+        "the fields are separated by semicolons; separate by commas: "
+    } else if !has_comma && line.contains(&b'\t') {
+        "the fields are separated by tabs; separate by commas: "
+    } else if is_meant(file, line) {
+        "small letters and no blanks are wanted: "
+    } else if whole.len() < line.len() && is_meant(file, whole) {
+        "delete the empty columns at its end: the first line must be "
+    } else {
+        return write!(f, "the first line must be {wanted}");
+    };
+    let meant = meant_by(file, whole);
+    write!(f, "{fault}{meant}")
 }

@@ -1,5 +1,5 @@
 //! What is wrong with a name.
-ghost use Rattle.std.specs.Prelude.{◌≡◌, not, position};
+ghost use Rattle.std.specs.Prelude.{◌≡◌};
 ghost use Rattle.mig_base.specs.Naming.{is_name_byte};
 
 use crate::excerpts::{Excerpt, Said};
@@ -11,17 +11,12 @@ pub(crate) fn say_no_name(f: &mut String, what: &str, field: &[u8]) -> Said {
     if field.is_empty() {
         return write!(f, "the name of the {what} is empty");
     }
-    match first_wrong(field) {
-        Some(place) => say_wrong_byte(f, what, field, place),
-        None => write!(
+    let Some(place) = field.iter().position(|b| !is_name_byte(*b)) else {
+        return write!(
             f,
             "the name of the {what}, `{shown}`, has {count} bytes, and a name at most 32"
-        ),
-    }
-}
-
-fn say_wrong_byte(f: &mut String, what: &str, field: &[u8], place: usize) -> Said {
-    let shown = Excerpt(field);
+        );
+    };
     let number = place.saturating_add(1);
     write!(f, "byte {number} of `{shown}`, the name of the {what}, is ")?;
     match field.get(place..) {
@@ -38,11 +33,4 @@ fn is_name_byte(byte: u8) -> bool
     ensures { result ≡ is_name_byte byte }
 {
     byte.is_ascii_alphanumeric() || byte == b'_' || byte == b'-' || byte == b'.'
-}
-
-/// The place of the first byte that may not stand in a name. Places count from 0.
-fn first_wrong(field: &[u8]) -> Option<usize>
-    ensures { result ≡ position (λ b. not (is_name_byte b)) field.now }
-{
-    field.iter().position(|b| !is_name_byte(*b))
 }

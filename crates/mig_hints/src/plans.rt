@@ -40,6 +40,9 @@ pub(crate) struct NumberedLine<'a> {
     pub(crate) round: u32,
     pub(crate) place: LineKind,
     pub(crate) text: Option<&'a [u8]>,
+    rounds: u32,
+    /// How many shifts of the round are still to come.
+    shifts: u32,
 }
 
 impl<'a> NumberedLine<'a> {
@@ -47,57 +50,28 @@ impl<'a> NumberedLine<'a> {
     pub(crate) fn word(&self, place: usize) -> &'a [u8] {
         word_at(self.text.unwrap_or(&[]), place)
     }
-}
 
-/// What is left of a plan's text after a line.
-#[derive(Clone, Copy)]
-struct Rest<'a> {
-    text: Option<&'a [u8]>,
-    rounds: u32,
-    /// How many shifts of the round are still to come.
-    shifts: u32,
-}
-
-impl<'a> Rest<'a> {
-    /// Takes the next line; there is no text where there is none.
-    fn take_line(&mut self) -> Option<&'a [u8]> {
-        let text = self.text?;
-        let end = text.iter().position(|b| *b == b'\n');
-        self.text = end.and_then(|end| text.get(end + 1..));
-        text.get(..end.unwrap_or(text.len()))
-    }
-
-    fn next_place(&self, step: &NumberedLine<'_>) -> LineKind {
-        match step.place {
+    /// Goes on to the next line.
+    fn pass(&mut self, text: Option<&'a [u8]>) {
+        let line = text.unwrap_or(&[]);
+        self.text = text;
+        self.line = self.line.saturating_add(1);
+        self.place = match self.place {
             LineKind::Start => LineKind::Title,
             LineKind::Title => LineKind::Count,
             LineKind::End | LineKind::Nothing => LineKind::Nothing,
             _ if self.shifts > 0 => LineKind::Shift,
-            _ if step.round < self.rounds => LineKind::Head,
+            _ if self.round < self.rounds => LineKind::Head,
             _ => LineKind::End,
-        }
-    }
-
-    /// The line after this one.
-    fn take_step(&mut self, before: &NumberedLine<'_>) -> NumberedLine<'a> {
-        let text = self.take_line();
-        let place = self.next_place(before);
-        let line = text.unwrap_or(&[]);
-        let mut round = before.round;
-        match place {
+        };
+        match self.place {
             LineKind::Count => self.rounds = count_at(line, 1),
             LineKind::Head => {
-                round = round.saturating_add(1);
+                self.round = self.round.saturating_add(1);
                 self.shifts = count_at(line, 2);
             }
             LineKind::Shift => self.shifts = self.shifts.saturating_sub(1),
             _ => {}
-        }
-        NumberedLine {
-            line: before.line.saturating_add(1),
-            round,
-            place,
-            text,
         }
     }
 }
@@ -138,18 +112,12 @@ pub(crate) struct Steps<'a> {
 impl<'a> Steps<'a> {
     /// The first of them as text; no bytes where there is none.
     pub(crate) fn first_text(&self) -> &'a [u8] {
-        match self.first {
-            Some(step) => step.text.unwrap_or(&[]),
-            None => &[],
-        }
+        self.first.and_then(|step| step.text).unwrap_or(&[])
     }
 
     /// The number of its line, 0 where there is none.
     pub(crate) fn first_line(&self) -> u32 {
-        match self.first {
-            Some(step) => step.line,
-            None => 0,
-        }
+        self.first.map_or(0, |step| step.line)
     }
 }
 
@@ -166,14 +134,12 @@ pub(crate) fn look_for<'a>(text: &'a [u8], want: &Want<'_>) -> Steps<'a> {
         round: 0,
         place: LineKind::Start,
         text: None,
-    };
-    let mut rest = Rest {
-        text: Some(text),
         rounds: 0,
         shifts: 0,
     };
-    for _ in 0..=text.len() {
-        step = rest.take_step(&step);
+    let lines = text.split(|b| *b == b'\n').map(|line| Some(line));
+    for line in lines.chain([None]) {
+        step.pass(line);
         if want.fits(&step) {
             if found.count == 1 {
                 found.second = Some(step);
@@ -181,9 +147,6 @@ pub(crate) fn look_for<'a>(text: &'a [u8], want: &Want<'_>) -> Steps<'a> {
             found.first = found.first.or(Some(step));
             found.last = Some(step);
             found.count = found.count.saturating_add(1);
-        }
-        if step.text.is_none() {
-            break;
         }
     }
     found

@@ -51,32 +51,12 @@ impl<'a> Typed<'a> {
 
     /// The line of the first row with this key, 0 where there is none.
     pub(crate) fn line_of(&self, key: &Key<'_>) -> usize {
-        match self.find(key) {
-            Some(row) => row.line,
-            None => 0,
-        }
-    }
-
-    /// The text of the first row with this key; no bytes where there is none.
-    pub(crate) fn text_of(&self, key: &Key<'_>) -> &'a [u8] {
-        match self.find(key) {
-            Some(row) => row.text,
-            None => &[],
-        }
-    }
-
-    /// How many slots a file of disks gives a disk.
-    pub(crate) fn slots_of(&self, disk: &[u8]) -> Option<u64> {
-        let row = self.find(&Key::First(disk))?;
-        Some(number_at(row.text, if self.has_sides() { 3 } else { 2 }))
+        self.find(key).map_or(0, |row| row.line)
     }
 
     /// Whether the rows have two limits, as in a disks file whose header has four fields.
     pub(crate) fn has_sides(&self) -> bool {
-        match self.row(0) {
-            Some(header) => width(header.text) == 4,
-            None => false,
-        }
+        self.row(0).is_some_and(|header| width(header.text) == 4)
     }
 }
 
@@ -130,50 +110,39 @@ impl<'a> Key<'a> {
 
 /// How many fields a row has.
 pub(crate) fn width(row: &[u8]) -> usize {
-    let mut fields = 1usize;
-    let mut quoted = false;
-    for byte in row {
-        match *byte {
-            b'"' => quoted = !quoted,
-            b',' if !quoted => fields = fields.saturating_add(1),
-            _ => {}
-        }
-    }
-    fields
+    parted(row, 0).0
 }
 
 /// The field at a place, without its quotes; no bytes where the row has none there.
 pub(crate) fn field(row: &[u8], place: usize) -> &[u8] {
-    let mut start = 0;
-    let mut passed = 0usize;
-    let mut quoted = false;
-    for at in 0..row.len() {
-        match row[at] {
-            b'"' => quoted = !quoted,
-            b',' if !quoted && passed == place => return unquoted(row.get(start..at)),
-            b',' if !quoted => {
+    match parted(row, place).1 {
+        [b'"', inner @ .., b'"'] => inner,
+        field => field,
+    }
+}
+
+/// How many fields a row has, and the one at a place; no bytes where it has none there.
+fn parted(row: &[u8], place: usize) -> (usize, &[u8]) {
+    let (mut passed, mut start, mut quoted) = (0usize, 0, false);
+    let mut found: &[u8] = &[];
+    for at in 0..=row.len() {
+        match row.get(at) {
+            Some(b'"') => quoted = !quoted,
+            Some(b',') if quoted => {}
+            Some(b',') | None => {
+                if passed == place {
+                    found = row.get(start..at).unwrap_or(&[]);
+                }
                 passed = passed.saturating_add(1);
-                start = at + 1;
+                start = at.saturating_add(1);
             }
             _ => {}
         }
     }
-    if passed == place {
-        unquoted(row.get(start..))
-    } else {
-        &[]
-    }
+    (passed, found)
 }
 
 /// The number in the field at a place, or 0.
 pub(crate) fn number_at(row: &[u8], place: usize) -> u64 {
     read_digits(field(row, place)).unwrap_or(0)
-}
-
-fn unquoted(field: Option<&[u8]>) -> &[u8] {
-    match field {
-        Some([b'"', inner @ .., b'"']) => inner,
-        Some(field) => field,
-        None => &[],
-    }
 }

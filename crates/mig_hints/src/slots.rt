@@ -12,11 +12,8 @@ use std::rt::Files;
 /// What a slot holds.
 #[derive(Clone, Copy)]
 pub(crate) enum SlotContent {
-    /// There is no file for the disk.
     NoFile,
-    /// It can't be read.
     Unread,
-    /// Zeros alone.
     Zeros,
     /// The item of this name.
     Item(Name),
@@ -30,10 +27,7 @@ impl Display for SlotContent {
             SlotContent::NoFile => f.write_str("there is no such file"),
             SlotContent::Unread => f.write_str("it can't be read"),
             SlotContent::Zeros => f.write_str("zeros are there"),
-            SlotContent::Item(name) => {
-                let name = Excerpt(name.bytes());
-                write!(f, "the item `{name}` is there")
-            }
+            SlotContent::Item(name) => write!(f, "the item `{}` is there", Excerpt(name.bytes())),
             SlotContent::NoItem { .. } => f.write_str("bytes are there that are no item"),
         }
     }

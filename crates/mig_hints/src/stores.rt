@@ -16,11 +16,6 @@ fn spot_of(row: &[u8]) -> Option<(Name, u32)> {
     Some((disk, u32::try_from(number_at(row, 2)).ok()?))
 }
 
-/// Where NOW lists an item.
-fn spot_in(given: &Given<'_>, item: &Name) -> Option<(Name, u32)> {
-    spot_of(given.find("NOW", &Key::First(item.bytes()))?.text)
-}
-
 fn say_slot(f: &mut String, disk: &Name, slot: u32) -> Said {
     let disk = Excerpt(disk.bytes());
     write!(f, "migrate: {disk}.disk, slot {slot}")
@@ -33,7 +28,8 @@ pub(crate) fn say_lost<R: Files<File = File> + AllocGlobal>(
     given: &Given<'_>,
     item: &Name,
 ) -> Said {
-    let Some((disk, slot)) = spot_in(given, item) else {
+    let row = given.find("NOW", &Key::First(item.bytes()));
+    let Some((disk, slot)) = row.and_then(|row| spot_of(row.text)) else {
         return Ok(());
     };
     let mut bytes = [0; SLOT];
@@ -65,43 +61,27 @@ pub(crate) fn say_used<R: Files<File = File> + AllocGlobal>(
         return Ok(());
     }
     say_slot(f, disk, slot)?;
-    if given.command() == "fill" {
-        return say_filled(rt, f, given, &held);
-    }
     let disks = given.shown("DISKS");
     let now = given.shown("NOW");
+    if given.command() == "fill" {
+        write!(f, ": {held}")?;
+        let Some(listed) = given.file("NOW") else {
+            return Ok(());
+        };
+        let (used, made) = count_used(rt, &listed)?;
+        let kind = if used == made {
+            "All of them hold just what `fill` writes there: a `fill` that was stopped, or done before?"
+        } else {
+            "Not all of them hold what `fill` writes there: the store is in use, and `fill` overwrites nothing."
+        };
+        return write!(
+            f,
+            "\nmigrate: slots of {now} in use: {used}. {kind} `migrate audit {disks} {now}` shows them"
+        );
+    }
     write!(
         f,
         ", to which the plan moves an item: {held}, and {now} lists none\nmigrate: look first: `migrate audit {disks} {now}` says of each item whether it is at its spot. List what is there in {now} and plan again, or clear the slot"
-    )
-}
-
-/// The same where `fill` was to write there, with how many listed slots are used.
-fn say_filled<R: Files<File = File> + AllocGlobal>(
-    rt: &R,
-    f: &mut String,
-    given: &Given<'_>,
-    held: &SlotContent,
-) -> Said {
-    write!(f, ": {held}")?;
-    match given.file("NOW") {
-        Some(now) => say_counts(f, given, count_used(rt, &now)?),
-        None => Ok(()),
-    }
-}
-
-/// How many slots are used, and how many of them hold just what `fill` writes there.
-fn say_counts(f: &mut String, given: &Given<'_>, (used, made): (u32, u32)) -> Said {
-    let disks = given.shown("DISKS");
-    let now = given.shown("NOW");
-    let kind = if used == made {
-        "All of them hold just what `fill` writes there: a `fill` that was stopped, or done before?"
-    } else {
-        "Not all of them hold what `fill` writes there: the store is in use, and `fill` overwrites nothing."
-    };
-    write!(
-        f,
-        "\nmigrate: slots of {now} in use: {used}. {kind} `migrate audit {disks} {now}` shows them"
     )
 }
 

@@ -8,17 +8,8 @@ use crate::rows::Key;
 use mig_base::{MAX_FILE_BYTES, MAX_ROUNDS, MAX_SHIFTS, MAX_SLOTS, read_digits};
 use mig_words::TextFile;
 
-/// What is expected at a line of a script.
-const SCRIPT_LINE: &str =
-    "wanted is `read ITEM`, with an item of NOW, or `step N`, with N from 1 to 1000000, and LF after it; there are at most 65536 lines";
-
 /// What is said of a text that is refused at a line; line 0 says that it is too long.
-pub(crate) fn say_not_spelled(
-    f: &mut String,
-    given: &Given<'_>,
-    text: &TextFile,
-    number: u32,
-) -> Said {
+pub(crate) fn say_text(f: &mut String, given: &Given<'_>, text: &TextFile, number: u32) -> Said {
     let role = match text {
         TextFile::Plan => "PLAN",
         TextFile::Cert => "CERT",
@@ -38,23 +29,24 @@ pub(crate) fn say_not_spelled(
         (Some(form), _) => f.push_str(form),
         (None, TextFile::Plan) => say_plan_line(f, given, typed.bytes, number),
         (None, TextFile::Cert) => say_cert_line(f, given, typed.bytes, number),
-        (None, TextFile::Script) => f.push_str(SCRIPT_LINE),
+        (None, TextFile::Script) => f.push_str(
+            "wanted is `read ITEM`, with an item of NOW, or `step N`, with N from 1 to 1000000, and LF after it; there are at most 65536 lines",
+        ),
     }
 }
 
 /// What is wrong with a line that an editor wrote in another form, whatever stands in it.
 fn other_form(line: &[u8]) -> Option<&'static str> {
-    if line.ends_with(b"\r") {
-        return Some("a line ends with LF alone, and not with CR LF");
+    match line {
+        [.., b'\r'] => Some("a line ends with LF alone, and not with CR LF"),
+        [0xef, 0xbb, 0xbf, ..] => Some(
+            "the text begins with a byte order mark: save it without one",
+        ),
+        [_, ..] if line.split(|b| *b == b' ').any(|word| word.is_empty()) => {
+            Some("two blanks side by side, or one at an end: just one stands between two words")
+        }
+        _ => None,
     }
-    if line.starts_with(b"\xef\xbb\xbf") {
-        return Some("the text begins with a byte order mark: save it without one");
-    }
-    let has_no_word = line.split(|b| *b == b' ').any(|word| word.is_empty());
-    if has_no_word && !line.is_empty() {
-        return Some("two blanks side by side, or one at an end: just one stands between two words");
-    }
-    None
 }
 
 /// What was expected at a line of a plan.
@@ -94,45 +86,29 @@ pub(crate) fn after_end(line: Option<&[u8]>) -> &'static str {
 /// What was expected at the line of a shift.
 fn say_shift(f: &mut String, given: &Given<'_>, line: &[u8]) -> Said {
     for place in 0..5 {
-        let word = word_at(line, place);
-        if !word.is_empty() && is_wrong(given, place, word) {
-            return say_wrong(f, given, place, word);
+        let name = word_at(line, place);
+        let word = Excerpt(name);
+        let (role, kind) = match place {
+            _ if name.is_empty() => continue,
+            0 => ("NOW", "item"),
+            1 | 3 => ("DISKS", "disk"),
+            _ if is_slot(name) => continue,
+            _ => {
+                let last = MAX_SLOTS - 1;
+                return write!(
+                    f,
+                    "`{word}` is no slot: 0 to {last}, without a leading zero"
+                );
+            }
+        };
+        if given
+            .file(role)
+            .is_some_and(|list| list.find(&Key::First(name)).is_none())
+        {
+            return write!(f, "{} lists no {kind} `{word}`", given.shown(role));
         }
     }
     f.push_str("wanted is a shift: ITEM FROM FROMSLOT TO TOSLOT, with one blank between two words")
-}
-
-/// Whether a word may not stand at this place of a shift's line.
-fn is_wrong(given: &Given<'_>, place: usize, word: &[u8]) -> bool {
-    match place {
-        0 => is_unlisted(given, "NOW", word),
-        1 | 3 => is_unlisted(given, "DISKS", word),
-        _ => !is_slot(word),
-    }
-}
-
-fn say_wrong(f: &mut String, given: &Given<'_>, place: usize, word: &[u8]) -> Said {
-    let word = Excerpt(word);
-    let (role, kind) = match place {
-        0 => ("NOW", "item"),
-        1 | 3 => ("DISKS", "disk"),
-        _ => {
-            let last = MAX_SLOTS - 1;
-            return write!(
-                f,
-                "`{word}` is no slot: 0 to {last}, without a leading zero"
-            );
-        }
-    };
-    write!(f, "{} lists no {kind} `{word}`", given.shown(role))
-}
-
-/// Whether a file that can be read again has no row for the name.
-fn is_unlisted(given: &Given<'_>, role: &str, name: &[u8]) -> bool {
-    match given.file(role) {
-        Some(list) => list.find(&Key::First(name)).is_none(),
-        None => false,
-    }
 }
 
 fn is_slot(word: &[u8]) -> bool {

@@ -20,10 +20,9 @@ fn nearest(alloc: Global, word: &str) -> Result<Option<&'static str>, AllocError
     let mut fewest = MOST_EDITS + 1;
     for row in &ROWS {
         let command = row.word;
-        let edits = if command.eq_ignore_ascii_case(word) {
-            0
-        } else {
-            osa_distance(alloc, word, command)?
+        let edits = match command.eq_ignore_ascii_case(word) {
+            true => 0,
+            false => osa_distance(alloc, word, command)?,
         };
         if edits < fewest && edits < command.len() / 2 {
             best = Some(command);
@@ -65,28 +64,13 @@ fn is_option(word: &str) -> bool {
     word.len() > 1 && word.starts_with("-")
 }
 
-/// The first of the words that looks like one.
-fn option_in(given: &[String]) -> Option<&str> {
-    for word in given {
-        if is_option(word.as_str()) {
-            return Some(word.as_str());
-        }
-    }
-    None
-}
-
 /// Too few words or too many.
 fn say_count(f: &mut String, row: &CommandRow, given: &[String]) -> Said {
-    match option_in(given) {
-        Some(option) => {
-            let option = Excerpt(option.as_bytes());
-            write!(f, "there are no options; `{option}` is one")
-        }
-        None => say_number(f, row, given),
+    let mut typed = given.iter().map(|word| word.as_str());
+    if let Some(option) = typed.find(|word| is_option(word)) {
+        let option = Excerpt(option.as_bytes());
+        return write!(f, "there are no options; `{option}` is one");
     }
-}
-
-fn say_number(f: &mut String, row: &CommandRow, given: &[String]) -> Said {
     let command = row.word;
     let wanted = row.roles.len();
     let count = given.len();
@@ -113,16 +97,14 @@ fn say_files(f: &mut String, row: &CommandRow, given: &[String]) -> Said {
             "NAME" => {}
             _ if length == 0 => return write!(f, "the word for {role} is empty"),
             _ if length > 255 => {
-                write!(f, "the word for {role} has {length} bytes")?;
-                return f.push_str(", and a file's name at most 255");
+                let most = "and a file's name at most 255";
+                return write!(f, "the word for {role} has {length} bytes, {most}");
             }
             _ if bytes.ends_with(b".disk") || bytes.ends_with(b".mig") => {
-                let shown = Excerpt(bytes);
-                write!(
-                    f,
-                    "`{shown}`, the word for {role}, is named as a disk's file or "
-                )?;
-                return f.push_str("the journal: it may end neither in .disk nor in .mig");
+                write!(f, "`{}`, the word for {role}, ", Excerpt(bytes))?;
+                return f.push_str(
+                    "is named as a disk's file or the journal: it may end neither in .disk nor in .mig",
+                );
             }
             _ => {}
         }
@@ -133,31 +115,20 @@ fn say_files(f: &mut String, row: &CommandRow, given: &[String]) -> Said {
 /// Two words that are the same where one of them is saved.
 fn say_pair(f: &mut String, row: &CommandRow, given: &[String]) -> Said {
     for (role, word) in row.roles.iter().zip(given) {
-        if is_saved(row, role) {
-            if let Some(other) = same_word(row.roles, given, role, word.as_str()) {
-                return say_same(f, word.as_bytes(), role, other);
-            }
+        let mut named = row.roles.iter().zip(given);
+        let same = named.find(|(other, that)| *other != role && that.as_str() == word.as_str());
+        if !is_saved(row, role) {
+            continue;
+        }
+        if let Some((other, _)) = same {
+            let word = Excerpt(word.as_bytes());
+            return write!(
+                f,
+                "`{word}` is the word for {role} and for {other}, and {role} is saved: the two must differ"
+            );
         }
     }
     f.push_str("the words are no command")
-}
-
-fn say_same(f: &mut String, word: &[u8], role: &str, other: &str) -> Said {
-    let word = Excerpt(word);
-    write!(
-        f,
-        "`{word}` is the word for {role} and for {other}, and {role} is saved: the two must differ"
-    )
-}
-
-/// The role of another word that is the same.
-fn same_word<'a>(roles: &[&'a str], given: &[String], role: &str, word: &str) -> Option<&'a str> {
-    for (other, that) in roles.iter().zip(given) {
-        if *other != role && that.as_str() == word {
-            return Some(*other);
-        }
-    }
-    None
 }
 
 /// The three numbers of a rehearsal.
@@ -187,8 +158,7 @@ fn say_case(f: &mut String, row: &CommandRow, given: &[String]) -> Said {
 }
 
 fn number_in(given: &[String], place: usize) -> u64 {
-    match given.get(place) {
-        Some(word) => read_digits(word.as_bytes()).unwrap_or(0),
-        None => 0,
-    }
+    let word = given.get(place);
+    word.and_then(|word| read_digits(word.as_bytes()))
+        .unwrap_or(0)
 }

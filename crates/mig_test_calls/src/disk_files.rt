@@ -1,16 +1,15 @@
 //! The store over files: what a new store reads, many disks, and what is refused; over real files, and over files in memory.
 
-use crate::file_stores::{RealStore, crashed, mem_store, real_store};
+use crate::file_stores::{crashed, mem_store, real_store};
 use crate::work_folder::{enter, leave};
 use mig_base::{Cell, Name};
 use mig_calls::{CallTrouble, Calls, FilePick, MemCalls};
 use mig_files::{FileStore, MOST_OPEN};
 use mig_store::Store;
-use std::fs::{self, File};
+use std::fs;
 use std::os::unix::fs::symlink;
 use std::panic::Expect;
 use std::process::Abort;
-use std::rt::Files;
 
 /// A slot of the disk with this name.
 fn slot_of(name: &[u8], slot: u32) -> Cell {
@@ -65,9 +64,8 @@ fn expect_read_back<C: Calls>(rt: &impl Abort, store: &mut FileStore<C>) {
 #[test]
 fn a_synced_cell_is_read_by_a_new_store(rt: HostRuntime) {
     enter(&rt, "synced").expect(&rt, "a folder");
-    let alloc = rt.alloc();
-    expect_written(&rt, &mut real_store(&rt, alloc));
-    expect_read_back(&rt, &mut real_store(&rt, alloc));
+    expect_written(&rt, &mut real_store(&rt));
+    expect_read_back(&rt, &mut real_store(&rt));
     // the files themselves: slot 3 ends at byte 16,384, and mark 2 stands at byte 1,536
     let disk = fs::read(&rt, "a.disk").expect(&rt, "a file");
     assert!(rt; disk.len() == 16384);
@@ -90,7 +88,6 @@ fn a_synced_cell_is_read_by_a_new_store(rt: HostRuntime) {
 
 #[test]
 fn a_synced_cell_is_left_by_a_crash(rt: HostRuntime) {
-    let alloc = rt.alloc();
     for pick in [
         FilePick::Old,
         FilePick::New,
@@ -98,9 +95,9 @@ fn a_synced_cell_is_left_by_a_crash(rt: HostRuntime) {
         FilePick::Back,
         FilePick::Ones,
     ] {
-        let mut store = mem_store(&rt, alloc, MemCalls::new(alloc));
+        let mut store = mem_store(&rt, MemCalls::new(rt.alloc()));
         expect_written(&rt, &mut store);
-        expect_read_back(&rt, &mut crashed(&rt, alloc, store, pick));
+        expect_read_back(&rt, &mut crashed(&rt, store, pick));
     }
 }
 
@@ -116,8 +113,7 @@ fn expect_many_written<C: Calls>(rt: &impl Abort, store: &mut FileStore<C>, disk
         assert!(rt; put(store, &slot_in(d, 0), (d % 256) as u8));
     }
     assert!(rt; store.sync().is_ok());
-    assert!(rt; put(store, &slot_in(0, 1), 1));
-    assert!(rt; has(store, &slot_in(0, 0), 0));
+    assert!(rt; put(store, &slot_in(0, 1), 1) && has(store, &slot_in(0, 0), 0));
     assert!(rt; store.sync().is_ok());
 }
 
@@ -126,103 +122,64 @@ fn expect_many_read<C: Calls>(rt: &impl Abort, store: &mut FileStore<C>, disks: 
     for d in 0..disks {
         assert!(rt; has(store, &slot_in(d, 0), (d % 256) as u8));
     }
-    assert!(rt; has(store, &slot_in(0, 1), 1));
-    assert!(rt; has(store, &slot_in(1, 1), 0));
+    assert!(rt; has(store, &slot_in(0, 1), 1) && has(store, &slot_in(1, 1), 0));
 }
 
 #[test]
 fn more_disks_than_open_files(rt: HostRuntime) {
     enter(&rt, "many").expect(&rt, "a folder");
-    let alloc = rt.alloc();
     let disks = MOST_OPEN as u32 + 50;
-    expect_many_written(&rt, &mut real_store(&rt, alloc), disks);
-    expect_many_read(&rt, &mut real_store(&rt, alloc), disks);
+    expect_many_written(&rt, &mut real_store(&rt), disks);
+    expect_many_read(&rt, &mut real_store(&rt), disks);
     leave(&rt, "many").expect(&rt, "a folder");
 }
 
 #[test]
 fn more_disks_than_may_be_open(rt: HostRuntime) {
-    let alloc = rt.alloc();
     for most_open in [2, 3, 10] {
-        let mut trouble = CallTrouble::none(alloc);
+        let mut trouble = CallTrouble::none(rt.alloc());
         trouble.most_open = most_open;
         trouble.most_bytes = 1500;
         trouble.interrupts = 5;
-        let mut calls = MemCalls::new(alloc);
+        let mut calls = MemCalls::new(rt.alloc());
         calls.trouble(trouble);
-        let mut store = mem_store(&rt, alloc, calls);
+        let mut store = mem_store(&rt, calls);
         expect_many_written(&rt, &mut store, 20);
         expect_many_read(&rt, &mut store, 20);
-        expect_many_read(&rt, &mut crashed(&rt, alloc, store, FilePick::Old), 20);
+        expect_many_read(&rt, &mut crashed(&rt, store, FilePick::Old), 20);
     }
-}
-
-/// Asserts that a link which leads nowhere, or to what is neither a file nor a disk, is neither read nor written, and that no file is made through it.
-fn expect_no_disk<H: Abort + AllocGlobal + Files, R: Files<File = File> + Eprint>(
-    rt: &H,
-    store: &mut RealStore<'_, R>,
-    cell: &Cell,
-) {
-    assert!(rt; !has(store, cell, 0));
-    assert!(rt; !put(store, cell, 1));
-    assert!(rt; fs::exists(rt, "nowhere").is_ok_and(|is| !is));
-}
-
-/// Asserts that a store reads a slot that is not there yet, and writes nothing since the journal is another's.
-fn expect_nothing_written<H: Abort + AllocGlobal + Files, R: Files<File = File> + Eprint>(
-    rt: &H,
-    store: &mut RealStore<'_, R>,
-    cell: &Cell,
-) {
-    assert!(rt; has(store, cell, 0));
-    assert!(rt; !put(store, cell, 1));
-    assert!(rt; store.sync().is_err());
-    assert!(rt; fs::exists(rt, "a.disk").is_ok_and(|is| !is));
-}
-
-/// Asserts that a slot is written over, and that each call fails after a sync that does: the disk's file was exchanged.
-fn expect_broken<H: Abort + AllocGlobal + Files, R: Files<File = File> + Eprint>(
-    rt: &H,
-    store: &mut RealStore<'_, R>,
-    cell: &Cell,
-) {
-    assert!(rt; put(store, cell, 1));
-    assert!(rt; store.write(&Cell::Gate, &[1]).is_ok());
-    assert!(rt; fs::rename(rt, "a.disk", "kept").is_ok());
-    assert!(rt; store.sync().is_err());
-    assert!(rt; fs::rename(rt, "kept", "a.disk").is_ok());
-    assert!(rt; !has(store, cell, 1));
-    assert!(rt; !put(store, cell, 2));
-    assert!(rt; store.ended().is_err());
-    assert!(rt; store.sync().is_err());
-}
-
-/// Asserts that a slot holds what was written, and can be written over.
-fn expect_mended<R: Files<File = File> + Eprint>(
-    rt: &impl Abort,
-    store: &mut RealStore<'_, R>,
-    cell: &Cell,
-) {
-    assert!(rt; has(store, cell, 1));
-    assert!(rt; put(store, cell, 2));
-    assert!(rt; has(store, cell, 2));
-    assert!(rt; store.sync().is_ok());
 }
 
 #[test]
 fn what_is_refused(rt: HostRuntime) {
     enter(&rt, "refused").expect(&rt, "a folder");
-    let alloc = rt.alloc();
-    let (a, b, c) = (slot_of(b"a", 0), slot_of(b"b", 0), slot_of(b"c", 0));
-    assert!(rt; symlink(&rt, "nowhere", "b.disk").is_ok());
-    assert!(rt; symlink(&rt, "/dev/null", "c.disk").is_ok());
-    let mut store = real_store(&rt, alloc);
-    expect_no_disk(&rt, &mut store, &b);
-    expect_no_disk(&rt, &mut store, &c);
-    // the journal is this store's now
-    expect_nothing_written(&rt, &mut real_store(&rt, alloc), &a);
-    expect_broken(&rt, &mut store, &a);
+    let mut store = real_store(&rt);
+    // a link that leads nowhere, or to what is neither a file nor a disk: no file is made through it
+    for (name, to) in [("b", "nowhere"), ("c", "/dev/null")] {
+        let path = format!(in rt.alloc(); "{name}.disk").expect(&rt, "ample memory");
+        assert!(rt; symlink(&rt, to, path.as_str()).is_ok());
+        let cell = slot_of(name.as_bytes(), 0);
+        assert!(rt; !has(&mut store, &cell, 0) && !put(&mut store, &cell, 1));
+    }
+    assert!(rt; fs::exists(&rt, "nowhere").is_ok_and(|is| !is));
+    // the journal is this store's now: another one reads a slot that is not there yet, and writes nothing
+    let cell = slot_of(b"a", 0);
+    let mut other = real_store(&rt);
+    assert!(rt; has(&mut other, &cell, 0) && !put(&mut other, &cell, 1) && other.sync().is_err());
+    assert!(rt; fs::exists(&rt, "a.disk").is_ok_and(|is| !is));
+    // the disk's file is exchanged: its sync fails, and then each call does
+    assert!(rt; put(&mut store, &cell, 1) && store.write(&Cell::Gate, &[1]).is_ok());
+    assert!(rt; fs::rename(&rt, "a.disk", "kept").is_ok());
+    assert!(rt; store.sync().is_err());
+    assert!(rt; fs::rename(&rt, "kept", "a.disk").is_ok());
+    assert!(rt; !has(&mut store, &cell, 1) && !put(&mut store, &cell, 2));
+    assert!(rt; store.ended().is_err() && store.sync().is_err());
     drop(store);
-    expect_mended(&rt, &mut real_store(&rt, alloc), &a);
+    // the slot holds what was written, and can be written over
+    let mut store = real_store(&rt);
+    assert!(rt;
+        has(&mut store, &cell, 1) && put(&mut store, &cell, 2) && has(&mut store, &cell, 2)
+    );
+    assert!(rt; store.sync().is_ok());
     leave(&rt, "refused").expect(&rt, "a folder");
 }

@@ -6,7 +6,6 @@ ghost use Rattle.mig_calls.specs.Memory.{files_state};
 use mig_calls::{FilePick, MemCalls};
 use mig_files::{FileStore, NamedDisks};
 use mig_host::{HostSystem, SystemCalls};
-use std::alloc::Global;
 use std::fs::File;
 use std::panic::Expect;
 use std::process::Abort;
@@ -16,28 +15,28 @@ use std::rt::Files;
 pub type RealStore<'a, R> = FileStore<SystemCalls<HostSystem<'a, R>>>;
 
 /// A store over the working folder that has opened no file.
-pub fn real_store<'a, R: Abort + Files<File = File> + Eprint>(
+pub fn real_store<'a, R: Abort + AllocGlobal + Files<File = File> + Eprint>(
     rt: &'a R,
-    alloc: Global,
 ) -> RealStore<'a, R> {
-    let calls = SystemCalls::new(HostSystem::new(rt, alloc));
-    FileStore::new(alloc, calls, NamedDisks::new(alloc)).expect(rt, "ample memory")
+    let calls = SystemCalls::new(HostSystem::new(rt, rt.alloc()));
+    FileStore::new(rt.alloc(), calls, NamedDisks::new(rt.alloc())).expect(rt, "ample memory")
 }
 
 /// A store over files in memory that has opened none.
-pub fn mem_store(rt: &impl Abort, alloc: Global, calls: MemCalls) -> FileStore<MemCalls>
+pub fn mem_store(rt: &(impl Abort + AllocGlobal), calls: MemCalls) -> FileStore<MemCalls>
     requires { (disk : List ℕ) → IsTrue ((files_state calls).flushed (DiskFile disk)) }
 {
-    FileStore::new(alloc, calls, NamedDisks::new(alloc)).expect(rt, "ample memory")
+    FileStore::new(rt.alloc(), calls, NamedDisks::new(rt.alloc())).expect(rt, "ample memory")
 }
 
 /// A store over the files in memory that a crash of this one leaves.
 pub fn crashed(
-    rt: &impl Abort,
-    alloc: Global,
+    rt: &(impl Abort + AllocGlobal),
     store: FileStore<MemCalls>,
     pick: FilePick,
 ) -> FileStore<MemCalls> {
-    let calls = store.into_calls().crash(pick).expect(rt, "ample memory");
-    mem_store(rt, alloc, calls)
+    mem_store(
+        rt,
+        store.into_calls().crash(pick).expect(rt, "ample memory"),
+    )
 }

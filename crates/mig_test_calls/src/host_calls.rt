@@ -5,12 +5,11 @@ use crate::work_folder::{enter, leave};
 use mig_base::Name;
 use mig_calls::{CallError, CallTrouble, Calls, Extent, FilePick, MemCalls, Place, Refusal};
 use mig_host::{Access, HostSystem, System, SystemCalls};
-use std::fs::{self, File};
+use std::fs;
 use std::io::ErrorKind;
-use std::os::unix::fs::{MetadataExt, symlink};
+use std::os::unix::fs::MetadataExt;
 use std::panic::Expect;
 use std::process::Abort;
-use std::rt::Files;
 
 /// The disk with this name.
 fn disk_of(name: &[u8]) -> Place {
@@ -52,65 +51,32 @@ fn extends<C: Calls>(calls: &mut C, place: &Place, wanted: Extent) -> bool
     }
 }
 
-/// Asserts that a file isn't there, and has no bytes.
-fn expect_absent<C: Calls>(rt: &impl Abort, calls: &mut C, place: &Place) {
-    assert!(rt; extends(calls, place, Extent::Absent));
-    assert!(rt; has(calls, place, 0, b""));
-}
-
 /// Asserts that no file is there.
 fn expect_none<C: Calls>(rt: &impl Abort, calls: &mut C) {
-    expect_absent(rt, calls, &disk_of(b"a"));
-    expect_absent(rt, calls, &Place::Journal);
-}
-
-/// Takes the right to write.
-fn claim<C: Calls>(rt: &impl Abort, calls: &mut C)
-    ensures claimed { IsTrue (C.Calls.state calls.new).claimed }
-{
-    match calls.claim() {
-        Ok(()) => {}
-        Err(_) => assert!(rt; false),
+    for place in [disk_of(b"a"), Place::Journal] {
+        assert!(rt; extends(calls, &place, Extent::Absent) && has(calls, &place, 0, b""));
     }
 }
 
-/// Syncs a file, and closes it.
-fn sync_and_close<C: Calls>(rt: &impl Abort, calls: &mut C, place: &Place)
-    ensures claimed { (C.Calls.state calls.new).claimed ≡ (C.Calls.state calls.old).claimed }
-{
-    match calls.sync(place) {
-        Ok(()) => calls.close(place),
-        Err(_) => assert!(rt; false),
-    }
-}
-
-/// Asserts that a disk's file is made, written, synced, closed and read again.
-fn expect_written<C: Calls>(rt: &impl Abort, calls: &mut C)
-    requires claimed { IsTrue (C.Calls.state calls.old).claimed }
+/// Asserts what is read and written of files that aren't there yet: a disk's file is made, written, synced, closed and read again.
+fn expect_files<C: Calls>(rt: &impl Abort, calls: &mut C)
     ensures claimed { IsTrue (C.Calls.state calls.new).claimed }
 {
     let disk = disk_of(b"a");
+    expect_none(rt, calls);
+    assert!(rt; calls.claim().is_ok());
+    assert!(rt; calls.claim().is_ok());
+    assert!(rt; extends(calls, &Place::Journal, Extent::File { len: 0 }));
     assert!(rt; writes(calls, &disk, 4096, b"slot 1", true));
     assert!(rt; writes(calls, &disk, 4102, b"!", false));
     assert!(rt; extends(calls, &disk, Extent::File { len: 4103 }));
-    sync_and_close(rt, calls, &disk);
-    assert!(rt; has(calls, &disk, 4096, b"slot 1!"));
-    assert!(rt; has(calls, &disk, 4103, b""));
+    assert!(rt; calls.sync(&disk).is_ok());
+    calls.close(&disk);
+    assert!(rt; has(calls, &disk, 4096, b"slot 1!") && has(calls, &disk, 4103, b""));
     // over real files it was opened for reading alone, and is opened anew
     assert!(rt; writes(calls, &disk, 0, b"slot 0", false));
     assert!(rt; has(calls, &disk, 0, b"slot 0\0\0\0\0\0\0\0\0\0\0"));
     assert!(rt; extends(calls, &disk, Extent::File { len: 4103 }));
-}
-
-/// Asserts what is read and written of files that aren't there yet.
-fn expect_files<C: Calls>(rt: &impl Abort, calls: &mut C)
-    ensures claimed { IsTrue (C.Calls.state calls.new).claimed }
-{
-    expect_none(rt, calls);
-    claim(rt, calls);
-    claim(rt, calls);
-    assert!(rt; extends(calls, &Place::Journal, Extent::File { len: 0 }));
-    expect_written(rt, calls);
 }
 
 #[test]
@@ -118,27 +84,22 @@ fn each_call_over_files_in_memory(rt: HostRuntime) {
     expect_files(&rt, &mut MemCalls::new(rt.alloc()));
 }
 
-/// Leaves a note that a sync of a disk failed, in this boot of the machine or in another one.
-fn note_failed<H: Abort + AllocGlobal + Files>(rt: &H, boot: &str) {
-    let note = format!(in rt.alloc(); "{} a.disk\n", boot.trim_end()).expect(rt, "ample memory");
-    assert!(rt; fs::write(rt, "unsynced.mig", note.as_bytes()).is_ok());
-}
-
+// A note that a sync of a disk failed, in this boot of the machine or in another one; and one that was cut off.
 #[test]
 fn after_a_sync_that_failed(rt: HostRuntime) {
     enter(&rt, "unsynced").expect(&rt, "a folder");
-    let alloc = rt.alloc();
     let boot = fs::read_to_string(&rt, "/proc/sys/kernel/random/boot_id").expect(&rt, "a boot");
-    note_failed(&rt, boot.as_str());
-    assert!(rt; SystemCalls::new(HostSystem::new(&rt, alloc)).claim() == Err(CallError::Failed));
-    assert!(rt; fs::write(&rt, "unsynced.mig", b"").is_ok());
-    assert!(rt; SystemCalls::new(HostSystem::new(&rt, alloc)).claim() == Err(CallError::Failed));
-    note_failed(&rt, "0c2fd6c9-34a3-4f8a-8f0c-57c9d0a6a7c6");
-    assert!(rt;
-        SystemCalls::new(HostSystem::new(&rt, alloc))
-            .claim()
-            .is_ok()
-    );
+    let note = format!(in rt.alloc(); "{} a.disk\n", boot.trim_end()).expect(&rt, "ample memory");
+    let other = b"0c2fd6c9-34a3-4f8a-8f0c-57c9d0a6a7c6 a.disk\n".as_slice();
+    let failed = Err(CallError::Failed);
+    for (note, wanted) in [
+        (note.as_bytes(), failed),
+        (b"".as_slice(), failed),
+        (other, Ok(())),
+    ] {
+        assert!(rt; fs::write(&rt, "unsynced.mig", note).is_ok());
+        assert!(rt; SystemCalls::new(HostSystem::new(&rt, rt.alloc())).claim() == wanted);
+    }
     assert!(rt; fs::exists(&rt, "unsynced.mig").is_ok_and(|is| !is));
     leave(&rt, "unsynced").expect(&rt, "a folder");
 }
@@ -147,7 +108,7 @@ fn after_a_sync_that_failed(rt: HostRuntime) {
 fn after_a_sync_that_failed_in_this_process(rt: HostRuntime) {
     enter(&rt, "exchanged").expect(&rt, "a folder");
     let mut calls = SystemCalls::new(HostSystem::new(&rt, rt.alloc()));
-    claim(&rt, &mut calls);
+    assert!(rt; calls.claim().is_ok());
     assert!(rt; writes(&mut calls, &disk_of(b"a"), 0, b"x", true));
     // its name leads to no file then, which no note tells
     assert!(rt; fs::rename(&rt, "a.disk", "kept").is_ok());
@@ -177,100 +138,43 @@ fn after_a_sync_that_failed_in_memory(rt: HostRuntime) {
 #[test]
 fn each_call_over_real_files(rt: HostRuntime) {
     enter(&rt, "host_calls").expect(&rt, "a folder");
-    let alloc = rt.alloc();
-    let mut calls = SystemCalls::new(HostSystem::new(&rt, alloc));
+    let mut calls = SystemCalls::new(HostSystem::new(&rt, rt.alloc()));
     // no file is made by a look
     expect_none(&rt, &mut calls);
-    assert!(rt; fs::exists(&rt, "a.disk").is_ok_and(|is| !is));
-    assert!(rt; fs::exists(&rt, "journal.mig").is_ok_and(|is| !is));
+    for path in ["a.disk", "journal.mig"] {
+        assert!(rt; fs::exists(&rt, path).is_ok_and(|is| !is));
+    }
     expect_files(&rt, &mut calls);
     assert!(rt; fs::metadata(&rt, "a.disk").is_ok_and(|found| found.len() == 4103));
     // a file that is there is not made
-    let mut system = HostSystem::new(&rt, alloc);
-    assert!(rt;
-        system
-            .open("a.disk", Access::Make)
-            .is_err_and(|error| error.kind() == ErrorKind::AlreadyExists)
-    );
-    assert!(rt; SystemCalls::new(HostSystem::new(&rt, alloc)).claim() == Err(CallError::Failed));
-    assert!(rt; writes(&mut calls, &Place::Journal, 512, b"gate", false));
-    assert!(rt; calls.sync(&Place::Journal).is_ok());
-    assert!(rt; calls.sync_names().is_ok());
-    calls.refuse(&Refusal::Memory {
-        place: Place::Journal,
-    });
+    let made = HostSystem::new(&rt, rt.alloc()).open("a.disk", Access::Make);
+    assert!(rt; made.is_err_and(|error| error.kind() == ErrorKind::AlreadyExists));
+    let mut other = SystemCalls::new(HostSystem::new(&rt, rt.alloc()));
+    assert!(rt; other.claim() == Err(CallError::Failed));
+    let journal = Place::Journal;
+    assert!(rt; writes(&mut calls, &journal, 512, b"gate", false));
+    assert!(rt; calls.sync(&journal).is_ok() && calls.sync_names().is_ok());
+    calls.refuse(&Refusal::Memory { place: journal });
     drop(calls);
-    assert!(rt;
-        SystemCalls::new(HostSystem::new(&rt, alloc))
-            .claim()
-            .is_ok()
-    );
+    assert!(rt; other.claim().is_ok());
     leave(&rt, "host_calls").expect(&rt, "a folder");
 }
 
-/// Whether no process has locked a file.
-fn is_free<R: Files<File = File>>(rt: &R, path: &str) -> bool {
-    match fs::open(rt, path) {
-        Ok(file) => file.try_lock().is_ok(),
-        Err(_) => false,
-    }
-}
-
-/// Asserts that a disk is locked where it is looked at, once the journal is claimed.
-fn expect_locked<R: Abort + Files<File = File>, C: Calls>(rt: &R, calls: &mut C)
-    ensures claimed { IsTrue (C.Calls.state calls.new).claimed }
-{
-    assert!(rt; has(calls, &disk_of(b"a"), 0, b"held"));
-    assert!(rt; is_free(rt, "a.disk"));
-    claim(rt, calls);
-    assert!(rt; has(calls, &disk_of(b"a"), 0, b"held"));
-    assert!(rt; !is_free(rt, "a.disk"));
-}
-
+// A disk is locked where it is looked at, once the journal is claimed; and one that wasn't there is made by another process.
 #[test]
 fn what_is_looked_at_stays(rt: HostRuntime) {
     enter(&rt, "looked_at").expect(&rt, "a folder");
     assert!(rt; fs::write(&rt, "a.disk", b"held").is_ok());
     let mut calls = SystemCalls::new(HostSystem::new(&rt, rt.alloc()));
-    expect_locked(&rt, &mut calls);
-    // a disk that wasn't there is made by another process
+    assert!(rt; has(&mut calls, &disk_of(b"a"), 0, b"held"));
+    assert!(rt; fs::open(&rt, "a.disk").is_ok_and(|file| file.try_lock().is_ok()));
+    assert!(rt; calls.claim().is_ok());
+    assert!(rt; has(&mut calls, &disk_of(b"a"), 0, b"held"));
+    assert!(rt; fs::open(&rt, "a.disk").is_ok_and(|file| file.try_lock().is_err()));
     let made = disk_of(b"b");
     assert!(rt; extends(&mut calls, &made, Extent::Absent));
     assert!(rt; fs::write(&rt, "b.disk", b"another's").is_ok());
     assert!(rt; !writes(&mut calls, &made, 9, b"x", false));
     assert!(rt; fs::metadata(&rt, "b.disk").is_ok_and(|found| found.len() == 9));
     leave(&rt, "looked_at").expect(&rt, "a folder");
-}
-
-/// Asserts that a place is neither read nor written.
-fn expect_failed<C: Calls>(rt: &impl Abort, calls: &mut C, place: &Place)
-    requires claimed { IsTrue (C.Calls.state calls.old).claimed }
-    ensures claimed { IsTrue (C.Calls.state calls.new).claimed }
-{
-    assert!(rt; !has(calls, place, 0, b""));
-    assert!(rt; !writes(calls, place, 0, b"x", true));
-}
-
-#[test]
-fn files_that_are_no_disks(rt: HostRuntime) {
-    enter(&rt, "no_disks").expect(&rt, "a folder");
-    let mut calls = SystemCalls::new(HostSystem::new(&rt, rt.alloc()));
-    assert!(rt; calls.claim().is_ok());
-    for (path, to) in [
-        ("b.disk", "nowhere"),
-        ("c.disk", "/dev/null"),
-        ("d.disk", "journal.mig"),
-        ("f.disk", "e.disk"),
-    ] {
-        assert!(rt; symlink(&rt, to, path).is_ok());
-    }
-    assert!(rt; writes(&mut calls, &disk_of(b"e"), 0, b"a disk", true));
-    expect_failed(&rt, &mut calls, &disk_of(b"b"));
-    expect_failed(&rt, &mut calls, &disk_of(b"c"));
-    expect_failed(&rt, &mut calls, &disk_of(b"d"));
-    expect_failed(&rt, &mut calls, &disk_of(b"f"));
-    // it is no disk that is to be made
-    assert!(rt; extends(&mut calls, &disk_of(b"b"), Extent::Absent));
-    assert!(rt; has(&mut calls, &disk_of(b"e"), 0, b"a disk"));
-    leave(&rt, "no_disks").expect(&rt, "a folder");
 }

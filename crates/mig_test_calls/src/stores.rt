@@ -1,5 +1,5 @@
 //! Stores in memory: crashes, calls that fail, and copies in flight.
-ghost use Rattle.std.specs.Prelude.{◌≡◌, ◌≢◌, ◌++◌, ◌∷◌, [], IfSome, IsTrue};
+ghost use Rattle.std.specs.Prelude.{◌≡◌, ◌≢◌, ◌++◌, ◌∷◌, [], IsTrue};
 ghost use Rattle.mig_base.specs.declared.cells.Cell.TheVariants.{Slot};
 ghost use Rattle.mig_base.specs.Cells.{is_slot};
 ghost use Rattle.mig_base.specs.Flights.{IsTargetOf, IsSourceOf};
@@ -7,17 +7,16 @@ ghost use Rattle.mig_store.specs.Memories.{aloft};
 
 use mig_base::{Cell, Event, Name};
 use mig_store::{EndOrder, MemStore, Pick, Store, SureStore};
-use std::alloc::Global;
 use std::panic::Expect;
 use std::process::Abort;
 
 // A store of the gate, the head and a mark.
-fn journal(alloc: Global, room: u32, failing: &[u64]) -> Option<MemStore>
-    ensures { IfSome result (λ store. aloft store ≡ []) }
+fn journal(rt: &(impl Abort + AllocGlobal), room: u32, failing: &[u64]) -> MemStore
+    ensures { aloft result ≡ [] }
 {
-    let failing = Vec::from_slice(alloc, failing).ok()?;
+    let failing = Vec::from_slice(rt.alloc(), failing).expect(rt, "ample memory");
     let cells = [Cell::Gate, Cell::Head, Cell::Mark { n: 1 }];
-    MemStore::new(alloc, &cells, room, failing).ok()
+    MemStore::new(rt.alloc(), &cells, room, failing).expect(rt, "ample memory")
 }
 
 // Writes this byte over the whole cell, and tells whether that succeeded.
@@ -36,11 +35,6 @@ fn settle(store: &mut MemStore) -> bool
     store.sync().is_ok()
 }
 
-// Reads the gate, and tells whether that succeeded.
-fn reads(store: &mut MemStore) -> bool {
-    store.read(&Cell::Gate, &mut [0; 1]).is_ok()
-}
-
 // Whether the head holds 16 times this byte and then 16 times that.
 fn head_is(store: &MemStore, front: u8, back: u8) -> bool {
     let mut head = [back; 32];
@@ -48,32 +42,23 @@ fn head_is(store: &MemStore, front: u8, back: u8) -> bool {
     store.cell(&Cell::Head) == Some(head.as_slice())
 }
 
-// The store whose head held 5 at the last sync and was then asked to hold 7, after a crash.
-fn crashed(alloc: Global, pick: Pick, failing: &[u64]) -> Option<MemStore> {
-    let mut store = journal(alloc, 4, failing)?;
-    if !put(&mut store, &Cell::Head, 5) || !settle(&mut store) {
-        return None;
-    }
-    put(&mut store, &Cell::Head, 7);
-    Some(store.crash(pick))
-}
-
+// The head held 5 at the last sync and was then asked to hold 7.
 #[test]
 fn a_crash_leaves_what_is_picked(rt: HostRuntime) {
-    let alloc = rt.alloc();
     // The third call, the second write, succeeds, and then fails: what was asked is the same.
     for failing in [[].as_slice(), [2].as_slice()] {
-        let picks = [
+        for (pick, front, back) in [
             (Pick::Old, 5, 5),
             (Pick::New, 7, 7),
             (Pick::Half, 7, 5),
             (Pick::Ones, 1, 1),
-        ];
-        for (pick, front, back) in picks {
-            let left = crashed(alloc, pick, failing);
-            assert!(rt;
-                left.is_some_and(|store| head_is(&store, front, back) && store.syncs() == 0)
-            );
+        ] {
+            let mut store = journal(&rt, 4, failing);
+            assert!(rt; put(&mut store, &Cell::Head, 5));
+            assert!(rt; settle(&mut store));
+            put(&mut store, &Cell::Head, 7);
+            let left = store.crash(pick);
+            assert!(rt; head_is(&left, front, back) && left.syncs() == 0);
         }
     }
 }
@@ -85,20 +70,16 @@ fn answers(mut store: MemStore) -> ([bool; 4], bool)
     let first = put(&mut store, &Cell::Head, 5);
     let second = put(&mut store, &Cell::Head, 7);
     let synced = settle(&mut store);
-    let read = reads(&mut store);
+    let read = store.read(&Cell::Gate, &mut [0; 1]).is_ok();
     ([first, second, synced, read], head_is(&store, 5, 5))
 }
 
 #[test]
 fn calls_fail_where_they_are_told_to(rt: HostRuntime) {
-    let alloc = rt.alloc();
-    let all = journal(alloc, 3, &[]).map(answers);
-    assert!(rt; all == Some(([true, true, true, true], false)));
-    let second = journal(alloc, 3, &[1]).map(answers);
-    assert!(rt; second == Some(([true, false, true, true], true)));
-    let full = journal(alloc, 1, &[]).map(answers);
-    assert!(rt; full == Some(([true, false, false, true], true)));
-    let mut fused = journal(alloc, 3, &[]).expect(&rt, "ample memory");
+    assert!(rt; answers(journal(&rt, 3, &[])) == ([true, true, true, true], false));
+    assert!(rt; answers(journal(&rt, 3, &[1])) == ([true, false, true, true], true));
+    assert!(rt; answers(journal(&rt, 1, &[])) == ([true, false, false, true], true));
+    let mut fused = journal(&rt, 3, &[]);
     fused.fuse(1);
     assert!(rt; answers(fused) == ([true, false, false, false], true));
 }
@@ -124,9 +105,9 @@ fn copy(store: &mut MemStore, from: &Cell, to: &Cell) -> bool
 
 // A store of four slots of a disk. Slot 0 is copied to slot 2, and slot 1 to slot 3; then the copy that ends next is ended,
 // and then all are.
-fn copied(rt: &impl Abort, alloc: Global, disk: Name, order: EndOrder) -> MemStore {
+fn copied(rt: &(impl Abort + AllocGlobal), disk: Name, order: EndOrder) -> MemStore {
     let [a, b, c, d] = [slot(disk, 0), slot(disk, 1), slot(disk, 2), slot(disk, 3)];
-    let store = MemStore::new(alloc, &[a, b, c, d], 7, Vec::new(alloc));
+    let store = MemStore::new(rt.alloc(), &[a, b, c, d], 7, Vec::new(rt.alloc()));
     let mut store = store.expect(rt, "ample memory");
     store.order(order);
     put(&mut store, &b, 9);
@@ -137,38 +118,33 @@ fn copied(rt: &impl Abort, alloc: Global, disk: Name, order: EndOrder) -> MemSto
 
 // Whether the event is a beginning, and the slot that is copied to.
 fn told(event: &Event) -> (bool, u32) {
-    match event {
-        Event::Began {
-            to: Cell::Slot { slot, .. },
-            ..
-        } => (true, *slot),
-        Event::Ended {
-            to: Cell::Slot { slot, .. },
-            ..
-        } => (false, *slot),
-        _ => (false, 9),
-    }
-}
-
-// Asserts that both copies of a disk began, ended in this order, and were synced.
-fn expect_copied(rt: &impl Abort, store: &MemStore, disk: Name, ended: [u32; 2]) {
-    let events = [(true, 2), (true, 3), (false, ended[0]), (false, ended[1])];
-    assert!(rt; store.events().iter().map(told).eq(events));
-    assert!(rt; store.syncs() == 1);
-    assert!(rt; store.cell(&slot(disk, 3)) == Some([9; 4096].as_slice()));
-    assert!(rt; store.cell(&slot(disk, 2)) == Some([0; 4096].as_slice()));
+    let (began, to) = match event {
+        Event::Began { to, .. } => (true, to),
+        Event::Ended { to, .. } => (false, to),
+    };
+    (
+        began,
+        if let Cell::Slot { slot, .. } = to {
+            *slot
+        } else {
+            9
+        },
+    )
 }
 
 #[test]
 fn copies_end_in_order(rt: HostRuntime) {
-    let alloc = rt.alloc();
     let disk = Name::read(b"a").expect(&rt, "a name");
     for (order, first, last) in [
         (EndOrder::First, 2, 3),
         (EndOrder::Last, 3, 2),
         (EndOrder::Turns, 3, 2),
     ] {
-        expect_copied(&rt, &copied(&rt, alloc, disk, order), disk, [first, last]);
+        let store = copied(&rt, disk, order);
+        let events = [(true, 2), (true, 3), (false, first), (false, last)];
+        assert!(rt; store.events().iter().map(told).eq(events) && store.syncs() == 1);
+        assert!(rt; store.cell(&slot(disk, 3)) == Some([9; 4096].as_slice()));
+        assert!(rt; store.cell(&slot(disk, 2)) == Some([0; 4096].as_slice()));
     }
 }
 

@@ -2,12 +2,11 @@
 
 use mig_io::read_first;
 use mig_save::write_whole;
-use std::alloc::Global;
 use std::io::{self, ErrorKind, Read, Write};
 use std::panic::Expect;
-use std::process::Abort;
 
-/// A reader and a writer that moves at most one byte a call, and does at each call what the script says: `1` moves one, `0` none, `i` is interrupted, `x` fails. After the script each call moves one.
+/// A reader and a writer that moves at most one byte a call, and does at each call what the script says: `1` moves one, `0` none,
+/// `i` is interrupted, `x` fails. After the script each call moves one.
 #[derive(Drop)]
 struct Scripted {
     script: &'static [u8],
@@ -67,28 +66,8 @@ impl Write for Scripted {
     }
 }
 
-/// The first bytes of a reader that follows the script, where it doesn't fail.
-fn first_bytes(
-    rt: &impl Abort,
-    alloc: Global,
-    script: &'static [u8],
-    most: usize,
-) -> Option<Vec<u8>> {
-    let bytes = Vec::from_slice(alloc, b"abcde").expect(rt, "ample memory");
-    let mut file = Scripted::new(script, bytes);
-    read_first(alloc, &mut file, most).ok()
-}
-
-/// Whether a writer that follows the script takes all bytes, and those that it took.
-fn written_bytes(alloc: Global, script: &'static [u8]) -> (bool, Vec<u8>) {
-    let mut out = Scripted::new(script, Vec::new(alloc));
-    let is_whole = write_whole(&mut out, b"abcde").is_ok();
-    (is_whole, out.bytes)
-}
-
 #[test]
 fn one_byte_a_call(rt: HostRuntime) {
-    let alloc = rt.alloc();
     let reads: [(&'static [u8], usize, Option<&'static [u8]>); 8] = [
         (b"", 10, Some(b"abcde")),
         (b"", 5, Some(b"abcde")),
@@ -100,7 +79,8 @@ fn one_byte_a_call(rt: HostRuntime) {
         (b"11x", 10, None),
     ];
     for (script, most, wanted) in reads {
-        let got = first_bytes(&rt, alloc, script, most);
+        let bytes = Vec::from_slice(rt.alloc(), b"abcde").expect(&rt, "ample memory");
+        let got = read_first(rt.alloc(), &mut Scripted::new(script, bytes), most).ok();
         assert!(rt; got.as_ref().map(|bytes| bytes.as_slice()) == wanted);
     }
     let writes: [(&'static [u8], bool, &'static [u8]); 5] = [
@@ -111,7 +91,8 @@ fn one_byte_a_call(rt: HostRuntime) {
         (b"0", false, b""),
     ];
     for (script, whole, written) in writes {
-        let (is_whole, bytes) = written_bytes(alloc, script);
-        assert!(rt; is_whole == whole && bytes.as_slice() == written);
+        let mut out = Scripted::new(script, Vec::new(rt.alloc()));
+        let is_whole = write_whole(&mut out, b"abcde").is_ok();
+        assert!(rt; is_whole == whole && out.bytes.as_slice() == written);
     }
 }

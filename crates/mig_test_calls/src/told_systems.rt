@@ -55,33 +55,24 @@ impl Write for ToldFile {
 }
 
 /// A system with two disks, c and d, and with b, which is the device 8:1.
+#[derive(Drop)]
 struct Told<'a> {
     alloc: Global,
-    mounts: &'static str,
-    more: &'static [(&'static str, &'static str)],
-    /// Whether another file may be open.
-    spare: bool,
-    /// The journal's lock is taken.
+    rows: &'static [(&'static str, &'static str)],
+    /// How many files may be opened besides.
+    spare: Cell<usize>,
+    /// Which of the files are locked.
     locked: [bool; 5],
-    /// A sync has failed, and it was noted.
+    /// A sync that failed was noted.
     noted: &'a Cell<bool>,
 }
 
-impl<'a> Drop for Told<'a> {
-    fn drop(self) {
-        let Told {
-            alloc: _,
-            mounts: _,
-            more: _,
-            spare: _,
-            locked: _,
-            noted: _,
-        } = self;
+/// A table of this text.
+fn text_of(text: &'static str) -> ToldFile {
+    ToldFile {
+        left: text.as_bytes(),
+        number: 0,
     }
-}
-
-fn missing<T>() -> io::Result<T> {
-    Err(ErrorKind::NotFound.into())
 }
 
 /// What stands at the number of a file.
@@ -101,21 +92,10 @@ fn stat_of(number: usize) -> Stat {
 }
 
 impl<'a> Told<'a> {
-    fn text(&self, path: &str) -> Option<&'static str> {
-        if path == "/proc/self/mountinfo" && !self.mounts.is_empty() {
-            return Some(self.mounts);
-        }
-        for (table, text) in TABLES.iter().chain(self.more) {
-            if *table == path {
-                return Some(text);
-            }
-        }
-        None
-    }
-
-    fn number(&self, path: &str) -> Option<usize> {
+    fn number(&self, path: &str) -> io::Result<usize> {
         let path = if path == "b.disk" { FILES[0] } else { path };
-        FILES.iter().position(|file| *file == path)
+        let found = FILES.iter().position(|file| *file == path);
+        found.ok_or(ErrorKind::NotFound.into())
     }
 }
 
@@ -141,21 +121,15 @@ impl<'a> System for Told<'a> {
     fn open(&mut self, path: &str, access: Access) -> io::Result<ToldFile> {
         if access == Access::Anew {
             self.noted.set(true);
-            return Ok(ToldFile {
-                left: b"",
-                number: 0,
-            });
+            return Ok(text_of(""));
         }
-        match self.number(path) {
-            Some(number) => Ok(ToldFile { left: b"", number }),
-            None => missing(),
-        }
+        let number = self.number(path)?;
+        Ok(ToldFile { left: b"", number })
     }
 
     fn lock(&mut self, file: &mut ToldFile) -> io::Result<bool> {
-        let got = !self.locked[file.number % 5];
-        self.locked[file.number % 5] = true;
-        Ok(got)
+        let was = std::mem::replace(&mut self.locked[file.number % 5], true);
+        Ok(!was)
     }
 
     fn read_at(&mut self, _: &ToldFile, _: u64, _: &mut [u8]) -> io::Result<usize> {
@@ -187,13 +161,12 @@ impl<'a> System for Told<'a> {
     }
 
     fn duplicate(&self, file: &ToldFile) -> io::Result<ToldFile> {
-        if self.spare {
-            return Ok(ToldFile {
-                left: file.left,
-                number: file.number,
-            });
-        }
-        Err(Error::from_raw_os_error(24))
+        let Some(spare) = self.spare.get().checked_sub(1) else {
+            return Err(Error::from_raw_os_error(24));
+        };
+        self.spare.set(spare);
+        let ToldFile { left, number } = *file;
+        Ok(ToldFile { left, number })
     }
 
     fn descriptor(&self, _: &ToldFile) -> i32 {
@@ -205,13 +178,12 @@ impl<'a> System for Told<'a> {
     }
 
     fn table(&self, path: &str) -> io::Result<ToldFile> {
-        match self.text(path) {
-            Some(text) => Ok(ToldFile {
-                left: text.as_bytes(),
-                number: 0,
-            }),
-            None => missing(),
+        for (table, text) in TABLES.iter().chain(self.rows) {
+            if *table == path {
+                return Ok(text_of(text));
+            }
         }
+        Err(ErrorKind::NotFound.into())
     }
 
     fn folder(&self, path: &str) -> io::Result<ToldFile> {
@@ -219,78 +191,56 @@ impl<'a> System for Told<'a> {
     }
 
     fn entry(&self, path: &str) -> io::Result<Stat> {
-        match self.number(path) {
-            Some(number) => Ok(stat_of(number)),
-            None => missing(),
-        }
+        Ok(stat_of(self.number(path)?))
     }
 
     fn say<D: Display + Drop>(&self, _: D) {}
 }
 
-/// A table of mounts, what the system tells besides, and whether the device may be a disk.
-struct Case {
-    mounts: &'static str,
-    more: &'static [(&'static str, &'static str)],
-    free: bool,
-}
-
 /// The table of mounts where `/dev` is the system's own table of devices.
-const OWN: &str = "21 28 0:6 / /dev rw shared:2 - devtmpfs udev rw\n";
+const OWN: (&str, &str) = (
+    "/proc/self/mountinfo",
+    "21 28 0:6 / /dev rw - devtmpfs udev rw\n",
+);
 
-static CASES: [Case; 8] = [
-    Case {
-        mounts: OWN,
-        more: &[],
-        free: true,
-    },
-    // the table can't be read, or tells of another /dev
-    Case {
-        mounts: "",
-        more: &[],
-        free: false,
-    },
-    Case {
-        mounts: "21 28 0:7 / /dev rw - devtmpfs udev rw\n",
-        more: &[],
-        free: false,
-    },
-    // it is mounted: its number is told, or the path of its node
-    Case {
-        mounts: "21 28 0:6 / /dev rw - devtmpfs udev rw\n30 28 8:1 / /m rw - ext4 /dev/root rw\n",
-        more: &[],
-        free: false,
-    },
-    Case {
-        mounts: "21 28 0:6 / /dev rw - devtmpfs udev rw\n30 28 0:40 / /m rw - btrfs /dev/b\\0401 rw\n",
-        more: &[],
-        free: false,
-    },
+/// The same, and the device is mounted: its number is told, or the path of its node.
+const MOUNTED: (&str, &str) = (
+    "/proc/self/mountinfo",
+    "21 28 0:6 / /dev rw - devtmpfs udev rw\n30 28 8:1 / /m rw - ext4 /dev/root rw\n",
+);
+
+const NAMED: (&str, &str) = (
+    "/proc/self/mountinfo",
+    "21 28 0:6 / /dev rw - devtmpfs udev rw\n30 28 0:40 / /m rw - btrfs /dev/b\\0401 rw\n",
+);
+
+static FREE: [(&str, &str); 1] = [OWN];
+
+/// What the system tells where the device may be no disk.
+static BUSY: [&[(&str, &str)]; 7] = [
+    // the table of mounts can't be read, or tells of another /dev
+    &[],
+    &[(
+        "/proc/self/mountinfo",
+        "21 28 0:7 / /dev rw - devtmpfs udev rw\n",
+    )],
+    &[MOUNTED],
+    &[NAMED],
     // another one stands on it, or on a partition of it
-    Case {
-        mounts: OWN,
-        more: &[("/sys/dev/block/8:1/holders/", ".\0dm-0\0")],
-        free: false,
-    },
-    Case {
-        mounts: OWN,
-        more: &[
-            ("/sys/dev/block/8:1/./", "b1\0"),
-            ("/sys/dev/block/8:1/./b1/partition", "1\n"),
-            ("/sys/dev/block/8:1/./b1/holders/", "dm-0\0"),
-        ],
-        free: false,
-    },
+    &[OWN, ("/sys/dev/block/8:1/holders/", ".\0dm-0\0")],
+    &[
+        OWN,
+        ("/sys/dev/block/8:1/./", "b1\0"),
+        ("/sys/dev/block/8:1/./b1/partition", "1\n"),
+        ("/sys/dev/block/8:1/./b1/holders/", "dm-0\0"),
+    ],
     // it is a part of a btrfs
-    Case {
-        mounts: OWN,
-        more: &[
-            ("/sys/fs/btrfs/", "id\0"),
-            ("/sys/fs/btrfs/id/devices/", "b1\0"),
-            ("/sys/fs/btrfs/id/devices/b1/dev", "8:1\n"),
-        ],
-        free: false,
-    },
+    &[
+        OWN,
+        ("/sys/fs/btrfs/", "id\0"),
+        ("/sys/fs/btrfs/id/devices/", "b1\0"),
+        ("/sys/fs/btrfs/id/devices/b1/dev", "8:1\n"),
+    ],
 ];
 
 /// The disk of this name.
@@ -304,15 +254,14 @@ fn disk_of(name: &[u8]) -> Place {
 /// The calls over such a system.
 fn calls_over<'a>(
     alloc: Global,
-    case: &Case,
-    spare: bool,
+    rows: &'static [(&'static str, &'static str)],
+    spare: usize,
     noted: &'a Cell<bool>,
 ) -> SystemCalls<Told<'a>> {
     SystemCalls::new(Told {
         alloc,
-        mounts: case.mounts,
-        more: case.more,
-        spare,
+        rows,
+        spare: Cell::new(spare),
         locked: [false; 5],
         noted,
     })
@@ -321,37 +270,30 @@ fn calls_over<'a>(
 #[test]
 fn devices_in_the_tables(rt: HostRuntime) {
     let noted = Cell::new(false);
-    for case in &CASES {
-        let mut calls = calls_over(rt.alloc(), case, true, &noted);
-        let found = calls.len(&disk_of(b"b"));
-        let wanted = if case.free {
-            Ok(Extent::Device { len: 4096 })
-        } else {
-            Err(CallError::Failed)
-        };
-        assert!(rt; found == wanted);
+    let mut calls = calls_over(rt.alloc(), &FREE, 3, &noted);
+    assert!(rt; calls.len(&disk_of(b"b")) == Ok(Extent::Device { len: 4096 }));
+    for rows in &BUSY {
+        let mut calls = calls_over(rt.alloc(), rows, 3, &noted);
+        assert!(rt; calls.len(&disk_of(b"b")) == Err(CallError::Failed));
     }
 }
 
 #[test]
 fn two_descriptors_stay_free(rt: HostRuntime) {
     let noted = Cell::new(false);
-    for spare in [true, false] {
-        let mut calls = calls_over(rt.alloc(), &CASES[0], spare, &noted);
+    for spare in [3, 2] {
+        let mut calls = calls_over(rt.alloc(), &FREE, spare, &noted);
         assert!(rt; calls.len(&disk_of(b"c")).is_ok());
-        let found = calls.len(&disk_of(b"d"));
-        assert!(rt; found.is_ok() == spare);
-        assert!(rt; spare || found == Err(CallError::Full));
+        let refused = calls.len(&disk_of(b"d")).err();
+        assert!(rt; refused == (spare < 3).then_some(CallError::Full));
     }
 }
 
 #[test]
 fn a_sync_that_fails_is_noted(rt: HostRuntime) {
     let noted = Cell::new(false);
-    let mut calls = calls_over(rt.alloc(), &CASES[0], true, &noted);
-    assert!(rt; calls.claim().is_ok());
-    assert!(rt; !noted.get());
+    let mut calls = calls_over(rt.alloc(), &FREE, 3, &noted);
+    assert!(rt; calls.claim().is_ok() && !noted.get());
     assert!(rt; calls.sync(&disk_of(b"c")) == Err(CallError::Failed));
-    assert!(rt; noted.get());
-    assert!(rt; calls.claim() == Err(CallError::Failed));
+    assert!(rt; noted.get() && calls.claim() == Err(CallError::Failed));
 }

@@ -4,15 +4,7 @@ use mig_base::{DiskId, EdgeId};
 use mig_csv::read_input;
 use mig_graph::Graph;
 use mig_sides::{SidesError, sides};
-use std::alloc::Global;
 use std::panic::Expect;
-use std::process::Abort;
-
-fn graph_of(rt: &impl Abort, alloc: Global, disks: &str, now: &str, next: &str) -> Graph {
-    let read = read_input(alloc, disks.as_bytes(), now.as_bytes(), next.as_bytes());
-    let input = read.expect(rt, "an input");
-    Graph::of(alloc, &input).expect(rt, "ample memory")
-}
 
 /// Whether an edge joins the two disks.
 fn is_joined(graph: &Graph, one: DiskId, other: DiskId) -> bool {
@@ -40,76 +32,76 @@ fn is_odd_walk(graph: &Graph, walk: &[DiskId]) -> bool {
     walk.len() % 2 == 1
 }
 
-/// Whether there are no sides, and the walk that shows it is odd and has these disks.
-fn has_odd_walk(alloc: Global, graph: &Graph, disks: &[DiskId]) -> bool {
-    match sides(alloc, graph) {
-        Err(SidesError::OddWalk { walk }) => {
-            is_odd_walk(graph, walk.disks()) && has_each(walk.disks(), disks)
+/// Three files; and for each disk `=` where it is on the side of the first one, `x` where it isn't, and `-` where it takes no part; or
+/// where there are no sides, the disks that an odd walk has that shows it.
+static GRAPHS: [([&str; 3], &[u8], &[DiskId]); 4] = [
+    // three disks, each of which gives an item to the next
+    (
+        [
+            "disk,limit,slots\na,1,2\nb,1,2\nc,1,2\n",
+            "item,disk,slot\nx,a,0\ny,b,0\nz,c,0\n",
+            "item,disk\nx,b\ny,c\nz,a\n",
+        ],
+        b"",
+        &[DiskId(0), DiskId(1), DiskId(2)],
+    ),
+    // two triangles that share a disk, each disk of which gives an item to the next, beside a disk that takes no part: the search
+    // begins at a disk from which one of them is met, and goes on
+    (
+        [
+            "disk,limit,slots\nidle,1,1\na,1,9\nb,1,9\nc,1,9\nd,1,9\ne,1,9\n",
+            "item,disk,slot\nv,a,0\nw,b,0\nx,c,0\ny,d,0\nz,e,0\n",
+            "item,disk\nv,b\nw,c\nx,d\ny,e\nz,c\n",
+        ],
+        b"",
+        &[],
+    ),
+    // a disk that gives to three others, and one that takes no part
+    (
+        [
+            "disk,limit,slots\nh,4,9\np,1,3\nq,1,3\nr,1,3\ns,7,1\n",
+            "item,disk,slot\nt,h,0\nu,h,1\nv,h,2\nw,h,3\nx,h,4\ny,h,5\nz,h,6\nk,h,7\nl,h,8\n",
+            "item,disk\nt,p\nu,p\nv,p\nw,q\nx,q\ny,q\nz,r\nk,r\nl,r\n",
+        ],
+        b"=xxx-",
+        &[],
+    ),
+    // a ring of four disks, in which items go both ways
+    (
+        [
+            "disk,limit,slots\na,1,9\nb,3,9\nc,1,9\nd,3,9\n",
+            "item,disk,slot\nw,a,0\nx,b,0\ny,c,0\nz,d,0\n",
+            "item,disk\nw,b\nx,c\ny,d\nz,a\n",
+        ],
+        b"=x=x",
+        &[],
+    ),
+];
+
+#[test]
+fn graphs_have_sides_or_an_odd_walk(rt: HostRuntime) {
+    for ([disks, now, next], marks, walked) in &GRAPHS {
+        let read = read_input(
+            rt.alloc(),
+            disks.as_bytes(),
+            now.as_bytes(),
+            next.as_bytes(),
+        );
+        let input = read.expect(&rt, "an input");
+        let graph = Graph::of(rt.alloc(), &input).expect(&rt, "ample memory");
+        match sides(rt.alloc(), &graph) {
+            Ok(found) => {
+                let first = found.first().copied();
+                let is_so = |(side, mark): (&bool, &u8)| *mark == b'-'
+                    || (first == Some(*side)) == (*mark == b'=');
+                assert!(rt; found.len() == marks.len() && found.iter().zip(*marks).all(is_so));
+            }
+            Err(SidesError::OddWalk { walk }) => {
+                let disks = walk.disks();
+                assert!(rt; marks.is_empty() && is_odd_walk(&graph, disks));
+                assert!(rt; walked.iter().all(|disk| disks.contains(disk)));
+            }
+            Err(_) => assert!(rt; false, "ample memory"),
         }
-        _ => false,
     }
-}
-
-fn has_each(walk: &[DiskId], disks: &[DiskId]) -> bool {
-    for disk in disks {
-        if !walk.contains(disk) {
-            return false;
-        }
-    }
-    true
-}
-
-/// Three disks, each of which gives an item to the next.
-#[test]
-fn a_triangle_has_an_odd_walk(rt: HostRuntime) {
-    let graph = graph_of(
-        &rt,
-        rt.alloc(),
-        "disk,limit,slots\na,1,2\nb,1,2\nc,1,2\n",
-        "item,disk,slot\nx,a,0\ny,b,0\nz,c,0\n",
-        "item,disk\nx,b\ny,c\nz,a\n",
-    );
-    assert!(&rt; has_odd_walk(rt.alloc(), &graph, &[DiskId(0), DiskId(1), DiskId(2)]));
-}
-
-/// Two triangles that share a disk, each disk of which gives an item to the next, beside a disk that takes no part. The
-/// search begins at a disk from which one of them is met, and goes on.
-#[test]
-fn a_far_triangle_has_an_odd_walk(rt: HostRuntime) {
-    let graph = graph_of(
-        &rt,
-        rt.alloc(),
-        "disk,limit,slots\nidle,1,1\na,1,9\nb,1,9\nc,1,9\nd,1,9\ne,1,9\n",
-        "item,disk,slot\nv,a,0\nw,b,0\nx,c,0\ny,d,0\nz,e,0\n",
-        "item,disk\nv,b\nw,c\nx,d\ny,e\nz,c\n",
-    );
-    assert!(&rt; has_odd_walk(rt.alloc(), &graph, &[]));
-}
-
-/// A disk that gives to three others, and one that takes no part.
-#[test]
-fn a_star_has_sides(rt: HostRuntime) {
-    let graph = graph_of(
-        &rt,
-        rt.alloc(),
-        "disk,limit,slots\nh,4,9\np,1,3\nq,1,3\nr,1,3\ns,7,1\n",
-        "item,disk,slot\nt,h,0\nu,h,1\nv,h,2\nw,h,3\nx,h,4\ny,h,5\nz,h,6\nk,h,7\nl,h,8\n",
-        "item,disk\nt,p\nu,p\nv,p\nw,q\nx,q\ny,q\nz,r\nk,r\nl,r\n",
-    );
-    let found = sides(rt.alloc(), &graph).expect(&rt, "two sides");
-    assert!(&rt; matches!(found.as_slice(), [h, p, q, r, _] if *h != *p && *h != *q && *h != *r));
-}
-
-/// A ring of four disks, in which items go both ways.
-#[test]
-fn a_ring_has_sides(rt: HostRuntime) {
-    let graph = graph_of(
-        &rt,
-        rt.alloc(),
-        "disk,limit,slots\na,1,9\nb,3,9\nc,1,9\nd,3,9\n",
-        "item,disk,slot\nw,a,0\nx,b,0\ny,c,0\nz,d,0\n",
-        "item,disk\nw,b\nx,c\ny,d\nz,a\n",
-    );
-    let found = sides(rt.alloc(), &graph).expect(&rt, "two sides");
-    assert!(&rt; matches!(found.as_slice(), [a, b, c, d] if *a == *c && *b == *d && *a != *b));
 }

@@ -5,8 +5,6 @@
 #[cfg(test)]
 mod clusters;
 #[cfg(test)]
-mod expecting;
-#[cfg(test)]
 mod failing;
 #[cfg(test)]
 mod filling;
@@ -15,20 +13,12 @@ mod flying;
 #[cfg(test)]
 mod halting;
 #[cfg(test)]
+mod lines;
+#[cfg(test)]
 mod living;
 #[cfg(test)]
-mod looks;
-#[cfg(test)]
-mod moving;
-#[cfg(test)]
 mod rounds;
-#[cfg(test)]
-mod running;
-#[cfg(test)]
-mod scarce_folder;
 #[cfg(test)]
 mod stopping;
 #[cfg(test)]
 mod stores;
-#[cfg(test)]
-mod tight_moves;

@@ -1,15 +1,11 @@
 //! The events of starts and resumes.
 
 use crate::cases::{THREE_ITEMS, job_of};
-use crate::cells::slot_of;
-use crate::stores::{filled, is_reached};
+use crate::stores::{filled, is_reached, slot_of};
 use mig_base::Event;
-use mig_jobs::Job;
 use mig_lanes::{resume_lanes, start_lanes};
 use mig_mover::MoveFault;
 use mig_store::{EndOrder, MemStore};
-use std::alloc::Global;
-use std::panic::Expect;
 use std::process::Abort;
 
 // An event of the copy of a slot of the first disk to the same slot of the second: whether it began, and the slot.
@@ -31,15 +27,13 @@ fn tells(store: &MemStore, told: &[Told]) -> bool {
 }
 
 // The store of the three items, where the newest copy ends first. Its calls with these numbers fail.
-fn newest_first(rt: &impl Abort, alloc: Global, failing: &[u64]) -> MemStore {
-    let job = job_of(rt, alloc, &THREE_ITEMS);
-    let failing = Vec::from_slice(alloc, failing).expect(rt, "ample memory");
-    let mut store = filled(rt, alloc, &job, THREE_ITEMS.before, failing);
+fn newest_first(rt: &(impl Abort + AllocGlobal), failing: &[u64]) -> MemStore {
+    let mut store = filled(rt, THREE_ITEMS.before, failing);
     store.order(EndOrder::Last);
     store
 }
 
-// The events of both rounds.
+// The events of both rounds: the copies of a round are in flight together.
 static BOTH_ROUNDS: [Told; 6] = [
     (true, 0),
     (true, 1),
@@ -49,63 +43,42 @@ static BOTH_ROUNDS: [Told; 6] = [
     (false, 2),
 ];
 
-// Asserts that a start carries out both rounds, with eight syncs.
-fn expect_both_rounds(rt: &impl Abort, job: &Job, store: &mut MemStore) {
-    let syncs = store.syncs();
-    assert!(rt; start_lanes(job, store) == Ok(()));
-    assert!(rt; tells(store, &BOTH_ROUNDS));
-    assert!(rt; store.syncs() >= syncs && store.syncs() - syncs == 8);
-    assert!(rt; is_reached(store, job, &THREE_ITEMS));
-}
-
 #[test]
 fn the_copies_of_a_round_are_in_flight_together(rt: HostRuntime) {
-    let alloc = rt.alloc();
-    let job = job_of(&rt, alloc, &THREE_ITEMS);
-    let mut store = newest_first(&rt, alloc, &[]);
-    expect_both_rounds(&rt, &job, &mut store);
+    let job = job_of(&rt, &THREE_ITEMS);
+    let mut store = newest_first(&rt, &[]);
+    let syncs = store.syncs();
+    assert!(rt; start_lanes(&job, &mut store) == Ok(()));
+    assert!(rt; tells(&store, &BOTH_ROUNDS));
+    assert!(rt; store.syncs() >= syncs && store.syncs() - syncs == 8);
+    assert!(rt; is_reached(&store, &job, &THREE_ITEMS));
 }
 
-// The number of the call that begins the second copy. Six slots are filled and synced. The start syncs, reads the gate, three
+// The number of the call that begins the second copy. Three slots are filled and synced. The start syncs, reads the gate, three
 // items and three targets, writes two marks and the head, syncs, writes the gate, syncs, and begins the first copy.
-const SECOND_BEGIN: u64 = 22;
-
-// Asserts that a start stops where its second copy cannot begin, and that a resume carries out both rounds.
-fn expect_made_up_for(rt: &impl Abort, job: &Job, store: &mut MemStore) {
-    assert!(rt; start_lanes(job, store) == Err(MoveFault::Store));
-    assert!(rt; tells(store, &[(true, 0)]));
-    assert!(rt; resume_lanes(job, store) == Ok(0));
-    let told = [
-        (true, 0),
-        (false, 0),
-        (true, 0),
-        (true, 1),
-        (false, 1),
-        (false, 0),
-        (true, 2),
-        (false, 2),
-    ];
-    assert!(rt; tells(store, &told));
-    assert!(rt; is_reached(store, job, &THREE_ITEMS));
-}
+const SECOND_BEGIN: u64 = 19;
 
 #[test]
 fn a_copy_that_cannot_begin_is_made_up_for(rt: HostRuntime) {
-    let alloc = rt.alloc();
-    let job = job_of(&rt, alloc, &THREE_ITEMS);
-    let mut store = newest_first(&rt, alloc, &[SECOND_BEGIN]);
-    expect_made_up_for(&rt, &job, &mut store);
+    let job = job_of(&rt, &THREE_ITEMS);
+    let mut store = newest_first(&rt, &[SECOND_BEGIN]);
+    assert!(rt; start_lanes(&job, &mut store) == Err(MoveFault::Store));
+    assert!(rt; tells(&store, &[(true, 0)]));
+    assert!(rt; resume_lanes(&job, &mut store) == Ok(0));
+    let [first, last] = [(true, 0), (false, 0)];
+    let [a, b, c, d, e, f] = BOTH_ROUNDS;
+    assert!(rt; tells(&store, &[first, last, a, b, c, d, e, f]));
+    assert!(rt; is_reached(&store, &job, &THREE_ITEMS));
 }
 
 // The number of the call that syncs the first round, after both of its copies were waited for.
-const ROUND_SYNC: u64 = 25;
+const ROUND_SYNC: u64 = 22;
 
 // Had fewer copies been waited for, this would be a later call, and the round synced before it.
 #[test]
 fn each_copy_of_a_round_is_waited_for(rt: HostRuntime) {
-    let alloc = rt.alloc();
-    let job = job_of(&rt, alloc, &THREE_ITEMS);
-    let mut store = newest_first(&rt, alloc, &[ROUND_SYNC]);
+    let job = job_of(&rt, &THREE_ITEMS);
+    let mut store = newest_first(&rt, &[ROUND_SYNC]);
     let syncs = store.syncs();
     assert!(rt; start_lanes(&job, &mut store) == Err(MoveFault::Store));
     assert!(rt; tells(&store, &[(true, 0), (true, 1), (false, 1), (false, 0)]));

@@ -5,8 +5,6 @@
 #[cfg(test)]
 mod cases;
 #[cfg(test)]
-mod cells;
-#[cfg(test)]
 mod drilling;
 mod example;
 #[cfg(test)]
@@ -15,8 +13,6 @@ mod file_stops;
 mod flying;
 #[cfg(test)]
 mod halting;
-#[cfg(test)]
-mod jobs;
 #[cfg(test)]
 mod reading;
 #[cfg(test)]

@@ -7,9 +7,8 @@ use mig_base::ItemId;
 
 #[test]
 fn an_item_is_read_on_the_way(rt: HostRuntime) {
-    let alloc = rt.alloc();
-    let job = job_of(&rt, alloc, &THREE_ITEMS);
-    let mut store = filled(&rt, alloc, &job, THREE_ITEMS.before, Vec::new(alloc));
+    let job = job_of(&rt, &THREE_ITEMS);
+    let mut store = filled(&rt, THREE_ITEMS.before, &[]);
     let mut page = [0; 4096];
     assert!(rt; job.input().items().len() == 3);
     assert!(rt; carry_and_read(&job, &mut store, ItemId(0), &mut page) == Ok(2));

@@ -1,18 +1,22 @@
 //! Stores that are filled, and what they hold.
 ghost use Rattle.std.specs.Prelude.{◌≡◌, []};
+ghost use Rattle.mig_base.specs.InputLists.{AreDifferent};
 ghost use Rattle.mig_store.specs.Memories.{aloft};
 
 use crate::cases::{Case, Place};
-use crate::cells::{cells_of, slot_of};
-use mig_base::Cell;
+use mig_base::{Cell, Name};
 use mig_jobs::Job;
 use mig_store::{MemStore, Store};
-use std::alloc::Global;
 use std::panic::Expect;
 use std::process::Abort;
 
-// How many calls a store has room for.
-const ROOM: u32 = 200;
+/// A slot of the disk that the letter names.
+pub fn slot_of(disk: u8, slot: u32) -> Cell {
+    match Name::read(&[disk]) {
+        Some(disk) => Cell::Slot { disk, slot },
+        None => Cell::Head,
+    }
+}
 
 /// The slot of the item that the letter names, or an erased slot for 0.
 pub fn made(item: u8) -> [u8; 4096] {
@@ -25,61 +29,77 @@ pub fn made(item: u8) -> [u8; 4096] {
     slot
 }
 
-/// Writes these bytes to a cell.
-pub fn put(rt: &impl Abort, store: &mut MemStore, cell: &Cell, bytes: &[u8; 4096])
-    requires { aloft store.old ≡ [] }
-    ensures { aloft store.new ≡ [] }
-{
-    store
-        .write(cell, &bytes[..cell.len()])
-        .expect(rt, "a write that does not fail");
+/// Cells that are different.
+#[derive(Drop)]
+struct Cells {
+    list: Vec<Cell>,
+    ghost different: { AreDifferent list.items },
+}
+
+impl Cells {
+    // Adds a cell, unless it is there.
+    fn add(&mut self, rt: &(impl Abort + AllocGlobal), cell: Cell) {
+        if !self.list.contains(&cell) {
+            self.list.push(cell).expect(rt, "ample memory");
+        }
+    }
+}
+
+// The head, the gate, the first three marks, and the first three slots of the disks a, b and c.
+fn few_cells(rt: &(impl Abort + AllocGlobal)) -> Cells {
+    let list = Vec::new(rt.alloc());
+    let mut cells = Cells { list };
+    cells.add(rt, Cell::Head);
+    cells.add(rt, Cell::Gate);
+    for n in 0..3 {
+        cells.add(rt, Cell::Mark { n: n + 1 });
+        for disk in [b'a', b'b', b'c'] {
+            cells.add(rt, slot_of(disk, n));
+        }
+    }
+    cells
 }
 
 // Writes the items of these places.
-fn fill(rt: &impl Abort, store: &mut MemStore, places: &[Place])
+fn fill(rt: &(impl Abort + AllocGlobal), store: &mut MemStore, places: &[Place])
     requires { aloft store.old ≡ [] }
     ensures { aloft store.new ≡ [] }
 {
     for (disk, slot, item) in places {
-        put(rt, store, &slot_of(*disk, *slot), &made(*item));
+        let cell = slot_of(*disk, *slot);
+        assert!(rt; store.write(&cell, &made(*item)[..cell.len()]).is_ok());
     }
 }
 
-/// A store of these places and of a job's journal, which is filled and synced. Its calls with these numbers fail.
-pub fn filled(
-    rt: &impl Abort,
-    alloc: Global,
-    job: &Job,
-    places: &[Place],
-    failing: Vec<u64>,
-) -> MemStore
-    ensures { aloft result ≡ [] }
-{
-    let cells = cells_of(rt, alloc, job.rounds(), places);
-    let mut store = MemStore::new(alloc, cells.as_slice(), ROOM, failing).expect(
-        rt,
-        "ample memory",
-    );
+/// A store of these cells, whose items are filled and synced. Its calls with these numbers fail.
+pub fn filled(rt: &(impl Abort + AllocGlobal), places: &[Place], failing: &[u64]) -> MemStore {
+    let failing = Vec::from_slice(rt.alloc(), failing).expect(rt, "ample memory");
+    let store = MemStore::new(rt.alloc(), &few_cells(rt).list, 200, failing);
+    let mut store = store.expect(rt, "ample memory");
     fill(rt, &mut store, places);
-    store.sync().expect(rt, "a sync that does not fail");
+    assert!(rt; store.sync().is_ok());
     store
 }
 
-/// Whether the places hold their items.
-pub fn holds(store: &MemStore, places: &[Place]) -> bool {
-    for (disk, slot, item) in places {
-        if store.cell(&slot_of(*disk, *slot)) != Some(made(*item).as_slice()) {
-            return false;
-        }
+/// The item that is in a slot, or 0.
+pub fn item_at(places: &[Place], disk: u8, slot: u32) -> u8 {
+    match places
+        .iter()
+        .find(|place| place.0 == disk && place.1 == slot)
+    {
+        Some((_, _, item)) => *item,
+        None => 0,
     }
-    true
 }
 
-// Whether so many marks are 1.
-fn are_marked(store: &MemStore, rounds: u32) -> bool {
-    for n in 0..rounds {
-        if store.cell(&Cell::Mark { n: n + 1 }) != Some([1].as_slice()) {
-            return false;
+/// Whether the slots hold the items of these places, and else zeros.
+pub fn holds(store: &MemStore, places: &[Place]) -> bool {
+    for disk in [b'a', b'b', b'c'] {
+        for slot in 0..3 {
+            let wanted = made(item_at(places, disk, slot));
+            if store.cell(&slot_of(disk, slot)) != Some(wanted.as_slice()) {
+                return false;
+            }
         }
     }
     true
@@ -87,8 +107,12 @@ fn are_marked(store: &MemStore, rounds: u32) -> bool {
 
 /// Whether the target of a case is reached: the journal says that the job is carried out, and the slots are as after it.
 pub fn is_reached(store: &MemStore, job: &Job, case: &Case<'_>) -> bool {
+    for n in 0..job.rounds() {
+        if store.cell(&Cell::Mark { n: n + 1 }) != Some([1].as_slice()) {
+            return false;
+        }
+    }
     store.cell(&Cell::Gate) == Some([1].as_slice())
         && store.cell(&Cell::Head) == Some(job.digest().as_slice())
-        && are_marked(store, job.rounds())
         && holds(store, case.after)
 }
